@@ -1,0 +1,10 @@
+-- A decoder and an encoder that undo each other.
+use mathlib.Core.Path.{_≡_}
+use mathlib.Core.List.{List, _++_}
+use Prim.Native.Nat.{ℕ}
+use Rattle.laws.specs.Decoded.{ok, Decoder}
+
+-- each valid value is decoded from its bytes, whatever follows them; what is decoded is valid, and stood there as its bytes
+pub record Codec {A : Type 0} (decode : Decoder A) (encode : A → List ℕ) (Valid : A → Type 0) : Type 0 where
+  pub complete : (a : A) → Valid a → (t : List ℕ) → decode (encode a ++ t) ≡ ok a t
+  pub sound : (s : List ℕ) (a : A) (t : List ℕ) → decode s ≡ ok a t → (s ≡ encode a ++ t) × Valid a

@@ -1,0 +1,3 @@
+pub mod Codec
+pub mod Decoded
+pub mod Quoted

@@ -1,0 +1,1 @@
+// Definitions and laws that the other crates share; see specs/ and proofs/. No code.

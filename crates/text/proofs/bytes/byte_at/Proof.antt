@@ -1,0 +1,20 @@
+-- `byte_at` meets its contract.
+use borrow.Author.Needs.{needs}
+use native.Mathlib.Omega.{arith}
+use mathlib.Core.Path.{refl, sym}
+use lib.ListN.{List·getD-eq-default}
+use denote.Ref.{now}
+use Rattle.text.proofs.bytes.byte_at.Statement.{statement}
+use Rattle.text.proofs.bytes.byte_at.Tie as tie
+
+returns-2 : tie.Need-returns-2
+returns-2 c = (sym (List·getD-eq-default (now (c .before .args .s)) 0 (c .if1 .left)), omega arith)
+
+pub byte-at-spec : {M : Type 1} → statement M
+byte-at-spec =
+    tie.close
+    (tie.spec
+    (λ c. search needs)
+    (λ c. omega (arith, c .shared-slice-known .given (c .before .before .args .i)))
+    (λ c. (refl, omega (arith, c .shared-slice-known .given (c .before .before .args .i))))
+    returns-2)

@@ -1,0 +1,67 @@
+use native.Mathlib.Omega.{arith}
+use borrow.Author.Needs.{needs}
+use mathlib.Core.Path.{_≡_, refl, _∙_}
+use Prim.Native.Nat.{_+_, _*_, _/_, _-_, _≤_}
+use lib.ListN.{length}
+use denote.Ref.{now}
+use Rattle.text.specs.Position.{characters, walk, positionOf, Indexed}
+use Rattle.text.proofs.Positions.{scanned, bounded, index-none, index-more}
+use Rattle.text.proofs.position.build_index.Statement.{statement}
+use Rattle.text.proofs.position.build_index.Tie as tie
+
+abbrev Inv-loop : tie.InvT-loop
+Inv-loop s index₀ p₀ k₀ n index p k = (k ≤ n) × (length index ≡ length index₀) × (p ≡ positionOf characters s (64 * k)) × Indexed characters s index (k + 1)
+
+abbrev μ-loop : tie.MeasureT-loop
+μ-loop s index₀ p₀ k₀ n index p k = n - k
+
+loop-holds : tie.Need-loop-holds Inv-loop μ-loop
+unfolding positionOf walk
+loop-holds c =
+    let a = c .before .before .before .before .before .before .args in
+    (omega arith, refl, refl, rw (c .before .before .put .ensures) (index-more (index-none characters (now (a .s)) (now (a .index))) _ (omega arith) refl))
+
+scan-requires : tie.Need-scan-requires Inv-loop μ-loop
+scan-requires c κs =
+    let k = c .before .loop .k in
+    let b = bounded (now (c .before .before .before .before .before .before .before .before .args .s)) (64 * k) (omega arith) (c .before .loop .inv .2) in
+    (omega arith, omega arith, omega arith, omega arith)
+
+put-requires-2 : tie.Need-put-requires-2 Inv-loop μ-loop
+put-requires-2 c κs =
+    let s = now (c .before .before .before .before .before .before .before .before .before .before .args .s) in
+    let l = c .before .before .before .loop in
+    let e = scanned characters s (64 * l .k) (64 * (l .k + 1)) (omega arith) (l .inv .2) (c .before .scan .ensures) in
+    let b = bounded s (64 * (l .k + 1)) (omega arith) e in
+    omega arith
+
+loop-again : tie.Need-loop-again Inv-loop μ-loop
+loop-again c =
+    let s = now (c .before .before .before .before .before .before .before .before .before .before .before .before .before .args .s) in
+    let l = c .before .before .before .before .before .before .loop in
+    let e = scanned characters s (64 * l .k) (64 * (l .k + 1)) (omega arith) (l .inv .2) (c .before .before .before .before .scan .ensures) in
+    (omega arith, c .before .before .put2 .kept .0 ∙ l .inv .1, e, rw (c .before .before .put2 .ensures) (index-more (l .inv .3) _ (omega arith) e))
+
+returns : tie.Need-returns Inv-loop μ-loop
+returns c =
+    let e : c .before .loop .k ≡ length (now (c .before .before .before .before .before .before .before .before .args .s)) / 64 = omega arith in
+    rw e at (c .before .loop .inv .3)
+
+pub build-index-spec : {M : Type 1} → statement M
+build-index-spec =
+    tie.close
+    (tie.spec
+    Inv-loop
+    μ-loop
+    (λ c κs. search needs)
+    loop-holds
+    (λ c. search needs)
+    (λ c. search needs)
+    (λ c. search needs)
+    scan-requires
+    (λ c. search needs)
+    put-requires-2
+    (λ c. search needs)
+    loop-again
+    (λ c. search needs)
+    returns)

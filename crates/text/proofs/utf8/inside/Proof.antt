@@ -1,0 +1,24 @@
+use borrow.Author.Needs.{needs}
+use native.Mathlib.Omega.{arith}
+use borrow.Author.Tests.{lt-leb, le-leb}
+use denote.Ref.{now}
+use Rattle.text.specs.Ranges.{_to_}
+use Rattle.text.proofs.Rows.{past-end, byte-within}
+use Rattle.text.proofs.utf8.inside.Statement.{statement}
+use Rattle.text.proofs.utf8.inside.Tie as tie
+
+returns : tie.Need-returns
+returns c = past-end _ _ _ (c .if1 .taken)
+
+returns-2 : tie.Need-returns-2
+returns-2 c =
+    let a = c .before .before .before .args in
+    rw (lt-leb _ _ (c .if2 .taken)) at (byte-within (a .lo to a .hi) (now (a .s)) (a .i) (omega arith))
+
+returns-3 : tie.Need-returns-3
+returns-3 c =
+    let a = c .before .before .before .args in
+    rw (le-leb _ _ (c .if2 .left)) at (byte-within (a .lo to a .hi) (now (a .s)) (a .i) (omega arith))
+
+pub inside-spec : {M : Type 1} → statement M
+inside-spec = tie.close (tie.spec returns (λ c. search needs) returns-2 returns-3)

@@ -1,0 +1,9 @@
+pub mod Ranges
+pub mod Bytes
+pub mod Utf8
+pub mod Encode
+pub mod WhiteSpace
+pub mod Alphabetic
+pub mod Class
+pub mod Position
+pub mod Lossy

@@ -1,0 +1,108 @@
+// Lines and columns of a text, from 0: a line ends at LF, a column counts characters.
+ghost use mathlib.Core.Path.{_≡_};
+ghost use Prim.Native.Nat.{ℕ, _+_, _-_, _*_, _/_, _≤_, _<_};
+ghost use lib.ListN.{length, take, drop};
+ghost use Rattle.text.specs.Ranges.{within};
+ghost use Rattle.text.specs.Utf8.{continuation};
+ghost use Rattle.text.specs.Position.{characters, step, walk, positionOf, stored, kept, Indexed, indexedPosition};
+
+pub struct Position {
+    pub line: usize,
+    pub column: usize,
+}
+
+// The byte goes on with a character.
+fn goes_on(b: u8) -> bool
+    ensures { λ r. ⌜ r ≡ within continuation b ⌝ }
+{
+    if b < 0x80 { false } else { b <= 0xBF }
+}
+
+// The position past a byte.
+fn past(p: Position, b: u8) -> Position
+    requires { ⌜ (p .line < 18446744073709551615) × (p .column < 18446744073709551615) ⌝ }
+    ensures { λ r. ⌜ r ≡ step characters p b ⌝ }
+{
+    if b == 0x0A {
+        return Position {
+            line: p.line + 1,
+            column: 0,
+        };
+    }
+    if goes_on(b) {
+        return p;
+    }
+    Position {
+        line: p.line,
+        column: p.column + 1,
+    }
+}
+
+// The position at `at`, where that at `from` is `start`.
+fn scan(s: &[u8], start: Position, from: usize, at: usize) -> Position
+    requires { ⌜ (from ≤ at) × (at ≤ length (now s)) × (start .line < 4294967296) × (start .column < 4294967296) ⌝ }
+    ensures { λ r. ⌜ r ≡ walk characters start (take (at - from) (drop from (now (s .entry)))) ⌝ }
+{
+    let mut p = start;
+    let mut i = from;
+    while i < at {
+        p = past(p, s[i]);
+        i += 1;
+    }
+    p
+}
+
+// The position at `at`.
+pub fn position_at(s: &[u8], at: usize) -> Position
+    requires { ⌜ at ≤ length (now s) ⌝ }
+    ensures { λ r. ⌜ r ≡ positionOf characters (now (s .entry)) at ⌝ }
+{
+    scan(s, Position { line: 0, column: 0 }, 0, at)
+}
+
+// Stores a position as the kth of the index.
+fn put(index: &mut [u32], k: usize, p: Position)
+    requires { ⌜ (2 * k + 1 < length (now index)) × (p .line < 4294967296) × (p .column < 4294967296) ⌝ }
+    ensures { λ _. ⌜ now (index .exit) ≡ stored (now (index .entry)) k p ⌝ }
+{
+    let at = 2 * k;
+    index[at] = p.line as u32;
+    index[at + 1] = p.column as u32;
+}
+
+// The kth position of the index.
+fn get(index: &[u32], k: usize) -> Position
+    requires { ⌜ 2 * k + 1 < length (now index) ⌝ }
+    ensures { λ r. ⌜ r ≡ kept (now (index .entry)) k ⌝ }
+    ensures { λ r. ⌜ (r .line < 4294967296) × (r .column < 4294967296) ⌝ }
+{
+    let at = 2 * k;
+    let line = index[at] as usize;
+    let column = index[at + 1] as usize;
+    Position { line, column }
+}
+
+// Fills the index: the line and the column at each 64th byte of the text.
+pub fn build_index(s: &[u8], index: &mut [u32])
+    requires { ⌜ (length (now s) < 4294967296) × (2 * (length (now s) / 64) + 1 < length (now index)) ⌝ }
+    ensures { λ _. ⌜ Indexed characters (now (s .entry)) (now (index .exit)) (length (now (s .entry)) / 64 + 1) ⌝ }
+{
+    let mut p = Position { line: 0, column: 0 };
+    let mut k = 0;
+    let n = s.len() / 64;
+    put(index, k, p);
+    while k < n {
+        p = scan(s, p, 64 * k, 64 * (k + 1));
+        k += 1;
+        put(index, k, p);
+    }
+}
+
+// The position at `at`, from the last place in the index that is not past it: at most 63 bytes are read.
+pub fn indexed_position(s: &[u8], index: &[u32], at: usize) -> Position
+    requires { ⌜ (at ≤ length (now s)) × (2 * (at / 64) + 1 < length (now index)) ⌝ }
+    ensures { λ r. ⌜ r ≡ indexedPosition characters (now (s .entry)) (now (index .entry)) at ⌝ }
+{
+    let k = at / 64;
+    scan(s, get(index, k), 64 * k, at)
+}

@@ -1,0 +1,64 @@
+// The characters of White_Space.
+use super::class::Class;
+use super::class::class_at;
+use super::class::run_end;
+use super::ranges::at_most;
+use super::ranges::in_either;
+ghost use mathlib.Core.Path.{_≡_};
+ghost use Prim.Native.Nat.{_+_, _≤_};
+ghost use lib.ListN.{length, drop};
+ghost use Rattle.text.specs.Ranges.{inRanges};
+ghost use Rattle.text.specs.WhiteSpace.{whiteSpace};
+ghost use Rattle.text.specs.Class.{classAt, runLength};
+
+// The bounds of the ranges: even places start a range, odd places end it; the end is not in it.
+const BOUNDS: [u32; 20] = [
+    0x0009,
+    0x000E,
+    0x0020,
+    0x0021,
+    0x0085,
+    0x0086,
+    0x00A0,
+    0x00A1,
+    0x1680,
+    0x1681,
+    0x2000,
+    0x200B,
+    0x2028,
+    0x202A,
+    0x202F,
+    0x2030,
+    0x205F,
+    0x2060,
+    0x3000,
+    0x3001,
+];
+
+// Is the code point White_Space? ASCII needs no table.
+pub fn is_white_space(code: u32) -> bool
+    ensures { λ r. ⌜ r ≡ inRanges whiteSpace code ⌝ }
+{
+    if code < 0x80 {
+        return in_either(code, 0x09, 0x0D, 0x20, 0x20);
+    }
+    at_most(&BOUNDS, code) % 2 == 1
+}
+
+// The length in bytes of the white space character at `at`, 0 where none stands there.
+pub fn white_space_at(s: &[u8], at: usize) -> usize
+    requires { ⌜ at ≤ length (now s) ⌝ }
+    ensures { λ r. ⌜ r ≡ classAt Class.White (drop at (now (s .entry))) ⌝ }
+    ensures { λ r. ⌜ at + r ≤ length (now (s .entry)) ⌝ }
+{
+    class_at(s, at, Class::White)
+}
+
+// The end of the longest run of white space from `at` on.
+pub fn skip_white_space(s: &[u8], at: usize) -> usize
+    requires { ⌜ at ≤ length (now s) ⌝ }
+    ensures { λ r. ⌜ r ≡ at + runLength Class.White (drop at (now (s .entry))) ⌝ }
+    ensures { λ r. ⌜ r ≤ length (now (s .entry)) ⌝ }
+{
+    run_end(s, at, Class::White)
+}

@@ -1,1 +1,7 @@
 pub mod Mode
+pub mod Letters
+pub mod Row
+pub mod Matcher
+pub mod Patterns
+pub mod Place
+pub mod Matches

@@ -1,0 +1,69 @@
+use borrow.Author.Needs.{needs}
+use Rattle.laws.proofs.Steps.{known}
+use Rattle.analysis.specs.Row.{all, first, matchAt}
+use Rattle.analysis.proofs.Rows.{deno-types-row}
+use Rattle.analysis.proofs.Search.{first-append}
+use Rattle.analysis.proofs.find_deno_types.Statement.{statement}
+use Rattle.analysis.proofs.find_deno_types.Tie as tie
+
+returns : tie.Need-returns
+unfolding first
+returns c = (
+  rw (
+    deno-types-row,
+    ← c .before .before .before .before .run-end .ensures .0,
+    known (c .before .before .assigned-at .ensures .0) (c .enum-told .given .1),
+  ),
+  tt,
+)
+
+quoted-some-at-requires : tie.Need-quoted-some-at-requires
+quoted-some-at-requires c κs = rw (c .before .b .given .1) at (c .before .before .before .assigned-at .ensures .1)
+
+returns-2 : tie.Need-returns-2
+unfolding matchAt all
+returns-2 c = (
+  rw (
+    deno-types-row,
+    ← c .before .before .before .before .before .before .before .before .run-end .ensures .0,
+    known (c .before .before .before .before .before .before .assigned-at .ensures .0) (c .before .before .before .before .b .given .1),
+    first-append,
+    ← c .before .before .quoted-some-at .ensures .0,
+    c .enum-told2 .given .1,
+  ),
+  c .before .before .quoted-some-at .ensures .1,
+)
+
+bare-at-requires : tie.Need-bare-at-requires
+bare-at-requires c κs = rw (c .before .before .before .before .b .given .1) at (c .before .before .before .before .before .before .assigned-at .ensures .1)
+
+returns-3 : tie.Need-returns-3
+unfolding matchAt all
+returns-3 c = (
+  rw (
+    deno-types-row,
+    ← c .before .before .before .before .before .before .before .before .before .run-end .ensures .0,
+    known (c .before .before .before .before .before .before .before .assigned-at .ensures .0) (c .before .before .before .before .before .b .given .1),
+    first-append,
+    known (c .before .before .before .quoted-some-at .ensures .0) (c .before .enum-told3 .given .1),
+  )
+      (c .bare-at .ensures .0),
+  c .bare-at .ensures .1,
+)
+
+pub find-deno-types-spec : {M : Type 1} → statement M
+find-deno-types-spec =
+    tie.close
+    (tie.spec
+    (λ c κs. search needs)
+    (λ c. search needs)
+    (λ c κs. search needs)
+    (λ c. search needs)
+    (λ c. search needs)
+    returns
+    quoted-some-at-requires
+    (λ c. search needs)
+    returns-2
+    (λ c. search needs)
+    bare-at-requires
+    returns-3)

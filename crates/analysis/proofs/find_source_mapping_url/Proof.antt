@@ -1,0 +1,59 @@
+use borrow.Author.Needs.{needs}
+use native.Mathlib.Nat.{zero-add}
+use borrow.Author.Tests.{eq-eqb, ne-eqb}
+use Rattle.laws.proofs.Steps.{known}
+use Rattle.analysis.specs.Row.{first, matchAt}
+use Rattle.analysis.proofs.Rows.{source-mapping-row}
+use Rattle.analysis.proofs.find_source_mapping_url.Statement.{statement}
+use Rattle.analysis.proofs.find_source_mapping_url.Tie as tie
+
+returns : tie.Need-returns
+unfolding first
+returns c = (rw (source-mapping-row, ← c .before .class-at .ensures .0, eq-eqb _ _ (c .if1 .taken)), tt)
+
+returns-2 : tie.Need-returns-2
+unfolding first
+returns-2 c = (
+  rw (
+    source-mapping-row,
+    ← c .before .before .before .before .before .before .class-at .ensures .0,
+    ne-eqb _ _ (c .before .before .before .before .before .if1 .left),
+    zero-add,
+    ← c .before .before .before .before .run-end .ensures .0,
+    known (c .before .before .assigned-at .ensures .0) (c .enum-told .given .1),
+  ),
+  tt,
+)
+
+bare-at-requires : tie.Need-bare-at-requires
+bare-at-requires c κs = rw (c .before .b .given .1) at (c .before .before .before .assigned-at .ensures .1)
+
+returns-3 : tie.Need-returns-3
+unfolding matchAt
+returns-3 c = (
+  rw (
+    source-mapping-row,
+    ← c .before .before .before .before .before .before .before .before .class-at .ensures .0,
+    ne-eqb _ _ (c .before .before .before .before .before .before .before .if1 .left),
+    zero-add,
+    ← c .before .before .before .before .before .before .run-end .ensures .0,
+    known (c .before .before .before .before .assigned-at .ensures .0) (c .before .before .b .given .1),
+  )
+      (c .bare-at .ensures .0),
+  c .bare-at .ensures .1,
+)
+
+pub find-source-mapping-url-spec : {M : Type 1} → statement M
+find-source-mapping-url-spec =
+    tie.close
+    (tie.spec
+    (λ c κs. search needs)
+    returns
+    (λ c κs. search needs)
+    (λ c. search needs)
+    (λ c κs. search needs)
+    (λ c. search needs)
+    (λ c. search needs)
+    returns-2
+    bare-at-requires
+    returns-3)

@@ -1,0 +1,73 @@
+use borrow.Author.Needs.{needs}
+use borrow.Author.Tests.{eq-eqb, ne-eqb}
+use Rattle.laws.proofs.Steps.{known}
+use Rattle.analysis.specs.Row.{first, matchAt}
+use Rattle.analysis.proofs.Rows.{triple-slash-row}
+use Rattle.analysis.proofs.is_comment_triple_slash_reference.Statement.{statement}
+use Rattle.analysis.proofs.is_comment_triple_slash_reference.Tie as tie
+
+returns : tie.Need-returns
+unfolding first
+returns c = rw (triple-slash-row, known (c .before .before .match-word .ensures .0) (c .enum-told .given .1))
+
+run-end-requires : tie.Need-run-end-requires
+run-end-requires c κs = rw (c .before .a .given .1) at (c .before .before .before .match-word .ensures .1)
+
+returns-2 : tie.Need-returns-2
+unfolding first
+returns-2 c =
+    rw (
+      triple-slash-row,
+      known (c .before .before .before .before .before .before .before .before .match-word .ensures .0) (c .before .before .before .before .before .before .a .given .1),
+      ← c .before .before .before .before .run-end .ensures .0,
+      known (c .before .before .match-word2 .ensures .0) (c .enum-told2 .given .1),
+    )
+
+class-at-requires : tie.Need-class-at-requires
+class-at-requires c κs = rw (c .before .d .given .1) at (c .before .before .before .match-word2 .ensures .1)
+
+returns-3 : tie.Need-returns-3
+unfolding first
+returns-3 c =
+    rw (
+      triple-slash-row,
+      known (c .before .before .before .before .before .before .before .before .before .before .before .match-word .ensures .0) (c .before .before .before .before .before .before .before .before .before .a .given .1),
+      ← c .before .before .before .before .before .before .before .run-end .ensures .0,
+      known (c .before .before .before .before .before .match-word2 .ensures .0) (c .before .before .before .d .given .1),
+      ← c .before .class-at .ensures .0,
+      eq-eqb _ _ (c .if1 .taken),
+    )
+
+returns-4 : tie.Need-returns-4
+unfolding matchAt
+returns-4 c =
+    rw (
+      triple-slash-row,
+      known (c .before .before .before .before .before .before .before .before .before .before .before .before .match-word .ensures .0) (c .before .before .before .before .before .before .before .before .before .before .a .given .1),
+      ← c .before .before .before .before .before .before .before .before .run-end .ensures .0,
+      known (c .before .before .before .before .before .before .match-word2 .ensures .0) (c .before .before .before .before .d .given .1),
+      ← c .before .before .class-at .ensures .0,
+      ne-eqb _ _ (c .before .if1 .left),
+    )
+    (c .reference-ends .ensures)
+
+pub is-comment-triple-slash-reference-spec : {M : Type 1} → statement M
+is-comment-triple-slash-reference-spec =
+    tie.close
+    (tie.spec
+    (λ c. search needs)
+    (λ c κs. search needs)
+    (λ c. search needs)
+    (λ c. search needs)
+    returns
+    run-end-requires
+    (λ c. search needs)
+    (λ c κs. search needs)
+    (λ c. search needs)
+    (λ c. search needs)
+    returns-2
+    class-at-requires
+    returns-3
+    (λ c. search needs)
+    (λ c κs. search needs)
+    returns-4)

@@ -1,0 +1,55 @@
+use borrow.Author.Needs.{needs}
+use Rattle.laws.proofs.Steps.{known}
+use Rattle.analysis.specs.Matcher.{assignedAt}
+use Rattle.analysis.proofs.matcher.assigned_at.Statement.{statement}
+use Rattle.analysis.proofs.matcher.assigned_at.Tie as tie
+
+returns : tie.Need-returns
+unfolding assignedAt
+returns c = (rw (known (c .before .before .match-word .ensures .0) (c .enum-told .given .1)), tt)
+
+run-end-requires : tie.Need-run-end-requires
+run-end-requires c κs = rw (c .before .a .given .1) at (c .before .before .before .match-word .ensures .1)
+
+returns-2 : tie.Need-returns-2
+unfolding assignedAt
+returns-2 c = (
+  rw (
+    known (c .before .before .before .before .before .before .before .before .match-word .ensures .0) (c .before .before .before .before .before .before .a .given .1),
+    ← c .before .before .before .before .run-end .ensures .0,
+    known (c .before .before .match-word2 .ensures .0) (c .enum-told2 .given .1),
+  ),
+  tt,
+)
+
+run-end-requires-2 : tie.Need-run-end-requires-2
+run-end-requires-2 c κs = rw (c .before .d .given .1) at (c .before .before .before .match-word2 .ensures .1)
+
+returns-3 : tie.Need-returns-3
+unfolding assignedAt
+returns-3 c = (
+  rw (
+    known (c .before .before .before .before .before .before .before .before .before .before .match-word .ensures .0) (c .before .before .before .before .before .before .before .before .a .given .1),
+    ← c .before .before .before .before .before .before .run-end .ensures .0,
+    known (c .before .before .before .before .match-word2 .ensures .0) (c .before .before .d .given .1),
+    ← c .run-end2 .ensures .0,
+  ),
+  c .run-end2 .ensures .1,
+)
+
+pub assigned-at-spec : {M : Type 1} → statement M
+assigned-at-spec =
+    tie.close
+    (tie.spec
+    (λ c κs. search needs)
+    (λ c. search needs)
+    (λ c. search needs)
+    returns
+    run-end-requires
+    (λ c. search needs)
+    (λ c κs. search needs)
+    (λ c. search needs)
+    (λ c. search needs)
+    returns-2
+    run-end-requires-2
+    returns-3)

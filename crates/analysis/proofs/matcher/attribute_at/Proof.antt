@@ -1,0 +1,53 @@
+use borrow.Author.Needs.{needs}
+use borrow.Author.Tests.{eq-eqb, ne-eqb}
+use Rattle.laws.proofs.Steps.{known}
+use Rattle.analysis.specs.Row.{first, matchAt}
+use Rattle.analysis.proofs.Rows.{attribute-row}
+use Rattle.analysis.proofs.matcher.attribute_at.Statement.{statement}
+use Rattle.analysis.proofs.matcher.attribute_at.Tie as tie
+
+returns : tie.Need-returns
+unfolding first
+returns c = (rw (attribute-row, ← c .before .class-at .ensures .0, eq-eqb _ _ (c .if1 .taken)), tt)
+
+returns-2 : tie.Need-returns-2
+unfolding first
+returns-2 c = (
+  rw (
+    attribute-row,
+    ← c .before .before .before .before .class-at .ensures .0,
+    ne-eqb _ _ (c .before .before .before .if1 .left),
+    known (c .before .before .assigned-at .ensures .0) (c .enum-told .given .1),
+  ),
+  tt,
+)
+
+quoted-at-requires : tie.Need-quoted-at-requires
+quoted-at-requires c κs = rw (c .before .b .given .1) at (c .before .before .before .assigned-at .ensures .1)
+
+returns-3 : tie.Need-returns-3
+unfolding matchAt
+returns-3 c = (
+  rw (
+    attribute-row,
+    ← c .before .before .before .before .before .before .class-at .ensures .0,
+    ne-eqb _ _ (c .before .before .before .before .before .if1 .left),
+    known (c .before .before .before .before .assigned-at .ensures .0) (c .before .before .b .given .1),
+  )
+      (c .quoted-at .ensures .0),
+  c .quoted-at .ensures .1,
+)
+
+pub attribute-at-spec : {M : Type 1} → statement M
+attribute-at-spec =
+    tie.close
+    (tie.spec
+    (λ c κs. search needs)
+    returns
+    (λ c. search needs)
+    (λ c κs. search needs)
+    (λ c. search needs)
+    (λ c. search needs)
+    returns-2
+    quoted-at-requires
+    returns-3)

@@ -1,0 +1,65 @@
+use borrow.Author.Needs.{needs}
+use borrow.Author.Tests.{eq-eqb, ne-eqb}
+use Rattle.laws.proofs.Steps.{known}
+use Rattle.analysis.specs.Row.{first, matchAt}
+use Rattle.analysis.proofs.Rows.{jsx-row}
+use Rattle.analysis.proofs.matcher.find_jsx.Statement.{statement}
+use Rattle.analysis.proofs.matcher.find_jsx.Tie as tie
+
+returns : tie.Need-returns
+unfolding first
+returns c = (
+  rw (
+    jsx-row _ _ (c .before .before .before .before .before .before .pre),
+    ← c .before .before .before .run-end .ensures .0,
+    known (c .before .before .match-word .ensures .0) (c .enum-told .given .1),
+  ),
+  tt,
+)
+
+class-at-requires : tie.Need-class-at-requires
+class-at-requires c κs = rw (c .before .b .given .1) at (c .before .before .before .match-word .ensures .1)
+
+returns-2 : tie.Need-returns-2
+unfolding first
+returns-2 c = (
+  rw (
+    jsx-row _ _ (c .before .before .before .before .before .before .before .before .before .pre),
+    ← c .before .before .before .before .before .before .run-end .ensures .0,
+    known (c .before .before .before .before .before .match-word .ensures .0) (c .before .before .before .b .given .1),
+    ← c .before .class-at .ensures .0,
+    eq-eqb _ _ (c .if1 .taken),
+  ),
+  tt,
+)
+
+returns-3 : tie.Need-returns-3
+unfolding matchAt
+returns-3 c = (
+  rw (
+    jsx-row _ _ (c .before .before .before .before .before .before .before .before .before .before .before .pre),
+    ← c .before .before .before .before .before .before .before .before .run-end .ensures .0,
+    known (c .before .before .before .before .before .before .before .match-word .ensures .0) (c .before .before .before .before .before .b .given .1),
+    ← c .before .before .before .class-at .ensures .0,
+    ne-eqb _ _ (c .before .before .if1 .left),
+    ← c .before .run-end2 .ensures .0,
+  )
+      (c .bare-at .ensures .0),
+  c .bare-at .ensures .1,
+)
+
+pub find-jsx-spec : {M : Type 1} → statement M
+find-jsx-spec =
+    tie.close
+    (tie.spec
+    (λ c κs. search needs)
+    (λ c κs. search needs)
+    (λ c. search needs)
+    (λ c. search needs)
+    returns
+    class-at-requires
+    returns-2
+    (λ c. search needs)
+    (λ c κs. search needs)
+    (λ c κs. search needs)
+    returns-3)

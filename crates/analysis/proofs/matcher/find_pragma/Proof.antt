@@ -1,0 +1,44 @@
+use borrow.Author.Needs.{needs}
+use Rattle.laws.proofs.Steps.{known}
+use Rattle.analysis.specs.Row.{first, matchAt}
+use Rattle.analysis.proofs.Rows.{pragma-row}
+use Rattle.analysis.proofs.matcher.find_pragma.Statement.{statement}
+use Rattle.analysis.proofs.matcher.find_pragma.Tie as tie
+
+returns : tie.Need-returns
+unfolding first
+returns c = (
+  rw (
+    pragma-row _ _ (c .before .before .before .before .before .before .pre),
+    ← c .before .before .before .run-end .ensures .0,
+    known (c .before .before .assigned-at .ensures .0) (c .enum-told .given .1),
+  ),
+  tt,
+)
+
+quoted-some-at-requires : tie.Need-quoted-some-at-requires
+quoted-some-at-requires c κs = rw (c .before .b .given .1) at (c .before .before .before .assigned-at .ensures .1)
+
+returns-2 : tie.Need-returns-2
+unfolding matchAt
+returns-2 c = (
+  rw (
+    pragma-row _ _ (c .before .before .before .before .before .before .before .before .pre),
+    ← c .before .before .before .before .before .run-end .ensures .0,
+    known (c .before .before .before .before .assigned-at .ensures .0) (c .before .before .b .given .1),
+  )
+      (c .quoted-some-at .ensures .0),
+  c .quoted-some-at .ensures .1,
+)
+
+pub find-pragma-spec : {M : Type 1} → statement M
+find-pragma-spec =
+    tie.close
+    (tie.spec
+    (λ c κs. search needs)
+    (λ c κs. search needs)
+    (λ c. search needs)
+    (λ c. search needs)
+    returns
+    quoted-some-at-requires
+    returns-2)

@@ -1,0 +1,57 @@
+use borrow.Author.Needs.{needs}
+use native.Mathlib.Omega.{arith}
+use mathlib.Core.Path.{_≡_, refl, _∙_}
+use Prim.Native.Nat.{_≤_, _-_}
+use lib.ListN.{length}
+use denote.Ref.{now}
+use Rattle.laws.proofs.Steps.{known}
+use Rattle.analysis.specs.Row.{matchAt}
+use Rattle.analysis.specs.Patterns.{referenceEnd}
+use Rattle.analysis.proofs.Rows.{reference-hit, reference-stop, reference-goes-on}
+use Rattle.analysis.proofs.matcher.reference_ends.Statement.{statement}
+use Rattle.analysis.proofs.matcher.reference_ends.Tie as tie
+
+abbrev Inv-loop : tie.InvT-loop
+Inv-loop s at i₀ t5 i = (i ≤ length s) × (matchAt referenceEnd s at ≡ matchAt referenceEnd s i)
+
+abbrev μ-loop : tie.MeasureT-loop
+μ-loop s at i₀ t5 i = length s - i
+
+loop-holds : tie.Need-loop-holds Inv-loop μ-loop
+loop-holds c = (c .before .pre, refl)
+
+returns : tie.Need-returns Inv-loop μ-loop
+returns c =
+    let s = now (c .before .before .before .before .before .before .args .s) in
+    let l = c .before .before .before .before .loop in
+    rw (l .inv .1, reference-hit s (l .i) (known (c .before .before .match-word .ensures .0) (c .enum-told .given .1)))
+
+returns-2 : tie.Need-returns-2 Inv-loop μ-loop
+returns-2 c =
+    let s = now (c .before .before .before .before .before .before .before .before .args .s) in
+    let l = c .before .before .before .before .before .before .loop in
+    rw (l .inv .1, reference-stop s (l .i) (known (c .before .before .before .before .match-word .ensures .0) (c .before .before .enum-told2 .given .1)) (known (c .before .class-at .ensures .0) (c .if1 .taken)))
+
+loop-again : tie.Need-loop-again Inv-loop μ-loop
+loop-again c =
+    let s = now (c .before .before .before .before .before .before .before .before .args .s) in
+    let l = c .before .before .before .before .before .before .loop in
+    (omega arith, l .inv .1 ∙ reference-goes-on s (l .i) (known (c .before .before .before .before .match-word .ensures .0) (c .before .before .enum-told2 .given .1)) (c .before .class-at .ensures .0) (c .if1 .left))
+
+pub reference-ends-spec : {M : Type 1} → statement M
+reference-ends-spec =
+    tie.close
+    (tie.spec
+    Inv-loop
+    μ-loop
+    loop-holds
+    (λ c. search needs)
+    (λ c κs. omega arith)
+    (λ c. search needs)
+    returns
+    (λ c. search needs)
+    (λ c κs. omega arith)
+    returns-2
+    (λ c. omega arith)
+    (λ c. omega arith)
+    loop-again)

@@ -1,0 +1,216 @@
+-- Brace readings: the grammar and the functions agree.
+use mathlib.Core.Path.{_≡_, refl, sym, ap, _∙_}
+use mathlib.Core.Bool.{Bool, true, false, cond, false≢true, not-eq-not}
+use mathlib.Core.Logic.{_⊎_, ⊎-elim, inl, inr}
+use mathlib.Core.List.{[], _∷_, _++_}
+use Prim.Native.Nat.{ℕ, zero, suc, _≤_, _<_}
+use Prim.Native.Char.{code}
+use native.Mathlib.Omega.{arith}
+use lib.ListN.{length, drop}
+use lib.Dec.{eqb}
+use borrow.Author.Tests.{ne-eqb, eqb-true, eqb-false}
+use Rattle.laws.specs.Quoted.{ascii}
+use Rattle.text.specs.declared.class.Class.the-variants.{White}
+use Rattle.text.specs.Bytes.{begins}
+use Rattle.text.proofs.Words.{begins-sound, begins-complete}
+use Rattle.jsdoc.specs.Grammar.{Bytes, Word, Without, Quote, ToImport, Part, Tail, Brace}
+use Rattle.jsdoc.specs.Parsed.{Parsed, ok, backtrace, onOk}
+use Rattle.jsdoc.specs.Reader.{skip, skipWhitespace, tag, word, upTo, parseImportAttributeBlock, secondParamStart, parseSecondParam, closeCall, parseTail, hit, seek, parseCall, parseJsdocDynamicImport}
+use Rattle.jsdoc.proofs.Chains.{never, link}
+use Rattle.jsdoc.proofs.Characters.{run-sound, white-complete}
+use Rattle.jsdoc.proofs.Texts.{tag-sound, tag-complete, tag-other, word-sound, word-complete, upTo-sound, upTo-complete, quote-complete, specifier-sound}
+use Rattle.jsdoc.proofs.Blocks.{block-sound, block-complete, block-small}
+
+-- ---- the second parameter
+
+-- `,` W* `{` W* `with` W* `:` W*
+abbrev Start : Bytes → Bytes → Type 0
+Start s t = (a : Bytes) × (b : Bytes) × (c : Bytes) × Word (ascii ",") s a × Word (ascii "{") a b × Word (ascii "with") b c × Word (ascii ":") c t
+
+start-sound : (s t : Bytes) {z : Unit {0}} → secondParamStart s ≡ ok z t → Start s t
+unfolding secondParamStart
+start-sound s t e =
+    let (z1, a, ea) = link (word (ascii ",") s) (λ h. never (rw h at e)) in
+    let e1 = rw ea at e in
+    let (z2, b, eb) = link (word (ascii "{") a) (λ h. never (rw h at e1)) in
+    let e2 = rw eb at e1 in
+    let (z3, c, ec) = link (word (ascii "with") b) (λ h. never (rw h at e2)) in
+    (a, b, c, word-sound (ascii ",") s a ea, word-sound (ascii "{") a b eb, word-sound (ascii "with") b c ec, word-sound (ascii ":") c t (rw ec at e2))
+
+pub part-sound : (m : ℕ) (s t : Bytes) → parseSecondParam s ≡ ok m t → Part m s t
+unfolding parseSecondParam skipWhitespace
+part-sound m s t e =
+    let (z1, d, ed) = link (secondParamStart s) (λ h. never (rw h at e)) in
+    let e1 = rw ed at e in
+    let (n, x, ex) = link (parseImportAttributeBlock d) (λ h. never (rw h at e1)) in
+    let e2 = rw ex at e1 in
+    let (z2, y, ey) = link (word (ascii "}") (skip White x)) (λ h. never (rw h at e2)) in
+    let e3 = rw ey at e2 in
+    let em : parseImportAttributeBlock d ≡ ok m x = cc in
+    let et : word (ascii "}") (skip White x) ≡ ok z2 t = cc in
+    let (a, b, c, comma, brace, with-word, colon) = start-sound s d ed in
+    record {
+      r1 = a;
+      r2 = b;
+      r3 = c;
+      r4 = d;
+      r5 = x;
+      r6 = skip White x;
+      comma = comma;
+      brace = brace;
+      word = with-word;
+      colon = colon;
+      block = block-sound m d x em;
+      white = run-sound White x;
+      end = word-sound (ascii "}") (skip White x) t et;
+    }
+
+pub part-complete : {m : ℕ} {s t : Bytes} → Part m s t → parseSecondParam s ≡ ok m t
+unfolding parseSecondParam secondParamStart
+part-complete r =
+    rw (
+      word-complete (ascii ",") (r .comma),
+      word-complete (ascii "{") (r .brace),
+      word-complete (ascii "with") (r .word),
+      word-complete (ascii ":") (r .colon),
+      block-complete (r .block),
+      white-complete (r .white),
+      word-complete (ascii "}") (r .end),
+    )
+
+-- ---- what follows the quote
+
+-- where no comma begins s there is no second parameter
+part-none : {s t : Bytes} → s ≡ ascii ")" ++ t → parseSecondParam s ≡ backtrace
+unfolding parseSecondParam secondParamStart word
+part-none e = rw (tag-other (code ",") [] (code ")") e (λ h. omega arith))
+
+pub tail-sound : (m : ℕ) (s t : Bytes) → parseTail s ≡ ok m t → Tail m s t
+unfolding parseTail closeCall skipWhitespace
+tail-sound m s t = go (parseSecondParam (skip White s)) refl
+  where
+    end : (n : ℕ) (u : Bytes) → Part n (skip White s) u ⊎ ((n ≡ 0) × (skip White s ≡ u)) → closeCall n u ≡ ok m t → Tail m s t
+    end n u p e =
+        let (z1, a, ea) = link (tag (ascii ")") u) (λ h. never (rw h at e)) in
+        let e1 = rw ea at e in
+        let (z2, b, eb) = link (upTo (code "}") a) (λ h. never (rw h at e1)) in
+        let e2 = rw eb at e1 in
+        let n-is : n ≡ m = cc in
+        let et : upTo (code "}") a ≡ ok z2 t = cc in
+        let (w, r) = upTo-sound (code "}") a t et in
+        record {
+          r1 = skip White s;
+          r2 = u;
+          r3 = a;
+          run = w;
+          white = run-sound White s;
+          part = rw n-is at p;
+          paren = tag-sound (ascii ")") u a ea;
+          rest = r;
+        }
+
+    go : (o : Parsed ℕ) → parseSecondParam (skip White s) ≡ o → onOk (onOk o ok (ok 0 (skip White s))) closeCall backtrace ≡ ok m t → Tail m s t
+    go (ok n u) h e = end n u (inl (part-sound n (skip White s) u h)) e
+    go backtrace h e = end 0 (skip White s) (inr (refl, refl)) e
+
+pub tail-complete : {m : ℕ} {s t : Bytes} → Tail m s t → parseTail s ≡ ok m t
+unfolding parseTail closeCall
+tail-complete {m} r =
+    rw (white-complete (r .white), taken (r .part), tag-complete (ascii ")") (r .paren), upTo-complete (code "}") (r .run) (r .rest))
+  where
+    taken : Part m (r .r1) (r .r2) ⊎ ((m ≡ 0) × (r .r1 ≡ r .r2)) → onOk (parseSecondParam (r .r1)) ok (ok 0 (r .r1)) ≡ ok m (r .r2)
+    taken (inl p) = rw (part-complete p)
+    taken (inr (z, e)) = rw (part-none (e ∙ r .paren)) (cc)
+
+pub tail-small : {m : ℕ} {s t : Bytes} → Tail m s t → m ≤ 2
+tail-small r = ⊎-elim (λ p. block-small (p .block)) (λ p. omega (arith, p .0)) (r .part)
+
+-- ---- the search for `import`
+
+-- a byte that is passed
+passed : (x : ℕ) (s : Bytes) → begins (ascii "import") (x ∷ s) ≡ false → {t : Bytes} → (x ≡ code "}" → ⊥) → ToImport s t → ToImport (x ∷ s) t
+passed x s b n r = record {
+  run = x ∷ r .run;
+  free = (n, r .free);
+  all = ap (λ (l : Bytes). x ∷ l) (r .all);
+  first = first;
+}
+  where
+    first : (k : ℕ) → k < suc (length (r .run)) → (u : Bytes) → drop k (x ∷ s) ≡ ascii "import" ++ u → ⊥
+    first zero l u e = false≢true (sym b ∙ ap (begins (ascii "import")) e ∙ begins-complete (ascii "import") u)
+    first (suc k) l u e = r .first k (omega arith) u e
+
+pub search-sound : (s : Bytes) → begins (ascii "import") (seek s) ≡ true → ToImport s (seek s)
+unfolding seek begins
+search-sound [] h = absurd (false≢true h)
+search-sound (x ∷ s) h = go (eqb x (code "}")) refl (begins (ascii "import") (x ∷ s)) refl (search-sound s) h
+  where
+    go : (a : Bool) → eqb x (code "}") ≡ a → (b : Bool) → begins (ascii "import") (x ∷ s) ≡ b
+        → (begins (ascii "import") (seek s) ≡ true → ToImport s (seek s))
+        → begins (ascii "import") (cond a (x ∷ s) (cond b (x ∷ s) (seek s))) ≡ true → ToImport (x ∷ s) (cond a (x ∷ s) (cond b (x ∷ s) (seek s)))
+    go true e b f ih h = absurd (false≢true (rw (eqb-true x (code "}") e) at h))
+    go false e true f ih h = record { run = []; free = tt; all = refl; first = λ k l. absurd (omega arith) }
+    go false e false f ih h = passed x s f (eqb-false x (code "}") e) (ih h)
+
+search-passes : (w t : Bytes) → Without (code "}") w → ((k : ℕ) → k < length w → (r : Bytes) → drop k (w ++ t) ≡ ascii "import" ++ r → ⊥) → begins (ascii "import") t ≡ true → seek (w ++ t) ≡ t
+unfolding seek begins
+search-passes [] [] f h b = refl
+search-passes [] (x ∷ t) f h b = go (eqb x (code "}")) refl
+  where
+    go : (a : Bool) → eqb x (code "}") ≡ a → cond a (x ∷ t) (cond (begins (ascii "import") (x ∷ t)) (x ∷ t) (seek t)) ≡ x ∷ t
+    go true e = refl
+    go false e = rw b
+search-passes (x ∷ w) t f h b =
+    let n : begins (ascii "import") (x ∷ (w ++ t)) ≡ false =
+    not-eq-not .0 (λ e. h 0 (omega arith) (drop 6 (x ∷ (w ++ t))) (begins-sound (ascii "import") (x ∷ (w ++ t)) e)) in
+    rw (ne-eqb x (code "}") (f .0), n)
+    (search-passes w t (f .1) (λ k l. h (suc k) (omega arith)) b)
+
+pub search-complete : {s t : Bytes} → ToImport s t → begins (ascii "import") t ≡ true → seek s ≡ t
+search-complete {s} {t} r b = rw (r .all) (search-passes (r .run) t (r .free) (rw (r .all) at (r .first)) b)
+
+-- ---- the whole
+
+call-sound : (s q e : Bytes) (m : ℕ) (t : Bytes) → parseCall s ≡ ok (hit q e m) t
+    → (a : Bytes) × (k : Bytes) × Word (ascii "import") s a × Word (ascii "(") a q × Quote k q e × Tail m e t
+unfolding parseCall
+call-sound s q e m t h =
+    let (z1, a, ea) = link (word (ascii "import") s) (λ g. never (rw g at h)) in
+    let h1 = rw ea at h in
+    let (z2, b, eb) = link (word (ascii "(") a) (λ g. never (rw g at h1)) in
+    let h2 = rw eb at h1 in
+    let (i, (k, r), j) = specifier-sound parseTail b q e t m h2 in
+    let eq : word (ascii "(") a ≡ ok z2 q = cc in
+    (a, k, word-sound (ascii "import") s a ea, word-sound (ascii "(") a q eq, r, tail-sound m e t j)
+
+pub brace-sound : (s q e : Bytes) (m : ℕ) (t : Bytes) → parseJsdocDynamicImport s ≡ ok (hit q e m) t → Brace s q e m
+unfolding parseJsdocDynamicImport
+brace-sound s q e m t h =
+    let (z, a, ea) = link (tag (ascii "{") s) (λ g. never (rw g at h)) in
+    let (b, k, w, p, r, l) = call-sound (seek a) q e m t (rw ea at h) in
+    record {
+      r1 = a;
+      r2 = seek a;
+      r3 = b;
+      text = k;
+      end = t;
+      brace = tag-sound (ascii "{") s a ea;
+      run = search-sound a (rw (w .1) (begins-complete (ascii "import") (w .0)));
+      word = w;
+      paren = p;
+      quote = r;
+      tail = l;
+    }
+
+pub brace-complete : {s q e : Bytes} {m : ℕ} (r : Brace s q e m) → parseJsdocDynamicImport s ≡ ok (hit q e m) (r .end)
+unfolding parseJsdocDynamicImport parseCall
+brace-complete r =
+    let b : begins (ascii "import") (r .r2) ≡ true = rw (r .word .1) (begins-complete (ascii "import") (r .word .0)) in
+    rw (
+      tag-complete (ascii "{") (r .brace),
+      search-complete (r .run) b,
+      word-complete (ascii "import") (r .word),
+      word-complete (ascii "(") (r .paren),
+      quote-complete (r .quote),
+      tail-complete (r .tail),
+    )

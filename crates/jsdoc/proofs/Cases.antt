@@ -1,0 +1,96 @@
+-- Worked bodies: the imports that are listed for each, by the place and the mode.
+use mathlib.Core.Path.{_≡_, refl}
+use mathlib.Core.List.{List, [], _∷_, map, flatMap}
+use Prim.Native.Nat.{ℕ, _+_}
+use Prim.Native.String.{String}
+use lib.ListN.{length, set, replicate}
+use Rattle.laws.specs.Quoted.{ascii}
+use Rattle.text.specs.Ranges.{inRanges}
+use Rattle.text.specs.Utf8.{admits, lengthBy, charLength, codeBy, charAt}
+use Rattle.text.specs.Encode.{encode}
+use Rattle.text.specs.Alphabetic.{alphabetic}
+use Rattle.text.specs.Class.{outside, ranges, member, classAt, run}
+use Rattle.text.specs.Bytes.{begins, same}
+use Rattle.analysis.specs.Mode.{modeOf}
+use Rattle.jsdoc.specs.Grammar.{Bytes, Listed}
+use Rattle.jsdoc.specs.Marks.{Marks}
+use Rattle.jsdoc.specs.Reader.{skip, skipWhitespace, whitespace, tag, word, upTo, isMark, parseQuote, pastIdent, parseIdent, parseKey, attributeMode, parseAttribute, firstMode, comma, attributesBy, attributesFrom, parseImportAttributeBlock, secondParamStart, parseSecondParam, closeCall, parseTail, seek, parseCall, parseJsdocDynamicImport, skipNamedImports, skipDefaultImport, skipNamespaceImport, skipClause, parseWith, parseFrom, parseJsdocImportDecl}
+use Rattle.jsdoc.proofs.Listing.{listing, listing-marks}
+
+-- an import by the place of its quote and its mode
+data Entry : Type 0 where
+  entry : ℕ → ℕ → Entry
+
+-- a body, and its imports
+data Case : Type 0 where
+  row : String → List Entry → Case
+
+abbrev body : Case → Bytes
+body (row s l) = flatMap encode (ascii s)
+
+abbrev marksAt : ℕ → List Entry → List ℕ
+marksAt n [] = replicate n 0
+marksAt n (entry q m ∷ l) = set (marksAt n l) q (m + 1)
+
+abbrev marks : Case → List ℕ
+marks (row s l) = marksAt (length (flatMap encode (ascii s))) l
+
+table : List Case
+table =
+    -- the cases of document 01
+    row "* {import(\"\")}" (entry 10 0 ∷ [])
+    ∷ row "* {important import(\"a\")}" []
+    ∷ row "* {{import('a')}}" (entry 11 0 ∷ [])
+    ∷ row "* {import(\"a\", {with: {\"resolution-mode\": \"import\"}})}" (entry 10 1 ∷ [])
+    ∷ row "* {import(\"a\", {with: {resolution-mode: \"import\"}})}" []
+    ∷ row "* @import A, {B} from \"a\"" []
+    ∷ row "* @import {A}from\"a\"" (entry 17 0 ∷ [])
+    ∷ row "* @import A from \"a\" with {" (entry 17 0 ∷ [])
+    -- one reading inside another, each with its own mode
+    ∷ row "{import(\"{import('a')}\")}" (entry 8 0 ∷ entry 17 0 ∷ [])
+    ∷ row "{import(\"{import('a',{with:{'resolution-mode':'import'}})}\")}" (entry 8 0 ∷ entry 17 1 ∷ [])
+    ∷ row "@import {@import A from 'b' }from\"a\"" (entry 24 0 ∷ entry 33 0 ∷ [])
+    -- the first `import` of a brace, which fails; a later brace; no `}`
+    ∷ row "{ {import x import('a')}" []
+    ∷ row "{import x {import('a')}" (entry 18 0 ∷ [])
+    ∷ row "{ } import('a')}" []
+    ∷ row "{import('a')" []
+    -- a last comma; no attribute; a comma alone; two keys
+    ∷ row "{import('a',{with:{a:'b','resolution-mode':'require',}})}" (entry 8 2 ∷ [])
+    ∷ row "{import('a',{with:{}})}" (entry 8 0 ∷ [])
+    ∷ row "{import('a',{with:{,}})}" []
+    ∷ row "{import('a',{with:{'resolution-mode':'x','resolution-mode':'import'}})}" (entry 8 0 ∷ [])
+    ∷ row "{import('a',{with:{'resolution-mode':'require','resolution-mode':'import'}})}" (entry 8 2 ∷ [])
+    -- declarations: a block that reads, and one that does not
+    ∷ row "@import * as N from 'a' with {'resolution-mode': 'require'}" (entry 20 2 ∷ [])
+    ∷ row "@import A from 'a' with {x}" (entry 15 0 ∷ [])
+    -- names that begin outside ASCII; U+FEFF is in a name, and begins none
+    ∷ row "@import é from \"a\"" (entry 16 0 ∷ [])
+    ∷ row "@import 中\u{feff} from \"a\"" (entry 20 0 ∷ [])
+    ∷ row "@import \u{feff}A from \"a\"" []
+    -- U+0085 and U+3000 are white space, and U+FEFF is none
+    ∷ row "{import\u{85}(\u{3000}\"a\"\u{85})}" (entry 13 0 ∷ [])
+    ∷ row "{import\u{feff}(\"a\")}" []
+    ∷ row "@import\u{85}A\u{3000}from\u{85}\"a\"" (entry 19 0 ∷ [])
+    ∷ []
+
+computed : map (λ c. listing (body c)) table ≡ map marks table
+unfolding table flatMap alphabetic inRanges admits lengthBy charLength codeBy charAt encode outside ranges member classAt run begins same modeOf skip skipWhitespace whitespace tag word upTo isMark parseQuote pastIdent parseIdent parseKey attributeMode parseAttribute firstMode comma attributesBy attributesFrom parseImportAttributeBlock secondParamStart parseSecondParam closeCall parseTail seek parseCall parseJsdocDynamicImport skipNamedImports skipDefaultImport skipNamespaceImport skipClause parseWith parseFrom parseJsdocImportDecl
+computed = refl
+
+-- just these imports are listed for each body
+abbrev Each : (Case → Type 0) → List Case → Type 0
+Each P [] = Unit {0}
+Each P (c ∷ l) = P c × Each P l
+
+abbrev Worked : Case → Type 0
+Worked c = Marks (Listed (body c)) (length (body c)) (marks c)
+
+each : (l : List Case) → map (λ c. listing (body c)) l ≡ map marks l → Each Worked l
+each [] e = tt
+each (c ∷ l) e =
+    let h : listing (body c) ≡ marks c = cc in
+    (rw h at (listing-marks (body c)), each l (cc))
+
+worked : Each Worked table
+worked = each table computed

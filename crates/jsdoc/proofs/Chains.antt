@@ -1,0 +1,24 @@
+-- What a chain of parsers that reads says of its links.
+use mathlib.Core.Path.{_≡_, refl}
+use mathlib.Core.Bool.{Bool, true, false, cond}
+use Prim.Native.Nat.{ℕ}
+use native.Mathlib.Omega.{arith}
+use Rattle.jsdoc.specs.Grammar.{Bytes}
+use Rattle.jsdoc.specs.Parsed.{Parsed, ok, backtrace}
+
+pub never : {A : Type 0} {a : A} {t : Bytes} → _≡_ {A = Parsed A} backtrace (ok a t) → ⊥
+never e = let z : _≡_ {A = ℕ} 0 1 = cc in omega arith
+
+-- what never reads is a backtrace
+pub no-reading : {A : Type 0} (o : Parsed A) → ((a : A) (t : Bytes) → o ≡ ok a t → ⊥) → o ≡ backtrace
+no-reading (ok a t) h = absurd (h a t refl)
+no-reading backtrace h = refl
+
+-- a link of a chain that reads is no backtrace, so it reads
+pub link : {A : Type 0} (o : Parsed A) → (o ≡ backtrace → ⊥) → (a : A) × (u : Bytes) × (o ≡ ok a u)
+link (ok a u) h = (a, u, refl)
+link backtrace h = absurd (h refl)
+
+pub if-ok : {A : Type 0} (b : Bool) (o : Parsed A) {a : A} {t : Bytes} → cond b o backtrace ≡ ok a t → (b ≡ true) × (o ≡ ok a t)
+if-ok true o e = (refl, e)
+if-ok false o e = absurd (never e)

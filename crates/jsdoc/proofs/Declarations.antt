@@ -1,0 +1,186 @@
+-- Declarations: the grammar and the functions agree.
+use mathlib.Core.Path.{_≡_, refl, sym, _∙_}
+use mathlib.Core.Logic.{_⊎_, inl, inr}
+use Prim.Native.Nat.{ℕ, _≤_}
+use Prim.Native.Char.{code}
+use native.Mathlib.Omega.{arith}
+use Rattle.laws.specs.Quoted.{ascii}
+use Rattle.text.specs.declared.class.Class.the-variants.{White}
+use Rattle.text.specs.Ranges.{inRanges}
+use Rattle.text.specs.Alphabetic.{alphabetic}
+use Rattle.text.specs.Class.{outside, ranges, member}
+use Rattle.jsdoc.specs.Grammar.{Bytes, W*, Word, Quote, Named, Starred, Braced, Clause, With, Declaration}
+use Rattle.jsdoc.specs.Parsed.{Parsed, ok, backtrace, onOk, or, return}
+use Rattle.jsdoc.specs.Reader.{skip, skipWhitespace, whitespace, tag, word, parseIdent, hit, skipNamedImports, skipDefaultImport, skipNamespaceImport, skipClause, parseWith, parseFrom, parseJsdocImportDecl}
+use Rattle.jsdoc.proofs.Chains.{never, no-reading, link}
+use Rattle.jsdoc.proofs.Characters.{run-sound, white-complete, white1-sound, white1-complete}
+use Rattle.jsdoc.proofs.Texts.{tag-sound, tag-complete, word-sound, word-complete, upTo-sound, upTo-complete, quote-complete, specifier-sound, ident-sound, ident-complete, name-not}
+use Rattle.jsdoc.proofs.Blocks.{block-sound, block-complete, block-small}
+
+-- ---- the three clauses
+
+named-sound : (s t : Bytes) {z : Unit {0}} → skipDefaultImport s ≡ ok z t → Named s t
+unfolding skipDefaultImport
+named-sound s t e =
+    let (k, u, h) = link (parseIdent s) (λ g. never (rw g at e)) in
+    (k, u, ident-sound k s u h, white1-sound u t (rw h at e))
+
+named-complete : {s t : Bytes} → Named s t → skipDefaultImport s ≡ ok tt t
+unfolding skipDefaultImport
+named-complete {t} (k, u, r, w) = rw (ident-complete r) (white1-complete u t w)
+
+starred-sound : (s t : Bytes) {z : Unit {0}} → skipNamespaceImport s ≡ ok z t → Starred s t
+unfolding skipNamespaceImport
+starred-sound s t e =
+    let (z1, a, ea) = link (word (ascii "*") s) (λ g. never (rw g at e)) in
+    let e1 = rw ea at e in
+    let (z2, b, eb) = link (tag (ascii "as") a) (λ g. never (rw g at e1)) in
+    let e2 = rw eb at e1 in
+    let (z3, c, ec) = link (whitespace b) (λ g. never (rw g at e2)) in
+    record {
+      r1 = a;
+      r2 = b;
+      r3 = c;
+      star = word-sound (ascii "*") s a ea;
+      word = tag-sound (ascii "as") a b eb;
+      white = white1-sound b c ec;
+      name = named-sound c t (rw ec at e2);
+    }
+
+starred-complete : {s t : Bytes} → Starred s t → skipNamespaceImport s ≡ ok tt t
+unfolding skipNamespaceImport
+starred-complete r =
+    rw (word-complete (ascii "*") (r .star), tag-complete (ascii "as") (r .word), white1-complete (r .r2) (r .r3) (r .white))
+    (named-complete (r .name))
+
+braced-sound : (s t : Bytes) {z : Unit {0}} → skipNamedImports s ≡ ok z t → Braced s t
+unfolding skipNamedImports
+braced-sound s t e =
+    let (z, u, h) = link (tag (ascii "{") s) (λ g. never (rw g at e)) in
+    let (w, r) = upTo-sound (code "}") u t (rw h at e) in
+    (u, w, tag-sound (ascii "{") s u h, r)
+
+braced-complete : {s t : Bytes} → Braced s t → skipNamedImports s ≡ ok tt t
+unfolding skipNamedImports
+braced-complete (u, w, e, r) = rw (tag-complete (ascii "{") e) (upTo-complete (code "}") w r)
+
+pub clause-sound : (s t : Bytes) {z : Unit {0}} → skipClause s ≡ ok z t → Clause s t
+unfolding skipClause
+clause-sound s t {z} = go (skipNamedImports s) (skipNamespaceImport s) refl refl
+  where
+    go : (a b : Parsed (Unit {0})) → skipNamedImports s ≡ a → skipNamespaceImport s ≡ b → onOk a ok (onOk b ok (skipDefaultImport s)) ≡ ok z t → Clause s t
+    go (ok x u) b h k e = inl (braced-sound s t (h ∙ e))
+    go backtrace (ok x u) h k e = inr (inl (starred-sound s t (k ∙ e)))
+    go backtrace backtrace h k e = inr (inr (named-sound s t e))
+
+-- they begin with different bytes
+starred-no-brace : {s t u : Bytes} → Starred s t → Braced s u → ⊥
+starred-no-brace r b = let z : code "*" ≡ code "{" = cc in omega arith
+
+named-no-brace : {s t u : Bytes} → Named s t → Braced s u → ⊥
+unfolding member outside ranges inRanges alphabetic
+named-no-brace r b = name-not (code "{") (omega arith) refl (b .2) (r .2)
+
+named-no-star : {s t u : Bytes} → Named s t → Starred s u → ⊥
+unfolding member outside ranges inRanges alphabetic
+named-no-star r b = name-not (code "*") (omega arith) refl (b .star .1) (r .2)
+
+pub clause-complete : {s t : Bytes} → Clause s t → skipClause s ≡ ok tt t
+unfolding skipClause
+clause-complete (inl r) = rw (braced-complete r)
+clause-complete {s} (inr (inl r)) =
+    rw (no-reading (skipNamedImports s) (λ z u e. starred-no-brace r (braced-sound s u e)), starred-complete r)
+clause-complete {s} (inr (inr r)) =
+    rw (
+      no-reading (skipNamedImports s) (λ z u e. named-no-brace r (braced-sound s u e)),
+      no-reading (skipNamespaceImport s) (λ z u e. named-no-star r (starred-sound s u e)),
+      named-complete r,
+    )
+
+-- ---- the mode after the quote
+
+with-sound : (m : ℕ) (s t : Bytes) → parseWith s ≡ ok m t → With m s t
+unfolding parseWith skipWhitespace
+with-sound m s t e =
+    let (z, a, ea) = link (word (ascii "with") (skip White s)) (λ g. never (rw g at e)) in
+    record {
+      r1 = skip White s;
+      r2 = a;
+      white = run-sound White s;
+      word = word-sound (ascii "with") (skip White s) a ea;
+      block = block-sound m a t (rw ea at e);
+    }
+
+with-complete : {m : ℕ} {s t : Bytes} → With m s t → parseWith s ≡ ok m t
+unfolding parseWith
+with-complete r = rw (white-complete (r .white), word-complete (ascii "with") (r .word)) (block-complete (r .block))
+
+-- the mode m of the block behind s, if that reads, and else none
+abbrev pub After : ℕ → Bytes → Type 0
+After m s = ((t : Bytes) × With m s t) ⊎ (((n : ℕ) (t : Bytes) → With n s t → ⊥) × (m ≡ 0))
+
+after-sound : (m : ℕ) (s t : Bytes) → or parseWith (return 0) s ≡ ok m t → After m s
+after-sound m s t = go (parseWith s) refl
+  where
+    go : (o : Parsed ℕ) → parseWith s ≡ o → onOk o ok (ok 0 s) ≡ ok m t → After m s
+    go (ok n u) h e = inl (t, with-sound m s t (h ∙ e))
+    go backtrace h e = inr (λ n u r. never (sym h ∙ with-complete r), (cc))
+
+pub after-complete : (m : ℕ) (s : Bytes) → After m s → (t : Bytes) × (or parseWith (return 0) s ≡ ok m t)
+after-complete m s (inl (t, r)) = (t, rw (with-complete r))
+after-complete m s (inr (f, z)) = (s, rw (no-reading (parseWith s) (λ n t e. f n t (with-sound n s t e)), z))
+
+pub after-small : {m : ℕ} {s : Bytes} → After m s → m ≤ 2
+after-small (inl (t, r)) = block-small (r .block)
+after-small (inr (f, z)) = omega arith
+
+-- ---- the whole
+
+from-sound : (s q e : Bytes) (m : ℕ) (t : Bytes) → parseFrom s ≡ ok (hit q e m) t
+    → (a : Bytes) × (k : Bytes) × W* s a × Word (ascii "from") a q × Quote k q e × After m e
+unfolding parseFrom skipWhitespace
+from-sound s q e m t h =
+    let (z, b, eb) = link (word (ascii "from") (skip White s)) (λ g. never (rw g at h)) in
+    let (i, (k, r), j) = specifier-sound (or parseWith (return 0)) b q e t m (rw eb at h) in
+    let eq : word (ascii "from") (skip White s) ≡ ok z q = cc in
+    (skip White s, k, run-sound White s, word-sound (ascii "from") (skip White s) q eq, r, after-sound m e t j)
+
+pub decl-sound : (s q e : Bytes) (m : ℕ) (t : Bytes) → parseJsdocImportDecl s ≡ ok (hit q e m) t → Declaration s q e m
+unfolding parseJsdocImportDecl
+decl-sound s q e m t h =
+    let (z1, a, ea) = link (tag (ascii "@import") s) (λ g. never (rw g at h)) in
+    let h1 = rw ea at h in
+    let (z2, b, eb) = link (whitespace a) (λ g. never (rw g at h1)) in
+    let h2 = rw eb at h1 in
+    let (z3, c, ec) = link (skipClause b) (λ g. never (rw g at h2)) in
+    let (d, k, w, f, r, l) = from-sound c q e m t (rw ec at h2) in
+    record {
+      r1 = a;
+      r2 = b;
+      r3 = c;
+      r4 = d;
+      text = k;
+      word = tag-sound (ascii "@import") s a ea;
+      white = white1-sound a b eb;
+      clause = clause-sound b c ec;
+      white2 = w;
+      word2 = f;
+      quote = r;
+      after = l;
+    }
+
+pub decl-complete : {s q e : Bytes} {m : ℕ} → Declaration s q e m → (t : Bytes) × (parseJsdocImportDecl s ≡ ok (hit q e m) t)
+unfolding parseJsdocImportDecl parseFrom
+decl-complete {e} {m} r =
+    let (t, h) = after-complete m e (r .after) in (
+      t,
+      rw (
+        tag-complete (ascii "@import") (r .word),
+        white1-complete (r .r1) (r .r2) (r .white),
+        clause-complete (r .clause),
+        white-complete (r .white2),
+        word-complete (ascii "from") (r .word2),
+        quote-complete (r .quote),
+        h,
+      ),
+    )

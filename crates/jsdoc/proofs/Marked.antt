@@ -1,0 +1,56 @@
+-- A table of marks, and one mark more.
+use mathlib.Core.Path.{_≡_, sym, _∙_}
+use mathlib.Core.Logic.{_⊎_, inl, inr}
+use mathlib.Core.List.{List}
+use Prim.Native.Nat.{ℕ, _+_, _≤_, _<_}
+use native.Mathlib.Omega.{arith}
+use native.Mathlib.Decide.{ℕ-discrete, decLt}
+use lib.ListN.{length, set, getD, length-set, List·getD-eq-default}
+use lib.Seq.{getD-set-same, getD-set-other}
+use Rattle.jsdoc.specs.Marks.{Marks}
+
+-- the same facts in other words
+pub marks-iff : {P R : ℕ → ℕ → Type 0} {n : ℕ} {l : List ℕ} → ((q m : ℕ) → P q m → R q m) → ((q m : ℕ) → R q m → P q m) → Marks P n l → Marks R n l
+marks-iff f g k = record { same = k .same; sound = λ q m e. f q m (k .sound q m e); complete = λ q m r. k .complete q m (g q m r) }
+
+-- one mark more, at a place that has no other
+module _ {P R : ℕ → ℕ → Type 0} {n : ℕ} {l : List ℕ} (q m : ℕ) (h : q < n) (k : Marks P n l) where
+  pub marks-set : ((a b : ℕ) → P a b → R a b) → R q m → ((a b : ℕ) → R a b → P a b ⊎ ((a ≡ q) × (b ≡ m))) → ((b : ℕ) → P q b → b ≡ m) → Marks R n (set l q (m + 1))
+  marks-set old new only one = record {
+    same = length-set l q (m + 1) ∙ k .same;
+    sound = λ a b e. sound a b e (ℕ-discrete a q);
+    complete = λ a b r. complete a b (only a b r) (ℕ-discrete a q);
+  }
+    where
+      here : getD (set l q (m + 1)) q 0 ≡ m + 1
+      here = getD-set-same l q (m + 1) 0 (omega (arith, k .same))
+
+      sound : (a b : ℕ) → getD (set l q (m + 1)) a 0 ≡ b + 1 → Dec (a ≡ q) → R a b
+      sound a b e (yes p) =
+          let i : getD (set l q (m + 1)) a 0 ≡ m + 1 = rw p here in
+          let w : b ≡ m = omega arith in
+          rw (p, w) new
+      sound a b e (no p) = old a b (k .sound a b (sym (getD-set-other l q a (m + 1) 0 p) ∙ e))
+
+      complete : (a b : ℕ) → P a b ⊎ ((a ≡ q) × (b ≡ m)) → Dec (a ≡ q) → getD (set l q (m + 1)) a 0 ≡ b + 1
+      complete a b (inl r) (yes p) =
+          let w : b ≡ m = one b (rw p at r) in
+          rw (p, w) here
+      complete a b (inl r) (no p) = getD-set-other l q a (m + 1) 0 p ∙ k .complete a b r
+      complete a b (inr r) (yes p) = rw (r .0, r .1) here
+      complete a b (inr r) (no p) = absurd (p (r .0))
+
+-- a table of zeros
+pub zero-more : (l : List ℕ) (i : ℕ) → i < length l → ((q : ℕ) → q < i → getD l q 0 ≡ 0) → (q : ℕ) → q < i + 1 → getD (set l i 0) q 0 ≡ 0
+zero-more l i h f q g = go (ℕ-discrete q i)
+  where
+    go : Dec (q ≡ i) → getD (set l i 0) q 0 ≡ 0
+    go (yes p) = rw p (getD-set-same l i 0 0 h)
+    go (no p) = getD-set-other l i q 0 0 p ∙ f q (omega arith)
+
+pub zero-all : (l : List ℕ) (i : ℕ) → length l ≤ i → ((q : ℕ) → q < i → getD l q 0 ≡ 0) → (q : ℕ) → getD l q 0 ≡ 0
+zero-all l i h f q = go (decLt q i)
+  where
+    go : Dec (q < i) → getD l q 0 ≡ 0
+    go (yes p) = f q p
+    go (no p) = List·getD-eq-default l 0 (omega arith)

@@ -1,0 +1,106 @@
+-- The place of a reading: it has one end and one mode, it is a quote, and it begins and ends at character boundaries.
+use mathlib.Core.Path.{_≡_, sym, ap, _∙_}
+use mathlib.Core.Bool.{true, false}
+use mathlib.Core.Logic.{inl, inr}
+use mathlib.Core.List.{_∷_, _++_}
+use Prim.Native.Nat.{ℕ, suc, _+_, _<_, _≤_}
+use native.Mathlib.Omega.{arith}
+use native.Mathlib.Nat.{add-zero}
+use native.Mathlib.Decide.{ℕ-discrete}
+use lib.ListN.{length, drop, getD, length-drop, List·getD-eq-default}
+use lib.Seq.{drop-append-seam, drop-drop, getD-drop}
+use borrow.Author.Tests.{not-true}
+use Rattle.text.specs.declared.utf8.Encoding.the-variants.{Utf8}
+use Rattle.text.specs.Utf8.{admits, lengthBy, charLength, formed, continuation}
+use Rattle.text.specs.Ranges.{within}
+use Rattle.text.specs.Position.{Boundary}
+use Rattle.text.proofs.Boundary.{boundary}
+use Rattle.jsdoc.specs.Grammar.{Bytes, Mark, Quote, Brace, Declaration, Reading, From, Listed}
+use Rattle.jsdoc.specs.Parsed.{ok}
+use Rattle.jsdoc.specs.Reader.{parseQuote}
+use Rattle.jsdoc.proofs.Texts.{quote-complete}
+use Rattle.jsdoc.proofs.Braces.{tail-complete}
+use Rattle.jsdoc.proofs.Declarations.{after-complete}
+use Rattle.jsdoc.proofs.Apart.{never-both}
+
+one-end : {k l q e d : Bytes} → Quote k q e → Quote l q d → e ≡ d
+one-end r t = cc (quote-complete r, quote-complete t)
+
+module _ {s t q e d : Bytes} {m n : ℕ} where
+  one-brace : Brace s q e m → Brace t q d n → (e ≡ d) × (m ≡ n)
+  one-brace r b =
+      let i = one-end (r .quote) (b .quote) in
+      (i, cc (tail-complete (r .tail), tail-complete (b .tail)))
+
+  one-declaration : Declaration s q e m → Declaration t q d n → (e ≡ d) × (m ≡ n)
+  one-declaration r b =
+      let i = one-end (r .quote) (b .quote) in
+      (i, cc (after-complete m e (r .after) .1, after-complete n d (b .after) .1))
+
+-- a reading at the same places, of another kind
+pub with-kind : {R S : Bytes → Bytes → Bytes → ℕ → Type 0} {b : Bytes} {k q m : ℕ} (r : From R b k q m) → S (drop k b) (drop q b) (drop (r .end) b) m → From S b k q m
+with-kind r x = record { end = r .end; inside = r .inside; reads = x }
+
+-- readings with one place have one end and one mode
+module _ {b : Bytes} {k j q m n : ℕ} where
+  same-end : (r : From Reading b k q m) (t : From Reading b j q n) → (drop (r .end) b ≡ drop (t .end) b) × (m ≡ n) → (r .end ≡ t .end) × (m ≡ n)
+  same-end r t (e, i) = (omega (arith, ap length e, length-drop (r .end) b, length-drop (t .end) b, r .inside, t .inside), i)
+
+  pub one-place : (r : From Reading b k q m) (t : From Reading b j q n) → (r .end ≡ t .end) × (m ≡ n)
+  one-place r t = same-end r t (go (r .reads) (t .reads))
+    where
+      go : Reading (drop k b) (drop q b) (drop (r .end) b) m → Reading (drop j b) (drop q b) (drop (t .end) b) n → (drop (r .end) b ≡ drop (t .end) b) × (m ≡ n)
+      go (inl x) (inl y) = one-brace x y
+      go (inr x) (inr y) = one-declaration x y
+      go (inl x) (inr y) = absurd (never-both (with-kind r x) (with-kind t y))
+      go (inr x) (inl y) = absurd (never-both (with-kind t y) (with-kind r x))
+
+-- the place is a quote
+pub place-quote : {s q e : Bytes} {m : ℕ} → Reading s q e m → (k : Bytes) × Quote k q e
+place-quote (inl r) = (r .text, r .quote)
+place-quote (inr r) = (r .text, r .quote)
+
+-- so a quote reads at each place that is listed
+pub listed-quote : {b : Bytes} {q m : ℕ} → Listed b q m → (k : Bytes) × (e : ℕ) × (e ≤ length b) × (parseQuote (drop q b) ≡ ok k (drop e b))
+listed-quote (i, r) = let (k, t) = place-quote (r .reads) in (k, r .end, r .inside, quote-complete t)
+
+-- ---- boundaries
+
+mark-alone : (m : ℕ) → Mark m → within continuation m ≡ false
+mark-alone m (inl h) = rw h
+mark-alone m (inr h) = rw h
+
+mark-passed : (m : ℕ) (t : Bytes) → Mark m → formed Utf8 0 (m ∷ t) ≡ formed Utf8 0 t
+unfolding formed charLength lengthBy admits
+mark-passed m t (inl h) = rw h
+mark-passed m t (inr h) = rw h
+
+head-at : (b : Bytes) (i m : ℕ) (t : Bytes) → drop i b ≡ m ∷ t → (i < length b) × (getD b i 0 ≡ m)
+head-at b i m t e =
+    let n : i + 0 ≡ i = add-zero i in
+    (omega (arith, ap length e, length-drop i b), rw (← n) (sym (getD-drop i b 0 0) ∙ ap (λ (l : Bytes). getD l 0 0) e))
+
+module _ (b : Bytes) (f : formed Utf8 0 b ≡ true) where
+  at-mark : (i m : ℕ) (t : Bytes) → Mark m → drop i b ≡ m ∷ t → Boundary b i × (formed Utf8 0 t ≡ true)
+  at-mark i m t k e =
+      let (l, h) = head-at b i m t e in
+      let c : within continuation (getD b i 0) ≡ false = rw h (mark-alone m k) in
+      let g : formed Utf8 0 (drop i b) ≡ true = rw (boundary Utf8 b i f l, c) in
+      ((omega arith, c), sym (mark-passed m t k) ∙ ap (formed Utf8 0) (sym e) ∙ g)
+
+  at-formed : (i : ℕ) → i ≤ length b → formed Utf8 0 (drop i b) ≡ true → Boundary b i
+  at-formed i l g = (l, go (ℕ-discrete i (length b)))
+    where
+      go : Dec (i ≡ length b) → within continuation (getD b i 0) ≡ false
+      go (yes e) = let h : length b ≤ i = omega arith in rw (List·getD-eq-default b 0 h)
+      go (no n) = not-true (within continuation (getD b i 0)) (sym (boundary Utf8 b i f (omega arith)) ∙ g)
+
+  -- in a well-formed body a place begins and ends at character boundaries
+  pub boundaries : {k q m : ℕ} (r : From Reading b k q m) → Boundary b q × Boundary b (r .end)
+  boundaries {q} r =
+      let (k, t) = place-quote (r .reads) in
+      let past = drop (r .end) b in
+      let whole : drop q b ≡ t .mark ∷ (k ++ t .mark ∷ past) = t .first ∙ ap (λ (l : Bytes). t .mark ∷ l) (t .rest .1) in
+      let close : drop (q + suc (length k)) b ≡ t .mark ∷ past =
+      sym (drop-drop (suc (length k)) q b) ∙ ap (drop (suc (length k))) whole ∙ drop-append-seam k (t .mark ∷ past) in
+      (at-mark q (t .mark) (k ++ t .mark ∷ past) (t .is-mark) whole .0, at-formed (r .end) (r .inside) (at-mark (q + suc (length k)) (t .mark) past (t .is-mark) close .1))

@@ -1,0 +1,50 @@
+use borrow.Author.Needs.{needs}
+use Rattle.jsdoc.specs.Reader.{skipClause}
+use Rattle.jsdoc.proofs.Answered.{read, inside}
+use Rattle.jsdoc.proofs.clause.skip_clause.Statement.{statement}
+use Rattle.jsdoc.proofs.clause.skip_clause.Tie as tie
+
+returns : tie.Need-returns
+unfolding skipClause
+returns c =
+    record { is = rw (read (c .before .before .before .skip-named-imports .ensures) (c .before .past .given .1)); ordered = inside (c .before .before .before .skip-named-imports .ensures) (c .before .past .given .1) }
+
+returns-2 : tie.Need-returns-2
+unfolding skipClause
+returns-2 c =
+    record {
+      is =
+          rw (
+            read (c .before .before .before .before .before .before .skip-named-imports .ensures) (c .before .before .before .before .enum-told .given .1),
+            read (c .before .before .before .skip-namespace-import .ensures) (c .before .past2 .given .1),
+          );
+      ordered = inside (c .before .before .before .skip-namespace-import .ensures) (c .before .past2 .given .1);
+    }
+
+returns-3 : tie.Need-returns-3
+unfolding skipClause
+returns-3 c =
+    record {
+      is =
+          rw (
+            read (c .before .before .before .before .before .before .skip-named-imports .ensures) (c .before .before .before .before .enum-told .given .1),
+            read (c .before .before .before .skip-namespace-import .ensures) (c .before .enum-told2 .given .1),
+          )
+          (c .skip-default-import .ensures .is);
+      ordered = c .skip-default-import .ensures .ordered;
+    }
+
+pub skip-clause-spec : {M : Type 1} → statement M
+skip-clause-spec =
+    tie.close
+    (tie.spec
+    (λ c κs. search needs)
+    (λ c. search needs)
+    (λ c. search needs)
+    (λ c κs. search needs)
+    (λ c. search needs)
+    (λ c. search needs)
+    (λ c κs. search needs)
+    returns
+    returns-2
+    returns-3)

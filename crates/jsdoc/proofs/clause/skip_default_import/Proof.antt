@@ -1,0 +1,22 @@
+use borrow.Author.Needs.{needs}
+use Rattle.jsdoc.specs.Reader.{skipDefaultImport}
+use Rattle.jsdoc.proofs.Answered.{read, inside}
+use Rattle.jsdoc.proofs.clause.skip_default_import.Statement.{statement}
+use Rattle.jsdoc.proofs.clause.skip_default_import.Tie as tie
+
+returns : tie.Need-returns
+unfolding skipDefaultImport
+returns c = record { is = rw (read (c .before .before .ident-at .ensures) (c .enum-told .given .1)); ordered = tt }
+
+whitespace-requires : tie.Need-whitespace-requires
+whitespace-requires c κs = inside (c .before .before .before .ident-at .ensures) (c .before .past .given .1) .2
+
+returns-2 : tie.Need-returns-2
+unfolding skipDefaultImport
+returns-2 c =
+    record { is = rw (read (c .before .before .before .before .ident-at .ensures) (c .before .before .past .given .1)) (c .whitespace .ensures .is); ordered = c .whitespace .ensures .ordered }
+
+pub skip-default-import-spec : {M : Type 1} → statement M
+skip-default-import-spec =
+    tie.close
+    (tie.spec (λ c κs. search needs) (λ c. search needs) (λ c. search needs) returns whitespace-requires returns-2)

@@ -1,0 +1,28 @@
+use borrow.Author.Needs.{needs}
+use Rattle.jsdoc.specs.Reader.{skipNamedImports}
+use Rattle.jsdoc.proofs.Answered.{read, inside}
+use Rattle.jsdoc.proofs.clause.skip_named_imports.Statement.{statement}
+use Rattle.jsdoc.proofs.clause.skip_named_imports.Tie as tie
+
+returns : tie.Need-returns
+unfolding skipNamedImports
+returns c = record { is = rw (read (c .before .before .tag .ensures) (c .enum-told .given .1)); ordered = tt }
+
+up-to-requires : tie.Need-up-to-requires
+up-to-requires c κs = inside (c .before .before .before .tag .ensures) (c .before .past .given .1)
+
+returns-2 : tie.Need-returns-2
+unfolding skipNamedImports
+returns-2 c = record { is = rw (read (c .before .before .before .before .tag .ensures) (c .before .before .past .given .1)) (c .up-to .ensures .is); ordered = c .up-to .ensures .ordered }
+
+pub skip-named-imports-spec : {M : Type 1} → statement M
+skip-named-imports-spec =
+    tie.close
+    (tie.spec
+    (λ c. search needs)
+    (λ c κs. search needs)
+    (λ c. search needs)
+    (λ c. search needs)
+    returns
+    up-to-requires
+    returns-2)

@@ -1,0 +1,40 @@
+use borrow.Author.Needs.{needs}
+use Rattle.jsdoc.specs.Reader.{closeCall}
+use Rattle.jsdoc.proofs.Answered.{read, inside}
+use Rattle.jsdoc.proofs.dynamic_import.close_call.Statement.{statement}
+use Rattle.jsdoc.proofs.dynamic_import.close_call.Tie as tie
+
+returns : tie.Need-returns
+unfolding closeCall
+returns c = record { is = rw (read (c .before .before .tag .ensures) (c .enum-told .given .1)); ordered = tt }
+
+up-to-requires : tie.Need-up-to-requires
+up-to-requires c κs = inside (c .before .before .before .tag .ensures) (c .before .run .given .1)
+
+returns-2 : tie.Need-returns-2
+unfolding closeCall
+returns-2 c =
+    record { is = rw (read (c .before .before .before .before .before .before .tag .ensures) (c .before .before .before .before .run .given .1), read (c .before .before .up-to .ensures) (c .enum-told2 .given .1)); ordered = tt }
+
+returns-3 : tie.Need-returns-3
+unfolding closeCall
+returns-3 c =
+    record {
+      is = rw (read (c .before .before .before .before .before .before .before .tag .ensures) (c .before .before .before .before .before .run .given .1), read (c .before .before .before .up-to .ensures) (c .before .past .given .1));
+      ordered = inside (c .before .before .before .up-to .ensures) (c .before .past .given .1);
+    }
+
+pub close-call-spec : {M : Type 1} → statement M
+close-call-spec =
+    tie.close
+    (tie.spec
+    (λ c. search needs)
+    (λ c κs. search needs)
+    (λ c. search needs)
+    (λ c. search needs)
+    returns
+    up-to-requires
+    (λ c. search needs)
+    (λ c. search needs)
+    returns-2
+    returns-3)

@@ -1,0 +1,77 @@
+use borrow.Author.Needs.{needs}
+use native.Mathlib.Omega.{arith}
+use Prim.Native.Nat.{_≤_, _-_}
+use lib.ListN.{length, length-drop}
+use denote.Ref.{now}
+use Rattle.jsdoc.specs.Grammar.{Brace}
+use Rattle.jsdoc.specs.Marks.{Marks}
+use Rattle.jsdoc.proofs.Moved.{part-to-end}
+use Rattle.jsdoc.proofs.Searches.{search-goes-on}
+use Rattle.jsdoc.proofs.Marking.{Before, braces, room, marks-none, braces-all, no-brace-turn, brace-turn}
+use Rattle.jsdoc.proofs.imports.mark_braces.Statement.{statement}
+use Rattle.jsdoc.proofs.imports.mark_braces.Tie as tie
+
+abbrev Inv-loop : tie.InvT-loop
+Inv-loop body marks₀ i₀ marks i = (i ≤ length body) × Marks (Before Brace body i) (length body) marks
+
+abbrev μ-loop : tie.MeasureT-loop
+μ-loop body marks₀ i₀ marks i = length body - i
+
+loop-holds : tie.Need-loop-holds Inv-loop μ-loop
+loop-holds c = (search needs, marks-none _ _ (c .before .before .pre .0) (c .before .before .pre .1))
+
+mark-requires : tie.Need-mark-requires Inv-loop μ-loop
+mark-requires c κs =
+    let b = now (c .before .before .before .before .before .before .before .before .before .args .body) in
+    let i = c .before .before .before .before .before .before .loop .i in
+    let t = rw (part-to-end b i) at (c .before .parse-jsdoc-dynamic-import .ensures) in
+    rw (c .before .before .before .before .before .before .loop .inv .1 .same) (room braces b i (c .before .before .before .before .before .loop-test .taken) _ (t .import))
+
+add-i : tie.Need-add-i Inv-loop μ-loop
+add-i c =
+    let b = now (c .before .before .before .before .before .before .before .before .before .before .before .before .before .args .body) in
+    let i = c .before .before .before .before .before .before .before .before .before .before .loop .i in
+    let t = rw (part-to-end b i) at (c .before .before .before .before .before .parse-jsdoc-dynamic-import .ensures) in
+    omega (arith, t .inside, length-drop i b)
+
+loop-less : tie.Need-loop-less Inv-loop μ-loop
+loop-less c =
+    let b = now (c .before .before .before .before .before .before .before .before .before .before .before .before .before .args .body) in
+    let i = c .before .before .before .before .before .before .before .before .before .before .loop .i in
+    let t = rw (part-to-end b i) at (c .before .before .before .before .before .parse-jsdoc-dynamic-import .ensures) in
+    omega (arith, search-goes-on b i (c .before .before .before .before .before .before .before .before .before .loop-test .taken) (c .before .before .before .before .before .before .before .if1 .taken) _ t)
+
+loop-again : tie.Need-loop-again Inv-loop μ-loop
+loop-again c =
+    let b = now (c .before .before .before .before .before .before .before .before .before .before .before .before .before .args .body) in
+    let i = c .before .before .before .before .before .before .before .before .before .before .loop .i in
+    let t = rw (part-to-end b i) at (c .before .before .before .before .before .parse-jsdoc-dynamic-import .ensures) in
+    (omega (arith, t .inside, length-drop i b), rw (c .before .before .before .mark .ensures) (brace-turn b i (c .before .before .before .before .before .before .before .before .before .before .loop .inv .1) (c .before .before .before .before .before .before .before .before .before .loop-test .taken) (c .before .before .before .before .before .before .before .if1 .taken) _ t))
+
+loop-again-2 : tie.Need-loop-again-2 Inv-loop μ-loop
+loop-again-2 c = (omega arith, no-brace-turn _ (c .before .before .before .loop .i) (c .before .before .before .loop .inv .1) (c .before .before .loop-test .taken) (c .if1 .left))
+
+returns : tie.Need-returns Inv-loop μ-loop
+returns c = braces-all _ (c .before .loop .i) (c .before .loop .inv .1) (c .loop-test .left)
+
+pub mark-braces-spec : {M : Type 1} → statement M
+mark-braces-spec =
+    tie.close
+    (tie.spec
+    Inv-loop
+    μ-loop
+    loop-holds
+    (λ c. search needs)
+    (λ c. search needs)
+    (λ c. search needs)
+    (λ c. search needs)
+    (λ c κs. search needs)
+    mark-requires
+    add-i
+    loop-less
+    loop-again
+    (λ c. search needs)
+    (λ c. search needs)
+    loop-again-2
+    (λ c. search needs)
+    returns)

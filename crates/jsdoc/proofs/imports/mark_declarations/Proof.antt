@@ -1,0 +1,54 @@
+use borrow.Author.Needs.{needs}
+use native.Mathlib.Omega.{arith}
+use Prim.Native.Nat.{_≤_, _-_}
+use lib.ListN.{length}
+use denote.Ref.{now}
+use Rattle.jsdoc.specs.Marks.{Marks}
+use Rattle.jsdoc.proofs.Moved.{part-to-end}
+use Rattle.jsdoc.proofs.Marking.{Besides, declarations, room, besides-none, listed-all, declaration-turn}
+use Rattle.jsdoc.proofs.imports.mark_declarations.Statement.{statement}
+use Rattle.jsdoc.proofs.imports.mark_declarations.Tie as tie
+
+abbrev Inv-loop : tie.InvT-loop
+Inv-loop body marks₀ i₀ marks i = (i ≤ length body) × Marks (Besides body i) (length body) marks
+
+abbrev μ-loop : tie.MeasureT-loop
+μ-loop body marks₀ i₀ marks i = length body - i
+
+loop-holds : tie.Need-loop-holds Inv-loop μ-loop
+loop-holds c = (search needs, besides-none _ _ (c .before .before .pre))
+
+mark-requires : tie.Need-mark-requires Inv-loop μ-loop
+mark-requires c κs =
+    let b = now (c .before .before .before .before .before .before .before .args .body) in
+    let i = c .before .before .before .before .loop .i in
+    rw (c .before .before .before .before .loop .inv .1 .same) (room declarations b i (c .before .before .before .loop-test .taken) _ (rw (part-to-end b i) at (c .parse-jsdoc-import-decl .ensures)))
+
+loop-again : tie.Need-loop-again Inv-loop μ-loop
+loop-again c =
+    let b = now (c .before .before .before .before .before .before .before .before .before .before .args .body) in
+    let i = c .before .before .before .before .before .before .before .loop .i in (
+      omega (arith, c .before .before .before .before .before .before .loop-test .taken),
+      rw (c .before .before .mark .ensures) (declaration-turn b i (c .before .before .before .before .before .before .before .loop .inv .1) (c .before .before .before .before .before .before .loop-test .taken) _ (rw (part-to-end b i) at (c .before .before .before .parse-jsdoc-import-decl .ensures))),
+    )
+
+returns : tie.Need-returns Inv-loop μ-loop
+returns c = listed-all _ (c .before .loop .i) (c .before .loop .inv .1) (c .loop-test .left)
+
+pub mark-declarations-spec : {M : Type 1} → statement M
+mark-declarations-spec =
+    tie.close
+    (tie.spec
+    Inv-loop
+    μ-loop
+    loop-holds
+    (λ c. search needs)
+    (λ c. search needs)
+    (λ c. search needs)
+    (λ c κs. search needs)
+    mark-requires
+    (λ c. search needs)
+    (λ c. search needs)
+    loop-again
+    (λ c. search needs)
+    returns)

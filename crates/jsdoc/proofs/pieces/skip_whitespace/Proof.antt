@@ -1,0 +1,10 @@
+use borrow.Author.Needs.{needs}
+use Rattle.jsdoc.proofs.Steps.{white-skipped}
+use Rattle.jsdoc.proofs.pieces.skip_whitespace.Statement.{statement}
+use Rattle.jsdoc.proofs.pieces.skip_whitespace.Tie as tie
+
+returns : tie.Need-returns
+returns c = (white-skipped _ _ (c .run-end .ensures .0), c .run-end .ensures .1)
+
+pub skip-whitespace-spec : {M : Type 1} → statement M
+skip-whitespace-spec = tie.close (tie.spec (λ c κs. search needs) returns)

@@ -1,0 +1,21 @@
+use borrow.Author.Needs.{needs}
+use Rattle.jsdoc.specs.Reader.{word}
+use Rattle.jsdoc.proofs.Answered.{read, inside}
+use Rattle.jsdoc.proofs.pieces.word.Statement.{statement}
+use Rattle.jsdoc.proofs.pieces.word.Tie as tie
+
+returns : tie.Need-returns
+unfolding word
+returns c = record { is = rw (read (c .before .before .tag .ensures) (c .enum-told .given .1)); ordered = tt }
+
+skip-whitespace-requires : tie.Need-skip-whitespace-requires
+skip-whitespace-requires c κs = inside (c .before .before .before .tag .ensures) (c .before .past .given .1)
+
+returns-2 : tie.Need-returns-2
+unfolding word
+returns-2 c = record { is = rw (read (c .before .before .before .before .tag .ensures) (c .before .before .past .given .1)) (c .skip-whitespace .ensures .0); ordered = c .skip-whitespace .ensures .1 }
+
+pub word-spec : {M : Type 1} → statement M
+word-spec =
+    tie.close
+    (tie.spec (λ c κs. search needs) (λ c. search needs) (λ c. search needs) returns skip-whitespace-requires returns-2)

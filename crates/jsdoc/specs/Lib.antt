@@ -1,0 +1,5 @@
+pub mod Grammar
+pub mod Parsed
+pub mod Reader
+pub mod Answers
+pub mod Marks

@@ -1,0 +1,138 @@
+// `{import("./a.ts", {with: {..}}).A}`
+use super::answers::Found;
+use super::answers::JsDocImport;
+use super::answers::Piece;
+use super::answers::Searched;
+use super::answers::Text;
+use super::attributes::block_at;
+use super::pieces::skip_whitespace;
+use super::pieces::tag;
+use super::pieces::up_to;
+use super::pieces::word;
+use super::quote::quote_at;
+use text::bytes::starts_with;
+ghost use mathlib.Core.Path.{_≡_};
+ghost use Prim.Native.Nat.{_≤_};
+ghost use lib.ListN.{length, drop};
+ghost use Rattle.jsdoc.specs.Parsed.{value};
+ghost use Rattle.jsdoc.specs.Reader.{secondParamStart, parseSecondParam, closeCall, parseTail, parseCall};
+ghost use Rattle.jsdoc.specs.Answers.{Finds, Gives, Imports, Scans};
+
+// Past `, {with:` at `at`.
+fn second_param_start(s: &[u8], at: usize) -> Found
+    requires { ⌜ at ≤ length (now s) ⌝ }
+    ensures { λ r. ⌜ Finds (now (s .entry)) (secondParamStart (drop at (now (s .entry)))) r ⌝ }
+{
+    let Found::At(brace) = word(s, at, b",") else {
+        return Found::Nothing;
+    };
+    let Found::At(with) = word(s, brace, b"{") else {
+        return Found::Nothing;
+    };
+    let Found::At(colon) = word(s, with, b"with") else {
+        return Found::Nothing;
+    };
+    word(s, colon, b":")
+}
+
+// `, {with: {..}}` at `at`.
+fn parse_second_param(s: &[u8], at: usize) -> Piece
+    requires { ⌜ at ≤ length (now s) ⌝ }
+    ensures { λ r. ⌜ Gives (now (s .entry)) (parseSecondParam (drop at (now (s .entry)))) r ⌝ }
+{
+    let Found::At(block) = second_param_start(s, at) else {
+        return Piece::Broken;
+    };
+    let Piece::Past { mode, past } = block_at(s, block) else {
+        return Piece::Broken;
+    };
+    let close = skip_whitespace(s, past);
+    let Found::At(end) = word(s, close, b"}") else {
+        return Piece::Broken;
+    };
+    Piece::Past { mode, past: end }
+}
+
+// `)` at `at`, and then a closing brace.
+fn close_call(s: &[u8], at: usize, mode: u8) -> Piece
+    requires { ⌜ at ≤ length (now s) ⌝ }
+    ensures { λ r. ⌜ Gives (now (s .entry)) (closeCall mode (drop at (now (s .entry)))) r ⌝ }
+{
+    let Found::At(run) = tag(s, at, b")") else {
+        return Piece::Broken;
+    };
+    let Found::At(past) = up_to(s, run, b'}') else {
+        return Piece::Broken;
+    };
+    Piece::Past { mode, past }
+}
+
+// What follows the quote, from `at` on: the mode.
+fn parse_tail(s: &[u8], at: usize) -> Piece
+    requires { ⌜ at ≤ length (now s) ⌝ }
+    ensures { λ r. ⌜ Gives (now (s .entry)) (parseTail (drop at (now (s .entry)))) r ⌝ }
+{
+    let param = skip_whitespace(s, at);
+    match parse_second_param(s, param) {
+        Piece::Past { mode, past } => close_call(s, past, mode),
+        Piece::Broken => close_call(s, param, 0),
+    }
+}
+
+// The call of `import` at `at`.
+fn parse_call(s: &[u8], at: usize) -> JsDocImport
+    requires { ⌜ at ≤ length (now s) ⌝ }
+    ensures { λ r. ⌜ Imports (now (s .entry)) (value (parseCall (drop at (now (s .entry))))) r ⌝ }
+{
+    let Found::At(paren) = word(s, at, b"import") else {
+        return JsDocImport::Backtrace;
+    };
+    let Found::At(start) = word(s, paren, b"(") else {
+        return JsDocImport::Backtrace;
+    };
+    let Text::Part {
+        from: _,
+        to: _,
+        past: end,
+    } = quote_at(s, start)
+    else {
+        return JsDocImport::Backtrace;
+    };
+    let Piece::Past { mode, past: _ } = parse_tail(s, end) else {
+        return JsDocImport::Backtrace;
+    };
+    JsDocImport::Import { start, end, mode }
+}
+
+// The reading from the brace that begins `rest`, and the place at which its search ended: a brace before that has no other reading.
+pub fn parse_jsdoc_dynamic_import(rest: &[u8]) -> Searched
+    ensures { λ r. ⌜ Scans (now (rest .entry)) r ⌝ }
+{
+    let Found::At(first) = tag(rest, 0, b"{") else {
+        return Searched {
+            found: JsDocImport::Backtrace,
+            end: 0,
+        };
+    };
+    let mut i = first;
+    'scan: loop {
+        if rest.len() <= i {
+            return Searched {
+                found: JsDocImport::Backtrace,
+                end: i,
+            };
+        }
+        if rest[i] == b'}' {
+            return Searched {
+                found: JsDocImport::Backtrace,
+                end: i,
+            };
+        }
+        if starts_with(rest, i, b"import") {
+            break 'scan;
+        }
+        i += 1;
+    }
+    let found = parse_call(rest, i);
+    Searched { found, end: i }
+}

@@ -1,0 +1,76 @@
+// The imports of a body, by marks over it.
+use super::answers::JsDocImport;
+use super::dynamic_import::parse_jsdoc_dynamic_import;
+use super::import_decl::parse_jsdoc_import_decl;
+ghost use mathlib.Core.Path.{_≡_};
+ghost use Prim.Native.Nat.{ℕ, _+_, _≤_, _<_};
+ghost use lib.ListN.{length, getD};
+ghost use Rattle.jsdoc.specs.Grammar.{Brace, ListedBy, Listed};
+ghost use Rattle.jsdoc.specs.Marks.{Marks, Room, marked};
+
+fn clear(marks: &mut [u8])
+    ensures { λ r. ⌜ (length (now (marks .exit)) ≡ length (now (marks .entry))) × ((q : ℕ) → getD (now (marks .exit)) q 0 ≡ 0) ⌝ }
+{
+    let mut i = 0;
+    while i < marks.len() {
+        marks[i] = 0;
+        i += 1;
+    }
+}
+
+// Marks the place of an import that was found from `base` on.
+fn mark(marks: &mut [u8], base: usize, found: JsDocImport)
+    requires { ⌜ Room (length (now marks)) base found ⌝ }
+    ensures { λ r. ⌜ now (marks .exit) ≡ marked base found (now (marks .entry)) ⌝ }
+{
+    match found {
+        JsDocImport::Import {
+            start,
+            end: _,
+            mode,
+        } => {
+            marks[base + start] = mode + 1;
+        }
+        JsDocImport::Backtrace => {}
+    }
+}
+
+// Marks the readings from the braces. The next brace to look at is the first from where the search ended, so that each byte is searched once.
+fn mark_braces(body: &[u8], marks: &mut [u8])
+    requires { ⌜ (length (now marks) ≡ length (now body)) × ((q : ℕ) → getD (now marks) q 0 ≡ 0) ⌝ }
+    ensures { λ r. ⌜ Marks (ListedBy Brace (now (body .entry))) (length (now (body .entry))) (now (marks .exit)) ⌝ }
+{
+    let mut i = 0;
+    while i < body.len() {
+        if body[i] == b'{' {
+            let read = parse_jsdoc_dynamic_import(&body[i..]);
+            let found = read.found;
+            mark(marks, i, found);
+            i += read.end;
+        } else {
+            i += 1;
+        }
+    }
+}
+
+// Marks the readings from each `@import`.
+fn mark_declarations(body: &[u8], marks: &mut [u8])
+    requires { ⌜ Marks (ListedBy Brace (now body)) (length (now body)) (now marks) ⌝ }
+    ensures { λ r. ⌜ Marks (Listed (now (body .entry))) (length (now (body .entry))) (now (marks .exit)) ⌝ }
+{
+    let mut i = 0;
+    while i < body.len() {
+        mark(marks, i, parse_jsdoc_import_decl(&body[i..]));
+        i += 1;
+    }
+}
+
+// Marks each place of `body` at which the place of a reading begins with 1 + its mode, and each other with 0.
+pub fn analyze_jsdoc_imports(body: &[u8], marks: &mut [u8])
+    requires { ⌜ length (now marks) ≡ length (now body) ⌝ }
+    ensures { λ r. ⌜ Marks (Listed (now (body .entry))) (length (now (body .entry))) (now (marks .exit)) ⌝ }
+{
+    clear(marks);
+    mark_braces(body, marks);
+    mark_declarations(body, marks);
+}

@@ -1,0 +1,9 @@
+// JSDoc imports in the body of a comment: `{import("./a.ts").A}` and `@import A from "./a.ts"`.
+pub mod answers;
+mod attributes;
+mod clause;
+pub mod dynamic_import;
+pub mod import_decl;
+pub mod imports;
+mod pieces;
+pub mod quote;

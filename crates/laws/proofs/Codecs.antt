@@ -1,0 +1,107 @@
+-- Codecs of fields one after the other, from those of the fields.
+use mathlib.Core.Path.{_≡_, refl, sym, ap, _∙_}
+use mathlib.Core.Logic.{_⊎_, inl, inr, ⊎-elim}
+use mathlib.Core.Bool.{Bool, true, false, cond}
+use mathlib.Core.List.{List, [], _++_, append-assoc}
+use Prim.Native.Nat.{ℕ}
+use Rattle.laws.specs.Decoded.{ok, onOk, Decoder, _>>=_, _>>_, return, require}
+use Rattle.laws.specs.Codec.{Codec}
+use Rattle.laws.proofs.Decoding.{then-ok, onOk-ok, require-ok}
+
+-- a codec of what is built from fields: valid fields are decoded from their bytes, whatever follows them; what is decoded is built from valid fields, and stood
+-- there as their bytes
+pub record Built {A B : Type 0} (decode : Decoder B) (build : A → B) (encode : A → List ℕ) (Valid : A → Type 0) : Type 0 where
+  pub complete : (a : A) → Valid a → (t : List ℕ) → decode (encode a ++ t) ≡ ok (build a) t
+  pub sound : (s : List ℕ) (b : B) (t : List ℕ) → decode s ≡ ok b t → (a : A) × (build a ≡ b) × (s ≡ encode a ++ t) × Valid a
+
+-- no field is left
+pub built-return : {B : Type 0} (b : B) → Built (return b) (λ (u : Unit {0}). b) (λ u. []) (λ u. Unit {0})
+built-return b = record { complete = λ u v t. refl; sound = λ s c t e. (tt, cc, cc, tt) }
+
+-- one field, changed
+module _ {A B : Type 0} {d : Decoder A} {encode : A → List ℕ} {Valid : A → Type 0} where
+  pub built-map : (f : A → B) → Codec d encode Valid → Built (λ s. onOk f (d s)) f encode Valid
+  built-map f k =
+      record {
+        complete = λ a v t. rw (k .complete a v t);
+        sound = λ s b t e.
+            let (a, p, q) = onOk-ok f (d s) e in
+            let (i, v) = k .sound s a t p in
+            (a, q, i, v);
+      }
+
+-- a field, and then others, which may depend on it
+module _ {A B : Type 0} {C : A → Type 0} {d : Decoder A} {encode : A → List ℕ} {Valid : A → Type 0}
+    {e : A → Decoder B} {build : (a : A) → C a → B} {rest : (a : A) → C a → List ℕ} {ValidRest : (a : A) → C a → Type 0}
+    (k : Codec d encode Valid) (f : (a : A) → Built (e a) (build a) (rest a) (ValidRest a)) where
+  pub built-then : Built (d >>= e) (λ (p : (a : A) × C a). build (p .0) (p .1)) (λ p. encode (p .0) ++ rest (p .0) (p .1)) (λ p. Valid (p .0) × ValidRest (p .0) (p .1))
+  built-then =
+      record {
+        complete = λ (a, c) v t.
+            rw (append-assoc (encode a) (rest a c) t, k .complete a (v .0) (rest a c ++ t)) (f a .complete c (v .1) t);
+        sound = λ s b t q.
+            let (a, u, x, y) = then-ok (d s) e q in
+            let (i, v) = k .sound s a u x in
+            let (c, p, j, w) = f a .sound u b t y in
+            ((a, c), p, i ∙ ap (encode a ++_) j ∙ sym (append-assoc (encode a) (rest a c) t), (v, w));
+      }
+
+-- a test, and then fields
+module _ {A B : Type 0} {d : Decoder B} {build : A → B} {encode : A → List ℕ} {Valid : A → Type 0} where
+  pub built-require : (b : Bool) (r : ℕ) → Built d build encode Valid → Built (require b r >> d) build encode (λ a. (b ≡ true) × Valid a)
+  built-require b r k =
+      record {
+        complete = λ a v t. rw (v .0) (k .complete a (v .1) t);
+        sound = λ s c t e.
+            let (h, q) = require-ok b r s (λ u. d) e in
+            let (a, p, i, v) = k .sound s c t q in
+            (a, p, i, (h, v));
+      }
+
+-- a flag, and then fields of one kind where it is set, of another where it is not
+module _ {A A′ B : Type 0} {d : Decoder Bool} {flag : Bool → List ℕ} {e e′ : Decoder B} {build : A → B} {build′ : A′ → B}
+    {encode : A → List ℕ} {encode′ : A′ → List ℕ} {Valid : A → Type 0} {Valid′ : A′ → Type 0}
+    (f : Codec d flag (λ b. Unit {0})) (k : Built e build encode Valid) (k′ : Built e′ build′ encode′ Valid′) where
+  abbrev either : A ⊎ A′ → List ℕ
+  either = ⊎-elim (λ a. flag true ++ encode a) (λ a. flag false ++ encode′ a)
+
+  behind : (x : Bool) (u : List ℕ) (b : B) (t : List ℕ) → cond x e e′ u ≡ ok b t
+      → (p : A ⊎ A′) × (⊎-elim build build′ p ≡ b) × (flag x ++ u ≡ either p ++ t) × ⊎-elim Valid Valid′ p
+  behind true u b t q =
+      let (a, p, i, v) = k .sound u b t q in
+      (inl a, p, ap (flag true ++_) i ∙ sym (append-assoc (flag true) (encode a) t), v)
+  behind false u b t q =
+      let (a, p, i, v) = k′ .sound u b t q in
+      (inr a, p, ap (flag false ++_) i ∙ sym (append-assoc (flag false) (encode′ a) t), v)
+
+  pub built-if : Built (d >>= λ b. cond b e e′) (⊎-elim build build′) (⊎-elim (λ a. flag true ++ encode a) (λ a. flag false ++ encode′ a)) (⊎-elim Valid Valid′)
+  built-if =
+      record {
+        complete = elim [
+          | inl a ↦ λ v t. rw (append-assoc (flag true) (encode a) t, f .complete true tt (encode a ++ t)) (k .complete a v t)
+          | inr a ↦ λ v t. rw (append-assoc (flag false) (encode′ a) t, f .complete false tt (encode′ a ++ t)) (k′ .complete a v t)
+        ];
+        sound = λ s b t q.
+            let (x, u, y, z) = then-ok (d s) (λ b. cond b e e′) q in
+            rw (f .sound s x u y .0) (behind x u b t z);
+      }
+
+-- what is built has a codec of its own, if each of its valid values is built from valid fields, and what these build is valid and has their bytes
+module _ {A B : Type 0} {d : Decoder B} {build : A → B} {encode : A → List ℕ} {Valid : A → Type 0} {encodeB : B → List ℕ} {ValidB : B → Type 0} where
+  pub codec-of : Built d build encode Valid
+      → ((b : B) → ValidB b → (a : A) × (build a ≡ b) × Valid a)
+      → ((a : A) → Valid a → (encode a ≡ encodeB (build a)) × ValidB (build a))
+      → Codec d encodeB ValidB
+  codec-of k fields whole =
+      record {
+        complete = λ b v t.
+            let (a, p, w) = fields b v in
+            rw (← p, ← (whole a w .0)) (k .complete a w t);
+        sound = λ s b t e.
+            let (a, p, i, v) = k .sound s b t e in
+            rw (← p, ← (whole a v .0)) (i, whole a v .1);
+      }
+
+-- what holds of each two fields holds of the pair
+pub each : {A : Type 0} {C : A → Type 0} (P : ((a : A) × C a) → Type 0) → ((a : A) (c : C a) → P (a, c)) → (p : (a : A) × C a) → P p
+each P f p = f (p .0) (p .1)

@@ -1,0 +1,28 @@
+-- What a decoder in steps answered at each of them, if it answered a value.
+use mathlib.Core.Path.{_≡_, refl}
+use mathlib.Core.Bool.{Bool, true, false}
+use mathlib.Core.List.{List}
+use Prim.Native.Nat.{ℕ}
+use native.Mathlib.Omega.{arith}
+use Rattle.laws.specs.Decoded.{Decoded, ok, no, andThen, onOk, require}
+
+-- a refusal is no value
+pub refused : {A : Type 0} {r : ℕ} {a : A} {t : List ℕ} → no r ≡ ok a t → ⊥
+refused e = let z : _≡_ {A = ℕ} 0 1 = cc in omega arith
+
+module _ {A B : Type 0} where
+  -- a step answered a value, and the steps behind it went on from that
+  pub then-ok : (x : Decoded A) (f : A → List ℕ → Decoded B) {b : B} {t : List ℕ} → andThen x f ≡ ok b t
+      → (a : A) × (u : List ℕ) × (x ≡ ok a u) × (f a u ≡ ok b t)
+  then-ok (ok a u) f e = (a, u, refl, e)
+  then-ok (no r) f e = absurd (refused e)
+
+  pub onOk-ok : (f : A → B) (x : Decoded A) {b : B} {t : List ℕ} → onOk f x ≡ ok b t → (a : A) × (x ≡ ok a t) × (f a ≡ b)
+  onOk-ok f (ok a u) e = (a, cc, cc)
+  onOk-ok f (no r) e = absurd (refused e)
+
+-- a test held, and nothing was read
+pub require-ok : {B : Type 0} (b : Bool) (r : ℕ) (s : List ℕ) (f : Unit {0} → List ℕ → Decoded B) {c : B} {t : List ℕ}
+    → andThen (require b r s) f ≡ ok c t → (b ≡ true) × (f tt s ≡ ok c t)
+require-ok true r s f e = (refl, e)
+require-ok false r s f e = absurd (refused e)

@@ -1,0 +1,103 @@
+-- The references and the pragmas of a sheet: each rule of document 01's "Readings" with the comments that it gives to it.
+use mathlib.Core.Bool.{Bool, cond, _&&_, _||_}
+use mathlib.Core.List.{List, []}
+use mathlib.Core.Option.{Option}
+use Prim.Native.Nat.{ℕ}
+use lib.Dec.{eqb, leb}
+use Rattle.analysis.specs.declared.Capture.{Capture}
+use Rattle.analysis.specs.declared.Found.{Found}
+use Rattle.analysis.specs.declared.Found.the-variants.{At, Nothing}
+use Rattle.analysis.specs.Mode.{modeOf}
+use Rattle.analysis.specs.Row.{find, isFound}
+use Rattle.analysis.specs.Place.{textOf}
+use Rattle.analysis.specs.Patterns.{tripleSlashRow, pathRow, typesRow, resolutionModeRow, jsxImportSourceRow, jsxImportSourceTypesRow, sourceMappingUrlRow, tsSelfTypesRow, tsTypesRow, denoTypesRow}
+use Rattle.sheet.specs.declared.comments.Comment.{Comment}
+use Rattle.sheet.specs.declared.groups.Group.{Group}
+use Rattle.sheet.specs.Lookups.{leading, groupAt, headGroup, endGroup, commentsOf, lastOf as lastCommentOf, body}
+use Rattle.sheet.specs.Sheet.{Sheet}
+use Rattle.report.specs.ModuleInfo.{SpecifierWithRange, Mode, TypeScriptReference, path, types}
+use Rattle.pragmas.specs.Readings.{specifierIn, readBy, onFound, orElse, firstOf, lastOf, allOf}
+
+-- the comments of a group, none if there is no such group
+abbrev pub inGroup : List Comment → Option Group → List Comment
+inGroup cs Option.none = []
+inGroup cs (Option.some g) = commentsOf cs g
+
+-- the comments of the head group, and of the trailing group at the program's end
+unfoldable pub headComments : Sheet → List Comment
+headComments t = inGroup (t .comments) (headGroup (t .program) (t .groups))
+
+unfoldable pub endComments : Sheet → List Comment
+endComments t = inGroup (t .comments) (endGroup (t .program) (t .groups))
+
+-- JavaScript sheets are those of media 0 to 3; JSX is media 1 and 10
+abbrev pub isJavaScript : ℕ → Bool
+isJavaScript media = leb media 3
+
+abbrev pub isJsx : ℕ → Bool
+isJsx media = eqb media 1 || eqb media 10
+
+-- a line comment, a block comment
+abbrev pub isLine : Comment → Bool
+isLine c = eqb (c .kind) 0
+
+abbrev pub isBlock : Comment → Bool
+isBlock c = eqb (c .kind) 1
+
+-- the mode that a comment names for a types reference
+abbrev pub modeBy : List ℕ → Found → Mode
+modeBy b (At k) = modeOf (textOf b k)
+modeBy b Nothing = 0
+
+unfoldable pub modeIn : List ℕ → Comment → Mode
+modeIn source c = modeBy (body source c) (find resolutionModeRow (body source c))
+
+-- a reference: by the path pattern, or else by the types one
+abbrev pub referenceBy : List ℕ → Comment → Found → Found → Option TypeScriptReference
+referenceBy source c (At k) t = Option.some (path (specifierIn source c k))
+referenceBy source c Nothing (At k) = Option.some (types (specifierIn source c k) (modeIn source c))
+referenceBy source c Nothing Nothing = Option.none
+
+-- from a line comment that the triple-slash pattern reads
+unfoldable pub reference : List ℕ → Comment → Option TypeScriptReference
+reference source c =
+    cond (isLine c && isFound (find tripleSlashRow (body source c)))
+    (referenceBy source c (find pathRow (body source c)) (find typesRow (body source c)))
+    Option.none
+
+unfoldable pub tsReferences : Sheet → List TypeScriptReference
+tsReferences t = allOf (reference (t .source)) (headComments t)
+
+-- the first comment that reads
+unfoldable pub selfTypesSpecifier : Sheet → Option SpecifierWithRange
+selfTypesSpecifier t = cond (isJavaScript (t .media)) (firstOf (readBy tsSelfTypesRow (t .source)) (headComments t)) Option.none
+
+-- the first block comment that reads
+abbrev pub inBlock : {A : Type 0} → (Comment → Option A) → Comment → Option A
+inBlock f c = cond (isBlock c) (f c) Option.none
+
+unfoldable pub jsxImportSource : Sheet → Option SpecifierWithRange
+jsxImportSource t = cond (isJsx (t .media)) (firstOf (inBlock (readBy jsxImportSourceRow (t .source))) (headComments t)) Option.none
+
+unfoldable pub jsxImportSourceTypes : Sheet → Option SpecifierWithRange
+jsxImportSourceTypes t = cond (isJsx (t .media)) (firstOf (inBlock (readBy jsxImportSourceTypesRow (t .source))) (headComments t)) Option.none
+
+-- the last comment that reads
+unfoldable pub sourceMapUrl : Sheet → Option SpecifierWithRange
+sourceMapUrl t = lastOf (readBy sourceMappingUrlRow (t .source)) (endComments t)
+
+-- the ts-types pattern, or else the deno-types one
+unfoldable pub tsOrDenoTypes : List ℕ → Comment → Option SpecifierWithRange
+tsOrDenoTypes source c = orElse (readBy tsTypesRow source c) (readBy denoTypesRow source c)
+
+abbrev pub typesBy : List ℕ → Option Comment → Option SpecifierWithRange
+typesBy source Option.none = Option.none
+typesBy source (Option.some c) = tsOrDenoTypes source c
+
+abbrev pub lastIn : List Comment → Option Group → Option Comment
+lastIn cs Option.none = Option.none
+lastIn cs (Option.some g) = lastCommentOf cs g
+
+-- the types of an entry, from the last comment of the leading group at the start of its node
+unfoldable pub typesAt : Sheet → ℕ → Option SpecifierWithRange
+typesAt t start = typesBy (t .source) (lastIn (t .comments) (groupAt (t .groups) leading start))

@@ -1,0 +1,52 @@
+-- A reading of a comment as a specifier.
+use mathlib.Core.List.{List, [], _∷_}
+use mathlib.Core.Option.{Option}
+use Prim.Native.Nat.{ℕ, _+_}
+use Rattle.analysis.specs.declared.Capture.{Capture}
+use Rattle.analysis.specs.declared.Found.{Found}
+use Rattle.analysis.specs.declared.Found.the-variants.{At, Nothing}
+use Rattle.analysis.specs.Row.{Row, find}
+use Rattle.analysis.specs.Place.{placeOf, textOf}
+use Rattle.sheet.specs.declared.fields.Span.{Span}
+use Rattle.sheet.specs.declared.comments.Comment.{Comment}
+use Rattle.sheet.specs.Lookups.{bodySpan, body}
+use Rattle.report.specs.ModuleInfo.{SpecifierWithRange}
+use Rattle.report.specs.Range.{rangeOf}
+
+-- the place of a reading in the source
+unfoldable pub placeIn : Comment → Capture → Span
+placeIn c k = record { start = bodySpan c .start + placeOf k .from; end = bodySpan c .start + placeOf k .to }
+
+-- the captured text, and the positions of the reading's place: `comment_source_to_position_range`
+unfoldable pub specifierIn : List ℕ → Comment → Capture → SpecifierWithRange
+specifierIn source c k = record { text = textOf (body source c) k; range = rangeOf source (placeIn c k) }
+
+abbrev pub onFound : {A : Type 0} → (Capture → A) → Found → Option A
+onFound f (At k) = Option.some (f k)
+onFound f Nothing = Option.none
+
+-- the specifier that a pattern reads in a comment
+unfoldable pub readBy : Row → List ℕ → Comment → Option SpecifierWithRange
+readBy row source c = onFound (specifierIn source c) (find row (body source c))
+
+abbrev pub orElse : {A : Type 0} → Option A → Option A → Option A
+orElse Option.none b = b
+orElse (Option.some a) b = Option.some a
+
+-- the first answer among those of some comments, and the last
+unfoldable pub firstOf : {A : Type 0} → (Comment → Option A) → List Comment → Option A
+firstOf f [] = Option.none
+firstOf f (c ∷ cs) = orElse (f c) (firstOf f cs)
+
+unfoldable pub lastOf : {A : Type 0} → (Comment → Option A) → List Comment → Option A
+lastOf f [] = Option.none
+lastOf f (c ∷ cs) = orElse (lastOf f cs) (f c)
+
+-- all answers, in the order of their comments
+abbrev pub listed : {A : Type 0} → Option A → List A → List A
+listed Option.none l = l
+listed (Option.some a) l = a ∷ l
+
+unfoldable pub allOf : {A : Type 0} → (Comment → Option A) → List Comment → List A
+allOf f [] = []
+allOf f (c ∷ cs) = listed (f c) (allOf f cs)

@@ -1,0 +1,5 @@
+pub mod ReadBack
+pub mod Worlds
+pub mod Answers
+mod Numbers
+mod Cases

@@ -1,0 +1,13 @@
+use borrow.Author.Needs.{needs}
+use Rattle.report.specs.Encode.{encodeSpecifier}
+use Rattle.report.proofs.Worlds.{wrote-append}
+use Rattle.report.proofs.writer.Place.put_lossy_specifier.Statement.{statement}
+use Rattle.report.proofs.writer.Place.put_lossy_specifier.Tie as tie
+
+returns : tie.Need-returns
+unfolding encodeSpecifier
+returns c = rw (wrote-append, ← c .before .before .before .before .before .before .put-lossy-text .ensures) (c .before .before .put-span .ensures)
+
+pub put-lossy-specifier-spec : {M : Type 1} → statement M
+put-lossy-specifier-spec =
+    tie.close (tie.spec (λ c κs. search needs) (λ c κs. search needs) (λ c. search needs) returns)

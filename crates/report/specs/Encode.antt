@@ -1,0 +1,79 @@
+-- Document 01's report: the bytes of a module's information.
+use mathlib.Core.List.{List, [], _∷_, _++_}
+use mathlib.Core.Option.{Option}
+use Prim.Native.Nat.{ℕ}
+use lib.ListN.{length}
+use Rattle.text.specs.declared.position.Position.{Position}
+use Rattle.wire.specs.Fields.{encodeFlag}
+use Rattle.wire.specs.Number.{encodeNumber}
+use Rattle.wire.specs.Text.{encodeText}
+use Rattle.report.specs.ModuleInfo.{PositionRange, SpecifierWithRange, TypeScriptReference, path, types, JsDocImportInfo, KeyValue, ImportAttributes, none, unknown, known, DynamicArgument, expr, string, template, StaticDependencyDescriptor, DynamicDependencyDescriptor, DependencyDescriptor, static, dynamic, ModuleInfo}
+
+-- a flag, then the thing
+unfoldable pub encodeOptional : {A : Type 0} → (A → List ℕ) → Option A → List ℕ
+encodeOptional f Option.none = 0 ∷ []
+encodeOptional f (Option.some a) = 1 ∷ f a
+
+unfoldable pub each : {A : Type 0} → (A → List ℕ) → List A → List ℕ
+each f [] = []
+each f (a ∷ l) = f a ++ each f l
+
+-- a count, then each
+unfoldable pub encodeList : {A : Type 0} → (A → List ℕ) → List A → List ℕ
+encodeList f l = encodeNumber (length l) ++ each f l
+
+-- line, column
+unfoldable pub encodePosition : Position → List ℕ
+encodePosition p = encodeNumber (p .line) ++ encodeNumber (p .column)
+
+unfoldable pub encodeRange : PositionRange → List ℕ
+encodeRange r = encodePosition (r .start) ++ encodePosition (r .end)
+
+unfoldable pub encodeSpecifier : SpecifierWithRange → List ℕ
+encodeSpecifier s = encodeText (s .text) ++ encodeRange (s .range)
+
+-- byte 0 path, 1 types; of types the mode
+unfoldable pub encodeReference : TypeScriptReference → List ℕ
+encodeReference (path s) = 0 ∷ encodeSpecifier s
+encodeReference (types s mode) = 1 ∷ (encodeSpecifier s ++ (mode ∷ []))
+
+unfoldable pub encodeJsDoc : JsDocImportInfo → List ℕ
+encodeJsDoc i = 1 ∷ (encodeSpecifier (i .specifier) ++ (i .mode ∷ []))
+
+-- key, 0 unknown or 1 text
+unfoldable pub encodeKeyValue : KeyValue → List ℕ
+encodeKeyValue a = encodeText (a .key) ++ encodeOptional encodeText (a .value)
+
+unfoldable pub encodeAttributes : ImportAttributes → List ℕ
+encodeAttributes none = 0 ∷ []
+encodeAttributes unknown = 1 ∷ []
+encodeAttributes (known l) = 2 ∷ encodeList encodeKeyValue l
+
+-- 0 Expr, or 1 text, or 2 count and parts
+unfoldable pub encodeArgument : DynamicArgument → List ℕ
+encodeArgument expr = 0 ∷ []
+encodeArgument (string x) = 1 ∷ encodeText x
+encodeArgument (template l) = 2 ∷ encodeList (encodeOptional encodeText) l
+
+unfoldable pub encodeStatic : StaticDependencyDescriptor → List ℕ
+encodeStatic d =
+    d .kind ∷ (encodeOptional encodeSpecifier (d .typesSpecifier) ++ (encodeSpecifier (d .specifier) ++ (encodeFlag (d .sideEffect) ++ encodeAttributes (d .importAttributes))))
+
+unfoldable pub encodeDynamic : DynamicDependencyDescriptor → List ℕ
+encodeDynamic d =
+    d .kind ∷ (encodeOptional encodeSpecifier (d .typesSpecifier) ++ (encodeArgument (d .argument) ++ (encodeRange (d .argumentRange) ++ encodeAttributes (d .importAttributes))))
+
+unfoldable pub encodeDependency : DependencyDescriptor → List ℕ
+encodeDependency (static d) = encodeStatic d
+encodeDependency (dynamic d) = encodeDynamic d
+
+unfoldable pub encode : ModuleInfo → List ℕ
+encode m =
+    encodeFlag (m .isScript)
+    ++ (encodeList encodeDependency (m .dependencies)
+    ++ (encodeList encodeReference (m .tsReferences)
+    ++ (encodeOptional encodeSpecifier (m .selfTypesSpecifier)
+    ++ (encodeOptional encodeSpecifier (m .jsxImportSource)
+    ++ (encodeOptional encodeSpecifier (m .jsxImportSourceTypes)
+    ++ (encodeList encodeJsDoc (m .jsdocImports)
+    ++ encodeOptional encodeSpecifier (m .sourceMapUrl)))))))

@@ -1,0 +1,79 @@
+-- What a report says, in the types of src/analysis.rs. A text is its bytes.
+use mathlib.Core.Bool.{Bool}
+use mathlib.Core.List.{List}
+use mathlib.Core.Option.{Option}
+use Prim.Native.Nat.{ℕ}
+use Rattle.text.specs.declared.position.Position.{Position}
+
+pub record PositionRange : Type 0 where
+  pub start : Position
+  pub end : Position
+
+pub record SpecifierWithRange : Type 0 where
+  pub text : List ℕ
+  pub range : PositionRange
+
+-- a resolution mode by its number: 0 none, 1 import, 2 require
+abbrev pub Mode : Type 0
+Mode = ℕ
+
+pub data TypeScriptReference : Type 0 where
+  path : SpecifierWithRange → TypeScriptReference
+  types : SpecifierWithRange → Mode → TypeScriptReference
+
+pub record JsDocImportInfo : Type 0 where
+  pub specifier : SpecifierWithRange
+  pub mode : Mode
+
+-- the value of an attribute, if it is a string
+abbrev pub ImportAttribute : Type 0
+ImportAttribute = Option (List ℕ)
+
+pub record KeyValue : Type 0 where
+  pub key : List ℕ
+  pub value : ImportAttribute
+
+pub data ImportAttributes : Type 0 where
+  none : ImportAttributes
+  unknown : ImportAttributes
+  known : List KeyValue → ImportAttributes  -- keys ascending by bytes
+
+-- a part of a template: a text, or none for an expression
+abbrev pub DynamicTemplatePart : Type 0
+DynamicTemplatePart = Option (List ℕ)
+
+pub data DynamicArgument : Type 0 where
+  expr : DynamicArgument
+  string : List ℕ → DynamicArgument
+  template : List DynamicTemplatePart → DynamicArgument
+
+-- kinds by their numbers: 0 Import, 1 ImportDefer, 2 ImportSource, 3 ImportType, 4 ImportEquals, 5 Export, 6 ExportType, 7 ExportEquals,
+-- 8 MaybeTsModuleAugmentation
+pub record StaticDependencyDescriptor : Type 0 where
+  pub kind : ℕ
+  pub typesSpecifier : Option SpecifierWithRange
+  pub specifier : SpecifierWithRange
+  pub sideEffect : Bool
+  pub importAttributes : ImportAttributes
+
+-- kinds by their numbers: 9 Import, 10 ImportDefer, 11 ImportSource, 12 Require
+pub record DynamicDependencyDescriptor : Type 0 where
+  pub kind : ℕ
+  pub typesSpecifier : Option SpecifierWithRange
+  pub argument : DynamicArgument
+  pub argumentRange : PositionRange
+  pub importAttributes : ImportAttributes
+
+pub data DependencyDescriptor : Type 0 where
+  static : StaticDependencyDescriptor → DependencyDescriptor
+  dynamic : DynamicDependencyDescriptor → DependencyDescriptor
+
+pub record ModuleInfo : Type 0 where
+  pub isScript : Bool
+  pub dependencies : List DependencyDescriptor
+  pub tsReferences : List TypeScriptReference
+  pub selfTypesSpecifier : Option SpecifierWithRange
+  pub jsxImportSource : Option SpecifierWithRange
+  pub jsxImportSourceTypes : Option SpecifierWithRange
+  pub jsdocImports : List JsDocImportInfo
+  pub sourceMapUrl : Option SpecifierWithRange

@@ -1,0 +1,81 @@
+-- The values that a report can tell apart: each number that is written is at most the largest, and each byte is one of its field's.
+use mathlib.Core.List.{List, [], _∷_}
+use mathlib.Core.Option.{Option}
+use Prim.Native.Nat.{_≤_}
+use lib.ListN.{length}
+use Rattle.text.specs.declared.position.Position.{Position}
+use Rattle.wire.specs.Number.{largest}
+use Rattle.report.specs.ModuleInfo.{PositionRange, SpecifierWithRange, TypeScriptReference, path, types, JsDocImportInfo, KeyValue, ImportAttributes, none, unknown, known, DynamicArgument, expr, string, template, StaticDependencyDescriptor, DynamicDependencyDescriptor, DependencyDescriptor, static, dynamic, ModuleInfo}
+
+-- what is there is valid
+abbrev pub IfThere : {A : Type 0} → (A → Type 0) → Option A → Type 0
+IfThere P Option.none = Unit {0}
+IfThere P (Option.some a) = P a
+
+abbrev pub All : {A : Type 0} → (A → Type 0) → List A → Type 0
+All P [] = Unit {0}
+All P (a ∷ l) = P a × All P l
+
+-- the length can be written
+abbrev pub Short : {A : Type 0} → List A → Type 0
+Short l = length l ≤ largest
+
+pub record ValidPosition (p : Position) : Type 0 where
+  pub line : p .line ≤ largest
+  pub column : p .column ≤ largest
+
+pub record ValidRange (r : PositionRange) : Type 0 where
+  pub start : ValidPosition (r .start)
+  pub end : ValidPosition (r .end)
+
+pub record ValidSpecifier (s : SpecifierWithRange) : Type 0 where
+  pub text : Short (s .text)
+  pub range : ValidRange (s .range)
+
+abbrev pub ValidReference : TypeScriptReference → Type 0
+ValidReference (path s) = ValidSpecifier s
+ValidReference (types s mode) = ValidSpecifier s × (mode ≤ 2)
+
+pub record ValidJsDoc (i : JsDocImportInfo) : Type 0 where
+  pub specifier : ValidSpecifier (i .specifier)
+  pub mode : i .mode ≤ 2
+
+pub record ValidKeyValue (a : KeyValue) : Type 0 where
+  pub key : Short (a .key)
+  pub value : IfThere Short (a .value)
+
+abbrev pub ValidAttributes : ImportAttributes → Type 0
+ValidAttributes none = Unit {0}
+ValidAttributes unknown = Unit {0}
+ValidAttributes (known l) = Short l × All ValidKeyValue l
+
+abbrev pub ValidArgument : DynamicArgument → Type 0
+ValidArgument expr = Unit {0}
+ValidArgument (string x) = Short x
+ValidArgument (template l) = Short l × All (IfThere Short) l
+
+pub record ValidStatic (d : StaticDependencyDescriptor) : Type 0 where
+  pub kind : d .kind ≤ 8
+  pub typesSpecifier : IfThere ValidSpecifier (d .typesSpecifier)
+  pub specifier : ValidSpecifier (d .specifier)
+  pub importAttributes : ValidAttributes (d .importAttributes)
+
+pub record ValidDynamic (d : DynamicDependencyDescriptor) : Type 0 where
+  pub kind : (9 ≤ d .kind) × (d .kind ≤ 12)
+  pub typesSpecifier : IfThere ValidSpecifier (d .typesSpecifier)
+  pub argument : ValidArgument (d .argument)
+  pub argumentRange : ValidRange (d .argumentRange)
+  pub importAttributes : ValidAttributes (d .importAttributes)
+
+abbrev pub ValidDependency : DependencyDescriptor → Type 0
+ValidDependency (static d) = ValidStatic d
+ValidDependency (dynamic d) = ValidDynamic d
+
+pub record Valid (m : ModuleInfo) : Type 0 where
+  pub dependencies : Short (m .dependencies) × All ValidDependency (m .dependencies)
+  pub tsReferences : Short (m .tsReferences) × All ValidReference (m .tsReferences)
+  pub selfTypesSpecifier : IfThere ValidSpecifier (m .selfTypesSpecifier)
+  pub jsxImportSource : IfThere ValidSpecifier (m .jsxImportSource)
+  pub jsxImportSourceTypes : IfThere ValidSpecifier (m .jsxImportSourceTypes)
+  pub jsdocImports : Short (m .jsdocImports) × All ValidJsDoc (m .jsdocImports)
+  pub sourceMapUrl : IfThere ValidSpecifier (m .sourceMapUrl)

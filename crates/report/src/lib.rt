@@ -1,0 +1,2 @@
+// The report: its values, their encoding, and the writer into a lent buffer.
+pub mod writer;

@@ -1,0 +1,58 @@
+-- A table filled row by row with items, each judged by the one before.
+use mathlib.Core.Path.{_≡_, refl, _∙_}
+use mathlib.Core.List.{List, [], _++_, append-assoc, append-nil}
+use Prim.Native.Nat.{ℕ, suc, _+_, _-_, _*_, _≤_, _<_, zero-le}
+use native.Mathlib.Nat.{sub-zero, sub-eq-zero-of-le, mul-suc, mul-le-mul-left}
+use native.Mathlib.Numerals.{add-one}
+use native.Mathlib.Omega.{arith}
+use lib.ListN.{length}
+use lib.Seq.{sets}
+use Rattle.laws.specs.Decoded.{Decoded, ok, no, onOk, Decoder}
+use Rattle.sheet.specs.Comments.{chained}
+use Rattle.sheet.specs.Tables.{rows}
+use Rattle.sheet.proofs.Stores.{Table, rows-stored}
+
+-- changes one after the other, and none
+onOk-join : {A B C : Type 0} (f : B → C) (g : A → B) (x : Decoded A) → onOk f (onOk g x) ≡ onOk (λ a. f (g a)) x
+onOk-join f g (ok a t) = refl
+onOk-join f g (no r) = refl
+
+onOk-none : {A : Type 0} (x : Decoded (List A)) → x ≡ onOk (λ xs. [] ++ xs) x
+onOk-none (ok a t) = refl
+onOk-none (no r) = refl
+
+-- n items from t₀ on, the first judged in the state s₀, are the k rows so far with those that are read on from t, in the state s
+pub record Filling {A S : Type 0} (item : S → Decoder A) (leaves : A → S) (read : List ℕ → ℕ → A) (s₀ : S) (n : ℕ) (t₀ table : List ℕ) (s : S) (k : ℕ) (t : List ℕ) : Type 0 where
+  pub most : k ≤ n
+  pub rest : chained item leaves s₀ n t₀ ≡ onOk (λ xs. rows (read table) 0 k ++ xs) (chained item leaves s (n - k) t)
+
+pub fill-none : {A S : Type 0} (item : S → Decoder A) (leaves : A → S) (read : List ℕ → ℕ → A) (s : S) (n : ℕ) (t table : List ℕ)
+    → Filling item leaves read s n t table s 0 t
+unfolding rows
+fill-none item leaves read s n t table = record { most = zero-le; rest = rw sub-zero (onOk-none (chained item leaves s n t)) }
+
+module _ {A S : Type 0} {item : S → Decoder A} {leaves : A → S} {read : List ℕ → ℕ → A} {s₀ : S} {n : ℕ} {t₀ table : List ℕ} {s : S} {k : ℕ} {t : List ℕ}
+    (f : Filling item leaves read s₀ n t₀ table s k t) where
+  pub fill-stop : {r : ℕ} → k < n → item s t ≡ no r → chained item leaves s₀ n t₀ ≡ no r
+  unfolding chained
+  fill-stop l e =
+      let left : n - k ≡ suc (n - (k + 1)) = omega arith in
+      f .rest ∙ rw (left, e)
+
+  pub fill-more : {width : ℕ} {row : A → List ℕ} → Table width read row → width * n ≤ length table → k < n
+      → {a : A} {u table′ : List ℕ} → item s t ≡ ok a u → table′ ≡ sets table (width * k) (row a)
+      → Filling item leaves read s₀ n t₀ table′ (leaves a) (k + 1) u
+  unfolding chained
+  fill-more {width} {row} kept h l {a} {u} {table′} e g =
+      let left : n - k ≡ suc (n - (k + 1)) = omega arith in
+      let fits : width * k + width ≤ length table = omega (arith, mul-suc width k, mul-le-mul-left width l) in
+      record {
+        most = omega arith;
+        rest = f .rest ∙ rw (left, e, onOk-join, g, add-one, rows-stored kept table k a fits) (simp append-assoc);
+      }
+
+  pub fill-all : n ≤ k → chained item leaves s₀ n t₀ ≡ ok (rows (read table) 0 n) t
+  unfolding chained
+  fill-all h =
+      let all : k ≡ n = omega (arith, f .most) in
+      f .rest ∙ rw (sub-eq-zero-of-le h, append-nil, all)

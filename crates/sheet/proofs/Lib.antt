@@ -1,0 +1,13 @@
+pub mod Places
+pub mod Rows
+pub mod Stores
+pub mod Chains
+pub mod Filling
+pub mod Judged
+pub mod Order
+pub mod Decodes
+pub mod Marks
+pub mod Search
+pub mod Coverings
+pub mod Members
+pub mod CommentCases

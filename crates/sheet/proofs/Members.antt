@@ -1,0 +1,63 @@
+-- What is known of a table's comments and groups by their index, of the comments of a group, and of the groups that are looked up.
+use mathlib.Core.Path.{_≡_}
+use mathlib.Core.Bool.{Bool, true, false, cond}
+use mathlib.Core.List.{List, [], _∷_}
+use mathlib.Core.Option.{Option, Option·some-injective, Option·none-ne-some}
+use Prim.Native.Nat.{ℕ, suc, _+_, _-_, _≤_, _<_, zero-le, suc-le-suc}
+use native.Mathlib.Nat.{zero-add}
+use native.Mathlib.Omega.{arith}
+use lib.ListN.{length}
+use Rattle.sheet.specs.declared.comments.Comment.{Comment}
+use Rattle.sheet.specs.declared.groups.Group.{Group}
+use Rattle.sheet.specs.Program.{Program}
+use Rattle.sheet.specs.Tables.{rows, commentIn, commentsIn}
+use Rattle.sheet.specs.Fit.{Placed, Fit, Reaching, groupOf, Grouped}
+use Rattle.sheet.specs.Lookups.{leading, trailing, standsAt, groupAt, headBy, headGroup, commentsOf, lastOf}
+use Rattle.sheet.proofs.Rows.{rows-length, rows-part, rows-last, comment-row}
+use Rattle.sheet.proofs.Judged.{boundary-within}
+
+-- a comment does not reach past the source
+pub placed-within : (source : List ℕ) (c : Comment) → Placed source c → c .span .end ≤ length source
+placed-within source c p = boundary-within source (c .span .end) (p .end)
+
+module _ {source : List ℕ} (table : List ℕ) (n : ℕ) (f : Fit source (commentsIn table n)) where
+  pub row-placed : (k : ℕ) → k < n → Placed source (commentIn table k)
+  row-placed k l = rw (comment-row table n k l) at (f .each k (rw rows-length l))
+
+  pub rows-apart : (j k : ℕ) → j < k → k < n → commentIn table j .span .end ≤ commentIn table k .span .start
+  rows-apart j k i l = rw (comment-row table n j (omega arith), comment-row table n k l) at (f .apart j k i (rw rows-length l))
+
+-- the comments of a group are rows one after the other
+module _ (table : List ℕ) (n : ℕ) (g : Group) (r : Reaching n g) where
+  pub group-comments : commentsOf (commentsIn table n) g ≡ rows (commentIn table) (g .first) (g .count)
+  group-comments = rw zero-add at (rows-part (commentIn table) 0 n (g .first) (g .count) (r .reach))
+
+  pub group-last : lastOf (commentsIn table n) g ≡ Option.some (commentIn table (g .first + (g .count - 1)))
+  group-last = rw group-comments (rows-last (commentIn table) (g .first) (g .count) (r .some))
+
+-- what holds of each group holds of the one that is found
+found-each : (Q : Group → Type 0) (gs : List Group) (side position : ℕ) → ((k : ℕ) → k < length gs → Q (groupOf gs k)) → {g : Group}
+    → groupAt gs side position ≡ Option.some g → Q g
+unfolding groupAt
+found-each Q [] side position q {g} e = absurd (Option·none-ne-some g e)
+found-each Q (h ∷ gs) side position q {g} e = go (standsAt h side position) e (found-each Q gs side position (λ k l. q (suc k) (suc-le-suc l)))
+  where
+    go : (b : Bool) → cond b (Option.some h) (groupAt gs side position) ≡ Option.some g → (groupAt gs side position ≡ Option.some g → Q g) → Q g
+    go true e more = rw (← Option·some-injective h g e) (q 0 (suc-le-suc zero-le))
+    go false e more = more e
+
+module _ {total : ℕ} {gs : List Group} (h : Grouped total gs) where
+  pub found-reaching : (side position : ℕ) {g : Group} → groupAt gs side position ≡ Option.some g → Reaching total g
+  found-reaching side position = found-each (Reaching total) gs side position (h .each)
+
+  pub head-reaching : (p : Program) {g : Group} → headGroup p gs ≡ Option.some g → Reaching total g
+  unfolding headGroup
+  head-reaching p {g} e = by-item (p .first) e
+    where
+      by-shebang : (b : Bool) → cond b (groupAt gs trailing (p .span .end)) (groupAt gs leading (p .span .start)) ≡ Option.some g → Reaching total g
+      by-shebang true e = found-reaching trailing (p .span .end) e
+      by-shebang false e = found-reaching leading (p .span .start) e
+
+      by-item : (first : Option ℕ) → headBy p gs first ≡ Option.some g → Reaching total g
+      by-item (Option.some at) e = found-reaching leading at e
+      by-item Option.none e = by-shebang (p .shebang) e

@@ -1,0 +1,32 @@
+use borrow.Author.Needs.{needs}
+use Prim.Native.Nat.{_+_, _*_}
+use native.Mathlib.Omega.{arith}
+use Rattle.sheet.proofs.comments.comment_at.Statement.{statement}
+use Rattle.sheet.proofs.comments.comment_at.Tie as tie
+
+cast-kind : tie.Need-cast-kind
+cast-kind c = omega (arith, c .shared-slice-known .given (3 * c .before .args .k))
+
+cast-start : tie.Need-cast-start
+cast-start c = omega (arith, c .shared-slice-known2 .given (3 * c .before .before .args .k + 1))
+
+cast-end : tie.Need-cast-end
+cast-end c = omega (arith, c .shared-slice-known3 .given (3 * c .before .before .before .args .k + 2))
+
+pub comment-at-spec : {M : Type 1} → statement M
+comment-at-spec =
+    tie.close
+    (tie.spec
+    (λ c. search needs)
+    (λ c. search needs)
+    (λ c. search needs)
+    cast-kind
+    (λ c. search needs)
+    (λ c. search needs)
+    (λ c. search needs)
+    cast-start
+    (λ c. search needs)
+    (λ c. search needs)
+    (λ c. search needs)
+    cast-end
+    (λ c. search needs))

@@ -1,0 +1,84 @@
+use borrow.Author.Needs.{needs}
+use borrow.Author.Tests.{le-leb, lt-leb}
+use denote.Ref.{now}
+use Rattle.laws.proofs.Steps.{known, seen}
+use Rattle.wire.specs.Views.{readAs}
+use Rattle.sheet.specs.Comments.{comment}
+use Rattle.sheet.proofs.Judged.{end-within}
+use Rattle.sheet.proofs.comments.read_comment.Statement.{statement}
+use Rattle.sheet.proofs.comments.read_comment.Tie as tie
+
+returns : tie.Need-returns
+unfolding comment
+returns c =
+    let s = now (c .before .before .before .before .before .before .before .before .before .before .before .args .sheet) in
+    rw (seen (readAs s) (c .before .before .before .before .before .before .before .before .below .ensures .0) (c .before .before .before .before .before .before .kind .given .1), seen (readAs s) (c .before .before .before .before .read-position .ensures .0) (c .before .before .start .given .1), lt-leb _ _ (c .if1 .taken))
+
+sub-is-marked : tie.Need-sub-is-marked
+sub-is-marked c =
+    let a = c .before .before .before .before .before .before .before .before .before .before .before .before .before .before .before .args in
+    end-within _ _ _ (seen (readAs (now (a .sheet))) (c .before .before .before .read-end .ensures .0) (c .before .end .given .1)) .0
+
+part-is-marked-start : tie.Need-part-is-marked-start
+part-is-marked-start c =
+    let a = c .before .before .before .before .before .before .before .before .before .before .before .before .before .before .before .args in
+    end-within _ _ _ (seen (readAs (now (a .sheet))) (c .before .before .before .read-end .ensures .0) (c .before .end .given .1)) .0
+
+part-is-marked-end : tie.Need-part-is-marked-end
+part-is-marked-end c =
+    let a = c .before .before .before .before .before .before .before .before .before .before .before .before .before .before .before .args in
+    end-within _ _ _ (seen (readAs (now (a .sheet))) (c .before .before .before .read-end .ensures .0) (c .before .end .given .1)) .1
+
+returns-2 : tie.Need-returns-2
+unfolding comment
+returns-2 c =
+    let s = now (c .before .before .before .before .before .before .args .sheet) in
+    rw (seen (readAs s) (c .before .before .before .below .ensures .0) (c .before .r .given .1))
+
+returns-3 : tie.Need-returns-3
+unfolding comment
+returns-3 c =
+    let s = now (c .before .before .before .before .before .before .before .before .before .before .args .sheet) in
+    rw (seen (readAs s) (c .before .before .before .before .before .before .before .below .ensures .0) (c .before .before .before .before .before .kind .given .1), seen (readAs s) (c .before .before .before .read-position .ensures .0) (c .before .r2 .given .1))
+
+returns-4 : tie.Need-returns-4
+unfolding comment
+returns-4 c =
+    let s = now (c .before .before .before .before .before .before .before .before .before .before .before .before .before .before .before .args .sheet) in
+    rw (seen (readAs s) (c .before .before .before .before .before .before .before .before .before .before .before .before .below .ensures .0) (c .before .before .before .before .before .before .before .before .before .before .kind .given .1), seen (readAs s) (c .before .before .before .before .before .before .before .before .read-position .ensures .0) (c .before .before .before .before .before .before .start .given .1), le-leb _ _ (c .before .before .before .before .if1 .left), seen (readAs s) (c .before .before .before .read-end .ensures .0) (c .before .r3 .given .1))
+
+returns-5 : tie.Need-returns-5
+unfolding comment
+returns-5 c =
+    let s = now (c .before .before .before .before .before .before .before .before .before .before .before .before .before .before .before .before .before .before .args .sheet) in
+    rw (seen (readAs s) (c .before .before .before .before .before .before .before .before .before .before .before .before .before .before .before .below .ensures .0) (c .before .before .before .before .before .before .before .before .before .before .before .before .before .kind .given .1), seen (readAs s) (c .before .before .before .before .before .before .before .before .before .before .before .read-position .ensures .0) (c .before .before .before .before .before .before .before .before .before .start .given .1), le-leb _ _ (c .before .before .before .before .before .before .before .if1 .left), seen (readAs s) (c .before .before .before .before .before .before .read-end .ensures .0) (c .before .before .before .before .end .given .1), known (c .before .is-marked .ensures) (c .if2 .taken))
+
+returns-6 : tie.Need-returns-6
+unfolding comment
+returns-6 c =
+    let s = now (c .before .before .before .before .before .before .before .before .before .before .before .before .before .before .before .before .before .before .args .sheet) in
+    rw (seen (readAs s) (c .before .before .before .before .before .before .before .before .before .before .before .before .before .before .before .below .ensures .0) (c .before .before .before .before .before .before .before .before .before .before .before .before .before .kind .given .1), seen (readAs s) (c .before .before .before .before .before .before .before .before .before .before .before .read-position .ensures .0) (c .before .before .before .before .before .before .before .before .before .start .given .1), le-leb _ _ (c .before .before .before .before .before .before .before .if1 .left), seen (readAs s) (c .before .before .before .before .before .before .read-end .ensures .0) (c .before .before .before .before .end .given .1), known (c .before .is-marked .ensures) (c .if2 .left))
+
+pub read-comment-spec : {M : Type 1} → statement M
+read-comment-spec =
+    tie.close
+    (tie.spec
+    (λ c κs. search needs)
+    (λ c. search needs)
+    (λ c. search needs)
+    (λ c κs. search needs)
+    (λ c. search needs)
+    (λ c. search needs)
+    returns
+    (λ c κs. search needs)
+    (λ c. search needs)
+    (λ c. search needs)
+    sub-is-marked
+    part-is-marked-start
+    part-is-marked-end
+    (λ c κs. search needs)
+    returns-2
+    returns-3
+    returns-4
+    returns-5
+    returns-6)

@@ -1,0 +1,49 @@
+use borrow.Author.Needs.{needs}
+use native.Mathlib.Omega.{arith}
+use mathlib.Core.Path.{_≡_, refl, _∙_}
+use Prim.Native.Nat.{_+_, _-_, _*_}
+use lib.ListN.{length}
+use Rattle.sheet.proofs.Coverings.{Keeping, keep-none, keep-more, keep-all}
+use Rattle.sheet.proofs.covering.keep_longest.Statement.{statement}
+use Rattle.sheet.proofs.covering.keep_longest.Tie as tie
+
+abbrev Inv-loop : tie.InvT-loop
+Inv-loop table m longest₀ n k₀ longest k = (length longest ≡ length longest₀) × Keeping table m n longest₀ longest k
+
+abbrev μ-loop : tie.MeasureT-loop
+μ-loop table m longest₀ n k₀ longest k = m - k
+
+loop-holds : tie.Need-loop-holds Inv-loop μ-loop
+loop-holds c = (refl, keep-none _ _ _ _)
+
+cast-raise : tie.Need-cast-raise Inv-loop μ-loop
+cast-raise c = omega (arith, c .shared-slice-known2 .given (4 * c .before .before .before .loop .k + 2))
+
+loop-again : tie.Need-loop-again Inv-loop μ-loop
+loop-again c = (c .before .before .raise .kept .0 ∙ c .before .before .before .before .before .before .before .loop .inv .0, keep-more (c .before .before .before .before .before .before .before .loop .inv .1) (c .before .before .before .before .before .before .loop-test .taken) (c .before .before .raise .ensures))
+
+returns : tie.Need-returns Inv-loop μ-loop
+returns c = keep-all (c .before .loop .inv .1) (c .loop-test .left)
+
+pub keep-longest-spec : {M : Type 1} → statement M
+keep-longest-spec =
+    tie.close
+    (tie.spec
+    Inv-loop
+    μ-loop
+    loop-holds
+    (λ c. search needs)
+    (λ c. search needs)
+    (λ c. search needs)
+    (λ c. search needs)
+    cast-raise
+    (λ c. search needs)
+    (λ c. search needs)
+    (λ c. search needs)
+    (λ c. search needs)
+    (λ c κs. search needs)
+    (λ c. search needs)
+    (λ c. search needs)
+    loop-again
+    (λ c. search needs)
+    returns)

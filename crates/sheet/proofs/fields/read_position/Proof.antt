@@ -1,0 +1,35 @@
+use borrow.Author.Needs.{needs}
+use denote.Ref.{now}
+use Rattle.laws.proofs.Steps.{known, seen}
+use Rattle.wire.specs.Views.{readAs}
+use Rattle.sheet.specs.Fields.{position}
+use Rattle.sheet.proofs.fields.read_position.Statement.{statement}
+use Rattle.sheet.proofs.fields.read_position.Tie as tie
+
+returns : tie.Need-returns
+unfolding position
+returns c = let s = now (c .before .before .before .before .before .before .args .sheet) in (rw (seen (readAs s) (c .before .before .before .number .ensures .0) (c .before .r .given .1)), tt)
+
+returns-2 : tie.Need-returns-2
+unfolding position
+returns-2 c =
+    let s = now (c .before .before .before .before .before .before .before .before .args .sheet) in
+    (rw (seen (readAs s) (c .before .before .before .before .before .number .ensures .0) (c .before .before .before .p .given .1), known (c .before .is-boundary .ensures) (c .if1 .taken)), rw (c .before .before .before .p .given .1) at (c .before .before .before .before .before .number .ensures .1))
+
+returns-3 : tie.Need-returns-3
+unfolding position
+returns-3 c =
+    let s = now (c .before .before .before .before .before .before .before .before .args .sheet) in
+    (rw (seen (readAs s) (c .before .before .before .before .before .number .ensures .0) (c .before .before .before .p .given .1), known (c .before .is-boundary .ensures) (c .if1 .left)), tt)
+
+pub read-position-spec : {M : Type 1} → statement M
+read-position-spec =
+    tie.close
+    (tie.spec
+    (λ c κs. search needs)
+    (λ c. search needs)
+    (λ c. search needs)
+    (λ c κs. search needs)
+    returns
+    returns-2
+    returns-3)

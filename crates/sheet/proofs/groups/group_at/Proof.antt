@@ -1,0 +1,39 @@
+use borrow.Author.Needs.{needs}
+use Prim.Native.Nat.{_+_, _*_}
+use native.Mathlib.Omega.{arith}
+use Rattle.sheet.proofs.groups.group_at.Statement.{statement}
+use Rattle.sheet.proofs.groups.group_at.Tie as tie
+
+cast-side : tie.Need-cast-side
+cast-side c = omega (arith, c .shared-slice-known .given (4 * c .before .args .k))
+
+cast-position : tie.Need-cast-position
+cast-position c = omega (arith, c .shared-slice-known2 .given (4 * c .before .before .args .k + 1))
+
+cast-first : tie.Need-cast-first
+cast-first c = omega (arith, c .shared-slice-known3 .given (4 * c .before .before .before .args .k + 2))
+
+cast-count : tie.Need-cast-count
+cast-count c = omega (arith, c .shared-slice-known4 .given (4 * c .before .before .before .before .args .k + 3))
+
+pub group-at-spec : {M : Type 1} → statement M
+group-at-spec =
+    tie.close
+    (tie.spec
+    (λ c. search needs)
+    (λ c. search needs)
+    (λ c. search needs)
+    cast-side
+    (λ c. search needs)
+    (λ c. search needs)
+    (λ c. search needs)
+    cast-position
+    (λ c. search needs)
+    (λ c. search needs)
+    (λ c. search needs)
+    cast-first
+    (λ c. search needs)
+    (λ c. search needs)
+    (λ c. search needs)
+    cast-count
+    (λ c. search needs))

@@ -1,0 +1,38 @@
+use borrow.Author.Needs.{needs}
+use lib.ListN.{length-set}
+use native.Mathlib.Omega.{arith}
+use native.Mathlib.Numerals.{add-one, add-two, add-three}
+use Rattle.sheet.proofs.groups.put_group.Statement.{statement}
+use Rattle.sheet.proofs.groups.put_group.Tie as tie
+
+slice-write-table-2 : tie.Need-slice-write-table-2
+slice-write-table-2 c = simp length-set (omega arith)
+
+slice-write-table-3 : tie.Need-slice-write-table-3
+slice-write-table-3 c = simp length-set (omega arith)
+
+returns : tie.Need-returns
+returns c = rw (add-one, add-two, add-three)
+
+pub put-group-spec : {M : Type 1} → statement M
+put-group-spec =
+    tie.close
+    (tie.spec
+    (λ c. search needs)
+    (λ c. search needs)
+    (λ c. search needs)
+    (λ c. search needs)
+    (λ c. search needs)
+    (λ c. search needs)
+    (λ c. search needs)
+    slice-write-table-2
+    (λ c. search needs)
+    (λ c. search needs)
+    (λ c. search needs)
+    slice-write-table-3
+    (λ c. search needs)
+    (λ c. search needs)
+    (λ c. search needs)
+    (λ c. search needs)
+    (λ c. search needs)
+    returns)

@@ -1,0 +1,46 @@
+use borrow.Author.Needs.{needs}
+use denote.Ref.{now}
+use Rattle.laws.proofs.Steps.{seen}
+use Rattle.wire.specs.Views.{readAs, flagAs}
+use Rattle.sheet.specs.Program.{firstItem}
+use Rattle.sheet.proofs.program.read_first_item.Statement.{statement}
+use Rattle.sheet.proofs.program.read_first_item.Tie as tie
+
+returns : tie.Need-returns
+unfolding firstItem
+returns c =
+    let s = now (c .before .before .before .before .before .before .args .sheet) in
+    rw (seen (flagAs s) (c .before .before .before .flag .ensures .0) (c .before .r .given .1))
+
+returns-2 : tie.Need-returns-2
+unfolding firstItem
+returns-2 c =
+    let s = now (c .before .before .before .before .before .before .before .before .before .before .before .args .sheet) in
+    rw (seen (flagAs s) (c .before .before .before .before .before .before .before .before .flag .ensures .0) (c .before .before .before .before .before .before .there .given .1), c .before .before .before .before .if1 .taken, seen (readAs s) (c .before .before .before .read-position .ensures .0) (c .before .r2 .given .1))
+
+returns-3 : tie.Need-returns-3
+unfolding firstItem
+returns-3 c =
+    let s = now (c .before .before .before .before .before .before .before .before .before .before .before .args .sheet) in
+    rw (seen (flagAs s) (c .before .before .before .before .before .before .before .before .flag .ensures .0) (c .before .before .before .before .before .before .there .given .1), c .before .before .before .before .if1 .taken, seen (readAs s) (c .before .before .before .read-position .ensures .0) (c .before .p .given .1))
+
+returns-4 : tie.Need-returns-4
+unfolding firstItem
+returns-4 c =
+    let s = now (c .before .before .before .before .before .before .before .args .sheet) in
+    rw (seen (flagAs s) (c .before .before .before .before .flag .ensures .0) (c .before .before .there .given .1), c .if1 .left)
+
+pub read-first-item-spec : {M : Type 1} → statement M
+read-first-item-spec =
+    tie.close
+    (tie.spec
+    (λ c κs. search needs)
+    (λ c. search needs)
+    (λ c. search needs)
+    (λ c κs. search needs)
+    (λ c. search needs)
+    (λ c. search needs)
+    returns
+    returns-2
+    returns-3
+    returns-4)

@@ -1,0 +1,96 @@
+-- Comments and the groups that they stand in.
+use mathlib.Core.Bool.{Bool, true, false, cond, _&&_, _||_}
+use mathlib.Core.List.{List, [], _∷_}
+use Prim.Native.Nat.{ℕ, zero, suc, _+_, _-_}
+use lib.Dec.{eqb, leb, ltb}
+use lib.ListN.{length, take, drop}
+use Rattle.laws.specs.Decoded.{Decoder, onOk, _>>=_, _>>_, return, require}
+use Rattle.laws.specs.Quoted.{ascii}
+use Rattle.text.specs.Bytes.{begins}
+use Rattle.wire.specs.Fields.{below}
+use Rattle.wire.specs.Number.{number}
+use Rattle.sheet.specs.declared.fields.Span.{Span}
+use Rattle.sheet.specs.declared.comments.Comment.{Comment}
+use Rattle.sheet.specs.declared.groups.Group.{Group}
+use Rattle.sheet.specs.Fields.{position, endFrom}
+
+-- the bytes of the source in a span
+abbrev pub slice : List ℕ → Span → List ℕ
+slice source sp = take (sp .end - sp .start) (drop (sp .start) source)
+
+-- the marks that open and close a comment of a kind
+abbrev pub opening : ℕ → List ℕ
+opening kind = cond (eqb kind 0) (ascii "//") (ascii "/*")
+
+abbrev pub closing : ℕ → List ℕ
+closing kind = cond (eqb kind 0) [] (ascii "*/")
+
+-- the text begins with one mark, ends with the other, and is no shorter than the two
+unfoldable pub enclosed : List ℕ → List ℕ → List ℕ → Bool
+enclosed front back c = leb (length front + length back) (length c) && begins front c && begins back (drop (length c - length back) c)
+
+-- the text has the marks of its kind
+unfoldable pub marked : ℕ → List ℕ → Bool
+marked kind c = enclosed (opening kind) (closing kind) c
+
+-- so many items, each where the one before ends, and judged by what that one leaves
+unfoldable pub chained : {A S : Type 0} → (S → Decoder A) → (A → S) → S → ℕ → Decoder (List A)
+chained item leaves s zero = return []
+chained item leaves s (suc k) = do
+  a ← item s
+  λ t. onOk (a ∷_) (chained item leaves (leaves a) k t)
+
+-- a comment that starts no earlier than `last`, the end of the one before; refusal 7 at its start and at its end
+unfoldable pub comment : List ℕ → ℕ → Decoder Comment
+comment source last = do
+  kind ← below 2
+  start ← position source
+  require (leb last start) 7
+  end ← endFrom source start
+  require (marked kind (slice source (record { start = start; end = end }))) 7
+  return (record { kind = kind; span = record { start = start; end = end } })
+
+abbrev pub endOf : Comment → ℕ
+endOf c = c .span .end
+
+abbrev pub comments : List ℕ → ℕ → ℕ → Decoder (List Comment)
+comments source = chained (comment source) endOf
+
+-- one group comes before another: by side, then by position
+abbrev pub precedes : ℕ → ℕ → ℕ → ℕ → Bool
+precedes side position side′ position′ = ltb side side′ || (eqb side side′ && ltb position position′)
+
+-- no group comes before the first one
+abbrev pub anywhere : ℕ → ℕ → Bool
+anywhere side position = true
+
+-- the order is judged at the position, the reach at the count; `after` says whether a side and a position may follow the last group
+unfoldable pub group : List ℕ → ℕ → (ℕ → ℕ → Bool) → Decoder Group
+group source total after = do
+  side ← below 2
+  p ← position source
+  require (after side p) 7
+  first ← number
+  n ← number
+  require (ltb 0 n && leb (first + n) total) 7
+  return (record { side = side; position = p; first = first; count = n })
+
+-- whether a side and a position may follow a group
+abbrev pub mayFollow : Group → ℕ → ℕ → Bool
+mayFollow g = precedes (g .side) (g .position)
+
+abbrev pub groups : List ℕ → ℕ → (ℕ → ℕ → Bool) → ℕ → Decoder (List Group)
+groups source total = chained (group source total) mayFollow
+
+-- the comment of an index is in the group
+abbrev pub holds : ℕ → Group → Bool
+holds i g = leb (g .first) i && ltb i (g .first + g .count)
+
+abbrev pub inSome : List Group → ℕ → Bool
+inSome [] i = false
+inSome (g ∷ gs) i = holds i g || inSome gs i
+
+-- each of the first n comments is in some group
+unfoldable pub covered : List Group → ℕ → Bool
+covered gs zero = true
+covered gs (suc n) = covered gs n && inSome gs n

@@ -1,0 +1,12 @@
+pub mod Tree
+pub mod Fields
+pub mod Comments
+pub mod Program
+pub mod Tables
+pub mod Covering
+pub mod Fit
+pub mod Lookups
+pub mod Nodes
+pub mod Walked
+pub mod Sheet
+pub mod Views

@@ -1,0 +1,229 @@
+-- The nodes of a sheet, each field judged where it stands.
+use mathlib.Core.Bool.{Bool, cond}
+use mathlib.Core.List.{List, [], _∷_}
+use mathlib.Core.Option.{Option}
+use Prim.Native.Nat.{ℕ, zero, suc, _+_}
+use lib.Dec.{eqb, ltb}
+use lib.ListN.{getD}
+use Rattle.laws.specs.Decoded.{Decoder, onOk, _>>=_, _>>_, return, refuse, require}
+use Rattle.text.specs.declared.utf8.Encoding.the-variants.{Utf8, Wtf8}
+use Rattle.wire.specs.Fields.{byte, below, flag}
+use Rattle.wire.specs.Number.{number}
+use Rattle.wire.specs.Text.{count, text}
+use Rattle.sheet.specs.declared.fields.Span.{Span}
+use Rattle.sheet.specs.Tree.{Quoted, Pieces, Node, other, string, name, template, binary, object, importCall, call, importDecl, namedExport, exportFrom, exportAll, importType, importEquals, importRequire, moduleDecl, Nodes, none, more, Arguments, noArguments, argument, Properties, noProperties, spread, otherProperty, childKey, stringKey, nameKey, Attributes, without, withObject}
+use Rattle.sheet.specs.Fields.{span}
+
+-- so many items, each where the one before ends; an item is what it adds to the list of those behind it
+unfoldable pub many : {L : Type 0} → L → Decoder (L → L) → ℕ → Decoder L
+many end item zero = return end
+many end item (suc k) = item >>= λ add s. onOk add (many end item k s)
+
+-- a tag that its place allows; then, with no level left, refusal 4
+unfoldable pub tag : (ℕ → Bool) → ℕ → Decoder ℕ
+tag allowed levels = do
+  t ← byte
+  require (allowed t) 3
+  require (ltb 0 levels) 4
+  return t
+
+-- a String, with so many levels left, its own among them
+unfoldable pub quoted : List ℕ → ℕ → Decoder Quoted
+quoted source levels = do
+  tag (eqb 1) levels
+  sp ← span source
+  x ← text Wtf8 4096
+  return (record { span = sp; text = x })
+
+-- a flag, and a String if it is 1
+unfoldable pub optionalQuoted : List ℕ → ℕ → Decoder (Option Quoted)
+optionalQuoted source levels = do
+  there ← flag
+  cond there (λ s. onOk (λ q. Option.some q) (quoted source levels s)) (return Option.none)
+
+-- a piece of a template: a flag, and its text if it is cooked
+unfoldable pub piece : Decoder (Pieces → Pieces)
+piece = do
+  cooked ← flag
+  cond cooked (λ s. onOk (λ x. Option.some x ∷_) (text Wtf8 4096 s)) (return (Option.none ∷_))
+
+-- the parts of a node that hold nodes, from a decoder of a node one level down
+module _ (node : Decoder Node) where
+  unfoldable pub nodes : ℕ → Decoder Nodes
+  nodes = many none (λ s. onOk (λ n l. more n l) (node s))
+
+  -- an argument: a flag, spread or not, its span, and its node
+  unfoldable pub argumentItem : List ℕ → Decoder (Arguments → Arguments)
+  argumentItem source = do
+    dots ← flag
+    sp ← span source
+    n ← node
+    return (argument dots sp n)
+
+  unfoldable pub arguments : List ℕ → ℕ → Decoder Arguments
+  arguments source = many noArguments (argumentItem source)
+
+  -- a property with a key, by the key's byte: 0 a child, 1 a string text, 2 a name text; and the value
+  unfoldable pub keyedItem : ℕ → Decoder (Properties → Properties)
+  keyedItem kind =
+      getD
+      ((node >>= λ k. node >>= λ v. return (childKey k v))
+      ∷ (text Wtf8 4096 >>= λ k. node >>= λ v. return (stringKey k v))
+      ∷ (text Utf8 4096 >>= λ k. node >>= λ v. return (nameKey k v))
+      ∷ [])
+      kind
+      (refuse 3)
+
+  -- a property, by its byte: 0 spread, 1 other, 2 with a key
+  unfoldable pub propertyItem : Decoder (Properties → Properties)
+  propertyItem = do
+    kind ← byte
+    getD
+        ((node >>= λ n. return (spread n))
+        ∷ (node >>= λ n. return (otherProperty n))
+        ∷ (byte >>= keyedItem)
+        ∷ [])
+        kind
+        (refuse 3)
+
+  unfoldable pub properties : ℕ → Decoder Properties
+  properties = many noProperties propertyItem
+
+-- a flag, and an Object if it is 1
+unfoldable pub attributes : Decoder Attributes → Decoder Attributes
+attributes inner = do
+  there ← flag
+  cond there inner (return without)
+
+-- what follows the tag and the span of a node, by its tag: from decoders of a node and of an Object one level down, where so many levels are left
+module _ (source : List ℕ) (levels : ℕ) (node : Decoder Node) (object′ : Decoder Attributes) (sp : Span) where
+  unfoldable pub otherFields : Decoder Node
+  otherFields = do
+    n ← number
+    ns ← nodes node n
+    return (other sp ns)
+
+  unfoldable pub stringFields : Decoder Node
+  stringFields = do
+    x ← text Wtf8 4096
+    return (string sp x)
+
+  unfoldable pub nameFields : Decoder Node
+  nameFields = do
+    x ← text Utf8 4096
+    return (name sp x)
+
+  -- holes, pieces, the holes' nodes
+  unfoldable pub templateFields : Decoder Node
+  templateFields = do
+    n ← number
+    ps ← many [] piece (n + 1)
+    ns ← nodes node n
+    return (template sp ps ns)
+
+  unfoldable pub binaryFields : Decoder Node
+  binaryFields = do
+    plus ← flag
+    l ← node
+    r ← node
+    return (binary sp plus l r)
+
+  unfoldable pub objectFields : Decoder Node
+  objectFields = do
+    n ← count 64
+    ps ← properties node n
+    return (object sp ps)
+
+  -- what follows the callee of a call
+  unfoldable pub callRest : (Arguments → Nodes → Node) → Decoder Node
+  callRest of = do
+    n ← number
+    xs ← arguments node source n
+    m ← number
+    ns ← nodes node m
+    return (of xs ns)
+
+  unfoldable pub callFields : Decoder Node
+  callFields = do
+    callee ← below 4
+    cond (ltb callee 3)
+        (callRest (importCall sp callee))
+        (node >>= λ e. callRest (call sp e))
+
+  unfoldable pub importFields : Decoder Node
+  importFields = do
+    typeOnly ← flag
+    phase ← below 3
+    sideEffect ← flag
+    x ← quoted source levels
+    a ← attributes object′
+    return (importDecl sp typeOnly phase sideEffect x a)
+
+  unfoldable pub namedExportFields : Decoder Node
+  namedExportFields = do
+    typeOnly ← flag
+    there ← flag
+    cond there (do
+      x ← quoted source levels
+      a ← attributes object′
+      return (exportFrom sp typeOnly x a))
+        (return (namedExport sp typeOnly))
+
+  unfoldable pub exportAllFields : Decoder Node
+  exportAllFields = do
+    typeOnly ← flag
+    x ← quoted source levels
+    a ← attributes object′
+    return (exportAll sp typeOnly x a)
+
+  unfoldable pub importTypeFields : Decoder Node
+  importTypeFields = do
+    x ← quoted source levels
+    n ← number
+    ns ← nodes node n
+    a ← attributes object′
+    return (importType sp x ns a)
+
+  unfoldable pub importEqualsFields : Decoder Node
+  importEqualsFields = do
+    external ← flag
+    cond external (do
+      typeOnly ← flag
+      export ← flag
+      x ← quoted source levels
+      return (importRequire sp typeOnly export x))
+        (return (importEquals sp))
+
+  unfoldable pub moduleFields : Decoder Node
+  moduleFields = do
+    x ← optionalQuoted source levels
+    n ← number
+    ns ← nodes node n
+    return (moduleDecl sp x ns)
+
+  unfoldable pub fields : ℕ → Decoder Node
+  fields t =
+      getD
+      (otherFields ∷ stringFields ∷ nameFields ∷ templateFields ∷ binaryFields ∷ objectFields ∷ callFields ∷ importFields
+      ∷ namedExportFields ∷ exportAllFields ∷ importTypeFields ∷ importEqualsFields ∷ moduleFields ∷ [])
+      t
+      (refuse 3)
+
+unfoldable mutual
+  -- a node with so many levels left, its own among them
+  pub node : List ℕ → ℕ → Decoder Node
+  node source zero = tag (λ t. ltb t 13) 0 >> refuse 4
+  node source (suc d) = do
+    t ← tag (λ t. ltb t 13) (suc d)
+    sp ← span source
+    fields source d (node source d) (attributesObject source d) sp t
+
+  -- an Object that holds attributes
+  pub attributesObject : List ℕ → ℕ → Decoder Attributes
+  attributesObject source zero = tag (eqb 5) 0 >> refuse 4
+  attributesObject source (suc d) = do
+    tag (eqb 5) (suc d)
+    sp ← span source
+    n ← count 64
+    ps ← properties (node source d) n
+    return (withObject sp ps)

@@ -1,0 +1,53 @@
+-- The sheet: its fields in document 01's order, so that the first refusal in checking order is what the decoder answers.
+use mathlib.Core.Bool.{cond, _&&_}
+use mathlib.Core.List.{List, [], _∷_}
+use Prim.Native.Nat.{ℕ}
+use lib.Dec.{leb, ltb}
+use lib.ListN.{length}
+use Rattle.laws.specs.Decoded.{Decoded, ok, no, andThen, Decoder, _>>=_, _>>_, return, require}
+use Rattle.text.specs.declared.utf8.Encoding.the-variants.{Utf8}
+use Rattle.wire.specs.Fields.{below}
+use Rattle.wire.specs.Text.{count, text}
+use Rattle.sheet.specs.Tree.{Node}
+use Rattle.sheet.specs.declared.comments.Comment.{Comment}
+use Rattle.sheet.specs.declared.groups.Group.{Group}
+use Rattle.sheet.specs.Comments.{comments, anywhere, groups, covered}
+use Rattle.sheet.specs.Program.{Program, program}
+use Rattle.sheet.specs.Nodes.{node}
+use Rattle.sheet.specs.Walked.{uncooked}
+
+-- document 01's sheet: what a parser hands over
+pub record Sheet : Type 0 where
+  pub media : ℕ
+  pub source : List ℕ
+  pub comments : List Comment
+  pub groups : List Group
+  pub program : Program
+  pub root : Node
+
+-- the fields, refusals 2 to 7
+unfoldable pub sheet : Decoder Sheet
+sheet = do
+  media ← below 11
+  source ← text Utf8 32768
+  n ← count 1024
+  cs ← comments source 0 n
+  m ← count 1024
+  gs ← groups source n anywhere m
+  require (covered gs n) 7
+  p ← program source
+  root ← node source 64
+  return (record { media = media; source = source; comments = cs; groups = gs; program = p; root = root })
+
+-- refusal 8 where bytes follow the root
+abbrev pub ended : Sheet → List ℕ → Decoded Sheet
+ended t [] = ok t []
+ended t (b ∷ s) = no 8
+
+-- refusal 1 in front of the fields, 8 behind them
+unfoldable pub decodeSheet : List ℕ → Decoded Sheet
+decodeSheet s = cond (ltb 0 (length s) && leb (length s) 65536) (andThen (sheet s) ended) (no 1)
+
+-- a sheet that meets none of refusals 1 to 9, or the first that it meets
+unfoldable pub accept : List ℕ → Decoded Sheet
+accept s = andThen (decodeSheet s) (λ t u. cond (uncooked (t .root)) (no 9) (ok t u))

@@ -1,0 +1,166 @@
+// Groups of comments, read into a table of four numbers a row.
+use super::comments::Filled;
+use super::fields::read_position;
+use wire::Cursor;
+use wire::Read;
+ghost use mathlib.Core.Path.{_≡_};
+ghost use mathlib.Core.Bool.{_&&_};
+ghost use Prim.Native.Nat.{_+_, _*_, _≤_, _<_};
+ghost use lib.Dec.{leb, ltb};
+ghost use lib.ListN.{length, drop};
+ghost use lib.Seq.{sets};
+ghost use Rattle.sheet.specs.Comments.{precedes, anywhere, group, groups};
+ghost use Rattle.sheet.specs.Tables.{groupRow, groupIn};
+ghost use Rattle.sheet.specs.Views.{afterAs, groupAs, groupsAs};
+
+// A group of comments: leading (side 0) or trailing (side 1) at a position; the index of its first comment, and their number.
+pub struct Group {
+    pub side: usize,
+    pub position: usize,
+    pub first: usize,
+    pub count: usize,
+}
+
+// A group with the cursor past it, or a refusal's number.
+pub enum GroupRead {
+    Is(Group, Cursor),
+    Refused(u8),
+}
+
+// The side and the position of the group before, if there is one.
+pub enum Before {
+    At(usize, usize),
+    Nothing,
+}
+
+// Does one side and position come before another: by side, then by position?
+pub fn precedes(side: usize, position: usize, side2: usize, position2: usize) -> bool
+    ensures { λ r. ⌜ r ≡ precedes side position side2 position2 ⌝ }
+{
+    if side < side2 {
+        return true;
+    }
+    if side == side2 {
+        return position < position2;
+    }
+    false
+}
+
+// May a group of this side and position come next?
+fn may_follow(before: Before, side: usize, position: usize) -> bool
+    ensures { λ r. ⌜ r ≡ afterAs before side position ⌝ }
+{
+    match before {
+        Before::At(side1, position1) => precedes(side1, position1, side, position),
+        Before::Nothing => true,
+    }
+}
+
+// Are the comments of a group at least one, and all among `total`?
+fn reaches(first: usize, count: usize, total: usize) -> bool
+    requires { ⌜ (first < 4294967296) × (count < 4294967296) ⌝ }
+    ensures { λ r. ⌜ r ≡ ltb 0 count && leb (first + count) total ⌝ }
+{
+    0 < count && first + count <= total
+}
+
+// A group of comments among `total`, behind another or the first.
+pub fn read_group(sheet: &[u8], source: &[u8], c: Cursor, total: usize, before: Before) -> GroupRead
+    ensures { λ r. ⌜ groupAs (now (sheet .entry)) r ≡ group (now (source .entry)) total (afterAs before) (drop (c .at) (now (sheet .entry))) ⌝ }
+{
+    match c.below(sheet, 2) {
+        Read::Refused(r) => GroupRead::Refused(r),
+        Read::Value(side, next) => match read_position(sheet, source, next) {
+            Read::Refused(r) => GroupRead::Refused(r),
+            Read::Value(position, next) => {
+                if may_follow(before, side, position) {
+                    match next.number(sheet) {
+                        Read::Refused(r) => GroupRead::Refused(r),
+                        Read::Value(first, next) => match next.number(sheet) {
+                            Read::Refused(r) => GroupRead::Refused(r),
+                            Read::Value(count, next) => {
+                                if reaches(first, count, total) {
+                                    GroupRead::Is(
+                                        Group {
+                                            side,
+                                            position,
+                                            first,
+                                            count,
+                                        },
+                                        next,
+                                    )
+                                } else {
+                                    GroupRead::Refused(7)
+                                }
+                            }
+                        },
+                    }
+                } else {
+                    GroupRead::Refused(7)
+                }
+            }
+        },
+    }
+}
+
+// Stores a group in the kth row of a table.
+fn put_group(table: &mut [u32], k: usize, g: Group)
+    requires { ⌜ 4 * k + 3 < length (now table) ⌝ }
+    requires { ⌜ (g .side < 4294967296) × (g .position < 4294967296) × (g .first < 4294967296) × (g .count < 4294967296) ⌝ }
+    ensures { λ _. ⌜ now (table .exit) ≡ sets (now (table .entry)) (4 * k) (groupRow g) ⌝ }
+{
+    let at = 4 * k;
+    table[at] = g.side as u32;
+    table[at + 1] = g.position as u32;
+    table[at + 2] = g.first as u32;
+    table[at + 3] = g.count as u32;
+}
+
+// The group in the kth row of a table.
+pub fn group_at(table: &[u32], k: usize) -> Group
+    requires { ⌜ 4 * k + 3 < length (now table) ⌝ }
+    ensures { λ r. ⌜ r ≡ groupIn (now (table .entry)) k ⌝ }
+{
+    let at = 4 * k;
+    let side = table[at] as usize;
+    let position = table[at + 1] as usize;
+    let first = table[at + 2] as usize;
+    let count = table[at + 3] as usize;
+    Group {
+        side,
+        position,
+        first,
+        count,
+    }
+}
+
+// Reads m groups of comments among `total` into the first rows of a table.
+pub fn read_groups(
+    sheet: &[u8],
+    source: &[u8],
+    c: Cursor,
+    total: usize,
+    m: usize,
+    table: &mut [u32],
+) -> Filled
+    requires { ⌜ 4 * m ≤ length (now table) ⌝ }
+    ensures { λ r. ⌜ groupsAs (now (sheet .entry)) (now (table .exit)) m r ≡ groups (now (source .entry)) total anywhere m (drop (c .at) (now (sheet .entry))) ⌝ }
+{
+    let mut next = c;
+    let mut before = Before::Nothing;
+    let mut k = 0;
+    while k < m {
+        match read_group(sheet, source, next, total, before) {
+            GroupRead::Refused(r) => {
+                return Filled::Refused(r);
+            }
+            GroupRead::Is(g, after) => {
+                put_group(table, k, g);
+                before = Before::At(g.side, g.position);
+                next = after;
+                k += 1;
+            }
+        }
+    }
+    Filled::To(next)
+}

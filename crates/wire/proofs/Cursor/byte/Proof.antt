@@ -1,0 +1,18 @@
+use borrow.Author.Needs.{needs}
+use native.Mathlib.Omega.{arith}
+use mathlib.Core.Path.{sym}
+use Rattle.wire.proofs.Places.{byte-past, byte-at}
+use Rattle.wire.proofs.Cursor.byte.Statement.{statement}
+use Rattle.wire.proofs.Cursor.byte.Tie as tie
+
+cast-t9 : tie.Need-cast-t9
+cast-t9 c = omega (arith, c .shared-slice-known .given (c .before .before .args .self .at))
+
+returns : tie.Need-returns
+returns c = (sym (byte-at _ _ (c .before .if1 .taken)), omega arith)
+
+returns-2 : tie.Need-returns-2
+returns-2 c = (sym (byte-past _ _ (c .if1 .left)), tt)
+
+pub byte-spec : {M : Type 1} → statement M
+byte-spec = tie.close (tie.spec (λ c. search needs) cast-t9 (λ c. search needs) returns returns-2)

@@ -1,0 +1,5 @@
+pub mod Places
+pub mod Groups
+pub mod NumberCodec
+pub mod TextCodec
+pub mod Cases

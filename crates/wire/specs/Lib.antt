@@ -1,0 +1,4 @@
+pub mod Fields
+pub mod Number
+pub mod Text
+pub mod Views

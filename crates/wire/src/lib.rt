@@ -1,0 +1,156 @@
+// Numbers, flags and texts as sheets and reports hold them, read by a cursor.
+use text::utf8::Encoding;
+ghost use mathlib.Core.Path.{_≡_};
+ghost use mathlib.Core.Bool.{_||_};
+ghost use lib.Dec.{leb, ltb};
+ghost use lib.ListN.{length, drop};
+ghost use Rattle.wire.specs.Fields.{byte, below, flag};
+ghost use Rattle.wire.specs.Number.{number};
+ghost use Rattle.wire.specs.Text.{count, text};
+ghost use Rattle.wire.specs.Views.{readAs, flagAs, textAs, Past, PastFlag, PastText};
+
+// A place in a sheet: what is read next.
+pub struct Cursor {
+    pub at: usize,
+}
+
+// A number with the cursor past it, or a refusal's number.
+pub enum Read {
+    Value(usize, Cursor),
+    Refused(u8),
+}
+
+// A flag with the cursor past it, or a refusal's number.
+pub enum Flag {
+    Is(bool, Cursor),
+    Refused(u8),
+}
+
+// Where a text starts, with the cursor at its end, or a refusal's number.
+pub enum Text {
+    From(usize, Cursor),
+    Refused(u8),
+}
+
+// A last group is not 0, unless it is the only one.
+fn shortest(scale: usize, group: usize) -> bool
+    ensures { λ r. ⌜ r ≡ leb scale 1 || ltb 0 group ⌝ }
+{
+    if scale <= 1 {
+        return true;
+    }
+    0 < group
+}
+
+impl Cursor {
+    // A byte.
+    pub fn byte(self, sheet: &[u8]) -> Read
+        ensures { λ r. ⌜ readAs (now (sheet .entry)) r ≡ byte (drop (self .at) (now (sheet .entry))) ⌝ }
+        ensures { λ r. ⌜ Past (self .at) (length (now (sheet .entry))) r ⌝ }
+    {
+        let at = self.at;
+        if at < sheet.len() {
+            Read::Value(sheet[at] as usize, Cursor { at: at + 1 })
+        } else {
+            Read::Refused(2)
+        }
+    }
+
+    // A byte below a limit.
+    pub fn below(self, sheet: &[u8], limit: usize) -> Read
+        ensures { λ r. ⌜ readAs (now (sheet .entry)) r ≡ below limit (drop (self .at) (now (sheet .entry))) ⌝ }
+        ensures { λ r. ⌜ Past (self .at) (length (now (sheet .entry))) r ⌝ }
+    {
+        match self.byte(sheet) {
+            Read::Value(b, next) => {
+                if b < limit {
+                    Read::Value(b, next)
+                } else {
+                    Read::Refused(3)
+                }
+            }
+            Read::Refused(r) => Read::Refused(r),
+        }
+    }
+
+    // A byte, 0 or 1.
+    pub fn flag(self, sheet: &[u8]) -> Flag
+        ensures { λ r. ⌜ flagAs (now (sheet .entry)) r ≡ flag (drop (self .at) (now (sheet .entry))) ⌝ }
+        ensures { λ r. ⌜ PastFlag (self .at) (length (now (sheet .entry))) r ⌝ }
+    {
+        match self.below(sheet, 2) {
+            Read::Value(b, next) => Flag::Is(b == 1, next),
+            Read::Refused(r) => Flag::Refused(r),
+        }
+    }
+
+    // A number: at most five groups of seven bits, low group first, in its shortest form.
+    pub fn number(self, sheet: &[u8]) -> Read
+        ensures { λ r. ⌜ readAs (now (sheet .entry)) r ≡ number (drop (self .at) (now (sheet .entry))) ⌝ }
+        ensures { λ r. ⌜ Past (self .at) (length (now (sheet .entry))) r ⌝ }
+    {
+        let mut at = self.at;
+        let mut left: usize = 5;
+        let mut scale: usize = 1;
+        let mut low: usize = 0;
+        while 0 < left {
+            if sheet.len() <= at {
+                return Read::Refused(2);
+            }
+            let b = sheet[at] as usize;
+            at += 1;
+            if b < 128 {
+                let n = low + scale * b;
+                if shortest(scale, b) {
+                    if n <= 4294967295 {
+                        return Read::Value(n, Cursor { at });
+                    }
+                }
+                return Read::Refused(2);
+            }
+            low += scale * (b - 128);
+            scale *= 128;
+            left -= 1;
+        }
+        Read::Refused(2)
+    }
+
+    // A number up to a limit: a count, or a length.
+    pub fn count(self, sheet: &[u8], limit: usize) -> Read
+        ensures { λ r. ⌜ readAs (now (sheet .entry)) r ≡ count limit (drop (self .at) (now (sheet .entry))) ⌝ }
+        ensures { λ r. ⌜ Past (self .at) (length (now (sheet .entry))) r ⌝ }
+    {
+        match self.number(sheet) {
+            Read::Value(n, next) => {
+                if n <= limit {
+                    Read::Value(n, next)
+                } else {
+                    Read::Refused(4)
+                }
+            }
+            Read::Refused(r) => Read::Refused(r),
+        }
+    }
+
+    // A text: a length up to a limit, and as many bytes, well-formed.
+    pub fn text(self, sheet: &[u8], encoding: Encoding, limit: usize) -> Text
+        ensures { λ r. ⌜ textAs (now (sheet .entry)) r ≡ text encoding limit (drop (self .at) (now (sheet .entry))) ⌝ }
+        ensures { λ r. ⌜ PastText (self .at) (length (now (sheet .entry))) r ⌝ }
+    {
+        match self.count(sheet, limit) {
+            Read::Value(n, next) => {
+                let start = next.at;
+                if sheet.len() - start < n {
+                    return Text::Refused(2);
+                }
+                let end = start + n;
+                if text::utf8::well_formed(&sheet[start..end], encoding) {
+                    Text::From(start, Cursor { at: end })
+                } else {
+                    Text::Refused(5)
+                }
+            }
+            Read::Refused(r) => Text::Refused(r),
+        }
+    }
+}

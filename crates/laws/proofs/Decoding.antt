@@ -1,5 +1,5 @@
 -- What a decoder in steps answered at each of them, if it answered a value.
-use mathlib.Core.Path.{_≡_, refl}
+use mathlib.Core.Path.{_≡_, refl, ap}
 use mathlib.Core.Bool.{Bool, true, false}
 use mathlib.Core.List.{List}
 use Prim.Native.Nat.{ℕ}
@@ -21,8 +21,29 @@ module _ {A B : Type 0} where
   onOk-ok f (ok a u) e = (a, cc, cc)
   onOk-ok f (no r) e = absurd (refused e)
 
+  -- a refusal under a change of the value
+  pub onOk-no : (f : A → B) (x : Decoded A) {r : ℕ} → onOk f x ≡ no r → x ≡ no r
+  onOk-no f (ok a t) e = let z : _≡_ {A = ℕ} 0 1 = cc in absurd (omega arith)
+  onOk-no f (no r) e = cc
+
+  -- the same change by two functions that agree
+  pub onOk-same : {f g : A → B} → ((a : A) → f a ≡ g a) → (x : Decoded A) → onOk f x ≡ onOk g x
+  onOk-same e (ok a t) = ap (λ b. ok b t) (e a)
+  onOk-same e (no r) = refl
+
 -- a test held, and nothing was read
 pub require-ok : {B : Type 0} (b : Bool) (r : ℕ) (s : List ℕ) (f : Unit {0} → List ℕ → Decoded B) {c : B} {t : List ℕ}
     → andThen (require b r s) f ≡ ok c t → (b ≡ true) × (f tt s ≡ ok c t)
 require-ok true r s f e = (refl, e)
 require-ok false r s f e = absurd (refused e)
+
+-- steps one after the other, and changes of the value, however they are grouped
+module _ {A B C : Type 0} where
+  pub then-then : (x : Decoded A) (f : A → List ℕ → Decoded B) (g : B → List ℕ → Decoded C)
+      → andThen (andThen x f) g ≡ andThen x (λ a t. andThen (f a t) g)
+  then-then (ok a t) f g = refl
+  then-then (no r) f g = refl
+
+  pub map-map : (g : B → C) (f : A → B) (x : Decoded A) → onOk g (onOk f x) ≡ onOk (λ a. g (f a)) x
+  map-map g f (ok a t) = refl
+  map-map g f (no r) = refl

@@ -1,0 +1,32 @@
+-- Items read one after the other, with what was found in them so far: what a loop over them keeps.
+use mathlib.Core.Path.{_≡_, refl, ap}
+use mathlib.Core.List.{List}
+use Prim.Native.Nat.{ℕ, zero, suc, _-_, _≤_, _<_}
+use native.Mathlib.Omega.{arith}
+use Rattle.laws.specs.Decoded.{Decoded, ok, no, onOk, Decoder}
+use Rattle.sheet.specs.Nodes.{many}
+
+-- `after w l` is what is found in all, where w was found before the items of l
+module _ {L W : Type 0} (after : W → L → W) (end : L) (item : Decoder (L → L)) where
+  abbrev pub found : W → ℕ → List ℕ → Decoded W
+  found w k s = onOk (after w) (many end item k s)
+
+  pub found-step : (w w′ : W) (k : ℕ) (s : List ℕ) {add : L → L} {t : List ℕ} → 0 < k → item s ≡ ok add t → ((l : L) → after w (add l) ≡ after w′ l)
+      → found w k s ≡ found w′ (k - 1) t
+  unfolding many
+  found-step w w′ zero s h e f = absurd (omega arith)
+  found-step w w′ (suc k) s {add} {t} h e f = let down : suc k - 1 ≡ k = omega arith in rw (down, e) (each (many end item k t))
+    where
+      each : (x : Decoded L) → onOk (after w) (onOk add x) ≡ onOk (after w′) x
+      each (ok l u) = ap (λ v. ok v u) (f l)
+      each (no r) = refl
+
+  pub found-stop : (w : W) (k : ℕ) (s : List ℕ) {r : ℕ} → 0 < k → item s ≡ no r → found w k s ≡ no r
+  unfolding many
+  found-stop w zero s h e = absurd (omega arith)
+  found-stop w (suc k) s h e = rw e
+
+  pub found-end : (w : W) (k : ℕ) (s : List ℕ) → k ≤ 0 → found w k s ≡ ok (after w end) s
+  unfolding many
+  found-end w zero s h = refl
+  found-end w (suc k) s h = absurd (omega arith)

@@ -1,0 +1,34 @@
+-- A tag, and the bytes of a property and of its key, outside their values.
+use mathlib.Core.Path.{_≡_}
+use mathlib.Core.List.{List}
+use Prim.Native.Nat.{ℕ, zero, suc, _≤_}
+use native.Mathlib.Omega.{arith}
+use lib.ListN.{List·getD-eq-default}
+use Rattle.laws.specs.Decoded.{ok, no, refuse}
+use Rattle.wire.specs.Fields.{byte}
+use Rattle.heads.specs.Head.{start}
+use Rattle.heads.specs.Parts.{keyHead, propertyHead}
+
+-- none of the first k numbers
+abbrev pub NoneOf : ℕ → ℕ → Type 0
+NoneOf n zero = Unit {0}
+NoneOf n (suc k) = NoneOf n k × (n ≡ k → ⊥)
+
+beyond : (n k : ℕ) → NoneOf n k → k ≤ n
+beyond n zero h = omega arith
+beyond n (suc k) h =
+    let below = beyond n k (h .0) in
+    let other = h .1 in
+    omega arith
+
+pub no-start : (source : List ℕ) (levels t : ℕ) (s : List ℕ) → NoneOf t 13 → start source levels t s ≡ no 3
+unfolding start
+no-start source levels t s h = rw (List·getD-eq-default _ (refuse 3) (beyond t 13 h))
+
+pub no-key : (kind : ℕ) (s : List ℕ) → NoneOf kind 3 → keyHead kind s ≡ no 3
+unfolding keyHead
+no-key kind s h = rw (List·getD-eq-default _ (refuse 3) (beyond kind 3 h))
+
+pub no-property : (kind : ℕ) (s : List ℕ) {t : List ℕ} → byte s ≡ ok kind t → NoneOf kind 3 → propertyHead s ≡ no 3
+unfolding propertyHead
+no-property kind s e h = rw (e, List·getD-eq-default _ (refuse 3) (beyond kind 3 h))

@@ -1,0 +1,4 @@
+pub mod Head
+pub mod Parts
+pub mod Rest
+pub mod Views

@@ -1,0 +1,53 @@
+-- What follows a head: with it the whole node, property or argument.
+use mathlib.Core.Bool.{Bool, cond}
+use mathlib.Core.List.{List, []}
+use Prim.Native.Nat.{ℕ, _+_}
+use Rattle.laws.specs.Decoded.{Decoder, _>>=_, return}
+use Rattle.sheet.specs.declared.fields.Span.{Span}
+use Rattle.sheet.specs.Tree.{Node, other, string, name, template, binary, object, importCall, call, importDecl, namedExport, exportFrom, exportAll, importType, importEquals, importRequire, moduleDecl, Arguments, argument, Properties, spread, otherProperty, childKey, stringKey, nameKey, Attributes, without, withObject}
+use Rattle.sheet.specs.Nodes.{many, piece, nodes, properties, attributes, callRest, node, attributesObject}
+use Rattle.heads.specs.Head.{Head, otherHead, stringHead, nameHead, templateHead, binaryHead, objectHead, importCallHead, callHead, importHead, namedExportHead, exportFromHead, exportAllHead, importTypeHead, importEqualsHead, importRequireHead, moduleHead}
+use Rattle.heads.specs.Parts.{PropertyHead, spreadHead, otherPropertyHead, childKeyHead, stringKeyHead, nameKeyHead}
+
+-- an Object where the flag is 1
+abbrev pub behind : Bool → Decoder Attributes → Decoder Attributes
+behind there inner = cond there inner (return without)
+
+-- a node from its span and its head: from decoders of a node and of an Object one level down, where so many levels are left
+module _ (source : List ℕ) (levels : ℕ) (inner : Decoder Node) (object′ : Decoder Attributes) (sp : Span) where
+  abbrev pub restOf : Head → Decoder Node
+  restOf (otherHead n) = nodes inner n >>= λ ns. return (other sp ns)
+  restOf (stringHead x) = return (string sp x)
+  restOf (nameHead x) = return (name sp x)
+  restOf (templateHead n) = many [] piece (n + 1) >>= λ ps. nodes inner n >>= λ ns. return (template sp ps ns)
+  restOf (binaryHead plus) = inner >>= λ l. inner >>= λ r. return (binary sp plus l r)
+  restOf (objectHead n) = properties inner n >>= λ ps. return (object sp ps)
+  restOf (importCallHead phase) = callRest source levels inner object′ sp (importCall sp phase)
+  restOf callHead = inner >>= λ e. callRest source levels inner object′ sp (call sp e)
+  restOf (importHead typeOnly phase sideEffect x there) = behind there object′ >>= λ a. return (importDecl sp typeOnly phase sideEffect x a)
+  restOf (namedExportHead typeOnly) = return (namedExport sp typeOnly)
+  restOf (exportFromHead typeOnly x there) = behind there object′ >>= λ a. return (exportFrom sp typeOnly x a)
+  restOf (exportAllHead typeOnly x there) = behind there object′ >>= λ a. return (exportAll sp typeOnly x a)
+  restOf (importTypeHead x n) = nodes inner n >>= λ ns. attributes object′ >>= λ a. return (importType sp x ns a)
+  restOf importEqualsHead = return (importEquals sp)
+  restOf (importRequireHead typeOnly export x) = return (importRequire sp typeOnly export x)
+  restOf (moduleHead x n) = nodes inner n >>= λ ns. return (moduleDecl sp x ns)
+
+-- the rest of a node, where so many levels are left below it
+abbrev pub rest : List ℕ → ℕ → Span × Head → Decoder Node
+rest source levels p = restOf source levels (node source levels) (attributesObject source levels) (p .0) (p .1)
+
+-- the rest of an Object that holds attributes, where so many levels are left below it
+abbrev pub attributesRest : List ℕ → ℕ → Span × ℕ → Decoder Attributes
+attributesRest source levels p = properties (node source levels) (p .1) >>= λ ps. return (withObject (p .0) ps)
+
+module _ (inner : Decoder Node) where
+  abbrev pub argumentRest : Bool × Span → Decoder (Arguments → Arguments)
+  argumentRest p = inner >>= λ n. return (argument (p .0) (p .1) n)
+
+  abbrev pub propertyRest : PropertyHead → Decoder (Properties → Properties)
+  propertyRest spreadHead = inner >>= λ n. return (spread n)
+  propertyRest otherPropertyHead = inner >>= λ n. return (otherProperty n)
+  propertyRest childKeyHead = inner >>= λ k. inner >>= λ v. return (childKey k v)
+  propertyRest (stringKeyHead x) = inner >>= λ v. return (stringKey x v)
+  propertyRest (nameKeyHead x) = inner >>= λ v. return (nameKey x v)

@@ -1,0 +1,352 @@
+// The head of a node: its tag, its span and its fields up to its first child.
+use super::quoted::Quoted;
+use super::quoted::QuotedRead;
+use super::quoted::read_quoted;
+use super::quoted::read_tag;
+use sheet::fields::Span;
+use sheet::fields::SpanRead;
+use sheet::fields::read_span;
+use text::utf8::Encoding;
+use wire::Cursor;
+use wire::Flag;
+use wire::Read;
+use wire::Text;
+ghost use mathlib.Core.Path.{_≡_};
+ghost use lib.ListN.{length, drop};
+ghost use Rattle.laws.specs.Decoded.{onOk};
+ghost use Rattle.text.specs.declared.utf8.Encoding.the-variants.{Utf8, Wtf8};
+ghost use Rattle.wire.specs.Fields.{flag};
+ghost use Rattle.wire.specs.Number.{number};
+ghost use Rattle.wire.specs.Text.{count, text};
+ghost use Rattle.heads.specs.Head.{
+  otherHead,
+  stringHead,
+  nameHead,
+  templateHead,
+  binaryHead,
+  objectHead,
+  callStart,
+  origin,
+  importStart,
+  namedExportStart,
+  exportAllStart,
+  importTypeStart,
+  importRequireStart,
+  importEqualsStart,
+  moduleStart,
+  start,
+  head,
+};
+ghost use Rattle.heads.specs.Views.{originAs, fieldsAs, headAs, PastOrigin, PastFields, PastHead};
+
+// What stands before a node's first child. A text is from a place of the sheet to another.
+pub enum Head {
+    // The number of children.
+    Other(usize),
+    String(usize, usize),
+    Name(usize, usize),
+    // The number of holes; the pieces follow, one more.
+    Template(usize),
+    // Is it a plus?
+    Binary(bool),
+    // The number of properties.
+    Object(usize),
+    // The phase: 0 evaluation, 1 source, 2 defer.
+    ImportCall(usize),
+    Call,
+    // Type-only, phase, side effect, String; does an Object follow?
+    Import(bool, usize, bool, Quoted, bool),
+    // Without a String: type-only.
+    NamedExport(bool),
+    // With a String: type-only; does an Object follow?
+    ExportFrom(bool, Quoted, bool),
+    ExportAll(bool, Quoted, bool),
+    // The number of children.
+    ImportType(Quoted, usize),
+    // Not external.
+    ImportEquals,
+    // External: type-only, export.
+    ImportRequire(bool, bool, Quoted),
+    // The number of children, without and with a String.
+    Module(usize),
+    NamedModule(Quoted, usize),
+}
+
+// The fields of a head with the cursor past them, or a refusal's number.
+pub enum FieldsRead {
+    Is(Head, Cursor),
+    Refused(u8),
+}
+
+// A String and whether an Object follows, with the cursor past them, or a refusal's number.
+pub enum OriginRead {
+    Is(Quoted, bool, Cursor),
+    Refused(u8),
+}
+
+// A node's span and its head with the cursor past it, or a refusal's number.
+pub enum HeadRead {
+    Is(Span, Head, Cursor),
+    Refused(u8),
+}
+
+fn read_other(sheet: &[u8], c: Cursor) -> FieldsRead
+    ensures { λ r. ⌜ fieldsAs (now (sheet .entry)) r ≡ onOk otherHead (number (drop (c .at) (now (sheet .entry)))) ⌝ }
+    ensures { λ r. ⌜ PastFields (c .at) (length (now (sheet .entry))) r ⌝ }
+{
+    match c.number(sheet) {
+        Read::Refused(r) => FieldsRead::Refused(r),
+        Read::Value(n, next) => FieldsRead::Is(Head::Other(n), next),
+    }
+}
+
+fn read_string(sheet: &[u8], c: Cursor) -> FieldsRead
+    ensures { λ r. ⌜ fieldsAs (now (sheet .entry)) r ≡ onOk stringHead (text Wtf8 4096 (drop (c .at) (now (sheet .entry)))) ⌝ }
+    ensures { λ r. ⌜ PastFields (c .at) (length (now (sheet .entry))) r ⌝ }
+{
+    match c.text(sheet, Encoding::Wtf8, 4096) {
+        Text::Refused(r) => FieldsRead::Refused(r),
+        Text::From(start, next) => FieldsRead::Is(Head::String(start, next.at), next),
+    }
+}
+
+fn read_name(sheet: &[u8], c: Cursor) -> FieldsRead
+    ensures { λ r. ⌜ fieldsAs (now (sheet .entry)) r ≡ onOk nameHead (text Utf8 4096 (drop (c .at) (now (sheet .entry)))) ⌝ }
+    ensures { λ r. ⌜ PastFields (c .at) (length (now (sheet .entry))) r ⌝ }
+{
+    match c.text(sheet, Encoding::Utf8, 4096) {
+        Text::Refused(r) => FieldsRead::Refused(r),
+        Text::From(start, next) => FieldsRead::Is(Head::Name(start, next.at), next),
+    }
+}
+
+fn read_template(sheet: &[u8], c: Cursor) -> FieldsRead
+    ensures { λ r. ⌜ fieldsAs (now (sheet .entry)) r ≡ onOk templateHead (number (drop (c .at) (now (sheet .entry)))) ⌝ }
+    ensures { λ r. ⌜ PastFields (c .at) (length (now (sheet .entry))) r ⌝ }
+{
+    match c.number(sheet) {
+        Read::Refused(r) => FieldsRead::Refused(r),
+        Read::Value(holes, next) => FieldsRead::Is(Head::Template(holes), next),
+    }
+}
+
+fn read_binary(sheet: &[u8], c: Cursor) -> FieldsRead
+    ensures { λ r. ⌜ fieldsAs (now (sheet .entry)) r ≡ onOk binaryHead (flag (drop (c .at) (now (sheet .entry)))) ⌝ }
+    ensures { λ r. ⌜ PastFields (c .at) (length (now (sheet .entry))) r ⌝ }
+{
+    match c.flag(sheet) {
+        Flag::Refused(r) => FieldsRead::Refused(r),
+        Flag::Is(plus, next) => FieldsRead::Is(Head::Binary(plus), next),
+    }
+}
+
+fn read_object(sheet: &[u8], c: Cursor) -> FieldsRead
+    ensures { λ r. ⌜ fieldsAs (now (sheet .entry)) r ≡ onOk objectHead (count 64 (drop (c .at) (now (sheet .entry)))) ⌝ }
+    ensures { λ r. ⌜ PastFields (c .at) (length (now (sheet .entry))) r ⌝ }
+{
+    match c.count(sheet, 64) {
+        Read::Refused(r) => FieldsRead::Refused(r),
+        Read::Value(n, next) => FieldsRead::Is(Head::Object(n), next),
+    }
+}
+
+fn read_call(sheet: &[u8], c: Cursor) -> FieldsRead
+    ensures { λ r. ⌜ fieldsAs (now (sheet .entry)) r ≡ callStart (drop (c .at) (now (sheet .entry))) ⌝ }
+    ensures { λ r. ⌜ PastFields (c .at) (length (now (sheet .entry))) r ⌝ }
+{
+    match c.below(sheet, 4) {
+        Read::Refused(r) => FieldsRead::Refused(r),
+        Read::Value(callee, next) => {
+            if callee < 3 {
+                FieldsRead::Is(Head::ImportCall(callee), next)
+            } else {
+                FieldsRead::Is(Head::Call, next)
+            }
+        }
+    }
+}
+
+// A String, and the flag of the attributes behind it.
+fn read_origin(sheet: &[u8], source: &[u8], c: Cursor, levels: usize) -> OriginRead
+    ensures { λ r. ⌜ originAs (now (sheet .entry)) r ≡ origin (now (source .entry)) levels (drop (c .at) (now (sheet .entry))) ⌝ }
+    ensures { λ r. ⌜ PastOrigin (c .at) (length (now (sheet .entry))) r ⌝ }
+{
+    match read_quoted(sheet, source, c, levels) {
+        QuotedRead::Refused(r) => OriginRead::Refused(r),
+        QuotedRead::Is(x, next) => match next.flag(sheet) {
+            Flag::Refused(r) => OriginRead::Refused(r),
+            Flag::Is(there, next) => OriginRead::Is(x, there, next),
+        },
+    }
+}
+
+fn read_import(sheet: &[u8], source: &[u8], c: Cursor, levels: usize) -> FieldsRead
+    ensures { λ r. ⌜ fieldsAs (now (sheet .entry)) r ≡ importStart (now (source .entry)) levels (drop (c .at) (now (sheet .entry))) ⌝ }
+    ensures { λ r. ⌜ PastFields (c .at) (length (now (sheet .entry))) r ⌝ }
+{
+    match c.flag(sheet) {
+        Flag::Refused(r) => FieldsRead::Refused(r),
+        Flag::Is(type_only, next) => match next.below(sheet, 3) {
+            Read::Refused(r) => FieldsRead::Refused(r),
+            Read::Value(phase, next) => match next.flag(sheet) {
+                Flag::Refused(r) => FieldsRead::Refused(r),
+                Flag::Is(side, next) => match read_origin(sheet, source, next, levels) {
+                    OriginRead::Refused(r) => FieldsRead::Refused(r),
+                    OriginRead::Is(x, there, next) => {
+                        FieldsRead::Is(Head::Import(type_only, phase, side, x, there), next)
+                    }
+                },
+            },
+        },
+    }
+}
+
+fn read_named_export(sheet: &[u8], source: &[u8], c: Cursor, levels: usize) -> FieldsRead
+    ensures { λ r. ⌜ fieldsAs (now (sheet .entry)) r ≡ namedExportStart (now (source .entry)) levels (drop (c .at) (now (sheet .entry))) ⌝ }
+    ensures { λ r. ⌜ PastFields (c .at) (length (now (sheet .entry))) r ⌝ }
+{
+    match c.flag(sheet) {
+        Flag::Refused(r) => FieldsRead::Refused(r),
+        Flag::Is(type_only, next) => match next.flag(sheet) {
+            Flag::Refused(r) => FieldsRead::Refused(r),
+            Flag::Is(named, next) => {
+                if named {
+                    return match read_origin(sheet, source, next, levels) {
+                        OriginRead::Refused(r) => FieldsRead::Refused(r),
+                        OriginRead::Is(x, there, next) => {
+                            FieldsRead::Is(Head::ExportFrom(type_only, x, there), next)
+                        }
+                    };
+                }
+                FieldsRead::Is(Head::NamedExport(type_only), next)
+            }
+        },
+    }
+}
+
+fn read_export_all(sheet: &[u8], source: &[u8], c: Cursor, levels: usize) -> FieldsRead
+    ensures { λ r. ⌜ fieldsAs (now (sheet .entry)) r ≡ exportAllStart (now (source .entry)) levels (drop (c .at) (now (sheet .entry))) ⌝ }
+    ensures { λ r. ⌜ PastFields (c .at) (length (now (sheet .entry))) r ⌝ }
+{
+    match c.flag(sheet) {
+        Flag::Refused(r) => FieldsRead::Refused(r),
+        Flag::Is(type_only, next) => match read_origin(sheet, source, next, levels) {
+            OriginRead::Refused(r) => FieldsRead::Refused(r),
+            OriginRead::Is(x, there, next) => {
+                FieldsRead::Is(Head::ExportAll(type_only, x, there), next)
+            }
+        },
+    }
+}
+
+fn read_import_type(sheet: &[u8], source: &[u8], c: Cursor, levels: usize) -> FieldsRead
+    ensures { λ r. ⌜ fieldsAs (now (sheet .entry)) r ≡ importTypeStart (now (source .entry)) levels (drop (c .at) (now (sheet .entry))) ⌝ }
+    ensures { λ r. ⌜ PastFields (c .at) (length (now (sheet .entry))) r ⌝ }
+{
+    match read_quoted(sheet, source, c, levels) {
+        QuotedRead::Refused(r) => FieldsRead::Refused(r),
+        QuotedRead::Is(x, next) => match next.number(sheet) {
+            Read::Refused(r) => FieldsRead::Refused(r),
+            Read::Value(n, next) => FieldsRead::Is(Head::ImportType(x, n), next),
+        },
+    }
+}
+
+fn read_import_equals(sheet: &[u8], source: &[u8], c: Cursor, levels: usize) -> FieldsRead
+    ensures { λ r. ⌜ fieldsAs (now (sheet .entry)) r ≡ importEqualsStart (now (source .entry)) levels (drop (c .at) (now (sheet .entry))) ⌝ }
+    ensures { λ r. ⌜ PastFields (c .at) (length (now (sheet .entry))) r ⌝ }
+{
+    match c.flag(sheet) {
+        Flag::Refused(r) => FieldsRead::Refused(r),
+        Flag::Is(external, next) => {
+            if external {
+                return read_import_require(sheet, source, next, levels);
+            }
+            FieldsRead::Is(Head::ImportEquals, next)
+        }
+    }
+}
+
+fn read_import_require(sheet: &[u8], source: &[u8], c: Cursor, levels: usize) -> FieldsRead
+    ensures { λ r. ⌜ fieldsAs (now (sheet .entry)) r ≡ importRequireStart (now (source .entry)) levels (drop (c .at) (now (sheet .entry))) ⌝ }
+    ensures { λ r. ⌜ PastFields (c .at) (length (now (sheet .entry))) r ⌝ }
+{
+    match c.flag(sheet) {
+        Flag::Refused(r) => FieldsRead::Refused(r),
+        Flag::Is(type_only, next) => match next.flag(sheet) {
+            Flag::Refused(r) => FieldsRead::Refused(r),
+            Flag::Is(export, next) => match read_quoted(sheet, source, next, levels) {
+                QuotedRead::Refused(r) => FieldsRead::Refused(r),
+                QuotedRead::Is(x, next) => {
+                    FieldsRead::Is(Head::ImportRequire(type_only, export, x), next)
+                }
+            },
+        },
+    }
+}
+
+fn read_module(sheet: &[u8], source: &[u8], c: Cursor, levels: usize) -> FieldsRead
+    ensures { λ r. ⌜ fieldsAs (now (sheet .entry)) r ≡ moduleStart (now (source .entry)) levels (drop (c .at) (now (sheet .entry))) ⌝ }
+    ensures { λ r. ⌜ PastFields (c .at) (length (now (sheet .entry))) r ⌝ }
+{
+    match c.flag(sheet) {
+        Flag::Refused(r) => FieldsRead::Refused(r),
+        Flag::Is(named, next) => {
+            if named {
+                return match read_quoted(sheet, source, next, levels) {
+                    QuotedRead::Refused(r) => FieldsRead::Refused(r),
+                    QuotedRead::Is(x, next) => match next.number(sheet) {
+                        Read::Refused(r) => FieldsRead::Refused(r),
+                        Read::Value(n, next) => FieldsRead::Is(Head::NamedModule(x, n), next),
+                    },
+                };
+            }
+            match next.number(sheet) {
+                Read::Refused(r) => FieldsRead::Refused(r),
+                Read::Value(n, next) => FieldsRead::Is(Head::Module(n), next),
+            }
+        }
+    }
+}
+
+// The fields of a head, by the tag, where so many levels are left below the node.
+fn read_fields(sheet: &[u8], source: &[u8], c: Cursor, levels: usize, tag: usize) -> FieldsRead
+    ensures { λ r. ⌜ fieldsAs (now (sheet .entry)) r ≡ start (now (source .entry)) levels tag (drop (c .at) (now (sheet .entry))) ⌝ }
+    ensures { λ r. ⌜ PastFields (c .at) (length (now (sheet .entry))) r ⌝ }
+{
+    match tag {
+        0 => read_other(sheet, c),
+        1 => read_string(sheet, c),
+        2 => read_name(sheet, c),
+        3 => read_template(sheet, c),
+        4 => read_binary(sheet, c),
+        5 => read_object(sheet, c),
+        6 => read_call(sheet, c),
+        7 => read_import(sheet, source, c, levels),
+        8 => read_named_export(sheet, source, c, levels),
+        9 => read_export_all(sheet, source, c, levels),
+        10 => read_import_type(sheet, source, c, levels),
+        11 => read_import_equals(sheet, source, c, levels),
+        12 => read_module(sheet, source, c, levels),
+        _ => FieldsRead::Refused(3),
+    }
+}
+
+// The head of a node, with so many levels left, its own among them.
+pub fn read_head(sheet: &[u8], source: &[u8], c: Cursor, levels: usize) -> HeadRead
+    ensures { λ r. ⌜ headAs (now (sheet .entry)) r ≡ head (now (source .entry)) levels (drop (c .at) (now (sheet .entry))) ⌝ }
+    ensures { λ r. ⌜ PastHead (c .at) (length (now (sheet .entry))) levels r ⌝ }
+{
+    match read_tag(sheet, c, levels) {
+        Read::Refused(r) => HeadRead::Refused(r),
+        Read::Value(tag, next) => match read_span(sheet, source, next) {
+            SpanRead::Refused(r) => HeadRead::Refused(r),
+            SpanRead::Is(span, next) => {
+                match read_fields(sheet, source, next, levels - 1, tag) {
+                    FieldsRead::Refused(r) => HeadRead::Refused(r),
+                    FieldsRead::Is(fields, next) => HeadRead::Is(span, fields, next),
+                }
+            }
+        },
+    }
+}

@@ -1,0 +1,181 @@
+// The pieces of a template, and the heads of arguments, of properties and of an Object that holds attributes.
+use super::quoted::read_tag_of;
+use sheet::fields::Span;
+use sheet::fields::SpanRead;
+use sheet::fields::read_span;
+use text::utf8::Encoding;
+use wire::Cursor;
+use wire::Flag;
+use wire::Read;
+use wire::Text;
+ghost use mathlib.Core.Path.{_≡_};
+ghost use mathlib.Core.List.{[]};
+ghost use Prim.Native.Nat.{_≤_};
+ghost use lib.ListN.{length, drop};
+ghost use Rattle.laws.specs.Decoded.{onOk};
+ghost use Rattle.wire.specs.Views.{flagAs};
+ghost use Rattle.sheet.specs.Nodes.{many, piece};
+ghost use Rattle.sheet.specs.Walked.{anyUncooked};
+ghost use Rattle.heads.specs.Parts.{argumentHead, keyHead, propertyHead, attributesHead};
+ghost use Rattle.heads.specs.Views.{
+  pieceAs,
+  argumentAs,
+  propertyAs,
+  attributesAs,
+  PastPiece,
+  PastPieces,
+  PastArgument,
+  PastProperty,
+  PastAttributes,
+};
+
+// A piece with the cursor past it, or a refusal's number. A cooked piece's text stands from a place up to that cursor.
+pub enum PieceRead {
+    Cooked(usize, Cursor),
+    Uncooked(Cursor),
+    Refused(u8),
+}
+
+// Is an argument spread, and its span, with the cursor past them, or a refusal's number.
+pub enum ArgumentRead {
+    Is(bool, Span, Cursor),
+    Refused(u8),
+}
+
+// What stands before a property's first node. A key's text is from a place of the sheet to another.
+pub enum Property {
+    Spread,
+    Other,
+    ChildKey,
+    StringKey(usize, usize),
+    NameKey(usize, usize),
+}
+
+// A property's head with the cursor past it, or a refusal's number.
+pub enum PropertyRead {
+    Is(Property, Cursor),
+    Refused(u8),
+}
+
+// The span of an Object that holds attributes and the number of its properties, with the cursor past them, or a refusal's number.
+pub enum AttributesRead {
+    Is(Span, usize, Cursor),
+    Refused(u8),
+}
+
+// A piece of a template.
+pub fn read_piece(sheet: &[u8], c: Cursor) -> PieceRead
+    ensures { λ r. ⌜ pieceAs (now (sheet .entry)) r ≡ piece (drop (c .at) (now (sheet .entry))) ⌝ }
+    ensures { λ r. ⌜ PastPiece (c .at) (length (now (sheet .entry))) r ⌝ }
+{
+    match c.flag(sheet) {
+        Flag::Refused(r) => PieceRead::Refused(r),
+        Flag::Is(cooked, next) => {
+            if cooked {
+                return match next.text(sheet, Encoding::Wtf8, 4096) {
+                    Text::Refused(r) => PieceRead::Refused(r),
+                    Text::From(start, next) => PieceRead::Cooked(start, next),
+                };
+            }
+            PieceRead::Uncooked(next)
+        }
+    }
+}
+
+// So many pieces of a template: is one uncooked?
+pub fn read_pieces(sheet: &[u8], c: Cursor, count: usize) -> Flag
+    requires { ⌜ c .at ≤ length (now sheet) ⌝ }
+    ensures { λ r. ⌜ flagAs (now (sheet .entry)) r ≡ onOk anyUncooked (many [] piece count (drop (c .at) (now (sheet .entry)))) ⌝ }
+    ensures { λ r. ⌜ PastPieces (c .at) (length (now (sheet .entry))) r ⌝ }
+{
+    let mut left = count;
+    let mut at = c;
+    let mut uncooked = false;
+    while 0 < left {
+        match read_piece(sheet, at) {
+            PieceRead::Refused(r) => {
+                return Flag::Refused(r);
+            }
+            PieceRead::Cooked(_, next) => {
+                at = next;
+                left -= 1;
+            }
+            PieceRead::Uncooked(next) => {
+                at = next;
+                uncooked = true;
+                left -= 1;
+            }
+        }
+    }
+    Flag::Is(uncooked, at)
+}
+
+// An argument up to its node.
+pub fn read_argument(sheet: &[u8], source: &[u8], c: Cursor) -> ArgumentRead
+    ensures { λ r. ⌜ argumentAs (now (sheet .entry)) r ≡ argumentHead (now (source .entry)) (drop (c .at) (now (sheet .entry))) ⌝ }
+    ensures { λ r. ⌜ PastArgument (c .at) (length (now (sheet .entry))) r ⌝ }
+{
+    match c.flag(sheet) {
+        Flag::Refused(r) => ArgumentRead::Refused(r),
+        Flag::Is(spread, next) => match read_span(sheet, source, next) {
+            SpanRead::Refused(r) => ArgumentRead::Refused(r),
+            SpanRead::Is(span, next) => ArgumentRead::Is(spread, span, next),
+        },
+    }
+}
+
+// A key of a property, by its byte.
+fn read_key(sheet: &[u8], c: Cursor, kind: usize) -> PropertyRead
+    requires { ⌜ c .at ≤ length (now sheet) ⌝ }
+    ensures { λ r. ⌜ propertyAs (now (sheet .entry)) r ≡ keyHead kind (drop (c .at) (now (sheet .entry))) ⌝ }
+    ensures { λ r. ⌜ PastProperty (c .at) (length (now (sheet .entry))) r ⌝ }
+{
+    match kind {
+        0 => PropertyRead::Is(Property::ChildKey, c),
+        1 => match c.text(sheet, Encoding::Wtf8, 4096) {
+            Text::Refused(r) => PropertyRead::Refused(r),
+            Text::From(start, next) => PropertyRead::Is(Property::StringKey(start, next.at), next),
+        },
+        2 => match c.text(sheet, Encoding::Utf8, 4096) {
+            Text::Refused(r) => PropertyRead::Refused(r),
+            Text::From(start, next) => PropertyRead::Is(Property::NameKey(start, next.at), next),
+        },
+        _ => PropertyRead::Refused(3),
+    }
+}
+
+// A property up to its first node.
+pub fn read_property(sheet: &[u8], c: Cursor) -> PropertyRead
+    ensures { λ r. ⌜ propertyAs (now (sheet .entry)) r ≡ propertyHead (drop (c .at) (now (sheet .entry))) ⌝ }
+    ensures { λ r. ⌜ PastProperty (c .at) (length (now (sheet .entry))) r ⌝ }
+{
+    match c.byte(sheet) {
+        Read::Refused(r) => PropertyRead::Refused(r),
+        Read::Value(kind, next) => match kind {
+            0 => PropertyRead::Is(Property::Spread, next),
+            1 => PropertyRead::Is(Property::Other, next),
+            2 => match next.byte(sheet) {
+                Read::Refused(r) => PropertyRead::Refused(r),
+                Read::Value(key, next) => read_key(sheet, next, key),
+            },
+            _ => PropertyRead::Refused(3),
+        },
+    }
+}
+
+// An Object that holds attributes up to its properties, with so many levels left, its own among them.
+pub fn read_attributes(sheet: &[u8], source: &[u8], c: Cursor, levels: usize) -> AttributesRead
+    ensures { λ r. ⌜ attributesAs (now (sheet .entry)) r ≡ attributesHead (now (source .entry)) levels (drop (c .at) (now (sheet .entry))) ⌝ }
+    ensures { λ r. ⌜ PastAttributes (c .at) (length (now (sheet .entry))) levels r ⌝ }
+{
+    match read_tag_of(sheet, c, 5, levels) {
+        Read::Refused(r) => AttributesRead::Refused(r),
+        Read::Value(_, next) => match read_span(sheet, source, next) {
+            SpanRead::Refused(r) => AttributesRead::Refused(r),
+            SpanRead::Is(span, next) => match next.count(sheet, 64) {
+                Read::Refused(r) => AttributesRead::Refused(r),
+                Read::Value(n, next) => AttributesRead::Is(span, n, next),
+            },
+        },
+    }
+}

@@ -1,0 +1,90 @@
+// Tags, and Strings that other nodes hold.
+use sheet::fields::Span;
+use sheet::fields::SpanRead;
+use sheet::fields::read_span;
+use text::utf8::Encoding;
+use wire::Cursor;
+use wire::Read;
+use wire::Text;
+ghost use mathlib.Core.Path.{_≡_};
+ghost use mathlib.Core.List.{List};
+ghost use Prim.Native.Nat.{ℕ, _≤_, _<_};
+ghost use lib.Dec.{eqb, ltb};
+ghost use lib.ListN.{length, drop};
+ghost use Rattle.wire.specs.Views.{readAs};
+ghost use Rattle.sheet.specs.Nodes.{tag, quoted};
+ghost use Rattle.heads.specs.Head.{judgeTag};
+ghost use Rattle.heads.specs.Views.{quotedAs, PastTag, PastQuoted};
+
+// A String: its span in the source, and where its text stands in the sheet.
+pub struct Quoted {
+    pub span: Span,
+    pub start: usize,
+    pub end: usize,
+}
+
+// A String with the cursor past it, or a refusal's number.
+pub enum QuotedRead {
+    Is(Quoted, Cursor),
+    Refused(u8),
+}
+
+// A tag that was read: is it allowed there, and only then, is a level left for its node?
+fn judge_tag(t: usize, next: Cursor, allowed: bool, levels: usize) -> Read
+    ensures { λ r. ⌜ ((s : List ℕ) → readAs s r ≡ judgeTag allowed levels t (drop (next .at) s)) ⌝ }
+    ensures { λ r. ⌜ ((at n : ℕ) → at < next .at → next .at ≤ n → PastTag at n levels r) ⌝ }
+{
+    if allowed {
+        if 0 < levels {
+            return Read::Value(t, next);
+        }
+        return Read::Refused(4);
+    }
+    Read::Refused(3)
+}
+
+// The tag of any node.
+pub fn read_tag(sheet: &[u8], c: Cursor, levels: usize) -> Read
+    ensures { λ r. ⌜ readAs (now (sheet .entry)) r ≡ tag (λ t. ltb t 13) levels (drop (c .at) (now (sheet .entry))) ⌝ }
+    ensures { λ r. ⌜ PastTag (c .at) (length (now (sheet .entry))) levels r ⌝ }
+{
+    match c.byte(sheet) {
+        Read::Refused(r) => Read::Refused(r),
+        Read::Value(t, next) => judge_tag(t, next, t < 13, levels),
+    }
+}
+
+// The tag of a node where only one is allowed.
+pub fn read_tag_of(sheet: &[u8], c: Cursor, wanted: usize, levels: usize) -> Read
+    ensures { λ r. ⌜ readAs (now (sheet .entry)) r ≡ tag (eqb wanted) levels (drop (c .at) (now (sheet .entry))) ⌝ }
+    ensures { λ r. ⌜ PastTag (c .at) (length (now (sheet .entry))) levels r ⌝ }
+{
+    match c.byte(sheet) {
+        Read::Refused(r) => Read::Refused(r),
+        Read::Value(t, next) => judge_tag(t, next, wanted == t, levels),
+    }
+}
+
+// A String, with so many levels left, its own among them.
+pub fn read_quoted(sheet: &[u8], source: &[u8], c: Cursor, levels: usize) -> QuotedRead
+    ensures { λ r. ⌜ quotedAs (now (sheet .entry)) r ≡ quoted (now (source .entry)) levels (drop (c .at) (now (sheet .entry))) ⌝ }
+    ensures { λ r. ⌜ PastQuoted (c .at) (length (now (sheet .entry))) r ⌝ }
+{
+    match read_tag_of(sheet, c, 1, levels) {
+        Read::Refused(r) => QuotedRead::Refused(r),
+        Read::Value(_, next) => match read_span(sheet, source, next) {
+            SpanRead::Refused(r) => QuotedRead::Refused(r),
+            SpanRead::Is(span, next) => match next.text(sheet, Encoding::Wtf8, 4096) {
+                Text::Refused(r) => QuotedRead::Refused(r),
+                Text::From(start, next) => QuotedRead::Is(
+                    Quoted {
+                        span,
+                        start,
+                        end: next.at,
+                    },
+                    next,
+                ),
+            },
+        },
+    }
+}

@@ -1,0 +1,142 @@
+-- What the loops over nodes, arguments and properties keep: what was found so far, with what is to come, is what there is in all.
+use mathlib.Core.Path.{_≡_, refl, sym, ap, _∙_}
+use mathlib.Core.Bool.{Bool}
+use mathlib.Core.List.{List}
+use Prim.Native.Nat.{ℕ, _-_, _≤_, _<_}
+use Rattle.laws.specs.Decoded.{Decoded, ok, no, andThen, onOk, Decoder, _>>=_, return}
+use Rattle.laws.proofs.Decoding.{onOk-ok, onOk-no, onOk-same}
+use Rattle.sheet.specs.declared.fields.Span.{Span}
+use Rattle.sheet.specs.Tree.{Node, Nodes, none, more, noArguments, argument, Properties, noProperties, spread, otherProperty, childKey, stringKey, nameKey}
+use Rattle.sheet.specs.Nodes.{many, nodes, argumentItem, arguments, propertyItem, properties}
+use Rattle.heads.specs.Parts.{PropertyHead, spreadHead, otherPropertyHead, childKeyHead, stringKeyHead, nameKeyHead, propertyHead, argumentHead}
+use Rattle.heads.specs.Rest.{propertyRest}
+use Rattle.heads.proofs.ByHead.{argument-by-head, property-by-head}
+use Rattle.heads.proofs.Many.{found, found-step, found-stop, found-end}
+use Rattle.nodes.specs.declared.tally.Tally.{Tally}
+use Rattle.nodes.specs.declared.tally.Judged.{Judged}
+use Rattle.nodes.specs.declared.tally.Passed.{Passed}
+use Rattle.nodes.specs.Judged.{judged, tallyAll, tallyIn, gain, plus, withArgument, passed}
+use Rattle.nodes.proofs.Adds.{nothing, tallyOf, plus-assoc, nothing-plus, plus-nothing, noPassed, behindPassed, one-more, all-passed, none-more}
+
+-- what holds of a value that was read
+abbrev Holds : {A : Type 0} → (A → Type 0) → Decoded A → Type 0
+Holds P (ok a t) = P a
+Holds P (no r) = Unit {0}
+
+-- a property adds what it would be by itself
+abbrev Adds : (Properties → Properties) → Type 0
+Adds add = (ps : Properties) → tallyIn (add ps) ≡ plus (gain add) (tallyIn ps)
+
+added : (t u : Tally) → plus t u ≡ plus (plus t nothing) u
+added t u = ap (λ x. plus x u) (sym (plus-nothing t))
+
+adds-one : (f : Node → Properties → Properties) → ((n : Node) (ps : Properties) → tallyIn (f n ps) ≡ plus (tallyOf (judged n)) (tallyIn ps))
+    → (x : Decoded Node) → Holds Adds (andThen x (λ n. return (f n)))
+adds-one f e (ok n t) = λ ps. e n ps ∙ added (tallyOf (judged n)) (tallyIn ps) ∙ ap (λ t. plus t (tallyIn ps)) (sym (e n noProperties))
+adds-one f e (no r) = tt
+
+-- what is found in all, where t was found before
+abbrev pub afterNodes : Tally → Nodes → Tally
+afterNodes t ns = plus t (tallyAll ns)
+
+abbrev pub afterProperties : Tally → Properties → Tally
+afterProperties t ps = plus t (tallyIn ps)
+
+module _ (inner : Decoder Node) where
+  abbrev pub nodeItem : Decoder (Nodes → Nodes)
+  nodeItem s = onOk (λ n l. more n l) (inner s)
+
+  abbrev pub nodesFrom : Tally → ℕ → List ℕ → Decoded Tally
+  nodesFrom = found afterNodes none nodeItem
+
+  pub nodes-all : (k : ℕ) (u : List ℕ) → nodesFrom nothing k u ≡ onOk tallyAll (nodes inner k u)
+  unfolding nodes
+  nodes-all k u = onOk-same (λ ns. nothing-plus (tallyAll ns)) (many none nodeItem k u)
+
+  module _ (t : Tally) (k : ℕ) (u : List ℕ) where
+    pub nodes-step : {j : Judged} {v : List ℕ} → 0 < k → onOk judged (inner u) ≡ ok j v → nodesFrom t k u ≡ nodesFrom (plus t (tallyOf j)) (k - 1) v
+    nodes-step {j} {v} h e =
+        let (n, is, gives) = onOk-ok judged (inner u) e in
+        rw (← gives)
+        (found-step afterNodes none nodeItem t (plus t (tallyOf (judged n))) k u h (ap (onOk (λ n l. more n l)) is)
+        (λ ns. sym (plus-assoc t (tallyOf (judged n)) (tallyAll ns))))
+
+    pub nodes-stop : {r : ℕ} → 0 < k → onOk judged (inner u) ≡ no r → nodesFrom t k u ≡ no r
+    nodes-stop h e = found-stop afterNodes none nodeItem t k u h (ap (onOk (λ n l. more n l)) (onOk-no judged (inner u) e))
+
+    pub nodes-end : k ≤ 0 → nodesFrom t k u ≡ ok t u
+    nodes-end h = found-end afterNodes none nodeItem t k u h ∙ ap (λ t. ok t u) (plus-nothing t)
+
+  module _ (source : List ℕ) where
+    abbrev pub argumentsFrom : Passed → ℕ → List ℕ → Decoded Passed
+    argumentsFrom = found behindPassed noArguments (argumentItem inner source)
+
+    pub arguments-all : (k : ℕ) (u : List ℕ) → argumentsFrom noPassed k u ≡ onOk passed (arguments inner source k u)
+    unfolding arguments
+    arguments-all k u = onOk-same all-passed (many noArguments (argumentItem inner source) k u)
+
+    argument-read : (u : List ℕ) {a : Bool × Span} {v : List ℕ} {n : Node} {w : List ℕ} → argumentHead source u ≡ ok a v → inner v ≡ ok n w
+        → argumentItem inner source u ≡ ok (argument (a .0) (a .1) n) w
+    argument-read u e is = rw (argument-by-head inner source u, e, is)
+
+    module _ (p : Passed) (k : ℕ) (u : List ℕ) where
+      pub arguments-step : {a : Bool × Span} {v : List ℕ} {j : Judged} {w : List ℕ} → 0 < k → argumentHead source u ≡ ok a v → onOk judged (inner v) ≡ ok j w
+          → argumentsFrom p k u ≡ argumentsFrom (withArgument p j) (k - 1) w
+      arguments-step {a} {v} {j} {w} h e f =
+          let (n, is, gives) = onOk-ok judged (inner v) f in
+          rw (← gives)
+          (found-step behindPassed noArguments (argumentItem inner source) p (withArgument p (judged n)) k u h (argument-read u e is) (one-more p (a .0) (a .1) n))
+
+      pub arguments-stop : {a : Bool × Span} {v : List ℕ} {r : ℕ} → 0 < k → argumentHead source u ≡ ok a v → onOk judged (inner v) ≡ no r → argumentsFrom p k u ≡ no r
+      arguments-stop {a} {v} h e f = found-stop behindPassed noArguments (argumentItem inner source) p k u h (rw (argument-by-head inner source u, e, onOk-no judged (inner v) f))
+
+      pub arguments-cut : {r : ℕ} → 0 < k → argumentHead source u ≡ no r → argumentsFrom p k u ≡ no r
+      arguments-cut h e = found-stop behindPassed noArguments (argumentItem inner source) p k u h (rw (argument-by-head inner source u, e))
+
+      pub arguments-end : k ≤ 0 → argumentsFrom p k u ≡ ok p u
+      arguments-end h = found-end behindPassed noArguments (argumentItem inner source) p k u h ∙ ap (λ p. ok p u) (none-more p)
+
+  -- each property that is read adds what it would be by itself
+  by-kind : (h : PropertyHead) (u : List ℕ) → Holds Adds (propertyRest inner h u)
+  by-kind spreadHead u = adds-one spread (λ n ps. refl) (inner u)
+  by-kind otherPropertyHead u = adds-one otherProperty (λ n ps. refl) (inner u)
+  by-kind childKeyHead u = key-first (inner u)
+    where
+      key-first : (x : Decoded Node) → Holds Adds (andThen x (λ k. inner >>= λ v. return (childKey k v)))
+      key-first (ok k t) = value-next (inner t)
+        where
+          value-next : (x : Decoded Node) → Holds Adds (andThen x (λ v. return (childKey k v)))
+          value-next (ok v t) = λ ps. added (plus (tallyOf (judged k)) (tallyOf (judged v))) (tallyIn ps)
+          value-next (no r) = tt
+      key-first (no r) = tt
+  by-kind (stringKeyHead x) u = adds-one (stringKey x) (λ n ps. refl) (inner u)
+  by-kind (nameKeyHead x) u = adds-one (nameKey x) (λ n ps. refl) (inner u)
+
+  property-adds : (u : List ℕ) → Holds Adds (propertyItem inner u)
+  property-adds u = rw (property-by-head inner u) (go (propertyHead u))
+    where
+      go : (x : Decoded PropertyHead) → Holds Adds (andThen x (propertyRest inner))
+      go (ok h t) = by-kind h t
+      go (no r) = tt
+
+  abbrev pub propertiesFrom : Tally → ℕ → List ℕ → Decoded Tally
+  propertiesFrom = found afterProperties noProperties (propertyItem inner)
+
+  pub properties-all : (k : ℕ) (u : List ℕ) → propertiesFrom nothing k u ≡ onOk tallyIn (properties inner k u)
+  unfolding properties
+  properties-all k u = onOk-same (λ ps. nothing-plus (tallyIn ps)) (many noProperties (propertyItem inner) k u)
+
+  module _ (t : Tally) (k : ℕ) (u : List ℕ) where
+    pub properties-step : {g : Tally} {v : List ℕ} → 0 < k → onOk gain (propertyItem inner u) ≡ ok g v → propertiesFrom t k u ≡ propertiesFrom (plus t g) (k - 1) v
+    properties-step h e =
+        let (add, is, gives) = onOk-ok gain (propertyItem inner u) e in
+        let adds : Adds add = rw is at (property-adds u) in
+        rw (← gives)
+        (found-step afterProperties noProperties (propertyItem inner) t (plus t (gain add)) k u h is
+        (λ ps. ap (plus t) (adds ps) ∙ sym (plus-assoc t (gain add) (tallyIn ps))))
+
+    pub properties-stop : {r : ℕ} → 0 < k → onOk gain (propertyItem inner u) ≡ no r → propertiesFrom t k u ≡ no r
+    properties-stop h e = found-stop afterProperties noProperties (propertyItem inner) t k u h (onOk-no gain (propertyItem inner u) e)
+
+    pub properties-end : k ≤ 0 → propertiesFrom t k u ≡ ok t u
+    properties-end h = found-end afterProperties noProperties (propertyItem inner) t k u h ∙ ap (λ t. ok t u) (plus-nothing t)

@@ -1,0 +1,100 @@
+-- Nodes of an empty source with what is found in them, or the number of their refusal, as the definitions compute.
+use mathlib.Core.Path.{_≡_, refl}
+use mathlib.Core.Bool.{Bool, true, false}
+use mathlib.Core.List.{List, [], _∷_, _++_, map}
+use Prim.Native.Nat.{ℕ}
+use lib.ListN.{length}
+use Rattle.laws.specs.Decoded.{Decoded, ok, no, onOk}
+use Rattle.laws.specs.Quoted.{ascii}
+use Rattle.text.specs.Bytes.{same}
+use Rattle.text.specs.Utf8.{admits, lengthBy, charLength, formed}
+use Rattle.wire.specs.Fields.{byte, below, flag, bytes}
+use Rattle.wire.specs.Number.{lastGroup, groups, number}
+use Rattle.wire.specs.Text.{count, text}
+use Rattle.sheet.specs.Fields.{isBoundary, position, endFrom, span}
+use Rattle.sheet.specs.Nodes.{many, tag, quoted, optionalQuoted, piece, nodes, argumentItem, arguments, keyedItem, propertyItem, properties, attributes, otherFields, stringFields, nameFields, templateFields, binaryFields, objectFields, callRest, callFields, importFields, namedExportFields, exportAllFields, importTypeFields, importEqualsFields, moduleFields, fields, node, attributesObject}
+use Rattle.nodes.specs.declared.tally.Judged.{Judged}
+use Rattle.nodes.specs.Judged.{judged}
+
+-- a tag with an empty span, and the fields
+abbrev at : ℕ → List ℕ → List ℕ
+at t fields = t ∷ 0 ∷ 0 ∷ fields
+
+abbrev other : List ℕ
+other = at 0 (0 ∷ [])
+
+abbrev string : List ℕ
+string = at 1 (0 ∷ [])
+
+-- an Other with one child
+abbrev holding : List ℕ → List ℕ
+holding child = at 0 (1 ∷ child)
+
+abbrev name : List ℕ → List ℕ
+name x = at 2 (length x ∷ x)
+
+-- a template without holes whose piece is not cooked
+abbrev uncookedTemplate : List ℕ
+uncookedTemplate = at 3 (0 ∷ 0 ∷ [])
+
+-- a call by what stands for its callee, with one argument, spread or not
+abbrev callOf : List ℕ → ℕ → List ℕ
+callOf callee dots = at 6 (callee ++ (1 ∷ at dots uncookedTemplate) ++ (0 ∷ []))
+
+abbrev found : ℕ → Bool → Decoded Judged
+found n b = ok (record { entries = n; uncooked = b; require = false; template = false }) []
+
+-- levels left, bytes, and what they give
+abbrev Case : Type 0
+Case = ℕ × List ℕ × Decoded Judged
+
+-- the smallest node of each tag
+abbrev smallest : List Case
+smallest =
+    (1, other, found 0 false)
+    ∷ (1, string, found 0 false)
+    ∷ (1, name [], found 0 false)
+    ∷ (1, uncookedTemplate, ok (record { entries = 0; uncooked = false; require = false; template = true }) [])
+    ∷ (2, at 4 (0 ∷ other ++ other), found 0 false)
+    ∷ (1, at 5 (0 ∷ []), found 0 false)
+    ∷ (1, at 6 (0 ∷ 0 ∷ 0 ∷ []), found 0 false)
+    ∷ (2, at 7 (0 ∷ 0 ∷ 0 ∷ string ++ (0 ∷ [])), found 1 false)
+    ∷ (1, at 8 (0 ∷ 0 ∷ []), found 0 false)
+    ∷ (2, at 9 (0 ∷ string ++ (0 ∷ [])), found 1 false)
+    ∷ (2, at 10 (string ++ (0 ∷ 0 ∷ [])), found 1 false)
+    ∷ (1, at 11 (0 ∷ []), found 0 false)
+    ∷ (1, at 12 (0 ∷ 0 ∷ []), found 0 false)
+    ∷ []
+
+abbrev refusals : List Case
+refusals =
+    (2, holding (holding other), no 4)  -- a level too deep
+    ∷ (0, other, no 4)
+    ∷ (0, 13 ∷ [], no 3)  -- the tag is judged before the depth
+    ∷ (0, [], no 2)
+    ∷ (2, at 9 (0 ∷ name []), no 3)  -- a Name where a String is asked for
+    ∷ (1, at 9 (0 ∷ string), no 4)  -- a String is a node of its own
+    ∷ (2, at 7 (0 ∷ 0 ∷ 0 ∷ string ++ (1 ∷ other)), no 3)  -- an Other where an Object is asked for
+    ∷ (64, at 5 (65 ∷ []), no 4)
+    ∷ (64, at 5 (64 ∷ []), no 2)
+    ∷ []
+
+-- a template with an uncooked piece for the first argument
+abbrev templates : List Case
+templates =
+    (64, callOf (0 ∷ []) 0, found 1 true)
+    ∷ (64, callOf (0 ∷ []) 1, found 1 true)
+    ∷ (64, callOf (3 ∷ name (ascii "require")) 0, found 1 true)
+    ∷ (64, callOf (3 ∷ name (ascii "required")) 0, found 0 false)
+    ∷ (64, holding (callOf (1 ∷ []) 0), found 1 true)
+    ∷ []
+
+abbrev cases : List Case
+cases = smallest ++ refusals ++ templates
+
+abbrev computed : Case → Case
+computed (levels, s, r) = (levels, s, onOk judged (node [] levels s))
+
+as-stated : map computed cases ≡ cases
+unfolding byte below flag bytes lastGroup groups number count text admits lengthBy charLength formed same isBoundary position endFrom span many tag quoted optionalQuoted piece nodes argumentItem arguments keyedItem propertyItem properties attributes otherFields stringFields nameFields templateFields binaryFields objectFields callRest callFields importFields namedExportFields exportAllFields importTypeFields importEqualsFields moduleFields fields node attributesObject
+as-stated = refl

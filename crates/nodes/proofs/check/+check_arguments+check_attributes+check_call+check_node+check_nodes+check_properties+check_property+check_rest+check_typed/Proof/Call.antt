@@ -1,0 +1,80 @@
+-- `check_call`: what is found in a call besides its callee is what is found in its arguments and in its further children.
+use mathlib.Core.Path.{sym, ap}
+use Prim.Native.Nat.{ℕ}
+use native.Mathlib.Omega.{arith}
+use lib.ListN.{length, drop}
+use denote.Ref.{now}
+use Rattle.laws.specs.Decoded.{onOk, _>>=_}
+use Rattle.laws.proofs.Decoding.{onOk-no}
+use Rattle.laws.proofs.Steps.{seen}
+use Rattle.wire.specs.Number.{number}
+use Rattle.wire.specs.Views.{readAs}
+use Rattle.sheet.specs.Nodes.{node, nodes, arguments}
+use Rattle.nodes.specs.Judged.{passed, passedAll, callParts}
+use Rattle.nodes.specs.Answers.{passedAs}
+use Rattle.nodes.proofs.Arms.{pair, arguments-nodes, then-no}
+use Rattle.nodes.proofs.Rooms.{room, nodes-past}
+use Rattle.nodes.proofs.check.check_call.Reads as check-call
+use Rattle.nodes.proofs.check.+check_arguments+check_attributes+check_call+check_node+check_nodes+check_properties+check_property+check_rest+check_typed.Lts-check_call as check-call-lts
+use Rattle.nodes.proofs.check.+check_arguments+check_attributes+check_call+check_node+check_nodes+check_properties+check_property+check_rest+check_typed.Proof.Calls.{check-call-at, check-call-calls}
+
+pub check-arguments-requires : (t : ℕ) → check-call-lts.Need-check-arguments-requires (check-call-calls t) (check-call-at t) check-call.Post
+check-arguments-requires t c κs =
+    let past = rw (c .before .n .given .1) at (c .before .before .before .number .ensures .1) in
+    (omega arith, past .1)
+
+pub check-nodes-requires : (t : ℕ) → check-call-lts.Need-check-nodes-requires (check-call-calls t) (check-call-at t) check-call.Post
+check-nodes-requires t c κs =
+    let past = rw (c .before .m .given .1) at (c .before .before .before .number2 .ensures .1) in
+    (omega arith, past .1)
+
+pub join-passed-requires : (t : ℕ) → check-call-lts.Need-join-passed-requires (check-call-calls t) (check-call-at t) check-call.Post
+join-passed-requires t c κs =
+    let p2 = rw (c .before .before .before .before .before .before .p .given .1) at (c .before .before .before .before .before .before .before .before .check-arguments .ensures .1) in
+    let p3 = rw (c .before .before .m .given .1) at (c .before .before .before .before .number2 .ensures .1) in
+    room _ _ _ (c .check-nodes .result) (omega arith) (c .check-nodes .ensures .1)
+
+pub returns : (t : ℕ) → check-call-lts.Need-returns (check-call-calls t) (check-call-at t) check-call.Post
+unfolding callParts
+returns t c =
+    let s = now (c .before .before .before .before .before .before .args .sheet) in
+    (rw (seen (readAs s) (c .before .before .before .number .ensures .0) (c .before .r .given .1)), tt)
+
+pub returns-2 : (t : ℕ) → check-call-lts.Need-returns-2 (check-call-calls t) (check-call-at t) check-call.Post
+unfolding callParts
+returns-2 t c =
+    let a = c .before .before .before .before .before .before .before .before .before .before .args in
+    let s = now (a .sheet) in
+    let (n, next) = c .before .before .before .before .before .n .given .0 in
+    let xs = arguments (node (now (a .source)) (a .levels)) (now (a .source)) n (drop (next .0 .at) s) in
+    (rw (seen (readAs s) (c .before .before .before .before .before .before .before .number .ensures .0) (c .before .before .before .before .before .n .given .1), onOk-no passed xs (seen (passedAs s) (c .before .before .before .check-arguments .ensures .0) (c .before .r2 .given .1))), tt)
+
+pub returns-3 : (t : ℕ) → check-call-lts.Need-returns-3 (check-call-calls t) (check-call-at t) check-call.Post
+unfolding callParts
+returns-3 t c =
+    let a = c .before .before .before .before .before .before .before .before .before .before .before .before .before .before .args in
+    let s = now (a .sheet) in
+    let inner = node (now (a .source)) (a .levels) in
+    let (n, next) = c .before .before .before .before .before .before .before .before .before .n .given .0 in
+    let xs = arguments inner (now (a .source)) n (drop (next .0 .at) s) in
+    let cut = seen (readAs s) (c .before .before .before .number2 .ensures .0) (c .before .r3 .given .1) in
+    let none = then-no passed xs (seen (passedAs s) (c .before .before .before .before .before .before .before .check-arguments .ensures .0) (c .before .before .before .before .before .p .given .1)) (λ xs. number >>= λ m. nodes inner m >>= pair xs) (c .before .r3 .given .0 .0) (λ xs. rw cut) in
+    (rw (seen (readAs s) (c .before .before .before .before .before .before .before .before .before .before .before .number .ensures .0) (c .before .before .before .before .before .before .before .before .before .n .given .1)) (sym (ap (onOk passedAll) none)), tt)
+
+pub returns-4 : (t : ℕ) → check-call-lts.Need-returns-4 (check-call-calls t) (check-call-at t) check-call.Post
+unfolding callParts
+returns-4 t c =
+    let a = c .before .before .before .before .before .before .before .before .before .before .before .before .before .before .before .before .args in
+    let s = now (a .sheet) in
+    let inner = node (now (a .source)) (a .levels) in
+    let (n, next) = c .before .before .before .before .before .before .before .before .before .before .before .n .given .0 in
+    let xs = arguments inner (now (a .source)) n (drop (next .0 .at) s) in
+    let p1 = rw (c .before .before .before .before .before .before .before .before .before .before .before .n .given .1) at (c .before .before .before .before .before .before .before .before .before .before .before .before .before .number .ensures .1) in
+    let p2 = rw (c .before .before .before .before .before .before .before .p .given .1) at (c .before .before .before .before .before .before .before .before .before .check-arguments .ensures .1) in
+    let p3 = rw (c .before .before .before .m .given .1) at (c .before .before .before .before .before .number2 .ensures .1) in
+    let y = c .before .check-nodes .result in
+    rw (c .join-passed .ensures) (
+      rw (seen (readAs s) (c .before .before .before .before .before .before .before .before .before .before .before .before .before .number .ensures .0) (c .before .before .before .before .before .before .before .before .before .before .before .n .given .1))
+          (arguments-nodes s inner xs (seen (passedAs s) (c .before .before .before .before .before .before .before .before .before .check-arguments .ensures .0) (c .before .before .before .before .before .before .before .p .given .1)) (seen (readAs s) (c .before .before .before .before .before .number2 .ensures .0) (c .before .before .before .m .given .1)) y (c .before .check-nodes .ensures .0)),
+      nodes-past (a .c .at) (length s) _ (c .before .before .before .before .before .before .before .p .given .0 .0) y (omega arith) (c .before .check-nodes .ensures .1),
+    )

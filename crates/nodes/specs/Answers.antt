@@ -1,0 +1,117 @@
+-- The answers of the code: what they stand for in a sheet s, how they are made from others, and the bounds that they keep.
+use mathlib.Core.Bool.{Bool, true, false, _&&_, _||_}
+use mathlib.Core.List.{List}
+use Prim.Native.Nat.{ℕ, _+_, _≤_, _<_}
+use lib.ListN.{drop}
+use Rattle.laws.specs.Decoded.{Decoded, ok, no}
+use Rattle.wire.specs.declared.Cursor.{Cursor}
+use Rattle.sheet.specs.Walked.{one}
+use Rattle.heads.specs.declared.node.Head.{Head}
+use Rattle.heads.specs.declared.parts.Property.{Property}
+use Rattle.heads.specs.declared.parts.Property.the-variants as property
+use Rattle.heads.specs.Views.{Within}
+use Rattle.nodes.specs.declared.tally.Tally.{Tally}
+use Rattle.nodes.specs.declared.tally.Judged.{Judged}
+use Rattle.nodes.specs.declared.tally.Passed.{Passed}
+use Rattle.nodes.specs.declared.tally.Checked.{Checked}
+use Rattle.nodes.specs.declared.tally.Checked.the-variants as checked
+use Rattle.nodes.specs.declared.tally.Tallied.{Tallied}
+use Rattle.nodes.specs.declared.tally.Tallied.the-variants as tallied
+use Rattle.nodes.specs.declared.tally.PassedRead.{PassedRead}
+use Rattle.nodes.specs.declared.tally.PassedRead.the-variants as passedRead
+use Rattle.nodes.specs.Judged.{plus}
+
+abbrev pub checkedAs : List ℕ → Checked → Decoded Judged
+checkedAs s (checked.Is j next) = ok j (drop (next .at) s)
+checkedAs s (checked.Refused r) = no r
+
+abbrev pub talliedAs : List ℕ → Tallied → Decoded Tally
+talliedAs s (tallied.Is t next) = ok t (drop (next .at) s)
+talliedAs s (tallied.Refused r) = no r
+
+abbrev pub passedAs : List ℕ → PassedRead → Decoded Passed
+passedAs s (passedRead.Is p next) = ok p (drop (next .at) s)
+passedAs s (passedRead.Refused r) = no r
+
+-- how many nodes a property holds
+abbrev pub nodesOf : Property → ℕ
+nodesOf property.Spread = 1
+nodesOf property.Other = 1
+nodesOf property.ChildKey = 2
+nodesOf (property.StringKey from to) = 1
+nodesOf (property.NameKey from to) = 1
+
+-- a node that holds none that is walked
+abbrev pub leafOf : Bool → Bool → Cursor → Checked
+leafOf own require next = checked.Is (record { entries = one own; uncooked = false; require = require; template = false }) next
+
+-- a node from what was found in those that it holds
+abbrev pub holdingOf : Bool → Bool → Tally → Judged
+holdingOf own template t = record { entries = one own + t .entries; uncooked = t .uncooked; require = false; template = template }
+
+abbrev pub withOwn : Bool → Bool → Tallied → Checked
+withOwn own template (tallied.Is t next) = checked.Is (holdingOf own template t) next
+withOwn own template (tallied.Refused r) = checked.Refused r
+
+-- a node with an entry, in which nothing is walked
+abbrev pub onlyEntry : Tallied → Checked
+onlyEntry (tallied.Is t next) = leafOf true false next
+onlyEntry (tallied.Refused r) = checked.Refused r
+
+-- nodes behind others
+abbrev pub joined : Tally → Tallied → Tallied
+joined t (tallied.Is u next) = tallied.Is (plus t u) next
+joined t (tallied.Refused r) = tallied.Refused r
+
+-- nodes behind arguments
+abbrev pub plusNodes : Passed → Tally → Passed
+plusNodes p u = record { entries = p .entries + u .entries; uncooked = p .uncooked || u .uncooked; any = p .any; template = p .template }
+
+abbrev pub withNodes : Passed → Tallied → PassedRead
+withNodes p (tallied.Is u next) = passedRead.Is (plusNodes p u) next
+withNodes p (tallied.Refused r) = passedRead.Refused r
+
+-- a call: a listed one with an argument has an entry
+abbrev pub callOf : Judged → Passed → Judged
+callOf e p =
+    record {
+      entries = e .entries + p .entries + one (e .require && p .any);
+      uncooked = e .uncooked || p .uncooked || (e .require && p .template);
+      require = false;
+      template = false;
+    }
+
+abbrev pub calledBy : Judged → PassedRead → Checked
+calledBy e (passedRead.Is p next) = checked.Is (callOf e p) next
+calledBy e (passedRead.Refused r) = checked.Refused r
+
+-- so many entries more are still fewer than the bytes read
+abbrev pub Room : ℕ → Tallied → Type 0
+Room k (tallied.Is t next) = k + t .entries ≤ next .at
+Room k (tallied.Refused r) = Unit {0}
+
+abbrev pub RoomPassed : ℕ → PassedRead → Type 0
+RoomPassed k (passedRead.Is p next) = k + p .entries ≤ next .at
+RoomPassed k (passedRead.Refused r) = Unit {0}
+
+-- a cursor past a head, which took a byte at least
+abbrev pub Begun : ℕ → ℕ → Head → Type 0
+Begun n at h = (0 < at) × (at ≤ n) × Within n h
+
+-- a cursor past what was checked: each entry took a byte at least
+abbrev pub PastChecked : ℕ → ℕ → Checked → Type 0
+PastChecked at n (checked.Is j next) = (at < next .at) × (next .at ≤ n) × (at + j .entries ≤ next .at)
+PastChecked at n (checked.Refused r) = Unit {0}
+
+-- and behind a head, which took one
+abbrev pub PastRest : ℕ → ℕ → Checked → Type 0
+PastRest at n (checked.Is j next) = (at ≤ next .at) × (next .at ≤ n) × (at + j .entries ≤ next .at + 1)
+PastRest at n (checked.Refused r) = Unit {0}
+
+abbrev pub PastTally : ℕ → ℕ → Tallied → Type 0
+PastTally at n (tallied.Is t next) = (next .at ≤ n) × (at + t .entries ≤ next .at)
+PastTally at n (tallied.Refused r) = Unit {0}
+
+abbrev pub PastPassed : ℕ → ℕ → PassedRead → Type 0
+PastPassed at n (passedRead.Is p next) = (next .at ≤ n) × (at + p .entries ≤ next .at)
+PastPassed at n (passedRead.Refused r) = Unit {0}

@@ -1,0 +1,76 @@
+-- What the check of a node finds: for the report, and for the node that holds it.
+use mathlib.Core.Bool.{true, false, not, _&&_, _||_}
+use mathlib.Core.List.{List}
+use Prim.Native.Nat.{ℕ, _+_}
+use Rattle.laws.specs.Decoded.{Decoder, _>>=_, return}
+use Rattle.wire.specs.Number.{number}
+use Rattle.sheet.specs.Tree.{Node, Nodes, Arguments, Properties, noProperties, Attributes}
+use Rattle.sheet.specs.Nodes.{nodes, arguments, attributes}
+use Rattle.sheet.specs.Walked.{shape, isRequire, isUncooked, anyArgument, firstUncooked, entries, entriesAll, entriesOf, entriesIn, entriesWith, uncooked, uncookedAll, uncookedOf, uncookedIn, uncookedWith}
+use Rattle.nodes.specs.declared.tally.Tally.{Tally}
+use Rattle.nodes.specs.declared.tally.Judged.{Judged}
+use Rattle.nodes.specs.declared.tally.Passed.{Passed}
+
+abbrev pub judged : Node → Judged
+judged n = record { entries = entries n; uncooked = uncooked n; require = isRequire (shape n); template = isUncooked (shape n) }
+
+abbrev pub tallyAll : Nodes → Tally
+tallyAll ns = record { entries = entriesAll ns; uncooked = uncookedAll ns }
+
+abbrev pub tallyIn : Properties → Tally
+tallyIn ps = record { entries = entriesIn ps; uncooked = uncookedIn ps }
+
+abbrev pub tallyWith : Attributes → Tally
+tallyWith a = record { entries = entriesWith a; uncooked = uncookedWith a }
+
+abbrev pub passed : Arguments → Passed
+passed xs = record { entries = entriesOf xs; uncooked = uncookedOf xs; any = anyArgument xs; template = firstUncooked xs }
+
+abbrev pub plus : Tally → Tally → Tally
+plus t u = record { entries = t .entries + u .entries; uncooked = t .uncooked || u .uncooked }
+
+-- what one property adds
+abbrev pub gain : (Properties → Properties) → Tally
+gain add = tallyIn (add noProperties)
+
+-- one argument more: its node counts for the template if there was none before it
+abbrev pub withArgument : Passed → Judged → Passed
+withArgument p j =
+    record {
+      entries = p .entries + j .entries;
+      uncooked = p .uncooked || j .uncooked;
+      any = true;
+      template = p .template || (not (p .any) && j .template);
+    }
+
+-- what stands for the callee of an import: it is listed as `require` is
+abbrev pub importCallee : Judged
+importCallee = record { entries = 0; uncooked = false; require = true; template = false }
+
+-- what follows the callee of a call: arguments and further children
+unfoldable pub callParts : List ℕ → Decoder Node → Decoder (Arguments × Nodes)
+callParts source inner = do
+  n ← number
+  xs ← arguments inner source n
+  m ← number
+  ns ← nodes inner m
+  return (xs, ns)
+
+abbrev pub passedAll : Arguments × Nodes → Passed
+passedAll p =
+    record {
+      entries = entriesOf (p .0) + entriesAll (p .1);
+      uncooked = uncookedOf (p .0) || uncookedAll (p .1);
+      any = anyArgument (p .0);
+      template = firstUncooked (p .0);
+    }
+
+-- what follows the head of an import type: children and attributes
+unfoldable pub typedParts : Decoder Node → Decoder Attributes → ℕ → Decoder (Nodes × Attributes)
+typedParts inner object′ n = do
+  ns ← nodes inner n
+  a ← attributes object′
+  return (ns, a)
+
+abbrev pub tallyTyped : Nodes × Attributes → Tally
+tallyTyped p = plus (tallyAll (p .0)) (tallyWith (p .1))

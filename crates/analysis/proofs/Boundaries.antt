@@ -1,8 +1,8 @@
--- In a well-formed body what a finder captures lies on character boundaries, and so does its place.
+-- In a well-formed body what a finder captures lies on character boundaries, and so does its place. It lies in the body, between marks where it is quoted.
 use mathlib.Core.Path.{_≡_, sym, ap, _∙_}
-use mathlib.Core.Bool.{true, false, not}
+use mathlib.Core.Bool.{true, false, not, false≢true}
 use mathlib.Core.List.{List, [], _∷_, _++_, List·Memᴰ, List·Memᴰ·cases-cons, List·Memᴰ·eq-of-singleton}
-use mathlib.Core.Logic.{⊎-elim}
+use mathlib.Core.Logic.{inl, inr, ⊎-elim}
 use Prim.Native.Nat.{ℕ, _+_, _-_, _/_, _≤_, _<_}
 use native.Mathlib.Nat.{add-zero, sub-zero}
 use native.Mathlib.Omega.{arith}
@@ -25,7 +25,7 @@ use Rattle.text.proofs.Boundary.{boundary}
 use Rattle.analysis.specs.declared.Capture.{Capture}
 use Rattle.analysis.specs.declared.Found.the-variants.{At}
 use Rattle.analysis.specs.Row.{Row, noCapture, find}
-use Rattle.analysis.specs.Place.{placeOf}
+use Rattle.analysis.specs.Place.{Mark, placeOf, Inside}
 use Rattle.analysis.specs.Matches.{Run, Matches}
 use Rattle.analysis.specs.Patterns.{quoted, quotedSome, bare, tripleSlashRow, attributeRow, pathRow, typesRow, resolutionModeRow, jsxRow, jsxImportSourceRow, jsxImportSourceTypesRow, sourceMappingUrlRow, pragmaRow, tsSelfTypesRow, tsTypesRow, denoTypesRow}
 use Rattle.analysis.proofs.Apart.{member-at, quotes}
@@ -35,12 +35,14 @@ use Rattle.analysis.proofs.Meaning.{found-reads}
 abbrev pub Cut : List ℕ → ℕ → Type 0
 Cut s p = formed Utf8 0 (drop p s) ≡ true
 
--- the captured range begins and ends between characters, and so does its place
+-- the captured range begins and ends between characters, and so does its place; the marks stand where they should
 pub record Whole (s : List ℕ) (k : Capture) : Type 0 where
   pub from : Cut s (k .from)
   pub to : Cut s (k .to)
   pub opens : Cut s (placeOf k .from)
   pub closes : Cut s (placeOf k .to)
+  pub inside : Inside k (length s)
+  pub marks : k .quoted ≡ true → Mark (getD s (placeOf k .from) 0) × Mark (getD s (k .to) 0)
 
 -- what is said of each of the ten patterns
 pub record Ten (P : Row → Type 0) : Type 0 where
@@ -83,6 +85,27 @@ one-byte t z =
     ∙ ⊎-elim (λ (e : p ≡ 0x22). rw e) (λ (m : List·Memᴰ p (0x27 ∷ [])). rw (List·Memᴰ·eq-of-singleton m))
     (List·Memᴰ·cases-cons (quotes p (rw code at (member-at Quote t z))))
 
+-- a mark is one of the two bytes
+mark-byte : (t : List ℕ) → (classAt Quote t ≡ 0 → ⊥) → Mark (getD t 0 0)
+unfolding charAt encode
+mark-byte t z =
+    let (p, c) = reader-sound Utf8 t (λ y. z (class-char Quote t z ∙ y)) in
+    let code : charAt Utf8 t .code ≡ p = ap (λ (r : Char). r .code) (c .read) in
+    ⊎-elim (λ (e : p ≡ 0x22). inl (rw (c .begins, e))) (λ (m : List·Memᴰ p (0x27 ∷ [])). inr (rw (c .begins, List·Memᴰ·eq-of-singleton m)))
+    (List·Memᴰ·cases-cons (quotes p (rw code at (member-at Quote t z))))
+
+-- characters of a class end in the body
+module _ (s : List ℕ) where
+  ends-inside : (c : Class) (at : ℕ) → (classAt c (drop at s) ≡ 0 → ⊥) → at + classAt c (drop at s) ≤ length s
+  ends-inside c at z = omega (arith, class-fits c (drop at s), length-drop at s)
+
+  run-inside : {c : Class} {at end : ℕ} → Run s c at end → at ≤ length s → (at ≤ end) × (end ≤ length s)
+  run-inside Run.none h = (omega arith, h)
+  run-inside {c} (Run.more {at} z r) h = let (l, i) = run-inside r (ends-inside c at z) in (omega arith, i)
+
+  mark-at : (at : ℕ) → (classAt Quote (drop at s) ≡ 0 → ⊥) → Mark (getD s at 0)
+  mark-at at z = let e : getD (drop at s) 0 0 ≡ getD s at 0 = rw (getD-drop at s 0 0, add-zero) in rw (← e) (mark-byte (drop at s) z)
+
 module _ (s : List ℕ) (f : formed Utf8 0 s ≡ true) where
   -- a character stands between two boundaries
   reads : (c : Class) (at : ℕ) → (classAt c (drop at s) ≡ 0 → ⊥) → Cut s at × Cut s (at + classAt c (drop at s))
@@ -100,34 +123,47 @@ module _ (s : List ℕ) (f : formed Utf8 0 s ≡ true) where
   runs {c} (Run.more {at} z r) b = runs r (reads c at z .1)
 
   -- a captured text with a mark before it, at `at`, and one behind it
-  marked : (at end : ℕ) → (classAt Quote (drop at s) ≡ 0 → ⊥) → (classAt Quote (drop end s) ≡ 0 → ⊥) → Cut s end
+  marked : (at end : ℕ) → (classAt Quote (drop at s) ≡ 0 → ⊥) → (classAt Quote (drop end s) ≡ 0 → ⊥) → at + classAt Quote (drop at s) ≤ end → Cut s end
       → Whole s (record { quoted = true; from = at + classAt Quote (drop at s); to = end })
   unfolding placeOf
-  marked at end z y b =
+  marked at end z y o b =
       let e = one-byte (drop at s) z in
+      let d = one-byte (drop end s) y in
+      let last = ends-inside s Quote end y in
       let start : at + classAt Quote (drop at s) - 1 ≡ at = omega arith in
       record {
         from = reads Quote at z .1;
         to = b;
         opens = rw start (reads Quote at z .0);
         closes = rw (one-byte (drop end s) y) at (reads Quote end y .1);
+        inside = record { opens = omega arith; ordered = o; closes = omega arith };
+        marks = λ q. (rw start (mark-at s at z), mark-at s end y);
       }
 
   -- the values
   quoted-whole : {at end : ℕ} {k l : Capture} → Matches s quoted at end k l → Whole s l
   quoted-whole (Matches.one {at = at} z (Matches.from (Matches.longest {e = e} run (Matches.to (Matches.one y Matches.done))))) =
-      marked at e z y (runs run (reads Quote at z .1))
+      marked at e z y (run-inside s run (ends-inside s Quote at z) .0) (runs run (reads Quote at z .1))
 
   some-whole : {at end : ℕ} {k l : Capture} → Matches s quotedSome at end k l → Whole s l
   some-whole (Matches.one {at = at} z (Matches.from (Matches.one {c = c} {at = b} x (Matches.longest {e = e} run (Matches.to (Matches.one y Matches.done)))))) =
-      marked at e z y (runs run (reads c b x .1))
+      let o = run-inside s run (ends-inside s c b x) .0 in
+      marked at e z y (omega arith) (runs run (reads c b x .1))
 
   bare-whole : {at end : ℕ} {k l : Capture} → Matches s bare at end k l → Whole s l
   unfolding placeOf
   bare-whole (Matches.from (Matches.one {c = c} {at = at} z (Matches.longest run (Matches.to Matches.done)))) =
       let (a, b) = reads c at z in
       let d = runs run b in
-      record { from = a; to = d; opens = rw sub-zero a; closes = rw add-zero d }
+      let i = run-inside s run (ends-inside s c at z) in
+      record {
+        from = a;
+        to = d;
+        opens = rw sub-zero a;
+        closes = rw add-zero d;
+        inside = record { opens = omega arith; ordered = omega arith; closes = omega arith };
+        marks = λ q. absurd (false≢true q);
+      }
 
   -- the rows that end in them
   attribute-whole : {w : List ℕ} {at end : ℕ} {k l : Capture} → Matches s (attributeRow w) at end k l → Whole s l
@@ -149,7 +185,7 @@ module _ (s : List ℕ) (f : formed Utf8 0 s ≡ true) where
   triple-whole : {at end : ℕ} {l : Capture} → Matches s tripleSlashRow at end noCapture l → Whole s l
   unfolding placeOf
   triple-whole (Matches.start _ (Matches.word _ (Matches.longest _ (Matches.word _ (Matches.one _ (Matches.shortest _ (Matches.word _ Matches.done))))))) =
-      record { from = f; to = f; opens = f; closes = f }
+      record { from = f; to = f; opens = f; closes = f; inside = record { opens = omega arith; ordered = omega arith; closes = omega arith }; marks = λ q. absurd (false≢true q) }
 
   answered : (r : Row) → ((at end : ℕ) (l : Capture) → Matches s r at end noCapture l → Whole s l)
       → (k : Capture) → find r s ≡ At k → Whole s k

@@ -4,5 +4,6 @@ pub mod Apart
 pub mod Search
 pub mod Rows
 pub mod Meaning
+pub mod Preference
 pub mod Boundaries
 pub mod Cases

@@ -129,12 +129,12 @@ in-places (x ∷ t) at e l h =
     ⊎-elim (λ p. List·Memᴰ·head (sym p)) (λ p. List·Memᴰ·tail (in-places t (suc at) e p (omega arith))) (eq-or-lt-of-le l)
 
 -- the first of a list is in it, and a list that has something has a first
-of-first : (x : List Capture) {k : Capture} → first x ≡ found.At k → List·Memᴰ k x
+pub of-first : (x : List Capture) {k : Capture} → first x ≡ found.At k → List·Memᴰ k x
 unfolding first
 of-first [] e = let z : _≡_ {A = ℕ} 0 1 = cc in absurd (omega arith)
 of-first (l ∷ x) {k} e = List·Memᴰ·head (let p : k ≡ l = cc in p)
 
-some-first : {x : List Capture} {k : Capture} → List·Memᴰ k x → first x ≡ found.Nothing → ⊥
+pub some-first : {x : List Capture} {k : Capture} → List·Memᴰ k x → first x ≡ found.Nothing → ⊥
 unfolding first
 some-first (List·Memᴰ·head p) e = let z : _≡_ {A = ℕ} 0 1 = cc in absurd (omega arith)
 some-first (List·Memᴰ·tail m) e = let z : _≡_ {A = ℕ} 0 1 = cc in absurd (omega arith)

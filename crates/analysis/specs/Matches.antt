@@ -2,14 +2,15 @@
 use mathlib.Core.Path.{_≡_}
 use mathlib.Core.Bool.{Bool}
 use mathlib.Core.List.{List}
-use Prim.Native.Nat.{ℕ, _+_, _≤_}
+use Prim.Native.Nat.{ℕ, _+_, _≤_, _<_}
 use lib.ListN.{length, drop}
 use Rattle.text.specs.declared.class.Class.{Class}
 use Rattle.text.specs.Class.{classAt}
 use Rattle.analysis.specs.declared.matcher.Matched.the-variants.{At}
 use Rattle.analysis.specs.declared.Capture.{Capture}
+use Rattle.analysis.specs.declared.Found.the-variants as found
 use Rattle.analysis.specs.Letters.{wordAt}
-use Rattle.analysis.specs.Row.{Row, noCapture}
+use Rattle.analysis.specs.Row.{Row, noCapture, matchAt}
 
 module _ (s : List ℕ) where
   -- from one place to the other stand characters of the class, any number of them
@@ -39,3 +40,12 @@ module _ (s : List ℕ) where
 -- from some place of the body on the row matches, and captures k
 abbrev pub Reading : Row → List ℕ → Capture → Type 0
 Reading r s k = (at : ℕ) × (at ≤ length s) × (end : ℕ) × Matches s r at end noCapture k
+
+-- the preferred match captures k: it begins at the leftmost place from which the row matches, and is the first of the matches from there on
+pub record Preferred (r : Row) (s : List ℕ) (k : Capture) : Type 0 where
+  pub at : ℕ
+  pub inside : at ≤ length s
+  pub end : ℕ
+  pub matches : Matches s r at end noCapture k
+  pub leftmost : (p e : ℕ) (l : Capture) → p < at → Matches s r p e noCapture l → ⊥
+  pub first : matchAt r s at ≡ found.At k

@@ -1,5 +1,7 @@
 -- What a match captured: the text, and its place, with the marks around it.
+use mathlib.Core.Path.{_≡_}
 use mathlib.Core.Bool.{cond}
+use mathlib.Core.Logic.{_⊎_}
 use mathlib.Core.List.{List}
 use Prim.Native.Nat.{ℕ, _+_, _-_, _≤_}
 use lib.ListN.{take, drop}
@@ -11,6 +13,10 @@ use Rattle.analysis.specs.declared.Place.{Place}
 -- the bytes of the mark on either side: one where the captured text is quoted
 abbrev pub mark : Capture → ℕ
 mark k = cond (k .quoted) 1 0
+
+-- a byte that is a mark
+abbrev pub Mark : ℕ → Type 0
+Mark b = (b ≡ 0x22) ⊎ (b ≡ 0x27)
 
 -- the captured range, with the two marks around it where it is quoted
 unfoldable pub placeOf : Capture → Place

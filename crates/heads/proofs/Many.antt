@@ -7,8 +7,8 @@ use Rattle.laws.specs.Decoded.{Decoded, ok, no, onOk, Decoder}
 use Rattle.sheet.specs.Nodes.{many}
 
 -- `after w l` is what is found in all, where w was found before the items of l
-module _ {L W : Type 0} (after : W → L → W) (end : L) (item : Decoder (L → L)) where
-  abbrev pub found : W → ℕ → List ℕ → Decoded W
+module _ {L W R : Type 0} (after : W → L → R) (end : L) (item : Decoder (L → L)) where
+  abbrev pub found : W → ℕ → List ℕ → Decoded R
   found w k s = onOk (after w) (many end item k s)
 
   pub found-step : (w w′ : W) (k : ℕ) (s : List ℕ) {add : L → L} {t : List ℕ} → 0 < k → item s ≡ ok add t → ((l : L) → after w (add l) ≡ after w′ l)

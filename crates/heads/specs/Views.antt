@@ -107,14 +107,14 @@ Part n from to = (from ≤ to) × (to ≤ n)
 abbrev pub QuotedPart : ℕ → q.Quoted → Type 0
 QuotedPart n x = Part n (x .start) (x .end)
 
--- the texts of a head are parts of the n bytes; there are no more holes than a number can say
+-- the texts of a head are parts of the n bytes; there are no more holes than a number can say, and at most 64 properties
 abbrev pub Within : ℕ → h.Head → Type 0
 Within n (head.Other k) = Unit {0}
 Within n (head.String from to) = Part n from to
 Within n (head.Name from to) = Part n from to
 Within n (head.Template holes) = holes ≤ largest
 Within n (head.Binary plus) = Unit {0}
-Within n (head.Object k) = Unit {0}
+Within n (head.Object k) = k ≤ 64
 Within n (head.ImportCall phase) = Unit {0}
 Within n head.Call = Unit {0}
 Within n (head.Import typeOnly phase sideEffect x there) = QuotedPart n x
@@ -173,5 +173,5 @@ PastProperty at n (propertyRead.Is x next) = (at ≤ next .at) × (next .at ≤ 
 PastProperty at n (propertyRead.Refused r) = Unit {0}
 
 abbrev pub PastAttributes : ℕ → ℕ → ℕ → AttributesRead → Type 0
-PastAttributes at n levels (attributesRead.Is sp k next) = (0 < levels) × (at < next .at) × (next .at ≤ n)
+PastAttributes at n levels (attributesRead.Is sp k next) = (0 < levels) × (at < next .at) × (next .at ≤ n) × (k ≤ 64)
 PastAttributes at n levels (attributesRead.Refused r) = Unit {0}

@@ -14,8 +14,9 @@ use Rattle.text.specs.Bytes.{begins, same}
 use Rattle.analysis.specs.Mode.{modeOf}
 use Rattle.jsdoc.specs.Grammar.{Bytes, Listed}
 use Rattle.jsdoc.specs.Marks.{Marks}
+use Rattle.jsdoc.specs.Listing.{listing}
 use Rattle.jsdoc.specs.Reader.{skip, skipWhitespace, whitespace, tag, word, upTo, isMark, parseQuote, pastIdent, parseIdent, parseKey, attributeMode, parseAttribute, firstMode, comma, attributesBy, attributesFrom, parseImportAttributeBlock, secondParamStart, parseSecondParam, closeCall, parseTail, seek, parseCall, parseJsdocDynamicImport, skipNamedImports, skipDefaultImport, skipNamespaceImport, skipClause, parseWith, parseFrom, parseJsdocImportDecl}
-use Rattle.jsdoc.proofs.Listing.{listing, listing-marks}
+use Rattle.jsdoc.proofs.Listing.{listing-marks}
 
 -- an import by the place of its quote and its mode
 data Entry : Type 0 where
@@ -75,7 +76,7 @@ table =
     ∷ []
 
 computed : map (λ c. listing (body c)) table ≡ map marks table
-unfolding table flatMap alphabetic inRanges admits lengthBy charLength codeBy charAt encode outside ranges member classAt run begins same modeOf skip skipWhitespace whitespace tag word upTo isMark parseQuote pastIdent parseIdent parseKey attributeMode parseAttribute firstMode comma attributesBy attributesFrom parseImportAttributeBlock secondParamStart parseSecondParam closeCall parseTail seek parseCall parseJsdocDynamicImport skipNamedImports skipDefaultImport skipNamespaceImport skipClause parseWith parseFrom parseJsdocImportDecl
+unfolding table listing flatMap alphabetic inRanges admits lengthBy charLength codeBy charAt encode outside ranges member classAt run begins same modeOf skip skipWhitespace whitespace tag word upTo isMark parseQuote pastIdent parseIdent parseKey attributeMode parseAttribute firstMode comma attributesBy attributesFrom parseImportAttributeBlock secondParamStart parseSecondParam closeCall parseTail seek parseCall parseJsdocDynamicImport skipNamedImports skipDefaultImport skipNamespaceImport skipClause parseWith parseFrom parseJsdocImportDecl
 computed = refl
 
 -- just these imports are listed for each body

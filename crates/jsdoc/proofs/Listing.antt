@@ -1,7 +1,6 @@
 -- The marks that the parsers give at each place of a body are those of the readings that are listed.
 use mathlib.Core.Path.{_≡_, refl, ap}
 use mathlib.Core.Logic.{_⊎_, ⊎-elim, inl, inr}
-use mathlib.Core.List.{List}
 use mathlib.Core.Option.{Option, none, some}
 use Prim.Native.Nat.{ℕ, zero, suc, _-_, _≤_}
 use native.Mathlib.Omega.{arith}
@@ -12,29 +11,13 @@ use Rattle.jsdoc.specs.Grammar.{Bytes, Brace, Declaration, Reading, From
 use Rattle.jsdoc.specs.Parsed.{Parser, value}
 use Rattle.jsdoc.specs.Reader.{Hit, hit, parseJsdocDynamicImport, parseJsdocImportDecl}
 use Rattle.jsdoc.specs.Answers.{Imports}
-use Rattle.jsdoc.specs.Marks.{Marks, marked}
-use Rattle.jsdoc.specs.declared.answers.JsDocImport.{JsDocImport}
-use Rattle.jsdoc.specs.declared.answers.JsDocImport.the-variants.{Import, Backtrace}
+use Rattle.jsdoc.specs.Marks.{Marks}
+use Rattle.jsdoc.specs.Listing.{answer, listingBy, listing}
 use Rattle.jsdoc.proofs.Ends.{Ends, ends-trans}
 use Rattle.jsdoc.proofs.Suffixes.{reading-ends}
 use Rattle.jsdoc.proofs.Places.{with-kind}
 use Rattle.jsdoc.proofs.Marked.{marks-iff}
 use Rattle.jsdoc.proofs.Marking.{Kind, Before, braces, declarations, marks-none, marks-turn, from-below}
-
--- a reading by its places
-abbrev pub answer : Bytes → Option Hit → JsDocImport
-answer s (some (hit q e m)) = Import (length s - length q) (length s - length e) m
-answer s none = Backtrace
-
--- the marks of the readings from the first n places of b
-abbrev listingBy : ℕ → Bytes → List ℕ
-listingBy zero b = replicate (length b) 0
-listingBy (suc n) b =
-    marked n (answer (drop n b) (value (parseJsdocImportDecl (drop n b))))
-    (marked n (answer (drop n b) (value (parseJsdocDynamicImport (drop n b)))) (listingBy n b))
-
-abbrev pub listing : Bytes → List ℕ
-listing b = listingBy (length b) b
 
 ends-at : {s t : Bytes} → Ends s t → drop (length s - length t) s ≡ t
 ends-at {s} {t} (p, e) =
@@ -50,7 +33,7 @@ answered {p} K s = go (value (p s)) refl
         record { is = rw (ends-at a, ends-at (ends-trans a b)); ordered = omega arith }
     go none h = record { is = refl; ordered = tt }
 
-zeros : (n q : ℕ) → getD {A = ℕ} (replicate n 0) q 0 ≡ 0
+pub zeros : (n q : ℕ) → getD {A = ℕ} (replicate n 0) q 0 ≡ 0
 zeros zero q = refl
 zeros (suc n) zero = refl
 zeros (suc n) (suc q) = zeros n q
@@ -82,4 +65,5 @@ module _ (b : Bytes) where
       (answer (drop n b) (value (parseJsdocImportDecl (drop n b)))) (answered declarations (drop n b)))
 
   pub listing-marks : Marks (Listed b) (length b) (listing b)
+  unfolding listing
   listing-marks = marks-iff (λ q m f. (f .0, f .2)) (λ q m f. (f .0, from-below (f .1), f .1)) (listing-by (length b) (omega arith))

@@ -1,17 +1,32 @@
 -- A table of marks, and one mark more.
-use mathlib.Core.Path.{_≡_, sym, _∙_}
+use mathlib.Core.Path.{_≡_, refl, sym, _∙_}
 use mathlib.Core.Logic.{_⊎_, inl, inr}
 use mathlib.Core.List.{List}
-use Prim.Native.Nat.{ℕ, _+_, _≤_, _<_}
+use Prim.Native.Nat.{ℕ, zero, suc, _+_, _≤_, _<_}
 use native.Mathlib.Omega.{arith}
 use native.Mathlib.Decide.{ℕ-discrete, decLt}
 use lib.ListN.{length, set, getD, length-set, List·getD-eq-default}
-use lib.Seq.{getD-set-same, getD-set-other}
+use lib.Seq.{getD-set-same, getD-set-other, ext-getD}
 use Rattle.jsdoc.specs.Marks.{Marks}
 
 -- the same facts in other words
 pub marks-iff : {P R : ℕ → ℕ → Type 0} {n : ℕ} {l : List ℕ} → ((q m : ℕ) → P q m → R q m) → ((q m : ℕ) → R q m → P q m) → Marks P n l → Marks R n l
 marks-iff f g k = record { same = k .same; sound = λ q m e. f q m (k .sound q m e); complete = λ q m r. k .complete q m (g q m r) }
+
+-- the facts settle the table
+marks-same : {P : ℕ → ℕ → Type 0} {n : ℕ} {l k : List ℕ} → Marks P n l → Marks P n k → (q m : ℕ) → getD l q 0 ≡ suc m → getD k q 0 ≡ suc m
+marks-same a b q m e = omega (arith, b .complete q m (a .sound q m (omega arith)))
+
+pub marks-unique : {P : ℕ → ℕ → Type 0} {n : ℕ} {l k : List ℕ} → Marks P n l → Marks P n k → l ≡ k
+marks-unique {l} {k} a b = ext-getD 0 l k (a .same ∙ sym (b .same)) (λ q h. go q (getD l q 0) refl)
+  where
+    none : (q y : ℕ) → getD l q 0 ≡ 0 → getD k q 0 ≡ y → 0 ≡ y
+    none q zero e f = refl
+    none q (suc m) e f = sym e ∙ marks-same b a q m f
+
+    go : (q x : ℕ) → getD l q 0 ≡ x → x ≡ getD k q 0
+    go q zero e = none q (getD k q 0) e refl
+    go q (suc m) e = sym (marks-same a b q m e)
 
 -- one mark more, at a place that has no other
 module _ {P R : ℕ → ℕ → Type 0} {n : ℕ} {l : List ℕ} (q m : ℕ) (h : q < n) (k : Marks P n l) where

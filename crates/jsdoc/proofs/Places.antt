@@ -1,4 +1,4 @@
--- The place of a reading: it has one end and one mode, it is a quote, and it begins and ends at character boundaries.
+-- The place of a reading: it has one end and one mode, and it is a quote, which begins and ends at character boundaries.
 use mathlib.Core.Path.{_≡_, sym, ap, _∙_}
 use mathlib.Core.Bool.{true, false}
 use mathlib.Core.Logic.{inl, inr}
@@ -15,9 +15,7 @@ use Rattle.text.specs.Utf8.{admits, lengthBy, charLength, formed, continuation}
 use Rattle.text.specs.Ranges.{within}
 use Rattle.text.specs.Position.{Boundary}
 use Rattle.text.proofs.Boundary.{boundary}
-use Rattle.jsdoc.specs.Grammar.{Bytes, Mark, Quote, Brace, Declaration, Reading, From, Listed}
-use Rattle.jsdoc.specs.Parsed.{ok}
-use Rattle.jsdoc.specs.Reader.{parseQuote}
+use Rattle.jsdoc.specs.Grammar.{Bytes, Mark, Quote, Brace, Declaration, Reading, From}
 use Rattle.jsdoc.proofs.Texts.{quote-complete}
 use Rattle.jsdoc.proofs.Braces.{tail-complete}
 use Rattle.jsdoc.proofs.Declarations.{after-complete}
@@ -60,10 +58,6 @@ pub place-quote : {s q e : Bytes} {m : ℕ} → Reading s q e m → (k : Bytes) 
 place-quote (inl r) = (r .text, r .quote)
 place-quote (inr r) = (r .text, r .quote)
 
--- so a quote reads at each place that is listed
-pub listed-quote : {b : Bytes} {q m : ℕ} → Listed b q m → (k : Bytes) × (e : ℕ) × (e ≤ length b) × (parseQuote (drop q b) ≡ ok k (drop e b))
-listed-quote (i, r) = let (k, t) = place-quote (r .reads) in (k, r .end, r .inside, quote-complete t)
-
 -- ---- boundaries
 
 mark-alone : (m : ℕ) → Mark m → within continuation m ≡ false
@@ -95,12 +89,11 @@ module _ (b : Bytes) (f : formed Utf8 0 b ≡ true) where
       go (yes e) = let h : length b ≤ i = omega arith in rw (List·getD-eq-default b 0 h)
       go (no n) = not-true (within continuation (getD b i 0)) (sym (boundary Utf8 b i f (omega arith)) ∙ g)
 
-  -- in a well-formed body a place begins and ends at character boundaries
-  pub boundaries : {k q m : ℕ} (r : From Reading b k q m) → Boundary b q × Boundary b (r .end)
-  boundaries {q} r =
-      let (k, t) = place-quote (r .reads) in
-      let past = drop (r .end) b in
+  -- in a well-formed text a quote begins and ends at character boundaries
+  pub quote-boundaries : {k : Bytes} (q e : ℕ) → e ≤ length b → Quote k (drop q b) (drop e b) → Boundary b q × Boundary b e
+  quote-boundaries {k} q e l t =
+      let past = drop e b in
       let whole : drop q b ≡ t .mark ∷ (k ++ t .mark ∷ past) = t .first ∙ ap (λ (l : Bytes). t .mark ∷ l) (t .rest .1) in
       let close : drop (q + suc (length k)) b ≡ t .mark ∷ past =
       sym (drop-drop (suc (length k)) q b) ∙ ap (drop (suc (length k))) whole ∙ drop-append-seam k (t .mark ∷ past) in
-      (at-mark q (t .mark) (k ++ t .mark ∷ past) (t .is-mark) whole .0, at-formed (r .end) (r .inside) (at-mark (q + suc (length k)) (t .mark) past (t .is-mark) close .1))
+      (at-mark q (t .mark) (k ++ t .mark ∷ past) (t .is-mark) whole .0, at-formed e l (at-mark (q + suc (length k)) (t .mark) past (t .is-mark) close .1))

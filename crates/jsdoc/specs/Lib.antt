@@ -3,3 +3,4 @@ pub mod Parsed
 pub mod Reader
 pub mod Answers
 pub mod Marks
+pub mod Listing

@@ -8,7 +8,8 @@ ghost use lib.ListN.{length, getD};
 ghost use Rattle.jsdoc.specs.Grammar.{Brace, ListedBy, Listed};
 ghost use Rattle.jsdoc.specs.Marks.{Marks, Room, marked};
 
-fn clear(marks: &mut [u8])
+// Clears the marks.
+pub fn clear(marks: &mut [u8])
     ensures { λ r. ⌜ (length (now (marks .exit)) ≡ length (now (marks .entry))) × ((q : ℕ) → getD (now (marks .exit)) q 0 ≡ 0) ⌝ }
 {
     let mut i = 0;

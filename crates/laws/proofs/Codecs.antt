@@ -30,21 +30,25 @@ module _ {A B : Type 0} {d : Decoder A} {encode : A → List ℕ} {Valid : A →
             (a, q, i, v);
       }
 
--- a field, and then others, which may depend on it
+-- a field, and then others, which may depend on it and on that it is valid
 module _ {A B : Type 0} {C : A → Type 0} {d : Decoder A} {encode : A → List ℕ} {Valid : A → Type 0}
-    {e : A → Decoder B} {build : (a : A) → C a → B} {rest : (a : A) → C a → List ℕ} {ValidRest : (a : A) → C a → Type 0}
-    (k : Codec d encode Valid) (f : (a : A) → Built (e a) (build a) (rest a) (ValidRest a)) where
-  pub built-then : Built (d >>= e) (λ (p : (a : A) × C a). build (p .0) (p .1)) (λ p. encode (p .0) ++ rest (p .0) (p .1)) (λ p. Valid (p .0) × ValidRest (p .0) (p .1))
-  built-then =
+    {e : A → Decoder B} {build : (a : A) → C a → B} {rest : (a : A) → C a → List ℕ} {ValidRest : (a : A) → C a → Type 0} (k : Codec d encode Valid) where
+  pub built-given : ((a : A) → Valid a → Built (e a) (build a) (rest a) (ValidRest a))
+      → Built (d >>= e) (λ (p : (a : A) × C a). build (p .0) (p .1)) (λ p. encode (p .0) ++ rest (p .0) (p .1)) (λ p. Valid (p .0) × ValidRest (p .0) (p .1))
+  built-given f =
       record {
         complete = λ (a, c) v t.
-            rw (append-assoc (encode a) (rest a c) t, k .complete a (v .0) (rest a c ++ t)) (f a .complete c (v .1) t);
+            rw (append-assoc (encode a) (rest a c) t, k .complete a (v .0) (rest a c ++ t)) (f a (v .0) .complete c (v .1) t);
         sound = λ s b t q.
             let (a, u, x, y) = then-ok (d s) e q in
             let (i, v) = k .sound s a u x in
-            let (c, p, j, w) = f a .sound u b t y in
+            let (c, p, j, w) = f a v .sound u b t y in
             ((a, c), p, i ∙ ap (encode a ++_) j ∙ sym (append-assoc (encode a) (rest a c) t), (v, w));
       }
+
+  pub built-then : ((a : A) → Built (e a) (build a) (rest a) (ValidRest a))
+      → Built (d >>= e) (λ (p : (a : A) × C a). build (p .0) (p .1)) (λ p. encode (p .0) ++ rest (p .0) (p .1)) (λ p. Valid (p .0) × ValidRest (p .0) (p .1))
+  built-then f = built-given (λ a v. f a)
 
 -- a test, and then fields
 module _ {A B : Type 0} {d : Decoder B} {build : A → B} {encode : A → List ℕ} {Valid : A → Type 0} where

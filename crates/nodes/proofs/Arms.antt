@@ -43,18 +43,18 @@ built f tally g build e (no r) = refl
 
 -- one node and two, read one after the other, and what is found in them
 module _ (inner : Decoder Node) {A B C : Type 0} (f : A → C) (g : B → C) where
-  alike : (a : Node → A) (b : Node → B) → ((n : Node) → f (a n) ≡ g (b n)) → (x : Decoded Node)
+  pub alike : (a : Node → A) (b : Node → B) → ((n : Node) → f (a n) ≡ g (b n)) → (x : Decoded Node)
       → onOk f (andThen x (λ n. return (a n))) ≡ onOk g (andThen x (λ n. return (b n)))
   alike a b e (ok n t) = ap (λ c. ok c t) (e n)
   alike a b e (no r) = refl
 
-  alike-two : (a : Node → Node → A) (b : Node → Node → B) → ((m n : Node) → f (a m n) ≡ g (b m n)) → (x : Decoded Node)
+  pub alike-two : (a : Node → Node → A) (b : Node → Node → B) → ((m n : Node) → f (a m n) ≡ g (b m n)) → (x : Decoded Node)
       → onOk f (andThen x (λ m. inner >>= λ n. return (a m n))) ≡ onOk g (andThen x (λ m. inner >>= λ n. return (b m n)))
   alike-two a b e (ok m t) = alike (a m) (b m) (e m) (inner t)
   alike-two a b e (no r) = refl
 
 module _ (inner : Decoder Node) where
-  nodes-one : (u : List ℕ) → nodes inner 1 u ≡ (inner >>= λ n. return (more n none)) u
+  pub nodes-one : (u : List ℕ) → nodes inner 1 u ≡ (inner >>= λ n. return (more n none)) u
   unfolding nodes many
   nodes-one u = go (inner u)
     where
@@ -62,7 +62,7 @@ module _ (inner : Decoder Node) where
       go (ok n t) = refl
       go (no r) = refl
 
-  nodes-two : (u : List ℕ) → nodes inner 2 u ≡ (inner >>= λ m. inner >>= λ n. return (more m (more n none))) u
+  pub nodes-two : (u : List ℕ) → nodes inner 2 u ≡ (inner >>= λ m. inner >>= λ n. return (more m (more n none))) u
   unfolding nodes many
   nodes-two u = go (inner u)
     where
@@ -87,8 +87,26 @@ module _ (inner : Decoder Node) where
 abbrev pub pair : {A B : Type 0} → A → B → Decoder (A × B)
 pair a b = return (a, b)
 
-abbrev from-parts : (Arguments → Nodes → Node) → Arguments × Nodes → Decoder Node
+abbrev pub from-parts : (Arguments → Nodes → Node) → Arguments × Nodes → Decoder Node
 from-parts build p = return (build (p .0) (p .1))
+
+-- what follows the callee of a call, in parts
+module _ (source : List ℕ) (levels : ℕ) (inner : Decoder Node) (object′ : Decoder Attributes) (sp : Span) where
+  pub call-parted : (build : Arguments → Nodes → Node) (u : List ℕ) → callRest source levels inner object′ sp build u ≡ andThen (callParts source inner u) (from-parts build)
+  unfolding callRest callParts
+  call-parted build u = parted .at u
+    where
+      parted : Splits (from-parts build) (callRest source levels inner object′ sp build) (callParts source inner)
+      parted = first number λ n. first (arguments inner source n) λ xs. first number λ m. first (nodes inner m) λ ns. ends λ s. refl
+
+-- and what follows the head of an import type
+pub typed-parted : (sp : Span) (q : Quoted) (inner : Decoder Node) (object′ : Decoder Attributes) (n : ℕ) (u : List ℕ)
+    → (nodes inner n >>= λ ns. attributes object′ >>= λ a. return (importType sp q ns a)) u ≡ andThen (typedParts inner object′ n u) (λ p. return (importType sp q (p .0) (p .1)))
+unfolding typedParts
+typed-parted sp q inner object′ n u = parted .at u
+  where
+    parted : Splits (λ (p : Nodes × Attributes). return (importType sp q (p .0) (p .1))) (nodes inner n >>= λ ns. attributes object′ >>= λ a. return (importType sp q ns a)) (typedParts inner object′ n)
+    parted = first (nodes inner n) λ ns. first (attributes object′) λ a. ends λ s. refl
 
 module _ (s : List ℕ) where
   -- an answer that is made from another stands for what its value is made into
@@ -152,15 +170,11 @@ module _ (s : List ℕ) where
     call-holds : (e : Judged) (build : Arguments → Nodes → Node) → ((p : Arguments × Nodes) → callOf e (passedAll p) ≡ judged (build (p .0) (p .1)))
         → (u : List ℕ) (y : PassedRead) → passedAs s y ≡ onOk passedAll (callParts source inner u)
         → checkedAs s (calledBy e y) ≡ onOk judged (callRest source levels inner object′ sp build u)
-    unfolding callRest callParts
     call-holds e build h u y f =
         called-by-as e y
         ∙ ap (onOk (callOf e)) f
         ∙ built (callOf e) passedAll judged (λ p. build (p .0) (p .1)) h (callParts source inner u)
-        ∙ sym (ap (onOk judged) (parted .at u))
-      where
-        parted : Splits (from-parts build) (callRest source levels inner object′ sp build) (callParts source inner)
-        parted = first number λ n. first (arguments inner source n) λ xs. first number λ m. first (nodes inner m) λ ns. ends λ s. refl
+        ∙ sym (ap (onOk judged) (call-parted source levels inner object′ sp build u))
 
     pub import-call-holds : (phase : ℕ) (u : List ℕ) (y : PassedRead) → passedAs s y ≡ onOk passedAll (callParts source inner u)
         → checkedAs s (calledBy importCallee y) ≡ onOk judged (callRest source levels inner object′ sp (importCall sp phase) u)
@@ -182,13 +196,9 @@ module _ (s : List ℕ) where
   pub typed-holds : (sp : Span) (q : Quoted) (inner : Decoder Node) (object′ : Decoder Attributes) (n : ℕ) (u : List ℕ)
       (y : Tallied) → talliedAs s y ≡ onOk tallyTyped (typedParts inner object′ n u)
       → checkedAs s (withOwn true false y) ≡ onOk judged ((nodes inner n >>= λ ns. attributes object′ >>= λ a. return (importType sp q ns a)) u)
-  unfolding typedParts
   typed-holds sp q inner object′ n u y f =
       holds tallyTyped (λ p. importType sp q (p .0) (p .1)) (typedParts inner object′ n u) y f true false (λ p. rw (add-assoc 1 (entriesAll (p .0)) (entriesWith (p .1))))
-      ∙ sym (ap (onOk judged) (parted .at u))
-    where
-      parted : Splits (λ (p : Nodes × Attributes). return (importType sp q (p .0) (p .1))) (nodes inner n >>= λ ns. attributes object′ >>= λ a. return (importType sp q ns a)) (typedParts inner object′ n)
-      parted = first (nodes inner n) λ ns. first (attributes object′) λ a. ends λ s. refl
+      ∙ sym (ap (onOk judged) (typed-parted sp q inner object′ n u))
 
   -- nodes behind arguments
   pub arguments-nodes : (inner : Decoder Node) (x : Decoded Arguments) {p : Passed} {w : List ℕ} → onOk passed x ≡ ok p w

@@ -108,7 +108,7 @@ fn check_rest(sheet: &[u8], source: &[u8], c: Cursor, levels: usize, head: Head)
 }
 
 // So many nodes, one after the other.
-fn check_nodes(sheet: &[u8], source: &[u8], c: Cursor, count: usize, levels: usize) -> Tallied
+pub fn check_nodes(sheet: &[u8], source: &[u8], c: Cursor, count: usize, levels: usize) -> Tallied
     requires { ⌜ c .at ≤ length (now sheet) ⌝ }
     ensures { λ r. ⌜ talliedAs (now (sheet .entry)) r ≡ onOk tallyAll (nodes (node (now (source .entry)) levels) count (drop (c .at) (now (sheet .entry)))) ⌝ }
     ensures { λ r. ⌜ PastTally (c .at) (length (now (sheet .entry))) r ⌝ }
@@ -200,7 +200,7 @@ fn check_call(sheet: &[u8], source: &[u8], c: Cursor, levels: usize) -> PassedRe
 }
 
 // A property: its key, if that is a node, and its value.
-fn check_property(sheet: &[u8], source: &[u8], c: Cursor, levels: usize) -> Tallied
+pub fn check_property(sheet: &[u8], source: &[u8], c: Cursor, levels: usize) -> Tallied
     ensures { λ r. ⌜ talliedAs (now (sheet .entry)) r ≡ onOk gain (propertyItem (node (now (source .entry)) levels) (drop (c .at) (now (sheet .entry)))) ⌝ }
     ensures { λ r. ⌜ PastTally (c .at) (length (now (sheet .entry))) r ⌝ }
 {
@@ -238,7 +238,13 @@ fn check_properties(sheet: &[u8], source: &[u8], c: Cursor, count: usize, levels
 }
 
 // An Object that holds attributes, if there is one.
-fn check_attributes(sheet: &[u8], source: &[u8], c: Cursor, there: bool, levels: usize) -> Tallied
+pub fn check_attributes(
+    sheet: &[u8],
+    source: &[u8],
+    c: Cursor,
+    there: bool,
+    levels: usize,
+) -> Tallied
     requires { ⌜ c .at ≤ length (now sheet) ⌝ }
     ensures { λ r. ⌜ talliedAs (now (sheet .entry)) r ≡ onOk tallyWith (behind there (attributesObject (now (source .entry)) levels) (drop (c .at) (now (sheet .entry)))) ⌝ }
     ensures { λ r. ⌜ PastTally (c .at) (length (now (sheet .entry))) r ⌝ }

@@ -1,2 +1,4 @@
 pub mod Readings
 pub mod Pragmas
+pub mod Held
+pub mod Rules

@@ -65,26 +65,46 @@ reference source c =
     (referenceBy source c (find pathRow (body source c)) (find typesRow (body source c)))
     Option.none
 
-unfoldable pub tsReferences : Sheet → List TypeScriptReference
-tsReferences t = allOf (reference (t .source)) (headComments t)
+unfoldable pub referencesIn : List ℕ → List Comment → List TypeScriptReference
+referencesIn source cs = allOf (reference source) cs
+
+-- the comments that a rule is given: none where the media excludes it
+abbrev pub givenIf : Bool → List Comment → List Comment
+givenIf b cs = cond b cs []
 
 -- the first comment that reads
-unfoldable pub selfTypesSpecifier : Sheet → Option SpecifierWithRange
-selfTypesSpecifier t = cond (isJavaScript (t .media)) (firstOf (readBy tsSelfTypesRow (t .source)) (headComments t)) Option.none
+unfoldable pub selfTypesIn : ℕ → List ℕ → List Comment → Option SpecifierWithRange
+selfTypesIn media source cs = firstOf (readBy tsSelfTypesRow source) (givenIf (isJavaScript media) cs)
 
 -- the first block comment that reads
 abbrev pub inBlock : {A : Type 0} → (Comment → Option A) → Comment → Option A
 inBlock f c = cond (isBlock c) (f c) Option.none
 
-unfoldable pub jsxImportSource : Sheet → Option SpecifierWithRange
-jsxImportSource t = cond (isJsx (t .media)) (firstOf (inBlock (readBy jsxImportSourceRow (t .source))) (headComments t)) Option.none
+unfoldable pub jsxImportSourceIn : ℕ → List ℕ → List Comment → Option SpecifierWithRange
+jsxImportSourceIn media source cs = firstOf (inBlock (readBy jsxImportSourceRow source)) (givenIf (isJsx media) cs)
 
-unfoldable pub jsxImportSourceTypes : Sheet → Option SpecifierWithRange
-jsxImportSourceTypes t = cond (isJsx (t .media)) (firstOf (inBlock (readBy jsxImportSourceTypesRow (t .source))) (headComments t)) Option.none
+unfoldable pub jsxImportSourceTypesIn : ℕ → List ℕ → List Comment → Option SpecifierWithRange
+jsxImportSourceTypesIn media source cs = firstOf (inBlock (readBy jsxImportSourceTypesRow source)) (givenIf (isJsx media) cs)
 
 -- the last comment that reads
-unfoldable pub sourceMapUrl : Sheet → Option SpecifierWithRange
-sourceMapUrl t = lastOf (readBy sourceMappingUrlRow (t .source)) (endComments t)
+unfoldable pub sourceMapUrlIn : List ℕ → List Comment → Option SpecifierWithRange
+sourceMapUrlIn source cs = lastOf (readBy sourceMappingUrlRow source) cs
+
+-- those of a sheet
+abbrev pub tsReferences : Sheet → List TypeScriptReference
+tsReferences t = referencesIn (t .source) (headComments t)
+
+abbrev pub selfTypesSpecifier : Sheet → Option SpecifierWithRange
+selfTypesSpecifier t = selfTypesIn (t .media) (t .source) (headComments t)
+
+abbrev pub jsxImportSource : Sheet → Option SpecifierWithRange
+jsxImportSource t = jsxImportSourceIn (t .media) (t .source) (headComments t)
+
+abbrev pub jsxImportSourceTypes : Sheet → Option SpecifierWithRange
+jsxImportSourceTypes t = jsxImportSourceTypesIn (t .media) (t .source) (headComments t)
+
+abbrev pub sourceMapUrl : Sheet → Option SpecifierWithRange
+sourceMapUrl t = sourceMapUrlIn (t .source) (endComments t)
 
 -- the ts-types pattern, or else the deno-types one
 unfoldable pub tsOrDenoTypes : List ℕ → Comment → Option SpecifierWithRange
@@ -99,5 +119,8 @@ lastIn cs Option.none = Option.none
 lastIn cs (Option.some g) = lastCommentOf cs g
 
 -- the types of an entry, from the last comment of the leading group at the start of its node
-unfoldable pub typesAt : Sheet → ℕ → Option SpecifierWithRange
-typesAt t start = typesBy (t .source) (lastIn (t .comments) (groupAt (t .groups) leading start))
+unfoldable pub typesIn : List ℕ → List Comment → List Group → ℕ → Option SpecifierWithRange
+typesIn source cs gs start = typesBy source (lastIn cs (groupAt gs leading start))
+
+abbrev pub typesAt : Sheet → ℕ → Option SpecifierWithRange
+typesAt t = typesIn (t .source) (t .comments) (t .groups)

@@ -1,1 +1,184 @@
 // References and pragmas: what the patterns read in the comments that document 01 gives to each rule.
+pub mod readings;
+pub mod references;
+
+use self::readings::Reading;
+use self::readings::Rule;
+use self::readings::first_reading;
+use self::readings::last_reading;
+use self::readings::put_reading;
+use self::readings::read;
+use report::writer::Place;
+use sheet::comments::Comment;
+use sheet::comments::comment_at;
+use sheet::lookups::GroupFound;
+use sheet::lookups::find_group;
+ghost use mathlib.Core.Path.{_≡_};
+ghost use Rattle.sheet.specs.Tables.{commentsIn, groupsIn};
+ghost use Rattle.sheet.specs.Fit.{Placed};
+ghost use Rattle.sheet.specs.Views.{foundAs};
+ghost use Rattle.report.specs.Encode.{encodeOptional, encodeSpecifier};
+ghost use Rattle.report.specs.World.{wrote, worldAs};
+ghost use Rattle.pragmas.specs.Held.{Commented, GroupedIn, Reached};
+ghost use Rattle.pragmas.specs.Pragmas.{
+  inGroup,
+  isJavaScript,
+  isJsx,
+  selfTypesIn,
+  jsxImportSourceIn,
+  jsxImportSourceTypesIn,
+  sourceMapUrlIn,
+  tsOrDenoTypes,
+  typesIn,
+};
+ghost use Rattle.pragmas.specs.Rules.{readAs, ReadIn};
+
+// The opposite of the Rust's `is_typed`.
+fn is_javascript(media: usize) -> bool
+    ensures { λ r. ⌜ r ≡ isJavaScript media ⌝ }
+{
+    media <= 3
+}
+
+fn is_jsx(media: usize) -> bool
+    ensures { λ r. ⌜ r ≡ isJsx media ⌝ }
+{
+    media == 1 || media == 10
+}
+
+// The JSX source: the first block comment that reads, for media 1 and 10.
+pub fn analyze_jsx_import_source(
+    media: usize,
+    source: &[u8],
+    comments: &[u32],
+    n: usize,
+    index: &[u32],
+    found: GroupFound,
+    out: &mut [u8],
+    place: Place,
+) -> Place
+    requires { ⌜ Commented (now source) (now comments) n (now index) ⌝ }
+    requires { ⌜ Reached n (foundAs found) ⌝ }
+    ensures { λ r. ⌜ worldAs (now (out .exit)) r
+        ≡ wrote (worldAs (now (out .entry)) place)
+        (encodeOptional encodeSpecifier
+        (jsxImportSourceIn media (now (source .entry)) (inGroup (commentsIn (now (comments .entry)) n) (foundAs found)))) ⌝ }
+{
+    if is_jsx(media) {
+        let reading = first_reading(source, comments, n, found, Rule::JsxImportSource);
+        return put_reading(source, index, reading, out, place);
+    }
+    place.put(out, 0)
+}
+
+// The JSX source of types: the first block comment that reads, for media 1 and 10.
+pub fn analyze_jsx_import_source_types(
+    media: usize,
+    source: &[u8],
+    comments: &[u32],
+    n: usize,
+    index: &[u32],
+    found: GroupFound,
+    out: &mut [u8],
+    place: Place,
+) -> Place
+    requires { ⌜ Commented (now source) (now comments) n (now index) ⌝ }
+    requires { ⌜ Reached n (foundAs found) ⌝ }
+    ensures { λ r. ⌜ worldAs (now (out .exit)) r
+        ≡ wrote (worldAs (now (out .entry)) place)
+        (encodeOptional encodeSpecifier
+        (jsxImportSourceTypesIn media (now (source .entry)) (inGroup (commentsIn (now (comments .entry)) n) (foundAs found)))) ⌝ }
+{
+    if is_jsx(media) {
+        let reading = first_reading(source, comments, n, found, Rule::JsxImportSourceTypes);
+        return put_reading(source, index, reading, out, place);
+    }
+    place.put(out, 0)
+}
+
+// The self types: the first comment that reads, for media 0 to 3.
+pub fn analyze_ts_self_types(
+    media: usize,
+    source: &[u8],
+    comments: &[u32],
+    n: usize,
+    index: &[u32],
+    found: GroupFound,
+    out: &mut [u8],
+    place: Place,
+) -> Place
+    requires { ⌜ Commented (now source) (now comments) n (now index) ⌝ }
+    requires { ⌜ Reached n (foundAs found) ⌝ }
+    ensures { λ r. ⌜ worldAs (now (out .exit)) r
+        ≡ wrote (worldAs (now (out .entry)) place)
+        (encodeOptional encodeSpecifier
+        (selfTypesIn media (now (source .entry)) (inGroup (commentsIn (now (comments .entry)) n) (foundAs found)))) ⌝ }
+{
+    if is_javascript(media) {
+        let reading = first_reading(source, comments, n, found, Rule::TsSelfTypes);
+        return put_reading(source, index, reading, out, place);
+    }
+    place.put(out, 0)
+}
+
+// The source map: the last comment that reads.
+pub fn analyze_source_map_url(
+    source: &[u8],
+    comments: &[u32],
+    n: usize,
+    index: &[u32],
+    found: GroupFound,
+    out: &mut [u8],
+    place: Place,
+) -> Place
+    requires { ⌜ Commented (now source) (now comments) n (now index) ⌝ }
+    requires { ⌜ Reached n (foundAs found) ⌝ }
+    ensures { λ r. ⌜ worldAs (now (out .exit)) r
+        ≡ wrote (worldAs (now (out .entry)) place)
+        (encodeOptional encodeSpecifier
+        (sourceMapUrlIn (now (source .entry)) (inGroup (commentsIn (now (comments .entry)) n) (foundAs found)))) ⌝ }
+{
+    let reading = last_reading(source, comments, n, found, Rule::SourceMapUrl);
+    put_reading(source, index, reading, out, place)
+}
+
+// What the ts-types pattern reads in a comment, or else the deno-types one.
+fn read_types(source: &[u8], c: Comment) -> Reading
+    requires { ⌜ Placed (now source) c ⌝ }
+    ensures { λ r. ⌜ readAs (now (source .entry)) r ≡ tsOrDenoTypes (now (source .entry)) c ⌝ }
+    ensures { λ r. ⌜ ReadIn (now (source .entry)) r ⌝ }
+{
+    let reading = read(source, c, Rule::TsTypes);
+    if let Reading::Of(_, _) = reading {
+        return reading;
+    }
+    read(source, c, Rule::DenoTypes)
+}
+
+// The types of an entry: the ts-types pattern, or else the deno-types one, in the last comment of the leading group at `start`.
+pub fn analyze_ts_or_deno_types(
+    source: &[u8],
+    comments: &[u32],
+    n: usize,
+    groups: &[u32],
+    m: usize,
+    index: &[u32],
+    start: usize,
+    out: &mut [u8],
+    place: Place,
+) -> Place
+    requires { ⌜ Commented (now source) (now comments) n (now index) ⌝ }
+    requires { ⌜ GroupedIn n (now groups) m ⌝ }
+    ensures { λ r. ⌜ worldAs (now (out .exit)) r
+        ≡ wrote (worldAs (now (out .entry)) place)
+        (encodeOptional encodeSpecifier
+        (typesIn (now (source .entry)) (commentsIn (now (comments .entry)) n) (groupsIn (now (groups .entry)) m) start)) ⌝ }
+{
+    match find_group(groups, m, 0, start) {
+        GroupFound::At(g) => {
+            let reading = read_types(source, comment_at(comments, g.first + (g.count - 1)));
+            put_reading(source, index, reading, out, place)
+        }
+        GroupFound::Nothing => place.put(out, 0),
+    }
+}

@@ -3,3 +3,5 @@ pub mod Worlds
 pub mod Answers
 mod Numbers
 mod Cases
+pub mod Fits
+pub mod Ranges

@@ -11,6 +11,7 @@ use lib.ListN.{length, take, set, length-append, length-take, length-set}
 use lib.Seq.{length-take-le, take-all, take-suc-set}
 use borrow.Author.Tests.{leb-false, le-leb, lt-leb}
 use Rattle.report.specs.declared.writer.Place.{Place}
+use Rattle.report.specs.Encode.{each}
 use Rattle.report.specs.World.{World, holds, full, wrote, worldAs}
 
 pub wrote-append : (w : World) (a b : List ℕ) → wrote w (a ++ b) ≡ wrote (wrote w a) b
@@ -37,6 +38,12 @@ wrote-nil out p = by-full (p .full)
     by-full false =
         let room : length (take (p .at) out) + 0 ≤ length out = omega (arith, length-take (p .at) out) in
         rw (le-leb (length (take (p .at) out) + 0) (length out) room, append-nil)
+
+-- each of some things, and then each of others
+pub each-append : {A : Type 0} (f : A → List ℕ) (l m : List A) → each f (l ++ m) ≡ each f l ++ each f m
+unfolding each
+each-append f [] m = refl
+each-append f (a ∷ l) m = rw (each-append f l m, append-assoc (f a) (each f l) (each f m))
 
 module _ (out : List ℕ) (at b : ℕ) where
   pub put-room : at < length out → holds (length (set out at b)) (take (at + 1) (set out at b)) ≡ wrote (holds (length out) (take at out)) (b ∷ [])

@@ -68,7 +68,7 @@ begun-more (g ∷ gs) k j h = go (begun-more gs k j h) (ltb (g .first) k) refl (
         rw (le-ltb (g .first) (suc k) (omega (arith, ltb-false (g .first) k e, other)), zero-max) more
 
 -- where each comment is in some group, this one is
-covered-at : (gs : List Group) (n i : ℕ) → i < n → covered gs n ≡ true → inSome gs i ≡ true
+pub covered-at : (gs : List Group) (n i : ℕ) → i < n → covered gs n ≡ true → inSome gs i ≡ true
 unfolding covered
 covered-at gs zero i l e = absurd (not-suc-le-zero l)
 covered-at gs (suc n) i l e = go (eq-or-lt-of-le (le-of-suc-le-suc l)) (covered-at gs n i)

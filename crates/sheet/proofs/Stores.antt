@@ -1,4 +1,4 @@
--- Rows stored in tables: what is stored in a row is read there, and the rows before it stay.
+-- Rows stored in tables: what is stored in a row is read there, and the other rows stay.
 use mathlib.Core.Path.{_≡_, refl, ap₂, _∙_}
 use mathlib.Core.List.{List, [], _∷_, _++_}
 use Prim.Native.Nat.{ℕ, zero, suc, _+_, _*_, _≤_, _<_}
@@ -9,23 +9,24 @@ use lib.Seq.{sets, getD-set-same, getD-set-other}
 use Rattle.sheet.specs.Tables.{rows, commentRow, commentIn, groupRow, groupIn}
 use Rattle.sheet.proofs.Rows.{rows-same, rows-more}
 
--- a run of numbers stored from i on: what is before it stays
-before-sets : (t : List ℕ) (i : ℕ) (vs : List ℕ) (j : ℕ) → j < i → getD (sets t i vs) j 0 ≡ getD t j 0
-before-sets t i [] j h = refl
-before-sets t i (v ∷ vs) j h = before-sets (set t i v) (suc i) vs j (omega arith) ∙ getD-set-other t i j v 0 (omega arith)
+-- a run of numbers stored from i on: what is outside it stays
+pub outside-sets : (t : List ℕ) (i : ℕ) (vs : List ℕ) (j : ℕ) → (i ≤ j → i + length vs ≤ j) → getD (sets t i vs) j 0 ≡ getD t j 0
+outside-sets t i [] j h = refl
+outside-sets t i (v ∷ vs) j h =
+    outside-sets (set t i v) (suc i) vs j (λ l. let past = h (omega arith) in omega arith) ∙ getD-set-other t i j v 0 (λ e. let past = h (omega arith) in omega arith)
 
 -- and the jth of the numbers stands at j
-in-sets : (t : List ℕ) (i : ℕ) (vs : List ℕ) → i + length vs ≤ length t → (j n : ℕ) → j < length vs → i + j ≡ n → getD (sets t i vs) n 0 ≡ getD vs j 0
+pub in-sets : (t : List ℕ) (i : ℕ) (vs : List ℕ) → i + length vs ≤ length t → (j n : ℕ) → j < length vs → i + j ≡ n → getD (sets t i vs) n 0 ≡ getD vs j 0
 in-sets t i [] h j n l e = absurd (not-suc-le-zero l)
 in-sets t i (v ∷ vs) h zero n l e =
     let here : n ≡ i = omega arith in
-    rw here (before-sets (set t i v) (suc i) vs i (omega arith) ∙ getD-set-same t i v 0 (omega arith))
+    rw here (outside-sets (set t i v) (suc i) vs i (λ l. absurd (omega arith)) ∙ getD-set-same t i v 0 (omega arith))
 in-sets t i (v ∷ vs) h (suc j) n l e = in-sets (set t i v) (suc i) vs (simp length-set (omega arith)) j n (omega arith) (omega arith)
 
 -- a table of rows of a width
 pub record Table {A : Type 0} (width : ℕ) (read : List ℕ → ℕ → A) (row : A → List ℕ) : Type 0 where
   pub same : (t : List ℕ) (k : ℕ) (a : A) → width * k + width ≤ length t → read (sets t (width * k) (row a)) k ≡ a
-  pub other : (t : List ℕ) (k : ℕ) (a : A) (j : ℕ) → j < k → read (sets t (width * k) (row a)) j ≡ read t j
+  pub other : (t : List ℕ) (k : ℕ) (a : A) (j : ℕ) → (j ≡ k → ⊥) → read (sets t (width * k) (row a)) j ≡ read t j
 
 pub comment-table : Table 3 commentIn commentRow
 comment-table =
@@ -34,8 +35,8 @@ comment-table =
           let v = in-sets t (3 * k) (commentRow c) h in
           simp (v 0 (3 * k) (omega arith) (omega arith), v 1 (3 * k + 1) (omega arith) (omega arith), v 2 (3 * k + 2) (omega arith) (omega arith));
       other = λ t k c j h.
-          let v = before-sets t (3 * k) (commentRow c) in
-          simp (v (3 * j) (omega arith), v (3 * j + 1) (omega arith), v (3 * j + 2) (omega arith));
+          let v = outside-sets t (3 * k) (commentRow c) in
+          simp (v (3 * j) (λ l. omega arith), v (3 * j + 1) (λ l. omega arith), v (3 * j + 2) (λ l. omega arith));
     }
 
 pub group-table : Table 4 groupIn groupRow
@@ -50,8 +51,8 @@ group-table =
             v 3 (4 * k + 3) (omega arith) (omega arith),
           );
       other = λ t k g j h.
-          let v = before-sets t (4 * k) (groupRow g) in
-          simp (v (4 * j) (omega arith), v (4 * j + 1) (omega arith), v (4 * j + 2) (omega arith), v (4 * j + 3) (omega arith));
+          let v = outside-sets t (4 * k) (groupRow g) in
+          simp (v (4 * j) (λ l. omega arith), v (4 * j + 1) (λ l. omega arith), v (4 * j + 2) (λ l. omega arith), v (4 * j + 3) (λ l. omega arith));
     }
 
 module _ {A : Type 0} {width : ℕ} {read : List ℕ → ℕ → A} {row : A → List ℕ} (table : Table width read row) where
@@ -60,6 +61,6 @@ module _ {A : Type 0} {width : ℕ} {read : List ℕ → ℕ → A} {row : A →
       → rows (read (sets t (width * k) (row a))) 0 (suc k) ≡ rows (read t) 0 k ++ (a ∷ [])
   rows-stored t k a h =
       let t′ = sets t (width * k) (row a) in
-      let old : rows (read t′) 0 k ≡ rows (read t) 0 k = rows-same (read t′) (read t) 0 k (λ i l. table .other t k a (0 + i) (omega arith)) in
+      let old : rows (read t′) 0 k ≡ rows (read t) 0 k = rows-same (read t′) (read t) 0 k (λ i l. table .other t k a (0 + i) (λ e. omega arith)) in
       let new : read t′ (0 + k) ≡ a = rw zero-add (table .same t k a h) in
       rows-more (read t′) 0 k ∙ ap₂ (λ xs x. xs ++ (x ∷ [])) old new

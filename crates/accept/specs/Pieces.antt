@@ -1,0 +1,70 @@
+-- The fields of a sheet in pieces, each of which a function reads; proofs/ByPieces has the law that makes `accept` of them.
+use mathlib.Core.Bool.{not}
+use mathlib.Core.List.{List, [], _∷_}
+use Prim.Native.Nat.{ℕ}
+use Rattle.laws.specs.Decoded.{ok, no, Decoder, _>>=_, _>>_, return, require}
+use Rattle.text.specs.declared.utf8.Encoding.the-variants.{Utf8}
+use Rattle.wire.specs.Fields.{below}
+use Rattle.wire.specs.Text.{count, text}
+use Rattle.sheet.specs.declared.comments.Comment.{Comment}
+use Rattle.sheet.specs.declared.groups.Group.{Group}
+use Rattle.sheet.specs.Tree.{Node}
+use Rattle.sheet.specs.Comments.{comments, anywhere, groups, covered}
+use Rattle.sheet.specs.Program.{Program, program}
+use Rattle.sheet.specs.Nodes.{node}
+use Rattle.sheet.specs.Walked.{uncooked}
+use Rattle.sheet.specs.Sheet.{Sheet}
+
+-- the media byte and the source
+unfoldable pub sourceFields : Decoder (ℕ × List ℕ)
+sourceFields = do
+  media ← below 11
+  source ← text Utf8 32768
+  return (media, source)
+
+-- how many comments, and the comments
+unfoldable pub commentFields : List ℕ → Decoder (ℕ × List Comment)
+commentFields source = do
+  n ← count 1024
+  cs ← comments source 0 n
+  return (n, cs)
+
+-- the groups of n comments, with refusal 7 where one of these is in none
+unfoldable pub groupFields : List ℕ → ℕ → Decoder (List Group)
+groupFields source n = do
+  m ← count 1024
+  gs ← groups source n anywhere m
+  require (covered gs n) 7
+  return gs
+
+-- what stands in front of the program
+pub record Front : Type 0 where
+  pub media : ℕ
+  pub source : List ℕ
+  pub comments : List Comment
+  pub groups : List Group
+
+unfoldable pub front : Decoder Front
+front = do
+  (media, source) ← sourceFields
+  (n, cs) ← commentFields source
+  gs ← groupFields source n
+  return (record { media = media; source = source; comments = cs; groups = gs })
+
+-- nothing is left; refusal 8 where bytes are
+abbrev pub ending : Decoder (Unit {0})
+ending [] = ok tt []
+ending (b ∷ s) = no 8
+
+-- the program and the root, behind which nothing is left, and in which no call meets refusal 9
+unfoldable pub tree : List ℕ → Decoder (Program × Node)
+tree source = do
+  p ← program source
+  root ← node source 64
+  ending
+  require (not (uncooked root)) 9
+  return (p, root)
+
+-- the sheet of these pieces
+abbrev pub whole : Front → Program × Node → Sheet
+whole f (p, root) = record { media = f .media; source = f .source; comments = f .comments; groups = f .groups; program = p; root = root }

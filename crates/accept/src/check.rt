@@ -1,0 +1,65 @@
+// The check of a whole sheet.
+use super::tables::TablesRead;
+use super::tables::read_tables;
+use super::tree::TreeRead;
+use super::tree::check_tree;
+use sheet::program::Program;
+ghost use Rattle.accept.specs.Accepts.{Judges};
+
+// What the report is made from: places in the sheet, and how many rows its tables have.
+pub struct Parts {
+    pub media: usize,
+    pub source_start: usize,
+    pub source_end: usize,
+    pub comments: usize,
+    pub groups: usize,
+    pub program: Program,
+    pub root: usize,
+    pub entries: usize,
+}
+
+// A sheet that meets none of refusals 1 to 9, or the number of the first that it meets.
+pub enum Checked {
+    Accepted(Parts),
+    Refused(u8),
+}
+
+// Judges a sheet. The tables of its comments and groups are lent, and `longest` to work in.
+pub fn check_sheet(
+    sheet: &[u8],
+    comments: &mut [u32; 3072],
+    groups: &mut [u32; 4096],
+    longest: &mut [u32; 1024],
+) -> Checked
+    ensures { λ r. ⌜ Judges (now (sheet .entry)) (now (comments .exit)) (now (groups .exit)) r ⌝ }
+{
+    if sheet.len() == 0 {
+        return Checked::Refused(1);
+    }
+    if 65536 < sheet.len() {
+        return Checked::Refused(1);
+    }
+    match read_tables(sheet, comments, groups, longest) {
+        TablesRead::Refused(r) => Checked::Refused(r),
+        TablesRead::Is(t, next) => {
+            let start = t.source_start;
+            let end = t.source_end;
+            match check_tree(sheet, &sheet[start..end], next) {
+                TreeRead::Refused(r) => Checked::Refused(r),
+                TreeRead::Is(tree) => {
+                    let program = tree.program;
+                    Checked::Accepted(Parts {
+                        media: t.media,
+                        source_start: start,
+                        source_end: end,
+                        comments: t.comments,
+                        groups: t.groups,
+                        program,
+                        root: tree.root,
+                        entries: tree.entries,
+                    })
+                }
+            }
+        }
+    }
+}

@@ -1,0 +1,47 @@
+// The program and the root of a sheet, with refusals 8 and 9 behind them.
+use nodes::check::check_node;
+use nodes::tally::Checked;
+use sheet::program::Program;
+use sheet::program::ProgramRead;
+use sheet::program::read_program;
+use wire::Cursor;
+ghost use Rattle.accept.specs.Views.{TreeFound};
+
+// The program, where the root stands in the sheet, and how many dependencies it gives.
+pub struct Tree {
+    pub program: Program,
+    pub root: usize,
+    pub entries: usize,
+}
+
+// The tree, behind which the sheet ends, or a refusal's number.
+pub enum TreeRead {
+    Is(Tree),
+    Refused(u8),
+}
+
+// Reads the program and checks the root; then refusal 8, then refusal 9.
+pub fn check_tree(sheet: &[u8], source: &[u8], c: Cursor) -> TreeRead
+    ensures { λ r. ⌜ TreeFound (now (sheet .entry)) (now (source .entry)) (c .at) r ⌝ }
+{
+    match read_program(sheet, source, c) {
+        ProgramRead::Refused(r) => TreeRead::Refused(r),
+        ProgramRead::Is(program, next) => match check_node(sheet, source, next, 64) {
+            Checked::Refused(r) => TreeRead::Refused(r),
+            Checked::Is(found, after) => {
+                let end = after.at;
+                if end < sheet.len() {
+                    return TreeRead::Refused(8);
+                }
+                if found.uncooked {
+                    return TreeRead::Refused(9);
+                }
+                TreeRead::Is(Tree {
+                    program,
+                    root: next.at,
+                    entries: found.entries,
+                })
+            }
+        },
+    }
+}

@@ -1,0 +1,66 @@
+-- Arguments in an empty source, as the definitions compute.
+use mathlib.Core.Path.{_≡_, refl}
+use mathlib.Core.List.{List, [], _∷_, _++_, map}
+use mathlib.Core.Option.{Option}
+use Prim.Native.Nat.{ℕ}
+use lib.ListN.{length}
+use Rattle.laws.specs.Decoded.{Decoded, ok, onOk}
+use Rattle.laws.specs.Quoted.{ascii}
+use Rattle.text.specs.Utf8.{admits, lengthBy, charLength, formed}
+use Rattle.text.specs.Lossy.{replacing}
+use Rattle.wire.specs.Fields.{byte, below, flag, bytes}
+use Rattle.wire.specs.Number.{lastGroup, groups, number}
+use Rattle.wire.specs.Text.{count, text}
+use Rattle.sheet.specs.Fields.{isBoundary, position, endFrom, span}
+use Rattle.sheet.specs.Nodes.{many, tag, piece, nodes, stringFields, nameFields, templateFields, binaryFields, fields, node}
+use Rattle.report.specs.ModuleInfo.{DynamicArgument, expr, string, template}
+use Rattle.arguments.specs.Argument.{chain, argumentOf}
+
+-- a tag with an empty span, and the fields
+abbrev at : ℕ → List ℕ → List ℕ
+at t fields = t ∷ 0 ∷ 0 ∷ fields
+
+-- a text with its length
+abbrev long : List ℕ → List ℕ
+long x = length x ∷ x
+
+-- the Strings "a" and "c", and the Name b
+abbrev a : List ℕ
+a = at 1 (long (ascii "a"))
+
+abbrev b : List ℕ
+b = at 2 (long (ascii "b"))
+
+abbrev c : List ℕ
+c = at 1 (long (ascii "c"))
+
+-- a plus, and a minus
+abbrev plus : List ℕ → List ℕ → List ℕ
+plus l r = at 4 (1 ∷ l ++ r)
+
+abbrev minus : List ℕ → List ℕ → List ℕ
+minus l r = at 4 (0 ∷ l ++ r)
+
+-- a cooked piece
+abbrev cooked : List ℕ → List ℕ
+cooked x = 1 ∷ long x
+
+abbrev cases : List (List ℕ × Decoded DynamicArgument)
+cases =
+    (a, ok (string (ascii "a")) [])
+    ∷ (b, ok expr [])
+    ∷ (at 3 (0 ∷ cooked (ascii "a")), ok (string (ascii "a")) [])
+    ∷ (at 3 (0 ∷ cooked []), ok (string []) [])
+    ∷ (at 3 (1 ∷ cooked [] ++ cooked (ascii "c") ++ b), ok (template (Option.none ∷ Option.some (ascii "c") ∷ [])) [])
+    ∷ (at 3 (1 ∷ cooked (ascii "a") ++ cooked [] ++ b), ok (template (Option.some (ascii "a") ∷ Option.none ∷ [])) [])
+    ∷ (plus (plus a b) c, ok (template (Option.some (ascii "a") ∷ Option.none ∷ Option.some (ascii "c") ∷ [])) [])
+    ∷ (plus a (plus b c), ok (template (Option.some (ascii "a") ∷ Option.none ∷ [])) [])
+    ∷ (plus b c, ok expr [])
+    ∷ (plus (minus a b) c, ok expr [])
+    ∷ (minus (plus a b) c, ok expr [])
+    ∷ []
+
+as-stated : map (λ x. (x .0, onOk argumentOf (node [] 64 (x .0)))) cases ≡ cases
+unfolding byte below flag bytes lastGroup groups number count text admits lengthBy charLength formed replacing isBoundary position endFrom span many tag piece nodes stringFields
+    nameFields templateFields binaryFields fields node chain argumentOf
+as-stated = refl

@@ -1,0 +1,24 @@
+-- The argument that an expression is, from what was read of it.
+use mathlib.Core.Path.{_≡_}
+use mathlib.Core.List.{List}
+use Prim.Native.Nat.{ℕ}
+use Rattle.laws.specs.Decoded.{Decoder}
+use Rattle.text.specs.Lossy.{lossy}
+use Rattle.wire.specs.declared.Cursor.{Cursor}
+use Rattle.wire.specs.Views.{part}
+use Rattle.sheet.specs.Tree.{Node}
+use Rattle.report.specs.ModuleInfo as info
+use Rattle.arguments.specs.Argument.{ofPieces, chain, ofChain, argumentOf}
+use Rattle.arguments.specs.Stands.{IsString, IsTemplate, IsPlus}
+
+pub string-argument : {s : List ℕ} {from to : ℕ} {next : Cursor} {n : Node} {t : List ℕ} → IsString s from to next n t → argumentOf n ≡ info.string (lossy (part s from to))
+unfolding argumentOf
+string-argument r = rw (r .is)
+
+pub template-argument : {s : List ℕ} {holes : ℕ} {next : Cursor} {n : Node} (r : IsTemplate s holes next n) → argumentOf n ≡ ofPieces (r .pieces)
+unfolding argumentOf
+template-argument r = rw (r .is)
+
+pub plus-argument : {s : List ℕ} {inner : Decoder Node} {next : Cursor} {n : Node} {t : List ℕ} → IsPlus s inner next n t → argumentOf n ≡ ofChain (chain n)
+unfolding argumentOf
+plus-argument r = rw (r .is)

@@ -1,0 +1,5 @@
+pub mod Expressions
+pub mod Chains
+pub mod Pieces
+pub mod Arguments
+pub mod ArgumentCases

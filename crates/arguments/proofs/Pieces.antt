@@ -1,0 +1,118 @@
+-- Pieces of a template read one after the other, and the parts that they give.
+use mathlib.Core.Path.{_≡_, refl, sym, ap, _∙_}
+use mathlib.Core.Bool.{Bool, true, false, cond}
+use mathlib.Core.List.{List, [], _∷_, _++_, append-nil}
+use mathlib.Core.Option.{Option}
+use Prim.Native.Nat.{ℕ, zero, suc, _+_, _-_, _≤_, _<_}
+use native.Mathlib.Omega.{arith}
+use lib.Dec.{ltb}
+use lib.ListN.{length, length-take, length-drop}
+use borrow.Author.Tests.{lt-ltb}
+use Rattle.laws.specs.Decoded.{ok, no, onOk, Decoder, return}
+use Rattle.laws.proofs.Decoding.{refused, then-ok, onOk-ok}
+use Rattle.text.specs.declared.utf8.Encoding.the-variants.{Wtf8}
+use Rattle.wire.specs.Fields.{flag}
+use Rattle.wire.specs.Text.{text}
+use Rattle.text.specs.Lossy.{lossy}
+use Rattle.wire.specs.Views.{part}
+use Rattle.sheet.specs.Tree.{Pieces}
+use Rattle.sheet.specs.Nodes.{many, piece}
+use Rattle.sheet.specs.Walked.{one}
+use Rattle.report.specs.ModuleInfo as info
+use Rattle.arguments.specs.Argument.{pieceParts, holeParts, templateParts, ofPieces}
+
+-- so many items, if they were read: the first and the others, or none
+module _ {L : Type 0} (end : L) (item : Decoder (L → L)) {l : L} {u : List ℕ} where
+  many-next : (k : ℕ) (s : List ℕ) {add : L → L} {t : List ℕ} → 0 < k → item s ≡ ok add t → many end item k s ≡ ok l u
+      → (m : L) × (many end item (k - 1) t ≡ ok m u) × (add m ≡ l)
+  unfolding many
+  many-next zero s h e f = absurd (omega arith)
+  many-next (suc k) s {add} {t} h e f = let down : suc k - 1 ≡ k = omega arith in rw down (onOk-ok add (many end item k t) (rw e at f))
+
+  pub many-refused : (k : ℕ) (s : List ℕ) {r : ℕ} → 0 < k → item s ≡ no r → many end item k s ≡ ok l u → ⊥
+  unfolding many
+  many-refused zero s h e f = omega arith
+  many-refused (suc k) s h e f = refused (rw e at f)
+
+  pub many-end : (k : ℕ) (s : List ℕ) → k ≤ 0 → many end item k s ≡ ok l u → l ≡ end
+  unfolding many
+  many-end zero s h e = cc
+  many-end (suc k) s h e = absurd (omega arith)
+
+-- a piece is added in front
+one-piece : (s : List ℕ) {add : Pieces → Pieces} {t : List ℕ} → piece s ≡ ok add t → (p : Option (List ℕ)) × ((ps : Pieces) → add ps ≡ p ∷ ps)
+unfolding piece
+one-piece s {add} {t} e = let (cooked, u, x, y) = then-ok (flag s) _ e in by-flag cooked u y
+  where
+    by-flag : (cooked : Bool) (u : List ℕ) → cond cooked (λ s. onOk (λ x. Option.some x ∷_) (text Wtf8 4096 s)) (return (Option.none ∷_)) u ≡ ok add t
+        → (p : Option (List ℕ)) × ((ps : Pieces) → add ps ≡ p ∷ ps)
+    by-flag true u e = let (x, f, g) = onOk-ok (λ x. Option.some x ∷_) (text Wtf8 4096 u) e in (Option.some x, λ ps. sym (ap (λ h. h ps) g))
+    by-flag false u e = let g : (Option.none ∷_) ≡ add = cc in (Option.none, λ ps. sym (ap (λ h. h ps) g))
+
+-- one piece, and so many more
+some-piece : (k : ℕ) (s : List ℕ) {ps : Pieces} {u : List ℕ} → many [] piece (suc k) s ≡ ok ps u
+    → (p : Option (List ℕ)) × (qs : Pieces) × (t : List ℕ) × (many [] piece k t ≡ ok qs u) × (p ∷ qs ≡ ps)
+unfolding many
+some-piece k s e =
+    let (add, t, first, behind) = then-ok (piece s) _ e in
+    let (qs, others, is) = onOk-ok add (many [] piece k t) behind in
+    let (p, adds) = one-piece s first in
+    (p, qs, t, others, sym (adds qs) ∙ is)
+
+-- the parts of a piece, of the hole behind it if one follows, and of the other pieces
+next-parts : (p : Option (List ℕ)) (left : ℕ) (t : List ℕ) {ps : Pieces} {u : List ℕ} → 0 < left → many [] piece (left - 1) t ≡ ok ps u
+    → templateParts (p ∷ ps) ≡ pieceParts p ++ (holeParts (ltb 1 left) ++ templateParts ps)
+next-parts p zero t h e = absurd (omega arith)
+next-parts p (suc zero) t {ps} h e = let none : ps ≡ [] = many-end [] piece 0 t (omega arith) e in rw (none, append-nil)
+next-parts p (suc (suc k)) t {ps} {u} h e =
+    let down : suc (suc k) - 1 ≡ suc k = omega arith in
+    let (q, qs, v, others, is) = some-piece k t (rw down at e) in
+    by-first q qs is
+  where
+    by-first : (q : Option (List ℕ)) (qs : Pieces) → q ∷ qs ≡ ps → templateParts (p ∷ ps) ≡ pieceParts p ++ (holeParts (ltb 1 (suc (suc k))) ++ templateParts ps)
+    by-first q qs is = rw (← is, lt-ltb 1 (suc (suc k)) (omega arith))
+
+-- the first of so many pieces, and the others
+pub piece-next : (left : ℕ) (s : List ℕ) {p : Option (List ℕ)} {t : List ℕ} {ps : Pieces} {u : List ℕ} → 0 < left → piece s ≡ ok (p ∷_) t → many [] piece left s ≡ ok ps u
+    → (qs : Pieces) × (many [] piece (left - 1) t ≡ ok qs u) × (templateParts ps ≡ pieceParts p ++ (holeParts (ltb 1 left) ++ templateParts qs))
+piece-next left s {p} {t} h e f =
+    let (qs, behind, is) = many-next [] piece left s h e f in
+    (qs, behind, sym (ap templateParts is) ∙ next-parts p left t h behind)
+
+-- a piece of a sheet s is a part if it has text
+module _ (s : List ℕ) (from to : ℕ) where
+  pub text-part : from < to → to ≤ length s → pieceParts (Option.some (part s from to)) ≡ Option.some (lossy (part s from to)) ∷ []
+  text-part h k = some-text (part s from to) (simp (length-take, length-drop) (omega arith))
+    where
+      some-text : (x : List ℕ) → 0 < length x → pieceParts (Option.some x) ≡ Option.some (lossy x) ∷ []
+      some-text [] h = absurd (omega arith)
+      some-text (b ∷ x) h = refl
+
+  pub no-part : to ≤ from → pieceParts (Option.some (part s from to)) ≡ []
+  no-part h = let none : to - from ≡ 0 = omega arith in rw none
+
+pub hole-count : (there : Bool) → length (holeParts there) ≡ one there
+hole-count true = refl
+hole-count false = refl
+
+-- a test counts for one at most
+pub one-most : (b : Bool) → one b ≤ 1
+one-most true = omega arith
+one-most false = omega arith
+
+-- a template without holes is its one piece, any other is its parts
+module _ (holes : ℕ) (s : List ℕ) {ps : Pieces} {u : List ℕ} (read : many [] piece (holes + 1) s ≡ ok ps u) where
+  pub one-only : {p : Option (List ℕ)} {t : List ℕ} → holes ≡ 0 → piece s ≡ ok (p ∷_) t → ps ≡ p ∷ []
+  one-only {p} {t} none e =
+      let (qs, behind, is) = many-next [] piece (holes + 1) s (omega arith) e read in
+      sym is ∙ ap (p ∷_) (many-end [] piece (holes + 1 - 1) t (omega arith) behind)
+
+  pub of-parts : (holes ≡ 0 → ⊥) → ofPieces ps ≡ info.template (templateParts ps)
+  of-parts some =
+      let two : holes + 1 ≡ suc (suc (holes - 1)) = omega arith in
+      let (p, qs, t, others, is) = some-piece (suc (holes - 1)) s (rw two at read) in
+      let (q, rs, v, behind, has) = some-piece (holes - 1) t others in
+      by-two p q rs (ap (p ∷_) has ∙ is)
+    where
+      by-two : (p q : Option (List ℕ)) (rs : Pieces) → p ∷ q ∷ rs ≡ ps → ofPieces ps ≡ info.template (templateParts ps)
+      by-two p q rs is = rw (← is)

@@ -1,0 +1,50 @@
+use mathlib.Core.List.{[]}
+use Prim.Native.Nat.{_+_}
+use native.Mathlib.Omega.{arith}
+use borrow.Author.Needs.{needs}
+use lib.ListN.{drop}
+use denote.Ref.{now}
+use Rattle.laws.proofs.Steps.{seen}
+use Rattle.sheet.specs.Nodes.{piece}
+use Rattle.heads.specs.Views.{pieceAs}
+use Rattle.arguments.proofs.Pieces.{many-refused, one-only, of-parts}
+use Rattle.arguments.proofs.argument.parse_template.Statement.{statement}
+use Rattle.arguments.proofs.argument.parse_template.Tie as tie
+
+returns : tie.Need-returns
+returns c =
+    let a = c .before .before .before .before .before .before .args in
+    let s = now (a .sheet) in
+    let past = rw (c .before .from .given .1) at (c .before .before .before .read-piece .ensures .1) in
+    (λ source levels ps u e. rw (one-only (a .holes) (drop (a .c .at) s) e (c .before .before .before .before .if1 .taken) (seen (pieceAs s) (c .before .before .before .read-piece .ensures .0) (c .before .from .given .1))), (past .1, past .2))
+
+returns-2 : tie.Need-returns-2
+returns-2 c =
+    let a = c .before .before .before .before .before .args in
+    let s = now (a .sheet) in
+    (λ source levels ps u e. rw (one-only (a .holes) (drop (a .c .at) s) e (c .before .before .before .if1 .taken) (seen (pieceAs s) (c .before .before .read-piece .ensures .0) (c .enum-told .given .1))), tt)
+
+returns-3 : tie.Need-returns-3
+returns-3 c =
+    let a = c .before .before .before .before .before .args in
+    let s = now (a .sheet) in
+    (λ source levels ps u e. absurd (many-refused [] piece (a .holes + 1) (drop (a .c .at) s) (omega arith) (seen (pieceAs s) (c .before .before .read-piece .ensures .0) (c .enum-told2 .given .1)) e), tt)
+
+returns-4 : tie.Need-returns-4
+returns-4 c =
+    let a = c .before .before .before .args in
+    (λ source levels ps u e. (ps, u, e, c .count-parts .ensures ps u e, of-parts (a .holes) (drop (a .c .at) (now (a .sheet))) e (c .before .if1 .left)), c .before .before .before .pre)
+
+pub parse-template-spec : {M : Type 1} → statement M
+parse-template-spec =
+    tie.close
+    (tie.spec
+    (λ c κs. search needs)
+    (λ c. search needs)
+    (λ c. search needs)
+    (λ c. search needs)
+    returns
+    returns-2
+    returns-3
+    (λ c κs. search needs)
+    returns-4)

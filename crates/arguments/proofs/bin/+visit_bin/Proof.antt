@@ -1,0 +1,107 @@
+use Prim.Native.Nat.{ℕ, _<_}
+use native.Mathlib.Omega.{arith}
+use borrow.Author.Needs.{needs}
+use borrow.Fn.Kinds.{In}
+use borrow.Fn.PlainCycle.{Measures, is, falls, and}
+use denote.Ref.{now}
+use Rattle.laws.proofs.Steps.{seen}
+use Rattle.nodes.specs.Answers.{checkedAs}
+use Rattle.arguments.proofs.Chains.{checked-refused, string-counted, template-chain, plus-unknown, at-right, plus-counted}
+use Rattle.arguments.proofs.bin.visit_bin.Reads as visit-bin
+use Rattle.arguments.proofs.bin.visit_bin.Kinds as visit-bin-kinds
+use Rattle.arguments.proofs.bin.+visit_bin.Lts-visit_bin as visit-bin-lts
+use Rattle.arguments.proofs.expression.read_expression.Reads as read-expression
+use Rattle.nodes.proofs.check.check_node.Reads as check-node
+use Rattle.arguments.proofs.bin.+visit_bin.{statement}
+use Rattle.arguments.proofs.bin.+visit_bin.Tie.{close}
+
+-- the levels that are left
+abbrev μ-visit-bin : Measures 2 visit-bin-kinds.ps ℕ
+μ-visit-bin κs a = a .1 .1 .1 .0
+
+abbrev visit-bin-at : ℕ → In 2 visit-bin-kinds.ps
+visit-bin-at t = and 2 visit-bin-kinds.ps (is 2 visit-bin-kinds.ps μ-visit-bin t) visit-bin.Pre
+
+abbrev visit-bin-below : ℕ → In 2 visit-bin-kinds.ps
+visit-bin-below t = and 2 visit-bin-kinds.ps (falls 2 visit-bin-kinds.ps _<_ μ-visit-bin t) visit-bin.Pre
+
+abbrev calls : ℕ → visit-bin-lts.Claims
+calls t = (read-expression.Asked, read-expression.Learnt, visit-bin-below t, visit-bin.Post, check-node.Asked, check-node.Learnt)
+
+sub-visit-bin : (t : ℕ) → visit-bin-lts.Need-sub-visit-bin (calls t) (visit-bin-at t) visit-bin.Post
+sub-visit-bin t c = (rw (c .before .next2 .given .1) at (c .before .before .before .read-expression .ensures .1))
+
+visit-bin-requires : (t : ℕ) → visit-bin-lts.Need-visit-bin-requires (calls t) (visit-bin-at t) visit-bin.Post
+visit-bin-requires t c κs =
+    let past = rw (c .before .next2 .given .1) at (c .before .before .before .read-expression .ensures .1) in
+    (omega arith, search needs)
+
+sub-check-node : (t : ℕ) → visit-bin-lts.Need-sub-check-node (calls t) (visit-bin-at t) visit-bin.Post
+sub-check-node t c = (rw (c .before .before .before .before .before .next2 .given .1) at (c .before .before .before .before .before .before .before .read-expression .ensures .1))
+
+add-t18 : (t : ℕ) → visit-bin-lts.Need-add-t18 (calls t) (visit-bin-at t) visit-bin.Post
+add-t18 t c =
+    let past = rw (c .before .before .before .before .before .before .before .before .before .next2 .given .1) at (c .before .before .before .before .before .before .before .before .before .before .before .read-expression .ensures .1) in
+    let most = rw (c .before .before .before .before .before .n .given .1) at (c .before .before .before .before .before .before .before .visit-bin .ensures .1) in
+    omega arith
+
+returns : (t : ℕ) → visit-bin-lts.Need-returns (calls t) (visit-bin-at t) visit-bin.Post
+returns t c =
+    let past = rw (c .before .next .given .1) at (c .before .before .before .read-expression .ensures .1) in
+    (λ n u e. string-counted (rw (c .before .next .given .1) at (c .before .before .before .read-expression .ensures .0 n u e)), past .0)
+
+returns-2 : (t : ℕ) → visit-bin-lts.Need-returns-2 (calls t) (visit-bin-at t) visit-bin.Post
+returns-2 t c = (λ n u e. rw (template-chain (rw (c .enum-told .given .1) at (c .before .before .read-expression .ensures .0 n u e))), tt)
+
+returns-3 : (t : ℕ) → visit-bin-lts.Need-returns-3 (calls t) (visit-bin-at t) visit-bin.Post
+returns-3 t c =
+    (λ n u e. plus-unknown (rw (c .before .before .before .before .next2 .given .1) at (c .before .before .before .before .before .before .read-expression .ensures .0 n u e)) (rw (c .enum-told2 .given .1) at (c .before .before .visit-bin .ensures .0)), tt)
+
+returns-4 : (t : ℕ) → visit-bin-lts.Need-returns-4 (calls t) (visit-bin-at t) visit-bin.Post
+returns-4 t c =
+    let s = now (c .before .before .before .before .before .before .before .before .before .before .before .before .before .args .sheet) in (
+      λ n u e.
+          let plus = rw (c .before .before .before .before .before .before .before .before .next2 .given .1) at (c .before .before .before .before .before .before .before .before .before .before .read-expression .ensures .0 n u e) in
+          absurd (checked-refused (at-right plus (rw (c .before .before .before .before .n .given .1) at (c .before .before .before .before .before .before .visit-bin .ensures .0))) (seen (checkedAs s) (c .before .before .check-node .ensures .0) (c .enum-told3 .given .1))),
+      tt,
+    )
+
+returns-5 : (t : ℕ) → visit-bin-lts.Need-returns-5 (calls t) (visit-bin-at t) visit-bin.Post
+returns-5 t c =
+    let s = now (c .before .before .before .before .before .before .before .before .before .before .before .before .before .before .args .sheet) in
+    let past = rw (c .before .before .before .before .before .before .before .before .before .next2 .given .1) at (c .before .before .before .before .before .before .before .before .before .before .before .read-expression .ensures .1) in
+    let most = rw (c .before .before .before .before .before .n .given .1) at (c .before .before .before .before .before .before .before .visit-bin .ensures .1) in (
+      λ n u e.
+          let plus = rw (c .before .before .before .before .before .before .before .before .before .next2 .given .1) at (c .before .before .before .before .before .before .before .before .before .before .before .read-expression .ensures .0 n u e) in
+          plus-counted plus (rw (c .before .before .before .before .before .n .given .1) at (c .before .before .before .before .before .before .before .visit-bin .ensures .0)) (seen (checkedAs s) (c .before .before .before .check-node .ensures .0) (c .before .next3 .given .1)),
+      omega arith,
+    )
+
+returns-6 : (t : ℕ) → visit-bin-lts.Need-returns-6 (calls t) (visit-bin-at t) visit-bin.Post
+returns-6 t c = (λ n u e. rw ((rw (c .enum-told4 .given .1) at (c .before .before .read-expression .ensures .0 n u e)) .parts), tt)
+
+pub +visit-bin-spec : {M : Type 1} → statement M
++visit-bin-spec =
+    close
+    μ-visit-bin
+    (λ t. visit-bin-lts.spec (calls t) (visit-bin-at t) visit-bin.Post
+    (λ c κs. search needs)
+    (λ c. search needs)
+    (λ c. search needs)
+    (λ c. search needs)
+    (sub-visit-bin t)
+    (visit-bin-requires t)
+    (λ c. search needs)
+    (λ c. search needs)
+    (sub-check-node t)
+    (λ c κs. search needs)
+    (λ c. search needs)
+    (λ c. search needs)
+    (add-t18 t)
+    (λ c. search needs)
+    (returns t)
+    (returns-2 t)
+    (returns-3 t)
+    (returns-4 t)
+    (returns-5 t)
+    (returns-6 t))

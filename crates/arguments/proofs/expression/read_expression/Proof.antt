@@ -1,0 +1,55 @@
+use borrow.Author.Needs.{needs}
+use denote.Ref.{now}
+use Rattle.arguments.proofs.Expressions.{reads-string, reads-template, reads-plus, reads-minus, reads-other, head-refused}
+use Rattle.arguments.proofs.expression.read_expression.Statement.{statement}
+use Rattle.arguments.proofs.expression.read_expression.Tie as tie
+
+returns : tie.Need-returns
+returns c =
+    let a = c .before .before .before .before .before .before .before .before .before .before .args in
+    let past = rw (c .before .before .before .before .before .head .given .1) at (c .before .before .before .before .before .before .before .read-head .ensures .1) in
+    (λ n t e. reads-plus (now (a .sheet)) (now (a .source)) (a .c .at) (a .levels) (c .before .before .before .before .before .before .before .read-head .ensures .0) (c .before .before .before .before .before .head .given .1) e (c .before .before .head4 .given .1) (c .if1 .taken), past .0)
+
+returns-2 : tie.Need-returns-2
+returns-2 c =
+    let a = c .before .before .before .before .before .args in
+    (λ n t e. absurd (head-refused (now (a .sheet)) (now (a .source)) (a .c .at) (a .levels) (c .before .before .read-head .ensures .0) (c .enum-told .given .1) e), tt)
+
+returns-3 : tie.Need-returns-3
+returns-3 c =
+    let a = c .before .before .before .before .before .before .before .before .before .args in
+    let past = rw (c .before .before .before .before .head .given .1) at (c .before .before .before .before .before .before .read-head .ensures .1) in
+    (λ n t e. reads-string (now (a .sheet)) (now (a .source)) (a .c .at) (a .levels) (c .before .before .before .before .before .before .read-head .ensures .0) (c .before .before .before .before .head .given .1) e (c .before .head2 .given .1), (past .0, rw (c .before .head2 .given .1) at (past .3)))
+
+returns-4 : tie.Need-returns-4
+returns-4 c =
+    let a = c .before .before .before .before .before .before .before .before .before .args in
+    let past = rw (c .before .before .before .before .head .given .1) at (c .before .before .before .before .before .before .read-head .ensures .1) in
+    (λ n t e. reads-template (now (a .sheet)) (now (a .source)) (a .c .at) (a .levels) (c .before .before .before .before .before .before .read-head .ensures .0) (c .before .before .before .before .head .given .1) e (c .before .head3 .given .1), (past .0, rw (c .before .head3 .given .1) at (past .3)))
+
+returns-5 : tie.Need-returns-5
+returns-5 c =
+    let a = c .before .before .before .before .before .before .before .before .before .before .args in
+    (λ n t e. reads-minus (now (a .sheet)) (now (a .source)) (a .c .at) (a .levels) (c .before .before .before .before .before .before .before .read-head .ensures .0) (c .before .before .before .before .before .head .given .1) e (c .before .before .head4 .given .1) (c .if1 .left), tt)
+
+returns-6 : tie.Need-returns-6
+returns-6 c =
+    let a = c .before .before .before .before .before .before .before .args in
+    (λ n t e. reads-other (now (a .sheet)) (now (a .source)) (a .c .at) (a .levels) (c .before .before .before .before .read-head .ensures .0) (c .before .before .head .given .1) e (c .match2 .keys4), tt)
+
+pub read-expression-spec : {M : Type 1} → statement M
+read-expression-spec =
+    tie.close
+    (tie.spec
+    (λ c κs. search needs)
+    (λ c. search needs)
+    (λ c. search needs)
+    (λ c. search needs)
+    (λ c. search needs)
+    (λ c. search needs)
+    returns
+    returns-2
+    returns-3
+    returns-4
+    returns-5
+    returns-6)

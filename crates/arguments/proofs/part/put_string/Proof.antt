@@ -1,0 +1,21 @@
+use borrow.Author.Needs.{needs}
+use Rattle.report.specs.Encode.{encodeOptional}
+use Rattle.report.proofs.Worlds.{wrote-cons}
+use Rattle.arguments.proofs.part.put_string.Statement.{statement}
+use Rattle.arguments.proofs.part.put_string.Tie as tie
+
+returns : tie.Need-returns
+unfolding encodeOptional
+returns c = rw (wrote-cons, ← (c .before .before .before .before .before .before .before .put .ensures)) (c .before .before .put-lossy-text .ensures)
+
+pub put-string-spec : {M : Type 1} → statement M
+put-string-spec =
+    tie.close
+    (tie.spec
+    (λ c κs. search needs)
+    (λ c. search needs)
+    (λ c. search needs)
+    (λ c. search needs)
+    (λ c κs. search needs)
+    (λ c. search needs)
+    returns)

@@ -1,0 +1,106 @@
+use mathlib.Core.Path.{_≡_, refl, sym, _∙_}
+use mathlib.Core.List.{List, []}
+use Prim.Native.Nat.{ℕ}
+use native.Mathlib.Omega.{arith}
+use borrow.Author.Needs.{needs}
+use lib.Dec.{ltb}
+use lib.ListN.{length, drop}
+use denote.Ref.{now}
+use Rattle.laws.specs.Decoded.{ok}
+use Rattle.laws.proofs.Steps.{seen}
+use Rattle.sheet.specs.Tree.{Pieces}
+use Rattle.sheet.specs.Nodes.{many, piece}
+use Rattle.heads.specs.Views.{pieceAs}
+use Rattle.report.specs.Encode.{each}
+use Rattle.report.specs.World.{wrote, worldAs}
+use Rattle.report.proofs.Worlds.{wrote-nil}
+use Rattle.arguments.specs.Argument.{holeParts, templateParts}
+use Rattle.arguments.specs.Stands.{encodeParts}
+use Rattle.arguments.proofs.Chains.{wrote-parts}
+use Rattle.arguments.proofs.Pieces.{many-refused, many-end, piece-next}
+use Rattle.arguments.proofs.template.put_parts.Statement.{statement}
+use Rattle.arguments.proofs.template.put_parts.Tie as tie
+
+-- the parts of the pieces that are left, behind those that were written
+abbrev Inv-loop : tie.InvT-loop
+Inv-loop sheet holes out₀ left₀ at₀ p₀ out left at p =
+    (length out ≡ length out₀)
+    × ((ps : Pieces) (u : List ℕ) → many [] piece left₀ (drop (at₀ .at) sheet) ≡ ok ps u
+    → (qs : Pieces) × (many [] piece left (drop (at .at) sheet) ≡ ok qs u)
+    × (wrote (worldAs out₀ p₀) (encodeParts (templateParts ps)) ≡ wrote (worldAs out p) (encodeParts (templateParts qs))))
+
+abbrev μ-loop : tie.MeasureT-loop
+μ-loop sheet holes out₀ left₀ at₀ p₀ out left at p = left
+
+loop-holds : tie.Need-loop-holds Inv-loop μ-loop
+loop-holds c = (refl, λ ps u e. (ps, e, refl))
+
+returns : tie.Need-returns Inv-loop μ-loop
+returns c ps u e =
+    let s = now (c .before .before .before .before .before .before .before .args .sheet) in
+    let l = c .before .before .before .before .loop in
+    let (qs, read, total) = l .inv .1 ps u e in
+    absurd (many-refused [] piece (l .left) (drop (l .at .at) s) (c .before .before .before .loop-test .taken) (seen (pieceAs s) (c .before .before .read-piece .ensures .0) (c .enum-told .given .1)) read)
+
+put-piece-requires : tie.Need-put-piece-requires Inv-loop μ-loop
+put-piece-requires c κs =
+    let past = rw (c .before .before .from .given .1) at (c .before .before .before .before .read-piece .ensures .1) in
+    (past .1, past .2)
+
+loop-again : tie.Need-loop-again Inv-loop μ-loop
+loop-again c =
+    let s = now (c .before .before .before .before .before .before .before .before .before .before .before .before .before .before .before .before .args .sheet) in
+    let l = c .before .before .before .before .before .before .before .before .before .before .before .before .before .loop in
+    let is = seen (pieceAs s) (c .before .before .before .before .before .before .before .before .before .before .before .read-piece .ensures .0) (c .before .before .before .before .before .before .before .before .before .from .given .1) in (
+      omega arith,
+      λ ps u e.
+          let (qs, read, total) = l .inv .1 ps u e in
+          let (rs, behind, parts) = piece-next (l .left) (drop (l .at .at) s) (c .before .before .before .before .before .before .before .before .before .before .before .before .loop-test .taken) is read in
+          (rs, behind, total ∙ rw (parts, wrote-parts, ← (c .before .before .before .before .before .before .put-piece .ensures), wrote-parts, ← (c .before .before .put-hole .ensures))),
+    )
+
+loop-again-2 : tie.Need-loop-again-2 Inv-loop μ-loop
+loop-again-2 c =
+    let s = now (c .before .before .before .before .before .before .before .before .before .before .before .before .args .sheet) in
+    let l = c .before .before .before .before .before .before .before .before .before .loop in
+    let is = seen (pieceAs s) (c .before .before .before .before .before .before .before .read-piece .ensures .0) (c .before .before .before .before .before .next .given .1) in (
+      omega arith,
+      λ ps u e.
+          let (qs, read, total) = l .inv .1 ps u e in
+          let (rs, behind, parts) = piece-next (l .left) (drop (l .at .at) s) (c .before .before .before .before .before .before .before .before .loop-test .taken) is read in
+          (rs, behind, total ∙ rw (parts, wrote-parts (worldAs (l .out) (l .p)) (holeParts (ltb 1 (l .left))) (templateParts rs), ← (c .before .before .put-hole2 .ensures))),
+    )
+
+returns-2 : tie.Need-returns-2 Inv-loop μ-loop
+unfolding each
+returns-2 c ps u e =
+    let s = now (c .before .before .before .before .args .sheet) in
+    let l = c .before .loop in
+    let (qs, read, total) = l .inv .1 ps u e in
+    sym (total ∙ rw (many-end [] piece (l .left) (drop (l .at .at) s) (c .loop-test .left) read) (wrote-nil (l .out) (l .p)))
+
+pub put-parts-spec : {M : Type 1} → statement M
+put-parts-spec =
+    tie.close
+    (tie.spec
+    Inv-loop
+    μ-loop
+    (λ c. search needs)
+    loop-holds
+    (λ c κs. search needs)
+    (λ c. search needs)
+    (λ c. search needs)
+    returns
+    (λ c. search needs)
+    put-piece-requires
+    (λ c κs. search needs)
+    (λ c. search needs)
+    (λ c. search needs)
+    loop-again
+    (λ c. search needs)
+    (λ c κs. search needs)
+    (λ c. search needs)
+    (λ c. search needs)
+    loop-again-2
+    (λ c. search needs)
+    returns-2)

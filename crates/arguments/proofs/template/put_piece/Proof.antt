@@ -1,0 +1,23 @@
+use mathlib.Core.Path.{sym}
+use borrow.Author.Needs.{needs}
+use denote.Ref.{now}
+use Rattle.report.specs.Encode.{each}
+use Rattle.report.proofs.Worlds.{wrote-nil}
+use Rattle.arguments.proofs.Chains.{encode-one}
+use Rattle.arguments.proofs.Pieces.{text-part, no-part}
+use Rattle.arguments.proofs.template.put_piece.Statement.{statement}
+use Rattle.arguments.proofs.template.put_piece.Tie as tie
+
+returns : tie.Need-returns
+returns c =
+    let a = c .before .before .before .before .before .before .before .args in
+    rw (text-part (now (a .sheet)) (a .from) (a .to) (c .before .before .before .before .if1 .taken) (c .before .before .before .before .before .before .before .pre .1), encode-one) (c .before .before .put-string .ensures)
+
+returns-2 : tie.Need-returns-2
+unfolding each
+returns-2 c =
+    let a = c .before .before .before .args in
+    rw (no-part (now (a .sheet)) (a .from) (a .to) (c .if1 .left)) (sym (wrote-nil (now (a .out)) (a .place)))
+
+pub put-piece-spec : {M : Type 1} → statement M
+put-piece-spec = tie.close (tie.spec (λ c κs. search needs) (λ c. search needs) returns returns-2)

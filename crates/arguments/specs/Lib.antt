@@ -1,0 +1,2 @@
+pub mod Argument
+pub mod Stands

@@ -1,0 +1,102 @@
+// The argument of a dynamic import, and its writer.
+use super::bin::Parts;
+use super::bin::put_bin;
+use super::bin::visit_bin;
+use super::expression::Expression;
+use super::expression::read_expression;
+use super::template::count_parts;
+use super::template::put_parts;
+use heads::parts::PieceRead;
+use heads::parts::read_piece;
+use report::writer::Place;
+use wire::Cursor;
+ghost use mathlib.Core.Path.{_≡_};
+ghost use mathlib.Core.List.{List, []};
+ghost use Prim.Native.Nat.{ℕ, _+_, _≤_};
+ghost use lib.ListN.{length, drop};
+ghost use Rattle.laws.specs.Decoded.{ok};
+ghost use Rattle.wire.specs.Number.{largest};
+ghost use Rattle.sheet.specs.Tree.{Node, Pieces};
+ghost use Rattle.sheet.specs.Nodes.{node, many, piece};
+ghost use Rattle.report.specs.ModuleInfo as info;
+ghost use Rattle.report.specs.Encode.{encodeArgument};
+ghost use Rattle.report.specs.World.{wrote, worldAs};
+ghost use Rattle.arguments.specs.Argument.{ofPieces, argumentOf};
+ghost use Rattle.arguments.specs.Stands.{Stands, InSheet};
+
+// Offsets into the sheet stand for the Rust's `Vec` of parts.
+pub enum DynamicArgument {
+    Expr,
+    // A text.
+    String(usize, usize),
+    // The number of parts, of holes, and the place of the pieces.
+    Template(usize, usize, usize),
+    // The number of parts, and the place of the node.
+    Chain(usize, usize),
+}
+
+// A template by its holes: one of one piece is its text.
+fn parse_template(sheet: &[u8], c: Cursor, holes: usize) -> DynamicArgument
+    requires { ⌜ holes ≤ largest ⌝ }
+    ensures { λ r. ⌜ ((source : List ℕ) (levels : ℕ) (ps : Pieces) (u : List ℕ) → many [] piece (holes + 1) (drop (c .at) (now (sheet .entry))) ≡ ok ps u
+        → Stands (now (sheet .entry)) source levels r (ofPieces ps)) ⌝ }
+    ensures { λ r. ⌜ InSheet (length (now (sheet .entry))) r ⌝ }
+{
+    if holes == 0 {
+        return match read_piece(sheet, c) {
+            PieceRead::Cooked(from, next) => DynamicArgument::String(from, next.at),
+            PieceRead::Uncooked(_) => DynamicArgument::Expr,
+            PieceRead::Refused(_) => DynamicArgument::Expr,
+        };
+    }
+    DynamicArgument::Template(count_parts(sheet, c, holes), holes, c.at)
+}
+
+// The argument whose node is at a cursor, with so many levels left, its own among them.
+pub fn parse_argument(sheet: &[u8], source: &[u8], c: Cursor, levels: usize) -> DynamicArgument
+    ensures { λ r. ⌜ ((n : Node) (t : List ℕ) → node (now (source .entry)) levels (drop (c .at) (now (sheet .entry))) ≡ ok n t
+        → Stands (now (sheet .entry)) (now (source .entry)) levels r (argumentOf n)) ⌝ }
+    ensures { λ r. ⌜ InSheet (length (now (sheet .entry))) r ⌝ }
+{
+    match read_expression(sheet, source, c, levels) {
+        Expression::String(from, to, _) => DynamicArgument::String(from, to),
+        Expression::Template(holes, next) => parse_template(sheet, next, holes),
+        Expression::Plus(_) => match visit_bin(sheet, source, c, levels) {
+            Parts::Are(n, _) => DynamicArgument::Chain(n, c.at),
+            Parts::Unknown => DynamicArgument::Expr,
+        },
+        Expression::Other => DynamicArgument::Expr,
+    }
+}
+
+// Writes an argument.
+pub fn put_argument(
+    sheet: &[u8],
+    source: &[u8],
+    levels: usize,
+    a: DynamicArgument,
+    out: &mut [u8],
+    place: Place,
+) -> Place
+    requires { ⌜ InSheet (length (now sheet)) a ⌝ }
+    ensures { λ r. ⌜ ((v : info.DynamicArgument) → Stands (now (sheet .entry)) (now (source .entry)) levels a v
+        → worldAs (now (out .exit)) r ≡ wrote (worldAs (now (out .entry)) place) (encodeArgument v)) ⌝ }
+{
+    match a {
+        DynamicArgument::Expr => place.put(out, 0),
+        DynamicArgument::String(from, to) => {
+            let p = place.put(out, 1);
+            p.put_lossy_text(out, &sheet[from..to])
+        }
+        DynamicArgument::Template(n, holes, at) => {
+            let p = place.put(out, 2);
+            let p = p.put_number(out, n);
+            put_parts(sheet, Cursor { at }, holes, out, p)
+        }
+        DynamicArgument::Chain(n, at) => {
+            let p = place.put(out, 2);
+            let p = p.put_number(out, n);
+            put_bin(sheet, source, Cursor { at }, levels, out, p).place
+        }
+    }
+}

@@ -1,0 +1,108 @@
+// A chain of pluses whose leftmost side is a String.
+use super::expression::Expression;
+use super::expression::read_expression;
+use super::part::put_expr;
+use super::part::put_string;
+use nodes::check::check_node;
+use nodes::tally::Checked;
+use report::writer::Place;
+use wire::Cursor;
+ghost use mathlib.Core.Path.{_≡_};
+ghost use mathlib.Core.List.{List};
+ghost use mathlib.Core.Option.{Option};
+ghost use Prim.Native.Nat.{ℕ};
+ghost use lib.ListN.{drop};
+ghost use Rattle.laws.specs.Decoded.{ok};
+ghost use Rattle.sheet.specs.Tree.{Node};
+ghost use Rattle.sheet.specs.Nodes.{node};
+ghost use Rattle.sheet.specs.Walked.{shape};
+ghost use Rattle.report.specs.ModuleInfo.{DynamicTemplatePart};
+ghost use Rattle.report.specs.Encode.{encodeOptional};
+ghost use Rattle.wire.specs.Text.{encodeText};
+ghost use Rattle.report.specs.World.{wrote, worldAs};
+ghost use Rattle.arguments.specs.Argument.{operand, chain};
+ghost use Rattle.arguments.specs.Stands.{encodeParts, partsAs, counted, AtMost};
+
+// How many parts a chain has, with the cursor past it; or it is none.
+pub enum Parts {
+    Are(usize, Cursor),
+    Unknown,
+}
+
+// Where the next part of a chain is written, with the cursor past what was.
+pub struct Written {
+    pub place: Place,
+    pub next: Cursor,
+}
+
+// The parts of the node at a cursor, with so many levels left, its own among them.
+pub fn visit_bin(sheet: &[u8], source: &[u8], c: Cursor, levels: usize) -> Parts
+    ensures { λ r. ⌜ ((n : Node) (t : List ℕ) → node (now (source .entry)) levels (drop (c .at) (now (sheet .entry))) ≡ ok n t
+        → partsAs (now (sheet .entry)) r ≡ counted (chain n) t) ⌝ }
+    ensures { λ r. ⌜ AtMost levels r ⌝ }
+{
+    match read_expression(sheet, source, c, levels) {
+        Expression::String(_, _, next) => Parts::Are(1, next),
+        Expression::Template(_, _) => Parts::Unknown,
+        Expression::Plus(next) => match visit_bin(sheet, source, next, levels - 1) {
+            Parts::Unknown => Parts::Unknown,
+            Parts::Are(n, next) => match check_node(sheet, source, next, levels - 1) {
+                Checked::Refused(_) => Parts::Unknown,
+                Checked::Is(_, next) => Parts::Are(n + 1, next),
+            },
+        },
+        Expression::Other => Parts::Unknown,
+    }
+}
+
+// Writes the part of the right side of a plus.
+fn put_operand(
+    sheet: &[u8],
+    source: &[u8],
+    c: Cursor,
+    levels: usize,
+    out: &mut [u8],
+    place: Place,
+) -> Place
+    ensures { λ r. ⌜ ((n : Node) (t : List ℕ) → node (now (source .entry)) levels (drop (c .at) (now (sheet .entry))) ≡ ok n t
+        → worldAs (now (out .exit)) r ≡ wrote (worldAs (now (out .entry)) place) (encodeOptional encodeText (operand (shape n)))) ⌝ }
+{
+    match read_expression(sheet, source, c, levels) {
+        Expression::String(from, to, _) => put_string(sheet, from, to, out, place),
+        Expression::Template(_, _) => put_expr(out, place),
+        Expression::Plus(_) => put_expr(out, place),
+        Expression::Other => put_expr(out, place),
+    }
+}
+
+// Writes the parts of a chain: the left side, then the right.
+pub fn put_bin(
+    sheet: &[u8],
+    source: &[u8],
+    c: Cursor,
+    levels: usize,
+    out: &mut [u8],
+    place: Place,
+) -> Written
+    ensures { λ r. ⌜ ((n : Node) (t : List ℕ) (l : List DynamicTemplatePart) → node (now (source .entry)) levels (drop (c .at) (now (sheet .entry))) ≡ ok n t
+        → chain n ≡ Option.some l
+        → (worldAs (now (out .exit)) (r .place) ≡ wrote (worldAs (now (out .entry)) place) (encodeParts l)) × (drop (r .next .at) (now (sheet .entry)) ≡ t)) ⌝ }
+{
+    match read_expression(sheet, source, c, levels) {
+        Expression::String(from, to, next) => {
+            let p = put_string(sheet, from, to, out, place);
+            Written { place: p, next }
+        }
+        Expression::Template(_, _) => Written { place, next: c },
+        Expression::Plus(next) => {
+            let left = put_bin(sheet, source, next, levels - 1, out, place);
+            let next = left.next;
+            let p = put_operand(sheet, source, next, levels - 1, out, left.place);
+            match check_node(sheet, source, next, levels - 1) {
+                Checked::Refused(_) => Written { place: p, next },
+                Checked::Is(_, next) => Written { place: p, next },
+            }
+        }
+        Expression::Other => Written { place, next: c },
+    }
+}

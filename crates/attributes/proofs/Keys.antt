@@ -1,0 +1,20 @@
+-- A property of the second argument, by its key.
+use mathlib.Core.Path.{_≡_}
+use mathlib.Core.Bool.{Bool, true, false}
+use mathlib.Core.List.{List, _∷_}
+use Prim.Native.Nat.{ℕ}
+use Rattle.laws.specs.Quoted.{ascii}
+use Rattle.text.specs.Bytes.{same}
+use Rattle.sheet.specs.Walked.{Shape}
+use Rattle.report.specs.ModuleInfo.{ImportAttributes}
+use Rattle.attributes.specs.Attributes.{Entry, keyed, nested, onKnown, isAttributesKey, argumentProperties}
+
+module _ (hadWith : Bool) (found : ImportAttributes) (k : List ℕ) (v : Shape) (es : List Entry) where
+  pub attributes-key : {isWith : Bool} {a : ImportAttributes} → isAttributesKey hadWith k ≡ true → isWith ≡ same k (ascii "with") → a ≡ nested v
+      → argumentProperties hadWith found (keyed k v ∷ es) ≡ onKnown (λ found′. argumentProperties isWith found′ es) a
+  unfolding argumentProperties
+  attributes-key e f g = rw (e, f, g)
+
+  pub other-key : isAttributesKey hadWith k ≡ false → argumentProperties hadWith found (keyed k v ∷ es) ≡ argumentProperties hadWith found es
+  unfolding argumentProperties
+  other-key e = rw e

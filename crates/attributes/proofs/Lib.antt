@@ -1,0 +1,9 @@
+pub mod Rows
+pub mod Insertion
+pub mod Shapes
+pub mod Seen
+pub mod Loops
+pub mod Objects
+pub mod Keys
+pub mod Ascending
+pub mod Cases

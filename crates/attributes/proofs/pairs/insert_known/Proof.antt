@@ -1,0 +1,14 @@
+use borrow.Author.Needs.{needs}
+use Rattle.attributes.proofs.pairs.insert_known.Statement.{statement}
+use Rattle.attributes.proofs.pairs.insert_known.Tie as tie
+
+returns : tie.Need-returns
+returns c =
+    let is = rw (c .before .before .before .before .if1 .taken) at (c .before .before .insert .ensures .0) in
+    rw (c .before .before .before .before .if1 .taken) (is, c .before .before .insert .ensures .1)
+
+returns-2 : tie.Need-returns-2
+returns-2 c = rw (c .if1 .left) (search needs)
+
+pub insert-known-spec : {M : Type 1} → statement M
+insert-known-spec = tie.close (tie.spec (λ c κs. search needs) (λ c. search needs) returns returns-2)

@@ -1,0 +1,153 @@
+use borrow.Author.Needs.{needs}
+use mathlib.Core.Path.{_≡_, refl, sym, _∙_}
+use mathlib.Core.Bool.{Bool, false}
+use mathlib.Core.List.{List}
+use lib.ListN.{length, drop}
+use native.Mathlib.Omega.{arith}
+use denote.Ref.{now}
+use Rattle.laws.proofs.Steps.{known, seen}
+use Rattle.wire.specs.Views.{part}
+use Rattle.sheet.specs.Nodes.{node}
+use Rattle.sheet.specs.Walked.{shape}
+use Rattle.report.specs.ModuleInfo.{ImportAttributes, none, unknown}
+use Rattle.attributes.specs.Attributes.{Entry, argumentProperties}
+use Rattle.attributes.specs.Views.{attributesAs, Bounded}
+use Rattle.attributes.proofs.Loops.{Going, begins, goes-on, stops, ends, settles}
+use Rattle.attributes.proofs.Keys.{attributes-key, other-key}
+use Rattle.attributes.proofs.readings.parse_argument_properties.Statement.{statement}
+use Rattle.attributes.proofs.readings.parse_argument_properties.Tie as tie
+
+abbrev after : Bool × ImportAttributes → List Entry → ImportAttributes
+after p es = argumentProperties (p .0) (p .1) es
+
+abbrev Inv-loop : tie.InvT-loop
+Inv-loop sheet source count levels pairs₀ left₀ at₀ with₀ found₀ pairs left at last found =
+    (length pairs ≡ length pairs₀)
+    × Bounded (length sheet) pairs found
+    × Going after (node source levels) (false, none) left₀ (drop (at₀ .at) sheet) (last, attributesAs sheet pairs found) left (drop (at .at) sheet)
+
+abbrev μ-loop : tie.MeasureT-loop
+μ-loop sheet source count levels pairs₀ left₀ at₀ with₀ found₀ pairs left at last found = left
+
+loop-holds : tie.Need-loop-holds Inv-loop μ-loop
+loop-holds c = (refl, tt, begins _ _ _ _ _)
+
+returns : tie.Need-returns Inv-loop μ-loop
+returns c =
+    let l = c .before .before .before .before .loop in
+    let stop = rw (c .enum-told .given .1) at (c .before .before .read-entry .ensures .0) in
+    ((λ ps t e. absurd (stops (l .inv .2) ps t e (c .before .before .before .loop-test .taken) stop)), tt)
+
+returns-2 : tie.Need-returns-2 Inv-loop μ-loop
+unfolding argumentProperties
+returns-2 c =
+    let l = c .before .before .before .before .loop in
+    let read = rw (c .enum-told2 .given .1) at (c .before .before .read-entry .ensures .0) in
+    ((λ ps t e. settles (l .inv .2) ps t e (c .before .before .before .loop-test .taken) read unknown (λ es. refl)), tt)
+
+is-attributes-key-requires : tie.Need-is-attributes-key-requires Inv-loop μ-loop
+is-attributes-key-requires c κs = rw (c .before .start .given .1) at (c .before .before .before .read-entry .ensures .1)
+
+parse-nested-requires : tie.Need-parse-nested-requires Inv-loop μ-loop
+parse-nested-requires c κs =
+    let same = c .before .before .before .before .before .before .before .before .loop .inv .0 in
+    omega (arith, c .before .before .before .before .before .before .before .before .before .before .before .before .pre)
+
+returns-3 : tie.Need-returns-3 Inv-loop μ-loop
+unfolding argumentProperties
+returns-3 c =
+    let a = c .before .before .before .before .before .before .before .before .before .before .before .before .before .before .before .before .before .args in
+    let s = now (a .sheet) in
+    let l = c .before .before .before .before .before .before .before .before .before .before .before .before .before .loop in
+    let found = attributesAs s (l .pairs) (l .found) in
+    let start = c .before .before .before .before .before .before .before .before .before .start .given .0 in
+    let (v, value, read) = rw (c .before .before .before .before .before .before .before .before .before .start .given .1) at (c .before .before .before .before .before .before .before .before .before .before .before .read-entry .ensures .0) in
+    let key = known (c .before .before .before .before .before .before .before .is-attributes-key .ensures) (c .before .before .before .before .before .before .if1 .taken) in
+    let inside = sym (seen (attributesAs s _) (c .before .before .before .before .parse-nested .ensures .0 v _ value) (c .enum-told3 .given .1)) in
+    ((λ ps t e. settles (l .inv .2) ps t e (c .before .before .before .before .before .before .before .before .before .before .before .before .loop-test .taken) read none (λ es. attributes-key (l .with) found (part s (start .0) (start .1 .0)) (shape v) es key refl inside)), tt)
+
+returns-4 : tie.Need-returns-4 Inv-loop μ-loop
+unfolding argumentProperties
+returns-4 c =
+    let a = c .before .before .before .before .before .before .before .before .before .before .before .before .before .before .before .before .before .args in
+    let s = now (a .sheet) in
+    let l = c .before .before .before .before .before .before .before .before .before .before .before .before .before .loop in
+    let found = attributesAs s (l .pairs) (l .found) in
+    let start = c .before .before .before .before .before .before .before .before .before .start .given .0 in
+    let (v, value, read) = rw (c .before .before .before .before .before .before .before .before .before .start .given .1) at (c .before .before .before .before .before .before .before .before .before .before .before .read-entry .ensures .0) in
+    let key = known (c .before .before .before .before .before .before .before .is-attributes-key .ensures) (c .before .before .before .before .before .before .if1 .taken) in
+    let inside = sym (seen (attributesAs s _) (c .before .before .before .before .parse-nested .ensures .0 v _ value) (c .enum-told4 .given .1)) in
+    ((λ ps t e. settles (l .inv .2) ps t e (c .before .before .before .before .before .before .before .before .before .before .before .before .loop-test .taken) read unknown (λ es. attributes-key (l .with) found (part s (start .0) (start .1 .0)) (shape v) es key refl inside)), tt)
+
+is-with-requires : tie.Need-is-with-requires Inv-loop μ-loop
+is-with-requires c κs = rw (c .before .before .before .before .before .before .before .before .before .before .start .given .1) at (c .before .before .before .before .before .before .before .before .before .before .before .before .read-entry .ensures .1)
+
+loop-again : tie.Need-loop-again Inv-loop μ-loop
+loop-again c =
+    let a = c .before .before .before .before .before .before .before .before .before .before .before .before .before .before .before .before .before .before .before .args in
+    let s = now (a .sheet) in
+    let l = c .before .before .before .before .before .before .before .before .before .before .before .before .before .before .before .loop in
+    let found = attributesAs s (l .pairs) (l .found) in
+    let start = c .before .before .before .before .before .before .before .before .before .before .before .start .given .0 in
+    let (v, value, read) = rw (c .before .before .before .before .before .before .before .before .before .before .before .start .given .1) at (c .before .before .before .before .before .before .before .before .before .before .before .before .before .read-entry .ensures .0) in
+    let key = known (c .before .before .before .before .before .before .before .before .before .is-attributes-key .ensures) (c .before .before .before .before .before .before .before .before .if1 .taken) in
+    let inside = sym (seen (attributesAs s _) (c .before .before .before .before .before .before .parse-nested .ensures .0 v _ value) (c .before .before .n .given .1)) in (
+      c .before .before .before .before .before .before .parse-nested .kept .1 .1 .1 .1 .0 ∙ l .inv .0,
+      rw (c .before .before .n .given .1) at (c .before .before .before .before .before .before .parse-nested .ensures .1),
+      goes-on (l .inv .2) (c .before .before .before .before .before .before .before .before .before .before .before .before .before .before .loop-test .taken) read
+          (λ es. attributes-key (l .with) found (part s (start .0) (start .1 .0)) (shape v) es key (c .is-with .ensures) inside),
+    )
+
+loop-again-2 : tie.Need-loop-again-2 Inv-loop μ-loop
+loop-again-2 c =
+    let a = c .before .before .before .before .before .before .before .before .before .before .before .args in
+    let s = now (a .sheet) in
+    let l = c .before .before .before .before .before .before .before .loop in
+    let found = attributesAs s (l .pairs) (l .found) in
+    let start = c .before .before .before .start .given .0 in
+    let (v, value, read) = rw (c .before .before .before .start .given .1) at (c .before .before .before .before .before .read-entry .ensures .0) in
+    let key = known (c .before .is-attributes-key .ensures) (c .if1 .left) in (
+      l .inv .0,
+      l .inv .1,
+      goes-on (l .inv .2) (c .before .before .before .before .before .before .loop-test .taken) read (λ es. other-key (l .with) found (part s (start .0) (start .1 .0)) (shape v) es key),
+    )
+
+returns-5 : tie.Need-returns-5 Inv-loop μ-loop
+unfolding argumentProperties
+returns-5 c =
+    let l = c .before .loop in
+    ((λ ps t e. ends (l .inv .2) ps t e (c .loop-test .left)), l .inv .1)
+
+pub parse-argument-properties-spec : {M : Type 1} → statement M
+parse-argument-properties-spec =
+    tie.close
+    (tie.spec
+    Inv-loop
+    μ-loop
+    loop-holds
+    (λ c κs. search needs)
+    (λ c. search needs)
+    (λ c. search needs)
+    returns
+    (λ c. search needs)
+    (λ c. search needs)
+    returns-2
+    (λ c. search needs)
+    is-attributes-key-requires
+    parse-nested-requires
+    (λ c. search needs)
+    (λ c. search needs)
+    returns-3
+    (λ c. search needs)
+    (λ c. search needs)
+    returns-4
+    (λ c. search needs)
+    is-with-requires
+    (λ c. search needs)
+    (λ c. search needs)
+    loop-again
+    (λ c. search needs)
+    (λ c. search needs)
+    loop-again-2
+    (λ c. search needs)
+    returns-5)

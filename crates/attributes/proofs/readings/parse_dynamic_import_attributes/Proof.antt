@@ -1,0 +1,100 @@
+use borrow.Author.Needs.{needs}
+use mathlib.Core.Path.{sym, ap, _∙_}
+use mathlib.Core.Bool.{cond}
+use native.Mathlib.Omega.{arith}
+use denote.Ref.{now}
+use Rattle.laws.proofs.Steps.{seen}
+use Rattle.sheet.specs.Nodes.{node}
+use Rattle.sheet.specs.Walked.{shape}
+use Rattle.heads.specs.Views.{argumentAs}
+use Rattle.report.specs.ModuleInfo.{unknown}
+use Rattle.attributes.specs.Attributes.{ofArgument}
+use Rattle.attributes.proofs.Objects.{first-argument, no-first, no-arguments}
+use Rattle.attributes.proofs.Shapes.{other-argument}
+use Rattle.attributes.proofs.readings.parse_dynamic_import_attributes.Statement.{statement}
+use Rattle.attributes.proofs.readings.parse_dynamic_import_attributes.Tie as tie
+
+returns : tie.Need-returns
+returns c =
+    let a = c .before .before .before .before .before .before .before .before .before .args in
+    let s = now (a .sheet) in
+    let head = seen (argumentAs s) (c .before .before .before .before .read-argument .ensures .0) (c .before .before .spread .given .1) in (
+      (λ xs t e.
+          let (n, u, x, is) = first-argument (node (now (a .source)) (a .levels)) (now (a .source)) _ (a .count) (c .before .before .before .before .before .if1 .taken) e head in
+          sym (is ∙ ap (λ b. cond b unknown (ofArgument (shape n))) (c .if2 .taken))),
+      tt,
+    )
+
+sub-parse-argument-properties : tie.Need-sub-parse-argument-properties
+sub-parse-argument-properties c =
+    let within = rw (c .before .n .given .1) at (c .before .before .before .read-value .ensures .1) in
+    omega (arith, within .0)
+
+returns-2 : tie.Need-returns-2
+returns-2 c =
+    let a = c .before .before .before .before .before .before .before .args in
+    let s = now (a .sheet) in
+    let stop = seen (argumentAs s) (c .before .before .read-argument .ensures .0) (c .enum-told .given .1) in
+    ((λ xs t e. absurd (no-first (node (now (a .source)) (a .levels)) (now (a .source)) _ (a .count) (c .before .before .before .if1 .taken) e stop)), tt)
+
+returns-3 : tie.Need-returns-3
+returns-3 c =
+    let a = c .before .before .before .before .before .before .before .before .before .before .before .before .args in
+    let s = now (a .sheet) in
+    let head = seen (argumentAs s) (c .before .before .before .before .before .before .before .read-argument .ensures .0) (c .before .before .before .before .before .spread .given .1) in (
+      (λ xs t e.
+          let (n, u, x, is) = first-argument (node (now (a .source)) (a .levels)) (now (a .source)) _ (a .count) (c .before .before .before .before .before .before .before .before .if1 .taken) e head in
+          let value = rw (c .enum-told2 .given .1) at (c .before .before .read-value .ensures .0 n u x) in
+          sym (is ∙ ap (λ b. cond b unknown (ofArgument (shape n))) (c .before .before .before .if2 .left) ∙ ap ofArgument value)),
+      tt,
+    )
+
+returns-4 : tie.Need-returns-4
+returns-4 c =
+    let a = c .before .before .before .before .before .before .before .before .before .before .before .before .args in
+    let s = now (a .sheet) in
+    let head = seen (argumentAs s) (c .before .before .before .before .before .before .before .read-argument .ensures .0) (c .before .before .before .before .before .spread .given .1) in (
+      (λ xs t e.
+          let (n, u, x, is) = first-argument (node (now (a .source)) (a .levels)) (now (a .source)) _ (a .count) (c .before .before .before .before .before .before .before .before .if1 .taken) e head in
+          let value = rw (c .enum-told3 .given .1) at (c .before .before .read-value .ensures .0 n u x) in
+          sym (is ∙ ap (λ b. cond b unknown (ofArgument (shape n))) (c .before .before .before .if2 .left) ∙ other-argument (shape n) value)),
+      tt,
+    )
+
+returns-5 : tie.Need-returns-5
+returns-5 c =
+    let a = c .before .before .before .before .before .before .before .before .before .before .before .before .before .before .before .before .before .args in
+    let s = now (a .sheet) in
+    let head = seen (argumentAs s) (c .before .before .before .before .before .before .before .before .before .before .before .before .read-argument .ensures .0) (c .before .before .before .before .before .before .before .before .before .before .spread .given .1) in (
+      (λ xs t e.
+          let (n, u, x, is) = first-argument (node (now (a .source)) (a .levels)) (now (a .source)) _ (a .count) (c .before .before .before .before .before .before .before .before .before .before .before .before .before .if1 .taken) e head in
+          let (ps, v, object, y) = rw (c .before .before .before .before .before .n .given .1) at (c .before .before .before .before .before .before .before .read-value .ensures .0 n u x) in
+          c .before .before .parse-argument-properties .ensures .0 ps v y ∙ sym (is ∙ ap (λ b. cond b unknown (ofArgument (shape n))) (c .before .before .before .before .before .before .before .before .if2 .left) ∙ ap ofArgument object)),
+      c .before .before .parse-argument-properties .ensures .1,
+    )
+
+returns-6 : tie.Need-returns-6
+returns-6 c =
+    let a = c .before .before .before .before .args in
+    ((λ xs t e. sym (no-arguments (node (now (a .source)) (a .levels)) (now (a .source)) _ (a .count) (c .if1 .left) e)), tt)
+
+pub parse-dynamic-import-attributes-spec : {M : Type 1} → statement M
+parse-dynamic-import-attributes-spec =
+    tie.close
+    (tie.spec
+    (λ c κs. search needs)
+    (λ c. search needs)
+    (λ c. search needs)
+    returns
+    (λ c κs. search needs)
+    (λ c. search needs)
+    (λ c. search needs)
+    (λ c. search needs)
+    sub-parse-argument-properties
+    (λ c κs. search needs)
+    returns-2
+    returns-3
+    returns-4
+    (λ c. search needs)
+    returns-5
+    returns-6)

@@ -1,0 +1,93 @@
+use borrow.Author.Needs.{needs}
+use mathlib.Core.Path.{_≡_, refl, sym, ap, _∙_}
+use mathlib.Core.List.{[]}
+use Prim.Native.Nat.{_+_, _≤_}
+use native.Mathlib.Omega.{arith}
+use lib.ListN.{length, drop}
+use denote.Ref.{now}
+use Rattle.sheet.specs.Tables.{rows}
+use Rattle.sheet.specs.Nodes.{node}
+use Rattle.report.specs.ModuleInfo.{KeyValue}
+use Rattle.attributes.specs.Attributes.{insertKnown, staticPairs}
+use Rattle.attributes.specs.Views.{pairsIn, Pairs}
+use Rattle.attributes.proofs.Loops.{Going, begins, goes-on, stops, ends}
+use Rattle.attributes.proofs.readings.parse_known.Statement.{statement}
+use Rattle.attributes.proofs.readings.parse_known.Tie as tie
+
+abbrev Inv-loop : tie.InvT-loop
+Inv-loop sheet source count levels pairs₀ left₀ at₀ n₀ pairs left at n =
+    (n + left ≤ 64)
+    × (length pairs ≡ length pairs₀)
+    × Pairs (length sheet) pairs n
+    × Going staticPairs (node source levels) [] left₀ (drop (at₀ .at) sheet) (pairsIn sheet pairs n) left (drop (at .at) sheet)
+
+abbrev μ-loop : tie.MeasureT-loop
+μ-loop sheet source count levels pairs₀ left₀ at₀ n₀ pairs left at n = left
+
+loop-holds : tie.Need-loop-holds Inv-loop μ-loop
+unfolding rows
+loop-holds c = (omega arith, refl, record { long = c .before .before .before .pre .1; most = omega arith; parts = λ k h. absurd (omega arith) }, begins _ _ _ _ _)
+
+returns : tie.Need-returns Inv-loop μ-loop
+returns c =
+    let l = c .before .before .before .before .loop in
+    let stop = rw (c .enum-told .given .1) at (c .before .before .read-entry .ensures .0) in
+    ((λ ps t e. absurd (stops (l .inv .3) ps t e (c .before .before .before .loop-test .taken) stop)), l .inv .2)
+
+loop-again : tie.Need-loop-again Inv-loop μ-loop
+unfolding staticPairs
+loop-again c =
+    let l = c .before .before .before .before .before .loop in
+    let read = rw (c .before .next .given .1) at (c .before .before .before .read-entry .ensures .0) in
+    (omega arith, l .inv .1, l .inv .2, goes-on (l .inv .3) (c .before .before .before .before .loop-test .taken) read (λ es. refl))
+
+read-pair-requires : tie.Need-read-pair-requires Inv-loop μ-loop
+read-pair-requires c κs = rw (c .before .start .given .1) at (c .before .before .before .read-entry .ensures .1)
+
+insert-known-requires : tie.Need-insert-known-requires Inv-loop μ-loop
+insert-known-requires c κs = (omega arith, c .before .before .before .before .before .before .before .loop .inv .2, c .before .read-pair .ensures .1)
+
+loop-again-2 : tie.Need-loop-again-2 Inv-loop μ-loop
+unfolding staticPairs
+loop-again-2 c =
+    let a = c .before .before .before .before .before .before .before .before .before .before .before .before .before .before .args in
+    let s = now (a .sheet) in
+    let l = c .before .before .before .before .before .before .before .before .before .before .loop in
+    let pairs = pairsIn s (l .pairs) (l .n) in
+    let (v, value, read) = rw (c .before .before .before .before .before .before .start .given .1) at (c .before .before .before .before .before .before .before .before .read-entry .ensures .0) in
+    let inserted = c .before .before .insert-known .ensures .0 ∙ ap (λ (p : KeyValue). insertKnown (p .key) (p .value) pairs) (c .before .before .before .before .read-pair .ensures .0 v _ value) in (
+      omega (arith, c .before .before .insert-known .ensures .1 .0),
+      c .before .before .insert-known .kept .1 .0 ∙ l .inv .1,
+      c .before .before .insert-known .ensures .1 .1,
+      goes-on (l .inv .3) (c .before .before .before .before .before .before .before .before .before .loop-test .taken) read (λ es. ap (λ l. staticPairs l es) (sym inserted)),
+    )
+
+returns-2 : tie.Need-returns-2 Inv-loop μ-loop
+unfolding staticPairs
+returns-2 c =
+    let l = c .before .loop in
+    ((λ ps t e. ends (l .inv .3) ps t e (c .loop-test .left)), l .inv .2)
+
+pub parse-known-spec : {M : Type 1} → statement M
+parse-known-spec =
+    tie.close
+    (tie.spec
+    Inv-loop
+    μ-loop
+    loop-holds
+    (λ c κs. search needs)
+    (λ c. search needs)
+    (λ c. search needs)
+    returns
+    (λ c. search needs)
+    (λ c. search needs)
+    (λ c. search needs)
+    loop-again
+    (λ c. search needs)
+    read-pair-requires
+    insert-known-requires
+    (λ c. search needs)
+    (λ c. search needs)
+    loop-again-2
+    (λ c. search needs)
+    returns-2)

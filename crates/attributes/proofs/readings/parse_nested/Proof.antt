@@ -1,0 +1,47 @@
+use borrow.Author.Needs.{needs}
+use mathlib.Core.Path.{sym, ap, _∙_}
+use native.Mathlib.Omega.{arith}
+use Rattle.sheet.specs.Walked.{shape}
+use Rattle.attributes.specs.Attributes.{nested}
+use Rattle.attributes.proofs.Shapes.{other-nested}
+use Rattle.attributes.proofs.readings.parse_nested.Statement.{statement}
+use Rattle.attributes.proofs.readings.parse_nested.Tie as tie
+
+sub-parse : tie.Need-sub-parse-import-attributes-from-object-lit
+sub-parse c =
+    let within = rw (c .before .n .given .1) at (c .before .before .before .read-value .ensures .1) in
+    omega (arith, within .0)
+
+parse-requires : tie.Need-parse-import-attributes-from-object-lit-requires
+parse-requires c κs =
+    let within = rw (c .before .before .n .given .1) at (c .before .before .before .before .read-value .ensures .1) in
+    (within .1, c .before .before .before .before .before .before .before .before .pre)
+
+returns : tie.Need-returns
+returns c = ((λ v t e. let is = rw (c .enum-told .given .1) at (c .before .before .read-value .ensures .0 v t e) in sym (ap nested is)), tt)
+
+returns-2 : tie.Need-returns-2
+returns-2 c = ((λ v t e. let is = rw (c .enum-told2 .given .1) at (c .before .before .read-value .ensures .0 v t e) in sym (other-nested (shape v) is)), tt)
+
+returns-3 : tie.Need-returns-3
+returns-3 c = (
+  (λ v t e.
+      let (ps, u, is, x) = rw (c .before .before .before .before .before .n .given .1) at (c .before .before .before .before .before .before .before .read-value .ensures .0 v t e) in
+      c .before .before .parse-import-attributes-from-object-lit .ensures .0 ps u x ∙ sym (ap nested is)),
+  c .before .before .parse-import-attributes-from-object-lit .ensures .1,
+)
+
+pub parse-nested-spec : {M : Type 1} → statement M
+parse-nested-spec =
+    tie.close
+    (tie.spec
+    (λ c κs. search needs)
+    (λ c. search needs)
+    (λ c. search needs)
+    (λ c. search needs)
+    sub-parse
+    parse-requires
+    returns
+    returns-2
+    (λ c. search needs)
+    returns-3)

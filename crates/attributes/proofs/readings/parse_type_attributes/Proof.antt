@@ -1,0 +1,62 @@
+use borrow.Author.Needs.{needs}
+use mathlib.Core.Path.{_≡_, ap, _∙_}
+use native.Mathlib.Omega.{arith}
+use denote.Ref.{now}
+use Rattle.laws.proofs.Steps.{seen}
+use Rattle.sheet.specs.Tree.{without}
+use Rattle.heads.specs.Views.{attributesAs}
+use Rattle.attributes.specs.Attributes.{typeAttributes}
+use Rattle.attributes.proofs.Objects.{behind-attributes, no-attributes}
+use Rattle.attributes.proofs.readings.parse_type_attributes.Statement.{statement}
+use Rattle.attributes.proofs.readings.parse_type_attributes.Tie as tie
+
+sub-parse-import-attributes-from-object-lit : tie.Need-sub-parse-import-attributes-from-object-lit
+sub-parse-import-attributes-from-object-lit c =
+    let past = rw (c .before .count .given .1) at (c .before .before .before .read-attributes .ensures .1) in
+    omega (arith, past .0)
+
+parse-import-attributes-from-object-lit-requires : tie.Need-parse-import-attributes-from-object-lit-requires
+parse-import-attributes-from-object-lit-requires c κs =
+    let past = rw (c .before .before .count .given .1) at (c .before .before .before .before .read-attributes .ensures .1) in
+    (past .3, c .before .before .before .before .before .before .before .before .before .pre)
+
+returns : tie.Need-returns
+returns c =
+    let a = c .before .before .before .before .before .before .before .args in
+    let stop = seen (attributesAs (now (a .sheet))) (c .before .before .read-attributes .ensures .0) (c .enum-told .given .1) in
+    ((λ x t e. absurd (no-attributes (now (a .source)) (a .levels) _ (rw (c .before .before .before .if1 .taken) at e) stop)), tt)
+
+returns-2 : tie.Need-returns-2
+unfolding typeAttributes
+returns-2 c =
+    let a = c .before .before .before .before .before .before .before .before .before .before .before .before .args in
+    let is = seen (attributesAs (now (a .sheet))) (c .before .before .before .before .before .before .before .read-attributes .ensures .0) (c .before .before .before .before .before .count .given .1) in (
+      (λ y t e.
+          let (ps, x, object) = behind-attributes (now (a .source)) (a .levels) _ (rw (c .before .before .before .before .before .before .before .before .if1 .taken) at e) is in
+          c .before .before .parse-import-attributes-from-object-lit .ensures .0 ps t x ∙ ap typeAttributes object),
+      c .before .before .parse-import-attributes-from-object-lit .ensures .1,
+    )
+
+returns-3 : tie.Need-returns-3
+unfolding typeAttributes
+returns-3 c = (
+  (λ y t e.
+      let nothing = rw (c .if1 .left) at e in
+      let is : without ≡ y = cc in
+      ap typeAttributes is),
+  tt,
+)
+
+pub parse-type-attributes-spec : {M : Type 1} → statement M
+parse-type-attributes-spec =
+    tie.close
+    (tie.spec
+    (λ c κs. search needs)
+    (λ c. search needs)
+    (λ c. search needs)
+    sub-parse-import-attributes-from-object-lit
+    parse-import-attributes-from-object-lit-requires
+    returns
+    (λ c. search needs)
+    returns-2
+    returns-3)

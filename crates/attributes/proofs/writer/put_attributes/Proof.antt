@@ -1,0 +1,44 @@
+use borrow.Author.Needs.{needs}
+use denote.Ref.{now}
+use Rattle.sheet.proofs.Rows.{rows-length}
+use Rattle.report.specs.Encode.{encodeList, encodeAttributes}
+use Rattle.report.proofs.Worlds.{wrote-append, wrote-cons}
+use Rattle.attributes.specs.Views.{pairIn}
+use Rattle.attributes.proofs.writer.put_attributes.Statement.{statement}
+use Rattle.attributes.proofs.writer.put_attributes.Tie as tie
+
+put-pairs-requires : tie.Need-put-pairs-requires
+put-pairs-requires c κs = rw (c .before .before .before .before .before .before .before .before .before .before .a .given .1) at (c .before .before .before .before .before .before .before .before .before .before .before .before .before .before .before .pre)
+
+returns : tie.Need-returns
+unfolding encodeAttributes
+returns c = rw (c .before .before .before .before .enum-told .given .1) (c .before .before .put .ensures)
+
+returns-2 : tie.Need-returns-2
+unfolding encodeAttributes
+returns-2 c = rw (c .before .before .before .before .enum-told2 .given .1) (c .before .before .put2 .ensures)
+
+returns-3 : tie.Need-returns-3
+unfolding encodeAttributes encodeList
+returns-3 c =
+    let a = c .before .before .before .before .before .before .before .before .before .before .before .before .before .before .before .before .before .before .args in
+    rw (c .before .before .before .before .before .before .before .before .before .before .before .before .before .a .given .1, wrote-cons, ← (c .before .before .before .before .before .before .before .before .before .before .put3 .ensures), rows-length (pairIn (now (a .sheet)) (now (a .pairs))) 0 _, wrote-append, ← (c .before .before .before .before .before .before .put-number .ensures)) (c .before .before .put-pairs .ensures)
+
+pub put-attributes-spec : {M : Type 1} → statement M
+put-attributes-spec =
+    tie.close
+    (tie.spec
+    (λ c. search needs)
+    (λ c κs. search needs)
+    (λ c. search needs)
+    (λ c κs. search needs)
+    (λ c. search needs)
+    (λ c κs. search needs)
+    (λ c κs. search needs)
+    put-pairs-requires
+    (λ c. search needs)
+    returns
+    (λ c. search needs)
+    returns-2
+    (λ c. search needs)
+    returns-3)

@@ -1,0 +1,67 @@
+use borrow.Author.Needs.{needs}
+use mathlib.Core.Path.{_≡_, refl, sym, _∙_}
+use Prim.Native.Nat.{_+_, _-_}
+use native.Mathlib.Nat.{sub-zero}
+use native.Mathlib.Omega.{arith}
+use lib.ListN.{length}
+use denote.Ref.{now}
+use Rattle.sheet.specs.Tables.{rows}
+use Rattle.report.specs.Encode.{each, encodeKeyValue}
+use Rattle.report.specs.World.{wrote, worldAs}
+use Rattle.report.proofs.Worlds.{wrote-append, wrote-nil}
+use Rattle.attributes.specs.Views.{pairIn, pairsFrom, pairsIn}
+use Rattle.attributes.proofs.Rows.{rows-first}
+use Rattle.attributes.proofs.writer.put_pairs.Statement.{statement}
+use Rattle.attributes.proofs.writer.put_pairs.Tie as tie
+
+abbrev Inv-loop : tie.InvT-loop
+Inv-loop sheet pairs n out₀ p₀ k₀ out p k =
+    (length out ≡ length out₀)
+    × (wrote (worldAs out₀ p₀) (each encodeKeyValue (pairsIn sheet pairs n)) ≡ wrote (worldAs out p) (each encodeKeyValue (pairsFrom sheet pairs k (n - k))))
+
+abbrev μ-loop : tie.MeasureT-loop
+μ-loop sheet pairs n out₀ p₀ k₀ out p k = n - k
+
+loop-holds : tie.Need-loop-holds Inv-loop μ-loop
+loop-holds c = (refl, rw sub-zero)
+
+pair-at-requires : tie.Need-pair-at-requires Inv-loop μ-loop
+pair-at-requires c κs =
+    let pairs = c .before .before .before .before .before .pre in
+    omega (arith, pairs .long, pairs .most)
+
+put-pair-requires : tie.Need-put-pair-requires Inv-loop μ-loop
+put-pair-requires c κs = rw (c .before .pair-at .ensures) (c .before .before .before .before .before .before .before .pre .parts _ (c .before .before .loop-test .taken))
+
+loop-again : tie.Need-loop-again Inv-loop μ-loop
+unfolding each
+loop-again c =
+    let l = c .before .before .before .before .before .before .loop in
+    let a = c .before .before .before .before .before .before .before .before .before .before .args in
+    let down : a .n - l .k - 1 ≡ a .n - (l .k + 1) = omega arith in
+    let wrote-pair = rw (c .before .before .before .before .pair-at .ensures) at (c .before .before .put-pair .ensures) in (
+      c .before .before .put-pair .kept .1 .1 .0 ∙ l .inv .0,
+      l .inv .1 ∙ rw (rows-first (pairIn (now (a .sheet)) (now (a .pairs))) (l .k) (a .n - l .k) (omega arith), down, wrote-append, ← wrote-pair),
+    )
+
+returns : tie.Need-returns Inv-loop μ-loop
+unfolding each rows
+returns c =
+    let l = c .before .loop in
+    let none : c .before .before .before .before .before .args .n - l .k ≡ 0 = omega arith in
+    sym (l .inv .1 ∙ rw none (wrote-nil (l .out) (l .p)))
+
+pub put-pairs-spec : {M : Type 1} → statement M
+put-pairs-spec =
+    tie.close
+    (tie.spec
+    Inv-loop
+    μ-loop
+    loop-holds
+    pair-at-requires
+    put-pair-requires
+    (λ c. search needs)
+    (λ c. search needs)
+    loop-again
+    (λ c. search needs)
+    returns)

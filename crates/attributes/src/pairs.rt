@@ -1,0 +1,147 @@
+// Pairs of keys and values in a lent table, a row of five numbers for each, with keys that ascend.
+use nodes::tally::count_one;
+use text::bytes::Order;
+use text::bytes::compare;
+ghost use mathlib.Core.Path.{_≡_};
+ghost use mathlib.Core.List.{List};
+ghost use Prim.Native.Nat.{ℕ, _+_, _*_, _≤_, _<_};
+ghost use lib.ListN.{length};
+ghost use lib.Seq.{sets};
+ghost use Rattle.attributes.specs.Attributes.{insert, insertKnown};
+ghost use Rattle.attributes.specs.Views.{
+  pairRow,
+  rowIn,
+  pairAs,
+  pairsIn,
+  PairWithin,
+  Pairs,
+  opened,
+  slotAs,
+  SlotWithin,
+};
+
+// A key, from `start` to `end` in the sheet, and, if it is known, its value, from `from` to `to`.
+pub struct Pair {
+    pub start: usize,
+    pub end: usize,
+    pub known: bool,
+    pub from: usize,
+    pub to: usize,
+}
+
+// The row that has the same key, or the one that a key comes before.
+pub enum Slot {
+    Same(usize),
+    Before(usize),
+}
+
+// Stores a pair in the kth row.
+fn put_pair(pairs: &mut [usize], k: usize, p: Pair)
+    requires { ⌜ 5 * k + 4 < length (now pairs) ⌝ }
+    ensures { λ _. ⌜ now (pairs .exit) ≡ sets (now (pairs .entry)) (5 * k) (pairRow p) ⌝ }
+{
+    let at = 5 * k;
+    pairs[at] = p.start;
+    pairs[at + 1] = p.end;
+    pairs[at + 2] = count_one(p.known);
+    pairs[at + 3] = p.from;
+    pairs[at + 4] = p.to;
+}
+
+// The pair in the kth row.
+pub fn pair_at(pairs: &[usize], k: usize) -> Pair
+    requires { ⌜ 5 * k + 4 < length (now pairs) ⌝ }
+    ensures { λ r. ⌜ r ≡ rowIn (now (pairs .entry)) k ⌝ }
+{
+    let at = 5 * k;
+    let start = pairs[at];
+    let end = pairs[at + 1];
+    let known = pairs[at + 2] == 1;
+    let from = pairs[at + 3];
+    let to = pairs[at + 4];
+    Pair {
+        start,
+        end,
+        known,
+        from,
+        to,
+    }
+}
+
+// Where a pair belongs among the first n rows.
+fn find(sheet: &[u8], pairs: &[usize], n: usize, p: Pair) -> Slot
+    requires { ⌜ Pairs (length (now sheet)) (now pairs) n × PairWithin (length (now sheet)) p ⌝ }
+    ensures { λ r. ⌜ slotAs (now (sheet .entry)) (now (pairs .entry)) n (pairAs (now (sheet .entry)) p) r
+        ≡ insert (pairAs (now (sheet .entry)) p) (pairsIn (now (sheet .entry)) (now (pairs .entry)) n) ⌝ }
+    ensures { λ r. ⌜ SlotWithin n r ⌝ }
+{
+    let start = p.start;
+    let end = p.end;
+    let mut i = 0;
+    while i < n {
+        let q = pair_at(pairs, i);
+        let from = q.start;
+        let to = q.end;
+        match compare(&sheet[start..end], &sheet[from..to]) {
+            Order::Less => {
+                return Slot::Before(i);
+            }
+            Order::Equal => {
+                return Slot::Same(i);
+            }
+            Order::Greater => {
+                i += 1;
+            }
+        }
+    }
+    Slot::Before(n)
+}
+
+// Puts a pair before the ith of n rows, and moves the others up.
+fn insert_before(pairs: &mut [usize], n: usize, i: usize, p: Pair)
+    requires { ⌜ (i ≤ n) × (n < 64) × (320 ≤ length (now pairs)) ⌝ }
+    ensures { λ _. ⌜ ((s : List ℕ) → pairsIn s (now (pairs .exit)) (n + 1) ≡ opened s (now (pairs .entry)) n (pairAs s p) i) ⌝ }
+    ensures { λ _. ⌜ ((m : ℕ) → Pairs m (now (pairs .entry)) n → PairWithin m p → Pairs m (now (pairs .exit)) (n + 1)) ⌝ }
+{
+    let mut k = i;
+    let mut carried = p;
+    while k < n {
+        let old = pair_at(pairs, k);
+        put_pair(pairs, k, carried);
+        carried = old;
+        k += 1;
+    }
+    put_pair(pairs, n, carried);
+}
+
+// Puts a pair in its place among the first n rows, instead of one with the same key. Answers how many rows there are then.
+pub fn insert(sheet: &[u8], pairs: &mut [usize], n: usize, p: Pair) -> usize
+    requires { ⌜ (n < 64) × Pairs (length (now sheet)) (now pairs) n × PairWithin (length (now sheet)) p ⌝ }
+    ensures { λ r. ⌜ pairsIn (now (sheet .entry)) (now (pairs .exit)) r
+        ≡ insert (pairAs (now (sheet .entry)) p) (pairsIn (now (sheet .entry)) (now (pairs .entry)) n) ⌝ }
+    ensures { λ r. ⌜ (r ≤ n + 1) × Pairs (length (now (sheet .entry))) (now (pairs .exit)) r ⌝ }
+{
+    match find(sheet, pairs, n, p) {
+        Slot::Same(i) => {
+            put_pair(pairs, i, p);
+            n
+        }
+        Slot::Before(i) => {
+            insert_before(pairs, n, i, p);
+            n + 1
+        }
+    }
+}
+
+// The same for a pair whose value is known; any other is passed over.
+pub fn insert_known(sheet: &[u8], pairs: &mut [usize], n: usize, p: Pair) -> usize
+    requires { ⌜ (n < 64) × Pairs (length (now sheet)) (now pairs) n × PairWithin (length (now sheet)) p ⌝ }
+    ensures { λ r. ⌜ pairsIn (now (sheet .entry)) (now (pairs .exit)) r
+        ≡ insertKnown (pairAs (now (sheet .entry)) p .key) (pairAs (now (sheet .entry)) p .value) (pairsIn (now (sheet .entry)) (now (pairs .entry)) n) ⌝ }
+    ensures { λ r. ⌜ (r ≤ n + 1) × Pairs (length (now (sheet .entry))) (now (pairs .exit)) r ⌝ }
+{
+    if p.known {
+        return insert(sheet, pairs, n, p);
+    }
+    n
+}

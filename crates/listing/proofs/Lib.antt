@@ -1,0 +1,6 @@
+pub mod Bodies
+pub mod Marking
+pub mod Quotes
+pub mod Entries
+pub mod Right
+pub mod Turns

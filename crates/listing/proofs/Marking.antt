@@ -1,0 +1,171 @@
+-- The marks of all comments are those of the readings that are listed in them.
+use mathlib.Core.Path.{_≡_, refl, sym, ap, _∙_}
+use mathlib.Core.Bool.{Bool, true, false, cond, true≢false}
+use mathlib.Core.Logic.{_⊎_, ⊎-elim, inl, inr}
+use mathlib.Core.List.{List, [], _∷_, _++_}
+use Prim.Native.Nat.{ℕ, zero, suc, _+_, _-_, _≤_, _<_, zero-le, suc-le-suc}
+use native.Mathlib.Numerals.{add-one}
+use native.Mathlib.Omega.{arith}
+use native.Mathlib.Decide.{decLt}
+use lib.ListN.{length, take, drop, getD, replicate, length-append, length-drop, length-replicate, List·getD-append, List·getD-eq-default}
+use lib.Seq.{drop-drop, length-take-le, getD-append-add, getD-take, getD-drop}
+use Rattle.jsdoc.specs.Grammar.{Listed}
+use Rattle.jsdoc.specs.Marks.{Marks}
+use Rattle.jsdoc.specs.Listing.{listing}
+use Rattle.jsdoc.proofs.Marked.{marks-iff, marks-unique}
+use Rattle.jsdoc.proofs.Listing.{listing-marks, zeros}
+use Rattle.sheet.specs.declared.comments.Comment.{Comment}
+use Rattle.sheet.specs.Tables.{rows}
+use Rattle.sheet.specs.Fit.{commentOf, Fit}
+use Rattle.sheet.specs.Lookups.{bodySpan, body}
+use Rattle.listing.specs.Imports.{isStarOpened, markedBy, markedByAll, marksOf}
+use Rattle.listing.specs.Demand.{StarOpened}
+use Rattle.listing.proofs.Bodies.{opened-sound, opened-complete, Within, placed-body}
+
+-- a star-opened comment lists a place that begins at q of the source
+abbrev pub ReadBy : List ℕ → Comment → ℕ → ℕ → Type 0
+ReadBy source c q m = StarOpened source c × (j : ℕ) × (q ≡ bodySpan c .start + j) × Listed (body source c) j m
+
+-- some comment does
+abbrev pub ReadIn : List ℕ → List Comment → ℕ → ℕ → Type 0
+ReadIn source cs q m = (k : ℕ) × (k < length cs) × ReadBy source (commentOf cs k) q m
+
+-- a list with another in place of its part from a to b
+module _ (a b : ℕ) (l p : List ℕ) (h : a ≤ b) (e : b ≤ length l) (s : length p ≡ b - a) where
+  long : length (take a l) ≡ a
+  long = length-take-le a l (omega arith)
+
+  pasted-length : length (take a l ++ (p ++ drop b l)) ≡ length l
+  pasted-length = omega (arith, long, length-append (take a l) (p ++ drop b l), length-append p (drop b l), length-drop b l)
+
+  pasted-front : (q : ℕ) → q < a → getD (take a l ++ (p ++ drop b l)) q 0 ≡ getD l q 0
+  pasted-front q g = List·getD-append (take a l) (p ++ drop b l) 0 q (rw long g) ∙ getD-take a l q 0 g
+
+  behind : (n : ℕ) → getD (take a l ++ (p ++ drop b l)) (a + n) 0 ≡ getD (p ++ drop b l) n 0
+  behind n = rw long at (getD-append-add (take a l) (p ++ drop b l) n 0)
+
+  pasted-part : (j : ℕ) → j < length p → getD (take a l ++ (p ++ drop b l)) (a + j) 0 ≡ getD p j 0
+  pasted-part j g = behind j ∙ List·getD-append p (drop b l) 0 j g
+
+  pasted-past : (q : ℕ) → b ≤ q → getD (take a l ++ (p ++ drop b l)) q 0 ≡ getD l q 0
+  pasted-past q g =
+      let n : q ≡ a + (length p + (q - b)) = omega arith in
+      let m : b + (q - b) ≡ q = omega arith in
+      ap (λ (n : ℕ). getD (take a l ++ (p ++ drop b l)) n 0) n ∙ behind (length p + (q - b)) ∙ getD-append-add p (drop b l) (q - b) 0
+      ∙ getD-drop b l (q - b) 0 ∙ ap (λ (n : ℕ). getD l n 0) m
+
+-- what is marked is inside the table
+marks-below : {P : ℕ → ℕ → Type 0} {n : ℕ} {l : List ℕ} → Marks P n l → (q m : ℕ) → P q m → q < n
+marks-below {n} {l} k q m r = go (decLt q n)
+  where
+    go : Dec (q < n) → q < n
+    go (yes h) = h
+    go (no h) = absurd (omega (arith, k .complete q m r, List·getD-eq-default l 0 {n = q} (omega (arith, k .same))))
+
+-- marks in place of a part of others that reach up to it
+module _ {P R : ℕ → ℕ → Type 0} {n : ℕ} {l p : List ℕ} (a b : ℕ) (h : a ≤ b) (g : b ≤ n) (k : Marks P n l) (t : Marks R (b - a) p) where
+  marks-pasted : ((q m : ℕ) → P q m → q < a) → Marks (λ q m. P q m ⊎ ((j : ℕ) × (q ≡ a + j) × R j m)) n (take a l ++ (p ++ drop b l))
+  marks-pasted before = record { same = pasted-length a b l p h end (t .same) ∙ k .same; sound = λ q m e. sound q m e (decLt q a) (decLt q b); complete = complete }
+    where
+      end : b ≤ length l
+      end = rw (k .same) g
+
+      sound : (q m : ℕ) → getD (take a l ++ (p ++ drop b l)) q 0 ≡ m + 1 → Dec (q < a) → Dec (q < b) → P q m ⊎ ((j : ℕ) × (q ≡ a + j) × R j m)
+      sound q m e (yes i) d = inl (k .sound q m (sym (pasted-front a b l p h end (t .same) q i) ∙ e))
+      sound q m e (no i) (yes d) =
+          let s : q ≡ a + (q - a) = omega arith in
+          let f = pasted-part a b l p h end (t .same) (q - a) (omega (arith, t .same)) in
+          inr (q - a, s, t .sound (q - a) m (sym f ∙ ap (λ (n : ℕ). getD (take a l ++ (p ++ drop b l)) n 0) (sym s) ∙ e))
+      sound q m e (no i) (no d) = inl (k .sound q m (sym (pasted-past a b l p h end (t .same) q (omega arith)) ∙ e))
+
+      complete : (q m : ℕ) → P q m ⊎ ((j : ℕ) × (q ≡ a + j) × R j m) → getD (take a l ++ (p ++ drop b l)) q 0 ≡ m + 1
+      complete q m (inl r) = pasted-front a b l p h end (t .same) q (before q m r) ∙ k .complete q m r
+      complete q m (inr (j, e, r)) = rw e (pasted-part a b l p h end (t .same) j (rw (t .same) (marks-below t j m r)) ∙ t .complete j m r)
+
+module _ {source : List ℕ} (c : Comment) (w : Within source c) where
+  body-marks : Marks (Listed (body source c)) (bodySpan c .end - bodySpan c .start) (listing (body source c))
+  body-marks = rw (w .long) at (listing-marks (body source c))
+
+  -- a place that a comment lists is in its body
+  pub read-below : {q m : ℕ} → ReadBy source c q m → (bodySpan c .start ≤ q) × (q < bodySpan c .end)
+  read-below {m} (o, j, e, r) = let below = marks-below body-marks j m r in (omega arith, omega (arith, w .order))
+
+  -- the marks of one comment more, behind all places that are marked
+  marks-by : {P : ℕ → ℕ → Type 0} {l : List ℕ} → Marks P (length source) l → ((q m : ℕ) → P q m → q < bodySpan c .start)
+      → Marks (λ q m. P q m ⊎ ReadBy source c q m) (length source) (markedBy source c l)
+  unfolding markedBy
+  marks-by {P} {l} k before = go (isStarOpened source c) refl
+    where
+      go : (t : Bool) → isStarOpened source c ≡ t
+          → Marks (λ q m. P q m ⊎ ReadBy source c q m) (length source) (cond t (take (bodySpan c .start) l ++ (listing (body source c) ++ drop (bodySpan c .end) l)) l)
+      go true o =
+          marks-iff (λ q m r. ⊎-elim inl (λ x. inr (opened-sound source c o, x .0, x .1, x .2)) r) (λ q m r. ⊎-elim inl (λ x. inr (x .1, x .2, x .3)) r)
+          (marks-pasted (bodySpan c .start) (bodySpan c .end) (w .order) (omega (arith, w .end, w .source-end)) k body-marks before)
+      go false o = marks-iff (λ q m r. inl r) (λ q m r. ⊎-elim (λ x. x) (λ x. absurd (true≢false (sym (opened-complete source c (x .0)) ∙ o))) r) k
+
+fit-tail : {source : List ℕ} {c : Comment} {cs : List Comment} → Fit source (c ∷ cs) → Fit source cs
+fit-tail f = record { each = λ k l. f .each (suc k) (suc-le-suc l); apart = λ j k i l. f .apart (suc j) (suc k) (suc-le-suc i) (suc-le-suc l) }
+
+marks-by-all : {source : List ℕ} (cs : List Comment) → Fit source cs → {P : ℕ → ℕ → Type 0} {l : List ℕ} → Marks P (length source) l
+    → ((k q m : ℕ) → k < length cs → P q m → q < bodySpan (commentOf cs k) .start)
+    → Marks (λ q m. P q m ⊎ ReadIn source cs q m) (length source) (markedByAll source cs l)
+unfolding markedByAll
+marks-by-all [] f k before = marks-iff (λ q m r. inl r) (λ q m r. ⊎-elim (λ x. x) (λ x. absurd (omega (arith, x .1))) r) k
+marks-by-all {source} (c ∷ cs) f {P} k before =
+    marks-iff on back (marks-by-all cs (fit-tail f) (marks-by c w k (λ q m. before 0 q m (suc-le-suc zero-le))) later)
+  where
+    w : Within source c
+    w = placed-body source c (f .each 0 (suc-le-suc zero-le))
+
+    later : (k q m : ℕ) → k < length cs → P q m ⊎ ReadBy source c q m → q < bodySpan (commentOf cs k) .start
+    later k q m h (inl r) = before (suc k) q m (suc-le-suc h) r
+    later k q m h (inr r) =
+        let v = placed-body source (commentOf cs k) (f .each (suc k) (suc-le-suc h)) in
+        omega (arith, read-below c w r .1, w .end, f .apart 0 (suc k) (suc-le-suc zero-le) (suc-le-suc h), v .start)
+
+    on : (q m : ℕ) → (P q m ⊎ ReadBy source c q m) ⊎ ReadIn source cs q m → P q m ⊎ ReadIn source (c ∷ cs) q m
+    on q m (inl (inl r)) = inl r
+    on q m (inl (inr r)) = inr (0, suc-le-suc zero-le, r)
+    on q m (inr (k, h, r)) = inr (suc k, suc-le-suc h, r)
+
+    back : (q m : ℕ) → P q m ⊎ ReadIn source (c ∷ cs) q m → (P q m ⊎ ReadBy source c q m) ⊎ ReadIn source cs q m
+    back q m (inl r) = inl (inl r)
+    back q m (inr (zero, h, r)) = inl (inr r)
+    back q m (inr (suc k, h, r)) = inr (k, omega arith, r)
+
+-- zeros mark nothing
+unmarked : (n : ℕ) (l : List ℕ) → length l ≡ n → ((q : ℕ) → getD l q 0 ≡ 0) → Marks (λ q m. ⊥) n l
+unmarked n l e f = record { same = e; sound = λ q m h. omega (arith, f q); complete = λ q m r. absurd r }
+
+nothing : (n : ℕ) → Marks (λ q m. ⊥) n (replicate n 0)
+nothing n = unmarked n (replicate n 0) (length-replicate n 0) (zeros n)
+
+cleared : (n : ℕ) (l : List ℕ) → length l ≡ n → ((q : ℕ) → getD l q 0 ≡ 0) → l ≡ replicate n 0
+cleared n l e f = marks-unique (unmarked n l e f) (nothing n)
+
+pub marks-of : {source : List ℕ} (cs : List Comment) → Fit source cs → Marks (ReadIn source cs) (length source) (marksOf source cs)
+marks-of {source} cs f =
+    marks-iff (λ q m r. ⊎-elim (λ x. absurd x) (λ x. x) r) (λ q m r. inr r) (marks-by-all cs f (nothing (length source)) (λ k q m h r. absurd r))
+
+-- ---- the turns of the code
+
+-- where the marks of a comment's body are put in place of its part, and where nothing is done
+module _ (source : List ℕ) (c : Comment) (l : List ℕ) where
+  pub marked-part : {p : List ℕ} → Within source c → isStarOpened source c ≡ true → Marks (Listed (body source c)) (length (body source c)) p
+      → take (bodySpan c .start) l ++ (p ++ drop (bodySpan c .end - bodySpan c .start) (drop (bodySpan c .start) l)) ≡ markedBy source c l
+  unfolding markedBy
+  marked-part w o k =
+      let n : bodySpan c .start + (bodySpan c .end - bodySpan c .start) ≡ bodySpan c .end = omega (arith, w .order) in
+      rw (o, drop-drop (bodySpan c .end - bodySpan c .start) (bodySpan c .start) l, n, marks-unique k (listing-marks (body source c)))
+
+  pub marked-not : isStarOpened source c ≡ false → l ≡ markedBy source c l
+  unfolding markedBy
+  marked-not o = rw o
+
+pub mark-first : (source : List ℕ) (cs : List Comment) (l : List ℕ) → length l ≡ length source → ((q : ℕ) → getD l q 0 ≡ 0) → markedByAll source cs l ≡ marksOf source cs
+mark-first source cs l e f = rw (cleared (length source) l e f)
+
+pub mark-more : (source l : List ℕ) (row : ℕ → Comment) (n k : ℕ) → k < n
+    → markedByAll source (rows row k (n - k)) l ≡ markedByAll source (rows row (k + 1) (n - (k + 1))) (markedBy source (row k) l)
+unfolding rows markedByAll
+mark-more source l row n k h = let e : n - k ≡ suc (n - suc k) = omega arith in rw (e, add-one k)

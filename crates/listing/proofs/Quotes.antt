@@ -1,0 +1,69 @@
+-- The import that is reported of a reading, and where it stands in the source.
+use mathlib.Core.Path.{_≡_, refl, ap, sym, _∙_}
+use mathlib.Core.Bool.{true}
+use mathlib.Core.List.{List, [], _∷_, _++_, append-assoc}
+use mathlib.Core.Option.{Option}
+use Prim.Native.Nat.{ℕ, _+_, _-_, _≤_}
+use native.Mathlib.Omega.{arith}
+use lib.ListN.{length, take, drop, length-append, length-drop}
+use lib.Seq.{take-at, append-snoc}
+use Rattle.text.specs.declared.utf8.Encoding.the-variants.{Utf8}
+use Rattle.text.specs.Utf8.{formed}
+use Rattle.jsdoc.specs.Grammar.{Quote, Reading, From}
+use Rattle.jsdoc.proofs.Texts.{quote-complete, quote-shorter}
+use Rattle.jsdoc.proofs.Places.{place-quote, quote-boundaries}
+use Rattle.sheet.specs.declared.comments.Comment.{Comment}
+use Rattle.sheet.specs.Lookups.{bodySpan, body}
+use Rattle.report.specs.ModuleInfo.{JsDocImportInfo}
+use Rattle.report.specs.Range.{rangeOf}
+use Rattle.listing.specs.Imports.{importAt}
+use Rattle.listing.specs.Demand.{StandsAt}
+use Rattle.listing.proofs.Bodies.{Within, body-then}
+
+-- a quote is one whatever follows it
+quote-then : {k s t : List ℕ} (u : List ℕ) → Quote k s t → Quote k (s ++ u) (t ++ u)
+quote-then {k} {t} u r = record {
+  mark = r .mark;
+  r1 = r .r1 ++ u;
+  is-mark = r .is-mark;
+  first = rw (r .first);
+  rest = (r .rest .0, rw (r .rest .1) (append-assoc k (r .mark ∷ t) u));
+}
+
+-- and so are its own n bytes
+quote-alone : {k s t : List ℕ} (n : ℕ) → n + length t ≡ length s → Quote k s t → Quote k (take n s) []
+quote-alone {k} {s} {t} n e r =
+    let quote = r .mark ∷ (k ++ (r .mark ∷ [])) in
+    let whole : s ≡ quote ++ t = r .first ∙ ap (r .mark ∷_) (r .rest .1 ∙ sym (append-snoc k (r .mark) t)) in
+    let size : length quote ≡ n = omega (arith, ap length whole, length-append quote t) in
+    record { mark = r .mark; r1 = k ++ (r .mark ∷ []); is-mark = r .is-mark; first = rw whole (take-at quote t n size); rest = (r .rest .0, refl) }
+
+-- an import is reported from q on, and stands from there to e
+pub record Standing (source : List ℕ) (q e mode : ℕ) : Type 0 where
+  pub import : JsDocImportInfo
+  pub is : importAt source q mode ≡ Option.some import
+  pub stands : StandsAt source import (record { start = q; end = e })
+  pub mode-is : import .mode ≡ mode
+
+module _ {source : List ℕ} (f : formed Utf8 0 source ≡ true) where
+  quote-stands : (q e mode : ℕ) {k : List ℕ} → e ≤ length source → Quote k (drop q source) (drop e source) → Standing source q e mode
+  unfolding importAt
+  quote-stands q e mode {k} l r =
+      let bounds = quote-boundaries source f q e l r in
+      let past : length source - length (drop e source) ≡ e = omega (arith, length-drop e source) in
+      let size : e - q + length (drop e source) ≡ length (drop q source) = omega (arith, length-drop e source, length-drop q source, quote-shorter r) in
+      record {
+        import = record { specifier = record { text = k; range = rangeOf source (record { start = q; end = e }) }; mode = mode };
+        is = rw (quote-complete r, past);
+        stands = record { start = bounds .0; end = bounds .1; range = refl; text = quote-alone (e - q) size r };
+        mode-is = refl;
+      }
+
+  -- the import of a reading in a comment
+  pub reading-stands : (c : Comment) → Within source c → {k j mode : ℕ} (r : From Reading (body source c) k j mode)
+      → Standing source (bodySpan c .start + j) (bodySpan c .start + r .end) mode
+  reading-stands c w {j} {mode} r =
+      let (k, t) = place-quote (r .reads) in
+      let below : j ≤ length (body source c) = omega (arith, quote-shorter t, length-drop j (body source c)) in
+      let last : bodySpan c .start + r .end ≤ length source = omega (arith, r .inside, w .long, w .order, w .end, w .source-end) in
+      quote-stands (bodySpan c .start + j) (bodySpan c .start + r .end) mode {k = k} last (rw (body-then source c w j below, body-then source c w (r .end) (r .inside)) (quote-then _ t))

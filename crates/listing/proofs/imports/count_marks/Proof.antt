@@ -1,0 +1,47 @@
+use borrow.Author.Needs.{needs}
+use mathlib.Core.Path.{_≡_}
+use Prim.Native.Nat.{_+_, _-_, _≤_}
+use native.Mathlib.Omega.{arith}
+use lib.ListN.{length, drop, drop-of-length-le}
+use denote.Ref.{now}
+use Rattle.listing.specs.Imports.{countOf}
+use Rattle.listing.proofs.Turns.{count-next, count-one}
+use Rattle.listing.proofs.imports.count_marks.Statement.{statement}
+use Rattle.listing.proofs.imports.count_marks.Tie as tie
+
+abbrev Inv-loop : tie.InvT-loop
+Inv-loop marks count₀ q₀ count q = (count ≤ q) × (q ≤ length marks) × (count + countOf (drop q marks) ≡ countOf marks)
+
+abbrev μ-loop : tie.MeasureT-loop
+μ-loop marks count₀ q₀ count q = length marks - q
+
+loop-again : tie.Need-loop-again Inv-loop μ-loop
+loop-again c =
+    let l = c .before .before .before .loop in
+    (omega (arith, l .inv), omega (arith, c .before .before .loop-test .taken), omega (arith, l .inv .2, count-next (now (c .before .before .before .before .args .marks)) (l .q) (c .before .before .loop-test .taken) (c .if1 .taken)))
+
+loop-again-2 : tie.Need-loop-again-2 Inv-loop μ-loop
+loop-again-2 c =
+    let l = c .before .before .before .loop in
+    (omega (arith, l .inv), omega (arith, c .before .before .loop-test .taken), omega (arith, l .inv .2, count-one (now (c .before .before .before .before .args .marks)) (l .q) (c .before .before .loop-test .taken) (c .if1 .left)))
+
+returns : tie.Need-returns Inv-loop μ-loop
+unfolding countOf
+returns c = omega (arith, rw (drop-of-length-le _ (c .loop-test .left)) at (c .before .loop .inv .2))
+
+pub count-marks-spec : {M : Type 1} → statement M
+count-marks-spec =
+    tie.close
+    (tie.spec
+    Inv-loop
+    μ-loop
+    (λ c. search needs)
+    (λ c. search needs)
+    (λ c. search needs)
+    (λ c. search needs)
+    loop-again
+    (λ c. search needs)
+    (λ c. search needs)
+    (λ c. search needs)
+    loop-again-2
+    returns)

@@ -1,0 +1,59 @@
+use borrow.Author.Needs.{needs}
+use mathlib.Core.Path.{_≡_, sym, _∙_}
+use Prim.Native.Nat.{_-_}
+use native.Mathlib.Omega.{arith}
+use lib.ListN.{length, drop, drop-of-length-le}
+use denote.Ref.{now}
+use Rattle.report.specs.Encode.{each, encodeJsDoc}
+use Rattle.report.specs.World.{wrote, worldAs}
+use Rattle.report.proofs.Worlds.{wrote-append, wrote-nil}
+use Rattle.listing.specs.Imports.{importsFrom}
+use Rattle.listing.proofs.Turns.{unmarked-next, marked-next}
+use Rattle.listing.proofs.imports.put_imports.Statement.{statement}
+use Rattle.listing.proofs.imports.put_imports.Tie as tie
+
+abbrev Inv-loop : tie.InvT-loop
+Inv-loop source index marks out₀ p₀ q₀ out p q =
+    (length out ≡ length out₀) × (wrote (worldAs out₀ p₀) (each encodeJsDoc (importsFrom source 0 marks)) ≡ wrote (worldAs out p) (each encodeJsDoc (importsFrom source q (drop q marks))))
+
+abbrev μ-loop : tie.MeasureT-loop
+μ-loop source index marks out₀ p₀ q₀ out p q = length marks - q
+
+loop-again : tie.Need-loop-again Inv-loop μ-loop
+loop-again c =
+    let l = c .before .before .before .loop in
+    (l .inv .0, l .inv .1 ∙ rw (unmarked-next _ _ (l .q) (c .before .before .loop-test .taken) (c .if1 .taken)))
+
+put-import-requires : tie.Need-put-import-requires Inv-loop μ-loop
+put-import-requires c κs = (c .before .before .before .before .before .before .before .before .before .pre .0, omega (arith, c .before .before .before .before .before .before .before .before .before .pre .1, c .before .before .before .loop-test .taken))
+
+loop-again-2 : tie.Need-loop-again-2 Inv-loop μ-loop
+loop-again-2 c =
+    let l = c .before .before .before .before .before .before .before .loop in
+    (c .before .before .put-import .kept .1 .1 .1 .1 .0 ∙ l .inv .0, l .inv .1 ∙ rw (marked-next _ _ (l .q) (c .before .before .before .before .before .before .loop-test .taken) (c .before .before .before .before .if1 .left), wrote-append, ← c .before .before .put-import .ensures))
+
+returns : tie.Need-returns Inv-loop μ-loop
+unfolding importsFrom each
+returns c =
+    let l = c .before .loop in
+    let marks = now (c .before .before .before .before .before .before .args .marks) in
+    sym (l .inv .1 ∙ rw (drop-of-length-le marks (c .loop-test .left)) (wrote-nil (l .out) (l .p)))
+
+pub put-imports-spec : {M : Type 1} → statement M
+put-imports-spec =
+    tie.close
+    (tie.spec
+    Inv-loop
+    μ-loop
+    (λ c. search needs)
+    (λ c. search needs)
+    (λ c. search needs)
+    (λ c. search needs)
+    loop-again
+    (λ c. search needs)
+    put-import-requires
+    (λ c. search needs)
+    (λ c. search needs)
+    loop-again-2
+    (λ c. search needs)
+    returns)

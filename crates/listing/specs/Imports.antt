@@ -1,0 +1,62 @@
+-- The JSDoc imports of a sheet, by marks over its source.
+use mathlib.Core.Bool.{Bool, cond, _&&_}
+use mathlib.Core.List.{List, [], _∷_, _++_}
+use mathlib.Core.Option.{Option}
+use Prim.Native.Nat.{ℕ, zero, suc, _-_}
+use lib.ListN.{length, take, drop, replicate}
+use Rattle.laws.specs.Quoted.{ascii}
+use Rattle.text.specs.Bytes.{begins}
+use Rattle.jsdoc.specs.Parsed.{onOk}
+use Rattle.jsdoc.specs.Reader.{parseQuote}
+use Rattle.jsdoc.specs.Listing.{listing}
+use Rattle.sheet.specs.declared.comments.Comment.{Comment}
+use Rattle.sheet.specs.Lookups.{bodySpan, body}
+use Rattle.report.specs.ModuleInfo.{Mode, JsDocImportInfo}
+use Rattle.report.specs.Range.{rangeOf}
+use Rattle.pragmas.specs.Readings.{listed}
+use Rattle.pragmas.specs.Pragmas.{isJavaScript, isBlock}
+
+-- a block comment whose body begins with `*`
+abbrev pub isStarOpened : List ℕ → Comment → Bool
+isStarOpened source c = isBlock c && begins (ascii "*") (body source c)
+
+-- marks over the source: at the body of a star-opened block comment those of its readings, and elsewhere what stands there
+unfoldable pub markedBy : List ℕ → Comment → List ℕ → List ℕ
+markedBy source c marks =
+    cond (isStarOpened source c)
+    (take (bodySpan c .start) marks ++ (listing (body source c) ++ drop (bodySpan c .end) marks))
+    marks
+
+-- the marks of comments, one after the other
+unfoldable pub markedByAll : List ℕ → List Comment → List ℕ → List ℕ
+markedByAll source [] marks = marks
+markedByAll source (c ∷ cs) marks = markedByAll source cs (markedBy source c marks)
+
+abbrev pub marksOf : List ℕ → List Comment → List ℕ
+marksOf source cs = markedByAll source cs (replicate (length source) 0)
+
+-- how many places are marked
+unfoldable pub countOf : List ℕ → ℕ
+countOf [] = 0
+countOf (zero ∷ marks) = countOf marks
+countOf (suc mode ∷ marks) = suc (countOf marks)
+
+-- the import whose quote begins at q: the text between its marks, and the positions of both marks and what they enclose
+unfoldable pub importAt : List ℕ → ℕ → Mode → Option JsDocImportInfo
+importAt source q mode =
+    onOk (parseQuote (drop q source))
+    (λ text rest. Option.some (record {
+      specifier = record { text = text; range = rangeOf source (record { start = q; end = length source - length rest }) };
+      mode = mode;
+    }))
+    Option.none
+
+-- the imports at the places from q on that are marked with 1 + their mode
+unfoldable pub importsFrom : List ℕ → ℕ → List ℕ → List JsDocImportInfo
+importsFrom source q [] = []
+importsFrom source q (zero ∷ marks) = importsFrom source (suc q) marks
+importsFrom source q (suc mode ∷ marks) = listed (importAt source q mode) (importsFrom source (suc q) marks)
+
+-- none but in JavaScript
+unfoldable pub jsdocImports : ℕ → List ℕ → List Comment → List JsDocImportInfo
+jsdocImports media source cs = cond (isJavaScript media) (importsFrom source 0 (marksOf source cs)) []

@@ -1,0 +1,2 @@
+pub mod Imports
+pub mod Demand

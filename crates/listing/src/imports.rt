@@ -1,0 +1,153 @@
+// The JSDoc imports of all comments, by marks over the source.
+use jsdoc::answers::Text;
+use jsdoc::quote::quote_at;
+use report::writer::Place;
+use sheet::comments::Comment;
+use sheet::comments::comment_at;
+use sheet::fields::Span;
+use sheet::lookups::body;
+use sheet::lookups::body_span;
+ghost use mathlib.Core.Path.{_≡_};
+ghost use mathlib.Core.List.{[]};
+ghost use Prim.Native.Nat.{_*_, _≤_};
+ghost use lib.ListN.{length};
+ghost use Rattle.sheet.specs.Tables.{commentsIn};
+ghost use Rattle.sheet.specs.Fit.{Fit};
+ghost use Rattle.sheet.specs.Lookups.{Roomy};
+ghost use Rattle.report.specs.Encode.{each, encodeJsDoc, encodeList};
+ghost use Rattle.report.specs.Range.{IndexOf};
+ghost use Rattle.report.specs.World.{wrote, worldAs};
+ghost use Rattle.pragmas.specs.Readings.{listed};
+ghost use Rattle.pragmas.specs.Held.{Commented};
+ghost use Rattle.listing.specs.Imports.{isStarOpened, markedBy, marksOf, countOf, importAt, importsFrom, jsdocImports};
+
+// Is it a block comment whose body begins with `*`?
+fn is_star_opened(source: &[u8], c: Comment) -> bool
+    requires { ⌜ Roomy c ⌝ }
+    requires { ⌜ c .span .end ≤ length (now source) ⌝ }
+    ensures { λ r. ⌜ r ≡ isStarOpened (now (source .entry)) c ⌝ }
+{
+    if c.kind == 1 {
+        return text::bytes::starts_with(body(source, c), 0, b"*");
+    }
+    false
+}
+
+// Marks the readings of a comment at its body.
+fn mark_comment(source: &[u8], c: Comment, marks: &mut [u8])
+    requires { ⌜ Roomy c ⌝ }
+    requires { ⌜ c .span .end ≤ length (now source) ⌝ }
+    requires { ⌜ length (now marks) ≡ length (now source) ⌝ }
+    ensures { λ r. ⌜ now (marks .exit) ≡ markedBy (now (source .entry)) c (now (marks .entry)) ⌝ }
+{
+    if is_star_opened(source, c) {
+        let span = body_span(c);
+        let start = span.start;
+        let end = span.end;
+        jsdoc::imports::analyze_jsdoc_imports(&source[start..end], &mut marks[start..end]);
+    }
+}
+
+// Marks each place of the source at which the place of a reading begins with 1 + its mode, and each other with 0.
+pub fn analyze_jsdoc_imports(source: &[u8], comments: &[u32], n: usize, marks: &mut [u8])
+    requires { ⌜ 3 * n ≤ length (now comments) ⌝ }
+    requires { ⌜ Fit (now source) (commentsIn (now comments) n) ⌝ }
+    requires { ⌜ length (now marks) ≡ length (now source) ⌝ }
+    ensures { λ r. ⌜ now (marks .exit) ≡ marksOf (now (source .entry)) (commentsIn (now (comments .entry)) n) ⌝ }
+{
+    jsdoc::imports::clear(marks);
+    let mut k = 0;
+    while k < n {
+        mark_comment(source, comment_at(comments, k), marks);
+        k += 1;
+    }
+}
+
+// How many places are marked.
+fn count_marks(marks: &[u8]) -> usize
+    ensures { λ r. ⌜ r ≡ countOf (now (marks .entry)) ⌝ }
+{
+    let mut count = 0;
+    let mut q = 0;
+    while q < marks.len() {
+        if marks[q] == 0 {
+            q += 1;
+        } else {
+            count += 1;
+            q += 1;
+        }
+    }
+    count
+}
+
+// Writes the import whose quote begins at `at`.
+fn put_import(
+    source: &[u8],
+    index: &[u32],
+    at: usize,
+    mode: u8,
+    out: &mut [u8],
+    place: Place,
+) -> Place
+    requires { ⌜ IndexOf (now source) (now index) ⌝ }
+    requires { ⌜ at ≤ length (now source) ⌝ }
+    ensures { λ r. ⌜ worldAs (now (out .exit)) r
+        ≡ wrote (worldAs (now (out .entry)) place) (each encodeJsDoc (listed (importAt (now (source .entry)) at mode) [])) ⌝ }
+{
+    let Text::Part { from, to, past } = quote_at(source, at) else {
+        return place;
+    };
+    let span = Span {
+        start: at,
+        end: past,
+    };
+    let p = place.put(out, 1);
+    let p = p.put_specifier(out, &source[from..to], source, index, span);
+    p.put(out, mode)
+}
+
+// Writes the imports at the places that are marked.
+fn put_imports(source: &[u8], index: &[u32], marks: &[u8], out: &mut [u8], place: Place) -> Place
+    requires { ⌜ IndexOf (now source) (now index) ⌝ }
+    requires { ⌜ length (now marks) ≡ length (now source) ⌝ }
+    ensures { λ r. ⌜ worldAs (now (out .exit)) r
+        ≡ wrote (worldAs (now (out .entry)) place) (each encodeJsDoc (importsFrom (now (source .entry)) 0 (now (marks .entry)))) ⌝ }
+{
+    let mut p = place;
+    let mut q = 0;
+    while q < marks.len() {
+        let mark = marks[q];
+        if mark == 0 {
+            q += 1;
+        } else {
+            p = put_import(source, index, q, mark - 1, out, p);
+            q += 1;
+        }
+    }
+    p
+}
+
+// Writes the JSDoc imports of a sheet of this media. `marks` is lent to work in.
+pub fn put_jsdoc_imports(
+    source: &[u8],
+    comments: &[u32],
+    n: usize,
+    index: &[u32],
+    media: usize,
+    marks: &mut [u8],
+    out: &mut [u8],
+    place: Place,
+) -> Place
+    requires { ⌜ Commented (now source) (now comments) n (now index) ⌝ }
+    requires { ⌜ length (now marks) ≡ length (now source) ⌝ }
+    ensures { λ r. ⌜ worldAs (now (out .exit)) r
+        ≡ wrote (worldAs (now (out .entry)) place)
+        (encodeList encodeJsDoc (jsdocImports media (now (source .entry)) (commentsIn (now (comments .entry)) n))) ⌝ }
+{
+    if 3 < media {
+        return place.put_number(out, 0);
+    }
+    analyze_jsdoc_imports(source, comments, n, marks);
+    let p = place.put_number(out, count_marks(marks));
+    put_imports(source, index, marks, out, p)
+}

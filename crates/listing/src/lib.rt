@@ -1,0 +1,2 @@
+// The JSDoc imports of a sheet: those of all its star-opened block comments, written ascending by place.
+pub mod imports;

@@ -1,0 +1,102 @@
+-- The comments of a table from one row to another, row by row, and what a rule answers of them.
+use mathlib.Core.Path.{_≡_, refl, ap, _∙_}
+use mathlib.Core.List.{List, [], _∷_, _++_, append-assoc}
+use mathlib.Core.Option.{Option}
+use Prim.Native.Nat.{ℕ, suc, _+_, _-_, _*_, _≤_, _<_}
+use native.Mathlib.Nat.{sub-eq-zero-of-le}
+use native.Mathlib.Numerals.{add-one}
+use native.Mathlib.Omega.{arith}
+use lib.ListN.{length}
+use Rattle.sheet.specs.declared.comments.Comment.{Comment}
+use Rattle.sheet.specs.declared.groups.Group.{Group}
+use Rattle.sheet.specs.Tables.{rows, commentIn, commentsIn}
+use Rattle.sheet.specs.Fit.{Reaching}
+use Rattle.sheet.specs.Lookups.{commentsOf}
+use Rattle.sheet.proofs.Rows.{rows-more}
+use Rattle.sheet.proofs.Members.{group-comments}
+use Rattle.report.specs.ModuleInfo.{TypeScriptReference}
+use Rattle.report.specs.Encode.{each, encodeReference}
+use Rattle.pragmas.specs.declared.references.Reference.{Reference}
+use Rattle.pragmas.specs.declared.references.Reference.the-variants as reference
+use Rattle.pragmas.specs.Readings.{orElse, firstOf, lastOf, listed, allOf}
+use Rattle.pragmas.specs.Rules.{commentsFrom, referenceAs, amount, encodeAny}
+
+module _ (table : List ℕ) (start end : ℕ) where
+  from-next : start < end → commentsFrom table start end ≡ commentIn table start ∷ commentsFrom table (start + 1) end
+  unfolding rows
+  from-next h =
+      let n : end - start ≡ suc (end - (start + 1)) = omega arith in
+      rw (n, add-one start)
+
+  from-none : end ≤ start → commentsFrom table start end ≡ []
+  unfolding rows
+  from-none h = rw (sub-eq-zero-of-le h)
+
+  -- the last row
+  from-last : start < end → commentsFrom table start end ≡ commentsFrom table start (end - 1) ++ (commentIn table (end - 1) ∷ [])
+  from-last h =
+      let n : end - start ≡ suc (end - 1 - start) = omega arith in
+      let last : start + (end - 1 - start) ≡ end - 1 = omega arith in
+      rw (n, rows-more (commentIn table) start (end - 1 - start)) (ap (λ k. commentsFrom table start (end - 1) ++ (commentIn table k ∷ [])) last)
+
+-- the comments of a group
+pub group-from : (table : List ℕ) (n : ℕ) (g : Group) → Reaching n g → commentsOf (commentsIn table n) g ≡ commentsFrom table (g .first) (g .first + g .count)
+group-from table n g r =
+    let e : g .first + g .count - g .first ≡ g .count = omega arith in
+    rw e (group-comments table n g r)
+
+module _ {A : Type 0} (f : Comment → Option A) where
+  else-none : (a : Option A) → orElse Option.none a ≡ orElse a Option.none
+  else-none Option.none = refl
+  else-none (Option.some a) = refl
+
+  else-else : (a b c : Option A) → orElse (orElse a b) c ≡ orElse a (orElse b c)
+  else-else Option.none b c = refl
+  else-else (Option.some a) b c = refl
+
+  last-append : (cs : List Comment) (c : Comment) → lastOf f (cs ++ (c ∷ [])) ≡ orElse (f c) (lastOf f cs)
+  unfolding lastOf
+  last-append [] c = else-none (f c)
+  last-append (d ∷ cs) c = rw (last-append cs c) (else-else (f c) (lastOf f cs) (f d))
+
+  -- by the first row, or by the last
+  module _ (table : List ℕ) (start end : ℕ) (h : start < end) where
+    pub first-next : {c : Comment} → c ≡ commentIn table start
+        → firstOf f (commentsFrom table start end) ≡ orElse (f c) (firstOf f (commentsFrom table (start + 1) end))
+    unfolding firstOf
+    first-next e = rw (from-next table start end h, e)
+
+    pub last-next : {c : Comment} → c ≡ commentIn table (end - 1)
+        → lastOf f (commentsFrom table start end) ≡ orElse (f c) (lastOf f (commentsFrom table start (end - 1)))
+    last-next e = rw (from-last table start end h, e) (last-append (commentsFrom table start (end - 1)) (commentIn table (end - 1)))
+
+    pub all-next : {c : Comment} → c ≡ commentIn table start
+        → allOf f (commentsFrom table start end) ≡ listed (f c) (allOf f (commentsFrom table (start + 1) end))
+    unfolding allOf
+    all-next e = rw (from-next table start end h, e)
+
+  -- there is no row
+  module _ (table : List ℕ) (start end : ℕ) (h : end ≤ start) where
+    pub first-none : firstOf f (commentsFrom table start end) ≡ Option.none
+    unfolding firstOf
+    first-none = rw (from-none table start end h)
+
+    pub last-none : lastOf f (commentsFrom table start end) ≡ Option.none
+    unfolding lastOf
+    last-none = rw (from-none table start end h)
+
+    pub all-none : allOf f (commentsFrom table start end) ≡ []
+    unfolding allOf
+    all-none = rw (from-none table start end h)
+
+-- one reference more, or none
+pub listed-each : (o : Option TypeScriptReference) (l : List TypeScriptReference) → each encodeReference (listed o l) ≡ encodeAny o ++ each encodeReference l
+unfolding each
+listed-each Option.none l = refl
+listed-each (Option.some r) l = refl
+
+pub listed-length : (source : List ℕ) (c : Comment) (r : Reference) (l : List TypeScriptReference)
+    → (length (listed (referenceAs source c r) l) ≡ amount r + length l) × (amount r ≤ 1)
+listed-length source c (reference.Path k) l = (omega arith, omega arith)
+listed-length source c (reference.Types k mode) l = (omega arith, omega arith)
+listed-length source c reference.Nothing l = (omega arith, omega arith)

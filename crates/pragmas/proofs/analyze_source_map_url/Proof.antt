@@ -1,0 +1,12 @@
+use borrow.Author.Needs.{needs}
+use Rattle.pragmas.specs.Pragmas.{sourceMapUrlIn}
+use Rattle.pragmas.proofs.analyze_source_map_url.Statement.{statement}
+use Rattle.pragmas.proofs.analyze_source_map_url.Tie as tie
+
+returns : tie.Need-returns
+unfolding sourceMapUrlIn
+returns c = rw (← c .before .before .before .before .last-reading .ensures .0) (c .before .before .put-reading .ensures)
+
+pub analyze-source-map-url-spec : {M : Type 1} → statement M
+analyze-source-map-url-spec =
+    tie.close (tie.spec (λ c κs. search needs) (λ c κs. search needs) (λ c. search needs) returns)

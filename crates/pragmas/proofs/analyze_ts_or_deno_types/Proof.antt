@@ -1,0 +1,64 @@
+use borrow.Author.Needs.{needs}
+use native.Mathlib.Omega.{arith}
+use denote.Ref.{now}
+use Rattle.laws.proofs.Steps.{seen}
+use Rattle.sheet.specs.Views.{foundAs}
+use Rattle.sheet.specs.Lookups.{leading}
+use Rattle.sheet.proofs.Members.{row-placed, group-last, found-reaching}
+use Rattle.report.specs.Encode.{encodeOptional}
+use Rattle.pragmas.specs.Pragmas.{typesIn}
+use Rattle.pragmas.proofs.analyze_ts_or_deno_types.Statement.{statement}
+use Rattle.pragmas.proofs.analyze_ts_or_deno_types.Tie as tie
+
+sub-comment-at : tie.Need-sub-comment-at
+sub-comment-at c =
+    let r = found-reaching (c .before .before .before .before .before .before .before .before .before .before .pre .1 .grouped) leading (c .before .before .before .before .before .before .before .before .before .before .args .start) (seen foundAs (c .before .before .before .before .find-group .ensures) (c .before .before .g .given .1)) in
+    omega arith
+
+add-comment-at : tie.Need-add-comment-at
+add-comment-at c =
+    let r = found-reaching (c .before .before .before .before .before .before .before .before .before .before .before .pre .1 .grouped) leading (c .before .before .before .before .before .before .before .before .before .before .before .args .start) (seen foundAs (c .before .before .before .before .before .find-group .ensures) (c .before .before .before .g .given .1)) in
+    search needs
+
+comment-at-requires : tie.Need-comment-at-requires
+comment-at-requires c κs =
+    let r = found-reaching (c .before .before .before .before .before .before .before .before .before .before .before .pre .1 .grouped) leading (c .before .before .before .before .before .before .before .before .before .before .before .args .start) (seen foundAs (c .before .before .before .before .before .find-group .ensures) (c .before .before .before .g .given .1)) in
+    let room = c .before .before .before .before .before .before .before .before .before .before .before .pre .0 .room in
+    omega arith
+
+read-types-requires : tie.Need-read-types-requires
+read-types-requires c κs =
+    let a = c .before .before .before .before .before .before .before .before .before .before .before .before .args in
+    let r = found-reaching (c .before .before .before .before .before .before .before .before .before .before .before .before .pre .1 .grouped) leading (a .start) (seen foundAs (c .before .before .before .before .before .before .find-group .ensures) (c .before .before .before .before .g .given .1)) in
+    rw (c .comment-at .ensures) (row-placed (now (a .comments)) (a .n) (c .before .before .before .before .before .before .before .before .before .before .before .before .pre .0 .fit) _ (omega arith))
+
+returns : tie.Need-returns
+unfolding typesIn
+returns c =
+    let a = c .before .before .before .before .before .before .before .before .before .before .before .before .before .before .before .before .before .args in
+    let found = seen foundAs (c .before .before .before .before .before .before .before .before .before .before .before .find-group .ensures) (c .before .before .before .before .before .before .before .before .before .g .given .1) in
+    let r = found-reaching (c .before .before .before .before .before .before .before .before .before .before .before .before .before .before .before .before .before .pre .1 .grouped) leading (a .start) found in
+    rw (found, group-last (now (a .comments)) (a .n) (c .before .before .before .before .before .before .before .before .before .g .given .0 .0) r, ← c .before .before .before .before .before .comment-at .ensures, ← c .before .before .before .before .read-types .ensures .0)
+    (c .before .before .put-reading .ensures)
+
+returns-2 : tie.Need-returns-2
+unfolding typesIn encodeOptional
+returns-2 c = rw (seen foundAs (c .before .before .before .before .before .before .find-group .ensures) (c .before .before .before .before .enum-told .given .1)) (c .before .before .put .ensures)
+
+pub analyze-ts-or-deno-types-spec : {M : Type 1} → statement M
+analyze-ts-or-deno-types-spec =
+    tie.close
+    (tie.spec
+    (λ c κs. search needs)
+    (λ c. search needs)
+    sub-comment-at
+    add-comment-at
+    comment-at-requires
+    read-types-requires
+    (λ c κs. search needs)
+    (λ c. search needs)
+    (λ c κs. search needs)
+    (λ c. search needs)
+    returns
+    (λ c. search needs)
+    returns-2)

@@ -1,0 +1,58 @@
+use borrow.Author.Needs.{needs}
+use native.Mathlib.Omega.{arith}
+use denote.Ref.{now}
+use Rattle.wire.specs.Number.{encodeGroups, encodeNumber}
+use Rattle.report.specs.Encode.{each, encodeList}
+use Rattle.report.proofs.Worlds.{wrote-append}
+use Rattle.pragmas.specs.Readings.{allOf}
+use Rattle.pragmas.specs.Pragmas.{referencesIn}
+use Rattle.pragmas.proofs.Between.{group-from}
+use Rattle.pragmas.proofs.references.analyze_ts_references.Statement.{statement}
+use Rattle.pragmas.proofs.references.analyze_ts_references.Tie as tie
+
+add-end : tie.Need-add-end
+add-end c = omega (arith, rw (c .before .before .found .given .1) at (c .before .before .before .before .before .before .before .before .pre .1))
+
+count-between-requires : tie.Need-count-between-requires
+count-between-requires c κs =
+    let r = rw (c .before .before .found .given .1) at (c .before .before .before .before .before .before .before .before .pre .1) in
+    ((c .before .before .before .before .before .before .before .before .pre .0 .room, omega arith, r .reach), c .before .before .before .before .before .before .before .before .pre .0 .fit)
+
+put-between-requires : tie.Need-put-between-requires
+put-between-requires c κs =
+    let r = rw (c .before .before .before .before .before .before .before .before .found .given .1) at (c .before .before .before .before .before .before .before .before .before .before .before .before .before .before .pre .1) in
+    (c .before .before .before .before .before .before .before .before .before .before .before .before .before .before .pre .0, (omega arith, r .reach))
+
+returns : tie.Need-returns
+unfolding encodeList referencesIn
+returns c =
+    let a = c .before .before .before .before .before .before .before .before .before .before .before .before .before .before .before .before .before .args in
+    let r = rw (c .before .before .before .before .before .before .before .before .before .before .before .found .given .1) at (c .before .before .before .before .before .before .before .before .before .before .before .before .before .before .before .before .before .pre .1) in
+    rw (
+      c .before .before .before .before .before .before .before .before .before .before .before .found .given .1,
+      group-from (now (a .comments)) (a .n) (c .before .before .before .before .before .before .before .before .before .before .before .found .given .0 .0) r,
+      wrote-append,
+      ← c .before .before .before .before .before .before .before .before .count-between .ensures,
+      ← c .before .before .before .before .before .before .put-number .ensures,
+    )
+    (c .before .before .put-between .ensures)
+
+returns-2 : tie.Need-returns-2
+unfolding encodeList referencesIn allOf each encodeNumber encodeGroups
+returns-2 c = rw (c .before .before .before .before .enum-told .given .1) (c .before .before .put .ensures)
+
+pub analyze-ts-references-spec : {M : Type 1} → statement M
+analyze-ts-references-spec =
+    tie.close
+    (tie.spec
+    (λ c. search needs)
+    add-end
+    count-between-requires
+    (λ c κs. search needs)
+    put-between-requires
+    (λ c. search needs)
+    (λ c κs. search needs)
+    (λ c. search needs)
+    returns
+    (λ c. search needs)
+    returns-2)

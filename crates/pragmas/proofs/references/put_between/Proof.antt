@@ -1,0 +1,63 @@
+use borrow.Author.Needs.{needs}
+use native.Mathlib.Omega.{arith}
+use mathlib.Core.Path.{_≡_, refl, sym, ap, _∙_}
+use Prim.Native.Nat.{_+_, _-_, _≤_}
+use lib.ListN.{length}
+use denote.Ref.{now}
+use Rattle.sheet.proofs.Members.{row-placed}
+use Rattle.report.specs.Encode.{each, encodeReference}
+use Rattle.report.specs.World.{wrote, worldAs}
+use Rattle.report.proofs.Worlds.{wrote-append, wrote-nil}
+use Rattle.pragmas.specs.Readings.{allOf}
+use Rattle.pragmas.specs.Pragmas.{reference}
+use Rattle.pragmas.specs.Rules.{commentsFrom}
+use Rattle.pragmas.proofs.Between.{all-next, all-none, listed-each}
+use Rattle.pragmas.proofs.references.put_between.Statement.{statement}
+use Rattle.pragmas.proofs.references.put_between.Tie as tie
+
+abbrev Inv-loop : tie.InvT-loop
+Inv-loop source comments n index start end out₀ p₀ i₀ out p i =
+    (i ≤ end) × (length out ≡ length out₀)
+    × (wrote (worldAs out₀ p₀) (each encodeReference (allOf (reference source) (commentsFrom comments start end)))
+    ≡ wrote (worldAs out p) (each encodeReference (allOf (reference source) (commentsFrom comments i end))))
+
+abbrev μ-loop : tie.MeasureT-loop
+μ-loop source comments n index start end out₀ p₀ i₀ out p i = end - i
+
+read-reference-requires : tie.Need-read-reference-requires Inv-loop μ-loop
+read-reference-requires c κs =
+    let a = c .before .before .before .before .before .before .before .args in
+    rw (c .comment-at .ensures) (row-placed (now (a .comments)) (a .n) (c .before .before .before .before .before .before .before .pre .0 .fit) (c .before .before .loop .i) (omega arith))
+
+put-reference-requires : tie.Need-put-reference-requires Inv-loop μ-loop
+put-reference-requires c κs = (c .before .before .before .before .before .before .before .before .before .pre .0 .indexed, c .before .read-reference .ensures .1)
+
+loop-again : tie.Need-loop-again Inv-loop μ-loop
+loop-again c =
+    let a = c .before .before .before .before .before .before .before .before .before .before .before .before .args in
+    let l = c .before .before .before .before .before .before .before .loop in
+    let step = all-next (reference (now (a .source))) (now (a .comments)) (l .i) (a .end) (c .before .before .before .before .before .before .loop-test .taken) (c .before .before .before .before .before .comment-at .ensures) in
+    (omega arith, c .before .before .put-reference .kept .1 .1 .1 .1 .0 ∙ l .inv .1, l .inv .2 ∙ rw (step, listed-each, wrote-append, ← c .before .before .before .before .read-reference .ensures .0, ← c .before .before .put-reference .ensures))
+
+returns : tie.Need-returns Inv-loop μ-loop
+unfolding each
+returns c =
+    let a = c .before .before .before .before .before .before .args in
+    let l = c .before .loop in
+    sym (l .inv .2 ∙ rw (all-none (reference (now (a .source))) (now (a .comments)) (l .i) (a .end) (c .loop-test .left)) (wrote-nil (l .out) (l .p)))
+
+pub put-between-spec : {M : Type 1} → statement M
+put-between-spec =
+    tie.close
+    (tie.spec
+    Inv-loop
+    μ-loop
+    (λ c. search needs)
+    (λ c κs. search needs)
+    read-reference-requires
+    put-reference-requires
+    (λ c. search needs)
+    (λ c. search needs)
+    loop-again
+    (λ c. search needs)
+    returns)

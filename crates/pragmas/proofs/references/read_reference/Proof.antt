@@ -1,0 +1,85 @@
+use borrow.Author.Needs.{needs}
+use borrow.Author.Tests.{eq-eqb, ne-eqb}
+use Rattle.laws.proofs.Steps.{known}
+use Rattle.sheet.proofs.Members.{placed-within}
+use Rattle.sheet.proofs.Marks.{roomy}
+use Rattle.pragmas.specs.Pragmas.{modeIn, reference}
+use Rattle.pragmas.proofs.references.read_reference.Statement.{statement}
+use Rattle.pragmas.proofs.references.read_reference.Tie as tie
+
+returns : tie.Need-returns
+unfolding reference
+returns c = (rw (ne-eqb _ _ (c .if1 .taken)), tt)
+
+body-requires : tie.Need-body-requires
+body-requires c κs = let placed = c .before .before .before .pre in (roomy _ _ placed, placed-within _ _ placed)
+
+returns-2 : tie.Need-returns-2
+unfolding reference
+returns-2 c = (
+  rw (
+    eq-eqb _ _ (c .before .before .before .before .before .before .before .if1 .left),
+    ← c .before .before .before .before .before .before .body .ensures,
+    known (c .before .before .before .before .before .is-comment-triple-slash-reference .ensures) (c .before .before .before .before .if2 .taken),
+    known (c .before .before .before .find-path-reference .ensures .0) (c .before .k .given .1),
+  ),
+  record { placed = c .before .before .before .before .before .before .before .before .before .before .pre; inside = rw (c .before .k .given .1, c .before .before .before .before .before .before .body .ensures) at (c .before .before .before .find-path-reference .ensures .1) },
+)
+
+returns-3 : tie.Need-returns-3
+unfolding modeIn reference
+returns-3 c = (
+  rw (
+    eq-eqb _ _ (c .before .before .before .before .before .before .before .before .before .before .before .if1 .left),
+    ← c .before .before .before .before .before .before .before .before .before .before .body .ensures,
+    known (c .before .before .before .before .before .before .before .before .before .is-comment-triple-slash-reference .ensures) (c .before .before .before .before .before .before .before .before .if2 .taken),
+    known (c .before .before .before .before .before .before .before .find-path-reference .ensures .0) (c .before .before .before .before .before .enum-told .given .1),
+    known (c .before .before .before .before .find-types-reference .ensures .0) (c .before .before .k2 .given .1),
+    c .resolution-mode .ensures,
+    c .before .before .before .before .before .before .before .before .before .before .body .ensures,
+  ),
+  record { placed = c .before .before .before .before .before .before .before .before .before .before .before .before .before .before .pre; inside = rw (c .before .before .k2 .given .1, c .before .before .before .before .before .before .before .before .before .before .body .ensures) at (c .before .before .before .before .find-types-reference .ensures .1) },
+)
+
+returns-4 : tie.Need-returns-4
+unfolding reference
+returns-4 c = (
+  rw (
+    eq-eqb _ _ (c .before .before .before .before .before .before .before .before .before .if1 .left),
+    ← c .before .before .before .before .before .before .before .before .body .ensures,
+    known (c .before .before .before .before .before .before .before .is-comment-triple-slash-reference .ensures) (c .before .before .before .before .before .before .if2 .taken),
+    known (c .before .before .before .before .before .find-path-reference .ensures .0) (c .before .before .before .enum-told .given .1),
+    known (c .before .before .find-types-reference .ensures .0) (c .enum-told2 .given .1),
+  ),
+  tt,
+)
+
+returns-5 : tie.Need-returns-5
+unfolding reference
+returns-5 c = (
+  rw (
+    eq-eqb _ _ (c .before .before .before .if1 .left),
+    ← c .before .before .body .ensures,
+    known (c .before .is-comment-triple-slash-reference .ensures) (c .if2 .left),
+  ),
+  tt,
+)
+
+pub read-reference-spec : {M : Type 1} → statement M
+read-reference-spec =
+    tie.close
+    (tie.spec
+    returns
+    body-requires
+    (λ c κs. search needs)
+    (λ c κs. search needs)
+    (λ c. search needs)
+    returns-2
+    (λ c. search needs)
+    (λ c κs. search needs)
+    (λ c. search needs)
+    (λ c κs. search needs)
+    returns-3
+    (λ c. search needs)
+    returns-4
+    returns-5)

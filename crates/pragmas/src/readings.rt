@@ -1,0 +1,238 @@
+// The comments that a rule reads, and what it captures there.
+use analysis::Capture;
+use analysis::Found;
+use analysis::find_deno_types;
+use analysis::find_jsx_import_source;
+use analysis::find_jsx_import_source_types;
+use analysis::find_source_mapping_url;
+use analysis::find_ts_self_types;
+use analysis::find_ts_types;
+use analysis::place_of;
+use analysis::specifier;
+use report::writer::Place;
+use sheet::comments::Comment;
+use sheet::comments::comment_at;
+use sheet::fields::Span;
+use sheet::lookups::GroupFound;
+use sheet::lookups::body;
+use sheet::lookups::body_span;
+ghost use mathlib.Core.Path.{_≡_};
+ghost use Prim.Native.Nat.{_-_, _*_, _≤_};
+ghost use lib.ListN.{length};
+ghost use Rattle.analysis.specs.Row.{find};
+ghost use Rattle.analysis.specs.Place.{Inside, Within};
+ghost use Rattle.sheet.specs.Tables.{commentsIn};
+ghost use Rattle.sheet.specs.Fit.{Placed, Fit};
+ghost use Rattle.sheet.specs.Lookups.{Roomy, bodySpan};
+ghost use Rattle.sheet.specs.Views.{foundAs};
+ghost use Rattle.report.specs.Encode.{encodeOptional, encodeSpecifier};
+ghost use Rattle.report.specs.Range.{IndexOf};
+ghost use Rattle.report.specs.World.{wrote, worldAs};
+ghost use Rattle.pragmas.specs.Held.{Reached};
+ghost use Rattle.pragmas.specs.Readings.{placeIn, specifierIn, firstOf, lastOf};
+ghost use Rattle.pragmas.specs.Pragmas.{inGroup};
+ghost use Rattle.pragmas.specs.Rules.{rowOf, takes, readRule, readAs, ReadIn, CaptureIn, commentsFrom};
+
+// The rules that give one specifier.
+pub enum Rule {
+    TsSelfTypes,
+    JsxImportSource,
+    JsxImportSourceTypes,
+    SourceMapUrl,
+    TsTypes,
+    DenoTypes,
+}
+
+// A comment that a rule reads, with what is captured in its body.
+pub enum Reading {
+    Of(Comment, Capture),
+    Nothing,
+}
+
+// The finder of a rule.
+fn find_by(body: &[u8], rule: Rule) -> Found
+    ensures { λ r. ⌜ r ≡ find (rowOf rule) (now (body .entry)) ⌝ }
+    ensures { λ r. ⌜ Within r (length (now (body .entry))) ⌝ }
+{
+    match rule {
+        Rule::TsSelfTypes => find_ts_self_types(body),
+        Rule::JsxImportSource => find_jsx_import_source(body),
+        Rule::JsxImportSourceTypes => find_jsx_import_source_types(body),
+        Rule::SourceMapUrl => find_source_mapping_url(body),
+        Rule::TsTypes => find_ts_types(body),
+        Rule::DenoTypes => find_deno_types(body),
+    }
+}
+
+// Does the rule take comments of this kind? The JSX rules take block comments only.
+fn takes(rule: Rule, kind: usize) -> bool
+    ensures { λ r. ⌜ r ≡ takes rule kind ⌝ }
+{
+    match rule {
+        Rule::JsxImportSource => kind == 1,
+        Rule::JsxImportSourceTypes => kind == 1,
+        Rule::TsSelfTypes => true,
+        Rule::SourceMapUrl => true,
+        Rule::TsTypes => true,
+        Rule::DenoTypes => true,
+    }
+}
+
+// What a rule reads in a comment.
+pub fn read(source: &[u8], c: Comment, rule: Rule) -> Reading
+    requires { ⌜ Placed (now source) c ⌝ }
+    ensures { λ r. ⌜ readAs (now (source .entry)) r ≡ readRule rule (now (source .entry)) c ⌝ }
+    ensures { λ r. ⌜ ReadIn (now (source .entry)) r ⌝ }
+{
+    if takes(rule, c.kind) {
+        return match find_by(body(source, c), rule) {
+            Found::At(k) => Reading::Of(c, k),
+            Found::Nothing => Reading::Nothing,
+        };
+    }
+    Reading::Nothing
+}
+
+// The first reading among the comments of a table from one row to another.
+fn first_between(
+    source: &[u8],
+    comments: &[u32],
+    n: usize,
+    start: usize,
+    end: usize,
+    rule: Rule,
+) -> Reading
+    requires { ⌜ (3 * n ≤ length (now comments)) × (start ≤ end) × (end ≤ n) ⌝ }
+    requires { ⌜ Fit (now source) (commentsIn (now comments) n) ⌝ }
+    ensures { λ r. ⌜ readAs (now (source .entry)) r ≡ firstOf (readRule rule (now (source .entry))) (commentsFrom (now (comments .entry)) start end) ⌝ }
+    ensures { λ r. ⌜ ReadIn (now (source .entry)) r ⌝ }
+{
+    let mut i = start;
+    while i < end {
+        let reading = read(source, comment_at(comments, i), rule);
+        if let Reading::Of(_, _) = reading {
+            return reading;
+        }
+        i += 1;
+    }
+    Reading::Nothing
+}
+
+// The last one, sought from the end.
+fn last_between(
+    source: &[u8],
+    comments: &[u32],
+    n: usize,
+    start: usize,
+    end: usize,
+    rule: Rule,
+) -> Reading
+    requires { ⌜ (3 * n ≤ length (now comments)) × (start ≤ end) × (end ≤ n) ⌝ }
+    requires { ⌜ Fit (now source) (commentsIn (now comments) n) ⌝ }
+    ensures { λ r. ⌜ readAs (now (source .entry)) r ≡ lastOf (readRule rule (now (source .entry))) (commentsFrom (now (comments .entry)) start end) ⌝ }
+    ensures { λ r. ⌜ ReadIn (now (source .entry)) r ⌝ }
+{
+    let mut i = end;
+    while start < i {
+        i -= 1;
+        let reading = read(source, comment_at(comments, i), rule);
+        if let Reading::Of(_, _) = reading {
+            return reading;
+        }
+    }
+    Reading::Nothing
+}
+
+// The first comment of a group that the rule reads.
+pub fn first_reading(
+    source: &[u8],
+    comments: &[u32],
+    n: usize,
+    found: GroupFound,
+    rule: Rule,
+) -> Reading
+    requires { ⌜ 3 * n ≤ length (now comments) ⌝ }
+    requires { ⌜ Fit (now source) (commentsIn (now comments) n) ⌝ }
+    requires { ⌜ Reached n (foundAs found) ⌝ }
+    ensures { λ r. ⌜ readAs (now (source .entry)) r
+        ≡ firstOf (readRule rule (now (source .entry))) (inGroup (commentsIn (now (comments .entry)) n) (foundAs found)) ⌝ }
+    ensures { λ r. ⌜ ReadIn (now (source .entry)) r ⌝ }
+{
+    match found {
+        GroupFound::At(g) => first_between(source, comments, n, g.first, g.first + g.count, rule),
+        GroupFound::Nothing => Reading::Nothing,
+    }
+}
+
+// The last comment of a group that the rule reads.
+pub fn last_reading(
+    source: &[u8],
+    comments: &[u32],
+    n: usize,
+    found: GroupFound,
+    rule: Rule,
+) -> Reading
+    requires { ⌜ 3 * n ≤ length (now comments) ⌝ }
+    requires { ⌜ Fit (now source) (commentsIn (now comments) n) ⌝ }
+    requires { ⌜ Reached n (foundAs found) ⌝ }
+    ensures { λ r. ⌜ readAs (now (source .entry)) r
+        ≡ lastOf (readRule rule (now (source .entry))) (inGroup (commentsIn (now (comments .entry)) n) (foundAs found)) ⌝ }
+    ensures { λ r. ⌜ ReadIn (now (source .entry)) r ⌝ }
+{
+    match found {
+        GroupFound::At(g) => last_between(source, comments, n, g.first, g.first + g.count, rule),
+        GroupFound::Nothing => Reading::Nothing,
+    }
+}
+
+// Where a capture in a comment stands in the source, with its marks.
+fn comment_source_to_span(c: Comment, found: Capture) -> Span
+    requires { ⌜ Roomy c × Inside found (bodySpan c .end - bodySpan c .start) ⌝ }
+    ensures { λ r. ⌜ r ≡ placeIn c found ⌝ }
+{
+    let place = place_of(found);
+    let start = body_span(c).start;
+    Span {
+        start: start + place.from,
+        end: start + place.to,
+    }
+}
+
+// Writes the specifier of a capture in a comment.
+pub fn put_capture(
+    source: &[u8],
+    index: &[u32],
+    c: Comment,
+    found: Capture,
+    out: &mut [u8],
+    place: Place,
+) -> Place
+    requires { ⌜ IndexOf (now source) (now index) × CaptureIn (now source) c found ⌝ }
+    ensures { λ r. ⌜ worldAs (now (out .exit)) r
+        ≡ wrote (worldAs (now (out .entry)) place) (encodeSpecifier (specifierIn (now (source .entry)) c found)) ⌝ }
+{
+    let span = comment_source_to_span(c, found);
+    let text = specifier(body(source, c), found);
+    place.put_specifier(out, text, source, index, span)
+}
+
+// Writes a reading as an optional.
+pub fn put_reading(
+    source: &[u8],
+    index: &[u32],
+    reading: Reading,
+    out: &mut [u8],
+    place: Place,
+) -> Place
+    requires { ⌜ IndexOf (now source) (now index) × ReadIn (now source) reading ⌝ }
+    ensures { λ r. ⌜ worldAs (now (out .exit)) r
+        ≡ wrote (worldAs (now (out .entry)) place) (encodeOptional encodeSpecifier (readAs (now (source .entry)) reading)) ⌝ }
+{
+    match reading {
+        Reading::Of(c, found) => {
+            let p = place.put(out, 1);
+            put_capture(source, index, c, found, out, p)
+        }
+        Reading::Nothing => place.put(out, 0),
+    }
+}

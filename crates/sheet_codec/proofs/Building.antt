@@ -1,0 +1,152 @@
+-- More codecs of fields one after the other.
+use mathlib.Core.Path.{_≡_, refl, sym, ap, _∙_}
+use mathlib.Core.Logic.{_⊎_, inl, inr, ⊎-elim}
+use mathlib.Core.Bool.{Bool, true, false, cond}
+use mathlib.Core.List.{List, [], _∷_, _++_, append-assoc, append-nil}
+use mathlib.Core.Option.{Option}
+use Prim.Native.Nat.{ℕ, zero, suc, _+_, _≤_, _<_}
+use native.Mathlib.Nat.{zero-add, add-zero}
+use native.Mathlib.Omega.{arith}
+use lib.Dec.{ltb}
+use lib.ListN.{getD}
+use borrow.Author.Tests.{ltb-true, ltb-false, lt-ltb, le-ltb}
+use Rattle.laws.specs.Decoded.{ok, onOk, Decoder, _>>=_, _>>_, return, refuse, require}
+use Rattle.laws.specs.Codec.{Codec}
+use Rattle.laws.proofs.Decoding.{then-ok, then-then}
+use Rattle.laws.proofs.Codecs.{Built, built-return, built-map, built-then, built-require, built-if, codec-of}
+use Rattle.wire.specs.Fields.{below, flag}
+use Rattle.wire.specs.Number.{largest, encodeNumber}
+use Rattle.wire.specs.Text.{count}
+use Rattle.wire.proofs.TextCodec.{below-codec, flag-codec, count-codec}
+use Rattle.sheet_codec.specs.Encode.{encodeOptional}
+use Rattle.sheet_codec.specs.Limits.{IfThere}
+
+module _ {A : Type 0} {d : Decoder A} {encode : A → List ℕ} {Valid : A → Type 0} (k : Codec d encode Valid) where
+  -- the valid values in other words
+  pub codec-as : {Valid′ : A → Type 0} → ((a : A) → Valid′ a → Valid a) → ((a : A) → Valid a → Valid′ a) → Codec d encode Valid′
+  codec-as from to =
+      record {
+        complete = λ a v. k .complete a (from a v);
+        sound = λ s a t e. let (i, v) = k .sound s a t e in (i, to a v);
+      }
+
+  -- a value that is tested
+  pub tested : (test : A → Bool) (r : ℕ) → Codec (d >>= λ a. require (test a) r >> return a) encode (λ a. Valid a × (test a ≡ true))
+  tested test r =
+      codec-of (built-then k (λ a. built-require (test a) r (built-return a)))
+      (λ a v. ((a, tt), refl, (v .0, (v .1, tt))))
+      (λ p v. (append-nil (encode (p .0)), (v .0, v .1 .0)))
+
+  -- a flag, and the value if it is 1
+  pub optional-codec : Codec (flag >>= λ there. cond there (λ s. onOk (λ a. Option.some a) (d s)) (return Option.none)) (encodeOptional encode) (IfThere Valid)
+  optional-codec =
+      codec-of (built-if flag-codec (built-map (λ a. Option.some a) k) (built-return Option.none))
+      (elim [ Option.none ↦ λ v. (inr tt, refl, tt) | Option.some a ↦ λ v. (inl a, refl, v) ])
+      (elim [ inl a ↦ λ v. (refl, v) | inr u ↦ λ v. (refl, tt) ])
+
+  -- the last field
+  pub built-end : {B : Type 0} (f : A → B) → Built (d >>= λ a. return (f a)) f encode Valid
+  built-end f =
+      record {
+        complete = λ a v t. rw (k .complete a v t);
+        sound = λ s b t e.
+            let (a, u, x, e) = then-ok (d s) (λ a. return (f a)) e in
+            let (i, v) = k .sound s a u x in
+            (a, cc, cc, v);
+      }
+
+-- a field of which nothing is asked, and then others
+module _ {A B : Type 0} {C : A → Type 0} {d : Decoder A} {encode : A → List ℕ}
+    {e : A → Decoder B} {build : (a : A) → C a → B} {rest : (a : A) → C a → List ℕ} {ValidRest : (a : A) → C a → Type 0}
+    (k : Codec d encode (λ a. Unit {0})) (f : (a : A) → Built (e a) (build a) (rest a) (ValidRest a)) where
+  pub built-free : Built (d >>= e) (λ (p : (a : A) × C a). build (p .0) (p .1)) (λ p. encode (p .0) ++ rest (p .0) (p .1)) (λ p. ValidRest (p .0) (p .1))
+  built-free =
+      record {
+        complete = λ p v t. built-then k f .complete p (tt, v) t;
+        sound = λ s b t q. let (p, e, i, v) = built-then k f .sound s b t q in (p, e, i, v .1);
+      }
+
+-- a byte below a limit, or the limit itself, and what follows each
+module _ {A A′ B : Type 0} (limit : ℕ) {e : ℕ → Decoder B} {e′ : Decoder B} {build : ℕ → A → B} {build′ : A′ → B}
+    {encode : A → List ℕ} {encode′ : A′ → List ℕ} {Valid : A → Type 0} {Valid′ : A′ → Type 0}
+    (k : (b : ℕ) → Built (e b) (build b) encode Valid) (k′ : Built e′ build′ encode′ Valid′) where
+  pub built-below : Built (below (suc limit) >>= λ b. cond (ltb b limit) (e b) e′)
+      (⊎-elim (λ (p : ℕ × A). build (p .0) (p .1)) build′)
+      (⊎-elim (λ p. p .0 ∷ encode (p .1)) (λ a. limit ∷ encode′ a))
+      (⊎-elim (λ p. (p .0 < limit) × Valid (p .1)) Valid′)
+  built-below =
+      record {
+        complete = elim [
+          | inl p ↦ λ v t. rw (below-codec (suc limit) .complete (p .0) (omega (arith, v .0)) (encode (p .1) ++ t), lt-ltb (p .0) limit (v .0)) (k (p .0) .complete (p .1) (v .1) t)
+          | inr a ↦ λ v t. rw (below-codec (suc limit) .complete limit (omega arith) (encode′ a ++ t), le-ltb limit limit (omega arith)) (k′ .complete a v t)
+        ];
+        sound = λ s c t q.
+            let (b, u, x, y) = then-ok (below (suc limit) s) (λ b. cond (ltb b limit) (e b) e′) q in
+            let (i, h) = below-codec (suc limit) .sound s b u x in
+            rw i (behind b h u c t (ltb b limit) refl y);
+      }
+    where
+      behind : (b : ℕ) → b < suc limit → (u : List ℕ) (c : B) (t : List ℕ) (small : Bool) → ltb b limit ≡ small → cond small (e b) e′ u ≡ ok c t
+          → (p : (ℕ × A) ⊎ A′)
+          × (⊎-elim (λ (p : ℕ × A). build (p .0) (p .1)) build′ p ≡ c)
+          × (b ∷ u ≡ ⊎-elim (λ (p : ℕ × A). p .0 ∷ encode (p .1)) (λ a. limit ∷ encode′ a) p ++ t)
+          × ⊎-elim (λ (p : ℕ × A). (p .0 < limit) × Valid (p .1)) Valid′ p
+      behind b h u c t true l y = let (a, p, j, v) = k b .sound u c t y in (inl (b, a), p, ap (b ∷_) j, (ltb-true b limit l, v))
+      behind b h u c t false l y =
+          let (a, p, j, v) = k′ .sound u c t y in
+          let same : b ≡ limit = omega (arith, ltb-false b limit l) in
+          (inr a, p, rw same (ap (limit ∷_) j), v)
+
+-- a count up to a limit
+pub limit-codec : (limit : ℕ) → limit ≤ largest → Codec (count limit) encodeNumber (λ n. n ≤ limit)
+limit-codec limit h = codec-as (count-codec limit) (λ n v. (v, omega arith)) (λ n v. v .0)
+
+-- a count, and so many of a list
+module _ {L : Type 0} {d : Decoder ℕ} {ValidCount : ℕ → Type 0} {many : ℕ → Decoder L} {size : L → ℕ} {encode : L → List ℕ} {Valid : L → Type 0}
+    (k : Codec d encodeNumber ValidCount) (m : (n : ℕ) → Codec (many n) encode (λ l. (size l ≡ n) × Valid l)) where
+  pub counted : Codec (d >>= many) (λ l. encodeNumber (size l) ++ encode l) (λ l. ValidCount (size l) × Valid l)
+  counted =
+      record {
+        complete = λ l v t.
+            rw (append-assoc (encodeNumber (size l)) (encode l) t, k .complete (size l) (v .0) (encode l ++ t)) (m (size l) .complete l (refl, v .1) t);
+        sound = λ s l t q.
+            let (n, u, x, y) = then-ok (d s) many q in
+            let (i, v) = k .sound s n u x in
+            let (j, w) = m n .sound u l t y in
+            rw (w .0) (i ∙ ap (encodeNumber n ++_) j ∙ sym (append-assoc (encodeNumber n) (encode l) t), (v, w .1));
+      }
+
+  -- with the fields behind it, or as the last field
+  pub built-counted : {B : Type 0} {C : L → Type 0} {e : L → Decoder B} {build : (l : L) → C l → B} {rest : (l : L) → C l → List ℕ} {ValidRest : (l : L) → C l → Type 0}
+      → ((l : L) → Built (e l) (build l) (rest l) (ValidRest l))
+      → Built (d >>= λ n. many n >>= e)
+      (λ (p : (l : L) × C l). build (p .0) (p .1))
+      (λ p. (encodeNumber (size (p .0)) ++ encode (p .0)) ++ rest (p .0) (p .1))
+      (λ p. (ValidCount (size (p .0)) × Valid (p .0)) × ValidRest (p .0) (p .1))
+  built-counted {e} f =
+      record {
+        complete = λ p v t. sym (then-then (d _) many e) ∙ built-then counted f .complete p v t;
+        sound = λ s b t q. built-then counted f .sound s b t (then-then (d s) many e ∙ q);
+      }
+
+  pub built-counted-end : {B : Type 0} (f : L → B)
+      → Built (d >>= λ n. many n >>= λ l. return (f l)) f (λ l. encodeNumber (size l) ++ encode l) (λ l. ValidCount (size l) × Valid l)
+  built-counted-end f =
+      record {
+        complete = λ l v t. sym (then-then (d _) many (λ l. return (f l))) ∙ built-end counted f .complete l v t;
+        sound = λ s b t q. built-end counted f .sound s b t (then-then (d s) many (λ l. return (f l)) ∙ q);
+      }
+
+-- each decoder of a list has what its index asks, the first that of k
+pub data Each {A : Type 0} (P : ℕ → Decoder A → Type 0) : ℕ → List (Decoder A) → Type 0 where
+  done : {k : ℕ} → Each P k []
+  next : {k : ℕ} {d : Decoder A} {ds : List (Decoder A)} → P k d → Each P (suc k) ds → Each P k (d ∷ ds)
+
+module _ {A : Type 0} (P : ℕ → Decoder A → Type 0) {r : ℕ} (none : (i : ℕ) → P i (refuse r)) where
+  from-index : {k : ℕ} {ds : List (Decoder A)} → Each P k ds → (i : ℕ) → P (i + k) (getD ds i (refuse r))
+  from-index {k} done i = none (i + k)
+  from-index {k} (next p e) zero = rw (zero-add k) p
+  from-index {k} (next p e) (suc i) = let same : suc i + k ≡ i + suc k = omega arith in rw same (from-index e i)
+
+  pub at-index : {ds : List (Decoder A)} → Each P 0 ds → (i : ℕ) → P i (getD ds i (refuse r))
+  at-index e i = rw (add-zero i) at (from-index e i)

@@ -1,0 +1,9 @@
+pub mod Building
+pub mod Lists
+pub mod Parts
+pub mod Strings
+pub mod Trees
+pub mod Tags
+pub mod Levels
+pub mod Sheets
+pub mod Cases

@@ -1,0 +1,98 @@
+-- Decoding and encoding sheets undo each other: what is decoded is within document 01's limits and stood there as its bytes, and each sheet within these
+-- limits is decoded from its bytes.
+use mathlib.Core.Path.{_≡_, refl, sym, _∙_}
+use mathlib.Core.Bool.{Bool, true, false, cond, _&&_, and-eq-true-iff}
+use mathlib.Core.List.{List, [], _∷_, append-nil}
+use Prim.Native.Nat.{ℕ, zero, suc, _≤_, _<_}
+use native.Mathlib.Omega.{arith}
+use lib.Dec.{leb, ltb}
+use lib.ListN.{length}
+use borrow.Author.Tests.{leb-true, lt-ltb, le-leb}
+use Rattle.laws.specs.Decoded.{ok, no, andThen}
+use Rattle.laws.specs.Codec.{Codec}
+use Rattle.laws.proofs.Decoding.{refused, then-ok}
+use Rattle.laws.proofs.Codecs.{built-given, built-then, built-require, codec-of}
+use Rattle.text.specs.declared.utf8.Encoding.the-variants.{Utf8}
+use Rattle.wire.specs.Number.{largest}
+use Rattle.wire.proofs.TextCodec.{below-codec, text-codec}
+use Rattle.sheet.specs.declared.groups.Group.{Group}
+use Rattle.sheet.specs.Comments.{inSome, anywhere, covered}
+use Rattle.sheet.specs.Sheet.{Sheet, sheet, ended, decodeSheet, accept}
+use Rattle.sheet.specs.Walked.{uncooked}
+use Rattle.sheet.proofs.Coverings.{covered-at}
+use Rattle.sheet_codec.specs.Encode.{encodeSheet}
+use Rattle.sheet_codec.specs.Limits.{FieldsFit, WithinLimits}
+use Rattle.sheet_codec.proofs.Building.{built-end, limit-codec}
+use Rattle.sheet_codec.proofs.Lists.{chained-codec}
+use Rattle.sheet_codec.proofs.Parts.{comment-codec, group-codec, program-codec}
+use Rattle.sheet_codec.proofs.Levels.{node-codec}
+
+-- where each comment is in some group, they are covered
+covers : (gs : List Group) (n : ℕ) → ((i : ℕ) → i < n → inSome gs i ≡ true) → covered gs n ≡ true
+unfolding covered
+covers gs zero all = refl
+covers gs (suc n) all = rw (covers gs n (λ i l. all i (omega arith)), all n (omega arith))
+
+-- refusals 2 to 7
+sheet-codec : Codec sheet encodeSheet FieldsFit
+unfolding sheet encodeSheet
+sheet-codec =
+    codec-of
+    (built-then (below-codec 11) (λ media. built-given (text-codec Utf8 32768 (omega arith)) (λ source fit.
+    let small : length source ≤ largest = omega (arith, fit .0) in
+    built-given (limit-codec 1024 (omega arith)) (λ n few. built-then (chained-codec (comment-codec source small) 0 n) (λ cs.
+    built-then (limit-codec 1024 (omega arith)) (λ m. built-then (chained-codec (group-codec source small n (omega arith)) anywhere m) (λ gs.
+    built-require (covered gs n) 7 (built-then (program-codec source small) (λ p. built-end (node-codec source small 64) (λ root.
+    record { media = media; source = source; comments = cs; groups = gs; program = p; root = root }))))))))))
+    (λ t v. (
+      (t .media, (t .source, (length (t .comments), (t .comments, (length (t .groups), (t .groups, (t .program, t .root))))))),
+      refl,
+      (v .media, (v .source, (v .comments .0, ((refl, v .comments .1), (v .groups .0, ((refl, v .groups .1), (covers (t .groups) (length (t .comments)) (v .grouped), (v .program, v .root)))))))),
+    ))
+    (λ a v.
+    let (media, (source, (few, ((long, comments), (few′, ((long′, groups), (all, (p, root)))))))) = v in (
+      rw (long, long′),
+      record {
+        media = media;
+        source = source;
+        comments = (rw long few, comments);
+        groups = (rw long′ few′, rw long groups);
+        grouped = λ i l. covered-at _ _ i (rw long at l) all;
+        program = p;
+        root = root;
+      },
+    ))
+
+-- what is decoded is within the limits, and stood there as its bytes
+pub encoded : {s : List ℕ} {t : Sheet} → decodeSheet s ≡ ok t [] → (encodeSheet t ≡ s) × WithinLimits t
+unfolding decodeSheet
+encoded {s} {t} e = by-size (ltb 0 (length s) && leb (length s) 65536) refl e
+  where
+    whole : (r : Sheet) (u : List ℕ) → sheet s ≡ ok r u → ended r u ≡ ok t [] → sheet s ≡ ok t []
+    whole r [] x y = cc
+    whole r (b ∷ u) x y = absurd (refused y)
+
+    by-size : (b : Bool) → (ltb 0 (length s) && leb (length s) 65536) ≡ b → cond b (andThen (sheet s) ended) (no 1) ≡ ok t [] → (encodeSheet t ≡ s) × WithinLimits t
+    by-size true h e =
+        let (r, u, x, y) = then-ok (sheet s) ended e in
+        let (i, fit) = sheet-codec .sound s t [] (whole r u x y) in
+        let same : encodeSheet t ≡ s = sym (i ∙ append-nil (encodeSheet t)) in
+        (same, record { fields = fit; bytes = rw same (leb-true (length s) 65536 (and-eq-true-iff (ltb 0 (length s)) (leb (length s) 65536) .0 h .1)) })
+    by-size false h e = absurd (refused e)
+
+-- a sheet has the media byte
+some : (t : Sheet) → 0 < length (encodeSheet t)
+unfolding encodeSheet
+some t = omega arith
+
+-- each sheet within the limits is decoded from its bytes
+pub accepted : {t : Sheet} → WithinLimits t → decodeSheet (encodeSheet t) ≡ ok t []
+unfolding decodeSheet
+accepted {t} w =
+    let bytes = encodeSheet t in
+    rw (lt-ltb 0 (length bytes) (some t), le-leb (length bytes) 65536 (w .bytes), rw append-nil at (sheet-codec .complete t (w .fields) []))
+
+-- and if no call meets refusal 9, it meets none
+pub unrefused : {t : Sheet} → WithinLimits t → uncooked (t .root) ≡ false → accept (encodeSheet t) ≡ ok t []
+unfolding accept
+unrefused w cooked = rw (accepted w, cooked)

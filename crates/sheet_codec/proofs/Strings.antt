@@ -1,0 +1,59 @@
+-- Codecs of tags, short texts and Strings.
+use mathlib.Core.Path.{_≡_, refl, sym, ap, _∙_}
+use mathlib.Core.Bool.{Bool, true}
+use mathlib.Core.List.{List, [], _∷_, _++_}
+use Prim.Native.Nat.{ℕ, _≤_, _<_}
+use native.Mathlib.Omega.{arith}
+use lib.Dec.{eqb, ltb}
+use lib.ListN.{length}
+use borrow.Author.Tests.{ltb-true, lt-ltb, eqb-true, eq-eqb}
+use Rattle.laws.specs.Decoded.{Decoder, _>>_}
+use Rattle.laws.specs.Codec.{Codec}
+use Rattle.laws.proofs.Decoding.{then-ok}
+use Rattle.laws.proofs.Codecs.{Built, built-return, built-then, built-require, codec-of}
+use Rattle.text.specs.declared.utf8.Encoding.{Encoding}
+use Rattle.text.specs.declared.utf8.Encoding.the-variants.{Wtf8}
+use Rattle.wire.specs.Number.{largest}
+use Rattle.wire.specs.Text.{text, encodeText}
+use Rattle.wire.proofs.TextCodec.{byte-codec, text-codec}
+use Rattle.sheet.specs.Nodes.{tag, quoted, optionalQuoted}
+use Rattle.sheet_codec.specs.Encode.{encodeOptional, encodeQuoted}
+use Rattle.sheet_codec.specs.Limits.{IfThere, TextFits, QuotedFits}
+use Rattle.sheet_codec.proofs.Building.{optional-codec, built-end}
+use Rattle.sheet_codec.proofs.Parts.{span-codec}
+
+pub tag-codec : (allowed : ℕ → Bool) (levels : ℕ) → Codec (tag allowed levels) (λ t. t ∷ []) (λ t. (allowed t ≡ true) × (0 < levels))
+unfolding tag
+tag-codec allowed levels =
+    codec-of (built-then byte-codec (λ t. built-require (allowed t) 3 (built-require (ltb 0 levels) 4 (built-return t))))
+    (λ t v. ((t, tt), refl, (tt, (v .0, (lt-ltb 0 levels (v .1), tt)))))
+    (λ p v. (refl, (v .1 .0, ltb-true 0 levels (v .1 .1 .0))))
+
+-- the one tag that is allowed, and what follows it
+module _ {A B : Type 0} {d : Decoder B} {build : A → B} {encode : A → List ℕ} {Valid : A → Type 0} (t levels : ℕ) where
+  pub built-tag : Built d build encode Valid → Built (tag (eqb t) levels >> d) build (λ a. t ∷ encode a) (λ a. (0 < levels) × Valid a)
+  built-tag k =
+      record {
+        complete = λ a v u. rw (tag-codec (eqb t) levels .complete t (eq-eqb t t refl, v .0) (encode a ++ u)) (k .complete a (v .1) u);
+        sound = λ s b u e.
+            let (x, w, y, e) = then-ok (tag (eqb t) levels s) (λ x. d) e in
+            let (i, v) = tag-codec (eqb t) levels .sound s x w y in
+            let (a, p, j, z) = k .sound w b u e in
+            (a, p, i ∙ ap (_∷ w) (sym (eqb-true t x (v .0))) ∙ ap (t ∷_) j, (v .1, z));
+      }
+
+-- a text of at most 4,096 bytes
+pub short-text : (e : Encoding) → Codec (text e 4096) encodeText (TextFits e 4096)
+short-text e = text-codec e 4096 (omega arith)
+
+module _ (source : List ℕ) (small : length source ≤ largest) (levels : ℕ) where
+  pub quoted-codec : Codec (quoted source levels) encodeQuoted (QuotedFits source levels)
+  unfolding quoted
+  quoted-codec =
+      codec-of (built-tag 1 levels (built-then (span-codec source small) (λ sp. built-end (short-text Wtf8) (λ x. record { span = sp; text = x }))))
+      (λ q v. ((q .span, q .text), refl, (v .place .deep, (v .place .span, v .text))))
+      (λ p v. (refl, record { place = record { deep = v .0; span = v .1 .0 }; text = v .1 .1 }))
+
+  pub optional-quoted : Codec (optionalQuoted source levels) (encodeOptional encodeQuoted) (IfThere (QuotedFits source levels))
+  unfolding optionalQuoted
+  optional-quoted = optional-codec quoted-codec

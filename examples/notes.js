@@ -1,0 +1,1 @@
+/** Field notes, no code: {import("./a.ts").A}  and {{import('./b.ts')}} and {import("{import('./c.ts')}")} */

@@ -1,11 +1,11 @@
 -- Where a capture in the body of a comment stands in the source.
 use mathlib.Core.Path.{_≡_}
 use mathlib.Core.List.{List}
-use Prim.Native.Nat.{ℕ, _+_, _-_, _≤_}
+use Prim.Native.Nat.{ℕ, _-_, _≤_}
 use native.Mathlib.Omega.{arith}
 use lib.ListN.{length, length-take, length-drop}
 use Rattle.analysis.specs.declared.Capture.{Capture}
-use Rattle.analysis.specs.Place.{Inside, placeOf}
+use Rattle.analysis.specs.Place.{placeOf}
 use Rattle.sheet.specs.declared.comments.Comment.{Comment}
 use Rattle.sheet.specs.Fit.{Placed}
 use Rattle.sheet.specs.Lookups.{bodySpan, body}

@@ -4,7 +4,6 @@ use mathlib.Core.List.{List, []}
 use mathlib.Core.Option.{Option}
 use Prim.Native.Nat.{ℕ}
 use lib.Dec.{eqb, leb}
-use Rattle.analysis.specs.declared.Capture.{Capture}
 use Rattle.analysis.specs.declared.Found.{Found}
 use Rattle.analysis.specs.declared.Found.the-variants.{At, Nothing}
 use Rattle.analysis.specs.Mode.{modeOf}
@@ -16,7 +15,7 @@ use Rattle.sheet.specs.declared.groups.Group.{Group}
 use Rattle.sheet.specs.Lookups.{leading, groupAt, headGroup, endGroup, commentsOf, lastOf as lastCommentOf, body}
 use Rattle.sheet.specs.Sheet.{Sheet}
 use Rattle.report.specs.ModuleInfo.{SpecifierWithRange, Mode, TypeScriptReference, path, types}
-use Rattle.pragmas.specs.Readings.{specifierIn, readBy, onFound, orElse, firstOf, lastOf, allOf}
+use Rattle.pragmas.specs.Readings.{specifierIn, readBy, orElse, firstOf, lastOf, allOf}
 
 -- the comments of a group, none if there is no such group
 abbrev pub inGroup : List Comment → Option Group → List Comment

@@ -38,8 +38,8 @@ returns c =
     let a = c .before .before .before .before .before .before .before .before .before .before .before .before .before .before .before .before .before .args in
     let found = seen foundAs (c .before .before .before .before .before .before .before .before .before .before .before .find-group .ensures) (c .before .before .before .before .before .before .before .before .before .g .given .1) in
     let r = found-reaching (c .before .before .before .before .before .before .before .before .before .before .before .before .before .before .before .before .before .pre .1 .grouped) leading (a .start) found in
-    rw (found, group-last (now (a .comments)) (a .n) (c .before .before .before .before .before .before .before .before .before .g .given .0 .0) r, ← c .before .before .before .before .before .comment-at .ensures, ← c .before .before .before .before .read-types .ensures .0)
-    (c .before .before .put-reading .ensures)
+    let read = rw (c .before .before .before .before .before .comment-at .ensures) at (c .before .before .before .before .read-types .ensures .0) in
+    rw (found, group-last (now (a .comments)) (a .n) (c .before .before .before .before .before .before .before .before .before .g .given .0 .0) r) (rw read at (c .before .before .put-reading .ensures))
 
 returns-2 : tie.Need-returns-2
 unfolding typesIn encodeOptional

@@ -1,4 +1,3 @@
-use mathlib.Core.Path.{refl}
 use borrow.Author.Tests.{eq-eqb, ne-eqb}
 use Rattle.pragmas.proofs.is_jsx.Statement.{statement}
 use Rattle.pragmas.proofs.is_jsx.Tie as tie

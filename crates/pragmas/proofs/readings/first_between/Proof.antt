@@ -1,7 +1,7 @@
 use borrow.Author.Needs.{needs}
 use native.Mathlib.Omega.{arith}
 use mathlib.Core.Path.{_≡_, _∙_}
-use Prim.Native.Nat.{_≤_, _-_}
+use Prim.Native.Nat.{_-_}
 use denote.Ref.{now}
 use Rattle.laws.proofs.Steps.{seen}
 use Rattle.sheet.proofs.Members.{row-placed}
@@ -13,7 +13,7 @@ use Rattle.pragmas.proofs.readings.first_between.Tie as tie
 
 abbrev Inv-loop : tie.InvT-loop
 Inv-loop source comments n start end rule i₀ i =
-    (i ≤ end) × (firstOf (readRule rule source) (commentsFrom comments start end) ≡ firstOf (readRule rule source) (commentsFrom comments i end))
+    firstOf (readRule rule source) (commentsFrom comments start end) ≡ firstOf (readRule rule source) (commentsFrom comments i end)
 
 abbrev μ-loop : tie.MeasureT-loop
 μ-loop source comments n start end rule i₀ i = end - i
@@ -27,18 +27,18 @@ returns : tie.Need-returns Inv-loop μ-loop
 returns c =
     let a = c .before .before .before .before .before .before .before .before .args in
     let step = first-next (readRule (a .rule) (now (a .source))) (now (a .comments)) (c .before .before .before .before .before .loop .i) (a .end) (c .before .before .before .before .loop-test .taken) (c .before .before .before .comment-at .ensures) in
-    (rw (c .before .before .before .before .before .loop .inv .1, step, ← c .before .before .read .ensures .0, c .enum-told .given .1), c .before .before .read .ensures .1)
+    (rw (c .before .before .before .before .before .loop .inv, step, ← c .before .before .read .ensures .0, c .enum-told .given .1), c .before .before .read .ensures .1)
 
 loop-again : tie.Need-loop-again Inv-loop μ-loop
 loop-again c =
     let a = c .before .before .before .before .before .before .before .before .args in
     let step = first-next (readRule (a .rule) (now (a .source))) (now (a .comments)) (c .before .before .before .before .before .loop .i) (a .end) (c .before .before .before .before .loop-test .taken) (c .before .before .before .comment-at .ensures) in
-    (omega arith, c .before .before .before .before .before .loop .inv .1 ∙ step ∙ rw (seen (readAs (now (a .source))) (c .before .before .read .ensures .0) (c .enum-told2 .given .1)))
+    c .before .before .before .before .before .loop .inv ∙ step ∙ rw (seen (readAs (now (a .source))) (c .before .before .read .ensures .0) (c .enum-told2 .given .1))
 
 returns-2 : tie.Need-returns-2 Inv-loop μ-loop
 returns-2 c =
     let a = c .before .before .before .before .args in
-    (rw (c .before .loop .inv .1, first-none (readRule (a .rule) (now (a .source))) (now (a .comments)) (c .before .loop .i) (a .end) (c .loop-test .left)), tt)
+    (rw (c .before .loop .inv, first-none (readRule (a .rule) (now (a .source))) (now (a .comments)) (c .before .loop .i) (a .end) (c .loop-test .left)), tt)
 
 pub first-between-spec : {M : Type 1} → statement M
 first-between-spec =

@@ -12,7 +12,7 @@ add-first-between c = omega (arith, rw (c .before .before .found .given .1) at (
 first-between-requires : tie.Need-first-between-requires
 first-between-requires c κs =
     let r = rw (c .before .before .found .given .1) at (c .before .before .before .before .before .before .pre .1 .1) in
-    ((c .before .before .before .before .before .before .pre .0, omega arith, r .reach), c .before .before .before .before .before .before .pre .1 .0)
+    ((c .before .before .before .before .before .before .pre .0, omega arith, omega arith), c .before .before .before .before .before .before .pre .1 .0)
 
 returns : tie.Need-returns
 returns c =

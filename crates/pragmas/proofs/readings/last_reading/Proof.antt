@@ -12,7 +12,7 @@ add-last-between c = omega (arith, rw (c .before .before .found .given .1) at (c
 last-between-requires : tie.Need-last-between-requires
 last-between-requires c κs =
     let r = rw (c .before .before .found .given .1) at (c .before .before .before .before .before .before .pre .1 .1) in
-    ((c .before .before .before .before .before .before .pre .0, omega arith, r .reach), c .before .before .before .before .before .before .pre .1 .0)
+    ((c .before .before .before .before .before .before .pre .0, omega arith, omega arith), c .before .before .before .before .before .before .pre .1 .0)
 
 returns : tie.Need-returns
 returns c =

@@ -16,12 +16,12 @@ add-end c = omega (arith, rw (c .before .before .found .given .1) at (c .before 
 count-between-requires : tie.Need-count-between-requires
 count-between-requires c κs =
     let r = rw (c .before .before .found .given .1) at (c .before .before .before .before .before .before .before .before .pre .1) in
-    ((c .before .before .before .before .before .before .before .before .pre .0 .room, omega arith, r .reach), c .before .before .before .before .before .before .before .before .pre .0 .fit)
+    ((c .before .before .before .before .before .before .before .before .pre .0 .room, omega arith, omega arith), c .before .before .before .before .before .before .before .before .pre .0 .fit)
 
 put-between-requires : tie.Need-put-between-requires
 put-between-requires c κs =
     let r = rw (c .before .before .before .before .before .before .before .before .found .given .1) at (c .before .before .before .before .before .before .before .before .before .before .before .before .before .before .pre .1) in
-    (c .before .before .before .before .before .before .before .before .before .before .before .before .before .before .pre .0, (omega arith, r .reach))
+    (c .before .before .before .before .before .before .before .before .before .before .before .before .before .before .pre .0, (omega arith, omega arith))
 
 returns : tie.Need-returns
 unfolding encodeList referencesIn

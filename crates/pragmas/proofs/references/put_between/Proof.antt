@@ -1,7 +1,7 @@
 use borrow.Author.Needs.{needs}
 use native.Mathlib.Omega.{arith}
-use mathlib.Core.Path.{_≡_, refl, sym, ap, _∙_}
-use Prim.Native.Nat.{_+_, _-_, _≤_}
+use mathlib.Core.Path.{_≡_, sym, _∙_}
+use Prim.Native.Nat.{_-_}
 use lib.ListN.{length}
 use denote.Ref.{now}
 use Rattle.sheet.proofs.Members.{row-placed}
@@ -17,7 +17,7 @@ use Rattle.pragmas.proofs.references.put_between.Tie as tie
 
 abbrev Inv-loop : tie.InvT-loop
 Inv-loop source comments n index start end out₀ p₀ i₀ out p i =
-    (i ≤ end) × (length out ≡ length out₀)
+    (length out ≡ length out₀)
     × (wrote (worldAs out₀ p₀) (each encodeReference (allOf (reference source) (commentsFrom comments start end)))
     ≡ wrote (worldAs out p) (each encodeReference (allOf (reference source) (commentsFrom comments i end))))
 
@@ -37,14 +37,14 @@ loop-again c =
     let a = c .before .before .before .before .before .before .before .before .before .before .before .before .args in
     let l = c .before .before .before .before .before .before .before .loop in
     let step = all-next (reference (now (a .source))) (now (a .comments)) (l .i) (a .end) (c .before .before .before .before .before .before .loop-test .taken) (c .before .before .before .before .before .comment-at .ensures) in
-    (omega arith, c .before .before .put-reference .kept .1 .1 .1 .1 .0 ∙ l .inv .1, l .inv .2 ∙ rw (step, listed-each, wrote-append, ← c .before .before .before .before .read-reference .ensures .0, ← c .before .before .put-reference .ensures))
+    (c .before .before .put-reference .kept .1 .1 .1 .1 .0 ∙ l .inv .0, l .inv .1 ∙ rw (step, listed-each, wrote-append, ← c .before .before .before .before .read-reference .ensures .0, ← c .before .before .put-reference .ensures))
 
 returns : tie.Need-returns Inv-loop μ-loop
 unfolding each
 returns c =
     let a = c .before .before .before .before .before .before .args in
     let l = c .before .loop in
-    sym (l .inv .2 ∙ rw (all-none (reference (now (a .source))) (now (a .comments)) (l .i) (a .end) (c .loop-test .left)) (wrote-nil (l .out) (l .p)))
+    sym (l .inv .1 ∙ rw (all-none (reference (now (a .source))) (now (a .comments)) (l .i) (a .end) (c .loop-test .left)) (wrote-nil (l .out) (l .p)))
 
 pub put-between-spec : {M : Type 1} → statement M
 put-between-spec =

@@ -1,0 +1,10 @@
+pub mod Values
+pub mod Listed
+pub mod Spans
+pub mod Required
+pub mod Loops
+pub mod Arms
+pub mod Counted
+pub mod Fields
+pub mod FirstArgument
+pub mod Proper

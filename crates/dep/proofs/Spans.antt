@@ -1,0 +1,118 @@
+-- The span of a head's String is one of the source; so is that of an argument.
+use mathlib.Core.Path.{_≡_, refl}
+use mathlib.Core.Bool.{Bool}
+use mathlib.Core.List.{List}
+use mathlib.Core.Option.{Option}
+use Prim.Native.Nat.{ℕ, _-_}
+use native.Mathlib.Omega.{arith}
+use lib.Dec.{eqb, ltb}
+use Rattle.laws.specs.Decoded.{Decoded, ok, no, andThen, _>>=_, return}
+use Rattle.text.specs.declared.utf8.Encoding.the-variants.{Utf8, Wtf8}
+use Rattle.wire.specs.Fields.{below, flag}
+use Rattle.wire.specs.Number.{number}
+use Rattle.wire.specs.Text.{count, text}
+use Rattle.sheet.specs.declared.fields.Span.{Span}
+use Rattle.sheet.specs.Tree.{Quoted}
+use Rattle.sheet.specs.Fields.{position, endFrom, span}
+use Rattle.sheet.specs.Nodes.{tag, quoted, optionalQuoted}
+use Rattle.sheet.proofs.Judged.{end-within}
+use Rattle.heads.specs.Head.{Head, otherHead, stringHead, nameHead, templateHead, binaryHead, objectHead, moduleHead, callStart, origin, importStart, namedExportStart, exportAllStart, importTypeStart, importRequireStart, importEqualsStart, moduleStart, start, head}
+use Rattle.heads.specs.Parts.{argumentHead}
+use Rattle.report.specs.Range.{InSource}
+use Rattle.dep.specs.Walk.{Spanned}
+use Rattle.dep.proofs.Values.{Holds, Reads, done, next, ends, behind, with, changed, either, at-index, anything}
+
+module _ (source : List ℕ) where
+  abbrev Within : Quoted → Type 0
+  Within x = InSource source (x .span)
+
+  abbrev Optional : Option Quoted → Type 0
+  Optional Option.none = Unit {0}
+  Optional (Option.some x) = Within x
+
+  optional-spanned : (x : Option Quoted) (n : ℕ) → Optional x → Spanned source (moduleHead x n)
+  optional-spanned Option.none n h = tt
+  optional-spanned (Option.some x) n h = h
+
+  span-within : Reads (InSource source) (span source)
+  unfolding span
+  span-within = record { at = λ u. go (position source u) }
+    where
+      ends-within : (start : ℕ) (t : List ℕ) (x : Decoded ℕ) → endFrom source start t ≡ x → Holds (InSource source) (andThen x (λ end. return (record { start = start; end = end })))
+      ends-within start t (ok end v) e =
+          let (order, short) = end-within source start t e in
+          record { start = omega arith; end = short }
+      ends-within start t (no r) e = tt
+
+      go : (x : Decoded ℕ) → Holds (InSource source) (andThen x (λ start. endFrom source start >>= λ end. return (record { start = start; end = end })))
+      go (ok start t) = ends-within start t (endFrom source start t) refl
+      go (no r) = tt
+
+  module _ (levels : ℕ) where
+    quoted-within : Reads Within (quoted source levels)
+    unfolding quoted
+    quoted-within = behind (tag (eqb 1) levels) λ t. with span-within λ sp h. behind (text Wtf8 4096) λ x. ends h
+
+    optional-within : Reads Optional (optionalQuoted source levels)
+    unfolding optionalQuoted
+    optional-within = behind flag λ there. either there (changed (λ q. Option.some q) quoted-within (λ q h. h)) (ends tt)
+
+    origin-within : Reads (λ (p : Quoted × Bool). Within (p .0)) (origin source levels)
+    unfolding origin
+    origin-within = with quoted-within λ x h. behind flag λ there. ends h
+
+    import-within : Reads (Spanned source) (importStart source levels)
+    unfolding importStart
+    import-within = behind flag λ typeOnly. behind (below 3) λ phase. behind flag λ sideEffect. with origin-within λ p h. ends h
+
+    named-export-within : Reads (Spanned source) (namedExportStart source levels)
+    unfolding namedExportStart
+    named-export-within = behind flag λ typeOnly. behind flag λ named. either named (with origin-within λ p h. ends h) (ends tt)
+
+    export-all-within : Reads (Spanned source) (exportAllStart source levels)
+    unfolding exportAllStart
+    export-all-within = behind flag λ typeOnly. with origin-within λ p h. ends h
+
+    import-type-within : Reads (Spanned source) (importTypeStart source levels)
+    unfolding importTypeStart
+    import-type-within = with quoted-within λ x h. behind number λ n. ends h
+
+    import-equals-within : Reads (Spanned source) (importEqualsStart source levels)
+    unfolding importEqualsStart importRequireStart
+    import-equals-within = behind flag λ external. either external
+        (behind flag λ typeOnly. behind flag λ export. with quoted-within λ x h. ends h)
+        (ends tt)
+
+    module-within : Reads (Spanned source) (moduleStart source levels)
+    unfolding moduleStart
+    module-within = with optional-within λ x h. behind number λ n. ends (optional-spanned x n h)
+
+    call-within : Reads (Spanned source) callStart
+    unfolding callStart
+    call-within = behind (below 4) λ callee. either (ltb callee 3) (ends tt) (ends tt)
+
+    start-within : (t : ℕ) → Reads (Spanned source) (start source levels t)
+    unfolding start
+    start-within t = at-index
+        (next (changed otherHead (anything number) (λ n h. tt))
+        (next (changed stringHead (anything (text Wtf8 4096)) (λ x h. tt))
+        (next (changed nameHead (anything (text Utf8 4096)) (λ x h. tt))
+        (next (changed templateHead (anything number) (λ n h. tt))
+        (next (changed binaryHead (anything flag) (λ b h. tt))
+        (next (changed objectHead (anything (count 64)) (λ n h. tt))
+        (next call-within (next import-within (next named-export-within (next export-all-within (next import-type-within (next import-equals-within (next module-within done)))))))))))))
+        t 3
+
+  head-within : (levels : ℕ) → Reads (λ (p : Span × Head). Spanned source (p .1)) (head source levels)
+  unfolding head
+  head-within levels = behind (tag (λ t. ltb t 13) levels) λ t. behind (span source) λ sp. with (start-within (levels - 1) t) λ h fits. ends fits
+
+  pub head-spanned : (levels : ℕ) (u : List ℕ) {p : Span × Head} {t : List ℕ} → head source levels u ≡ ok p t → Spanned source (p .1)
+  head-spanned levels u e = rw e at (head-within levels .at u)
+
+  argument-within : Reads (λ (p : Bool × Span). InSource source (p .1)) (argumentHead source)
+  unfolding argumentHead
+  argument-within = behind flag λ dots. with span-within λ sp h. ends h
+
+  pub argument-spanned : (u : List ℕ) {p : Bool × Span} {t : List ℕ} → argumentHead source u ≡ ok p t → InSource source (p .1)
+  argument-spanned u e = rw e at (argument-within .at u)

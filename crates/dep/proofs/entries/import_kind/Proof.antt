@@ -1,0 +1,19 @@
+-- `import_kind`: by the flag, and by the phase.
+use borrow.Author.Tests.{ne-eqb}
+use Rattle.dep.proofs.entries.import_kind.Statement.{statement}
+use Rattle.dep.proofs.entries.import_kind.Tie as tie
+
+returns : tie.Need-returns
+returns c = rw (c .if1 .taken)
+
+returns-2 : tie.Need-returns-2
+returns-2 c = rw (c .before .if1 .left, c .if2 .taken)
+
+returns-3 : tie.Need-returns-3
+returns-3 c = rw (c .before .before .if1 .left, c .if3 .taken)
+
+returns-4 : tie.Need-returns-4
+returns-4 c = rw (c .before .before .if1 .left, ne-eqb _ _ (c .before .if2 .left), ne-eqb _ _ (c .if3 .left))
+
+pub import-kind-spec : {M : Type 1} → statement M
+import-kind-spec = tie.close (tie.spec returns returns-2 returns-3 returns-4)

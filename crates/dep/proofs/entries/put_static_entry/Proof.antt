@@ -1,0 +1,42 @@
+-- `put_static_entry`: the fields of the entry in turn.
+use borrow.Author.Needs.{needs}
+use denote.Ref.{now}
+use Rattle.text.specs.Lossy.{lossy}
+use Rattle.wire.specs.Views.{part}
+use Rattle.report.specs.ModuleInfo as info
+use Rattle.report.specs.Range.{rangeOf}
+use Rattle.report.specs.World.{worldAs}
+use Rattle.attributes.specs.Views.{attributesAs}
+use Rattle.dep.specs.Collect.{staticEntry}
+use Rattle.dep.specs.Walk.{typesFrom}
+use Rattle.dep.proofs.Fields.{static-written}
+use Rattle.dep.proofs.entries.put_static_entry.Statement.{statement}
+use Rattle.dep.proofs.entries.put_static_entry.Tie as tie
+
+put-lossy-specifier-requires : tie.Need-put-lossy-specifier-requires
+put-lossy-specifier-requires c κs = (c .before .before .before .before .before .before .before .before .before .before .before .before .before .before .before .before .before .before .pre .0 .0 .indexed, c .before .before .before .before .before .before .before .before .before .before .before .before .before .before .before .before .before .before .pre .1 .1)
+
+put-attributes-requires : tie.Need-put-attributes-requires
+put-attributes-requires c κs = c .before .before .before .before .before .before .before .before .before .before .before .before .before .before .before .before .before .before .before .before .before .before .before .before .before .before .pre .2
+
+returns : tie.Need-returns
+unfolding staticEntry
+returns c =
+    let a = c .before .before .before .before .before .before .before .before .before .before .before .before .before .before .before .before .before .before .before .before .before .before .before .before .before .before .before .before .before .args in
+    let s = now (a .sheet) in
+    let source = now (a .source) in
+    let types = typesFrom source (now (a .cs)) (now (a .gs)) (a .k) in
+    let w = worldAs (now (a .out)) (a .p) in
+    let x = a .d .specifier in
+    let d : info.StaticDependencyDescriptor =
+    record {
+      kind = a .d .kind;
+      typesSpecifier = types (a .d .range .start);
+      specifier = record { text = lossy (part s (x .start) (x .end)); range = rangeOf source (x .span) };
+      sideEffect = a .d .side;
+      importAttributes = attributesAs s (now (a .pairs)) (a .a);
+    } in
+    static-written w d (c .before .before .before .before .before .before .before .before .before .before .before .before .before .before .before .before .before .before .before .put .ensures) (c .before .before .before .before .before .before .before .before .before .before .before .before .before .before .before .analyze-ts-or-deno-types .ensures) (c .before .before .before .before .before .before .before .before .before .before .put-lossy-specifier .ensures) (c .before .before .before .before .before .before .put-flag .ensures) (c .before .before .put-attributes .ensures)
+
+pub put-static-entry-spec : {M : Type 1} → statement M
+put-static-entry-spec = tie.close (tie.spec (λ c κs. search needs) (λ c κs. search needs) (λ c. search needs) (λ c. search needs) (λ c. search needs) put-lossy-specifier-requires (λ c κs. search needs) put-attributes-requires (λ c. search needs) returns)

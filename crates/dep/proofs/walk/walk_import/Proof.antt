@@ -1,0 +1,36 @@
+-- `walk_import`: the entry is that of the attributes that were read.
+use borrow.Author.Needs.{needs}
+use lib.ListN.{drop}
+use denote.Ref.{now}
+use Rattle.laws.proofs.Decoding.{onOk-no}
+use Rattle.laws.proofs.Steps.{seen}
+use Rattle.sheet.specs.Nodes.{attributesObject}
+use Rattle.heads.specs.Rest.{behind}
+use Rattle.nodes.specs.Judged.{tallyWith}
+use Rattle.nodes.specs.Answers.{talliedAs}
+use Rattle.report.specs.World.{worldAs}
+use Rattle.dep.specs.Walk.{typesFrom}
+use Rattle.dep.proofs.Arms.{import-written}
+use Rattle.dep.proofs.walk.walk_import.Statement.{statement}
+use Rattle.dep.proofs.walk.walk_import.Tie as tie
+
+returns : tie.Need-returns
+returns c =
+    let a = c .before .before .before .before .before .before .before .before .before .before .args in
+    let s = now (a .sheet) in
+    let source = now (a .source) in
+    let x = behind (a .there) (attributesObject source (a .levels)) (drop (a .c .at) s) in
+    (rw (onOk-no tallyWith x (seen (talliedAs s) (c .before .before .before .check-attributes .ensures .0) (c .before .r .given .1))), tt)
+
+returns-2 : tie.Need-returns-2
+returns-2 c =
+    let a = c .before .before .before .before .before .before .before .before .before .before .before .before .before .before .args in
+    let s = now (a .sheet) in
+    let source = now (a .source) in
+    let types = typesFrom source (now (a .cs)) (now (a .gs)) (a .k) in
+    let x = behind (a .there) (attributesObject source (a .levels)) (drop (a .c .at) s) in
+    let past = rw (c .before .before .before .before .before .next .given .1) at (c .before .before .before .before .before .before .before .check-attributes .ensures .1) in
+    (import-written source types (worldAs (now (a .out)) (a .p)) s (a .d) x (seen (talliedAs s) (c .before .before .before .before .before .before .before .check-attributes .ensures .0) (c .before .before .before .before .before .next .given .1)) (c .before .before .put-import-entry .ensures), past .0)
+
+pub walk-import-spec : {M : Type 1} → statement M
+walk-import-spec = tie.close (tie.spec (λ c κs. search needs) (λ c. search needs) (λ c. search needs) (λ c κs. search needs) returns (λ c. search needs) returns-2)

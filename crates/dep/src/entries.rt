@@ -1,0 +1,380 @@
+// The entries of dependencies in the report.
+use arguments::argument::DynamicArgument;
+use arguments::argument::parse_argument;
+use arguments::argument::put_argument;
+use attributes::readings::ImportAttributes;
+use attributes::readings::parse_dynamic_import_attributes;
+use attributes::readings::parse_import_attributes;
+use attributes::readings::parse_type_attributes;
+use attributes::writer::put_attributes;
+use heads::parts::ArgumentRead;
+use heads::parts::read_argument;
+use heads::quoted::Quoted;
+use heads::texts::declares;
+use nodes::check::check_node;
+use nodes::tally::Checked;
+use pragmas::analyze_ts_or_deno_types;
+use report::writer::Place;
+use sheet::fields::Span;
+use wire::Cursor;
+ghost use mathlib.Core.Path.{_≡_};
+ghost use mathlib.Core.Bool.{Bool};
+ghost use mathlib.Core.List.{List};
+ghost use mathlib.Core.Option.{Option};
+ghost use Prim.Native.Nat.{ℕ};
+ghost use lib.ListN.{length, drop};
+ghost use Rattle.laws.specs.Decoded.{ok};
+ghost use Rattle.sheet.specs.Tree.{Node, Attributes, Arguments, argument};
+ghost use Rattle.sheet.specs.Nodes.{node, arguments, attributesObject};
+ghost use Rattle.heads.specs.Rest.{behind};
+ghost use Rattle.report.specs.ModuleInfo as info;
+ghost use Rattle.report.specs.Range.{InSource};
+ghost use Rattle.report.specs.World.{worldAs};
+ghost use Rattle.attributes.specs.Attributes.{staticAttributes, typeAttributes};
+ghost use Rattle.heads.specs.Views.{quotedOf};
+ghost use Rattle.attributes.specs.Views.{attributesAs, Bounded};
+ghost use Rattle.arguments.specs.Stands.{Stands, InSheet};
+ghost use Rattle.dep.specs.Collect.{importKind, exportKind, equalsKind, dynamicKind, callEntry, moduleEntry};
+ghost use Rattle.dep.specs.Walk.{typesFrom, Held, Quotes, listed, staticOf, dynamicOf, callOf};
+
+// How many comments and groups the tables hold.
+pub struct Counts {
+    pub comments: usize,
+    pub groups: usize,
+}
+
+// A static dependency without its attributes: its kind by its number in the report, and the span of its node. Is it for side effects only?
+pub struct StaticDependencyDescriptor {
+    pub kind: u8,
+    pub range: Span,
+    pub specifier: Quoted,
+    pub side: bool,
+}
+
+// A dynamic dependency: where its node starts, and offsets into the sheet for its argument.
+pub struct DynamicDependencyDescriptor {
+    pub kind: u8,
+    pub start: usize,
+    pub argument: DynamicArgument,
+    pub range: Span,
+    pub attributes: ImportAttributes,
+}
+
+// A call up to its arguments: its kind, and the span of its node. Is it an import or a require?
+pub struct CallHead {
+    pub kind: u8,
+    pub range: Span,
+    pub listed: bool,
+}
+
+// The kinds by their numbers in the report.
+pub fn import_kind(typed: bool, phase: usize) -> u8
+    ensures { λ r. ⌜ r ≡ importKind typed phase ⌝ }
+{
+    if typed {
+        return 3;
+    }
+    if phase == 1 {
+        return 2;
+    }
+    if phase == 2 {
+        return 1;
+    }
+    0
+}
+
+pub fn export_kind(typed: bool) -> u8
+    ensures { λ r. ⌜ r ≡ exportKind typed ⌝ }
+{
+    if typed {
+        return 6;
+    }
+    5
+}
+
+pub fn equals_kind(typed: bool, export: bool) -> u8
+    ensures { λ r. ⌜ r ≡ equalsKind typed export ⌝ }
+{
+    if typed {
+        return 3;
+    }
+    if export {
+        return 7;
+    }
+    4
+}
+
+pub fn dynamic_kind(phase: usize) -> u8
+    ensures { λ r. ⌜ r ≡ dynamicKind phase ⌝ }
+{
+    if phase == 1 {
+        return 11;
+    }
+    if phase == 2 {
+        return 10;
+    }
+    9
+}
+
+// The entry of a static dependency, with its attributes in the table.
+fn put_static_entry(
+    sheet: &[u8],
+    source: &[u8],
+    d: StaticDependencyDescriptor,
+    pairs: &[usize],
+    a: ImportAttributes,
+    cs: &[u32],
+    gs: &[u32],
+    k: Counts,
+    index: &[u32],
+    out: &mut [u8],
+    p: Place,
+) -> Place
+    requires { ⌜ Held (now source) (now cs) (now gs) k (now index) × Quotes (now sheet) (now source) (d .specifier) × Bounded (length (now sheet)) (now pairs) a ⌝ }
+    ensures { λ r. ⌜ worldAs (now (out .exit)) r
+        ≡ listed (worldAs (now (out .entry)) p)
+        (staticOf (now (source .entry)) (typesFrom (now (source .entry)) (now (cs .entry)) (now (gs .entry)) k) (now (sheet .entry)) d (attributesAs (now (sheet .entry)) (now (pairs .entry)) a)) ⌝ }
+{
+    let start = d.range.start;
+    let x = d.specifier;
+    let from = x.start;
+    let to = x.end;
+    let p = p.put(out, d.kind);
+    let p = analyze_ts_or_deno_types(source, cs, k.comments, gs, k.groups, index, start, out, p);
+    let p = p.put_lossy_specifier(out, &sheet[from..to], source, index, x.span);
+    let p = p.put_flag(out, d.side);
+    put_attributes(sheet, pairs, a, out, p)
+}
+
+// The entry of an import or an export, with the Object of its attributes at the cursor, if there is one.
+pub fn put_import_entry(
+    sheet: &[u8],
+    source: &[u8],
+    c: Cursor,
+    there: bool,
+    levels: usize,
+    d: StaticDependencyDescriptor,
+    cs: &[u32],
+    gs: &[u32],
+    k: Counts,
+    index: &[u32],
+    out: &mut [u8],
+    p: Place,
+) -> Place
+    requires { ⌜ Held (now source) (now cs) (now gs) k (now index) × Quotes (now sheet) (now source) (d .specifier) ⌝ }
+    ensures { λ r. ⌜ ((a : Attributes) (t : List ℕ)
+        → behind there (attributesObject (now (source .entry)) levels) (drop (c .at) (now (sheet .entry))) ≡ ok a t
+        → worldAs (now (out .exit)) r
+        ≡ listed (worldAs (now (out .entry)) p)
+        (staticOf (now (source .entry)) (typesFrom (now (source .entry)) (now (cs .entry)) (now (gs .entry)) k) (now (sheet .entry)) d (staticAttributes a))) ⌝ }
+{
+    let mut pairs: [usize; 320] = [0; 320];
+    let a = parse_import_attributes(sheet, source, c, there, levels, &mut pairs);
+    put_static_entry(sheet, source, d, &pairs, a, cs, gs, k, index, out, p)
+}
+
+// The entry of an import type, with the Object of its attributes at the cursor, if there is one.
+pub fn put_type_entry(
+    sheet: &[u8],
+    source: &[u8],
+    c: Cursor,
+    there: bool,
+    levels: usize,
+    d: StaticDependencyDescriptor,
+    cs: &[u32],
+    gs: &[u32],
+    k: Counts,
+    index: &[u32],
+    out: &mut [u8],
+    p: Place,
+) -> Place
+    requires { ⌜ Held (now source) (now cs) (now gs) k (now index) × Quotes (now sheet) (now source) (d .specifier) ⌝ }
+    ensures { λ r. ⌜ ((a : Attributes) (t : List ℕ)
+        → behind there (attributesObject (now (source .entry)) levels) (drop (c .at) (now (sheet .entry))) ≡ ok a t
+        → worldAs (now (out .exit)) r
+        ≡ listed (worldAs (now (out .entry)) p)
+        (staticOf (now (source .entry)) (typesFrom (now (source .entry)) (now (cs .entry)) (now (gs .entry)) k) (now (sheet .entry)) d (typeAttributes a))) ⌝ }
+{
+    let mut pairs: [usize; 320] = [0; 320];
+    let a = parse_type_attributes(sheet, source, c, there, levels, &mut pairs);
+    put_static_entry(sheet, source, d, &pairs, a, cs, gs, k, index, out, p)
+}
+
+// The entry of a static dependency that has no attributes.
+pub fn put_plain_entry(
+    sheet: &[u8],
+    source: &[u8],
+    d: StaticDependencyDescriptor,
+    cs: &[u32],
+    gs: &[u32],
+    k: Counts,
+    index: &[u32],
+    out: &mut [u8],
+    p: Place,
+) -> Place
+    requires { ⌜ Held (now source) (now cs) (now gs) k (now index) × Quotes (now sheet) (now source) (d .specifier) ⌝ }
+    ensures { λ r. ⌜ worldAs (now (out .exit)) r
+        ≡ listed (worldAs (now (out .entry)) p)
+        (staticOf (now (source .entry)) (typesFrom (now (source .entry)) (now (cs .entry)) (now (gs .entry)) k) (now (sheet .entry)) d info.none) ⌝ }
+{
+    let pairs: [usize; 320] = [0; 320];
+    let a = ImportAttributes::None;
+    put_static_entry(sheet, source, d, &pairs, a, cs, gs, k, index, out, p)
+}
+
+// `visit_ts_module_decl`: the entry of a module declaration with a String, if it may be an augmentation.
+pub fn put_module_entry(
+    sheet: &[u8],
+    source: &[u8],
+    span: Span,
+    x: Quoted,
+    cs: &[u32],
+    gs: &[u32],
+    k: Counts,
+    index: &[u32],
+    out: &mut [u8],
+    p: Place,
+) -> Place
+    requires { ⌜ Held (now source) (now cs) (now gs) k (now index) × Quotes (now sheet) (now source) x ⌝ }
+    ensures { λ r. ⌜ worldAs (now (out .exit)) r
+        ≡ listed (worldAs (now (out .entry)) p)
+        (moduleEntry (now (source .entry)) (typesFrom (now (source .entry)) (now (cs .entry)) (now (gs .entry)) k) span (Option.some (quotedOf (now (sheet .entry)) x))) ⌝ }
+{
+    if declares(sheet, x) {
+        let d = StaticDependencyDescriptor {
+            kind: 8,
+            range: span,
+            specifier: x,
+            side: false,
+        };
+        return put_plain_entry(sheet, source, d, cs, gs, k, index, out, p);
+    }
+    p
+}
+
+// The entry of a dynamic dependency, with its attributes in the table.
+fn put_dynamic_entry(
+    sheet: &[u8],
+    source: &[u8],
+    levels: usize,
+    d: DynamicDependencyDescriptor,
+    pairs: &[usize],
+    cs: &[u32],
+    gs: &[u32],
+    k: Counts,
+    index: &[u32],
+    out: &mut [u8],
+    p: Place,
+) -> Place
+    requires { ⌜ Held (now source) (now cs) (now gs) k (now index) × InSource (now source) (d .range) × InSheet (length (now sheet)) (d .argument) × Bounded (length (now sheet)) (now pairs) (d .attributes) ⌝ }
+    ensures { λ r. ⌜ ((v : info.DynamicArgument) → Stands (now (sheet .entry)) (now (source .entry)) levels (d .argument) v
+        → worldAs (now (out .exit)) r
+        ≡ listed (worldAs (now (out .entry)) p)
+        (dynamicOf (now (source .entry)) (typesFrom (now (source .entry)) (now (cs .entry)) (now (gs .entry)) k) d v (attributesAs (now (sheet .entry)) (now (pairs .entry)) (d .attributes)))) ⌝ }
+{
+    let argument = d.argument;
+    let attributes = d.attributes;
+    let p = p.put(out, d.kind);
+    let p = analyze_ts_or_deno_types(source, cs, k.comments, gs, k.groups, index, d.start, out, p);
+    let p = put_argument(sheet, source, levels, argument, out, p);
+    let p = p.put_span(out, source, index, d.range);
+    put_attributes(sheet, pairs, attributes, out, p)
+}
+
+// The entry of a call by its first argument, whose node is at the cursor, with so many arguments behind it.
+fn put_argument_entry(
+    sheet: &[u8],
+    source: &[u8],
+    c: Cursor,
+    more: usize,
+    levels: usize,
+    d: CallHead,
+    range: Span,
+    cs: &[u32],
+    gs: &[u32],
+    k: Counts,
+    index: &[u32],
+    out: &mut [u8],
+    p: Place,
+) -> Place
+    requires { ⌜ Held (now source) (now cs) (now gs) k (now index) × InSource (now source) range ⌝ }
+    ensures { λ r. ⌜ ((dots : Bool) (n : Node) (xs : Arguments) (t u : List ℕ)
+        → node (now (source .entry)) levels (drop (c .at) (now (sheet .entry))) ≡ ok n t
+        → arguments (node (now (source .entry)) levels) (now (source .entry)) more t ≡ ok xs u
+        → worldAs (now (out .exit)) r
+        ≡ listed (worldAs (now (out .entry)) p)
+        (callEntry (now (source .entry)) (typesFrom (now (source .entry)) (now (cs .entry)) (now (gs .entry)) k) (d .kind) (d .range) (argument dots range n xs))) ⌝ }
+{
+    match check_node(sheet, source, c, levels) {
+        Checked::Refused(_) => p,
+        Checked::Is(_, next) => {
+            let mut pairs: [usize; 320] = [0; 320];
+            let argument = parse_argument(sheet, source, c, levels);
+            let attributes = parse_dynamic_import_attributes(
+                sheet,
+                source,
+                next,
+                more,
+                levels,
+                &mut pairs,
+            );
+            let e = DynamicDependencyDescriptor {
+                kind: d.kind,
+                start: d.range.start,
+                argument,
+                range,
+                attributes,
+            };
+            put_dynamic_entry(sheet, source, levels, e, &pairs, cs, gs, k, index, out, p)
+        }
+    }
+}
+
+// The entry of a call that is listed, with so many arguments at the cursor; none if there is no argument.
+pub fn put_call_entry(
+    sheet: &[u8],
+    source: &[u8],
+    c: Cursor,
+    count: usize,
+    levels: usize,
+    d: CallHead,
+    cs: &[u32],
+    gs: &[u32],
+    k: Counts,
+    index: &[u32],
+    out: &mut [u8],
+    p: Place,
+) -> Place
+    requires { ⌜ Held (now source) (now cs) (now gs) k (now index) ⌝ }
+    ensures { λ r. ⌜ ((xs : Arguments) (t : List ℕ)
+        → arguments (node (now (source .entry)) levels) (now (source .entry)) count (drop (c .at) (now (sheet .entry))) ≡ ok xs t
+        → worldAs (now (out .exit)) r
+        ≡ listed (worldAs (now (out .entry)) p)
+        (callOf (now (source .entry)) (typesFrom (now (source .entry)) (now (cs .entry)) (now (gs .entry)) k) d xs)) ⌝ }
+{
+    if d.listed {
+        if 0 < count {
+            return match read_argument(sheet, source, c) {
+                ArgumentRead::Refused(_) => p,
+                ArgumentRead::Is(_, range, at) => {
+                    put_argument_entry(
+                        sheet,
+                        source,
+                        at,
+                        count - 1,
+                        levels,
+                        d,
+                        range,
+                        cs,
+                        gs,
+                        k,
+                        index,
+                        out,
+                        p,
+                    )
+                }
+            };
+        }
+    }
+    p
+}

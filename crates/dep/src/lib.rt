@@ -1,0 +1,3 @@
+// The dependencies of a sheet, in the order of the walk over its tree.
+pub mod entries;
+pub mod walk;

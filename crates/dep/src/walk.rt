@@ -1,0 +1,628 @@
+// `DependencyCollector`: the walk over a tree, by recursion in which the levels left fall. It writes the entries of what a node holds, in the order
+// of the sheet, and the node's own. cs and gs are the tables of comments and groups, k their counts, index that of the source's positions.
+use super::entries::CallHead;
+use super::entries::Counts;
+use super::entries::StaticDependencyDescriptor;
+use super::entries::dynamic_kind;
+use super::entries::equals_kind;
+use super::entries::export_kind;
+use super::entries::import_kind;
+use super::entries::put_call_entry;
+use super::entries::put_import_entry;
+use super::entries::put_module_entry;
+use super::entries::put_plain_entry;
+use super::entries::put_type_entry;
+use heads::node::Head;
+use heads::node::HeadRead;
+use heads::node::read_head;
+use heads::parts::ArgumentRead;
+use heads::parts::AttributesRead;
+use heads::parts::PropertyRead;
+use heads::parts::read_argument;
+use heads::parts::read_attributes;
+use heads::parts::read_pieces;
+use heads::parts::read_property;
+use nodes::check::check_attributes;
+use nodes::check::check_nodes;
+use nodes::tally::Tallied;
+use nodes::tally::nodes_of;
+use report::writer::Place;
+use sheet::fields::Span;
+use wire::Cursor;
+use wire::Flag;
+use wire::Read;
+ghost use mathlib.Core.Path.{_≡_};
+ghost use mathlib.Core.List.{List};
+ghost use Prim.Native.Nat.{ℕ, _≤_};
+ghost use lib.ListN.{length, drop};
+ghost use Rattle.laws.specs.Decoded.{ok, onOk};
+ghost use Rattle.sheet.specs.Tree.{Node};
+ghost use Rattle.sheet.specs.Nodes.{node, nodes, argumentItem, arguments, propertyItem, properties, attributesObject};
+ghost use Rattle.sheet.specs.Walked.{shape, isRequire, entries};
+ghost use Rattle.heads.specs.Rest.{behind, rest};
+ghost use Rattle.heads.specs.Head.{callHead};
+ghost use Rattle.heads.specs.Views.{headOf, Within};
+ghost use Rattle.nodes.specs.Judged.{callParts, typedParts};
+ghost use Rattle.report.specs.Encode.{encodeList, encodeDependency};
+ghost use Rattle.report.specs.World.{wrote, worldAs};
+ghost use Rattle.dep.specs.Collect.{collect};
+ghost use Rattle.dep.specs.Walk.{typesFrom, Held, Quotes, Begun, requireHead, walkedAs, Inside, afterNode, afterNodes, afterArgument, afterArguments, afterProperties, afterProperty, afterWith, afterImport, afterCall, afterTyped};
+
+// The next place in the buffer, with the cursor past what was walked, or a refusal's number.
+pub enum Walked {
+    Is(Place, Cursor),
+    Refused(u8),
+}
+
+// Is it the head of the Name `require`?
+fn names_require(sheet: &[u8], head: Head) -> bool
+    requires { ⌜ Within (length (now sheet)) head ⌝ }
+    ensures { λ r. ⌜ r ≡ requireHead (headOf (now (sheet .entry)) head) ⌝ }
+{
+    match head {
+        Head::Name(start, end) => heads::texts::is_require(&sheet[start..end]),
+        Head::Other(_) => false,
+        Head::String(_, _) => false,
+        Head::Template(_) => false,
+        Head::Binary(_) => false,
+        Head::Object(_) => false,
+        Head::ImportCall(_) => false,
+        Head::Call => false,
+        Head::Import(_, _, _, _, _) => false,
+        Head::NamedExport(_) => false,
+        Head::ExportFrom(_, _, _) => false,
+        Head::ExportAll(_, _, _) => false,
+        Head::ImportType(_, _) => false,
+        Head::ImportEquals => false,
+        Head::ImportRequire(_, _, _) => false,
+        Head::Module(_) => false,
+        Head::NamedModule(_, _) => false,
+    }
+}
+
+// Is the callee at the cursor the Name `require`?
+fn is_require(sheet: &[u8], source: &[u8], c: Cursor, levels: usize) -> bool
+    ensures { λ r. ⌜ ((n : Node) (t : List ℕ) → node (now (source .entry)) levels (drop (c .at) (now (sheet .entry))) ≡ ok n t → r ≡ isRequire (shape n)) ⌝ }
+{
+    match read_head(sheet, source, c, levels) {
+        HeadRead::Refused(_) => false,
+        HeadRead::Is(_, head, _) => names_require(sheet, head),
+    }
+}
+
+// `visit_import_decl`, `visit_named_export` and `visit_export_all`: the entry of an import or an export, and past its attributes, in which nothing is walked.
+fn walk_import(
+    sheet: &[u8],
+    source: &[u8],
+    c: Cursor,
+    there: bool,
+    levels: usize,
+    d: StaticDependencyDescriptor,
+    cs: &[u32],
+    gs: &[u32],
+    k: Counts,
+    index: &[u32],
+    out: &mut [u8],
+    p: Place,
+) -> Walked
+    requires { ⌜ Held (now source) (now cs) (now gs) k (now index) × Quotes (now sheet) (now source) (d .specifier) × (c .at ≤ length (now sheet)) ⌝ }
+    ensures { λ r. ⌜ walkedAs (now (sheet .entry)) (now (out .exit)) r
+        ≡ onOk (afterImport (now (source .entry)) (typesFrom (now (source .entry)) (now (cs .entry)) (now (gs .entry)) k) (now (sheet .entry)) d (worldAs (now (out .entry)) p))
+        (behind there (attributesObject (now (source .entry)) levels) (drop (c .at) (now (sheet .entry)))) ⌝ }
+    ensures { λ r. ⌜ Inside (length (now (sheet .entry))) r ⌝ }
+{
+    match check_attributes(sheet, source, c, there, levels) {
+        Tallied::Refused(r) => Walked::Refused(r),
+        Tallied::Is(_, next) => {
+            let p = put_import_entry(sheet, source, c, there, levels, d, cs, gs, k, index, out, p);
+            Walked::Is(p, next)
+        }
+    }
+}
+
+// The node at a cursor, with so many levels left, its own among them.
+pub fn walk_node(
+    sheet: &[u8],
+    source: &[u8],
+    c: Cursor,
+    levels: usize,
+    cs: &[u32],
+    gs: &[u32],
+    k: Counts,
+    index: &[u32],
+    out: &mut [u8],
+    p: Place,
+) -> Walked
+    requires { ⌜ Held (now source) (now cs) (now gs) k (now index) ⌝ }
+    ensures { λ r. ⌜ walkedAs (now (sheet .entry)) (now (out .exit)) r
+        ≡ onOk (afterNode (now (source .entry)) (typesFrom (now (source .entry)) (now (cs .entry)) (now (gs .entry)) k) (worldAs (now (out .entry)) p))
+        (node (now (source .entry)) levels (drop (c .at) (now (sheet .entry)))) ⌝ }
+    ensures { λ r. ⌜ Inside (length (now (sheet .entry))) r ⌝ }
+{
+    match read_head(sheet, source, c, levels) {
+        HeadRead::Refused(r) => Walked::Refused(r),
+        HeadRead::Is(span, head, next) => {
+            walk_rest(
+                sheet,
+                source,
+                next,
+                levels - 1,
+                span,
+                head,
+                cs,
+                gs,
+                k,
+                index,
+                out,
+                p,
+            )
+        }
+    }
+}
+
+// What follows a head, with so many levels left below its node.
+fn walk_rest(
+    sheet: &[u8],
+    source: &[u8],
+    c: Cursor,
+    levels: usize,
+    span: Span,
+    head: Head,
+    cs: &[u32],
+    gs: &[u32],
+    k: Counts,
+    index: &[u32],
+    out: &mut [u8],
+    p: Place,
+) -> Walked
+    requires { ⌜ Held (now source) (now cs) (now gs) k (now index) × Begun (now sheet) (now source) (c .at) head ⌝ }
+    ensures { λ r. ⌜ walkedAs (now (sheet .entry)) (now (out .exit)) r
+        ≡ onOk (afterNode (now (source .entry)) (typesFrom (now (source .entry)) (now (cs .entry)) (now (gs .entry)) k) (worldAs (now (out .entry)) p))
+        (rest (now (source .entry)) levels (span, headOf (now (sheet .entry)) head) (drop (c .at) (now (sheet .entry)))) ⌝ }
+    ensures { λ r. ⌜ Inside (length (now (sheet .entry))) r ⌝ }
+{
+    match head {
+        Head::Other(n) => { walk_nodes(sheet, source, c, n, levels, cs, gs, k, index, out, p) }
+        Head::String(_, _) => Walked::Is(p, c),
+        Head::Name(_, _) => Walked::Is(p, c),
+        Head::Template(n) => match read_pieces(sheet, c, n + 1) {
+            Flag::Refused(r) => Walked::Refused(r),
+            Flag::Is(_, c) => { walk_nodes(sheet, source, c, n, levels, cs, gs, k, index, out, p) }
+        },
+        Head::Binary(_) => { walk_nodes(sheet, source, c, 2, levels, cs, gs, k, index, out, p) }
+        Head::Object(n) => {
+            walk_properties(sheet, source, c, n, levels, cs, gs, k, index, out, p)
+        }
+        Head::ImportCall(phase) => {
+            let d = CallHead {
+                kind: dynamic_kind(phase),
+                range: span,
+                listed: true,
+            };
+            walk_call(sheet, source, c, levels, d, cs, gs, k, index, out, p)
+        }
+        Head::Call => { walk_callee(sheet, source, c, levels, span, cs, gs, k, index, out, p) }
+        Head::Import(type_only, phase, side, x, there) => {
+            let d = StaticDependencyDescriptor {
+                kind: import_kind(type_only, phase),
+                range: span,
+                specifier: x,
+                side,
+            };
+            walk_import(sheet, source, c, there, levels, d, cs, gs, k, index, out, p)
+        }
+        Head::NamedExport(_) => Walked::Is(p, c),
+        Head::ExportFrom(type_only, x, there) => {
+            let d = StaticDependencyDescriptor {
+                kind: export_kind(type_only),
+                range: span,
+                specifier: x,
+                side: false,
+            };
+            walk_import(sheet, source, c, there, levels, d, cs, gs, k, index, out, p)
+        }
+        Head::ExportAll(type_only, x, there) => {
+            let d = StaticDependencyDescriptor {
+                kind: export_kind(type_only),
+                range: span,
+                specifier: x,
+                side: false,
+            };
+            walk_import(sheet, source, c, there, levels, d, cs, gs, k, index, out, p)
+        }
+        Head::ImportType(x, n) => {
+            let d = StaticDependencyDescriptor {
+                kind: 3,
+                range: span,
+                specifier: x,
+                side: false,
+            };
+            walk_typed(sheet, source, c, n, levels, d, cs, gs, k, index, out, p)
+        }
+        Head::ImportEquals => Walked::Is(p, c),
+        Head::ImportRequire(type_only, export, x) => {
+            let d = StaticDependencyDescriptor {
+                kind: equals_kind(type_only, export),
+                range: span,
+                specifier: x,
+                side: false,
+            };
+            let p = put_plain_entry(sheet, source, d, cs, gs, k, index, out, p);
+            Walked::Is(p, c)
+        }
+        Head::Module(n) => { walk_nodes(sheet, source, c, n, levels, cs, gs, k, index, out, p) }
+        Head::NamedModule(x, n) => {
+            let p = put_module_entry(sheet, source, span, x, cs, gs, k, index, out, p);
+            walk_nodes(sheet, source, c, n, levels, cs, gs, k, index, out, p)
+        }
+    }
+}
+
+// So many nodes, one after the other.
+fn walk_nodes(
+    sheet: &[u8],
+    source: &[u8],
+    c: Cursor,
+    count: usize,
+    levels: usize,
+    cs: &[u32],
+    gs: &[u32],
+    k: Counts,
+    index: &[u32],
+    out: &mut [u8],
+    p: Place,
+) -> Walked
+    requires { ⌜ Held (now source) (now cs) (now gs) k (now index) × (c .at ≤ length (now sheet)) ⌝ }
+    ensures { λ r. ⌜ walkedAs (now (sheet .entry)) (now (out .exit)) r
+        ≡ onOk (afterNodes (now (source .entry)) (typesFrom (now (source .entry)) (now (cs .entry)) (now (gs .entry)) k) (worldAs (now (out .entry)) p))
+        (nodes (node (now (source .entry)) levels) count (drop (c .at) (now (sheet .entry)))) ⌝ }
+    ensures { λ r. ⌜ Inside (length (now (sheet .entry))) r ⌝ }
+{
+    let mut left = count;
+    let mut at = c;
+    let mut p = p;
+    while 0 < left {
+        match walk_node(sheet, source, at, levels, cs, gs, k, index, out, p) {
+            Walked::Refused(r) => {
+                return Walked::Refused(r);
+            }
+            Walked::Is(q, next) => {
+                p = q;
+                at = next;
+                left -= 1;
+            }
+        }
+    }
+    Walked::Is(p, at)
+}
+
+// An argument: its node.
+fn walk_argument(
+    sheet: &[u8],
+    source: &[u8],
+    c: Cursor,
+    levels: usize,
+    cs: &[u32],
+    gs: &[u32],
+    k: Counts,
+    index: &[u32],
+    out: &mut [u8],
+    p: Place,
+) -> Walked
+    requires { ⌜ Held (now source) (now cs) (now gs) k (now index) ⌝ }
+    ensures { λ r. ⌜ walkedAs (now (sheet .entry)) (now (out .exit)) r
+        ≡ onOk (afterArgument (now (source .entry)) (typesFrom (now (source .entry)) (now (cs .entry)) (now (gs .entry)) k) (worldAs (now (out .entry)) p))
+        (argumentItem (node (now (source .entry)) levels) (now (source .entry)) (drop (c .at) (now (sheet .entry)))) ⌝ }
+    ensures { λ r. ⌜ Inside (length (now (sheet .entry))) r ⌝ }
+{
+    match read_argument(sheet, source, c) {
+        ArgumentRead::Refused(r) => Walked::Refused(r),
+        ArgumentRead::Is(_, _, next) => {
+            walk_node(sheet, source, next, levels, cs, gs, k, index, out, p)
+        }
+    }
+}
+
+// So many arguments.
+fn walk_arguments(
+    sheet: &[u8],
+    source: &[u8],
+    c: Cursor,
+    count: usize,
+    levels: usize,
+    cs: &[u32],
+    gs: &[u32],
+    k: Counts,
+    index: &[u32],
+    out: &mut [u8],
+    p: Place,
+) -> Walked
+    requires { ⌜ Held (now source) (now cs) (now gs) k (now index) × (c .at ≤ length (now sheet)) ⌝ }
+    ensures { λ r. ⌜ walkedAs (now (sheet .entry)) (now (out .exit)) r
+        ≡ onOk (afterArguments (now (source .entry)) (typesFrom (now (source .entry)) (now (cs .entry)) (now (gs .entry)) k) (worldAs (now (out .entry)) p))
+        (arguments (node (now (source .entry)) levels) (now (source .entry)) count (drop (c .at) (now (sheet .entry)))) ⌝ }
+    ensures { λ r. ⌜ Inside (length (now (sheet .entry))) r ⌝ }
+{
+    let mut left = count;
+    let mut at = c;
+    let mut p = p;
+    while 0 < left {
+        match walk_argument(sheet, source, at, levels, cs, gs, k, index, out, p) {
+            Walked::Refused(r) => {
+                return Walked::Refused(r);
+            }
+            Walked::Is(q, next) => {
+                p = q;
+                at = next;
+                left -= 1;
+            }
+        }
+    }
+    Walked::Is(p, at)
+}
+
+// A call of an expression: the callee, and what follows it.
+fn walk_callee(
+    sheet: &[u8],
+    source: &[u8],
+    c: Cursor,
+    levels: usize,
+    span: Span,
+    cs: &[u32],
+    gs: &[u32],
+    k: Counts,
+    index: &[u32],
+    out: &mut [u8],
+    p: Place,
+) -> Walked
+    requires { ⌜ Held (now source) (now cs) (now gs) k (now index) × (c .at ≤ length (now sheet)) ⌝ }
+    ensures { λ r. ⌜ walkedAs (now (sheet .entry)) (now (out .exit)) r
+        ≡ onOk (afterNode (now (source .entry)) (typesFrom (now (source .entry)) (now (cs .entry)) (now (gs .entry)) k) (worldAs (now (out .entry)) p))
+        (rest (now (source .entry)) levels (span, callHead) (drop (c .at) (now (sheet .entry)))) ⌝ }
+    ensures { λ r. ⌜ Inside (length (now (sheet .entry))) r ⌝ }
+{
+    let d = CallHead {
+        kind: 12,
+        range: span,
+        listed: is_require(sheet, source, c, levels),
+    };
+    match walk_node(sheet, source, c, levels, cs, gs, k, index, out, p) {
+        Walked::Refused(r) => Walked::Refused(r),
+        Walked::Is(p, next) => {
+            walk_call(sheet, source, next, levels, d, cs, gs, k, index, out, p)
+        }
+    }
+}
+
+// `visit_call_expr`, behind the callee: arguments and further children; then the call's entry, if it is an import or a require.
+fn walk_call(
+    sheet: &[u8],
+    source: &[u8],
+    c: Cursor,
+    levels: usize,
+    d: CallHead,
+    cs: &[u32],
+    gs: &[u32],
+    k: Counts,
+    index: &[u32],
+    out: &mut [u8],
+    p: Place,
+) -> Walked
+    requires { ⌜ Held (now source) (now cs) (now gs) k (now index) ⌝ }
+    ensures { λ r. ⌜ walkedAs (now (sheet .entry)) (now (out .exit)) r
+        ≡ onOk (afterCall (now (source .entry)) (typesFrom (now (source .entry)) (now (cs .entry)) (now (gs .entry)) k) d (worldAs (now (out .entry)) p))
+        (callParts (now (source .entry)) (node (now (source .entry)) levels) (drop (c .at) (now (sheet .entry)))) ⌝ }
+    ensures { λ r. ⌜ Inside (length (now (sheet .entry))) r ⌝ }
+{
+    match c.number(sheet) {
+        Read::Refused(r) => Walked::Refused(r),
+        Read::Value(n, args) => {
+            let r = walk_arguments(sheet, source, args, n, levels, cs, gs, k, index, out, p);
+            match r {
+                Walked::Refused(r) => Walked::Refused(r),
+                Walked::Is(p, next) => match next.number(sheet) {
+                    Read::Refused(r) => Walked::Refused(r),
+                    Read::Value(m, c) => {
+                        let r = walk_nodes(sheet, source, c, m, levels, cs, gs, k, index, out, p);
+                        match r {
+                            Walked::Refused(r) => Walked::Refused(r),
+                            Walked::Is(p, next) => {
+                                let p = put_call_entry(
+                                    sheet,
+                                    source,
+                                    args,
+                                    n,
+                                    levels,
+                                    d,
+                                    cs,
+                                    gs,
+                                    k,
+                                    index,
+                                    out,
+                                    p,
+                                );
+                                Walked::Is(p, next)
+                            }
+                        }
+                    }
+                },
+            }
+        }
+    }
+}
+
+// A property: its key, if that is a node, and its value.
+fn walk_property(
+    sheet: &[u8],
+    source: &[u8],
+    c: Cursor,
+    levels: usize,
+    cs: &[u32],
+    gs: &[u32],
+    k: Counts,
+    index: &[u32],
+    out: &mut [u8],
+    p: Place,
+) -> Walked
+    requires { ⌜ Held (now source) (now cs) (now gs) k (now index) ⌝ }
+    ensures { λ r. ⌜ walkedAs (now (sheet .entry)) (now (out .exit)) r
+        ≡ onOk (afterProperty (now (source .entry)) (typesFrom (now (source .entry)) (now (cs .entry)) (now (gs .entry)) k) (worldAs (now (out .entry)) p))
+        (propertyItem (node (now (source .entry)) levels) (drop (c .at) (now (sheet .entry)))) ⌝ }
+    ensures { λ r. ⌜ Inside (length (now (sheet .entry))) r ⌝ }
+{
+    match read_property(sheet, c) {
+        PropertyRead::Refused(r) => Walked::Refused(r),
+        PropertyRead::Is(x, next) => {
+            let n = nodes_of(x);
+            walk_nodes(sheet, source, next, n, levels, cs, gs, k, index, out, p)
+        }
+    }
+}
+
+// So many properties.
+fn walk_properties(
+    sheet: &[u8],
+    source: &[u8],
+    c: Cursor,
+    count: usize,
+    levels: usize,
+    cs: &[u32],
+    gs: &[u32],
+    k: Counts,
+    index: &[u32],
+    out: &mut [u8],
+    p: Place,
+) -> Walked
+    requires { ⌜ Held (now source) (now cs) (now gs) k (now index) × (c .at ≤ length (now sheet)) ⌝ }
+    ensures { λ r. ⌜ walkedAs (now (sheet .entry)) (now (out .exit)) r
+        ≡ onOk (afterProperties (now (source .entry)) (typesFrom (now (source .entry)) (now (cs .entry)) (now (gs .entry)) k) (worldAs (now (out .entry)) p))
+        (properties (node (now (source .entry)) levels) count (drop (c .at) (now (sheet .entry)))) ⌝ }
+    ensures { λ r. ⌜ Inside (length (now (sheet .entry))) r ⌝ }
+{
+    let mut left = count;
+    let mut at = c;
+    let mut p = p;
+    while 0 < left {
+        match walk_property(sheet, source, at, levels, cs, gs, k, index, out, p) {
+            Walked::Refused(r) => {
+                return Walked::Refused(r);
+            }
+            Walked::Is(q, next) => {
+                p = q;
+                at = next;
+                left -= 1;
+            }
+        }
+    }
+    Walked::Is(p, at)
+}
+
+// An Object that holds attributes, if there is one.
+fn walk_attributes(
+    sheet: &[u8],
+    source: &[u8],
+    c: Cursor,
+    there: bool,
+    levels: usize,
+    cs: &[u32],
+    gs: &[u32],
+    k: Counts,
+    index: &[u32],
+    out: &mut [u8],
+    p: Place,
+) -> Walked
+    requires { ⌜ Held (now source) (now cs) (now gs) k (now index) × (c .at ≤ length (now sheet)) ⌝ }
+    ensures { λ r. ⌜ walkedAs (now (sheet .entry)) (now (out .exit)) r
+        ≡ onOk (afterWith (now (source .entry)) (typesFrom (now (source .entry)) (now (cs .entry)) (now (gs .entry)) k) (worldAs (now (out .entry)) p))
+        (behind there (attributesObject (now (source .entry)) levels) (drop (c .at) (now (sheet .entry)))) ⌝ }
+    ensures { λ r. ⌜ Inside (length (now (sheet .entry))) r ⌝ }
+{
+    if there {
+        return match read_attributes(sheet, source, c, levels) {
+            AttributesRead::Refused(r) => Walked::Refused(r),
+            AttributesRead::Is(_, n, next) => {
+                walk_properties(sheet, source, next, n, levels - 1, cs, gs, k, index, out, p)
+            }
+        };
+    }
+    Walked::Is(p, c)
+}
+
+// `visit_ts_import_type`: the entry, with the attributes behind its children; then its children, and what the attributes hold.
+fn walk_typed(
+    sheet: &[u8],
+    source: &[u8],
+    c: Cursor,
+    count: usize,
+    levels: usize,
+    d: StaticDependencyDescriptor,
+    cs: &[u32],
+    gs: &[u32],
+    k: Counts,
+    index: &[u32],
+    out: &mut [u8],
+    p: Place,
+) -> Walked
+    requires { ⌜ Held (now source) (now cs) (now gs) k (now index) × Quotes (now sheet) (now source) (d .specifier) × (c .at ≤ length (now sheet)) ⌝ }
+    ensures { λ r. ⌜ walkedAs (now (sheet .entry)) (now (out .exit)) r
+        ≡ onOk (afterTyped (now (source .entry)) (typesFrom (now (source .entry)) (now (cs .entry)) (now (gs .entry)) k) (now (sheet .entry)) d (worldAs (now (out .entry)) p))
+        (typedParts (node (now (source .entry)) levels) (attributesObject (now (source .entry)) levels) count (drop (c .at) (now (sheet .entry)))) ⌝ }
+    ensures { λ r. ⌜ Inside (length (now (sheet .entry))) r ⌝ }
+{
+    match check_nodes(sheet, source, c, count, levels) {
+        Tallied::Refused(r) => Walked::Refused(r),
+        Tallied::Is(_, next) => match next.flag(sheet) {
+            Flag::Refused(r) => Walked::Refused(r),
+            Flag::Is(there, at) => {
+                let p = put_type_entry(
+                    sheet,
+                    source,
+                    at,
+                    there,
+                    levels,
+                    d,
+                    cs,
+                    gs,
+                    k,
+                    index,
+                    out,
+                    p,
+                );
+                match walk_nodes(sheet, source, c, count, levels, cs, gs, k, index, out, p) {
+                    Walked::Refused(r) => Walked::Refused(r),
+                    Walked::Is(p, _) => {
+                        walk_attributes(sheet, source, at, there, levels, cs, gs, k, index, out, p)
+                    }
+                }
+            }
+        },
+    }
+}
+
+// The dependencies of a tree: their number, which the check of the tree counted, and their entries.
+pub fn analyze_program_dependencies(
+    sheet: &[u8],
+    source: &[u8],
+    root: Cursor,
+    count: usize,
+    cs: &[u32],
+    gs: &[u32],
+    k: Counts,
+    index: &[u32],
+    out: &mut [u8],
+    p: Place,
+) -> Place
+    requires { ⌜ Held (now source) (now cs) (now gs) k (now index) ⌝ }
+    ensures { λ r. ⌜ ((n : Node) (t : List ℕ)
+        → node (now (source .entry)) 64 (drop (root .at) (now (sheet .entry))) ≡ ok n t
+        → count ≡ entries n
+        → worldAs (now (out .exit)) r
+        ≡ wrote (worldAs (now (out .entry)) p)
+        (encodeList encodeDependency (collect (now (source .entry)) (typesFrom (now (source .entry)) (now (cs .entry)) (now (gs .entry)) k) n))) ⌝ }
+{
+    let p = p.put_number(out, count);
+    match walk_node(sheet, source, root, 64, cs, gs, k, index, out, p) {
+        Walked::Refused(_) => p,
+        Walked::Is(p, _) => p,
+    }
+}

@@ -1,0 +1,87 @@
+-- What the judge says of an accepted sheet is what the writers ask, and what demand 3 is shown from.
+use mathlib.Core.Path.{_≡_, refl, sym, ap, _∙_}
+use mathlib.Core.List.{List, []}
+use Prim.Native.Nat.{ℕ, _+_, _*_, _/_, _≤_, _<_}
+use native.Mathlib.Omega.{arith}
+use lib.ListN.{length}
+use Rattle.laws.specs.Decoded.{Decoded, ok, no}
+use Rattle.laws.proofs.Decoding.{refused}
+use Rattle.text.specs.Position.{characters, Indexed}
+use Rattle.wire.specs.Views.{part}
+use Rattle.sheet.specs.Sheet.{Sheet, accept}
+use Rattle.sheet.proofs.Rows.{rows-length}
+use Rattle.accept.specs.declared.check.Parts.{Parts}
+use Rattle.accept.specs.Accepts.{Accepts}
+use Rattle.report.specs.declared.writer.Outcome.{Outcome}
+use Rattle.report.specs.Answer.{outcomeAs, refusedWith, fitted}
+use Rattle.report.specs.Encode.{encode}
+use Rattle.pragmas.proofs.Present.{present, types-present}
+use Rattle.pragmas.proofs.Texts.{sheet-texts, types-shown}
+use Rattle.listing.proofs.Right.{jsdoc-right}
+use Rattle.module_info.specs.Information.{moduleInfo, answerOf}
+use Rattle.module_info.specs.Pieces.{Lent, PartsOf, RootOf}
+use Rattle.module_info.specs.Demands.{OfAccepted, Demands}
+
+-- there is one such sheet
+same-sheet : {x : Decoded Sheet} {t u : Sheet} → x ≡ ok t [] → x ≡ ok u [] → t ≡ u
+same-sheet e f = cc
+
+module _ {s comments groups : List ℕ} {p : Parts} (a : Accepts s comments groups p) where
+  pub source-short : length (part s (p .«source_start») (p .«source_end»)) ≤ 32768
+  source-short = rw (a .source) (a .sourceLimit)
+
+  pub lent : 3072 ≤ length comments → 4096 ≤ length groups → {index : List ℕ} → 1026 ≤ length index
+      → Indexed characters (part s (p .«source_start») (p .«source_end»)) index (length (part s (p .«source_start») (p .«source_end»)) / 64 + 1)
+      → Lent (part s (p .«source_start») (p .«source_end»)) comments groups index p
+  lent c g {index} i positions =
+      let short = source-short in
+      let (n, m) = a .rowLimits in (
+        record {
+          utf8 = rw (a .source) (a .formed);
+          short = short;
+          room = omega arith;
+          fit = rw (a .source, a .comments) (a .fit);
+          indexed = record { long = omega arith; positions = positions };
+        },
+        record { room = omega arith; grouped = rw (a .groups) (rw (← a .comments, rows-length) at (a .grouped)) },
+      )
+
+  -- the parts are those of every sheet that the bytes are
+  module _ {t : Sheet} (e : accept s ≡ ok t []) where
+    pub parts-of : PartsOf t (part s (p .«source_start») (p .«source_end»)) comments groups p
+    parts-of =
+        rw (same-sheet e (a .accepted))
+        (record { media = a .media; source-is = a .source; comments-are = a .comments; groups-are = a .groups; program = a .program })
+
+    pub root-of : RootOf t s p
+    root-of = rw (same-sheet e (a .accepted)) (record { root = a .root; count = a .entries })
+
+  -- its answer, and demand 3
+  pub demanded : {size : ℕ} {outcome : Outcome} {buffer : List ℕ}
+      → ((t : Sheet) → accept s ≡ ok t [] → outcomeAs outcome buffer ≡ fitted size (encode (moduleInfo t))) → Demands s size outcome buffer
+  unfolding answerOf moduleInfo
+  demanded answer = record {
+    answer = rw (a .accepted) (answer (a .sheet) (a .accepted));
+    jsdoc = shown (λ t. _) (jsdoc-right (a .fit) (a .formed) (a .sheet .media));
+    pragmas = shown (λ t. _) (present _ _ _ _);
+    types = shown (λ t. _) (types-present _ _ _);
+    texts = shown (λ t. _) (sheet-texts (a .sheet) (a .formed) (a .fit), types-shown _ (a .formed) (a .fit) _);
+  }
+    where
+      shown : (P : Sheet → Type 0) → P (a .sheet) → OfAccepted s P
+      shown P h t e = rw (same-sheet e (a .accepted)) h
+
+-- a refused sheet: its answer, and nothing is asked of it beyond
+pub refusal-demanded : (s : List ℕ) {size r : ℕ} {outcome : Outcome} {buffer : List ℕ} → accept s ≡ no r → outcomeAs outcome buffer ≡ refusedWith r size
+    → Demands s size outcome buffer
+unfolding answerOf
+refusal-demanded s e answer = record {
+  answer = rw e answer;
+  jsdoc = λ t f. never t f;
+  pragmas = λ t f. never t f;
+  types = λ t f. never t f;
+  texts = λ t f. never t f;
+}
+  where
+    never : {P : Type 0} (t : Sheet) → accept s ≡ ok t [] → P
+    never t f = absurd (refused (sym e ∙ f))

@@ -1,0 +1,33 @@
+use borrow.Author.Needs.{needs}
+use Rattle.pragmas.proofs.Reached.{head-reached}
+use Rattle.module_info.proofs.Written.{head-written}
+use Rattle.module_info.proofs.put_head.Statement.{statement}
+use Rattle.module_info.proofs.put_head.Tie as tie
+
+analyze-ts-references-requires : tie.Need-analyze-ts-references-requires
+analyze-ts-references-requires c κs = (c .before .before .before .before .before .before .before .pre .0, head-reached (c .before .before .before .before .before .before .before .pre .1 .grouped) _ _ (c .before .head-group .ensures))
+
+analyze-ts-self-types-requires : tie.Need-analyze-ts-self-types-requires
+analyze-ts-self-types-requires c κs = (c .before .before .before .before .before .before .before .before .before .before .before .pre .0, head-reached (c .before .before .before .before .before .before .before .before .before .before .before .pre .1 .grouped) _ _ (c .before .before .before .before .before .head-group .ensures))
+
+analyze-jsx-import-source-requires : tie.Need-analyze-jsx-import-source-requires
+analyze-jsx-import-source-requires c κs = (c .before .before .before .before .before .before .before .before .before .before .before .before .before .before .before .pre .0, head-reached (c .before .before .before .before .before .before .before .before .before .before .before .before .before .before .before .pre .1 .grouped) _ _ (c .before .before .before .before .before .before .before .before .before .head-group .ensures))
+
+analyze-jsx-import-source-types-requires : tie.Need-analyze-jsx-import-source-types-requires
+analyze-jsx-import-source-types-requires c κs = (c .before .before .before .before .before .before .before .before .before .before .before .before .before .before .before .before .before .before .before .pre .0, head-reached (c .before .before .before .before .before .before .before .before .before .before .before .before .before .before .before .before .before .before .before .pre .1 .grouped) _ _ (c .before .before .before .before .before .before .before .before .before .before .before .before .before .head-group .ensures))
+
+returns : tie.Need-returns
+returns c =
+    λ t o. head-written o _ (c .before .before .before .before .before .before .before .before .before .before .before .before .before .before .before .before .head-group .ensures) (c .before .before .before .before .before .before .before .before .before .before .before .before .before .before .analyze-ts-references .ensures) (c .before .before .before .before .before .before .before .before .before .before .analyze-ts-self-types .ensures) (c .before .before .before .before .before .before .analyze-jsx-import-source .ensures) (c .before .before .analyze-jsx-import-source-types .ensures)
+
+pub put-head-spec : {M : Type 1} → statement M
+put-head-spec =
+    tie.close
+    (tie.spec
+    (λ c κs. search needs)
+    analyze-ts-references-requires
+    analyze-ts-self-types-requires
+    analyze-jsx-import-source-requires
+    analyze-jsx-import-source-types-requires
+    (λ c. search needs)
+    returns)

@@ -1,0 +1,49 @@
+use borrow.Author.Needs.{needs}
+use mathlib.Core.Path.{_∙_}
+use native.Mathlib.Omega.{arith}
+use Rattle.report.specs.Encode.{encode}
+use Rattle.report.proofs.Answers.{answered-fitted}
+use Rattle.module_info.specs.Information.{moduleInfo}
+use Rattle.module_info.proofs.Accepted.{source-short, lent, parts-of, root-of}
+use Rattle.module_info.proofs.Written.{report-written}
+use Rattle.module_info.proofs.write_report.Statement.{statement}
+use Rattle.module_info.proofs.write_report.Tie as tie
+
+build-index-requires : tie.Need-build-index-requires
+build-index-requires c κs = let short = source-short (c .before .before .before .before .pre) in (omega arith, omega arith)
+
+put-dependencies-requires : tie.Need-put-dependencies-requires
+put-dependencies-requires c κs = lent (c .before .before .before .before .before .before .before .before .before .before .pre) (search needs) (search needs) (search needs) (c .before .before .before .before .before .build-index .ensures)
+
+put-head-requires : tie.Need-put-head-requires
+put-head-requires c κs = lent (c .before .before .before .before .before .before .before .before .before .before .before .before .before .before .before .before .before .pre) (search needs) (search needs) (search needs) (c .before .before .before .before .before .before .before .before .before .before .before .before .build-index .ensures)
+
+put-rest-requires : tie.Need-put-rest-requires
+put-rest-requires c κs = (search needs, lent (c .before .before .before .before .before .before .before .before .before .before .before .before .before .before .before .before .before .before .before .before .before .before .before .before .before .pre) (search needs) (search needs) (search needs) (c .before .before .before .before .before .before .before .before .before .before .before .before .before .before .before .before .before .before .before .before .build-index .ensures))
+
+returns : tie.Need-returns
+returns c =
+    λ t e.
+    let a = c .before .before .before .before .before .before .before .before .before .before .before .before .before .before .before .before .before .before .before .before .before .before .before .before .before .before .before .before .before .before .before .before .before .pre in
+    c .before .before .finish .ensures
+    ∙ answered-fitted (encode (moduleInfo t)) (search needs) (report-written t _ (c .before .before .before .before .before .before .before .before .before .before .before .before .before .before .before .before .before .before .before .before .before .before .put-dependencies .ensures t (parts-of a e) (root-of a e)) (c .before .before .before .before .before .before .before .before .before .before .before .before .before .before .before .put-head .ensures t (parts-of a e)) (c .before .before .before .before .before .before .before .put-rest .ensures t (parts-of a e)))
+
+pub write-report-spec : {M : Type 1} → statement M
+write-report-spec =
+    tie.close
+    (tie.spec
+    (λ c. search needs)
+    (λ c. search needs)
+    (λ c. search needs)
+    (λ c. search needs)
+    build-index-requires
+    (λ c. search needs)
+    put-dependencies-requires
+    (λ c. search needs)
+    put-head-requires
+    (λ c. search needs)
+    (λ c. search needs)
+    put-rest-requires
+    (λ c κs. search needs)
+    (λ c. search needs)
+    returns)

@@ -1,0 +1,34 @@
+-- The user's three demands of one call of the report function (docs/DEMANDS.md).
+use mathlib.Core.Path.{_≡_}
+use mathlib.Core.List.{List, []}
+use Prim.Native.Nat.{ℕ}
+use Rattle.laws.specs.Decoded.{ok}
+use Rattle.sheet.specs.Sheet.{Sheet, accept}
+use Rattle.report.specs.declared.writer.Outcome.{Outcome}
+use Rattle.report.specs.Answer.{outcomeAs}
+use Rattle.pragmas.specs.Pragmas.{headComments, endComments, typesAt}
+use Rattle.pragmas.specs.Present.{Present, TypesPresent}
+use Rattle.pragmas.specs.Texts.{Texts, Shown}
+use Rattle.listing.specs.Demand.{JsDocRight}
+use Rattle.module_info.specs.Information.{moduleInfo, answerOf}
+
+-- what holds of the sheet that the bytes s are, if they are accepted
+abbrev pub OfAccepted : List ℕ → (Sheet → Type 0) → Type 0
+OfAccepted s P = (t : Sheet) → accept s ≡ ok t [] → P t
+
+-- the bytes s of a sheet, the size of the lent buffer, the outcome, and what the buffer holds then
+pub record Demands (s : List ℕ) (size : ℕ) (outcome : Outcome) (buffer : List ℕ) : Type 0 where
+  -- 1: a sheet that meets none of refusals 1 to 9 yields its complete report if the buffer can hold it; every other call gets the first refusal that
+  -- 01's order names, and a buffer of zeros. Nothing is asked of the caller, and old contents do not matter.
+  -- 2: the report has the values of 01's rules, `moduleInfo`
+  pub answer : outcomeAs outcome buffer ≡ answerOf s size
+  -- 3: a JSDoc import is listed exactly when the sheet is JavaScript and some star-opened block comment has a reading of it: each once, strictly
+  -- ascending by the start of its place, with the one mode that all its readings give; the source there, less the two marks, is its text
+  pub jsdoc : OfAccepted s (λ t. JsDocRight (t .media) (t .source) (t .comments) (moduleInfo t .jsdocImports))
+  -- every reference and pragma appears exactly when its rule has a reading in the comments that 01 gives to it, at that reading's place, references in
+  -- the order of their comments
+  pub pragmas : OfAccepted s (λ t. Present (t .media) (t .source) (headComments t) (endComments t))
+  -- and so do the types of an entry, by the start of its node
+  pub types : OfAccepted s (λ t. (start : ℕ) → TypesPresent (t .source) (t .comments) (t .groups) start)
+  -- the source between the two positions of each, less the two marks where a quoted text is read, is its text
+  pub texts : OfAccepted s (λ t. Texts (t .media) (t .source) (headComments t) (endComments t) × ((start : ℕ) → Shown (t .source) (typesAt t start)))

@@ -1,0 +1,188 @@
+// The module information of a sheet, as a report in a lent buffer.
+use accept::check::Checked;
+use accept::check::Parts;
+use accept::check::check_sheet;
+use dep::entries::Counts;
+use dep::walk::analyze_program_dependencies;
+use listing::imports::put_jsdoc_imports;
+use pragmas::analyze_jsx_import_source;
+use pragmas::analyze_jsx_import_source_types;
+use pragmas::analyze_source_map_url;
+use pragmas::analyze_ts_self_types;
+use pragmas::references::analyze_ts_references;
+use report::writer::Outcome;
+use report::writer::Place;
+use report::writer::finish;
+use report::writer::refuse_all;
+use sheet::lookups::end_group;
+use sheet::lookups::head_group;
+use text::position::build_index;
+use wire::Cursor;
+ghost use mathlib.Core.Path.{_≡_};
+ghost use mathlib.Core.List.{List, []};
+ghost use Prim.Native.Nat.{ℕ, _≤_};
+ghost use lib.ListN.{length};
+ghost use Rattle.laws.specs.Decoded.{ok};
+ghost use Rattle.sheet.specs.Sheet.{Sheet, accept};
+ghost use Rattle.accept.specs.Accepts.{Accepts};
+ghost use Rattle.report.specs.World.{holds, wrote, worldAs};
+ghost use Rattle.report.specs.Encode.{encode};
+ghost use Rattle.report.specs.Answer.{outcomeAs, fitted};
+ghost use Rattle.module_info.specs.Information.{moduleInfo, answerOf, packed, Packs};
+ghost use Rattle.module_info.specs.Pieces.{dependencyBytes, headBytes, restBytes, Lent, PartsOf, RootOf};
+ghost use Rattle.module_info.specs.Demands.{Demands};
+
+// The script flag and the dependencies.
+fn put_dependencies(
+    sheet: &[u8],
+    source: &[u8],
+    parts: Parts,
+    comments: &[u32],
+    groups: &[u32],
+    index: &[u32],
+    out: &mut [u8],
+) -> Place
+    requires { ⌜ Lent (now source) (now comments) (now groups) (now index) parts ⌝ }
+    ensures { λ r. ⌜ ((t : Sheet) → PartsOf t (now (source .entry)) (now (comments .entry)) (now (groups .entry)) parts → RootOf t (now (sheet .entry)) parts
+        → worldAs (now (out .exit)) r ≡ wrote (holds (length (now (out .entry))) []) (dependencyBytes t)) ⌝ }
+{
+    let k = Counts {
+        comments: parts.comments,
+        groups: parts.groups,
+    };
+    let root = Cursor { at: parts.root };
+    let program = parts.program;
+    let p = Place { at: 0, full: false };
+    let p = p.put_flag(out, program.script);
+    analyze_program_dependencies(
+        sheet,
+        source,
+        root,
+        parts.entries,
+        comments,
+        groups,
+        k,
+        index,
+        out,
+        p,
+    )
+}
+
+// What the head group gives: references, self types and both JSX sources.
+fn put_head(
+    source: &[u8],
+    parts: Parts,
+    comments: &[u32],
+    groups: &[u32],
+    index: &[u32],
+    out: &mut [u8],
+    place: Place,
+) -> Place
+    requires { ⌜ Lent (now source) (now comments) (now groups) (now index) parts ⌝ }
+    ensures { λ r. ⌜ ((t : Sheet) → PartsOf t (now (source .entry)) (now (comments .entry)) (now (groups .entry)) parts
+        → worldAs (now (out .exit)) r ≡ wrote (worldAs (now (out .entry)) place) (headBytes t)) ⌝ }
+{
+    let n = parts.comments;
+    let media = parts.media;
+    let head = head_group(groups, parts.groups, parts.program);
+    let p = analyze_ts_references(source, comments, n, index, head, out, place);
+    let p = analyze_ts_self_types(media, source, comments, n, index, head, out, p);
+    let p = analyze_jsx_import_source(media, source, comments, n, index, head, out, p);
+    analyze_jsx_import_source_types(media, source, comments, n, index, head, out, p)
+}
+
+// The JSDoc imports and the source map; `marks` is lent to work in.
+fn put_rest(
+    source: &[u8],
+    parts: Parts,
+    comments: &[u32],
+    groups: &[u32],
+    index: &[u32],
+    marks: &mut [u8],
+    out: &mut [u8],
+    place: Place,
+) -> Place
+    requires { ⌜ 32768 ≤ length (now marks) ⌝ }
+    requires { ⌜ Lent (now source) (now comments) (now groups) (now index) parts ⌝ }
+    ensures { λ r. ⌜ ((t : Sheet) → PartsOf t (now (source .entry)) (now (comments .entry)) (now (groups .entry)) parts
+        → worldAs (now (out .exit)) r ≡ wrote (worldAs (now (out .entry)) place) (restBytes t)) ⌝ }
+{
+    let n = parts.comments;
+    let long = source.len();
+    let p = put_jsdoc_imports(
+        source,
+        comments,
+        n,
+        index,
+        parts.media,
+        &mut marks[0..long],
+        out,
+        place,
+    );
+    let end = end_group(groups, parts.groups, parts.program);
+    analyze_source_map_url(source, comments, n, index, end, out, p)
+}
+
+// The report of an accepted sheet.
+fn write_report(
+    sheet: &[u8],
+    parts: Parts,
+    comments: &[u32; 3072],
+    groups: &[u32; 4096],
+    buffer: &mut [u8],
+) -> Outcome
+    requires { ⌜ Accepts (now sheet) (now comments) (now groups) parts ⌝ }
+    ensures { λ r. ⌜ ((t : Sheet) → accept (now (sheet .entry)) ≡ ok t []
+        → outcomeAs r (now (buffer .exit)) ≡ fitted (length (now (buffer .entry))) (encode (moduleInfo t))) ⌝ }
+{
+    let start = parts.source_start;
+    let end = parts.source_end;
+    let source = &sheet[start..end];
+    let mut index = [0u32; 1026];
+    let mut marks = [0u8; 32768];
+    build_index(source, &mut index);
+    let p = put_dependencies(sheet, source, parts, comments, groups, &index, buffer);
+    let p = put_head(source, parts, comments, groups, &index, buffer, p);
+    let p = put_rest(
+        source,
+        parts,
+        comments,
+        groups,
+        &index,
+        &mut marks,
+        buffer,
+        p,
+    );
+    finish(buffer, p)
+}
+
+// The report of a sheet, or the first refusal that it meets.
+pub fn module_info(sheet: &[u8], buffer: &mut [u8]) -> Outcome
+    ensures { λ r. ⌜ Demands (now (sheet .entry)) (length (now (buffer .entry))) r (now (buffer .exit)) ⌝ }
+{
+    let mut comments = [0u32; 3072];
+    let mut groups = [0u32; 4096];
+    let mut longest = [0u32; 1024];
+    match check_sheet(sheet, &mut comments, &mut groups, &mut longest) {
+        Checked::Refused(r) => refuse_all(buffer, r),
+        Checked::Accepted(parts) => write_report(sheet, parts, &comments, &groups, buffer),
+    }
+}
+
+// Number and length in one.
+fn pack(outcome: Outcome) -> u64
+    ensures { λ r. ⌜ ((buffer : List ℕ) → r ≡ packed (outcomeAs outcome buffer)) ⌝ }
+{
+    match outcome {
+        Outcome::Accepted(n) => 256 * ((n as u64) % 72057594037927936),
+        Outcome::Refused(r) => r as u64,
+    }
+}
+
+// The report function for C: number + 256 × length, and the buffer filled.
+#[no_mangle]
+pub extern "C" fn module_info_answer(sheet: &[u8], buffer: &mut [u8]) -> u64
+    ensures { λ r. ⌜ Packs (answerOf (now (sheet .entry)) (length (now (buffer .entry)))) r (now (buffer .exit)) ⌝ }
+{
+    pack(module_info(sheet, buffer))
+}

@@ -1,0 +1,313 @@
+-- The references and the pragmas are exactly the readings of their rules.
+use mathlib.Core.Path.{_≡_, refl, sym, ap, _∙_}
+use mathlib.Core.Bool.{Bool, true, false, cond, _&&_, and-eq-true-iff, false≢true}
+use mathlib.Core.Logic.{_⊎_, inl, inr, ⊎-elim, _↔_}
+use mathlib.Core.List.{List, [], _∷_, _++_, List·Memᴰ·head, List·Memᴰ·tail, List·Memᴰ·not-nil, List·Memᴰ·cases-cons}
+use mathlib.Core.Option.{Option, Option·some-injective}
+use Prim.Native.Nat.{ℕ}
+use native.Mathlib.Omega.{arith}
+use borrow.Author.Tests.{eqb-true, eq-eqb}
+use Rattle.analysis.specs.declared.Capture.{Capture}
+use Rattle.analysis.specs.declared.Found.{Found}
+use Rattle.analysis.specs.declared.Found.the-variants.{At, Nothing}
+use Rattle.analysis.specs.Row.{Row, find, isFound}
+use Rattle.analysis.specs.Patterns.{tripleSlashRow, pathRow, typesRow, resolutionModeRow, jsxImportSourceRow, jsxImportSourceTypesRow, sourceMappingUrlRow, tsSelfTypesRow, tsTypesRow, denoTypesRow}
+use Rattle.analysis.proofs.Meaning.{found-reads, reading-found}
+use Rattle.analysis.proofs.Preference.{found-preferred, preferred-found}
+use Rattle.sheet.specs.declared.comments.Comment.{Comment}
+use Rattle.sheet.specs.declared.groups.Group.{Group}
+use Rattle.sheet.specs.Lookups.{leading, groupAt, body}
+use Rattle.report.specs.ModuleInfo.{SpecifierWithRange, Mode, path, types}
+use Rattle.pragmas.specs.Readings.{specifierIn, onFound, readBy, orElse, firstOf, lastOf, listed, allOf}
+use Rattle.pragmas.specs.Pragmas.{isJavaScript, isJsx, givenIf, isLine, isBlock, modeIn, modeBy, referenceBy, reference, referencesIn, selfTypesIn, jsxImportSourceIn, jsxImportSourceTypesIn, sourceMapUrlIn, tsOrDenoTypes, typesBy, lastIn, typesIn}
+use Rattle.pragmas.specs.Present.{Matched, Read, Reader, byPattern, only, orElseBy, ModeRead, referenceRule, tsOrDenoTypesRule, NoReading, FirstReading, LastReading, InOrder, Exactly, ExactlyFirst, ExactlyLast, Present, TypesPresent}
+
+-- a value is one, or there is none
+never : {A : Type 0} {a : A} → _≡_ {A = Option A} Option.none (Option.some a) → ⊥
+never e = let z : _≡_ {A = ℕ} 0 1 = cc in omega arith
+
+-- what a function answers of a comment is what a rule gives
+record Agrees {A : Type 0} (f : Comment → Option A) (r : Reader A) : Type 0 where
+  gives : (c : Comment) (a : A) → (f c ≡ Option.some a) ↔ r .Gives c a
+  unread : (c : Comment) → (f c ≡ Option.none) ↔ (r .Reads c → ⊥)
+
+-- ---- a pattern
+
+module _ (row : Row) (source : List ℕ) (c : Comment) where
+  -- a pattern that is found reads, and one that is not reads nothing
+  found-matched : {k : Capture} → find row (body source c) ≡ At k → Matched row source c
+  found-matched {k} e = (k, found-reads row (body source c) e)
+
+  unmatched : find row (body source c) ≡ Nothing → Matched row source c → ⊥
+  unmatched e (k, m) = reading-found row (body source c) m e
+
+  unread-none : (Matched row source c → ⊥) → find row (body source c) ≡ Nothing
+  unread-none h = go (find row (body source c)) refl
+    where
+      go : (f : Found) → find row (body source c) ≡ f → f ≡ Nothing
+      go (At k) e = absurd (h (found-matched e))
+      go Nothing e = refl
+
+  found-read : {k : Capture} → find row (body source c) ≡ At k → Read row source c (specifierIn source c k)
+  unfolding specifierIn
+  found-read {k} e = record { capture = k; preferred = found-preferred row (body source c) e; text = refl; range = refl }
+
+  -- a reading is the one that is found
+  read-found : {x : SpecifierWithRange} → Read row source c x → (k : Capture) × (find row (body source c) ≡ At k) × (specifierIn source c k ≡ x)
+  unfolding specifierIn
+  read-found {x} r = (r .capture, preferred-found row (body source c) (r .preferred), sym (rw (← r .text, ← r .range)))
+
+-- what is made of a pattern's reading
+module _ (row : Row) (source : List ℕ) {A : Type 0} (make : Comment → SpecifierWithRange → A) {Gives : Comment → A → Type 0} where
+  made : ((c : Comment) (x : SpecifierWithRange) → Read row source c x → Gives c (make c x))
+      → ((c : Comment) (a : A) → Gives c a → (x : SpecifierWithRange) × Read row source c x × (a ≡ make c x))
+      → Agrees (λ c. onFound (λ k. make c (specifierIn source c k)) (find row (body source c))) (record { Reads = Matched row source; Gives = Gives })
+  made gives reading = record {
+    gives = λ c a. (some c a (find row (body source c)) refl, λ g. let (x, r, i) = reading c a g in back c a x r i);
+    unread = λ c. (none c (find row (body source c)) refl, λ n. rw (unread-none row source c n));
+  }
+    where
+      some : (c : Comment) (a : A) (f : Found) → find row (body source c) ≡ f → onFound (λ k. make c (specifierIn source c k)) f ≡ Option.some a → Gives c a
+      some c a (At k) e i = let same : make c (specifierIn source c k) ≡ a = cc in rw (← same) (gives c (specifierIn source c k) (found-read row source c e))
+      some c a Nothing e i = absurd (never i)
+
+      back : (c : Comment) (a : A) (x : SpecifierWithRange) → Read row source c x → a ≡ make c x
+          → onFound (λ k. make c (specifierIn source c k)) (find row (body source c)) ≡ Option.some a
+      back c a x r i = let (k, e, j) = read-found row source c r in rw (e, i) (ap (λ y. Option.some (make c y)) j)
+
+      none : (c : Comment) (f : Found) → find row (body source c) ≡ f → onFound (λ k. make c (specifierIn source c k)) f ≡ Option.none → Matched row source c → ⊥
+      none c (At k) e i = absurd (never (sym i))
+      none c Nothing e i = unmatched row source c e
+
+pattern : (row : Row) (source : List ℕ) → Agrees (readBy row source) (byPattern row source)
+unfolding readBy
+pattern row source = made row source (λ c x. x) (λ c x r. r) (λ c a r. (a, r, refl))
+
+-- ---- rules from rules
+
+module _ {A : Type 0} where
+  same : {f g : Comment → Option A} {r : Reader A} → ((c : Comment) → f c ≡ g c) → Agrees f r → Agrees g r
+  same e h = record { gives = λ c a. rw (e c) at (h .gives c a); unread = λ c. rw (e c) at (h .unread c) }
+
+  -- for the comments of a test only
+  onlyIf : (b : Comment → Bool) {P : Comment → Type 0} {f : Comment → Option A} {r : Reader A} → ((c : Comment) → (b c ≡ true) ↔ P c) → Agrees f r
+      → Agrees (λ c. cond (b c) (f c) Option.none) (only P r)
+  onlyIf b {P} {f} {r} t h = record {
+    gives = λ c a. (some c a (b c) refl, λ (p, g). rw (t c .1 p) (h .gives c a .1 g));
+    unread = λ c. (none c (b c) refl, λ n. unread c n (b c) refl);
+  }
+    where
+      some : (c : Comment) (a : A) (x : Bool) → b c ≡ x → cond x (f c) Option.none ≡ Option.some a → P c × r .Gives c a
+      some c a true e i = (t c .0 e, h .gives c a .0 i)
+      some c a false e i = absurd (never i)
+
+      none : (c : Comment) (x : Bool) → b c ≡ x → cond x (f c) Option.none ≡ Option.none → P c × r .Reads c → ⊥
+      none c true e i (p, q) = h .unread c .0 i q
+      none c false e i (p, q) = false≢true (sym e ∙ t c .1 p)
+
+      unread : (c : Comment) → (P c × r .Reads c → ⊥) → (x : Bool) → b c ≡ x → cond x (f c) Option.none ≡ Option.none
+      unread c n true e = h .unread c .1 (λ q. n (t c .0 e, q))
+      unread c n false e = refl
+
+  -- one or else the other
+  either : {f g : Comment → Option A} {r s : Reader A} → Agrees f r → Agrees g s → Agrees (λ c. orElse (f c) (g c)) (orElseBy r s)
+  either {f} {g} {r} {s} h i = record {
+    gives = λ c a. (some c a (f c) refl, back c a);
+    unread = λ c. (none c (f c) refl, λ n. rw (h .unread c .1 (λ q. n (inl q))) (i .unread c .1 (λ q. n (inr q))));
+  }
+    where
+      some : (c : Comment) (a : A) (x : Option A) → f c ≡ x → orElse x (g c) ≡ Option.some a → orElseBy r s .Gives c a
+      some c a Option.none e j = inr (h .unread c .0 e, i .gives c a .0 j)
+      some c a (Option.some b) e j = inl (h .gives c a .0 (e ∙ j))
+
+      back : (c : Comment) (a : A) → orElseBy r s .Gives c a → orElse (f c) (g c) ≡ Option.some a
+      back c a (inl x) = rw (h .gives c a .1 x)
+      back c a (inr (n, x)) = rw (h .unread c .1 n) (i .gives c a .1 x)
+
+      none : (c : Comment) (x : Option A) → f c ≡ x → orElse x (g c) ≡ Option.none → r .Reads c ⊎ s .Reads c → ⊥
+      none c Option.none e j (inl q) = h .unread c .0 e q
+      none c Option.none e j (inr q) = i .unread c .0 j q
+      none c (Option.some b) e j q = never (sym j)
+
+-- ---- references
+
+module _ (source : List ℕ) where
+  mode-read : (c : Comment) → ModeRead source c (modeIn source c)
+  unfolding modeIn
+  mode-read c = go (find resolutionModeRow (body source c)) refl
+    where
+      go : (f : Found) → find resolutionModeRow (body source c) ≡ f → ModeRead source c (modeBy (body source c) f)
+      go (At k) e = ModeRead.named (found-preferred resolutionModeRow (body source c) e)
+      go Nothing e = ModeRead.none (unmatched resolutionModeRow source c e)
+
+  read-mode : (c : Comment) {m : Mode} → ModeRead source c m → modeIn source c ≡ m
+  unfolding modeIn
+  read-mode c (ModeRead.named p) = rw (preferred-found resolutionModeRow (body source c) p)
+  read-mode c (ModeRead.none n) = rw (unread-none resolutionModeRow source c n)
+
+  -- a line comment that the triple-slash pattern reads
+  is-found : (c : Comment) → (isFound (find tripleSlashRow (body source c)) ≡ true) ↔ Matched tripleSlashRow source c
+  is-found c = (some (find tripleSlashRow (body source c)) refl, λ m. back m (find tripleSlashRow (body source c)) refl)
+    where
+      some : (f : Found) → find tripleSlashRow (body source c) ≡ f → isFound f ≡ true → Matched tripleSlashRow source c
+      some (At k) e i = found-matched tripleSlashRow source c e
+      some Nothing e i = absurd (false≢true i)
+
+      back : Matched tripleSlashRow source c → (f : Found) → find tripleSlashRow (body source c) ≡ f → isFound f ≡ true
+      back m (At k) e = refl
+      back m Nothing e = absurd (unmatched tripleSlashRow source c e m)
+
+  is-reference : (c : Comment) → (isLine c && isFound (find tripleSlashRow (body source c)) ≡ true) ↔ ((c .kind ≡ 0) × Matched tripleSlashRow source c)
+  is-reference c = (
+    λ t. let (l, m) = and-eq-true-iff (isLine c) (isFound (find tripleSlashRow (body source c))) .0 t in (eqb-true (c .kind) 0 l, is-found c .0 m),
+    λ (l, m). rw (eq-eqb (c .kind) 0 l) (is-found c .1 m),
+  )
+
+  by-either : (c : Comment) (f t : Found)
+      → orElse (onFound (λ k. path (specifierIn source c k)) f) (onFound (λ k. types (specifierIn source c k) (modeIn source c)) t) ≡ referenceBy source c f t
+  by-either c (At k) t = refl
+  by-either c Nothing (At k) = refl
+  by-either c Nothing Nothing = refl
+
+  referring : Agrees (reference source) (referenceRule source)
+  unfolding reference
+  referring =
+      onlyIf (λ c. isLine c && isFound (find tripleSlashRow (body source c))) is-reference
+      (same (λ c. by-either c (find pathRow (body source c)) (find typesRow (body source c)))
+      (either
+      (made pathRow source (λ c x. path x) (λ c x r. (x, r, refl)) (λ c a g. g))
+      (made typesRow source (λ c x. types x (modeIn source c)) (λ c x r. (x, modeIn source c, r, mode-read c, refl)) (λ c a (x, m, r, n, e). (x, r, e ∙ ap (types x) (sym (read-mode c n)))))))
+
+-- ---- comments one after the other
+
+module _ {A : Type 0} {f : Comment → Option A} {r : Reader A} (h : Agrees f r) where
+  unread-here : {c : Comment} {cs : List Comment} → (r .Reads c → ⊥) → NoReading r cs → NoReading r (c ∷ cs)
+  unread-here n ns d m q = ⊎-elim (λ e. n (rw e at q)) (λ i. ns d i q) (List·Memᴰ·cases-cons m)
+
+  first-some : (cs : List Comment) (a : A) → firstOf f cs ≡ Option.some a → FirstReading r cs a
+  unfolding firstOf
+  first-some [] a e = absurd (never e)
+  first-some (c ∷ cs) a e = go (f c) refl e (first-some cs a)
+    where
+      go : (x : Option A) → f c ≡ x → orElse x (firstOf f cs) ≡ Option.some a → (firstOf f cs ≡ Option.some a → FirstReading r cs a) → FirstReading r (c ∷ cs) a
+      go Option.none i e more =
+          let t = more e in
+          record { before = c ∷ t .before; comment = t .comment; behind = t .behind; among = ap (c ∷_) (t .among); unread = unread-here (h .unread c .0 i) (t .unread); gives = t .gives }
+      go (Option.some b) i e more =
+          record { before = []; comment = c; behind = cs; among = refl; unread = λ d m q. List·Memᴰ·not-nil m; gives = h .gives c a .0 (i ∙ e) }
+
+  -- of comments that have no reading there is no answer
+  first-none : (cs : List Comment) → NoReading r cs → firstOf f cs ≡ Option.none
+  unfolding firstOf
+  first-none [] n = refl
+  first-none (c ∷ cs) n = rw (h .unread c .1 (n c (List·Memᴰ·head refl))) (first-none cs (λ d m. n d (List·Memᴰ·tail m)))
+
+  first-unread : (cs : List Comment) → firstOf f cs ≡ Option.none → NoReading r cs
+  unfolding firstOf
+  first-unread [] e = λ d m q. List·Memᴰ·not-nil m
+  first-unread (c ∷ cs) e = go (f c) refl e (first-unread cs)
+    where
+      go : (x : Option A) → f c ≡ x → orElse x (firstOf f cs) ≡ Option.none → (firstOf f cs ≡ Option.none → NoReading r cs) → NoReading r (c ∷ cs)
+      go Option.none i e more = unread-here (h .unread c .0 i) (more e)
+      go (Option.some b) i e more = absurd (never (sym e))
+
+  first-is : (before : List Comment) (c : Comment) (behind : List Comment) {a : A} → NoReading r before → r .Gives c a → firstOf f (before ++ c ∷ behind) ≡ Option.some a
+  unfolding firstOf
+  first-is [] c behind {a} n g = rw (h .gives c a .1 g)
+  first-is (d ∷ before) c behind n g =
+      rw (h .unread d .1 (n d (List·Memᴰ·head refl))) (first-is before c behind (λ e m. n e (List·Memᴰ·tail m)) g)
+
+  firstly : (cs : List Comment) → ExactlyFirst r cs (firstOf f cs)
+  firstly cs = record {
+    some = λ a. (first-some cs a, λ t. rw (t .among) (first-is (t .before) (t .comment) (t .behind) (t .unread) (t .gives)));
+    none = (first-unread cs, first-none cs);
+  }
+
+  last-none : (cs : List Comment) → NoReading r cs → lastOf f cs ≡ Option.none
+  unfolding lastOf
+  last-none [] n = refl
+  last-none (c ∷ cs) n = rw (last-none cs (λ d m. n d (List·Memᴰ·tail m))) (h .unread c .1 (n c (List·Memᴰ·head refl)))
+
+  last-unread : (cs : List Comment) → lastOf f cs ≡ Option.none → NoReading r cs
+  unfolding lastOf
+  last-unread [] e = λ d m q. List·Memᴰ·not-nil m
+  last-unread (c ∷ cs) e = go (lastOf f cs) refl e (last-unread cs)
+    where
+      go : (x : Option A) → lastOf f cs ≡ x → orElse x (f c) ≡ Option.none → (lastOf f cs ≡ Option.none → NoReading r cs) → NoReading r (c ∷ cs)
+      go Option.none i e more = unread-here (h .unread c .0 e) (more i)
+      go (Option.some b) i e more = absurd (never (sym e))
+
+  last-some : (cs : List Comment) (a : A) → lastOf f cs ≡ Option.some a → LastReading r cs a
+  unfolding lastOf
+  last-some [] a e = absurd (never e)
+  last-some (c ∷ cs) a e = go (lastOf f cs) refl e (last-some cs a)
+    where
+      go : (x : Option A) → lastOf f cs ≡ x → orElse x (f c) ≡ Option.some a → (lastOf f cs ≡ Option.some a → LastReading r cs a) → LastReading r (c ∷ cs) a
+      go Option.none i e more =
+          record { before = []; comment = c; behind = cs; among = refl; unread = last-unread cs i; gives = h .gives c a .0 e }
+      go (Option.some b) i e more =
+          let t = more (i ∙ e) in
+          record { before = c ∷ t .before; comment = t .comment; behind = t .behind; among = ap (c ∷_) (t .among); unread = t .unread; gives = t .gives }
+
+  last-is : (before : List Comment) (c : Comment) (behind : List Comment) {a : A} → NoReading r behind → r .Gives c a → lastOf f (before ++ c ∷ behind) ≡ Option.some a
+  unfolding lastOf
+  last-is [] c behind {a} n g = rw (last-none behind n) (h .gives c a .1 g)
+  last-is (d ∷ before) c behind n g = rw (last-is before c behind n g)
+
+  lastly : (cs : List Comment) → ExactlyLast r cs (lastOf f cs)
+  lastly cs = record {
+    some = λ a. (last-some cs a, λ t. rw (t .among) (last-is (t .before) (t .comment) (t .behind) (t .unread) (t .gives)));
+    none = (last-unread cs, last-none cs);
+  }
+
+  in-order : (cs : List Comment) → InOrder r cs (allOf f cs)
+  unfolding allOf
+  in-order [] = InOrder.none
+  in-order (c ∷ cs) = go (f c) refl (in-order cs)
+    where
+      go : (x : Option A) → f c ≡ x → InOrder r cs (allOf f cs) → InOrder r (c ∷ cs) (listed x (allOf f cs))
+      go Option.none i more = InOrder.passes (h .unread c .0 i) more
+      go (Option.some a) i more = InOrder.reads (h .gives c a .0 i) more
+
+  all-order : {cs : List Comment} {l : List A} → InOrder r cs l → allOf f cs ≡ l
+  unfolding allOf
+  all-order InOrder.none = refl
+  all-order (InOrder.reads {c = c} {a = a} g o) = rw (h .gives c a .1 g) (ap (a ∷_) (all-order o))
+  all-order (InOrder.passes {c = c} n o) = rw (h .unread c .1 n) (all-order o)
+
+  all-in-order : (cs : List Comment) (l : List A) → (allOf f cs ≡ l) ↔ InOrder r cs l
+  all-in-order cs l = (λ e. rw e at (in-order cs), all-order)
+
+-- ---- the rules of document 01
+
+is-block : (c : Comment) → (isBlock c ≡ true) ↔ (c .kind ≡ 1)
+is-block c = (eqb-true (c .kind) 1, eq-eqb (c .kind) 1)
+
+pub present : (media : ℕ) (source : List ℕ) (head end : List Comment) → Present media source head end
+unfolding referencesIn selfTypesIn jsxImportSourceIn jsxImportSourceTypesIn sourceMapUrlIn
+present media source head end = record {
+  references = all-in-order (referring source) head;
+  self-types = firstly (pattern tsSelfTypesRow source) (givenIf (isJavaScript media) head);
+  jsx-import-source = firstly (onlyIf isBlock is-block (pattern jsxImportSourceRow source)) (givenIf (isJsx media) head);
+  jsx-import-source-types = firstly (onlyIf isBlock is-block (pattern jsxImportSourceTypesRow source)) (givenIf (isJsx media) head);
+  source-map-url = lastly (pattern sourceMappingUrlRow source) end;
+}
+
+pub types-present : (source : List ℕ) (cs : List Comment) (gs : List Group) (start : ℕ) → TypesPresent source cs gs start
+unfolding typesIn tsOrDenoTypes
+types-present source cs gs start = by-last (lastIn cs (groupAt gs leading start))
+  where
+    rule : Agrees (λ c. orElse (readBy tsTypesRow source c) (readBy denoTypesRow source c)) (tsOrDenoTypesRule source)
+    rule = either (pattern tsTypesRow source) (pattern denoTypesRow source)
+
+    by-last : (o : Option Comment)
+        → Exactly (λ x. (c : Comment) × (o ≡ Option.some c) × tsOrDenoTypesRule source .Gives c x)
+        ((c : Comment) → o ≡ Option.some c → tsOrDenoTypesRule source .Reads c → ⊥) (typesBy source o)
+    by-last Option.none = record {
+      some = λ x. (λ e. absurd (never e), λ (c, e, g). absurd (never e));
+      none = (λ e c i q. never i, λ n. refl);
+    }
+    by-last (Option.some c) = record {
+      some = λ x. (λ e. (c, refl, rule .gives c x .0 e), λ (d, e, g). rw (Option·some-injective c d e) (rule .gives d x .1 g));
+      none = (λ e d i q. rule .unread d .0 (rw (Option·some-injective c d i) at e) q, λ n. rule .unread c .1 (n c refl));
+    }

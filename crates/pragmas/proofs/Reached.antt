@@ -1,0 +1,20 @@
+-- A group that is looked up among groups of n comments is of n comments.
+use mathlib.Core.Path.{_≡_, sym}
+use mathlib.Core.List.{List}
+use mathlib.Core.Option.{Option}
+use Prim.Native.Nat.{ℕ}
+use Rattle.sheet.specs.declared.groups.Group.{Group}
+use Rattle.sheet.specs.Program.{Program}
+use Rattle.sheet.specs.Fit.{Grouped}
+use Rattle.sheet.specs.Lookups.{trailing, headGroup, endGroup}
+use Rattle.sheet.proofs.Members.{found-reaching, head-reaching}
+use Rattle.pragmas.specs.Held.{Reached}
+
+module _ {n : ℕ} {gs : List Group} (h : Grouped n gs) (p : Program) where
+  pub head-reached : (o : Option Group) → o ≡ headGroup p gs → Reached n o
+  head-reached Option.none e = tt
+  head-reached (Option.some g) e = head-reaching h p (sym e)
+
+  pub end-reached : (o : Option Group) → o ≡ endGroup p gs → Reached n o
+  end-reached Option.none e = tt
+  end-reached (Option.some g) e = found-reaching h trailing (p .span .end) (sym e)

@@ -6,7 +6,7 @@ pub mod sheet;
 use std::panic;
 
 use deno_ast::swc::ast::{Module, Script};
-use deno_ast::{ProgramRef, SourceTextInfo};
+use deno_ast::{MediaType, MultiThreadedComments, ProgramRef, SourceTextInfo};
 use deno_graph::analysis::ModuleInfo;
 use deno_graph::ast::ParserModuleAnalyzer;
 
@@ -17,18 +17,41 @@ pub fn module_info(bytes: &[u8]) -> Result<ModuleInfo, u8> {
         // the crate's `unwrap` fails there, and only there
         let hook = panic::take_hook();
         panic::set_hook(Box::new(|_| {}));
-        let answered = panic::catch_unwind(panic::AssertUnwindSafe(|| analyze(sheet))).is_ok();
+        let answered = panic::catch_unwind(panic::AssertUnwindSafe(|| Parsed::new(sheet).module_info())).is_ok();
         panic::set_hook(hook);
         assert!(!answered, "the crate answers a sheet that meets refusal 9");
         return Err(9);
     }
-    Ok(analyze(sheet))
+    Ok(Parsed::new(sheet).module_info())
 }
 
-fn analyze(sheet: sheet::Sheet) -> ModuleInfo {
-    let text_info = SourceTextInfo::new(sheet.source);
-    let info = |program| ParserModuleAnalyzer::module_info_from_swc(sheet.media, program, &text_info, &sheet.comments);
-    if sheet.is_script { info(ProgramRef::Script(&Script(sheet.program))) } else { info(ProgramRef::Module(&Module(sheet.program))) }
+/// What the crate is given of a sheet.
+pub struct Parsed {
+    media: MediaType,
+    program: Program,
+    text_info: SourceTextInfo,
+    comments: MultiThreadedComments,
+}
+
+enum Program {
+    Module(Module),
+    Script(Script),
+}
+
+impl Parsed {
+    pub fn new(sheet: sheet::Sheet) -> Parsed {
+        let program = if sheet.is_script { Program::Script(Script(sheet.program)) } else { Program::Module(Module(sheet.program)) };
+        Parsed { media: sheet.media, program, text_info: SourceTextInfo::new(sheet.source), comments: sheet.comments }
+    }
+
+    /// The crate's own work, and nothing else.
+    pub fn module_info(&self) -> ModuleInfo {
+        let program = match &self.program {
+            Program::Module(n) => ProgramRef::Module(n),
+            Program::Script(n) => ProgramRef::Script(n),
+        };
+        ParserModuleAnalyzer::module_info_from_swc(self.media, program, &self.text_info, &self.comments)
+    }
 }
 
 /// The refusal's number and no bytes, or 0 and the report, however long it is.
@@ -43,6 +66,7 @@ pub fn answer(bytes: &[u8]) -> (u8, Vec<u8>) {
 ///
 /// # Safety
 /// `sheet` has `n` bytes to read, and `buffer` has `m` bytes to write.
+#[cfg(feature = "interface")]
 #[unsafe(no_mangle)]
 pub unsafe extern "C" fn module_info_answer(sheet: *const u8, n: usize, buffer: *mut u8, m: usize) -> u64 {
     let sheet = if n == 0 { &[] } else { unsafe { std::slice::from_raw_parts(sheet, n) } };

@@ -1,0 +1,274 @@
+//! The sheets that are timed. They are made here, as an exporter makes them from a parse, and are the same at each run.
+
+pub struct Class {
+    pub name: &'static str,
+    pub what: &'static str,
+    pub sheet: Vec<u8>,
+}
+
+/// All classes. The small decoder is a file of examples/.
+pub fn classes(small_decoder: Vec<u8>) -> Vec<Class> {
+    let class = |name, what, sheet| Class { name, what, sheet };
+    vec![
+        class("small", "small decoder (examples/wmbus-decoder.js)", small_decoder),
+        class("typical", "typical module", typical()),
+        class("comments", "comment-heavy module", comment_heavy()),
+        class("full", "sheet of 65,536 bytes", full()),
+        class("braces", "worst comment: only `{`", one_comment("{")),
+        class("imports", "worst comment: `{import('a') ` over and over", one_comment("{import('a') ")),
+        class("declarations", "worst comment: `@import {` over and over", one_comment("@import {")),
+    ]
+}
+
+// ---- a sheet in the making ----
+
+const MAX_SHEET: usize = 65_536;
+const MAX_SOURCE: usize = 32_768;
+
+/// JavaScript modules only.
+#[derive(Default)]
+struct Maker {
+    source: String,
+    /// Kind byte, start, end.
+    comments: Vec<(u8, usize, usize)>,
+    /// Position, first comment, count.
+    leading: Vec<(usize, usize, usize)>,
+    grouped: usize,
+    first_item: Option<usize>,
+    children: Vec<Vec<u8>>,
+}
+
+impl Maker {
+    /// A comment, which leads the next code.
+    fn comment(&mut self, text: &str) {
+        let start = self.source.len();
+        self.source.push_str(text);
+        self.comments.push((u8::from(text.starts_with("/*")), start, start + text.len()));
+        self.source.push('\n');
+    }
+
+    /// Code, which begins with a token; answers where.
+    fn code(&mut self, text: &str) -> usize {
+        let start = self.source.len();
+        if self.grouped < self.comments.len() {
+            self.leading.push((start, self.grouped, self.comments.len() - self.grouped));
+            self.grouped = self.comments.len();
+        }
+        self.first_item.get_or_insert(start);
+        self.source.push_str(text);
+        start
+    }
+
+    /// `import { NAMES } from "SPECIFIER"`, with attributes or not.
+    fn import(&mut self, names: &str, specifier: &str, attributes: &[(&str, &str)]) {
+        let start = self.code(&format!("import {{ {names} }} from "));
+        let string = self.string(specifier);
+        let mut node = vec![0, 0, 0];
+        node.extend(string);
+        node.push(u8::from(!attributes.is_empty()));
+        if !attributes.is_empty() {
+            self.source.push_str(" with ");
+            let object_start = self.source.len();
+            let mut properties = number(attributes.len());
+            for (i, (key, value)) in attributes.iter().enumerate() {
+                self.source.push_str(&format!("{}{key}: ", if i == 0 { "{ " } else { ", " }));
+                properties.extend([2, 2]);
+                properties.extend(text(key));
+                let value = self.string(value);
+                properties.extend(value);
+            }
+            self.source.push_str(" }");
+            node.extend(head(5, object_start, self.source.len()));
+            node.extend(properties);
+        }
+        self.source.push_str(";\n");
+        self.child(7, start, node);
+    }
+
+    /// `require("SPECIFIER")` or `import("SPECIFIER")`, inside code.
+    fn call(&mut self, is_import: bool, specifier: &str) {
+        let start = self.source.len();
+        let mut node = vec![if is_import { 0 } else { 3 }];
+        self.source.push_str(if is_import { "import" } else { "require" });
+        if !is_import {
+            node.extend(head(2, start, self.source.len()));
+            node.extend(text("require"));
+        }
+        self.source.push('(');
+        let argument = self.source.len();
+        let string = self.string(specifier);
+        node.extend([1, 0]);
+        node.extend(number(argument));
+        node.extend(number(self.source.len()));
+        node.extend(string);
+        self.source.push(')');
+        node.extend(number(0));
+        self.child(6, start, node);
+    }
+
+    fn string(&mut self, value: &str) -> Vec<u8> {
+        let start = self.source.len();
+        self.source.push_str(&format!("\"{value}\""));
+        [head(1, start, self.source.len()), text(value)].concat()
+    }
+
+    fn child(&mut self, tag: u8, start: usize, rest: Vec<u8>) {
+        let node = [head(tag, start, self.source.len()), rest].concat();
+        self.children.push(node);
+    }
+
+    /// The sheet. Comments that lead nothing trail the program's end.
+    fn sheet(&self) -> Vec<u8> {
+        let end = self.source.len();
+        let mut out = vec![0];
+        out.extend(text(&self.source));
+        out.extend(number(self.comments.len()));
+        for (kind, start, end) in &self.comments {
+            out.push(*kind);
+            out.extend(number(*start));
+            out.extend(number(*end));
+        }
+        let trailing = (self.grouped < self.comments.len()).then_some((end, self.grouped, self.comments.len() - self.grouped));
+        out.extend(number(self.leading.len() + usize::from(trailing.is_some())));
+        let groups = self.leading.iter().map(|g| (0, *g)).chain(trailing.map(|g| (1, g)));
+        for (side, (position, first, count)) in groups {
+            out.push(side);
+            [position, first, count].iter().for_each(|n| out.extend(number(*n)));
+        }
+        out.push(0);
+        out.extend(number(self.first_item.unwrap_or(end)));
+        out.extend(number(end));
+        out.push(0);
+        out.push(u8::from(self.first_item.is_some()));
+        out.extend(self.first_item.map(number).unwrap_or_default());
+        out.extend(head(0, self.first_item.unwrap_or(end), end));
+        out.extend(number(self.children.len()));
+        self.children.iter().for_each(|node| out.extend(node));
+        out
+    }
+}
+
+fn number(mut n: usize) -> Vec<u8> {
+    let mut out = Vec::new();
+    while n >= 128 {
+        out.push((n % 128) as u8 + 128);
+        n /= 128;
+    }
+    out.push(n as u8);
+    out
+}
+
+fn text(text: &str) -> Vec<u8> {
+    [number(text.len()), text.as_bytes().to_vec()].concat()
+}
+
+fn head(tag: u8, start: usize, end: usize) -> Vec<u8> {
+    [vec![tag], number(start), number(end)].concat()
+}
+
+// ---- the classes ----
+
+/// A source of about 15,000 bytes: 12 imports, 30 functions with comments, 3 calls.
+fn typical() -> Vec<u8> {
+    let mut m = Maker::default();
+    m.comment(r#"/// <reference types="npm:@types/node@22" />"#);
+    m.comment("// Reads the telegrams of one gateway and writes a consumption series.");
+    m.comment(r#"// @ts-self-types="./series.d.ts""#);
+    for i in 0..12 {
+        if i % 6 == 3 {
+            m.comment(&format!(r#"// @ts-types="./types/part{i}.d.ts""#));
+        }
+        let attributes: &[(&str, &str)] = if i % 6 == 5 { &[("type", "json")] } else { &[] };
+        m.import(&format!("open{i}, close{i} as done{i}"), &format!("./parts/part{i}.js"), attributes);
+    }
+    for i in 0..30 {
+        let of = if i % 3 == 0 { r#"import("./types.ts").Reading"# } else { "Reading" };
+        m.comment(&format!(
+            "/**\n * Adds reading {i} to the series, in litres.\n * @param {{{of}}} reading the value and its time\n * @returns {{number}} the sum\n */"
+        ));
+        m.code(&format!("export function add{i}(reading, series = []) {{\n"));
+        if i % 10 == 9 {
+            m.code("  const unit = ");
+            m.call(i % 20 == 9, &format!("./units/unit{i}.js"));
+            m.code(";\n");
+        }
+        m.comment("// a meter that runs backwards is read again");
+        m.code("if (reading.volume < series.at(-1)?.volume) return open1(reading, { again: true });\n");
+        m.code("  series.push({ ...reading, volume: Math.round(reading.volume * 1000) / 1000 });\n");
+        m.code("  return series.reduce((sum, r) => sum + r.volume, 0);\n}\n\n");
+    }
+    m.comment("//# sourceMappingURL=series.js.map");
+    m.sheet()
+}
+
+/// A source of about 30,000 bytes, most of it comments.
+fn comment_heavy() -> Vec<u8> {
+    let mut m = Maker::default();
+    m.import("Gateway", "./gateway.js", &[]);
+    for i in 0.. {
+        if m.source.len() > 29_500 {
+            break;
+        }
+        commented(&mut m, i);
+        m.code(&format!("export const field{i} = {};\n", 7 * i));
+    }
+    m.comment("//# sourceMappingURL=fields.js.map");
+    m.sheet()
+}
+
+fn commented(m: &mut Maker, i: usize) {
+    m.comment("// --------");
+    let of = ["number", "string", r#"import("./types.ts").Field"#, "{ low: number, high: number }"][i % 4];
+    let also = if i % 8 == 5 { "\n * @import { Unit } from './units.ts'" } else { "" };
+    m.comment(&format!(
+        "/**\n * Field {i} of the telegram, as EN 13757-3 names it; größer als null.{also}\n * @type {{{of}}}\n * @see {{@link Gateway}} for the order of the bytes\n */"
+    ));
+}
+
+/// Comments, calls and a tree of small nodes, up to the longest sheet.
+fn full() -> Vec<u8> {
+    let mut m = Maker::default();
+    for i in 0..40 {
+        m.import(&format!("part{i}"), &format!("./parts/part{i}.js"), &[]);
+    }
+    let mut places = Vec::new();
+    for i in 0.. {
+        if m.source.len() > MAX_SOURCE - 400 {
+            break;
+        }
+        if i % 2 == 0 {
+            commented(&mut m, i);
+        }
+        places.push(m.code(&format!("const value{i} = await ")));
+        m.call(i % 4 == 0, &format!("./fields/field{i}.js"));
+        m.code(&format!(".then((field) => field.read(bytes, {i}));\n"));
+    }
+    // what is no dependency: other nodes, eight deep, with a name inside
+    for at in places.iter().cycle() {
+        let mut node = [head(2, *at, at + 5), text("field")].concat();
+        for _ in 0..7 {
+            node = [head(0, *at, at + 5), number(1), node].concat();
+        }
+        if m.sheet().len() + node.len() + 8 > MAX_SHEET {
+            break;
+        }
+        m.children.push(node);
+    }
+    // one more name fills the sheet
+    let free = MAX_SHEET - m.sheet().len();
+    m.children.push([head(2, 0, 0), text(&"n".repeat(free - 4))].concat());
+    let sheet = m.sheet();
+    assert_eq!(sheet.len(), MAX_SHEET);
+    sheet
+}
+
+/// The longest source, one star-opened comment with a word over and over.
+fn one_comment(word: &str) -> Vec<u8> {
+    let room = MAX_SOURCE - "/***/".len();
+    let body = word.repeat(room / word.len());
+    let rest = " ".repeat(room - body.len());
+    let source = format!("/**{body}{rest}*/");
+    let mut m = Maker { comments: vec![(1, 0, source.len())], leading: vec![(source.len(), 0, 1)], grouped: 1, ..Maker::default() };
+    m.source = source;
+    m.sheet()
+}

@@ -1,0 +1,175 @@
+/* test FILE
+ * Tries the library through its C interface: document 01's example, some refusals, and the stored list of sheets FILE, whose format stands at
+ * the head of tools/replay.rs. The status is 1 if an answer differs, 2 if the list cannot be read. */
+#include <stdio.h>
+#include <stdlib.h>
+#include <string.h>
+
+#include "module_info.h"
+
+/* The largest buffer that is lent, and the bytes on both sides of it that must stay. */
+#define LARGE 65536
+#define EDGE 64
+#define FILL 0xA5
+
+/* How many differences are printed. */
+#define SHOWN 10
+
+static unsigned long calls, failures;
+
+/* Compares the answer with a buffer of m bytes: number, length, every byte of the buffer, and nothing beside it. */
+static void answers(const char *name, unsigned long index, const uint8_t *sheet, size_t n, size_t m, int number, const uint8_t *report,
+                    size_t length) {
+    static uint8_t room[EDGE + LARGE + EDGE];
+    uint8_t *buffer = room + EDGE;
+    const char *problem = NULL;
+    uint64_t answer;
+    size_t i;
+
+    memset(room, FILL, sizeof room);
+    answer = module_info_answer(sheet, n, buffer, m);
+    calls++;
+    if (MODULE_INFO_NUMBER(answer) != number || MODULE_INFO_LENGTH(answer) != length) problem = "number or length";
+    for (i = 0; i < m && !problem; i++)
+        if (buffer[i] != (i < length ? report[i] : 0)) problem = "a byte of the buffer";
+    for (i = 0; i < EDGE && !problem; i++)
+        if (room[i] != FILL || buffer[m + i] != FILL) problem = "a byte beside the buffer";
+    if (problem && ++failures <= SHOWN)
+        printf("%s %lu, buffer %lu: %s differs: number %d and length %lu are expected, got %d and %lu\n", name, index, (unsigned long)m,
+               problem, number, (unsigned long)length, MODULE_INFO_NUMBER(answer), (unsigned long)MODULE_INFO_LENGTH(answer));
+}
+
+/* The answer with buffers that hold the report, fit it, lack a byte, have one more and are empty. */
+static void all_sizes(const char *name, unsigned long index, const uint8_t *sheet, size_t n, int number, const uint8_t *report, size_t length) {
+    size_t sizes[5];
+    int i;
+
+    sizes[0] = LARGE;
+    sizes[1] = length;
+    sizes[2] = length ? length - 1 : 1;
+    sizes[3] = length + 1;
+    sizes[4] = 0;
+    for (i = 0; i < 5; i++) {
+        if (number == MODULE_INFO_ACCEPTED && length > sizes[i])
+            answers(name, index, sheet, n, sizes[i], MODULE_INFO_BUFFER, report, 0);
+        else
+            answers(name, index, sheet, n, sizes[i], number, report, length);
+    }
+}
+
+/* ---- document 01's example, and changes of it ---- */
+
+/* JavaScript; the source; one comment: a block from 0 to 27; one group: it leads 27, from comment 0 on, one comment;
+ * the program: a module from 27 to 27, no shebang, no first item; the root: an Other without children. */
+static const uint8_t example[] = "\0\33/** {import(\"./a.ts\").A} */"
+                                 "\1\1\0\33"
+                                 "\1\0\33\0\1"
+                                 "\0\33\33\0\0"
+                                 "\0\33\33\0";
+#define EXAMPLE (sizeof example - 1)
+
+/* No script, no dependencies, no references, three pragmas absent; one JSDoc import: text, line 0, columns 12 to 20, no mode; no source map. */
+static const uint8_t example_report[] = "\0\0\0\0\0\0"
+                                        "\1\1\6./a.ts\0\14\0\24\0"
+                                        "\0";
+
+/* Changes the byte at a place of the example. */
+static void changed(size_t at, int byte, int number) {
+    uint8_t sheet[EXAMPLE];
+
+    memcpy(sheet, example, EXAMPLE);
+    sheet[at] = (uint8_t)byte;
+    all_sizes("the example with a change at byte", (unsigned long)at, sheet, EXAMPLE, number, example_report, 0);
+}
+
+static void examples(void) {
+    static uint8_t long_sheet[MODULE_INFO_MAX_SHEET + 1];
+    size_t n;
+
+    all_sizes("the example", 1, example, EXAMPLE, MODULE_INFO_ACCEPTED, example_report, sizeof example_report - 1);
+    all_sizes("no sheet", 0, example, 0, MODULE_INFO_SHEET_LENGTH, example_report, 0);
+    all_sizes("a long sheet", 1, long_sheet, sizeof long_sheet, MODULE_INFO_SHEET_LENGTH, example_report, 0);
+    for (n = 1; n < EXAMPLE; n++) all_sizes("the example, cut off at", (unsigned long)n, example, n, MODULE_INFO_CUT_OFF, example_report, 0);
+    changed(0, 11, MODULE_INFO_BYTE);      /* the media */
+    changed(2, 0xFF, MODULE_INFO_TEXT);    /* the source */
+    changed(32, 28, MODULE_INFO_POSITION); /* the comment's end */
+    changed(31, 1, MODULE_INFO_COMMENTS);  /* the comment's start */
+    changed(37, 0, MODULE_INFO_COMMENTS);  /* the group's count */
+    /* the sheet has one byte more: the zero that ends the literal */
+    all_sizes("the example and a byte", 1, example, EXAMPLE + 1, MODULE_INFO_TRAILING, example_report, 0);
+}
+
+/* ---- the stored list ---- */
+
+static const uint8_t *list;
+static size_t list_size, list_at;
+
+static const uint8_t *take(size_t n) {
+    const uint8_t *p = list + list_at;
+
+    if (list_size - list_at < n) {
+        fprintf(stderr, "test: the stored list is cut off\n");
+        exit(2);
+    }
+    list_at += n;
+    return p;
+}
+
+static size_t take_number(void) {
+    const uint8_t *p = take(4);
+
+    return p[0] | (size_t)p[1] << 8 | (size_t)p[2] << 16 | (size_t)p[3] << 24;
+}
+
+static void read_list(const char *name) {
+    FILE *f = fopen(name, "rb");
+    uint8_t *bytes = NULL;
+    long size = -1;
+
+    if (f && !fseek(f, 0, SEEK_END)) size = ftell(f);
+    if (size >= 0 && !fseek(f, 0, SEEK_SET)) bytes = malloc((size_t)size + 1);
+    if (!bytes || fread(bytes, 1, (size_t)size, f) != (size_t)size) {
+        fprintf(stderr, "test: the stored list %s cannot be read\n", name);
+        exit(2);
+    }
+    fclose(f);
+    list = bytes;
+    list_size = (size_t)size;
+}
+
+static unsigned long replay(void) {
+    unsigned long count = (unsigned long)take_number(), i;
+
+    for (i = 0; i < count; i++) {
+        size_t n = take_number(), length;
+        const uint8_t *sheet = take(n), *report;
+        int number = *take(1);
+
+        length = take_number();
+        report = take(length);
+        if (length >= LARGE) {
+            fprintf(stderr, "test: the stored list has a report that is too long\n");
+            exit(2);
+        }
+        all_sizes("sheet", i, sheet, n, number, report, length);
+    }
+    if (list_at != list_size) {
+        fprintf(stderr, "test: bytes follow the stored list\n");
+        exit(2);
+    }
+    return count;
+}
+
+int main(int argc, char **argv) {
+    unsigned long count;
+
+    if (argc != 2) {
+        fprintf(stderr, "usage: test FILE\n");
+        return 2;
+    }
+    read_list(argv[1]);
+    examples();
+    count = replay();
+    printf("C: %lu stored sheets, %lu calls, %lu differ\n", count, calls, failures);
+    return failures != 0;
+}

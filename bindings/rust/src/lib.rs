@@ -1,0 +1,74 @@
+//! Which modules a JavaScript or TypeScript module asks for, in code and in comments, as deno_graph 0.111.1 answers it.
+//!
+//! A parser hands over a *sheet*: source, comments and syntax tree, in bytes. The answer is a *report* in a buffer that the caller lends.
+//! docs/01-scope.md defines both. The work is done by a proved static library; this crate calls it and decodes its reports.
+//!
+//! ```
+//! use module_info::{ModuleInfo, Position, PositionRange, Refusal, module_info};
+//!
+//! let source = br#"/** {import("./a.ts").A} */"#;
+//! let mut sheet = vec![0, 27]; // JavaScript; the source has 27 bytes
+//! sheet.extend(source);
+//! sheet.extend([1, 1, 0, 27]); // one comment: a block, from 0 to 27
+//! sheet.extend([1, 0, 27, 0, 1]); // one group: it leads position 27, from comment 0 on, one comment
+//! sheet.extend([0, 27, 27, 0, 0]); // the program: a module, from 27 to 27, no shebang, no first item
+//! sheet.extend([0, 27, 27, 0]); // the root: Other, from 27 to 27, no children
+//!
+//! let mut buffer = [0; 64];
+//! let length = module_info(&sheet, &mut buffer)?;
+//! let info = ModuleInfo::decode(&buffer[..length])?;
+//!
+//! let [import] = &info.jsdoc_imports[..] else { panic!("one import") };
+//! assert_eq!(import.specifier.text, "./a.ts");
+//! assert_eq!(
+//!     import.specifier.range,
+//!     PositionRange { start: Position { line: 0, character: 12 }, end: Position { line: 0, character: 20 } }
+//! );
+//! assert_eq!(import.resolution_mode, None);
+//!
+//! // a refusal leaves zeros
+//! let mut short = [7; 20];
+//! assert_eq!(module_info(&sheet, &mut short), Err(Refusal::Buffer));
+//! assert_eq!(short, [0; 20]);
+//! # Ok::<(), Box<dyn std::error::Error>>(())
+//! ```
+
+mod analysis;
+mod decode;
+mod refusal;
+
+pub use analysis::*;
+pub use decode::{DecodeError, Problem};
+pub use refusal::Refusal;
+
+/// The longest sheet that is not refused.
+pub const MAX_SHEET: usize = 65_536;
+
+unsafe extern "C" {
+    /// The number (0, or that of the refusal) and 256 times the report's length. Writes every byte of the buffer.
+    fn module_info_answer(sheet: *const u8, n: usize, buffer: *mut u8, m: usize) -> u64;
+}
+
+/// Writes the report of a sheet into `buffer` and answers its length; every byte behind the report becomes 0.
+/// A refusal is the first that document 01's order names, and then the whole buffer is 0.
+///
+/// What the buffer held before does not matter.
+///
+/// ```
+/// use module_info::{Refusal, module_info};
+///
+/// assert_eq!(module_info(b"", &mut []), Err(Refusal::SheetLength));
+/// assert_eq!(module_info(&[11], &mut [0; 8]), Err(Refusal::Byte)); // no such media
+/// ```
+pub fn module_info(sheet: &[u8], buffer: &mut [u8]) -> Result<usize, Refusal> {
+    // SAFETY: both slices are valid for their lengths and do not overlap, and the function keeps neither.
+    let answer = unsafe { module_info_answer(sheet.as_ptr(), sheet.len(), buffer.as_mut_ptr(), buffer.len()) };
+    let (number, length) = ((answer % 256) as u8, (answer / 256) as usize);
+    match Refusal::from_number(number) {
+        Some(refusal) => Err(refusal),
+        None => {
+            assert!(number == 0 && length <= buffer.len(), "the linked library does not answer as document 01 says");
+            Ok(length)
+        }
+    }
+}

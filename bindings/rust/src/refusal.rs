@@ -1,0 +1,79 @@
+use std::fmt;
+
+/// Document 01's refusals, in checking order.
+#[derive(Debug, Clone, Copy, PartialEq, Eq, PartialOrd, Ord, Hash)]
+#[repr(u8)]
+pub enum Refusal {
+    SheetLength = 1,
+    CutOff = 2,
+    Byte = 3,
+    Limit = 4,
+    Text = 5,
+    Position = 6,
+    Comments = 7,
+    Trailing = 8,
+    Uncooked = 9,
+    Buffer = 10,
+}
+
+impl Refusal {
+    pub const ALL: [Refusal; 10] = [
+        Refusal::SheetLength,
+        Refusal::CutOff,
+        Refusal::Byte,
+        Refusal::Limit,
+        Refusal::Text,
+        Refusal::Position,
+        Refusal::Comments,
+        Refusal::Trailing,
+        Refusal::Uncooked,
+        Refusal::Buffer,
+    ];
+
+    /// The refusal of a number from 1 to 10.
+    ///
+    /// ```
+    /// use module_info::Refusal;
+    ///
+    /// assert!(Refusal::ALL.iter().all(|r| Refusal::from_number(r.number()) == Some(*r)));
+    /// assert_eq!(Refusal::from_number(0), None);
+    /// ```
+    pub fn from_number(number: u8) -> Option<Refusal> {
+        Refusal::ALL.get(usize::from(number).checked_sub(1)?).copied()
+    }
+
+    /// Document 01's number, 1 to 10.
+    pub fn number(self) -> u8 {
+        self as u8
+    }
+
+    /// Document 01's words.
+    pub fn message(self) -> &'static str {
+        match self {
+            Refusal::SheetLength => "the sheet has 0 bytes or more than 65,536",
+            Refusal::CutOff => "a field is cut off, or a number is not shortest or too large",
+            Refusal::Byte => "a byte or flag is outside its stated values, or a node has a tag its place doesn't allow",
+            Refusal::Limit => "a count, length or depth is over its limit",
+            Refusal::Text => "a text is not well-formed UTF-8, or WTF-8 where that is named",
+            Refusal::Position => "a position is past the source or inside a character, or an end precedes its start",
+            Refusal::Comments => {
+                "a comment lacks its marks, is shorter than them, or starts before the last one's end; \
+                 or a group has count 0, is out of order, reaches past the comments; or a comment is in none"
+            }
+            Refusal::Trailing => "bytes follow the root node",
+            Refusal::Uncooked => {
+                "the first argument of a walked call, an import of any phase or one whose expression is the Name `require`, \
+                 is a template with an uncooked piece"
+            }
+            Refusal::Buffer => "the report is longer than the buffer",
+        }
+    }
+}
+
+impl fmt::Display for Refusal {
+    fn fmt(&self, f: &mut fmt::Formatter) -> fmt::Result {
+        write!(f, "refused {}: {}", self.number(), self.message())
+    }
+}
+
+impl std::error::Error for Refusal {}

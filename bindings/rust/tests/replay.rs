@@ -1,0 +1,234 @@
+//! The stored list of sheets with deno_graph's own answers: number, length and every byte of the library's answer, and the decoded reports.
+//! REPLAY names the list, else crates/replay/data/replay.bin of the repository. Its format stands at the head of tools/replay.rs.
+
+use module_info::*;
+
+const DEFAULT: &str = "../../crates/replay/data/replay.bin";
+
+struct Item {
+    index: usize,
+    sheet: Vec<u8>,
+    number: u8,
+    report: Vec<u8>,
+}
+
+fn stored() -> Vec<Item> {
+    let name = std::env::var("REPLAY").unwrap_or(DEFAULT.to_string());
+    let bytes = std::fs::read(&name).unwrap_or_else(|e| panic!("the stored list {name}: {e} (REPLAY names another)"));
+    let mut rest = &bytes[..];
+    let mut take = |n: usize| {
+        let (part, after) = rest.split_at_checked(n).expect("the stored list is cut off");
+        rest = after;
+        part.to_vec()
+    };
+    let number = |b: Vec<u8>| u32::from_le_bytes(b.try_into().expect("four bytes")) as usize;
+    let count = number(take(4));
+    let mut items = Vec::new();
+    for index in 0..count {
+        let n = number(take(4));
+        let sheet = take(n);
+        let refusal = take(1)[0];
+        let n = number(take(4));
+        items.push(Item { index, sheet, number: refusal, report: take(n) });
+    }
+    assert!(rest.is_empty(), "bytes follow the stored list");
+    assert!(items.iter().any(|i| i.number == 0) && items.iter().any(|i| i.number != 0), "the stored list has too little");
+    items
+}
+
+/// Every answer, with buffers that hold the report, fit it, lack a byte, have one more and are empty.
+#[test]
+fn answers() {
+    for Item { index, sheet, number, report } in stored() {
+        let n = report.len();
+        for size in [65_536, n, n.saturating_sub(1), n + 1, 0] {
+            let mut buffer = vec![0xA5; size];
+            let answer = module_info(&sheet, &mut buffer);
+            let (expected, written) = match Refusal::from_number(number) {
+                Some(refusal) => (Err(refusal), &[][..]),
+                None if n > size => (Err(Refusal::Buffer), &[][..]),
+                None => (Ok(n), &report[..]),
+            };
+            assert_eq!(answer, expected, "sheet {index}, buffer {size}");
+            let (head, tail) = buffer.split_at(written.len());
+            assert!(head == written && tail.iter().all(|b| *b == 0), "sheet {index}, buffer {size}: the bytes differ");
+        }
+    }
+}
+
+/// Every report decodes, encodes to itself, and no report is a part of another one.
+#[test]
+fn reports() {
+    for Item { index, report, .. } in stored().into_iter().filter(|i| i.number == 0) {
+        let info = ModuleInfo::decode(&report).unwrap_or_else(|e| panic!("sheet {index}: {e}"));
+        assert_eq!(encode(&info), report, "sheet {index}");
+        for n in 0..report.len() {
+            let error = ModuleInfo::decode(&report[..n]).expect_err("a part is no report");
+            assert_eq!(error, DecodeError { at: n, problem: Problem::CutOff }, "sheet {index}");
+        }
+        let longer = [&report[..], &[0]].concat();
+        let trailing = DecodeError { at: report.len(), problem: Problem::Trailing };
+        assert_eq!(ModuleInfo::decode(&longer), Err(trailing), "sheet {index}");
+    }
+}
+
+/// The source at each place has the text, and the JSDoc imports ascend.
+#[test]
+fn places() {
+    for Item { index, sheet, report, .. } in stored().into_iter().filter(|i| i.number == 0) {
+        let info = ModuleInfo::decode(&report).expect("a report");
+        let source = source(&sheet);
+        let place = |r: &PositionRange| &source[offset(source, r.start)..offset(source, r.end)];
+        let quoted = |s: &SpecifierWithRange| {
+            let inner = place(&s.range).strip_prefix(['"', '\'']).and_then(|p| p.strip_suffix(['"', '\'']));
+            assert_eq!(inner, Some(&*s.text), "sheet {index}");
+        };
+        let bare = |s: &SpecifierWithRange| assert_eq!(place(&s.range), s.text, "sheet {index}");
+        info.ts_references.iter().for_each(|r| quoted(r.specifier()));
+        info.self_types_specifier.iter().for_each(quoted);
+        info.jsx_import_source.iter().for_each(bare);
+        info.jsx_import_source_types.iter().for_each(bare);
+        info.jsdoc_imports.iter().for_each(|i| quoted(&i.specifier));
+        info.source_map_url.iter().for_each(bare);
+        for d in &info.dependencies {
+            // `@deno-types` may be bare
+            d.types_specifier().iter().for_each(|s| if place(&s.range) == s.text { bare(s) } else { quoted(s) });
+            let range = d.as_static().map(|d| d.specifier_range).or(d.as_dynamic().map(|d| d.argument_range));
+            assert!(range.is_some_and(|r| offset(source, r.start) <= offset(source, r.end)), "sheet {index}");
+        }
+        let starts: Vec<Position> = info.jsdoc_imports.iter().map(|i| i.specifier.range.start).collect();
+        assert!(starts.is_sorted_by(|a, b| a < b), "sheet {index}: the JSDoc imports do not ascend");
+    }
+}
+
+/// The source of an accepted sheet: a media byte, a length, the text.
+fn source(sheet: &[u8]) -> &str {
+    let groups = 1 + sheet[1..].iter().take_while(|b| **b >= 128).count();
+    let length = sheet[1..=groups].iter().rev().fold(0, |n, b| 128 * n + usize::from(b % 128));
+    std::str::from_utf8(&sheet[1 + groups..][..length]).expect("the source is UTF-8")
+}
+
+fn offset(source: &str, p: Position) -> usize {
+    let line: usize = source.split_inclusive('\n').take(p.line).map(str::len).sum();
+    let column: usize = source[line..].chars().take(p.character).map(char::len_utf8).sum();
+    line + column
+}
+
+// ---- document 01's encoding, to show that decoding loses nothing ----
+
+fn encode(info: &ModuleInfo) -> Vec<u8> {
+    let mut out = vec![u8::from(info.is_script)];
+    list(&mut out, &info.dependencies, dependency);
+    list(&mut out, &info.ts_references, |out, r| {
+        out.push(u8::from(matches!(r, TypeScriptReference::Types { .. })));
+        specifier(out, r.specifier());
+        if let TypeScriptReference::Types { resolution_mode, .. } = r {
+            mode(out, *resolution_mode);
+        }
+    });
+    optional(&mut out, &info.self_types_specifier, specifier);
+    optional(&mut out, &info.jsx_import_source, specifier);
+    optional(&mut out, &info.jsx_import_source_types, specifier);
+    list(&mut out, &info.jsdoc_imports, |out, i| {
+        out.push(1);
+        specifier(out, &i.specifier);
+        mode(out, i.resolution_mode);
+    });
+    optional(&mut out, &info.source_map_url, specifier);
+    out
+}
+
+fn number(out: &mut Vec<u8>, mut n: usize) {
+    while n >= 128 {
+        out.push((n % 128) as u8 + 128);
+        n /= 128;
+    }
+    out.push(n as u8);
+}
+
+fn text(out: &mut Vec<u8>, text: &str) {
+    number(out, text.len());
+    out.extend(text.as_bytes());
+}
+
+fn list<T>(out: &mut Vec<u8>, items: &[T], write: impl Fn(&mut Vec<u8>, &T)) {
+    number(out, items.len());
+    items.iter().for_each(|item| write(out, item));
+}
+
+fn optional<T>(out: &mut Vec<u8>, item: &Option<T>, write: impl Fn(&mut Vec<u8>, &T)) {
+    out.push(u8::from(item.is_some()));
+    item.iter().for_each(|item| write(out, item));
+}
+
+fn range(out: &mut Vec<u8>, r: &PositionRange) {
+    for n in [r.start.line, r.start.character, r.end.line, r.end.character] {
+        number(out, n);
+    }
+}
+
+fn specifier(out: &mut Vec<u8>, s: &SpecifierWithRange) {
+    text(out, &s.text);
+    range(out, &s.range);
+}
+
+fn mode(out: &mut Vec<u8>, mode: Option<TypeScriptTypesResolutionMode>) {
+    out.push(match mode {
+        None => 0,
+        Some(TypeScriptTypesResolutionMode::Import) => 1,
+        Some(TypeScriptTypesResolutionMode::Require) => 2,
+    });
+}
+
+fn dependency(out: &mut Vec<u8>, d: &DependencyDescriptor) {
+    match d {
+        DependencyDescriptor::Static(d) => {
+            out.push(d.kind as u8);
+            optional(out, &d.types_specifier, specifier);
+            text(out, &d.specifier);
+            range(out, &d.specifier_range);
+            out.push(u8::from(d.is_side_effect));
+        }
+        DependencyDescriptor::Dynamic(d) => {
+            out.push(9 + d.kind as u8);
+            optional(out, &d.types_specifier, specifier);
+            match &d.argument {
+                DynamicArgument::Expr => out.push(0),
+                DynamicArgument::String(value) => {
+                    out.push(1);
+                    text(out, value);
+                }
+                DynamicArgument::Template(parts) => {
+                    out.push(2);
+                    list(out, parts, |out, part| match part {
+                        DynamicTemplatePart::Expr => out.push(0),
+                        DynamicTemplatePart::String { value } => {
+                            out.push(1);
+                            text(out, value);
+                        }
+                    });
+                }
+            }
+            range(out, &d.argument_range);
+        }
+    }
+    match d.import_attributes() {
+        ImportAttributes::None => out.push(0),
+        ImportAttributes::Unknown => out.push(1),
+        ImportAttributes::Known(map) => {
+            out.push(2);
+            let mut pairs: Vec<_> = map.iter().collect();
+            pairs.sort_by_key(|(key, _)| key.as_bytes());
+            list(out, &pairs, |out, (key, value)| {
+                text(out, key);
+                match value {
+                    ImportAttribute::Unknown => out.push(0),
+                    ImportAttribute::Known(value) => {
+                        out.push(1);
+                        text(out, value);
+                    }
+                }
+            });
+        }
+    }
+}

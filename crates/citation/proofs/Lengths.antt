@@ -1,0 +1,203 @@
+-- What is printed for a report is at most four times as long as the report.
+use mathlib.Core.Path.{_≡_, refl}
+use mathlib.Core.Bool.{Bool, true, false, cond}
+use mathlib.Core.List.{List, [], _∷_, _++_}
+use mathlib.Core.Option.{Option}
+use Prim.Native.Nat.{ℕ, zero, suc, _+_, _*_, _/_, _%_, _^_, _≤_, _<_}
+use native.Mathlib.Nat.{pow-suc, one-le-pow}
+use native.Mathlib.Omega.{arith}
+use lib.Dec.{ltb}
+use lib.ListN.{length, length-append}
+use borrow.Author.Tests.{ltb-true, ltb-false}
+use Rattle.laws.specs.Quoted.{ascii}
+use Rattle.text.specs.declared.position.Position.{Position}
+use Rattle.wire.specs.Number.{largest, encodeGroups, encodeNumber}
+use Rattle.wire.specs.Text.{encodeText}
+use Rattle.report.specs.ModuleInfo.{PositionRange, SpecifierWithRange, DynamicArgument, expr, string, template, path, types, static, dynamic, TypeScriptReference, JsDocImportInfo, DependencyDescriptor, ModuleInfo}
+use Rattle.report.specs.Encode.{each, encodeOptional, encodeList, encodePosition, encodeRange, encodeSpecifier, encodeReference, encodeJsDoc, encodeArgument, encodeStatic, encodeDynamic, encodeDependency, encode}
+use Rattle.report.specs.Valid.{IfThere, All, ValidPosition, ValidRange, ValidSpecifier, ValidReference, ValidJsDoc, ValidDependency, Valid}
+use Rattle.citation.specs.Citation.{digits, decimal, hexDigit, isEscaped, escaped, citePosition, citeRange, Line, printed, citeSpecifier, citeOptional, argumentText, citeArgument, citeReference, citeJsDoc, citeDependency, citeEach, lines, title, citation, refusal}
+use Rattle.citation.proofs.Printing.{each-append}
+
+digits-short : (k places n : ℕ) → n < 10 ^ suc k → length (digits places n) ≤ suc k
+unfolding digits
+digits-short k zero n h = omega arith
+digits-short k (suc places) n h = by-size (ltb n 10) refl k h (λ k. digits-short k places (n / 10))
+  where
+    by-size : (b : Bool) → ltb n 10 ≡ b → (k : ℕ) → n < 10 ^ suc k
+        → ((k : ℕ) → n / 10 < 10 ^ suc k → length (digits places (n / 10)) ≤ suc k)
+        → length (digits (suc places) n) ≤ suc k
+    by-size true e k h front = rw e (omega arith)
+    by-size false e zero h front = absurd (omega (arith, ltb-false n 10 e))
+    by-size false e (suc k) h front = rw (e, length-append) (omega (arith, front k (omega (arith, pow-suc 10 (suc k)))))
+
+digits-most : (places n : ℕ) → length (digits places n) ≤ places
+unfolding digits
+digits-most zero n = omega arith
+digits-most (suc places) n = by-size (ltb n 10) (digits-most places (n / 10))
+  where
+    by-size : (b : Bool) → length (digits places (n / 10)) ≤ places
+        → length (cond b ((0x30 + n) ∷ []) (digits places (n / 10) ++ ((0x30 + n % 10) ∷ []))) ≤ suc places
+    by-size true h = omega arith
+    by-size false h = rw length-append (omega arith)
+
+-- a number of at least 128 to the j-th has more than j groups
+groups-long : (k j n : ℕ) → j < k → 128 ^ j ≤ n → j < length (encodeGroups k n)
+unfolding encodeGroups
+groups-long zero j n l h = absurd (omega arith)
+groups-long (suc k) j n l h = by-size (ltb n 128) refl j l h (λ j. groups-long k j (n / 128))
+  where
+    by-size : (b : Bool) → ltb n 128 ≡ b → (j : ℕ) → j < suc k → 128 ^ j ≤ n
+        → ((j : ℕ) → j < k → 128 ^ j ≤ n / 128 → j < length (encodeGroups k (n / 128)))
+        → j < length (encodeGroups (suc k) n)
+    by-size true e zero l h above = rw e (omega arith)
+    by-size true e (suc j) l h above = absurd (omega (arith, ltb-true n 128 e, pow-suc 128 j, one-le-pow j 128 (omega arith)))
+    by-size false e zero l h above = rw e (omega arith)
+    by-size false e (suc j) l h above = rw e (omega (arith, above j (omega arith) (omega (arith, pow-suc 128 j))))
+
+number-long : (n : ℕ) → 0 < length (encodeNumber n)
+unfolding encodeNumber encodeGroups
+number-long n = by-size (ltb n 128)
+  where
+    by-size : (b : Bool) → 0 < length (cond b (n ∷ []) ((128 + n % 128) ∷ encodeGroups 4 (n / 128)))
+    by-size true = omega arith
+    by-size false = omega arith
+
+-- a number from 1 has at most three digits for each group
+number-short : (n : ℕ) → n ≤ largest → length (decimal (n + 1)) ≤ 3 * length (encodeNumber n)
+unfolding encodeNumber
+number-short n v = first (ltb n 128) refl
+  where
+    within : (j k : ℕ) → j < 5 → 128 ^ j ≤ n → n + 1 < 10 ^ suc k → suc k ≤ 3 * suc j → length (decimal (n + 1)) ≤ 3 * length (encodeGroups 5 n)
+    within j k l h less few = omega (arith, digits-short k 20 (n + 1) less, groups-long 5 j n l h)
+
+    fourth : (b : Bool) → ltb n 268435456 ≡ b → 2097152 ≤ n → length (decimal (n + 1)) ≤ 3 * length (encodeGroups 5 n)
+    fourth true e h = within 3 11 (omega arith) h (omega (arith, ltb-true n 268435456 e)) (omega arith)
+    fourth false e h = within 4 14 (omega arith) (ltb-false n 268435456 e) (omega arith) (omega arith)
+
+    third : (b : Bool) → ltb n 2097152 ≡ b → 16384 ≤ n → length (decimal (n + 1)) ≤ 3 * length (encodeGroups 5 n)
+    third true e h = within 2 8 (omega arith) h (omega (arith, ltb-true n 2097152 e)) (omega arith)
+    third false e h = fourth (ltb n 268435456) refl (ltb-false n 2097152 e)
+
+    second : (b : Bool) → ltb n 16384 ≡ b → 128 ≤ n → length (decimal (n + 1)) ≤ 3 * length (encodeGroups 5 n)
+    second true e h = within 1 5 (omega arith) h (omega (arith, ltb-true n 16384 e)) (omega arith)
+    second false e h = third (ltb n 2097152) refl (ltb-false n 16384 e)
+
+    first : (b : Bool) → ltb n 128 ≡ b → length (decimal (n + 1)) ≤ 3 * length (encodeGroups 5 n)
+    first true e = omega (arith, digits-short 2 20 (n + 1) (omega (arith, ltb-true n 128 e)), number-long n)
+    first false e = second (ltb n 16384) refl (ltb-false n 128 e)
+
+position-short : (p : Position) → ValidPosition p → length (citePosition p) ≤ 3 * length (encodePosition p) + 1
+unfolding citePosition encodePosition
+position-short p v = simp length-append (omega (arith, number-short (p .line) (v .line), number-short (p .column) (v .column)))
+
+range-short : (r : PositionRange) → ValidRange r → length (citeRange r) ≤ 3 * length (encodeRange r) + 3
+unfolding citeRange encodeRange
+range-short r v = simp length-append (omega (arith, position-short (r .start) (v .start), position-short (r .end) (v .end)))
+
+range-long : (r : PositionRange) → 4 ≤ length (encodeRange r)
+unfolding encodeRange encodePosition
+range-long r = simp length-append (omega (arith, number-long (r .start .line), number-long (r .start .column), number-long (r .end .line), number-long (r .end .column)))
+
+byte-short : (b : ℕ) → length (escaped b) ≤ 4
+unfolding escaped
+byte-short b = either (isEscaped b)
+  where
+    either : (t : Bool) → length (cond t (0x5C ∷ 0x78 ∷ hexDigit (b / 16) ∷ hexDigit (b % 16) ∷ []) (b ∷ [])) ≤ 4
+    either true = omega arith
+    either false = omega arith
+
+text-short : (x : List ℕ) → length (each escaped x) ≤ 4 * length x
+unfolding each
+text-short [] = omega arith
+text-short (b ∷ x) = rw length-append (omega (arith, byte-short b, text-short x))
+
+-- a line, for the range and the text that it has
+line-short : (l : Line) → ValidRange (l .range) → length (printed l) ≤ 7 + 3 * length (encodeRange (l .range)) + 4 * length (l .text)
+unfolding printed
+line-short l v = simp length-append (omega (arith, range-short (l .range) v, text-short (l .text)))
+
+-- lines are at most four times as long as the bytes
+abbrev Short : List Line → List ℕ → Type 0
+Short ls bytes = length (each printed ls) ≤ 4 * length bytes
+
+specifier-short : (letter : ℕ) (s : SpecifierWithRange) → ValidSpecifier s → Short (citeSpecifier letter s) (encodeSpecifier s)
+unfolding each encodeSpecifier encodeText
+specifier-short letter s v =
+    let line = line-short (record { letter = letter; range = s .range; text = s .text }) (v .range) in
+    simp length-append (omega (arith, line, range-long (s .range), number-long (length (s .text))))
+
+-- and the byte before an optional thing, or a count, is left over
+optional-short : (letter : ℕ) (o : Option SpecifierWithRange) → IfThere ValidSpecifier o
+    → length (each printed (citeOptional letter o)) + 4 ≤ 4 * length (encodeOptional encodeSpecifier o)
+unfolding each encodeOptional
+optional-short letter Option.none v = omega arith
+optional-short letter (Option.some s) v = omega (arith, specifier-short letter s v)
+
+list-short : {A : Type 0} (f : A → List Line) (encode : A → List ℕ) (P : A → Type 0) → ((a : A) → P a → Short (f a) (encode a))
+    → (l : List A) → All P l → length (each printed (citeEach f l)) + 4 ≤ 4 * length (encodeList encode l)
+unfolding encodeList each citeEach
+list-short {A} f encode P h l v = rw length-append (omega (arith, items l v, number-long (length l)))
+  where
+    items : (l : List A) → All P l → Short (citeEach f l) (each encode l)
+    items [] v = omega arith
+    items (a ∷ l) v = simp (each-append, length-append) (omega (arith, h a (v .0), items l (v .1)))
+
+reference-short : (x : TypeScriptReference) → ValidReference x → Short (citeReference x) (encodeReference x)
+unfolding encodeReference
+reference-short (path s) v = omega (arith, specifier-short 0x52 s v)
+reference-short (types s mode) v = simp length-append (omega (arith, specifier-short 0x52 s (v .0)))
+
+jsdoc-short : (i : JsDocImportInfo) → ValidJsDoc i → Short (citeJsDoc i) (encodeJsDoc i)
+unfolding encodeJsDoc
+jsdoc-short i v = simp length-append (omega (arith, specifier-short 0x4A (i .specifier) (v .specifier)))
+
+argument-short : (x : DynamicArgument) (r : PositionRange) → ValidRange r
+    → length (each printed (citeArgument x r)) ≤ 4 * (length (encodeArgument x) + length (encodeRange r) + 1)
+unfolding each encodeArgument encodeText
+argument-short x r v = by-kind x (line-short (record { letter = 0x44; range = r; text = argumentText x }) v)
+  where
+    by-kind : (x : DynamicArgument) → length (printed (record { letter = 0x44; range = r; text = argumentText x })) ≤ 7 + 3 * length (encodeRange r) + 4 * length (argumentText x)
+        → length (each printed (citeArgument x r)) ≤ 4 * (length (encodeArgument x) + length (encodeRange r) + 1)
+    by-kind expr h = simp length-append (omega (arith, range-long r))
+    by-kind (string y) h = simp length-append (omega (arith, range-long r))
+    by-kind (template l) h = simp length-append (omega (arith, range-long r))
+
+dependency-short : (d : DependencyDescriptor) → ValidDependency d → Short (citeDependency d) (encodeDependency d)
+unfolding encodeDependency encodeStatic encodeDynamic
+dependency-short (static d) v =
+    rw (each-append printed (citeSpecifier 0x44 (d .specifier)) (citeOptional 0x54 (d .typesSpecifier)))
+    (simp length-append (omega (arith, specifier-short 0x44 (d .specifier) (v .specifier), optional-short 0x54 (d .typesSpecifier) (v .typesSpecifier))))
+dependency-short (dynamic d) v =
+    rw (each-append printed (citeArgument (d .argument) (d .argumentRange)) (citeOptional 0x54 (d .typesSpecifier)))
+    (simp length-append (omega (arith, argument-short (d .argument) (d .argumentRange) (v .argumentRange), optional-short 0x54 (d .typesSpecifier) (v .typesSpecifier))))
+
+-- every report has eight bytes, a flag, the counts and what stands before each optional thing
+lines-short : (m : ModuleInfo) → Valid m → length (each printed (lines m)) + 32 ≤ 4 * length (encode m)
+unfolding lines encode
+lines-short m v =
+    simp (each-append, length-append)
+    (omega (
+      arith,
+      list-short citeDependency encodeDependency ValidDependency dependency-short (m .dependencies) (v .dependencies .1),
+      list-short citeReference encodeReference ValidReference reference-short (m .tsReferences) (v .tsReferences .1),
+      optional-short 0x53 (m .selfTypesSpecifier) (v .selfTypesSpecifier),
+      optional-short 0x58 (m .jsxImportSource) (v .jsxImportSource),
+      optional-short 0x59 (m .jsxImportSourceTypes) (v .jsxImportSourceTypes),
+      list-short citeJsDoc encodeJsDoc ValidJsDoc jsdoc-short (m .jsdocImports) (v .jsdocImports .1),
+      optional-short 0x4D (m .sourceMapUrl) (v .sourceMapUrl),
+    ))
+
+title-short : (word : List ℕ) (n k : ℕ) → length (decimal n) ≤ k → length (title word n) ≤ length word + k + 1
+unfolding title
+title-short word n k h = simp length-append (omega arith)
+
+pub citation-short : (m : ModuleInfo) → Valid m → length (citation m) ≤ 4 * length (encode m)
+unfolding citation
+citation-short m v =
+    rw length-append
+    (omega (arith, lines-short m v, title-short (ascii "module ") (length (lines m)) 20 (digits-most 20 (length (lines m)))))
+
+pub refusal-short : (n : ℕ) → n < 1000 → length (refusal n) ≤ 12
+unfolding refusal
+refusal-short n h = title-short (ascii "refused ") n 3 (digits-short 2 20 n h)

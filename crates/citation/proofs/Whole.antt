@@ -1,0 +1,28 @@
+-- All that was written, where the buffer is long enough.
+use mathlib.Core.Path.{_≡_, refl, ap, _∙_}
+use mathlib.Core.Bool.{Bool, true, false, cond}
+use mathlib.Core.List.{List, [], _∷_}
+use Prim.Native.Nat.{ℕ, zero, suc, _+_, _≤_}
+use native.Mathlib.Omega.{arith}
+use lib.ListN.{length, take}
+use borrow.Author.Tests.{le-leb}
+use Rattle.report.specs.declared.writer.Place.{Place}
+use Rattle.report.specs.World.{holds, full, wrote, worldAs}
+
+take-taken : (n : ℕ) (l : List ℕ) → take (length (take n l)) l ≡ take n l
+take-taken zero l = refl
+take-taken (suc n) [] = refl
+take-taken (suc n) (a ∷ l) = ap (a ∷_) (take-taken n l)
+
+-- the bytes begin the buffer, and the place is behind them
+module _ (out : List ℕ) (p : Place) (size : ℕ) (bs : List ℕ) (h : worldAs out p ≡ wrote (holds size []) bs) (room : length bs ≤ size) where
+  begins : take (p .at) out ≡ bs
+  unfolding wrote
+  begins = by-full (p .full) (h ∙ rw (le-leb (0 + length bs) size (omega arith)))
+    where
+      by-full : (b : Bool) → cond b full (holds (length out) (take (p .at) out)) ≡ holds size bs → take (p .at) out ≡ bs
+      by-full true e = let z : _≡_ {A = ℕ} 0 1 = cc in absurd (omega arith)
+      by-full false e = cc
+
+  pub all-written : (r : ℕ) → r ≡ length (take (p .at) out) → (r ≡ length bs) × (take r out ≡ bs)
+  all-written r e = (e ∙ ap length begins, rw (e, take-taken (p .at) out) begins)

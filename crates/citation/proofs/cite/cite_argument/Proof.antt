@@ -1,0 +1,54 @@
+use borrow.Author.Needs.{needs}
+use mathlib.Core.Path.{sym, _∙_}
+use mathlib.Core.List.{append-assoc}
+use Rattle.wire.specs.Text.{encodeText}
+use Rattle.report.specs.Encode.{encodeRange, encodeSpecifier, encodeArgument}
+use Rattle.citation.proofs.FromBytes.{text-argument, parts-argument, no-argument}
+use Rattle.citation.proofs.cite.cite_argument.Statement.{statement}
+use Rattle.citation.proofs.cite.cite_argument.Tie as tie
+
+returns : tie.Need-returns
+unfolding encodeSpecifier
+returns c = (
+  λ x v t e.
+      let kind = c .before .before .before .before .before .before .read-number in
+      let (y, p, e) = text-argument (kind .ensures) (c .before .before .before .before .if1 .taken) (x .0) _ (e ∙ append-assoc (encodeArgument (x .0)) (encodeRange (x .1)) t) in
+      rw p (c .before .before .cite-specifier .ensures .0 (record { text = y; range = x .1 }) (record { text = rw p at (v .0); range = v .1 }) t (e ∙ sym (append-assoc (encodeText y) (encodeRange (x .1)) t))),
+  c .before .before .cite-specifier .ensures .1,
+)
+
+returns-2 : tie.Need-returns-2
+returns-2 c = (
+  λ x v t e.
+      let kind = c .before .before .before .before .before .before .before .before .before .before .read-number in
+      let (l, p, e) = parts-argument (kind .ensures) (c .before .before .before .before .before .before .if2 .taken) (x .0) _ (e ∙ append-assoc (encodeArgument (x .0)) (encodeRange (x .1)) t) in
+      rw p (c .before .before .cite-range .ensures .0 (x .1) (v .1) t (c .before .before .before .before .before .skip-list .ensures l (rw p at (v .0)) _ e)),
+  c .before .before .cite-range .ensures .1,
+)
+
+returns-3 : tie.Need-returns-3
+returns-3 c = (
+  λ x v t e.
+      let kind = c .before .before .before .before .before .before .before .before .before .read-number in
+      let (p, e) = no-argument (kind .ensures) (c .before .before .before .before .before .before .before .if1 .left) (c .before .before .before .before .before .if2 .left) (x .0) _ (e ∙ append-assoc (encodeArgument (x .0)) (encodeRange (x .1)) t) in
+      rw p (c .before .before .cite-range2 .ensures .0 (x .1) (v .1) t e),
+  c .before .before .cite-range2 .ensures .1,
+)
+
+pub cite-argument-spec : {M : Type 1} → statement M
+cite-argument-spec =
+    tie.close
+    (tie.spec
+    (λ c κs. search needs)
+    (λ c κs. search needs)
+    (λ c. search needs)
+    returns
+    (λ c κs. search needs)
+    (λ c. search needs)
+    (λ c κs. search needs)
+    (λ c. search needs)
+    returns-2
+    (λ c. search needs)
+    (λ c κs. search needs)
+    (λ c. search needs)
+    returns-3)

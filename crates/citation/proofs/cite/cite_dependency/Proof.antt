@@ -1,0 +1,65 @@
+use borrow.Author.Needs.{needs}
+use mathlib.Core.List.{_++_, append-assoc}
+use native.Mathlib.Omega.{arith}
+use Rattle.report.specs.ModuleInfo.{static, dynamic}
+use Rattle.report.specs.Encode.{encodeAttributes, encodeStatic, encodeDynamic, encodeDependency}
+use Rattle.citation.proofs.FromBytes.{byte-read, flag-read}
+use Rattle.citation.proofs.Printing.{both}
+use Rattle.citation.proofs.cite.cite_dependency.Statement.{statement}
+use Rattle.citation.proofs.cite.cite_dependency.Tie as tie
+
+returns : tie.Need-returns
+unfolding encodeDependency encodeStatic encodeDynamic
+returns c =
+    let kind = c .before .before .before .before .before .before .before .before .before .before .before .before .before .before .before .before .read-number in
+    let first = c .before .before .before .before .before .before .before .before .before .before .before .cite-specifier in
+    let flag = c .before .before .before .before .read-number2 in
+    let byte = byte-read (kind .ensures) in (
+      elim [
+        | static d ↦ λ v t e.
+            let types = simp append-assoc at (byte (d .kind) (omega arith) _ e .1) in
+            let (p, e) = first .ensures .0 (d .specifier) (v .specifier) _ (c .before .before .before .before .before .before .before .before .before .before .before .before .before .before .before .skip-optional-specifier .ensures (d .typesSpecifier) (v .typesSpecifier) _ types) in
+            let (q, _) = c .before .before .before .before .before .before .before .cite-optional .ensures .0 (d .typesSpecifier) (v .typesSpecifier) _ types in
+            let e = flag-read (flag .ensures) (d .sideEffect) _ e in
+            (both p q, c .skip-attributes .ensures (d .importAttributes) (v .importAttributes) t e)
+        | dynamic d ↦ λ v t e. absurd (omega (arith, byte (d .kind) (omega (arith, v .kind .1)) _ e .0, v .kind .0, c .before .before .before .before .before .before .before .before .before .before .before .before .before .if1 .taken))
+      ],
+      omega (arith, first .ensures .1, c .before .before .before .before .before .before .before .cite-optional .ensures .1),
+    )
+
+returns-2 : tie.Need-returns-2
+unfolding encodeDependency encodeStatic encodeDynamic
+returns-2 c =
+    let kind = c .before .before .before .before .before .before .before .before .before .before .before .before .before .before .before .read-number in
+    let first = c .before .before .before .before .before .before .before .before .before .before .cite-argument in
+    let byte = byte-read (kind .ensures) in (
+      elim [
+        | static d ↦ λ v t e. absurd (omega (arith, byte (d .kind) (omega arith) _ e .0, c .before .before .before .before .before .before .before .before .before .before .before .before .if1 .left))
+        | dynamic d ↦ λ v t e.
+            let types = simp append-assoc at (byte (d .kind) (omega (arith, v .kind .1)) _ e .1) in
+            let (p, e) = first .ensures .0 (d .argument, d .argumentRange) (v .argument, v .argumentRange) (encodeAttributes (d .importAttributes) ++ t) (rw append-assoc (c .before .before .before .before .before .before .before .before .before .before .before .before .before .before .skip-optional-specifier .ensures (d .typesSpecifier) (v .typesSpecifier) _ types)) in
+            let (q, _) = c .before .before .before .before .before .before .cite-optional2 .ensures .0 (d .typesSpecifier) (v .typesSpecifier) _ types in
+            (both p q, c .skip-attributes2 .ensures (d .importAttributes) (v .importAttributes) t e)
+      ],
+      omega (arith, first .ensures .1, c .before .before .before .before .before .before .cite-optional2 .ensures .1),
+    )
+
+pub cite-dependency-spec : {M : Type 1} → statement M
+cite-dependency-spec =
+    tie.close
+    (tie.spec
+    (λ c κs. search needs)
+    (λ c κs. search needs)
+    (λ c κs. search needs)
+    (λ c κs. search needs)
+    (λ c κs. search needs)
+    (λ c. search needs)
+    (λ c κs. search needs)
+    (λ c. search needs)
+    returns
+    (λ c κs. search needs)
+    (λ c κs. search needs)
+    (λ c. search needs)
+    (λ c κs. search needs)
+    (λ c. search needs)
+    returns-2)

@@ -1,0 +1,30 @@
+use borrow.Author.Needs.{needs}
+use native.Mathlib.Omega.{arith}
+use Rattle.citation.proofs.cite.cite_item.Statement.{statement}
+use Rattle.citation.proofs.cite.cite_item.Tie as tie
+
+returns : tie.Need-returns
+returns c = rw (c .before .before .before .before .enum-told .given .1) (c .before .before .cite-dependency .ensures)
+
+returns-2 : tie.Need-returns-2
+returns-2 c = rw (c .before .before .before .before .enum-told2 .given .1) (c .before .before .cite-reference .ensures .0, omega (arith, c .before .before .cite-reference .ensures .1))
+
+returns-3 : tie.Need-returns-3
+returns-3 c = rw (c .before .before .before .before .enum-told3 .given .1) (c .before .before .cite-jsdoc .ensures .0, omega (arith, c .before .before .cite-jsdoc .ensures .1))
+
+pub cite-item-spec : {M : Type 1} → statement M
+cite-item-spec =
+    tie.close
+    (tie.spec
+    (λ c. search needs)
+    (λ c κs. search needs)
+    (λ c. search needs)
+    (λ c κs. search needs)
+    (λ c. search needs)
+    (λ c κs. search needs)
+    (λ c. search needs)
+    returns
+    (λ c. search needs)
+    returns-2
+    (λ c. search needs)
+    returns-3)

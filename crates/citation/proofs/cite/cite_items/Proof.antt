@@ -1,0 +1,78 @@
+use borrow.Author.Needs.{needs}
+use mathlib.Core.Path.{_≡_, refl, sym, _∙_}
+use mathlib.Core.List.{List, [], _++_, append-nil}
+use Prim.Native.Nat.{ℕ, _+_, _*_, _≤_}
+use native.Mathlib.Omega.{arith}
+use lib.ListN.{length, drop}
+use denote.Ref.{now}
+use Rattle.report.specs.Encode.{each}
+use Rattle.report.specs.Valid.{All}
+use Rattle.report.specs.World.{worldAs}
+use Rattle.report.proofs.Worlds.{wrote-nil}
+use Rattle.citation.specs.Citation.{Line, citeEach}
+use Rattle.citation.specs.Reads.{Printed}
+use Rattle.citation.specs.Items.{Item, encodeItem, ValidItem, citeItem}
+use Rattle.citation.proofs.Lists.{Stand, next-item, no-item}
+use Rattle.citation.proofs.Printing.{both, cite-next}
+use Rattle.citation.proofs.cite.cite_items.Statement.{statement}
+use Rattle.citation.proofs.cite.cite_items.Tie as tie
+
+abbrev Inv-loop : tie.InvT-loop
+Inv-loop report at kind count out₀ p₀ lines₀ next₀ left₀ out p lines next left =
+    (length out ≡ length out₀)
+    × (lines + 2 * left ≤ 2 * count)
+    × ((l : List (Item kind)) → (length l ≡ count) × All (ValidItem kind) l → (t : List ℕ) → drop at report ≡ each (encodeItem kind) l ++ t
+    → (l′ : List (Item kind)) × (done : List Line)
+    × Stand (encodeItem kind) (ValidItem kind) report t next left l′
+    × Printed (worldAs out₀ p₀) done (worldAs out p) lines
+    × (citeEach (citeItem kind) l ≡ done ++ citeEach (citeItem kind) l′))
+
+abbrev μ-loop : tie.MeasureT-loop
+μ-loop report at kind count out₀ p₀ lines₀ next₀ left₀ out p lines next left = left
+
+loop-holds : tie.Need-loop-holds Inv-loop μ-loop
+unfolding each
+loop-holds c =
+    let a = c .before .before .args in
+    (refl, omega arith, λ l v t e. (l, [], (v .0, v .1, e), record { written = sym (wrote-nil (now (a .out)) (a .place)); counted = refl }, refl))
+
+loop-again : tie.Need-loop-again Inv-loop μ-loop
+loop-again c =
+    let a = c .before .before .before .before .before .before .before .before .before .before .args in
+    let i = c .before .before .before .before .before .before .before .loop in
+    let item = c .before .before .before .before .cite-item in (
+      item .kept .1 .1 .1 .0 ∙ i .inv .0,
+      omega (arith, i .inv .1, item .ensures .1, c .before .before .before .before .before .before .loop-test .taken),
+      λ l v t e.
+          let (l, done, p, q, r) = i .inv .2 l v t e in
+          let (x, l, same, v, e, on) = next-item (encodeItem (a .kind)) (ValidItem (a .kind)) (now (a .report)) t (i .next) (i .left) l (c .before .before .before .before .before .before .loop-test .taken) p in
+          let (o, e) = item .ensures .0 x v _ e in
+          (l, done ++ citeItem (a .kind) x, on (item .result .next) e, both q o, r ∙ cite-next (citeItem (a .kind)) done same),
+    )
+
+returns : tie.Need-returns Inv-loop μ-loop
+unfolding citeEach
+returns c =
+    let a = c .before .before .before .before .args in
+    let i = c .before .loop in (
+      λ l v t e.
+          let (l, done, p, q, r) = i .inv .2 l v t e in
+          let (none, e) = no-item (encodeItem (a .kind)) (ValidItem (a .kind)) (now (a .report)) t (i .next) (i .left) l (c .loop-test .left) p in
+          rw (r, none, append-nil) (q, e),
+      omega (arith, i .inv .1),
+    )
+
+pub cite-items-spec : {M : Type 1} → statement M
+cite-items-spec =
+    tie.close
+    (tie.spec
+    Inv-loop
+    μ-loop
+    loop-holds
+    (λ c κs. search needs)
+    (λ c. search needs)
+    (λ c. search needs)
+    (λ c. search needs)
+    loop-again
+    (λ c. search needs)
+    returns)

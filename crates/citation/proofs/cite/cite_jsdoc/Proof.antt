@@ -1,0 +1,31 @@
+use borrow.Author.Needs.{needs}
+use mathlib.Core.Path.{_∙_}
+use mathlib.Core.List.{[], _∷_, append-assoc}
+use native.Mathlib.Omega.{arith}
+use Rattle.report.specs.Encode.{encodeSpecifier, encodeJsDoc}
+use Rattle.citation.proofs.FromBytes.{byte-read}
+use Rattle.citation.proofs.cite.cite_jsdoc.Statement.{statement}
+use Rattle.citation.proofs.cite.cite_jsdoc.Tie as tie
+
+returns : tie.Need-returns
+unfolding encodeJsDoc
+returns c =
+    let kind = c .before .before .before .before .before .before .read-number in
+    let line = c .before .before .before .before .cite-specifier in
+    let mode = c .before .read-number2 in (
+      λ i v t e.
+          let (_, e) = byte-read (kind .ensures) 1 (omega arith) _ e in
+          let (p, e) = line .ensures .0 (i .specifier) (v .specifier) _ (e ∙ append-assoc (encodeSpecifier (i .specifier)) (i .mode ∷ []) t) in
+          (p, byte-read (mode .ensures) (i .mode) (omega arith) t e .1),
+      line .ensures .1,
+    )
+
+pub cite-jsdoc-spec : {M : Type 1} → statement M
+cite-jsdoc-spec =
+    tie.close
+    (tie.spec
+    (λ c κs. search needs)
+    (λ c κs. search needs)
+    (λ c κs. search needs)
+    (λ c. search needs)
+    returns)

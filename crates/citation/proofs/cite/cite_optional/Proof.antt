@@ -1,0 +1,39 @@
+use borrow.Author.Needs.{needs}
+use mathlib.Core.Path.{refl, sym}
+use native.Mathlib.Omega.{arith}
+use denote.Ref.{now}
+use Rattle.report.specs.Encode.{each, encodeSpecifier}
+use Rattle.report.proofs.Worlds.{wrote-nil}
+use Rattle.citation.proofs.FromBytes.{none-there, some-there}
+use Rattle.citation.proofs.cite.cite_optional.Statement.{statement}
+use Rattle.citation.proofs.cite.cite_optional.Tie as tie
+
+returns : tie.Need-returns
+unfolding each
+returns c = (
+  λ o v t e.
+      let a = c .before .before .before .before .before .args in
+      let n = c .before .before .read-number in
+      let (p, e) = none-there (n .ensures) encodeSpecifier (c .if1 .taken) o t e in
+      rw p (record { written = sym (wrote-nil (now (a .out)) (a .place)); counted = refl }, e),
+  omega arith,
+)
+
+returns-2 : tie.Need-returns-2
+returns-2 c = (
+  λ o v t e.
+      let n = c .before .before .before .before .before .before .read-number in
+      let (x, p, e) = some-there (n .ensures) encodeSpecifier (c .before .before .before .before .if1 .left) o t e in
+      rw p (c .before .before .cite-specifier .ensures .0 x (rw p at v) t e),
+  c .before .before .cite-specifier .ensures .1,
+)
+
+pub cite-optional-spec : {M : Type 1} → statement M
+cite-optional-spec =
+    tie.close
+    (tie.spec
+    (λ c κs. search needs)
+    returns
+    (λ c κs. search needs)
+    (λ c. search needs)
+    returns-2)

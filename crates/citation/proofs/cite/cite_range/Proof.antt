@@ -1,0 +1,25 @@
+use borrow.Author.Needs.{needs}
+use mathlib.Core.Path.{refl}
+use mathlib.Core.List.{append-nil}
+use native.Mathlib.Omega.{arith}
+use Rattle.report.specs.Encode.{each}
+use Rattle.citation.proofs.cite.cite_range.Statement.{statement}
+use Rattle.citation.proofs.cite.cite_range.Tie as tie
+
+returns : tie.Need-returns
+unfolding each
+returns c = (
+  λ r v t e.
+      let (p, e) = c .before .before .before .before .read-range .ensures .0 r v t e in
+      (record { written = rw (append-nil, ← p) (c .before .before .put-line .ensures); counted = refl }, e),
+  omega arith,
+)
+
+pub cite-range-spec : {M : Type 1} → statement M
+cite-range-spec =
+    tie.close
+    (tie.spec
+    (λ c κs. search needs)
+    (λ c κs. search needs)
+    (λ c. search needs)
+    returns)

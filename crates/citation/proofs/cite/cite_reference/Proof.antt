@@ -1,0 +1,49 @@
+use borrow.Author.Needs.{needs}
+use mathlib.Core.Path.{_∙_}
+use mathlib.Core.List.{[], _∷_, append-assoc}
+use native.Mathlib.Omega.{arith}
+use Rattle.report.specs.ModuleInfo.{path, types}
+use Rattle.report.specs.Encode.{encodeSpecifier, encodeReference}
+use Rattle.citation.proofs.FromBytes.{byte-read}
+use Rattle.citation.proofs.cite.cite_reference.Statement.{statement}
+use Rattle.citation.proofs.cite.cite_reference.Tie as tie
+
+returns : tie.Need-returns
+unfolding encodeReference
+returns c =
+    let kind = c .before .before .before .before .before .before .read-number in
+    let byte = byte-read (kind .ensures) in (
+      elim [
+        | path s ↦ λ v t e. c .before .before .before .before .cite-specifier .ensures .0 s v t (byte 0 (omega arith) _ e .1)
+        | types s mode ↦ λ v t e. absurd (omega (arith, byte 1 (omega arith) _ e .0))
+      ],
+      c .before .before .before .before .cite-specifier .ensures .1,
+    )
+
+returns-2 : tie.Need-returns-2
+unfolding encodeReference
+returns-2 c =
+    let kind = c .before .before .before .before .before .before .before .before .read-number in
+    let byte = byte-read (kind .ensures) in
+    let line = c .before .before .before .before .before .before .cite-specifier in
+    let read = c .before .read-number2 in (
+      elim [
+        | path s ↦ λ v t e. absurd (c .before .before .if1 .left (byte 0 (omega arith) _ e .0))
+        | types s mode ↦ λ v t e.
+            let (p, e) = line .ensures .0 s (v .0) _ (byte 1 (omega arith) _ e .1 ∙ append-assoc (encodeSpecifier s) (mode ∷ []) t) in
+            (p, byte-read (read .ensures) mode (omega (arith, v .1)) t e .1)
+      ],
+      line .ensures .1,
+    )
+
+pub cite-reference-spec : {M : Type 1} → statement M
+cite-reference-spec =
+    tie.close
+    (tie.spec
+    (λ c κs. search needs)
+    (λ c κs. search needs)
+    (λ c. search needs)
+    returns
+    (λ c κs. search needs)
+    (λ c. search needs)
+    returns-2)

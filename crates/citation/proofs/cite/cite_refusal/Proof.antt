@@ -1,0 +1,29 @@
+use borrow.Author.Needs.{needs}
+use native.Mathlib.Omega.{arith}
+use lib.ListN.{length, length-take}
+use denote.Ref.{now}
+use Rattle.citation.specs.Citation.{refusal}
+use Rattle.citation.proofs.Whole.{all-written}
+use Rattle.citation.proofs.Lengths.{refusal-short}
+use Rattle.citation.proofs.cite.cite_refusal.Statement.{statement}
+use Rattle.citation.proofs.cite.cite_refusal.Tie as tie
+
+returns : tie.Need-returns
+unfolding refusal
+returns c =
+    let a = c .before .before .before .before .before .before .before .before .args in
+    let p = c .before .before .before .before .put-title in
+    let n = c .written in (
+      all-written (p .last .1 .0) (p .result) (length (now (a .out))) (refusal (a .number)) (p .ensures) (omega (arith, refusal-short (a .number) (omega arith))) (n .result) (n .ensures),
+      omega (arith, n .ensures, length-take (p .result .at) (p .last .1 .0)),
+    )
+
+pub cite-refusal-spec : {M : Type 1} → statement M
+cite-refusal-spec =
+    tie.close
+    (tie.spec
+    (λ c. search needs)
+    (λ c κs. search needs)
+    (λ c κs. search needs)
+    (λ c. search needs)
+    returns)

@@ -1,0 +1,22 @@
+use borrow.Author.Needs.{needs}
+use mathlib.Core.Path.{_∙_}
+use mathlib.Core.List.{append-assoc}
+use Rattle.wire.specs.Text.{encodeText}
+use Rattle.report.specs.Encode.{encodeOptional, encodeKeyValue}
+use Rattle.citation.proofs.fields.skip_part.Statement.{statement}
+use Rattle.citation.proofs.fields.skip_part.Tie as tie
+
+returns : tie.Need-returns
+unfolding encodeKeyValue
+returns c =
+    rw (c .before .before .if1 .taken)
+    (λ a v t e.
+    let (_, e) = c .before .read-text .ensures .0 (a .key) (v .key) _ (e ∙ append-assoc (encodeText (a .key)) (encodeOptional encodeText (a .value)) t) in
+    c .skip-optional-text .ensures (a .value) (v .value) t e)
+
+returns-2 : tie.Need-returns-2
+returns-2 c = rw (c .before .if1 .left) (c .skip-optional-text2 .ensures)
+
+pub skip-part-spec : {M : Type 1} → statement M
+skip-part-spec =
+    tie.close (tie.spec (λ c κs. search needs) (λ c κs. search needs) returns (λ c κs. search needs) returns-2)

@@ -1,0 +1,51 @@
+use borrow.Author.Needs.{needs}
+use mathlib.Core.Path.{_≡_}
+use mathlib.Core.List.{List, _++_}
+use Prim.Native.Nat.{ℕ}
+use lib.ListN.{length, drop}
+use denote.Ref.{now}
+use Rattle.report.specs.Encode.{each}
+use Rattle.report.specs.Valid.{All}
+use Rattle.citation.specs.Items.{Part, encodePart, ValidPart}
+use Rattle.citation.proofs.Lists.{Stand, next-item, no-item}
+use Rattle.citation.proofs.fields.skip_parts.Statement.{statement}
+use Rattle.citation.proofs.fields.skip_parts.Tie as tie
+
+abbrev Inv-loop : tie.InvT-loop
+Inv-loop report at keyed count place₀ left₀ place left =
+    (l : List (Part keyed)) → (length l ≡ count) × All (ValidPart keyed) l → (t : List ℕ) → drop at report ≡ each (encodePart keyed) l ++ t
+    → (l′ : List (Part keyed)) × Stand (encodePart keyed) (ValidPart keyed) report t place left l′
+
+abbrev μ-loop : tie.MeasureT-loop
+μ-loop report at keyed count place₀ left₀ place left = left
+
+loop-holds : tie.Need-loop-holds Inv-loop μ-loop
+loop-holds c = λ l v t e. (l, (v .0, v .1, e))
+
+loop-again : tie.Need-loop-again Inv-loop μ-loop
+loop-again c = λ l v t e.
+    let a = c .before .before .before .before .args in
+    let i = c .before .before .loop in
+    let (l, p) = i .inv l v t e in
+    let (x, l, _, v, e, on) = next-item (encodePart (a .keyed)) (ValidPart (a .keyed)) (now (a .report)) t (i .place) (i .left) l (c .before .loop-test .taken) p in
+    (l, on (c .skip-part .result) (c .skip-part .ensures x v _ e))
+
+returns : tie.Need-returns Inv-loop μ-loop
+returns c = λ l v t e.
+    let a = c .before .before .before .args in
+    let i = c .before .loop in
+    let (l, p) = i .inv l v t e in
+    no-item (encodePart (a .keyed)) (ValidPart (a .keyed)) (now (a .report)) t (i .place) (i .left) l (c .loop-test .left) p .1
+
+pub skip-parts-spec : {M : Type 1} → statement M
+skip-parts-spec =
+    tie.close
+    (tie.spec
+    Inv-loop
+    μ-loop
+    loop-holds
+    (λ c κs. search needs)
+    (λ c. search needs)
+    (λ c. search needs)
+    loop-again
+    returns)

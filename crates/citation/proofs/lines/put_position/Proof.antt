@@ -1,0 +1,21 @@
+use borrow.Author.Needs.{needs}
+use Rattle.report.proofs.Worlds.{wrote-append, wrote-cons}
+use Rattle.citation.specs.Citation.{citePosition}
+use Rattle.citation.proofs.lines.put_position.Statement.{statement}
+use Rattle.citation.proofs.lines.put_position.Tie as tie
+
+returns : tie.Need-returns
+unfolding citePosition
+returns c = rw (wrote-append, ← (c .before .before .before .before .before .before .before .before .before .before .before .put-digits .ensures), wrote-cons, ← (c .before .before .before .before .before .before .before .put .ensures)) (c .before .before .put-digits2 .ensures)
+
+pub put-position-spec : {M : Type 1} → statement M
+put-position-spec =
+    tie.close
+    (tie.spec
+    (λ c. search needs)
+    (λ c κs. search needs)
+    (λ c κs. search needs)
+    (λ c. search needs)
+    (λ c κs. search needs)
+    (λ c. search needs)
+    returns)

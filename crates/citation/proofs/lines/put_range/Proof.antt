@@ -1,0 +1,19 @@
+use borrow.Author.Needs.{needs}
+use Rattle.report.proofs.Worlds.{wrote-append, wrote-cons}
+use Rattle.citation.specs.Citation.{citeRange}
+use Rattle.citation.proofs.lines.put_range.Statement.{statement}
+use Rattle.citation.proofs.lines.put_range.Tie as tie
+
+returns : tie.Need-returns
+unfolding citeRange
+returns c = rw (wrote-append, ← (c .before .before .before .before .before .before .before .before .before .before .put-position .ensures), wrote-cons, ← (c .before .before .before .before .before .before .put .ensures)) (c .before .before .put-position2 .ensures)
+
+pub put-range-spec : {M : Type 1} → statement M
+put-range-spec =
+    tie.close
+    (tie.spec
+    (λ c κs. search needs)
+    (λ c κs. search needs)
+    (λ c κs. search needs)
+    (λ c. search needs)
+    returns)

@@ -1,0 +1,48 @@
+use borrow.Author.Needs.{needs}
+use mathlib.Core.Path.{_≡_, sym, _∙_}
+use Prim.Native.Nat.{_-_}
+use native.Mathlib.Numerals.{add-one}
+use lib.ListN.{length, drop, drop-of-length-le}
+use lib.Seq.{drop-cons}
+use denote.Ref.{now}
+use Rattle.report.specs.Encode.{each}
+use Rattle.report.specs.World.{wrote, worldAs}
+use Rattle.report.proofs.Worlds.{wrote-append, wrote-nil}
+use Rattle.citation.specs.Citation.{escaped}
+use Rattle.citation.proofs.lines.put_text.Statement.{statement}
+use Rattle.citation.proofs.lines.put_text.Tie as tie
+
+abbrev Inv-loop : tie.InvT-loop
+Inv-loop out₀ text p₀ i₀ out p i = (length out ≡ length out₀) × (wrote (worldAs out₀ p₀) (each escaped text) ≡ wrote (worldAs out p) (each escaped (drop i text)))
+
+abbrev μ-loop : tie.MeasureT-loop
+μ-loop out₀ text p₀ i₀ out p i = length text - i
+
+loop-again : tie.Need-loop-again Inv-loop μ-loop
+unfolding each
+loop-again c =
+    let l = c .before .before .before .before .before .before .loop in
+    let s = now (c .before .before .before .before .before .before .before .before .before .args .text) in
+    (c .before .before .put-escaped .kept .1 .0 ∙ l .inv .0, l .inv .1 ∙ rw (add-one, drop-cons s (l .i) 0 (c .before .before .before .before .before .loop-test .taken), wrote-append, ← (c .before .before .put-escaped .ensures)))
+
+returns : tie.Need-returns Inv-loop μ-loop
+unfolding each
+returns c =
+    let l = c .before .loop in
+    let s = now (c .before .before .before .before .args .text) in
+    sym (l .inv .1 ∙ rw (drop-of-length-le s (c .loop-test .left)) (wrote-nil (l .out) (l .p)))
+
+pub put-text-spec : {M : Type 1} → statement M
+put-text-spec =
+    tie.close
+    (tie.spec
+    Inv-loop
+    μ-loop
+    (λ c. search needs)
+    (λ c. search needs)
+    (λ c κs. search needs)
+    (λ c. search needs)
+    (λ c. search needs)
+    loop-again
+    (λ c. search needs)
+    returns)

@@ -1,0 +1,19 @@
+use borrow.Author.Needs.{needs}
+use Rattle.report.proofs.Worlds.{wrote-append}
+use Rattle.citation.specs.Citation.{title}
+use Rattle.citation.proofs.lines.put_title.Statement.{statement}
+use Rattle.citation.proofs.lines.put_title.Tie as tie
+
+returns : tie.Need-returns
+unfolding title
+returns c = rw (wrote-append, ← (c .before .before .before .before .before .before .before .before .before .before .put-bytes .ensures), wrote-append, ← (c .before .before .before .before .before .before .put-digits .ensures)) (c .before .before .put .ensures)
+
+pub put-title-spec : {M : Type 1} → statement M
+put-title-spec =
+    tie.close
+    (tie.spec
+    (λ c κs. search needs)
+    (λ c κs. search needs)
+    (λ c κs. search needs)
+    (λ c. search needs)
+    returns)

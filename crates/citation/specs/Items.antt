@@ -1,0 +1,52 @@
+-- The items of the report's lists, by their kind.
+use mathlib.Core.Bool.{Bool, true, false}
+use mathlib.Core.List.{List, _++_}
+use mathlib.Core.Option.{Option}
+use Prim.Native.Nat.{ℕ}
+use Rattle.wire.specs.Text.{encodeText}
+use Rattle.report.specs.ModuleInfo.{PositionRange, DynamicArgument, TypeScriptReference, JsDocImportInfo, KeyValue, DependencyDescriptor}
+use Rattle.report.specs.Encode.{encodeOptional, encodeRange, encodeArgument, encodeReference, encodeJsDoc, encodeKeyValue, encodeDependency}
+use Rattle.report.specs.Valid.{IfThere, Short, ValidRange, ValidArgument, ValidReference, ValidJsDoc, ValidKeyValue, ValidDependency}
+use Rattle.citation.specs.Citation.{Line, citeDependency, citeReference, citeJsDoc}
+use Rattle.citation.specs.declared.cite.Kind.{Kind}
+use Rattle.citation.specs.declared.cite.Kind.the-variants as kind
+
+abbrev pub Item : Kind → Type 0
+Item kind.Dependency = DependencyDescriptor
+Item kind.Reference = TypeScriptReference
+Item kind.JsDoc = JsDocImportInfo
+
+abbrev pub encodeItem : (k : Kind) → Item k → List ℕ
+encodeItem kind.Dependency = encodeDependency
+encodeItem kind.Reference = encodeReference
+encodeItem kind.JsDoc = encodeJsDoc
+
+abbrev pub ValidItem : (k : Kind) → Item k → Type 0
+ValidItem kind.Dependency = ValidDependency
+ValidItem kind.Reference = ValidReference
+ValidItem kind.JsDoc = ValidJsDoc
+
+abbrev pub citeItem : (k : Kind) → Item k → List Line
+citeItem kind.Dependency = citeDependency
+citeItem kind.Reference = citeReference
+citeItem kind.JsDoc = citeJsDoc
+
+-- a dynamic argument with its range
+abbrev pub encodeRanged : DynamicArgument × PositionRange → List ℕ
+encodeRanged a = encodeArgument (a .0) ++ encodeRange (a .1)
+
+abbrev pub ValidRanged : DynamicArgument × PositionRange → Type 0
+ValidRanged a = ValidArgument (a .0) × ValidRange (a .1)
+
+-- what is skipped in lists: attributes, which have a key, and parts of a template
+abbrev pub Part : Bool → Type 0
+Part true = KeyValue
+Part false = Option (List ℕ)
+
+abbrev pub encodePart : (keyed : Bool) → Part keyed → List ℕ
+encodePart true = encodeKeyValue
+encodePart false = encodeOptional encodeText
+
+abbrev pub ValidPart : (keyed : Bool) → Part keyed → Type 0
+ValidPart true = ValidKeyValue
+ValidPart false = IfThere Short

@@ -1,0 +1,3 @@
+pub mod Citation
+pub mod Reads
+pub mod Items

@@ -1,0 +1,41 @@
+-- What the code does with a report s from a place on, if the bytes of a valid value stand there: it finds the place behind them, and the value or its lines.
+use mathlib.Core.Path.{_≡_}
+use mathlib.Core.List.{List, _++_}
+use Prim.Native.Nat.{ℕ, _≤_}
+use lib.ListN.{length, drop}
+use Rattle.wire.specs.Number.{largest, encodeNumber}
+use Rattle.report.specs.World.{World, wrote, worldAs}
+use Rattle.report.specs.Encode.{each}
+use Rattle.citation.specs.Citation.{Line, printed}
+use Rattle.citation.specs.declared.cite.Cited.{Cited}
+
+-- lines, and so many, are written behind what stood in the buffer
+pub record Printed (before : World) (lines : List Line) (after : World) (count : ℕ) : Type 0 where
+  pub written : after ≡ wrote before (each printed lines)
+  pub counted : count ≡ length lines
+
+module _ {A : Type 0} (encode : A → List ℕ) (Valid : A → Type 0) (s : List ℕ) (at : ℕ) where
+  -- the value is the one whose bytes stand there
+  abbrev pub Reads : A → ℕ → Type 0
+  Reads value next = (a : A) → Valid a → (t : List ℕ) → drop at s ≡ encode a ++ t → (value ≡ a) × (drop next s ≡ t)
+
+  -- only the place is found
+  abbrev pub Skips : ℕ → Type 0
+  Skips next = (a : A) → Valid a → (t : List ℕ) → drop at s ≡ encode a ++ t → drop next s ≡ t
+
+  -- its lines are written
+  abbrev pub Cites : (A → List Line) → World → List ℕ → Cited → Type 0
+  Cites lines before out r =
+      (a : A) → Valid a → (t : List ℕ) → drop at s ≡ encode a ++ t
+      → Printed before (lines a) (worldAs out (r .place)) (r .lines) × (drop (r .next) s ≡ t)
+
+-- a number that can be written is read, up to a place of the report
+pub record Number (s : List ℕ) (at value next : ℕ) : Type 0 where
+  pub small : value ≤ largest
+  pub inside : next ≤ length s
+  pub read : Reads encodeNumber (λ n. n ≤ largest) s at value next
+
+-- a part of the report
+pub record Inside (s : List ℕ) (from to : ℕ) : Type 0 where
+  pub order : from ≤ to
+  pub end : to ≤ length s

@@ -1,0 +1,328 @@
+// The citation of a report, read from its front and written line by line.
+use super::fields::read_number;
+use super::fields::read_range;
+use super::fields::read_text;
+use super::fields::skip_attributes;
+use super::fields::skip_list;
+use super::fields::skip_optional_specifier;
+use super::lines::put_line;
+use super::lines::put_title;
+use report::writer::Place;
+ghost use mathlib.Core.Path.{_≡_};
+ghost use mathlib.Core.List.{[], _∷_};
+ghost use Prim.Native.Nat.{_+_, _*_, _≤_};
+ghost use lib.ListN.{length, take};
+ghost use Rattle.wire.specs.Number.{largest};
+ghost use Rattle.report.specs.ModuleInfo.{ModuleInfo};
+ghost use Rattle.report.specs.Encode.{
+  each,
+  encodeOptional,
+  encodeList,
+  encodeRange,
+  encodeSpecifier,
+  encodeReference,
+  encodeJsDoc,
+  encodeDependency,
+  encode,
+};
+ghost use Rattle.report.specs.Valid.{
+  IfThere,
+  All,
+  Short,
+  ValidRange,
+  ValidSpecifier,
+  ValidReference,
+  ValidJsDoc,
+  ValidDependency,
+  Valid,
+};
+ghost use Rattle.report.specs.World.{worldAs};
+ghost use Rattle.citation.specs.Citation.{
+  citeSpecifier,
+  citeOptional,
+  citeArgument,
+  citeReference,
+  citeJsDoc,
+  citeDependency,
+  citeEach,
+  lines,
+  citation,
+  refusal,
+};
+ghost use Rattle.citation.specs.Reads.{Cites};
+ghost use Rattle.citation.specs.Items.{encodeRanged, ValidRanged, encodeItem, ValidItem, citeItem};
+
+// Where the next byte goes in the buffer, how many lines were written, and the place behind what was read of the report.
+pub struct Cited {
+    pub place: Place,
+    pub lines: usize,
+    pub next: usize,
+}
+
+// The items of the report's lists.
+pub enum Kind {
+    Dependency,
+    Reference,
+    JsDoc,
+}
+
+// Cites a text that is given, with the range that is read.
+fn cite_range(
+    report: &[u8],
+    at: usize,
+    letter: u8,
+    text: &[u8],
+    out: &mut [u8],
+    place: Place,
+) -> Cited
+    ensures { λ r. ⌜ Cites encodeRange ValidRange (now (report .entry)) at
+        (λ range. record { letter = letter; range = range; text = now (text .entry) } ∷ [])
+        (worldAs (now (out .entry)) place) (now (out .exit)) r ⌝ }
+    ensures { λ r. ⌜ r .lines ≤ 1 ⌝ }
+{
+    let range = read_range(report, at);
+    Cited {
+        place: put_line(place, out, letter, range.start, range.end, text),
+        lines: 1,
+        next: range.next,
+    }
+}
+
+// Cites a text and its range.
+fn cite_specifier(report: &[u8], at: usize, letter: u8, out: &mut [u8], place: Place) -> Cited
+    ensures { λ r. ⌜ Cites encodeSpecifier ValidSpecifier (now (report .entry)) at
+        (citeSpecifier letter) (worldAs (now (out .entry)) place) (now (out .exit)) r ⌝ }
+    ensures { λ r. ⌜ r .lines ≤ 1 ⌝ }
+{
+    let text = read_text(report, at);
+    let from = text.from;
+    let to = text.to;
+    cite_range(report, to, letter, &report[from..to], out, place)
+}
+
+// Cites a text and its range, if they are there.
+fn cite_optional(report: &[u8], at: usize, letter: u8, out: &mut [u8], place: Place) -> Cited
+    ensures { λ r. ⌜ Cites (encodeOptional encodeSpecifier) (IfThere ValidSpecifier) (now (report .entry)) at
+        (citeOptional letter) (worldAs (now (out .entry)) place) (now (out .exit)) r ⌝ }
+    ensures { λ r. ⌜ r .lines ≤ 1 ⌝ }
+{
+    let there = read_number(report, at);
+    if there.value == 0 {
+        return Cited {
+            place,
+            lines: 0,
+            next: there.next,
+        };
+    }
+    cite_specifier(report, there.next, letter, out, place)
+}
+
+// Cites a reference: R.
+fn cite_reference(report: &[u8], at: usize, out: &mut [u8], place: Place) -> Cited
+    ensures { λ r. ⌜ Cites encodeReference ValidReference (now (report .entry)) at
+        citeReference (worldAs (now (out .entry)) place) (now (out .exit)) r ⌝ }
+    ensures { λ r. ⌜ r .lines ≤ 1 ⌝ }
+{
+    let kind = read_number(report, at);
+    let line = cite_specifier(report, kind.next, b'R', out, place);
+    if kind.value == 0 {
+        return line;
+    }
+    let mode = read_number(report, line.next);
+    let place = line.place;
+    Cited {
+        place,
+        lines: line.lines,
+        next: mode.next,
+    }
+}
+
+// Cites a JSDoc import: J.
+fn cite_jsdoc(report: &[u8], at: usize, out: &mut [u8], place: Place) -> Cited
+    ensures { λ r. ⌜ Cites encodeJsDoc ValidJsDoc (now (report .entry)) at
+        citeJsDoc (worldAs (now (out .entry)) place) (now (out .exit)) r ⌝ }
+    ensures { λ r. ⌜ r .lines ≤ 1 ⌝ }
+{
+    let kind = read_number(report, at);
+    let line = cite_specifier(report, kind.next, b'J', out, place);
+    let mode = read_number(report, line.next);
+    let place = line.place;
+    Cited {
+        place,
+        lines: line.lines,
+        next: mode.next,
+    }
+}
+
+// Cites a dynamic argument with its range: D, and `?` where it has no single text.
+fn cite_argument(report: &[u8], at: usize, out: &mut [u8], place: Place) -> Cited
+    ensures { λ r. ⌜ Cites encodeRanged ValidRanged (now (report .entry)) at
+        (λ a. citeArgument (a .0) (a .1)) (worldAs (now (out .entry)) place) (now (out .exit)) r ⌝ }
+    ensures { λ r. ⌜ r .lines ≤ 1 ⌝ }
+{
+    let kind = read_number(report, at);
+    if kind.value == 1 {
+        return cite_specifier(report, kind.next, b'D', out, place);
+    }
+    if kind.value == 2 {
+        let next = skip_list(report, kind.next, false);
+        return cite_range(report, next, b'D', b"?", out, place);
+    }
+    cite_range(report, kind.next, b'D', b"?", out, place)
+}
+
+// Cites a dependency: D, and T for its types, which stand before it in the report and are read again.
+fn cite_dependency(report: &[u8], at: usize, out: &mut [u8], place: Place) -> Cited
+    ensures { λ r. ⌜ Cites encodeDependency ValidDependency (now (report .entry)) at
+        citeDependency (worldAs (now (out .entry)) place) (now (out .exit)) r ⌝ }
+    ensures { λ r. ⌜ r .lines ≤ 2 ⌝ }
+{
+    let kind = read_number(report, at);
+    let types = kind.next;
+    let next = skip_optional_specifier(report, types);
+    if kind.value < 9 {
+        let first = cite_specifier(report, next, b'D', out, place);
+        let second = cite_optional(report, types, b'T', out, first.place);
+        let side_effect = read_number(report, first.next);
+        let place = second.place;
+        return Cited {
+            place,
+            lines: first.lines + second.lines,
+            next: skip_attributes(report, side_effect.next),
+        };
+    }
+    let first = cite_argument(report, next, out, place);
+    let second = cite_optional(report, types, b'T', out, first.place);
+    let place = second.place;
+    Cited {
+        place,
+        lines: first.lines + second.lines,
+        next: skip_attributes(report, first.next),
+    }
+}
+
+// Cites an item of a list.
+fn cite_item(report: &[u8], at: usize, kind: Kind, out: &mut [u8], place: Place) -> Cited
+    ensures { λ r. ⌜ Cites (encodeItem kind) (ValidItem kind) (now (report .entry)) at
+        (citeItem kind) (worldAs (now (out .entry)) place) (now (out .exit)) r ⌝ }
+    ensures { λ r. ⌜ r .lines ≤ 2 ⌝ }
+{
+    match kind {
+        Kind::Dependency => cite_dependency(report, at, out, place),
+        Kind::Reference => cite_reference(report, at, out, place),
+        Kind::JsDoc => cite_jsdoc(report, at, out, place),
+    }
+}
+
+// Cites so many items.
+fn cite_items(
+    report: &[u8],
+    at: usize,
+    kind: Kind,
+    count: usize,
+    out: &mut [u8],
+    place: Place,
+) -> Cited
+    requires { ⌜ count ≤ largest ⌝ }
+    ensures { λ r. ⌜ Cites (each (encodeItem kind)) (λ l. (length l ≡ count) × All (ValidItem kind) l) (now (report .entry)) at
+        (citeEach (citeItem kind)) (worldAs (now (out .entry)) place) (now (out .exit)) r ⌝ }
+    ensures { λ r. ⌜ r .lines ≤ 2 * count ⌝ }
+{
+    let mut p = place;
+    let mut lines: usize = 0;
+    let mut next = at;
+    let mut left = count;
+    while 0 < left {
+        let item = cite_item(report, next, kind, out, p);
+        p = item.place;
+        lines += item.lines;
+        next = item.next;
+        left -= 1;
+    }
+    Cited {
+        place: p,
+        lines,
+        next,
+    }
+}
+
+// Cites a list.
+fn cite_list(report: &[u8], at: usize, kind: Kind, out: &mut [u8], place: Place) -> Cited
+    ensures { λ r. ⌜ Cites (encodeList (encodeItem kind)) (λ l. Short l × All (ValidItem kind) l) (now (report .entry)) at
+        (citeEach (citeItem kind)) (worldAs (now (out .entry)) place) (now (out .exit)) r ⌝ }
+    ensures { λ r. ⌜ r .lines ≤ 2 * largest ⌝ }
+{
+    let count = read_number(report, at);
+    cite_items(report, count.next, kind, count.value, out, place)
+}
+
+// The sum of the lines of a report's parts.
+fn total(d: usize, r: usize, s: usize, x: usize, y: usize, j: usize, m: usize) -> usize
+    requires { ⌜ (d ≤ 2 * largest) × (r ≤ 2 * largest) × (s ≤ 1) × (x ≤ 1) × (y ≤ 1) × (j ≤ 2 * largest) × (m ≤ 1) ⌝ }
+    ensures { λ n. ⌜ n ≡ d + r + s + x + y + j + m ⌝ }
+{
+    d + r + s + x + y + j + m
+}
+
+// Cites what is in a report: D and T, R, S, X, Y, J, M.
+fn cite_lines(report: &[u8], out: &mut [u8], place: Place) -> Cited
+    ensures { λ r. ⌜ Cites encode Valid (now (report .entry)) 0 lines (worldAs (now (out .entry)) place) (now (out .exit)) r ⌝ }
+{
+    let is_script = read_number(report, 0);
+    let d = cite_list(report, is_script.next, Kind::Dependency, out, place);
+    let r = cite_list(report, d.next, Kind::Reference, out, d.place);
+    let s = cite_optional(report, r.next, b'S', out, r.place);
+    let x = cite_optional(report, s.next, b'X', out, s.place);
+    let y = cite_optional(report, x.next, b'Y', out, x.place);
+    let j = cite_list(report, y.next, Kind::JsDoc, out, y.place);
+    let m = cite_optional(report, j.next, b'M', out, j.place);
+    let place = m.place;
+    Cited {
+        place,
+        lines: total(
+            d.lines,
+            r.lines,
+            s.lines,
+            x.lines,
+            y.lines,
+            j.lines,
+            m.lines,
+        ),
+        next: m.next,
+    }
+}
+
+// How many bytes stand before a place.
+fn written(out: &[u8], place: Place) -> usize
+    ensures { λ r. ⌜ r ≡ length (take (place .at) (now (out .entry))) ⌝ }
+{
+    if place.at < out.len() {
+        return place.at;
+    }
+    out.len()
+}
+
+// Writes the citation of a report, and answers its length. A first pass counts the lines; what it writes is written over.
+pub fn cite_report(report: &[u8], out: &mut [u8]) -> usize
+    requires { ⌜ 4 * length (now report) ≤ length (now out) ⌝ }
+    ensures { λ r. ⌜ ((m : ModuleInfo) → Valid m → encode m ≡ now (report .entry)
+        → (r ≡ length (citation m)) × (take r (now (out .exit)) ≡ citation m)) ⌝ }
+    ensures { λ r. ⌜ r ≤ length (now (out .exit)) ⌝ }
+{
+    let start = Place { at: 0, full: false };
+    let counted = cite_lines(report, out, start);
+    let p = put_title(start, out, b"module ", counted.lines);
+    let cited = cite_lines(report, out, p);
+    written(out, cited.place)
+}
+
+// Writes the citation of a refusal, and answers its length.
+pub fn cite_refusal(number: u8, out: &mut [u8]) -> usize
+    requires { ⌜ 12 ≤ length (now out) ⌝ }
+    ensures { λ r. ⌜ (r ≡ length (refusal number)) × (take r (now (out .exit)) ≡ refusal number) ⌝ }
+    ensures { λ r. ⌜ r ≤ length (now (out .exit)) ⌝ }
+{
+    let start = Place { at: 0, full: false };
+    let p = put_title(start, out, b"refused ", number as usize);
+    written(out, p)
+}

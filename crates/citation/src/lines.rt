@@ -1,0 +1,131 @@
+// The writing of lines.
+use report::writer::Place;
+use text::position::Position;
+ghost use mathlib.Core.Path.{_≡_};
+ghost use Prim.Native.Nat.{_<_};
+ghost use Rattle.report.specs.Encode.{each};
+ghost use Rattle.report.specs.Valid.{ValidPosition};
+ghost use Rattle.report.specs.World.{wrote, worldAs};
+ghost use Rattle.citation.specs.Citation.{
+  digits,
+  hexDigit,
+  isEscaped,
+  escaped,
+  citePosition,
+  citeRange,
+  printed,
+  title,
+};
+
+// Writes a number in decimal, in at most so many places.
+pub fn put_digits(place: Place, out: &mut [u8], places: usize, n: usize) -> Place
+    ensures { λ r. ⌜ worldAs (now (out .exit)) r ≡ wrote (worldAs (now (out .entry)) place) (digits places n) ⌝ }
+{
+    if places == 0 {
+        return place;
+    }
+    if n < 10 {
+        return place.put(out, (0x30 + n) as u8);
+    }
+    let p = put_digits(place, out, places - 1, n / 10);
+    p.put(out, (0x30 + n % 10) as u8)
+}
+
+// A hexadecimal digit, in upper case.
+fn hex_digit(n: u8) -> u8
+    requires { ⌜ n < 16 ⌝ }
+    ensures { λ r. ⌜ r ≡ hexDigit n ⌝ }
+{
+    if n < 10 { 0x30 + n } else { 0x37 + n }
+}
+
+// Is the byte under 32, or 127, or the backslash?
+fn is_escaped(b: u8) -> bool
+    ensures { λ r. ⌜ r ≡ isEscaped b ⌝ }
+{
+    if b < 32 {
+        return true;
+    }
+    if b == 127 {
+        return true;
+    }
+    b == 0x5C
+}
+
+// Writes a byte of a text.
+fn put_escaped(place: Place, out: &mut [u8], b: u8) -> Place
+    ensures { λ r. ⌜ worldAs (now (out .exit)) r ≡ wrote (worldAs (now (out .entry)) place) (escaped b) ⌝ }
+{
+    if is_escaped(b) {
+        let p = place.put_bytes(out, b"\\x");
+        let p = p.put(out, hex_digit(b / 16));
+        return p.put(out, hex_digit(b % 16));
+    }
+    place.put(out, b)
+}
+
+// Writes a text.
+fn put_text(place: Place, out: &mut [u8], text: &[u8]) -> Place
+    ensures { λ r. ⌜ worldAs (now (out .exit)) r
+        ≡ wrote (worldAs (now (out .entry)) place) (each escaped (now (text .entry))) ⌝ }
+{
+    let mut p = place;
+    let mut i = 0;
+    while i < text.len() {
+        p = put_escaped(p, out, text[i]);
+        i += 1;
+    }
+    p
+}
+
+// Writes line:column, from 1.
+fn put_position(place: Place, out: &mut [u8], position: Position) -> Place
+    requires { ⌜ ValidPosition position ⌝ }
+    ensures { λ r. ⌜ worldAs (now (out .exit)) r ≡ wrote (worldAs (now (out .entry)) place) (citePosition position) ⌝ }
+{
+    let p = put_digits(place, out, 20, position.line + 1);
+    let p = p.put(out, b':');
+    put_digits(p, out, 20, position.column + 1)
+}
+
+// Writes the positions at a range's start and at its end.
+fn put_range(place: Place, out: &mut [u8], start: Position, end: Position) -> Place
+    requires { ⌜ ValidPosition start × ValidPosition end ⌝ }
+    ensures { λ r. ⌜ worldAs (now (out .exit)) r
+        ≡ wrote (worldAs (now (out .entry)) place) (citeRange (record { start = start; end = end })) ⌝ }
+{
+    let p = put_position(place, out, start);
+    let p = p.put(out, b'-');
+    put_position(p, out, end)
+}
+
+// Writes a line: letter, space, range, space, text.
+pub fn put_line(
+    place: Place,
+    out: &mut [u8],
+    letter: u8,
+    start: Position,
+    end: Position,
+    text: &[u8],
+) -> Place
+    requires { ⌜ ValidPosition start × ValidPosition end ⌝ }
+    ensures { λ r. ⌜ worldAs (now (out .exit)) r
+        ≡ wrote (worldAs (now (out .entry)) place)
+        (printed (record { letter = letter; range = record { start = start; end = end }; text = now (text .entry) })) ⌝ }
+{
+    let p = place.put(out, letter);
+    let p = p.put(out, b' ');
+    let p = put_range(p, out, start, end);
+    let p = p.put(out, b' ');
+    let p = put_text(p, out, text);
+    p.put(out, b'\n')
+}
+
+// Writes a word and a number, on a line of their own.
+pub fn put_title(place: Place, out: &mut [u8], word: &[u8], n: usize) -> Place
+    ensures { λ r. ⌜ worldAs (now (out .exit)) r ≡ wrote (worldAs (now (out .entry)) place) (title (now (word .entry)) n) ⌝ }
+{
+    let p = place.put_bytes(out, word);
+    let p = put_digits(p, out, 20, n);
+    p.put(out, b'\n')
+}

@@ -1,0 +1,103 @@
+-- What the report function answers is what the citation asks for.
+use mathlib.Core.Path.{_≡_, refl, sym, ap, _∙_}
+use mathlib.Core.Bool.{Bool, true, false, cond}
+use mathlib.Core.List.{List, [], _++_}
+use Prim.Native.Nat.{ℕ, _-_, _*_, _≤_}
+use native.Mathlib.Omega.{arith}
+use lib.Dec.{leb}
+use lib.ListN.{length, take, length-append}
+use lib.Seq.{take-append-seam}
+use borrow.Author.Tests.{leb-true}
+use Rattle.laws.specs.Decoded.{Decoded, ok, no}
+use Rattle.laws.proofs.Decoding.{refused, then-ok}
+use Rattle.wire.specs.Number.{largest}
+use Rattle.sheet.specs.Sheet.{Sheet, decodeSheet, accept}
+use Rattle.sheet.specs.Walked.{uncooked}
+use Rattle.sheet_codec.proofs.Sheets.{encoded}
+use Rattle.accept.proofs.Refusals.{Decision, decided}
+use Rattle.report.specs.ModuleInfo.{ModuleInfo}
+use Rattle.report.specs.Encode.{encode}
+use Rattle.report.specs.Valid.{Valid}
+use Rattle.report.specs.Answer.{Answer, zeros, accepted, fitted}
+use Rattle.report.specs.declared.writer.Outcome.{Outcome}
+use Rattle.report.specs.declared.writer.Outcome.the-variants.{Accepted, Refused}
+use Rattle.citation.specs.Citation.{citation, refusal}
+use Rattle.module_info.specs.Information.{moduleInfo, answerOf}
+use Rattle.module_info.specs.Demands.{Demands}
+use Rattle.cite.specs.Cited.{citedIn, cited}
+use Rattle.cite.proofs.Readable.{readable}
+
+-- the source of an accepted sheet is short
+source-short : (s : List ℕ) (t : Sheet) → accept s ≡ ok t [] → length (t .source) ≤ largest
+unfolding accept
+source-short s t e =
+    let (a, u, e1, e2) = then-ok (decodeSheet s) (λ t u. cond (uncooked (t .root)) (no 9) (ok t u)) e in
+    let limits = encoded (e1 ∙ go a u (uncooked (a .root)) e2) .1 in
+    omega (arith, limits .fields .source .0)
+  where
+    go : (a : Sheet) (u : List ℕ) (b : Bool) → cond b (no 9) (ok a u) ≡ ok t [] → ok a u ≡ ok t []
+    go a u true f = absurd (refused f)
+    go a u false f = f
+
+-- a report has bytes
+some-bytes : (m : ModuleInfo) → 0 ≡ length (encode m) → ⊥
+unfolding encode
+some-bytes m e = absurd (omega arith)
+
+-- a report that was answered: it is the encoding of information that can be read back, and the lines are those of its citation
+pub record Reported (s : List ℕ) (n : ℕ) (buffer : List ℕ) : Type 0 where
+  pub info : ModuleInfo
+  pub within : n ≤ length buffer
+  pub room : 4 * length (take n buffer) ≤ 262144
+  pub valid : Valid info
+  pub bytes : encode info ≡ take n buffer
+  pub lines : cited s ≡ citation info
+
+module _ {s buffer : List ℕ} where
+  pub reported : {n : ℕ} → Demands s 65536 (Accepted n) buffer → Reported s n buffer
+  unfolding answerOf fitted cited
+  reported {n} d = by-sheet (decided s)
+    where
+      by-room : (t : Sheet) → accept s ≡ ok t [] → (b : Bool) → leb (length (encode (moduleInfo t))) 65536 ≡ b → Reported s n buffer
+      by-room t e true h =
+          let answer : record { number = 0; length = n; buffer = buffer } ≡ accepted 65536 (encode (moduleInfo t)) = rw (e, h) at (d .answer) in
+          let long : n ≡ length (encode (moduleInfo t)) = ap (λ (a : Answer). a .length) answer in
+          let held : buffer ≡ encode (moduleInfo t) ++ zeros (65536 - length (encode (moduleInfo t))) = ap (λ (a : Answer). a .buffer) answer in
+          let begins : encode (moduleInfo t) ≡ take n buffer = rw (long, held) (sym (take-append-seam (encode (moduleInfo t)) _)) in
+          let room = leb-true (length (encode (moduleInfo t))) 65536 h in
+          record {
+            info = moduleInfo t;
+            within = omega (arith, ap length held, length-append (encode (moduleInfo t)) (zeros (65536 - length (encode (moduleInfo t)))));
+            room = rw (← begins) (omega arith);
+            valid = readable t (source-short s t e) (d .jsdoc t e) (omega arith);
+            bytes = begins;
+            lines = rw (e, h);
+          }
+      by-room t e false h =
+          let none : _≡_ {A = ℕ} 0 10 = ap (λ (a : Answer). a .number) (rw (e, h) at (d .answer)) in
+          absurd (omega arith)
+
+      by-sheet : Decision s → Reported s n buffer
+      by-sheet (Decision.accepted t e) = by-room t e (leb (length (encode (moduleInfo t))) 65536) refl
+      by-sheet (Decision.refused r a b e) =
+          let none : 0 ≡ r = ap (λ (a : Answer). a .number) (rw e at (d .answer)) in
+          absurd (omega arith)
+
+  -- a refusal that was answered
+  pub refused-lines : {r : ℕ} → Demands s 65536 (Refused r) buffer → cited s ≡ refusal r
+  unfolding answerOf fitted cited
+  refused-lines {r} d = by-sheet (decided s)
+    where
+      by-room : (t : Sheet) → accept s ≡ ok t [] → (b : Bool) → leb (length (encode (moduleInfo t))) 65536 ≡ b → cited s ≡ refusal r
+      by-room t e true h =
+          let none : 0 ≡ length (encode (moduleInfo t)) = ap (λ (a : Answer). a .length) (rw (e, h) at (d .answer)) in
+          absurd (some-bytes (moduleInfo t) none)
+      by-room t e false h =
+          let ten : r ≡ 10 = ap (λ (a : Answer). a .number) (rw (e, h) at (d .answer)) in
+          rw (e, h, ten)
+
+      by-sheet : Decision s → cited s ≡ refusal r
+      by-sheet (Decision.accepted t e) = by-room t e (leb (length (encode (moduleInfo t))) 65536) refl
+      by-sheet (Decision.refused q a b e) =
+          let same : r ≡ q = ap (λ (a : Answer). a .number) (rw e at (d .answer)) in
+          rw (e, same)

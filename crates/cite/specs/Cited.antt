@@ -1,0 +1,23 @@
+-- What `cite` prints for the bytes of a sheet.
+use mathlib.Core.Bool.{cond}
+use mathlib.Core.List.{List}
+use Prim.Native.Nat.{ℕ}
+use lib.Dec.{leb}
+use lib.ListN.{length}
+use Rattle.laws.specs.Decoded.{Decoded, ok, no}
+use Rattle.sheet.specs.Sheet.{Sheet, accept}
+use Rattle.report.specs.ModuleInfo.{ModuleInfo}
+use Rattle.report.specs.Encode.{encode}
+use Rattle.module_info.specs.Information.{moduleInfo}
+use Rattle.citation.specs.Citation.{citation, refusal}
+
+-- the citation, if the report is no longer than the buffer of 65,536 bytes
+abbrev pub citedIn : ModuleInfo → List ℕ
+citedIn m = cond (leb (length (encode m)) 65536) (citation m) (refusal 10)
+
+abbrev pub citedBy : Decoded Sheet → List ℕ
+citedBy (ok t s) = citedIn (moduleInfo t)
+citedBy (no r) = refusal r
+
+unfoldable pub cited : List ℕ → List ℕ
+cited s = citedBy (accept s)

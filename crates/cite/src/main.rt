@@ -1,0 +1,57 @@
+// Prints the citation of a sheet, from the file that its first argument names or from standard input.
+use citation::cite::cite_refusal;
+use citation::cite::cite_report;
+use libc::STDIN_FILENO;
+use libc::STDOUT_FILENO;
+use module_info::module_info;
+use report::writer::Outcome;
+ghost use mathlib.Core.Path.{_≡_};
+ghost use Prim.Native.Nat.{_≤_};
+ghost use lib.ListN.{length, take};
+ghost use Rattle.cite.specs.Cited.{cited};
+
+// Writes the lines for a sheet, and answers how many bytes they are.
+fn cite(sheet: &[u8], report: &mut [u8], lines: &mut [u8]) -> usize
+    requires { ⌜ length (now report) ≡ 65536 ⌝ }
+    requires { ⌜ 262144 ≤ length (now lines) ⌝ }
+    ensures { λ r. ⌜ (r ≡ length (cited (now (sheet .entry)))) × (take r (now (lines .exit)) ≡ cited (now (sheet .entry))) ⌝ }
+    ensures { λ r. ⌜ r ≤ length (now (lines .exit)) ⌝ }
+{
+    match module_info(sheet, report) {
+        Outcome::Refused(r) => cite_refusal(r, lines),
+        Outcome::Accepted(n) => cite_report(&report[..n], lines),
+    }
+}
+
+// Room for the lines of every report of 65,536 bytes.
+fn line_buffer() -> [u8; 262144]
+    ensures { λ r. ⌜ 262144 ≡ length r ⌝ }
+{
+    [0; 262144]
+}
+
+// Reads one byte more than the longest sheet has, so that a longer one is refused.
+fn cite_file(fd: i32) {
+    let mut sheet = [0u8; 65537];
+    let mut report = io::large_buffer();
+    let mut lines = line_buffer();
+    let n = io::read_full(fd, &mut sheet);
+    let length = cite(&sheet[..n], &mut report, &mut lines);
+    io::write_all(STDOUT_FILENO, &lines[..length]);
+}
+
+fn main() {
+    if os::arg_count() < 2 {
+        cite_file(STDIN_FILENO);
+        return;
+    }
+    let mut path = io::buffer();
+    let length = os::arg(1, &mut path);
+    let fd = os::open_read(&path[..length]);
+    if fd < 0 {
+        os::fail(&path[..length]);
+        return;
+    }
+    cite_file(fd);
+    libc::close(fd);
+}

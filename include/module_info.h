@@ -1,0 +1,55 @@
+/* Which modules a JavaScript or TypeScript module asks for, in code and in comments: the proved library's one function.
+ * docs/01-scope.md defines sheets, refusals and reports. Link libmodule_info.a, which `rt staticlib module_info` writes to target/staticlib. */
+#ifndef MODULE_INFO_H
+#define MODULE_INFO_H
+
+#include <stddef.h>
+#include <stdint.h>
+
+#ifdef __cplusplus
+extern "C" {
+#endif
+
+/* The longest sheet that is not refused, in bytes. */
+#define MODULE_INFO_MAX_SHEET 65536
+
+/* An answer's number: MODULE_INFO_ACCEPTED, or the first refusal in checking order. */
+enum module_info_number {
+    MODULE_INFO_ACCEPTED = 0,
+    /* The sheet has 0 bytes or more than 65,536. */
+    MODULE_INFO_SHEET_LENGTH = 1,
+    /* A field is cut off, or a number is not shortest or too large. */
+    MODULE_INFO_CUT_OFF = 2,
+    /* A byte or flag is outside its stated values, or a node has a tag its place doesn't allow. */
+    MODULE_INFO_BYTE = 3,
+    /* A count, length or depth is over its limit. */
+    MODULE_INFO_LIMIT = 4,
+    /* A text is not well-formed UTF-8, or WTF-8 where that is named. */
+    MODULE_INFO_TEXT = 5,
+    /* A position is past the source or inside a character, or an end precedes its start. */
+    MODULE_INFO_POSITION = 6,
+    /* A comment or a group of comments is not as document 01 asks. */
+    MODULE_INFO_COMMENTS = 7,
+    /* Bytes follow the root node. */
+    MODULE_INFO_TRAILING = 8,
+    /* The first argument of a walked import or `require` is a template with an uncooked piece. */
+    MODULE_INFO_UNCOOKED = 9,
+    /* The report is longer than the buffer. */
+    MODULE_INFO_BUFFER = 10
+};
+
+/* The two parts of an answer. The length is 0 after a refusal. */
+#define MODULE_INFO_NUMBER(answer) ((int)((answer) % 256))
+#define MODULE_INFO_LENGTH(answer) ((size_t)((answer) / 256))
+
+/* Answers the n bytes of a sheet with its report, in a buffer of m bytes: number + 256 * length.
+ * Accepted: the report begins the buffer, and every byte behind it is 0. Refused: the whole buffer is 0.
+ * What the buffer held before does not matter. The sheet is not changed, nothing is kept, and no memory is allocated.
+ * Neither pointer is null, even where its length is 0, and sheet and buffer do not overlap. Nothing else is asked of the caller. */
+uint64_t module_info_answer(const uint8_t *sheet, size_t n, uint8_t *buffer, size_t m);
+
+#ifdef __cplusplus
+}
+#endif
+
+#endif

@@ -1,0 +1,21 @@
+-- The bounds that the functions keep: places within the list, and counts that cannot overflow.
+use Prim.Native.Nat.{ℕ, _+_, _≤_}
+use Rattle.replay.specs.declared.Part.{Part}
+use Rattle.replay.specs.declared.Part.the-variants as part
+use Rattle.replay.specs.declared.Counts.{Counts}
+use Rattle.replay.specs.declared.Tally.{Tally}
+use Rattle.replay.specs.declared.Tally.the-variants as tally
+
+-- a part's bytes stand in a list of so many
+abbrev pub Within : ℕ → Part → Type 0
+Within n (part.Bytes start end) = (start ≤ end) × (end ≤ n)
+Within n part.Missing = Unit {0}
+
+-- so many more sheets can be counted
+abbrev pub Room : ℕ → Counts → Type 0
+Room left k = (k .accepted + k .refused + left ≤ 4294967295) × (k .differ + left ≤ 4294967295)
+
+-- the counts of a list are small
+abbrev pub Printable : Tally → Type 0
+Printable (tally.Whole k) = Room 0 k
+Printable tally.Odd = Unit {0}

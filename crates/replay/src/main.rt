@@ -1,0 +1,239 @@
+// Runs the report function on a stored list of sheets, `replay.bin`, and prints how many it accepts and refuses, and how
+// many of its answers differ from the stored ones.
+//
+// The list: the number of sheets; of each the length and bytes of the sheet, the number of the answer (a byte), and the
+// length and bytes of the report. Numbers take four bytes, low byte first.
+use libc::STDOUT_FILENO;
+use module_info::module_info;
+use report::writer::Outcome;
+ghost use Prim.Native.Nat.{ℕ, _+_, _≤_, _<_};
+ghost use lib.ListN.{length};
+ghost use Rattle.replay.specs.Bounds.{Within, Room, Printable};
+
+// The bytes that are read at most.
+const SPACE: usize = 131072;
+
+// Bytes of the list, from start up to end, or none that it holds whole.
+enum Part {
+    Bytes(usize, usize),
+    Missing,
+}
+
+// Whether a sheet was accepted, and whether the answer is the stored one.
+struct Ran {
+    accepted: bool,
+    same: bool,
+}
+
+// A sheet that ran, and where the next stands; or a list that ends too early.
+enum Step {
+    Next(Ran, usize),
+    Short,
+}
+
+// How many sheets were accepted and refused, and how many answers differ.
+struct Counts {
+    accepted: u64,
+    refused: u64,
+    differ: u64,
+}
+
+// The counts of a list that is read to its end.
+enum Tally {
+    Whole(Counts),
+    Odd,
+}
+
+// A byte.
+fn byte_at(list: &[u8], at: usize) -> usize
+    requires { ⌜ at < length (now list) ⌝ }
+    ensures { λ r. ⌜ r ≤ 255 ⌝ }
+{
+    list[at] as usize
+}
+
+// A number of four bytes.
+fn number_at(list: &[u8], at: usize) -> usize
+    requires { ⌜ at + 4 ≤ length (now list) ⌝ }
+    ensures { λ r. ⌜ r ≤ 4294967295 ⌝ }
+{
+    let low = byte_at(list, at) + 256 * byte_at(list, at + 1);
+    let high = byte_at(list, at + 2) + 256 * byte_at(list, at + 3);
+    low + 65536 * high
+}
+
+// A length at a place, and so many bytes behind it.
+fn part_at(list: &[u8], at: usize) -> Part
+    ensures { λ r. ⌜ Within (length (now (list .entry))) r ⌝ }
+{
+    if list.len() < 4 {
+        return Part::Missing;
+    }
+    if list.len() - 4 < at {
+        return Part::Missing;
+    }
+    let start = at + 4;
+    let long = number_at(list, at);
+    if list.len() - start < long {
+        return Part::Missing;
+    }
+    Part::Bytes(start, start + long)
+}
+
+// Puts a byte everywhere.
+fn fill(buffer: &mut [u8], b: u8) {
+    let mut i = 0;
+    while i < buffer.len() {
+        buffer[i] = b;
+        i += 1;
+    }
+}
+
+// The report begins the buffer, and every byte behind it is zero.
+fn holds_report(buffer: &[u8], report: &[u8]) -> bool {
+    let mut i = 0;
+    while i < buffer.len() {
+        let b = if i < report.len() { report[i] } else { 0 };
+        if buffer[i] != b {
+            return false;
+        }
+        i += 1;
+    }
+    report.len() <= buffer.len()
+}
+
+// Runs a sheet, in a buffer that holds something else before, and compares the answer.
+fn run(sheet: &[u8], number: u8, report: &[u8], buffer: &mut [u8]) -> Ran {
+    fill(buffer, 165);
+    match module_info(sheet, buffer) {
+        Outcome::Accepted(n) => {
+            let is_answer = number == 0 && n == report.len();
+            Ran {
+                accepted: true,
+                same: is_answer && holds_report(buffer, report),
+            }
+        }
+        Outcome::Refused(r) => {
+            let is_answer = number == r && report.len() == 0;
+            Ran {
+                accepted: false,
+                same: is_answer && holds_report(buffer, report),
+            }
+        }
+    }
+}
+
+// Runs the sheet at a place of the list.
+fn replay_one(list: &[u8], at: usize, buffer: &mut [u8]) -> Step {
+    match part_at(list, at) {
+        Part::Bytes(start, end) => {
+            if list.len() <= end {
+                return Step::Short;
+            }
+            match part_at(list, end + 1) {
+                Part::Bytes(from, next) => {
+                    let ran = run(&list[start..end], list[end], &list[from..next], buffer);
+                    Step::Next(ran, next)
+                }
+                Part::Missing => Step::Short,
+            }
+        }
+        Part::Missing => Step::Short,
+    }
+}
+
+// 1 where it holds.
+fn one_if(b: bool) -> u64
+    ensures { λ r. ⌜ r ≤ 1 ⌝ }
+{
+    if b { 1 } else { 0 }
+}
+
+impl Counts {
+    // Counts a sheet.
+    fn with(self, ran: Ran) -> Counts
+        requires { ⌜ Room 1 self ⌝ }
+        ensures { λ r. ⌜ ((left : ℕ) → Room (1 + left) self → Room left r) ⌝ }
+    {
+        let accepted = one_if(ran.accepted);
+        Counts {
+            accepted: self.accepted + accepted,
+            refused: self.refused + (1 - accepted),
+            differ: self.differ + one_if(!ran.same),
+        }
+    }
+
+    // One line each.
+    fn print(self)
+        requires { ⌜ Room 0 self ⌝ }
+    {
+        print_line(self.accepted + self.refused, b" sheets\n");
+        print_line(self.accepted, b" accepted\n");
+        print_line(self.refused, b" refused\n");
+        print_line(self.differ, b" differ\n");
+    }
+}
+
+// A count and what it counts.
+fn print_line(n: u64, what: &[u8]) {
+    io::print_decimal(STDOUT_FILENO, n);
+    io::write_all(STDOUT_FILENO, what);
+}
+
+// Runs every sheet of the list.
+fn replay(list: &[u8], buffer: &mut [u8]) -> Tally
+    ensures { λ r. ⌜ Printable r ⌝ }
+{
+    if list.len() < 4 {
+        return Tally::Odd;
+    }
+    let mut counts = Counts {
+        accepted: 0,
+        refused: 0,
+        differ: 0,
+    };
+    let mut left = number_at(list, 0);
+    let mut at = 4;
+    while 0 < left {
+        match replay_one(list, at, buffer) {
+            Step::Next(ran, next) => {
+                counts = counts.with(ran);
+                at = next;
+            }
+            Step::Short => return Tally::Odd,
+        }
+        left -= 1;
+    }
+    if at == list.len() {
+        Tally::Whole(counts)
+    } else {
+        Tally::Odd
+    }
+}
+
+// The counts, or that the list is odd.
+fn print_replay(list: &[u8]) {
+    let mut buffer = [0u8; 65536];
+    match replay(list, &mut buffer) {
+        Tally::Whole(counts) => counts.print(),
+        Tally::Odd => print_unreadable(),
+    }
+}
+
+// In place of the counts.
+fn print_unreadable() {
+    io::write_all(STDOUT_FILENO, b"unreadable\n");
+}
+
+// A file that is absent reads as an empty list, and one that fills the space may be longer: both are unreadable.
+fn main() {
+    let mut space = [0u8; SPACE];
+    let fd = os::open_read(b"replay.bin");
+    let n = io::read_full(fd, &mut space);
+    libc::close(fd);
+    if n < SPACE {
+        print_replay(&space[..n]);
+    } else {
+        print_unreadable();
+    }
+}

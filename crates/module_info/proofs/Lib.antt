@@ -1,2 +1,4 @@
 pub mod Written
 pub mod Accepted
+pub mod Cases
+pub mod Example

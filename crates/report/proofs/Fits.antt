@@ -1,9 +1,8 @@
 -- A report that is no longer than the largest number has only texts and lists whose lengths can be written.
-use mathlib.Core.Path.{_≡_, refl}
 use mathlib.Core.List.{List, [], _∷_, _++_}
 use mathlib.Core.Option.{Option}
 use mathlib.Core.Bool.{Bool, true, false, cond}
-use Prim.Native.Nat.{ℕ, suc, _+_, _≤_, _/_, _%_}
+use Prim.Native.Nat.{ℕ, _+_, _≤_, _/_, _%_}
 use lib.Dec.{ltb}
 use native.Mathlib.Omega.{arith}
 use lib.ListN.{length, length-append}

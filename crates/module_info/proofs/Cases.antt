@@ -1,0 +1,93 @@
+-- The proved cases of document 01: what the report says of a comment with each body, as the definitions compute.
+use mathlib.Core.Path.{_≡_, refl}
+use mathlib.Core.Bool.{false}
+use mathlib.Core.List.{List, [], _∷_, _++_, map, flatMap}
+use mathlib.Core.Option.{Option}
+use Prim.Native.Nat.{ℕ}
+use Prim.Native.String.{String}
+use lib.ListN.{length}
+use Rattle.laws.specs.Quoted.{ascii}
+use Rattle.text.specs.Ranges.{inRanges}
+use Rattle.text.specs.Utf8.{admits, lengthBy, charLength, codeBy, charAt}
+use Rattle.text.specs.Alphabetic.{alphabetic}
+use Rattle.text.specs.Class.{outside, ranges, member, classAt, run}
+use Rattle.text.specs.Bytes.{begins, same}
+use Rattle.text.specs.Position.{step, walk, positionOf}
+use Rattle.analysis.specs.Mode.{modeOf}
+use Rattle.analysis.specs.Letters.{foldCase, letterAt, wordAt}
+use Rattle.analysis.specs.Row.{ends, all, first, places, find}
+use Rattle.analysis.specs.Place.{placeOf}
+use Rattle.jsdoc.specs.Reader.{skip, skipWhitespace, whitespace, tag, word, upTo, isMark, parseQuote, pastIdent, parseIdent, parseKey, attributeMode, parseAttribute, firstMode, comma, attributesBy, attributesFrom, parseImportAttributeBlock, secondParamStart, parseSecondParam, closeCall, parseTail, seek, parseCall, parseJsdocDynamicImport, skipNamedImports, skipDefaultImport, skipNamespaceImport, skipClause, parseWith, parseFrom, parseJsdocImportDecl}
+use Rattle.jsdoc.specs.Listing.{listing}
+use Rattle.sheet.specs.declared.fields.Span.{Span}
+use Rattle.sheet.specs.declared.groups.Group.{Group}
+use Rattle.sheet.specs.Comments.{opening, closing}
+use Rattle.sheet.specs.Lookups.{leading, trailing, groupAt, headGroup, bodySpan}
+use Rattle.sheet.specs.Tree.{other, none}
+use Rattle.sheet.specs.Sheet.{Sheet}
+use Rattle.report.specs.ModuleInfo.{SpecifierWithRange, Mode, TypeScriptReference, path, JsDocImportInfo}
+use Rattle.pragmas.specs.Readings.{placeIn, specifierIn, readBy, lastOf, allOf}
+use Rattle.pragmas.specs.Pragmas.{headComments, endComments, reference, referencesIn, sourceMapUrlIn, tsOrDenoTypes, typesIn, typesAt}
+use Rattle.listing.specs.Imports.{markedBy, markedByAll, importAt, importsFrom, jsdocImports}
+use Rattle.module_info.specs.Information.{moduleInfo}
+
+-- a text, from one column of the first line to another
+abbrev specifier : String → ℕ → ℕ → SpecifierWithRange
+specifier text from to = record { text = ascii text; range = record { start = record { line = 0; column = from }; end = record { line = 0; column = to } } }
+
+abbrev import : String → ℕ → ℕ → Mode → JsDocImportInfo
+import text from to mode = record { specifier = specifier text from to; mode = mode }
+
+-- a body, and what it gives to the JSDoc imports, to the types of an entry behind it, to the references, to the source map
+data Case : Type 0 where
+  jsdoc : String → List JsDocImportInfo → Case
+  types : String → Option SpecifierWithRange → Case
+  references : String → List TypeScriptReference → Case
+  sourceMap : String → Option SpecifierWithRange → Case
+
+table : List Case
+table =
+    jsdoc "* {import(\"\")}" (import "" 12 14 0 ∷ [])
+    ∷ jsdoc "* {important import(\"a\")}" []
+    ∷ jsdoc "* {{import('a')}}" (import "a" 13 16 0 ∷ [])
+    ∷ jsdoc "* {import(\"a\", {with: {\"resolution-mode\": \"import\"}})}" (import "a" 12 15 1 ∷ [])
+    ∷ jsdoc "* {import(\"a\", {with: {resolution-mode: \"import\"}})}" []
+    ∷ jsdoc "* @import A, {B} from \"a\"" []
+    ∷ jsdoc "* @import {A}from\"a\"" (import "a" 19 22 0 ∷ [])
+    ∷ jsdoc "* @import A from \"a\" with {" (import "a" 19 22 0 ∷ [])
+    ∷ types "@deno-types=\"a" (Option.some (specifier "\"a" 14 16))
+    ∷ types "@ts-types=\"\"" Option.none
+    ∷ references "/<reference path=\"a\">" []
+    ∷ sourceMap "# sourcemappingurl = a b" (Option.some (specifier "a" 23 24))
+    -- beside these, a reference that is read
+    ∷ references "/ <reference path=\"a\" />" (path (specifier "a" 20 23) ∷ [])
+    ∷ []
+
+abbrev group : ℕ → ℕ → Group
+group side at = record { side = side; position = at; first = 0; count = 1 }
+
+-- JavaScript whose source is one comment with that body, in the leading group at the program's start and in both groups at its end; no item, an empty
+-- Other as root
+sheetOf : ℕ → String → Sheet
+sheetOf kind body =
+    let source : List ℕ = opening kind ++ (ascii body ++ closing kind) in
+    let span : Span = record { start = 0; end = length source } in
+    record {
+      media = 0;
+      source = source;
+      comments = record { kind = kind; span = span } ∷ [];
+      groups = group leading 0 ∷ group leading (length source) ∷ group trailing (length source) ∷ [];
+      program = record { script = false; span = span; shebang = false; first = Option.none };
+      root = other span none;
+    }
+
+-- the case of a body by the information of its sheet: JSDoc in a block comment, the others in a line comment
+abbrev computed : Case → Case
+computed (jsdoc body l) = jsdoc body (moduleInfo (sheetOf 1 body) .jsdocImports)
+computed (types body x) = types body (typesAt (sheetOf 0 body) (length (sheetOf 0 body .source)))
+computed (references body l) = references body (moduleInfo (sheetOf 0 body) .tsReferences)
+computed (sourceMap body x) = sourceMap body (moduleInfo (sheetOf 0 body) .sourceMapUrl)
+
+as-stated : map computed table ≡ table
+unfolding table sheetOf flatMap inRanges admits lengthBy charLength codeBy charAt alphabetic outside ranges member classAt run begins same step walk positionOf modeOf foldCase letterAt wordAt ends all first places find placeOf skip skipWhitespace whitespace tag word upTo isMark parseQuote pastIdent parseIdent parseKey attributeMode parseAttribute firstMode comma attributesBy attributesFrom parseImportAttributeBlock secondParamStart parseSecondParam closeCall parseTail seek parseCall parseJsdocDynamicImport skipNamedImports skipDefaultImport skipNamespaceImport skipClause parseWith parseFrom parseJsdocImportDecl listing groupAt headGroup bodySpan placeIn specifierIn readBy lastOf allOf headComments endComments reference referencesIn sourceMapUrlIn tsOrDenoTypes typesIn markedBy markedByAll importAt importsFrom jsdocImports moduleInfo
+as-stated = refl

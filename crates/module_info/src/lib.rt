@@ -10,9 +10,9 @@ use pragmas::analyze_jsx_import_source_types;
 use pragmas::analyze_source_map_url;
 use pragmas::analyze_ts_self_types;
 use pragmas::references::analyze_ts_references;
+use report::lent::Writer;
 use report::writer::Outcome;
 use report::writer::Place;
-use report::writer::finish;
 use report::writer::refuse_all;
 use sheet::lookups::end_group;
 use sheet::lookups::head_group;
@@ -25,7 +25,7 @@ ghost use lib.ListN.{length};
 ghost use Rattle.laws.specs.Decoded.{ok};
 ghost use Rattle.sheet.specs.Sheet.{Sheet, accept};
 ghost use Rattle.accept.specs.Accepts.{Accepts};
-ghost use Rattle.report.specs.World.{holds, wrote, worldAs};
+ghost use Rattle.report.specs.World.{wrote, worldAs};
 ghost use Rattle.report.specs.Encode.{encode};
 ghost use Rattle.report.specs.Answer.{outcomeAs, fitted};
 ghost use Rattle.module_info.specs.Information.{moduleInfo, answerOf, packed, Packs};
@@ -41,10 +41,11 @@ fn put_dependencies(
     groups: &[u32],
     index: &[u32],
     out: &mut [u8],
+    place: Place,
 ) -> Place
     requires { ⌜ Lent (now source) (now comments) (now groups) (now index) parts ⌝ }
     ensures { λ r. ⌜ ((t : Sheet) → PartsOf t (now (source .entry)) (now (comments .entry)) (now (groups .entry)) parts → RootOf t (now (sheet .entry)) parts
-        → worldAs (now (out .exit)) r ≡ wrote (holds (length (now (out .entry))) []) (dependencyBytes t)) ⌝ }
+        → worldAs (now (out .exit)) r ≡ wrote (worldAs (now (out .entry)) place) (dependencyBytes t)) ⌝ }
 {
     let k = Counts {
         comments: parts.comments,
@@ -52,8 +53,7 @@ fn put_dependencies(
     };
     let root = Cursor { at: parts.root };
     let program = parts.program;
-    let p = Place { at: 0, full: false };
-    let p = p.put_flag(out, program.script);
+    let p = place.put_flag(out, program.script);
     analyze_program_dependencies(
         sheet,
         source,
@@ -123,7 +123,31 @@ fn put_rest(
     analyze_source_map_url(source, comments, n, index, end, out, p)
 }
 
-// The report of an accepted sheet.
+// The parts of the report of an accepted sheet, one after the other.
+fn put_report(
+    sheet: &[u8],
+    parts: Parts,
+    comments: &[u32; 3072],
+    groups: &[u32; 4096],
+    out: &mut [u8],
+    place: Place,
+) -> Place
+    requires { ⌜ Accepts (now sheet) (now comments) (now groups) parts ⌝ }
+    ensures { λ r. ⌜ ((t : Sheet) → accept (now (sheet .entry)) ≡ ok t []
+        → worldAs (now (out .exit)) r ≡ wrote (worldAs (now (out .entry)) place) (encode (moduleInfo t))) ⌝ }
+{
+    let start = parts.source_start;
+    let end = parts.source_end;
+    let source = &sheet[start..end];
+    let mut index = [0u32; 1026];
+    let mut marks = [0u8; 32768];
+    build_index(source, &mut index);
+    let p = put_dependencies(sheet, source, parts, comments, groups, &index, out, place);
+    let p = put_head(source, parts, comments, groups, &index, out, p);
+    put_rest(source, parts, comments, groups, &index, &mut marks, out, p)
+}
+
+// The report of an accepted sheet: the buffer goes into a writer, and is held there to the end.
 fn write_report(
     sheet: &[u8],
     parts: Parts,
@@ -135,25 +159,13 @@ fn write_report(
     ensures { λ r. ⌜ ((t : Sheet) → accept (now (sheet .entry)) ≡ ok t []
         → outcomeAs r (now (buffer .exit)) ≡ fitted (length (now (buffer .entry))) (encode (moduleInfo t))) ⌝ }
 {
-    let start = parts.source_start;
-    let end = parts.source_end;
-    let source = &sheet[start..end];
-    let mut index = [0u32; 1026];
-    let mut marks = [0u8; 32768];
-    build_index(source, &mut index);
-    let p = put_dependencies(sheet, source, parts, comments, groups, &index, buffer);
-    let p = put_head(source, parts, comments, groups, &index, buffer, p);
-    let p = put_rest(
-        source,
-        parts,
-        comments,
-        groups,
-        &index,
-        &mut marks,
-        buffer,
-        p,
-    );
-    finish(buffer, p)
+    let w = report::lent::new(buffer);
+    let place = put_report(sheet, parts, comments, groups, &mut *w.out, w.place);
+    let w = Writer {
+        out: w.out,
+        place: place,
+    };
+    w.finish()
 }
 
 // The report of a sheet, or the first refusal that it meets.

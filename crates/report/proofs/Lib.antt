@@ -5,3 +5,5 @@ mod Numbers
 mod Cases
 pub mod Fits
 pub mod Ranges
+pub mod Again
+pub mod Held

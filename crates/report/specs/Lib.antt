@@ -6,3 +6,4 @@ pub mod Valid
 pub mod Range
 pub mod Answer
 pub mod Proper
+pub mod Lent

@@ -1,2 +1,3 @@
 // The report: its values, their encoding, and the writer into a lent buffer.
+pub mod lent;
 pub mod writer;

@@ -2,6 +2,7 @@
 //! Picks small sheets of a batch with the oracle's answers, so that every kind, every number and every sort of entry is there several times,
 //! and writes them to FILE, with the single sheets before them. Numbers in FILE are u32 little-endian:
 //!   the number of sheets; for each: length and bytes of the sheet; number (a byte); length and bytes of the report.
+//! FILE.counts gets the lines that the program crates/replay prints if no answer differs.
 
 use std::collections::{BTreeMap, BTreeSet};
 
@@ -43,7 +44,7 @@ fn main() {
 
     let mut seen: BTreeMap<String, usize> = BTreeMap::new();
     let mut out = Vec::new();
-    let mut picked = 0u32;
+    let (mut picked, mut accepted) = (0u32, 0u32);
     for (sheet, number, report, kind) in items {
         let mut traits = BTreeSet::from([format!("{kind}, {number}")]);
         if number == 0 {
@@ -56,6 +57,7 @@ fn main() {
             *seen.entry(t).or_default() += 1;
         }
         picked += 1;
+        accepted += u32::from(number == 0);
         out.extend((sheet.len() as u32).to_le_bytes());
         out.extend(sheet);
         out.push(number);
@@ -63,9 +65,12 @@ fn main() {
         out.extend(report);
     }
     out.splice(0..0, picked.to_le_bytes());
-    if let Err(e) = std::fs::write(file, &out) {
-        eprintln!("replay: {file}: {e}");
-        std::process::exit(2)
+    let counts = format!("{picked} sheets\n{accepted} accepted\n{} refused\n0 differ\n", picked - accepted);
+    for (name, bytes) in [(file.clone(), &out[..]), (format!("{file}.counts"), counts.as_bytes())] {
+        if let Err(e) = std::fs::write(&name, bytes) {
+            eprintln!("replay: {name}: {e}");
+            std::process::exit(2)
+        }
     }
     for (t, n) in seen {
         println!("{n:4}  {t}");

@@ -8,7 +8,7 @@ use lib.Dec.{leb}
 use lib.ListN.{length, take, length-append}
 use lib.Seq.{take-append-seam}
 use borrow.Author.Tests.{leb-true}
-use Rattle.laws.specs.Decoded.{Decoded, ok, no}
+use Rattle.laws.specs.Decoded.{ok, no}
 use Rattle.laws.proofs.Decoding.{refused, then-ok}
 use Rattle.wire.specs.Number.{largest}
 use Rattle.sheet.specs.Sheet.{Sheet, decodeSheet, accept}
@@ -19,12 +19,11 @@ use Rattle.report.specs.ModuleInfo.{ModuleInfo}
 use Rattle.report.specs.Encode.{encode}
 use Rattle.report.specs.Valid.{Valid}
 use Rattle.report.specs.Answer.{Answer, zeros, accepted, fitted}
-use Rattle.report.specs.declared.writer.Outcome.{Outcome}
 use Rattle.report.specs.declared.writer.Outcome.the-variants.{Accepted, Refused}
 use Rattle.citation.specs.Citation.{citation, refusal}
 use Rattle.module_info.specs.Information.{moduleInfo, answerOf}
 use Rattle.module_info.specs.Demands.{Demands}
-use Rattle.cite.specs.Cited.{citedIn, cited}
+use Rattle.cite.specs.Cited.{cited}
 use Rattle.cite.proofs.Readable.{readable}
 
 -- the source of an accepted sheet is short

@@ -21,16 +21,16 @@ use Rattle.jsdoc.specs.Grammar.{Bytes, Pair, pair, modeIn, Block, Reading}
 use Rattle.sheet.specs.declared.comments.Comment.{Comment}
 use Rattle.sheet.specs.Lookups.{leading, groupAt, body}
 use Rattle.sheet.specs.Sheet.{Sheet}
-use Rattle.report.specs.ModuleInfo.{SpecifierWithRange, TypeScriptReference, JsDocImportInfo}
+use Rattle.report.specs.ModuleInfo.{JsDocImportInfo}
 use Rattle.report.specs.Encode.{encode}
 use Rattle.report.specs.Valid.{IfThere, All, Valid}
-use Rattle.report.specs.Proper.{ProperSpecifier, ProperReference, ProperJsDoc, Proper}
+use Rattle.report.proofs.Proper.{ProperSpecifier, ProperReference, ProperJsDoc, Proper}
 use Rattle.report.proofs.Ranges.{range-valid}
 use Rattle.report.proofs.Fits.{report-fits}
 use Rattle.pragmas.specs.Readings.{placeIn, specifierIn, onFound, readBy, orElse, firstOf, lastOf, listed, allOf}
 use Rattle.pragmas.specs.Pragmas.{headComments, endComments, isJavaScript, isJsx, isLine, isBlock, inBlock, givenIf, modeBy, referenceBy, reference, referencesIn, selfTypesIn, jsxImportSourceIn, jsxImportSourceTypesIn, sourceMapUrlIn, tsOrDenoTypes, typesBy, lastIn, typesIn, typesAt}
 use Rattle.pragmas.specs.Pragmas as pragmas
-use Rattle.listing.specs.Demand.{ListedIn, StandsAt, Lists, JsDocRight}
+use Rattle.listing.specs.Demand.{JsDocRight}
 use Rattle.dep.proofs.Proper.{collect-proper}
 use Rattle.module_info.specs.Information.{moduleInfo}
 

@@ -1,5 +1,4 @@
 -- The dependencies of a tree have the kinds of a report, and ranges that can be written.
-use mathlib.Core.Path.{_≡_, refl}
 use mathlib.Core.Bool.{Bool, true, false, cond}
 use mathlib.Core.List.{List, [], _∷_, _++_}
 use mathlib.Core.Option.{Option}
@@ -13,7 +12,7 @@ use Rattle.sheet.specs.Tree.{Quoted, Node, other, string, name, template, binar
 use Rattle.sheet.specs.Walked.{shape, isRequire, isAugmentation}
 use Rattle.report.specs.ModuleInfo.{SpecifierWithRange, ImportAttributes, DependencyDescriptor}
 use Rattle.report.specs.Valid.{IfThere, All}
-use Rattle.report.specs.Proper.{ProperSpecifier, ProperDependency}
+use Rattle.report.proofs.Proper.{ProperSpecifier, ProperDependency}
 use Rattle.report.proofs.Ranges.{range-valid}
 use Rattle.dep.specs.Collect.{importKind, exportKind, equalsKind, dynamicKind, staticEntry, callEntry, moduleEntry, collect, collectAll, collectOf, collectIn, collectWith}
 

@@ -1,9 +1,9 @@
 -- What the functions write one after the other is the report in pieces, and the pieces are the report.
-use mathlib.Core.Path.{_≡_, refl, sym}
-use mathlib.Core.List.{List, [], _++_}
+use mathlib.Core.Path.{_≡_, sym}
+use mathlib.Core.List.{List, []}
 use mathlib.Core.Option.{Option}
 use Prim.Native.Nat.{ℕ}
-use lib.ListN.{length, drop}
+use lib.ListN.{drop}
 use Rattle.laws.specs.Decoded.{ok}
 use Rattle.wire.specs.Fields.{encodeFlag}
 use Rattle.sheet.specs.declared.groups.Group.{Group}
@@ -15,7 +15,6 @@ use Rattle.sheet.specs.Tables.{commentsIn, groupsIn}
 use Rattle.sheet.specs.Views.{programOf}
 use Rattle.sheet.specs.Lookups.{headGroup, endGroup}
 use Rattle.accept.specs.declared.check.Parts.{Parts}
-use Rattle.report.specs.ModuleInfo.{ModuleInfo}
 use Rattle.report.specs.Encode.{encodeOptional, encodeList, encodeSpecifier, encodeReference, encodeJsDoc, encodeDependency, encode}
 use Rattle.report.specs.World.{World, wrote}
 use Rattle.report.proofs.Worlds.{wrote-append, wrote-cons}

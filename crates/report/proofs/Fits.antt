@@ -11,7 +11,7 @@ use Rattle.wire.specs.Text.{encodeText}
 use Rattle.report.specs.ModuleInfo.{path, types, none, unknown, known, expr, string, template, static, dynamic, ModuleInfo}
 use Rattle.report.specs.Encode.{each, encodeOptional, encodeList, encodeSpecifier, encodeReference, encodeJsDoc, encodeKeyValue, encodeAttributes, encodeArgument, encodeStatic, encodeDynamic, encodeDependency, encode}
 use Rattle.report.specs.Valid.{IfThere, All, Short, ValidSpecifier, ValidReference, ValidJsDoc, ValidKeyValue, ValidAttributes, ValidArgument, ValidDependency, Valid}
-use Rattle.report.specs.Proper.{ProperSpecifier, ProperReference, ProperJsDoc, ProperDependency, Proper}
+use Rattle.report.proofs.Proper.{ProperSpecifier, ProperReference, ProperJsDoc, ProperDependency, Proper}
 
 -- a value whose encoding is short is valid if it is proper; and an encoding has a byte at least
 record Fits {A : Type 0} (encode : A → List ℕ) (Proper Valid : A → Type 0) : Type 0 where

@@ -5,5 +5,4 @@ pub mod World
 pub mod Valid
 pub mod Range
 pub mod Answer
-pub mod Proper
 pub mod Lent

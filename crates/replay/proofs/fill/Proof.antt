@@ -1,7 +1,7 @@
 use borrow.Author.Needs.{needs}
 use mathlib.Core.Path.{_≡_}
 use Prim.Native.Nat.{_-_}
-use lib.ListN.{length, length-set}
+use lib.ListN.{length}
 use Rattle.replay.proofs.fill.Statement.{statement}
 use Rattle.replay.proofs.fill.Tie as tie
 

@@ -1,6 +1,5 @@
 -- What the values of a report keep whatever its length: kinds and modes are those of their fields, and positions are numbers that can be written.
-use mathlib.Core.Option.{Option}
-use Prim.Native.Nat.{ℕ, _≤_}
+use Prim.Native.Nat.{_≤_}
 use Rattle.report.specs.ModuleInfo.{SpecifierWithRange, TypeScriptReference, path, types, JsDocImportInfo, StaticDependencyDescriptor, DynamicDependencyDescriptor, DependencyDescriptor, static, dynamic, ModuleInfo}
 use Rattle.report.specs.Valid.{IfThere, All, ValidRange}
 

@@ -1,5 +1,4 @@
 pub mod ByPieces
-pub mod Sound
 pub mod Trees
 pub mod Judging
 pub mod Numbered

@@ -4,34 +4,34 @@ use mathlib.Core.List.{List, [], _∷_}
 use Prim.Native.Nat.{ℕ, zero, suc, _+_, _-_, _*_, _≤_}
 use native.Mathlib.Omega.{arith}
 use lib.Dec.{eqb, leb, ltb}
-use lib.ListN.{length, getD, take, drop}
-use Rattle.laws.specs.Decoded.{Decoded, ok, no, andThen, onOk, Decoder, _>>=_, _>>_, return, refuse, require}
+use lib.ListN.{length, take, drop}
+use Rattle.laws.specs.Decoded.{ok, no, onOk, Decoder, _>>=_, _>>_, return, require}
+use Rattle.laws.proofs.Answers.{Answer, Answers, done, next, ends, refuses, with, changed, either, at-index}
+use Rattle.laws.proofs.Answers.{test as judged}
 use Rattle.text.specs.declared.utf8.Encoding.{Encoding}
 use Rattle.text.specs.declared.utf8.Encoding.the-variants.{Utf8, Wtf8}
 use Rattle.text.specs.Utf8.{wellFormed}
+use Rattle.text.specs.Position.{isBoundary}
 use Rattle.wire.specs.Fields.{byte, below, flag, bytes}
 use Rattle.wire.specs.Number.{lastGroup, number}
 use Rattle.wire.specs.Number as numbers
 use Rattle.wire.specs.Text.{count, text}
+use Rattle.wire.specs.Optional.{optional}
 use Rattle.sheet.specs.declared.fields.Span.{Span}
 use Rattle.sheet.specs.Tree.{Node, Nodes, Arguments, Attributes}
-use Rattle.sheet.specs.Fields.{isBoundary, position, endFrom, span}
+use Rattle.sheet.specs.Fields.{position, endFrom, span}
 use Rattle.sheet.specs.Comments.{slice, marked, chained, comment, group, anywhere, covered}
-use Rattle.sheet.specs.Program.{firstItem, program}
-use Rattle.sheet.specs.Nodes.{many, tag, quoted, optionalQuoted, piece, nodes, argumentItem, arguments, keyedItem, propertyItem, properties, attributes, otherFields, stringFields, nameFields, templateFields, binaryFields, objectFields, callRest, callFields, importFields, namedExportFields, exportAllFields, importTypeFields, importEqualsFields, moduleFields, fields, node, attributesObject}
+use Rattle.sheet.specs.Program.{program}
+use Rattle.sheet.specs.Nodes.{many, tag, quoted, piece, nodes, argumentItem, arguments, keyedItem, propertyItem, properties, attributes, otherFields, stringFields, nameFields, templateFields, binaryFields, objectFields, callRest, callFields, importFields, namedExportFields, exportAllFields, importTypeFields, importEqualsFields, moduleFields, fields, node, attributesObject}
 use Rattle.sheet.specs.Sheet.{sheet}
 
 -- a refusal that is judged at a field
 abbrev pub AtField : ℕ → Type 0
 AtField r = (2 ≤ r) × (r ≤ 7)
 
-abbrev pub Answer : {A : Type 0} → Decoded A → Type 0
-Answer (ok a t) = Unit {0}
-Answer (no r) = AtField r
-
 -- all refusals of a decoder are judged at fields
-pub record Numbered {A : Type 0} (d : Decoder A) : Type 0 where
-  pub at : (s : List ℕ) → Answer (d s)
+abbrev pub Numbered : {A : Type 0} → Decoder A → Type 0
+Numbered {A} d = Answers (λ (a : A). Unit {0}) AtField d
 
 two : AtField 2
 two = (omega arith, omega arith)
@@ -51,48 +51,23 @@ six = (omega arith, omega arith)
 seven : AtField 7
 seven = (omega arith, omega arith)
 
-module _ {A : Type 0} where
-  end : (a : A) → Numbered (return a)
-  end a = record { at = λ s. tt }
+end : {A : Type 0} (a : A) → Numbered (return a)
+end a = ends tt
 
-  test : (b : Bool) {r : ℕ} {d : Decoder A} → AtField r → Numbered d → Numbered (require b r >> d)
-  test true i p = record { at = p .at }
-  test false i p = record { at = λ s. i }
+test : {A : Type 0} (b : Bool) {r : ℕ} {d : Decoder A} → AtField r → Numbered d → Numbered (require b r >> d)
+test b {r} i p = judged b r i p
 
-  either : (b : Bool) {d e : Decoder A} → Numbered d → Numbered e → Numbered (cond b d e)
-  either true p q = p
-  either false p q = q
+then : {A B : Type 0} {d : Decoder A} {e : A → Decoder B} → Numbered d → ((a : A) → Numbered (e a)) → Numbered (d >>= e)
+then p q = with p (λ a h. q a)
 
-module _ {A B : Type 0} where
-  then : {d : Decoder A} {e : A → Decoder B} → Numbered d → ((a : A) → Numbered (e a)) → Numbered (d >>= e)
-  then {d} {e} p q = record { at = λ s. go (d s) (p .at s) }
-    where
-      go : (x : Decoded A) → Answer x → Answer (andThen x e)
-      go (ok a t) h = q a .at t
-      go (no r) h = h
-
-  change : {d : Decoder A} (f : A → B) → Numbered d → Numbered (λ s. onOk f (d s))
-  change {d} f p = record { at = λ s. go (d s) (p .at s) }
-    where
-      go : (x : Decoded A) → Answer x → Answer (onOk f x)
-      go (ok a t) h = tt
-      go (no r) h = h
-
--- one of a list
-data Each {A : Type 0} : List (Decoder A) → Type 0 where
-  done : Each []
-  next : {d : Decoder A} {ds : List (Decoder A)} → Numbered d → Each ds → Each (d ∷ ds)
-
-at-index : {A : Type 0} {ds : List (Decoder A)} → Each ds → (i : ℕ) → Numbered (getD ds i (refuse 3))
-at-index done i = record { at = λ s. three }
-at-index (next p ps) zero = p
-at-index (next p ps) (suc i) = at-index ps i
+change : {A B : Type 0} {d : Decoder A} (f : A → B) → Numbered d → Numbered (λ s. onOk f (d s))
+change f p = changed f p (λ a h. tt)
 
 byte-numbered : Numbered byte
 unfolding byte
 byte-numbered = record { at = go }
   where
-    go : (s : List ℕ) → Answer (byte s)
+    go : (s : List ℕ) → Answer (λ b. Unit {0}) AtField (byte s)
     go [] = two
     go (b ∷ s) = tt
 
@@ -100,11 +75,11 @@ bytes-numbered : (n : ℕ) → Numbered (bytes n)
 unfolding bytes
 bytes-numbered n = record { at = go }
   where
-    either-way : (b : Bool) (s : List ℕ) → Answer (cond b (ok (take n s) (drop n s)) (no 2))
+    either-way : (b : Bool) (s : List ℕ) → Answer (λ x. Unit {0}) AtField (cond b (ok (take n s) (drop n s)) (no 2))
     either-way true s = tt
     either-way false s = two
 
-    go : (s : List ℕ) → Answer (bytes n s)
+    go : (s : List ℕ) → Answer (λ x. Unit {0}) AtField (bytes n s)
     go s = either-way (leb n (length s)) s
 
 below-numbered : (limit : ℕ) → Numbered (below limit)
@@ -115,13 +90,17 @@ flag-numbered : Numbered flag
 unfolding flag
 flag-numbered = then (below-numbered 2) (λ b. end (eqb b 1))
 
+optional-numbered : {A : Type 0} {d : Decoder A} → Numbered d → Numbered (optional d)
+unfolding optional
+optional-numbered p = then flag-numbered (λ there. either there (change _ p) (end _))
+
 last-numbered : (scale low b : ℕ) → Numbered (lastGroup scale low b)
 unfolding lastGroup
 last-numbered scale low b = test (leb scale 1 || ltb 0 b) two (test (leb (low + scale * b) numbers.largest) two (end (low + scale * b)))
 
 groups-numbered : (k scale low : ℕ) → Numbered (numbers.groups k scale low)
 unfolding numbers.groups
-groups-numbered zero scale low = record { at = λ s. two }
+groups-numbered zero scale low = refuses two
 groups-numbered (suc k) scale low =
     then byte-numbered (λ b. test (ltb b 256) two (either (ltb b 128) (last-numbered scale low b) (groups-numbered k (scale * 128) (low + scale * (b - 128)))))
 
@@ -167,13 +146,9 @@ module _ (source : List ℕ) where
       then (below-numbered 2) (λ side. then position-numbered (λ p. test (after side p) seven (then number-numbered (λ first. then number-numbered (λ n.
       test (ltb 0 n && leb (first + n) total) seven (end _))))))
 
-  first-numbered : Numbered (firstItem source)
-  unfolding firstItem
-  first-numbered = then flag-numbered (λ there. either there (change _ position-numbered) (end _))
-
   program-numbered : Numbered (program source)
   unfolding program
-  program-numbered = then flag-numbered (λ script. then span-numbered (λ sp. then flag-numbered (λ shebang. then first-numbered (λ first. end _))))
+  program-numbered = then flag-numbered (λ script. then span-numbered (λ sp. then flag-numbered (λ shebang. then (optional-numbered position-numbered) (λ first. end _))))
 
 many-numbered : {L : Type 0} (stop : L) {item : Decoder (L → L)} → Numbered item → (k : ℕ) → Numbered (many stop item k)
 unfolding many
@@ -188,13 +163,9 @@ quoted-numbered : (source : List ℕ) (levels : ℕ) → Numbered (quoted source
 unfolding quoted
 quoted-numbered source levels = then (tag-numbered (eqb 1) levels) (λ t. then (span-numbered source) (λ sp. then (text-numbered Wtf8 4096) (λ x. end _)))
 
-optional-numbered : (source : List ℕ) (levels : ℕ) → Numbered (optionalQuoted source levels)
-unfolding optionalQuoted
-optional-numbered source levels = then flag-numbered (λ there. either there (change _ (quoted-numbered source levels)) (end _))
-
 piece-numbered : Numbered piece
 unfolding piece
-piece-numbered = then flag-numbered (λ cooked. either cooked (change _ (text-numbered Wtf8 4096)) (end _))
+piece-numbered = then (optional-numbered (text-numbered Wtf8 4096)) (λ x. end _)
 
 module _ {inner : Decoder Node} (p : Numbered inner) where
   nodes-numbered : (k : ℕ) → Numbered (nodes inner k)
@@ -212,12 +183,12 @@ module _ {inner : Decoder Node} (p : Numbered inner) where
       (next (then p (λ k. then p (λ v. end _)))
       (next (then (text-numbered Wtf8 4096) (λ k. then p (λ v. end _)))
       (next (then (text-numbered Utf8 4096) (λ k. then p (λ v. end _))) done)))
-      kind
+      kind 3 three
 
   properties-numbered : (k : ℕ) → Numbered (properties inner k)
   unfolding properties propertyItem
   properties-numbered k =
-      many-numbered _ (then byte-numbered (λ kind. at-index (next (then p (λ n. end _)) (next (then p (λ n. end _)) (next (then byte-numbered keyed-numbered) done))) kind)) k
+      many-numbered _ (then byte-numbered (λ kind. at-index (next (then p (λ n. end _)) (next (then p (λ n. end _)) (next (then byte-numbered keyed-numbered) done))) kind 3 three)) k
 
 attributes-numbered : {inner : Decoder Attributes} → Numbered inner → Numbered (attributes inner)
 unfolding attributes
@@ -249,20 +220,20 @@ module _ (source : List ℕ) (levels : ℕ) {inner : Decoder Node} {object : Dec
       (next (then flag-numbered (λ typeOnly. then x (λ x. attributed _)))
       (next (then x (λ x. then number-numbered (λ n. then (nodes-numbered p n) (λ ns. attributed _))))
       (next (then flag-numbered (λ external. either external (then flag-numbered (λ typeOnly. then flag-numbered (λ export. then x (λ x. end _)))) (end _)))
-      (next (then (optional-numbered source levels) (λ x. then number-numbered (λ n. then (nodes-numbered p n) (λ ns. end _))))
+      (next (then (optional-numbered (quoted-numbered source levels)) (λ x. then number-numbered (λ n. then (nodes-numbered p n) (λ ns. end _))))
       done)))))))))))))
-      t
+      t 3 three
 
 module _ (source : List ℕ) where
   mutual
     unfolding node attributesObject
 
     node-numbered : (levels : ℕ) → Numbered (node source levels)
-    node-numbered zero = then (tag-numbered _ 0) (λ t. record { at = λ s. four })
+    node-numbered zero = then (tag-numbered _ 0) (λ t. refuses four)
     node-numbered (suc d) = then (tag-numbered _ (suc d)) (λ t. then (span-numbered source) (λ sp. fields-numbered source d (node-numbered d) (object-numbered d) sp t))
 
     object-numbered : (levels : ℕ) → Numbered (attributesObject source levels)
-    object-numbered zero = then (tag-numbered (eqb 5) 0) (λ t. record { at = λ s. four })
+    object-numbered zero = then (tag-numbered (eqb 5) 0) (λ t. refuses four)
     object-numbered (suc d) =
         then (tag-numbered (eqb 5) (suc d)) (λ t. then (span-numbered source) (λ sp. then (count-numbered 64) (λ n. then (properties-numbered (node-numbered d) n) (λ ps. end _))))
 

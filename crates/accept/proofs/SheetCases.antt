@@ -3,18 +3,20 @@ use mathlib.Core.Path.{_≡_, refl}
 use mathlib.Core.List.{List, [], _∷_, _++_, map}
 use Prim.Native.Nat.{ℕ}
 use lib.ListN.{length}
+use Rattle.laws.specs.Decoded.{refusal}
 use Rattle.laws.specs.Quoted.{ascii}
 use Rattle.text.specs.Bytes.{begins, same}
 use Rattle.text.specs.Utf8.{admits, lengthBy, charLength, formed}
+use Rattle.text.specs.Position.{isBoundary}
 use Rattle.wire.specs.Fields.{byte, below, flag, bytes}
 use Rattle.wire.specs.Number.{lastGroup, number}
 use Rattle.wire.specs.Text.{count, text}
-use Rattle.sheet.specs.Fields.{isBoundary, position, endFrom, span}
+use Rattle.wire.specs.Optional.{optional}
+use Rattle.sheet.specs.Fields.{position, endFrom, span}
 use Rattle.sheet.specs.Comments.{enclosed, marked, comment, group, covered, chained}
-use Rattle.sheet.specs.Program.{firstItem, program}
-use Rattle.sheet.specs.Nodes.{many, tag, quoted, optionalQuoted, piece, nodes, argumentItem, arguments, keyedItem, propertyItem, properties, attributes, otherFields, stringFields, nameFields, templateFields, binaryFields, objectFields, callRest, callFields, importFields, namedExportFields, exportAllFields, importTypeFields, importEqualsFields, moduleFields, fields, node, attributesObject}
+use Rattle.sheet.specs.Program.{program}
+use Rattle.sheet.specs.Nodes.{many, tag, quoted, piece, nodes, argumentItem, arguments, keyedItem, propertyItem, properties, attributes, otherFields, stringFields, nameFields, templateFields, binaryFields, objectFields, callRest, callFields, importFields, namedExportFields, exportAllFields, importTypeFields, importEqualsFields, moduleFields, fields, node, attributesObject}
 use Rattle.sheet.specs.Sheet.{sheet, decodeSheet, accept}
-use Rattle.accept.specs.Accepts.{refusalOf}
 
 -- document 01's example: JavaScript, one comment, which is all of the source
 abbrev source : List ℕ
@@ -57,6 +59,6 @@ cases =
     ∷ (sheetOf (uncooked ++ (0 ∷ [])), 8)  -- bytes behind the root, and an uncooked template in it
     ∷ []
 
-as-stated : map (λ c. refusalOf (c .0)) cases ≡ map (λ c. c .1) cases
-unfolding byte below flag bytes lastGroup Rattle.wire.specs.Number.groups number count text admits lengthBy charLength formed begins same isBoundary position endFrom span enclosed marked comment group covered chained firstItem program many tag quoted optionalQuoted piece nodes argumentItem arguments keyedItem propertyItem properties attributes otherFields stringFields nameFields templateFields binaryFields objectFields callRest callFields importFields namedExportFields exportAllFields importTypeFields importEqualsFields moduleFields fields node attributesObject sheet decodeSheet accept
+as-stated : map (λ c. refusal (accept (c .0))) cases ≡ map (λ c. c .1) cases
+unfolding byte below flag bytes lastGroup Rattle.wire.specs.Number.groups number count text admits lengthBy charLength formed begins same isBoundary position endFrom span enclosed marked comment group covered chained program many tag quoted optional piece nodes argumentItem arguments keyedItem propertyItem properties attributes otherFields stringFields nameFields templateFields binaryFields objectFields callRest callFields importFields namedExportFields exportAllFields importTypeFields importEqualsFields moduleFields fields node attributesObject sheet decodeSheet accept
 as-stated = refl

@@ -1,8 +1,8 @@
 -- The fields of a sheet in pieces, each of which a function reads; proofs/ByPieces has the law that makes `accept` of them.
 use mathlib.Core.Bool.{not}
-use mathlib.Core.List.{List, [], _∷_}
+use mathlib.Core.List.{List}
 use Prim.Native.Nat.{ℕ}
-use Rattle.laws.specs.Decoded.{ok, no, Decoder, _>>=_, _>>_, return, require}
+use Rattle.laws.specs.Decoded.{Decoder, _>>=_, _>>_, return, require}
 use Rattle.text.specs.declared.utf8.Encoding.the-variants.{Utf8}
 use Rattle.wire.specs.Fields.{below}
 use Rattle.wire.specs.Text.{count, text}
@@ -13,7 +13,7 @@ use Rattle.sheet.specs.Comments.{comments, anywhere, groups, covered}
 use Rattle.sheet.specs.Program.{Program, program}
 use Rattle.sheet.specs.Nodes.{node}
 use Rattle.sheet.specs.Walked.{uncooked}
-use Rattle.sheet.specs.Sheet.{Sheet}
+use Rattle.sheet.specs.Sheet.{ending}
 
 -- the media byte and the source
 unfoldable pub sourceFields : Decoder (ℕ × List ℕ)
@@ -51,11 +51,6 @@ front = do
   gs ← groupFields source n
   return (record { media = media; source = source; comments = cs; groups = gs })
 
--- nothing is left; refusal 8 where bytes are
-abbrev pub ending : Decoder (Unit {0})
-ending [] = ok tt []
-ending (b ∷ s) = no 8
-
 -- the program and the root, behind which nothing is left, and in which no call meets refusal 9
 unfoldable pub tree : List ℕ → Decoder (Program × Node)
 tree source = do
@@ -64,7 +59,3 @@ tree source = do
   ending
   require (not (uncooked root)) 9
   return (p, root)
-
--- the sheet of these pieces
-abbrev pub whole : Front → Program × Node → Sheet
-whole f (p, root) = record { media = f .media; source = f .source; comments = f .comments; groups = f .groups; program = p; root = root }

@@ -5,7 +5,7 @@ use mathlib.Core.List.{List, []}
 use Prim.Native.Nat.{ℕ, _≤_}
 use lib.ListN.{drop}
 use Rattle.laws.specs.Decoded.{Decoded, ok, no}
-use Rattle.wire.specs.Views.{part}
+use Rattle.text.specs.Bytes.{part}
 use Rattle.sheet.specs.declared.comments.Comment.{Comment}
 use Rattle.sheet.specs.declared.groups.Group.{Group}
 use Rattle.sheet.specs.Tree.{Node}
@@ -14,13 +14,13 @@ use Rattle.sheet.specs.Program.{program}
 use Rattle.sheet.specs.Nodes.{node}
 use Rattle.sheet.specs.Walked.{entries, uncooked}
 use Rattle.sheet.specs.Views.{programOf}
-use Rattle.accept.specs.declared.tables.SourceRead.{SourceRead}
-use Rattle.accept.specs.declared.tables.SourceRead.the-variants as sourceRead
-use Rattle.accept.specs.declared.tables.Counted.{Counted}
-use Rattle.accept.specs.declared.tables.Counted.the-variants as counted
-use Rattle.accept.specs.declared.tables.Tables.{Tables}
-use Rattle.accept.specs.declared.tables.TablesRead.{TablesRead}
-use Rattle.accept.specs.declared.tables.TablesRead.the-variants as tablesRead
+use Rattle.accept.specs.declared.front.SourceRead.{SourceRead}
+use Rattle.accept.specs.declared.front.SourceRead.the-variants as sourceRead
+use Rattle.accept.specs.declared.front.Counted.{Counted}
+use Rattle.accept.specs.declared.front.Counted.the-variants as counted
+use Rattle.accept.specs.declared.front.Front as declared
+use Rattle.accept.specs.declared.front.FrontRead.{FrontRead}
+use Rattle.accept.specs.declared.front.FrontRead.the-variants as frontRead
 use Rattle.accept.specs.declared.tree.Tree.{Tree}
 use Rattle.accept.specs.declared.tree.TreeRead.{TreeRead}
 use Rattle.accept.specs.declared.tree.TreeRead.the-variants as treeRead
@@ -43,8 +43,8 @@ abbrev pub groupTableAs : List ℕ → List ℕ → Counted → Decoded (List Gr
 groupTableAs s table (counted.Is m next) = ok (groupsIn table m) (drop (next .at) s)
 groupTableAs s table (counted.Refused r) = no r
 
--- what the tables' numbers stand for
-abbrev pub frontOf : List ℕ → List ℕ → List ℕ → Tables → Front
+-- what the numbers that were read stand for
+abbrev pub frontOf : List ℕ → List ℕ → List ℕ → declared.Front → Front
 frontOf s comments groups t =
     record {
       media = t .media;
@@ -53,13 +53,13 @@ frontOf s comments groups t =
       groups = groupsIn groups (t .groups);
     }
 
-abbrev pub tablesAs : List ℕ → List ℕ → List ℕ → TablesRead → Decoded Front
-tablesAs s comments groups (tablesRead.Is t next) = ok (frontOf s comments groups t) (drop (next .at) s)
-tablesAs s comments groups (tablesRead.Refused r) = no r
+abbrev pub frontAs : List ℕ → List ℕ → List ℕ → FrontRead → Decoded Front
+frontAs s comments groups (frontRead.Is t next) = ok (frontOf s comments groups t) (drop (next .at) s)
+frontAs s comments groups (frontRead.Refused r) = no r
 
-abbrev pub WithinTables : ℕ → TablesRead → Type 0
-WithinTables n (tablesRead.Is t next) = (t .«source_start» ≤ t .«source_end») × (t .«source_end» ≤ n)
-WithinTables n (tablesRead.Refused r) = Unit {0}
+abbrev pub WithinFront : ℕ → FrontRead → Type 0
+WithinFront n (frontRead.Is t next) = (t .«source_start» ≤ t .«source_end») × (t .«source_end» ≤ n)
+WithinFront n (frontRead.Refused r) = Unit {0}
 
 -- a program at a place of the sheet, with a root behind it that ends the sheet, in which no call meets refusal 9
 pub record Stands (s source : List ℕ) (at : ℕ) (t : Tree) : Type 0 where

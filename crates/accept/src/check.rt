@@ -1,6 +1,6 @@
 // The check of a whole sheet.
-use super::tables::TablesRead;
-use super::tables::read_tables;
+use super::front::FrontRead;
+use super::front::read_front;
 use super::tree::TreeRead;
 use super::tree::check_tree;
 use sheet::program::Program;
@@ -19,7 +19,7 @@ pub struct Parts {
 }
 
 // A sheet that meets none of refusals 1 to 9, or the number of the first that it meets.
-pub enum Checked {
+pub enum SheetChecked {
     Accepted(Parts),
     Refused(u8),
 }
@@ -30,25 +30,25 @@ pub fn check_sheet(
     comments: &mut [u32; 3072],
     groups: &mut [u32; 4096],
     longest: &mut [u32; 1024],
-) -> Checked
+) -> SheetChecked
     ensures { λ r. ⌜ Judges (now (sheet .entry)) (now (comments .exit)) (now (groups .exit)) r ⌝ }
 {
     if sheet.len() == 0 {
-        return Checked::Refused(1);
+        return SheetChecked::Refused(1);
     }
     if 65536 < sheet.len() {
-        return Checked::Refused(1);
+        return SheetChecked::Refused(1);
     }
-    match read_tables(sheet, comments, groups, longest) {
-        TablesRead::Refused(r) => Checked::Refused(r),
-        TablesRead::Is(t, next) => {
+    match read_front(sheet, comments, groups, longest) {
+        FrontRead::Refused(r) => SheetChecked::Refused(r),
+        FrontRead::Is(t, next) => {
             let start = t.source_start;
             let end = t.source_end;
             match check_tree(sheet, &sheet[start..end], next) {
-                TreeRead::Refused(r) => Checked::Refused(r),
+                TreeRead::Refused(r) => SheetChecked::Refused(r),
                 TreeRead::Is(tree) => {
                     let program = tree.program;
-                    Checked::Accepted(Parts {
+                    SheetChecked::Accepted(Parts {
                         media: t.media,
                         source_start: start,
                         source_end: end,

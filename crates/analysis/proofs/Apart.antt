@@ -13,13 +13,13 @@ use Rattle.text.specs.declared.class.Class.the-variants.{White, NotWhite, Quote
 use Rattle.text.specs.declared.utf8.Encoding.the-variants.{Utf8}
 use Rattle.text.specs.Ranges.{_to_, within}
 use Rattle.text.specs.Utf8.{charAt}
-use Rattle.text.specs.Class.{ranges, outside, member, classAt}
+use Rattle.text.specs.Class.{ranges, outside, member, classAt, runEnd}
 use Rattle.text.proofs.Members.{one-point, together}
 use Rattle.text.proofs.Within.{within-iff}
 use Rattle.analysis.specs.declared.Capture.{Capture}
 use Rattle.analysis.specs.Letters.{foldCase, letterAt, wordAt}
 use Rattle.analysis.specs.Row.{Row, word, one, longest, from, either, all}
-use Rattle.analysis.specs.Matcher.{runEnd, BeginsAt}
+use Rattle.analysis.specs.Matcher.{BeginsWithAtSign}
 use Rattle.analysis.proofs.Ends.{only-longest}
 
 -- the row matches nowhere before a character of the class
@@ -105,7 +105,7 @@ unfolding all wordAt letterAt
 word-apart {c} {w} t = record { nowhere = λ s at k z. rw (no-letter c w (charAt Utf8 (drop at s) .code) t (member-at c (drop at s) z)) }
 
 -- a word that begins with @
-pub at-apart : {c : Class} {w : List ℕ} {r : Row} → BeginsAt w → free c (spellings 0x40) ≡ true → Apart c (word w r)
+pub at-apart : {c : Class} {w : List ℕ} {r : Row} → BeginsWithAtSign w → free c (spellings 0x40) ≡ true → Apart c (word w r)
 unfolding foldCase
 at-apart {c} {w = []} b t = absurd (omega arith)
 at-apart {c} {w = x ∷ w} b t = rw b (word-apart t)

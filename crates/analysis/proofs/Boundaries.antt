@@ -1,73 +1,51 @@
--- In a well-formed body what a finder captures lies on character boundaries, and so does its place. It lies in the body, between marks where it is quoted.
-use mathlib.Core.Path.{_≡_, sym, ap, _∙_}
-use mathlib.Core.Bool.{true, false, not, false≢true}
-use mathlib.Core.List.{List, [], _∷_, _++_, List·Memᴰ, List·Memᴰ·cases-cons, List·Memᴰ·eq-of-singleton}
+-- In a well-formed body the place of what a finder captures begins and ends at character boundaries. It lies in the body, between marks where it is quoted.
+use mathlib.Core.Path.{_≡_, ap, _∙_}
+use mathlib.Core.Bool.{true, false, false≢true}
+use mathlib.Core.List.{List, [], _∷_, List·Memᴰ, List·Memᴰ·cases-cons, List·Memᴰ·eq-of-singleton}
 use mathlib.Core.Logic.{inl, inr, ⊎-elim}
-use Prim.Native.Nat.{ℕ, _+_, _-_, _/_, _≤_, _<_}
+use Prim.Native.Nat.{ℕ, _+_, _-_, _≤_}
 use native.Mathlib.Nat.{add-zero, sub-zero}
 use native.Mathlib.Omega.{arith}
 use lib.ListN.{length, getD, drop, length-drop}
 use lib.Seq.{getD-drop}
-use borrow.Author.Tests.{le-leb, lt-leb}
 use Rattle.text.specs.declared.class.Class.{Class}
 use Rattle.text.specs.declared.class.Class.the-variants.{Quote}
 use Rattle.text.specs.declared.utf8.Char.{Char}
 use Rattle.text.specs.declared.utf8.Encoding.the-variants.{Utf8}
-use Rattle.text.specs.Ranges.{within}
-use Rattle.text.specs.Utf8.{continuation, charLength, charAt, formed}
+use Rattle.text.specs.Utf8.{charLength, charAt, formed}
 use Rattle.text.specs.Encode.{encode}
 use Rattle.text.specs.Class.{classAt}
-use Rattle.text.proofs.Formed.{passed}
+use Rattle.text.specs.Position.{Boundary}
+use Rattle.text.specs.Bytes.{Mark}
 use Rattle.text.proofs.Runs.{class-fits}
-use Rattle.text.proofs.CodePoint.{by-length}
 use Rattle.text.proofs.Reader.{reader-sound}
-use Rattle.text.proofs.Boundary.{boundary}
+use Rattle.text.proofs.Cuts.{between}
 use Rattle.analysis.specs.declared.Capture.{Capture}
 use Rattle.analysis.specs.declared.Found.the-variants.{At}
 use Rattle.analysis.specs.Row.{Row, noCapture, find}
-use Rattle.analysis.specs.Place.{Mark, placeOf, Inside}
+use Rattle.analysis.specs.Place.{placeOf, Inside}
 use Rattle.analysis.specs.Matches.{Run, Matches}
-use Rattle.analysis.specs.Patterns.{quoted, quotedSome, bare, tripleSlashRow, attributeRow, pathRow, typesRow, resolutionModeRow, jsxRow, jsxImportSourceRow, jsxImportSourceTypesRow, sourceMappingUrlRow, pragmaRow, tsSelfTypesRow, tsTypesRow, denoTypesRow}
+use Rattle.analysis.specs.Patterns.{quoted, quotedSome, bare, attributeRow, pathRow, typesRow, jsxRow, jsxImportSourceRow, jsxImportSourceTypesRow, sourceMappingUrlRow, pragmaRow, tsSelfTypesRow, tsTypesRow, denoTypesRow}
 use Rattle.analysis.proofs.Apart.{member-at, quotes}
 use Rattle.analysis.proofs.Meaning.{found-reads}
 
--- the place is a character boundary: what follows is one character after the other
-abbrev pub Cut : List ℕ → ℕ → Type 0
-Cut s p = formed Utf8 0 (drop p s) ≡ true
-
--- the captured range begins and ends between characters, and so does its place; the marks stand where they should
+-- the place of what is captured begins and ends at character boundaries; the marks stand where they should
 pub record Whole (s : List ℕ) (k : Capture) : Type 0 where
-  pub from : Cut s (k .from)
-  pub to : Cut s (k .to)
-  pub opens : Cut s (placeOf k .from)
-  pub closes : Cut s (placeOf k .to)
+  pub opens : Boundary s (placeOf k .from)
+  pub closes : Boundary s (placeOf k .to)
   pub inside : Inside k (length s)
   pub marks : k .quoted ≡ true → Mark (getD s (placeOf k .from) 0) × Mark (getD s (k .to) 0)
 
--- what is said of each of the ten patterns
-pub record Ten (P : Row → Type 0) : Type 0 where
-  pub triple-slash : P tripleSlashRow
+-- what is said of each pattern that captures a specifier
+pub record EachSpecifier (P : Row → Type 0) : Type 0 where
   pub path : P pathRow
   pub types : P typesRow
-  pub resolution-mode : P resolutionModeRow
   pub jsx-import-source : P jsxImportSourceRow
   pub jsx-import-source-types : P jsxImportSourceTypesRow
   pub source-mapping-url : P sourceMappingUrlRow
   pub ts-self-types : P tsSelfTypesRow
   pub ts-types : P tsTypesRow
   pub deno-types : P denoTypesRow
-
--- no character begins with a continuation byte
-lead : (p : ℕ) (t : List ℕ) → within continuation (getD (encode p ++ t) 0 0) ≡ false
-lead p t =
-    by-length (λ bs. within continuation (getD (bs ++ t) 0 0) ≡ false) p
-    (λ l. rw (lt-leb 0x80 p l))
-    (λ l h. above (0xC0 + p / 64) (omega arith))
-    (λ l h. above (0xE0 + p / 4096) (omega arith))
-    (λ l. above (0xF0 + p / 262144) (omega arith))
-  where
-    above : (x : ℕ) → 0xC0 ≤ x → within continuation x ≡ false
-    above x h = rw (le-leb 0x80 x (omega arith), lt-leb x 0xBF h)
 
 -- a character of a class is a character, and a mark has one byte
 class-char : (c : Class) (t : List ℕ) → (classAt c t ≡ 0 → ⊥) → classAt c t ≡ charLength Utf8 t
@@ -107,33 +85,24 @@ module _ (s : List ℕ) where
   mark-at at z = let e : getD (drop at s) 0 0 ≡ getD s at 0 = rw (getD-drop at s 0 0, add-zero) in rw (← e) (mark-byte (drop at s) z)
 
 module _ (s : List ℕ) (f : formed Utf8 0 s ≡ true) where
-  -- a character stands between two boundaries
-  reads : (c : Class) (at : ℕ) → (classAt c (drop at s) ≡ 0 → ⊥) → Cut s at × Cut s (at + classAt c (drop at s))
-  reads c at z =
-      let e = class-char c (drop at s) z in
-      let h : at < length s = omega (arith, class-fits c (drop at s), length-drop at s) in
-      let (p, a) = reader-sound Utf8 (drop at s) (λ y. z (e ∙ y)) in
-      let first : getD (drop at s) 0 0 ≡ getD s at 0 = rw (getD-drop at s 0 0, add-zero) in
-      let e′ : within continuation (getD s at 0) ≡ false = rw (← first, a .begins) (lead p _) in
-      let here = boundary Utf8 s at f h ∙ ap not e′ in
-      (here, sym (passed Utf8 s at h (classAt c (drop at s)) e z) ∙ here)
+  -- a character of a class stands between two boundaries
+  reads : (c : Class) (at : ℕ) → (classAt c (drop at s) ≡ 0 → ⊥) → Boundary s at × Boundary s (at + classAt c (drop at s))
+  reads c at z = between s f at (classAt c (drop at s)) (class-char c (drop at s) z) z
 
-  runs : {c : Class} {at end : ℕ} → Run s c at end → Cut s at → Cut s end
+  runs : {c : Class} {at end : ℕ} → Run s c at end → Boundary s at → Boundary s end
   runs Run.none b = b
   runs {c} (Run.more {at} z r) b = runs r (reads c at z .1)
 
   -- a captured text with a mark before it, at `at`, and one behind it
-  marked : (at end : ℕ) → (classAt Quote (drop at s) ≡ 0 → ⊥) → (classAt Quote (drop end s) ≡ 0 → ⊥) → at + classAt Quote (drop at s) ≤ end → Cut s end
+  marked : (at end : ℕ) → (classAt Quote (drop at s) ≡ 0 → ⊥) → (classAt Quote (drop end s) ≡ 0 → ⊥) → at + classAt Quote (drop at s) ≤ end
       → Whole s (record { quoted = true; from = at + classAt Quote (drop at s); to = end })
   unfolding placeOf
-  marked at end z y o b =
+  marked at end z y o =
       let e = one-byte (drop at s) z in
       let d = one-byte (drop end s) y in
       let last = ends-inside s Quote end y in
       let start : at + classAt Quote (drop at s) - 1 ≡ at = omega arith in
       record {
-        from = reads Quote at z .1;
-        to = b;
         opens = rw start (reads Quote at z .0);
         closes = rw (one-byte (drop end s) y) at (reads Quote end y .1);
         inside = record { opens = omega arith; ordered = o; closes = omega arith };
@@ -143,12 +112,12 @@ module _ (s : List ℕ) (f : formed Utf8 0 s ≡ true) where
   -- the values
   quoted-whole : {at end : ℕ} {k l : Capture} → Matches s quoted at end k l → Whole s l
   quoted-whole (Matches.one {at = at} z (Matches.from (Matches.longest {e = e} run (Matches.to (Matches.one y Matches.done))))) =
-      marked at e z y (run-inside s run (ends-inside s Quote at z) .0) (runs run (reads Quote at z .1))
+      marked at e z y (run-inside s run (ends-inside s Quote at z) .0)
 
   some-whole : {at end : ℕ} {k l : Capture} → Matches s quotedSome at end k l → Whole s l
   some-whole (Matches.one {at = at} z (Matches.from (Matches.one {c = c} {at = b} x (Matches.longest {e = e} run (Matches.to (Matches.one y Matches.done)))))) =
       let o = run-inside s run (ends-inside s c b x) .0 in
-      marked at e z y (omega arith) (runs run (reads c b x .1))
+      marked at e z y (omega arith)
 
   bare-whole : {at end : ℕ} {k l : Capture} → Matches s bare at end k l → Whole s l
   unfolding placeOf
@@ -157,8 +126,6 @@ module _ (s : List ℕ) (f : formed Utf8 0 s ≡ true) where
       let d = runs run b in
       let i = run-inside s run (ends-inside s c at z) in
       record {
-        from = a;
-        to = d;
         opens = rw sub-zero a;
         closes = rw add-zero d;
         inside = record { opens = omega arith; ordered = omega arith; closes = omega arith };
@@ -182,22 +149,15 @@ module _ (s : List ℕ) (f : formed Utf8 0 s ≡ true) where
   deno-whole (Matches.start _ (Matches.longest _ (Matches.word _ (Matches.longest _ (Matches.word _ (Matches.longest _ (Matches.left m))))))) = some-whole m
   deno-whole (Matches.start _ (Matches.longest _ (Matches.word _ (Matches.longest _ (Matches.word _ (Matches.longest _ (Matches.right m))))))) = bare-whole m
 
-  triple-whole : {at end : ℕ} {l : Capture} → Matches s tripleSlashRow at end noCapture l → Whole s l
-  unfolding placeOf
-  triple-whole (Matches.start _ (Matches.word _ (Matches.longest _ (Matches.word _ (Matches.one _ (Matches.shortest _ (Matches.word _ Matches.done))))))) =
-      record { from = f; to = f; opens = f; closes = f; inside = record { opens = omega arith; ordered = omega arith; closes = omega arith }; marks = λ q. absurd (false≢true q) }
-
   answered : (r : Row) → ((at end : ℕ) (l : Capture) → Matches s r at end noCapture l → Whole s l)
       → (k : Capture) → find r s ≡ At k → Whole s k
   answered r h k e = let (at, _, end, m) = found-reads r s e in h at end k m
 
-  -- what the ten finders answer
-  pub whole : Ten (λ r. (k : Capture) → find r s ≡ At k → Whole s k)
+  -- what the finders of specifiers answer
+  pub whole : EachSpecifier (λ r. (k : Capture) → find r s ≡ At k → Whole s k)
   whole = record {
-    triple-slash = answered _ (λ at end l. triple-whole);
     path = answered _ (λ at end l. attribute-whole);
     types = answered _ (λ at end l. attribute-whole);
-    resolution-mode = answered _ (λ at end l. attribute-whole);
     jsx-import-source = answered _ (λ at end l. jsx-whole);
     jsx-import-source-types = answered _ (λ at end l. jsx-whole);
     source-mapping-url = answered _ (λ at end l. source-whole);

@@ -1,4 +1,4 @@
--- Worked bodies of the ten patterns, which antt computes. Each is its bytes before the captured text, that text, and the bytes behind it.
+-- Worked bodies of the ten patterns beside 01's, which stand in module_info. Each is its bytes before the captured text, that text, and the bytes behind it.
 use mathlib.Core.Path.{_≡_, refl}
 use mathlib.Core.Bool.{true, false}
 use mathlib.Core.List.{List, [], _∷_, _++_, map, flatMap}
@@ -46,7 +46,6 @@ table =
     matched tripleSlashRow (ascii "/ <reference path=\"a\" />")
     ∷ matched tripleSlashRow (ascii "/" ++ encode 0x2003 ++ ascii "<REFERENCE" ++ encode 0x85 ++ ascii "/>")
     ∷ matched tripleSlashRow (ascii "/<reference\n/>")
-    ∷ missed tripleSlashRow (ascii "/<reference path=\"a\">")
     ∷ missed tripleSlashRow (ascii "/<reference path=\"a\"\n/>")
     ∷ missed tripleSlashRow (ascii "/<reference/>")
     ∷ missed tripleSlashRow (ascii " /<reference />")
@@ -65,19 +64,16 @@ table =
     ∷ missed jsxImportSourceRow (ascii "* @jsxImportSource ")
     ∷ plain jsxImportSourceTypesRow (ascii "*\n * @jsxImportSourceTypes\t") (ascii "preact/types") (ascii "\n ")
     ∷ missed jsxImportSourceTypesRow (ascii "* @jsxImportSource Types preact")
-    ∷ plain sourceMappingUrlRow (ascii "# sourcemappingurl = ") (ascii "a") (ascii " b")
     ∷ plain sourceMappingUrlRow (ascii "@" ++ encode 0x2003 ++ encode 0x17F ++ ascii "ourceMappingURL=") (encode 0xE9 ++ ascii ".map") (encode 0x3000)
     ∷ missed sourceMappingUrlRow (ascii " # sourceMappingURL=a")
     ∷ missed sourceMappingUrlRow (ascii "# sourceMappingURL= ")
     ∷ marked tsSelfTypesRow (ascii " @ts-self-types=\"") (ascii "./a.d.ts") (ascii "\"")
     ∷ missed tsSelfTypesRow (ascii "@ts-self-types=./a.d.ts")
     ∷ marked tsTypesRow (encode 0x85 ++ ascii "@TS-TYPES = '") (ascii "a b") (ascii "\" x")
-    ∷ missed tsTypesRow (ascii "@ts-types=\"\"")
     ∷ missed tsTypesRow (ascii "@ts-types=\"'a'")
     ∷ missed tsTypesRow (ascii "* @ts-types=\"a\"")
     ∷ marked denoTypesRow (ascii "@deno-types = \"") (ascii "./a.d.ts") (ascii "'x")
     ∷ plain denoTypesRow (ascii "@deno-types=") (ascii "./a.d.ts") (ascii " \"b\"")
-    ∷ plain denoTypesRow (ascii "@deno-types=") (ascii "\"a") []
     ∷ plain denoTypesRow (ascii "@deno-types=") (ascii "\"\"") []
     ∷ plain denoTypesRow (ascii "@deno-types=") (ascii "\"") (ascii " a")
     ∷ missed denoTypesRow (ascii "@deno-types= ")

@@ -1,18 +1,18 @@
 -- The places where a run can end, from one character to the next. The last of them is where the longest run ends, and it is the only one that
 -- counts where what follows the run matches nowhere before it.
 use mathlib.Core.Path.{_≡_, refl, sym, ap, _∙_}
-use mathlib.Core.List.{List, [], _∷_, _++_, reverse, reverse-cons, append-nil, append-assoc, flatMap}
+use mathlib.Core.List.{List, [], _∷_, _++_, reverse, reverse-cons, append-nil, flatMap}
 use Prim.Native.Nat.{ℕ, zero, suc, _+_, _≤_}
 use native.Mathlib.Nat.{add-zero, not-suc-le-zero, le-of-suc-le-suc}
 use native.Mathlib.Omega.{arith}
 use lib.ListN.{length, drop, length-drop}
 use lib.Seq.{drop-drop}
+use Rattle.laws.proofs.Lists.{flatMap-append}
 use Rattle.text.specs.declared.class.Class.{Class}
-use Rattle.text.specs.Class.{classAt}
+use Rattle.text.specs.Class.{classAt, runEnd}
 use Rattle.text.proofs.Runs.{class-fits, run-stops, run-goes-on}
 use Rattle.analysis.specs.declared.Capture.{Capture}
 use Rattle.analysis.specs.Row.{ends, runEnds}
-use Rattle.analysis.specs.Matcher.{runEnd}
 
 -- the bytes skipped are in the run
 skipped : (c : Class) (n : ℕ) (t : List ℕ) (at : ℕ) → n ≤ length t → ends c n t at ≡ ends c 0 (drop n t) (at + n)
@@ -35,11 +35,6 @@ goes-on c [] at {n = suc n} e z = absurd (omega (arith, class-fits c []))
 goes-on c (x ∷ t) at {n = suc n} e z =
     let h : suc n ≤ length (x ∷ t) = omega (arith, class-fits c (x ∷ t)) in
     rw (← e) (ap (λ (l : List ℕ). at ∷ l) (skipped c (suc n) (x ∷ t) at h))
-
-flat-append : (f : ℕ → List Capture) (a b : List ℕ) → flatMap f (a ++ b) ≡ flatMap f a ++ flatMap f b
-unfolding flatMap
-flat-append f [] b = refl
-flat-append f (x ∷ a) b = rw (flat-append f a b) (sym (append-assoc (f x) (flatMap f a) (flatMap f b)))
 
 module _ (c : Class) (s : List ℕ) where
   -- where no character of the class stands, the run ends
@@ -90,4 +85,4 @@ module _ (c : Class) (s : List ℕ) where
       (λ at e. rw (ends-stop at e, run-stops c (drop at s) e, add-zero at) (append-nil (f at)))
       (λ at z i.
       let next = reverse (runEnds c s (at + classAt c (drop at s))) in
-      rw (ends-go-on at refl z, reverse-cons, flat-append f next (at ∷ []), i, h at z, end-behind at z) (append-nil (f (runEnd c s at))))
+      rw (ends-go-on at refl z, reverse-cons, flatMap-append f next (at ∷ []), i, h at z, end-behind at z) (append-nil (f (runEnd c s at))))

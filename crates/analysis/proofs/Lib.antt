@@ -7,3 +7,4 @@ pub mod Meaning
 pub mod Preference
 pub mod Boundaries
 pub mod Cases
+pub mod Modes

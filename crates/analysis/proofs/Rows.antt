@@ -9,7 +9,7 @@ use borrow.Author.Tests.{eq-eqb}
 use Rattle.laws.specs.Quoted.{ascii}
 use Rattle.text.specs.declared.class.Class.the-variants.{White, NotWhite, WhiteOrStar, NotLf, Quote, NotQuote, SourceMark}
 use Rattle.text.specs.Ranges.{inRanges}
-use Rattle.text.specs.Class.{ranges, outside, member, classAt}
+use Rattle.text.specs.Class.{ranges, outside, member, classAt, runEnd}
 use Rattle.text.proofs.Runs.{class-fits}
 use Rattle.analysis.specs.declared.matcher.Matched.{Matched}
 use Rattle.analysis.specs.declared.matcher.Matched.the-variants.{At, Not}
@@ -17,7 +17,7 @@ use Rattle.analysis.specs.declared.Capture.{Capture}
 use Rattle.analysis.specs.declared.Found.the-variants as found
 use Rattle.analysis.specs.Letters.{foldCase, onMatch, wordAt}
 use Rattle.analysis.specs.Row.{Row, _▸_, oneAt, done, start, word, one, longest, to, either, all, noCapture, first, matchAt, find}
-use Rattle.analysis.specs.Matcher.{runEnd, assignedAt, BeginsAt}
+use Rattle.analysis.specs.Matcher.{assignedAt, BeginsWithAtSign}
 use Rattle.analysis.specs.Patterns.{equals, quoted, quotedSome, bare, referenceEnd, tripleSlashRow, attributeRow, jsxRow, sourceMappingUrlRow, pragmaRow, denoTypesRow}
 use Rattle.analysis.proofs.Ends.{ends-begin, ends-stop, ends-go-on, longest-last}
 use Rattle.analysis.proofs.Apart.{Apart, past-run, white-apart, quote-apart, word-apart, at-apart, either-apart, from-apart, to-apart}
@@ -55,11 +55,11 @@ white-source : (r : Row) → Apart White (word (ascii "sourceMappingURL") r)
 unfolding inRanges ranges outside member foldCase
 white-source r = word-apart refl
 
-white-pragma : (r : Row) {w : List ℕ} → BeginsAt w → Apart White (word w r)
+white-pragma : (r : Row) {w : List ℕ} → BeginsWithAtSign w → Apart White (word w r)
 unfolding inRanges ranges outside member foldCase
 white-pragma r b = at-apart b refl
 
-star-pragma : (r : Row) {w : List ℕ} → BeginsAt w → Apart WhiteOrStar (word w r)
+star-pragma : (r : Row) {w : List ℕ} → BeginsWithAtSign w → Apart WhiteOrStar (word w r)
 unfolding inRanges ranges outside member foldCase
 star-pragma r b = at-apart b refl
 
@@ -135,7 +135,7 @@ module _ (s : List ℕ) where
   triple-slash-row =
       anchored _ s ∙ ap first (on (wordAt (ascii "/") s 0) λ e. past-run (white-reference (one White ▸ referenceEnd)) s e noCapture)
 
-  pub jsx-row : (w : List ℕ) → BeginsAt w → find (jsxRow w) s ≡ first (onMatch (wordAt w s (runEnd WhiteOrStar s 0)) [] (λ e.
+  pub jsx-row : (w : List ℕ) → BeginsWithAtSign w → find (jsxRow w) s ≡ first (onMatch (wordAt w s (runEnd WhiteOrStar s 0)) [] (λ e.
       onMatch (oneAt White s e) [] (λ d. all bare s (runEnd White s d) noCapture)))
   unfolding matchAt all
   jsx-row w b =
@@ -151,12 +151,12 @@ module _ (s : List ℕ) where
       past-run (white-source (equals ▸ bare)) s e noCapture ∙ assigned bare white-bare (ascii "sourceMappingURL") s (runEnd White s e) noCapture)
 
   -- `^\s*WORD\s*=\s*` before what is no white space
-  pragma : (r : Row) → Apart White r → (w : List ℕ) → BeginsAt w
+  pragma : (r : Row) → Apart White r → (w : List ℕ) → BeginsWithAtSign w
       → find (start ▸ longest White ▸ word w ▸ equals ▸ r) s ≡ first (onMatch (assignedAt w s (runEnd White s 0)) [] (λ e. all r s e noCapture))
   unfolding matchAt
   pragma r h w b = anchored _ s ∙ ap first (past-run (white-pragma (equals r) b) s 0 noCapture ∙ assigned r h w s (runEnd White s 0) noCapture)
 
-  pub pragma-row : (w : List ℕ) → BeginsAt w
+  pub pragma-row : (w : List ℕ) → BeginsWithAtSign w
       → find (pragmaRow w) s ≡ first (onMatch (assignedAt w s (runEnd White s 0)) [] (λ e. all quotedSome s e noCapture))
   pragma-row = pragma quotedSome white-quote
 

@@ -1,27 +1,22 @@
 -- A letter ends in the text, and a word goes on from one of its letters to the next.
 use mathlib.Core.Path.{_≡_}
-use mathlib.Core.Bool.{Bool, true, false, cond}
 use mathlib.Core.List.{List}
-use Prim.Native.Nat.{ℕ, _+_, _≤_, _<_, zero-le}
+use Prim.Native.Nat.{ℕ, _+_, _≤_, _<_}
 use native.Mathlib.Numerals.{add-one}
 use lib.Dec.{eqb}
 use lib.ListN.{length, getD, drop, drop-of-length-le}
 use lib.Seq.{drop-cons}
 use borrow.Author.Tests.{eq-eqb, ne-eqb}
 use Rattle.text.specs.declared.utf8.Encoding.the-variants.{Utf8}
-use Rattle.text.specs.Utf8.{charLength, charAt}
-use Rattle.text.proofs.Formed.{fits}
+use Rattle.text.specs.Utf8.{charAt}
+use Rattle.text.proofs.Formed.{fits-if}
 use Rattle.analysis.specs.declared.matcher.Matched.the-variants.{At, Not}
 use Rattle.analysis.specs.Letters.{foldCase, letterAt, wordAt}
 
 -- a letter has no more bytes than the text
 pub letter-fits : (w : ℕ) (s : List ℕ) → letterAt w s ≤ length s
 unfolding letterAt charAt
-letter-fits w s = go (eqb (foldCase (charAt Utf8 s .code)) (foldCase w))
-  where
-    go : (b : Bool) → cond b (charLength Utf8 s) 0 ≤ length s
-    go true = fits Utf8 s
-    go false = zero-le
+letter-fits w s = fits-if Utf8 (eqb (foldCase (charAt Utf8 s .code)) (foldCase w)) s
 
 -- a word from its letter k on, which has n bytes at `at`
 module _ (w s : List ℕ) (k at : ℕ) (h : k < length w) {n : ℕ} (e : n ≡ letterAt (getD w k 0) (drop at s)) where

@@ -1,19 +1,14 @@
 -- What the functions answer that the patterns share.
 use mathlib.Core.Path.{_≡_}
 use mathlib.Core.List.{List}
-use Prim.Native.Nat.{ℕ, _+_, _≤_}
-use lib.ListN.{getD, drop}
+use Prim.Native.Nat.{ℕ, _≤_}
+use lib.ListN.{getD}
 use Rattle.laws.specs.Quoted.{ascii}
-use Rattle.text.specs.declared.class.Class.{Class}
 use Rattle.text.specs.declared.class.Class.the-variants.{White}
-use Rattle.text.specs.Class.{runLength}
+use Rattle.text.specs.Class.{runEnd}
 use Rattle.analysis.specs.declared.matcher.Matched.{Matched}
 use Rattle.analysis.specs.declared.matcher.Matched.the-variants.{At, Not}
 use Rattle.analysis.specs.Letters.{onMatch, wordAt}
-
--- where the longest run of the class ends that begins at a place
-abbrev pub runEnd : Class → List ℕ → ℕ → ℕ
-runEnd c s at = at + runLength c (drop at s)
 
 -- where the value begins behind a word and `\s*=\s*`
 unfoldable pub assignedAt : List ℕ → List ℕ → ℕ → Matched
@@ -27,5 +22,5 @@ EndsBy (At e) n = e ≤ n
 EndsBy Not n = Unit {0}
 
 -- the word begins with @
-abbrev pub BeginsAt : List ℕ → Type 0
-BeginsAt w = getD w 0 0 ≡ 0x40
+abbrev pub BeginsWithAtSign : List ℕ → Type 0
+BeginsWithAtSign w = getD w 0 0 ≡ 0x40

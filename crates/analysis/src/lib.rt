@@ -18,19 +18,8 @@ ghost use mathlib.Core.Path.{_≡_};
 ghost use Prim.Native.Nat.{_+_, _≤_, _<_, _^_};
 ghost use lib.ListN.{length};
 ghost use Rattle.analysis.specs.Row.{find, isFound};
-ghost use Rattle.analysis.specs.Place.{Inside, Within, mark, placeOf, textOf};
-ghost use Rattle.analysis.specs.Patterns.{
-  tripleSlashRow,
-  pathRow,
-  typesRow,
-  resolutionModeRow,
-  jsxImportSourceRow,
-  jsxImportSourceTypesRow,
-  sourceMappingUrlRow,
-  tsSelfTypesRow,
-  tsTypesRow,
-  denoTypesRow,
-};
+ghost use Rattle.analysis.specs.Place.{Inside, Within, markWidth, placeOf, textOf};
+ghost use Rattle.analysis.specs.Patterns.{tripleSlashRow, pathRow, typesRow, resolutionModeRow, jsxImportSourceRow, jsxImportSourceTypesRow, sourceMappingUrlRow, tsSelfTypesRow, tsTypesRow, denoTypesRow};
 
 // What a match captured: from one place of the body to another, and whether marks stand around it. The Rust's `is_quoteless` is the opposite.
 pub struct Capture {
@@ -44,7 +33,7 @@ pub enum Found {
     Nothing,
 }
 
-// From one place of the body to another.
+// 01's place of what a pattern reads: the range from one byte offset of the body to another.
 pub struct Place {
     pub from: usize,
     pub to: usize,
@@ -168,7 +157,7 @@ pub fn specifier(body: &[u8], found: Capture) -> &[u8]
 
 // The captured range, with the two marks around it where it is quoted.
 pub fn place_of(found: Capture) -> Place
-    requires { ⌜ (mark found ≤ found .from) × (found .to + mark found < 2 ^ 64) ⌝ }
+    requires { ⌜ (markWidth found ≤ found .from) × (found .to + markWidth found < 2 ^ 64) ⌝ }
     ensures { λ r. ⌜ r ≡ placeOf found ⌝ }
 {
     let from = found.from;

@@ -11,17 +11,9 @@ ghost use Prim.Native.Nat.{_+_, _≤_};
 ghost use lib.ListN.{length, drop};
 ghost use Rattle.analysis.specs.Letters.{foldCase, letterAt, wordAt};
 ghost use Rattle.analysis.specs.Row.{matchAt, find, isFound};
-ghost use Rattle.analysis.specs.Matcher.{assignedAt, EndsBy, BeginsAt};
+ghost use Rattle.analysis.specs.Matcher.{assignedAt, EndsBy, BeginsWithAtSign};
 ghost use Rattle.analysis.specs.Place.{Within};
-ghost use Rattle.analysis.specs.Patterns.{
-  quoted,
-  quotedSome,
-  bare,
-  referenceEnd,
-  attributeRow,
-  jsxRow,
-  pragmaRow,
-};
+ghost use Rattle.analysis.specs.Patterns.{quoted, quotedSome, bare, referenceEnd, attributeRow, jsxRow, pragmaRow};
 
 // The place that was reached, if any.
 pub enum Matched {
@@ -219,7 +211,7 @@ pub fn find_attribute(body: &[u8], word: &[u8]) -> Found
 
 // ^[\s*]*WORD\s+(\S+), the word beginning with @
 pub fn find_jsx(body: &[u8], word: &[u8]) -> Found
-    requires { ⌜ BeginsAt (now word) ⌝ }
+    requires { ⌜ BeginsWithAtSign (now word) ⌝ }
     ensures { λ r. ⌜ r ≡ find (jsxRow (now (word .entry))) (now (body .entry)) ⌝ }
     ensures { λ r. ⌜ Within r (length (now (body .entry))) ⌝ }
 {
@@ -237,7 +229,7 @@ pub fn find_jsx(body: &[u8], word: &[u8]) -> Found
 
 // ^\s*WORD\s*=\s*["']([^"']+)["'], the word beginning with @
 pub fn find_pragma(body: &[u8], word: &[u8]) -> Found
-    requires { ⌜ BeginsAt (now word) ⌝ }
+    requires { ⌜ BeginsWithAtSign (now word) ⌝ }
     ensures { λ r. ⌜ r ≡ find (pragmaRow (now (word .entry))) (now (body .entry)) ⌝ }
     ensures { λ r. ⌜ Within r (length (now (body .entry))) ⌝ }
 {

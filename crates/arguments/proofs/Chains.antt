@@ -1,40 +1,36 @@
 -- The parts of a chain of pluses, from what was read of its expression.
 use mathlib.Core.Path.{_≡_, refl, sym, ap, _∙_}
-use mathlib.Core.List.{List, [], _∷_, _++_, append-assoc, append-nil}
+use mathlib.Core.List.{List, [], _∷_, _++_, append-nil, flatMap}
 use mathlib.Core.Option.{Option}
 use Prim.Native.Nat.{ℕ, _+_}
 use native.Mathlib.Omega.{arith}
 use lib.ListN.{length, drop, length-append}
 use Rattle.laws.specs.Decoded.{Decoded, ok, no, onOk, Decoder}
-use Rattle.laws.proofs.Decoding.{refused}
+use Rattle.laws.proofs.Lists.{flatMap-append}
+use Rattle.laws.proofs.Decoding.{refused, same-rest}
 use Rattle.text.specs.Lossy.{lossy}
+use Rattle.text.specs.Bytes.{part}
 use Rattle.wire.specs.declared.Cursor.{Cursor}
 use Rattle.wire.specs.Text.{encodeText}
-use Rattle.wire.specs.Views.{part}
+use Rattle.wire.specs.Optional.{encodeOptional}
 use Rattle.sheet.specs.Tree.{Node}
-use Rattle.sheet.specs.Walked.{shape}
+use Rattle.sheet.specs.Shape.{shape}
 use Rattle.nodes.specs.declared.tally.Judged.{Judged}
 use Rattle.nodes.specs.Judged.{judged}
 use Rattle.report.specs.ModuleInfo.{DynamicTemplatePart}
-use Rattle.report.specs.Encode.{each, encodeOptional}
-use Rattle.report.specs.World.{World, wrote}
-use Rattle.report.proofs.Worlds.{wrote-append}
+use Rattle.report.specs.Buffer.{Buffer, wrote}
+use Rattle.report.proofs.Buffers.{wrote-append}
 use Rattle.arguments.specs.declared.bin.Parts.the-variants as parts
 use Rattle.arguments.specs.Argument.{operand, appended, chain}
-use Rattle.arguments.specs.Stands.{encodeParts, IsString, IsTemplate, IsPlus, Counted, count, unknown, partsAs, counted}
-
-each-append : {A : Type 0} (f : A → List ℕ) (a b : List A) → each f (a ++ b) ≡ each f a ++ each f b
-unfolding each
-each-append f [] b = refl
-each-append f (x ∷ a) b = rw (each-append f a b, append-assoc)
+use Rattle.arguments.specs.Views.{encodeParts, IsString, IsTemplate, IsPlus, Counted, count, unknown, partsAs, counted}
 
 -- parts one behind the other
-pub wrote-parts : (w : World) (l m : List DynamicTemplatePart) → wrote w (encodeParts (l ++ m)) ≡ wrote (wrote w (encodeParts l)) (encodeParts m)
-wrote-parts w l m = rw (each-append (encodeOptional encodeText) l m, wrote-append)
+pub wrote-parts : (w : Buffer) (l m : List DynamicTemplatePart) → wrote w (encodeParts (l ++ m)) ≡ wrote (wrote w (encodeParts l)) (encodeParts m)
+wrote-parts w l m = rw (flatMap-append (encodeOptional encodeText) l m, wrote-append)
 
 -- one part
 pub encode-one : (p : DynamicTemplatePart) → encodeParts (p ∷ []) ≡ encodeOptional encodeText p
-unfolding each
+unfolding flatMap
 encode-one p = rw append-nil
 
 -- what a count says of the parts
@@ -59,13 +55,9 @@ only-part e f = cc
 pub no-parts : {o : Option (List DynamicTemplatePart)} {l : List DynamicTemplatePart} → o ≡ Option.none → o ≡ Option.some l → ⊥
 no-parts e f = let z : _≡_ {A = ℕ} 0 1 = cc in omega arith
 
--- what stands behind a node that was checked
-module _ {x : Decoded Node} {n : Node} {t : List ℕ} (is : x ≡ ok n t) where
-  pub checked-past : {j : Judged} {v : List ℕ} → onOk judged x ≡ ok j v → v ≡ t
-  checked-past {j} {v} e = let both : ok j v ≡ ok (judged n) t = sym e ∙ ap (onOk judged) is in cc
-
-  pub checked-refused : {r : ℕ} → onOk judged x ≡ no r → ⊥
-  checked-refused e = refused (sym e ∙ ap (onOk judged) is)
+-- a node that was read is not refused by its check
+pub checked-refused : {x : Decoded Node} {n : Node} {t : List ℕ} → x ≡ ok n t → {r : ℕ} → onOk judged x ≡ no r → ⊥
+checked-refused is e = refused (sym e ∙ ap (onOk judged) is)
 
 -- an answer for the node that inner reads
 abbrev Counts : Decoder Node → List ℕ → Counted → Type 0
@@ -112,7 +104,7 @@ module _ {s : List ℕ} {inner : Decoder Node} {next : Cursor} {n : Node} {t : L
         let p = operand (shape (r .right)) in
         let whole : chain n ≡ Option.some (l ++ (p ∷ [])) = plus-chain ∙ ap (λ o. appended o p) is in
         let more : k + 1 ≡ length (l ++ (p ∷ [])) = omega (arith, length-append l (p ∷ [])) in
-        rw (whole, more, checked-past at-right e)
+        rw (whole, more, same-rest judged (inner v) at-right e)
 
   -- the parts of the left side, and the right
   pub plus-parts : {l : List DynamicTemplatePart} → chain n ≡ Option.some l

@@ -1,6 +1,6 @@
 -- Pieces of a template read one after the other, and the parts that they give.
 use mathlib.Core.Path.{_≡_, refl, sym, ap, _∙_}
-use mathlib.Core.Bool.{Bool, true, false, cond}
+use mathlib.Core.Bool.{Bool, true, false}
 use mathlib.Core.List.{List, [], _∷_, _++_, append-nil}
 use mathlib.Core.Option.{Option}
 use Prim.Native.Nat.{ℕ, zero, suc, _+_, _-_, _≤_, _<_}
@@ -8,54 +8,34 @@ use native.Mathlib.Omega.{arith}
 use lib.Dec.{ltb}
 use lib.ListN.{length, length-take, length-drop}
 use borrow.Author.Tests.{lt-ltb}
-use Rattle.laws.specs.Decoded.{ok, no, onOk, Decoder, return}
-use Rattle.laws.proofs.Decoding.{refused, then-ok, onOk-ok}
+use Rattle.laws.specs.Decoded.{ok}
+use Rattle.laws.proofs.Decoding.{then-ok}
 use Rattle.text.specs.declared.utf8.Encoding.the-variants.{Wtf8}
-use Rattle.wire.specs.Fields.{flag}
-use Rattle.wire.specs.Text.{text}
 use Rattle.text.specs.Lossy.{lossy}
-use Rattle.wire.specs.Views.{part}
+use Rattle.text.specs.Bytes.{part}
+use Rattle.wire.specs.Text.{text}
+use Rattle.wire.specs.Optional.{optional}
 use Rattle.sheet.specs.Tree.{Pieces}
 use Rattle.sheet.specs.Nodes.{many, piece}
 use Rattle.sheet.specs.Walked.{one}
+use Rattle.heads.proofs.Many.{many-first, many-next, many-end}
 use Rattle.report.specs.ModuleInfo as info
-use Rattle.arguments.specs.Argument.{pieceParts, holeParts, templateParts, ofPieces}
-
--- so many items, if they were read: the first and the others, or none
-module _ {L : Type 0} (end : L) (item : Decoder (L → L)) {l : L} {u : List ℕ} where
-  many-next : (k : ℕ) (s : List ℕ) {add : L → L} {t : List ℕ} → 0 < k → item s ≡ ok add t → many end item k s ≡ ok l u
-      → (m : L) × (many end item (k - 1) t ≡ ok m u) × (add m ≡ l)
-  unfolding many
-  many-next zero s h e f = absurd (omega arith)
-  many-next (suc k) s {add} {t} h e f = let down : suc k - 1 ≡ k = omega arith in rw down (onOk-ok add (many end item k t) (rw e at f))
-
-  pub many-refused : (k : ℕ) (s : List ℕ) {r : ℕ} → 0 < k → item s ≡ no r → many end item k s ≡ ok l u → ⊥
-  unfolding many
-  many-refused zero s h e f = omega arith
-  many-refused (suc k) s h e f = refused (rw e at f)
-
-  pub many-end : (k : ℕ) (s : List ℕ) → k ≤ 0 → many end item k s ≡ ok l u → l ≡ end
-  unfolding many
-  many-end zero s h e = cc
-  many-end (suc k) s h e = absurd (omega arith)
+use Rattle.arguments.specs.Views.{holeParts}
+use Rattle.arguments.specs.Argument.{pieceParts, templateParts, ofPieces}
 
 -- a piece is added in front
 one-piece : (s : List ℕ) {add : Pieces → Pieces} {t : List ℕ} → piece s ≡ ok add t → (p : Option (List ℕ)) × ((ps : Pieces) → add ps ≡ p ∷ ps)
 unfolding piece
-one-piece s {add} {t} e = let (cooked, u, x, y) = then-ok (flag s) _ e in by-flag cooked u y
-  where
-    by-flag : (cooked : Bool) (u : List ℕ) → cond cooked (λ s. onOk (λ x. Option.some x ∷_) (text Wtf8 4096 s)) (return (Option.none ∷_)) u ≡ ok add t
-        → (p : Option (List ℕ)) × ((ps : Pieces) → add ps ≡ p ∷ ps)
-    by-flag true u e = let (x, f, g) = onOk-ok (λ x. Option.some x ∷_) (text Wtf8 4096 u) e in (Option.some x, λ ps. sym (ap (λ h. h ps) g))
-    by-flag false u e = let g : (Option.none ∷_) ≡ add = cc in (Option.none, λ ps. sym (ap (λ h. h ps) g))
+one-piece s {add} e =
+    let (p, u, x, y) = then-ok (optional (text Wtf8 4096) s) _ e in
+    let g : (p ∷_) ≡ add = cc in
+    (p, λ ps. sym (ap (λ h. h ps) g))
 
 -- one piece, and so many more
-some-piece : (k : ℕ) (s : List ℕ) {ps : Pieces} {u : List ℕ} → many [] piece (suc k) s ≡ ok ps u
-    → (p : Option (List ℕ)) × (qs : Pieces) × (t : List ℕ) × (many [] piece k t ≡ ok qs u) × (p ∷ qs ≡ ps)
-unfolding many
-some-piece k s e =
-    let (add, t, first, behind) = then-ok (piece s) _ e in
-    let (qs, others, is) = onOk-ok add (many [] piece k t) behind in
+some-piece : (k : ℕ) (s : List ℕ) {ps : Pieces} {u : List ℕ} → 0 < k → many [] piece k s ≡ ok ps u
+    → (p : Option (List ℕ)) × (qs : Pieces) × (t : List ℕ) × (many [] piece (k - 1) t ≡ ok qs u) × (p ∷ qs ≡ ps)
+some-piece k s h e =
+    let (add, t, first, qs, others, is) = many-first [] piece k s h e in
     let (p, adds) = one-piece s first in
     (p, qs, t, others, sym (adds qs) ∙ is)
 
@@ -65,8 +45,7 @@ next-parts : (p : Option (List ℕ)) (left : ℕ) (t : List ℕ) {ps : Pieces} {
 next-parts p zero t h e = absurd (omega arith)
 next-parts p (suc zero) t {ps} h e = let none : ps ≡ [] = many-end [] piece 0 t (omega arith) e in rw (none, append-nil)
 next-parts p (suc (suc k)) t {ps} {u} h e =
-    let down : suc (suc k) - 1 ≡ suc k = omega arith in
-    let (q, qs, v, others, is) = some-piece k t (rw down at e) in
+    let (q, qs, v, others, is) = some-piece (suc (suc k) - 1) t (omega arith) e in
     by-first q qs is
   where
     by-first : (q : Option (List ℕ)) (qs : Pieces) → q ∷ qs ≡ ps → templateParts (p ∷ ps) ≡ pieceParts p ++ (holeParts (ltb 1 (suc (suc k))) ++ templateParts ps)
@@ -109,9 +88,8 @@ module _ (holes : ℕ) (s : List ℕ) {ps : Pieces} {u : List ℕ} (read : many 
 
   pub of-parts : (holes ≡ 0 → ⊥) → ofPieces ps ≡ info.template (templateParts ps)
   of-parts some =
-      let two : holes + 1 ≡ suc (suc (holes - 1)) = omega arith in
-      let (p, qs, t, others, is) = some-piece (suc (holes - 1)) s (rw two at read) in
-      let (q, rs, v, behind, has) = some-piece (holes - 1) t others in
+      let (p, qs, t, others, is) = some-piece (holes + 1) s (omega arith) read in
+      let (q, rs, v, behind, has) = some-piece (holes + 1 - 1) t (omega arith) others in
       by-two p q rs (ap (p ∷_) has ∙ is)
     where
       by-two : (p q : Option (List ℕ)) (rs : Pieces) → p ∷ q ∷ rs ≡ ps → ofPieces ps ≡ info.template (templateParts ps)

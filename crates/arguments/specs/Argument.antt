@@ -1,11 +1,11 @@
 -- The argument of a dynamic import: `DynamicArgument` as `visit_call_expr` of src/ast/dep.rs makes it.
-use mathlib.Core.Bool.{Bool, cond}
+use mathlib.Core.Bool.{cond}
 use mathlib.Core.List.{List, [], _∷_, _++_}
 use mathlib.Core.Option.{Option}
 use Prim.Native.Nat.{ℕ}
 use Rattle.text.specs.Lossy.{lossy}
 use Rattle.sheet.specs.Tree.{Pieces, Node, other, string, name, template, binary, object, importCall, call, importDecl, namedExport, exportFrom, exportAll, importType, importEquals, importRequire, moduleDecl}
-use Rattle.sheet.specs.Walked.{Shape, text, named, pieces, operation, properties, anything, shape}
+use Rattle.sheet.specs.Shape.{Shape, text, named, pieces, operation, properties, anything, shape}
 use Rattle.report.specs.ModuleInfo.{DynamicTemplatePart, DynamicArgument}
 use Rattle.report.specs.ModuleInfo as info
 
@@ -14,10 +14,6 @@ abbrev pub pieceParts : Option (List ℕ) → List DynamicTemplatePart
 pieceParts Option.none = []
 pieceParts (Option.some []) = []
 pieceParts (Option.some (b ∷ x)) = Option.some (lossy (b ∷ x)) ∷ []
-
--- a hole is an expression
-abbrev pub holeParts : Bool → List DynamicTemplatePart
-holeParts there = cond there (Option.none ∷ []) []
 
 -- the pieces' parts, with an expression between each two
 abbrev pub templateParts : Pieces → List DynamicTemplatePart

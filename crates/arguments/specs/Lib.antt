@@ -1,2 +1,2 @@
 pub mod Argument
-pub mod Stands
+pub mod Views

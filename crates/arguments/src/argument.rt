@@ -20,9 +20,9 @@ ghost use Rattle.sheet.specs.Tree.{Node, Pieces};
 ghost use Rattle.sheet.specs.Nodes.{node, many, piece};
 ghost use Rattle.report.specs.ModuleInfo as info;
 ghost use Rattle.report.specs.Encode.{encodeArgument};
-ghost use Rattle.report.specs.World.{wrote, worldAs};
+ghost use Rattle.report.specs.Buffer.{wrote, bufferAs};
 ghost use Rattle.arguments.specs.Argument.{ofPieces, argumentOf};
-ghost use Rattle.arguments.specs.Stands.{Stands, InSheet};
+ghost use Rattle.arguments.specs.Views.{Stands, ArgumentWithin};
 
 // Offsets into the sheet stand for the Rust's `Vec` of parts.
 pub enum DynamicArgument {
@@ -40,7 +40,7 @@ fn parse_template(sheet: &[u8], c: Cursor, holes: usize) -> DynamicArgument
     requires { ⌜ holes ≤ largest ⌝ }
     ensures { λ r. ⌜ ((source : List ℕ) (levels : ℕ) (ps : Pieces) (u : List ℕ) → many [] piece (holes + 1) (drop (c .at) (now (sheet .entry))) ≡ ok ps u
         → Stands (now (sheet .entry)) source levels r (ofPieces ps)) ⌝ }
-    ensures { λ r. ⌜ InSheet (length (now (sheet .entry))) r ⌝ }
+    ensures { λ r. ⌜ ArgumentWithin (length (now (sheet .entry))) r ⌝ }
 {
     if holes == 0 {
         return match read_piece(sheet, c) {
@@ -56,7 +56,7 @@ fn parse_template(sheet: &[u8], c: Cursor, holes: usize) -> DynamicArgument
 pub fn parse_argument(sheet: &[u8], source: &[u8], c: Cursor, levels: usize) -> DynamicArgument
     ensures { λ r. ⌜ ((n : Node) (t : List ℕ) → node (now (source .entry)) levels (drop (c .at) (now (sheet .entry))) ≡ ok n t
         → Stands (now (sheet .entry)) (now (source .entry)) levels r (argumentOf n)) ⌝ }
-    ensures { λ r. ⌜ InSheet (length (now (sheet .entry))) r ⌝ }
+    ensures { λ r. ⌜ ArgumentWithin (length (now (sheet .entry))) r ⌝ }
 {
     match read_expression(sheet, source, c, levels) {
         Expression::String(from, to, _) => DynamicArgument::String(from, to),
@@ -78,9 +78,9 @@ pub fn put_argument(
     out: &mut [u8],
     place: Place,
 ) -> Place
-    requires { ⌜ InSheet (length (now sheet)) a ⌝ }
+    requires { ⌜ ArgumentWithin (length (now sheet)) a ⌝ }
     ensures { λ r. ⌜ ((v : info.DynamicArgument) → Stands (now (sheet .entry)) (now (source .entry)) levels a v
-        → worldAs (now (out .exit)) r ≡ wrote (worldAs (now (out .entry)) place) (encodeArgument v)) ⌝ }
+        → bufferAs (now (out .exit)) r ≡ wrote (bufferAs (now (out .entry)) place) (encodeArgument v)) ⌝ }
 {
     match a {
         DynamicArgument::Expr => place.put(out, 0),

@@ -13,15 +13,15 @@ ghost use mathlib.Core.Option.{Option};
 ghost use Prim.Native.Nat.{ℕ};
 ghost use lib.ListN.{drop};
 ghost use Rattle.laws.specs.Decoded.{ok};
+ghost use Rattle.wire.specs.Optional.{encodeOptional};
+ghost use Rattle.wire.specs.Text.{encodeText};
 ghost use Rattle.sheet.specs.Tree.{Node};
 ghost use Rattle.sheet.specs.Nodes.{node};
-ghost use Rattle.sheet.specs.Walked.{shape};
+ghost use Rattle.sheet.specs.Shape.{shape};
 ghost use Rattle.report.specs.ModuleInfo.{DynamicTemplatePart};
-ghost use Rattle.report.specs.Encode.{encodeOptional};
-ghost use Rattle.wire.specs.Text.{encodeText};
-ghost use Rattle.report.specs.World.{wrote, worldAs};
+ghost use Rattle.report.specs.Buffer.{wrote, bufferAs};
 ghost use Rattle.arguments.specs.Argument.{operand, chain};
-ghost use Rattle.arguments.specs.Stands.{encodeParts, partsAs, counted, AtMost};
+ghost use Rattle.arguments.specs.Views.{encodeParts, partsAs, counted, PartsWithin};
 
 // How many parts a chain has, with the cursor past it; or it is none.
 pub enum Parts {
@@ -39,7 +39,7 @@ pub struct Written {
 pub fn visit_bin(sheet: &[u8], source: &[u8], c: Cursor, levels: usize) -> Parts
     ensures { λ r. ⌜ ((n : Node) (t : List ℕ) → node (now (source .entry)) levels (drop (c .at) (now (sheet .entry))) ≡ ok n t
         → partsAs (now (sheet .entry)) r ≡ counted (chain n) t) ⌝ }
-    ensures { λ r. ⌜ AtMost levels r ⌝ }
+    ensures { λ r. ⌜ PartsWithin levels r ⌝ }
 {
     match read_expression(sheet, source, c, levels) {
         Expression::String(_, _, next) => Parts::Are(1, next),
@@ -65,7 +65,7 @@ fn put_operand(
     place: Place,
 ) -> Place
     ensures { λ r. ⌜ ((n : Node) (t : List ℕ) → node (now (source .entry)) levels (drop (c .at) (now (sheet .entry))) ≡ ok n t
-        → worldAs (now (out .exit)) r ≡ wrote (worldAs (now (out .entry)) place) (encodeOptional encodeText (operand (shape n)))) ⌝ }
+        → bufferAs (now (out .exit)) r ≡ wrote (bufferAs (now (out .entry)) place) (encodeOptional encodeText (operand (shape n)))) ⌝ }
 {
     match read_expression(sheet, source, c, levels) {
         Expression::String(from, to, _) => put_string(sheet, from, to, out, place),
@@ -86,7 +86,8 @@ pub fn put_bin(
 ) -> Written
     ensures { λ r. ⌜ ((n : Node) (t : List ℕ) (l : List DynamicTemplatePart) → node (now (source .entry)) levels (drop (c .at) (now (sheet .entry))) ≡ ok n t
         → chain n ≡ Option.some l
-        → (worldAs (now (out .exit)) (r .place) ≡ wrote (worldAs (now (out .entry)) place) (encodeParts l)) × (drop (r .next .at) (now (sheet .entry)) ≡ t)) ⌝ }
+        → (bufferAs (now (out .exit)) (r .place) ≡ wrote (bufferAs (now (out .entry)) place) (encodeParts l))
+        × (drop (r .next .at) (now (sheet .entry)) ≡ t)) ⌝ }
 {
     match read_expression(sheet, source, c, levels) {
         Expression::String(from, to, next) => {

@@ -10,7 +10,7 @@ ghost use lib.ListN.{length, drop};
 ghost use Rattle.laws.specs.Decoded.{ok};
 ghost use Rattle.sheet.specs.Tree.{Node};
 ghost use Rattle.sheet.specs.Nodes.{node};
-ghost use Rattle.arguments.specs.Stands.{Reads, PastExpression};
+ghost use Rattle.arguments.specs.Views.{Reads, ExpressionWithin};
 
 // A String with its text in the sheet, a Template with its holes, or a Binary that is a plus, with the cursor past the head.
 pub enum Expression {
@@ -24,7 +24,7 @@ pub enum Expression {
 pub fn read_expression(sheet: &[u8], source: &[u8], c: Cursor, levels: usize) -> Expression
     ensures { λ r. ⌜ ((n : Node) (t : List ℕ) → node (now (source .entry)) levels (drop (c .at) (now (sheet .entry))) ≡ ok n t
         → Reads (now (sheet .entry)) (node (now (source .entry)) (levels - 1)) r n t) ⌝ }
-    ensures { λ r. ⌜ PastExpression (length (now (sheet .entry))) levels r ⌝ }
+    ensures { λ r. ⌜ ExpressionWithin (length (now (sheet .entry))) levels r ⌝ }
 {
     match read_head(sheet, source, c, levels) {
         HeadRead::Refused(_) => Expression::Other,

@@ -12,14 +12,14 @@ ghost use mathlib.Core.Option.{Option};
 ghost use Prim.Native.Nat.{ℕ, _+_, _≤_};
 ghost use lib.ListN.{length, drop};
 ghost use Rattle.laws.specs.Decoded.{ok};
+ghost use Rattle.text.specs.Bytes.{part};
 ghost use Rattle.wire.specs.Number.{largest};
-ghost use Rattle.wire.specs.Views.{part};
 ghost use Rattle.sheet.specs.Tree.{Pieces};
 ghost use Rattle.sheet.specs.Nodes.{many, piece};
 ghost use Rattle.heads.specs.Views.{Part};
-ghost use Rattle.report.specs.World.{wrote, worldAs};
-ghost use Rattle.arguments.specs.Argument.{pieceParts, holeParts, templateParts};
-ghost use Rattle.arguments.specs.Stands.{encodeParts};
+ghost use Rattle.report.specs.Buffer.{wrote, bufferAs};
+ghost use Rattle.arguments.specs.Argument.{pieceParts, templateParts};
+ghost use Rattle.arguments.specs.Views.{encodeParts, holeParts};
 
 // How many parts a cooked piece gives: one if it has text.
 fn count_piece(from: usize, to: usize) -> usize
@@ -63,7 +63,8 @@ pub fn count_parts(sheet: &[u8], c: Cursor, holes: usize) -> usize
 // Writes the part of a cooked piece, which has one if it has text.
 fn put_piece(sheet: &[u8], from: usize, to: usize, out: &mut [u8], place: Place) -> Place
     requires { ⌜ Part (length (now sheet)) from to ⌝ }
-    ensures { λ r. ⌜ worldAs (now (out .exit)) r ≡ wrote (worldAs (now (out .entry)) place) (encodeParts (pieceParts (Option.some (part (now (sheet .entry)) from to)))) ⌝ }
+    ensures { λ r. ⌜ bufferAs (now (out .exit)) r
+        ≡ wrote (bufferAs (now (out .entry)) place) (encodeParts (pieceParts (Option.some (part (now (sheet .entry)) from to)))) ⌝ }
 {
     if from < to {
         return put_string(sheet, from, to, out, place);
@@ -73,7 +74,7 @@ fn put_piece(sheet: &[u8], from: usize, to: usize, out: &mut [u8], place: Place)
 
 // Writes the part of a hole, if there is one.
 fn put_hole(there: bool, out: &mut [u8], place: Place) -> Place
-    ensures { λ r. ⌜ worldAs (now (out .exit)) r ≡ wrote (worldAs (now (out .entry)) place) (encodeParts (holeParts there)) ⌝ }
+    ensures { λ r. ⌜ bufferAs (now (out .exit)) r ≡ wrote (bufferAs (now (out .entry)) place) (encodeParts (holeParts there)) ⌝ }
 {
     if there {
         return put_expr(out, place);
@@ -85,7 +86,7 @@ fn put_hole(there: bool, out: &mut [u8], place: Place) -> Place
 pub fn put_parts(sheet: &[u8], c: Cursor, holes: usize, out: &mut [u8], place: Place) -> Place
     requires { ⌜ holes ≤ largest ⌝ }
     ensures { λ r. ⌜ ((ps : Pieces) (u : List ℕ) → many [] piece (holes + 1) (drop (c .at) (now (sheet .entry))) ≡ ok ps u
-        → worldAs (now (out .exit)) r ≡ wrote (worldAs (now (out .entry)) place) (encodeParts (templateParts ps))) ⌝ }
+        → bufferAs (now (out .exit)) r ≡ wrote (bufferAs (now (out .entry)) place) (encodeParts (templateParts ps))) ⌝ }
 {
     let mut left = holes + 1;
     let mut at = c;

@@ -13,7 +13,7 @@ use Rattle.sheet.specs.declared.fields.Span.{Span}
 use Rattle.sheet.specs.Tree.{Node, other, string, object, Arguments, noArguments, argument, Properties, noProperties, spread, stringKey, nameKey, withObject}
 use Rattle.sheet.specs.Tree as tree
 use Rattle.report.specs.ModuleInfo.{KeyValue, ImportAttributes, none, unknown, known}
-use Rattle.attributes.specs.Attributes.{insert, keyValues, staticPairs, staticAttributes, objectAttributes, typeAttributes, argumentProperties, dynamicAttributes}
+use Rattle.attributes.specs.Attributes.{insert, props, staticPairs, staticAttributes, objectAttributes, typeAttributes, argumentProperties, dynamicAttributes}
 
 abbrev sp : Span
 sp = record { start = 0; end = 0 }
@@ -80,5 +80,5 @@ dynamicCases =
 as-stated : (map (λ (c : Case). staticAttributes (withObject sp (c .0))) cases ≡ map (λ (c : Case). c .1) cases)
     × (map (λ (c : Case). typeAttributes (withObject sp (c .0))) cases ≡ map (λ (c : Case). c .2) cases)
     × (map (λ (c : Arguments × ImportAttributes). dynamicAttributes (c .0)) dynamicCases ≡ map (λ (c : Arguments × ImportAttributes). c .1) dynamicCases)
-unfolding same order surrogates admits insert keyValues staticPairs staticAttributes objectAttributes typeAttributes argumentProperties dynamicAttributes
+unfolding same order surrogates admits insert props staticPairs staticAttributes objectAttributes typeAttributes argumentProperties dynamicAttributes
 as-stated = (refl, refl, refl)

@@ -1,16 +1,16 @@
 -- A property of the second argument, by its key.
 use mathlib.Core.Path.{_≡_}
 use mathlib.Core.Bool.{Bool, true, false}
-use mathlib.Core.List.{List, _∷_}
+use mathlib.Core.List.{List, [], _∷_}
 use Prim.Native.Nat.{ℕ}
 use Rattle.laws.specs.Quoted.{ascii}
 use Rattle.text.specs.Bytes.{same}
-use Rattle.sheet.specs.Walked.{Shape}
+use Rattle.sheet.specs.Shape.{Shape}
 use Rattle.report.specs.ModuleInfo.{ImportAttributes}
-use Rattle.attributes.specs.Attributes.{Entry, keyed, nested, onKnown, isAttributesKey, argumentProperties}
+use Rattle.attributes.specs.Attributes.{Prop, keyed, objectAttributes, ofObject, onKnown, isAttributesKey, argumentProperties}
 
-module _ (hadWith : Bool) (found : ImportAttributes) (k : List ℕ) (v : Shape) (es : List Entry) where
-  pub attributes-key : {isWith : Bool} {a : ImportAttributes} → isAttributesKey hadWith k ≡ true → isWith ≡ same k (ascii "with") → a ≡ nested v
+module _ (hadWith : Bool) (found : ImportAttributes) (k : List ℕ) (v : Shape) (es : List Prop) where
+  pub attributes-key : {isWith : Bool} {a : ImportAttributes} → isAttributesKey hadWith k ≡ true → isWith ≡ same k (ascii "with") → a ≡ ofObject (objectAttributes []) v
       → argumentProperties hadWith found (keyed k v ∷ es) ≡ onKnown (λ found′. argumentProperties isWith found′ es) a
   unfolding argumentProperties
   attributes-key e f g = rw (e, f, g)

@@ -1,29 +1,19 @@
 -- A loop over the properties of an Object: going on from what was found so far gives what going through all of them gives.
 use mathlib.Core.Path.{_≡_, refl, sym, ap, _∙_}
 use mathlib.Core.List.{List, [], _∷_}
-use Prim.Native.Nat.{ℕ, zero, suc, _-_, _≤_, _<_}
-use native.Mathlib.Omega.{arith}
+use Prim.Native.Nat.{ℕ, _-_, _≤_, _<_}
 use Rattle.laws.specs.Decoded.{Decoded, ok, no, onOk, Decoder}
 use Rattle.laws.proofs.Decoding.{refused, onOk-ok}
 use Rattle.sheet.specs.Tree.{Node, Properties, noProperties}
 use Rattle.sheet.specs.Nodes.{many, propertyItem, properties}
-use Rattle.heads.proofs.Many.{found, found-step, found-stop, found-end}
-use Rattle.attributes.specs.Attributes.{Entry, keyValues}
+use Rattle.heads.proofs.Many.{many-next, found, found-step, found-stop, found-end}
+use Rattle.attributes.specs.Attributes.{Prop, props}
 use Rattle.attributes.specs.Views.{Reads}
 
--- properties that are read are what the first of them adds to others
-first-of : (inner : Decoder Node) (k : ℕ) (s : List ℕ) {add : Properties → Properties} {u : List ℕ} {ps : Properties} {t : List ℕ} → 0 < k → propertyItem inner s ≡ ok add u
-    → many noProperties (propertyItem inner) k s ≡ ok ps t → (rest : Properties) × (add rest ≡ ps)
-unfolding many
-first-of inner zero s h x e = absurd (omega arith)
-first-of inner (suc k) s {add} {u} h x e =
-    let (rest, y, z) = onOk-ok add (many noProperties (propertyItem inner) k u) (rw x at e) in
-    (rest, z)
-
 -- `after w es` is the answer, where w was found before the properties es
-module _ {W R : Type 0} (after : W → List Entry → R) (inner : Decoder Node) where
+module _ {W R : Type 0} (after : W → List Prop → R) (inner : Decoder Node) where
   abbrev from : W → ℕ → List ℕ → Decoded R
-  from = found (λ w ps. after w (keyValues ps)) noProperties (propertyItem inner)
+  from = found (λ w ps. after w (props ps)) noProperties (propertyItem inner)
 
   -- k₀ properties of s₀ give what the k of s give where w was found before them
   pub record Going (w₀ : W) (k₀ : ℕ) (s₀ : List ℕ) (w : W) (k : ℕ) (s : List ℕ) : Type 0 where
@@ -32,32 +22,32 @@ module _ {W R : Type 0} (after : W → List Entry → R) (inner : Decoder Node) 
   pub begins : (w : W) (k : ℕ) (s : List ℕ) → Going w k s w k s
   begins w k s = record { rest = refl }
 
-module _ {W R : Type 0} {after : W → List Entry → R} {inner : Decoder Node} {w₀ : W} {k₀ : ℕ} {s₀ : List ℕ} {w : W} {k : ℕ} {s : List ℕ} (g : Going after inner w₀ k₀ s₀ w k s) where
+module _ {W R : Type 0} {after : W → List Prop → R} {inner : Decoder Node} {w₀ : W} {k₀ : ℕ} {s₀ : List ℕ} {w : W} {k : ℕ} {s : List ℕ} (g : Going after inner w₀ k₀ s₀ w k s) where
   -- one more
-  pub goes-on : {u : List ℕ} {e : Entry} → 0 < k → Reads inner s u e → {w′ : W} → ((es : List Entry) → after w (e ∷ es) ≡ after w′ es)
+  pub goes-on : {u : List ℕ} {e : Prop} → 0 < k → Reads inner s u e → {w′ : W} → ((es : List Prop) → after w (e ∷ es) ≡ after w′ es)
       → Going after inner w₀ k₀ s₀ w′ (k - 1) u
   goes-on h x {w′} f =
-      record { rest = g .rest ∙ found-step (λ w ps. after w (keyValues ps)) noProperties (propertyItem inner) w w′ k s h (x .item) (λ ps. ap (after w) (x .sees ps) ∙ f (keyValues ps)) }
+      record { rest = g .rest ∙ found-step (λ w ps. after w (props ps)) noProperties (propertyItem inner) w w′ k s h (x .item) (λ ps. ap (after w) (x .sees ps) ∙ f (props ps)) }
 
   module _ (ps : Properties) (t : List ℕ) (e : properties inner k₀ s₀ ≡ ok ps t) where
-    all : from after inner w k s ≡ ok (after w₀ (keyValues ps)) t
+    all : from after inner w k s ≡ ok (after w₀ (props ps)) t
     unfolding properties
-    all = sym (g .rest) ∙ ap (onOk (λ ps. after w₀ (keyValues ps))) e
+    all = sym (g .rest) ∙ ap (onOk (λ ps. after w₀ (props ps))) e
 
     -- no property stands there
     pub stops : {q : ℕ} → 0 < k → propertyItem inner s ≡ no q → ⊥
-    stops h x = refused (sym (found-stop (λ w ps. after w (keyValues ps)) noProperties (propertyItem inner) w k s h x) ∙ all)
+    stops h x = refused (sym (found-stop (λ w ps. after w (props ps)) noProperties (propertyItem inner) w k s h x) ∙ all)
 
     -- none is left
-    pub ends : k ≤ 0 → after w [] ≡ after w₀ (keyValues ps)
-    unfolding keyValues
+    pub ends : k ≤ 0 → after w [] ≡ after w₀ (props ps)
+    unfolding props
     ends h =
-        let last = sym (found-end (λ w ps. after w (keyValues ps)) noProperties (propertyItem inner) w k s h) ∙ all in
+        let last = sym (found-end (λ w ps. after w (props ps)) noProperties (propertyItem inner) w k s h) ∙ all in
         cc
 
     -- one settles the answer, whatever follows
-    pub settles : {u : List ℕ} {e : Entry} → 0 < k → Reads inner s u e → (r : R) → ((es : List Entry) → after w (e ∷ es) ≡ r) → r ≡ after w₀ (keyValues ps)
+    pub settles : {u : List ℕ} {e : Prop} → 0 < k → Reads inner s u e → (r : R) → ((es : List Prop) → after w (e ∷ es) ≡ r) → r ≡ after w₀ (props ps)
     settles h x r f =
-        let (qs, many-read, y) = onOk-ok (λ ps. after w (keyValues ps)) (many noProperties (propertyItem inner) k s) all in
-        let (others, z) = first-of inner k s h (x .item) many-read in
-        sym (f (keyValues others)) ∙ sym (ap (after w) (x .sees others)) ∙ ap (λ ps. after w (keyValues ps)) z ∙ y
+        let (qs, many-read, y) = onOk-ok (λ ps. after w (props ps)) (many noProperties (propertyItem inner) k s) all in
+        let (others, behind, z) = many-next noProperties (propertyItem inner) k s h (x .item) many-read in
+        sym (f (props others)) ∙ sym (ap (after w) (x .sees others)) ∙ ap (λ ps. after w (props ps)) z ∙ y

@@ -2,16 +2,14 @@
 use mathlib.Core.Path.{_≡_, refl, ap, ap₂, _∙_}
 use mathlib.Core.Bool.{Bool, true, false, cond}
 use mathlib.Core.List.{List, [], _∷_, _++_, append-assoc}
-use Prim.Native.Nat.{ℕ, zero, suc, _+_, _-_, _*_, _≤_, _<_}
-use native.Mathlib.Nat.{zero-add, add-zero, add-suc, suc-add}
-use native.Mathlib.Numerals.{add-one}
+use Prim.Native.Nat.{ℕ, _+_, _-_, _*_, _≤_, _<_}
 use native.Mathlib.Omega.{arith}
 use lib.Dec.{eqb}
 use lib.ListN.{length}
 use lib.Seq.{sets}
 use borrow.Author.Tests.{eqb-true, eqb-false}
 use Rattle.sheet.specs.Tables.{rows}
-use Rattle.sheet.proofs.Rows.{rows-same, rows-more}
+use Rattle.sheet.proofs.Rows.{rows-same, rows-first, rows-end, rows-two}
 use Rattle.sheet.proofs.Stores.{outside-sets, in-sets, Table}
 use Rattle.attributes.specs.declared.pairs.Pair.{Pair}
 use Rattle.attributes.specs.Views.{pairRow, rowIn, pairAs, pairIn, pairsFrom, pairsIn, opened, replaced, PairWithin}
@@ -43,24 +41,6 @@ pair-table =
             v (5 * j + 4) (λ l. omega arith),
           );
     }
-
-module _ {A : Type 0} (row : ℕ → A) where
-  -- the first of some rows, one more at the end, and rows in two parts
-  pub rows-first : (k n : ℕ) → 0 < n → rows row k n ≡ row k ∷ rows row (k + 1) (n - 1)
-  unfolding rows
-  rows-first k zero h = absurd (omega arith)
-  rows-first k (suc n) h = let down : suc n - 1 ≡ n = omega arith in rw (down, add-one)
-
-  pub rows-end : (n : ℕ) → rows row 0 (n + 1) ≡ rows row 0 n ++ (row n ∷ [])
-  rows-end n = rw (add-one, rows-more row 0 n, zero-add)
-
-  rows-split : (k i m : ℕ) → rows row k (i + m) ≡ rows row k i ++ rows row (k + i) m
-  unfolding rows
-  rows-split k zero m = rw (zero-add, add-zero)
-  rows-split k (suc i) m = rw (suc-add, add-suc, ← suc-add) (ap (row k ∷_) (rows-split (suc k) i m))
-
-  pub rows-two : (i n : ℕ) → i ≤ n → rows row 0 n ≡ rows row 0 i ++ rows row i (n - i)
-  rows-two i n h = let all : n ≡ i + (n - i) = omega arith in ap (rows row 0) all ∙ rw (rows-split 0 i (n - i), zero-add)
 
 -- a pair p stored in the kth row
 module _ (t : List ℕ) (k : ℕ) (p : Pair) (fits : 5 * k + 5 ≤ length t) {t′ : List ℕ} (e : t′ ≡ sets t (5 * k) (pairRow p)) where

@@ -7,22 +7,21 @@ use lib.ListN.{drop}
 use Rattle.laws.specs.Decoded.{ok, Decoder, _>>=_, return}
 use Rattle.laws.proofs.Decoding.{then-ok}
 use Rattle.text.specs.Lossy.{exact}
-use Rattle.wire.specs.Views.{part}
+use Rattle.text.specs.Bytes.{part}
 use Rattle.wire.specs.declared.Cursor.{Cursor}
 use Rattle.sheet.specs.Tree.{Node, Properties, spread, otherProperty, childKey, stringKey, nameKey}
 use Rattle.sheet.specs.Nodes.{propertyItem}
 use Rattle.heads.specs.declared.parts.Property.{Property}
 use Rattle.heads.specs.declared.parts.Property.the-variants as property
 use Rattle.heads.specs.Parts.{propertyHead}
-use Rattle.heads.specs.Rest.{propertyRest}
 use Rattle.heads.specs.Views.{propertyOf, WithinProperty}
-use Rattle.heads.proofs.ByHead.{property-by-head}
-use Rattle.attributes.specs.declared.entries.EntryRead.the-variants as entryRead
-use Rattle.attributes.specs.Attributes.{Entry, keyValues}
-use Rattle.attributes.specs.Views.{entryIn, Reads, EntryIs, EntryWithin}
+use Rattle.heads.proofs.ByHead.{property-by-head, propertyRest}
+use Rattle.attributes.specs.declared.props.PropRead.the-variants as propRead
+use Rattle.attributes.specs.Attributes.{Prop, props}
+use Rattle.attributes.specs.Views.{propIn, Reads, PropIs, PropWithin}
 
 module _ (inner : Decoder Node) (u : List ℕ) {w : List ℕ} {add : Properties → Properties} (item : propertyItem inner u ≡ ok add w) where
-  seen-as : {e : Entry} (build : Properties → Properties) → build ≡ add → ((ps : Properties) → keyValues (build ps) ≡ e ∷ keyValues ps) → Reads inner u w e
+  seen-as : {e : Prop} (build : Properties → Properties) → build ≡ add → ((ps : Properties) → props (build ps) ≡ e ∷ props ps) → Reads inner u w e
   seen-as build is f = record { add = add; item = item; sees = rw is at f }
 
 module _ (inner : Decoder Node) (s : List ℕ) (at : ℕ) (value next : Cursor) {add : Properties → Properties}
@@ -30,8 +29,8 @@ module _ (inner : Decoder Node) (s : List ℕ) (at : ℕ) (value next : Cursor) 
   abbrev u : List ℕ
   u = drop (value .at) s
 
-  by-rest : (p : Property) → propertyRest inner (propertyOf s p) u ≡ ok add (drop (next .at) s) → EntryIs s inner at (entryIn s p value next)
-  unfolding keyValues
+  by-rest : (p : Property) → propertyRest inner (propertyOf s p) u ≡ ok add (drop (next .at) s) → PropIs s inner at (propIn s p value next)
+  unfolding props
   by-rest property.Spread e =
       let (n, t, x, y) = then-ok (inner u) (λ n. return (spread n)) e in
       let is : spread n ≡ add = cc in
@@ -52,7 +51,7 @@ module _ (inner : Decoder Node) (s : List ℕ) (at : ℕ) (value next : Cursor) 
       by-exact v is value-read (exact (part s from to)) refl
     where
       by-exact : (v : Node) → stringKey (part s from to) v ≡ add → inner u ≡ ok v (drop (next .at) s)
-          → (b : Bool) → exact (part s from to) ≡ b → EntryIs s inner at (cond b (entryRead.Keyed from to value next) (entryRead.Keyless next))
+          → (b : Bool) → exact (part s from to) ≡ b → PropIs s inner at (cond b (propRead.Keyed from to value next) (propRead.Keyless next))
       by-exact v is x true q = (v, x, seen-as inner (drop at s) item (stringKey (part s from to) v) is (λ ps. rw q))
       by-exact v is x false q = seen-as inner (drop at s) item (stringKey (part s from to) v) is (λ ps. rw q)
   by-rest (property.NameKey from to) e =
@@ -61,17 +60,17 @@ module _ (inner : Decoder Node) (s : List ℕ) (at : ℕ) (value next : Cursor) 
       let value-read : inner u ≡ ok v (drop (next .at) s) = cc in
       (v, value-read, seen-as inner (drop at s) item (nameKey (part s from to) v) is (λ ps. refl))
 
-  pub entry-is : (p : Property) → propertyHead (drop at s) ≡ ok (propertyOf s p) u → EntryIs s inner at (entryIn s p value next)
-  entry-is p e = by-rest p (rw e at (sym (property-by-head inner (drop at s)) ∙ item))
+  pub prop-is : (p : Property) → propertyHead (drop at s) ≡ ok (propertyOf s p) u → PropIs s inner at (propIn s p value next)
+  prop-is p e = by-rest p (rw e at (sym (property-by-head inner (drop at s)) ∙ item))
 
 -- a key is a part of the sheet
-pub entry-within : (m : ℕ) (s : List ℕ) (p : Property) (value next : Cursor) → WithinProperty m p → EntryWithin m (entryIn s p value next)
-entry-within m s property.Spread value next w = tt
-entry-within m s property.Other value next w = tt
-entry-within m s property.ChildKey value next w = tt
-entry-within m s (property.StringKey from to) value next w = by-exact (exact (part s from to))
+pub prop-within : (m : ℕ) (s : List ℕ) (p : Property) (value next : Cursor) → WithinProperty m p → PropWithin m (propIn s p value next)
+prop-within m s property.Spread value next w = tt
+prop-within m s property.Other value next w = tt
+prop-within m s property.ChildKey value next w = tt
+prop-within m s (property.StringKey from to) value next w = by-exact (exact (part s from to))
   where
-    by-exact : (b : Bool) → EntryWithin m (cond b (entryRead.Keyed from to value next) (entryRead.Keyless next))
+    by-exact : (b : Bool) → PropWithin m (cond b (propRead.Keyed from to value next) (propRead.Keyless next))
     by-exact true = w
     by-exact false = tt
-entry-within m s (property.NameKey from to) value next w = w
+prop-within m s (property.NameKey from to) value next w = w

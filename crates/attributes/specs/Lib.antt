@@ -1,3 +1,2 @@
 pub mod Attributes
-pub mod Ascending
 pub mod Views

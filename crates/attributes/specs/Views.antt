@@ -8,15 +8,13 @@ use lib.Dec.{eqb}
 use lib.ListN.{length, getD, drop}
 use Rattle.laws.specs.Decoded.{ok, no, Decoder}
 use Rattle.text.specs.Lossy.{exact}
-use Rattle.wire.specs.Views.{part}
+use Rattle.text.specs.Bytes.{part}
 use Rattle.wire.specs.declared.Cursor.{Cursor}
 use Rattle.sheet.specs.Tree.{Node, Properties}
 use Rattle.sheet.specs.Tables.{rows}
 use Rattle.sheet.specs.Nodes.{node, propertyItem}
 use Rattle.sheet.specs.Nodes as nodes
-use Rattle.sheet.specs.Walked.{Shape, text, named, pieces, operation, properties, anything, shape}
-use Rattle.heads.specs.declared.node.Head.{Head}
-use Rattle.heads.specs.declared.node.Head.the-variants as head
+use Rattle.sheet.specs.Shape.{Shape, text, named, pieces, operation, properties, anything, shape}
 use Rattle.heads.specs.declared.parts.Property.{Property}
 use Rattle.heads.specs.declared.parts.Property.the-variants as property
 use Rattle.heads.specs.Views.{Part}
@@ -25,31 +23,31 @@ use Rattle.report.specs.ModuleInfo as info
 use Rattle.attributes.specs.declared.pairs.Pair.{Pair}
 use Rattle.attributes.specs.declared.pairs.Slot.{Slot}
 use Rattle.attributes.specs.declared.pairs.Slot.the-variants as slot
-use Rattle.attributes.specs.declared.entries.Value.{Value}
-use Rattle.attributes.specs.declared.entries.Value.the-variants as value
-use Rattle.attributes.specs.declared.entries.EntryRead.{EntryRead}
-use Rattle.attributes.specs.declared.entries.EntryRead.the-variants as entryRead
+use Rattle.attributes.specs.declared.props.Value.{Value}
+use Rattle.attributes.specs.declared.props.Value.the-variants as value
+use Rattle.attributes.specs.declared.props.PropRead.{PropRead}
+use Rattle.attributes.specs.declared.props.PropRead.the-variants as propRead
 use Rattle.attributes.specs.declared.readings.ImportAttributes.{ImportAttributes}
 use Rattle.attributes.specs.declared.readings.ImportAttributes.the-variants as importAttributes
-use Rattle.attributes.specs.Attributes.{Entry, keyless, keyed, keyValues}
+use Rattle.attributes.specs.Attributes.{Prop, keyless, keyed, props}
 
 -- a pair in five numbers
 abbrev pub pairRow : Pair → List ℕ
-pairRow p = p .start ∷ p .end ∷ cond (p .known) 1 0 ∷ p .from ∷ p .to ∷ []
+pairRow p = p .«key_start» ∷ p .«key_end» ∷ cond (p .known) 1 0 ∷ p .«value_start» ∷ p .«value_end» ∷ []
 
 -- the pair in the kth row of a table
 abbrev pub rowIn : List ℕ → ℕ → Pair
 rowIn table k =
     record {
-      start = getD table (5 * k) 0;
-      end = getD table (5 * k + 1) 0;
+      «key_start» = getD table (5 * k) 0;
+      «key_end» = getD table (5 * k + 1) 0;
       known = eqb (getD table (5 * k + 2) 0) 1;
-      from = getD table (5 * k + 3) 0;
-      to = getD table (5 * k + 4) 0;
+      «value_start» = getD table (5 * k + 3) 0;
+      «value_end» = getD table (5 * k + 4) 0;
     }
 
 abbrev pub pairAs : List ℕ → Pair → KeyValue
-pairAs s p = record { key = part s (p .start) (p .end); value = cond (p .known) (Option.some (part s (p .from) (p .to))) Option.none }
+pairAs s p = record { key = part s (p .«key_start») (p .«key_end»); value = cond (p .known) (Option.some (part s (p .«value_start») (p .«value_end»))) Option.none }
 
 abbrev pub pairIn : List ℕ → List ℕ → ℕ → KeyValue
 pairIn s table k = pairAs s (rowIn table k)
@@ -69,8 +67,8 @@ attributesAs s table (importAttributes.Known n) = known (pairsIn s table n)
 
 -- the texts of a pair are parts of m bytes
 pub record PairWithin (m : ℕ) (p : Pair) : Type 0 where
-  pub key : Part m (p .start) (p .end)
-  pub value : Part m (p .from) (p .to)
+  pub key : Part m (p .«key_start») (p .«key_end»)
+  pub value : Part m (p .«value_start») (p .«value_end»)
 
 -- a table of 64 rows, in the first n of them parts of m bytes
 pub record Pairs (m : ℕ) (table : List ℕ) (n : ℕ) : Type 0 where
@@ -78,10 +76,10 @@ pub record Pairs (m : ℕ) (table : List ℕ) (n : ℕ) : Type 0 where
   pub most : n ≤ 64
   pub parts : (k : ℕ) → k < n → PairWithin m (rowIn table k)
 
-abbrev pub Bounded : ℕ → List ℕ → ImportAttributes → Type 0
-Bounded m table importAttributes.None = Unit {0}
-Bounded m table importAttributes.Unknown = Unit {0}
-Bounded m table (importAttributes.Known n) = Pairs m table n
+abbrev pub AttributesWithin : ℕ → List ℕ → ImportAttributes → Type 0
+AttributesWithin m table importAttributes.None = Unit {0}
+AttributesWithin m table importAttributes.Unknown = Unit {0}
+AttributesWithin m table (importAttributes.Known n) = Pairs m table n
 
 -- the n pairs with another before the ith, or instead of it
 abbrev pub opened : List ℕ → List ℕ → ℕ → KeyValue → ℕ → List KeyValue
@@ -97,26 +95,6 @@ slotAs s table n a (slot.Before i) = opened s table n a i
 abbrev pub SlotWithin : ℕ → Slot → Type 0
 SlotWithin n (slot.Same i) = i < n
 SlotWithin n (slot.Before i) = i ≤ n
-
--- what a node's head says of its shape, with the cursor behind it
-abbrev pub valueIn : Head → Cursor → Value
-valueIn (head.Other n) next = value.Other
-valueIn (head.String from to) next = value.Text from to
-valueIn (head.Name from to) next = value.Other
-valueIn (head.Template holes) next = value.Other
-valueIn (head.Binary plus) next = value.Other
-valueIn (head.Object n) next = value.Object n next
-valueIn (head.ImportCall phase) next = value.Other
-valueIn head.Call next = value.Other
-valueIn (head.Import typeOnly phase sideEffect x there) next = value.Other
-valueIn (head.NamedExport typeOnly) next = value.Other
-valueIn (head.ExportFrom typeOnly x there) next = value.Other
-valueIn (head.ExportAll typeOnly x there) next = value.Other
-valueIn (head.ImportType x n) next = value.Other
-valueIn head.ImportEquals next = value.Other
-valueIn (head.ImportRequire typeOnly export x) next = value.Other
-valueIn (head.Module n) next = value.Other
-valueIn (head.NamedModule x n) next = value.Other
 
 -- neither a String nor an Object
 abbrev pub isOther : Shape → Bool
@@ -140,26 +118,26 @@ ValueWithin m levels (value.Object n next) = (0 < levels) × (n ≤ 64)
 ValueWithin m levels value.Other = Unit {0}
 
 -- a property from its head, with the cursors at its value and behind it
-abbrev pub entryIn : List ℕ → Property → Cursor → Cursor → EntryRead
-entryIn s property.Spread at next = entryRead.Keyless next
-entryIn s property.Other at next = entryRead.Keyless next
-entryIn s property.ChildKey at next = entryRead.Keyless next
-entryIn s (property.StringKey from to) at next = cond (exact (part s from to)) (entryRead.Keyed from to at next) (entryRead.Keyless next)
-entryIn s (property.NameKey from to) at next = entryRead.Keyed from to at next
+abbrev pub propIn : List ℕ → Property → Cursor → Cursor → PropRead
+propIn s property.Spread at next = propRead.Keyless next
+propIn s property.Other at next = propRead.Keyless next
+propIn s property.ChildKey at next = propRead.Keyless next
+propIn s (property.StringKey from to) at next = cond (exact (part s from to)) (propRead.Keyed from to at next) (propRead.Keyless next)
+propIn s (property.NameKey from to) at next = propRead.Keyed from to at next
 
 -- a property that is read from s, with u behind it, and seen as e
-pub record Reads (inner : Decoder Node) (s u : List ℕ) (e : Entry) : Type 0 where
+pub record Reads (inner : Decoder Node) (s u : List ℕ) (e : Prop) : Type 0 where
   pub add : Properties → Properties
   pub item : propertyItem inner s ≡ ok add u
-  pub sees : (ps : Properties) → keyValues (add ps) ≡ e ∷ keyValues ps
+  pub sees : (ps : Properties) → props (add ps) ≡ e ∷ props ps
 
-abbrev pub EntryIs : List ℕ → Decoder Node → ℕ → EntryRead → Type 0
-EntryIs s inner at (entryRead.Keyless next) = Reads inner (drop at s) (drop (next .at) s) keyless
-EntryIs s inner at (entryRead.Keyed from to c next) =
+abbrev pub PropIs : List ℕ → Decoder Node → ℕ → PropRead → Type 0
+PropIs s inner at (propRead.Keyless next) = Reads inner (drop at s) (drop (next .at) s) keyless
+PropIs s inner at (propRead.Keyed from to c next) =
     (v : Node) × (inner (drop (c .at) s) ≡ ok v (drop (next .at) s)) × Reads inner (drop at s) (drop (next .at) s) (keyed (part s from to) (shape v))
-EntryIs s inner at (entryRead.Refused r) = propertyItem inner (drop at s) ≡ no r
+PropIs s inner at (propRead.Refused r) = propertyItem inner (drop at s) ≡ no r
 
-abbrev pub EntryWithin : ℕ → EntryRead → Type 0
-EntryWithin m (entryRead.Keyless next) = Unit {0}
-EntryWithin m (entryRead.Keyed from to c next) = Part m from to
-EntryWithin m (entryRead.Refused r) = Unit {0}
+abbrev pub PropWithin : ℕ → PropRead → Type 0
+PropWithin m (propRead.Keyless next) = Unit {0}
+PropWithin m (propRead.Keyed from to c next) = Part m from to
+PropWithin m (propRead.Refused r) = Unit {0}

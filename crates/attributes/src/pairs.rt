@@ -8,25 +8,15 @@ ghost use Prim.Native.Nat.{ℕ, _+_, _*_, _≤_, _<_};
 ghost use lib.ListN.{length};
 ghost use lib.Seq.{sets};
 ghost use Rattle.attributes.specs.Attributes.{insert, insertKnown};
-ghost use Rattle.attributes.specs.Views.{
-  pairRow,
-  rowIn,
-  pairAs,
-  pairsIn,
-  PairWithin,
-  Pairs,
-  opened,
-  slotAs,
-  SlotWithin,
-};
+ghost use Rattle.attributes.specs.Views.{pairRow, rowIn, pairAs, pairsIn, PairWithin, Pairs, opened, slotAs, SlotWithin};
 
-// A key, from `start` to `end` in the sheet, and, if it is known, its value, from `from` to `to`.
+// Where a key stands in the sheet, and, if it is known, its value.
 pub struct Pair {
-    pub start: usize,
-    pub end: usize,
+    pub key_start: usize,
+    pub key_end: usize,
     pub known: bool,
-    pub from: usize,
-    pub to: usize,
+    pub value_start: usize,
+    pub value_end: usize,
 }
 
 // The row that has the same key, or the one that a key comes before.
@@ -36,16 +26,16 @@ pub enum Slot {
 }
 
 // Stores a pair in the kth row.
-fn put_pair(pairs: &mut [usize], k: usize, p: Pair)
+fn store_pair(pairs: &mut [usize], k: usize, p: Pair)
     requires { ⌜ 5 * k + 4 < length (now pairs) ⌝ }
     ensures { λ _. ⌜ now (pairs .exit) ≡ sets (now (pairs .entry)) (5 * k) (pairRow p) ⌝ }
 {
     let at = 5 * k;
-    pairs[at] = p.start;
-    pairs[at + 1] = p.end;
+    pairs[at] = p.key_start;
+    pairs[at + 1] = p.key_end;
     pairs[at + 2] = count_one(p.known);
-    pairs[at + 3] = p.from;
-    pairs[at + 4] = p.to;
+    pairs[at + 3] = p.value_start;
+    pairs[at + 4] = p.value_end;
 }
 
 // The pair in the kth row.
@@ -54,17 +44,17 @@ pub fn pair_at(pairs: &[usize], k: usize) -> Pair
     ensures { λ r. ⌜ r ≡ rowIn (now (pairs .entry)) k ⌝ }
 {
     let at = 5 * k;
-    let start = pairs[at];
-    let end = pairs[at + 1];
+    let key_start = pairs[at];
+    let key_end = pairs[at + 1];
     let known = pairs[at + 2] == 1;
-    let from = pairs[at + 3];
-    let to = pairs[at + 4];
+    let value_start = pairs[at + 3];
+    let value_end = pairs[at + 4];
     Pair {
-        start,
-        end,
+        key_start,
+        key_end,
         known,
-        from,
-        to,
+        value_start,
+        value_end,
     }
 }
 
@@ -75,13 +65,13 @@ fn find(sheet: &[u8], pairs: &[usize], n: usize, p: Pair) -> Slot
         ≡ insert (pairAs (now (sheet .entry)) p) (pairsIn (now (sheet .entry)) (now (pairs .entry)) n) ⌝ }
     ensures { λ r. ⌜ SlotWithin n r ⌝ }
 {
-    let start = p.start;
-    let end = p.end;
+    let start = p.key_start;
+    let end = p.key_end;
     let mut i = 0;
     while i < n {
         let q = pair_at(pairs, i);
-        let from = q.start;
-        let to = q.end;
+        let from = q.key_start;
+        let to = q.key_end;
         match compare(&sheet[start..end], &sheet[from..to]) {
             Order::Less => {
                 return Slot::Before(i);
@@ -107,11 +97,11 @@ fn insert_before(pairs: &mut [usize], n: usize, i: usize, p: Pair)
     let mut carried = p;
     while k < n {
         let old = pair_at(pairs, k);
-        put_pair(pairs, k, carried);
+        store_pair(pairs, k, carried);
         carried = old;
         k += 1;
     }
-    put_pair(pairs, n, carried);
+    store_pair(pairs, n, carried);
 }
 
 // Puts a pair in its place among the first n rows, instead of one with the same key. Answers how many rows there are then.
@@ -123,7 +113,7 @@ pub fn insert(sheet: &[u8], pairs: &mut [usize], n: usize, p: Pair) -> usize
 {
     match find(sheet, pairs, n, p) {
         Slot::Same(i) => {
-            put_pair(pairs, i, p);
+            store_pair(pairs, i, p);
             n
         }
         Slot::Before(i) => {

@@ -1,11 +1,11 @@
 // The three readings of attributes of src/ast/dep.rs.
-use super::entries::EntryRead;
-use super::entries::Value;
-use super::entries::read_entry;
-use super::entries::read_pair;
-use super::entries::read_value;
 use super::pairs::insert;
 use super::pairs::insert_known;
+use super::props::PropRead;
+use super::props::Value;
+use super::props::read_pair;
+use super::props::read_prop;
+use super::props::read_value;
 use heads::parts::ArgumentRead;
 use heads::parts::AttributesRead;
 use heads::parts::read_argument;
@@ -19,26 +19,15 @@ ghost use Prim.Native.Nat.{ℕ, _≤_};
 ghost use lib.ListN.{length, drop};
 ghost use Rattle.laws.specs.Decoded.{ok};
 ghost use Rattle.laws.specs.Quoted.{ascii};
-ghost use Rattle.text.specs.Bytes.{same};
-ghost use Rattle.wire.specs.Views.{part};
+ghost use Rattle.text.specs.Bytes.{same, part};
 ghost use Rattle.sheet.specs.Tree.{Node, Arguments, Properties, Attributes};
 ghost use Rattle.sheet.specs.Nodes.{node, properties, arguments, attributesObject};
-ghost use Rattle.sheet.specs.Walked.{shape};
+ghost use Rattle.sheet.specs.Shape.{shape};
 ghost use Rattle.heads.specs.Rest.{behind};
 ghost use Rattle.heads.specs.Views.{Part};
 ghost use Rattle.report.specs.ModuleInfo.{none};
-ghost use Rattle.attributes.specs.Attributes.{
-  keyValues,
-  staticPairs,
-  staticAttributes,
-  objectAttributes,
-  typeAttributes,
-  nested,
-  argumentProperties,
-  dynamicAttributes,
-  isAttributesKey,
-};
-ghost use Rattle.attributes.specs.Views.{pairsIn, attributesAs, Pairs, Bounded};
+ghost use Rattle.attributes.specs.Attributes.{props, staticPairs, staticAttributes, objectAttributes, typeAttributes, ofObject, argumentProperties, dynamicAttributes, isAttributesKey};
+ghost use Rattle.attributes.specs.Views.{pairsIn, attributesAs, Pairs, AttributesWithin};
 
 pub enum ImportAttributes {
     None,
@@ -58,22 +47,22 @@ fn parse_known(
 ) -> usize
     requires { ⌜ (count ≤ 64) × (320 ≤ length (now pairs)) ⌝ }
     ensures { λ r. ⌜ ((ps : Properties) (t : List ℕ) → properties (node (now (source .entry)) levels) count (drop (c .at) (now (sheet .entry))) ≡ ok ps t
-        → pairsIn (now (sheet .entry)) (now (pairs .exit)) r ≡ staticPairs [] (keyValues ps)) ⌝ }
+        → pairsIn (now (sheet .entry)) (now (pairs .exit)) r ≡ staticPairs [] (props ps)) ⌝ }
     ensures { λ r. ⌜ Pairs (length (now (sheet .entry))) (now (pairs .exit)) r ⌝ }
 {
     let mut left = count;
     let mut at = c;
     let mut n = 0;
     while 0 < left {
-        match read_entry(sheet, source, at, levels) {
-            EntryRead::Refused(_) => {
+        match read_prop(sheet, source, at, levels) {
+            PropRead::Refused(_) => {
                 return n;
             }
-            EntryRead::Keyless(next) => {
+            PropRead::Keyless(next) => {
                 at = next;
                 left -= 1;
             }
-            EntryRead::Keyed(start, end, value, next) => {
+            PropRead::Keyed(start, end, value, next) => {
                 let p = read_pair(sheet, source, start, end, value, levels);
                 n = insert_known(sheet, pairs, n, p);
                 at = next;
@@ -96,7 +85,7 @@ pub fn parse_import_attributes(
     requires { ⌜ 320 ≤ length (now pairs) ⌝ }
     ensures { λ r. ⌜ ((a : Attributes) (t : List ℕ) → behind there (attributesObject (now (source .entry)) levels) (drop (c .at) (now (sheet .entry))) ≡ ok a t
         → attributesAs (now (sheet .entry)) (now (pairs .exit)) r ≡ staticAttributes a) ⌝ }
-    ensures { λ r. ⌜ Bounded (length (now (sheet .entry))) (now (pairs .exit)) r ⌝ }
+    ensures { λ r. ⌜ AttributesWithin (length (now (sheet .entry))) (now (pairs .exit)) r ⌝ }
 {
     if there {
         return match read_attributes(sheet, source, c, levels) {
@@ -120,21 +109,21 @@ fn parse_import_attributes_from_object_lit(
 ) -> ImportAttributes
     requires { ⌜ (count ≤ 64) × (320 ≤ length (now pairs)) ⌝ }
     ensures { λ r. ⌜ ((ps : Properties) (t : List ℕ) → properties (node (now (source .entry)) levels) count (drop (c .at) (now (sheet .entry))) ≡ ok ps t
-        → attributesAs (now (sheet .entry)) (now (pairs .exit)) r ≡ objectAttributes [] (keyValues ps)) ⌝ }
-    ensures { λ r. ⌜ Bounded (length (now (sheet .entry))) (now (pairs .exit)) r ⌝ }
+        → attributesAs (now (sheet .entry)) (now (pairs .exit)) r ≡ objectAttributes [] (props ps)) ⌝ }
+    ensures { λ r. ⌜ AttributesWithin (length (now (sheet .entry))) (now (pairs .exit)) r ⌝ }
 {
     let mut left = count;
     let mut at = c;
     let mut n = 0;
     while 0 < left {
-        match read_entry(sheet, source, at, levels) {
-            EntryRead::Refused(_) => {
+        match read_prop(sheet, source, at, levels) {
+            PropRead::Refused(_) => {
                 return ImportAttributes::Unknown;
             }
-            EntryRead::Keyless(_) => {
+            PropRead::Keyless(_) => {
                 return ImportAttributes::Unknown;
             }
-            EntryRead::Keyed(start, end, value, next) => {
+            PropRead::Keyed(start, end, value, next) => {
                 let p = read_pair(sheet, source, start, end, value, levels);
                 n = insert(sheet, pairs, n, p);
                 at = next;
@@ -157,7 +146,7 @@ pub fn parse_type_attributes(
     requires { ⌜ 320 ≤ length (now pairs) ⌝ }
     ensures { λ r. ⌜ ((a : Attributes) (t : List ℕ) → behind there (attributesObject (now (source .entry)) levels) (drop (c .at) (now (sheet .entry))) ≡ ok a t
         → attributesAs (now (sheet .entry)) (now (pairs .exit)) r ≡ typeAttributes a) ⌝ }
-    ensures { λ r. ⌜ Bounded (length (now (sheet .entry))) (now (pairs .exit)) r ⌝ }
+    ensures { λ r. ⌜ AttributesWithin (length (now (sheet .entry))) (now (pairs .exit)) r ⌝ }
 {
     if there {
         return match read_attributes(sheet, source, c, levels) {
@@ -187,8 +176,8 @@ fn parse_nested(
 ) -> ImportAttributes
     requires { ⌜ 320 ≤ length (now pairs) ⌝ }
     ensures { λ r. ⌜ ((v : Node) (t : List ℕ) → node (now (source .entry)) levels (drop (c .at) (now (sheet .entry))) ≡ ok v t
-        → attributesAs (now (sheet .entry)) (now (pairs .exit)) r ≡ nested (shape v)) ⌝ }
-    ensures { λ r. ⌜ Bounded (length (now (sheet .entry))) (now (pairs .exit)) r ⌝ }
+        → attributesAs (now (sheet .entry)) (now (pairs .exit)) r ≡ ofObject (objectAttributes []) (shape v)) ⌝ }
+    ensures { λ r. ⌜ AttributesWithin (length (now (sheet .entry))) (now (pairs .exit)) r ⌝ }
 {
     match read_value(sheet, source, c, levels) {
         Value::Text(_, _) => ImportAttributes::Unknown,
@@ -206,15 +195,15 @@ fn is_with(sheet: &[u8], start: usize, end: usize) -> bool
     equal(&sheet[start..end], b"with")
 }
 
-// Is a key `with`, or `assert` where the last of the two was not `with`?
-fn is_attributes_key(sheet: &[u8], start: usize, end: usize, last: bool) -> bool
+// Is a key `with`, or `assert` with no `with` before it?
+fn is_attributes_key(sheet: &[u8], start: usize, end: usize, had_with: bool) -> bool
     requires { ⌜ Part (length (now sheet)) start end ⌝ }
-    ensures { λ r. ⌜ r ≡ isAttributesKey last (part (now (sheet .entry)) start end) ⌝ }
+    ensures { λ r. ⌜ r ≡ isAttributesKey «had_with» (part (now (sheet .entry)) start end) ⌝ }
 {
     if is_with(sheet, start, end) {
         return true;
     }
-    if last {
+    if had_with {
         return false;
     }
     equal(&sheet[start..end], b"assert")
@@ -231,23 +220,23 @@ fn parse_argument_properties(
 ) -> ImportAttributes
     requires { ⌜ 320 ≤ length (now pairs) ⌝ }
     ensures { λ r. ⌜ ((ps : Properties) (t : List ℕ) → properties (node (now (source .entry)) levels) count (drop (c .at) (now (sheet .entry))) ≡ ok ps t
-        → attributesAs (now (sheet .entry)) (now (pairs .exit)) r ≡ argumentProperties false none (keyValues ps)) ⌝ }
-    ensures { λ r. ⌜ Bounded (length (now (sheet .entry))) (now (pairs .exit)) r ⌝ }
+        → attributesAs (now (sheet .entry)) (now (pairs .exit)) r ≡ argumentProperties false none (props ps)) ⌝ }
+    ensures { λ r. ⌜ AttributesWithin (length (now (sheet .entry))) (now (pairs .exit)) r ⌝ }
 {
     let mut left = count;
     let mut at = c;
-    let mut with = false;
+    let mut had_with = false;
     let mut found = ImportAttributes::None;
     while 0 < left {
-        match read_entry(sheet, source, at, levels) {
-            EntryRead::Refused(_) => {
+        match read_prop(sheet, source, at, levels) {
+            PropRead::Refused(_) => {
                 return ImportAttributes::Unknown;
             }
-            EntryRead::Keyless(_) => {
+            PropRead::Keyless(_) => {
                 return ImportAttributes::Unknown;
             }
-            EntryRead::Keyed(start, end, value, next) => {
-                if is_attributes_key(sheet, start, end, with) {
+            PropRead::Keyed(start, end, value, next) => {
+                if is_attributes_key(sheet, start, end, had_with) {
                     match parse_nested(sheet, source, value, levels, pairs) {
                         ImportAttributes::None => {
                             return ImportAttributes::None;
@@ -257,7 +246,7 @@ fn parse_argument_properties(
                         }
                         ImportAttributes::Known(n) => {
                             found = ImportAttributes::Known(n);
-                            with = is_with(sheet, start, end);
+                            had_with = is_with(sheet, start, end);
                             at = next;
                             left -= 1;
                         }
@@ -282,9 +271,10 @@ pub fn parse_dynamic_import_attributes(
     pairs: &mut [usize],
 ) -> ImportAttributes
     requires { ⌜ 320 ≤ length (now pairs) ⌝ }
-    ensures { λ r. ⌜ ((xs : Arguments) (t : List ℕ) → arguments (node (now (source .entry)) levels) (now (source .entry)) count (drop (c .at) (now (sheet .entry))) ≡ ok xs t
+    ensures { λ r. ⌜ ((xs : Arguments) (t : List ℕ)
+        → arguments (node (now (source .entry)) levels) (now (source .entry)) count (drop (c .at) (now (sheet .entry))) ≡ ok xs t
         → attributesAs (now (sheet .entry)) (now (pairs .exit)) r ≡ dynamicAttributes xs) ⌝ }
-    ensures { λ r. ⌜ Bounded (length (now (sheet .entry))) (now (pairs .exit)) r ⌝ }
+    ensures { λ r. ⌜ AttributesWithin (length (now (sheet .entry))) (now (pairs .exit)) r ⌝ }
 {
     if 0 < count {
         return match read_argument(sheet, source, c) {

@@ -5,29 +5,23 @@ use super::readings::ImportAttributes;
 use report::writer::Place;
 ghost use mathlib.Core.Path.{_≡_};
 ghost use lib.ListN.{length};
-ghost use Rattle.report.specs.Encode.{each, encodeKeyValue, encodeAttributes};
-ghost use Rattle.report.specs.World.{wrote, worldAs};
-ghost use Rattle.attributes.specs.Views.{
-  pairAs,
-  pairsIn,
-  attributesAs,
-  PairWithin,
-  Pairs,
-  Bounded,
-};
+ghost use mathlib.Core.List.{flatMap};
+ghost use Rattle.report.specs.Encode.{encodeKeyValue, encodeAttributes};
+ghost use Rattle.report.specs.Buffer.{wrote, bufferAs};
+ghost use Rattle.attributes.specs.Views.{pairAs, pairsIn, attributesAs, PairWithin, Pairs, AttributesWithin};
 
 // Writes a pair.
 fn put_pair(sheet: &[u8], p: Pair, out: &mut [u8], place: Place) -> Place
     requires { ⌜ PairWithin (length (now sheet)) p ⌝ }
-    ensures { λ r. ⌜ worldAs (now (out .exit)) r ≡ wrote (worldAs (now (out .entry)) place) (encodeKeyValue (pairAs (now (sheet .entry)) p)) ⌝ }
+    ensures { λ r. ⌜ bufferAs (now (out .exit)) r ≡ wrote (bufferAs (now (out .entry)) place) (encodeKeyValue (pairAs (now (sheet .entry)) p)) ⌝ }
 {
-    let start = p.start;
-    let end = p.end;
+    let start = p.key_start;
+    let end = p.key_end;
     let place = place.put_text(out, &sheet[start..end]);
     let place = place.put_flag(out, p.known);
     if p.known {
-        let from = p.from;
-        let to = p.to;
+        let from = p.value_start;
+        let to = p.value_end;
         return place.put_text(out, &sheet[from..to]);
     }
     place
@@ -36,8 +30,8 @@ fn put_pair(sheet: &[u8], p: Pair, out: &mut [u8], place: Place) -> Place
 // Writes the first n pairs of a table.
 fn put_pairs(sheet: &[u8], pairs: &[usize], n: usize, out: &mut [u8], place: Place) -> Place
     requires { ⌜ Pairs (length (now sheet)) (now pairs) n ⌝ }
-    ensures { λ r. ⌜ worldAs (now (out .exit)) r
-        ≡ wrote (worldAs (now (out .entry)) place) (each encodeKeyValue (pairsIn (now (sheet .entry)) (now (pairs .entry)) n)) ⌝ }
+    ensures { λ r. ⌜ bufferAs (now (out .exit)) r
+        ≡ wrote (bufferAs (now (out .entry)) place) (flatMap encodeKeyValue (pairsIn (now (sheet .entry)) (now (pairs .entry)) n)) ⌝ }
 {
     let mut p = place;
     let mut k = 0;
@@ -57,9 +51,9 @@ pub fn put_attributes(
     out: &mut [u8],
     place: Place,
 ) -> Place
-    requires { ⌜ Bounded (length (now sheet)) (now pairs) a ⌝ }
-    ensures { λ r. ⌜ worldAs (now (out .exit)) r
-        ≡ wrote (worldAs (now (out .entry)) place) (encodeAttributes (attributesAs (now (sheet .entry)) (now (pairs .entry)) a)) ⌝ }
+    requires { ⌜ AttributesWithin (length (now sheet)) (now pairs) a ⌝ }
+    ensures { λ r. ⌜ bufferAs (now (out .exit)) r
+        ≡ wrote (bufferAs (now (out .entry)) place) (encodeAttributes (attributesAs (now (sheet .entry)) (now (pairs .entry)) a)) ⌝ }
 {
     match a {
         ImportAttributes::None => place.put(out, 0),

@@ -1,19 +1,19 @@
 -- Reports byte by byte, with the lines that are printed for them.
 use mathlib.Core.Path.{_≡_, refl}
-use mathlib.Core.List.{List, [], _∷_, _++_, map}
+use mathlib.Core.List.{List, [], _∷_, _++_, map, flatMap}
 use Prim.Native.Nat.{ℕ}
 use Prim.Native.String.{String}
 use Rattle.laws.specs.Decoded.{ok, onOk}
 use Rattle.laws.specs.Quoted.{ascii}
 use Rattle.wire.specs.Fields.{byte, below, flag, bytes}
 use Rattle.wire.specs.Number.{lastGroup, groups, number}
-use Rattle.report.specs.Encode.{each}
-use Rattle.report.specs.Decode.{optional, times, list, text, position, range, specifier, reference, jsDoc, keyValue, attributes, argument, staticRest, dynamicRest, dependency, report}
-use Rattle.citation.specs.Citation.{digits, escaped, citePosition, citeRange, printed, citeEach, lines, title, citation, refusal}
+use Rattle.wire.specs.Optional.{optional}
+use Rattle.report.proofs.Decode.{times, list, text, position, range, specifier, reference, jsDoc, keyValue, attributes, argument, staticRest, dynamicRest, dependency, report}
+use Rattle.citation.specs.Citation.{digits, escaped, citePosition, citeRange, printed, lines, title, citation, refusal}
 
 -- lines, each with its end
 abbrev rows : List String → List ℕ
-rows l = each (λ r. ascii r ++ (0x0A ∷ [])) l
+rows l = flatMap (λ r. ascii r ++ (0x0A ∷ [])) l
 
 abbrev cases : List (List ℕ × List String)
 cases =
@@ -51,6 +51,6 @@ cases =
     ∷ []
 
 as-stated : (map (λ c. onOk citation (report (c .0))) cases ≡ map (λ c. ok (rows (c .1)) []) cases) × (refusal 10 ≡ rows ("refused 10" ∷ []))
-unfolding byte below flag bytes lastGroup groups number each optional times list text position range specifier reference jsDoc keyValue attributes argument staticRest
-    dynamicRest dependency report digits escaped citePosition citeRange printed citeEach lines title citation refusal
+unfolding byte below flag bytes lastGroup groups number flatMap optional times list text position range specifier reference jsDoc keyValue attributes argument staticRest
+    dynamicRest dependency report digits escaped citePosition citeRange printed lines title citation refusal
 as-stated = (refl, refl)

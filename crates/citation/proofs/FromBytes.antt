@@ -11,13 +11,14 @@ use lib.Seq.{drop-drop, take-append-seam, drop-append-seam}
 use borrow.Author.Tests.{lt-ltb}
 use Rattle.laws.specs.Decoded.{ok, no}
 use Rattle.laws.proofs.Decoding.{refused}
+use Rattle.text.specs.Bytes.{part}
 use Rattle.wire.specs.Fields.{encodeFlag}
 use Rattle.wire.specs.Number.{largest, number, encodeGroups, encodeNumber}
 use Rattle.wire.specs.Text.{encodeText}
-use Rattle.wire.specs.Views.{part}
+use Rattle.wire.specs.Optional.{encodeOptional}
 use Rattle.wire.proofs.NumberCodec.{number-codec}
 use Rattle.report.specs.ModuleInfo.{DynamicArgument, expr, string, template}
-use Rattle.report.specs.Encode.{encodeOptional, encodeList, encodeArgument}
+use Rattle.report.specs.Encode.{encodeList, encodeArgument}
 use Rattle.report.specs.Valid.{Short}
 use Rattle.citation.specs.Reads.{Reads, Number}
 

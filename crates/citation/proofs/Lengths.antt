@@ -1,23 +1,26 @@
 -- What is printed for a report is at most four times as long as the report.
 use mathlib.Core.Path.{_≡_, refl}
 use mathlib.Core.Bool.{Bool, true, false, cond}
-use mathlib.Core.List.{List, [], _∷_, _++_}
+use mathlib.Core.List.{List, [], _∷_, _++_, flatMap}
 use mathlib.Core.Option.{Option}
 use Prim.Native.Nat.{ℕ, zero, suc, _+_, _*_, _/_, _%_, _^_, _≤_, _<_}
+use Prim.Native.Char.{code}
 use native.Mathlib.Nat.{pow-suc, one-le-pow}
 use native.Mathlib.Omega.{arith}
 use lib.Dec.{ltb}
 use lib.ListN.{length, length-append}
 use borrow.Author.Tests.{ltb-true, ltb-false}
 use Rattle.laws.specs.Quoted.{ascii}
+use Rattle.laws.specs.Codec.{IfThere, All}
+use Rattle.laws.proofs.Lists.{flatMap-append}
 use Rattle.text.specs.declared.position.Position.{Position}
 use Rattle.wire.specs.Number.{largest, encodeGroups, encodeNumber}
 use Rattle.wire.specs.Text.{encodeText}
+use Rattle.wire.specs.Optional.{encodeOptional}
 use Rattle.report.specs.ModuleInfo.{PositionRange, SpecifierWithRange, DynamicArgument, expr, string, template, path, types, static, dynamic, TypeScriptReference, JsDocImportInfo, DependencyDescriptor, ModuleInfo}
-use Rattle.report.specs.Encode.{each, encodeOptional, encodeList, encodePosition, encodeRange, encodeSpecifier, encodeReference, encodeJsDoc, encodeArgument, encodeStatic, encodeDynamic, encodeDependency, encode}
-use Rattle.report.specs.Valid.{IfThere, All, ValidPosition, ValidRange, ValidSpecifier, ValidReference, ValidJsDoc, ValidDependency, Valid}
-use Rattle.citation.specs.Citation.{digits, decimal, hexDigit, isEscaped, escaped, citePosition, citeRange, Line, printed, citeSpecifier, citeOptional, argumentText, citeArgument, citeReference, citeJsDoc, citeDependency, citeEach, lines, title, citation, refusal}
-use Rattle.citation.proofs.Printing.{each-append}
+use Rattle.report.specs.Encode.{encodeList, encodePosition, encodeRange, encodeSpecifier, encodeReference, encodeJsDoc, encodeArgument, encodeStatic, encodeDynamic, encodeDependency, encode}
+use Rattle.report.specs.Valid.{ValidPosition, ValidRange, ValidSpecifier, ValidReference, ValidJsDoc, ValidDependency, Valid}
+use Rattle.citation.specs.Citation.{digits, decimal, hexDigit, isEscaped, escaped, citePosition, citeRange, Line, printed, citeSpecifier, citeOptional, argumentText, citeArgument, citeReference, citeJsDoc, citeDependency, lines, title, citation, refusal}
 
 digits-short : (k places n : ℕ) → n < 10 ^ suc k → length (digits places n) ≤ suc k
 unfolding digits
@@ -103,12 +106,12 @@ byte-short : (b : ℕ) → length (escaped b) ≤ 4
 unfolding escaped
 byte-short b = either (isEscaped b)
   where
-    either : (t : Bool) → length (cond t (0x5C ∷ 0x78 ∷ hexDigit (b / 16) ∷ hexDigit (b % 16) ∷ []) (b ∷ [])) ≤ 4
+    either : (t : Bool) → length (cond t (0x5C ∷ code "x" ∷ hexDigit (b / 16) ∷ hexDigit (b % 16) ∷ []) (b ∷ [])) ≤ 4
     either true = omega arith
     either false = omega arith
 
-text-short : (x : List ℕ) → length (each escaped x) ≤ 4 * length x
-unfolding each
+text-short : (x : List ℕ) → length (flatMap escaped x) ≤ 4 * length x
+unfolding flatMap
 text-short [] = omega arith
 text-short (b ∷ x) = rw length-append (omega (arith, byte-short b, text-short x))
 
@@ -119,46 +122,46 @@ line-short l v = simp length-append (omega (arith, range-short (l .range) v, tex
 
 -- lines are at most four times as long as the bytes
 abbrev Short : List Line → List ℕ → Type 0
-Short ls bytes = length (each printed ls) ≤ 4 * length bytes
+Short ls bytes = length (flatMap printed ls) ≤ 4 * length bytes
 
 specifier-short : (letter : ℕ) (s : SpecifierWithRange) → ValidSpecifier s → Short (citeSpecifier letter s) (encodeSpecifier s)
-unfolding each encodeSpecifier encodeText
+unfolding flatMap encodeSpecifier encodeText
 specifier-short letter s v =
     let line = line-short (record { letter = letter; range = s .range; text = s .text }) (v .range) in
     simp length-append (omega (arith, line, range-long (s .range), number-long (length (s .text))))
 
 -- and the byte before an optional thing, or a count, is left over
 optional-short : (letter : ℕ) (o : Option SpecifierWithRange) → IfThere ValidSpecifier o
-    → length (each printed (citeOptional letter o)) + 4 ≤ 4 * length (encodeOptional encodeSpecifier o)
-unfolding each encodeOptional
+    → length (flatMap printed (citeOptional letter o)) + 4 ≤ 4 * length (encodeOptional encodeSpecifier o)
+unfolding flatMap encodeOptional
 optional-short letter Option.none v = omega arith
 optional-short letter (Option.some s) v = omega (arith, specifier-short letter s v)
 
 list-short : {A : Type 0} (f : A → List Line) (encode : A → List ℕ) (P : A → Type 0) → ((a : A) → P a → Short (f a) (encode a))
-    → (l : List A) → All P l → length (each printed (citeEach f l)) + 4 ≤ 4 * length (encodeList encode l)
-unfolding encodeList each citeEach
+    → (l : List A) → All P l → length (flatMap printed (flatMap f l)) + 4 ≤ 4 * length (encodeList encode l)
+unfolding encodeList flatMap
 list-short {A} f encode P h l v = rw length-append (omega (arith, items l v, number-long (length l)))
   where
-    items : (l : List A) → All P l → Short (citeEach f l) (each encode l)
+    items : (l : List A) → All P l → Short (flatMap f l) (flatMap encode l)
     items [] v = omega arith
-    items (a ∷ l) v = simp (each-append, length-append) (omega (arith, h a (v .0), items l (v .1)))
+    items (a ∷ l) v = simp (flatMap-append, length-append) (omega (arith, h a (v .0), items l (v .1)))
 
 reference-short : (x : TypeScriptReference) → ValidReference x → Short (citeReference x) (encodeReference x)
 unfolding encodeReference
-reference-short (path s) v = omega (arith, specifier-short 0x52 s v)
-reference-short (types s mode) v = simp length-append (omega (arith, specifier-short 0x52 s (v .0)))
+reference-short (path s) v = omega (arith, specifier-short (code "R") s v)
+reference-short (types s mode) v = simp length-append (omega (arith, specifier-short (code "R") s (v .0)))
 
 jsdoc-short : (i : JsDocImportInfo) → ValidJsDoc i → Short (citeJsDoc i) (encodeJsDoc i)
 unfolding encodeJsDoc
-jsdoc-short i v = simp length-append (omega (arith, specifier-short 0x4A (i .specifier) (v .specifier)))
+jsdoc-short i v = simp length-append (omega (arith, specifier-short (code "J") (i .specifier) (v .specifier)))
 
 argument-short : (x : DynamicArgument) (r : PositionRange) → ValidRange r
-    → length (each printed (citeArgument x r)) ≤ 4 * (length (encodeArgument x) + length (encodeRange r) + 1)
-unfolding each encodeArgument encodeText
-argument-short x r v = by-kind x (line-short (record { letter = 0x44; range = r; text = argumentText x }) v)
+    → length (flatMap printed (citeArgument x r)) ≤ 4 * (length (encodeArgument x) + length (encodeRange r) + 1)
+unfolding flatMap encodeArgument encodeText
+argument-short x r v = by-kind x (line-short (record { letter = code "D"; range = r; text = argumentText x }) v)
   where
-    by-kind : (x : DynamicArgument) → length (printed (record { letter = 0x44; range = r; text = argumentText x })) ≤ 7 + 3 * length (encodeRange r) + 4 * length (argumentText x)
-        → length (each printed (citeArgument x r)) ≤ 4 * (length (encodeArgument x) + length (encodeRange r) + 1)
+    by-kind : (x : DynamicArgument) → length (printed (record { letter = code "D"; range = r; text = argumentText x })) ≤ 7 + 3 * length (encodeRange r) + 4 * length (argumentText x)
+        → length (flatMap printed (citeArgument x r)) ≤ 4 * (length (encodeArgument x) + length (encodeRange r) + 1)
     by-kind expr h = simp length-append (omega (arith, range-long r))
     by-kind (string y) h = simp length-append (omega (arith, range-long r))
     by-kind (template l) h = simp length-append (omega (arith, range-long r))
@@ -166,26 +169,26 @@ argument-short x r v = by-kind x (line-short (record { letter = 0x44; range = r;
 dependency-short : (d : DependencyDescriptor) → ValidDependency d → Short (citeDependency d) (encodeDependency d)
 unfolding encodeDependency encodeStatic encodeDynamic
 dependency-short (static d) v =
-    rw (each-append printed (citeSpecifier 0x44 (d .specifier)) (citeOptional 0x54 (d .typesSpecifier)))
-    (simp length-append (omega (arith, specifier-short 0x44 (d .specifier) (v .specifier), optional-short 0x54 (d .typesSpecifier) (v .typesSpecifier))))
+    rw (flatMap-append printed (citeSpecifier (code "D") (d .specifier)) (citeOptional (code "T") (d .typesSpecifier)))
+    (simp length-append (omega (arith, specifier-short (code "D") (d .specifier) (v .specifier), optional-short (code "T") (d .typesSpecifier) (v .typesSpecifier))))
 dependency-short (dynamic d) v =
-    rw (each-append printed (citeArgument (d .argument) (d .argumentRange)) (citeOptional 0x54 (d .typesSpecifier)))
-    (simp length-append (omega (arith, argument-short (d .argument) (d .argumentRange) (v .argumentRange), optional-short 0x54 (d .typesSpecifier) (v .typesSpecifier))))
+    rw (flatMap-append printed (citeArgument (d .argument) (d .argumentRange)) (citeOptional (code "T") (d .typesSpecifier)))
+    (simp length-append (omega (arith, argument-short (d .argument) (d .argumentRange) (v .argumentRange), optional-short (code "T") (d .typesSpecifier) (v .typesSpecifier))))
 
 -- every report has eight bytes, a flag, the counts and what stands before each optional thing
-lines-short : (m : ModuleInfo) → Valid m → length (each printed (lines m)) + 32 ≤ 4 * length (encode m)
+lines-short : (m : ModuleInfo) → Valid m → length (flatMap printed (lines m)) + 32 ≤ 4 * length (encode m)
 unfolding lines encode
 lines-short m v =
-    simp (each-append, length-append)
+    simp (flatMap-append, length-append)
     (omega (
       arith,
       list-short citeDependency encodeDependency ValidDependency dependency-short (m .dependencies) (v .dependencies .1),
       list-short citeReference encodeReference ValidReference reference-short (m .tsReferences) (v .tsReferences .1),
-      optional-short 0x53 (m .selfTypesSpecifier) (v .selfTypesSpecifier),
-      optional-short 0x58 (m .jsxImportSource) (v .jsxImportSource),
-      optional-short 0x59 (m .jsxImportSourceTypes) (v .jsxImportSourceTypes),
+      optional-short (code "S") (m .selfTypesSpecifier) (v .selfTypesSpecifier),
+      optional-short (code "X") (m .jsxImportSource) (v .jsxImportSource),
+      optional-short (code "Y") (m .jsxImportSourceTypes) (v .jsxImportSourceTypes),
       list-short citeJsDoc encodeJsDoc ValidJsDoc jsdoc-short (m .jsdocImports) (v .jsdocImports .1),
-      optional-short 0x4D (m .sourceMapUrl) (v .sourceMapUrl),
+      optional-short (code "M") (m .sourceMapUrl) (v .sourceMapUrl),
     ))
 
 title-short : (word : List ℕ) (n k : ℕ) → length (decimal n) ≤ k → length (title word n) ≤ length word + k + 1

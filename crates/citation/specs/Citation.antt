@@ -1,13 +1,13 @@
 -- The lines that `cite` prints, as document 01 writes them: `refused N`, or `module K` and K lines.
 use mathlib.Core.Bool.{Bool, cond, _||_}
-use mathlib.Core.List.{List, [], _∷_, _++_}
+use mathlib.Core.List.{List, [], _∷_, _++_, flatMap}
 use mathlib.Core.Option.{Option}
 use Prim.Native.Nat.{ℕ, zero, suc, _+_, _/_, _%_}
+use Prim.Native.Char.{code}
 use lib.Dec.{eqb, ltb}
 use lib.ListN.{length}
 use Rattle.laws.specs.Quoted.{ascii}
 use Rattle.text.specs.declared.position.Position.{Position}
-use Rattle.report.specs.Encode.{each}
 use Rattle.report.specs.ModuleInfo.{PositionRange, SpecifierWithRange, TypeScriptReference, path, types, JsDocImportInfo, DynamicArgument, expr, string, template, DependencyDescriptor, static, dynamic, ModuleInfo}
 
 -- the decimal digits of a number, of at most so many places
@@ -29,15 +29,16 @@ isEscaped b = ltb b 32 || eqb b 127 || eqb b 0x5C
 
 -- such a byte as \xHH; any other as it is
 unfoldable pub escaped : ℕ → List ℕ
-escaped b = cond (isEscaped b) (0x5C ∷ 0x78 ∷ hexDigit (b / 16) ∷ hexDigit (b % 16) ∷ []) (b ∷ [])
+escaped b = cond (isEscaped b) (0x5C ∷ code "x" ∷ hexDigit (b / 16) ∷ hexDigit (b % 16) ∷ []) (b ∷ [])
 
 -- line:column, from 1
 unfoldable pub citePosition : Position → List ℕ
-citePosition p = decimal (p .line + 1) ++ (0x3A ∷ decimal (p .column + 1))
+citePosition p = decimal (p .line + 1) ++ (code ":" ∷ decimal (p .column + 1))
 
 unfoldable pub citeRange : PositionRange → List ℕ
-citeRange r = citePosition (r .start) ++ (0x2D ∷ citePosition (r .end))
+citeRange r = citePosition (r .start) ++ (code "-" ∷ citePosition (r .end))
 
+-- a line of a citation
 pub record Line : Type 0 where
   pub letter : ℕ
   pub range : PositionRange
@@ -45,7 +46,7 @@ pub record Line : Type 0 where
 
 -- letter, space, range, space, text
 unfoldable pub printed : Line → List ℕ
-printed l = l .letter ∷ 0x20 ∷ (citeRange (l .range) ++ (0x20 ∷ (each escaped (l .text) ++ (0x0A ∷ []))))
+printed l = l .letter ∷ code " " ∷ (citeRange (l .range) ++ (code " " ∷ (flatMap escaped (l .text) ++ (0x0A ∷ []))))
 
 abbrev pub citeSpecifier : ℕ → SpecifierWithRange → List Line
 citeSpecifier letter s = record { letter = letter; range = s .range; text = s .text } ∷ []
@@ -62,37 +63,32 @@ argumentText (string x) = x
 argumentText (template l) = ascii "?"
 
 abbrev pub citeArgument : DynamicArgument → PositionRange → List Line
-citeArgument x r = record { letter = 0x44; range = r; text = argumentText x } ∷ []
+citeArgument x r = record { letter = code "D"; range = r; text = argumentText x } ∷ []
 
 -- D, and T for its types right after it
 abbrev pub citeDependency : DependencyDescriptor → List Line
-citeDependency (static d) = citeSpecifier 0x44 (d .specifier) ++ citeOptional 0x54 (d .typesSpecifier)
-citeDependency (dynamic d) = citeArgument (d .argument) (d .argumentRange) ++ citeOptional 0x54 (d .typesSpecifier)
+citeDependency (static d) = citeSpecifier (code "D") (d .specifier) ++ citeOptional (code "T") (d .typesSpecifier)
+citeDependency (dynamic d) = citeArgument (d .argument) (d .argumentRange) ++ citeOptional (code "T") (d .typesSpecifier)
 
 -- R
 abbrev pub citeReference : TypeScriptReference → List Line
-citeReference (path s) = citeSpecifier 0x52 s
-citeReference (types s mode) = citeSpecifier 0x52 s
+citeReference (path s) = citeSpecifier (code "R") s
+citeReference (types s mode) = citeSpecifier (code "R") s
 
 -- J
 abbrev pub citeJsDoc : JsDocImportInfo → List Line
-citeJsDoc i = citeSpecifier 0x4A (i .specifier)
-
--- the lines of each, one after the other
-unfoldable pub citeEach : {A : Type 0} → (A → List Line) → List A → List Line
-citeEach f [] = []
-citeEach f (a ∷ l) = f a ++ citeEach f l
+citeJsDoc i = citeSpecifier (code "J") (i .specifier)
 
 -- the lines, in report order: D and T, R, S, X, Y, J, M
 unfoldable pub lines : ModuleInfo → List Line
 lines m =
-    citeEach citeDependency (m .dependencies)
-    ++ (citeEach citeReference (m .tsReferences)
-    ++ (citeOptional 0x53 (m .selfTypesSpecifier)
-    ++ (citeOptional 0x58 (m .jsxImportSource)
-    ++ (citeOptional 0x59 (m .jsxImportSourceTypes)
-    ++ (citeEach citeJsDoc (m .jsdocImports)
-    ++ citeOptional 0x4D (m .sourceMapUrl))))))
+    flatMap citeDependency (m .dependencies)
+    ++ (flatMap citeReference (m .tsReferences)
+    ++ (citeOptional (code "S") (m .selfTypesSpecifier)
+    ++ (citeOptional (code "X") (m .jsxImportSource)
+    ++ (citeOptional (code "Y") (m .jsxImportSourceTypes)
+    ++ (flatMap citeJsDoc (m .jsdocImports)
+    ++ citeOptional (code "M") (m .sourceMapUrl))))))
 
 -- a word and a number, on a line of their own
 unfoldable pub title : List ℕ → ℕ → List ℕ
@@ -100,7 +96,7 @@ title word n = word ++ (decimal n ++ (0x0A ∷ []))
 
 -- all that is printed for a report
 unfoldable pub citation : ModuleInfo → List ℕ
-citation m = title (ascii "module ") (length (lines m)) ++ each printed (lines m)
+citation m = title (ascii "module ") (length (lines m)) ++ flatMap printed (lines m)
 
 -- all that is printed for a refusal
 unfoldable pub refusal : ℕ → List ℕ

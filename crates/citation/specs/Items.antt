@@ -3,10 +3,12 @@ use mathlib.Core.Bool.{Bool, true, false}
 use mathlib.Core.List.{List, _++_}
 use mathlib.Core.Option.{Option}
 use Prim.Native.Nat.{ℕ}
+use Rattle.laws.specs.Codec.{IfThere}
 use Rattle.wire.specs.Text.{encodeText}
+use Rattle.wire.specs.Optional.{encodeOptional}
 use Rattle.report.specs.ModuleInfo.{PositionRange, DynamicArgument, TypeScriptReference, JsDocImportInfo, KeyValue, DependencyDescriptor}
-use Rattle.report.specs.Encode.{encodeOptional, encodeRange, encodeArgument, encodeReference, encodeJsDoc, encodeKeyValue, encodeDependency}
-use Rattle.report.specs.Valid.{IfThere, Short, ValidRange, ValidArgument, ValidReference, ValidJsDoc, ValidKeyValue, ValidDependency}
+use Rattle.report.specs.Encode.{encodeRange, encodeArgument, encodeReference, encodeJsDoc, encodeKeyValue, encodeDependency}
+use Rattle.report.specs.Valid.{Short, ValidRange, ValidArgument, ValidReference, ValidJsDoc, ValidKeyValue, ValidDependency}
 use Rattle.citation.specs.Citation.{Line, citeDependency, citeReference, citeJsDoc}
 use Rattle.citation.specs.declared.cite.Kind.{Kind}
 use Rattle.citation.specs.declared.cite.Kind.the-variants as kind

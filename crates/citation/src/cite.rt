@@ -9,46 +9,17 @@ use super::lines::put_line;
 use super::lines::put_title;
 use report::writer::Place;
 ghost use mathlib.Core.Path.{_≡_};
-ghost use mathlib.Core.List.{[], _∷_};
+ghost use mathlib.Core.List.{[], _∷_, flatMap};
 ghost use Prim.Native.Nat.{_+_, _*_, _≤_};
 ghost use lib.ListN.{length, take};
+ghost use Rattle.laws.specs.Codec.{IfThere, All};
 ghost use Rattle.wire.specs.Number.{largest};
+ghost use Rattle.wire.specs.Optional.{encodeOptional};
 ghost use Rattle.report.specs.ModuleInfo.{ModuleInfo};
-ghost use Rattle.report.specs.Encode.{
-  each,
-  encodeOptional,
-  encodeList,
-  encodeRange,
-  encodeSpecifier,
-  encodeReference,
-  encodeJsDoc,
-  encodeDependency,
-  encode,
-};
-ghost use Rattle.report.specs.Valid.{
-  IfThere,
-  All,
-  Short,
-  ValidRange,
-  ValidSpecifier,
-  ValidReference,
-  ValidJsDoc,
-  ValidDependency,
-  Valid,
-};
-ghost use Rattle.report.specs.World.{worldAs};
-ghost use Rattle.citation.specs.Citation.{
-  citeSpecifier,
-  citeOptional,
-  citeArgument,
-  citeReference,
-  citeJsDoc,
-  citeDependency,
-  citeEach,
-  lines,
-  citation,
-  refusal,
-};
+ghost use Rattle.report.specs.Encode.{encodeList, encodeRange, encodeSpecifier, encodeReference, encodeJsDoc, encodeDependency, encode};
+ghost use Rattle.report.specs.Valid.{Short, ValidRange, ValidSpecifier, ValidReference, ValidJsDoc, ValidDependency, Valid};
+ghost use Rattle.report.specs.Buffer.{bufferAs};
+ghost use Rattle.citation.specs.Citation.{citeSpecifier, citeOptional, citeArgument, citeReference, citeJsDoc, citeDependency, lines, citation, refusal};
 ghost use Rattle.citation.specs.Reads.{Cites};
 ghost use Rattle.citation.specs.Items.{encodeRanged, ValidRanged, encodeItem, ValidItem, citeItem};
 
@@ -77,7 +48,7 @@ fn cite_range(
 ) -> Cited
     ensures { λ r. ⌜ Cites encodeRange ValidRange (now (report .entry)) at
         (λ range. record { letter = letter; range = range; text = now (text .entry) } ∷ [])
-        (worldAs (now (out .entry)) place) (now (out .exit)) r ⌝ }
+        (bufferAs (now (out .entry)) place) (now (out .exit)) r ⌝ }
     ensures { λ r. ⌜ r .lines ≤ 1 ⌝ }
 {
     let range = read_range(report, at);
@@ -91,7 +62,7 @@ fn cite_range(
 // Cites a text and its range.
 fn cite_specifier(report: &[u8], at: usize, letter: u8, out: &mut [u8], place: Place) -> Cited
     ensures { λ r. ⌜ Cites encodeSpecifier ValidSpecifier (now (report .entry)) at
-        (citeSpecifier letter) (worldAs (now (out .entry)) place) (now (out .exit)) r ⌝ }
+        (citeSpecifier letter) (bufferAs (now (out .entry)) place) (now (out .exit)) r ⌝ }
     ensures { λ r. ⌜ r .lines ≤ 1 ⌝ }
 {
     let text = read_text(report, at);
@@ -103,7 +74,7 @@ fn cite_specifier(report: &[u8], at: usize, letter: u8, out: &mut [u8], place: P
 // Cites a text and its range, if they are there.
 fn cite_optional(report: &[u8], at: usize, letter: u8, out: &mut [u8], place: Place) -> Cited
     ensures { λ r. ⌜ Cites (encodeOptional encodeSpecifier) (IfThere ValidSpecifier) (now (report .entry)) at
-        (citeOptional letter) (worldAs (now (out .entry)) place) (now (out .exit)) r ⌝ }
+        (citeOptional letter) (bufferAs (now (out .entry)) place) (now (out .exit)) r ⌝ }
     ensures { λ r. ⌜ r .lines ≤ 1 ⌝ }
 {
     let there = read_number(report, at);
@@ -120,7 +91,7 @@ fn cite_optional(report: &[u8], at: usize, letter: u8, out: &mut [u8], place: Pl
 // Cites a reference: R.
 fn cite_reference(report: &[u8], at: usize, out: &mut [u8], place: Place) -> Cited
     ensures { λ r. ⌜ Cites encodeReference ValidReference (now (report .entry)) at
-        citeReference (worldAs (now (out .entry)) place) (now (out .exit)) r ⌝ }
+        citeReference (bufferAs (now (out .entry)) place) (now (out .exit)) r ⌝ }
     ensures { λ r. ⌜ r .lines ≤ 1 ⌝ }
 {
     let kind = read_number(report, at);
@@ -140,7 +111,7 @@ fn cite_reference(report: &[u8], at: usize, out: &mut [u8], place: Place) -> Cit
 // Cites a JSDoc import: J.
 fn cite_jsdoc(report: &[u8], at: usize, out: &mut [u8], place: Place) -> Cited
     ensures { λ r. ⌜ Cites encodeJsDoc ValidJsDoc (now (report .entry)) at
-        citeJsDoc (worldAs (now (out .entry)) place) (now (out .exit)) r ⌝ }
+        citeJsDoc (bufferAs (now (out .entry)) place) (now (out .exit)) r ⌝ }
     ensures { λ r. ⌜ r .lines ≤ 1 ⌝ }
 {
     let kind = read_number(report, at);
@@ -157,7 +128,7 @@ fn cite_jsdoc(report: &[u8], at: usize, out: &mut [u8], place: Place) -> Cited
 // Cites a dynamic argument with its range: D, and `?` where it has no single text.
 fn cite_argument(report: &[u8], at: usize, out: &mut [u8], place: Place) -> Cited
     ensures { λ r. ⌜ Cites encodeRanged ValidRanged (now (report .entry)) at
-        (λ a. citeArgument (a .0) (a .1)) (worldAs (now (out .entry)) place) (now (out .exit)) r ⌝ }
+        (λ a. citeArgument (a .0) (a .1)) (bufferAs (now (out .entry)) place) (now (out .exit)) r ⌝ }
     ensures { λ r. ⌜ r .lines ≤ 1 ⌝ }
 {
     let kind = read_number(report, at);
@@ -174,7 +145,7 @@ fn cite_argument(report: &[u8], at: usize, out: &mut [u8], place: Place) -> Cite
 // Cites a dependency: D, and T for its types, which stand before it in the report and are read again.
 fn cite_dependency(report: &[u8], at: usize, out: &mut [u8], place: Place) -> Cited
     ensures { λ r. ⌜ Cites encodeDependency ValidDependency (now (report .entry)) at
-        citeDependency (worldAs (now (out .entry)) place) (now (out .exit)) r ⌝ }
+        citeDependency (bufferAs (now (out .entry)) place) (now (out .exit)) r ⌝ }
     ensures { λ r. ⌜ r .lines ≤ 2 ⌝ }
 {
     let kind = read_number(report, at);
@@ -204,7 +175,7 @@ fn cite_dependency(report: &[u8], at: usize, out: &mut [u8], place: Place) -> Ci
 // Cites an item of a list.
 fn cite_item(report: &[u8], at: usize, kind: Kind, out: &mut [u8], place: Place) -> Cited
     ensures { λ r. ⌜ Cites (encodeItem kind) (ValidItem kind) (now (report .entry)) at
-        (citeItem kind) (worldAs (now (out .entry)) place) (now (out .exit)) r ⌝ }
+        (citeItem kind) (bufferAs (now (out .entry)) place) (now (out .exit)) r ⌝ }
     ensures { λ r. ⌜ r .lines ≤ 2 ⌝ }
 {
     match kind {
@@ -224,8 +195,8 @@ fn cite_items(
     place: Place,
 ) -> Cited
     requires { ⌜ count ≤ largest ⌝ }
-    ensures { λ r. ⌜ Cites (each (encodeItem kind)) (λ l. (length l ≡ count) × All (ValidItem kind) l) (now (report .entry)) at
-        (citeEach (citeItem kind)) (worldAs (now (out .entry)) place) (now (out .exit)) r ⌝ }
+    ensures { λ r. ⌜ Cites (flatMap (encodeItem kind)) (λ l. (length l ≡ count) × All (ValidItem kind) l) (now (report .entry)) at
+        (flatMap (citeItem kind)) (bufferAs (now (out .entry)) place) (now (out .exit)) r ⌝ }
     ensures { λ r. ⌜ r .lines ≤ 2 * count ⌝ }
 {
     let mut p = place;
@@ -249,7 +220,7 @@ fn cite_items(
 // Cites a list.
 fn cite_list(report: &[u8], at: usize, kind: Kind, out: &mut [u8], place: Place) -> Cited
     ensures { λ r. ⌜ Cites (encodeList (encodeItem kind)) (λ l. Short l × All (ValidItem kind) l) (now (report .entry)) at
-        (citeEach (citeItem kind)) (worldAs (now (out .entry)) place) (now (out .exit)) r ⌝ }
+        (flatMap (citeItem kind)) (bufferAs (now (out .entry)) place) (now (out .exit)) r ⌝ }
     ensures { λ r. ⌜ r .lines ≤ 2 * largest ⌝ }
 {
     let count = read_number(report, at);
@@ -266,7 +237,7 @@ fn total(d: usize, r: usize, s: usize, x: usize, y: usize, j: usize, m: usize) -
 
 // Cites what is in a report: D and T, R, S, X, Y, J, M.
 fn cite_lines(report: &[u8], out: &mut [u8], place: Place) -> Cited
-    ensures { λ r. ⌜ Cites encode Valid (now (report .entry)) 0 lines (worldAs (now (out .entry)) place) (now (out .exit)) r ⌝ }
+    ensures { λ r. ⌜ Cites encode Valid (now (report .entry)) 0 lines (bufferAs (now (out .entry)) place) (now (out .exit)) r ⌝ }
 {
     let is_script = read_number(report, 0);
     let d = cite_list(report, is_script.next, Kind::Dependency, out, place);

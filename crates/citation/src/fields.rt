@@ -4,25 +4,13 @@ use wire::Cursor;
 use wire::Read;
 ghost use mathlib.Core.Path.{_≡_};
 ghost use lib.ListN.{length};
+ghost use mathlib.Core.List.{flatMap};
+ghost use Rattle.laws.specs.Codec.{IfThere, All};
+ghost use Rattle.text.specs.Bytes.{part};
 ghost use Rattle.wire.specs.Text.{encodeText};
-ghost use Rattle.wire.specs.Views.{part};
-ghost use Rattle.report.specs.Encode.{
-  each,
-  encodeOptional,
-  encodeList,
-  encodeRange,
-  encodeSpecifier,
-  encodeAttributes,
-};
-ghost use Rattle.report.specs.Valid.{
-  IfThere,
-  All,
-  Short,
-  ValidPosition,
-  ValidRange,
-  ValidSpecifier,
-  ValidAttributes,
-};
+ghost use Rattle.wire.specs.Optional.{encodeOptional};
+ghost use Rattle.report.specs.Encode.{encodeList, encodeRange, encodeSpecifier, encodeAttributes};
+ghost use Rattle.report.specs.Valid.{Short, ValidPosition, ValidRange, ValidSpecifier, ValidAttributes};
 ghost use Rattle.citation.specs.Reads.{Reads, Skips, Number, Inside};
 ghost use Rattle.citation.specs.Items.{encodePart, ValidPart};
 
@@ -135,7 +123,7 @@ fn skip_part(report: &[u8], at: usize, keyed: bool) -> usize
 
 // Skips so many of them.
 fn skip_parts(report: &[u8], at: usize, keyed: bool, count: usize) -> usize
-    ensures { λ r. ⌜ Skips (each (encodePart keyed)) (λ l. (length l ≡ count) × All (ValidPart keyed) l) (now (report .entry)) at r ⌝ }
+    ensures { λ r. ⌜ Skips (flatMap (encodePart keyed)) (λ l. (length l ≡ count) × All (ValidPart keyed) l) (now (report .entry)) at r ⌝ }
 {
     let mut place = at;
     let mut left = count;

@@ -3,23 +3,14 @@ use report::writer::Place;
 use text::position::Position;
 ghost use mathlib.Core.Path.{_≡_};
 ghost use Prim.Native.Nat.{_<_};
-ghost use Rattle.report.specs.Encode.{each};
+ghost use mathlib.Core.List.{flatMap};
 ghost use Rattle.report.specs.Valid.{ValidPosition};
-ghost use Rattle.report.specs.World.{wrote, worldAs};
-ghost use Rattle.citation.specs.Citation.{
-  digits,
-  hexDigit,
-  isEscaped,
-  escaped,
-  citePosition,
-  citeRange,
-  printed,
-  title,
-};
+ghost use Rattle.report.specs.Buffer.{wrote, bufferAs};
+ghost use Rattle.citation.specs.Citation.{digits, hexDigit, isEscaped, escaped, citePosition, citeRange, printed, title};
 
 // Writes a number in decimal, in at most so many places.
-pub fn put_digits(place: Place, out: &mut [u8], places: usize, n: usize) -> Place
-    ensures { λ r. ⌜ worldAs (now (out .exit)) r ≡ wrote (worldAs (now (out .entry)) place) (digits places n) ⌝ }
+fn put_digits(place: Place, out: &mut [u8], places: usize, n: usize) -> Place
+    ensures { λ r. ⌜ bufferAs (now (out .exit)) r ≡ wrote (bufferAs (now (out .entry)) place) (digits places n) ⌝ }
 {
     if places == 0 {
         return place;
@@ -54,7 +45,7 @@ fn is_escaped(b: u8) -> bool
 
 // Writes a byte of a text.
 fn put_escaped(place: Place, out: &mut [u8], b: u8) -> Place
-    ensures { λ r. ⌜ worldAs (now (out .exit)) r ≡ wrote (worldAs (now (out .entry)) place) (escaped b) ⌝ }
+    ensures { λ r. ⌜ bufferAs (now (out .exit)) r ≡ wrote (bufferAs (now (out .entry)) place) (escaped b) ⌝ }
 {
     if is_escaped(b) {
         let p = place.put_bytes(out, b"\\x");
@@ -66,8 +57,8 @@ fn put_escaped(place: Place, out: &mut [u8], b: u8) -> Place
 
 // Writes a text.
 fn put_text(place: Place, out: &mut [u8], text: &[u8]) -> Place
-    ensures { λ r. ⌜ worldAs (now (out .exit)) r
-        ≡ wrote (worldAs (now (out .entry)) place) (each escaped (now (text .entry))) ⌝ }
+    ensures { λ r. ⌜ bufferAs (now (out .exit)) r
+        ≡ wrote (bufferAs (now (out .entry)) place) (flatMap escaped (now (text .entry))) ⌝ }
 {
     let mut p = place;
     let mut i = 0;
@@ -81,7 +72,7 @@ fn put_text(place: Place, out: &mut [u8], text: &[u8]) -> Place
 // Writes line:column, from 1.
 fn put_position(place: Place, out: &mut [u8], position: Position) -> Place
     requires { ⌜ ValidPosition position ⌝ }
-    ensures { λ r. ⌜ worldAs (now (out .exit)) r ≡ wrote (worldAs (now (out .entry)) place) (citePosition position) ⌝ }
+    ensures { λ r. ⌜ bufferAs (now (out .exit)) r ≡ wrote (bufferAs (now (out .entry)) place) (citePosition position) ⌝ }
 {
     let p = put_digits(place, out, 20, position.line + 1);
     let p = p.put(out, b':');
@@ -91,8 +82,8 @@ fn put_position(place: Place, out: &mut [u8], position: Position) -> Place
 // Writes the positions at a range's start and at its end.
 fn put_range(place: Place, out: &mut [u8], start: Position, end: Position) -> Place
     requires { ⌜ ValidPosition start × ValidPosition end ⌝ }
-    ensures { λ r. ⌜ worldAs (now (out .exit)) r
-        ≡ wrote (worldAs (now (out .entry)) place) (citeRange (record { start = start; end = end })) ⌝ }
+    ensures { λ r. ⌜ bufferAs (now (out .exit)) r
+        ≡ wrote (bufferAs (now (out .entry)) place) (citeRange (record { start = start; end = end })) ⌝ }
 {
     let p = put_position(place, out, start);
     let p = p.put(out, b'-');
@@ -109,8 +100,8 @@ pub fn put_line(
     text: &[u8],
 ) -> Place
     requires { ⌜ ValidPosition start × ValidPosition end ⌝ }
-    ensures { λ r. ⌜ worldAs (now (out .exit)) r
-        ≡ wrote (worldAs (now (out .entry)) place)
+    ensures { λ r. ⌜ bufferAs (now (out .exit)) r
+        ≡ wrote (bufferAs (now (out .entry)) place)
         (printed (record { letter = letter; range = record { start = start; end = end }; text = now (text .entry) })) ⌝ }
 {
     let p = place.put(out, letter);
@@ -123,7 +114,7 @@ pub fn put_line(
 
 // Writes a word and a number, on a line of their own.
 pub fn put_title(place: Place, out: &mut [u8], word: &[u8], n: usize) -> Place
-    ensures { λ r. ⌜ worldAs (now (out .exit)) r ≡ wrote (worldAs (now (out .entry)) place) (title (now (word .entry)) n) ⌝ }
+    ensures { λ r. ⌜ bufferAs (now (out .exit)) r ≡ wrote (bufferAs (now (out .entry)) place) (title (now (word .entry)) n) ⌝ }
 {
     let p = place.put_bytes(out, word);
     let p = put_digits(p, out, 20, n);

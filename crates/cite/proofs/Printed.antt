@@ -1,6 +1,6 @@
 -- What the report function answers is what the citation asks for.
-use mathlib.Core.Path.{_≡_, refl, sym, ap, _∙_}
-use mathlib.Core.Bool.{Bool, true, false, cond}
+use mathlib.Core.Path.{_≡_, refl, sym, ap}
+use mathlib.Core.Bool.{Bool, true, false}
 use mathlib.Core.List.{List, [], _++_}
 use Prim.Native.Nat.{ℕ, _-_, _*_, _≤_}
 use native.Mathlib.Omega.{arith}
@@ -8,35 +8,21 @@ use lib.Dec.{leb}
 use lib.ListN.{length, take, length-append}
 use lib.Seq.{take-append-seam}
 use borrow.Author.Tests.{leb-true}
-use Rattle.laws.specs.Decoded.{ok, no}
-use Rattle.laws.proofs.Decoding.{refused, then-ok}
-use Rattle.wire.specs.Number.{largest}
-use Rattle.sheet.specs.Sheet.{Sheet, decodeSheet, accept}
-use Rattle.sheet.specs.Walked.{uncooked}
-use Rattle.sheet_codec.proofs.Sheets.{encoded}
+use Rattle.laws.specs.Decoded.{ok}
+use Rattle.laws.proofs.Decoding.{refused}
+use Rattle.sheet.specs.Sheet.{Sheet, accept}
+use Rattle.sheet_codec.proofs.Sheets.{accepted-within}
 use Rattle.accept.proofs.Refusals.{Decision, decided}
 use Rattle.report.specs.ModuleInfo.{ModuleInfo}
 use Rattle.report.specs.Encode.{encode}
 use Rattle.report.specs.Valid.{Valid}
 use Rattle.report.specs.Answer.{Answer, zeros, accepted, fitted}
 use Rattle.report.specs.declared.writer.Outcome.the-variants.{Accepted, Refused}
-use Rattle.citation.specs.Citation.{citation, refusal}
 use Rattle.module_info.specs.Information.{moduleInfo, answerOf}
 use Rattle.module_info.specs.Demands.{Demands}
+use Rattle.citation.specs.Citation.{citation, refusal}
 use Rattle.cite.specs.Cited.{cited}
 use Rattle.cite.proofs.Readable.{readable}
-
--- the source of an accepted sheet is short
-source-short : (s : List ℕ) (t : Sheet) → accept s ≡ ok t [] → length (t .source) ≤ largest
-unfolding accept
-source-short s t e =
-    let (a, u, e1, e2) = then-ok (decodeSheet s) (λ t u. cond (uncooked (t .root)) (no 9) (ok t u)) e in
-    let limits = encoded (e1 ∙ go a u (uncooked (a .root)) e2) .1 in
-    omega (arith, limits .fields .source .0)
-  where
-    go : (a : Sheet) (u : List ℕ) (b : Bool) → cond b (no 9) (ok a u) ≡ ok t [] → ok a u ≡ ok t []
-    go a u true f = absurd (refused f)
-    go a u false f = f
 
 -- a report has bytes
 some-bytes : (m : ModuleInfo) → 0 ≡ length (encode m) → ⊥
@@ -68,7 +54,7 @@ module _ {s buffer : List ℕ} where
             info = moduleInfo t;
             within = omega (arith, ap length held, length-append (encode (moduleInfo t)) (zeros (65536 - length (encode (moduleInfo t)))));
             room = rw (← begins) (omega arith);
-            valid = readable t (source-short s t e) (d .jsdoc t e) (omega arith);
+            valid = readable t (omega (arith, accepted-within s e .fields .source .0)) (d .jsdoc t e) (omega arith);
             bytes = begins;
             lines = rw (e, h);
           }

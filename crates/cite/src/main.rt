@@ -1,4 +1,4 @@
-// Prints the citation of a sheet, from the file that its first argument names or from standard input.
+// Prints the citation of the sheet on standard input.
 use citation::cite::cite_refusal;
 use citation::cite::cite_report;
 use libc::STDIN_FILENO;
@@ -31,27 +31,11 @@ fn line_buffer() -> [u8; 262144]
 }
 
 // Reads one byte more than the longest sheet has, so that a longer one is refused.
-fn cite_file(fd: i32) {
+fn main() {
     let mut sheet = [0u8; 65537];
     let mut report = io::large_buffer();
     let mut lines = line_buffer();
-    let n = io::read_full(fd, &mut sheet);
+    let n = io::read_full(STDIN_FILENO, &mut sheet);
     let length = cite(&sheet[..n], &mut report, &mut lines);
     io::write_all(STDOUT_FILENO, &lines[..length]);
-}
-
-fn main() {
-    if os::arg_count() < 2 {
-        cite_file(STDIN_FILENO);
-        return;
-    }
-    let mut path = io::buffer();
-    let length = os::arg(1, &mut path);
-    let fd = os::open_read(&path[..length]);
-    if fd < 0 {
-        os::fail(&path[..length]);
-        return;
-    }
-    cite_file(fd);
-    libc::close(fd);
 }

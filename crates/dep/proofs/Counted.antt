@@ -1,7 +1,7 @@
 -- There are as many dependencies as the check of the tree counts.
 use mathlib.Core.Path.{_≡_, refl, sym, ap, _∙_}
 use mathlib.Core.Bool.{Bool, true, false, cond, _&&_}
-use mathlib.Core.List.{List, [], _∷_, _++_}
+use mathlib.Core.List.{List, [], _∷_, _++_, flatMap}
 use mathlib.Core.Option.{Option}
 use Prim.Native.Nat.{ℕ, _+_}
 use native.Mathlib.Nat.{add-assoc}
@@ -11,13 +11,14 @@ use Rattle.laws.specs.Decoded.{Decoded, ok, onOk}
 use Rattle.wire.specs.Number.{encodeNumber}
 use Rattle.sheet.specs.declared.fields.Span.{Span}
 use Rattle.sheet.specs.Tree.{Quoted, Node, other, string, name, template, binary, object, importCall, call, importDecl, namedExport, exportFrom, exportAll, importType, importEquals, importRequire, moduleDecl, Nodes, none, more, Arguments, noArguments, argument, Properties, noProperties, spread, otherProperty, childKey, stringKey, nameKey, Attributes, without, withObject}
-use Rattle.sheet.specs.Walked.{shape, isRequire, isAugmentation, declares, one, anyArgument, entries, entriesAll, entriesOf, entriesIn, entriesWith}
+use Rattle.sheet.specs.Shape.{shape, isRequire, isAugmentation}
+use Rattle.sheet.specs.Walked.{declares, one, anyArgument, entries, entriesAll, entriesOf, entriesIn, entriesWith}
 use Rattle.report.specs.ModuleInfo.{SpecifierWithRange}
 use Rattle.report.specs.ModuleInfo as info
-use Rattle.report.specs.Encode.{each, encodeList, encodeDependency}
-use Rattle.report.specs.World.{World, wrote}
-use Rattle.report.proofs.Worlds.{wrote-append}
-use Rattle.dep.specs.Walk.{listed, afterNode}
+use Rattle.report.specs.Encode.{encodeList, encodeDependency}
+use Rattle.report.specs.Buffer.{Buffer, wrote}
+use Rattle.report.proofs.Buffers.{wrote-append}
+use Rattle.dep.specs.Walk.{wroteEntries, afterNode}
 use Rattle.dep.specs.Collect.{dynamicKind, staticEntry, callEntry, moduleEntry, collect, collectAll, collectOf, collectIn, collectWith}
 
 -- three lists, one after the other
@@ -100,14 +101,14 @@ module _ (source : List ℕ) (types : ℕ → Option SpecifierWithRange) where
     counted-with (withObject sp ps) = counted-in ps
 
   -- their number, and then their entries
-  pub program-written : (w : World) (x : Decoded Node) {n : Node} {t : List ℕ} → x ≡ ok n t → {count : ℕ} → count ≡ entries n
-      → {w1 : World} → w1 ≡ wrote w (encodeNumber count) → {w2 : World} {v : List ℕ} → onOk (afterNode source types w1) x ≡ ok w2 v
+  pub program-written : (w : Buffer) (x : Decoded Node) {n : Node} {t : List ℕ} → x ≡ ok n t → {count : ℕ} → count ≡ entries n
+      → {w1 : Buffer} → w1 ≡ wrote w (encodeNumber count) → {w2 : Buffer} {v : List ℕ} → onOk (afterNode source types w1) x ≡ ok w2 v
       → w2 ≡ wrote w (encodeList encodeDependency (collect source types n))
   unfolding encodeList
   program-written w x {n} {t} is {count} as-many {w1} number-first {w2} {v} then-entries =
       let both : ok (afterNode source types w1 n) t ≡ ok w2 v = rw is at then-entries in
-      let entries-last : w2 ≡ listed w1 (collect source types n) = cc in
+      let entries-last : w2 ≡ wroteEntries w1 (collect source types n) = cc in
       entries-last
-      ∙ ap (λ w. listed w (collect source types n)) number-first
-      ∙ ap (λ k. listed (wrote w (encodeNumber k)) (collect source types n)) (as-many ∙ sym (counted n))
-      ∙ sym (wrote-append w (encodeNumber (length (collect source types n))) (each encodeDependency (collect source types n)))
+      ∙ ap (λ w. wroteEntries w (collect source types n)) number-first
+      ∙ ap (λ k. wroteEntries (wrote w (encodeNumber k)) (collect source types n)) (as-many ∙ sym (counted n))
+      ∙ sym (wrote-append w (encodeNumber (length (collect source types n))) (flatMap encodeDependency (collect source types n)))

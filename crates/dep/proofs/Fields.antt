@@ -1,17 +1,18 @@
 -- The fields of an entry, written one after the other.
 use mathlib.Core.Path.{_≡_, sym, ap, _∙_}
-use mathlib.Core.List.{List, [], _∷_, _++_, append-nil}
+use mathlib.Core.List.{List, [], _∷_, _++_, append-nil, flatMap}
 use Prim.Native.Nat.{ℕ}
 use Rattle.wire.specs.Fields.{encodeFlag}
+use Rattle.wire.specs.Optional.{encodeOptional}
 use Rattle.report.specs.ModuleInfo.{StaticDependencyDescriptor, DynamicDependencyDescriptor, static, dynamic}
-use Rattle.report.specs.Encode.{each, encodeOptional, encodeSpecifier, encodeRange, encodeArgument, encodeAttributes, encodeStatic, encodeDynamic, encodeDependency}
-use Rattle.report.specs.World.{World, wrote}
-use Rattle.report.proofs.Worlds.{wrote-append, wrote-cons}
-use Rattle.dep.specs.Walk.{listed}
+use Rattle.report.specs.Encode.{encodeSpecifier, encodeRange, encodeArgument, encodeAttributes, encodeStatic, encodeDynamic, encodeDependency}
+use Rattle.report.specs.Buffer.{Buffer, wrote}
+use Rattle.report.proofs.Buffers.{wrote-append, wrote-cons}
+use Rattle.dep.specs.Walk.{wroteEntries}
 
 -- five fields
-module _ (w : World) (k : ℕ) (a b c d : List ℕ) where
-  in-turn : {w1 w2 w3 w4 w5 : World} → w1 ≡ wrote w (k ∷ []) → w2 ≡ wrote w1 a → w3 ≡ wrote w2 b → w4 ≡ wrote w3 c → w5 ≡ wrote w4 d
+module _ (w : Buffer) (k : ℕ) (a b c d : List ℕ) where
+  in-turn : {w1 w2 w3 w4 w5 : Buffer} → w1 ≡ wrote w (k ∷ []) → w2 ≡ wrote w1 a → w3 ≡ wrote w2 b → w4 ≡ wrote w3 c → w5 ≡ wrote w4 d
       → w5 ≡ wrote w (k ∷ (a ++ (b ++ (c ++ d))))
   in-turn e1 e2 e3 e4 e5 =
       let v = wrote w (k ∷ []) in
@@ -23,19 +24,19 @@ module _ (w : World) (k : ℕ) (a b c d : List ℕ) where
       ∙ wrote-append (wrote v a) b (c ++ d)
       ∙ wrote-append (wrote (wrote v a) b) c d)
 
-module _ (w : World) {w1 w2 w3 w4 w5 : World} where
+module _ (w : Buffer) {w1 w2 w3 w4 w5 : Buffer} where
   pub static-written : (d : StaticDependencyDescriptor) → w1 ≡ wrote w (d .kind ∷ []) → w2 ≡ wrote w1 (encodeOptional encodeSpecifier (d .typesSpecifier))
       → w3 ≡ wrote w2 (encodeSpecifier (d .specifier)) → w4 ≡ wrote w3 (encodeFlag (d .sideEffect)) → w5 ≡ wrote w4 (encodeAttributes (d .importAttributes))
-      → w5 ≡ listed w (static d ∷ [])
-  unfolding each encodeDependency encodeStatic
+      → w5 ≡ wroteEntries w (static d ∷ [])
+  unfolding flatMap encodeDependency encodeStatic
   static-written d e1 e2 e3 e4 e5 =
       in-turn w (d .kind) (encodeOptional encodeSpecifier (d .typesSpecifier)) (encodeSpecifier (d .specifier)) (encodeFlag (d .sideEffect)) (encodeAttributes (d .importAttributes)) e1 e2 e3 e4 e5
       ∙ ap (wrote w) (sym (append-nil (encodeStatic d)))
 
   pub dynamic-written : (d : DynamicDependencyDescriptor) → w1 ≡ wrote w (d .kind ∷ []) → w2 ≡ wrote w1 (encodeOptional encodeSpecifier (d .typesSpecifier))
       → w3 ≡ wrote w2 (encodeArgument (d .argument)) → w4 ≡ wrote w3 (encodeRange (d .argumentRange)) → w5 ≡ wrote w4 (encodeAttributes (d .importAttributes))
-      → w5 ≡ listed w (dynamic d ∷ [])
-  unfolding each encodeDependency encodeDynamic
+      → w5 ≡ wroteEntries w (dynamic d ∷ [])
+  unfolding flatMap encodeDependency encodeDynamic
   dynamic-written d e1 e2 e3 e4 e5 =
       in-turn w (d .kind) (encodeOptional encodeSpecifier (d .typesSpecifier)) (encodeArgument (d .argument)) (encodeRange (d .argumentRange)) (encodeAttributes (d .importAttributes)) e1 e2 e3 e4 e5
       ∙ ap (wrote w) (sym (append-nil (encodeDynamic d)))

@@ -1,10 +1,8 @@
-pub mod Values
-pub mod Listed
+pub mod Wrote
 pub mod Spans
-pub mod Required
 pub mod Loops
 pub mod Arms
 pub mod Counted
 pub mod Fields
-pub mod FirstArgument
+mod Each
 pub mod Proper

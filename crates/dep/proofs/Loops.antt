@@ -5,110 +5,105 @@ use mathlib.Core.Option.{Option}
 use Prim.Native.Nat.{ℕ, _-_, _≤_, _<_}
 use Rattle.laws.specs.Decoded.{Decoded, ok, no, onOk, Decoder, _>>=_}
 use Rattle.laws.proofs.Decoding.{onOk-ok, onOk-no}
+use Rattle.laws.proofs.Answers.{Reads, ends, behind, changed, anything}
 use Rattle.sheet.specs.Tree.{Node, none, more, noArguments, noProperties}
 use Rattle.sheet.specs.Nodes.{nodes, argumentItem, arguments, propertyItem, properties}
 use Rattle.heads.specs.Parts.{PropertyHead, spreadHead, otherPropertyHead, childKeyHead, stringKeyHead, nameKeyHead, propertyHead, argumentHead}
-use Rattle.heads.specs.Rest.{argumentRest, propertyRest}
-use Rattle.heads.proofs.ByHead.{argument-by-head, property-by-head}
+use Rattle.heads.proofs.ByHead.{argument-by-head, property-by-head, argumentRest, propertyRest}
 use Rattle.heads.proofs.Many.{found, found-step, found-stop, found-end}
 use Rattle.nodes.proofs.Loops.{nodeItem}
 use Rattle.report.specs.declared.writer.Place.{Place}
 use Rattle.report.specs.ModuleInfo.{SpecifierWithRange, DependencyDescriptor}
-use Rattle.report.specs.World.{World, worldAs}
+use Rattle.report.specs.Buffer.{Buffer, bufferAs}
 use Rattle.dep.specs.Collect.{collect, collectAll, collectOf, collectIn}
-use Rattle.dep.specs.Walk.{listed, afterNode, afterNodes, afterArgument, afterArguments, afterProperty, afterProperties}
-use Rattle.dep.proofs.Listed.{listed-append, listed-nil}
-use Rattle.dep.proofs.Values.{Holds, Reads, ends, behind}
+use Rattle.dep.specs.Walk.{wroteEntries, afterNode, afterNodes, afterArgument, afterArguments, afterProperty, afterProperties}
+use Rattle.dep.proofs.Wrote.{entries-append, entries-nil}
 
 -- items whose entries are gathered, from an empty list of them
 module _ {L : Type 0} (gather : L → List DependencyDescriptor) (end : L) where
-  abbrev pub after : World → L → World
-  after w l = listed w (gather l)
+  abbrev pub after : Buffer → L → Buffer
+  after w l = wroteEntries w (gather l)
 
   -- an item adds the entries that it would have by itself
   abbrev pub Adds : (L → L) → Type 0
   Adds add = (l : L) → gather (add l) ≡ gather (add end) ++ gather l
 
-  abbrev pub afterOne : World → (L → L) → World
+  abbrev pub afterOne : Buffer → (L → L) → Buffer
   afterOne w add = after w (add end)
 
   module _ (item : Decoder (L → L)) where
-    abbrev pub walkFrom : World → ℕ → List ℕ → Decoded World
+    abbrev pub walkFrom : Buffer → ℕ → List ℕ → Decoded Buffer
     walkFrom = found after end item
 
     module _ (k : ℕ) (u : List ℕ) where
-      pub walk-step : ((u : List ℕ) → Holds Adds (item u)) → (w : World) {w′ : World} {v : List ℕ} → 0 < k → onOk (afterOne w) (item u) ≡ ok w′ v → walkFrom w k u ≡ walkFrom w′ (k - 1) v
+      pub walk-step : Reads Adds item → (w : Buffer) {w′ : Buffer} {v : List ℕ} → 0 < k → onOk (afterOne w) (item u) ≡ ok w′ v → walkFrom w k u ≡ walkFrom w′ (k - 1) v
       walk-step each-adds w h e =
           let (add, is, gives) = onOk-ok (afterOne w) (item u) e in
-          let adds : Adds add = rw is at (each-adds u) in
+          let adds : Adds add = rw is at (each-adds .at u) in
           rw (← gives)
-          (found-step after end item w (afterOne w add) k u h is (λ l. ap (listed w) (adds l) ∙ listed-append w (gather (add end)) (gather l)))
+          (found-step after end item w (afterOne w add) k u h is (λ l. ap (wroteEntries w) (adds l) ∙ entries-append w (gather (add end)) (gather l)))
 
-      pub walk-stop : (w : World) {r : ℕ} → 0 < k → onOk (afterOne w) (item u) ≡ no r → walkFrom w k u ≡ no r
+      pub walk-stop : (w : Buffer) {r : ℕ} → 0 < k → onOk (afterOne w) (item u) ≡ no r → walkFrom w k u ≡ no r
       walk-stop w h e = found-stop after end item w k u h (onOk-no (afterOne w) (item u) e)
 
-      pub walk-end : gather end ≡ [] → (out : List ℕ) (p : Place) → k ≤ 0 → walkFrom (worldAs out p) k u ≡ ok (worldAs out p) u
-      walk-end e out p h = found-end after end item (worldAs out p) k u h ∙ ap (λ w. ok w u) (ap (listed (worldAs out p)) e ∙ listed-nil out p)
+      pub walk-end : gather end ≡ [] → (out : List ℕ) (p : Place) → k ≤ 0 → walkFrom (bufferAs out p) k u ≡ ok (bufferAs out p) u
+      walk-end e out p h = found-end after end item (bufferAs out p) k u h ∙ ap (λ w. ok w u) (ap (wroteEntries (bufferAs out p)) e ∙ entries-nil out p)
 
 module _ (source : List ℕ) (types : ℕ → Option SpecifierWithRange) (inner : Decoder Node) where
-  abbrev pub nodesFrom : World → ℕ → List ℕ → Decoded World
+  abbrev pub nodesFrom : Buffer → ℕ → List ℕ → Decoded Buffer
   nodesFrom = walkFrom (collectAll source types) none (nodeItem inner)
 
-  node-adds : (u : List ℕ) → Holds (Adds (collectAll source types) none) (nodeItem inner u)
+  node-adds : Reads (Adds (collectAll source types) none) (nodeItem inner)
   unfolding collect
-  node-adds u = go (inner u)
-    where
-      go : (x : Decoded Node) → Holds (Adds (collectAll source types) none) (onOk (λ n l. more n l) x)
-      go (ok n t) = λ ns. rw (append-nil (collect source types n))
-      go (no r) = tt
+  node-adds = changed (λ n l. more n l) (anything inner) (λ n h ns. rw (append-nil (collect source types n)))
 
   -- a node among others
-  one-node : (w : World) (x : Decoded Node) → onOk (afterOne (collectAll source types) none w) (onOk (λ n l. more n l) x) ≡ onOk (afterNode source types w) x
+  one-node : (w : Buffer) (x : Decoded Node) → onOk (afterOne (collectAll source types) none w) (onOk (λ n l. more n l) x) ≡ onOk (afterNode source types w) x
   unfolding collect
   one-node w (ok n t) = rw (append-nil (collect source types n))
   one-node w (no r) = refl
 
-  module _ (w : World) (k : ℕ) (u : List ℕ) where
+  module _ (w : Buffer) (k : ℕ) (u : List ℕ) where
     pub nodes-all : nodesFrom w k u ≡ onOk (afterNodes source types w) (nodes inner k u)
     unfolding nodes
     nodes-all = refl
 
-    pub nodes-step : {w′ : World} {v : List ℕ} → 0 < k → onOk (afterNode source types w) (inner u) ≡ ok w′ v → nodesFrom w k u ≡ nodesFrom w′ (k - 1) v
+    pub nodes-step : {w′ : Buffer} {v : List ℕ} → 0 < k → onOk (afterNode source types w) (inner u) ≡ ok w′ v → nodesFrom w k u ≡ nodesFrom w′ (k - 1) v
     nodes-step h e = walk-step (collectAll source types) none (nodeItem inner) k u node-adds w h (one-node w (inner u) ∙ e)
 
     pub nodes-stop : {r : ℕ} → 0 < k → onOk (afterNode source types w) (inner u) ≡ no r → nodesFrom w k u ≡ no r
     nodes-stop h e = walk-stop (collectAll source types) none (nodeItem inner) k u w h (one-node w (inner u) ∙ e)
 
-  pub nodes-end : (k : ℕ) (u out : List ℕ) (p : Place) → k ≤ 0 → nodesFrom (worldAs out p) k u ≡ ok (worldAs out p) u
+  pub nodes-end : (k : ℕ) (u out : List ℕ) (p : Place) → k ≤ 0 → nodesFrom (bufferAs out p) k u ≡ ok (bufferAs out p) u
   unfolding collect
   nodes-end k u = walk-end (collectAll source types) none (nodeItem inner) k u refl
 
-  abbrev pub argumentsFrom : World → ℕ → List ℕ → Decoded World
+  abbrev pub argumentsFrom : Buffer → ℕ → List ℕ → Decoded Buffer
   argumentsFrom = walkFrom (collectOf source types) noArguments (argumentItem inner source)
 
-  argument-adds : (u : List ℕ) → Holds (Adds (collectOf source types) noArguments) (argumentItem inner source u)
+  argument-adds : Reads (Adds (collectOf source types) noArguments) (argumentItem inner source)
   unfolding collect
-  argument-adds u = rw (argument-by-head inner source u) (adds .at u)
+  argument-adds = record { at = λ u. rw (argument-by-head inner source u) (adds .at u) }
     where
       adds : Reads (Adds (collectOf source types) noArguments) (argumentHead source >>= argumentRest inner)
       adds = behind (argumentHead source) λ a. behind inner λ n. ends λ xs. rw (append-nil (collect source types n))
 
-  module _ (w : World) (k : ℕ) (u : List ℕ) where
+  module _ (w : Buffer) (k : ℕ) (u : List ℕ) where
     pub arguments-all : argumentsFrom w k u ≡ onOk (afterArguments source types w) (arguments inner source k u)
     unfolding arguments
     arguments-all = refl
 
-    pub arguments-step : {w′ : World} {v : List ℕ} → 0 < k → onOk (afterArgument source types w) (argumentItem inner source u) ≡ ok w′ v → argumentsFrom w k u ≡ argumentsFrom w′ (k - 1) v
+    pub arguments-step : {w′ : Buffer} {v : List ℕ} → 0 < k → onOk (afterArgument source types w) (argumentItem inner source u) ≡ ok w′ v → argumentsFrom w k u ≡ argumentsFrom w′ (k - 1) v
     arguments-step = walk-step (collectOf source types) noArguments (argumentItem inner source) k u argument-adds w
 
     pub arguments-stop : {r : ℕ} → 0 < k → onOk (afterArgument source types w) (argumentItem inner source u) ≡ no r → argumentsFrom w k u ≡ no r
     arguments-stop = walk-stop (collectOf source types) noArguments (argumentItem inner source) k u w
 
-  pub arguments-end : (k : ℕ) (u out : List ℕ) (p : Place) → k ≤ 0 → argumentsFrom (worldAs out p) k u ≡ ok (worldAs out p) u
+  pub arguments-end : (k : ℕ) (u out : List ℕ) (p : Place) → k ≤ 0 → argumentsFrom (bufferAs out p) k u ≡ ok (bufferAs out p) u
   unfolding collect
   arguments-end k u = walk-end (collectOf source types) noArguments (argumentItem inner source) k u refl
 
-  abbrev pub propertiesFrom : World → ℕ → List ℕ → Decoded World
+  abbrev pub propertiesFrom : Buffer → ℕ → List ℕ → Decoded Buffer
   propertiesFrom = walkFrom (collectIn source types) noProperties (propertyItem inner)
 
   by-kind : (h : PropertyHead) → Reads (Adds (collectIn source types) noProperties) (propertyRest inner h)
@@ -119,20 +114,20 @@ module _ (source : List ℕ) (types : ℕ → Option SpecifierWithRange) (inner 
   by-kind (stringKeyHead x) = behind inner λ n. ends λ ps. rw (append-nil (collect source types n))
   by-kind (nameKeyHead x) = behind inner λ n. ends λ ps. rw (append-nil (collect source types n))
 
-  property-adds : (u : List ℕ) → Holds (Adds (collectIn source types) noProperties) (propertyItem inner u)
-  property-adds u = rw (property-by-head inner u) ((behind propertyHead by-kind) .at u)
+  property-adds : Reads (Adds (collectIn source types) noProperties) (propertyItem inner)
+  property-adds = record { at = λ u. rw (property-by-head inner u) (behind propertyHead by-kind .at u) }
 
-  module _ (w : World) (k : ℕ) (u : List ℕ) where
+  module _ (w : Buffer) (k : ℕ) (u : List ℕ) where
     pub properties-all : propertiesFrom w k u ≡ onOk (afterProperties source types w) (properties inner k u)
     unfolding properties
     properties-all = refl
 
-    pub properties-step : {w′ : World} {v : List ℕ} → 0 < k → onOk (afterProperty source types w) (propertyItem inner u) ≡ ok w′ v → propertiesFrom w k u ≡ propertiesFrom w′ (k - 1) v
+    pub properties-step : {w′ : Buffer} {v : List ℕ} → 0 < k → onOk (afterProperty source types w) (propertyItem inner u) ≡ ok w′ v → propertiesFrom w k u ≡ propertiesFrom w′ (k - 1) v
     properties-step = walk-step (collectIn source types) noProperties (propertyItem inner) k u property-adds w
 
     pub properties-stop : {r : ℕ} → 0 < k → onOk (afterProperty source types w) (propertyItem inner u) ≡ no r → propertiesFrom w k u ≡ no r
     properties-stop = walk-stop (collectIn source types) noProperties (propertyItem inner) k u w
 
-  pub properties-end : (k : ℕ) (u out : List ℕ) (p : Place) → k ≤ 0 → propertiesFrom (worldAs out p) k u ≡ ok (worldAs out p) u
+  pub properties-end : (k : ℕ) (u out : List ℕ) (p : Place) → k ≤ 0 → propertiesFrom (bufferAs out p) k u ≡ ok (bufferAs out p) u
   unfolding collect
   properties-end k u = walk-end (collectIn source types) noProperties (propertyItem inner) k u refl

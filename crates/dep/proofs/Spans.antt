@@ -6,31 +6,29 @@ use mathlib.Core.Option.{Option}
 use Prim.Native.Nat.{ℕ, _-_}
 use native.Mathlib.Omega.{arith}
 use lib.Dec.{eqb, ltb}
+use Rattle.laws.specs.Codec.{IfThere}
 use Rattle.laws.specs.Decoded.{Decoded, ok, no, andThen, _>>=_, return}
+use Rattle.laws.proofs.Answers.{Answer, Reads, done, next, ends, behind, with, changed, either, at-index, anything}
 use Rattle.text.specs.declared.utf8.Encoding.the-variants.{Utf8, Wtf8}
 use Rattle.wire.specs.Fields.{below, flag}
 use Rattle.wire.specs.Number.{number}
 use Rattle.wire.specs.Text.{count, text}
+use Rattle.wire.specs.Optional.{optional}
 use Rattle.sheet.specs.declared.fields.Span.{Span}
 use Rattle.sheet.specs.Tree.{Quoted}
 use Rattle.sheet.specs.Fields.{position, endFrom, span}
-use Rattle.sheet.specs.Nodes.{tag, quoted, optionalQuoted}
-use Rattle.sheet.proofs.Judged.{end-within}
+use Rattle.sheet.specs.Nodes.{tag, quoted}
+use Rattle.sheet.proofs.Judged.{end-codec}
 use Rattle.heads.specs.Head.{Head, otherHead, stringHead, nameHead, templateHead, binaryHead, objectHead, moduleHead, callStart, origin, importStart, namedExportStart, exportAllStart, importTypeStart, importRequireStart, importEqualsStart, moduleStart, start, head}
 use Rattle.heads.specs.Parts.{argumentHead}
 use Rattle.report.specs.Range.{InSource}
 use Rattle.dep.specs.Walk.{Spanned}
-use Rattle.dep.proofs.Values.{Holds, Reads, done, next, ends, behind, with, changed, either, at-index, anything}
 
 module _ (source : List ℕ) where
   abbrev Within : Quoted → Type 0
   Within x = InSource source (x .span)
 
-  abbrev Optional : Option Quoted → Type 0
-  Optional Option.none = Unit {0}
-  Optional (Option.some x) = Within x
-
-  optional-spanned : (x : Option Quoted) (n : ℕ) → Optional x → Spanned source (moduleHead x n)
+  optional-spanned : (x : Option Quoted) (n : ℕ) → IfThere Within x → Spanned source (moduleHead x n)
   optional-spanned Option.none n h = tt
   optional-spanned (Option.some x) n h = h
 
@@ -38,13 +36,13 @@ module _ (source : List ℕ) where
   unfolding span
   span-within = record { at = λ u. go (position source u) }
     where
-      ends-within : (start : ℕ) (t : List ℕ) (x : Decoded ℕ) → endFrom source start t ≡ x → Holds (InSource source) (andThen x (λ end. return (record { start = start; end = end })))
+      ends-within : (start : ℕ) (t : List ℕ) (x : Decoded ℕ) → endFrom source start t ≡ x → Answer (InSource source) (λ r. Unit {0}) (andThen x (λ end. return (record { start = start; end = end })))
       ends-within start t (ok end v) e =
-          let (order, short) = end-within source start t e in
-          record { start = omega arith; end = short }
+          let (at, order) = end-codec source start .sound t end v e .1 in
+          record { start = omega (arith, at .boundary .0); end = at .boundary .0 }
       ends-within start t (no r) e = tt
 
-      go : (x : Decoded ℕ) → Holds (InSource source) (andThen x (λ start. endFrom source start >>= λ end. return (record { start = start; end = end })))
+      go : (x : Decoded ℕ) → Answer (InSource source) (λ r. Unit {0}) (andThen x (λ start. endFrom source start >>= λ end. return (record { start = start; end = end })))
       go (ok start t) = ends-within start t (endFrom source start t) refl
       go (no r) = tt
 
@@ -53,8 +51,8 @@ module _ (source : List ℕ) where
     unfolding quoted
     quoted-within = behind (tag (eqb 1) levels) λ t. with span-within λ sp h. behind (text Wtf8 4096) λ x. ends h
 
-    optional-within : Reads Optional (optionalQuoted source levels)
-    unfolding optionalQuoted
+    optional-within : Reads (IfThere Within) (optional (quoted source levels))
+    unfolding optional
     optional-within = behind flag λ there. either there (changed (λ q. Option.some q) quoted-within (λ q h. h)) (ends tt)
 
     origin-within : Reads (λ (p : Quoted × Bool). Within (p .0)) (origin source levels)
@@ -101,7 +99,7 @@ module _ (source : List ℕ) where
         (next (changed binaryHead (anything flag) (λ b h. tt))
         (next (changed objectHead (anything (count 64)) (λ n h. tt))
         (next call-within (next import-within (next named-export-within (next export-all-within (next import-type-within (next import-equals-within (next module-within done)))))))))))))
-        t 3
+        t 3 tt
 
   head-within : (levels : ℕ) → Reads (λ (p : Span × Head). Spanned source (p .1)) (head source levels)
   unfolding head

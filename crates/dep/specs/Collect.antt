@@ -7,23 +7,27 @@ use lib.Dec.{eqb}
 use Rattle.text.specs.Lossy.{lossy}
 use Rattle.sheet.specs.declared.fields.Span.{Span}
 use Rattle.sheet.specs.Tree.{Quoted, Phase, Node, other, string, name, template, binary, object, importCall, call, importDecl, namedExport, exportFrom, exportAll, importType, importEquals, importRequire, moduleDecl, Nodes, none, more, Arguments, noArguments, argument, Properties, noProperties, spread, otherProperty, childKey, stringKey, nameKey, Attributes, without, withObject}
-use Rattle.sheet.specs.Walked.{shape, isRequire, isAugmentation}
+use Rattle.sheet.specs.Shape.{shape, isRequire, isAugmentation}
 use Rattle.report.specs.ModuleInfo.{SpecifierWithRange, ImportAttributes, DependencyDescriptor, static, dynamic}
 use Rattle.report.specs.ModuleInfo as info
 use Rattle.report.specs.Range.{rangeOf}
 use Rattle.attributes.specs.Attributes.{staticAttributes, typeAttributes, dynamicAttributes}
 use Rattle.arguments.specs.Argument.{argumentOf}
 
--- `StaticDependencyKind` and `DynamicDependencyKind` by their numbers in the report
+-- `StaticDependencyKind` and `DynamicDependencyKind` by their numbers in the report; the sheet's phases are 1 source, 2 defer
+-- 3 ImportType, 2 ImportSource, 1 ImportDefer, 0 Import
 abbrev pub importKind : Bool → Phase → ℕ
 importKind typeOnly phase = cond typeOnly 3 (cond (eqb phase 1) 2 (cond (eqb phase 2) 1 0))
 
+-- 6 ExportType, 5 Export
 abbrev pub exportKind : Bool → ℕ
 exportKind typeOnly = cond typeOnly 6 5
 
+-- 3 ImportType, 7 ExportEquals, 4 ImportEquals
 abbrev pub equalsKind : Bool → Bool → ℕ
 equalsKind typeOnly export = cond typeOnly 3 (cond export 7 4)
 
+-- 11 ImportSource, 10 ImportDefer, 9 Import
 abbrev pub dynamicKind : Phase → ℕ
 dynamicKind phase = cond (eqb phase 1) 11 (cond (eqb phase 2) 10 9)
 
@@ -55,12 +59,12 @@ module _ (source : List ℕ) (types : ℕ → Option SpecifierWithRange) where
       })
       ∷ []
 
-  -- the entry of a module declaration, by its String
+  -- the entry of a module declaration, by its String: 8 MaybeTsModuleAugmentation
   unfoldable pub moduleEntry : Span → Option Quoted → List DependencyDescriptor
   moduleEntry sp Option.none = []
   moduleEntry sp (Option.some x) = cond (isAugmentation (x .text)) (staticEntry 8 sp x false info.none ∷ []) []
 
-  -- children in sheet order; a call's entry after them, an import type's and a module declaration's before
+  -- children in sheet order; a call's entry after them, an import type's (3 ImportType) and a module declaration's before; 12 Require
   unfoldable mutual
     pub collect : Node → List DependencyDescriptor
     collect (other sp ns) = collectAll ns

@@ -1,12 +1,10 @@
 -- What the answers of the walk stand for, in a sheet s with the buffer, and the bounds that they keep.
-use mathlib.Core.Bool.{Bool, false, cond}
-use mathlib.Core.List.{List, [], _∷_, _++_}
+use mathlib.Core.Bool.{cond}
+use mathlib.Core.List.{List, [], _∷_, _++_, flatMap}
 use mathlib.Core.Option.{Option}
 use Prim.Native.Nat.{ℕ, _≤_}
 use lib.ListN.{length, drop}
 use Rattle.laws.specs.Decoded.{Decoded, ok, no}
-use Rattle.laws.specs.Quoted.{ascii}
-use Rattle.text.specs.Bytes.{same}
 use Rattle.sheet.specs.Tree.{Quoted, Node, Nodes, Arguments, noArguments, Properties, noProperties, Attributes}
 use Rattle.sheet.specs.Tables.{commentsIn, groupsIn}
 use Rattle.heads.specs.declared.quoted.Quoted as q
@@ -14,12 +12,11 @@ use Rattle.heads.specs.declared.node.Head as h
 use Rattle.heads.specs.Head.{Head, otherHead, stringHead, nameHead, templateHead, binaryHead, objectHead, importCallHead, callHead, importHead, namedExportHead, exportFromHead, exportAllHead, importTypeHead, importEqualsHead, importRequireHead, moduleHead}
 use Rattle.heads.specs.Views.{quotedOf, QuotedPart, headOf, Within}
 use Rattle.report.specs.ModuleInfo.{SpecifierWithRange, ImportAttributes, DynamicArgument, DependencyDescriptor, dynamic}
-use Rattle.report.specs.Encode.{each, encodeDependency}
+use Rattle.report.specs.Encode.{encodeDependency}
 use Rattle.report.specs.Range.{rangeOf, InSource}
-use Rattle.report.specs.World.{World, wrote, worldAs}
+use Rattle.report.specs.Buffer.{Buffer, wrote, bufferAs}
 use Rattle.attributes.specs.Attributes.{staticAttributes, typeAttributes}
 use Rattle.pragmas.specs.Pragmas.{typesIn}
-use Rattle.pragmas.specs.Held.{Commented, GroupedIn}
 use Rattle.dep.specs.declared.entries.Counts.{Counts}
 use Rattle.dep.specs.declared.entries.CallHead.{CallHead}
 use Rattle.dep.specs.declared.entries.StaticDependencyDescriptor.{StaticDependencyDescriptor}
@@ -31,10 +28,6 @@ use Rattle.dep.specs.Collect.{staticEntry, callEntry, collect, collectAl
 -- the types that the comments and the groups in the tables give
 abbrev pub typesFrom : List ℕ → List ℕ → List ℕ → Counts → ℕ → Option SpecifierWithRange
 typesFrom source comments groups counts = typesIn source (commentsIn comments (counts .comments)) (groupsIn groups (counts .groups))
-
--- the tables and the index hold what they should
-abbrev pub Held : List ℕ → List ℕ → List ℕ → Counts → List ℕ → Type 0
-Held source comments groups counts index = Commented source comments (counts .comments) index × GroupedIn (counts .comments) groups (counts .groups)
 
 -- a String of the sheet whose span is one of the source
 abbrev pub Quotes : List ℕ → List ℕ → q.Quoted → Type 0
@@ -61,89 +54,70 @@ Spanned source (moduleHead Option.none n) = Unit {0}
 Spanned source (moduleHead (Option.some x) n) = InSource source (x .span)
 
 -- a cursor past a head that was read
-abbrev pub Begun : List ℕ → List ℕ → ℕ → h.Head → Type 0
-Begun s source at x = (at ≤ length s) × Within (length s) x × Spanned source (headOf s x)
+abbrev pub PastHead : List ℕ → List ℕ → ℕ → h.Head → Type 0
+PastHead s source at x = (at ≤ length s) × Within (length s) x × Spanned source (headOf s x)
 
--- the head of the Name `require`
-abbrev pub requireHead : Head → Bool
-requireHead (otherHead n) = false
-requireHead (stringHead x) = false
-requireHead (nameHead x) = same x (ascii "require")
-requireHead (templateHead n) = false
-requireHead (binaryHead plus) = false
-requireHead (objectHead n) = false
-requireHead (importCallHead phase) = false
-requireHead callHead = false
-requireHead (importHead typeOnly phase sideEffect x there) = false
-requireHead (namedExportHead typeOnly) = false
-requireHead (exportFromHead typeOnly x there) = false
-requireHead (exportAllHead typeOnly x there) = false
-requireHead (importTypeHead x n) = false
-requireHead importEqualsHead = false
-requireHead (importRequireHead typeOnly export x) = false
-requireHead (moduleHead x n) = false
-
-abbrev pub walkedAs : List ℕ → List ℕ → Walked → Decoded World
-walkedAs s out (walked.Is p next) = ok (worldAs out p) (drop (next .at) s)
+abbrev pub walkedAs : List ℕ → List ℕ → Walked → Decoded Buffer
+walkedAs s out (walked.Is p next) = ok (bufferAs out p) (drop (next .at) s)
 walkedAs s out (walked.Refused r) = no r
 
 -- a cursor that is not past the n bytes
-abbrev pub Inside : ℕ → Walked → Type 0
-Inside n (walked.Is p next) = next .at ≤ n
-Inside n (walked.Refused r) = Unit {0}
+abbrev pub PastWalked : ℕ → Walked → Type 0
+PastWalked n (walked.Is p next) = next .at ≤ n
+PastWalked n (walked.Refused r) = Unit {0}
 
 -- the entries of dependencies written behind what stands there
-abbrev pub listed : World → List DependencyDescriptor → World
-listed w l = wrote w (each encodeDependency l)
+abbrev pub wroteEntries : Buffer → List DependencyDescriptor → Buffer
+wroteEntries w l = wrote w (flatMap encodeDependency l)
 
 module _ (source : List ℕ) (types : ℕ → Option SpecifierWithRange) where
   -- the entry of a static dependency, with its attributes
   abbrev pub staticOf : List ℕ → StaticDependencyDescriptor → ImportAttributes → List DependencyDescriptor
-  staticOf s d a = staticEntry source types (d .kind) (d .range) (quotedOf s (d .specifier)) (d .side) a ∷ []
+  staticOf s d a = staticEntry source types (d .kind) (d .span) (quotedOf s (d .specifier)) (d .«is_side_effect») a ∷ []
 
   -- the entry of a dynamic one, with its argument and its attributes
   abbrev pub dynamicOf : DynamicDependencyDescriptor → DynamicArgument → ImportAttributes → List DependencyDescriptor
   dynamicOf d v a =
       dynamic
-      (record { kind = d .kind; typesSpecifier = types (d .start); argument = v; argumentRange = rangeOf source (d .range); importAttributes = a })
+      (record { kind = d .kind; typesSpecifier = types (d .start); argument = v; argumentRange = rangeOf source (d .«argument_range»); importAttributes = a })
       ∷ []
 
   -- the entry of a call that is listed
-  abbrev pub callOf : CallHead → Arguments → List DependencyDescriptor
-  callOf d xs = cond (d .listed) (callEntry source types (d .kind) (d .range) xs) []
+  abbrev pub entryOfCall : CallHead → Arguments → List DependencyDescriptor
+  entryOfCall d xs = cond (d .listed) (callEntry source types (d .kind) (d .span) xs) []
 
   -- what a buffer holds after the entries of a node, and of parts of one
-  abbrev pub afterNode : World → Node → World
-  afterNode w n = listed w (collect source types n)
+  abbrev pub afterNode : Buffer → Node → Buffer
+  afterNode w n = wroteEntries w (collect source types n)
 
-  abbrev pub afterNodes : World → Nodes → World
-  afterNodes w ns = listed w (collectAll source types ns)
+  abbrev pub afterNodes : Buffer → Nodes → Buffer
+  afterNodes w ns = wroteEntries w (collectAll source types ns)
 
-  abbrev pub afterArguments : World → Arguments → World
-  afterArguments w xs = listed w (collectOf source types xs)
+  abbrev pub afterArguments : Buffer → Arguments → Buffer
+  afterArguments w xs = wroteEntries w (collectOf source types xs)
 
-  abbrev pub afterArgument : World → (Arguments → Arguments) → World
+  abbrev pub afterArgument : Buffer → (Arguments → Arguments) → Buffer
   afterArgument w add = afterArguments w (add noArguments)
 
-  abbrev pub afterProperties : World → Properties → World
-  afterProperties w ps = listed w (collectIn source types ps)
+  abbrev pub afterProperties : Buffer → Properties → Buffer
+  afterProperties w ps = wroteEntries w (collectIn source types ps)
 
-  abbrev pub afterProperty : World → (Properties → Properties) → World
+  abbrev pub afterProperty : Buffer → (Properties → Properties) → Buffer
   afterProperty w add = afterProperties w (add noProperties)
 
-  abbrev pub afterWith : World → Attributes → World
-  afterWith w a = listed w (collectWith source types a)
+  abbrev pub afterWith : Buffer → Attributes → Buffer
+  afterWith w a = wroteEntries w (collectWith source types a)
 
   -- an import or an export
-  abbrev pub afterImport : List ℕ → StaticDependencyDescriptor → World → Attributes → World
-  afterImport s d w a = listed w (staticOf s d (staticAttributes a))
+  abbrev pub afterImport : List ℕ → StaticDependencyDescriptor → Buffer → Attributes → Buffer
+  afterImport s d w a = wroteEntries w (staticOf s d (staticAttributes a))
 
   -- a call without its callee: its entry behind what it holds
-  abbrev pub afterCall : CallHead → World → Arguments × Nodes → World
+  abbrev pub afterCall : CallHead → Buffer → Arguments × Nodes → Buffer
   afterCall d w p =
-      listed w (collectOf source types (p .0) ++ (collectAll source types (p .1) ++ callOf d (p .0)))
+      wroteEntries w (collectOf source types (p .0) ++ (collectAll source types (p .1) ++ entryOfCall d (p .0)))
 
   -- an import type: its entry before what it holds
-  abbrev pub afterTyped : List ℕ → StaticDependencyDescriptor → World → Nodes × Attributes → World
+  abbrev pub afterTyped : List ℕ → StaticDependencyDescriptor → Buffer → Nodes × Attributes → Buffer
   afterTyped s d w p =
-      listed w (staticOf s d (typeAttributes (p .1)) ++ (collectAll source types (p .0) ++ collectWith source types (p .1)))
+      wroteEntries w (staticOf s d (typeAttributes (p .1)) ++ (collectAll source types (p .0) ++ collectWith source types (p .1)))

@@ -1,4 +1,5 @@
-// The entries of dependencies in the report.
+// The entries of dependencies in the report. cs and gs are the tables of comments and groups, k their counts, index that of the source's positions;
+// d is what is known of the dependency, c a cursor in the sheet, and p the place in the buffer.
 use arguments::argument::DynamicArgument;
 use arguments::argument::parse_argument;
 use arguments::argument::put_argument;
@@ -27,15 +28,16 @@ ghost use Rattle.laws.specs.Decoded.{ok};
 ghost use Rattle.sheet.specs.Tree.{Node, Attributes, Arguments, argument};
 ghost use Rattle.sheet.specs.Nodes.{node, arguments, attributesObject};
 ghost use Rattle.heads.specs.Rest.{behind};
+ghost use Rattle.heads.specs.Views.{quotedOf};
 ghost use Rattle.report.specs.ModuleInfo as info;
 ghost use Rattle.report.specs.Range.{InSource};
-ghost use Rattle.report.specs.World.{worldAs};
-ghost use Rattle.attributes.specs.Attributes.{staticAttributes, typeAttributes};
-ghost use Rattle.heads.specs.Views.{quotedOf};
-ghost use Rattle.attributes.specs.Views.{attributesAs, Bounded};
-ghost use Rattle.arguments.specs.Stands.{Stands, InSheet};
+ghost use Rattle.report.specs.Buffer.{bufferAs};
+ghost use Rattle.attributes.specs.Attributes.{typeAttributes};
+ghost use Rattle.attributes.specs.Views.{attributesAs, AttributesWithin};
+ghost use Rattle.arguments.specs.Views.{Stands, ArgumentWithin};
+ghost use Rattle.pragmas.specs.Held.{Held};
 ghost use Rattle.dep.specs.Collect.{importKind, exportKind, equalsKind, dynamicKind, callEntry, moduleEntry};
-ghost use Rattle.dep.specs.Walk.{typesFrom, Held, Quotes, listed, staticOf, dynamicOf, callOf};
+ghost use Rattle.dep.specs.Walk.{typesFrom, Quotes, wroteEntries, staticOf, dynamicOf, entryOfCall};
 
 // How many comments and groups the tables hold.
 pub struct Counts {
@@ -46,9 +48,9 @@ pub struct Counts {
 // A static dependency without its attributes: its kind by its number in the report, and the span of its node. Is it for side effects only?
 pub struct StaticDependencyDescriptor {
     pub kind: u8,
-    pub range: Span,
+    pub span: Span,
     pub specifier: Quoted,
-    pub side: bool,
+    pub is_side_effect: bool,
 }
 
 // A dynamic dependency: where its node starts, and offsets into the sheet for its argument.
@@ -56,14 +58,14 @@ pub struct DynamicDependencyDescriptor {
     pub kind: u8,
     pub start: usize,
     pub argument: DynamicArgument,
-    pub range: Span,
-    pub attributes: ImportAttributes,
+    pub argument_range: Span,
+    pub import_attributes: ImportAttributes,
 }
 
 // A call up to its arguments: its kind, and the span of its node. Is it an import or a require?
 pub struct CallHead {
     pub kind: u8,
-    pub range: Span,
+    pub span: Span,
     pub listed: bool,
 }
 
@@ -116,8 +118,32 @@ pub fn dynamic_kind(phase: usize) -> u8
     9
 }
 
+// A static dependency of the node with that span.
+pub fn static_dependency(
+    kind: u8,
+    span: Span,
+    specifier: Quoted,
+    is_side_effect: bool,
+) -> StaticDependencyDescriptor
+    ensures { λ r. ⌜ r ≡ record { kind = kind; span = span; specifier = specifier; «is_side_effect» = «is_side_effect» } ⌝ }
+{
+    StaticDependencyDescriptor {
+        kind,
+        span,
+        specifier,
+        is_side_effect,
+    }
+}
+
+// A call at the node with that span.
+pub fn call_head(kind: u8, span: Span, listed: bool) -> CallHead
+    ensures { λ r. ⌜ r ≡ record { kind = kind; span = span; listed = listed } ⌝ }
+{
+    CallHead { kind, span, listed }
+}
+
 // The entry of a static dependency, with its attributes in the table.
-fn put_static_entry(
+pub fn put_static_entry(
     sheet: &[u8],
     source: &[u8],
     d: StaticDependencyDescriptor,
@@ -130,47 +156,24 @@ fn put_static_entry(
     out: &mut [u8],
     p: Place,
 ) -> Place
-    requires { ⌜ Held (now source) (now cs) (now gs) k (now index) × Quotes (now sheet) (now source) (d .specifier) × Bounded (length (now sheet)) (now pairs) a ⌝ }
-    ensures { λ r. ⌜ worldAs (now (out .exit)) r
-        ≡ listed (worldAs (now (out .entry)) p)
-        (staticOf (now (source .entry)) (typesFrom (now (source .entry)) (now (cs .entry)) (now (gs .entry)) k) (now (sheet .entry)) d (attributesAs (now (sheet .entry)) (now (pairs .entry)) a)) ⌝ }
+    requires { ⌜ Held (now source) (now cs) (k .comments) (now gs) (k .groups) (now index)
+        × Quotes (now sheet) (now source) (d .specifier)
+        × AttributesWithin (length (now sheet)) (now pairs) a ⌝ }
+    ensures { λ r. ⌜ bufferAs (now (out .exit)) r
+        ≡ wroteEntries (bufferAs (now (out .entry)) p)
+        (staticOf (now (source .entry))
+        (typesFrom (now (source .entry)) (now (cs .entry)) (now (gs .entry)) k)
+        (now (sheet .entry)) d (attributesAs (now (sheet .entry)) (now (pairs .entry)) a)) ⌝ }
 {
-    let start = d.range.start;
-    let x = d.specifier;
-    let from = x.start;
-    let to = x.end;
+    let start = d.span.start;
+    let specifier = d.specifier;
+    let from = specifier.start;
+    let to = specifier.end;
     let p = p.put(out, d.kind);
     let p = analyze_ts_or_deno_types(source, cs, k.comments, gs, k.groups, index, start, out, p);
-    let p = p.put_lossy_specifier(out, &sheet[from..to], source, index, x.span);
-    let p = p.put_flag(out, d.side);
+    let p = p.put_lossy_specifier(out, &sheet[from..to], source, index, specifier.span);
+    let p = p.put_flag(out, d.is_side_effect);
     put_attributes(sheet, pairs, a, out, p)
-}
-
-// The entry of an import or an export, with the Object of its attributes at the cursor, if there is one.
-pub fn put_import_entry(
-    sheet: &[u8],
-    source: &[u8],
-    c: Cursor,
-    there: bool,
-    levels: usize,
-    d: StaticDependencyDescriptor,
-    cs: &[u32],
-    gs: &[u32],
-    k: Counts,
-    index: &[u32],
-    out: &mut [u8],
-    p: Place,
-) -> Place
-    requires { ⌜ Held (now source) (now cs) (now gs) k (now index) × Quotes (now sheet) (now source) (d .specifier) ⌝ }
-    ensures { λ r. ⌜ ((a : Attributes) (t : List ℕ)
-        → behind there (attributesObject (now (source .entry)) levels) (drop (c .at) (now (sheet .entry))) ≡ ok a t
-        → worldAs (now (out .exit)) r
-        ≡ listed (worldAs (now (out .entry)) p)
-        (staticOf (now (source .entry)) (typesFrom (now (source .entry)) (now (cs .entry)) (now (gs .entry)) k) (now (sheet .entry)) d (staticAttributes a))) ⌝ }
-{
-    let mut pairs: [usize; 320] = [0; 320];
-    let a = parse_import_attributes(sheet, source, c, there, levels, &mut pairs);
-    put_static_entry(sheet, source, d, &pairs, a, cs, gs, k, index, out, p)
 }
 
 // The entry of an import type, with the Object of its attributes at the cursor, if there is one.
@@ -188,11 +191,11 @@ pub fn put_type_entry(
     out: &mut [u8],
     p: Place,
 ) -> Place
-    requires { ⌜ Held (now source) (now cs) (now gs) k (now index) × Quotes (now sheet) (now source) (d .specifier) ⌝ }
+    requires { ⌜ Held (now source) (now cs) (k .comments) (now gs) (k .groups) (now index) × Quotes (now sheet) (now source) (d .specifier) ⌝ }
     ensures { λ r. ⌜ ((a : Attributes) (t : List ℕ)
         → behind there (attributesObject (now (source .entry)) levels) (drop (c .at) (now (sheet .entry))) ≡ ok a t
-        → worldAs (now (out .exit)) r
-        ≡ listed (worldAs (now (out .entry)) p)
+        → bufferAs (now (out .exit)) r
+        ≡ wroteEntries (bufferAs (now (out .entry)) p)
         (staticOf (now (source .entry)) (typesFrom (now (source .entry)) (now (cs .entry)) (now (gs .entry)) k) (now (sheet .entry)) d (typeAttributes a))) ⌝ }
 {
     let mut pairs: [usize; 320] = [0; 320];
@@ -201,7 +204,7 @@ pub fn put_type_entry(
 }
 
 // The entry of a static dependency that has no attributes.
-pub fn put_plain_entry(
+fn put_plain_entry(
     sheet: &[u8],
     source: &[u8],
     d: StaticDependencyDescriptor,
@@ -212,9 +215,9 @@ pub fn put_plain_entry(
     out: &mut [u8],
     p: Place,
 ) -> Place
-    requires { ⌜ Held (now source) (now cs) (now gs) k (now index) × Quotes (now sheet) (now source) (d .specifier) ⌝ }
-    ensures { λ r. ⌜ worldAs (now (out .exit)) r
-        ≡ listed (worldAs (now (out .entry)) p)
+    requires { ⌜ Held (now source) (now cs) (k .comments) (now gs) (k .groups) (now index) × Quotes (now sheet) (now source) (d .specifier) ⌝ }
+    ensures { λ r. ⌜ bufferAs (now (out .exit)) r
+        ≡ wroteEntries (bufferAs (now (out .entry)) p)
         (staticOf (now (source .entry)) (typesFrom (now (source .entry)) (now (cs .entry)) (now (gs .entry)) k) (now (sheet .entry)) d info.none) ⌝ }
 {
     let pairs: [usize; 320] = [0; 320];
@@ -227,7 +230,7 @@ pub fn put_module_entry(
     sheet: &[u8],
     source: &[u8],
     span: Span,
-    x: Quoted,
+    specifier: Quoted,
     cs: &[u32],
     gs: &[u32],
     k: Counts,
@@ -235,18 +238,15 @@ pub fn put_module_entry(
     out: &mut [u8],
     p: Place,
 ) -> Place
-    requires { ⌜ Held (now source) (now cs) (now gs) k (now index) × Quotes (now sheet) (now source) x ⌝ }
-    ensures { λ r. ⌜ worldAs (now (out .exit)) r
-        ≡ listed (worldAs (now (out .entry)) p)
-        (moduleEntry (now (source .entry)) (typesFrom (now (source .entry)) (now (cs .entry)) (now (gs .entry)) k) span (Option.some (quotedOf (now (sheet .entry)) x))) ⌝ }
+    requires { ⌜ Held (now source) (now cs) (k .comments) (now gs) (k .groups) (now index) × Quotes (now sheet) (now source) specifier ⌝ }
+    ensures { λ r. ⌜ bufferAs (now (out .exit)) r
+        ≡ wroteEntries (bufferAs (now (out .entry)) p)
+        (moduleEntry (now (source .entry))
+        (typesFrom (now (source .entry)) (now (cs .entry)) (now (gs .entry)) k)
+        span (Option.some (quotedOf (now (sheet .entry)) specifier))) ⌝ }
 {
-    if declares(sheet, x) {
-        let d = StaticDependencyDescriptor {
-            kind: 8,
-            range: span,
-            specifier: x,
-            side: false,
-        };
+    if declares(sheet, specifier) {
+        let d = static_dependency(8, span, specifier, false);
         return put_plain_entry(sheet, source, d, cs, gs, k, index, out, p);
     }
     p
@@ -266,18 +266,23 @@ fn put_dynamic_entry(
     out: &mut [u8],
     p: Place,
 ) -> Place
-    requires { ⌜ Held (now source) (now cs) (now gs) k (now index) × InSource (now source) (d .range) × InSheet (length (now sheet)) (d .argument) × Bounded (length (now sheet)) (now pairs) (d .attributes) ⌝ }
+    requires { ⌜ Held (now source) (now cs) (k .comments) (now gs) (k .groups) (now index)
+        × InSource (now source) (d .«argument_range»)
+        × ArgumentWithin (length (now sheet)) (d .argument)
+        × AttributesWithin (length (now sheet)) (now pairs) (d .«import_attributes») ⌝ }
     ensures { λ r. ⌜ ((v : info.DynamicArgument) → Stands (now (sheet .entry)) (now (source .entry)) levels (d .argument) v
-        → worldAs (now (out .exit)) r
-        ≡ listed (worldAs (now (out .entry)) p)
-        (dynamicOf (now (source .entry)) (typesFrom (now (source .entry)) (now (cs .entry)) (now (gs .entry)) k) d v (attributesAs (now (sheet .entry)) (now (pairs .entry)) (d .attributes)))) ⌝ }
+        → bufferAs (now (out .exit)) r
+        ≡ wroteEntries (bufferAs (now (out .entry)) p)
+        (dynamicOf (now (source .entry))
+        (typesFrom (now (source .entry)) (now (cs .entry)) (now (gs .entry)) k)
+        d v (attributesAs (now (sheet .entry)) (now (pairs .entry)) (d .«import_attributes»)))) ⌝ }
 {
     let argument = d.argument;
-    let attributes = d.attributes;
+    let attributes = d.import_attributes;
     let p = p.put(out, d.kind);
     let p = analyze_ts_or_deno_types(source, cs, k.comments, gs, k.groups, index, d.start, out, p);
     let p = put_argument(sheet, source, levels, argument, out, p);
-    let p = p.put_span(out, source, index, d.range);
+    let p = p.put_span(out, source, index, d.argument_range);
     put_attributes(sheet, pairs, attributes, out, p)
 }
 
@@ -297,20 +302,22 @@ fn put_argument_entry(
     out: &mut [u8],
     p: Place,
 ) -> Place
-    requires { ⌜ Held (now source) (now cs) (now gs) k (now index) × InSource (now source) range ⌝ }
+    requires { ⌜ Held (now source) (now cs) (k .comments) (now gs) (k .groups) (now index) × InSource (now source) range ⌝ }
     ensures { λ r. ⌜ ((dots : Bool) (n : Node) (xs : Arguments) (t u : List ℕ)
         → node (now (source .entry)) levels (drop (c .at) (now (sheet .entry))) ≡ ok n t
         → arguments (node (now (source .entry)) levels) (now (source .entry)) more t ≡ ok xs u
-        → worldAs (now (out .exit)) r
-        ≡ listed (worldAs (now (out .entry)) p)
-        (callEntry (now (source .entry)) (typesFrom (now (source .entry)) (now (cs .entry)) (now (gs .entry)) k) (d .kind) (d .range) (argument dots range n xs))) ⌝ }
+        → bufferAs (now (out .exit)) r
+        ≡ wroteEntries (bufferAs (now (out .entry)) p)
+        (callEntry (now (source .entry))
+        (typesFrom (now (source .entry)) (now (cs .entry)) (now (gs .entry)) k)
+        (d .kind) (d .span) (argument dots range n xs))) ⌝ }
 {
     match check_node(sheet, source, c, levels) {
         Checked::Refused(_) => p,
         Checked::Is(_, next) => {
             let mut pairs: [usize; 320] = [0; 320];
             let argument = parse_argument(sheet, source, c, levels);
-            let attributes = parse_dynamic_import_attributes(
+            let import_attributes = parse_dynamic_import_attributes(
                 sheet,
                 source,
                 next,
@@ -320,10 +327,10 @@ fn put_argument_entry(
             );
             let e = DynamicDependencyDescriptor {
                 kind: d.kind,
-                start: d.range.start,
+                start: d.span.start,
                 argument,
-                range,
-                attributes,
+                argument_range: range,
+                import_attributes,
             };
             put_dynamic_entry(sheet, source, levels, e, &pairs, cs, gs, k, index, out, p)
         }
@@ -345,12 +352,12 @@ pub fn put_call_entry(
     out: &mut [u8],
     p: Place,
 ) -> Place
-    requires { ⌜ Held (now source) (now cs) (now gs) k (now index) ⌝ }
+    requires { ⌜ Held (now source) (now cs) (k .comments) (now gs) (k .groups) (now index) ⌝ }
     ensures { λ r. ⌜ ((xs : Arguments) (t : List ℕ)
         → arguments (node (now (source .entry)) levels) (now (source .entry)) count (drop (c .at) (now (sheet .entry))) ≡ ok xs t
-        → worldAs (now (out .exit)) r
-        ≡ listed (worldAs (now (out .entry)) p)
-        (callOf (now (source .entry)) (typesFrom (now (source .entry)) (now (cs .entry)) (now (gs .entry)) k) d xs)) ⌝ }
+        → bufferAs (now (out .exit)) r
+        ≡ wroteEntries (bufferAs (now (out .entry)) p)
+        (entryOfCall (now (source .entry)) (typesFrom (now (source .entry)) (now (cs .entry)) (now (gs .entry)) k) d xs)) ⌝ }
 {
     if d.listed {
         if 0 < count {

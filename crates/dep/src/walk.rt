@@ -1,17 +1,20 @@
 // `DependencyCollector`: the walk over a tree, by recursion in which the levels left fall. It writes the entries of what a node holds, in the order
-// of the sheet, and the node's own. cs and gs are the tables of comments and groups, k their counts, index that of the source's positions.
+// of the sheet, and the node's own. cs and gs are the tables of comments and groups, k their counts, index that of the source's positions;
+// d is what is known of a dependency, c a cursor in the sheet, and p the place in the buffer.
 use super::entries::CallHead;
 use super::entries::Counts;
 use super::entries::StaticDependencyDescriptor;
+use super::entries::call_head;
 use super::entries::dynamic_kind;
 use super::entries::equals_kind;
 use super::entries::export_kind;
 use super::entries::import_kind;
 use super::entries::put_call_entry;
-use super::entries::put_import_entry;
 use super::entries::put_module_entry;
-use super::entries::put_plain_entry;
+use super::entries::put_static_entry;
 use super::entries::put_type_entry;
+use super::entries::static_dependency;
+use attributes::readings::parse_import_attributes;
 use heads::node::Head;
 use heads::node::HeadRead;
 use heads::node::read_head;
@@ -23,7 +26,9 @@ use heads::parts::read_attributes;
 use heads::parts::read_pieces;
 use heads::parts::read_property;
 use nodes::check::check_attributes;
+use nodes::check::check_node;
 use nodes::check::check_nodes;
+use nodes::tally::Checked;
 use nodes::tally::Tallied;
 use nodes::tally::nodes_of;
 use report::writer::Place;
@@ -38,15 +43,17 @@ ghost use lib.ListN.{length, drop};
 ghost use Rattle.laws.specs.Decoded.{ok, onOk};
 ghost use Rattle.sheet.specs.Tree.{Node};
 ghost use Rattle.sheet.specs.Nodes.{node, nodes, argumentItem, arguments, propertyItem, properties, attributesObject};
-ghost use Rattle.sheet.specs.Walked.{shape, isRequire, entries};
+ghost use Rattle.sheet.specs.Shape.{shape, isRequire};
+ghost use Rattle.sheet.specs.Walked.{entries};
 ghost use Rattle.heads.specs.Rest.{behind, rest};
 ghost use Rattle.heads.specs.Head.{callHead};
-ghost use Rattle.heads.specs.Views.{headOf, Within};
+ghost use Rattle.heads.specs.Views.{headOf};
 ghost use Rattle.nodes.specs.Judged.{callParts, typedParts};
 ghost use Rattle.report.specs.Encode.{encodeList, encodeDependency};
-ghost use Rattle.report.specs.World.{wrote, worldAs};
+ghost use Rattle.report.specs.Buffer.{wrote, bufferAs};
+ghost use Rattle.pragmas.specs.Held.{Held};
 ghost use Rattle.dep.specs.Collect.{collect};
-ghost use Rattle.dep.specs.Walk.{typesFrom, Held, Quotes, Begun, requireHead, walkedAs, Inside, afterNode, afterNodes, afterArgument, afterArguments, afterProperties, afterProperty, afterWith, afterImport, afterCall, afterTyped};
+ghost use Rattle.dep.specs.Walk.{typesFrom, Quotes, PastHead, walkedAs, PastWalked, afterNode, afterNodes, afterArgument, afterArguments, afterProperties, afterProperty, afterWith, afterImport, afterCall, afterTyped};
 
 // The next place in the buffer, with the cursor past what was walked, or a refusal's number.
 pub enum Walked {
@@ -54,43 +61,18 @@ pub enum Walked {
     Refused(u8),
 }
 
-// Is it the head of the Name `require`?
-fn names_require(sheet: &[u8], head: Head) -> bool
-    requires { ⌜ Within (length (now sheet)) head ⌝ }
-    ensures { λ r. ⌜ r ≡ requireHead (headOf (now (sheet .entry)) head) ⌝ }
-{
-    match head {
-        Head::Name(start, end) => heads::texts::is_require(&sheet[start..end]),
-        Head::Other(_) => false,
-        Head::String(_, _) => false,
-        Head::Template(_) => false,
-        Head::Binary(_) => false,
-        Head::Object(_) => false,
-        Head::ImportCall(_) => false,
-        Head::Call => false,
-        Head::Import(_, _, _, _, _) => false,
-        Head::NamedExport(_) => false,
-        Head::ExportFrom(_, _, _) => false,
-        Head::ExportAll(_, _, _) => false,
-        Head::ImportType(_, _) => false,
-        Head::ImportEquals => false,
-        Head::ImportRequire(_, _, _) => false,
-        Head::Module(_) => false,
-        Head::NamedModule(_, _) => false,
-    }
-}
-
 // Is the callee at the cursor the Name `require`?
 fn is_require(sheet: &[u8], source: &[u8], c: Cursor, levels: usize) -> bool
     ensures { λ r. ⌜ ((n : Node) (t : List ℕ) → node (now (source .entry)) levels (drop (c .at) (now (sheet .entry))) ≡ ok n t → r ≡ isRequire (shape n)) ⌝ }
 {
-    match read_head(sheet, source, c, levels) {
-        HeadRead::Refused(_) => false,
-        HeadRead::Is(_, head, _) => names_require(sheet, head),
+    match check_node(sheet, source, c, levels) {
+        Checked::Is(j, _) => j.require,
+        Checked::Refused(_) => false,
     }
 }
 
-// `visit_import_decl`, `visit_named_export` and `visit_export_all`: the entry of an import or an export, and past its attributes, in which nothing is walked.
+// `visit_import_decl`, `visit_named_export`, `visit_export_all` and `visit_ts_import_equals_decl`: the entry of an import or an export,
+// and past its attributes, in which nothing is walked.
 fn walk_import(
     sheet: &[u8],
     source: &[u8],
@@ -105,23 +87,29 @@ fn walk_import(
     out: &mut [u8],
     p: Place,
 ) -> Walked
-    requires { ⌜ Held (now source) (now cs) (now gs) k (now index) × Quotes (now sheet) (now source) (d .specifier) × (c .at ≤ length (now sheet)) ⌝ }
+    requires { ⌜ Held (now source) (now cs) (k .comments) (now gs) (k .groups) (now index)
+        × Quotes (now sheet) (now source) (d .specifier)
+        × (c .at ≤ length (now sheet)) ⌝ }
     ensures { λ r. ⌜ walkedAs (now (sheet .entry)) (now (out .exit)) r
-        ≡ onOk (afterImport (now (source .entry)) (typesFrom (now (source .entry)) (now (cs .entry)) (now (gs .entry)) k) (now (sheet .entry)) d (worldAs (now (out .entry)) p))
+        ≡ onOk (afterImport (now (source .entry))
+        (typesFrom (now (source .entry)) (now (cs .entry)) (now (gs .entry)) k)
+        (now (sheet .entry)) d (bufferAs (now (out .entry)) p))
         (behind there (attributesObject (now (source .entry)) levels) (drop (c .at) (now (sheet .entry)))) ⌝ }
-    ensures { λ r. ⌜ Inside (length (now (sheet .entry))) r ⌝ }
+    ensures { λ r. ⌜ PastWalked (length (now (sheet .entry))) r ⌝ }
 {
     match check_attributes(sheet, source, c, there, levels) {
         Tallied::Refused(r) => Walked::Refused(r),
         Tallied::Is(_, next) => {
-            let p = put_import_entry(sheet, source, c, there, levels, d, cs, gs, k, index, out, p);
+            let mut pairs: [usize; 320] = [0; 320];
+            let a = parse_import_attributes(sheet, source, c, there, levels, &mut pairs);
+            let p = put_static_entry(sheet, source, d, &pairs, a, cs, gs, k, index, out, p);
             Walked::Is(p, next)
         }
     }
 }
 
 // The node at a cursor, with so many levels left, its own among them.
-pub fn walk_node(
+fn walk_node(
     sheet: &[u8],
     source: &[u8],
     c: Cursor,
@@ -133,11 +121,11 @@ pub fn walk_node(
     out: &mut [u8],
     p: Place,
 ) -> Walked
-    requires { ⌜ Held (now source) (now cs) (now gs) k (now index) ⌝ }
+    requires { ⌜ Held (now source) (now cs) (k .comments) (now gs) (k .groups) (now index) ⌝ }
     ensures { λ r. ⌜ walkedAs (now (sheet .entry)) (now (out .exit)) r
-        ≡ onOk (afterNode (now (source .entry)) (typesFrom (now (source .entry)) (now (cs .entry)) (now (gs .entry)) k) (worldAs (now (out .entry)) p))
+        ≡ onOk (afterNode (now (source .entry)) (typesFrom (now (source .entry)) (now (cs .entry)) (now (gs .entry)) k) (bufferAs (now (out .entry)) p))
         (node (now (source .entry)) levels (drop (c .at) (now (sheet .entry)))) ⌝ }
-    ensures { λ r. ⌜ Inside (length (now (sheet .entry))) r ⌝ }
+    ensures { λ r. ⌜ PastWalked (length (now (sheet .entry))) r ⌝ }
 {
     match read_head(sheet, source, c, levels) {
         HeadRead::Refused(r) => Walked::Refused(r),
@@ -175,16 +163,16 @@ fn walk_rest(
     out: &mut [u8],
     p: Place,
 ) -> Walked
-    requires { ⌜ Held (now source) (now cs) (now gs) k (now index) × Begun (now sheet) (now source) (c .at) head ⌝ }
+    requires { ⌜ Held (now source) (now cs) (k .comments) (now gs) (k .groups) (now index) × PastHead (now sheet) (now source) (c .at) head ⌝ }
     ensures { λ r. ⌜ walkedAs (now (sheet .entry)) (now (out .exit)) r
-        ≡ onOk (afterNode (now (source .entry)) (typesFrom (now (source .entry)) (now (cs .entry)) (now (gs .entry)) k) (worldAs (now (out .entry)) p))
+        ≡ onOk (afterNode (now (source .entry)) (typesFrom (now (source .entry)) (now (cs .entry)) (now (gs .entry)) k) (bufferAs (now (out .entry)) p))
         (rest (now (source .entry)) levels (span, headOf (now (sheet .entry)) head) (drop (c .at) (now (sheet .entry)))) ⌝ }
-    ensures { λ r. ⌜ Inside (length (now (sheet .entry))) r ⌝ }
+    ensures { λ r. ⌜ PastWalked (length (now (sheet .entry))) r ⌝ }
 {
     match head {
         Head::Other(n) => { walk_nodes(sheet, source, c, n, levels, cs, gs, k, index, out, p) }
-        Head::String(_, _) => Walked::Is(p, c),
-        Head::Name(_, _) => Walked::Is(p, c),
+        Head::String(_, _) | Head::Name(_, _) | Head::NamedExport(_) | Head::ImportEquals =>
+            Walked::Is(p, c),
         Head::Template(n) => match read_pieces(sheet, c, n + 1) {
             Flag::Refused(r) => Walked::Refused(r),
             Flag::Is(_, c) => { walk_nodes(sheet, source, c, n, levels, cs, gs, k, index, out, p) }
@@ -194,61 +182,25 @@ fn walk_rest(
             walk_properties(sheet, source, c, n, levels, cs, gs, k, index, out, p)
         }
         Head::ImportCall(phase) => {
-            let d = CallHead {
-                kind: dynamic_kind(phase),
-                range: span,
-                listed: true,
-            };
-            walk_call(sheet, source, c, levels, d, cs, gs, k, index, out, p)
+            let d = call_head(dynamic_kind(phase), span, true);
+            visit_call_expr(sheet, source, c, levels, d, cs, gs, k, index, out, p)
         }
         Head::Call => { walk_callee(sheet, source, c, levels, span, cs, gs, k, index, out, p) }
-        Head::Import(type_only, phase, side, x, there) => {
-            let d = StaticDependencyDescriptor {
-                kind: import_kind(type_only, phase),
-                range: span,
-                specifier: x,
-                side,
-            };
+        Head::Import(type_only, phase, side_effect, x, there) => {
+            let d = static_dependency(import_kind(type_only, phase), span, x, side_effect);
             walk_import(sheet, source, c, there, levels, d, cs, gs, k, index, out, p)
         }
-        Head::NamedExport(_) => Walked::Is(p, c),
-        Head::ExportFrom(type_only, x, there) => {
-            let d = StaticDependencyDescriptor {
-                kind: export_kind(type_only),
-                range: span,
-                specifier: x,
-                side: false,
-            };
-            walk_import(sheet, source, c, there, levels, d, cs, gs, k, index, out, p)
-        }
-        Head::ExportAll(type_only, x, there) => {
-            let d = StaticDependencyDescriptor {
-                kind: export_kind(type_only),
-                range: span,
-                specifier: x,
-                side: false,
-            };
+        Head::ExportFrom(type_only, x, there) | Head::ExportAll(type_only, x, there) => {
+            let d = static_dependency(export_kind(type_only), span, x, false);
             walk_import(sheet, source, c, there, levels, d, cs, gs, k, index, out, p)
         }
         Head::ImportType(x, n) => {
-            let d = StaticDependencyDescriptor {
-                kind: 3,
-                range: span,
-                specifier: x,
-                side: false,
-            };
-            walk_typed(sheet, source, c, n, levels, d, cs, gs, k, index, out, p)
+            let d = static_dependency(3, span, x, false);
+            visit_ts_import_type(sheet, source, c, n, levels, d, cs, gs, k, index, out, p)
         }
-        Head::ImportEquals => Walked::Is(p, c),
         Head::ImportRequire(type_only, export, x) => {
-            let d = StaticDependencyDescriptor {
-                kind: equals_kind(type_only, export),
-                range: span,
-                specifier: x,
-                side: false,
-            };
-            let p = put_plain_entry(sheet, source, d, cs, gs, k, index, out, p);
-            Walked::Is(p, c)
+            let d = static_dependency(equals_kind(type_only, export), span, x, false);
+            walk_import(sheet, source, c, false, levels, d, cs, gs, k, index, out, p)
         }
         Head::Module(n) => { walk_nodes(sheet, source, c, n, levels, cs, gs, k, index, out, p) }
         Head::NamedModule(x, n) => {
@@ -272,11 +224,11 @@ fn walk_nodes(
     out: &mut [u8],
     p: Place,
 ) -> Walked
-    requires { ⌜ Held (now source) (now cs) (now gs) k (now index) × (c .at ≤ length (now sheet)) ⌝ }
+    requires { ⌜ Held (now source) (now cs) (k .comments) (now gs) (k .groups) (now index) × (c .at ≤ length (now sheet)) ⌝ }
     ensures { λ r. ⌜ walkedAs (now (sheet .entry)) (now (out .exit)) r
-        ≡ onOk (afterNodes (now (source .entry)) (typesFrom (now (source .entry)) (now (cs .entry)) (now (gs .entry)) k) (worldAs (now (out .entry)) p))
+        ≡ onOk (afterNodes (now (source .entry)) (typesFrom (now (source .entry)) (now (cs .entry)) (now (gs .entry)) k) (bufferAs (now (out .entry)) p))
         (nodes (node (now (source .entry)) levels) count (drop (c .at) (now (sheet .entry)))) ⌝ }
-    ensures { λ r. ⌜ Inside (length (now (sheet .entry))) r ⌝ }
+    ensures { λ r. ⌜ PastWalked (length (now (sheet .entry))) r ⌝ }
 {
     let mut left = count;
     let mut at = c;
@@ -309,11 +261,11 @@ fn walk_argument(
     out: &mut [u8],
     p: Place,
 ) -> Walked
-    requires { ⌜ Held (now source) (now cs) (now gs) k (now index) ⌝ }
+    requires { ⌜ Held (now source) (now cs) (k .comments) (now gs) (k .groups) (now index) ⌝ }
     ensures { λ r. ⌜ walkedAs (now (sheet .entry)) (now (out .exit)) r
-        ≡ onOk (afterArgument (now (source .entry)) (typesFrom (now (source .entry)) (now (cs .entry)) (now (gs .entry)) k) (worldAs (now (out .entry)) p))
+        ≡ onOk (afterArgument (now (source .entry)) (typesFrom (now (source .entry)) (now (cs .entry)) (now (gs .entry)) k) (bufferAs (now (out .entry)) p))
         (argumentItem (node (now (source .entry)) levels) (now (source .entry)) (drop (c .at) (now (sheet .entry)))) ⌝ }
-    ensures { λ r. ⌜ Inside (length (now (sheet .entry))) r ⌝ }
+    ensures { λ r. ⌜ PastWalked (length (now (sheet .entry))) r ⌝ }
 {
     match read_argument(sheet, source, c) {
         ArgumentRead::Refused(r) => Walked::Refused(r),
@@ -337,11 +289,11 @@ fn walk_arguments(
     out: &mut [u8],
     p: Place,
 ) -> Walked
-    requires { ⌜ Held (now source) (now cs) (now gs) k (now index) × (c .at ≤ length (now sheet)) ⌝ }
+    requires { ⌜ Held (now source) (now cs) (k .comments) (now gs) (k .groups) (now index) × (c .at ≤ length (now sheet)) ⌝ }
     ensures { λ r. ⌜ walkedAs (now (sheet .entry)) (now (out .exit)) r
-        ≡ onOk (afterArguments (now (source .entry)) (typesFrom (now (source .entry)) (now (cs .entry)) (now (gs .entry)) k) (worldAs (now (out .entry)) p))
+        ≡ onOk (afterArguments (now (source .entry)) (typesFrom (now (source .entry)) (now (cs .entry)) (now (gs .entry)) k) (bufferAs (now (out .entry)) p))
         (arguments (node (now (source .entry)) levels) (now (source .entry)) count (drop (c .at) (now (sheet .entry)))) ⌝ }
-    ensures { λ r. ⌜ Inside (length (now (sheet .entry))) r ⌝ }
+    ensures { λ r. ⌜ PastWalked (length (now (sheet .entry))) r ⌝ }
 {
     let mut left = count;
     let mut at = c;
@@ -375,27 +327,23 @@ fn walk_callee(
     out: &mut [u8],
     p: Place,
 ) -> Walked
-    requires { ⌜ Held (now source) (now cs) (now gs) k (now index) × (c .at ≤ length (now sheet)) ⌝ }
+    requires { ⌜ Held (now source) (now cs) (k .comments) (now gs) (k .groups) (now index) × (c .at ≤ length (now sheet)) ⌝ }
     ensures { λ r. ⌜ walkedAs (now (sheet .entry)) (now (out .exit)) r
-        ≡ onOk (afterNode (now (source .entry)) (typesFrom (now (source .entry)) (now (cs .entry)) (now (gs .entry)) k) (worldAs (now (out .entry)) p))
+        ≡ onOk (afterNode (now (source .entry)) (typesFrom (now (source .entry)) (now (cs .entry)) (now (gs .entry)) k) (bufferAs (now (out .entry)) p))
         (rest (now (source .entry)) levels (span, callHead) (drop (c .at) (now (sheet .entry)))) ⌝ }
-    ensures { λ r. ⌜ Inside (length (now (sheet .entry))) r ⌝ }
+    ensures { λ r. ⌜ PastWalked (length (now (sheet .entry))) r ⌝ }
 {
-    let d = CallHead {
-        kind: 12,
-        range: span,
-        listed: is_require(sheet, source, c, levels),
-    };
+    let d = call_head(12, span, is_require(sheet, source, c, levels));
     match walk_node(sheet, source, c, levels, cs, gs, k, index, out, p) {
         Walked::Refused(r) => Walked::Refused(r),
         Walked::Is(p, next) => {
-            walk_call(sheet, source, next, levels, d, cs, gs, k, index, out, p)
+            visit_call_expr(sheet, source, next, levels, d, cs, gs, k, index, out, p)
         }
     }
 }
 
-// `visit_call_expr`, behind the callee: arguments and further children; then the call's entry, if it is an import or a require.
-fn walk_call(
+// Behind the callee of a call: arguments and further children; then the call's entry, if it is an import or a require.
+fn visit_call_expr(
     sheet: &[u8],
     source: &[u8],
     c: Cursor,
@@ -408,11 +356,11 @@ fn walk_call(
     out: &mut [u8],
     p: Place,
 ) -> Walked
-    requires { ⌜ Held (now source) (now cs) (now gs) k (now index) ⌝ }
+    requires { ⌜ Held (now source) (now cs) (k .comments) (now gs) (k .groups) (now index) ⌝ }
     ensures { λ r. ⌜ walkedAs (now (sheet .entry)) (now (out .exit)) r
-        ≡ onOk (afterCall (now (source .entry)) (typesFrom (now (source .entry)) (now (cs .entry)) (now (gs .entry)) k) d (worldAs (now (out .entry)) p))
+        ≡ onOk (afterCall (now (source .entry)) (typesFrom (now (source .entry)) (now (cs .entry)) (now (gs .entry)) k) d (bufferAs (now (out .entry)) p))
         (callParts (now (source .entry)) (node (now (source .entry)) levels) (drop (c .at) (now (sheet .entry)))) ⌝ }
-    ensures { λ r. ⌜ Inside (length (now (sheet .entry))) r ⌝ }
+    ensures { λ r. ⌜ PastWalked (length (now (sheet .entry))) r ⌝ }
 {
     match c.number(sheet) {
         Read::Refused(r) => Walked::Refused(r),
@@ -464,11 +412,11 @@ fn walk_property(
     out: &mut [u8],
     p: Place,
 ) -> Walked
-    requires { ⌜ Held (now source) (now cs) (now gs) k (now index) ⌝ }
+    requires { ⌜ Held (now source) (now cs) (k .comments) (now gs) (k .groups) (now index) ⌝ }
     ensures { λ r. ⌜ walkedAs (now (sheet .entry)) (now (out .exit)) r
-        ≡ onOk (afterProperty (now (source .entry)) (typesFrom (now (source .entry)) (now (cs .entry)) (now (gs .entry)) k) (worldAs (now (out .entry)) p))
+        ≡ onOk (afterProperty (now (source .entry)) (typesFrom (now (source .entry)) (now (cs .entry)) (now (gs .entry)) k) (bufferAs (now (out .entry)) p))
         (propertyItem (node (now (source .entry)) levels) (drop (c .at) (now (sheet .entry)))) ⌝ }
-    ensures { λ r. ⌜ Inside (length (now (sheet .entry))) r ⌝ }
+    ensures { λ r. ⌜ PastWalked (length (now (sheet .entry))) r ⌝ }
 {
     match read_property(sheet, c) {
         PropertyRead::Refused(r) => Walked::Refused(r),
@@ -493,11 +441,11 @@ fn walk_properties(
     out: &mut [u8],
     p: Place,
 ) -> Walked
-    requires { ⌜ Held (now source) (now cs) (now gs) k (now index) × (c .at ≤ length (now sheet)) ⌝ }
+    requires { ⌜ Held (now source) (now cs) (k .comments) (now gs) (k .groups) (now index) × (c .at ≤ length (now sheet)) ⌝ }
     ensures { λ r. ⌜ walkedAs (now (sheet .entry)) (now (out .exit)) r
-        ≡ onOk (afterProperties (now (source .entry)) (typesFrom (now (source .entry)) (now (cs .entry)) (now (gs .entry)) k) (worldAs (now (out .entry)) p))
+        ≡ onOk (afterProperties (now (source .entry)) (typesFrom (now (source .entry)) (now (cs .entry)) (now (gs .entry)) k) (bufferAs (now (out .entry)) p))
         (properties (node (now (source .entry)) levels) count (drop (c .at) (now (sheet .entry)))) ⌝ }
-    ensures { λ r. ⌜ Inside (length (now (sheet .entry))) r ⌝ }
+    ensures { λ r. ⌜ PastWalked (length (now (sheet .entry))) r ⌝ }
 {
     let mut left = count;
     let mut at = c;
@@ -531,11 +479,11 @@ fn walk_attributes(
     out: &mut [u8],
     p: Place,
 ) -> Walked
-    requires { ⌜ Held (now source) (now cs) (now gs) k (now index) × (c .at ≤ length (now sheet)) ⌝ }
+    requires { ⌜ Held (now source) (now cs) (k .comments) (now gs) (k .groups) (now index) × (c .at ≤ length (now sheet)) ⌝ }
     ensures { λ r. ⌜ walkedAs (now (sheet .entry)) (now (out .exit)) r
-        ≡ onOk (afterWith (now (source .entry)) (typesFrom (now (source .entry)) (now (cs .entry)) (now (gs .entry)) k) (worldAs (now (out .entry)) p))
+        ≡ onOk (afterWith (now (source .entry)) (typesFrom (now (source .entry)) (now (cs .entry)) (now (gs .entry)) k) (bufferAs (now (out .entry)) p))
         (behind there (attributesObject (now (source .entry)) levels) (drop (c .at) (now (sheet .entry)))) ⌝ }
-    ensures { λ r. ⌜ Inside (length (now (sheet .entry))) r ⌝ }
+    ensures { λ r. ⌜ PastWalked (length (now (sheet .entry))) r ⌝ }
 {
     if there {
         return match read_attributes(sheet, source, c, levels) {
@@ -548,8 +496,8 @@ fn walk_attributes(
     Walked::Is(p, c)
 }
 
-// `visit_ts_import_type`: the entry, with the attributes behind its children; then its children, and what the attributes hold.
-fn walk_typed(
+// The entry of an import type, with the attributes behind its children; then its children, and what the attributes hold.
+fn visit_ts_import_type(
     sheet: &[u8],
     source: &[u8],
     c: Cursor,
@@ -563,11 +511,15 @@ fn walk_typed(
     out: &mut [u8],
     p: Place,
 ) -> Walked
-    requires { ⌜ Held (now source) (now cs) (now gs) k (now index) × Quotes (now sheet) (now source) (d .specifier) × (c .at ≤ length (now sheet)) ⌝ }
+    requires { ⌜ Held (now source) (now cs) (k .comments) (now gs) (k .groups) (now index)
+        × Quotes (now sheet) (now source) (d .specifier)
+        × (c .at ≤ length (now sheet)) ⌝ }
     ensures { λ r. ⌜ walkedAs (now (sheet .entry)) (now (out .exit)) r
-        ≡ onOk (afterTyped (now (source .entry)) (typesFrom (now (source .entry)) (now (cs .entry)) (now (gs .entry)) k) (now (sheet .entry)) d (worldAs (now (out .entry)) p))
+        ≡ onOk (afterTyped (now (source .entry))
+        (typesFrom (now (source .entry)) (now (cs .entry)) (now (gs .entry)) k)
+        (now (sheet .entry)) d (bufferAs (now (out .entry)) p))
         (typedParts (node (now (source .entry)) levels) (attributesObject (now (source .entry)) levels) count (drop (c .at) (now (sheet .entry)))) ⌝ }
-    ensures { λ r. ⌜ Inside (length (now (sheet .entry))) r ⌝ }
+    ensures { λ r. ⌜ PastWalked (length (now (sheet .entry))) r ⌝ }
 {
     match check_nodes(sheet, source, c, count, levels) {
         Tallied::Refused(r) => Walked::Refused(r),
@@ -612,12 +564,12 @@ pub fn analyze_program_dependencies(
     out: &mut [u8],
     p: Place,
 ) -> Place
-    requires { ⌜ Held (now source) (now cs) (now gs) k (now index) ⌝ }
+    requires { ⌜ Held (now source) (now cs) (k .comments) (now gs) (k .groups) (now index) ⌝ }
     ensures { λ r. ⌜ ((n : Node) (t : List ℕ)
         → node (now (source .entry)) 64 (drop (root .at) (now (sheet .entry))) ≡ ok n t
         → count ≡ entries n
-        → worldAs (now (out .exit)) r
-        ≡ wrote (worldAs (now (out .entry)) p)
+        → bufferAs (now (out .exit)) r
+        ≡ wrote (bufferAs (now (out .entry)) p)
         (encodeList encodeDependency (collect (now (source .entry)) (typesFrom (now (source .entry)) (now (cs .entry)) (now (gs .entry)) k) n))) ⌝ }
 {
     let p = p.put_number(out, count);

@@ -6,19 +6,35 @@ use Prim.Native.Nat.{ℕ, zero, suc, _-_}
 use native.Mathlib.Omega.{arith}
 use lib.Dec.{eqb, ltb}
 use Rattle.laws.specs.Decoded.{Decoded, ok, no, andThen, Decoder, _>>=_, _>>_, return, refuse, require}
-use Rattle.laws.proofs.Decoding.{then-then}
+use Rattle.laws.proofs.Decoding.{refused, then-then}
+use Rattle.laws.proofs.Splits.{Splits, ends, first, one, either, done, next, at-index}
+use Rattle.text.specs.declared.utf8.Encoding.the-variants.{Utf8, Wtf8}
 use Rattle.wire.specs.Fields.{byte, below, flag}
 use Rattle.wire.specs.Number.{number}
-use Rattle.sheet.specs.declared.fields.Span.{Span}
-use Rattle.text.specs.declared.utf8.Encoding.the-variants.{Utf8, Wtf8}
 use Rattle.wire.specs.Text.{count, text}
-use Rattle.sheet.specs.Tree.{Quoted, Node, importDecl, exportFrom, exportAll, Attributes}
+use Rattle.wire.specs.Optional.{optional}
+use Rattle.sheet.specs.declared.fields.Span.{Span}
+use Rattle.sheet.specs.Tree.{Quoted, Node, importDecl, exportFrom, exportAll, Arguments, argument, Properties, spread, otherProperty, childKey, stringKey, nameKey, Attributes, withObject}
 use Rattle.sheet.specs.Fields.{span}
-use Rattle.sheet.specs.Nodes.{tag, quoted, optionalQuoted, attributes, otherFields, stringFields, nameFields, templateFields, binaryFields, objectFields, callFields, importFields, namedExportFields, exportAllFields, importTypeFields, importEqualsFields, moduleFields, fields, argumentItem, keyedItem, propertyItem, node, attributesObject}
+use Rattle.sheet.specs.Nodes.{tag, quoted, properties, attributes, otherFields, stringFields, nameFields, templateFields, binaryFields, objectFields, callFields, importFields, namedExportFields, exportAllFields, importTypeFields, importEqualsFields, moduleFields, fields, argumentItem, keyedItem, propertyItem, node, attributesObject}
 use Rattle.heads.specs.Head.{Head, otherHead, stringHead, nameHead, templateHead, binaryHead, objectHead, importHead, exportFromHead, exportAllHead, callStart, origin, importStart, namedExportStart, exportAllStart, importTypeStart, importRequireStart, importEqualsStart, moduleStart, start, head}
-use Rattle.heads.specs.Parts.{stringKeyHead, nameKeyHead, keyHead, propertyHead, argumentHead, attributesHead}
-use Rattle.heads.specs.Rest.{behind, restOf, rest, attributesRest, argumentRest, propertyRest}
-use Rattle.heads.proofs.Splits.{Splits, ends, first, one, either, done, next, at-index}
+use Rattle.heads.specs.Parts.{PropertyHead, spreadHead, otherPropertyHead, childKeyHead, stringKeyHead, nameKeyHead, keyHead, propertyHead, argumentHead, attributesHead}
+use Rattle.heads.specs.Rest.{behind, restOf, rest}
+
+-- what follows the head of an Object that holds attributes, where so many levels are left below it, of an argument and of a property
+abbrev pub attributesRest : List ℕ → ℕ → Span × ℕ → Decoder Attributes
+attributesRest source levels p = properties (node source levels) (p .1) >>= λ ps. return (withObject (p .0) ps)
+
+module _ (inner : Decoder Node) where
+  abbrev pub argumentRest : Bool × Span → Decoder (Arguments → Arguments)
+  argumentRest p = inner >>= λ n. return (argument (p .0) (p .1) n)
+
+  abbrev pub propertyRest : PropertyHead → Decoder (Properties → Properties)
+  propertyRest spreadHead = inner >>= λ n. return (spread n)
+  propertyRest otherPropertyHead = inner >>= λ n. return (otherProperty n)
+  propertyRest childKeyHead = inner >>= λ k. inner >>= λ v. return (childKey k v)
+  propertyRest (stringKeyHead x) = inner >>= λ v. return (stringKey x v)
+  propertyRest (nameKeyHead x) = inner >>= λ v. return (nameKey x v)
 
 abbrev with-flag : Quoted → Bool → Decoder (Quoted × Bool)
 with-flag x there = return (x, there)
@@ -76,7 +92,7 @@ module _ (source : List ℕ) (levels : ℕ) (inner : Decoder Node) (object′ : 
 
   by-module : From (moduleFields source levels inner object′ sp) (moduleStart source levels)
   unfolding moduleFields moduleStart
-  by-module = first (optionalQuoted source levels) λ x. first number λ n. ends λ s. refl
+  by-module = first (optional (quoted source levels)) λ x. first number λ n. ends λ s. refl
 
   by-tag : (t : ℕ) → From (fields source levels inner object′ sp t) (start source levels t)
   unfolding fields start otherFields stringFields nameFields templateFields binaryFields objectFields
@@ -118,6 +134,14 @@ node-by-head source (suc d) s = let down : suc d - 1 ≡ d = omega arith in rw d
         (tag (λ t. ltb t 13) (suc d) >>= λ t. span source >>= λ sp. start source d t >>= λ h. return (sp, h))
     by-parts = first (tag (λ t. ltb t 13) (suc d)) λ t. first (span source) λ sp.
         record { at = λ s. by-tag source d (node source d) (attributesObject source d) sp t .at s ∙ sym (then-then (start source d t s) (λ h. return (sp, h)) (rest source d)) }
+
+-- a node's head, and what is read behind it; without a head there is no node
+module _ (source : List ℕ) (levels : ℕ) (u : List ℕ) {v : Node} {t : List ℕ} (e : node source levels u ≡ ok v t) where
+  pub behind-head : {p : Span × Head} {w : List ℕ} → head source levels u ≡ ok p w → rest source (levels - 1) p w ≡ ok v t
+  behind-head f = rw f at (sym (node-by-head source levels u) ∙ e)
+
+  pub no-head : {r : ℕ} → head source levels u ≡ no r → ⊥
+  no-head f = refused (rw f at (sym (node-by-head source levels u) ∙ e))
 
 pub attributes-by-head : (source : List ℕ) (levels : ℕ) (s : List ℕ)
     → attributesObject source levels s ≡ andThen (attributesHead source levels s) (attributesRest source (levels - 1))

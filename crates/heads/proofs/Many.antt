@@ -1,9 +1,10 @@
--- Items read one after the other, with what was found in them so far: what a loop over them keeps.
-use mathlib.Core.Path.{_≡_, refl, ap}
+-- Items read one after the other: what a loop over them keeps, with what was found so far, and what was read if all of them were.
+use mathlib.Core.Path.{_≡_, refl, sym, ap, _∙_}
 use mathlib.Core.List.{List}
 use Prim.Native.Nat.{ℕ, zero, suc, _-_, _≤_, _<_}
 use native.Mathlib.Omega.{arith}
 use Rattle.laws.specs.Decoded.{Decoded, ok, no, onOk, Decoder}
+use Rattle.laws.proofs.Decoding.{refused, then-ok, onOk-ok}
 use Rattle.sheet.specs.Nodes.{many}
 
 -- `after w l` is what is found in all, where w was found before the items of l
@@ -30,3 +31,29 @@ module _ {L W R : Type 0} (after : W → L → R) (end : L) (item : Decoder (L �
   unfolding many
   found-end w zero s h = refl
   found-end w (suc k) s h = absurd (omega arith)
+
+-- so many items, if they were read: the first and the others, or none
+module _ {L : Type 0} (end : L) (item : Decoder (L → L)) {l : L} {u : List ℕ} where
+  pub many-first : (k : ℕ) (s : List ℕ) → 0 < k → many end item k s ≡ ok l u
+      → (add : L → L) × (t : List ℕ) × (item s ≡ ok add t) × (m : L) × (many end item (k - 1) t ≡ ok m u) × (add m ≡ l)
+  unfolding many
+  many-first zero s h f = absurd (omega arith)
+  many-first (suc k) s h f =
+      let down : suc k - 1 ≡ k = omega arith in
+      let (add, t, first, behind) = then-ok (item s) _ f in
+      let (m, others, is) = onOk-ok add (many end item k t) behind in
+      (add, t, first, m, rw down others, is)
+
+  pub many-next : (k : ℕ) (s : List ℕ) {add : L → L} {t : List ℕ} → 0 < k → item s ≡ ok add t → many end item k s ≡ ok l u
+      → (m : L) × (many end item (k - 1) t ≡ ok m u) × (add m ≡ l)
+  unfolding many
+  many-next zero s h e f = absurd (omega arith)
+  many-next (suc k) s {add} {t} h e f = let down : suc k - 1 ≡ k = omega arith in rw down (onOk-ok add (many end item k t) (rw e at f))
+
+  pub many-refused : (k : ℕ) (s : List ℕ) {r : ℕ} → 0 < k → item s ≡ no r → many end item k s ≡ ok l u → ⊥
+  many-refused k s h e f = refused (sym e ∙ many-first k s h f .2)
+
+  pub many-end : (k : ℕ) (s : List ℕ) → k ≤ 0 → many end item k s ≡ ok l u → l ≡ end
+  unfolding many
+  many-end zero s h e = cc
+  many-end (suc k) s h e = absurd (omega arith)

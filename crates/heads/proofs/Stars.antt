@@ -7,7 +7,7 @@ use native.Mathlib.Numerals.{add-one}
 use lib.Dec.{eqb}
 use lib.ListN.{length, getD, drop, drop-of-length-le}
 use lib.Seq.{drop-cons}
-use Rattle.sheet.specs.Walked.{hasStar}
+use Rattle.sheet.specs.Shape.{hasStar}
 
 module _ (x : List ℕ) (i : ℕ) where
   pub star-or-later : i < length x → hasStar (drop i x) ≡ (eqb (getD x i 0) 0x2A || hasStar (drop (i + 1) x))

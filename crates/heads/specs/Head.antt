@@ -10,10 +10,11 @@ use Rattle.text.specs.declared.utf8.Encoding.the-variants.{Utf8, Wtf8}
 use Rattle.wire.specs.Fields.{below, flag}
 use Rattle.wire.specs.Number.{number}
 use Rattle.wire.specs.Text.{count, text}
+use Rattle.wire.specs.Optional.{optional}
 use Rattle.sheet.specs.declared.fields.Span.{Span}
 use Rattle.sheet.specs.Tree.{Quoted, Phase}
 use Rattle.sheet.specs.Fields.{span}
-use Rattle.sheet.specs.Nodes.{tag, quoted, optionalQuoted}
+use Rattle.sheet.specs.Nodes.{tag, quoted}
 
 -- what the fields say; of 7, 8 and 9 with the flag of the attributes
 pub data Head : Type 0 where
@@ -97,7 +98,7 @@ module _ (source : List ℕ) (levels : ℕ) where
 
   unfoldable pub moduleStart : Decoder Head
   moduleStart = do
-    x ← optionalQuoted source levels
+    x ← optional (quoted source levels)
     n ← number
     return (moduleHead x n)
 

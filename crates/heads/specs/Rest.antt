@@ -1,13 +1,12 @@
--- What follows a head: with it the whole node, property or argument.
+-- What follows the head of a node: with it the whole node.
 use mathlib.Core.Bool.{Bool, cond}
 use mathlib.Core.List.{List, []}
 use Prim.Native.Nat.{ℕ, _+_}
 use Rattle.laws.specs.Decoded.{Decoder, _>>=_, return}
 use Rattle.sheet.specs.declared.fields.Span.{Span}
-use Rattle.sheet.specs.Tree.{Node, other, string, name, template, binary, object, importCall, call, importDecl, namedExport, exportFrom, exportAll, importType, importEquals, importRequire, moduleDecl, Arguments, argument, Properties, spread, otherProperty, childKey, stringKey, nameKey, Attributes, without, withObject}
+use Rattle.sheet.specs.Tree.{Node, other, string, name, template, binary, object, importCall, call, importDecl, namedExport, exportFrom, exportAll, importType, importEquals, importRequire, moduleDecl, Attributes, without}
 use Rattle.sheet.specs.Nodes.{many, piece, nodes, properties, attributes, callRest, node, attributesObject}
 use Rattle.heads.specs.Head.{Head, otherHead, stringHead, nameHead, templateHead, binaryHead, objectHead, importCallHead, callHead, importHead, namedExportHead, exportFromHead, exportAllHead, importTypeHead, importEqualsHead, importRequireHead, moduleHead}
-use Rattle.heads.specs.Parts.{PropertyHead, spreadHead, otherPropertyHead, childKeyHead, stringKeyHead, nameKeyHead}
 
 -- an Object where the flag is 1
 abbrev pub behind : Bool → Decoder Attributes → Decoder Attributes
@@ -36,18 +35,3 @@ module _ (source : List ℕ) (levels : ℕ) (inner : Decoder Node) (object′ : 
 -- the rest of a node, where so many levels are left below it
 abbrev pub rest : List ℕ → ℕ → Span × Head → Decoder Node
 rest source levels p = restOf source levels (node source levels) (attributesObject source levels) (p .0) (p .1)
-
--- the rest of an Object that holds attributes, where so many levels are left below it
-abbrev pub attributesRest : List ℕ → ℕ → Span × ℕ → Decoder Attributes
-attributesRest source levels p = properties (node source levels) (p .1) >>= λ ps. return (withObject (p .0) ps)
-
-module _ (inner : Decoder Node) where
-  abbrev pub argumentRest : Bool × Span → Decoder (Arguments → Arguments)
-  argumentRest p = inner >>= λ n. return (argument (p .0) (p .1) n)
-
-  abbrev pub propertyRest : PropertyHead → Decoder (Properties → Properties)
-  propertyRest spreadHead = inner >>= λ n. return (spread n)
-  propertyRest otherPropertyHead = inner >>= λ n. return (otherProperty n)
-  propertyRest childKeyHead = inner >>= λ k. inner >>= λ v. return (childKey k v)
-  propertyRest (stringKeyHead x) = inner >>= λ v. return (stringKey x v)
-  propertyRest (nameKeyHead x) = inner >>= λ v. return (nameKey x v)

@@ -5,8 +5,8 @@ use mathlib.Core.Option.{Option}
 use Prim.Native.Nat.{ℕ, _≤_, _<_}
 use lib.ListN.{drop}
 use Rattle.laws.specs.Decoded.{Decoded, ok, no}
+use Rattle.text.specs.Bytes.{part}
 use Rattle.wire.specs.Number.{largest}
-use Rattle.wire.specs.Views.{part}
 use Rattle.wire.specs.declared.Read.{Read}
 use Rattle.wire.specs.declared.Read.the-variants as read
 use Rattle.wire.specs.declared.Flag.{Flag}

@@ -18,25 +18,7 @@ ghost use Rattle.text.specs.declared.utf8.Encoding.the-variants.{Utf8, Wtf8};
 ghost use Rattle.wire.specs.Fields.{flag};
 ghost use Rattle.wire.specs.Number.{number};
 ghost use Rattle.wire.specs.Text.{count, text};
-ghost use Rattle.heads.specs.Head.{
-  otherHead,
-  stringHead,
-  nameHead,
-  templateHead,
-  binaryHead,
-  objectHead,
-  callStart,
-  origin,
-  importStart,
-  namedExportStart,
-  exportAllStart,
-  importTypeStart,
-  importRequireStart,
-  importEqualsStart,
-  moduleStart,
-  start,
-  head,
-};
+ghost use Rattle.heads.specs.Head.{otherHead, stringHead, nameHead, templateHead, binaryHead, objectHead, callStart, origin, importStart, namedExportStart, exportAllStart, importTypeStart, importRequireStart, importEqualsStart, moduleStart, start, head};
 ghost use Rattle.heads.specs.Views.{originAs, fieldsAs, headAs, PastOrigin, PastFields, PastHead};
 
 // What stands before a node's first child. A text is from a place of the sheet to another.

@@ -5,9 +5,8 @@ use text::bytes::starts_with;
 ghost use mathlib.Core.Path.{_≡_};
 ghost use lib.ListN.{length};
 ghost use Rattle.laws.specs.Quoted.{ascii};
-ghost use Rattle.text.specs.Bytes.{same};
-ghost use Rattle.wire.specs.Views.{part};
-ghost use Rattle.sheet.specs.Walked.{hasStar, isAugmentation};
+ghost use Rattle.text.specs.Bytes.{same, part};
+ghost use Rattle.sheet.specs.Shape.{isAugmentation, hasStar};
 ghost use Rattle.heads.specs.Views.{QuotedPart};
 
 // The Name `require`.

@@ -16,22 +16,20 @@ use Rattle.text.specs.Ranges.{inRanges}
 use Rattle.text.specs.Alphabetic.{alphabetic}
 use Rattle.text.specs.Class.{outside, ranges, member}
 use Rattle.analysis.specs.Mode.{modeOf}
+use Rattle.analysis.proofs.Modes.{named-small}
 use Rattle.jsdoc.specs.Grammar.{Bytes, OneOf, done, W*, Word, Quote, Name, Attribute, Pair, pair, Attributes, none, last, next, modeIn, Block}
-use Rattle.jsdoc.specs.Parsed.{Parsed, ok, backtrace, onOk}
-use Rattle.jsdoc.specs.Reader.{skip, skipWhitespace, tag, word, parseQuote, parseKey, attributeMode, parseAttribute, firstMode, comma, attributesBy, attributesFrom, parseImportAttributeBlock}
-use Rattle.jsdoc.proofs.Chains.{never, no-reading, link}
+use Rattle.jsdoc.specs.Parsed.{Parsed, ok, backtrace, onParsed}
+use Rattle.jsdoc.specs.Reader.{skip, skipWhitespace, tag, word, parseQuote, parseKey, attributeMode, parseAttribute, firstMode, comma, separatedListBy, separatedList, parseImportAttributeBlockForResolutionMode}
+use Rattle.jsdoc.proofs.Chains.{never, no-reading, then-ok}
 use Rattle.jsdoc.proofs.Characters.{run-sound, run-complete, run-ended, run-shorter, white-complete}
 use Rattle.jsdoc.proofs.Texts.{tag-sound, tag-complete, tag-other, word-sound, word-complete, word-shorter, quote-sound, quote-complete, quote-shorter, key-sound, key-complete, name-not, name-shorter}
 
 pub attribute-sound : (s t : Bytes) (n : ℕ) → parseAttribute s ≡ ok n t → (k : Bytes) × (v : Bytes) × Attribute k v s t × (n ≡ attributeMode k v)
 unfolding parseAttribute skipWhitespace
 attribute-sound s t n e =
-    let (k, a, ea) = link (parseKey s) (λ h. never (rw h at e)) in
-    let e1 = rw ea at e in
-    let (z, b, eb) = link (word (ascii ":") (skip White a)) (λ h. never (rw h at e1)) in
-    let e2 = rw eb at e1 in
-    let (v, c, ec) = link (parseQuote b) (λ h. never (rw h at e2)) in
-    let e3 = rw ec at e2 in
+    let (k, a, ea, e1) = then-ok (parseKey s) _ e in
+    let (z, b, eb, e2) = then-ok (word (ascii ":") (skip White a)) _ e1 in
+    let (v, c, ec, e3) = then-ok (parseQuote b) _ e2 in
     let et : parseQuote b ≡ ok v t = cc in (
       k,
       v,
@@ -97,9 +95,9 @@ fold m (pair k v ∷ l) = fold (firstMode m (attributeMode k v)) l
 abbrev ListOf : ℕ → ℕ → Bytes → Bytes → Type 0
 ListOf m r s t = (l : List Pair) × Attributes l s t × (r ≡ fold m l)
 
-module _ (n m : ℕ) (s t : Bytes) (r : ℕ) (ih : (m : ℕ) (y : Bytes) → attributesBy n m y ≡ ok r t → ListOf m r y t) where
+module _ (n m : ℕ) (s t : Bytes) (r : ℕ) (ih : (m : ℕ) (y : Bytes) → separatedListBy n m y ≡ ok r t → ListOf m r y t) where
   one-more : (a : ℕ) (u : Bytes) → parseAttribute s ≡ ok a u → (o : Parsed (Unit {0})) → comma u ≡ o
-      → onOk o (λ z. attributesBy n (firstMode m a)) (ok (firstMode m a) u) ≡ ok r t → ListOf m r s t
+      → onParsed o (λ z. separatedListBy n (firstMode m a)) (ok (firstMode m a) u) ≡ ok r t → ListOf m r s t
   one-more a u h (ok z y) c e =
       let (l, rest, i) = ih (firstMode m a) y e in
       let (k, v, first, j) = attribute-sound s u a h in
@@ -111,18 +109,18 @@ module _ (n m : ℕ) (s t : Bytes) (r : ℕ) (ih : (m : ℕ) (y : Bytes) → att
       (pair k v ∷ [], last first, (cc))
 
   attributes-step : (o : Parsed ℕ) → parseAttribute s ≡ o
-      → onOk o (λ a t. onOk (comma t) (λ z. attributesBy n (firstMode m a)) (ok (firstMode m a) t)) (ok m s) ≡ ok r t → ListOf m r s t
+      → onParsed o (λ a t. onParsed (comma t) (λ z. separatedListBy n (firstMode m a)) (ok (firstMode m a) t)) (ok m s) ≡ ok r t → ListOf m r s t
   attributes-step (ok a u) h e = one-more a u h (comma u) refl e
   attributes-step backtrace h e = let g : s ≡ t = cc in ([], rw g none, (cc))
 
-attributes-sound : (n m : ℕ) (s t : Bytes) (r : ℕ) → attributesBy n m s ≡ ok r t → ListOf m r s t
-unfolding attributesBy
+attributes-sound : (n m : ℕ) (s t : Bytes) (r : ℕ) → separatedListBy n m s ≡ ok r t → ListOf m r s t
+unfolding separatedListBy
 attributes-sound zero m s t r e = let h : s ≡ t = cc in ([], rw h none, (cc))
 attributes-sound (suc n) m s t r e = attributes-step n m s t r (λ m y. attributes-sound n m y t r) (parseAttribute s) refl e
 
 attributes-complete : {l : List Pair} {s r2 : Bytes} → Attributes l s r2 → {r3 t : Bytes} → W* r2 r3 → r3 ≡ ascii "}" ++ t → ((u : Bytes) → OneOf White s u → ⊥)
-    → (n m : ℕ) → length s ≤ n → attributesBy n m s ≡ ok (fold m l) r2
-unfolding attributesBy
+    → (n m : ℕ) → length s ≤ n → separatedListBy n m s ≡ ok (fold m l) r2
+unfolding separatedListBy
 attributes-complete none w e f zero m h = refl
 attributes-complete (none {t = s}) w e f (suc n) m h =
     let i = sym (run-complete White (done f)) ∙ run-complete White w ∙ e in
@@ -139,19 +137,20 @@ attribute-end : (s : Bytes) → length s ≤ 0 → parseAttribute s ≡ backtrac
 attribute-end s h = no-reading (parseAttribute s) (λ n t e. let (k, v, r, i) = attribute-sound s t n e in omega (arith, attribute-shorter r))
 
 -- more fuel than bytes changes nothing
-attributes-bound : (n j m : ℕ) (s : Bytes) → length s ≤ n → length s ≤ j → attributesBy n m s ≡ attributesBy j m s
-unfolding attributesBy
+attributes-bound : (n j m : ℕ) (s : Bytes) → length s ≤ n → length s ≤ j → separatedListBy n m s ≡ separatedListBy j m s
+unfolding separatedListBy
 attributes-bound zero zero m s h k = refl
 attributes-bound zero (suc j) m s h k = rw (attribute-end s h)
 attributes-bound (suc n) zero m s h k = rw (attribute-end s k)
 attributes-bound (suc n) (suc j) m s h k = go (parseAttribute s) refl (attributes-bound n j)
   where
     Step : Parsed ℕ → ℕ → Parsed ℕ
-    Step o n = onOk o (λ a t. onOk (comma t) (λ z. attributesBy n (firstMode m a)) (ok (firstMode m a) t)) (ok m s)
+    Step o n = onParsed o (λ a t. onParsed (comma t) (λ z. separatedListBy n (firstMode m a)) (ok (firstMode m a) t)) (ok m s)
 
     past : (a : ℕ) (t : Bytes) → parseAttribute s ≡ ok a t → (o : Parsed (Unit {0})) → comma t ≡ o
-        → ((m : ℕ) (y : Bytes) → length y ≤ n → length y ≤ j → attributesBy n m y ≡ attributesBy j m y)
-        → onOk o (λ z. attributesBy n (firstMode m a)) (ok (firstMode m a) t) ≡ onOk o (λ z. attributesBy j (firstMode m a)) (ok (firstMode m a) t)
+        → ((m : ℕ) (y : Bytes) → length y ≤ n → length y ≤ j → separatedListBy n m y ≡ separatedListBy j m y)
+        → onParsed o (λ z. separatedListBy n (firstMode m a)) (ok (firstMode m a) t)
+        ≡ onParsed o (λ z. separatedListBy j (firstMode m a)) (ok (firstMode m a) t)
     past a t e (ok z y) c ih =
         let (x, v, r, i) = attribute-sound s t a e in
         let l = comma-shorter t y c in
@@ -160,20 +159,20 @@ attributes-bound (suc n) (suc j) m s h k = go (parseAttribute s) refl (attribute
     past a t e backtrace c ih = refl
 
     go : (o : Parsed ℕ) → parseAttribute s ≡ o
-        → ((m : ℕ) (y : Bytes) → length y ≤ n → length y ≤ j → attributesBy n m y ≡ attributesBy j m y) → Step o n ≡ Step o j
+        → ((m : ℕ) (y : Bytes) → length y ≤ n → length y ≤ j → separatedListBy n m y ≡ separatedListBy j m y) → Step o n ≡ Step o j
     go (ok a t) e ih = past a t e (comma t) refl ih
     go backtrace e ih = refl
 
 -- from one attribute to the next
 module _ (m : ℕ) where
-  pub attributes-none : (s : Bytes) → parseAttribute s ≡ backtrace → attributesFrom m s ≡ ok m s
-  unfolding attributesFrom attributesBy
+  pub attributes-none : (s : Bytes) → parseAttribute s ≡ backtrace → separatedList m s ≡ ok m s
+  unfolding separatedList separatedListBy
   attributes-none [] e = refl
   attributes-none (x ∷ s) e = rw e
 
   module _ {a : ℕ} {t : Bytes} where
-    pub attributes-last : (s : Bytes) → parseAttribute s ≡ ok a t → comma t ≡ backtrace → attributesFrom m s ≡ ok (firstMode m a) t
-    unfolding attributesFrom attributesBy
+    pub attributes-last : (s : Bytes) → parseAttribute s ≡ ok a t → comma t ≡ backtrace → separatedList m s ≡ ok (firstMode m a) t
+    unfolding separatedList separatedListBy
     attributes-last [] e c = absurd (never (sym (attribute-end [] (omega arith)) ∙ e))
     attributes-last (x ∷ s) e c = rw (e, c)
 
@@ -181,8 +180,8 @@ module _ (m : ℕ) where
       pub attributes-shorter : (s : Bytes) → parseAttribute s ≡ ok a t → comma t ≡ ok tt u → length u < length s
       attributes-shorter s e c = let (k, v, r, i) = attribute-sound s t a e in omega (arith, attribute-shorter r, comma-shorter t u c)
 
-      pub attributes-next : (s : Bytes) → parseAttribute s ≡ ok a t → comma t ≡ ok tt u → attributesFrom m s ≡ attributesFrom (firstMode m a) u
-      unfolding attributesFrom attributesBy
+      pub attributes-next : (s : Bytes) → parseAttribute s ≡ ok a t → comma t ≡ ok tt u → separatedList m s ≡ separatedList (firstMode m a) u
+      unfolding separatedList separatedListBy
       attributes-next [] e c = absurd (never (sym (attribute-end [] (omega arith)) ∙ e))
       attributes-next (x ∷ s) e c =
           rw (e, c) (attributes-bound (length s) (length u) (firstMode m a) u (omega (arith, attributes-shorter (x ∷ s) e c)) (omega arith))
@@ -196,15 +195,6 @@ first-other m n h = rw (ne-eqb m 3 h)
 fold-stays : (l : List Pair) (m : ℕ) → (m ≡ 3 → ⊥) → fold m l ≡ m
 fold-stays [] m h = refl
 fold-stays (pair k v ∷ l) m h = rw (first-other m (attributeMode k v) h) (fold-stays l m h)
-
-named-small : (v : Bytes) → modeOf v ≤ 2
-unfolding modeOf
-named-small v = go (same v (ascii "import")) (same v (ascii "require"))
-  where
-    go : (a b : Bool) → cond a 1 (cond b 2 0) ≤ 2
-    go true b = omega arith
-    go false true = omega arith
-    go false false = omega arith
 
 pub mode-small : (l : List Pair) → modeIn l ≤ 2
 unfolding modeIn
@@ -232,15 +222,12 @@ fold-mode (pair k v ∷ l) = go (same k (ascii "resolution-mode")) (fold-mode l)
 
 -- ---- a block
 
-pub block-sound : (m : ℕ) (s t : Bytes) → parseImportAttributeBlock s ≡ ok m t → Block m s t
-unfolding parseImportAttributeBlock skipWhitespace attributesFrom
+pub block-sound : (m : ℕ) (s t : Bytes) → parseImportAttributeBlockForResolutionMode s ≡ ok m t → Block m s t
+unfolding parseImportAttributeBlockForResolutionMode skipWhitespace separatedList
 block-sound m s t e =
-    let (z, a, ea) = link (word (ascii "{") s) (λ h. never (rw h at e)) in
-    let e1 = rw ea at e in
-    let (n, b, eb) = link (attributesBy (length a) 3 a) (λ h. never (rw h at e1)) in
-    let e2 = rw eb at e1 in
-    let (y, c, ec) = link (tag (ascii "}") (skip White b)) (λ h. never (rw h at e2)) in
-    let e3 = rw ec at e2 in
+    let (z, a, ea, e1) = then-ok (word (ascii "{") s) _ e in
+    let (n, b, eb, e2) = then-ok (separatedListBy (length a) 3 a) _ e1 in
+    let (y, c, ec, e3) = then-ok (tag (ascii "}") (skip White b)) _ e2 in
     let et : tag (ascii "}") (skip White b) ≡ ok y t = cc in
     let (l, r, i) = attributes-sound (length a) 3 a b n eb in
     record {
@@ -255,8 +242,8 @@ block-sound m s t e =
       mode-is = cc (fold-mode l);
     }
 
-pub block-complete : {m : ℕ} {s t : Bytes} → Block m s t → parseImportAttributeBlock s ≡ ok m t
-unfolding parseImportAttributeBlock attributesFrom
+pub block-complete : {m : ℕ} {s t : Bytes} → Block m s t → parseImportAttributeBlockForResolutionMode s ≡ ok m t
+unfolding parseImportAttributeBlockForResolutionMode separatedList
 block-complete r =
     rw (
       word-complete (ascii "{") (r .brace),

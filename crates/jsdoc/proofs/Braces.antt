@@ -14,9 +14,9 @@ use Rattle.text.specs.declared.class.Class.the-variants.{White}
 use Rattle.text.specs.Bytes.{begins}
 use Rattle.text.proofs.Words.{begins-sound, begins-complete}
 use Rattle.jsdoc.specs.Grammar.{Bytes, Word, Without, Quote, ToImport, Part, Tail, Brace}
-use Rattle.jsdoc.specs.Parsed.{Parsed, ok, backtrace, onOk}
-use Rattle.jsdoc.specs.Reader.{skip, skipWhitespace, tag, word, upTo, parseImportAttributeBlock, secondParamStart, parseSecondParam, closeCall, parseTail, hit, seek, parseCall, parseJsdocDynamicImport}
-use Rattle.jsdoc.proofs.Chains.{never, link}
+use Rattle.jsdoc.specs.Parsed.{Parsed, ok, backtrace, onParsed}
+use Rattle.jsdoc.specs.Reader.{skip, skipWhitespace, tag, word, upTo, parseImportAttributeBlockForResolutionMode, secondParamStart, parseSecondParamObjWithLeadingComma, closeCall, parseTail, hit, seek, parseCall, parseJsdocDynamicImport}
+use Rattle.jsdoc.proofs.Chains.{then-ok}
 use Rattle.jsdoc.proofs.Characters.{run-sound, white-complete}
 use Rattle.jsdoc.proofs.Texts.{tag-sound, tag-complete, tag-other, word-sound, word-complete, upTo-sound, upTo-complete, quote-complete, specifier-sound}
 use Rattle.jsdoc.proofs.Blocks.{block-sound, block-complete, block-small}
@@ -30,23 +30,18 @@ Start s t = (a : Bytes) × (b : Bytes) × (c : Bytes) × Word (ascii ",") s a ×
 start-sound : (s t : Bytes) {z : Unit {0}} → secondParamStart s ≡ ok z t → Start s t
 unfolding secondParamStart
 start-sound s t e =
-    let (z1, a, ea) = link (word (ascii ",") s) (λ h. never (rw h at e)) in
-    let e1 = rw ea at e in
-    let (z2, b, eb) = link (word (ascii "{") a) (λ h. never (rw h at e1)) in
-    let e2 = rw eb at e1 in
-    let (z3, c, ec) = link (word (ascii "with") b) (λ h. never (rw h at e2)) in
-    (a, b, c, word-sound (ascii ",") s a ea, word-sound (ascii "{") a b eb, word-sound (ascii "with") b c ec, word-sound (ascii ":") c t (rw ec at e2))
+    let (z1, a, ea, e1) = then-ok (word (ascii ",") s) _ e in
+    let (z2, b, eb, e2) = then-ok (word (ascii "{") a) _ e1 in
+    let (z3, c, ec, e3) = then-ok (word (ascii "with") b) _ e2 in
+    (a, b, c, word-sound (ascii ",") s a ea, word-sound (ascii "{") a b eb, word-sound (ascii "with") b c ec, word-sound (ascii ":") c t e3)
 
-pub part-sound : (m : ℕ) (s t : Bytes) → parseSecondParam s ≡ ok m t → Part m s t
-unfolding parseSecondParam skipWhitespace
+pub part-sound : (m : ℕ) (s t : Bytes) → parseSecondParamObjWithLeadingComma s ≡ ok m t → Part m s t
+unfolding parseSecondParamObjWithLeadingComma skipWhitespace
 part-sound m s t e =
-    let (z1, d, ed) = link (secondParamStart s) (λ h. never (rw h at e)) in
-    let e1 = rw ed at e in
-    let (n, x, ex) = link (parseImportAttributeBlock d) (λ h. never (rw h at e1)) in
-    let e2 = rw ex at e1 in
-    let (z2, y, ey) = link (word (ascii "}") (skip White x)) (λ h. never (rw h at e2)) in
-    let e3 = rw ey at e2 in
-    let em : parseImportAttributeBlock d ≡ ok m x = cc in
+    let (z1, d, ed, e1) = then-ok (secondParamStart s) _ e in
+    let (n, x, ex, e2) = then-ok (parseImportAttributeBlockForResolutionMode d) _ e1 in
+    let (z2, y, ey, e3) = then-ok (word (ascii "}") (skip White x)) _ e2 in
+    let em : parseImportAttributeBlockForResolutionMode d ≡ ok m x = cc in
     let et : word (ascii "}") (skip White x) ≡ ok z2 t = cc in
     let (a, b, c, comma, brace, with-word, colon) = start-sound s d ed in
     record {
@@ -65,8 +60,8 @@ part-sound m s t e =
       end = word-sound (ascii "}") (skip White x) t et;
     }
 
-pub part-complete : {m : ℕ} {s t : Bytes} → Part m s t → parseSecondParam s ≡ ok m t
-unfolding parseSecondParam secondParamStart
+pub part-complete : {m : ℕ} {s t : Bytes} → Part m s t → parseSecondParamObjWithLeadingComma s ≡ ok m t
+unfolding parseSecondParamObjWithLeadingComma secondParamStart
 part-complete r =
     rw (
       word-complete (ascii ",") (r .comma),
@@ -81,20 +76,18 @@ part-complete r =
 -- ---- what follows the quote
 
 -- where no comma begins s there is no second parameter
-part-none : {s t : Bytes} → s ≡ ascii ")" ++ t → parseSecondParam s ≡ backtrace
-unfolding parseSecondParam secondParamStart word
+part-none : {s t : Bytes} → s ≡ ascii ")" ++ t → parseSecondParamObjWithLeadingComma s ≡ backtrace
+unfolding parseSecondParamObjWithLeadingComma secondParamStart word
 part-none e = rw (tag-other (code ",") [] (code ")") e (λ h. omega arith))
 
 pub tail-sound : (m : ℕ) (s t : Bytes) → parseTail s ≡ ok m t → Tail m s t
 unfolding parseTail closeCall skipWhitespace
-tail-sound m s t = go (parseSecondParam (skip White s)) refl
+tail-sound m s t = go (parseSecondParamObjWithLeadingComma (skip White s)) refl
   where
     end : (n : ℕ) (u : Bytes) → Part n (skip White s) u ⊎ ((n ≡ 0) × (skip White s ≡ u)) → closeCall n u ≡ ok m t → Tail m s t
     end n u p e =
-        let (z1, a, ea) = link (tag (ascii ")") u) (λ h. never (rw h at e)) in
-        let e1 = rw ea at e in
-        let (z2, b, eb) = link (upTo (code "}") a) (λ h. never (rw h at e1)) in
-        let e2 = rw eb at e1 in
+        let (z1, a, ea, e1) = then-ok (tag (ascii ")") u) _ e in
+        let (z2, b, eb, e2) = then-ok (upTo (code "}") a) _ e1 in
         let n-is : n ≡ m = cc in
         let et : upTo (code "}") a ≡ ok z2 t = cc in
         let (w, r) = upTo-sound (code "}") a t et in
@@ -109,7 +102,8 @@ tail-sound m s t = go (parseSecondParam (skip White s)) refl
           rest = r;
         }
 
-    go : (o : Parsed ℕ) → parseSecondParam (skip White s) ≡ o → onOk (onOk o ok (ok 0 (skip White s))) closeCall backtrace ≡ ok m t → Tail m s t
+    go : (o : Parsed ℕ) → parseSecondParamObjWithLeadingComma (skip White s) ≡ o
+        → onParsed (onParsed o ok (ok 0 (skip White s))) closeCall backtrace ≡ ok m t → Tail m s t
     go (ok n u) h e = end n u (inl (part-sound n (skip White s) u h)) e
     go backtrace h e = end 0 (skip White s) (inr (refl, refl)) e
 
@@ -118,7 +112,7 @@ unfolding parseTail closeCall
 tail-complete {m} r =
     rw (white-complete (r .white), taken (r .part), tag-complete (ascii ")") (r .paren), upTo-complete (code "}") (r .run) (r .rest))
   where
-    taken : Part m (r .r1) (r .r2) ⊎ ((m ≡ 0) × (r .r1 ≡ r .r2)) → onOk (parseSecondParam (r .r1)) ok (ok 0 (r .r1)) ≡ ok m (r .r2)
+    taken : Part m (r .r1) (r .r2) ⊎ ((m ≡ 0) × (r .r1 ≡ r .r2)) → onParsed (parseSecondParamObjWithLeadingComma (r .r1)) ok (ok 0 (r .r1)) ≡ ok m (r .r2)
     taken (inl p) = rw (part-complete p)
     taken (inr (z, e)) = rw (part-none (e ∙ r .paren)) (cc)
 
@@ -175,10 +169,8 @@ call-sound : (s q e : Bytes) (m : ℕ) (t : Bytes) → parseCall s ≡ ok (hit q
     → (a : Bytes) × (k : Bytes) × Word (ascii "import") s a × Word (ascii "(") a q × Quote k q e × Tail m e t
 unfolding parseCall
 call-sound s q e m t h =
-    let (z1, a, ea) = link (word (ascii "import") s) (λ g. never (rw g at h)) in
-    let h1 = rw ea at h in
-    let (z2, b, eb) = link (word (ascii "(") a) (λ g. never (rw g at h1)) in
-    let h2 = rw eb at h1 in
+    let (z1, a, ea, h1) = then-ok (word (ascii "import") s) _ h in
+    let (z2, b, eb, h2) = then-ok (word (ascii "(") a) _ h1 in
     let (i, (k, r), j) = specifier-sound parseTail b q e t m h2 in
     let eq : word (ascii "(") a ≡ ok z2 q = cc in
     (a, k, word-sound (ascii "import") s a ea, word-sound (ascii "(") a q eq, r, tail-sound m e t j)
@@ -186,8 +178,8 @@ call-sound s q e m t h =
 pub brace-sound : (s q e : Bytes) (m : ℕ) (t : Bytes) → parseJsdocDynamicImport s ≡ ok (hit q e m) t → Brace s q e m
 unfolding parseJsdocDynamicImport
 brace-sound s q e m t h =
-    let (z, a, ea) = link (tag (ascii "{") s) (λ g. never (rw g at h)) in
-    let (b, k, w, p, r, l) = call-sound (seek a) q e m t (rw ea at h) in
+    let (z, a, ea, h1) = then-ok (tag (ascii "{") s) _ h in
+    let (b, k, w, p, r, l) = call-sound (seek a) q e m t h1 in
     record {
       r1 = a;
       r2 = seek a;

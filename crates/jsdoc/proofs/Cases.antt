@@ -1,9 +1,10 @@
--- Worked bodies: the imports that are listed for each, by the place and the mode.
+-- Worked bodies beside 01's, which stand in module_info: just these imports are listed for each, by the place and the mode.
 use mathlib.Core.Path.{_≡_, refl}
 use mathlib.Core.List.{List, [], _∷_, map, flatMap}
 use Prim.Native.Nat.{ℕ, _+_}
 use Prim.Native.String.{String}
 use lib.ListN.{length, set, replicate}
+use Rattle.laws.specs.Codec.{All}
 use Rattle.laws.specs.Quoted.{ascii}
 use Rattle.text.specs.Ranges.{inRanges}
 use Rattle.text.specs.Utf8.{admits, lengthBy, charLength, codeBy, charAt}
@@ -15,7 +16,7 @@ use Rattle.analysis.specs.Mode.{modeOf}
 use Rattle.jsdoc.specs.Grammar.{Bytes, Listed}
 use Rattle.jsdoc.specs.Marks.{Marks}
 use Rattle.jsdoc.specs.Listing.{listing}
-use Rattle.jsdoc.specs.Reader.{skip, skipWhitespace, whitespace, tag, word, upTo, isMark, parseQuote, pastIdent, parseIdent, parseKey, attributeMode, parseAttribute, firstMode, comma, attributesBy, attributesFrom, parseImportAttributeBlock, secondParamStart, parseSecondParam, closeCall, parseTail, seek, parseCall, parseJsdocDynamicImport, skipNamedImports, skipDefaultImport, skipNamespaceImport, skipClause, parseWith, parseFrom, parseJsdocImportDecl}
+use Rattle.jsdoc.specs.Reader.{skip, skipWhitespace, whitespace, tag, word, upTo, isMark, parseQuote, pastIdent, parseIdent, parseKey, attributeMode, parseAttribute, firstMode, comma, separatedListBy, separatedList, parseImportAttributeBlockForResolutionMode, secondParamStart, parseSecondParamObjWithLeadingComma, closeCall, parseTail, seek, parseCall, parseJsdocDynamicImport, skipNamedImports, skipDefaultImport, skipNamespaceImport, skipClause, parseAttributes, parseFrom, parseJsdocImportDecl}
 use Rattle.jsdoc.proofs.Listing.{listing-marks}
 
 -- an import by the place of its quote and its mode
@@ -38,17 +39,8 @@ marks (row s l) = marksAt (length (flatMap encode (ascii s))) l
 
 table : List Case
 table =
-    -- the cases of document 01
-    row "* {import(\"\")}" (entry 10 0 ∷ [])
-    ∷ row "* {important import(\"a\")}" []
-    ∷ row "* {{import('a')}}" (entry 11 0 ∷ [])
-    ∷ row "* {import(\"a\", {with: {\"resolution-mode\": \"import\"}})}" (entry 10 1 ∷ [])
-    ∷ row "* {import(\"a\", {with: {resolution-mode: \"import\"}})}" []
-    ∷ row "* @import A, {B} from \"a\"" []
-    ∷ row "* @import {A}from\"a\"" (entry 17 0 ∷ [])
-    ∷ row "* @import A from \"a\" with {" (entry 17 0 ∷ [])
     -- one reading inside another, each with its own mode
-    ∷ row "{import(\"{import('a')}\")}" (entry 8 0 ∷ entry 17 0 ∷ [])
+    row "{import(\"{import('a')}\")}" (entry 8 0 ∷ entry 17 0 ∷ [])
     ∷ row "{import(\"{import('a',{with:{'resolution-mode':'import'}})}\")}" (entry 8 0 ∷ entry 17 1 ∷ [])
     ∷ row "@import {@import A from 'b' }from\"a\"" (entry 24 0 ∷ entry 33 0 ∷ [])
     -- the first `import` of a brace, which fails; a later brace; no `}`
@@ -76,22 +68,18 @@ table =
     ∷ []
 
 computed : map (λ c. listing (body c)) table ≡ map marks table
-unfolding table listing flatMap alphabetic inRanges admits lengthBy charLength codeBy charAt encode outside ranges member classAt run begins same modeOf skip skipWhitespace whitespace tag word upTo isMark parseQuote pastIdent parseIdent parseKey attributeMode parseAttribute firstMode comma attributesBy attributesFrom parseImportAttributeBlock secondParamStart parseSecondParam closeCall parseTail seek parseCall parseJsdocDynamicImport skipNamedImports skipDefaultImport skipNamespaceImport skipClause parseWith parseFrom parseJsdocImportDecl
+unfolding table listing flatMap alphabetic inRanges admits lengthBy charLength codeBy charAt encode outside ranges member classAt run begins same modeOf skip skipWhitespace whitespace tag word upTo isMark parseQuote pastIdent parseIdent parseKey attributeMode parseAttribute firstMode comma separatedListBy separatedList parseImportAttributeBlockForResolutionMode secondParamStart parseSecondParamObjWithLeadingComma closeCall parseTail seek parseCall parseJsdocDynamicImport skipNamedImports skipDefaultImport skipNamespaceImport skipClause parseAttributes parseFrom parseJsdocImportDecl
 computed = refl
 
--- just these imports are listed for each body
-abbrev Each : (Case → Type 0) → List Case → Type 0
-Each P [] = Unit {0}
-Each P (c ∷ l) = P c × Each P l
-
+-- just these imports are listed for the body
 abbrev Worked : Case → Type 0
 Worked c = Marks (Listed (body c)) (length (body c)) (marks c)
 
-each : (l : List Case) → map (λ c. listing (body c)) l ≡ map marks l → Each Worked l
+each : (l : List Case) → map (λ c. listing (body c)) l ≡ map marks l → All Worked l
 each [] e = tt
 each (c ∷ l) e =
     let h : listing (body c) ≡ marks c = cc in
     (rw h at (listing-marks (body c)), each l (cc))
 
-worked : Each Worked table
+worked : All Worked table
 worked = each table computed

@@ -4,7 +4,7 @@ use mathlib.Core.Bool.{Bool, true, false, cond}
 use Prim.Native.Nat.{ℕ}
 use native.Mathlib.Omega.{arith}
 use Rattle.jsdoc.specs.Grammar.{Bytes}
-use Rattle.jsdoc.specs.Parsed.{Parsed, ok, backtrace}
+use Rattle.jsdoc.specs.Parsed.{Parsed, ok, backtrace, onParsed}
 
 pub never : {A : Type 0} {a : A} {t : Bytes} → _≡_ {A = Parsed A} backtrace (ok a t) → ⊥
 never e = let z : _≡_ {A = ℕ} 0 1 = cc in omega arith
@@ -14,10 +14,11 @@ pub no-reading : {A : Type 0} (o : Parsed A) → ((a : A) (t : Bytes) → o ≡ 
 no-reading (ok a t) h = absurd (h a t refl)
 no-reading backtrace h = refl
 
--- a link of a chain that reads is no backtrace, so it reads
-pub link : {A : Type 0} (o : Parsed A) → (o ≡ backtrace → ⊥) → (a : A) × (u : Bytes) × (o ≡ ok a u)
-link (ok a u) h = (a, u, refl)
-link backtrace h = absurd (h refl)
+-- a link of a chain that reads reads, and the links behind it go on from that
+pub then-ok : {A B : Type 0} (x : Parsed A) (f : A → Bytes → Parsed B) {b : B} {t : Bytes} → onParsed x f backtrace ≡ ok b t
+    → (a : A) × (u : Bytes) × (x ≡ ok a u) × (f a u ≡ ok b t)
+then-ok (ok a u) f e = (a, u, refl, e)
+then-ok backtrace f e = absurd (never e)
 
 pub if-ok : {A : Type 0} (b : Bool) (o : Parsed A) {a : A} {t : Bytes} → cond b o backtrace ≡ ok a t → (b ≡ true) × (o ≡ ok a t)
 if-ok true o e = (refl, e)

@@ -18,7 +18,7 @@ use Rattle.text.specs.Class.{member, classAt, runLength}
 use Rattle.text.proofs.CodePoint.{by-length, nonempty}
 use Rattle.text.proofs.Reader.{reader-sound, reader-complete}
 use Rattle.text.proofs.Runs.{class-fits, run-stops, run-goes-on}
-use Rattle.jsdoc.specs.Grammar.{Bytes, OneOf, Run, done, more, W*, W+, Without}
+use Rattle.jsdoc.specs.Grammar.{Bytes, OneOf, LongestRun, done, more, W*, W+, Without}
 use Rattle.jsdoc.specs.Parsed.{ok}
 use Rattle.jsdoc.specs.Reader.{skip, skipWhitespace, whitespace}
 use Rattle.jsdoc.proofs.Chains.{never}
@@ -75,23 +75,23 @@ module _ (c : Class) where
   unfolding skip
   skip-goes-on s z = rw (run-goes-on c s refl z) (sym (drop-drop (runLength c (drop (classAt c s) s)) (classAt c s) s))
 
-  stopped : (s : Bytes) → classAt c s ≡ 0 → Run c s (skip c s)
+  stopped : (s : Bytes) → classAt c s ≡ 0 → LongestRun c s (skip c s)
   stopped s z = rw (skip-stops s z) (done (λ u r. one-complete r .0 z))
 
-  run-by : (n : ℕ) (s : Bytes) → length s ≤ n → Run c s (skip c s)
+  run-by : (n : ℕ) (s : Bytes) → length s ≤ n → LongestRun c s (skip c s)
   run-by zero s h = stopped s (omega (arith, class-fits c s))
   run-by (suc n) s h = go (run-by n) (ℕ-discrete (classAt c s) 0)
     where
-      go : ((t : Bytes) → length t ≤ n → Run c t (skip c t)) → Dec (classAt c s ≡ 0) → Run c s (skip c s)
+      go : ((t : Bytes) → length t ≤ n → LongestRun c t (skip c t)) → Dec (classAt c s ≡ 0) → LongestRun c s (skip c s)
       go ih (yes z) = stopped s z
       go ih (no z) =
           let r = one-sound s z in
           rw (skip-goes-on s z) (more r (ih (drop (classAt c s) s) (omega (arith, one-shorter r))))
 
-  pub run-sound : (s : Bytes) → Run c s (skip c s)
+  pub run-sound : (s : Bytes) → LongestRun c s (skip c s)
   run-sound s = run-by (length s) s (omega arith)
 
-  pub run-complete : {s t : Bytes} → Run c s t → skip c s ≡ t
+  pub run-complete : {s t : Bytes} → LongestRun c s t → skip c s ≡ t
   run-complete (done {t} h) = go (ℕ-discrete (classAt c t) 0)
     where
       go : Dec (classAt c t ≡ 0) → skip c t ≡ t
@@ -102,21 +102,21 @@ module _ (c : Class) where
       skip-goes-on s z ∙ ap (skip c) e ∙ run-complete rest
 
   -- behind a run stands no other character of the class
-  pub run-ended : {s t : Bytes} → Run c s t → (u : Bytes) → OneOf c t u → ⊥
+  pub run-ended : {s t : Bytes} → LongestRun c s t → (u : Bytes) → OneOf c t u → ⊥
   run-ended (done h) = h
   run-ended (more r rest) = run-ended rest
 
-  abbrev pub run-ends : {s t : Bytes} → Run c s t → Ends s t
+  abbrev pub run-ends : {s t : Bytes} → LongestRun c s t → Ends s t
   run-ends (done h) = ([], refl)
   run-ends (more r rest) = ends-trans (encode (r .point), r .all) (run-ends rest)
 
   -- the bytes of a run have none of ASCII that is not of the class
-  pub run-free : (x : ℕ) → x < 0x80 → member c x ≡ false → {s t : Bytes} (r : Run c s t) → Without x (run-ends r .0)
+  pub run-free : (x : ℕ) → x < 0x80 → member c x ≡ false → {s t : Bytes} (r : LongestRun c s t) → Without x (run-ends r .0)
   run-free x h f (done k) = tt
   run-free x h f (more r rest) =
       without-append x (encode (r .point)) (run-ends rest .0) (free x h f (r .point) (r .belongs)) (run-free x h f rest)
 
-  pub run-shorter : {s t : Bytes} → Run c s t → length t ≤ length s
+  pub run-shorter : {s t : Bytes} → LongestRun c s t → length t ≤ length s
   run-shorter r = ends-shorter (run-ends r)
 
 pub white-sound : (s t : Bytes) {z : Unit {0}} → skipWhitespace s ≡ ok z t → W* s t

@@ -10,9 +10,9 @@ use Rattle.text.specs.Ranges.{inRanges}
 use Rattle.text.specs.Alphabetic.{alphabetic}
 use Rattle.text.specs.Class.{outside, ranges, member}
 use Rattle.jsdoc.specs.Grammar.{Bytes, W*, Word, Quote, Named, Starred, Braced, Clause, With, Declaration}
-use Rattle.jsdoc.specs.Parsed.{Parsed, ok, backtrace, onOk, or, return}
-use Rattle.jsdoc.specs.Reader.{skip, skipWhitespace, whitespace, tag, word, parseIdent, hit, skipNamedImports, skipDefaultImport, skipNamespaceImport, skipClause, parseWith, parseFrom, parseJsdocImportDecl}
-use Rattle.jsdoc.proofs.Chains.{never, no-reading, link}
+use Rattle.jsdoc.specs.Parsed.{Parsed, ok, backtrace, onParsed, or, return}
+use Rattle.jsdoc.specs.Reader.{skip, skipWhitespace, whitespace, tag, word, parseIdent, hit, skipNamedImports, skipDefaultImport, skipNamespaceImport, skipClause, parseAttributes, parseFrom, parseJsdocImportDecl}
+use Rattle.jsdoc.proofs.Chains.{never, no-reading, then-ok}
 use Rattle.jsdoc.proofs.Characters.{run-sound, white-complete, white1-sound, white1-complete}
 use Rattle.jsdoc.proofs.Texts.{tag-sound, tag-complete, word-sound, word-complete, upTo-sound, upTo-complete, quote-complete, specifier-sound, ident-sound, ident-complete, name-not}
 use Rattle.jsdoc.proofs.Blocks.{block-sound, block-complete, block-small}
@@ -22,8 +22,8 @@ use Rattle.jsdoc.proofs.Blocks.{block-sound, block-complete, block-smal
 named-sound : (s t : Bytes) {z : Unit {0}} → skipDefaultImport s ≡ ok z t → Named s t
 unfolding skipDefaultImport
 named-sound s t e =
-    let (k, u, h) = link (parseIdent s) (λ g. never (rw g at e)) in
-    (k, u, ident-sound k s u h, white1-sound u t (rw h at e))
+    let (k, u, h, e1) = then-ok (parseIdent s) _ e in
+    (k, u, ident-sound k s u h, white1-sound u t e1)
 
 named-complete : {s t : Bytes} → Named s t → skipDefaultImport s ≡ ok tt t
 unfolding skipDefaultImport
@@ -32,11 +32,9 @@ named-complete {t} (k, u, r, w) = rw (ident-complete r) (white1-complete u t w)
 starred-sound : (s t : Bytes) {z : Unit {0}} → skipNamespaceImport s ≡ ok z t → Starred s t
 unfolding skipNamespaceImport
 starred-sound s t e =
-    let (z1, a, ea) = link (word (ascii "*") s) (λ g. never (rw g at e)) in
-    let e1 = rw ea at e in
-    let (z2, b, eb) = link (tag (ascii "as") a) (λ g. never (rw g at e1)) in
-    let e2 = rw eb at e1 in
-    let (z3, c, ec) = link (whitespace b) (λ g. never (rw g at e2)) in
+    let (z1, a, ea, e1) = then-ok (word (ascii "*") s) _ e in
+    let (z2, b, eb, e2) = then-ok (tag (ascii "as") a) _ e1 in
+    let (z3, c, ec, e3) = then-ok (whitespace b) _ e2 in
     record {
       r1 = a;
       r2 = b;
@@ -44,7 +42,7 @@ starred-sound s t e =
       star = word-sound (ascii "*") s a ea;
       word = tag-sound (ascii "as") a b eb;
       white = white1-sound b c ec;
-      name = named-sound c t (rw ec at e2);
+      name = named-sound c t e3;
     }
 
 starred-complete : {s t : Bytes} → Starred s t → skipNamespaceImport s ≡ ok tt t
@@ -56,8 +54,8 @@ starred-complete r =
 braced-sound : (s t : Bytes) {z : Unit {0}} → skipNamedImports s ≡ ok z t → Braced s t
 unfolding skipNamedImports
 braced-sound s t e =
-    let (z, u, h) = link (tag (ascii "{") s) (λ g. never (rw g at e)) in
-    let (w, r) = upTo-sound (code "}") u t (rw h at e) in
+    let (z, u, h, e1) = then-ok (tag (ascii "{") s) _ e in
+    let (w, r) = upTo-sound (code "}") u t e1 in
     (u, w, tag-sound (ascii "{") s u h, r)
 
 braced-complete : {s t : Bytes} → Braced s t → skipNamedImports s ≡ ok tt t
@@ -68,7 +66,7 @@ pub clause-sound : (s t : Bytes) {z : Unit {0}} → skipClause s ≡ ok z t → 
 unfolding skipClause
 clause-sound s t {z} = go (skipNamedImports s) (skipNamespaceImport s) refl refl
   where
-    go : (a b : Parsed (Unit {0})) → skipNamedImports s ≡ a → skipNamespaceImport s ≡ b → onOk a ok (onOk b ok (skipDefaultImport s)) ≡ ok z t → Clause s t
+    go : (a b : Parsed (Unit {0})) → skipNamedImports s ≡ a → skipNamespaceImport s ≡ b → onParsed a ok (onParsed b ok (skipDefaultImport s)) ≡ ok z t → Clause s t
     go (ok x u) b h k e = inl (braced-sound s t (h ∙ e))
     go backtrace (ok x u) h k e = inr (inl (starred-sound s t (k ∙ e)))
     go backtrace backtrace h k e = inr (inr (named-sound s t e))
@@ -99,36 +97,36 @@ clause-complete {s} (inr (inr r)) =
 
 -- ---- the mode after the quote
 
-with-sound : (m : ℕ) (s t : Bytes) → parseWith s ≡ ok m t → With m s t
-unfolding parseWith skipWhitespace
+with-sound : (m : ℕ) (s t : Bytes) → parseAttributes s ≡ ok m t → With m s t
+unfolding parseAttributes skipWhitespace
 with-sound m s t e =
-    let (z, a, ea) = link (word (ascii "with") (skip White s)) (λ g. never (rw g at e)) in
+    let (z, a, ea, e1) = then-ok (word (ascii "with") (skip White s)) _ e in
     record {
       r1 = skip White s;
       r2 = a;
       white = run-sound White s;
       word = word-sound (ascii "with") (skip White s) a ea;
-      block = block-sound m a t (rw ea at e);
+      block = block-sound m a t e1;
     }
 
-with-complete : {m : ℕ} {s t : Bytes} → With m s t → parseWith s ≡ ok m t
-unfolding parseWith
+with-complete : {m : ℕ} {s t : Bytes} → With m s t → parseAttributes s ≡ ok m t
+unfolding parseAttributes
 with-complete r = rw (white-complete (r .white), word-complete (ascii "with") (r .word)) (block-complete (r .block))
 
 -- the mode m of the block behind s, if that reads, and else none
 abbrev pub After : ℕ → Bytes → Type 0
 After m s = ((t : Bytes) × With m s t) ⊎ (((n : ℕ) (t : Bytes) → With n s t → ⊥) × (m ≡ 0))
 
-after-sound : (m : ℕ) (s t : Bytes) → or parseWith (return 0) s ≡ ok m t → After m s
-after-sound m s t = go (parseWith s) refl
+after-sound : (m : ℕ) (s t : Bytes) → or parseAttributes (return 0) s ≡ ok m t → After m s
+after-sound m s t = go (parseAttributes s) refl
   where
-    go : (o : Parsed ℕ) → parseWith s ≡ o → onOk o ok (ok 0 s) ≡ ok m t → After m s
+    go : (o : Parsed ℕ) → parseAttributes s ≡ o → onParsed o ok (ok 0 s) ≡ ok m t → After m s
     go (ok n u) h e = inl (t, with-sound m s t (h ∙ e))
     go backtrace h e = inr (λ n u r. never (sym h ∙ with-complete r), (cc))
 
-pub after-complete : (m : ℕ) (s : Bytes) → After m s → (t : Bytes) × (or parseWith (return 0) s ≡ ok m t)
+pub after-complete : (m : ℕ) (s : Bytes) → After m s → (t : Bytes) × (or parseAttributes (return 0) s ≡ ok m t)
 after-complete m s (inl (t, r)) = (t, rw (with-complete r))
-after-complete m s (inr (f, z)) = (s, rw (no-reading (parseWith s) (λ n t e. f n t (with-sound n s t e)), z))
+after-complete m s (inr (f, z)) = (s, rw (no-reading (parseAttributes s) (λ n t e. f n t (with-sound n s t e)), z))
 
 pub after-small : {m : ℕ} {s : Bytes} → After m s → m ≤ 2
 after-small (inl (t, r)) = block-small (r .block)
@@ -140,20 +138,18 @@ from-sound : (s q e : Bytes) (m : ℕ) (t : Bytes) → parseFrom s ≡ ok (hit q
     → (a : Bytes) × (k : Bytes) × W* s a × Word (ascii "from") a q × Quote k q e × After m e
 unfolding parseFrom skipWhitespace
 from-sound s q e m t h =
-    let (z, b, eb) = link (word (ascii "from") (skip White s)) (λ g. never (rw g at h)) in
-    let (i, (k, r), j) = specifier-sound (or parseWith (return 0)) b q e t m (rw eb at h) in
+    let (z, b, eb, h1) = then-ok (word (ascii "from") (skip White s)) _ h in
+    let (i, (k, r), j) = specifier-sound (or parseAttributes (return 0)) b q e t m h1 in
     let eq : word (ascii "from") (skip White s) ≡ ok z q = cc in
     (skip White s, k, run-sound White s, word-sound (ascii "from") (skip White s) q eq, r, after-sound m e t j)
 
 pub decl-sound : (s q e : Bytes) (m : ℕ) (t : Bytes) → parseJsdocImportDecl s ≡ ok (hit q e m) t → Declaration s q e m
 unfolding parseJsdocImportDecl
 decl-sound s q e m t h =
-    let (z1, a, ea) = link (tag (ascii "@import") s) (λ g. never (rw g at h)) in
-    let h1 = rw ea at h in
-    let (z2, b, eb) = link (whitespace a) (λ g. never (rw g at h1)) in
-    let h2 = rw eb at h1 in
-    let (z3, c, ec) = link (skipClause b) (λ g. never (rw g at h2)) in
-    let (d, k, w, f, r, l) = from-sound c q e m t (rw ec at h2) in
+    let (z1, a, ea, h1) = then-ok (tag (ascii "@import") s) _ h in
+    let (z2, b, eb, h2) = then-ok (whitespace a) _ h1 in
+    let (z3, c, ec, h3) = then-ok (skipClause b) _ h2 in
+    let (d, k, w, f, r, l) = from-sound c q e m t h3 in
     record {
       r1 = a;
       r2 = b;

@@ -5,7 +5,7 @@ use mathlib.Core.Option.{Option, none, some}
 use Prim.Native.Nat.{ℕ, zero, suc, _-_, _≤_}
 use native.Mathlib.Omega.{arith}
 use native.Mathlib.Decide.{ℕ-discrete}
-use lib.ListN.{length, drop, getD, replicate, length-append, length-replicate}
+use lib.ListN.{length, drop, length-append}
 use lib.Seq.{drop-append-seam}
 use Rattle.jsdoc.specs.Grammar.{Bytes, Brace, Declaration, Reading, From, Listed}
 use Rattle.jsdoc.specs.Parsed.{Parser, value}
@@ -33,11 +33,6 @@ answered {p} K s = go (value (p s)) refl
         record { is = rw (ends-at a, ends-at (ends-trans a b)); ordered = omega arith }
     go none h = record { is = refl; ordered = tt }
 
-pub zeros : (n q : ℕ) → getD {A = ℕ} (replicate n 0) q 0 ≡ 0
-zeros zero q = refl
-zeros (suc n) zero = refl
-zeros (suc n) (suc q) = zeros n q
-
 module _ (b : Bytes) where
   on : (n q m : ℕ) → (Before Reading b n q m ⊎ From Brace b n q m) ⊎ From Declaration b n q m → Before Reading b (suc n) q m
   on n q m (inl (inl (k, h, f))) = (k, omega arith, f)
@@ -56,7 +51,7 @@ module _ (b : Bytes) where
       go (no e) = inl (inl (k, omega arith, f))
 
   listing-by : (n : ℕ) → n ≤ length b → Marks (Before Reading b n) (length b) (listingBy n b)
-  listing-by zero h = marks-none b (listingBy 0 b) (length-replicate (length b) 0) (zeros (length b))
+  listing-by zero h = marks-none b
   listing-by (suc n) h =
       marks-iff (on n) (back n)
       (marks-turn declarations b n h

@@ -2,10 +2,10 @@
 use mathlib.Core.Path.{_≡_, refl, sym, _∙_}
 use mathlib.Core.Logic.{_⊎_, inl, inr}
 use mathlib.Core.List.{List}
-use Prim.Native.Nat.{ℕ, zero, suc, _+_, _≤_, _<_}
+use Prim.Native.Nat.{ℕ, zero, suc, _+_, _<_}
 use native.Mathlib.Omega.{arith}
-use native.Mathlib.Decide.{ℕ-discrete, decLt}
-use lib.ListN.{length, set, getD, length-set, List·getD-eq-default}
+use native.Mathlib.Decide.{ℕ-discrete}
+use lib.ListN.{set, getD, replicate, length-set, length-replicate}
 use lib.Seq.{getD-set-same, getD-set-other, ext-getD}
 use Rattle.jsdoc.specs.Marks.{Marks}
 
@@ -55,17 +55,11 @@ module _ {P R : ℕ → ℕ → Type 0} {n : ℕ} {l : List ℕ} (q m : ℕ) (h 
       complete a b (inr r) (yes p) = rw (r .0, r .1) here
       complete a b (inr r) (no p) = absurd (p (r .0))
 
--- a table of zeros
-pub zero-more : (l : List ℕ) (i : ℕ) → i < length l → ((q : ℕ) → q < i → getD l q 0 ≡ 0) → (q : ℕ) → q < i + 1 → getD (set l i 0) q 0 ≡ 0
-zero-more l i h f q g = go (ℕ-discrete q i)
-  where
-    go : Dec (q ≡ i) → getD (set l i 0) q 0 ≡ 0
-    go (yes p) = rw p (getD-set-same l i 0 0 h)
-    go (no p) = getD-set-other l i q 0 0 p ∙ f q (omega arith)
+-- a table of zeros marks nothing
+zeros : (n q : ℕ) → getD {A = ℕ} (replicate n 0) q 0 ≡ 0
+zeros zero q = refl
+zeros (suc n) zero = refl
+zeros (suc n) (suc q) = zeros n q
 
-pub zero-all : (l : List ℕ) (i : ℕ) → length l ≤ i → ((q : ℕ) → q < i → getD l q 0 ≡ 0) → (q : ℕ) → getD l q 0 ≡ 0
-zero-all l i h f q = go (decLt q i)
-  where
-    go : Dec (q < i) → getD l q 0 ≡ 0
-    go (yes p) = f q p
-    go (no p) = List·getD-eq-default l 0 (omega arith)
+pub marks-nothing : {P : ℕ → ℕ → Type 0} → ((q m : ℕ) → P q m → ⊥) → (n : ℕ) → Marks P n (replicate n 0)
+marks-nothing f n = record { same = length-replicate n 0; sound = λ q m e. absurd (omega (arith, zeros n q)); complete = λ q m r. absurd (f q m r) }

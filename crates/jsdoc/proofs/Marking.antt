@@ -2,12 +2,12 @@
 use mathlib.Core.Path.{_≡_, sym, ap, _∙_}
 use mathlib.Core.Logic.{_⊎_, ⊎-elim, inl, inr}
 use mathlib.Core.List.{List}
-use mathlib.Core.Option.{Option, none, some}
+use mathlib.Core.Option.{Option·none-ne-some}
 use Prim.Native.Nat.{ℕ, _+_, _≤_, _<_}
 use Prim.Native.Char.{code}
 use native.Mathlib.Omega.{arith}
 use native.Mathlib.Decide.{ℕ-discrete, decLt}
-use lib.ListN.{length, drop, getD, length-drop}
+use lib.ListN.{length, drop, getD, replicate, length-drop}
 use lib.Seq.{drop-drop}
 use Rattle.jsdoc.specs.Grammar.{Bytes, Brace, Declaration, Reading, From, ListedBy, Listed}
 use Rattle.jsdoc.specs.Parsed.{Parser, value}
@@ -15,7 +15,7 @@ use Rattle.jsdoc.specs.Reader.{Hit, parseJsdocDynamicImport, parseJsdocI
 use Rattle.jsdoc.specs.Answers.{Imports, Scans}
 use Rattle.jsdoc.specs.Marks.{Marks, marked, Room}
 use Rattle.jsdoc.specs.declared.answers.JsDocImport.{JsDocImport}
-use Rattle.jsdoc.specs.declared.answers.JsDocImport.the-variants.{Import, Backtrace}
+use Rattle.jsdoc.specs.declared.answers.JsDocImport.the-variants as jsDocImport
 use Rattle.jsdoc.specs.declared.answers.Searched.{Searched}
 use Rattle.jsdoc.proofs.Texts.{quote-shorter}
 use Rattle.jsdoc.proofs.Agrees.{Agrees, brace-agrees, declaration-agrees}
@@ -24,7 +24,7 @@ use Rattle.jsdoc.proofs.Declarations.{after-small}
 use Rattle.jsdoc.proofs.Ends.{ends-shorter}
 use Rattle.jsdoc.proofs.Suffixes.{reading-ends}
 use Rattle.jsdoc.proofs.Places.{with-kind, one-place, place-quote}
-use Rattle.jsdoc.proofs.Marked.{marks-iff, marks-set}
+use Rattle.jsdoc.proofs.Marked.{marks-iff, marks-set, marks-nothing}
 use Rattle.jsdoc.proofs.Searches.{search-goes-on, same-reading}
 use Rattle.jsdoc.proofs.Steps.{cons-at}
 
@@ -39,7 +39,7 @@ braces = record { agrees = brace-agrees; reading = inl }
 pub declarations : Kind Declaration parseJsdocImportDecl
 declarations = record { agrees = declaration-agrees; reading = inr }
 
-mode-small : {s q e : Bytes} {m : ℕ} → Reading s q e m → m ≤ 2
+pub mode-small : {s q e : Bytes} {m : ℕ} → Reading s q e m → m ≤ 2
 mode-small (inl r) = tail-small (r .tail)
 mode-small (inr r) = after-small (r .after)
 
@@ -47,7 +47,7 @@ place-below : {b : Bytes} {k q m : ℕ} → From Reading b k q m → q < length 
 place-below {b} {q} r = let (t, i) = place-quote (r .reads) in omega (arith, quote-shorter i, length-drop q b)
 
 module _ {R : Bytes → Bytes → Bytes → ℕ → Type 0} {p : Parser Hit} (K : Kind R p) (b : Bytes) (i : ℕ) (h : i < length b) where
-  found : (a e m : ℕ) → Imports (drop i b) (value (p (drop i b))) (Import a e m) → From R b i (i + a) m
+  found : (a e m : ℕ) → Imports (drop i b) (value (p (drop i b))) (jsDocImport.Import a e m) → From R b i (i + a) m
   found a e m r = record {
     end = i + e;
     inside = omega (arith, r .ordered, length-drop i b);
@@ -55,13 +55,13 @@ module _ {R : Bytes → Bytes → Bytes → ℕ → Type 0} {p : Parser Hit} (K 
   }
 
   pub room : (r : JsDocImport) → Imports (drop i b) (value (p (drop i b))) r → Room (length b) i r
-  room (Import a e m) r =
+  room (jsDocImport.Import a e m) r =
       let f = found a e m r in
       (place-below (with-kind f (K .reading (f .reads))), mode-small (K .reading (f .reads)))
-  room Backtrace r = tt
+  room jsDocImport.Backtrace r = tt
 
   -- from one place there is one reading
-  module _ {a e m q n : ℕ} (r : Imports (drop i b) (value (p (drop i b))) (Import a e m)) (g : From R b i q n) where
+  module _ {a e m q n : ℕ} (r : Imports (drop i b) (value (p (drop i b))) (jsDocImport.Import a e m)) (g : From R b i q n) where
     only-one : (q ≡ i + a) × (n ≡ m)
     only-one =
         let f = found a e m r in
@@ -75,7 +75,7 @@ module _ {R : Bytes → Bytes → Bytes → ℕ → Type 0} {p : Parser Hit} (K 
   -- one turn: the reading from place i, if there is one, is marked
   pub marks-turn : {P : ℕ → ℕ → Type 0} {l : List ℕ} → Marks P (length b) l → ((q m : ℕ) → P q m → Listed b q m)
       → (r : JsDocImport) → Imports (drop i b) (value (p (drop i b))) r → Marks (λ q m. P q m ⊎ From R b i q m) (length b) (marked i r l)
-  marks-turn {P} k listed (Import a e m) r =
+  marks-turn {P} k listed (jsDocImport.Import a e m) r =
       let f = found a e m r in
       let w = with-kind f (K .reading (f .reads)) in
       marks-set (i + a) m (place-below w) k
@@ -83,11 +83,8 @@ module _ {R : Bytes → Bytes → Bytes → ℕ → Type 0} {p : Parser Hit} (K 
       (inr f)
       (λ x y t. ⊎-elim inl (λ g. inr (only-one r g)) t)
       (λ y t. let (j, g) = listed (i + a) y t in one-place g w .1)
-  marks-turn k listed Backtrace r =
-      marks-iff (λ q m t. inl t) (λ q m t. ⊎-elim (λ x. x) (λ g. absurd (none-some (r .is ∙ K .agrees _ _ _ _ .0 (g .reads)))) t) k
-    where
-      none-some : {A : Type 0} {a : A} → _≡_ {A = Option A} none (some a) → ⊥
-      none-some e = let z : _≡_ {A = ℕ} 0 1 = cc in omega arith
+  marks-turn k listed jsDocImport.Backtrace r =
+      marks-iff (λ q m t. inl t) (λ q m t. ⊎-elim (λ x. x) (λ g. absurd (Option·none-ne-some _ (r .is ∙ K .agrees _ _ _ _ .0 (g .reads)))) t) k
 
 -- a reading begins inside the body
 pub from-below : {b : Bytes} {k q m : ℕ} → From Reading b k q m → k < length b
@@ -107,8 +104,8 @@ later {i} h q m (inr f) = (i, h, f)
 listed-brace : {b : Bytes} {q m : ℕ} → ListedBy Brace b q m → Listed b q m
 listed-brace (k, f) = (k, with-kind f (inl (f .reads)))
 
-pub marks-none : {R : Bytes → Bytes → Bytes → ℕ → Type 0} (b l : Bytes) → length l ≡ length b → ((q : ℕ) → getD l q 0 ≡ 0) → Marks (Before R b 0) (length b) l
-marks-none b l h f = record { same = h; sound = λ q m e. absurd (omega (arith, f q)); complete = λ q m r. absurd (omega (arith, r .1)) }
+pub marks-none : {R : Bytes → Bytes → Bytes → ℕ → Type 0} (b : Bytes) → Marks (Before R b 0) (length b) (replicate (length b) 0)
+marks-none b = marks-nothing (λ q m r. omega (arith, r .1)) (length b)
 
 module _ (b : Bytes) (i : ℕ) {l : Bytes} (k : Marks (Before Brace b i) (length b) l) where
   pub braces-all : length b ≤ i → Marks (ListedBy Brace b) (length b) l

@@ -4,12 +4,13 @@ use Prim.Native.Nat.{ℕ, _+_, _-_, _^_, _≤_, _<_}
 use native.Mathlib.Omega.{arith}
 use lib.ListN.{length, take, drop, length-drop}
 use lib.Seq.{take-all, drop-drop}
+use Rattle.text.specs.Bytes.{part}
 use Rattle.jsdoc.specs.Grammar.{Bytes}
 use Rattle.jsdoc.specs.Parsed.{Parsed, ok}
-use Rattle.jsdoc.specs.Answers.{part, Spells, Gives, moved, Movable}
+use Rattle.jsdoc.specs.Answers.{Spells, Gives, moved, Movable}
 use Rattle.jsdoc.specs.declared.answers.Text.{Text}
-use Rattle.jsdoc.specs.declared.answers.Text.the-variants.{Part, Missing}
-use Rattle.jsdoc.specs.declared.answers.Piece.the-variants.{Past}
+use Rattle.jsdoc.specs.declared.answers.Text.the-variants as text
+use Rattle.jsdoc.specs.declared.answers.ModeRead.the-variants as modeRead
 
 module _ (s : Bytes) (i : ℕ) where
   -- the bytes of `&s[i..]`
@@ -18,17 +19,17 @@ module _ (s : Bytes) (i : ℕ) where
 
   module _ (h : i ≤ length s) where
     pub movable : length s < 2 ^ 64 → (o : Parsed Bytes) (r : Text) → Spells (drop i s) o r → Movable i r
-    movable l o (Part a b j) t = let (x, y, z) = t .ordered in (x, y, omega (arith, length-drop i s))
-    movable l o Missing t = tt
+    movable l o (text.Part a b j) t = let (x, y, z) = t .ordered in (x, y, omega (arith, length-drop i s))
+    movable l o text.Backtrace t = tt
 
-    part-moved : (a b : ℕ) → part a b (drop i s) ≡ part (i + a) (i + b) s
+    part-moved : (a b : ℕ) → part (drop i s) a b ≡ part s (i + a) (i + b)
     part-moved a b = let n : i + b - (i + a) ≡ b - a = omega arith in rw (n, drop-drop a i s)
 
     pub moved-text : (o : Parsed Bytes) (r : Text) → Spells (drop i s) o r → Spells s o (moved i r)
-    moved-text o (Part a b j) t =
+    moved-text o (text.Part a b j) t =
         let (x, y, z) = t .ordered in
         record { is = rw (← part-moved a b, ← drop-drop j i s) (t .is); ordered = (omega arith, omega arith, omega (arith, length-drop i s)) }
-    moved-text o Missing t = record { is = t .is; ordered = tt }
+    moved-text o text.Backtrace t = record { is = t .is; ordered = tt }
 
-    pub moved-piece : {o : Parsed ℕ} {m j : ℕ} → o ≡ ok m (drop j (drop i s)) → j ≤ length (drop i s) → Gives s o (Past m (i + j))
-    moved-piece {m} {j} e l = record { is = rw (← drop-drop j i s) (sym e); ordered = omega (arith, length-drop i s) }
+    pub moved-mode : {o : Parsed ℕ} {m j : ℕ} → o ≡ ok m (drop j (drop i s)) → j ≤ length (drop i s) → Gives s o (modeRead.Past m (i + j))
+    moved-mode {m} {j} e l = record { is = rw (← drop-drop j i s) (sym e); ordered = omega (arith, length-drop i s) }

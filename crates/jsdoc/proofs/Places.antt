@@ -1,22 +1,20 @@
 -- The place of a reading: it has one end and one mode, and it is a quote, which begins and ends at character boundaries.
 use mathlib.Core.Path.{_≡_, sym, ap, _∙_}
-use mathlib.Core.Bool.{true, false}
+use mathlib.Core.Bool.{true}
 use mathlib.Core.Logic.{inl, inr}
 use mathlib.Core.List.{_∷_, _++_}
 use Prim.Native.Nat.{ℕ, suc, _+_, _<_, _≤_}
 use native.Mathlib.Omega.{arith}
 use native.Mathlib.Nat.{add-zero}
-use native.Mathlib.Decide.{ℕ-discrete}
-use lib.ListN.{length, drop, getD, length-drop, List·getD-eq-default}
+use lib.ListN.{length, drop, getD, length-drop}
 use lib.Seq.{drop-append-seam, drop-drop, getD-drop}
-use borrow.Author.Tests.{not-true}
 use Rattle.text.specs.declared.utf8.Encoding.the-variants.{Utf8}
-use Rattle.text.specs.Utf8.{admits, lengthBy, charLength, formed, continuation}
-use Rattle.text.specs.Ranges.{within}
+use Rattle.text.specs.Utf8.{formed}
 use Rattle.text.specs.Position.{Boundary}
-use Rattle.text.proofs.Boundary.{boundary}
-use Rattle.jsdoc.specs.Grammar.{Bytes, Mark, Quote, Brace, Declaration, Reading, From}
-use Rattle.jsdoc.proofs.Texts.{quote-complete}
+use Rattle.text.specs.Bytes.{Mark}
+use Rattle.text.proofs.Cuts.{ascii-between}
+use Rattle.jsdoc.specs.Grammar.{Bytes, Quote, Brace, Declaration, Reading, From}
+use Rattle.jsdoc.proofs.Texts.{quote-complete, mark-small}
 use Rattle.jsdoc.proofs.Braces.{tail-complete}
 use Rattle.jsdoc.proofs.Declarations.{after-complete}
 use Rattle.jsdoc.proofs.Apart.{never-both}
@@ -60,34 +58,14 @@ place-quote (inr r) = (r .text, r .quote)
 
 -- ---- boundaries
 
-mark-alone : (m : ℕ) → Mark m → within continuation m ≡ false
-mark-alone m (inl h) = rw h
-mark-alone m (inr h) = rw h
-
-mark-passed : (m : ℕ) (t : Bytes) → Mark m → formed Utf8 0 (m ∷ t) ≡ formed Utf8 0 t
-unfolding formed charLength lengthBy admits
-mark-passed m t (inl h) = rw h
-mark-passed m t (inr h) = rw h
-
 head-at : (b : Bytes) (i m : ℕ) (t : Bytes) → drop i b ≡ m ∷ t → (i < length b) × (getD b i 0 ≡ m)
 head-at b i m t e =
     let n : i + 0 ≡ i = add-zero i in
     (omega (arith, ap length e, length-drop i b), rw (← n) (sym (getD-drop i b 0 0) ∙ ap (λ (l : Bytes). getD l 0 0) e))
 
 module _ (b : Bytes) (f : formed Utf8 0 b ≡ true) where
-  at-mark : (i m : ℕ) (t : Bytes) → Mark m → drop i b ≡ m ∷ t → Boundary b i × (formed Utf8 0 t ≡ true)
-  at-mark i m t k e =
-      let (l, h) = head-at b i m t e in
-      let c : within continuation (getD b i 0) ≡ false = rw h (mark-alone m k) in
-      let g : formed Utf8 0 (drop i b) ≡ true = rw (boundary Utf8 b i f l, c) in
-      ((omega arith, c), sym (mark-passed m t k) ∙ ap (formed Utf8 0) (sym e) ∙ g)
-
-  at-formed : (i : ℕ) → i ≤ length b → formed Utf8 0 (drop i b) ≡ true → Boundary b i
-  at-formed i l g = (l, go (ℕ-discrete i (length b)))
-    where
-      go : Dec (i ≡ length b) → within continuation (getD b i 0) ≡ false
-      go (yes e) = let h : length b ≤ i = omega arith in rw (List·getD-eq-default b 0 h)
-      go (no n) = not-true (within continuation (getD b i 0)) (sym (boundary Utf8 b i f (omega arith)) ∙ g)
+  at-mark : (i m : ℕ) (t : Bytes) → Mark m → drop i b ≡ m ∷ t → Boundary b i × Boundary b (i + 1)
+  at-mark i m t k e = let (l, h) = head-at b i m t e in ascii-between b f i l (rw h (mark-small m k))
 
   -- in a well-formed text a quote begins and ends at character boundaries
   pub quote-boundaries : {k : Bytes} (q e : ℕ) → e ≤ length b → Quote k (drop q b) (drop e b) → Boundary b q × Boundary b e
@@ -96,4 +74,5 @@ module _ (b : Bytes) (f : formed Utf8 0 b ≡ true) where
       let whole : drop q b ≡ t .mark ∷ (k ++ t .mark ∷ past) = t .first ∙ ap (λ (l : Bytes). t .mark ∷ l) (t .rest .1) in
       let close : drop (q + suc (length k)) b ≡ t .mark ∷ past =
       sym (drop-drop (suc (length k)) q b) ∙ ap (drop (suc (length k))) whole ∙ drop-append-seam k (t .mark ∷ past) in
-      (at-mark q (t .mark) (k ++ t .mark ∷ past) (t .is-mark) whole .0, at-formed e l (at-mark (q + suc (length k)) (t .mark) past (t .is-mark) close .1))
+      let end : q + suc (length k) + 1 ≡ e = omega (arith, ap length close, length-drop e b, length-drop (q + suc (length k)) b) in
+      (at-mark q (t .mark) (k ++ t .mark ∷ past) (t .is-mark) whole .0, rw end at (at-mark (q + suc (length k)) (t .mark) past (t .is-mark) close .1))

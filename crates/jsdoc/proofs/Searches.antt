@@ -17,7 +17,7 @@ use Rattle.jsdoc.specs.Parsed.{ok, backtrace, value}
 use Rattle.jsdoc.specs.Reader.{tag, word, seek, sought, parseCall, parseJsdocDynamicImport}
 use Rattle.jsdoc.specs.Answers.{Imports, Scans}
 use Rattle.jsdoc.specs.declared.answers.JsDocImport.{JsDocImport}
-use Rattle.jsdoc.specs.declared.answers.JsDocImport.the-variants.{Backtrace}
+use Rattle.jsdoc.specs.declared.answers.JsDocImport.the-variants as jsDocImport
 use Rattle.jsdoc.specs.declared.answers.Searched.{Searched}
 use Rattle.jsdoc.proofs.Texts.{tag-complete}
 use Rattle.jsdoc.proofs.Steps.{cons-at}
@@ -47,12 +47,12 @@ module _ (s : Bytes) (i : ℕ) where
 
 -- ---- what is answered where a search ends
 
-pub no-brace : (s : Bytes) → tag (ascii "{") s ≡ backtrace → Scans s (record { found = Backtrace; end = 0 })
+pub no-brace : (s : Bytes) → tag (ascii "{") s ≡ backtrace → Scans s (record { found = jsDocImport.Backtrace; end = 0 })
 unfolding parseJsdocDynamicImport sought
 no-brace s e = record { import = record { is = rw e; ordered = tt }; end = rw e; inside = omega arith }
 
 module _ (s : Bytes) {a : Bytes} (i : ℕ) (t : tag (ascii "{") s ≡ ok tt a) (e : seek a ≡ drop i s) (h : i ≤ length s) where
-  pub no-import : begins (ascii "import") (drop i s) ≡ false → Scans s (record { found = Backtrace; end = i })
+  pub no-import : begins (ascii "import") (drop i s) ≡ false → Scans s (record { found = jsDocImport.Backtrace; end = i })
   unfolding parseJsdocDynamicImport parseCall sought word tag
   no-import b = record { import = record { is = rw (t, e, b); ordered = tt }; end = rw (t, e); inside = h }
 

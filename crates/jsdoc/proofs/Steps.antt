@@ -14,11 +14,11 @@ use Rattle.text.specs.Bytes.{begins}
 use Rattle.text.specs.Class.{classAt, runLength}
 use Rattle.text.proofs.Words.{begins-sound}
 use Rattle.jsdoc.specs.Grammar.{Bytes}
-use Rattle.jsdoc.specs.Parsed.{ok, backtrace, onOk}
+use Rattle.jsdoc.specs.Parsed.{ok, backtrace, onParsed}
 use Rattle.jsdoc.specs.Reader.{skip, skipWhitespace, whitespace, tag, upTo, before, isMark, parseQuote, pastIdent, parseIdent}
 use Rattle.jsdoc.specs.Answers.{Finds, Spells}
-use Rattle.jsdoc.specs.declared.answers.Found.the-variants.{At, Nothing}
-use Rattle.jsdoc.specs.declared.answers.Text.the-variants.{Part, Missing}
+use Rattle.jsdoc.specs.declared.answers.Skipped.the-variants as skipped
+use Rattle.jsdoc.specs.declared.answers.Text.the-variants as text
 use Rattle.jsdoc.proofs.Texts.{upTo-sound}
 
 -- the byte at a place, and what is left behind it
@@ -32,11 +32,11 @@ module _ (s : Bytes) (i : ℕ) where
     word-fits h e =
         omega (arith, length-drop i s, ap length (begins-sound w (drop i s) e), length-append w (drop (length w) (drop i s)))
 
-    pub tag-found : i ≤ length s → begins w (drop i s) ≡ true → Finds s (tag w (drop i s)) (At (i + length w))
+    pub tag-found : i ≤ length s → begins w (drop i s) ≡ true → Finds s (tag w (drop i s)) (skipped.At (i + length w))
     unfolding tag
     tag-found h e = record { is = rw (e, drop-drop (length w) i s); ordered = word-fits h e }
 
-    pub tag-missing : begins w (drop i s) ≡ false → Finds s (tag w (drop i s)) Nothing
+    pub tag-missing : begins w (drop i s) ≡ false → Finds s (tag w (drop i s)) skipped.Backtrace
     unfolding tag
     tag-missing e = record { is = rw e; ordered = tt }
 
@@ -46,14 +46,14 @@ module _ (s : Bytes) (i : ℕ) where
     unfolding skipWhitespace skip
     white-skipped = rw (e, drop-drop (runLength White (drop i s)) i s)
 
-    pub white-found : r ≤ length s → (r ≡ i → ⊥) → Finds s (whitespace (drop i s)) (At r)
+    pub white-found : r ≤ length s → (r ≡ i → ⊥) → Finds s (whitespace (drop i s)) (skipped.At r)
     unfolding whitespace skip
     white-found h n = record {
       is = rw (ne-eqb (runLength White (drop i s)) 0 (λ z. n (omega arith)), e, drop-drop (runLength White (drop i s)) i s);
       ordered = h;
     }
 
-    pub white-missing : r ≡ i → Finds s (whitespace (drop i s)) Nothing
+    pub white-missing : r ≡ i → Finds s (whitespace (drop i s)) skipped.Backtrace
     unfolding whitespace
     white-missing z = record { is = rw (eq-eqb (runLength White (drop i s)) 0 (omega arith)); ordered = tt }
 
@@ -73,34 +73,34 @@ module _ (s : Bytes) (i : ℕ) where
 
 -- a name that begins the bytes
 module _ (s : Bytes) {n : ℕ} (e : n ≡ classAt Alphabetic (drop 0 s)) where
-  pub ident-missing : n ≡ 0 → Spells s (parseIdent s) Missing
+  pub ident-missing : n ≡ 0 → Spells s (parseIdent s) text.Backtrace
   unfolding parseIdent
   ident-missing z = record { is = rw (← e, z); ordered = tt }
 
-  pub ident-found : (n ≡ 0 → ⊥) → {r : ℕ} → r ≡ n + runLength NameRest (drop n s) → r ≤ length s → Spells s (parseIdent s) (Part 0 r r)
+  pub ident-found : (n ≡ 0 → ⊥) → {r : ℕ} → r ≡ n + runLength NameRest (drop n s) → r ≤ length s → Spells s (parseIdent s) (text.Part 0 r r)
   unfolding parseIdent pastIdent skip
   ident-found z {r} f h =
       let g : length s - length (drop r s) ≡ r = omega (arith, length-drop r s) in
       record { is = rw (← e, ne-eqb n 0 z, drop-drop (runLength NameRest (drop n s)) n s, ← f, g, sub-zero); ordered = (omega arith, omega arith, h) }
 
 -- a quote that begins the bytes
-pub quote-empty : (s : Bytes) → length s ≡ 0 → Spells s (parseQuote s) Missing
+pub quote-empty : (s : Bytes) → length s ≡ 0 → Spells s (parseQuote s) text.Backtrace
 unfolding parseQuote
 quote-empty [] h = record { is = refl; ordered = tt }
 quote-empty (x ∷ s) h = absurd (omega arith)
 
 quote-first : (s : Bytes) → (length s ≡ 0 → ⊥) → parseQuote s
-    ≡ cond (isMark (getD s 0 0)) (onOk (upTo (getD s 0 0) (drop 1 s)) (λ z t. ok (before (drop 1 s) (getD s 0 0 ∷ t)) t) backtrace) backtrace
+    ≡ cond (isMark (getD s 0 0)) (onParsed (upTo (getD s 0 0) (drop 1 s)) (λ z t. ok (before (drop 1 s) (getD s 0 0 ∷ t)) t) backtrace) backtrace
 unfolding parseQuote
 quote-first [] n = absurd (n refl)
 quote-first (x ∷ s) n = refl
 
 module _ (s : Bytes) (n : length s ≡ 0 → ⊥) where
-  pub quote-unmarked : isMark (getD s 0 0) ≡ false → Spells s (parseQuote s) Missing
+  pub quote-unmarked : isMark (getD s 0 0) ≡ false → Spells s (parseQuote s) text.Backtrace
   quote-unmarked k = record { is = rw (quote-first s n, k); ordered = tt }
 
   module _ (k : isMark (getD s 0 0) ≡ true) where
-    pub quote-open : upTo (getD s 0 0) (drop 1 s) ≡ backtrace → Spells s (parseQuote s) Missing
+    pub quote-open : upTo (getD s 0 0) (drop 1 s) ≡ backtrace → Spells s (parseQuote s) text.Backtrace
     quote-open e = record { is = rw (quote-first s n, k, e); ordered = tt }
 
     module _ {j : ℕ} (e : upTo (getD s 0 0) (drop 1 s) ≡ ok tt (drop j s)) (h : j ≤ length s) where
@@ -109,7 +109,7 @@ module _ (s : Bytes) (n : length s ≡ 0 → ⊥) where
           let (w, (f, i)) = upTo-sound (getD s 0 0) (drop 1 s) (drop j s) e in
           omega (arith, ap length i, length-append w (getD s 0 0 ∷ drop j s), length-drop 1 s, length-drop j s)
 
-      pub quote-closed : Spells s (parseQuote s) (Part 1 (j - 1) j)
+      pub quote-closed : Spells s (parseQuote s) (text.Part 1 (j - 1) j)
       quote-closed =
           let i : length (drop 1 s) - suc (length (drop j s)) ≡ j - 1 - 1 = omega (arith, length-drop 1 s, length-drop j s, quote-long) in
           record { is = rw (quote-first s n, k, e, i); ordered = (omega (arith, quote-long), omega arith, h) }

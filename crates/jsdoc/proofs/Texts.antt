@@ -11,17 +11,17 @@ use lib.Seq.{drop-append-seam, take-at}
 use lib.Dec.{eqb}
 use borrow.Author.Tests.{eq-eqb, ne-eqb, eqb-true, eqb-false}
 use Rattle.text.specs.declared.class.Class.the-variants.{White, Alphabetic, NameRest}
-use Rattle.text.specs.Bytes.{begins}
+use Rattle.text.specs.Bytes.{begins, Mark}
 use Rattle.text.specs.Encode.{encode}
 use Rattle.text.specs.Ranges.{inRanges}
 use Rattle.text.specs.Alphabetic.{alphabetic}
 use Rattle.text.specs.Class.{outside, ranges, member, classAt}
 use Rattle.text.proofs.Words.{begins-sound, begins-complete}
-use Rattle.jsdoc.specs.Grammar.{Bytes, Word, Without, Upto, Mark, Quote, Name}
-use Rattle.jsdoc.specs.Parsed.{Parsed, ok, backtrace, Parser, onOk}
+use Rattle.jsdoc.specs.Grammar.{Bytes, Word, Without, Upto, Quote, Name}
+use Rattle.jsdoc.specs.Parsed.{Parsed, ok, backtrace, Parser, onParsed}
 use Rattle.jsdoc.specs.Reader.{skip, tag, word, upTo, before, isMark, parseQuote, specifier, hit, pastIdent, parseIdent, parseKey}
 use Rattle.jsdoc.proofs.Ends.{ends-trans}
-use Rattle.jsdoc.proofs.Chains.{never, no-reading, link, if-ok}
+use Rattle.jsdoc.proofs.Chains.{never, no-reading, then-ok, if-ok}
 use Rattle.jsdoc.proofs.Characters.{one-sound, one-complete, one-shorter, begins-not, run-sound, run-complete, run-ends, run-shorter, white-sound, white-complete}
 
 -- ---- words
@@ -44,8 +44,8 @@ tag-other x w y e n = rw (e, ne-eqb y x n)
 pub word-sound : (w s t : Bytes) {z : Unit {0}} → word w s ≡ ok z t → Word w s t
 unfolding word
 word-sound w s t e =
-    let (z, u, h) = link (tag w s) (λ g. never (rw g at e)) in
-    (u, tag-sound w s u h, white-sound u t (rw h at e))
+    let (z, u, h, e1) = then-ok (tag w s) _ e in
+    (u, tag-sound w s u h, white-sound u t e1)
 
 pub word-complete : (w : Bytes) {s t : Bytes} → Word w s t → word w s ≡ ok tt t
 unfolding word
@@ -97,9 +97,8 @@ pub quote-sound : (k s t : Bytes) → parseQuote s ≡ ok k t → Quote k s t
 unfolding parseQuote
 quote-sound k [] t e = absurd (never e)
 quote-sound k (m ∷ s) t e =
-    let (b, h) = if-ok (isMark m) (onOk (upTo m s) (λ z t. ok (before s (m ∷ t)) t) backtrace) e in
-    let (z, u, i) = link (upTo m s) (λ g. never (rw g at h)) in
-    let j = rw i at h in
+    let (b, h) = if-ok (isMark m) (onParsed (upTo m s) (λ z t. ok (before s (m ∷ t)) t) backtrace) e in
+    let (z, u, i, j) = then-ok (upTo m s) _ h in
     let ht : upTo m s ≡ ok z t = cc in
     let (w, r) = upTo-sound m s t ht in
     let kw : w ≡ k = cc (before-is w (m ∷ t) (r .1)) in
@@ -114,10 +113,8 @@ quote-complete {k} {s} {t} r =
 -- a quote, and then a mode
 pub specifier-sound : (p : Parser ℕ) (s q e t : Bytes) (m : ℕ) → specifier p s ≡ ok (hit q e m) t → (s ≡ q) × ((k : Bytes) × Quote k q e) × (p e ≡ ok m t)
 specifier-sound p s q e t m h =
-    let (k, a, ea) = link (parseQuote s) (λ g. never (rw g at h)) in
-    let h1 = rw ea at h in
-    let (n, b, eb) = link (p a) (λ g. never (rw g at h1)) in
-    let h2 = rw eb at h1 in
+    let (k, a, ea, h1) = then-ok (parseQuote s) _ h in
+    let (n, b, eb, h2) = then-ok (p a) _ h1 in
     let eq : parseQuote q ≡ ok k e = cc in
     let a-is : a ≡ e = cc in
     ((cc), (k, quote-sound k q e eq), (cc))
@@ -157,7 +154,7 @@ name-shorter r = omega (arith, one-shorter Alphabetic (r .first), run-shorter Na
 pub name-not : (x : ℕ) → x < 0x80 → member Alphabetic x ≡ false → {k s t u : Bytes} → s ≡ x ∷ u → Name k s t → ⊥
 name-not x h f e r = begins-not Alphabetic x h f e (r .first)
 
-mark-small : (m : ℕ) → Mark m → m < 0x80
+pub mark-small : (m : ℕ) → Mark m → m < 0x80
 mark-small m (inl h) = omega arith
 mark-small m (inr h) = omega arith
 
@@ -172,7 +169,7 @@ pub key-sound : (k s t : Bytes) → parseKey s ≡ ok k t → Quote k s t ⊎ Na
 unfolding parseKey
 key-sound k s t = go (parseQuote s) refl
   where
-    go : (o : Parsed Bytes) → parseQuote s ≡ o → onOk o ok (parseIdent s) ≡ ok k t → Quote k s t ⊎ Name k s t
+    go : (o : Parsed Bytes) → parseQuote s ≡ o → onParsed o ok (parseIdent s) ≡ ok k t → Quote k s t ⊎ Name k s t
     go (ok a u) h e = inl (quote-sound k s t (h ∙ e))
     go backtrace h e = inr (ident-sound k s t e)
 

@@ -14,7 +14,7 @@ use Rattle.text.specs.declared.utf8.Encoding.the-variants.{Utf8}
 use Rattle.text.specs.Ranges.{inRanges}
 use Rattle.text.specs.Encode.{encode, codePoints}
 use Rattle.text.specs.Class.{member}
-use Rattle.text.specs.Bytes.{same}
+use Rattle.text.specs.Bytes.{Mark, same}
 use Rattle.analysis.specs.Mode.{modeOf}
 
 abbrev pub Bytes : Type 0
@@ -28,12 +28,12 @@ pub record OneOf (c : Class) (s t : Bytes) : Type 0 where
   pub all : s ≡ encode point ++ t
 
 -- the longest run of characters of the class
-pub data Run (c : Class) : Bytes → Bytes → Type 0 where
-  done : {t : Bytes} → ((u : Bytes) → OneOf c t u → ⊥) → Run c t t
-  more : {s u t : Bytes} → OneOf c s u → Run c u t → Run c s t
+pub data LongestRun (c : Class) : Bytes → Bytes → Type 0 where
+  done : {t : Bytes} → ((u : Bytes) → OneOf c t u → ⊥) → LongestRun c t t
+  more : {s u t : Bytes} → OneOf c s u → LongestRun c u t → LongestRun c s t
 
 abbrev pub W* : Bytes → Bytes → Type 0
-W* s t = Run White s t
+W* s t = LongestRun White s t
 
 abbrev pub W+ : Bytes → Bytes → Type 0
 W+ s t = (u : Bytes) × OneOf White s u × W* u t
@@ -51,9 +51,6 @@ Without m (x ∷ w) = (x ≡ m → ⊥) × Without m w
 abbrev pub Upto : ℕ → Bytes → Bytes → Bytes → Type 0
 Upto m w s t = Without m w × (s ≡ w ++ m ∷ t)
 
-abbrev pub Mark : ℕ → Type 0
-Mark m = (m ≡ code "\"") ⊎ (m ≡ code "'")
-
 -- `"` or `'`, bytes k without that mark, the mark
 pub record Quote (k s t : Bytes) : Type 0 where
   pub mark : ℕ
@@ -66,7 +63,7 @@ pub record Quote (k s t : Bytes) : Type 0 where
 pub record Name (k s t : Bytes) : Type 0 where
   pub r1 : Bytes
   pub first : OneOf Alphabetic s r1
-  pub rest : Run NameRest r1 t
+  pub rest : LongestRun NameRest r1 t
   pub all : s ≡ k ++ t
 
 -- Quote or Name, W* `:` W* Quote: the key k and the value v

@@ -1,4 +1,5 @@
--- The readers as functions, named after those of src/ast/mod.rs and of monch.
+-- The readers as functions; where src/ast/mod.rs or monch has a counterpart, named after it.
+-- Grammar is the file to be believed: these give the value that the report computes, and the laws `brace-agrees` and `declaration-agrees` tie them to it.
 use mathlib.Core.Bool.{Bool, cond, _||_}
 use mathlib.Core.List.{[], _∷_}
 use Prim.Native.Nat.{ℕ, zero, suc, _-_}
@@ -12,7 +13,7 @@ use Rattle.text.specs.Bytes.{begins, same}
 use Rattle.text.specs.Class.{classAt, runLength}
 use Rattle.analysis.specs.Mode.{modeOf}
 use Rattle.jsdoc.specs.Grammar.{Bytes}
-use Rattle.jsdoc.specs.Parsed.{ok, backtrace, Parser, onOk, _>>=_, _>>_, return, here, or}
+use Rattle.jsdoc.specs.Parsed.{ok, backtrace, Parser, onParsed, _>>=_, _>>_, return, here, or}
 
 -- what is left behind the longest run of a class
 unfoldable pub skip : Class → Bytes → Bytes
@@ -47,7 +48,7 @@ isMark m = eqb m (code "\"") || eqb m (code "'")
 
 unfoldable pub parseQuote : Parser Bytes
 parseQuote [] = backtrace
-parseQuote (m ∷ s) = cond (isMark m) (onOk (upTo m s) (λ z t. ok (before s (m ∷ t)) t) backtrace) backtrace
+parseQuote (m ∷ s) = cond (isMark m) (onParsed (upTo m s) (λ z t. ok (before s (m ∷ t)) t) backtrace) backtrace
 
 -- what is left behind a name
 unfoldable pub pastIdent : Bytes → Bytes
@@ -80,18 +81,18 @@ unfoldable pub comma : Parser (Unit {0})
 comma = skipWhitespace >> word (ascii ",")
 
 -- at most n attributes, where m is the first mode so far
-unfoldable pub attributesBy : ℕ → ℕ → Parser ℕ
-attributesBy zero m s = ok m s
-attributesBy (suc n) m s =
-    onOk (parseAttribute s) (λ a t. onOk (comma t) (λ z. attributesBy n (firstMode m a)) (ok (firstMode m a) t)) (ok m s)
+unfoldable pub separatedListBy : ℕ → ℕ → Parser ℕ
+separatedListBy zero m s = ok m s
+separatedListBy (suc n) m s =
+    onParsed (parseAttribute s) (λ a t. onParsed (comma t) (λ z. separatedListBy n (firstMode m a)) (ok (firstMode m a) t)) (ok m s)
 
-unfoldable pub attributesFrom : ℕ → Parser ℕ
-attributesFrom m s = attributesBy (length s) m s
+unfoldable pub separatedList : ℕ → Parser ℕ
+separatedList m s = separatedListBy (length s) m s
 
-unfoldable pub parseImportAttributeBlock : Parser ℕ
-parseImportAttributeBlock = do
+unfoldable pub parseImportAttributeBlockForResolutionMode : Parser ℕ
+parseImportAttributeBlockForResolutionMode = do
   word (ascii "{")
-  m ← attributesFrom 3
+  m ← separatedList 3
   skipWhitespace
   tag (ascii "}")
   return (cond (eqb m 3) 0 m)
@@ -105,10 +106,10 @@ secondParamStart = do
   word (ascii ":")
 
 -- `, {with: {..}}`
-unfoldable pub parseSecondParam : Parser ℕ
-parseSecondParam = do
+unfoldable pub parseSecondParamObjWithLeadingComma : Parser ℕ
+parseSecondParamObjWithLeadingComma = do
   secondParamStart
-  m ← parseImportAttributeBlock
+  m ← parseImportAttributeBlockForResolutionMode
   skipWhitespace
   word (ascii "}")
   return m
@@ -124,7 +125,7 @@ closeCall m = do
 unfoldable pub parseTail : Parser ℕ
 parseTail = do
   skipWhitespace
-  m ← or parseSecondParam (return 0)
+  m ← or parseSecondParamObjWithLeadingComma (return 0)
   closeCall m
 
 -- where the quote begins, where it ends, and the mode
@@ -160,7 +161,7 @@ parseJsdocDynamicImport = do
 
 -- where the search from a brace ends, if one begins s
 unfoldable pub sought : Bytes → Bytes
-sought s = onOk (tag (ascii "{") s) (λ z. seek) s
+sought s = onParsed (tag (ascii "{") s) (λ z. seek) s
 
 unfoldable pub skipNamedImports : Parser (Unit {0})
 skipNamedImports = tag (ascii "{") >> upTo (code "}")
@@ -179,18 +180,18 @@ unfoldable pub skipClause : Parser (Unit {0})
 skipClause = or skipNamedImports (or skipNamespaceImport skipDefaultImport)
 
 -- `with {..}`
-unfoldable pub parseWith : Parser ℕ
-parseWith = do
+unfoldable pub parseAttributes : Parser ℕ
+parseAttributes = do
   skipWhitespace
   word (ascii "with")
-  parseImportAttributeBlock
+  parseImportAttributeBlockForResolutionMode
 
 -- `from`, the quote, and `with {..}` if that reads
 unfoldable pub parseFrom : Parser Hit
 parseFrom = do
   skipWhitespace
   word (ascii "from")
-  specifier (or parseWith (return 0))
+  specifier (or parseAttributes (return 0))
 
 unfoldable pub parseJsdocImportDecl : Parser Hit
 parseJsdocImportDecl = do

@@ -1,24 +1,24 @@
-// What the readers answer. Places are counted from the front of the bytes that a reader is given.
+// What the readers answer, or monch's backtrace. Places are counted from the front of the bytes that a reader is given.
 
-// The place past a piece, or nothing.
-pub enum Found {
+// The place past what was skipped.
+pub enum Skipped {
     At(usize),
-    Nothing,
+    Backtrace,
 }
 
-// The text of a quote or a name, and the place past it; or nothing.
+// The text of a quote or a name, and the place past it.
 pub enum Text {
     Part { from: usize, to: usize, past: usize },
-    Missing,
+    Backtrace,
 }
 
-// A mode, and the place past what names it; or nothing.
-pub enum Piece {
+// A mode, and the place past what names it.
+pub enum ModeRead {
     Past { mode: u8, past: usize },
-    Broken,
+    Backtrace,
 }
 
-// A reading, by the place of its quote, both marks included, and its mode; or none.
+// A reading, by the place of its quote, both marks included, and its mode.
 pub enum JsDocImport {
     Import { start: usize, end: usize, mode: u8 },
     Backtrace,

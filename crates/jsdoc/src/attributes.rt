@@ -1,6 +1,6 @@
 // Attributes, and blocks of them.
-use super::answers::Found;
-use super::answers::Piece;
+use super::answers::ModeRead;
+use super::answers::Skipped;
 use super::answers::Text;
 use super::pieces::skip_whitespace;
 use super::pieces::tag;
@@ -12,7 +12,7 @@ use text::bytes::equal;
 ghost use mathlib.Core.Path.{_≡_};
 ghost use Prim.Native.Nat.{_≤_};
 ghost use lib.ListN.{length, drop};
-ghost use Rattle.jsdoc.specs.Reader.{attributeMode, parseAttribute, firstMode, comma, attributesFrom, parseImportAttributeBlock};
+ghost use Rattle.jsdoc.specs.Reader.{attributeMode, parseAttribute, firstMode, comma, separatedList, parseImportAttributeBlockForResolutionMode};
 ghost use Rattle.jsdoc.specs.Answers.{Finds, Gives};
 
 // The mode of an attribute by its key and its value; 3 where its key is not the one.
@@ -25,7 +25,7 @@ fn attribute_mode(key: &[u8], value: &[u8]) -> u8
     3
 }
 
-fn parse_attribute(s: &[u8], at: usize) -> Piece
+fn parse_attribute(s: &[u8], at: usize) -> ModeRead
     requires { ⌜ at ≤ length (now s) ⌝ }
     ensures { λ r. ⌜ Gives (now (s .entry)) (parseAttribute (drop at (now (s .entry)))) r ⌝ }
 {
@@ -35,11 +35,11 @@ fn parse_attribute(s: &[u8], at: usize) -> Piece
         past,
     } = parse_key(s, at)
     else {
-        return Piece::Broken;
+        return ModeRead::Backtrace;
     };
     let colon = skip_whitespace(s, past);
-    let Found::At(quote) = word(s, colon, b":") else {
-        return Piece::Broken;
+    let Skipped::At(quote) = word(s, colon, b":") else {
+        return ModeRead::Backtrace;
     };
     let Text::Part {
         from,
@@ -47,10 +47,10 @@ fn parse_attribute(s: &[u8], at: usize) -> Piece
         past: end,
     } = quote_at(s, quote)
     else {
-        return Piece::Broken;
+        return ModeRead::Backtrace;
     };
     let mode = attribute_mode(&s[key..key_end], &s[from..to]);
-    Piece::Past { mode, past: end }
+    ModeRead::Past { mode, past: end }
 }
 
 // The first of two modes that is not 3.
@@ -61,7 +61,7 @@ fn first_mode(m: u8, n: u8) -> u8
 }
 
 // Past the comma at `at` and the white space around it.
-fn comma(s: &[u8], at: usize) -> Found
+fn comma(s: &[u8], at: usize) -> Skipped
     requires { ⌜ at ≤ length (now s) ⌝ }
     ensures { λ r. ⌜ Finds (now (s .entry)) (comma (drop at (now (s .entry)))) r ⌝ }
 {
@@ -70,54 +70,54 @@ fn comma(s: &[u8], at: usize) -> Found
 }
 
 // The attributes from `at` on, parted by commas: the first mode among them that is not 3, and the place past them.
-fn parse_attributes(s: &[u8], at: usize) -> Piece
+fn separated_list(s: &[u8], at: usize) -> ModeRead
     requires { ⌜ at ≤ length (now s) ⌝ }
-    ensures { λ r. ⌜ Gives (now (s .entry)) (attributesFrom 3 (drop at (now (s .entry)))) r ⌝ }
+    ensures { λ r. ⌜ Gives (now (s .entry)) (separatedList 3 (drop at (now (s .entry)))) r ⌝ }
 {
     let mut i = at;
     let mut mode = 3;
     loop {
-        let Piece::Past { mode: n, past } = parse_attribute(s, i) else {
-            return Piece::Past { mode, past: i };
+        let ModeRead::Past { mode: n, past } = parse_attribute(s, i) else {
+            return ModeRead::Past { mode, past: i };
         };
         mode = first_mode(mode, n);
-        let Found::At(next) = comma(s, past) else {
-            return Piece::Past { mode, past };
+        let Skipped::At(next) = comma(s, past) else {
+            return ModeRead::Past { mode, past };
         };
         i = next;
     }
 }
 
 // The block that begins `rest`: its mode.
-pub fn parse_import_attribute_block(rest: &[u8]) -> Piece
-    ensures { λ r. ⌜ Gives (now (rest .entry)) (parseImportAttributeBlock (now (rest .entry))) r ⌝ }
+pub fn parse_import_attribute_block_for_resolution_mode(rest: &[u8]) -> ModeRead
+    ensures { λ r. ⌜ Gives (now (rest .entry)) (parseImportAttributeBlockForResolutionMode (now (rest .entry))) r ⌝ }
 {
-    let Found::At(first) = word(rest, 0, b"{") else {
-        return Piece::Broken;
+    let Skipped::At(first) = word(rest, 0, b"{") else {
+        return ModeRead::Backtrace;
     };
-    let Piece::Past { mode, past } = parse_attributes(rest, first) else {
-        return Piece::Broken;
+    let ModeRead::Past { mode, past } = separated_list(rest, first) else {
+        return ModeRead::Backtrace;
     };
     let close = skip_whitespace(rest, past);
-    let Found::At(end) = tag(rest, close, b"}") else {
-        return Piece::Broken;
+    let Skipped::At(end) = tag(rest, close, b"}") else {
+        return ModeRead::Backtrace;
     };
     if mode == 3 {
-        return Piece::Past { mode: 0, past: end };
+        return ModeRead::Past { mode: 0, past: end };
     }
-    Piece::Past { mode, past: end }
+    ModeRead::Past { mode, past: end }
 }
 
 // The block at `at`.
-pub fn block_at(s: &[u8], at: usize) -> Piece
+pub fn block_at(s: &[u8], at: usize) -> ModeRead
     requires { ⌜ at ≤ length (now s) ⌝ }
-    ensures { λ r. ⌜ Gives (now (s .entry)) (parseImportAttributeBlock (drop at (now (s .entry)))) r ⌝ }
+    ensures { λ r. ⌜ Gives (now (s .entry)) (parseImportAttributeBlockForResolutionMode (drop at (now (s .entry)))) r ⌝ }
 {
-    match parse_import_attribute_block(&s[at..]) {
-        Piece::Past { mode, past } => Piece::Past {
+    match parse_import_attribute_block_for_resolution_mode(&s[at..]) {
+        ModeRead::Past { mode, past } => ModeRead::Past {
             mode,
             past: at + past,
         },
-        Piece::Broken => Piece::Broken,
+        ModeRead::Backtrace => ModeRead::Backtrace,
     }
 }

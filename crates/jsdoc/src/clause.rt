@@ -1,5 +1,5 @@
 // What a declaration imports: `{A, B}`, `* as N` or `A`.
-use super::answers::Found;
+use super::answers::Skipped;
 use super::answers::Text;
 use super::pieces::tag;
 use super::pieces::up_to;
@@ -11,17 +11,17 @@ ghost use lib.ListN.{length, drop};
 ghost use Rattle.jsdoc.specs.Reader.{skipNamedImports, skipDefaultImport, skipNamespaceImport, skipClause};
 ghost use Rattle.jsdoc.specs.Answers.{Finds};
 
-fn skip_named_imports(s: &[u8], at: usize) -> Found
+fn skip_named_imports(s: &[u8], at: usize) -> Skipped
     requires { ⌜ at ≤ length (now s) ⌝ }
     ensures { λ r. ⌜ Finds (now (s .entry)) (skipNamedImports (drop at (now (s .entry)))) r ⌝ }
 {
-    let Found::At(past) = tag(s, at, b"{") else {
-        return Found::Nothing;
+    let Skipped::At(past) = tag(s, at, b"{") else {
+        return Skipped::Backtrace;
     };
     up_to(s, past, b'}')
 }
 
-fn skip_default_import(s: &[u8], at: usize) -> Found
+fn skip_default_import(s: &[u8], at: usize) -> Skipped
     requires { ⌜ at ≤ length (now s) ⌝ }
     ensures { λ r. ⌜ Finds (now (s .entry)) (skipDefaultImport (drop at (now (s .entry)))) r ⌝ }
 {
@@ -31,37 +31,37 @@ fn skip_default_import(s: &[u8], at: usize) -> Found
         past,
     } = ident_at(s, at)
     else {
-        return Found::Nothing;
+        return Skipped::Backtrace;
     };
     whitespace(s, past)
 }
 
-fn skip_namespace_import(s: &[u8], at: usize) -> Found
+fn skip_namespace_import(s: &[u8], at: usize) -> Skipped
     requires { ⌜ at ≤ length (now s) ⌝ }
     ensures { λ r. ⌜ Finds (now (s .entry)) (skipNamespaceImport (drop at (now (s .entry)))) r ⌝ }
 {
-    let Found::At(a) = word(s, at, b"*") else {
-        return Found::Nothing;
+    let Skipped::At(a) = word(s, at, b"*") else {
+        return Skipped::Backtrace;
     };
-    let Found::At(b) = tag(s, a, b"as") else {
-        return Found::Nothing;
+    let Skipped::At(b) = tag(s, a, b"as") else {
+        return Skipped::Backtrace;
     };
-    let Found::At(c) = whitespace(s, b) else {
-        return Found::Nothing;
+    let Skipped::At(c) = whitespace(s, b) else {
+        return Skipped::Backtrace;
     };
     skip_default_import(s, c)
 }
 
 // Past the clause at `at`.
-pub fn skip_clause(s: &[u8], at: usize) -> Found
+pub fn skip_clause(s: &[u8], at: usize) -> Skipped
     requires { ⌜ at ≤ length (now s) ⌝ }
     ensures { λ r. ⌜ Finds (now (s .entry)) (skipClause (drop at (now (s .entry)))) r ⌝ }
 {
     match skip_named_imports(s, at) {
-        Found::At(past) => Found::At(past),
-        Found::Nothing => match skip_namespace_import(s, at) {
-            Found::At(past) => Found::At(past),
-            Found::Nothing => skip_default_import(s, at),
+        Skipped::At(past) => Skipped::At(past),
+        Skipped::Backtrace => match skip_namespace_import(s, at) {
+            Skipped::At(past) => Skipped::At(past),
+            Skipped::Backtrace => skip_default_import(s, at),
         },
     }
 }

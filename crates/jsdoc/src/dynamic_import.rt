@@ -1,8 +1,8 @@
 // `{import("./a.ts", {with: {..}}).A}`
-use super::answers::Found;
 use super::answers::JsDocImport;
-use super::answers::Piece;
+use super::answers::ModeRead;
 use super::answers::Searched;
+use super::answers::Skipped;
 use super::answers::Text;
 use super::attributes::block_at;
 use super::pieces::skip_whitespace;
@@ -11,71 +11,70 @@ use super::pieces::up_to;
 use super::pieces::word;
 use super::quote::quote_at;
 use text::bytes::starts_with;
-ghost use mathlib.Core.Path.{_≡_};
 ghost use Prim.Native.Nat.{_≤_};
 ghost use lib.ListN.{length, drop};
 ghost use Rattle.jsdoc.specs.Parsed.{value};
-ghost use Rattle.jsdoc.specs.Reader.{secondParamStart, parseSecondParam, closeCall, parseTail, parseCall};
+ghost use Rattle.jsdoc.specs.Reader.{secondParamStart, parseSecondParamObjWithLeadingComma, closeCall, parseTail, parseCall};
 ghost use Rattle.jsdoc.specs.Answers.{Finds, Gives, Imports, Scans};
 
 // Past `, {with:` at `at`.
-fn second_param_start(s: &[u8], at: usize) -> Found
+fn second_param_start(s: &[u8], at: usize) -> Skipped
     requires { ⌜ at ≤ length (now s) ⌝ }
     ensures { λ r. ⌜ Finds (now (s .entry)) (secondParamStart (drop at (now (s .entry)))) r ⌝ }
 {
-    let Found::At(brace) = word(s, at, b",") else {
-        return Found::Nothing;
+    let Skipped::At(brace) = word(s, at, b",") else {
+        return Skipped::Backtrace;
     };
-    let Found::At(with) = word(s, brace, b"{") else {
-        return Found::Nothing;
+    let Skipped::At(with) = word(s, brace, b"{") else {
+        return Skipped::Backtrace;
     };
-    let Found::At(colon) = word(s, with, b"with") else {
-        return Found::Nothing;
+    let Skipped::At(colon) = word(s, with, b"with") else {
+        return Skipped::Backtrace;
     };
     word(s, colon, b":")
 }
 
 // `, {with: {..}}` at `at`.
-fn parse_second_param(s: &[u8], at: usize) -> Piece
+fn parse_second_param_obj_with_leading_comma(s: &[u8], at: usize) -> ModeRead
     requires { ⌜ at ≤ length (now s) ⌝ }
-    ensures { λ r. ⌜ Gives (now (s .entry)) (parseSecondParam (drop at (now (s .entry)))) r ⌝ }
+    ensures { λ r. ⌜ Gives (now (s .entry)) (parseSecondParamObjWithLeadingComma (drop at (now (s .entry)))) r ⌝ }
 {
-    let Found::At(block) = second_param_start(s, at) else {
-        return Piece::Broken;
+    let Skipped::At(block) = second_param_start(s, at) else {
+        return ModeRead::Backtrace;
     };
-    let Piece::Past { mode, past } = block_at(s, block) else {
-        return Piece::Broken;
+    let ModeRead::Past { mode, past } = block_at(s, block) else {
+        return ModeRead::Backtrace;
     };
     let close = skip_whitespace(s, past);
-    let Found::At(end) = word(s, close, b"}") else {
-        return Piece::Broken;
+    let Skipped::At(end) = word(s, close, b"}") else {
+        return ModeRead::Backtrace;
     };
-    Piece::Past { mode, past: end }
+    ModeRead::Past { mode, past: end }
 }
 
 // `)` at `at`, and then a closing brace.
-fn close_call(s: &[u8], at: usize, mode: u8) -> Piece
+fn close_call(s: &[u8], at: usize, mode: u8) -> ModeRead
     requires { ⌜ at ≤ length (now s) ⌝ }
     ensures { λ r. ⌜ Gives (now (s .entry)) (closeCall mode (drop at (now (s .entry)))) r ⌝ }
 {
-    let Found::At(run) = tag(s, at, b")") else {
-        return Piece::Broken;
+    let Skipped::At(run) = tag(s, at, b")") else {
+        return ModeRead::Backtrace;
     };
-    let Found::At(past) = up_to(s, run, b'}') else {
-        return Piece::Broken;
+    let Skipped::At(past) = up_to(s, run, b'}') else {
+        return ModeRead::Backtrace;
     };
-    Piece::Past { mode, past }
+    ModeRead::Past { mode, past }
 }
 
 // What follows the quote, from `at` on: the mode.
-fn parse_tail(s: &[u8], at: usize) -> Piece
+fn parse_tail(s: &[u8], at: usize) -> ModeRead
     requires { ⌜ at ≤ length (now s) ⌝ }
     ensures { λ r. ⌜ Gives (now (s .entry)) (parseTail (drop at (now (s .entry)))) r ⌝ }
 {
     let param = skip_whitespace(s, at);
-    match parse_second_param(s, param) {
-        Piece::Past { mode, past } => close_call(s, past, mode),
-        Piece::Broken => close_call(s, param, 0),
+    match parse_second_param_obj_with_leading_comma(s, param) {
+        ModeRead::Past { mode, past } => close_call(s, past, mode),
+        ModeRead::Backtrace => close_call(s, param, 0),
     }
 }
 
@@ -84,10 +83,10 @@ fn parse_call(s: &[u8], at: usize) -> JsDocImport
     requires { ⌜ at ≤ length (now s) ⌝ }
     ensures { λ r. ⌜ Imports (now (s .entry)) (value (parseCall (drop at (now (s .entry))))) r ⌝ }
 {
-    let Found::At(paren) = word(s, at, b"import") else {
+    let Skipped::At(paren) = word(s, at, b"import") else {
         return JsDocImport::Backtrace;
     };
-    let Found::At(start) = word(s, paren, b"(") else {
+    let Skipped::At(start) = word(s, paren, b"(") else {
         return JsDocImport::Backtrace;
     };
     let Text::Part {
@@ -98,7 +97,7 @@ fn parse_call(s: &[u8], at: usize) -> JsDocImport
     else {
         return JsDocImport::Backtrace;
     };
-    let Piece::Past { mode, past: _ } = parse_tail(s, end) else {
+    let ModeRead::Past { mode, past: _ } = parse_tail(s, end) else {
         return JsDocImport::Backtrace;
     };
     JsDocImport::Import { start, end, mode }
@@ -108,7 +107,7 @@ fn parse_call(s: &[u8], at: usize) -> JsDocImport
 pub fn parse_jsdoc_dynamic_import(rest: &[u8]) -> Searched
     ensures { λ r. ⌜ Scans (now (rest .entry)) r ⌝ }
 {
-    let Found::At(first) = tag(rest, 0, b"{") else {
+    let Skipped::At(first) = tag(rest, 0, b"{") else {
         return Searched {
             found: JsDocImport::Backtrace,
             end: 0,

@@ -1,7 +1,7 @@
 // `@import A from "./a.ts" with {..}`
-use super::answers::Found;
 use super::answers::JsDocImport;
-use super::answers::Piece;
+use super::answers::ModeRead;
+use super::answers::Skipped;
 use super::answers::Text;
 use super::attributes::block_at;
 use super::clause::skip_clause;
@@ -10,21 +10,20 @@ use super::pieces::tag;
 use super::pieces::whitespace;
 use super::pieces::word;
 use super::quote::quote_at;
-ghost use mathlib.Core.Path.{_≡_};
 ghost use Prim.Native.Nat.{_≤_};
 ghost use lib.ListN.{length, drop};
 ghost use Rattle.jsdoc.specs.Parsed.{value};
-ghost use Rattle.jsdoc.specs.Reader.{parseWith, parseFrom, parseJsdocImportDecl};
+ghost use Rattle.jsdoc.specs.Reader.{parseAttributes, parseFrom, parseJsdocImportDecl};
 ghost use Rattle.jsdoc.specs.Answers.{Gives, Imports};
 
 // `with {..}` at `at`, with the white space before it.
-fn parse_with(s: &[u8], at: usize) -> Piece
+fn parse_attributes(s: &[u8], at: usize) -> ModeRead
     requires { ⌜ at ≤ length (now s) ⌝ }
-    ensures { λ r. ⌜ Gives (now (s .entry)) (parseWith (drop at (now (s .entry)))) r ⌝ }
+    ensures { λ r. ⌜ Gives (now (s .entry)) (parseAttributes (drop at (now (s .entry)))) r ⌝ }
 {
     let a = skip_whitespace(s, at);
-    let Found::At(b) = word(s, a, b"with") else {
-        return Piece::Broken;
+    let Skipped::At(b) = word(s, a, b"with") else {
+        return ModeRead::Backtrace;
     };
     block_at(s, b)
 }
@@ -35,7 +34,7 @@ fn parse_from(s: &[u8], at: usize) -> JsDocImport
     ensures { λ r. ⌜ Imports (now (s .entry)) (value (parseFrom (drop at (now (s .entry))))) r ⌝ }
 {
     let a = skip_whitespace(s, at);
-    let Found::At(start) = word(s, a, b"from") else {
+    let Skipped::At(start) = word(s, a, b"from") else {
         return JsDocImport::Backtrace;
     };
     let Text::Part {
@@ -46,9 +45,9 @@ fn parse_from(s: &[u8], at: usize) -> JsDocImport
     else {
         return JsDocImport::Backtrace;
     };
-    match parse_with(s, end) {
-        Piece::Past { mode, past: _ } => JsDocImport::Import { start, end, mode },
-        Piece::Broken => JsDocImport::Import {
+    match parse_attributes(s, end) {
+        ModeRead::Past { mode, past: _ } => JsDocImport::Import { start, end, mode },
+        ModeRead::Backtrace => JsDocImport::Import {
             start,
             end,
             mode: 0,
@@ -60,13 +59,13 @@ fn parse_from(s: &[u8], at: usize) -> JsDocImport
 pub fn parse_jsdoc_import_decl(rest: &[u8]) -> JsDocImport
     ensures { λ r. ⌜ Imports (now (rest .entry)) (value (parseJsdocImportDecl (now (rest .entry)))) r ⌝ }
 {
-    let Found::At(a) = tag(rest, 0, b"@import") else {
+    let Skipped::At(a) = tag(rest, 0, b"@import") else {
         return JsDocImport::Backtrace;
     };
-    let Found::At(b) = whitespace(rest, a) else {
+    let Skipped::At(b) = whitespace(rest, a) else {
         return JsDocImport::Backtrace;
     };
-    let Found::At(c) = skip_clause(rest, b) else {
+    let Skipped::At(c) = skip_clause(rest, b) else {
         return JsDocImport::Backtrace;
     };
     parse_from(rest, c)

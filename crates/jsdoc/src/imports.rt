@@ -3,14 +3,13 @@ use super::answers::JsDocImport;
 use super::dynamic_import::parse_jsdoc_dynamic_import;
 use super::import_decl::parse_jsdoc_import_decl;
 ghost use mathlib.Core.Path.{_≡_};
-ghost use Prim.Native.Nat.{ℕ, _+_, _≤_, _<_};
-ghost use lib.ListN.{length, getD};
+ghost use lib.ListN.{length, replicate};
 ghost use Rattle.jsdoc.specs.Grammar.{Brace, ListedBy, Listed};
 ghost use Rattle.jsdoc.specs.Marks.{Marks, Room, marked};
 
 // Clears the marks.
 pub fn clear(marks: &mut [u8])
-    ensures { λ r. ⌜ (length (now (marks .exit)) ≡ length (now (marks .entry))) × ((q : ℕ) → getD (now (marks .exit)) q 0 ≡ 0) ⌝ }
+    ensures { λ _. ⌜ now (marks .exit) ≡ replicate (length (now (marks .entry))) 0 ⌝ }
 {
     let mut i = 0;
     while i < marks.len() {
@@ -38,7 +37,7 @@ fn mark(marks: &mut [u8], base: usize, found: JsDocImport)
 
 // Marks the readings from the braces. The next brace to look at is the first from where the search ended, so that each byte is searched once.
 fn mark_braces(body: &[u8], marks: &mut [u8])
-    requires { ⌜ (length (now marks) ≡ length (now body)) × ((q : ℕ) → getD (now marks) q 0 ≡ 0) ⌝ }
+    requires { ⌜ now marks ≡ replicate (length (now body)) 0 ⌝ }
     ensures { λ r. ⌜ Marks (ListedBy Brace (now (body .entry))) (length (now (body .entry))) (now (marks .exit)) ⌝ }
 {
     let mut i = 0;
@@ -67,7 +66,7 @@ fn mark_declarations(body: &[u8], marks: &mut [u8])
 }
 
 // Marks each place of `body` at which the place of a reading begins with 1 + its mode, and each other with 0.
-pub fn analyze_jsdoc_imports(body: &[u8], marks: &mut [u8])
+pub fn mark_imports(body: &[u8], marks: &mut [u8])
     requires { ⌜ length (now marks) ≡ length (now body) ⌝ }
     ensures { λ r. ⌜ Marks (Listed (now (body .entry))) (length (now (body .entry))) (now (marks .exit)) ⌝ }
 {

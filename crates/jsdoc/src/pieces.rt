@@ -1,5 +1,5 @@
 // The pieces that all readers are made of, from a place of the bytes on; named after monch's.
-use super::answers::Found;
+use super::answers::Skipped;
 use text::bytes::starts_with;
 use text::class::Class;
 use text::class::run_end;
@@ -20,51 +20,51 @@ pub fn skip_whitespace(s: &[u8], at: usize) -> usize
 }
 
 // Past the white space at `at`, of which there is some.
-pub fn whitespace(s: &[u8], at: usize) -> Found
+pub fn whitespace(s: &[u8], at: usize) -> Skipped
     requires { ⌜ at ≤ length (now s) ⌝ }
     ensures { λ r. ⌜ Finds (now (s .entry)) (whitespace (drop at (now (s .entry)))) r ⌝ }
 {
     let end = run_end(s, at, Class::White);
     if end == at {
-        return Found::Nothing;
+        return Skipped::Backtrace;
     }
-    Found::At(end)
+    Skipped::At(end)
 }
 
 // Past the word at `at`.
-pub fn tag(s: &[u8], at: usize, word: &[u8]) -> Found
+pub fn tag(s: &[u8], at: usize, word: &[u8]) -> Skipped
     requires { ⌜ at ≤ length (now s) ⌝ }
     ensures { λ r. ⌜ Finds (now (s .entry)) (tagOf (now (word .entry)) (drop at (now (s .entry)))) r ⌝ }
 {
     if starts_with(s, at, word) {
-        Found::At(at + word.len())
+        Skipped::At(at + word.len())
     } else {
-        Found::Nothing
+        Skipped::Backtrace
     }
 }
 
 // Past the word at `at` and the white space after it.
-pub fn word(s: &[u8], at: usize, word: &[u8]) -> Found
+pub fn word(s: &[u8], at: usize, word: &[u8]) -> Skipped
     requires { ⌜ at ≤ length (now s) ⌝ }
     ensures { λ r. ⌜ Finds (now (s .entry)) (wordOf (now (word .entry)) (drop at (now (s .entry)))) r ⌝ }
 {
-    let Found::At(past) = tag(s, at, word) else {
-        return Found::Nothing;
+    let Skipped::At(past) = tag(s, at, word) else {
+        return Skipped::Backtrace;
     };
-    Found::At(skip_whitespace(s, past))
+    Skipped::At(skip_whitespace(s, past))
 }
 
 // Past the first `mark` from `at` on.
-pub fn up_to(s: &[u8], at: usize, mark: u8) -> Found
+pub fn up_to(s: &[u8], at: usize, mark: u8) -> Skipped
     requires { ⌜ at ≤ length (now s) ⌝ }
     ensures { λ r. ⌜ Finds (now (s .entry)) (upTo mark (drop at (now (s .entry)))) r ⌝ }
 {
     let mut i = at;
     while i < s.len() {
         if s[i] == mark {
-            return Found::At(i + 1);
+            return Skipped::At(i + 1);
         }
         i += 1;
     }
-    Found::Nothing
+    Skipped::Backtrace
 }

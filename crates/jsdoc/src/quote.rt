@@ -1,5 +1,5 @@
 // Quotes and names.
-use super::answers::Found;
+use super::answers::Skipped;
 use super::answers::Text;
 use super::pieces::up_to;
 use text::class::Class;
@@ -25,12 +25,12 @@ pub fn parse_quote(rest: &[u8]) -> Text
     ensures { λ r. ⌜ Spells (now (rest .entry)) (parseQuote (now (rest .entry))) r ⌝ }
 {
     if rest.len() == 0 {
-        return Text::Missing;
+        return Text::Backtrace;
     }
     let mark = rest[0];
     if is_mark(mark) {
-        let Found::At(past) = up_to(rest, 1, mark) else {
-            return Text::Missing;
+        let Skipped::At(past) = up_to(rest, 1, mark) else {
+            return Text::Backtrace;
         };
         return Text::Part {
             from: 1,
@@ -38,7 +38,7 @@ pub fn parse_quote(rest: &[u8]) -> Text
             past,
         };
     }
-    Text::Missing
+    Text::Backtrace
 }
 
 // The name that begins `rest`.
@@ -47,7 +47,7 @@ pub fn parse_ident(rest: &[u8]) -> Text
 {
     let first = class_at(rest, 0, Class::Alphabetic);
     if first == 0 {
-        return Text::Missing;
+        return Text::Backtrace;
     }
     let past = run_end(rest, first, Class::NameRest);
     Text::Part {
@@ -68,7 +68,7 @@ fn from_place(text: Text, at: usize) -> Text
             to: at + to,
             past: at + past,
         },
-        Text::Missing => Text::Missing,
+        Text::Backtrace => Text::Backtrace,
     }
 }
 
@@ -95,6 +95,6 @@ pub fn parse_key(s: &[u8], at: usize) -> Text
 {
     match quote_at(s, at) {
         Text::Part { from, to, past } => Text::Part { from, to, past },
-        Text::Missing => ident_at(s, at),
+        Text::Backtrace => ident_at(s, at),
     }
 }

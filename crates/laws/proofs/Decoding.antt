@@ -4,11 +4,15 @@ use mathlib.Core.Bool.{Bool, true, false}
 use mathlib.Core.List.{List}
 use Prim.Native.Nat.{ℕ}
 use native.Mathlib.Omega.{arith}
-use Rattle.laws.specs.Decoded.{Decoded, ok, no, andThen, onOk, require}
+use Rattle.laws.specs.Decoded.{Decoded, ok, no, andThen, onOk, return, require}
 
 -- a refusal is no value
 pub refused : {A : Type 0} {r : ℕ} {a : A} {t : List ℕ} → no r ≡ ok a t → ⊥
 refused e = let z : _≡_ {A = ℕ} 0 1 = cc in omega arith
+
+-- the value that was answered
+pub value : {A : Type 0} {a b : A} {t u : List ℕ} → ok a t ≡ ok b u → a ≡ b
+value e = cc
 
 module _ {A B : Type 0} where
   -- a step answered a value, and the steps behind it went on from that
@@ -31,6 +35,12 @@ module _ {A B : Type 0} where
   onOk-same e (ok a t) = ap (λ b. ok b t) (e a)
   onOk-same e (no r) = refl
 
+  -- what is left behind a value does not depend on what is made of it
+  pub same-rest : (f : A → B) (x : Decoded A) {a : A} {t : List ℕ} → x ≡ ok a t → {b : B} {v : List ℕ} → onOk f x ≡ ok b v → v ≡ t
+  same-rest f x {a} {t} is {b} {v} e =
+      let both : ok (f a) t ≡ ok b v = rw is at e in
+      cc
+
 -- a test held, and nothing was read
 pub require-ok : {B : Type 0} (b : Bool) (r : ℕ) (s : List ℕ) (f : Unit {0} → List ℕ → Decoded B) {c : B} {t : List ℕ}
     → andThen (require b r s) f ≡ ok c t → (b ≡ true) × (f tt s ≡ ok c t)
@@ -47,3 +57,13 @@ module _ {A B C : Type 0} where
   pub map-map : (g : B → C) (f : A → B) (x : Decoded A) → onOk g (onOk f x) ≡ onOk (λ a. g (f a)) x
   map-map g f (ok a t) = refl
   map-map g f (no r) = refl
+
+  -- what is made of a value, and what is made of what is built from it
+  pub built : (f : A → C) (g : B → C) (build : A → B) → ((a : A) → f a ≡ g (build a)) → (x : Decoded A) → onOk f x ≡ onOk g (andThen x (λ a. return (build a)))
+  built f g build e (ok a t) = ap (λ c. ok c t) (e a)
+  built f g build e (no r) = refl
+
+  -- a refusal behind what was read
+  pub then-no : (f : A → B) (x : Decoded A) {b : B} {w : List ℕ} → onOk f x ≡ ok b w → (k : A → List ℕ → Decoded C) (r : ℕ) → ((a : A) → k a w ≡ no r) → andThen x k ≡ no r
+  then-no f (ok a t) {b} {w} e k r h = let i : w ≡ t = cc in rw i at (h a)
+  then-no f (no q) e k r h = absurd (refused e)

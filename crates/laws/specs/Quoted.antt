@@ -1,4 +1,4 @@
--- The bytes of a quoted ASCII text, so that a word can be read as it stands.
+-- The code points of a quoted text; of ASCII these are its bytes.
 use Prim.Native.Nat.{ℕ}
 use Prim.Native.Char.{code}
 use Prim.Native.String.{String, [], _∷_}

@@ -81,8 +81,8 @@ module _ (source : List ℕ) where
       let (e, u) = s d m h in
       let same : u .import ≡ j = cc (u .is, is) in
       let l : q < suc q + d = omega arith in
-      rw (← same, ap (λ (r : PositionRange). r .start) (t .stands .range), ap (λ (r : PositionRange). r .start) (u .stands .range))
-      (grows (λ b. omega arith) source q (suc q + d) l (u .stands .start .0) (t .stands .start .1))
+      rw (← same, ap (λ (r : PositionRange). r .start) (t .stands .range .is), ap (λ (r : PositionRange). r .start) (u .stands .range .is))
+      (grows (λ b. omega arith) source q (suc q + d) l (u .stands .range .start .0) (t .stands .range .start .1))
 
   pub ascends : (marks : List ℕ) (q : ℕ) → Standings marks q → Ascending (importsFrom source q marks)
   unfolding importsFrom

@@ -7,20 +7,21 @@ use Prim.Native.Nat.{ℕ, zero, suc, _+_, _-_, _≤_, _<_, zero-le, suc-le-suc}
 use native.Mathlib.Numerals.{add-one}
 use native.Mathlib.Omega.{arith}
 use native.Mathlib.Decide.{decLt}
-use lib.ListN.{length, take, drop, getD, replicate, length-append, length-drop, length-replicate, List·getD-append, List·getD-eq-default}
+use lib.ListN.{length, take, drop, getD, length-append, length-drop, List·getD-append, List·getD-eq-default}
 use lib.Seq.{drop-drop, length-take-le, getD-append-add, getD-take, getD-drop}
 use Rattle.jsdoc.specs.Grammar.{Listed}
 use Rattle.jsdoc.specs.Marks.{Marks}
 use Rattle.jsdoc.specs.Listing.{listing}
-use Rattle.jsdoc.proofs.Marked.{marks-iff, marks-unique}
-use Rattle.jsdoc.proofs.Listing.{listing-marks, zeros}
+use Rattle.jsdoc.proofs.Marked.{marks-iff, marks-unique, marks-nothing}
+use Rattle.jsdoc.proofs.Listing.{listing-marks}
 use Rattle.sheet.specs.declared.comments.Comment.{Comment}
 use Rattle.sheet.specs.Tables.{rows}
 use Rattle.sheet.specs.Fit.{commentOf, Fit}
 use Rattle.sheet.specs.Lookups.{bodySpan, body}
+use Rattle.sheet.proofs.Bodies.{Within, placed-body}
 use Rattle.listing.specs.Imports.{isStarOpened, markedBy, markedByAll, marksOf}
 use Rattle.listing.specs.Demand.{StarOpened}
-use Rattle.listing.proofs.Bodies.{opened-sound, opened-complete, Within, placed-body}
+use Rattle.listing.proofs.StarOpened.{opened-sound, opened-complete}
 
 -- a star-opened comment lists a place that begins at q of the source
 abbrev pub ReadBy : List ℕ → Comment → ℕ → ℕ → Type 0
@@ -133,19 +134,10 @@ marks-by-all {source} (c ∷ cs) f {P} k before =
     back q m (inr (zero, h, r)) = inl (inr r)
     back q m (inr (suc k, h, r)) = inr (k, omega arith, r)
 
--- zeros mark nothing
-unmarked : (n : ℕ) (l : List ℕ) → length l ≡ n → ((q : ℕ) → getD l q 0 ≡ 0) → Marks (λ q m. ⊥) n l
-unmarked n l e f = record { same = e; sound = λ q m h. omega (arith, f q); complete = λ q m r. absurd r }
-
-nothing : (n : ℕ) → Marks (λ q m. ⊥) n (replicate n 0)
-nothing n = unmarked n (replicate n 0) (length-replicate n 0) (zeros n)
-
-cleared : (n : ℕ) (l : List ℕ) → length l ≡ n → ((q : ℕ) → getD l q 0 ≡ 0) → l ≡ replicate n 0
-cleared n l e f = marks-unique (unmarked n l e f) (nothing n)
-
 pub marks-of : {source : List ℕ} (cs : List Comment) → Fit source cs → Marks (ReadIn source cs) (length source) (marksOf source cs)
 marks-of {source} cs f =
-    marks-iff (λ q m r. ⊎-elim (λ x. absurd x) (λ x. x) r) (λ q m r. inr r) (marks-by-all cs f (nothing (length source)) (λ k q m h r. absurd r))
+    marks-iff (λ q m r. ⊎-elim (λ x. absurd x) (λ x. x) r) (λ q m r. inr r)
+    (marks-by-all cs f (marks-nothing (λ q m r. r) (length source)) (λ k q m h r. absurd r))
 
 -- ---- the turns of the code
 
@@ -161,9 +153,6 @@ module _ (source : List ℕ) (c : Comment) (l : List ℕ) where
   pub marked-not : isStarOpened source c ≡ false → l ≡ markedBy source c l
   unfolding markedBy
   marked-not o = rw o
-
-pub mark-first : (source : List ℕ) (cs : List Comment) (l : List ℕ) → length l ≡ length source → ((q : ℕ) → getD l q 0 ≡ 0) → markedByAll source cs l ≡ marksOf source cs
-mark-first source cs l e f = rw (cleared (length source) l e f)
 
 pub mark-more : (source l : List ℕ) (row : ℕ → Comment) (n k : ℕ) → k < n
     → markedByAll source (rows row k (n - k)) l ≡ markedByAll source (rows row (k + 1) (n - (k + 1))) (markedBy source (row k) l)

@@ -14,11 +14,12 @@ use Rattle.jsdoc.proofs.Texts.{quote-complete, quote-shorter}
 use Rattle.jsdoc.proofs.Places.{place-quote, quote-boundaries}
 use Rattle.sheet.specs.declared.comments.Comment.{Comment}
 use Rattle.sheet.specs.Lookups.{bodySpan, body}
+use Rattle.sheet.proofs.Bodies.{Within, body-then}
 use Rattle.report.specs.ModuleInfo.{JsDocImportInfo}
 use Rattle.report.specs.Range.{rangeOf}
+use Rattle.report.proofs.Places.{range-at}
 use Rattle.listing.specs.Imports.{importAt}
 use Rattle.listing.specs.Demand.{StandsAt}
-use Rattle.listing.proofs.Bodies.{Within, body-then}
 
 -- a quote is one whatever follows it
 quote-then : {k s t : List ℕ} (u : List ℕ) → Quote k s t → Quote k (s ++ u) (t ++ u)
@@ -55,7 +56,7 @@ module _ {source : List ℕ} (f : formed Utf8 0 source ≡ true) where
       record {
         import = record { specifier = record { text = k; range = rangeOf source (record { start = q; end = e }) }; mode = mode };
         is = rw (quote-complete r, past);
-        stands = record { start = bounds .0; end = bounds .1; range = refl; text = quote-alone (e - q) size r };
+        stands = record { range = range-at (bounds .0) (bounds .1) refl; text = quote-alone (e - q) size r };
         mode-is = refl;
       }
 

@@ -10,33 +10,26 @@ use native.Mathlib.Decide.{decLt}
 use lib.ListN.{length, getD}
 use Rattle.text.specs.declared.utf8.Encoding.the-variants.{Utf8}
 use Rattle.text.specs.Utf8.{formed}
-use Rattle.text.proofs.Places as places
 use Rattle.jsdoc.specs.Grammar.{Reading, From}
 use Rattle.jsdoc.proofs.Places.{one-place}
 use Rattle.sheet.specs.declared.fields.Span.{Span}
 use Rattle.sheet.specs.declared.comments.Comment.{Comment}
 use Rattle.sheet.specs.Fit.{commentOf, Fit}
 use Rattle.sheet.specs.Lookups.{bodySpan, body}
-use Rattle.report.specs.ModuleInfo.{PositionRange, Mode, JsDocImportInfo}
-use Rattle.report.specs.Range.{rangeOf}
-use Rattle.pragmas.specs.Pragmas.{isJavaScript}
+use Rattle.sheet.specs.Media.{isJavaScript}
+use Rattle.sheet.proofs.Bodies.{Within, placed-body}
+use Rattle.report.specs.ModuleInfo.{Mode, JsDocImportInfo}
 use Rattle.listing.specs.Imports.{marksOf, importAt, importsFrom, jsdocImports}
 use Rattle.listing.specs.Demand.{ListedIn, StandsAt, Lists, JsDocRight}
-use Rattle.listing.proofs.Bodies.{Within, placed-body}
 use Rattle.listing.proofs.Marking.{ReadIn, read-below, marks-of}
 use Rattle.listing.proofs.Quotes.{Standing, reading-stands}
 use Rattle.listing.proofs.Entries.{found, in-list, Standings, ascends}
 
 module _ {source : List ℕ} {cs : List Comment} where
-  -- the place of a reading by its start, and back
+  -- the place of a reading by its start
   listed-of : {q m : ℕ} → ReadIn source cs q m → (e : ℕ) × ListedIn source cs (record { start = q; end = e }) m
   listed-of (k, h, (o, j, s, (i, r))) =
       (bodySpan (commentOf cs k) .start + r .end, record { k = k; there = h; opened = o; from = i; at = j; reading = r; start = s; end = refl })
-
-  at-place : {p q : Span} {m n : ℕ} → p .start ≡ q .start → p .end ≡ q .end → m ≡ n → ListedIn source cs q m → ListedIn source cs p n
-  at-place s e i t =
-      let l = rw i at t in
-      record { k = l .k; there = l .there; opened = l .opened; from = l .from; at = l .at; reading = l .reading; start = s ∙ l .start; end = e ∙ l .end }
 
   read-of : {p : Span} {m : ℕ} → ListedIn source cs p m → ReadIn source cs (p .start) m
   read-of l = (l .k, l .there, (l .opened, l .at, l .start, (l .from, l .reading)))
@@ -113,10 +106,8 @@ module _ {source : List ℕ} {cs : List Comment} (fit : Fit source cs) where
     lists-sound : (p : Span) (m : Mode) → Lists source (importsFrom source 0 (marksOf source cs)) p m → ListedIn source cs p m
     lists-sound p m x =
         let o = origin (x .import) (x .among) in
-        let range : rangeOf source p ≡ rangeOf source (o .place) = sym (x .stands .range) ∙ o .stand .range in
-        let start = places.one-place (λ b. omega arith) source (p .start) (o .place .start) (x .stands .start) (o .stand .start) (ap (λ (r : PositionRange). r .start) range) in
-        let end = places.one-place (λ b. omega arith) source (p .end) (o .place .end) (x .stands .end) (o .stand .end) (ap (λ (r : PositionRange). r .end) range) in
-        at-place start end (x .mode-is) (o .listed)
+        let r = x .stands .range in
+        rw (o .stand .range .only p (r .start) (r .end) (r .is), ← x .mode-is) (o .listed)
 
     lists-complete : (p : Span) (m : Mode) → ListedIn source cs p m → Lists source (importsFrom source 0 (marksOf source cs)) p m
     lists-complete p m l =

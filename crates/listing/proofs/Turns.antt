@@ -1,34 +1,28 @@
 -- The turns of the loops over the marks, and the bytes that are written.
-use mathlib.Core.Path.{_≡_, refl, ap, sym, _∙_}
-use mathlib.Core.Bool.{true}
-use mathlib.Core.List.{List, [], _∷_, _++_, append-nil}
-use mathlib.Core.Option.{Option}
+use mathlib.Core.Path.{_≡_, ap, sym, _∙_}
+use mathlib.Core.Bool.{true, false}
+use mathlib.Core.List.{List, [], _∷_, _++_, append-nil, flatMap}
 use Prim.Native.Nat.{ℕ, suc, _+_, _-_, _≤_, _<_}
 use native.Mathlib.Numerals.{add-one}
 use native.Mathlib.Omega.{arith}
 use lib.ListN.{length, drop, getD, length-drop}
 use lib.Seq.{drop-cons}
-use borrow.Author.Tests.{le-leb, lt-leb}
 use Rattle.text.specs.declared.utf8.Encoding.the-variants.{Utf8}
 use Rattle.text.specs.Utf8.{formed}
+use Rattle.text.specs.Bytes.{part}
 use Rattle.wire.specs.Number.{encodeNumber}
 use Rattle.jsdoc.specs.Parsed.{ok}
 use Rattle.jsdoc.specs.Reader.{parseQuote}
-use Rattle.jsdoc.specs.Answers.{part}
 use Rattle.sheet.specs.declared.comments.Comment.{Comment}
 use Rattle.sheet.specs.Fit.{Fit}
-use Rattle.report.specs.Encode.{each, encodeList, encodeSpecifier, encodeJsDoc}
+use Rattle.sheet.specs.Media.{isJavaScript}
+use Rattle.report.specs.Encode.{encodeList, encodeSpecifier, encodeJsDoc}
 use Rattle.report.specs.Range.{rangeOf}
-use Rattle.pragmas.specs.Readings.{listed}
+use Rattle.pragmas.specs.Views.{encodeAny}
+use Rattle.pragmas.proofs.Between.{listed-each}
 use Rattle.listing.specs.Imports.{marksOf, countOf, importAt, importsFrom, jsdocImports}
 use Rattle.listing.proofs.Entries.{count-all}
 use Rattle.listing.proofs.Right.{standings}
-
-module _ {A : Type 0} (f : A → List ℕ) where
-  each-listed : (o : Option A) (l : List A) → each f (listed o l) ≡ each f (listed o []) ++ each f l
-  unfolding each
-  each-listed Option.none l = refl
-  each-listed (Option.some a) l = rw append-nil
 
 -- the marks from place q on: the first of them, and the others
 first-mark : (marks : List ℕ) (q : ℕ) → q < length marks → drop q marks ≡ getD marks q 0 ∷ drop (q + 1) marks
@@ -43,13 +37,13 @@ module _ (source marks : List ℕ) (q : ℕ) (h : q < length marks) where
   unmarked-next e = rw (first-mark marks q h, e, add-one q)
 
   pub marked-next : (getD marks q 0 ≡ 0 → ⊥)
-      → each encodeJsDoc (importsFrom source q (drop q marks))
-      ≡ each encodeJsDoc (listed (importAt source q (getD marks q 0 - 1)) []) ++ each encodeJsDoc (importsFrom source (q + 1) (drop (q + 1) marks))
+      → flatMap encodeJsDoc (importsFrom source q (drop q marks))
+      ≡ encodeAny encodeJsDoc (importAt source q (getD marks q 0 - 1)) ++ flatMap encodeJsDoc (importsFrom source (q + 1) (drop (q + 1) marks))
   unfolding importsFrom
   marked-next e =
       let n : getD marks q 0 ≡ suc (getD marks q 0 - 1) = first-mode (getD marks q 0) e in
-      ap (λ (l : List ℕ). each encodeJsDoc (importsFrom source q l)) (first-mark marks q h ∙ ap (_∷ drop (q + 1) marks) n)
-      ∙ rw (← add-one q) (each-listed encodeJsDoc (importAt source q (getD marks q 0 - 1)) (importsFrom source (q + 1) (drop (q + 1) marks)))
+      ap (λ (l : List ℕ). flatMap encodeJsDoc (importsFrom source q l)) (first-mark marks q h ∙ ap (_∷ drop (q + 1) marks) n)
+      ∙ rw (← add-one q) (listed-each encodeJsDoc (importAt source q (getD marks q 0 - 1)) (importsFrom source (q + 1) (drop (q + 1) marks)))
 
 module _ (marks : List ℕ) (q : ℕ) (h : q < length marks) where
   pub count-next : getD marks q 0 ≡ 0 → countOf (drop q marks) ≡ countOf (drop (q + 1) marks)
@@ -63,21 +57,21 @@ module _ (marks : List ℕ) (q : ℕ) (h : q < length marks) where
       ap countOf (first-mark marks q h ∙ ap (_∷ drop (q + 1) marks) n) ∙ sym (add-one (countOf (drop (q + 1) marks)))
 
 -- the bytes of an import whose quote was read
-pub encode-import : (source : List ℕ) (at mode from to past : ℕ) → parseQuote (drop at source) ≡ ok (part from to source) (drop past source) → past ≤ length source
-    → each encodeJsDoc (listed (importAt source at mode) [])
-    ≡ 1 ∷ (encodeSpecifier (record { text = part from to source; range = rangeOf source (record { start = at; end = past }) }) ++ (mode ∷ []))
-unfolding importAt each encodeJsDoc
+pub encode-import : (source : List ℕ) (at mode from to past : ℕ) → parseQuote (drop at source) ≡ ok (part source from to) (drop past source) → past ≤ length source
+    → encodeAny encodeJsDoc (importAt source at mode)
+    ≡ 1 ∷ (encodeSpecifier (record { text = part source from to; range = rangeOf source (record { start = at; end = past }) }) ++ (mode ∷ []))
+unfolding importAt encodeJsDoc
 encode-import source at mode from to past e l =
     let n : length source - length (drop past source) ≡ past = omega (arith, length-drop past source) in
-    rw (e, n) (append-nil _)
+    rw (e, n)
 
 -- the bytes of all imports
 module _ (source : List ℕ) (cs : List Comment) (media : ℕ) where
-  pub encode-none : 3 < media → encodeList encodeJsDoc (jsdocImports media source cs) ≡ encodeNumber 0
-  unfolding jsdocImports encodeList each
-  encode-none h = rw (lt-leb media 3 h) (append-nil (encodeNumber 0))
+  pub encode-none : isJavaScript media ≡ false → encodeList encodeJsDoc (jsdocImports media source cs) ≡ encodeNumber 0
+  unfolding jsdocImports encodeList flatMap
+  encode-none h = rw h (append-nil (encodeNumber 0))
 
-  pub encode-all : Fit source cs → formed Utf8 0 source ≡ true → media ≤ 3
-      → encodeList encodeJsDoc (jsdocImports media source cs) ≡ encodeNumber (countOf (marksOf source cs)) ++ each encodeJsDoc (importsFrom source 0 (marksOf source cs))
+  pub encode-all : Fit source cs → formed Utf8 0 source ≡ true → isJavaScript media ≡ true
+      → encodeList encodeJsDoc (jsdocImports media source cs) ≡ encodeNumber (countOf (marksOf source cs)) ++ flatMap encodeJsDoc (importsFrom source 0 (marksOf source cs))
   unfolding jsdocImports encodeList
-  encode-all fit f h = rw (le-leb media 3 h, count-all source (marksOf source cs) 0 (standings fit f))
+  encode-all fit f h = rw (h, count-all source (marksOf source cs) 0 (standings fit f))

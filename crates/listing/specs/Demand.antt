@@ -7,16 +7,16 @@ use Prim.Native.Nat.{ℕ, _+_, _<_}
 use lib.ListN.{length}
 use Rattle.laws.specs.Quoted.{ascii}
 use Rattle.text.specs.declared.position.Position.{Position}
-use Rattle.text.specs.Position.{Before, Boundary}
+use Rattle.text.specs.Position.{Before}
 use Rattle.jsdoc.specs.Grammar.{Quote, Reading, From}
 use Rattle.sheet.specs.declared.fields.Span.{Span}
 use Rattle.sheet.specs.declared.comments.Comment.{Comment}
 use Rattle.sheet.specs.Comments.{slice}
 use Rattle.sheet.specs.Fit.{commentOf}
 use Rattle.sheet.specs.Lookups.{bodySpan, body}
+use Rattle.sheet.specs.Media.{isJavaScript}
 use Rattle.report.specs.ModuleInfo.{Mode, JsDocImportInfo}
-use Rattle.report.specs.Range.{rangeOf}
-use Rattle.pragmas.specs.Pragmas.{isJavaScript}
+use Rattle.report.specs.Range.{RangeAt}
 
 -- a block comment whose body begins with `*`
 pub record StarOpened (source : List ℕ) (c : Comment) : Type 0 where
@@ -35,11 +35,9 @@ pub record ListedIn (source : List ℕ) (cs : List Comment) (place : Span) (mode
   pub start : place .start ≡ bodySpan (commentOf cs k) .start + at
   pub end : place .end ≡ bodySpan (commentOf cs k) .start + reading .end
 
--- an import stands at a place: its positions are those of the place, and what lies between them is its text in two marks
+-- an import stands at a place: its two positions are those of this place only, and between them is its text in two marks
 pub record StandsAt (source : List ℕ) (i : JsDocImportInfo) (place : Span) : Type 0 where
-  pub start : Boundary source (place .start)
-  pub end : Boundary source (place .end)
-  pub range : i .specifier .range ≡ rangeOf source place
+  pub range : RangeAt source (i .specifier .range) place
   pub text : Quote (i .specifier .text) (slice source place) []
 
 -- the list has an import that stands at the place, with this mode

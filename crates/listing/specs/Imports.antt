@@ -1,4 +1,4 @@
--- The JSDoc imports of a sheet, by marks over its source.
+-- The JSDoc imports of a sheet, by marks over its source: the value that is written. Belief rests on `JsDocRight` (specs/Demand), which is proved of it.
 use mathlib.Core.Bool.{Bool, cond, _&&_}
 use mathlib.Core.List.{List, [], _∷_, _++_}
 use mathlib.Core.Option.{Option}
@@ -6,15 +6,16 @@ use Prim.Native.Nat.{ℕ, zero, suc, _-_}
 use lib.ListN.{length, take, drop, replicate}
 use Rattle.laws.specs.Quoted.{ascii}
 use Rattle.text.specs.Bytes.{begins}
-use Rattle.jsdoc.specs.Parsed.{onOk}
+use Rattle.jsdoc.specs.Parsed.{onParsed}
 use Rattle.jsdoc.specs.Reader.{parseQuote}
 use Rattle.jsdoc.specs.Listing.{listing}
 use Rattle.sheet.specs.declared.comments.Comment.{Comment}
 use Rattle.sheet.specs.Lookups.{bodySpan, body}
+use Rattle.sheet.specs.Media.{isJavaScript}
 use Rattle.report.specs.ModuleInfo.{Mode, JsDocImportInfo}
 use Rattle.report.specs.Range.{rangeOf}
 use Rattle.pragmas.specs.Readings.{listed}
-use Rattle.pragmas.specs.Pragmas.{isJavaScript, isBlock}
+use Rattle.pragmas.specs.Pragmas.{isBlock}
 
 -- a block comment whose body begins with `*`
 abbrev pub isStarOpened : List ℕ → Comment → Bool
@@ -32,6 +33,7 @@ unfoldable pub markedByAll : List ℕ → List Comment → List ℕ → List ℕ
 markedByAll source [] marks = marks
 markedByAll source (c ∷ cs) marks = markedByAll source cs (markedBy source c marks)
 
+-- a mark here is a number at a place of the source: 0, or 1 + the mode of the import whose quote begins there
 abbrev pub marksOf : List ℕ → List Comment → List ℕ
 marksOf source cs = markedByAll source cs (replicate (length source) 0)
 
@@ -41,10 +43,10 @@ countOf [] = 0
 countOf (zero ∷ marks) = countOf marks
 countOf (suc mode ∷ marks) = suc (countOf marks)
 
--- the import whose quote begins at q: the text between its marks, and the positions of both marks and what they enclose
+-- the import whose quote begins at q: the text between its two quotation marks, and the positions of the whole quote
 unfoldable pub importAt : List ℕ → ℕ → Mode → Option JsDocImportInfo
 importAt source q mode =
-    onOk (parseQuote (drop q source))
+    onParsed (parseQuote (drop q source))
     (λ text rest. Option.some (record {
       specifier = record { text = text; range = rangeOf source (record { start = q; end = length source - length rest }) };
       mode = mode;

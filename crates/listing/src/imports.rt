@@ -1,6 +1,7 @@
 // The JSDoc imports of all comments, by marks over the source.
 use jsdoc::answers::Text;
 use jsdoc::quote::quote_at;
+use pragmas::is_javascript;
 use report::writer::Place;
 use sheet::comments::Comment;
 use sheet::comments::comment_at;
@@ -8,22 +9,22 @@ use sheet::fields::Span;
 use sheet::lookups::body;
 use sheet::lookups::body_span;
 ghost use mathlib.Core.Path.{_≡_};
-ghost use mathlib.Core.List.{[]};
+ghost use mathlib.Core.List.{flatMap};
 ghost use Prim.Native.Nat.{_*_, _≤_};
 ghost use lib.ListN.{length};
 ghost use Rattle.sheet.specs.Tables.{commentsIn};
 ghost use Rattle.sheet.specs.Fit.{Fit};
-ghost use Rattle.sheet.specs.Lookups.{Roomy};
-ghost use Rattle.report.specs.Encode.{each, encodeJsDoc, encodeList};
+ghost use Rattle.sheet.specs.Lookups.{HoldsMarks};
+ghost use Rattle.report.specs.Encode.{encodeJsDoc, encodeList};
 ghost use Rattle.report.specs.Range.{IndexOf};
-ghost use Rattle.report.specs.World.{wrote, worldAs};
-ghost use Rattle.pragmas.specs.Readings.{listed};
+ghost use Rattle.report.specs.Buffer.{wrote, bufferAs};
 ghost use Rattle.pragmas.specs.Held.{Commented};
+ghost use Rattle.pragmas.specs.Views.{encodeAny};
 ghost use Rattle.listing.specs.Imports.{isStarOpened, markedBy, marksOf, countOf, importAt, importsFrom, jsdocImports};
 
 // Is it a block comment whose body begins with `*`?
 fn is_star_opened(source: &[u8], c: Comment) -> bool
-    requires { ⌜ Roomy c ⌝ }
+    requires { ⌜ HoldsMarks c ⌝ }
     requires { ⌜ c .span .end ≤ length (now source) ⌝ }
     ensures { λ r. ⌜ r ≡ isStarOpened (now (source .entry)) c ⌝ }
 {
@@ -35,7 +36,7 @@ fn is_star_opened(source: &[u8], c: Comment) -> bool
 
 // Marks the readings of a comment at its body.
 fn mark_comment(source: &[u8], c: Comment, marks: &mut [u8])
-    requires { ⌜ Roomy c ⌝ }
+    requires { ⌜ HoldsMarks c ⌝ }
     requires { ⌜ c .span .end ≤ length (now source) ⌝ }
     requires { ⌜ length (now marks) ≡ length (now source) ⌝ }
     ensures { λ r. ⌜ now (marks .exit) ≡ markedBy (now (source .entry)) c (now (marks .entry)) ⌝ }
@@ -44,12 +45,12 @@ fn mark_comment(source: &[u8], c: Comment, marks: &mut [u8])
         let span = body_span(c);
         let start = span.start;
         let end = span.end;
-        jsdoc::imports::analyze_jsdoc_imports(&source[start..end], &mut marks[start..end]);
+        jsdoc::imports::mark_imports(&source[start..end], &mut marks[start..end]);
     }
 }
 
 // Marks each place of the source at which the place of a reading begins with 1 + its mode, and each other with 0.
-pub fn analyze_jsdoc_imports(source: &[u8], comments: &[u32], n: usize, marks: &mut [u8])
+fn mark_comments(source: &[u8], comments: &[u32], n: usize, marks: &mut [u8])
     requires { ⌜ 3 * n ≤ length (now comments) ⌝ }
     requires { ⌜ Fit (now source) (commentsIn (now comments) n) ⌝ }
     requires { ⌜ length (now marks) ≡ length (now source) ⌝ }
@@ -91,8 +92,8 @@ fn put_import(
 ) -> Place
     requires { ⌜ IndexOf (now source) (now index) ⌝ }
     requires { ⌜ at ≤ length (now source) ⌝ }
-    ensures { λ r. ⌜ worldAs (now (out .exit)) r
-        ≡ wrote (worldAs (now (out .entry)) place) (each encodeJsDoc (listed (importAt (now (source .entry)) at mode) [])) ⌝ }
+    ensures { λ r. ⌜ bufferAs (now (out .exit)) r
+        ≡ wrote (bufferAs (now (out .entry)) place) (encodeAny encodeJsDoc (importAt (now (source .entry)) at mode)) ⌝ }
 {
     let Text::Part { from, to, past } = quote_at(source, at) else {
         return place;
@@ -110,8 +111,8 @@ fn put_import(
 fn put_imports(source: &[u8], index: &[u32], marks: &[u8], out: &mut [u8], place: Place) -> Place
     requires { ⌜ IndexOf (now source) (now index) ⌝ }
     requires { ⌜ length (now marks) ≡ length (now source) ⌝ }
-    ensures { λ r. ⌜ worldAs (now (out .exit)) r
-        ≡ wrote (worldAs (now (out .entry)) place) (each encodeJsDoc (importsFrom (now (source .entry)) 0 (now (marks .entry)))) ⌝ }
+    ensures { λ r. ⌜ bufferAs (now (out .exit)) r
+        ≡ wrote (bufferAs (now (out .entry)) place) (flatMap encodeJsDoc (importsFrom (now (source .entry)) 0 (now (marks .entry)))) ⌝ }
 {
     let mut p = place;
     let mut q = 0;
@@ -128,26 +129,26 @@ fn put_imports(source: &[u8], index: &[u32], marks: &[u8], out: &mut [u8], place
 }
 
 // Writes the JSDoc imports of a sheet of this media. `marks` is lent to work in.
-pub fn put_jsdoc_imports(
+pub fn analyze_jsdoc_imports(
+    media: usize,
     source: &[u8],
     comments: &[u32],
     n: usize,
     index: &[u32],
-    media: usize,
     marks: &mut [u8],
     out: &mut [u8],
     place: Place,
 ) -> Place
     requires { ⌜ Commented (now source) (now comments) n (now index) ⌝ }
     requires { ⌜ length (now marks) ≡ length (now source) ⌝ }
-    ensures { λ r. ⌜ worldAs (now (out .exit)) r
-        ≡ wrote (worldAs (now (out .entry)) place)
+    ensures { λ r. ⌜ bufferAs (now (out .exit)) r
+        ≡ wrote (bufferAs (now (out .entry)) place)
         (encodeList encodeJsDoc (jsdocImports media (now (source .entry)) (commentsIn (now (comments .entry)) n))) ⌝ }
 {
-    if 3 < media {
-        return place.put_number(out, 0);
+    if is_javascript(media) {
+        mark_comments(source, comments, n, marks);
+        let p = place.put_number(out, count_marks(marks));
+        return put_imports(source, index, marks, out, p);
     }
-    analyze_jsdoc_imports(source, comments, n, marks);
-    let p = place.put_number(out, count_marks(marks));
-    put_imports(source, index, marks, out, p)
+    place.put_number(out, 0)
 }

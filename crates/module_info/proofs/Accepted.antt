@@ -1,49 +1,76 @@
 -- What the judge says of an accepted sheet is what the writers ask, and what demand 3 is shown from.
-use mathlib.Core.Path.{_≡_, sym, _∙_}
-use mathlib.Core.List.{List, []}
+use mathlib.Core.Path.{_≡_, refl, sym, _∙_}
+use mathlib.Core.Bool.{true}
+use mathlib.Core.List.{List, [], List·Memᴰ}
 use Prim.Native.Nat.{ℕ, _+_, _/_, _≤_}
 use native.Mathlib.Omega.{arith}
 use lib.ListN.{length}
 use Rattle.laws.specs.Decoded.{Decoded, ok, no}
 use Rattle.laws.proofs.Decoding.{refused}
+use Rattle.laws.proofs.Lists.{all-member}
+use Rattle.text.specs.declared.utf8.Encoding.the-variants.{Utf8}
+use Rattle.text.specs.Utf8.{wellFormed}
 use Rattle.text.specs.Position.{characters, Indexed}
-use Rattle.wire.specs.Views.{part}
+use Rattle.text.specs.Bytes.{part}
+use Rattle.sheet.specs.Fit.{Fit}
 use Rattle.sheet.specs.Sheet.{Sheet, accept}
 use Rattle.sheet.proofs.Rows.{rows-length}
+use Rattle.sheet_codec.specs.Limits.{FieldsFit}
+use Rattle.sheet_codec.proofs.Sheets.{accepted-within}
 use Rattle.accept.specs.declared.check.Parts.{Parts}
 use Rattle.accept.specs.Accepts.{Accepts}
 use Rattle.report.specs.declared.writer.Outcome.{Outcome}
+use Rattle.report.specs.ModuleInfo.{DependencyDescriptor}
 use Rattle.report.specs.Answer.{outcomeAs, refusedWith, fitted}
 use Rattle.report.specs.Encode.{encode}
+use Rattle.pragmas.specs.Pragmas.{typesAt}
+use Rattle.pragmas.specs.Present.{Present}
+use Rattle.pragmas.specs.Texts.{typesOf, Shown}
+use Rattle.pragmas.specs.Held.{Held}
 use Rattle.pragmas.proofs.Present.{present, types-present}
-use Rattle.pragmas.proofs.Texts.{sheet-texts, types-shown}
+use Rattle.pragmas.proofs.Texts.{types-shown, texts}
 use Rattle.listing.proofs.Right.{jsdoc-right}
+use Rattle.dep.proofs.Proper.{collect-typed}
 use Rattle.module_info.specs.Information.{moduleInfo, answerOf}
-use Rattle.module_info.specs.Pieces.{Lent, PartsOf, RootOf}
+use Rattle.module_info.specs.Pieces.{PartsOf, RootOf}
 use Rattle.module_info.specs.Demands.{OfAccepted, Demands}
 
 -- there is one such sheet
 same-sheet : {x : Decoded Sheet} {t u : Sheet} → x ≡ ok t [] → x ≡ ok u [] → t ≡ u
 same-sheet e f = cc
 
+pragmas-present : (t : Sheet) → Present t (moduleInfo t)
+unfolding moduleInfo
+pragmas-present t = present t (moduleInfo t) refl refl refl refl refl
+
 module _ {s comments groups : List ℕ} {p : Parts} (a : Accepts s comments groups p) where
+  within : FieldsFit (a .sheet)
+  within = accepted-within s (a .accepted) .fields
+
+  formed-source : wellFormed Utf8 (a .sheet .source) ≡ true
+  formed-source = within .source .1
+
+  fit : Fit (a .sheet .source) (a .sheet .comments)
+  fit = within .comments .1
+
   pub source-short : length (part s (p .«source_start») (p .«source_end»)) ≤ 32768
-  source-short = rw (a .source) (a .sourceLimit)
+  source-short = rw (a .source) (within .source .0)
 
   pub lent : 3072 ≤ length comments → 4096 ≤ length groups → {index : List ℕ} → 1026 ≤ length index
       → Indexed characters (part s (p .«source_start») (p .«source_end»)) index (length (part s (p .«source_start») (p .«source_end»)) / 64 + 1)
-      → Lent (part s (p .«source_start») (p .«source_end»)) comments groups index p
+      → Held (part s (p .«source_start») (p .«source_end»)) comments (p .comments) groups (p .groups) index
   lent c g {index} i positions =
       let short = source-short in
-      let (n, m) = a .rowLimits in (
+      let n : p .comments ≤ 1024 = rw (← a .comments, rows-length) at (within .comments .0) in
+      let m : p .groups ≤ 1024 = rw (← a .groups, rows-length) at (within .groups .0) in (
         record {
-          utf8 = rw (a .source) (a .formed);
+          utf8 = rw (a .source) formed-source;
           short = short;
           room = omega arith;
-          fit = rw (a .source, a .comments) (a .fit);
+          fit = rw (a .source, a .comments) fit;
           indexed = record { long = omega arith; positions = positions };
         },
-        record { room = omega arith; grouped = rw (a .groups) (rw (← a .comments, rows-length) at (a .grouped)) },
+        record { room = omega arith; grouped = rw (a .groups) (rw (← a .comments, rows-length) at (within .groups .1)) },
       )
 
   -- the parts are those of every sheet that the bytes are
@@ -62,12 +89,17 @@ module _ {s comments groups : List ℕ} {p : Parts} (a : Accepts s comments grou
   unfolding answerOf moduleInfo
   demanded answer = record {
     answer = rw (a .accepted) (answer (a .sheet) (a .accepted));
-    jsdoc = shown (λ t. _) (jsdoc-right (a .fit) (a .formed) (a .sheet .media));
-    pragmas = shown (λ t. _) (present _ _ _ _);
-    types = shown (λ t. _) (types-present _ _ _);
-    texts = shown (λ t. _) (sheet-texts (a .sheet) (a .formed) (a .fit), types-shown _ (a .formed) (a .fit) _);
+    jsdoc = shown (λ t. _) (jsdoc-right fit formed-source (a .sheet .media));
+    pragmas = shown (λ t. _) (pragmas-present (a .sheet));
+    types = shown (λ t. _) (types-present (a .sheet));
+    texts = shown (λ t. _) (texts (a .sheet) formed-source fit (moduleInfo (a .sheet)) (pragmas-present (a .sheet)) typed);
   }
     where
+      typed : (d : DependencyDescriptor) → List·Memᴰ d (moduleInfo (a .sheet) .dependencies) → Shown (a .sheet .source) (typesOf d)
+      typed d m x e =
+          let (start, i) = all-member _ _ (collect-typed (a .sheet .source) (typesAt (a .sheet)) (a .sheet .root) .each) m in
+          types-shown (a .sheet) formed-source fit start x (sym i ∙ e)
+
       shown : (P : Sheet → Type 0) → P (a .sheet) → OfAccepted s P
       shown P h t e = rw (same-sheet e (a .accepted)) h
 

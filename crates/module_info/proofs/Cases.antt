@@ -17,7 +17,7 @@ use Rattle.analysis.specs.Mode.{modeOf}
 use Rattle.analysis.specs.Letters.{foldCase, letterAt, wordAt}
 use Rattle.analysis.specs.Row.{ends, all, first, places, find}
 use Rattle.analysis.specs.Place.{placeOf}
-use Rattle.jsdoc.specs.Reader.{skip, skipWhitespace, whitespace, tag, word, upTo, isMark, parseQuote, pastIdent, parseIdent, parseKey, attributeMode, parseAttribute, firstMode, comma, attributesBy, attributesFrom, parseImportAttributeBlock, secondParamStart, parseSecondParam, closeCall, parseTail, seek, parseCall, parseJsdocDynamicImport, skipNamedImports, skipDefaultImport, skipNamespaceImport, skipClause, parseWith, parseFrom, parseJsdocImportDecl}
+use Rattle.jsdoc.specs.Reader.{skip, skipWhitespace, whitespace, tag, word, upTo, isMark, parseQuote, pastIdent, parseIdent, parseKey, attributeMode, parseAttribute, firstMode, comma, separatedListBy, separatedList, parseImportAttributeBlockForResolutionMode, secondParamStart, parseSecondParamObjWithLeadingComma, closeCall, parseTail, seek, parseCall, parseJsdocDynamicImport, skipNamedImports, skipDefaultImport, skipNamespaceImport, skipClause, parseAttributes, parseFrom, parseJsdocImportDecl}
 use Rattle.jsdoc.specs.Listing.{listing}
 use Rattle.sheet.specs.declared.fields.Span.{Span}
 use Rattle.sheet.specs.declared.groups.Group.{Group}
@@ -89,5 +89,5 @@ computed (references body l) = references body (moduleInfo (sheetOf 0 body) .tsR
 computed (sourceMap body x) = sourceMap body (moduleInfo (sheetOf 0 body) .sourceMapUrl)
 
 as-stated : map computed table ≡ table
-unfolding table sheetOf flatMap inRanges admits lengthBy charLength codeBy charAt alphabetic outside ranges member classAt run begins same step walk positionOf modeOf foldCase letterAt wordAt ends all first places find placeOf skip skipWhitespace whitespace tag word upTo isMark parseQuote pastIdent parseIdent parseKey attributeMode parseAttribute firstMode comma attributesBy attributesFrom parseImportAttributeBlock secondParamStart parseSecondParam closeCall parseTail seek parseCall parseJsdocDynamicImport skipNamedImports skipDefaultImport skipNamespaceImport skipClause parseWith parseFrom parseJsdocImportDecl listing groupAt headGroup bodySpan placeIn specifierIn readBy lastOf allOf headComments endComments reference referencesIn sourceMapUrlIn tsOrDenoTypes typesIn markedBy markedByAll importAt importsFrom jsdocImports moduleInfo
+unfolding table sheetOf flatMap inRanges admits lengthBy charLength codeBy charAt alphabetic outside ranges member classAt run begins same step walk positionOf modeOf foldCase letterAt wordAt ends all first places find placeOf skip skipWhitespace whitespace tag word upTo isMark parseQuote pastIdent parseIdent parseKey attributeMode parseAttribute firstMode comma separatedListBy separatedList parseImportAttributeBlockForResolutionMode secondParamStart parseSecondParamObjWithLeadingComma closeCall parseTail seek parseCall parseJsdocDynamicImport skipNamedImports skipDefaultImport skipNamespaceImport skipClause parseAttributes parseFrom parseJsdocImportDecl listing groupAt headGroup bodySpan placeIn specifierIn readBy lastOf allOf headComments endComments reference referencesIn sourceMapUrlIn tsOrDenoTypes typesIn markedBy markedByAll importAt importsFrom jsdocImports moduleInfo
 as-stated = refl

@@ -6,6 +6,7 @@ use Prim.Native.Nat.{ℕ}
 use lib.ListN.{drop}
 use Rattle.laws.specs.Decoded.{ok}
 use Rattle.wire.specs.Fields.{encodeFlag}
+use Rattle.wire.specs.Optional.{encodeOptional}
 use Rattle.sheet.specs.declared.groups.Group.{Group}
 use Rattle.sheet.specs.Tree.{Node}
 use Rattle.sheet.specs.Nodes.{node}
@@ -15,9 +16,9 @@ use Rattle.sheet.specs.Tables.{commentsIn, groupsIn}
 use Rattle.sheet.specs.Views.{programOf}
 use Rattle.sheet.specs.Lookups.{headGroup, endGroup}
 use Rattle.accept.specs.declared.check.Parts.{Parts}
-use Rattle.report.specs.Encode.{encodeOptional, encodeList, encodeSpecifier, encodeReference, encodeJsDoc, encodeDependency, encode}
-use Rattle.report.specs.World.{World, wrote}
-use Rattle.report.proofs.Worlds.{wrote-append, wrote-cons}
+use Rattle.report.specs.Encode.{encodeList, encodeSpecifier, encodeReference, encodeJsDoc, encodeDependency, encode}
+use Rattle.report.specs.Buffer.{Buffer, wrote}
+use Rattle.report.proofs.Buffers.{wrote-append, wrote-cons}
 use Rattle.pragmas.specs.Pragmas.{inGroup, headComments, endComments, referencesIn, selfTypesIn, jsxImportSourceIn, jsxImportSourceTypesIn, sourceMapUrlIn, typesIn}
 use Rattle.listing.specs.Imports.{jsdocImports}
 use Rattle.dep.specs.Collect.{collect}
@@ -25,7 +26,7 @@ use Rattle.module_info.specs.Information.{moduleInfo}
 use Rattle.module_info.specs.Pieces.{dependencyBytes, headBytes, restBytes, PartsOf, RootOf}
 
 module _ {t : Sheet} {source comments groups : List ℕ} {p : Parts} (o : PartsOf t source comments groups p) where
-  pub dependencies-written : {s : List ℕ} (r : RootOf t s p) (u : World) {v w : World} → v ≡ wrote u (encodeFlag (p .program .script))
+  pub dependencies-written : {s : List ℕ} (r : RootOf t s p) (u : Buffer) {v w : Buffer} → v ≡ wrote u (encodeFlag (p .program .script))
       → ((n : Node) (l : List ℕ) → node source 64 (drop (p .root) s) ≡ ok n l → p .entries ≡ entries n
       → w ≡ wrote v (encodeList encodeDependency (collect source (typesIn source (commentsIn comments (p .comments)) (groupsIn groups (p .groups))) n)))
       → w ≡ wrote u (dependencyBytes t)
@@ -35,7 +36,7 @@ module _ {t : Sheet} {source comments groups : List ℕ} {p : Parts} (o : PartsO
       (walked (t .root) [] (rw (o .source-is) (r .root)) (sym (r .count)))
 
   module _ {f : Option Group} where
-    pub head-written : (u : World) {v w x y : World} → f ≡ headGroup (programOf (p .program)) (groupsIn groups (p .groups))
+    pub head-written : (u : Buffer) {v w x y : Buffer} → f ≡ headGroup (programOf (p .program)) (groupsIn groups (p .groups))
         → v ≡ wrote u (encodeList encodeReference (referencesIn source (inGroup (commentsIn comments (p .comments)) f)))
         → w ≡ wrote v (encodeOptional encodeSpecifier (selfTypesIn (p .media) source (inGroup (commentsIn comments (p .comments)) f)))
         → x ≡ wrote w (encodeOptional encodeSpecifier (jsxImportSourceIn (p .media) source (inGroup (commentsIn comments (p .comments)) f)))
@@ -46,7 +47,7 @@ module _ {t : Sheet} {source comments groups : List ℕ} {p : Parts} (o : PartsO
         rw (← o .media, ← o .source-is, ← o .comments-are, ← o .groups-are, ← o .program, ← found, wrote-append, ← references, wrote-append, ← self, wrote-append, ← jsx)
         jsxTypes
 
-    pub rest-written : (u : World) {v w : World} → f ≡ endGroup (programOf (p .program)) (groupsIn groups (p .groups))
+    pub rest-written : (u : Buffer) {v w : Buffer} → f ≡ endGroup (programOf (p .program)) (groupsIn groups (p .groups))
         → v ≡ wrote u (encodeList encodeJsDoc (jsdocImports (p .media) source (commentsIn comments (p .comments))))
         → w ≡ wrote v (encodeOptional encodeSpecifier (sourceMapUrlIn source (inGroup (commentsIn comments (p .comments)) f)))
         → w ≡ wrote u (restBytes t)
@@ -55,7 +56,7 @@ module _ {t : Sheet} {source comments groups : List ℕ} {p : Parts} (o : PartsO
         rw (← o .media, ← o .source-is, ← o .comments-are, ← o .groups-are, ← o .program, ← found, wrote-append, ← imports) map
 
 -- the three pieces are the report
-pub report-written : (t : Sheet) (u : World) {v w x : World} → v ≡ wrote u (dependencyBytes t) → w ≡ wrote v (headBytes t) → x ≡ wrote w (restBytes t)
+pub report-written : (t : Sheet) (u : Buffer) {v w x : Buffer} → v ≡ wrote u (dependencyBytes t) → w ≡ wrote v (headBytes t) → x ≡ wrote w (restBytes t)
     → x ≡ wrote u (encode (moduleInfo t))
 unfolding encode moduleInfo dependencyBytes headBytes restBytes
 report-written t u dependencies head rest = rw (rest, head, dependencies) (simp wrote-append)

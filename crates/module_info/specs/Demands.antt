@@ -6,9 +6,9 @@ use Rattle.laws.specs.Decoded.{ok}
 use Rattle.sheet.specs.Sheet.{Sheet, accept}
 use Rattle.report.specs.declared.writer.Outcome.{Outcome}
 use Rattle.report.specs.Answer.{outcomeAs}
-use Rattle.pragmas.specs.Pragmas.{headComments, endComments, typesAt}
+use Rattle.pragmas.specs.Pragmas.{typesAt}
 use Rattle.pragmas.specs.Present.{Present, TypesPresent}
-use Rattle.pragmas.specs.Texts.{Texts, Shown}
+use Rattle.pragmas.specs.Texts.{Texts}
 use Rattle.listing.specs.Demand.{JsDocRight}
 use Rattle.module_info.specs.Information.{moduleInfo, answerOf}
 
@@ -27,8 +27,8 @@ pub record Demands (s : List ℕ) (size : ℕ) (outcome : Outcome) (buffer : Lis
   pub jsdoc : OfAccepted s (λ t. JsDocRight (t .media) (t .source) (t .comments) (moduleInfo t .jsdocImports))
   -- every reference and pragma appears exactly when its rule has a reading in the comments that 01 gives to it, at that reading's place, references in
   -- the order of their comments
-  pub pragmas : OfAccepted s (λ t. Present (t .media) (t .source) (headComments t) (endComments t))
+  pub pragmas : OfAccepted s (λ t. Present t (moduleInfo t))
   -- and so do the types of an entry, by the start of its node
-  pub types : OfAccepted s (λ t. (start : ℕ) → TypesPresent (t .source) (t .comments) (t .groups) start)
+  pub types : OfAccepted s (λ t. (start : ℕ) → TypesPresent t start (typesAt t start))
   -- the source between the two positions of each, less the two marks where a quoted text is read, is its text
-  pub texts : OfAccepted s (λ t. Texts (t .media) (t .source) (headComments t) (endComments t) × ((start : ℕ) → Shown (t .source) (typesAt t start)))
+  pub texts : OfAccepted s (λ t. Texts (t .source) (moduleInfo t))

@@ -1,5 +1,4 @@
 -- The module information of a sheet, and the answer to a call: `module_info_from_swc` of src/ast/mod.rs, behind the sheet reader.
-use mathlib.Core.Path.{_≡_}
 use mathlib.Core.List.{List}
 use Prim.Native.Nat.{ℕ, _+_, _*_, _%_}
 use Rattle.laws.specs.Decoded.{Decoded, ok, no}
@@ -35,8 +34,3 @@ answerOf s size = answerTo size (accept s)
 -- number and length in one, for C: number + 256 × length. The length takes 56 bits, which is more than any machine's memory has
 abbrev pub packed : Answer → ℕ
 packed a = a .number + 256 * (a .length % 72057594037927936)
-
--- a number and what a buffer holds are an answer
-pub record Packs (a : Answer) (n : ℕ) (buffer : List ℕ) : Type 0 where
-  pub number : n ≡ packed a
-  pub bytes : buffer ≡ a .buffer

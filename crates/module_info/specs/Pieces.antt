@@ -5,15 +5,15 @@ use Prim.Native.Nat.{ℕ}
 use lib.ListN.{drop}
 use Rattle.laws.specs.Decoded.{ok}
 use Rattle.wire.specs.Fields.{encodeFlag}
+use Rattle.wire.specs.Optional.{encodeOptional}
 use Rattle.sheet.specs.Nodes.{node}
 use Rattle.sheet.specs.Walked.{entries}
 use Rattle.sheet.specs.Sheet.{Sheet}
 use Rattle.sheet.specs.Tables.{commentsIn, groupsIn}
 use Rattle.sheet.specs.Views.{programOf}
 use Rattle.accept.specs.declared.check.Parts.{Parts}
-use Rattle.report.specs.Encode.{encodeOptional, encodeList, encodeSpecifier, encodeReference, encodeJsDoc, encodeDependency}
+use Rattle.report.specs.Encode.{encodeList, encodeSpecifier, encodeReference, encodeJsDoc, encodeDependency}
 use Rattle.pragmas.specs.Pragmas.{tsReferences, selfTypesSpecifier, jsxImportSource, jsxImportSourceTypes, sourceMapUrl, typesAt}
-use Rattle.pragmas.specs.Held.{Commented, GroupedIn}
 use Rattle.listing.specs.Imports.{jsdocImports}
 use Rattle.dep.specs.Collect.{collect}
 
@@ -31,10 +31,6 @@ headBytes t =
 -- the JSDoc imports and the source map
 unfoldable pub restBytes : Sheet → List ℕ
 restBytes t = encodeList encodeJsDoc (jsdocImports (t .media) (t .source) (t .comments)) ++ encodeOptional encodeSpecifier (sourceMapUrl t)
-
--- the tables and the index are those of the source, for so many comments and groups
-abbrev pub Lent : List ℕ → List ℕ → List ℕ → List ℕ → Parts → Type 0
-Lent source comments groups index p = Commented source comments (p .comments) index × GroupedIn (p .comments) groups (p .groups)
 
 -- the parts of a sheet as they are lent
 pub record PartsOf (t : Sheet) (source comments groups : List ℕ) (p : Parts) : Type 0 where

@@ -1,10 +1,10 @@
 // The module information of a sheet, as a report in a lent buffer.
-use accept::check::Checked;
 use accept::check::Parts;
+use accept::check::SheetChecked;
 use accept::check::check_sheet;
 use dep::entries::Counts;
 use dep::walk::analyze_program_dependencies;
-use listing::imports::put_jsdoc_imports;
+use listing::imports::analyze_jsdoc_imports;
 use pragmas::analyze_jsx_import_source;
 use pragmas::analyze_jsx_import_source_types;
 use pragmas::analyze_source_map_url;
@@ -25,11 +25,13 @@ ghost use lib.ListN.{length};
 ghost use Rattle.laws.specs.Decoded.{ok};
 ghost use Rattle.sheet.specs.Sheet.{Sheet, accept};
 ghost use Rattle.accept.specs.Accepts.{Accepts};
-ghost use Rattle.report.specs.World.{wrote, worldAs};
+ghost use Rattle.report.specs.declared.writer.Outcome.{Outcome};
+ghost use Rattle.report.specs.Buffer.{wrote, bufferAs};
 ghost use Rattle.report.specs.Encode.{encode};
 ghost use Rattle.report.specs.Answer.{outcomeAs, fitted};
-ghost use Rattle.module_info.specs.Information.{moduleInfo, answerOf, packed, Packs};
-ghost use Rattle.module_info.specs.Pieces.{dependencyBytes, headBytes, restBytes, Lent, PartsOf, RootOf};
+ghost use Rattle.pragmas.specs.Held.{Held};
+ghost use Rattle.module_info.specs.Information.{moduleInfo, packed};
+ghost use Rattle.module_info.specs.Pieces.{dependencyBytes, headBytes, restBytes, PartsOf, RootOf};
 ghost use Rattle.module_info.specs.Demands.{Demands};
 
 // The script flag and the dependencies.
@@ -43,9 +45,9 @@ fn put_dependencies(
     out: &mut [u8],
     place: Place,
 ) -> Place
-    requires { ⌜ Lent (now source) (now comments) (now groups) (now index) parts ⌝ }
+    requires { ⌜ Held (now source) (now comments) (parts .comments) (now groups) (parts .groups) (now index) ⌝ }
     ensures { λ r. ⌜ ((t : Sheet) → PartsOf t (now (source .entry)) (now (comments .entry)) (now (groups .entry)) parts → RootOf t (now (sheet .entry)) parts
-        → worldAs (now (out .exit)) r ≡ wrote (worldAs (now (out .entry)) place) (dependencyBytes t)) ⌝ }
+        → bufferAs (now (out .exit)) r ≡ wrote (bufferAs (now (out .entry)) place) (dependencyBytes t)) ⌝ }
 {
     let k = Counts {
         comments: parts.comments,
@@ -78,9 +80,9 @@ fn put_head(
     out: &mut [u8],
     place: Place,
 ) -> Place
-    requires { ⌜ Lent (now source) (now comments) (now groups) (now index) parts ⌝ }
+    requires { ⌜ Held (now source) (now comments) (parts .comments) (now groups) (parts .groups) (now index) ⌝ }
     ensures { λ r. ⌜ ((t : Sheet) → PartsOf t (now (source .entry)) (now (comments .entry)) (now (groups .entry)) parts
-        → worldAs (now (out .exit)) r ≡ wrote (worldAs (now (out .entry)) place) (headBytes t)) ⌝ }
+        → bufferAs (now (out .exit)) r ≡ wrote (bufferAs (now (out .entry)) place) (headBytes t)) ⌝ }
 {
     let n = parts.comments;
     let media = parts.media;
@@ -103,18 +105,18 @@ fn put_rest(
     place: Place,
 ) -> Place
     requires { ⌜ 32768 ≤ length (now marks) ⌝ }
-    requires { ⌜ Lent (now source) (now comments) (now groups) (now index) parts ⌝ }
+    requires { ⌜ Held (now source) (now comments) (parts .comments) (now groups) (parts .groups) (now index) ⌝ }
     ensures { λ r. ⌜ ((t : Sheet) → PartsOf t (now (source .entry)) (now (comments .entry)) (now (groups .entry)) parts
-        → worldAs (now (out .exit)) r ≡ wrote (worldAs (now (out .entry)) place) (restBytes t)) ⌝ }
+        → bufferAs (now (out .exit)) r ≡ wrote (bufferAs (now (out .entry)) place) (restBytes t)) ⌝ }
 {
     let n = parts.comments;
     let long = source.len();
-    let p = put_jsdoc_imports(
+    let p = analyze_jsdoc_imports(
+        parts.media,
         source,
         comments,
         n,
         index,
-        parts.media,
         &mut marks[0..long],
         out,
         place,
@@ -134,7 +136,7 @@ fn put_report(
 ) -> Place
     requires { ⌜ Accepts (now sheet) (now comments) (now groups) parts ⌝ }
     ensures { λ r. ⌜ ((t : Sheet) → accept (now (sheet .entry)) ≡ ok t []
-        → worldAs (now (out .exit)) r ≡ wrote (worldAs (now (out .entry)) place) (encode (moduleInfo t))) ⌝ }
+        → bufferAs (now (out .exit)) r ≡ wrote (bufferAs (now (out .entry)) place) (encode (moduleInfo t))) ⌝ }
 {
     let start = parts.source_start;
     let end = parts.source_end;
@@ -176,8 +178,8 @@ pub fn module_info(sheet: &[u8], buffer: &mut [u8]) -> Outcome
     let mut groups = [0u32; 4096];
     let mut longest = [0u32; 1024];
     match check_sheet(sheet, &mut comments, &mut groups, &mut longest) {
-        Checked::Refused(r) => refuse_all(buffer, r),
-        Checked::Accepted(parts) => write_report(sheet, parts, &comments, &groups, buffer),
+        SheetChecked::Refused(r) => refuse_all(buffer, r),
+        SheetChecked::Accepted(parts) => write_report(sheet, parts, &comments, &groups, buffer),
     }
 }
 
@@ -194,7 +196,8 @@ fn pack(outcome: Outcome) -> u64
 // The report function for C: number + 256 × length, and the buffer filled.
 #[no_mangle]
 pub extern "C" fn module_info_answer(sheet: &[u8], buffer: &mut [u8]) -> u64
-    ensures { λ r. ⌜ Packs (answerOf (now (sheet .entry)) (length (now (buffer .entry)))) r (now (buffer .exit)) ⌝ }
+    ensures { λ r. ⌜ ((o : Outcome) × Demands (now (sheet .entry)) (length (now (buffer .entry))) o (now (buffer .exit))
+        × (r ≡ packed (outcomeAs o (now (buffer .exit))))) ⌝ }
 {
     pack(module_info(sheet, buffer))
 }

@@ -6,7 +6,8 @@ use native.Mathlib.Nat.{add-assoc, add-zero, zero-add}
 use native.Mathlib.Omega.{arith}
 use Rattle.sheet.specs.declared.fields.Span.{Span}
 use Rattle.sheet.specs.Tree.{Node, Arguments, noArguments, argument}
-use Rattle.sheet.specs.Walked.{shape, isUncooked, one, entries, entriesOf, uncooked, uncookedOf}
+use Rattle.sheet.specs.Shape.{shape, isUncooked}
+use Rattle.sheet.specs.Walked.{one, entries, entriesOf, uncooked, uncookedOf}
 use Rattle.nodes.specs.declared.tally.Tally.{Tally}
 use Rattle.nodes.specs.declared.tally.Judged.{Judged}
 use Rattle.nodes.specs.declared.tally.Passed.{Passed}

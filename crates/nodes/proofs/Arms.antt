@@ -5,19 +5,21 @@ use mathlib.Core.List.{List}
 use Prim.Native.Nat.{ℕ}
 use native.Mathlib.Nat.{add-assoc, add-zero, zero-add}
 use Rattle.laws.specs.Decoded.{Decoded, ok, no, andThen, onOk, Decoder, _>>=_, return}
-use Rattle.laws.proofs.Decoding.{refused, map-map}
+use Rattle.laws.proofs.Decoding.{refused, map-map, built}
+use Rattle.laws.proofs.Splits.{Splits, ends, first}
+use Rattle.text.specs.Bytes.{part}
 use Rattle.wire.specs.Fields.{flag}
 use Rattle.wire.specs.Number.{number}
-use Rattle.wire.specs.Views.{part}
 use Rattle.sheet.specs.declared.fields.Span.{Span}
 use Rattle.sheet.specs.Tree.{Quoted, Pieces, Node, template, binary, importCall, call, importType, Nodes, none, more, spread, otherProperty, childKey, stringKey, nameKey, Arguments, Properties, Attributes, withObject}
 use Rattle.sheet.specs.Nodes.{many, nodes, arguments, attributes, callRest}
-use Rattle.sheet.specs.Walked.{anyUncooked, entries, entriesAll, entriesOf, entriesWith, uncooked, uncookedAll, uncookedOf}
+use Rattle.sheet.specs.Shape.{anyUncooked}
+use Rattle.sheet.specs.Walked.{entries, entriesAll, entriesOf, entriesWith, uncooked, uncookedAll, uncookedOf}
 use Rattle.heads.specs.declared.parts.Property.{Property}
 use Rattle.heads.specs.declared.parts.Property.the-variants as property
-use Rattle.heads.specs.Rest.{behind, propertyRest}
+use Rattle.heads.specs.Rest.{behind}
 use Rattle.heads.specs.Views.{propertyOf}
-use Rattle.heads.proofs.Splits.{Splits, ends, first}
+use Rattle.heads.proofs.ByHead.{propertyRest}
 use Rattle.nodes.specs.declared.tally.Tally.{Tally}
 use Rattle.nodes.specs.declared.tally.Judged.{Judged}
 use Rattle.nodes.specs.declared.tally.Passed.{Passed}
@@ -36,10 +38,9 @@ abbrev entry : Judged
 entry = record { entries = 1; uncooked = false; require = false; template = false }
 
 -- what is found in a value, and what is found in what is built from it
-built : {A B C D : Type 0} (f : B → D) (tally : A → B) (g : C → D) (build : A → C) → ((a : A) → f (tally a) ≡ g (build a)) → (x : Decoded A)
+found-built : {A B C D : Type 0} (f : B → D) (tally : A → B) (g : C → D) (build : A → C) → ((a : A) → f (tally a) ≡ g (build a)) → (x : Decoded A)
     → onOk f (onOk tally x) ≡ onOk g (andThen x (λ a. return (build a)))
-built f tally g build e (ok a t) = ap (λ d. ok d t) (e a)
-built f tally g build e (no r) = refl
+found-built f tally g build e x = map-map f tally x ∙ built (λ a. f (tally a)) g build e x
 
 -- one node and two, read one after the other, and what is found in them
 module _ (inner : Decoder Node) {A B C : Type 0} (f : A → C) (g : B → C) where
@@ -133,7 +134,7 @@ module _ (s : List ℕ) where
   module _ {A : Type 0} (tally : A → Tally) (build : A → Node) (x : Decoded A) (y : Tallied) (f : talliedAs s y ≡ onOk tally x) where
     -- a node that holds others
     pub holds : (own raw : Bool) → ((a : A) → holdingOf own raw (tally a) ≡ judged (build a)) → checkedAs s (withOwn own raw y) ≡ onOk judged (andThen x (λ a. return (build a)))
-    holds own raw e = with-own-as own raw y ∙ ap (onOk (holdingOf own raw)) f ∙ built (holdingOf own raw) tally judged build e x
+    holds own raw e = with-own-as own raw y ∙ ap (onOk (holdingOf own raw)) f ∙ found-built (holdingOf own raw) tally judged build e x
 
     pub holds-plain : (raw : Bool) → ((a : A) → held raw (tally a) ≡ judged (build a)) → checkedAs s (withOwn false raw y) ≡ onOk judged (andThen x (λ a. return (build a)))
     holds-plain raw e = holds false raw (λ a. no-own (tally a) ∙ e a)
@@ -143,7 +144,7 @@ module _ (s : List ℕ) where
 
     -- a node with an entry, in which nothing is walked
     pub is-entry : ((a : A) → entry ≡ judged (build a)) → checkedAs s (onlyEntry y) ≡ onOk judged (andThen x (λ a. return (build a)))
-    is-entry e = only-entry-as y ∙ ap (onOk (λ t. entry)) f ∙ built (λ t. entry) tally judged build e x
+    is-entry e = only-entry-as y ∙ ap (onOk (λ t. entry)) f ∙ found-built (λ t. entry) tally judged build e x
 
   -- a template, its pieces read
   pub template-holds : (sp : Span) (inner : Decoder Node) (n : ℕ) (x : Decoded Pieces) {b : Bool} {v : List ℕ} → onOk anyUncooked x ≡ ok b v
@@ -173,7 +174,7 @@ module _ (s : List ℕ) where
     call-holds e build h u y f =
         called-by-as e y
         ∙ ap (onOk (callOf e)) f
-        ∙ built (callOf e) passedAll judged (λ p. build (p .0) (p .1)) h (callParts source inner u)
+        ∙ found-built (callOf e) passedAll judged (λ p. build (p .0) (p .1)) h (callParts source inner u)
         ∙ sym (ap (onOk judged) (call-parted source levels inner object′ sp build u))
 
     pub import-call-holds : (phase : ℕ) (u : List ℕ) (y : PassedRead) → passedAs s y ≡ onOk passedAll (callParts source inner u)
@@ -211,7 +212,7 @@ module _ (s : List ℕ) where
       rw (h, i)
       (with-nodes-as (passed xs) y
       ∙ ap (onOk (plusNodes (passed xs))) f
-      ∙ built (plusNodes (passed xs)) tallyAll passedAll (λ ns. (xs, ns)) (λ ns. refl) (nodes inner m v))
+      ∙ found-built (plusNodes (passed xs)) tallyAll passedAll (λ ns. (xs, ns)) (λ ns. refl) (nodes inner m v))
   arguments-nodes inner (no r) e g y f = absurd (refused e)
 
   -- attributes behind nodes
@@ -226,16 +227,10 @@ module _ (s : List ℕ) where
       rw (h, i)
       (joined-as (tallyAll ns) y
       ∙ ap (onOk (plus (tallyAll ns))) f
-      ∙ built (plus (tallyAll ns)) tallyWith tallyTyped (λ a. (ns, a)) (λ a. refl) (behind there object′ v))
+      ∙ found-built (plus (tallyAll ns)) tallyWith tallyTyped (λ a. (ns, a)) (λ a. refl) (behind there object′ v))
   nodes-attributes object′ (no r) e g y f = absurd (refused e)
 
 -- an Object that holds attributes
 pub object-holds : (sp : Span) (x : Decoded Properties) → onOk tallyIn x ≡ onOk tallyWith (andThen x (λ ps. return (withObject sp ps)))
 object-holds sp (ok ps t) = refl
 object-holds sp (no r) = refl
-
--- a refusal behind what was read
-pub then-no : {A B C : Type 0} (f : A → B) (x : Decoded A) {b : B} {w : List ℕ} → onOk f x ≡ ok b w
-    → (k : A → List ℕ → Decoded C) (r : ℕ) → ((a : A) → k a w ≡ no r) → andThen x k ≡ no r
-then-no f (ok a t) {b} {w} e k r h = let i : w ≡ t = cc in rw i at (h a)
-then-no f (no q) e k r h = absurd (refused e)

@@ -1,16 +1,16 @@
 -- What the loops over nodes, arguments and properties keep: what was found so far, with what is to come, is what there is in all.
-use mathlib.Core.Path.{_≡_, refl, sym, ap, _∙_}
+use mathlib.Core.Path.{_≡_, sym, ap, _∙_}
 use mathlib.Core.Bool.{Bool}
 use mathlib.Core.List.{List}
 use Prim.Native.Nat.{ℕ, _-_, _≤_, _<_}
-use Rattle.laws.specs.Decoded.{Decoded, ok, no, andThen, onOk, Decoder, _>>=_, return}
+use Rattle.laws.specs.Decoded.{Decoded, ok, no, onOk, Decoder, _>>=_}
 use Rattle.laws.proofs.Decoding.{onOk-ok, onOk-no, onOk-same}
+use Rattle.laws.proofs.Answers.{Reads, ends, behind}
 use Rattle.sheet.specs.declared.fields.Span.{Span}
-use Rattle.sheet.specs.Tree.{Node, Nodes, none, more, noArguments, argument, Properties, noProperties, spread, otherProperty, childKey, stringKey, nameKey}
+use Rattle.sheet.specs.Tree.{Node, Nodes, none, more, noArguments, argument, Properties, noProperties}
 use Rattle.sheet.specs.Nodes.{many, nodes, argumentItem, arguments, propertyItem, properties}
 use Rattle.heads.specs.Parts.{PropertyHead, spreadHead, otherPropertyHead, childKeyHead, stringKeyHead, nameKeyHead, propertyHead, argumentHead}
-use Rattle.heads.specs.Rest.{propertyRest}
-use Rattle.heads.proofs.ByHead.{argument-by-head, property-by-head}
+use Rattle.heads.proofs.ByHead.{argument-by-head, property-by-head, propertyRest}
 use Rattle.heads.proofs.Many.{found, found-step, found-stop, found-end}
 use Rattle.nodes.specs.declared.tally.Tally.{Tally}
 use Rattle.nodes.specs.declared.tally.Judged.{Judged}
@@ -18,22 +18,12 @@ use Rattle.nodes.specs.declared.tally.Passed.{Passed}
 use Rattle.nodes.specs.Judged.{judged, tallyAll, tallyIn, gain, plus, withArgument, passed}
 use Rattle.nodes.proofs.Adds.{nothing, tallyOf, plus-assoc, nothing-plus, plus-nothing, noPassed, behindPassed, one-more, all-passed, none-more}
 
--- what holds of a value that was read
-abbrev Holds : {A : Type 0} → (A → Type 0) → Decoded A → Type 0
-Holds P (ok a t) = P a
-Holds P (no r) = Unit {0}
-
 -- a property adds what it would be by itself
 abbrev Adds : (Properties → Properties) → Type 0
 Adds add = (ps : Properties) → tallyIn (add ps) ≡ plus (gain add) (tallyIn ps)
 
 added : (t u : Tally) → plus t u ≡ plus (plus t nothing) u
 added t u = ap (λ x. plus x u) (sym (plus-nothing t))
-
-adds-one : (f : Node → Properties → Properties) → ((n : Node) (ps : Properties) → tallyIn (f n ps) ≡ plus (tallyOf (judged n)) (tallyIn ps))
-    → (x : Decoded Node) → Holds Adds (andThen x (λ n. return (f n)))
-adds-one f e (ok n t) = λ ps. e n ps ∙ added (tallyOf (judged n)) (tallyIn ps) ∙ ap (λ t. plus t (tallyIn ps)) (sym (e n noProperties))
-adds-one f e (no r) = tt
 
 -- what is found in all, where t was found before
 abbrev pub afterNodes : Tally → Nodes → Tally
@@ -97,27 +87,15 @@ module _ (inner : Decoder Node) where
       arguments-end h = found-end behindPassed noArguments (argumentItem inner source) p k u h ∙ ap (λ p. ok p u) (none-more p)
 
   -- each property that is read adds what it would be by itself
-  by-kind : (h : PropertyHead) (u : List ℕ) → Holds Adds (propertyRest inner h u)
-  by-kind spreadHead u = adds-one spread (λ n ps. refl) (inner u)
-  by-kind otherPropertyHead u = adds-one otherProperty (λ n ps. refl) (inner u)
-  by-kind childKeyHead u = key-first (inner u)
-    where
-      key-first : (x : Decoded Node) → Holds Adds (andThen x (λ k. inner >>= λ v. return (childKey k v)))
-      key-first (ok k t) = value-next (inner t)
-        where
-          value-next : (x : Decoded Node) → Holds Adds (andThen x (λ v. return (childKey k v)))
-          value-next (ok v t) = λ ps. added (plus (tallyOf (judged k)) (tallyOf (judged v))) (tallyIn ps)
-          value-next (no r) = tt
-      key-first (no r) = tt
-  by-kind (stringKeyHead x) u = adds-one (stringKey x) (λ n ps. refl) (inner u)
-  by-kind (nameKeyHead x) u = adds-one (nameKey x) (λ n ps. refl) (inner u)
+  by-kind : (h : PropertyHead) → Reads Adds (propertyRest inner h)
+  by-kind spreadHead = behind inner λ n. ends λ ps. added (tallyOf (judged n)) (tallyIn ps)
+  by-kind otherPropertyHead = behind inner λ n. ends λ ps. added (tallyOf (judged n)) (tallyIn ps)
+  by-kind childKeyHead = behind inner λ k. behind inner λ v. ends λ ps. added (plus (tallyOf (judged k)) (tallyOf (judged v))) (tallyIn ps)
+  by-kind (stringKeyHead x) = behind inner λ n. ends λ ps. added (tallyOf (judged n)) (tallyIn ps)
+  by-kind (nameKeyHead x) = behind inner λ n. ends λ ps. added (tallyOf (judged n)) (tallyIn ps)
 
-  property-adds : (u : List ℕ) → Holds Adds (propertyItem inner u)
-  property-adds u = rw (property-by-head inner u) (go (propertyHead u))
-    where
-      go : (x : Decoded PropertyHead) → Holds Adds (andThen x (propertyRest inner))
-      go (ok h t) = by-kind h t
-      go (no r) = tt
+  property-adds : Reads Adds (propertyItem inner)
+  property-adds = record { at = λ u. rw (property-by-head inner u) (behind propertyHead by-kind .at u) }
 
   abbrev pub propertiesFrom : Tally → ℕ → List ℕ → Decoded Tally
   propertiesFrom = found afterProperties noProperties (propertyItem inner)
@@ -130,7 +108,7 @@ module _ (inner : Decoder Node) where
     pub properties-step : {g : Tally} {v : List ℕ} → 0 < k → onOk gain (propertyItem inner u) ≡ ok g v → propertiesFrom t k u ≡ propertiesFrom (plus t g) (k - 1) v
     properties-step h e =
         let (add, is, gives) = onOk-ok gain (propertyItem inner u) e in
-        let adds : Adds add = rw is at (property-adds u) in
+        let adds : Adds add = rw is at (property-adds .at u) in
         rw (← gives)
         (found-step afterProperties noProperties (propertyItem inner) t (plus t (gain add)) k u h is
         (λ ps. ap (plus t) (adds ps) ∙ sym (plus-assoc t (gain add) (tallyIn ps))))

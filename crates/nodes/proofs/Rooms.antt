@@ -2,6 +2,7 @@
 use mathlib.Core.Bool.{Bool}
 use Prim.Native.Nat.{ℕ, _+_, _≤_}
 use native.Mathlib.Omega.{arith}
+use mathlib.Core.Bool.{_&&_}
 use Rattle.wire.specs.declared.Cursor.{Cursor}
 use Rattle.nodes.specs.declared.tally.Tally.{Tally}
 use Rattle.nodes.specs.declared.tally.Judged.{Judged}
@@ -13,7 +14,6 @@ use Rattle.nodes.specs.declared.tally.Tallied.the-variants as tallied
 use Rattle.nodes.specs.declared.tally.PassedRead.{PassedRead}
 use Rattle.nodes.specs.declared.tally.PassedRead.the-variants as passedRead
 use Rattle.nodes.specs.Answers.{leafOf, withOwn, onlyEntry, joined, withNodes, calledBy, Room, RoomPassed, PastChecked, PastRest, PastTally, PastPassed}
-use mathlib.Core.Bool.{_&&_}
 use Rattle.nodes.proofs.Adds.{one-small}
 
 module _ (at n : ℕ) where

@@ -85,7 +85,7 @@ abbrev pub calledBy : Judged → PassedRead → Checked
 calledBy e (passedRead.Is p next) = checked.Is (callOf e p) next
 calledBy e (passedRead.Refused r) = checked.Refused r
 
--- so many entries more are still fewer than the bytes read
+-- with so many entries more, still no more than the bytes up to the cursor
 abbrev pub Room : ℕ → Tallied → Type 0
 Room k (tallied.Is t next) = k + t .entries ≤ next .at
 Room k (tallied.Refused r) = Unit {0}

@@ -6,14 +6,17 @@ use Rattle.laws.specs.Decoded.{Decoder, _>>=_, return}
 use Rattle.wire.specs.Number.{number}
 use Rattle.sheet.specs.Tree.{Node, Nodes, Arguments, Properties, noProperties, Attributes}
 use Rattle.sheet.specs.Nodes.{nodes, arguments, attributes}
-use Rattle.sheet.specs.Walked.{shape, isRequire, isUncooked, anyArgument, firstUncooked, entries, entriesAll, entriesOf, entriesIn, entriesWith, uncooked, uncookedAll, uncookedOf, uncookedIn, uncookedWith}
+use Rattle.sheet.specs.Shape.{shape, isRequire, isUncooked}
+use Rattle.sheet.specs.Walked.{anyArgument, firstUncooked, entries, entriesAll, entriesOf, entriesIn, entriesWith, uncooked, uncookedAll, uncookedOf, uncookedIn, uncookedWith}
 use Rattle.nodes.specs.declared.tally.Tally.{Tally}
 use Rattle.nodes.specs.declared.tally.Judged.{Judged}
 use Rattle.nodes.specs.declared.tally.Passed.{Passed}
 
+-- what is found in a node
 abbrev pub judged : Node → Judged
 judged n = record { entries = entries n; uncooked = uncooked n; require = isRequire (shape n); template = isUncooked (shape n) }
 
+-- in nodes, in properties and in attributes
 abbrev pub tallyAll : Nodes → Tally
 tallyAll ns = record { entries = entriesAll ns; uncooked = uncookedAll ns }
 
@@ -23,9 +26,11 @@ tallyIn ps = record { entries = entriesIn ps; uncooked = uncookedIn ps }
 abbrev pub tallyWith : Attributes → Tally
 tallyWith a = record { entries = entriesWith a; uncooked = uncookedWith a }
 
+-- in arguments
 abbrev pub passed : Arguments → Passed
 passed xs = record { entries = entriesOf xs; uncooked = uncookedOf xs; any = anyArgument xs; template = firstUncooked xs }
 
+-- in one part and in another
 abbrev pub plus : Tally → Tally → Tally
 plus t u = record { entries = t .entries + u .entries; uncooked = t .uncooked || u .uncooked }
 

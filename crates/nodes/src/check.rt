@@ -37,28 +37,8 @@ ghost use Rattle.sheet.specs.Nodes.{node, nodes, arguments, propertyItem, prope
 ghost use Rattle.sheet.specs.declared.fields.Span.{Span};
 ghost use Rattle.heads.specs.Rest.{behind, rest};
 ghost use Rattle.heads.specs.Views.{headOf};
-ghost use Rattle.nodes.specs.Judged.{
-  judged,
-  tallyAll,
-  tallyIn,
-  tallyWith,
-  gain,
-  passed,
-  callParts,
-  passedAll,
-  typedParts,
-  tallyTyped,
-};
-ghost use Rattle.nodes.specs.Answers.{
-  checkedAs,
-  talliedAs,
-  passedAs,
-  Begun,
-  PastChecked,
-  PastRest,
-  PastTally,
-  PastPassed,
-};
+ghost use Rattle.nodes.specs.Judged.{judged, tallyAll, tallyIn, tallyWith, gain, passed, callParts, passedAll, typedParts, tallyTyped};
+ghost use Rattle.nodes.specs.Answers.{checkedAs, talliedAs, passedAs, Begun, PastChecked, PastRest, PastTally, PastPassed};
 
 // The node at a cursor, with so many levels left, its own among them.
 pub fn check_node(sheet: &[u8], source: &[u8], c: Cursor, levels: usize) -> Checked
@@ -74,7 +54,8 @@ pub fn check_node(sheet: &[u8], source: &[u8], c: Cursor, levels: usize) -> Chec
 // What follows a head, with so many levels left below its node.
 fn check_rest(sheet: &[u8], source: &[u8], c: Cursor, levels: usize, head: Head) -> Checked
     requires { ⌜ Begun (length (now sheet)) (c .at) head ⌝ }
-    ensures { λ r. ⌜ ((sp : Span) → checkedAs (now (sheet .entry)) r ≡ onOk judged (rest (now (source .entry)) levels (sp, headOf (now (sheet .entry)) head) (drop (c .at) (now (sheet .entry))))) ⌝ }
+    ensures { λ r. ⌜ ((sp : Span) → checkedAs (now (sheet .entry)) r
+        ≡ onOk judged (rest (now (source .entry)) levels (sp, headOf (now (sheet .entry)) head) (drop (c .at) (now (sheet .entry))))) ⌝ }
     ensures { λ r. ⌜ PastRest (c .at) (length (now (sheet .entry))) r ⌝ }
 {
     match head {
@@ -149,7 +130,8 @@ fn check_arguments(
     levels: usize,
 ) -> PassedRead
     requires { ⌜ c .at ≤ length (now sheet) ⌝ }
-    ensures { λ r. ⌜ passedAs (now (sheet .entry)) r ≡ onOk passed (arguments (node (now (source .entry)) levels) (now (source .entry)) count (drop (c .at) (now (sheet .entry)))) ⌝ }
+    ensures { λ r. ⌜ passedAs (now (sheet .entry)) r
+        ≡ onOk passed (arguments (node (now (source .entry)) levels) (now (source .entry)) count (drop (c .at) (now (sheet .entry)))) ⌝ }
     ensures { λ r. ⌜ PastPassed (c .at) (length (now (sheet .entry))) r ⌝ }
 {
     let mut left = count;
@@ -182,7 +164,8 @@ fn check_arguments(
 
 // What follows the callee of a call: arguments and further children.
 fn check_call(sheet: &[u8], source: &[u8], c: Cursor, levels: usize) -> PassedRead
-    ensures { λ r. ⌜ passedAs (now (sheet .entry)) r ≡ onOk passedAll (callParts (now (source .entry)) (node (now (source .entry)) levels) (drop (c .at) (now (sheet .entry)))) ⌝ }
+    ensures { λ r. ⌜ passedAs (now (sheet .entry)) r
+        ≡ onOk passedAll (callParts (now (source .entry)) (node (now (source .entry)) levels) (drop (c .at) (now (sheet .entry)))) ⌝ }
     ensures { λ r. ⌜ PastPassed (c .at) (length (now (sheet .entry))) r ⌝ }
 {
     match c.number(sheet) {
@@ -213,7 +196,8 @@ pub fn check_property(sheet: &[u8], source: &[u8], c: Cursor, levels: usize) -> 
 // So many properties.
 fn check_properties(sheet: &[u8], source: &[u8], c: Cursor, count: usize, levels: usize) -> Tallied
     requires { ⌜ c .at ≤ length (now sheet) ⌝ }
-    ensures { λ r. ⌜ talliedAs (now (sheet .entry)) r ≡ onOk tallyIn (properties (node (now (source .entry)) levels) count (drop (c .at) (now (sheet .entry)))) ⌝ }
+    ensures { λ r. ⌜ talliedAs (now (sheet .entry)) r
+        ≡ onOk tallyIn (properties (node (now (source .entry)) levels) count (drop (c .at) (now (sheet .entry)))) ⌝ }
     ensures { λ r. ⌜ PastTally (c .at) (length (now (sheet .entry))) r ⌝ }
 {
     let mut left = count;
@@ -246,7 +230,8 @@ pub fn check_attributes(
     levels: usize,
 ) -> Tallied
     requires { ⌜ c .at ≤ length (now sheet) ⌝ }
-    ensures { λ r. ⌜ talliedAs (now (sheet .entry)) r ≡ onOk tallyWith (behind there (attributesObject (now (source .entry)) levels) (drop (c .at) (now (sheet .entry)))) ⌝ }
+    ensures { λ r. ⌜ talliedAs (now (sheet .entry)) r
+        ≡ onOk tallyWith (behind there (attributesObject (now (source .entry)) levels) (drop (c .at) (now (sheet .entry)))) ⌝ }
     ensures { λ r. ⌜ PastTally (c .at) (length (now (sheet .entry))) r ⌝ }
 {
     if there {
@@ -269,7 +254,8 @@ pub fn check_attributes(
 // What follows the head of an import type: children and attributes.
 fn check_typed(sheet: &[u8], source: &[u8], c: Cursor, count: usize, levels: usize) -> Tallied
     requires { ⌜ c .at ≤ length (now sheet) ⌝ }
-    ensures { λ r. ⌜ talliedAs (now (sheet .entry)) r ≡ onOk tallyTyped (typedParts (node (now (source .entry)) levels) (attributesObject (now (source .entry)) levels) count (drop (c .at) (now (sheet .entry)))) ⌝ }
+    ensures { λ r. ⌜ talliedAs (now (sheet .entry)) r
+        ≡ onOk tallyTyped (typedParts (node (now (source .entry)) levels) (attributesObject (now (source .entry)) levels) count (drop (c .at) (now (sheet .entry)))) ⌝ }
     ensures { λ r. ⌜ PastTally (c .at) (length (now (sheet .entry))) r ⌝ }
 {
     match check_nodes(sheet, source, c, count, levels) {

@@ -6,17 +6,7 @@ ghost use mathlib.Core.Bool.{_&&_, _||_};
 ghost use Prim.Native.Nat.{_+_, _^_, _<_};
 ghost use Rattle.sheet.specs.Walked.{one};
 ghost use Rattle.nodes.specs.Judged.{plus, withArgument, importCallee};
-ghost use Rattle.nodes.specs.Answers.{
-  nodesOf,
-  leafOf,
-  withOwn,
-  onlyEntry,
-  joined,
-  withNodes,
-  calledBy,
-  Room,
-  RoomPassed,
-};
+ghost use Rattle.nodes.specs.Answers.{nodesOf, leafOf, withOwn, onlyEntry, joined, withNodes, calledBy, Room, RoomPassed};
 
 // Of nodes: how many dependencies they give, and whether a call in them has an uncooked template for its first argument.
 pub struct Tally {
@@ -216,12 +206,12 @@ pub fn called(callee: Judged, r: PassedRead) -> Checked
         PassedRead::Refused(r) => Checked::Refused(r),
         PassedRead::Is(p, next) => {
             let own = count_one(both(callee.require, p.any));
-            let cooked = either(callee.uncooked, p.uncooked);
+            let inside = either(callee.uncooked, p.uncooked);
             let first = both(callee.require, p.template);
             Checked::Is(
                 Judged {
                     entries: callee.entries + p.entries + own,
-                    uncooked: either(cooked, first),
+                    uncooked: either(inside, first),
                     require: false,
                     template: false,
                 },

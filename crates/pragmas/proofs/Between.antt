@@ -1,6 +1,6 @@
 -- The comments of a table from one row to another, row by row, and what a rule answers of them.
 use mathlib.Core.Path.{_≡_, refl, ap}
-use mathlib.Core.List.{List, [], _∷_, _++_}
+use mathlib.Core.List.{List, [], _∷_, _++_, flatMap}
 use mathlib.Core.Option.{Option}
 use Prim.Native.Nat.{ℕ, suc, _+_, _-_, _≤_, _<_}
 use native.Mathlib.Nat.{sub-eq-zero-of-le}
@@ -15,11 +15,10 @@ use Rattle.sheet.specs.Lookups.{commentsOf}
 use Rattle.sheet.proofs.Rows.{rows-more}
 use Rattle.sheet.proofs.Members.{group-comments}
 use Rattle.report.specs.ModuleInfo.{TypeScriptReference}
-use Rattle.report.specs.Encode.{each, encodeReference}
 use Rattle.pragmas.specs.declared.references.Reference.{Reference}
 use Rattle.pragmas.specs.declared.references.Reference.the-variants as reference
 use Rattle.pragmas.specs.Readings.{orElse, firstOf, lastOf, listed, allOf}
-use Rattle.pragmas.specs.Rules.{commentsFrom, referenceAs, amount, encodeAny}
+use Rattle.pragmas.specs.Views.{commentsFrom, referenceAs, amount, encodeAny}
 
 module _ (table : List ℕ) (start end : ℕ) where
   from-next : start < end → commentsFrom table start end ≡ commentIn table start ∷ commentsFrom table (start + 1) end
@@ -89,11 +88,11 @@ module _ {A : Type 0} (f : Comment → Option A) where
     unfolding allOf
     all-none = rw (from-none table start end h)
 
--- one reference more, or none
-pub listed-each : (o : Option TypeScriptReference) (l : List TypeScriptReference) → each encodeReference (listed o l) ≡ encodeAny o ++ each encodeReference l
-unfolding each
-listed-each Option.none l = refl
-listed-each (Option.some r) l = refl
+-- one more, or none
+pub listed-each : {A : Type 0} (f : A → List ℕ) (o : Option A) (l : List A) → flatMap f (listed o l) ≡ encodeAny f o ++ flatMap f l
+unfolding flatMap
+listed-each f Option.none l = refl
+listed-each f (Option.some a) l = refl
 
 pub listed-length : (source : List ℕ) (c : Comment) (r : Reference) (l : List TypeScriptReference)
     → (length (listed (referenceAs source c r) l) ≡ amount r + length l) × (amount r ≤ 1)

@@ -3,9 +3,8 @@ use mathlib.Core.Path.{_≡_, refl, sym, ap, _∙_}
 use mathlib.Core.Bool.{Bool, true, false, cond, _&&_, and-eq-true-iff, false≢true}
 use mathlib.Core.Logic.{_⊎_, inl, inr, ⊎-elim, _↔_}
 use mathlib.Core.List.{List, [], _∷_, _++_, List·Memᴰ·head, List·Memᴰ·tail, List·Memᴰ·not-nil, List·Memᴰ·cases-cons}
-use mathlib.Core.Option.{Option, Option·some-injective}
+use mathlib.Core.Option.{Option, Option·some-injective, Option·none-ne-some}
 use Prim.Native.Nat.{ℕ}
-use native.Mathlib.Omega.{arith}
 use borrow.Author.Tests.{eqb-true, eq-eqb}
 use Rattle.analysis.specs.declared.Capture.{Capture}
 use Rattle.analysis.specs.declared.Found.{Found}
@@ -15,16 +14,13 @@ use Rattle.analysis.specs.Patterns.{tripleSlashRow, pathRow, typesRow, resoluti
 use Rattle.analysis.proofs.Meaning.{found-reads, reading-found}
 use Rattle.analysis.proofs.Preference.{found-preferred, preferred-found}
 use Rattle.sheet.specs.declared.comments.Comment.{Comment}
-use Rattle.sheet.specs.declared.groups.Group.{Group}
 use Rattle.sheet.specs.Lookups.{leading, groupAt, body}
-use Rattle.report.specs.ModuleInfo.{SpecifierWithRange, Mode, path, types}
+use Rattle.sheet.specs.Sheet.{Sheet}
+use Rattle.sheet.specs.Media.{isJavaScript, isJsx}
+use Rattle.report.specs.ModuleInfo.{SpecifierWithRange, Mode, path, types, ModuleInfo}
 use Rattle.pragmas.specs.Readings.{specifierIn, onFound, readBy, orElse, firstOf, lastOf, listed, allOf}
-use Rattle.pragmas.specs.Pragmas.{isJavaScript, isJsx, givenIf, isLine, isBlock, modeIn, modeBy, referenceBy, reference, referencesIn, selfTypesIn, jsxImportSourceIn, jsxImportSourceTypesIn, sourceMapUrlIn, tsOrDenoTypes, typesBy, lastIn, typesIn}
+use Rattle.pragmas.specs.Pragmas.{headComments, endComments, givenIf, isLine, isBlock, modeIn, modeBy, referenceBy, reference, referencesIn, selfTypesIn, jsxImportSourceIn, jsxImportSourceTypesIn, sourceMapUrlIn, tsReferences, selfTypesSpecifier, jsxImportSource, jsxImportSourceTypes, sourceMapUrl, tsOrDenoTypes, typesBy, lastIn, typesIn, typesAt}
 use Rattle.pragmas.specs.Present.{Matched, Read, Reader, byPattern, only, orElseBy, ModeRead, referenceRule, tsOrDenoTypesRule, NoReading, FirstReading, LastReading, InOrder, Exactly, ExactlyFirst, ExactlyLast, Present, TypesPresent}
-
--- a value is one, or there is none
-never : {A : Type 0} {a : A} → _≡_ {A = Option A} Option.none (Option.some a) → ⊥
-never e = let z : _≡_ {A = ℕ} 0 1 = cc in omega arith
 
 -- what a function answers of a comment is what a rule gives
 record Agrees {A : Type 0} (f : Comment → Option A) (r : Reader A) : Type 0 where
@@ -69,14 +65,14 @@ module _ (row : Row) (source : List ℕ) {A : Type 0} (make : Comment → Specif
     where
       some : (c : Comment) (a : A) (f : Found) → find row (body source c) ≡ f → onFound (λ k. make c (specifierIn source c k)) f ≡ Option.some a → Gives c a
       some c a (At k) e i = let same : make c (specifierIn source c k) ≡ a = cc in rw (← same) (gives c (specifierIn source c k) (found-read row source c e))
-      some c a Nothing e i = absurd (never i)
+      some c a Nothing e i = absurd (Option·none-ne-some _ i)
 
       back : (c : Comment) (a : A) (x : SpecifierWithRange) → Read row source c x → a ≡ make c x
           → onFound (λ k. make c (specifierIn source c k)) (find row (body source c)) ≡ Option.some a
       back c a x r i = let (k, e, j) = read-found row source c r in rw (e, i) (ap (λ y. Option.some (make c y)) j)
 
       none : (c : Comment) (f : Found) → find row (body source c) ≡ f → onFound (λ k. make c (specifierIn source c k)) f ≡ Option.none → Matched row source c → ⊥
-      none c (At k) e i = absurd (never (sym i))
+      none c (At k) e i = absurd (Option·none-ne-some _ (sym i))
       none c Nothing e i = unmatched row source c e
 
 pattern : (row : Row) (source : List ℕ) → Agrees (readBy row source) (byPattern row source)
@@ -99,7 +95,7 @@ module _ {A : Type 0} where
     where
       some : (c : Comment) (a : A) (x : Bool) → b c ≡ x → cond x (f c) Option.none ≡ Option.some a → P c × r .Gives c a
       some c a true e i = (t c .0 e, h .gives c a .0 i)
-      some c a false e i = absurd (never i)
+      some c a false e i = absurd (Option·none-ne-some _ i)
 
       none : (c : Comment) (x : Bool) → b c ≡ x → cond x (f c) Option.none ≡ Option.none → P c × r .Reads c → ⊥
       none c true e i (p, q) = h .unread c .0 i q
@@ -127,7 +123,7 @@ module _ {A : Type 0} where
       none : (c : Comment) (x : Option A) → f c ≡ x → orElse x (g c) ≡ Option.none → r .Reads c ⊎ s .Reads c → ⊥
       none c Option.none e j (inl q) = h .unread c .0 e q
       none c Option.none e j (inr q) = i .unread c .0 j q
-      none c (Option.some b) e j q = never (sym j)
+      none c (Option.some b) e j q = Option·none-ne-some _ (sym j)
 
 -- ---- references
 
@@ -186,7 +182,7 @@ module _ {A : Type 0} {f : Comment → Option A} {r : Reader A} (h : Agrees f r)
 
   first-some : (cs : List Comment) (a : A) → firstOf f cs ≡ Option.some a → FirstReading r cs a
   unfolding firstOf
-  first-some [] a e = absurd (never e)
+  first-some [] a e = absurd (Option·none-ne-some _ e)
   first-some (c ∷ cs) a e = go (f c) refl e (first-some cs a)
     where
       go : (x : Option A) → f c ≡ x → orElse x (firstOf f cs) ≡ Option.some a → (firstOf f cs ≡ Option.some a → FirstReading r cs a) → FirstReading r (c ∷ cs) a
@@ -209,7 +205,7 @@ module _ {A : Type 0} {f : Comment → Option A} {r : Reader A} (h : Agrees f r)
     where
       go : (x : Option A) → f c ≡ x → orElse x (firstOf f cs) ≡ Option.none → (firstOf f cs ≡ Option.none → NoReading r cs) → NoReading r (c ∷ cs)
       go Option.none i e more = unread-here (h .unread c .0 i) (more e)
-      go (Option.some b) i e more = absurd (never (sym e))
+      go (Option.some b) i e more = absurd (Option·none-ne-some _ (sym e))
 
   first-is : (before : List Comment) (c : Comment) (behind : List Comment) {a : A} → NoReading r before → r .Gives c a → firstOf f (before ++ c ∷ behind) ≡ Option.some a
   unfolding firstOf
@@ -235,11 +231,11 @@ module _ {A : Type 0} {f : Comment → Option A} {r : Reader A} (h : Agrees f r)
     where
       go : (x : Option A) → lastOf f cs ≡ x → orElse x (f c) ≡ Option.none → (lastOf f cs ≡ Option.none → NoReading r cs) → NoReading r (c ∷ cs)
       go Option.none i e more = unread-here (h .unread c .0 e) (more i)
-      go (Option.some b) i e more = absurd (never (sym e))
+      go (Option.some b) i e more = absurd (Option·none-ne-some _ (sym e))
 
   last-some : (cs : List Comment) (a : A) → lastOf f cs ≡ Option.some a → LastReading r cs a
   unfolding lastOf
-  last-some [] a e = absurd (never e)
+  last-some [] a e = absurd (Option·none-ne-some _ e)
   last-some (c ∷ cs) a e = go (lastOf f cs) refl e (last-some cs a)
     where
       go : (x : Option A) → lastOf f cs ≡ x → orElse x (f c) ≡ Option.some a → (lastOf f cs ≡ Option.some a → LastReading r cs a) → LastReading r (c ∷ cs) a
@@ -283,20 +279,29 @@ module _ {A : Type 0} {f : Comment → Option A} {r : Reader A} (h : Agrees f r)
 is-block : (c : Comment) → (isBlock c ≡ true) ↔ (c .kind ≡ 1)
 is-block c = (eqb-true (c .kind) 1, eq-eqb (c .kind) 1)
 
-pub present : (media : ℕ) (source : List ℕ) (head end : List Comment) → Present media source head end
+pub present : (t : Sheet) (m : ModuleInfo)
+    → m .tsReferences ≡ tsReferences t
+    → m .selfTypesSpecifier ≡ selfTypesSpecifier t
+    → m .jsxImportSource ≡ jsxImportSource t
+    → m .jsxImportSourceTypes ≡ jsxImportSourceTypes t
+    → m .sourceMapUrl ≡ sourceMapUrl t
+    → Present t m
 unfolding referencesIn selfTypesIn jsxImportSourceIn jsxImportSourceTypesIn sourceMapUrlIn
-present media source head end = record {
-  references = all-in-order (referring source) head;
-  self-types = firstly (pattern tsSelfTypesRow source) (givenIf (isJavaScript media) head);
-  jsx-import-source = firstly (onlyIf isBlock is-block (pattern jsxImportSourceRow source)) (givenIf (isJsx media) head);
-  jsx-import-source-types = firstly (onlyIf isBlock is-block (pattern jsxImportSourceTypesRow source)) (givenIf (isJsx media) head);
-  source-map-url = lastly (pattern sourceMappingUrlRow source) end;
+present t m references self jsx jsx-types map = record {
+  references = rw references (all-in-order (referring (t .source)) (headComments t));
+  self-types = rw self (firstly (pattern tsSelfTypesRow (t .source)) (givenIf (isJavaScript (t .media)) (headComments t)));
+  jsx-import-source = rw jsx (firstly (onlyIf isBlock is-block (pattern jsxImportSourceRow (t .source))) (givenIf (isJsx (t .media)) (headComments t)));
+  jsx-import-source-types = rw jsx-types (firstly (onlyIf isBlock is-block (pattern jsxImportSourceTypesRow (t .source))) (givenIf (isJsx (t .media)) (headComments t)));
+  source-map-url = rw map (lastly (pattern sourceMappingUrlRow (t .source)) (endComments t));
 }
 
-pub types-present : (source : List ℕ) (cs : List Comment) (gs : List Group) (start : ℕ) → TypesPresent source cs gs start
+pub types-present : (t : Sheet) (start : ℕ) → TypesPresent t start (typesAt t start)
 unfolding typesIn tsOrDenoTypes
-types-present source cs gs start = by-last (lastIn cs (groupAt gs leading start))
+types-present t start = by-last (lastIn (t .comments) (groupAt (t .groups) leading start))
   where
+    source : List ℕ
+    source = t .source
+
     rule : Agrees (λ c. orElse (readBy tsTypesRow source c) (readBy denoTypesRow source c)) (tsOrDenoTypesRule source)
     rule = either (pattern tsTypesRow source) (pattern denoTypesRow source)
 
@@ -304,8 +309,8 @@ types-present source cs gs start = by-last (lastIn cs (groupAt gs leading start)
         → Exactly (λ x. (c : Comment) × (o ≡ Option.some c) × tsOrDenoTypesRule source .Gives c x)
         ((c : Comment) → o ≡ Option.some c → tsOrDenoTypesRule source .Reads c → ⊥) (typesBy source o)
     by-last Option.none = record {
-      some = λ x. (λ e. absurd (never e), λ (c, e, g). absurd (never e));
-      none = (λ e c i q. never i, λ n. refl);
+      some = λ x. (λ e. absurd (Option·none-ne-some _ e), λ (c, e, g). absurd (Option·none-ne-some _ e));
+      none = (λ e c i q. Option·none-ne-some _ i, λ n. refl);
     }
     by-last (Option.some c) = record {
       some = λ x. (λ e. (c, refl, rule .gives c x .0 e), λ (d, e, g). rw (Option·some-injective c d e) (rule .gives d x .1 g));

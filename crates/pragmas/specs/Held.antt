@@ -25,6 +25,10 @@ pub record GroupedIn (n : ℕ) (groups : List ℕ) (m : ℕ) : Type 0 where
   pub room : 4 * m ≤ length groups
   pub grouped : Grouped n (groupsIn groups m)
 
+-- n comments of the source and m groups of them in tables, and the index of its positions
+abbrev pub Held : List ℕ → List ℕ → ℕ → List ℕ → ℕ → List ℕ → Type 0
+Held source comments n groups m index = Commented source comments n index × GroupedIn n groups m
+
 -- the group, if there is one, is of n comments
 abbrev pub Reached : ℕ → Option Group → Type 0
 Reached n (Option.some g) = Reaching n g

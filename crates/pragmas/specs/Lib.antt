@@ -1,6 +1,6 @@
 pub mod Readings
 pub mod Pragmas
 pub mod Held
-pub mod Rules
+pub mod Views
 pub mod Present
 pub mod Texts

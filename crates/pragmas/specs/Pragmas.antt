@@ -1,9 +1,9 @@
 -- The references and the pragmas of a sheet: each rule of document 01's "Readings" with the comments that it gives to it.
-use mathlib.Core.Bool.{Bool, cond, _&&_, _||_}
+use mathlib.Core.Bool.{Bool, cond, _&&_}
 use mathlib.Core.List.{List, []}
 use mathlib.Core.Option.{Option}
 use Prim.Native.Nat.{ℕ}
-use lib.Dec.{eqb, leb}
+use lib.Dec.{eqb}
 use Rattle.analysis.specs.declared.Found.{Found}
 use Rattle.analysis.specs.declared.Found.the-variants.{At, Nothing}
 use Rattle.analysis.specs.Mode.{modeOf}
@@ -12,8 +12,9 @@ use Rattle.analysis.specs.Place.{textOf}
 use Rattle.analysis.specs.Patterns.{tripleSlashRow, pathRow, typesRow, resolutionModeRow, jsxImportSourceRow, jsxImportSourceTypesRow, sourceMappingUrlRow, tsSelfTypesRow, tsTypesRow, denoTypesRow}
 use Rattle.sheet.specs.declared.comments.Comment.{Comment}
 use Rattle.sheet.specs.declared.groups.Group.{Group}
-use Rattle.sheet.specs.Lookups.{leading, groupAt, headGroup, endGroup, commentsOf, lastOf as lastCommentOf, body}
+use Rattle.sheet.specs.Lookups.{leading, groupAt, headGroup, endGroup, commentsOf, lastCommentOf, body}
 use Rattle.sheet.specs.Sheet.{Sheet}
+use Rattle.sheet.specs.Media.{isJavaScript, isJsx}
 use Rattle.report.specs.ModuleInfo.{SpecifierWithRange, Mode, TypeScriptReference, path, types}
 use Rattle.pragmas.specs.Readings.{specifierIn, readBy, orElse, firstOf, lastOf, allOf}
 
@@ -28,13 +29,6 @@ headComments t = inGroup (t .comments) (headGroup (t .program) (t .groups))
 
 unfoldable pub endComments : Sheet → List Comment
 endComments t = inGroup (t .comments) (endGroup (t .program) (t .groups))
-
--- JavaScript sheets are those of media 0 to 3; JSX is media 1 and 10
-abbrev pub isJavaScript : ℕ → Bool
-isJavaScript media = leb media 3
-
-abbrev pub isJsx : ℕ → Bool
-isJsx media = eqb media 1 || eqb media 10
 
 -- a line comment, a block comment
 abbrev pub isLine : Comment → Bool

@@ -11,12 +11,13 @@ use Rattle.analysis.specs.Place.{textOf}
 use Rattle.analysis.specs.Matches.{Reading, Preferred}
 use Rattle.analysis.specs.Patterns.{tripleSlashRow, pathRow, typesRow, resolutionModeRow, jsxImportSourceRow, jsxImportSourceTypesRow, sourceMappingUrlRow, tsSelfTypesRow, tsTypesRow, denoTypesRow}
 use Rattle.sheet.specs.declared.comments.Comment.{Comment}
-use Rattle.sheet.specs.declared.groups.Group.{Group}
 use Rattle.sheet.specs.Lookups.{leading, groupAt, body}
-use Rattle.report.specs.ModuleInfo.{SpecifierWithRange, Mode, TypeScriptReference, path, types}
+use Rattle.sheet.specs.Sheet.{Sheet}
+use Rattle.sheet.specs.Media.{isJavaScript, isJsx}
+use Rattle.report.specs.ModuleInfo.{SpecifierWithRange, Mode, TypeScriptReference, path, types, ModuleInfo}
 use Rattle.report.specs.Range.{rangeOf}
 use Rattle.pragmas.specs.Readings.{placeIn}
-use Rattle.pragmas.specs.Pragmas.{isJavaScript, isJsx, givenIf, lastIn, referencesIn, selfTypesIn, jsxImportSourceIn, jsxImportSourceTypesIn, sourceMapUrlIn, typesIn}
+use Rattle.pragmas.specs.Pragmas.{headComments, endComments, givenIf, lastIn}
 
 -- the pattern matches some part of the comment's body
 abbrev pub Matched : Row → List ℕ → Comment → Type 0
@@ -120,18 +121,17 @@ ExactlyFirst r cs = Exactly (FirstReading r cs) (NoReading r cs)
 abbrev pub ExactlyLast : {A : Type 0} → Reader A → List Comment → Option A → Type 0
 ExactlyLast r cs = Exactly (LastReading r cs) (NoReading r cs)
 
--- the references and the pragmas of a source of some media, by the comments of the head group and those of the trailing group at the program's end
-pub record Present (media : ℕ) (source : List ℕ) (head end : List Comment) : Type 0 where
-  pub references : (l : List TypeScriptReference) → (referencesIn source head ≡ l) ↔ InOrder (referenceRule source) head l
-  pub self-types : ExactlyFirst (selfTypesRule source) (givenIf (isJavaScript media) head) (selfTypesIn media source head)
-  pub jsx-import-source : ExactlyFirst (jsxImportSourceRule source) (givenIf (isJsx media) head) (jsxImportSourceIn media source head)
-  pub jsx-import-source-types : ExactlyFirst (jsxImportSourceTypesRule source) (givenIf (isJsx media) head) (jsxImportSourceTypesIn media source head)
-  pub source-map-url : ExactlyLast (sourceMapUrlRule source) end (sourceMapUrlIn source end)
+-- the references and the pragmas of a sheet, as its module information m has them
+pub record Present (t : Sheet) (m : ModuleInfo) : Type 0 where
+  pub references : (l : List TypeScriptReference) → (m .tsReferences ≡ l) ↔ InOrder (referenceRule (t .source)) (headComments t) l
+  pub self-types : ExactlyFirst (selfTypesRule (t .source)) (givenIf (isJavaScript (t .media)) (headComments t)) (m .selfTypesSpecifier)
+  pub jsx-import-source : ExactlyFirst (jsxImportSourceRule (t .source)) (givenIf (isJsx (t .media)) (headComments t)) (m .jsxImportSource)
+  pub jsx-import-source-types : ExactlyFirst (jsxImportSourceTypesRule (t .source)) (givenIf (isJsx (t .media)) (headComments t)) (m .jsxImportSourceTypes)
+  pub source-map-url : ExactlyLast (sourceMapUrlRule (t .source)) (endComments t) (m .sourceMapUrl)
 
--- the types of an entry whose node starts at `start`: only the last comment of the leading group there counts
-abbrev pub TypesPresent : List ℕ → List Comment → List Group → ℕ → Type 0
-TypesPresent source cs gs start =
+-- the types x of an entry whose node starts at `start`: only the last comment of the leading group there counts
+abbrev pub TypesPresent : Sheet → ℕ → Option SpecifierWithRange → Type 0
+TypesPresent t start =
     Exactly
-    (λ x. (c : Comment) × (lastIn cs (groupAt gs leading start) ≡ Option.some c) × tsOrDenoTypesRule source .Gives c x)
-    ((c : Comment) → lastIn cs (groupAt gs leading start) ≡ Option.some c → tsOrDenoTypesRule source .Reads c → ⊥)
-    (typesIn source cs gs start)
+    (λ x. (c : Comment) × (lastIn (t .comments) (groupAt (t .groups) leading start) ≡ Option.some c) × tsOrDenoTypesRule (t .source) .Gives c x)
+    ((c : Comment) → lastIn (t .comments) (groupAt (t .groups) leading start) ≡ Option.some c → tsOrDenoTypesRule (t .source) .Reads c → ⊥)

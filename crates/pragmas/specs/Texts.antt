@@ -5,14 +5,11 @@ use mathlib.Core.List.{List, List·Memᴰ}
 use mathlib.Core.Option.{Option}
 use Prim.Native.Nat.{ℕ, _+_, _-_}
 use lib.ListN.{getD}
-use Rattle.text.specs.Position.{Boundary}
-use Rattle.analysis.specs.Place.{Mark}
+use Rattle.text.specs.Bytes.{Mark}
 use Rattle.sheet.specs.declared.fields.Span.{Span}
-use Rattle.sheet.specs.declared.comments.Comment.{Comment}
 use Rattle.sheet.specs.Comments.{slice}
-use Rattle.report.specs.ModuleInfo.{SpecifierWithRange, TypeScriptReference, path, types}
-use Rattle.report.specs.Range.{rangeOf}
-use Rattle.pragmas.specs.Pragmas.{referencesIn, selfTypesIn, jsxImportSourceIn, jsxImportSourceTypesIn, sourceMapUrlIn}
+use Rattle.report.specs.ModuleInfo.{SpecifierWithRange, TypeScriptReference, path, types, DependencyDescriptor, static, dynamic, ModuleInfo}
+use Rattle.report.specs.Range.{RangeAt}
 
 -- a span without a byte at either end where it is quoted
 abbrev pub lessMarks : Bool → Span → Span
@@ -22,10 +19,7 @@ lessMarks quoted sp = record { start = sp .start + cond quoted 1 0; end = sp .en
 pub record Between (source : List ℕ) (x : SpecifierWithRange) : Type 0 where
   pub place : Span
   pub quoted : Bool
-  pub start : Boundary source (place .start)
-  pub end : Boundary source (place .end)
-  pub range : x .range ≡ rangeOf source place
-  pub only : (sp : Span) → Boundary source (sp .start) → Boundary source (sp .end) → x .range ≡ rangeOf source sp → sp ≡ place
+  pub range : RangeAt source (x .range) place
   pub marks : quoted ≡ true → Mark (getD source (place .start) 0) × Mark (getD source (place .end - 1) 0)
   pub text : slice source (lessMarks quoted place) ≡ x .text
 
@@ -33,14 +27,19 @@ abbrev pub specifierOf : TypeScriptReference → SpecifierWithRange
 specifierOf (path x) = x
 specifierOf (types x mode) = x
 
+abbrev pub typesOf : DependencyDescriptor → Option SpecifierWithRange
+typesOf (static d) = d .typesSpecifier
+typesOf (dynamic d) = d .typesSpecifier
+
 -- an answer, if there is one, stands in the source
 abbrev pub Shown : List ℕ → Option SpecifierWithRange → Type 0
 Shown source answer = (x : SpecifierWithRange) → answer ≡ Option.some x → Between source x
 
--- the references and the pragmas of a source of some media, by the comments of the head group and those of the trailing group at the program's end
-pub record Texts (media : ℕ) (source : List ℕ) (head end : List Comment) : Type 0 where
-  pub references : (r : TypeScriptReference) → List·Memᴰ r (referencesIn source head) → Between source (specifierOf r)
-  pub self-types : Shown source (selfTypesIn media source head)
-  pub jsx-import-source : Shown source (jsxImportSourceIn media source head)
-  pub jsx-import-source-types : Shown source (jsxImportSourceTypesIn media source head)
-  pub source-map-url : Shown source (sourceMapUrlIn source end)
+-- so does each types specifier, reference and pragma that the module information m has
+pub record Texts (source : List ℕ) (m : ModuleInfo) : Type 0 where
+  pub types : (d : DependencyDescriptor) → List·Memᴰ d (m .dependencies) → Shown source (typesOf d)
+  pub references : (r : TypeScriptReference) → List·Memᴰ r (m .tsReferences) → Between source (specifierOf r)
+  pub self-types : Shown source (m .selfTypesSpecifier)
+  pub jsx-import-source : Shown source (m .jsxImportSource)
+  pub jsx-import-source-types : Shown source (m .jsxImportSourceTypes)
+  pub source-map-url : Shown source (m .sourceMapUrl)

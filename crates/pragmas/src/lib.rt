@@ -14,27 +14,19 @@ use sheet::comments::comment_at;
 use sheet::lookups::GroupFound;
 use sheet::lookups::find_group;
 ghost use mathlib.Core.Path.{_≡_};
+ghost use Rattle.wire.specs.Optional.{encodeOptional};
 ghost use Rattle.sheet.specs.Tables.{commentsIn, groupsIn};
 ghost use Rattle.sheet.specs.Fit.{Placed};
 ghost use Rattle.sheet.specs.Views.{foundAs};
-ghost use Rattle.report.specs.Encode.{encodeOptional, encodeSpecifier};
-ghost use Rattle.report.specs.World.{wrote, worldAs};
+ghost use Rattle.sheet.specs.Media.{isJavaScript, isJsx};
+ghost use Rattle.report.specs.Encode.{encodeSpecifier};
+ghost use Rattle.report.specs.Buffer.{wrote, bufferAs};
 ghost use Rattle.pragmas.specs.Held.{Commented, GroupedIn, Reached};
-ghost use Rattle.pragmas.specs.Pragmas.{
-  inGroup,
-  isJavaScript,
-  isJsx,
-  selfTypesIn,
-  jsxImportSourceIn,
-  jsxImportSourceTypesIn,
-  sourceMapUrlIn,
-  tsOrDenoTypes,
-  typesIn,
-};
-ghost use Rattle.pragmas.specs.Rules.{readAs, ReadIn};
+ghost use Rattle.pragmas.specs.Pragmas.{inGroup, selfTypesIn, jsxImportSourceIn, jsxImportSourceTypesIn, sourceMapUrlIn, tsOrDenoTypes, typesIn};
+ghost use Rattle.pragmas.specs.Views.{readAs, ReadIn};
 
 // The opposite of the Rust's `is_typed`.
-fn is_javascript(media: usize) -> bool
+pub fn is_javascript(media: usize) -> bool
     ensures { λ r. ⌜ r ≡ isJavaScript media ⌝ }
 {
     media <= 3
@@ -59,8 +51,8 @@ pub fn analyze_jsx_import_source(
 ) -> Place
     requires { ⌜ Commented (now source) (now comments) n (now index) ⌝ }
     requires { ⌜ Reached n (foundAs found) ⌝ }
-    ensures { λ r. ⌜ worldAs (now (out .exit)) r
-        ≡ wrote (worldAs (now (out .entry)) place)
+    ensures { λ r. ⌜ bufferAs (now (out .exit)) r
+        ≡ wrote (bufferAs (now (out .entry)) place)
         (encodeOptional encodeSpecifier
         (jsxImportSourceIn media (now (source .entry)) (inGroup (commentsIn (now (comments .entry)) n) (foundAs found)))) ⌝ }
 {
@@ -84,8 +76,8 @@ pub fn analyze_jsx_import_source_types(
 ) -> Place
     requires { ⌜ Commented (now source) (now comments) n (now index) ⌝ }
     requires { ⌜ Reached n (foundAs found) ⌝ }
-    ensures { λ r. ⌜ worldAs (now (out .exit)) r
-        ≡ wrote (worldAs (now (out .entry)) place)
+    ensures { λ r. ⌜ bufferAs (now (out .exit)) r
+        ≡ wrote (bufferAs (now (out .entry)) place)
         (encodeOptional encodeSpecifier
         (jsxImportSourceTypesIn media (now (source .entry)) (inGroup (commentsIn (now (comments .entry)) n) (foundAs found)))) ⌝ }
 {
@@ -109,8 +101,8 @@ pub fn analyze_ts_self_types(
 ) -> Place
     requires { ⌜ Commented (now source) (now comments) n (now index) ⌝ }
     requires { ⌜ Reached n (foundAs found) ⌝ }
-    ensures { λ r. ⌜ worldAs (now (out .exit)) r
-        ≡ wrote (worldAs (now (out .entry)) place)
+    ensures { λ r. ⌜ bufferAs (now (out .exit)) r
+        ≡ wrote (bufferAs (now (out .entry)) place)
         (encodeOptional encodeSpecifier
         (selfTypesIn media (now (source .entry)) (inGroup (commentsIn (now (comments .entry)) n) (foundAs found)))) ⌝ }
 {
@@ -133,8 +125,8 @@ pub fn analyze_source_map_url(
 ) -> Place
     requires { ⌜ Commented (now source) (now comments) n (now index) ⌝ }
     requires { ⌜ Reached n (foundAs found) ⌝ }
-    ensures { λ r. ⌜ worldAs (now (out .exit)) r
-        ≡ wrote (worldAs (now (out .entry)) place)
+    ensures { λ r. ⌜ bufferAs (now (out .exit)) r
+        ≡ wrote (bufferAs (now (out .entry)) place)
         (encodeOptional encodeSpecifier
         (sourceMapUrlIn (now (source .entry)) (inGroup (commentsIn (now (comments .entry)) n) (foundAs found)))) ⌝ }
 {
@@ -169,8 +161,8 @@ pub fn analyze_ts_or_deno_types(
 ) -> Place
     requires { ⌜ Commented (now source) (now comments) n (now index) ⌝ }
     requires { ⌜ GroupedIn n (now groups) m ⌝ }
-    ensures { λ r. ⌜ worldAs (now (out .exit)) r
-        ≡ wrote (worldAs (now (out .entry)) place)
+    ensures { λ r. ⌜ bufferAs (now (out .exit)) r
+        ≡ wrote (bufferAs (now (out .entry)) place)
         (encodeOptional encodeSpecifier
         (typesIn (now (source .entry)) (commentsIn (now (comments .entry)) n) (groupsIn (now (groups .entry)) m) start)) ⌝ }
 {

@@ -19,19 +19,20 @@ use sheet::lookups::body_span;
 ghost use mathlib.Core.Path.{_≡_};
 ghost use Prim.Native.Nat.{_-_, _*_, _≤_};
 ghost use lib.ListN.{length};
+ghost use Rattle.wire.specs.Optional.{encodeOptional};
 ghost use Rattle.analysis.specs.Row.{find};
 ghost use Rattle.analysis.specs.Place.{Inside, Within};
 ghost use Rattle.sheet.specs.Tables.{commentsIn};
 ghost use Rattle.sheet.specs.Fit.{Placed, Fit};
-ghost use Rattle.sheet.specs.Lookups.{Roomy, bodySpan};
+ghost use Rattle.sheet.specs.Lookups.{HoldsMarks, bodySpan};
 ghost use Rattle.sheet.specs.Views.{foundAs};
-ghost use Rattle.report.specs.Encode.{encodeOptional, encodeSpecifier};
+ghost use Rattle.report.specs.Encode.{encodeSpecifier};
 ghost use Rattle.report.specs.Range.{IndexOf};
-ghost use Rattle.report.specs.World.{wrote, worldAs};
+ghost use Rattle.report.specs.Buffer.{wrote, bufferAs};
 ghost use Rattle.pragmas.specs.Held.{Reached};
 ghost use Rattle.pragmas.specs.Readings.{placeIn, specifierIn, firstOf, lastOf};
 ghost use Rattle.pragmas.specs.Pragmas.{inGroup};
-ghost use Rattle.pragmas.specs.Rules.{rowOf, takes, readRule, readAs, ReadIn, CaptureIn, commentsFrom};
+ghost use Rattle.pragmas.specs.Views.{rowOf, takes, readRule, readAs, ReadIn, CaptureIn, commentsFrom};
 
 // The rules that give one specifier.
 pub enum Rule {
@@ -187,7 +188,7 @@ pub fn last_reading(
 
 // Where a capture in a comment stands in the source, with its marks.
 fn comment_source_to_span(c: Comment, found: Capture) -> Span
-    requires { ⌜ Roomy c × Inside found (bodySpan c .end - bodySpan c .start) ⌝ }
+    requires { ⌜ HoldsMarks c × Inside found (bodySpan c .end - bodySpan c .start) ⌝ }
     ensures { λ r. ⌜ r ≡ placeIn c found ⌝ }
 {
     let place = place_of(found);
@@ -208,8 +209,8 @@ pub fn put_capture(
     place: Place,
 ) -> Place
     requires { ⌜ IndexOf (now source) (now index) × CaptureIn (now source) c found ⌝ }
-    ensures { λ r. ⌜ worldAs (now (out .exit)) r
-        ≡ wrote (worldAs (now (out .entry)) place) (encodeSpecifier (specifierIn (now (source .entry)) c found)) ⌝ }
+    ensures { λ r. ⌜ bufferAs (now (out .exit)) r
+        ≡ wrote (bufferAs (now (out .entry)) place) (encodeSpecifier (specifierIn (now (source .entry)) c found)) ⌝ }
 {
     let span = comment_source_to_span(c, found);
     let text = specifier(body(source, c), found);
@@ -225,8 +226,8 @@ pub fn put_reading(
     place: Place,
 ) -> Place
     requires { ⌜ IndexOf (now source) (now index) × ReadIn (now source) reading ⌝ }
-    ensures { λ r. ⌜ worldAs (now (out .exit)) r
-        ≡ wrote (worldAs (now (out .entry)) place) (encodeOptional encodeSpecifier (readAs (now (source .entry)) reading)) ⌝ }
+    ensures { λ r. ⌜ bufferAs (now (out .exit)) r
+        ≡ wrote (bufferAs (now (out .entry)) place) (encodeOptional encodeSpecifier (readAs (now (source .entry)) reading)) ⌝ }
 {
     match reading {
         Reading::Of(c, found) => {

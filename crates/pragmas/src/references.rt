@@ -16,18 +16,19 @@ use sheet::lookups::body;
 ghost use mathlib.Core.Path.{_≡_};
 ghost use Prim.Native.Nat.{_*_, _≤_};
 ghost use lib.ListN.{length};
+ghost use mathlib.Core.List.{flatMap};
 ghost use Rattle.analysis.specs.Row.{find};
 ghost use Rattle.analysis.specs.Patterns.{resolutionModeRow};
 ghost use Rattle.sheet.specs.Tables.{commentsIn};
 ghost use Rattle.sheet.specs.Fit.{Placed, Fit};
 ghost use Rattle.sheet.specs.Views.{foundAs};
-ghost use Rattle.report.specs.Encode.{each, encodeList, encodeReference};
+ghost use Rattle.report.specs.Encode.{encodeList, encodeReference};
 ghost use Rattle.report.specs.Range.{IndexOf};
-ghost use Rattle.report.specs.World.{wrote, worldAs};
+ghost use Rattle.report.specs.Buffer.{wrote, bufferAs};
 ghost use Rattle.pragmas.specs.Held.{Commented, Reached};
 ghost use Rattle.pragmas.specs.Readings.{allOf};
 ghost use Rattle.pragmas.specs.Pragmas.{inGroup, modeBy, reference, referencesIn};
-ghost use Rattle.pragmas.specs.Rules.{commentsFrom, referenceAs, ReferenceIn, amount, encodeAny};
+ghost use Rattle.pragmas.specs.Views.{commentsFrom, referenceAs, ReferenceIn, amount, encodeAny};
 
 // A reference of a comment: what is captured there, and of a types reference the mode.
 pub enum Reference {
@@ -88,8 +89,8 @@ fn put_reference(
     place: Place,
 ) -> Place
     requires { ⌜ IndexOf (now source) (now index) × ReferenceIn (now source) c reference ⌝ }
-    ensures { λ r. ⌜ worldAs (now (out .exit)) r
-        ≡ wrote (worldAs (now (out .entry)) place) (encodeAny (referenceAs (now (source .entry)) c reference)) ⌝ }
+    ensures { λ r. ⌜ bufferAs (now (out .exit)) r
+        ≡ wrote (bufferAs (now (out .entry)) place) (encodeAny encodeReference (referenceAs (now (source .entry)) c reference)) ⌝ }
 {
     match reference {
         Reference::Path(k) => {
@@ -133,9 +134,9 @@ fn put_between(
 ) -> Place
     requires { ⌜ Commented (now source) (now comments) n (now index) ⌝ }
     requires { ⌜ (start ≤ end) × (end ≤ n) ⌝ }
-    ensures { λ r. ⌜ worldAs (now (out .exit)) r
-        ≡ wrote (worldAs (now (out .entry)) place)
-        (each encodeReference (allOf (reference (now (source .entry))) (commentsFrom (now (comments .entry)) start end))) ⌝ }
+    ensures { λ r. ⌜ bufferAs (now (out .exit)) r
+        ≡ wrote (bufferAs (now (out .entry)) place)
+        (flatMap encodeReference (allOf (reference (now (source .entry))) (commentsFrom (now (comments .entry)) start end))) ⌝ }
 {
     let mut p = place;
     let mut i = start;
@@ -160,8 +161,8 @@ pub fn analyze_ts_references(
 ) -> Place
     requires { ⌜ Commented (now source) (now comments) n (now index) ⌝ }
     requires { ⌜ Reached n (foundAs found) ⌝ }
-    ensures { λ r. ⌜ worldAs (now (out .exit)) r
-        ≡ wrote (worldAs (now (out .entry)) place)
+    ensures { λ r. ⌜ bufferAs (now (out .exit)) r
+        ≡ wrote (bufferAs (now (out .entry)) place)
         (encodeList encodeReference (referencesIn (now (source .entry)) (inGroup (commentsIn (now (comments .entry)) n) (foundAs found)))) ⌝ }
 {
     match found {

@@ -6,8 +6,15 @@
 use libc::STDOUT_FILENO;
 use module_info::module_info;
 use report::writer::Outcome;
-ghost use Prim.Native.Nat.{ℕ, _+_, _≤_, _<_};
+use text::bytes::byte_at;
+ghost use mathlib.Core.Path.{_≡_};
+ghost use mathlib.Core.List.{List};
+ghost use Prim.Native.Nat.{ℕ, _+_, _≤_};
 ghost use lib.ListN.{length};
+ghost use Rattle.sheet.specs.Walked.{one};
+ghost use Rattle.report.specs.Answer.{outcomeAs};
+ghost use Rattle.module_info.specs.Information.{answerOf};
+ghost use Rattle.replay.specs.Compared.{holdsReport, isStored, RunAs, counted};
 ghost use Rattle.replay.specs.Bounds.{Within, Room, Printable};
 
 // The bytes that are read at most.
@@ -44,14 +51,6 @@ enum Tally {
     Odd,
 }
 
-// A byte.
-fn byte_at(list: &[u8], at: usize) -> usize
-    requires { ⌜ at < length (now list) ⌝ }
-    ensures { λ r. ⌜ r ≤ 255 ⌝ }
-{
-    list[at] as usize
-}
-
 // A number of four bytes.
 fn number_at(list: &[u8], at: usize) -> usize
     requires { ⌜ at + 4 ≤ length (now list) ⌝ }
@@ -59,7 +58,7 @@ fn number_at(list: &[u8], at: usize) -> usize
 {
     let low = byte_at(list, at) + 256 * byte_at(list, at + 1);
     let high = byte_at(list, at + 2) + 256 * byte_at(list, at + 3);
-    low + 65536 * high
+    (low + 65536 * high) as usize
 }
 
 // A length at a place, and so many bytes behind it.
@@ -90,11 +89,12 @@ fn fill(buffer: &mut [u8], b: u8) {
 }
 
 // The report begins the buffer, and every byte behind it is zero.
-fn holds_report(buffer: &[u8], report: &[u8]) -> bool {
+fn holds_report(buffer: &[u8], report: &[u8]) -> bool
+    ensures { λ r. ⌜ r ≡ holdsReport (now (buffer .entry)) (now (report .entry)) ⌝ }
+{
     let mut i = 0;
     while i < buffer.len() {
-        let b = if i < report.len() { report[i] } else { 0 };
-        if buffer[i] != b {
+        if byte_at(buffer, i) != byte_at(report, i) {
             return false;
         }
         i += 1;
@@ -102,24 +102,48 @@ fn holds_report(buffer: &[u8], report: &[u8]) -> bool {
     report.len() <= buffer.len()
 }
 
+// The number of an answer.
+fn number_of(outcome: Outcome) -> u8
+    ensures { λ r. ⌜ ((buffer : List ℕ) → r ≡ outcomeAs outcome buffer .number) ⌝ }
+{
+    match outcome {
+        Outcome::Accepted(_) => 0,
+        Outcome::Refused(r) => r,
+    }
+}
+
+// The length of its report.
+fn length_of(outcome: Outcome) -> usize
+    ensures { λ r. ⌜ ((buffer : List ℕ) → r ≡ outcomeAs outcome buffer .length) ⌝ }
+{
+    match outcome {
+        Outcome::Accepted(n) => n,
+        Outcome::Refused(_) => 0,
+    }
+}
+
+// The answer, with what the buffer holds then, is the stored one.
+fn is_stored(outcome: Outcome, buffer: &[u8], number: u8, report: &[u8]) -> bool
+    ensures { λ r. ⌜ r ≡ isStored number (now (report .entry)) (outcomeAs outcome (now (buffer .entry))) ⌝ }
+{
+    if number != number_of(outcome) {
+        return false;
+    }
+    if report.len() != length_of(outcome) {
+        return false;
+    }
+    holds_report(buffer, report)
+}
+
 // Runs a sheet, in a buffer that holds something else before, and compares the answer.
-fn run(sheet: &[u8], number: u8, report: &[u8], buffer: &mut [u8]) -> Ran {
+fn run(sheet: &[u8], number: u8, report: &[u8], buffer: &mut [u8]) -> Ran
+    ensures { λ r. ⌜ RunAs number (now (report .entry)) (answerOf (now (sheet .entry)) (length (now (buffer .entry)))) r ⌝ }
+{
     fill(buffer, 165);
-    match module_info(sheet, buffer) {
-        Outcome::Accepted(n) => {
-            let is_answer = number == 0 && n == report.len();
-            Ran {
-                accepted: true,
-                same: is_answer && holds_report(buffer, report),
-            }
-        }
-        Outcome::Refused(r) => {
-            let is_answer = number == r && report.len() == 0;
-            Ran {
-                accepted: false,
-                same: is_answer && holds_report(buffer, report),
-            }
-        }
+    let outcome = module_info(sheet, buffer);
+    Ran {
+        accepted: number_of(outcome) == 0,
+        same: is_stored(outcome, buffer, number, report),
     }
 }
 
@@ -144,7 +168,7 @@ fn replay_one(list: &[u8], at: usize, buffer: &mut [u8]) -> Step {
 
 // 1 where it holds.
 fn one_if(b: bool) -> u64
-    ensures { λ r. ⌜ r ≤ 1 ⌝ }
+    ensures { λ r. ⌜ (r ≡ one b) × (r ≤ 1) ⌝ }
 {
     if b { 1 } else { 0 }
 }
@@ -153,13 +177,16 @@ impl Counts {
     // Counts a sheet.
     fn with(self, ran: Ran) -> Counts
         requires { ⌜ Room 1 self ⌝ }
+        ensures { λ r. ⌜ r ≡ counted self ran ⌝ }
         ensures { λ r. ⌜ ((left : ℕ) → Room (1 + left) self → Room left r) ⌝ }
     {
         let accepted = one_if(ran.accepted);
+        let refused = one_if(!ran.accepted);
+        let differ = one_if(!ran.same);
         Counts {
             accepted: self.accepted + accepted,
-            refused: self.refused + (1 - accepted),
-            differ: self.differ + one_if(!ran.same),
+            refused: self.refused + refused,
+            differ: self.differ + differ,
         }
     }
 

@@ -9,7 +9,7 @@ use native.Mathlib.Omega.{arith}
 use lib.Dec.{leb}
 use lib.ListN.{length, take, set, length-set}
 use lib.Seq.{length-take-le, take-all, take-suc-set, append-snoc}
-use Rattle.report.specs.World.{World, holds, wrote}
+use Rattle.report.specs.Buffer.{Buffer, holds, wrote}
 use Rattle.report.specs.Answer.{clearedFrom, accepted, fitted, answered}
 
 module _ (out : List ℕ) (at : ℕ) where
@@ -30,7 +30,7 @@ module _ (out : List ℕ) (at : ℕ) where
   accepted-whole h = let none : length out - length out ≡ 0 = omega arith in rw (take-all at out h, none, append-nil)
 
 -- what stands in a buffer once all the bytes are written into it from its front on gives their answer
-pub answered-fitted : {n size : ℕ} (bytes : List ℕ) {w : World} → n ≡ size → w ≡ wrote (holds size []) bytes → answered n w ≡ fitted size bytes
+pub answered-fitted : {n size : ℕ} (bytes : List ℕ) {w : Buffer} → n ≡ size → w ≡ wrote (holds size []) bytes → answered n w ≡ fitted size bytes
 unfolding wrote fitted
 answered-fitted {n} {size} bytes e written = rw (written, e) (by-room (leb (length bytes) size) refl)
   where

@@ -1,7 +1,7 @@
 -- Reports byte by byte, as document 01 states them: what the definitions encode and decode.
 use mathlib.Core.Path.{_≡_, refl}
 use mathlib.Core.Bool.{true, false}
-use mathlib.Core.List.{List, [], _∷_, map}
+use mathlib.Core.List.{List, [], _∷_, map, flatMap}
 use mathlib.Core.Option.{Option}
 use Prim.Native.Nat.{ℕ}
 use Rattle.laws.specs.Decoded.{ok}
@@ -9,9 +9,10 @@ use Rattle.laws.specs.Quoted.{ascii}
 use Rattle.wire.specs.Fields.{byte, below, flag, bytes}
 use Rattle.wire.specs.Number.{lastGroup, groups, number, encodeGroups, encodeNumber}
 use Rattle.wire.specs.Text.{encodeText}
+use Rattle.wire.specs.Optional.{encodeOptional, optional}
 use Rattle.report.specs.ModuleInfo.{PositionRange, SpecifierWithRange, path, types, none, unknown, known, expr, string, template, static, dynamic, ModuleInfo}
-use Rattle.report.specs.Encode.{each, encodeOptional, encodeList, encodePosition, encodeRange, encodeSpecifier, encodeReference, encodeJsDoc, encodeKeyValue, encodeAttributes, encodeArgument, encodeStatic, encodeDynamic, encodeDependency, encode}
-use Rattle.report.specs.Decode.{optional, times, list, text, position, range, specifier, reference, jsDoc, keyValue, attributes, argument, staticRest, dynamicRest, dependency, report}
+use Rattle.report.specs.Encode.{encodeList, encodePosition, encodeRange, encodeSpecifier, encodeReference, encodeJsDoc, encodeKeyValue, encodeAttributes, encodeArgument, encodeStatic, encodeDynamic, encodeDependency, encode}
+use Rattle.report.proofs.Decode.{times, list, text, position, range, specifier, reference, jsDoc, keyValue, attributes, argument, staticRest, dynamicRest, dependency, report}
 
 -- the range from one column of a line to another, and a text there
 abbrev within : ℕ → ℕ → ℕ → PositionRange
@@ -120,7 +121,7 @@ cases =
     ∷ []
 
 as-stated : (map (λ c. (c .0, encode (c .0))) cases ≡ cases) × (map (λ c. report (c .1)) cases ≡ map (λ c. ok (c .0) []) cases)
-unfolding byte below flag bytes lastGroup groups number encodeGroups encodeNumber encodeText each encodeOptional encodeList encodePosition encodeRange encodeSpecifier
+unfolding byte below flag bytes lastGroup groups number encodeGroups encodeNumber encodeText flatMap encodeOptional encodeList encodePosition encodeRange encodeSpecifier
     encodeReference encodeJsDoc encodeKeyValue encodeAttributes encodeArgument encodeStatic encodeDynamic encodeDependency encode optional times list text position range
     specifier reference jsDoc keyValue attributes argument staticRest dynamicRest dependency report
 as-stated = (refl, refl)

@@ -1,16 +1,18 @@
 -- A report that is no longer than the largest number has only texts and lists whose lengths can be written.
-use mathlib.Core.List.{List, [], _∷_, _++_}
+use mathlib.Core.List.{List, [], _∷_, _++_, flatMap}
 use mathlib.Core.Option.{Option}
 use mathlib.Core.Bool.{Bool, true, false, cond}
 use Prim.Native.Nat.{ℕ, _+_, _≤_, _/_, _%_}
 use lib.Dec.{ltb}
 use native.Mathlib.Omega.{arith}
 use lib.ListN.{length, length-append}
+use Rattle.laws.specs.Codec.{IfThere, All}
 use Rattle.wire.specs.Number.{largest, encodeGroups, encodeNumber}
 use Rattle.wire.specs.Text.{encodeText}
+use Rattle.wire.specs.Optional.{encodeOptional}
 use Rattle.report.specs.ModuleInfo.{path, types, none, unknown, known, expr, string, template, static, dynamic, ModuleInfo}
-use Rattle.report.specs.Encode.{each, encodeOptional, encodeList, encodeSpecifier, encodeReference, encodeJsDoc, encodeKeyValue, encodeAttributes, encodeArgument, encodeStatic, encodeDynamic, encodeDependency, encode}
-use Rattle.report.specs.Valid.{IfThere, All, Short, ValidSpecifier, ValidReference, ValidJsDoc, ValidKeyValue, ValidAttributes, ValidArgument, ValidDependency, Valid}
+use Rattle.report.specs.Encode.{encodeList, encodeSpecifier, encodeReference, encodeJsDoc, encodeKeyValue, encodeAttributes, encodeArgument, encodeStatic, encodeDynamic, encodeDependency, encode}
+use Rattle.report.specs.Valid.{Short, ValidSpecifier, ValidReference, ValidJsDoc, ValidKeyValue, ValidAttributes, ValidArgument, ValidDependency, Valid}
 use Rattle.report.proofs.Proper.{ProperSpecifier, ProperReference, ProperJsDoc, ProperDependency, Proper}
 
 -- a value whose encoding is short is valid if it is proper; and an encoding has a byte at least
@@ -30,15 +32,15 @@ module _ {A : Type 0} {f : A → List ℕ} {P Q : A → Type 0} (element : Fits 
     ];
   }
 
-  each-fits : (l : List A) → All P l → length (each f l) ≤ largest → All Q l
-  unfolding each
+  each-fits : (l : List A) → All P l → length (flatMap f l) ≤ largest → All Q l
+  unfolding flatMap
   each-fits [] p h = tt
   each-fits (a ∷ l) p h = let g = simp length-append at h in (element .fits a (p .0) (omega arith), each-fits l (p .1) (omega arith))
 
-  each-takes : Takes f → (l : List A) → length l ≤ length (each f l)
-  unfolding each
+  each-takes : Takes f → (l : List A) → length l ≤ length (flatMap f l)
+  unfolding flatMap
   each-takes k [] = omega arith
-  each-takes k (a ∷ l) = let n = k .takes a in let m = each-takes k l in let e = length-append (f a) (each f l) in omega arith
+  each-takes k (a ∷ l) = let n = k .takes a in let m = each-takes k l in let e = length-append (f a) (flatMap f l) in omega arith
 
   list-fits : Takes f → Fits (encodeList f) (All P) (λ l. Short l × All Q l)
   unfolding encodeList

@@ -1,7 +1,10 @@
--- What the values of a report keep whatever its length: kinds and modes are those of their fields, and positions are numbers that can be written.
+-- What the values of a report keep whatever its length: kinds and modes are those of their fields, and positions are numbers that can be written;
+-- the keys of attributes ascend by their bytes.
 use Prim.Native.Nat.{_≤_}
+use Rattle.laws.specs.Codec.{IfThere, All}
 use Rattle.report.specs.ModuleInfo.{SpecifierWithRange, TypeScriptReference, path, types, JsDocImportInfo, StaticDependencyDescriptor, DynamicDependencyDescriptor, DependencyDescriptor, static, dynamic, ModuleInfo}
-use Rattle.report.specs.Valid.{IfThere, All, ValidRange}
+use Rattle.report.specs.Ascending.{KeysAscend}
+use Rattle.report.specs.Valid.{ValidRange}
 
 abbrev pub ProperSpecifier : SpecifierWithRange → Type 0
 ProperSpecifier s = ValidRange (s .range)
@@ -17,11 +20,13 @@ pub record ProperStatic (d : StaticDependencyDescriptor) : Type 0 where
   pub kind : d .kind ≤ 8
   pub typesSpecifier : IfThere ProperSpecifier (d .typesSpecifier)
   pub specifier : ProperSpecifier (d .specifier)
+  pub importAttributes : KeysAscend (d .importAttributes)
 
 pub record ProperDynamic (d : DynamicDependencyDescriptor) : Type 0 where
   pub kind : (9 ≤ d .kind) × (d .kind ≤ 12)
   pub typesSpecifier : IfThere ProperSpecifier (d .typesSpecifier)
   pub argumentRange : ValidRange (d .argumentRange)
+  pub importAttributes : KeysAscend (d .importAttributes)
 
 abbrev pub ProperDependency : DependencyDescriptor → Type 0
 ProperDependency (static d) = ProperStatic d

@@ -1,21 +1,23 @@
 -- A valid module's information is read back from its report, so that no two have one report.
 use mathlib.Core.Path.{_≡_, refl}
 use mathlib.Core.Bool.{true, false}
-use mathlib.Core.List.{List, [], _∷_, _++_, append-assoc}
+use mathlib.Core.List.{List, [], _∷_, _++_, append-assoc, flatMap}
 use mathlib.Core.Option.{Option}
 use Prim.Native.Nat.{ℕ}
 use native.Mathlib.Omega.{arith}
 use lib.ListN.{length}
 use borrow.Author.Tests.{lt-ltb, le-ltb}
 use Rattle.laws.specs.Decoded.{ok, Decoder}
+use Rattle.laws.specs.Codec.{IfThere, All}
 use Rattle.wire.specs.Fields.{byte}
 use Rattle.wire.specs.Text.{encodeText}
+use Rattle.wire.specs.Optional.{encodeOptional, optional}
 use Rattle.wire.proofs.NumberCodec.{number-codec}
 use Rattle.wire.proofs.TextCodec.{below-codec, flag-codec, bytes-codec}
 use Rattle.report.specs.ModuleInfo.{path, types, none, unknown, known, expr, string, template, StaticDependencyDescriptor, DynamicDependencyDescriptor, static, dynamic, ModuleInfo}
-use Rattle.report.specs.Encode.{each, encodeOptional, encodeList, encodePosition, encodeRange, encodeSpecifier, encodeReference, encodeJsDoc, encodeKeyValue, encodeAttributes, encodeArgument, encodeStatic, encodeDynamic, encodeDependency, encode}
-use Rattle.report.specs.Decode.{optional, times, list, text, position, range, specifier, reference, jsDoc, keyValue, attributes, argument, staticRest, dynamicRest, dependency, report}
-use Rattle.report.specs.Valid.{IfThere, All, Short, ValidPosition, ValidRange, ValidSpecifier, ValidReference, ValidJsDoc, ValidKeyValue, ValidAttributes, ValidArgument, ValidStatic, ValidDynamic, ValidDependency, Valid}
+use Rattle.report.specs.Encode.{encodeList, encodePosition, encodeRange, encodeSpecifier, encodeReference, encodeJsDoc, encodeKeyValue, encodeAttributes, encodeArgument, encodeStatic, encodeDynamic, encodeDependency, encode}
+use Rattle.report.proofs.Decode.{times, list, text, position, range, specifier, reference, jsDoc, keyValue, attributes, argument, staticRest, dynamicRest, dependency, report}
+use Rattle.report.specs.Valid.{Short, ValidPosition, ValidRange, ValidSpecifier, ValidReference, ValidJsDoc, ValidKeyValue, ValidAttributes, ValidArgument, ValidStatic, ValidDynamic, ValidDependency, Valid}
 
 -- each valid value is decoded from its bytes, whatever follows them
 pub record ReadBack {A : Type 0} (decode : Decoder A) (encode : A → List ℕ) (Valid : A → Type 0) : Type 0 where
@@ -31,10 +33,10 @@ module _ {A : Type 0} {d : Decoder A} {f : A → List ℕ} {P : A → Type 0} (e
     ];
   }
 
-  times-back : (l : List A) → All P l → (t : List ℕ) → times d (length l) (each f l ++ t) ≡ ok l t
-  unfolding times each
+  times-back : (l : List A) → All P l → (t : List ℕ) → times d (length l) (flatMap f l ++ t) ≡ ok l t
+  unfolding times flatMap
   times-back [] v t = refl
-  times-back (a ∷ l) v t = rw (append-assoc (f a) (each f l) t, element .back a (v .0) (each f l ++ t), times-back l (v .1) t)
+  times-back (a ∷ l) v t = rw (append-assoc (f a) (flatMap f l) t, element .back a (v .0) (flatMap f l ++ t), times-back l (v .1) t)
 
   list-back : ReadBack (list d) (encodeList f) (λ l. Short l × All P l)
   unfolding list encodeList

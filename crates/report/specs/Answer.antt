@@ -6,7 +6,7 @@ use lib.Dec.{leb}
 use lib.ListN.{length, take, replicate}
 use Rattle.report.specs.declared.writer.Outcome.{Outcome}
 use Rattle.report.specs.declared.writer.Outcome.the-variants as outcome
-use Rattle.report.specs.World.{World, holds, full}
+use Rattle.report.specs.Buffer.{Buffer, holds, full}
 
 pub record Answer : Type 0 where
   pub number : ℕ
@@ -33,7 +33,7 @@ unfoldable pub fitted : ℕ → List ℕ → Answer
 fitted size bytes = cond (leb (length bytes) size) (accepted size bytes) (refusedWith 10 size)
 
 -- the answer once all is written
-abbrev pub answered : ℕ → World → Answer
+abbrev pub answered : ℕ → Buffer → Answer
 answered size (holds n bytes) = accepted size bytes
 answered size full = refusedWith 10 size
 

@@ -1,26 +1,17 @@
 -- Document 01's report: the bytes of a module's information.
-use mathlib.Core.List.{List, [], _∷_, _++_}
-use mathlib.Core.Option.{Option}
+use mathlib.Core.List.{List, [], _∷_, _++_, flatMap}
 use Prim.Native.Nat.{ℕ}
 use lib.ListN.{length}
 use Rattle.text.specs.declared.position.Position.{Position}
 use Rattle.wire.specs.Fields.{encodeFlag}
 use Rattle.wire.specs.Number.{encodeNumber}
 use Rattle.wire.specs.Text.{encodeText}
+use Rattle.wire.specs.Optional.{encodeOptional}
 use Rattle.report.specs.ModuleInfo.{PositionRange, SpecifierWithRange, TypeScriptReference, path, types, JsDocImportInfo, KeyValue, ImportAttributes, none, unknown, known, DynamicArgument, expr, string, template, StaticDependencyDescriptor, DynamicDependencyDescriptor, DependencyDescriptor, static, dynamic, ModuleInfo}
-
--- a flag, then the thing
-unfoldable pub encodeOptional : {A : Type 0} → (A → List ℕ) → Option A → List ℕ
-encodeOptional f Option.none = 0 ∷ []
-encodeOptional f (Option.some a) = 1 ∷ f a
-
-unfoldable pub each : {A : Type 0} → (A → List ℕ) → List A → List ℕ
-each f [] = []
-each f (a ∷ l) = f a ++ each f l
 
 -- a count, then each
 unfoldable pub encodeList : {A : Type 0} → (A → List ℕ) → List A → List ℕ
-encodeList f l = encodeNumber (length l) ++ each f l
+encodeList f l = encodeNumber (length l) ++ flatMap f l
 
 -- line, column
 unfoldable pub encodePosition : Position → List ℕ
@@ -37,6 +28,7 @@ unfoldable pub encodeReference : TypeScriptReference → List ℕ
 encodeReference (path s) = 0 ∷ encodeSpecifier s
 encodeReference (types s mode) = 1 ∷ (encodeSpecifier s ++ (mode ∷ []))
 
+-- byte 1, specifier, mode
 unfoldable pub encodeJsDoc : JsDocImportInfo → List ℕ
 encodeJsDoc i = 1 ∷ (encodeSpecifier (i .specifier) ++ (i .mode ∷ []))
 
@@ -44,6 +36,7 @@ encodeJsDoc i = 1 ∷ (encodeSpecifier (i .specifier) ++ (i .mode ∷ []))
 unfoldable pub encodeKeyValue : KeyValue → List ℕ
 encodeKeyValue a = encodeText (a .key) ++ encodeOptional encodeText (a .value)
 
+-- 0 None, 1 Unknown, 2 count and pairs
 unfoldable pub encodeAttributes : ImportAttributes → List ℕ
 encodeAttributes none = 0 ∷ []
 encodeAttributes unknown = 1 ∷ []
@@ -55,13 +48,23 @@ encodeArgument expr = 0 ∷ []
 encodeArgument (string x) = 1 ∷ encodeText x
 encodeArgument (template l) = 2 ∷ encodeList (encodeOptional encodeText) l
 
+-- kind byte, optional types specifier, specifier, side effect flag, attributes
 unfoldable pub encodeStatic : StaticDependencyDescriptor → List ℕ
 encodeStatic d =
-    d .kind ∷ (encodeOptional encodeSpecifier (d .typesSpecifier) ++ (encodeSpecifier (d .specifier) ++ (encodeFlag (d .sideEffect) ++ encodeAttributes (d .importAttributes))))
+    d .kind
+    ∷ (encodeOptional encodeSpecifier (d .typesSpecifier)
+    ++ (encodeSpecifier (d .specifier)
+    ++ (encodeFlag (d .sideEffect)
+    ++ encodeAttributes (d .importAttributes))))
 
+-- kind byte, optional types specifier, argument, its range, attributes
 unfoldable pub encodeDynamic : DynamicDependencyDescriptor → List ℕ
 encodeDynamic d =
-    d .kind ∷ (encodeOptional encodeSpecifier (d .typesSpecifier) ++ (encodeArgument (d .argument) ++ (encodeRange (d .argumentRange) ++ encodeAttributes (d .importAttributes))))
+    d .kind
+    ∷ (encodeOptional encodeSpecifier (d .typesSpecifier)
+    ++ (encodeArgument (d .argument)
+    ++ (encodeRange (d .argumentRange)
+    ++ encodeAttributes (d .importAttributes))))
 
 unfoldable pub encodeDependency : DependencyDescriptor → List ℕ
 encodeDependency (static d) = encodeStatic d

@@ -1,7 +1,7 @@
 pub mod ModuleInfo
+pub mod Ascending
 pub mod Encode
-pub mod Decode
-pub mod World
+pub mod Buffer
 pub mod Valid
 pub mod Range
 pub mod Answer

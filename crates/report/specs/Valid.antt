@@ -1,20 +1,11 @@
 -- The values that a report can tell apart: each number that is written is at most the largest, and each byte is one of its field's.
-use mathlib.Core.List.{List, [], _∷_}
-use mathlib.Core.Option.{Option}
+use mathlib.Core.List.{List}
 use Prim.Native.Nat.{_≤_}
 use lib.ListN.{length}
+use Rattle.laws.specs.Codec.{All, IfThere}
 use Rattle.text.specs.declared.position.Position.{Position}
 use Rattle.wire.specs.Number.{largest}
 use Rattle.report.specs.ModuleInfo.{PositionRange, SpecifierWithRange, TypeScriptReference, path, types, JsDocImportInfo, KeyValue, ImportAttributes, none, unknown, known, DynamicArgument, expr, string, template, StaticDependencyDescriptor, DynamicDependencyDescriptor, DependencyDescriptor, static, dynamic, ModuleInfo}
-
--- what is there is valid
-abbrev pub IfThere : {A : Type 0} → (A → Type 0) → Option A → Type 0
-IfThere P Option.none = Unit {0}
-IfThere P (Option.some a) = P a
-
-abbrev pub All : {A : Type 0} → (A → Type 0) → List A → Type 0
-All P [] = Unit {0}
-All P (a ∷ l) = P a × All P l
 
 -- the length can be written
 abbrev pub Short : {A : Type 0} → List A → Type 0

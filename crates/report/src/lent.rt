@@ -3,7 +3,7 @@ use crate::writer::Outcome;
 use crate::writer::Place;
 ghost use mathlib.Core.Path.{_≡_};
 ghost use lib.ListN.{length};
-ghost use Rattle.report.specs.World.{worldAs};
+ghost use Rattle.report.specs.Buffer.{bufferAs};
 ghost use Rattle.report.specs.Answer.{answered, outcomeAs};
 ghost use Rattle.report.specs.Lent.{begun};
 
@@ -27,7 +27,7 @@ impl<'a> Writer<'a> {
     // The end of the report: every byte past it is zero; refusal 10 where a byte found no room.
     pub fn finish(self) -> Outcome
         ensures { λ r. ⌜ outcomeAs r (now (self .exit .0))
-            ≡ answered (length (now (self .entry .out))) (worldAs (now (self .entry .out)) (self .entry .place)) ⌝ }
+            ≡ answered (length (now (self .entry .out))) (bufferAs (now (self .entry .out)) (self .entry .place)) ⌝ }
     {
         crate::writer::finish(&mut *self.out, self.place)
     }

@@ -10,7 +10,7 @@ ghost use Rattle.wire.specs.Number.{encodeNumber};
 ghost use Rattle.wire.specs.Text.{encodeText};
 ghost use Rattle.report.specs.Encode.{encodePosition, encodeRange, encodeSpecifier};
 ghost use Rattle.report.specs.Range.{rangeOf, InSource, IndexOf};
-ghost use Rattle.report.specs.World.{wrote, worldAs};
+ghost use Rattle.report.specs.Buffer.{wrote, bufferAs};
 ghost use Rattle.report.specs.Answer.{clearedFrom, refusedWith, answered, outcomeAs};
 
 // The next place in the buffer, and whether a byte found no room.
@@ -28,7 +28,7 @@ pub enum Outcome {
 impl Place {
     // Writes a byte.
     pub fn put(self, out: &mut [u8], b: u8) -> Place
-        ensures { λ r. ⌜ worldAs (now (out .exit)) r ≡ wrote (worldAs (now (out .entry)) self) (b ∷ []) ⌝ }
+        ensures { λ r. ⌜ bufferAs (now (out .exit)) r ≡ wrote (bufferAs (now (out .entry)) self) (b ∷ []) ⌝ }
     {
         let at = self.at;
         if self.full {
@@ -46,7 +46,7 @@ impl Place {
 
     // Writes a flag.
     pub fn put_flag(self, out: &mut [u8], b: bool) -> Place
-        ensures { λ r. ⌜ worldAs (now (out .exit)) r ≡ wrote (worldAs (now (out .entry)) self) (encodeFlag b) ⌝ }
+        ensures { λ r. ⌜ bufferAs (now (out .exit)) r ≡ wrote (bufferAs (now (out .entry)) self) (encodeFlag b) ⌝ }
     {
         if b {
             return self.put(out, 1);
@@ -56,7 +56,7 @@ impl Place {
 
     // Writes a number, in at most five groups.
     pub fn put_number(self, out: &mut [u8], n: usize) -> Place
-        ensures { λ r. ⌜ worldAs (now (out .exit)) r ≡ wrote (worldAs (now (out .entry)) self) (encodeNumber n) ⌝ }
+        ensures { λ r. ⌜ bufferAs (now (out .exit)) r ≡ wrote (bufferAs (now (out .entry)) self) (encodeNumber n) ⌝ }
     {
         let mut p = self;
         let mut left: usize = 5;
@@ -74,7 +74,7 @@ impl Place {
 
     // Writes bytes.
     pub fn put_bytes(self, out: &mut [u8], s: &[u8]) -> Place
-        ensures { λ r. ⌜ worldAs (now (out .exit)) r ≡ wrote (worldAs (now (out .entry)) self) (now (s .entry)) ⌝ }
+        ensures { λ r. ⌜ bufferAs (now (out .exit)) r ≡ wrote (bufferAs (now (out .entry)) self) (now (s .entry)) ⌝ }
     {
         let mut p = self;
         let mut i = 0;
@@ -87,7 +87,7 @@ impl Place {
 
     // Writes a text.
     pub fn put_text(self, out: &mut [u8], s: &[u8]) -> Place
-        ensures { λ r. ⌜ worldAs (now (out .exit)) r ≡ wrote (worldAs (now (out .entry)) self) (encodeText (now (s .entry))) ⌝ }
+        ensures { λ r. ⌜ bufferAs (now (out .exit)) r ≡ wrote (bufferAs (now (out .entry)) self) (encodeText (now (s .entry))) ⌝ }
     {
         let p = self.put_number(out, s.len());
         p.put_bytes(out, s)
@@ -95,7 +95,7 @@ impl Place {
 
     // Writes U+FFFD.
     fn put_replacement(self, out: &mut [u8]) -> Place
-        ensures { λ r. ⌜ worldAs (now (out .exit)) r ≡ wrote (worldAs (now (out .entry)) self) (0xEF ∷ 0xBF ∷ 0xBD ∷ []) ⌝ }
+        ensures { λ r. ⌜ bufferAs (now (out .exit)) r ≡ wrote (bufferAs (now (out .entry)) self) (0xEF ∷ 0xBF ∷ 0xBD ∷ []) ⌝ }
     {
         let p = self.put(out, 0xEF);
         let p = p.put(out, 0xBF);
@@ -104,7 +104,7 @@ impl Place {
 
     // Writes the bytes of a text in WTF-8, with U+FFFD for each surrogate.
     fn put_lossy(self, out: &mut [u8], s: &[u8]) -> Place
-        ensures { λ r. ⌜ worldAs (now (out .exit)) r ≡ wrote (worldAs (now (out .entry)) self) (lossy (now (s .entry))) ⌝ }
+        ensures { λ r. ⌜ bufferAs (now (out .exit)) r ≡ wrote (bufferAs (now (out .entry)) self) (lossy (now (s .entry))) ⌝ }
     {
         let mut p = self;
         let mut i = 0;
@@ -122,7 +122,7 @@ impl Place {
 
     // Writes a text in WTF-8, with U+FFFD for each surrogate.
     pub fn put_lossy_text(self, out: &mut [u8], s: &[u8]) -> Place
-        ensures { λ r. ⌜ worldAs (now (out .exit)) r ≡ wrote (worldAs (now (out .entry)) self) (encodeText (lossy (now (s .entry)))) ⌝ }
+        ensures { λ r. ⌜ bufferAs (now (out .exit)) r ≡ wrote (bufferAs (now (out .entry)) self) (encodeText (lossy (now (s .entry)))) ⌝ }
     {
         let p = self.put_number(out, s.len());
         p.put_lossy(out, s)
@@ -130,7 +130,7 @@ impl Place {
 
     // Writes a position.
     fn put_position(self, out: &mut [u8], p: Position) -> Place
-        ensures { λ r. ⌜ worldAs (now (out .exit)) r ≡ wrote (worldAs (now (out .entry)) self) (encodePosition p) ⌝ }
+        ensures { λ r. ⌜ bufferAs (now (out .exit)) r ≡ wrote (bufferAs (now (out .entry)) self) (encodePosition p) ⌝ }
     {
         let line = p.line;
         let column = p.column;
@@ -140,8 +140,8 @@ impl Place {
 
     // Writes a range.
     fn put_range(self, out: &mut [u8], start: Position, end: Position) -> Place
-        ensures { λ r. ⌜ worldAs (now (out .exit)) r
-            ≡ wrote (worldAs (now (out .entry)) self) (encodeRange (record { start = start; end = end })) ⌝ }
+        ensures { λ r. ⌜ bufferAs (now (out .exit)) r
+            ≡ wrote (bufferAs (now (out .entry)) self) (encodeRange (record { start = start; end = end })) ⌝ }
     {
         let p = self.put_position(out, start);
         p.put_position(out, end)
@@ -150,8 +150,8 @@ impl Place {
     // Writes the range of a span of the source.
     pub fn put_span(self, out: &mut [u8], source: &[u8], index: &[u32], span: Span) -> Place
         requires { ⌜ IndexOf (now source) (now index) × InSource (now source) span ⌝ }
-        ensures { λ r. ⌜ worldAs (now (out .exit)) r
-            ≡ wrote (worldAs (now (out .entry)) self) (encodeRange (rangeOf (now (source .entry)) span)) ⌝ }
+        ensures { λ r. ⌜ bufferAs (now (out .exit)) r
+            ≡ wrote (bufferAs (now (out .entry)) self) (encodeRange (rangeOf (now (source .entry)) span)) ⌝ }
     {
         let start = text::position::indexed_position(source, index, span.start);
         let end = text::position::indexed_position(source, index, span.end);
@@ -168,8 +168,8 @@ impl Place {
         span: Span,
     ) -> Place
         requires { ⌜ IndexOf (now source) (now index) × InSource (now source) span ⌝ }
-        ensures { λ r. ⌜ worldAs (now (out .exit)) r
-            ≡ wrote (worldAs (now (out .entry)) self)
+        ensures { λ r. ⌜ bufferAs (now (out .exit)) r
+            ≡ wrote (bufferAs (now (out .entry)) self)
             (encodeSpecifier (record { text = now (text .entry); range = rangeOf (now (source .entry)) span })) ⌝ }
     {
         let p = self.put_text(out, text);
@@ -186,8 +186,8 @@ impl Place {
         span: Span,
     ) -> Place
         requires { ⌜ IndexOf (now source) (now index) × InSource (now source) span ⌝ }
-        ensures { λ r. ⌜ worldAs (now (out .exit)) r
-            ≡ wrote (worldAs (now (out .entry)) self)
+        ensures { λ r. ⌜ bufferAs (now (out .exit)) r
+            ≡ wrote (bufferAs (now (out .entry)) self)
             (encodeSpecifier (record { text = lossy (now (text .entry)); range = rangeOf (now (source .entry)) span })) ⌝ }
     {
         let p = self.put_lossy_text(out, text);
@@ -216,7 +216,7 @@ pub fn refuse_all(out: &mut [u8], number: u8) -> Outcome
 
 // The end of the report: every byte past it is zero; refusal 10 where a byte found no room.
 pub fn finish(out: &mut [u8], place: Place) -> Outcome
-    ensures { λ r. ⌜ outcomeAs r (now (out .exit)) ≡ answered (length (now (out .entry))) (worldAs (now (out .entry)) place) ⌝ }
+    ensures { λ r. ⌜ outcomeAs r (now (out .exit)) ≡ answered (length (now (out .entry))) (bufferAs (now (out .entry)) place) ⌝ }
 {
     let at = place.at;
     if place.full {

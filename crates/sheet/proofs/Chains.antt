@@ -1,48 +1,59 @@
--- Items one after the other, each judged by the one before: what holds of them all.
+-- Items one after the other, each judged by what the one before leaves.
 use mathlib.Core.Path.{_≡_, refl, ap}
-use mathlib.Core.List.{List, [], _∷_}
-use Prim.Native.Nat.{ℕ, zero, suc, _<_}
+use mathlib.Core.List.{List, [], _∷_, flatMap}
+use Prim.Native.Nat.{ℕ, zero, suc, _<_, suc-le-suc, zero-le}
 use native.Mathlib.Nat.{not-suc-le-zero, le-of-suc-le-suc}
+use native.Mathlib.Omega.{arith}
 use lib.ListN.{length, getD}
-use Rattle.laws.specs.Decoded.{ok, Decoder}
-use Rattle.laws.proofs.Decoding.{then-ok, onOk-ok}
+use Rattle.laws.specs.Decoded.{Decoder}
+use Rattle.laws.specs.Codec.{Codec}
+use Rattle.laws.proofs.Codecs.{built-return, built-map, built-then, codec-of}
 use Rattle.sheet.specs.Comments.{chained}
 
--- the value that was answered
-pub value : {A : Type 0} {a b : A} {t u : List ℕ} → ok a t ≡ ok b u → a ≡ b
-value e = cc
+-- each item holds behind what the one before leaves
+abbrev pub Chained : {A S : Type 0} → (S → A → Type 0) → (A → S) → S → List A → Type 0
+Chained P leaves s [] = Unit {0}
+Chained P leaves s (a ∷ l) = P s a × Chained P leaves (leaves a) l
 
--- each item is related to the state that it was judged in
-pub data Linked {A S : Type 0} (leaves : A → S) (P : S → A → Type 0) : S → List A → Type 0 where
-  none : {s : S} → Linked leaves P s []
-  link : {s : S} {a : A} {xs : List A} → P s a → Linked leaves P (leaves a) xs → Linked leaves P s (a ∷ xs)
+module _ {A S : Type 0} {item : S → Decoder A} {leaves : A → S} {encode : A → List ℕ} {P : S → A → Type 0} (element : (s : S) → Codec (item s) encode (P s)) where
+  pub chained-codec : (s : S) (k : ℕ) → Codec (chained item leaves s k) (flatMap encode) (λ l. (length l ≡ k) × Chained P leaves s l)
+  unfolding chained flatMap
+  chained-codec s zero =
+      codec-of (built-return [])
+      (elim [ [] ↦ λ v. (tt, refl, tt) | a ∷ l ↦ λ v. absurd (omega (arith, v .0)) ])
+      (λ u v. (refl, (refl, tt)))
+  chained-codec s (suc k) =
+      codec-of (built-then (element s) (λ a. built-map (a ∷_) (chained-codec (leaves a) k)))
+      (elim [ [] ↦ λ v. absurd (omega (arith, v .0)) | a ∷ l ↦ λ v. ((a, l), refl, (v .1 .0, (omega (arith, v .0), v .1 .1))) ])
+      (λ p v. (refl, (ap suc (v .1 .0), (v .0, v .1 .1))))
 
-module _ {A S : Type 0} (item : S → Decoder A) (leaves : A → S) (P : S → A → Type 0) (judged : (s : S) (t : List ℕ) (a : A) (u : List ℕ) → item s t ≡ ok a u → P s a) where
-  pub linked : (s : S) (k : ℕ) (t : List ℕ) {xs : List A} {u : List ℕ} → chained item leaves s k t ≡ ok xs u → (length xs ≡ k) × Linked leaves P s xs
-  unfolding chained
-  linked s zero t e = rw (← value e) (refl, none)
-  linked s (suc k) t e =
-      let (a, u, x, e) = then-ok (item s t) _ e in
-      let (xs, y, e) = onOk-ok (a ∷_) (chained item leaves (leaves a) k u) e in
-      let (n, l) = linked (leaves a) k u y in
-      rw (← e) (ap suc n, link (judged s t a u x) l)
+module _ {A S : Type 0} (P : S → A → Type 0) (leaves : A → S) (d : A) where
+  -- what is known of an item behind a state
+  pub of-each : (Q : A → Type 0) → ((s : S) (a : A) → P s a → Q a) → (s : S) (l : List A) → Chained P leaves s l → (k : ℕ) → k < length l → Q (getD l k d)
+  of-each Q q s [] c k h = absurd (not-suc-le-zero h)
+  of-each Q q s (a ∷ l) c zero h = q s a (c .0)
+  of-each Q q s (a ∷ l) c (suc k) h = of-each Q q (leaves a) l (c .1) k (le-of-suc-le-suc h)
 
-module _ {A S : Type 0} {leaves : A → S} {P : S → A → Type 0} (d : A) where
-  -- what the relation says of an item
-  pub of-each : (Q : A → Type 0) → ((s : S) (a : A) → P s a → Q a) → {s : S} {xs : List A} → Linked leaves P s xs → (k : ℕ) → k < length xs → Q (getD xs k d)
-  of-each Q q none k h = absurd (not-suc-le-zero h)
-  of-each Q q (link {s} {a} p l) zero h = q s a p
-  of-each Q q (link p l) (suc k) h = of-each Q q l k (le-of-suc-le-suc h)
-
-  -- what it says of an item and the next, if it goes through, it says of an item and any later one
+  -- what is known of an item and the next, if it goes through, is known of an item and any later one
   module _ (R : A → A → Type 0) (next : (a b : A) → P (leaves a) b → R a b) (through : (a b c : A) → R a b → R b c → R a c) where
-    later : (a : A) {s : S} {xs : List A} → s ≡ leaves a → Linked leaves P s xs → (k : ℕ) → k < length xs → R a (getD xs k d)
-    later a e none k h = absurd (not-suc-le-zero h)
-    later a e (link {a = b} p l) zero h = next a b (rw e at p)
-    later a e (link {a = b} {xs} p l) (suc k) h = through a b (getD xs k d) (next a b (rw e at p)) (later b refl l k (le-of-suc-le-suc h))
+    later : (a : A) (l : List A) → Chained P leaves (leaves a) l → (k : ℕ) → k < length l → R a (getD l k d)
+    later a [] c k h = absurd (not-suc-le-zero h)
+    later a (b ∷ l) c zero h = next a b (c .0)
+    later a (b ∷ l) c (suc k) h = through a b (getD l k d) (next a b (c .0)) (later b l (c .1) k (le-of-suc-le-suc h))
 
-    pub of-pairs : {s : S} {xs : List A} → Linked leaves P s xs → (j k : ℕ) → j < k → k < length xs → R (getD xs j d) (getD xs k d)
-    of-pairs none j k i h = absurd (not-suc-le-zero h)
-    of-pairs (link p l) j zero i h = absurd (not-suc-le-zero i)
-    of-pairs (link {a} p l) zero (suc k) i h = later a refl l k (le-of-suc-le-suc h)
-    of-pairs (link p l) (suc j) (suc k) i h = of-pairs l j k (le-of-suc-le-suc i) (le-of-suc-le-suc h)
+    pub of-pairs : (s : S) (l : List A) → Chained P leaves s l → (j k : ℕ) → j < k → k < length l → R (getD l j d) (getD l k d)
+    of-pairs s [] c j k i h = absurd (not-suc-le-zero h)
+    of-pairs s (a ∷ l) c j zero i h = absurd (not-suc-le-zero i)
+    of-pairs s (a ∷ l) c zero (suc k) i h = later a l (c .1) k (le-of-suc-le-suc h)
+    of-pairs s (a ∷ l) c (suc j) (suc k) i h = of-pairs (leaves a) l (c .1) j k (le-of-suc-le-suc i) (le-of-suc-le-suc h)
+
+  -- items that each hold by themselves, and of which each follows those before it
+  module _ (Q : A → Type 0) (Follows : S → A → Type 0) (holds : (s : S) (a : A) → Q a → Follows s a → P s a) where
+    pub chain : (s : S) (l : List A) → ((k : ℕ) → k < length l → Q (getD l k d)) → ((k : ℕ) → k < length l → Follows s (getD l k d))
+        → ((j k : ℕ) → j < k → k < length l → Follows (leaves (getD l j d)) (getD l k d)) → Chained P leaves s l
+    chain s [] each first pairs = tt
+    chain s (a ∷ l) each first pairs = (
+      holds s a (each 0 (suc-le-suc zero-le)) (first 0 (suc-le-suc zero-le)),
+      chain (leaves a) l (λ k h. each (suc k) (suc-le-suc h)) (λ k h. pairs 0 (suc k) (suc-le-suc zero-le) (suc-le-suc h))
+          (λ j k i h. pairs (suc j) (suc k) (suc-le-suc i) (suc-le-suc h)),
+    )

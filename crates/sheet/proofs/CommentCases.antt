@@ -2,14 +2,15 @@
 use mathlib.Core.Path.{_≡_, refl}
 use mathlib.Core.List.{List, [], _∷_, _++_, map}
 use Prim.Native.Nat.{ℕ}
-use Rattle.laws.specs.Decoded.{Decoded, ok, no, Decoder, _>>=_, _>>_, return, require}
+use Rattle.laws.specs.Decoded.{refusal, Decoder, _>>=_, _>>_, return, require}
 use Rattle.laws.specs.Quoted.{ascii}
 use Rattle.text.specs.Bytes.{begins}
+use Rattle.text.specs.Position.{isBoundary}
 use Rattle.wire.specs.Fields.{byte, below}
 use Rattle.wire.specs.Number.{lastGroup, number}
 use Rattle.wire.specs.Text.{count}
 use Rattle.sheet.specs.declared.groups.Group.{Group}
-use Rattle.sheet.specs.Fields.{isBoundary, position, endFrom}
+use Rattle.sheet.specs.Fields.{position, endFrom}
 use Rattle.sheet.specs.Comments.{enclosed, marked, comment, comments, group, groups, anywhere, covered, chained}
 
 -- a block comment, whose first three bytes have both its marks; a line comment that touches it, at 5; "é", at 7
@@ -49,10 +50,6 @@ cases =
     ∷ (both ++ (1 ∷ 0 ∷ 9 ∷ 0 ∷ 0 ∷ []), 7)  -- count 0
     ∷ (both ++ (1 ∷ 0 ∷ 9 ∷ 1 ∷ 2 ∷ []), 7)  -- reach past the comments
     ∷ []
-
-abbrev refusal : {A : Type 0} → Decoded A → ℕ
-refusal (ok a t) = 0
-refusal (no r) = r
 
 as-stated : map (λ c. refusal (fields (c .0))) cases ≡ map (λ c. c .1) cases
 unfolding byte below lastGroup Rattle.wire.specs.Number.groups number count begins isBoundary position endFrom enclosed marked comment group covered chained

@@ -1,40 +1,71 @@
--- What the comments and the groups of a sheet are, where they decode.
-use mathlib.Core.Path.{_≡_}
+-- The comments and the groups of a sheet: what decodes is what document 01 asks of them, and that decodes.
+use mathlib.Core.Path.{_≡_, refl}
 use mathlib.Core.Bool.{true}
-use mathlib.Core.List.{List}
-use Prim.Native.Nat.{ℕ, _≤_}
+use mathlib.Core.List.{List, flatMap}
+use Prim.Native.Nat.{ℕ, _≤_, _<_, zero-le}
 use native.Mathlib.Omega.{arith}
 use lib.ListN.{length}
-use Rattle.laws.specs.Decoded.{ok}
+use Rattle.laws.specs.Codec.{Codec}
+use Rattle.laws.proofs.Codecs.{codec-as}
+use Rattle.text.specs.Position.{Boundary}
+use Rattle.wire.specs.Number.{largest}
 use Rattle.sheet.specs.declared.comments.Comment.{Comment}
 use Rattle.sheet.specs.declared.groups.Group.{Group}
-use Rattle.sheet.specs.Comments.{comment, comments, endOf, group, groups, anywhere, mayFollow}
-use Rattle.sheet.specs.Fit.{Placed, Fit, Reaching, Grouped}
-use Rattle.sheet.proofs.Chains.{linked, of-each, of-pairs}
+use Rattle.sheet.specs.Comments.{comments, encodeComment, endOf, groups, encodeGroup, anywhere, mayFollow}
+use Rattle.sheet.specs.Fit.{Placed, Fit, noComment, Reaching, Grouped, noGroup, groupOf}
+use Rattle.sheet.proofs.Chains.{Chained, chained-codec, of-each, of-pairs, chain}
 use Rattle.sheet.proofs.Order.{precedes-trans}
-use Rattle.sheet.proofs.Judged.{Judged, comment-ok, Ranged, group-ok}
+use Rattle.sheet.proofs.Judged.{Judged, comment-codec, Ranged, group-codec}
 
 module _ (source : List ℕ) where
-  -- comments of the source, in order and apart
-  pub comments-fit : (n : ℕ) (s : List ℕ) {cs : List Comment} {t : List ℕ} → comments source 0 n s ≡ ok cs t → (length cs ≡ n) × Fit source cs
-  comments-fit n s {cs} e =
-      let (long, l) = linked (comment source) endOf (Judged source) (λ last s c t. comment-ok source last s) 0 n s e in
-      let Apart : Comment → Comment → Type 0 = λ c d. (c .span .end ≤ d .span .start) × (d .span .start ≤ d .span .end) in (
-        long,
-        record {
-          each = of-each _ (Placed source) (λ last c j. j .placed) l;
-          apart = λ j k i h. of-pairs _ Apart (λ c d q. (q .behind, q .placed .order)) (λ a b c x y. (omega arith, y .1)) l j k i h .0;
-        },
-      )
+  -- comments, each behind the one before, are in order and apart
+  chained-fit : (cs : List Comment) → Chained (Judged source) endOf 0 cs → Fit source cs
+  chained-fit cs c =
+      let Apart : Comment → Comment → Type 0 = λ c d. (c .span .end ≤ d .span .start) × (d .span .start ≤ d .span .end) in
+      record {
+        each = of-each (Judged source) endOf noComment (Placed source) (λ last c j. j .placed) 0 cs c;
+        apart = λ j k i h.
+            of-pairs (Judged source) endOf noComment Apart (λ c d q. (q .behind, q .placed .order)) (λ a b c x y. (omega arith, y .1)) 0 cs c j k i h .0;
+      }
 
-  -- groups of the comments, in order
-  pub groups-grouped : (total m : ℕ) (s : List ℕ) {gs : List Group} {t : List ℕ} → groups source total anywhere m s ≡ ok gs t → (length gs ≡ m) × Grouped total gs
-  groups-grouped total m s {gs} e =
-      let (long, l) = linked (group source total) mayFollow (Ranged total) (λ after s g t. group-ok source total after s) anywhere m s e in
-      let Behind : Group → Group → Type 0 = λ g h. mayFollow g (h .side) (h .position) ≡ true in (
-        long,
-        record {
-          each = of-each _ (Reaching total) (λ after g q. q .reaching) l;
-          ascending = record { rise = of-pairs _ Behind (λ g h q. q .follows) (λ a b c. precedes-trans (a .side) (a .position) (b .side) (b .position) (c .side) (c .position)) l };
-        },
-      )
+  fit-chained : length source ≤ largest → (cs : List Comment) → Fit source cs → Chained (Judged source) endOf 0 cs
+  fit-chained small cs f =
+      chain (Judged source) endOf noComment (Placed source) (λ last c. last ≤ c .span .start)
+      (λ last c p l. record { placed = p; behind = l; small = (omega (arith, p .start .0), omega (arith, p .end .0)) })
+      0 cs (f .each) (λ k h. zero-le) (f .apart)
+
+  pub comments-codec : length source ≤ largest → (n : ℕ) → Codec (comments source 0 n) (flatMap encodeComment) (λ cs. (length cs ≡ n) × Fit source cs)
+  comments-codec small n = codec-as (chained-codec (comment-codec source) 0 n) (λ cs v. (v .0, fit-chained small cs (v .1))) (λ cs v. (v .0, chained-fit cs (v .1)))
+
+  -- each group is at a boundary
+  abbrev pub AtBoundaries : List Group → Type 0
+  AtBoundaries gs = (k : ℕ) → k < length gs → Boundary source (groupOf gs k .position)
+
+  module _ (total : ℕ) where
+    -- groups, each behind the one before, are in order
+    chained-grouped : (gs : List Group) → Chained (Ranged source total) mayFollow anywhere gs → Grouped total gs × AtBoundaries gs
+    chained-grouped gs c =
+        let Behind : Group → Group → Type 0 = λ g h. mayFollow g (h .side) (h .position) ≡ true in (
+          record {
+            each = of-each (Ranged source total) mayFollow noGroup (Reaching total) (λ after g q. q .reaching) anywhere gs c;
+            ascending = record {
+              rise = of-pairs (Ranged source total) mayFollow noGroup Behind (λ g h q. q .follows)
+                  (λ a b c. precedes-trans (a .side) (a .position) (b .side) (b .position) (c .side) (c .position)) anywhere gs c;
+            };
+          },
+          of-each (Ranged source total) mayFollow noGroup (λ g. Boundary source (g .position)) (λ after g q. q .place) anywhere gs c,
+        )
+
+    grouped-chained : length source ≤ largest → total ≤ largest → (gs : List Group) → Grouped total gs × AtBoundaries gs
+        → Chained (Ranged source total) mayFollow anywhere gs
+    grouped-chained small few gs (f, at) =
+        chain (Ranged source total) mayFollow noGroup (λ g. Reaching total g × Boundary source (g .position)) (λ after g. after (g .side) (g .position) ≡ true)
+        (λ after g (r, p) q. record { reaching = r; place = p; follows = q; small = (omega (arith, p .0), omega (arith, r .reach), omega (arith, r .reach)) })
+        anywhere gs (λ k h. (f .each k h, at k h)) (λ k h. refl) (f .ascending .rise)
+
+    pub groups-codec : length source ≤ largest → total ≤ largest → (m : ℕ)
+        → Codec (groups source total anywhere m) (flatMap encodeGroup) (λ gs. (length gs ≡ m) × (Grouped total gs × AtBoundaries gs))
+    groups-codec small few m =
+        codec-as (chained-codec (group-codec source total) anywhere m)
+        (λ gs v. (v .0, grouped-chained small few gs (v .1)))
+        (λ gs v. (v .0, chained-grouped gs (v .1)))

@@ -8,15 +8,12 @@ use native.Mathlib.Omega.{arith}
 use lib.ListN.{length}
 use lib.Seq.{sets}
 use Rattle.laws.specs.Decoded.{Decoded, ok, no, onOk, Decoder}
+use Rattle.laws.proofs.Decoding.{map-map}
 use Rattle.sheet.specs.Comments.{chained}
 use Rattle.sheet.specs.Tables.{rows}
 use Rattle.sheet.proofs.Stores.{Table, rows-stored}
 
--- changes one after the other, and none
-onOk-join : {A B C : Type 0} (f : B → C) (g : A → B) (x : Decoded A) → onOk f (onOk g x) ≡ onOk (λ a. f (g a)) x
-onOk-join f g (ok a t) = refl
-onOk-join f g (no r) = refl
-
+-- no change
 onOk-none : {A : Type 0} (x : Decoded (List A)) → x ≡ onOk (λ xs. [] ++ xs) x
 onOk-none (ok a t) = refl
 onOk-none (no r) = refl
@@ -48,7 +45,7 @@ module _ {A S : Type 0} {item : S → Decoder A} {leaves : A → S} {read : List
       let fits : width * k + width ≤ length table = omega (arith, mul-suc width k, mul-le-mul-left width l) in
       record {
         most = omega arith;
-        rest = f .rest ∙ rw (left, e, onOk-join, g, add-one, rows-stored kept table k a fits) (simp append-assoc);
+        rest = f .rest ∙ rw (left, e, map-map, g, add-one, rows-stored kept table k a fits) (simp append-assoc);
       }
 
   pub fill-all : n ≤ k → chained item leaves s₀ n t₀ ≡ ok (rows (read table) 0 n) t

@@ -10,4 +10,5 @@ pub mod Marks
 pub mod Search
 pub mod Coverings
 pub mod Members
+pub mod Bodies
 pub mod CommentCases

@@ -12,7 +12,7 @@ use Rattle.text.specs.Bytes.{begins}
 use Rattle.sheet.specs.declared.comments.Comment.{Comment}
 use Rattle.sheet.specs.Comments.{opening, closing, slice, enclosed, marked}
 use Rattle.sheet.specs.Fit.{Placed}
-use Rattle.sheet.specs.Lookups.{Roomy}
+use Rattle.sheet.specs.Lookups.{HoldsMarks}
 
 -- each kind opens with two bytes
 pub opening-long : (kind : ℕ) → length (opening kind) ≡ 2
@@ -28,9 +28,9 @@ enclosed-long front back c e =
     let (x, y) = and-eq-true-iff (leb (length front + length back) (length c) && begins front c) (begins back (drop (length c - length back) c)) .0 e in
     leb-true _ _ (and-eq-true-iff (leb (length front + length back) (length c)) (begins front c) .0 x .0)
 
-pub roomy : (source : List ℕ) (c : Comment) → Placed source c → Roomy c
+pub holds-marks : (source : List ℕ) (c : Comment) → Placed source c → HoldsMarks c
 unfolding marked
-roomy source c p =
+holds-marks source c p =
     let long = enclosed-long (opening (c .kind)) (closing (c .kind)) (slice source (c .span)) (p .marks) in
     let order = p .order in
     omega (arith, simp (length-take, length-drop) at long)

@@ -5,34 +5,29 @@ use mathlib.Core.List.{List, [], _∷_}
 use mathlib.Core.Option.{Option, Option·some-injective, Option·none-ne-some}
 use Prim.Native.Nat.{ℕ, suc, _+_, _-_, _≤_, _<_, zero-le, suc-le-suc}
 use native.Mathlib.Nat.{zero-add}
-use native.Mathlib.Omega.{arith}
 use lib.ListN.{length}
 use Rattle.sheet.specs.declared.comments.Comment.{Comment}
 use Rattle.sheet.specs.declared.groups.Group.{Group}
 use Rattle.sheet.specs.Program.{Program}
 use Rattle.sheet.specs.Tables.{rows, commentIn, commentsIn}
 use Rattle.sheet.specs.Fit.{Placed, Fit, Reaching, groupOf, Grouped}
-use Rattle.sheet.specs.Lookups.{leading, trailing, standsAt, groupAt, headBy, headGroup, commentsOf, lastOf}
+use Rattle.sheet.specs.Lookups.{leading, trailing, standsAt, groupAt, headBy, headGroup, commentsOf, lastCommentOf}
 use Rattle.sheet.proofs.Rows.{rows-length, rows-part, rows-last, comment-row}
-use Rattle.sheet.proofs.Judged.{boundary-within}
 
 -- a comment does not reach past the source
 pub placed-within : (source : List ℕ) (c : Comment) → Placed source c → c .span .end ≤ length source
-placed-within source c p = boundary-within source (c .span .end) (p .end)
+placed-within source c p = p .end .0
 
 module _ {source : List ℕ} (table : List ℕ) (n : ℕ) (f : Fit source (commentsIn table n)) where
   pub row-placed : (k : ℕ) → k < n → Placed source (commentIn table k)
   row-placed k l = rw (comment-row table n k l) at (f .each k (rw rows-length l))
-
-  pub rows-apart : (j k : ℕ) → j < k → k < n → commentIn table j .span .end ≤ commentIn table k .span .start
-  rows-apart j k i l = rw (comment-row table n j (omega arith), comment-row table n k l) at (f .apart j k i (rw rows-length l))
 
 -- the comments of a group are rows one after the other
 module _ (table : List ℕ) (n : ℕ) (g : Group) (r : Reaching n g) where
   pub group-comments : commentsOf (commentsIn table n) g ≡ rows (commentIn table) (g .first) (g .count)
   group-comments = rw zero-add at (rows-part (commentIn table) 0 n (g .first) (g .count) (r .reach))
 
-  pub group-last : lastOf (commentsIn table n) g ≡ Option.some (commentIn table (g .first + (g .count - 1)))
+  pub group-last : lastCommentOf (commentsIn table n) g ≡ Option.some (commentIn table (g .first + (g .count - 1)))
   group-last = rw group-comments (rows-last (commentIn table) (g .first) (g .count) (r .some))
 
 -- what holds of each group holds of the one that is found

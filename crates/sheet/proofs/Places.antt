@@ -8,7 +8,7 @@ use native.Mathlib.Omega.{arith}
 use lib.Dec.{eqb}
 use lib.ListN.{length, List·getD-eq-default}
 use borrow.Author.Tests.{le-leb, lt-leb, eq-eqb, ne-eqb}
-use Rattle.sheet.specs.Fields.{isBoundary}
+use Rattle.text.specs.Position.{isBoundary}
 
 -- of the places that are not before its end only the end itself is a boundary
 pub at-or-past : (source : List ℕ) (p : ℕ) → length source ≤ p → eqb p (length source) ≡ isBoundary source p

@@ -1,9 +1,10 @@
--- The rows of a table: how many, which, one more, and a part of them.
-use mathlib.Core.Path.{_≡_, refl, ap}
+-- The rows of a table: how many, which, one more, and parts of them.
+use mathlib.Core.Path.{_≡_, refl, ap, _∙_}
 use mathlib.Core.List.{List, [], _∷_, _++_, getLast?}
 use mathlib.Core.Option.{Option}
 use Prim.Native.Nat.{ℕ, zero, suc, _+_, _-_, _≤_, _<_, zero-le, suc-le-suc}
 use native.Mathlib.Nat.{add-zero, zero-add, add-suc, suc-add, not-suc-le-zero, le-of-suc-le-suc}
+use native.Mathlib.Numerals.{add-one}
 use native.Mathlib.Omega.{arith}
 use lib.ListN.{length, getD, take, drop}
 use Rattle.sheet.specs.Tables.{rows, commentIn, commentsIn, groupIn, groupsIn}
@@ -58,6 +59,24 @@ module _ {A : Type 0} where
   rows-part row k n zero m h = rw add-zero (rows-front row k n m (omega arith))
   rows-part row k zero (suc i) m h = absurd (omega arith)
   rows-part row k (suc n) (suc i) m h = rw (add-suc, ← suc-add) (rows-part row (suc k) n i m (omega arith))
+
+module _ {A : Type 0} (row : ℕ → A) where
+  -- the first of some rows, one more at the end, and rows in two parts
+  pub rows-first : (k n : ℕ) → 0 < n → rows row k n ≡ row k ∷ rows row (k + 1) (n - 1)
+  unfolding rows
+  rows-first k zero h = absurd (omega arith)
+  rows-first k (suc n) h = let down : suc n - 1 ≡ n = omega arith in rw (down, add-one)
+
+  pub rows-end : (n : ℕ) → rows row 0 (n + 1) ≡ rows row 0 n ++ (row n ∷ [])
+  rows-end n = rw (add-one, rows-more row 0 n, zero-add)
+
+  rows-split : (k i m : ℕ) → rows row k (i + m) ≡ rows row k i ++ rows row (k + i) m
+  unfolding rows
+  rows-split k zero m = rw (zero-add, add-zero)
+  rows-split k (suc i) m = rw (suc-add, add-suc, ← suc-add) (ap (row k ∷_) (rows-split (suc k) i m))
+
+  pub rows-two : (i n : ℕ) → i ≤ n → rows row 0 n ≡ rows row 0 i ++ rows row i (n - i)
+  rows-two i n h = let all : n ≡ i + (n - i) = omega arith in ap (rows row 0) all ∙ rw (rows-split 0 i (n - i), zero-add)
 
 -- the comments and the groups of a table by their index
 pub comment-row : (table : List ℕ) (n k : ℕ) → k < n → commentOf (commentsIn table n) k ≡ commentIn table k

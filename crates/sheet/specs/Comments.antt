@@ -1,22 +1,22 @@
 -- Comments and the groups that they stand in.
 use mathlib.Core.Bool.{Bool, true, false, cond, _&&_, _||_}
-use mathlib.Core.List.{List, [], _∷_}
+use mathlib.Core.List.{List, [], _∷_, _++_}
 use Prim.Native.Nat.{ℕ, zero, suc, _+_, _-_}
 use lib.Dec.{eqb, leb, ltb}
-use lib.ListN.{length, take, drop}
+use lib.ListN.{length, drop}
 use Rattle.laws.specs.Decoded.{Decoder, onOk, _>>=_, _>>_, return, require}
 use Rattle.laws.specs.Quoted.{ascii}
-use Rattle.text.specs.Bytes.{begins}
+use Rattle.text.specs.Bytes.{part, begins}
 use Rattle.wire.specs.Fields.{below}
-use Rattle.wire.specs.Number.{number}
+use Rattle.wire.specs.Number.{number, encodeNumber}
 use Rattle.sheet.specs.declared.fields.Span.{Span}
 use Rattle.sheet.specs.declared.comments.Comment.{Comment}
 use Rattle.sheet.specs.declared.groups.Group.{Group}
-use Rattle.sheet.specs.Fields.{position, endFrom}
+use Rattle.sheet.specs.Fields.{position, endFrom, encodeSpan}
 
 -- the bytes of the source in a span
 abbrev pub slice : List ℕ → Span → List ℕ
-slice source sp = take (sp .end - sp .start) (drop (sp .start) source)
+slice source sp = part source (sp .start) (sp .end)
 
 -- the marks that open and close a comment of a kind
 abbrev pub opening : ℕ → List ℕ
@@ -50,6 +50,10 @@ comment source last = do
   require (marked kind (slice source (record { start = start; end = end }))) 7
   return (record { kind = kind; span = record { start = start; end = end } })
 
+-- kind byte, start, end
+abbrev pub encodeComment : Comment → List ℕ
+encodeComment c = c .kind ∷ encodeSpan (c .span)
+
 abbrev pub endOf : Comment → ℕ
 endOf c = c .span .end
 
@@ -74,6 +78,10 @@ group source total after = do
   n ← number
   require (ltb 0 n && leb (first + n) total) 7
   return (record { side = side; position = p; first = first; count = n })
+
+-- side byte, position, index of its first comment, count
+abbrev pub encodeGroup : Group → List ℕ
+encodeGroup g = g .side ∷ (encodeNumber (g .position) ++ (encodeNumber (g .first) ++ encodeNumber (g .count)))
 
 -- whether a side and a position may follow a group
 abbrev pub mayFollow : Group → ℕ → ℕ → Bool

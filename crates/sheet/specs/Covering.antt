@@ -1,4 +1,4 @@
--- How the comments that are in some group are found in one pass.
+-- How the comments that are in some group are found in linear time.
 use mathlib.Core.Bool.{cond}
 use mathlib.Core.List.{List, [], _∷_}
 use Prim.Native.Nat.{ℕ, max}

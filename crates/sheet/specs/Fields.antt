@@ -1,18 +1,11 @@
 -- Positions and spans in the source.
-use mathlib.Core.Bool.{Bool, _&&_, not}
-use mathlib.Core.List.{List}
+use mathlib.Core.List.{List, _++_}
 use Prim.Native.Nat.{ℕ}
 use lib.Dec.{leb}
-use lib.ListN.{length, getD}
 use Rattle.laws.specs.Decoded.{Decoder, _>>=_, _>>_, return, require}
-use Rattle.text.specs.Ranges.{within}
-use Rattle.text.specs.Utf8.{continuation}
-use Rattle.wire.specs.Number.{number}
+use Rattle.text.specs.Position.{isBoundary}
+use Rattle.wire.specs.Number.{number, encodeNumber}
 use Rattle.sheet.specs.declared.fields.Span.{Span}
-
--- a place of the source that is not past it and not inside a character
-unfoldable pub isBoundary : List ℕ → ℕ → Bool
-isBoundary source p = leb p (length source) && not (within continuation (getD source p 0))
 
 -- a position; refusal 6 past the source or inside a character
 unfoldable pub position : List ℕ → Decoder ℕ
@@ -34,3 +27,7 @@ span source = do
   start ← position source
   end ← endFrom source start
   return (record { start = start; end = end })
+
+-- start, end
+abbrev pub encodeSpan : Span → List ℕ
+encodeSpan sp = encodeNumber (sp .start) ++ encodeNumber (sp .end)

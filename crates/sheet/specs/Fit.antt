@@ -4,16 +4,16 @@ use mathlib.Core.Bool.{true}
 use mathlib.Core.List.{List}
 use Prim.Native.Nat.{ℕ, _+_, _≤_, _<_}
 use lib.ListN.{length, getD}
+use Rattle.text.specs.Position.{Boundary}
 use Rattle.sheet.specs.declared.comments.Comment.{Comment}
 use Rattle.sheet.specs.declared.groups.Group.{Group}
-use Rattle.sheet.specs.Fields.{isBoundary}
 use Rattle.sheet.specs.Comments.{slice, marked, mayFollow}
 
 -- a comment of the source: from one boundary to another, with the marks of its kind
 pub record Placed (source : List ℕ) (c : Comment) : Type 0 where
   pub kind : c .kind < 2
-  pub start : isBoundary source (c .span .start) ≡ true
-  pub end : isBoundary source (c .span .end) ≡ true
+  pub start : Boundary source (c .span .start)
+  pub end : Boundary source (c .span .end)
   pub order : c .span .start ≤ c .span .end
   pub marks : marked (c .kind) (slice source (c .span)) ≡ true
 

@@ -1,3 +1,4 @@
+pub mod Media
 pub mod Tree
 pub mod Fields
 pub mod Comments
@@ -7,6 +8,7 @@ pub mod Covering
 pub mod Fit
 pub mod Lookups
 pub mod Nodes
+pub mod Shape
 pub mod Walked
 pub mod Sheet
 pub mod Views

@@ -43,12 +43,12 @@ headGroup p gs = headBy p gs (p .first)
 abbrev pub commentsOf : List Comment → Group → List Comment
 commentsOf cs g = take (g .count) (drop (g .first) cs)
 
-abbrev pub lastOf : List Comment → Group → Option Comment
-lastOf cs g = getLast? (commentsOf cs g)
+abbrev pub lastCommentOf : List Comment → Group → Option Comment
+lastCommentOf cs g = getLast? (commentsOf cs g)
 
 -- the comment is no shorter than its marks
-abbrev pub Roomy : Comment → Type 0
-Roomy c = c .span .start + (length (opening (c .kind)) + length (closing (c .kind))) ≤ c .span .end
+abbrev pub HoldsMarks : Comment → Type 0
+HoldsMarks c = c .span .start + (length (opening (c .kind)) + length (closing (c .kind))) ≤ c .span .end
 
 -- where the body of a comment stands: its span without the marks
 unfoldable pub bodySpan : Comment → Span

@@ -1,7 +1,6 @@
 -- The nodes of a sheet, each field judged where it stands.
 use mathlib.Core.Bool.{Bool, cond}
 use mathlib.Core.List.{List, [], _∷_}
-use mathlib.Core.Option.{Option}
 use Prim.Native.Nat.{ℕ, zero, suc, _+_}
 use lib.Dec.{eqb, ltb}
 use lib.ListN.{getD}
@@ -10,6 +9,7 @@ use Rattle.text.specs.declared.utf8.Encoding.the-variants.{Utf8, Wtf8}
 use Rattle.wire.specs.Fields.{byte, below, flag}
 use Rattle.wire.specs.Number.{number}
 use Rattle.wire.specs.Text.{count, text}
+use Rattle.wire.specs.Optional.{optional}
 use Rattle.sheet.specs.declared.fields.Span.{Span}
 use Rattle.sheet.specs.Tree.{Quoted, Pieces, Node, other, string, name, template, binary, object, importCall, call, importDecl, namedExport, exportFrom, exportAll, importType, importEquals, importRequire, moduleDecl, Nodes, none, more, Arguments, noArguments, argument, Properties, noProperties, spread, otherProperty, childKey, stringKey, nameKey, Attributes, without, withObject}
 use Rattle.sheet.specs.Fields.{span}
@@ -35,17 +35,11 @@ quoted source levels = do
   x ← text Wtf8 4096
   return (record { span = sp; text = x })
 
--- a flag, and a String if it is 1
-unfoldable pub optionalQuoted : List ℕ → ℕ → Decoder (Option Quoted)
-optionalQuoted source levels = do
-  there ← flag
-  cond there (λ s. onOk (λ q. Option.some q) (quoted source levels s)) (return Option.none)
-
 -- a piece of a template: a flag, and its text if it is cooked
 unfoldable pub piece : Decoder (Pieces → Pieces)
 piece = do
-  cooked ← flag
-  cond cooked (λ s. onOk (λ x. Option.some x ∷_) (text Wtf8 4096 s)) (return (Option.none ∷_))
+  x ← optional (text Wtf8 4096)
+  return (x ∷_)
 
 -- the parts of a node that hold nodes, from a decoder of a node one level down
 module _ (node : Decoder Node) where
@@ -196,7 +190,7 @@ module _ (source : List ℕ) (levels : ℕ) (node : Decoder Node) (object′ : D
 
   unfoldable pub moduleFields : Decoder Node
   moduleFields = do
-    x ← optionalQuoted source levels
+    x ← optional (quoted source levels)
     n ← number
     ns ← nodes node n
     return (moduleDecl sp x ns)

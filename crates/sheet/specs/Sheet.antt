@@ -1,10 +1,10 @@
 -- The sheet: its fields in document 01's order, so that the first refusal in checking order is what the decoder answers.
-use mathlib.Core.Bool.{cond, _&&_}
+use mathlib.Core.Bool.{not, _&&_}
 use mathlib.Core.List.{List, [], _∷_}
 use Prim.Native.Nat.{ℕ}
 use lib.Dec.{leb, ltb}
 use lib.ListN.{length}
-use Rattle.laws.specs.Decoded.{Decoded, ok, no, andThen, Decoder, _>>=_, _>>_, return, require}
+use Rattle.laws.specs.Decoded.{ok, no, Decoder, _>>=_, _>>_, return, require}
 use Rattle.text.specs.declared.utf8.Encoding.the-variants.{Utf8}
 use Rattle.wire.specs.Fields.{below}
 use Rattle.wire.specs.Text.{count, text}
@@ -39,15 +39,26 @@ sheet = do
   root ← node source 64
   return (record { media = media; source = source; comments = cs; groups = gs; program = p; root = root })
 
--- refusal 8 where bytes follow the root
-abbrev pub ended : Sheet → List ℕ → Decoded Sheet
-ended t [] = ok t []
-ended t (b ∷ s) = no 8
+-- refusal 1 of no byte or too many
+abbrev pub sized : Decoder (Unit {0})
+sized s = require (ltb 0 (length s) && leb (length s) 65536) 1 s
+
+-- refusal 8 where bytes are left
+abbrev pub ending : Decoder (Unit {0})
+ending [] = ok tt []
+ending (b ∷ s) = no 8
 
 -- refusal 1 in front of the fields, 8 behind them
-unfoldable pub decodeSheet : List ℕ → Decoded Sheet
-decodeSheet s = cond (ltb 0 (length s) && leb (length s) 65536) (andThen (sheet s) ended) (no 1)
+unfoldable pub decodeSheet : Decoder Sheet
+decodeSheet = do
+  sized
+  t ← sheet
+  ending
+  return t
 
 -- a sheet that meets none of refusals 1 to 9, or the first that it meets
-unfoldable pub accept : List ℕ → Decoded Sheet
-accept s = andThen (decodeSheet s) (λ t u. cond (uncooked (t .root)) (no 9) (ok t u))
+unfoldable pub accept : Decoder Sheet
+accept = do
+  t ← decodeSheet
+  require (not (uncooked (t .root))) 9
+  return t

@@ -19,7 +19,7 @@ abbrev pub Phase : Type 0
 Phase = ℕ
 
 mutual
-  -- the thirteen nodes by their tags
+  -- the nodes by their thirteen tags; 6, 8 and 11 have two forms
   pub data Node : Type 0 where
     other : Span → Nodes → Node  -- 0
     string : Span → List ℕ → Node  -- 1

@@ -54,7 +54,7 @@ fn is_marked(text: &[u8], kind: usize) -> bool
 }
 
 // A comment that starts no earlier than `last`, the end of the one before.
-pub fn read_comment(sheet: &[u8], source: &[u8], c: Cursor, last: usize) -> CommentRead
+fn read_comment(sheet: &[u8], source: &[u8], c: Cursor, last: usize) -> CommentRead
     ensures { λ r. ⌜ commentAs (now (sheet .entry)) r ≡ comment (now (source .entry)) last (drop (c .at) (now (sheet .entry))) ⌝ }
 {
     match c.below(sheet, 2) {

@@ -37,7 +37,8 @@ fn raise(longest: &mut [u32], n: usize, at: usize, count: u32)
 fn keep_longest(table: &[u32], m: usize, longest: &mut [u32], n: usize)
     requires { ⌜ 4 * m ≤ length (now table) ⌝ }
     requires { ⌜ n ≤ length (now longest) ⌝ }
-    ensures { λ _. ⌜ ((i : ℕ) → i < n → getD (now (longest .exit)) i 0 ≡ max (getD (now (longest .entry)) i 0) (longestAt (groupsIn (now (table .entry)) m) i)) ⌝ }
+    ensures { λ _. ⌜ ((i : ℕ) → i < n → getD (now (longest .exit)) i 0
+        ≡ max (getD (now (longest .entry)) i 0) (longestAt (groupsIn (now (table .entry)) m) i)) ⌝ }
 {
     let mut k = 0;
     while k < m {

@@ -3,8 +3,9 @@ use wire::Cursor;
 use wire::Read;
 ghost use mathlib.Core.Path.{_≡_};
 ghost use lib.ListN.{length, drop};
+ghost use Rattle.text.specs.Position.{isBoundary};
 ghost use Rattle.wire.specs.Views.{readAs, Past};
-ghost use Rattle.sheet.specs.Fields.{isBoundary, position, endFrom, span};
+ghost use Rattle.sheet.specs.Fields.{position, endFrom, span};
 ghost use Rattle.sheet.specs.Views.{spanAs, PastSpan};
 
 // Where something stands in the source: from the start up to the end.
@@ -20,7 +21,7 @@ pub enum SpanRead {
 }
 
 // Is the place neither past the source nor inside a character?
-pub fn is_boundary(source: &[u8], p: usize) -> bool
+fn is_boundary(source: &[u8], p: usize) -> bool
     ensures { λ r. ⌜ r ≡ isBoundary (now (source .entry)) p ⌝ }
 {
     if p < source.len() {

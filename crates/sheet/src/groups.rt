@@ -65,7 +65,7 @@ fn reaches(first: usize, count: usize, total: usize) -> bool
 }
 
 // A group of comments among `total`, behind another or the first.
-pub fn read_group(sheet: &[u8], source: &[u8], c: Cursor, total: usize, before: Before) -> GroupRead
+fn read_group(sheet: &[u8], source: &[u8], c: Cursor, total: usize, before: Before) -> GroupRead
     ensures { λ r. ⌜ groupAs (now (sheet .entry)) r ≡ group (now (source .entry)) total (afterAs before) (drop (c .at) (now (sheet .entry))) ⌝ }
 {
     match c.below(sheet, 2) {
@@ -144,7 +144,8 @@ pub fn read_groups(
     table: &mut [u32],
 ) -> Filled
     requires { ⌜ 4 * m ≤ length (now table) ⌝ }
-    ensures { λ r. ⌜ groupsAs (now (sheet .entry)) (now (table .exit)) m r ≡ groups (now (source .entry)) total anywhere m (drop (c .at) (now (sheet .entry))) ⌝ }
+    ensures { λ r. ⌜ groupsAs (now (sheet .entry)) (now (table .exit)) m r
+        ≡ groups (now (source .entry)) total anywhere m (drop (c .at) (now (sheet .entry))) ⌝ }
 {
     let mut next = c;
     let mut before = Before::Nothing;

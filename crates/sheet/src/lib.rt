@@ -1,4 +1,4 @@
-// The sheet: source, comments and syntax tree in bytes, read field by field.
+// The sheet's positions, comments, groups and program, read field by field; its nodes are read in heads and nodes.
 pub mod comments;
 pub mod covering;
 pub mod fields;

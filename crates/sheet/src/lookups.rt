@@ -12,7 +12,7 @@ ghost use lib.ListN.{length};
 ghost use Rattle.sheet.specs.Comments.{opening, closing};
 ghost use Rattle.sheet.specs.Tables.{groupsIn};
 ghost use Rattle.sheet.specs.Fit.{Ascending};
-ghost use Rattle.sheet.specs.Lookups.{standsAt, groupAt, endGroup, headGroup, Roomy, bodySpan, body};
+ghost use Rattle.sheet.specs.Lookups.{standsAt, groupAt, endGroup, headGroup, HoldsMarks, bodySpan, body};
 ghost use Rattle.sheet.specs.Views.{foundAs, programOf};
 
 pub enum GroupFound {
@@ -91,7 +91,7 @@ fn closing_length(kind: usize) -> usize
 
 // Where the body of a comment stands: its span without the marks.
 pub fn body_span(c: Comment) -> Span
-    requires { ⌜ Roomy c ⌝ }
+    requires { ⌜ HoldsMarks c ⌝ }
     ensures { λ r. ⌜ r ≡ bodySpan c ⌝ }
 {
     let start = c.span.start + opening_length(c.kind);
@@ -100,7 +100,7 @@ pub fn body_span(c: Comment) -> Span
 }
 
 pub fn body(source: &[u8], c: Comment) -> &[u8]
-    requires { ⌜ Roomy c ⌝ }
+    requires { ⌜ HoldsMarks c ⌝ }
     requires { ⌜ c .span .end ≤ length (now source) ⌝ }
     ensures { λ r. ⌜ now r ≡ body (now (source .entry)) c ⌝ }
 {

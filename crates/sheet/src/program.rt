@@ -8,7 +8,9 @@ use wire::Flag;
 use wire::Read;
 ghost use mathlib.Core.Path.{_≡_};
 ghost use lib.ListN.{drop};
-ghost use Rattle.sheet.specs.Program.{firstItem, program};
+ghost use Rattle.wire.specs.Optional.{optional};
+ghost use Rattle.sheet.specs.Fields.{position};
+ghost use Rattle.sheet.specs.Program.{program};
 ghost use Rattle.sheet.specs.Views.{firstAs, programAs};
 
 // Where the first item starts, if there is one.
@@ -37,7 +39,7 @@ pub enum ProgramRead {
 }
 
 fn read_first_item(sheet: &[u8], source: &[u8], c: Cursor) -> FirstRead
-    ensures { λ r. ⌜ firstAs (now (sheet .entry)) r ≡ firstItem (now (source .entry)) (drop (c .at) (now (sheet .entry))) ⌝ }
+    ensures { λ r. ⌜ firstAs (now (sheet .entry)) r ≡ optional (position (now (source .entry))) (drop (c .at) (now (sheet .entry))) ⌝ }
 {
     match c.flag(sheet) {
         Flag::Refused(r) => FirstRead::Refused(r),

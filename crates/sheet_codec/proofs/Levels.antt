@@ -11,9 +11,9 @@ use Rattle.laws.proofs.Decoding.{refused, then-ok}
 use Rattle.laws.proofs.Codecs.{built-then}
 use Rattle.wire.specs.Number.{largest}
 use Rattle.sheet.specs.Tree.{Node, other, string, name, template, binary, object, importCall, call, importDecl, namedExport, exportFrom, exportAll, importType, importEquals, importRequire, moduleDecl, withObject}
-use Rattle.sheet.specs.Fields.{span}
+use Rattle.sheet.specs.Fields.{span, encodeSpan}
 use Rattle.sheet.specs.Nodes.{tag, node, attributesObject}
-use Rattle.sheet_codec.specs.Encode.{encodeSpan, encodeNode}
+use Rattle.sheet_codec.specs.Encode.{encodeNode}
 use Rattle.sheet_codec.specs.Limits.{NodeFits, AttributesFit}
 use Rattle.sheet_codec.proofs.Building.{limit-codec, built-counted-end}
 use Rattle.sheet_codec.proofs.Parts.{span-codec}

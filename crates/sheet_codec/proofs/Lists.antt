@@ -4,30 +4,13 @@ use mathlib.Core.Logic.{_⊎_, inl, inr}
 use mathlib.Core.List.{List, [], _∷_, _++_, append-assoc}
 use Prim.Native.Nat.{ℕ, zero, suc}
 use native.Mathlib.Omega.{arith}
-use lib.ListN.{length}
 use Rattle.laws.specs.Decoded.{ok, Decoder, _>>=_}
 use Rattle.laws.specs.Codec.{Codec}
 use Rattle.laws.proofs.Decoding.{then-ok, onOk-ok}
-use Rattle.laws.proofs.Codecs.{Built, built-return, built-map, built-then, codec-of}
+use Rattle.laws.proofs.Codecs.{Built}
 use Rattle.wire.specs.Fields.{byte}
 use Rattle.wire.proofs.TextCodec.{byte-codec}
-use Rattle.sheet.specs.Comments.{chained}
 use Rattle.sheet.specs.Nodes.{many}
-use Rattle.sheet_codec.specs.Encode.{encodeEach}
-use Rattle.sheet_codec.specs.Limits.{Chained}
-
--- items each judged by what the one before leaves
-module _ {A S : Type 0} {item : S → Decoder A} {leaves : A → S} {encode : A → List ℕ} {P : S → A → Type 0} (element : (s : S) → Codec (item s) encode (P s)) where
-  pub chained-codec : (s : S) (k : ℕ) → Codec (chained item leaves s k) (encodeEach encode) (λ l. (length l ≡ k) × Chained P leaves s l)
-  unfolding chained
-  chained-codec s zero =
-      codec-of (built-return [])
-      (elim [ [] ↦ λ v. (tt, refl, tt) | a ∷ l ↦ λ v. absurd (omega (arith, v .0)) ])
-      (λ u v. (refl, (refl, tt)))
-  chained-codec s (suc k) =
-      codec-of (built-then (element s) (λ a. built-map (a ∷_) (chained-codec (leaves a) k)))
-      (elim [ [] ↦ λ v. absurd (omega (arith, v .0)) | a ∷ l ↦ λ v. ((a, l), refl, (v .1 .0, (omega (arith, v .0), v .1 .1))) ])
-      (λ p v. (refl, (ap suc (v .1 .0), (v .0, v .1 .1))))
 
 -- lists that are built by items which add to them
 module _ {L : Type 0} (size : L → ℕ) (encode : L → List ℕ) (Valid : L → Type 0) where

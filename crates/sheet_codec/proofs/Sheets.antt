@@ -1,30 +1,30 @@
 -- Decoding and encoding sheets undo each other: what is decoded is within document 01's limits and stood there as its bytes, and each sheet within these
 -- limits is decoded from its bytes.
 use mathlib.Core.Path.{_≡_, refl, sym, _∙_}
-use mathlib.Core.Bool.{Bool, true, false, cond, _&&_, and-eq-true-iff}
+use mathlib.Core.Bool.{true, false, not, _&&_, and-eq-true-iff}
 use mathlib.Core.List.{List, [], _∷_, append-nil}
 use Prim.Native.Nat.{ℕ, zero, suc, _≤_, _<_}
 use native.Mathlib.Omega.{arith}
 use lib.Dec.{leb, ltb}
 use lib.ListN.{length}
 use borrow.Author.Tests.{leb-true, lt-ltb, le-leb}
-use Rattle.laws.specs.Decoded.{ok, no, andThen}
+use Rattle.laws.specs.Decoded.{ok, _>>_, return}
 use Rattle.laws.specs.Codec.{Codec}
-use Rattle.laws.proofs.Decoding.{refused, then-ok}
-use Rattle.laws.proofs.Codecs.{built-given, built-then, built-require, codec-of}
+use Rattle.laws.proofs.Decoding.{refused, then-ok, require-ok}
+use Rattle.laws.proofs.Codecs.{built-given, built-then, built-require, codec-of, built-end}
 use Rattle.text.specs.declared.utf8.Encoding.the-variants.{Utf8}
 use Rattle.wire.specs.Number.{largest}
 use Rattle.wire.proofs.TextCodec.{below-codec, text-codec}
 use Rattle.sheet.specs.declared.groups.Group.{Group}
-use Rattle.sheet.specs.Comments.{inSome, anywhere, covered}
-use Rattle.sheet.specs.Sheet.{Sheet, sheet, ended, decodeSheet, accept}
+use Rattle.sheet.specs.Comments.{inSome, covered}
+use Rattle.sheet.specs.Sheet.{Sheet, sheet, ending, decodeSheet, accept}
 use Rattle.sheet.specs.Walked.{uncooked}
 use Rattle.sheet.proofs.Coverings.{covered-at}
+use Rattle.sheet.proofs.Decodes.{comments-codec, groups-codec}
 use Rattle.sheet_codec.specs.Encode.{encodeSheet}
 use Rattle.sheet_codec.specs.Limits.{FieldsFit, WithinLimits}
-use Rattle.sheet_codec.proofs.Building.{built-end, limit-codec}
-use Rattle.sheet_codec.proofs.Lists.{chained-codec}
-use Rattle.sheet_codec.proofs.Parts.{comment-codec, group-codec, program-codec}
+use Rattle.sheet_codec.proofs.Building.{limit-codec}
+use Rattle.sheet_codec.proofs.Parts.{program-codec}
 use Rattle.sheet_codec.proofs.Levels.{node-codec}
 
 -- where each comment is in some group, they are covered
@@ -40,23 +40,24 @@ sheet-codec =
     codec-of
     (built-then (below-codec 11) (λ media. built-given (text-codec Utf8 32768 (omega arith)) (λ source fit.
     let small : length source ≤ largest = omega (arith, fit .0) in
-    built-given (limit-codec 1024 (omega arith)) (λ n few. built-then (chained-codec (comment-codec source small) 0 n) (λ cs.
-    built-then (limit-codec 1024 (omega arith)) (λ m. built-then (chained-codec (group-codec source small n (omega arith)) anywhere m) (λ gs.
+    built-given (limit-codec 1024 (omega arith)) (λ n few. built-then (comments-codec source small n) (λ cs.
+    built-then (limit-codec 1024 (omega arith)) (λ m. built-then (groups-codec source n small (omega arith) m) (λ gs.
     built-require (covered gs n) 7 (built-then (program-codec source small) (λ p. built-end (node-codec source small 64) (λ root.
     record { media = media; source = source; comments = cs; groups = gs; program = p; root = root }))))))))))
     (λ t v. (
       (t .media, (t .source, (length (t .comments), (t .comments, (length (t .groups), (t .groups, (t .program, t .root))))))),
       refl,
-      (v .media, (v .source, (v .comments .0, ((refl, v .comments .1), (v .groups .0, ((refl, v .groups .1), (covers (t .groups) (length (t .comments)) (v .grouped), (v .program, v .root)))))))),
+      (v .media, (v .source, (v .comments .0, ((refl, v .comments .1), (v .groups .0, ((refl, (v .groups .1, v .places)), (covers (t .groups) (length (t .comments)) (v .grouped), (v .program, v .root)))))))),
     ))
     (λ a v.
-    let (media, (source, (few, ((long, comments), (few′, ((long′, groups), (all, (p, root)))))))) = v in (
+    let (media, (source, (few, ((long, comments), (few′, ((long′, (groups, places)), (all, (p, root)))))))) = v in (
       rw (long, long′),
       record {
         media = media;
         source = source;
         comments = (rw long few, comments);
         groups = (rw long′ few′, rw long groups);
+        places = places;
         grouped = λ i l. covered-at _ _ i (rw long at l) all;
         program = p;
         root = root;
@@ -66,19 +67,24 @@ sheet-codec =
 -- what is decoded is within the limits, and stood there as its bytes
 pub encoded : {s : List ℕ} {t : Sheet} → decodeSheet s ≡ ok t [] → (encodeSheet t ≡ s) × WithinLimits t
 unfolding decodeSheet
-encoded {s} {t} e = by-size (ltb 0 (length s) && leb (length s) 65536) refl e
+encoded {s} {t} e =
+    let (size, e) = require-ok (ltb 0 (length s) && leb (length s) 65536) 1 s _ e in
+    let (r, u, x, e) = then-ok (sheet s) _ e in
+    let (i, fit) = sheet-codec .sound s t [] (x ∙ all r u e) in
+    let same : encodeSheet t ≡ s = sym (i ∙ append-nil (encodeSheet t)) in
+    (same, record { fields = fit; bytes = rw same (leb-true (length s) 65536 (and-eq-true-iff (ltb 0 (length s)) (leb (length s) 65536) .0 size .1)) })
   where
-    whole : (r : Sheet) (u : List ℕ) → sheet s ≡ ok r u → ended r u ≡ ok t [] → sheet s ≡ ok t []
-    whole r [] x y = cc
-    whole r (b ∷ u) x y = absurd (refused y)
+    all : (r : Sheet) (u : List ℕ) → (ending >> return r) u ≡ ok t [] → ok r u ≡ ok t []
+    all r [] e = e
+    all r (b ∷ u) e = absurd (refused e)
 
-    by-size : (b : Bool) → (ltb 0 (length s) && leb (length s) 65536) ≡ b → cond b (andThen (sheet s) ended) (no 1) ≡ ok t [] → (encodeSheet t ≡ s) × WithinLimits t
-    by-size true h e =
-        let (r, u, x, y) = then-ok (sheet s) ended e in
-        let (i, fit) = sheet-codec .sound s t [] (whole r u x y) in
-        let same : encodeSheet t ≡ s = sym (i ∙ append-nil (encodeSheet t)) in
-        (same, record { fields = fit; bytes = rw same (leb-true (length s) 65536 (and-eq-true-iff (ltb 0 (length s)) (leb (length s) 65536) .0 h .1)) })
-    by-size false h e = absurd (refused e)
+-- so is what is accepted
+pub accepted-within : (s : List ℕ) {t : Sheet} → accept s ≡ ok t [] → WithinLimits t
+unfolding accept
+accepted-within s e =
+    let (t, u, x, e) = then-ok (decodeSheet s) _ e in
+    let (cooked, e) = require-ok (not (uncooked (t .root))) 9 u _ e in
+    encoded (x ∙ e) .1
 
 -- a sheet has the media byte
 some : (t : Sheet) → 0 < length (encodeSheet t)

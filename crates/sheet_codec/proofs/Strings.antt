@@ -10,16 +10,15 @@ use borrow.Author.Tests.{ltb-true, lt-ltb, eqb-true, eq-eqb}
 use Rattle.laws.specs.Decoded.{Decoder, _>>_}
 use Rattle.laws.specs.Codec.{Codec}
 use Rattle.laws.proofs.Decoding.{then-ok}
-use Rattle.laws.proofs.Codecs.{Built, built-return, built-then, built-require, codec-of}
+use Rattle.laws.proofs.Codecs.{Built, built-return, built-then, built-require, codec-of, built-end}
 use Rattle.text.specs.declared.utf8.Encoding.{Encoding}
 use Rattle.text.specs.declared.utf8.Encoding.the-variants.{Wtf8}
 use Rattle.wire.specs.Number.{largest}
 use Rattle.wire.specs.Text.{text, encodeText}
 use Rattle.wire.proofs.TextCodec.{byte-codec, text-codec}
-use Rattle.sheet.specs.Nodes.{tag, quoted, optionalQuoted}
-use Rattle.sheet_codec.specs.Encode.{encodeOptional, encodeQuoted}
-use Rattle.sheet_codec.specs.Limits.{IfThere, TextFits, QuotedFits}
-use Rattle.sheet_codec.proofs.Building.{optional-codec, built-end}
+use Rattle.sheet.specs.Nodes.{tag, quoted}
+use Rattle.sheet_codec.specs.Encode.{encodeQuoted}
+use Rattle.sheet_codec.specs.Limits.{TextFits, QuotedFits}
 use Rattle.sheet_codec.proofs.Parts.{span-codec}
 
 pub tag-codec : (allowed : ℕ → Bool) (levels : ℕ) → Codec (tag allowed levels) (λ t. t ∷ []) (λ t. (allowed t ≡ true) × (0 < levels))
@@ -53,7 +52,3 @@ module _ (source : List ℕ) (small : length source ≤ largest) (levels : ℕ) 
       codec-of (built-tag 1 levels (built-then (span-codec source small) (λ sp. built-end (short-text Wtf8) (λ x. record { span = sp; text = x }))))
       (λ q v. ((q .span, q .text), refl, (v .place .deep, (v .place .span, v .text))))
       (λ p v. (refl, record { place = record { deep = v .0; span = v .1 .0 }; text = v .1 .1 }))
-
-  pub optional-quoted : Codec (optionalQuoted source levels) (encodeOptional encodeQuoted) (IfThere (QuotedFits source levels))
-  unfolding optionalQuoted
-  optional-quoted = optional-codec quoted-codec

@@ -2,28 +2,31 @@
 use mathlib.Core.Path.{_≡_, refl, sym, ap, _∙_}
 use mathlib.Core.Logic.{_⊎_, inl, inr, ⊎-elim}
 use mathlib.Core.Bool.{Bool, true}
-use mathlib.Core.List.{List, _∷_, _++_, append-assoc}
+use mathlib.Core.List.{List, _∷_, _++_, append-assoc, flatMap}
 use mathlib.Core.Option.{Option}
 use Prim.Native.Nat.{ℕ, suc, _+_, _≤_}
 use native.Mathlib.Omega.{arith}
 use lib.Dec.{ltb}
 use lib.ListN.{length}
 use Rattle.laws.specs.Decoded.{ok, Decoder}
-use Rattle.laws.specs.Codec.{Codec}
+use Rattle.laws.specs.Codec.{Codec, IfThere, All}
 use Rattle.laws.proofs.Decoding.{refused}
-use Rattle.laws.proofs.Codecs.{Built, built-return, built-then, built-if, codec-of, each}
+use Rattle.laws.proofs.Codecs.{Built, built-return, built-then, built-if, codec-of, each, built-end, built-free}
 use Rattle.text.specs.declared.utf8.Encoding.the-variants.{Utf8, Wtf8}
 use Rattle.wire.specs.Number.{largest, encodeNumber}
 use Rattle.wire.specs.Text.{encodeText}
+use Rattle.wire.specs.Optional.{encodeOptional}
 use Rattle.wire.proofs.NumberCodec.{number-codec}
 use Rattle.wire.proofs.TextCodec.{below-codec, flag-codec}
+use Rattle.wire.proofs.OptionalCodec.{optional-codec}
 use Rattle.sheet.specs.declared.fields.Span.{Span}
 use Rattle.sheet.specs.Tree.{Quoted, Pieces, Phase, Node, other, string, name, template, binary, object, importCall, call, importDecl, namedExport, exportFrom, exportAll, importType, importEquals, importRequire, moduleDecl, Nodes, Arguments, Properties, Attributes, without, withObject}
 use Rattle.sheet.specs.Nodes.{attributes, otherFields, stringFields, nameFields, templateFields, binaryFields, objectFields, callRest, callFields, importFields, namedExportFields, exportAllFields, importTypeFields, importEqualsFields, moduleFields, fields}
-use Rattle.sheet_codec.specs.Encode.{encodeOptional, encodeEach, encodeSpan, nodesIn, argumentsIn, propertiesIn, encodeNode, encodeNodes, encodeArguments, encodeProperties, encodeAttributes}
-use Rattle.sheet_codec.specs.Limits.{IfThere, All, TextFits, SpanFits, PlaceFits, NodeFits, NodesFit, ArgumentsFit, AttributesFit}
-use Rattle.sheet_codec.proofs.Building.{built-end, built-free, built-below, limit-codec, built-counted, built-counted-end, done, next, at-index}
-use Rattle.sheet_codec.proofs.Strings.{short-text, quoted-codec, optional-quoted}
+use Rattle.sheet.specs.Fields.{encodeSpan}
+use Rattle.sheet_codec.specs.Encode.{nodesIn, argumentsIn, propertiesIn, encodeNode, encodeNodes, encodeArguments, encodeProperties, encodeAttributes}
+use Rattle.sheet_codec.specs.Limits.{TextFits, SpanFits, PlaceFits, NodeFits, NodesFit, ArgumentsFit, AttributesFit}
+use Rattle.sheet_codec.proofs.Building.{built-below, limit-codec, built-counted, built-counted-end, done, next, at-index}
+use Rattle.sheet_codec.proofs.Strings.{short-text, quoted-codec}
 use Rattle.sheet_codec.proofs.Trees.{pieces-codec, nodes-codec, arguments-codec, properties-codec}
 
 -- a decoder of the fields behind a tag and a span, and the nodes that it builds
@@ -85,7 +88,7 @@ module _ (source : List ℕ) (small : length source ≤ largest) (d : ℕ) (node
 
       template-built : Built (templateFields source d node object′ sp)
           (λ (p : Pieces × Nodes). template sp (p .0) (p .1))
-          (λ p. encodeNumber (nodesIn (p .1)) ++ (encodeEach (encodeOptional encodeText) (p .0) ++ encodeNodes (p .1)))
+          (λ p. encodeNumber (nodesIn (p .1)) ++ (flatMap (encodeOptional encodeText) (p .0) ++ encodeNodes (p .1)))
           (λ p. ((length (p .0) ≡ nodesIn (p .1) + 1) × All (IfThere (TextFits Wtf8 4096)) (p .0)) × ((nodesIn (p .1) ≤ largest) × NodesFit source (p .1) d))
       unfolding templateFields
       template-built =
@@ -171,7 +174,7 @@ module _ (source : List ℕ) (small : length source ≤ largest) (d : ℕ) (node
       module-fields : Fields 12 (moduleFields source d node object′ sp) (λ (p : Option Quoted × Nodes). moduleDecl sp (p .0) (p .1))
       unfolding moduleFields encodeNode NodeFits
       module-fields =
-          tagged 12 (built-then (optional-quoted source small d) (λ x. built-counted-end number-codec (nodes-codec source small d node node-codec) (moduleDecl sp x)))
+          tagged 12 (built-then (optional-codec (quoted-codec source small d)) (λ x. built-counted-end number-codec (nodes-codec source small d node node-codec) (moduleDecl sp x)))
           (λ a. (refl, λ v. v, λ v. v))
 
       pub fields-sound : SpanFits source sp → (t : ℕ) (s : List ℕ) (n : Node) (u : List ℕ) → fields source d node object′ sp t s ≡ ok n u

@@ -1,44 +1,45 @@
 -- Codecs of nodes, from those of the nodes one level down.
 use mathlib.Core.Path.{_≡_, refl}
 use mathlib.Core.Logic.{inl, inr}
-use mathlib.Core.Bool.{true, false}
-use mathlib.Core.List.{List, [], _∷_, _++_}
-use mathlib.Core.Option.{Option}
+use mathlib.Core.List.{List, [], _∷_, _++_, flatMap}
 use Prim.Native.Nat.{ℕ, _+_, _≤_}
 use lib.ListN.{length}
 use Rattle.laws.specs.Decoded.{Decoder, _>>=_, return}
-use Rattle.laws.specs.Codec.{Codec}
+use Rattle.laws.specs.Codec.{Codec, IfThere, All}
 use Rattle.laws.proofs.Decoding.{refused}
-use Rattle.laws.proofs.Codecs.{Built, built-return, built-map, built-then, built-if}
+use Rattle.laws.proofs.Codecs.{Built, built-map, built-then, built-end, built-free}
 use Rattle.text.specs.declared.utf8.Encoding.the-variants.{Utf8, Wtf8}
 use Rattle.wire.specs.Fields.{byte, encodeFlag}
 use Rattle.wire.specs.Number.{largest}
-use Rattle.wire.specs.Text.{encodeText}
+use Rattle.wire.specs.Text.{text, encodeText}
+use Rattle.wire.specs.Optional.{optional, encodeOptional}
 use Rattle.wire.proofs.TextCodec.{flag-codec}
+use Rattle.wire.proofs.OptionalCodec.{optional-codec}
 use Rattle.sheet.specs.Tree.{Pieces, Node, none, more, Arguments, noArguments, argument, Properties, noProperties, spread, otherProperty, childKey, stringKey, nameKey}
 use Rattle.sheet.specs.Nodes.{many, piece, nodes, argumentItem, arguments, keyedItem, propertyItem, properties}
-use Rattle.sheet_codec.specs.Encode.{encodeOptional, encodeEach, encodeSpan, nodesIn, argumentsIn, propertiesIn, encodeNode, encodeNodes, encodeArguments, encodeProperties}
-use Rattle.sheet_codec.specs.Limits.{IfThere, All, TextFits, NodeFits, NodesFit, ArgumentsFit, PropertiesFit}
-use Rattle.sheet_codec.proofs.Building.{built-end, built-free, done, next, at-index}
+use Rattle.sheet.specs.Fields.{encodeSpan}
+use Rattle.sheet_codec.specs.Encode.{nodesIn, argumentsIn, propertiesIn, encodeNode, encodeNodes, encodeArguments, encodeProperties}
+use Rattle.sheet_codec.specs.Limits.{TextFits, NodeFits, NodesFit, ArgumentsFit, PropertiesFit}
+use Rattle.sheet_codec.proofs.Building.{done, next, at-index}
 use Rattle.sheet_codec.proofs.Lists.{Reads, Opens, reads-built, reads-byte, many-codec}
 use Rattle.sheet_codec.proofs.Parts.{span-codec}
 use Rattle.sheet_codec.proofs.Strings.{short-text}
 
 -- the pieces of a template
-pub pieces-codec : (k : ℕ) → Codec (many [] piece k) (encodeEach (encodeOptional encodeText)) (λ ps. (length ps ≡ k) × All (IfThere (TextFits Wtf8 4096)) ps)
-unfolding piece
-pieces-codec = many-codec length (encodeEach (encodeOptional encodeText)) (All (IfThere (TextFits Wtf8 4096))) (record {
+pub pieces-codec : (k : ℕ) → Codec (many [] piece k) (flatMap (encodeOptional encodeText)) (λ ps. (length ps ≡ k) × All (IfThere (TextFits Wtf8 4096)) ps)
+unfolding piece flatMap
+pieces-codec = many-codec length (flatMap (encodeOptional encodeText)) (All (IfThere (TextFits Wtf8 4096))) (record {
   empty = (refl, refl, tt);
-  reads = reads-built _ _ _ (built-if flag-codec (built-map (λ x. Option.some x ∷_) (short-text Wtf8)) (built-return (Option.none ∷_))) []
-      (elim [ inl x ↦ λ v ps. (refl, refl, λ w. (v, w)) | inr u ↦ λ v ps. (refl, refl, λ w. (tt, w)) ]);
+  reads = reads-built _ _ _ (built-end piece-text (λ x. x ∷_)) [] (λ x v ps. (refl, refl, λ w. (v, w)));
   opens = opens;
 })
   where
-    opens : (ps : Pieces) → All (IfThere (TextFits Wtf8 4096)) ps → Opens length (encodeEach (encodeOptional encodeText)) (All (IfThere (TextFits Wtf8 4096))) [] piece ps
+    piece-text : Codec (optional (text Wtf8 4096)) (encodeOptional encodeText) (IfThere (TextFits Wtf8 4096))
+    piece-text = optional-codec (short-text Wtf8)
+
+    opens : (ps : Pieces) → All (IfThere (TextFits Wtf8 4096)) ps → Opens length (flatMap (encodeOptional encodeText)) (All (IfThere (TextFits Wtf8 4096))) [] piece ps
     opens [] v = inl refl
-    opens (Option.none ∷ ps) v = inr (Option.none ∷_, ps, encodeFlag false, refl, refl, refl, v .1, λ t. rw (flag-codec .complete false tt t))
-    opens (Option.some x ∷ ps) v =
-        inr (Option.some x ∷_, ps, encodeFlag true ++ encodeText x, refl, refl, refl, v .1, λ t. rw (flag-codec .complete true tt (encodeText x ++ t), short-text Wtf8 .complete x (v .0) t))
+    opens (x ∷ ps) v = inr (x ∷_, ps, encodeOptional encodeText x, refl, refl, refl, v .1, λ t. rw (piece-text .complete x (v .0) t))
 
 -- the parts of a node that hold nodes, where d levels are left for these
 module _ (source : List ℕ) (small : length source ≤ largest) (d : ℕ) (node : Decoder Node) (node-codec : Codec node encodeNode (λ n. NodeFits source n d)) where

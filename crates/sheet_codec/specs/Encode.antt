@@ -1,40 +1,17 @@
--- Document 01's sheet: its bytes, field by field.
+-- Document 01's sheet: its bytes, field by field; the decoder undoes it (proofs/Sheets, laws `encoded` and `accepted`).
 use mathlib.Core.Bool.{true, false}
-use mathlib.Core.List.{List, [], _∷_, _++_}
-use mathlib.Core.Option.{Option}
+use mathlib.Core.List.{List, [], _∷_, _++_, flatMap}
 use Prim.Native.Nat.{ℕ, zero, suc}
 use lib.ListN.{length}
 use Rattle.wire.specs.Fields.{encodeFlag}
 use Rattle.wire.specs.Number.{encodeNumber}
 use Rattle.wire.specs.Text.{encodeText}
-use Rattle.sheet.specs.declared.fields.Span.{Span}
-use Rattle.sheet.specs.declared.comments.Comment.{Comment}
-use Rattle.sheet.specs.declared.groups.Group.{Group}
+use Rattle.wire.specs.Optional.{encodeOptional}
+use Rattle.sheet.specs.Fields.{encodeSpan}
+use Rattle.sheet.specs.Comments.{encodeComment, encodeGroup}
 use Rattle.sheet.specs.Program.{Program}
 use Rattle.sheet.specs.Tree.{Quoted, Node, other, string, name, template, binary, object, importCall, call, importDecl, namedExport, exportFrom, exportAll, importType, importEquals, importRequire, moduleDecl, Nodes, none, more, Arguments, noArguments, argument, Properties, noProperties, spread, otherProperty, childKey, stringKey, nameKey, Attributes, without, withObject}
 use Rattle.sheet.specs.Sheet.{Sheet}
-
--- a flag, then the thing if it is 1
-abbrev pub encodeOptional : {A : Type 0} → (A → List ℕ) → Option A → List ℕ
-encodeOptional f Option.none = encodeFlag false
-encodeOptional f (Option.some a) = encodeFlag true ++ f a
-
--- one after the other
-abbrev pub encodeEach : {A : Type 0} → (A → List ℕ) → List A → List ℕ
-encodeEach f [] = []
-encodeEach f (a ∷ l) = f a ++ encodeEach f l
-
--- start, end
-abbrev pub encodeSpan : Span → List ℕ
-encodeSpan sp = encodeNumber (sp .start) ++ encodeNumber (sp .end)
-
--- kind byte, start, end
-abbrev pub encodeComment : Comment → List ℕ
-encodeComment c = c .kind ∷ encodeSpan (c .span)
-
--- side byte, position, index of its first comment, count
-abbrev pub encodeGroup : Group → List ℕ
-encodeGroup g = g .side ∷ (encodeNumber (g .position) ++ (encodeNumber (g .first) ++ encodeNumber (g .count)))
 
 -- script flag, start, end, shebang flag, first-item flag, then that item's start if the flag is 1
 abbrev pub encodeProgram : Program → List ℕ
@@ -67,7 +44,7 @@ unfoldable mutual
   encodeNode (other sp ns) = 0 ∷ (encodeSpan sp ++ (encodeNumber (nodesIn ns) ++ encodeNodes ns))
   encodeNode (string sp x) = 1 ∷ (encodeSpan sp ++ encodeText x)
   encodeNode (name sp x) = 2 ∷ (encodeSpan sp ++ encodeText x)
-  encodeNode (template sp ps ns) = 3 ∷ (encodeSpan sp ++ (encodeNumber (nodesIn ns) ++ (encodeEach (encodeOptional encodeText) ps ++ encodeNodes ns)))
+  encodeNode (template sp ps ns) = 3 ∷ (encodeSpan sp ++ (encodeNumber (nodesIn ns) ++ (flatMap (encodeOptional encodeText) ps ++ encodeNodes ns)))
   encodeNode (binary sp plus l r) = 4 ∷ (encodeSpan sp ++ (encodeFlag plus ++ (encodeNode l ++ encodeNode r)))
   encodeNode (object sp ps) = 5 ∷ (encodeSpan sp ++ (encodeNumber (propertiesIn ps) ++ encodeProperties ps))
   encodeNode (importCall sp phase xs ns) =
@@ -77,11 +54,13 @@ unfoldable mutual
   encodeNode (importDecl sp typeOnly phase sideEffect x a) =
       7 ∷ (encodeSpan sp ++ (encodeFlag typeOnly ++ (phase ∷ (encodeFlag sideEffect ++ (encodeQuoted x ++ encodeAttributes a)))))
   encodeNode (namedExport sp typeOnly) = 8 ∷ (encodeSpan sp ++ (encodeFlag typeOnly ++ encodeFlag false))
-  encodeNode (exportFrom sp typeOnly x a) = 8 ∷ (encodeSpan sp ++ (encodeFlag typeOnly ++ (encodeFlag true ++ (encodeQuoted x ++ encodeAttributes a))))
+  encodeNode (exportFrom sp typeOnly x a) =
+      8 ∷ (encodeSpan sp ++ (encodeFlag typeOnly ++ (encodeFlag true ++ (encodeQuoted x ++ encodeAttributes a))))
   encodeNode (exportAll sp typeOnly x a) = 9 ∷ (encodeSpan sp ++ (encodeFlag typeOnly ++ (encodeQuoted x ++ encodeAttributes a)))
   encodeNode (importType sp x ns a) = 10 ∷ (encodeSpan sp ++ (encodeQuoted x ++ ((encodeNumber (nodesIn ns) ++ encodeNodes ns) ++ encodeAttributes a)))
   encodeNode (importEquals sp) = 11 ∷ (encodeSpan sp ++ encodeFlag false)
-  encodeNode (importRequire sp typeOnly export x) = 11 ∷ (encodeSpan sp ++ (encodeFlag true ++ (encodeFlag typeOnly ++ (encodeFlag export ++ encodeQuoted x))))
+  encodeNode (importRequire sp typeOnly export x) =
+      11 ∷ (encodeSpan sp ++ (encodeFlag true ++ (encodeFlag typeOnly ++ (encodeFlag export ++ encodeQuoted x))))
   encodeNode (moduleDecl sp x ns) = 12 ∷ (encodeSpan sp ++ (encodeOptional encodeQuoted x ++ (encodeNumber (nodesIn ns) ++ encodeNodes ns)))
 
   pub encodeNodes : Nodes → List ℕ
@@ -112,7 +91,7 @@ unfoldable pub encodeSheet : Sheet → List ℕ
 encodeSheet t =
     t .media
     ∷ (encodeText (t .source)
-    ++ (encodeNumber (length (t .comments)) ++ (encodeEach encodeComment (t .comments)
-    ++ (encodeNumber (length (t .groups)) ++ (encodeEach encodeGroup (t .groups)
+    ++ (encodeNumber (length (t .comments)) ++ (flatMap encodeComment (t .comments)
+    ++ (encodeNumber (length (t .groups)) ++ (flatMap encodeGroup (t .groups)
     ++ (encodeProgram (t .program)
     ++ encodeNode (t .root)))))))

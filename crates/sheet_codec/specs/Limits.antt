@@ -1,38 +1,22 @@
--- What document 01 asks of a sheet.
+-- What document 01 asks of a sheet, stated without a decoder: just such sheets are decoded (proofs/Sheets, laws `encoded` and `accepted`).
 use mathlib.Core.Path.{_≡_}
-use mathlib.Core.Bool.{Bool, true}
-use mathlib.Core.List.{List, [], _∷_}
-use mathlib.Core.Option.{Option}
+use mathlib.Core.Bool.{true}
+use mathlib.Core.List.{List}
 use Prim.Native.Nat.{ℕ, zero, suc, _+_, _≤_, _<_}
 use lib.ListN.{length}
+use Rattle.laws.specs.Codec.{All, IfThere}
 use Rattle.text.specs.declared.utf8.Encoding.{Encoding}
 use Rattle.text.specs.declared.utf8.Encoding.the-variants.{Utf8, Wtf8}
 use Rattle.text.specs.Utf8.{wellFormed}
+use Rattle.text.specs.Position.{Boundary}
 use Rattle.wire.specs.Number.{largest}
 use Rattle.sheet.specs.declared.fields.Span.{Span}
-use Rattle.sheet.specs.declared.comments.Comment.{Comment}
-use Rattle.sheet.specs.declared.groups.Group.{Group}
-use Rattle.sheet.specs.Fields.{isBoundary}
-use Rattle.sheet.specs.Comments.{endOf, mayFollow, anywhere, inSome}
-use Rattle.sheet.specs.Fit.{Placed, Reaching}
+use Rattle.sheet.specs.Comments.{inSome}
+use Rattle.sheet.specs.Fit.{Fit, Grouped, groupOf}
 use Rattle.sheet.specs.Program.{Program}
 use Rattle.sheet.specs.Tree.{Quoted, Node, other, string, name, template, binary, object, importCall, call, importDecl, namedExport, exportFrom, exportAll, importType, importEquals, importRequire, moduleDecl, Nodes, none, more, Arguments, noArguments, argument, Properties, noProperties, spread, otherProperty, childKey, stringKey, nameKey, Attributes, without, withObject}
 use Rattle.sheet.specs.Sheet.{Sheet}
 use Rattle.sheet_codec.specs.Encode.{nodesIn, argumentsIn, propertiesIn, encodeSheet}
-
--- what is there holds
-abbrev pub IfThere : {A : Type 0} → (A → Type 0) → Option A → Type 0
-IfThere P Option.none = Unit {0}
-IfThere P (Option.some a) = P a
-
-abbrev pub All : {A : Type 0} → (A → Type 0) → List A → Type 0
-All P [] = Unit {0}
-All P (a ∷ l) = P a × All P l
-
--- each item holds behind what the one before leaves
-abbrev pub Chained : {A S : Type 0} → (S → A → Type 0) → (A → S) → S → List A → Type 0
-Chained P leaves s [] = Unit {0}
-Chained P leaves s (a ∷ l) = P s a × Chained P leaves (leaves a) l
 
 -- a text: at most so many bytes, well-formed
 abbrev pub TextFits : Encoding → ℕ → List ℕ → Type 0
@@ -40,25 +24,14 @@ TextFits e limit x = (length x ≤ limit) × (wellFormed e x ≡ true)
 
 -- a start and an end: not past the source, not inside a character, the end not before the start
 pub record SpanFits (source : List ℕ) (sp : Span) : Type 0 where
-  pub start : isBoundary source (sp .start) ≡ true
-  pub end : isBoundary source (sp .end) ≡ true
+  pub start : Boundary source (sp .start)
+  pub end : Boundary source (sp .end)
   pub order : sp .start ≤ sp .end
-
--- a comment: in the source with the marks of its kind, and it does not start before the last one's end
-pub record CommentFits (source : List ℕ) (last : ℕ) (c : Comment) : Type 0 where
-  pub placed : Placed source c
-  pub behind : last ≤ c .span .start
-
--- a group: of at least one comment, reaching no further than the comments, ascending by side, then position
-pub record GroupFits (source : List ℕ) (total : ℕ) (after : ℕ → ℕ → Bool) (g : Group) : Type 0 where
-  pub reaching : Reaching total g
-  pub place : isBoundary source (g .position) ≡ true
-  pub follows : after (g .side) (g .position) ≡ true
 
 -- the program: its start, its end, and the start of its first item
 pub record ProgramFits (source : List ℕ) (p : Program) : Type 0 where
   pub span : SpanFits source (p .span)
-  pub first : IfThere (λ at. isBoundary source at ≡ true) (p .first)
+  pub first : IfThere (Boundary source) (p .first)
 
 -- a node's place: a level is left for it, and its start and end fit
 pub record PlaceFits (source : List ℕ) (levels : ℕ) (sp : Span) : Type 0 where
@@ -100,8 +73,10 @@ unfoldable mutual
   NodeFits source (importDecl sp typeOnly phase sideEffect x a) levels =
       PlaceFits source levels sp × ((phase < 3) × (QuotedFits source (under levels) x × AttributesFit source a (under levels)))
   NodeFits source (namedExport sp typeOnly) levels = PlaceFits source levels sp × Unit {0}
-  NodeFits source (exportFrom sp typeOnly x a) levels = PlaceFits source levels sp × (QuotedFits source (under levels) x × AttributesFit source a (under levels))
-  NodeFits source (exportAll sp typeOnly x a) levels = PlaceFits source levels sp × (QuotedFits source (under levels) x × AttributesFit source a (under levels))
+  NodeFits source (exportFrom sp typeOnly x a) levels =
+      PlaceFits source levels sp × (QuotedFits source (under levels) x × AttributesFit source a (under levels))
+  NodeFits source (exportAll sp typeOnly x a) levels =
+      PlaceFits source levels sp × (QuotedFits source (under levels) x × AttributesFit source a (under levels))
   NodeFits source (importType sp x ns a) levels =
       PlaceFits source levels sp
       × (QuotedFits source (under levels) x
@@ -138,8 +113,9 @@ unfoldable mutual
 pub record FieldsFit (t : Sheet) : Type 0 where
   pub media : t .media < 11
   pub source : TextFits Utf8 32768 (t .source)
-  pub comments : (length (t .comments) ≤ 1024) × Chained (CommentFits (t .source)) endOf 0 (t .comments)
-  pub groups : (length (t .groups) ≤ 1024) × Chained (GroupFits (t .source) (length (t .comments))) mayFollow anywhere (t .groups)
+  pub comments : (length (t .comments) ≤ 1024) × Fit (t .source) (t .comments)
+  pub groups : (length (t .groups) ≤ 1024) × Grouped (length (t .comments)) (t .groups)
+  pub places : (k : ℕ) → k < length (t .groups) → Boundary (t .source) (groupOf (t .groups) k .position)  -- each group is at a boundary
   pub grouped : (i : ℕ) → i < length (t .comments) → inSome (t .groups) i ≡ true  -- each comment is in some group
   pub program : ProgramFits (t .source) (t .program)
   pub root : NodeFits (t .source) (t .root) 64  -- nodes nest at most 64 deep, the root is 1

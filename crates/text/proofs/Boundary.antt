@@ -1,4 +1,4 @@
--- In a well-formed text a character begins at each byte but the continuation bytes: what follows is well-formed just there.
+-- Boundaries of a text. In a well-formed text a character begins at each byte but the continuation bytes: what follows is well-formed just there.
 use mathlib.Core.Path.{_≡_, refl, sym, _∙_}
 use mathlib.Core.Bool.{Bool, true, false, _&&_, _||_, not, and-eq-true-iff, not-eq-not, true≢false, false≢true}
 use mathlib.Core.List.{List, [], _∷_}
@@ -6,11 +6,12 @@ use Prim.Native.Nat.{ℕ, zero, suc, _<_}
 use native.Mathlib.Omega.{arith}
 use lib.Dec.{leb, ltb}
 use lib.ListN.{length, getD, drop, replicate}
-use borrow.Author.Tests.{leb-true, le-ltb}
+use borrow.Author.Tests.{leb-true, le-leb, le-ltb, not-true}
 use Rattle.text.specs.declared.utf8.Encoding.{Encoding}
 use Rattle.text.specs.declared.utf8.Encoding.the-variants.{Utf8, Wtf8}
 use Rattle.text.specs.Ranges.{Range, _to_, within}
 use Rattle.text.specs.Utf8.{admits, continuation, rows, charLength, past, formed}
+use Rattle.text.specs.Position.{Boundary, isBoundary}
 use Rattle.text.proofs.Formed.{everyRow, by-rows}
 use Rattle.text.proofs.Within.{within-iff}
 
@@ -49,13 +50,25 @@ abbrev Begun : Encoding → ℕ → List ℕ → Type 0
 Begun e x s = (within continuation x ≡ false) × (n : ℕ) × (admits (replicate n continuation) s ≡ true) × (formed e n s ≡ true)
 
 module _ (e : Encoding) (x : ℕ) (s : List ℕ) where
+  first-byte : (rs : List Range) → admits rs (x ∷ s) ≡ true → led rs ≡ true → within continuation x ≡ false
+  unfolding admits
+  first-byte [] a t = absurd (false≢true t)
+  first-byte ((lo to hi) ∷ rs) a t =
+      apart lo hi x (and-eq-true-iff (within (lo to hi) x) (admits rs s) .0 a .0) (and-eq-true-iff (ltb hi 0x80 || ltb 0xBF lo) (follow rs) .0 t .0)
+
+  -- no character begins with a continuation byte
+  pub leads : (charLength e (x ∷ s) ≡ 0 → ⊥) → within continuation x ≡ false
+  unfolding charLength
+  leads =
+      by-rows (λ n. (n ≡ 0 → ⊥) → within continuation x ≡ false) (λ z. absurd (z refl)) led (x ∷ s) (λ rs a t z. first-byte rs a t) (rows e) (led-rows e)
+
   by-row : (rs : List Range) → admits rs (x ∷ s) ≡ true → led rs ≡ true → past (length rs) false (λ n. formed e n s) ≡ true → Begun e x s
   unfolding admits
   by-row [] a t f = absurd (false≢true t)
   by-row ((lo to hi) ∷ rs) a t f =
       let (w, m) = and-eq-true-iff (within (lo to hi) x) (admits rs s) .0 a in
       let (o, k) = and-eq-true-iff (ltb hi 0x80 || ltb 0xBF lo) (follow rs) .0 t in
-      (apart lo hi x w o, length rs, followed rs s m k, f)
+      (first-byte ((lo to hi) ∷ rs) a t, length rs, followed rs s m k, f)
 
   begun : formed e 0 (x ∷ s) ≡ true → Begun e x s
   unfolding formed charLength
@@ -79,3 +92,11 @@ pub boundary : (e : Encoding) (s : List ℕ) (at : ℕ) → formed e 0 s ≡ tru
     → formed e 0 (drop at s) ≡ not (within continuation (getD s at 0))
 unfolding admits
 boundary e s at f l = behind e s 0 at refl f l
+
+pub is-boundary-iff : (s : List ℕ) (p : ℕ) → (isBoundary s p ≡ true → Boundary s p) × (Boundary s p → isBoundary s p ≡ true)
+unfolding isBoundary
+is-boundary-iff s p =
+    let inside = within continuation (getD s p 0) in (
+      λ e. let (l, n) = and-eq-true-iff (leb p (length s)) (not inside) .0 e in (leb-true p (length s) l, not-true inside n),
+      λ b. rw (le-leb p (length s) (b .0), b .1),
+    )

@@ -84,3 +84,8 @@ short e s = by-rows (λ n. n ≤ 4) zero-le isShort s (λ rs h t. leb-true (leng
 pub fits : (e : Encoding) (s : List ℕ) → charLength e s ≤ length s
 unfolding charLength
 fits e s = by-rows (λ n. n ≤ length s) zero-le isShort s (λ rs h t. admitted rs s h) (rows e) (short-rows e)
+
+-- so does one that is taken only where a test holds
+pub fits-if : (e : Encoding) (b : Bool) (s : List ℕ) → cond b (charLength e s) 0 ≤ length s
+fits-if e true s = fits e s
+fits-if e false s = zero-le

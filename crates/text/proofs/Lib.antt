@@ -3,7 +3,7 @@ pub mod Bounds
 pub mod Cases
 pub mod ClassCases
 pub mod CodePoint
-pub mod Copies
+pub mod Cuts
 pub mod Exact
 pub mod Formed
 pub mod Members

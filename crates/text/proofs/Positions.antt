@@ -13,18 +13,7 @@ use borrow.Author.Count.{below-more}
 use Rattle.text.specs.declared.position.Position.{Position}
 use Rattle.text.specs.Ranges.{within}
 use Rattle.text.specs.Utf8.{continuation}
-use Rattle.text.specs.Position.{
-  Units,
-  characters,
-  step,
-  walk,
-  origin,
-  positionOf,
-  stored,
-  kept,
-  Indexed,
-  indexedPosition,
-}
+use Rattle.text.specs.Position.{Units, characters, step, walk, origin, positionOf, stored, kept, Indexed, indexedPosition}
 
 -- a walk goes on where another ends
 pub walk-append : (unit : Units) (p : Position) (s t : List ℕ) → walk unit p (s ++ t) ≡ walk unit (walk unit p s) t

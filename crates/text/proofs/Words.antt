@@ -1,14 +1,15 @@
 -- Two texts compared byte by byte: what the comparison says of them, and how it goes on from one place to the next.
 use mathlib.Core.Path.{_≡_, refl}
-use mathlib.Core.Bool.{true, false, and-eq-true-iff, and-false, false≢true}
+use mathlib.Core.Bool.{Bool, true, false, cond, and-eq-true-iff, and-false, false≢true}
 use mathlib.Core.List.{List, [], _∷_, _++_}
 use Prim.Native.Nat.{ℕ, _+_, _≤_, _<_}
 use native.Mathlib.Omega.{arith}
 use native.Mathlib.Numerals.{add-one}
-use lib.Dec.{eqb}
+use lib.Dec.{eqb, ltb}
 use lib.ListN.{length, getD, drop, drop-of-length-le}
 use lib.Seq.{drop-cons}
-use borrow.Author.Tests.{eqb-true, eq-eqb, ne-eqb, lt-ltb, le-ltb}
+use borrow.Author.Tests.{eqb-true, eq-eqb, ne-eqb, lt-ltb, le-ltb, ltb-false}
+use Rattle.text.specs.declared.bytes.Order.{Order}
 use Rattle.text.specs.declared.bytes.Order.the-variants.{Less, Equal, Greater}
 use Rattle.text.specs.Bytes.{begins, same, order}
 
@@ -104,3 +105,33 @@ module _ (a b : List ℕ) (i : ℕ) where
     pub order-next : getD b i 0 ≤ getD a i 0 → getD a i 0 ≤ getD b i 0 → order (drop i a) (drop i b) ≡ order (drop (i + 1) a) (drop (i + 1) b)
     unfolding order
     order-next l m = rw (add-one, drop-cons a i 0 h, drop-cons b i 0 k, le-ltb (getD a i 0) (getD b i 0) l, le-ltb (getD b i 0) (getD a i 0) m)
+
+-- what is greater one way is less the other way
+after-flips : (p q : Bool) (x y : Order) → (x ≡ Greater → y ≡ Less) → cond p Less (cond q Greater x) ≡ Greater → cond q Less (cond p Greater y) ≡ Less
+after-flips true q x y f e = let z : _≡_ {A = ℕ} 0 1 = cc in absurd (omega arith)
+after-flips false true x y f e = refl
+after-flips false false x y f e = f e
+
+pub order-flips : (a b : List ℕ) → order a b ≡ Greater → order b a ≡ Less
+unfolding order
+order-flips [] [] e = let z : _≡_ {A = ℕ} 0 1 = cc in absurd (omega arith)
+order-flips [] (y ∷ b) e = let z : _≡_ {A = ℕ} 0 1 = cc in absurd (omega arith)
+order-flips (x ∷ a) [] e = refl
+order-flips (x ∷ a) (y ∷ b) e = after-flips (ltb x y) (ltb y x) (order a b) (order b a) (order-flips a b) e
+
+-- texts of one order are equal
+both-false : (p q : Bool) (x : Order) → cond p Less (cond q Greater x) ≡ Equal → (p ≡ false) × (q ≡ false) × (x ≡ Equal)
+both-false true q x e = let z : _≡_ {A = ℕ} 0 1 = cc in absurd (omega arith)
+both-false false true x e = let z : _≡_ {A = ℕ} 0 1 = cc in absurd (omega arith)
+both-false false false x e = (refl, refl, e)
+
+pub order-same : (a b : List ℕ) → order a b ≡ Equal → a ≡ b
+unfolding order
+order-same [] [] e = refl
+order-same [] (y ∷ b) e = let z : _≡_ {A = ℕ} 0 1 = cc in absurd (omega arith)
+order-same (x ∷ a) [] e = let z : _≡_ {A = ℕ} 0 1 = cc in absurd (omega arith)
+order-same (x ∷ a) (y ∷ b) e =
+    let (p, q, f) = both-false (ltb x y) (ltb y x) (order a b) e in
+    let heads : x ≡ y = omega (arith, ltb-false x y p, ltb-false y x q) in
+    let tails = order-same a b f in
+    cc

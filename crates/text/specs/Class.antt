@@ -1,7 +1,8 @@
 -- Classes of characters, a character of a class at the front of a text, and the longest run of such characters.
 use mathlib.Core.Bool.{Bool, true, false, not, cond}
 use mathlib.Core.List.{List, [], _∷_}
-use Prim.Native.Nat.{ℕ, zero, suc}
+use Prim.Native.Nat.{ℕ, zero, suc, _+_}
+use lib.ListN.{drop}
 use Rattle.text.specs.declared.class.Class.{Class}
 use Rattle.text.specs.declared.class.Class.the-variants.{White, NotWhite, WhiteOrStar, NotLf, Quote, NotQuote, SourceMark, Alphabetic, NameRest}
 use Rattle.text.specs.declared.utf8.Encoding.the-variants.{Utf8}
@@ -10,7 +11,7 @@ use Rattle.text.specs.Utf8.{charAt, past}
 use Rattle.text.specs.WhiteSpace.{whiteSpace}
 use Rattle.text.specs.Alphabetic.{alphabetic}
 
--- the ranges of a class, under its regular expression
+-- the ranges of a class, beside its regular expression
 unfoldable pub ranges : Class → List Range
 ranges White = whiteSpace  -- \s
 ranges NotWhite = whiteSpace  -- \S
@@ -50,3 +51,7 @@ run c zero (x ∷ s) = past (classAt c (x ∷ s)) 0 (λ n. suc (run c n s))
 
 abbrev pub runLength : Class → List ℕ → ℕ
 runLength c s = run c 0 s
+
+-- where the longest run of the class ends that begins at a place
+abbrev pub runEnd : Class → List ℕ → ℕ → ℕ
+runEnd c s at = at + runLength c (drop at s)

@@ -34,6 +34,6 @@ lossy s = replacing 0 s
 abbrev pub replaced : List ℕ → ℕ
 replaced s = surrogates 0 s
 
--- a text with no surrogate, so that the lossy text is the text itself
+-- a text with no surrogate, so that the lossy text is the text itself (law `exact-lossy`)
 abbrev pub exact : List ℕ → Bool
 exact s = eqb (replaced s) 0

@@ -1,10 +1,10 @@
 -- Lines and columns of a text, from 0: a line ends at LF, a column counts characters, each by its units.
 use mathlib.Core.Path.{_≡_}
-use mathlib.Core.Bool.{false, cond}
+use mathlib.Core.Bool.{Bool, false, cond, not, _&&_}
 use mathlib.Core.Logic.{_⊎_}
 use mathlib.Core.List.{List, [], _∷_}
 use Prim.Native.Nat.{ℕ, _+_, _*_, _≤_, _<_, _/_, _%_}
-use lib.Dec.{eqb}
+use lib.Dec.{eqb, leb}
 use lib.ListN.{length, getD, take, drop, set}
 use Rattle.text.specs.declared.position.Position.{Position}
 use Rattle.text.specs.Ranges.{within}
@@ -47,6 +47,10 @@ pastCharacter p c =
 -- a place neither past a text nor inside a character; at the end `getD` gives 0, which goes on with none
 abbrev pub Boundary : List ℕ → ℕ → Type 0
 Boundary s p = (p ≤ length s) × (within continuation (getD s p 0) ≡ false)
+
+-- is it one? (proofs/Boundary, law `is-boundary-iff`)
+unfoldable pub isBoundary : List ℕ → ℕ → Bool
+isBoundary s p = leb p (length s) && not (within continuation (getD s p 0))
 
 -- one position comes before another: on an earlier line, or on its line in an earlier column
 abbrev pub Before : Position → Position → Type 0

@@ -1,10 +1,10 @@
 // Lines and columns of a text, from 0: a line ends at LF, a column counts characters.
 ghost use mathlib.Core.Path.{_≡_};
-ghost use Prim.Native.Nat.{ℕ, _+_, _-_, _*_, _/_, _≤_, _<_};
+ghost use Prim.Native.Nat.{_+_, _-_, _*_, _/_, _≤_, _<_};
 ghost use lib.ListN.{length, take, drop};
 ghost use Rattle.text.specs.Ranges.{within};
 ghost use Rattle.text.specs.Utf8.{continuation};
-ghost use Rattle.text.specs.Position.{characters, step, walk, positionOf, stored, kept, Indexed, indexedPosition};
+ghost use Rattle.text.specs.Position.{characters, step, walk, stored, kept, Indexed, indexedPosition};
 
 pub struct Position {
     pub line: usize,
@@ -50,14 +50,6 @@ fn scan(s: &[u8], start: Position, from: usize, at: usize) -> Position
         i += 1;
     }
     p
-}
-
-// The position at `at`.
-pub fn position_at(s: &[u8], at: usize) -> Position
-    requires { ⌜ at ≤ length (now s) ⌝ }
-    ensures { λ r. ⌜ r ≡ positionOf characters (now (s .entry)) at ⌝ }
-{
-    scan(s, Position { line: 0, column: 0 }, 0, at)
 }
 
 // Stores a position as the kth of the index.

@@ -1,23 +1,11 @@
 // UTF-8 and WTF-8, by the rows of Unicode's table of well-formed byte sequences.
 use super::bytes::byte_at;
 ghost use mathlib.Core.Path.{_≡_};
-ghost use mathlib.Core.List.{List, [], _∷_};
-ghost use Prim.Native.Nat.{_≤_, _<_, _+_, _%_};
-ghost use lib.ListN.{length, getD, drop};
+ghost use mathlib.Core.List.{[], _∷_};
+ghost use Prim.Native.Nat.{_≤_, _+_};
+ghost use lib.ListN.{length, drop};
 ghost use Rattle.text.specs.Ranges.{_to_};
-ghost use Rattle.text.specs.Utf8.{
-  admits,
-  continuation,
-  pair,
-  surrogate,
-  besides,
-  rows,
-  lengthBy,
-  charLength,
-  codeBy,
-  charAt,
-  wellFormed,
-};
+ghost use Rattle.text.specs.Utf8.{admits, continuation, pair, surrogate, besides, rows, lengthBy, charLength, codeBy, charAt, wellFormed};
 
 // UTF-8, or WTF-8, in which a surrogate stands by itself too.
 pub enum Encoding {

@@ -1,15 +1,9 @@
 // The characters of White_Space.
-use super::class::Class;
-use super::class::class_at;
-use super::class::run_end;
 use super::ranges::at_most;
 use super::ranges::in_either;
 ghost use mathlib.Core.Path.{_≡_};
-ghost use Prim.Native.Nat.{_+_, _≤_};
-ghost use lib.ListN.{length, drop};
 ghost use Rattle.text.specs.Ranges.{inRanges};
 ghost use Rattle.text.specs.WhiteSpace.{whiteSpace};
-ghost use Rattle.text.specs.Class.{classAt, runLength};
 
 // The bounds of the ranges: even places start a range, odd places end it; the end is not in it.
 const BOUNDS: [u32; 20] = [
@@ -43,22 +37,4 @@ pub fn is_white_space(code: u32) -> bool
         return in_either(code, 0x09, 0x0D, 0x20, 0x20);
     }
     at_most(&BOUNDS, code) % 2 == 1
-}
-
-// The length in bytes of the white space character at `at`, 0 where none stands there.
-pub fn white_space_at(s: &[u8], at: usize) -> usize
-    requires { ⌜ at ≤ length (now s) ⌝ }
-    ensures { λ r. ⌜ r ≡ classAt Class.White (drop at (now (s .entry))) ⌝ }
-    ensures { λ r. ⌜ at + r ≤ length (now (s .entry)) ⌝ }
-{
-    class_at(s, at, Class::White)
-}
-
-// The end of the longest run of white space from `at` on.
-pub fn skip_white_space(s: &[u8], at: usize) -> usize
-    requires { ⌜ at ≤ length (now s) ⌝ }
-    ensures { λ r. ⌜ r ≡ at + runLength Class.White (drop at (now (s .entry))) ⌝ }
-    ensures { λ r. ⌜ r ≤ length (now (s .entry)) ⌝ }
-{
-    run_end(s, at, Class::White)
 }

@@ -2,7 +2,7 @@
 use mathlib.Core.Path.{_≡_, refl}
 use mathlib.Core.List.{List, [], _∷_, map}
 use Prim.Native.Nat.{ℕ}
-use Rattle.laws.specs.Decoded.{Decoded, ok, no}
+use Rattle.laws.specs.Decoded.{ok, refusal}
 use Rattle.text.specs.declared.utf8.Encoding.the-variants.{Utf8}
 use Rattle.text.specs.Utf8.{admits, lengthBy, charLength, formed}
 use Rattle.wire.specs.Fields.{byte, below, flag, bytes}
@@ -44,11 +44,6 @@ cases =
     ∷ (aText, 0x02 ∷ 0x61 ∷ [], 2)  -- cut off
     ∷ (aText, 0x02 ∷ 0xC0 ∷ 0xAF ∷ [], 5)  -- ill-formed
     ∷ []
-
--- 0 for a value
-abbrev refusal : {A : Type 0} → Decoded A → ℕ
-refusal (ok a t) = 0
-refusal (no r) = r
 
 abbrev judged : Case → Case
 judged (aNumber, s, r) = (aNumber, s, refusal (number s))

@@ -31,15 +31,15 @@ module _ (scale low : ℕ) (s : List ℕ) (at : ℕ) where
   next-group (suc k) l h = let down : suc k - 1 ≡ k = omega arith in rw (down, byte-at s at h)
 
 -- with so many of five groups left: what the next one is counted by, and a number below that, which the groups before it make up
-pub record Place (left scale low : ℕ) : Type 0 where
+pub record PlaceValue (left scale low : ℕ) : Type 0 where
   pub few : left ≤ 5
   pub power : scale ≡ 128 ^ (5 - left)
   pub less : low < scale
 
-pub first-place : Place 5 1 0
+pub first-place : PlaceValue 5 1 0
 first-place = record { few = omega arith; power = refl; less = omega arith }
 
-module _ {left scale low : ℕ} (p : Place left scale low) (l : 0 < left) where
+module _ {left scale low : ℕ} (p : PlaceValue left scale low) (l : 0 < left) where
   pub scale-small : scale ≤ 268435456
   scale-small =
       rw (p .power)
@@ -51,7 +51,7 @@ module _ {left scale low : ℕ} (p : Place left scale low) (l : 0 < left) where
     pub group-small : scale * b ≤ 68451041280
     group-small = let most : b ≤ 255 = omega arith in mul-le-mul scale-small most
 
-    pub next-place : Place (left - 1) (scale * 128) (low + scale * (b - 128))
+    pub next-place : PlaceValue (left - 1) (scale * 128) (low + scale * (b - 128))
     next-place =
         let up : 5 - (left - 1) ≡ suc (5 - left) = omega arith in
         let digit : b - 128 ≤ 127 = omega arith in

@@ -2,4 +2,5 @@ pub mod Places
 pub mod Groups
 pub mod NumberCodec
 pub mod TextCodec
+pub mod OptionalCodec
 pub mod Cases

@@ -8,8 +8,8 @@ use lib.ListN.{length, getD, drop, drop-of-length-le, length-drop}
 use lib.Seq.{drop-cons, drop-drop}
 use borrow.Author.Tests.{le-leb, lt-leb}
 use Rattle.laws.specs.Decoded.{ok, no}
+use Rattle.text.specs.Bytes.{part}
 use Rattle.wire.specs.Fields.{byte, bytes}
-use Rattle.wire.specs.Views.{part}
 
 module _ (s : List ℕ) (at : ℕ) where
   pub byte-past : length s ≤ at → byte (drop at s) ≡ no 2

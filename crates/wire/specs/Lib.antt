@@ -1,4 +1,5 @@
 pub mod Fields
 pub mod Number
 pub mod Text
+pub mod Optional
 pub mod Views

@@ -1,19 +1,16 @@
 -- What the cursor's answers stand for, in a sheet s.
 use mathlib.Core.Bool.{Bool}
 use mathlib.Core.List.{List}
-use Prim.Native.Nat.{ℕ, _-_, _≤_, _<_}
-use lib.ListN.{take, drop}
+use Prim.Native.Nat.{ℕ, _≤_, _<_}
+use lib.ListN.{drop}
 use Rattle.laws.specs.Decoded.{Decoded, ok, no}
+use Rattle.text.specs.Bytes.{part}
 use Rattle.wire.specs.declared.Read.{Read}
 use Rattle.wire.specs.declared.Read.the-variants as read
 use Rattle.wire.specs.declared.Flag.{Flag}
 use Rattle.wire.specs.declared.Flag.the-variants as flag
 use Rattle.wire.specs.declared.Text.{Text}
 use Rattle.wire.specs.declared.Text.the-variants as text
-
--- the bytes from one place to another
-abbrev pub part : List ℕ → ℕ → ℕ → List ℕ
-part s from to = take (to - from) (drop from s)
 
 abbrev pub readAs : List ℕ → Read → Decoded ℕ
 readAs s (read.Value n next) = ok n (drop (next .at) s)

@@ -45,12 +45,17 @@ use denote.Signature.{plain}
 use denote.Signature.Struct.{makes}
 use Rattle.laws.specs.Decoded.{ok}
 use Rattle.sheet.specs.Sheet.{Sheet, accept}
+use Rattle.accept.specs.declared.check.Parts.{Parts}
+use Rattle.accept.specs.Accepts.{Accepts}
+use Rattle.accept.proofs.check.Parts as N
+use Rattle.accept.proofs.check.Parts.Laws as N′
 use Rattle.report.specs.declared.lent.Writer.{Writer}
 use Rattle.report.specs.declared.writer.Place.{Place}
 use Rattle.report.specs.declared.writer.Outcome.{Outcome}
-use Rattle.report.specs.World.{wrote, worldAs}
+use Rattle.report.specs.Buffer.{wrote, bufferAs}
 use Rattle.report.specs.Answer.{answered, outcomeAs}
 use Rattle.report.specs.Lent.{begun}
+use Rattle.report.specs.Encode.{encode}
 use Rattle.report.proofs.Again.{LentAgain, lends-again, comes-back}
 use Rattle.report.proofs.Answers.{answered-fitted}
 use Rattle.report.proofs.Held.{PlaceR, place-makes, place-again, place-typed, passing, writerVal, writer-typed, writer-made}
@@ -68,12 +73,7 @@ use Rattle.report.proofs.lent.Writer.finish as finish
 use Rattle.report.proofs.lent.Writer.finish.Symbol as finish-def
 use Rattle.report.proofs.lent.Writer.finish.Symbol.{name as #finish}
 use Rattle.report.proofs.lent.Writer.finish.Met as finish-thm
-use Rattle.accept.specs.declared.check.Parts.{Parts}
-use Rattle.accept.specs.Accepts.{Accepts}
-use Rattle.report.specs.Encode.{encode}
 use Rattle.module_info.specs.Information.{moduleInfo}
-use Rattle.accept.proofs.check.Parts as N
-use Rattle.accept.proofs.check.Parts.Laws as N′
 use Rattle.module_info.proofs.put_report as put
 use Rattle.module_info.proofs.put_report.Symbol as put-def
 use Rattle.module_info.proofs.put_report.Symbol.{name as #put}
@@ -171,7 +171,7 @@ module _ {M : Type 1} (𝓤 : URA M) (H : Heap 𝓤) (A : Atoms 𝓤) (W : Given
   to-put ν δ = ((lfts (ν ∷ []), (q₀, (q₁, (q₂, (fullShare, tt)))), tt, passed δ, (v₀ ∷ [], (vₚ ∷ [], (ptr-vals x₁, (ptr-vals x₂, (s ∷ [], (P′.lowered start ∷ [], tt))))))), tt)
 
   abbrev Said-put : Place → List ℕ → Type 0
-  Said-put r zs = (t : Sheet) → accept (now x₀) ≡ ok t [] → worldAs zs r ≡ wrote (worldAs ys start) (encode (moduleInfo t))
+  Said-put r zs = (t : Sheet) → accept (now x₀) ≡ ok t [] → bufferAs zs r ≡ wrote (bufferAs ys start) (encode (moduleInfo t))
 
   goes-put : (ν : ℕ) (δ : GName) → Is P.the-row start (P′.lowered start ∷ [])
       → ent 𝓤 (⋆ 𝓤 H A ((‵ (flft κ₀ q₀) ⊛ ‵ (flft κ₁ q₁) ⊛ ‵ (flft κ₂ q₂) ⊛ ‵ (flft (ν ∷ []) fullShare)) ∷ ‵ (MutSlice (named 0) (ν ∷ []) u8 .own (x δ ys) (s ∷ [])) ∷ (‵ own₀ ⊛ ‵ own₁ ⊛ ‵ own₂) ∷ [])) (Put 𝓤 H A mem run .pre (to-put ν δ))
@@ -190,7 +190,7 @@ module _ {M : Type 1} (𝓤 : URA M) (H : Heap 𝓤) (A : Atoms 𝓤) (W : Given
   to-finish r zs = (((κ, tt), (q, tt), tt, (h r zs, tt), (mach r ∷ [], tt)), tt)
 
   abbrev Said : Place → List ℕ → Outcome → List ℕ → Type 0
-  Said r zs t us = outcomeAs t us ≡ answered (length zs) (worldAs zs r)
+  Said r zs t us = outcomeAs t us ≡ answered (length zs) (bufferAs zs r)
 
   goes-finish : (r : Place) (zs : List ℕ) → Is P.the-row r (P′.lowered r ∷ []) → ent 𝓤 (sep 𝓤 (A .lft κ q) (sem 𝓤 H A (MutSlice (named 0) κ u8 .own (x γ zs) (s ∷ [])))) (Finish 𝓤 H A mem run .pre (to-finish r zs))
   goes-finish r zs is =

@@ -2,10 +2,10 @@ use borrow.Author.Needs.{needs}
 use native.Mathlib.Omega.{arith}
 use denote.Ref.{now}
 use Rattle.laws.proofs.Steps.{seen}
+use Rattle.wire.specs.Optional.{encodeOptional}
 use Rattle.sheet.specs.Views.{foundAs}
 use Rattle.sheet.specs.Lookups.{leading}
 use Rattle.sheet.proofs.Members.{row-placed, group-last, found-reaching}
-use Rattle.report.specs.Encode.{encodeOptional}
 use Rattle.pragmas.specs.Pragmas.{typesIn}
 use Rattle.pragmas.proofs.analyze_ts_or_deno_types.Statement.{statement}
 use Rattle.pragmas.proofs.analyze_ts_or_deno_types.Tie as tie

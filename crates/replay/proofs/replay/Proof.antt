@@ -16,7 +16,7 @@ abbrev μ-loop : tie.MeasureT-loop
 loop-again : tie.Need-loop-again Inv-loop μ-loop
 loop-again c =
     let l = c .before .before .before .before .before .before .before .before .before .loop in
-    (search needs, c .with .ensures (l .left - 1) (omega arith, omega arith))
+    (search needs, c .with .ensures .1 (l .left - 1) (omega arith, omega arith))
 
 pub replay-spec : {M : Type 1} → statement M
 replay-spec =

@@ -7,7 +7,8 @@ use denote.Ref.{now}
 use Rattle.laws.proofs.Steps.{seen}
 use Rattle.sheet.specs.Nodes.{piece}
 use Rattle.heads.specs.Views.{pieceAs}
-use Rattle.arguments.proofs.Pieces.{many-refused, one-only, of-parts}
+use Rattle.heads.proofs.Many.{many-refused}
+use Rattle.arguments.proofs.Pieces.{one-only, of-parts}
 use Rattle.arguments.proofs.argument.parse_template.Statement.{statement}
 use Rattle.arguments.proofs.argument.parse_template.Tie as tie
 

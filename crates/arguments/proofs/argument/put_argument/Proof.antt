@@ -1,6 +1,6 @@
 use borrow.Author.Needs.{needs}
 use Rattle.report.specs.Encode.{encodeList, encodeArgument}
-use Rattle.report.proofs.Worlds.{wrote-append, wrote-cons}
+use Rattle.report.proofs.Buffers.{wrote-append, wrote-cons}
 use Rattle.arguments.proofs.argument.put_argument.Statement.{statement}
 use Rattle.arguments.proofs.argument.put_argument.Tie as tie
 

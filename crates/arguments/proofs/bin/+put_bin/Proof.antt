@@ -6,16 +6,18 @@ use borrow.Fn.Kinds.{In}
 use borrow.Fn.PlainCycle.{Measures, is, falls, and}
 use denote.Ref.{now}
 use Rattle.laws.proofs.Steps.{seen}
+use Rattle.laws.proofs.Decoding.{same-rest}
 use Rattle.sheet.specs.Nodes.{node}
+use Rattle.nodes.specs.Judged.{judged}
 use Rattle.nodes.specs.Answers.{checkedAs}
-use Rattle.arguments.proofs.Chains.{wrote-parts, encode-one, only-part, no-parts, checked-past, checked-refused, string-chain, template-chain, plus-parts}
+use Rattle.nodes.proofs.check.check_node.Reads as check-node
+use Rattle.arguments.proofs.Chains.{wrote-parts, encode-one, only-part, no-parts, checked-refused, string-chain, template-chain, plus-parts}
 use Rattle.arguments.proofs.bin.put_bin.Reads as put-bin
 use Rattle.arguments.proofs.bin.put_bin.Kinds as put-bin-kinds
 use Rattle.arguments.proofs.bin.+put_bin.Lts-put_bin as put-bin-lts
 use Rattle.arguments.proofs.bin.put_operand.Reads as put-operand
 use Rattle.arguments.proofs.part.put_string.Reads as put-string
 use Rattle.arguments.proofs.expression.read_expression.Reads as read-expression
-use Rattle.nodes.proofs.check.check_node.Reads as check-node
 use Rattle.arguments.proofs.bin.+put_bin.{statement}
 use Rattle.arguments.proofs.bin.+put_bin.Tie.{close}
 
@@ -73,7 +75,7 @@ returns-4 t c n u l e is =
     let left = c .before .before .before .before .before .before .before .before .before .before .before .put-bin .ensures (plus .left) (plus .between) m (plus .first) first in
     let second = ap (node (now (a .source)) (a .levels - 1)) (left .1) ∙ plus .second in (
       rw (← whole, wrote-parts, ← (left .0), encode-one) (c .before .before .before .before .before .before .put-operand .ensures (plus .right) u second),
-      checked-past second (seen (checkedAs (now (a .sheet))) (c .before .before .before .check-node .ensures .0) (c .before .next3 .given .1)),
+      same-rest judged (node (now (a .source)) (a .levels - 1) _) second (seen (checkedAs (now (a .sheet))) (c .before .before .before .check-node .ensures .0) (c .before .next3 .given .1)),
     )
 
 returns-5 : (t : ℕ) → put-bin-lts.Need-returns-5 (calls t) (put-bin-at t) put-bin.Post

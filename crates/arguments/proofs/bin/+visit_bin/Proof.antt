@@ -6,12 +6,12 @@ use borrow.Fn.PlainCycle.{Measures, is, falls, and}
 use denote.Ref.{now}
 use Rattle.laws.proofs.Steps.{seen}
 use Rattle.nodes.specs.Answers.{checkedAs}
+use Rattle.nodes.proofs.check.check_node.Reads as check-node
 use Rattle.arguments.proofs.Chains.{checked-refused, string-counted, template-chain, plus-unknown, at-right, plus-counted}
 use Rattle.arguments.proofs.bin.visit_bin.Reads as visit-bin
 use Rattle.arguments.proofs.bin.visit_bin.Kinds as visit-bin-kinds
 use Rattle.arguments.proofs.bin.+visit_bin.Lts-visit_bin as visit-bin-lts
 use Rattle.arguments.proofs.expression.read_expression.Reads as read-expression
-use Rattle.nodes.proofs.check.check_node.Reads as check-node
 use Rattle.arguments.proofs.bin.+visit_bin.{statement}
 use Rattle.arguments.proofs.bin.+visit_bin.Tie.{close}
 

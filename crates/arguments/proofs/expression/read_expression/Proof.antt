@@ -1,6 +1,9 @@
 use borrow.Author.Needs.{needs}
 use denote.Ref.{now}
-use Rattle.arguments.proofs.Expressions.{reads-string, reads-template, reads-plus, reads-minus, reads-other, head-refused}
+use Rattle.laws.proofs.Steps.{seen}
+use Rattle.heads.specs.Views.{headAs}
+use Rattle.heads.proofs.ByHead.{no-head}
+use Rattle.arguments.proofs.Expressions.{reads-string, reads-template, reads-plus, reads-minus, reads-other}
 use Rattle.arguments.proofs.expression.read_expression.Statement.{statement}
 use Rattle.arguments.proofs.expression.read_expression.Tie as tie
 
@@ -13,7 +16,7 @@ returns c =
 returns-2 : tie.Need-returns-2
 returns-2 c =
     let a = c .before .before .before .before .before .args in
-    (λ n t e. absurd (head-refused (now (a .sheet)) (now (a .source)) (a .c .at) (a .levels) (c .before .before .read-head .ensures .0) (c .enum-told .given .1) e), tt)
+    (λ n t e. absurd (no-head (now (a .source)) (a .levels) _ e (seen (headAs (now (a .sheet))) (c .before .before .read-head .ensures .0) (c .enum-told .given .1))), tt)
 
 returns-3 : tie.Need-returns-3
 returns-3 c =

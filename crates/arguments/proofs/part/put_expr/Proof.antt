@@ -1,5 +1,5 @@
 use borrow.Author.Needs.{needs}
-use Rattle.report.specs.Encode.{encodeOptional}
+use Rattle.wire.specs.Optional.{encodeOptional}
 use Rattle.arguments.proofs.part.put_expr.Statement.{statement}
 use Rattle.arguments.proofs.part.put_expr.Tie as tie
 

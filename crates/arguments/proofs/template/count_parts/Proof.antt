@@ -12,8 +12,9 @@ use Rattle.wire.specs.Number.{largest}
 use Rattle.sheet.specs.Tree.{Pieces}
 use Rattle.sheet.specs.Nodes.{many, piece}
 use Rattle.heads.specs.Views.{pieceAs}
+use Rattle.heads.proofs.Many.{many-refused, many-end}
 use Rattle.arguments.specs.Argument.{templateParts}
-use Rattle.arguments.proofs.Pieces.{many-refused, many-end, piece-next, hole-count, one-most}
+use Rattle.arguments.proofs.Pieces.{piece-next, hole-count, one-most}
 use Rattle.arguments.proofs.template.count_parts.Statement.{statement}
 use Rattle.arguments.proofs.template.count_parts.Tie as tie
 

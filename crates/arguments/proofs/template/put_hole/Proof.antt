@@ -1,8 +1,8 @@
 use mathlib.Core.Path.{sym}
 use borrow.Author.Needs.{needs}
 use denote.Ref.{now}
-use Rattle.report.specs.Encode.{each}
-use Rattle.report.proofs.Worlds.{wrote-nil}
+use mathlib.Core.List.{flatMap}
+use Rattle.report.proofs.Buffers.{wrote-nil}
 use Rattle.arguments.proofs.Chains.{encode-one}
 use Rattle.arguments.proofs.template.put_hole.Statement.{statement}
 use Rattle.arguments.proofs.template.put_hole.Tie as tie
@@ -11,7 +11,7 @@ returns : tie.Need-returns
 returns c = rw (c .before .before .before .before .if1 .taken, encode-one) (c .before .before .put-expr .ensures)
 
 returns-2 : tie.Need-returns-2
-unfolding each
+unfolding flatMap
 returns-2 c = rw (c .if1 .left) (sym (wrote-nil (now (c .before .before .args .out)) (c .before .before .args .place)))
 
 pub put-hole-spec : {M : Type 1} → statement M

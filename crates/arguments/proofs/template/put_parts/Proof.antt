@@ -1,5 +1,5 @@
 use mathlib.Core.Path.{_≡_, refl, sym, _∙_}
-use mathlib.Core.List.{List, []}
+use mathlib.Core.List.{List, [], flatMap}
 use Prim.Native.Nat.{ℕ}
 use native.Mathlib.Omega.{arith}
 use borrow.Author.Needs.{needs}
@@ -11,13 +11,13 @@ use Rattle.laws.proofs.Steps.{seen}
 use Rattle.sheet.specs.Tree.{Pieces}
 use Rattle.sheet.specs.Nodes.{many, piece}
 use Rattle.heads.specs.Views.{pieceAs}
-use Rattle.report.specs.Encode.{each}
-use Rattle.report.specs.World.{wrote, worldAs}
-use Rattle.report.proofs.Worlds.{wrote-nil}
-use Rattle.arguments.specs.Argument.{holeParts, templateParts}
-use Rattle.arguments.specs.Stands.{encodeParts}
+use Rattle.heads.proofs.Many.{many-refused, many-end}
+use Rattle.report.specs.Buffer.{wrote, bufferAs}
+use Rattle.report.proofs.Buffers.{wrote-nil}
+use Rattle.arguments.specs.Argument.{templateParts}
+use Rattle.arguments.specs.Views.{encodeParts, holeParts}
 use Rattle.arguments.proofs.Chains.{wrote-parts}
-use Rattle.arguments.proofs.Pieces.{many-refused, many-end, piece-next}
+use Rattle.arguments.proofs.Pieces.{piece-next}
 use Rattle.arguments.proofs.template.put_parts.Statement.{statement}
 use Rattle.arguments.proofs.template.put_parts.Tie as tie
 
@@ -27,7 +27,7 @@ Inv-loop sheet holes out₀ left₀ at₀ p₀ out left at p =
     (length out ≡ length out₀)
     × ((ps : Pieces) (u : List ℕ) → many [] piece left₀ (drop (at₀ .at) sheet) ≡ ok ps u
     → (qs : Pieces) × (many [] piece left (drop (at .at) sheet) ≡ ok qs u)
-    × (wrote (worldAs out₀ p₀) (encodeParts (templateParts ps)) ≡ wrote (worldAs out p) (encodeParts (templateParts qs))))
+    × (wrote (bufferAs out₀ p₀) (encodeParts (templateParts ps)) ≡ wrote (bufferAs out p) (encodeParts (templateParts qs))))
 
 abbrev μ-loop : tie.MeasureT-loop
 μ-loop sheet holes out₀ left₀ at₀ p₀ out left at p = left
@@ -68,11 +68,11 @@ loop-again-2 c =
       λ ps u e.
           let (qs, read, total) = l .inv .1 ps u e in
           let (rs, behind, parts) = piece-next (l .left) (drop (l .at .at) s) (c .before .before .before .before .before .before .before .before .loop-test .taken) is read in
-          (rs, behind, total ∙ rw (parts, wrote-parts (worldAs (l .out) (l .p)) (holeParts (ltb 1 (l .left))) (templateParts rs), ← (c .before .before .put-hole2 .ensures))),
+          (rs, behind, total ∙ rw (parts, wrote-parts (bufferAs (l .out) (l .p)) (holeParts (ltb 1 (l .left))) (templateParts rs), ← (c .before .before .put-hole2 .ensures))),
     )
 
 returns-2 : tie.Need-returns-2 Inv-loop μ-loop
-unfolding each
+unfolding flatMap
 returns-2 c ps u e =
     let s = now (c .before .before .before .before .args .sheet) in
     let l = c .before .loop in

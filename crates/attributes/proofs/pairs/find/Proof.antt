@@ -3,7 +3,7 @@ use Prim.Native.Nat.{_-_, _≤_}
 use native.Mathlib.Omega.{arith}
 use denote.Ref.{now}
 use Rattle.laws.proofs.Steps.{known}
-use Rattle.wire.specs.Views.{part}
+use Rattle.text.specs.Bytes.{part}
 use Rattle.report.specs.ModuleInfo.{ImportAttribute}
 use Rattle.attributes.specs.Views.{pairAs}
 use Rattle.attributes.proofs.Insertion.{Sought, sought-none, sought-greater, sought-less, sought-equal, sought-all}

@@ -8,8 +8,8 @@ use Rattle.attributes.proofs.Rows.{stored-replaces, stored-within}
 use Rattle.attributes.proofs.pairs.insert.Statement.{statement}
 use Rattle.attributes.proofs.pairs.insert.Tie as tie
 
-put-pair-requires : tie.Need-put-pair-requires
-put-pair-requires c κs =
+store-pair-requires : tie.Need-store-pair-requires
+store-pair-requires c κs =
     let here = rw (c .before .before .i .given .1) at (c .before .before .before .before .find .ensures .1) in
     let pairs = c .before .before .before .before .before .before .before .before .pre .1 in
     omega (arith, pairs .long, pairs .most)
@@ -26,12 +26,12 @@ returns c =
     let is = rw (c .before .before .before .before .before .i .given .1) at (c .before .before .before .before .before .before .before .find .ensures .0) in
     let pairs = c .before .before .before .before .before .before .before .before .before .before .before .pre .1 in
     let fits : 5 * i + 5 ≤ length t = omega (arith, pairs .long, pairs .most) in
-    let stored = c .before .before .put-pair .ensures in (
+    let stored = c .before .before .store-pair .ensures in (
       stored-replaces t i (a .p) fits stored (now (a .sheet)) (a .n) here ∙ is,
       (
         omega arith,
         record {
-          long = omega (arith, c .before .before .put-pair .kept .0, pairs .long);
+          long = omega (arith, c .before .before .store-pair .kept .0, pairs .long);
           most = pairs .most;
           parts = λ j b. stored-within t i (a .p) fits stored _ j (λ q. pairs .parts j b) (c .before .before .before .before .before .before .before .before .before .before .before .pre .2);
         },
@@ -49,7 +49,7 @@ insert-spec =
     (tie.spec
     (λ c κs. search needs)
     (λ c. search needs)
-    put-pair-requires
+    store-pair-requires
     (λ c. search needs)
     insert-before-requires
     (λ c. search needs)

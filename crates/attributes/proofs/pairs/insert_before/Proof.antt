@@ -29,8 +29,8 @@ loop-again c =
     let same : length (l .pairs) ≡ _ = l .inv .1 in
     let fits : 5 * l .k + 5 ≤ length (l .pairs) = omega (arith, c .before .before .before .before .before .before .before .before .before .pre) in
     let old = c .before .before .before .before .pair-at .ensures in
-    let stored = c .before .before .put-pair .ensures in
-    let kept = c .before .before .put-pair .kept .0 in (
+    let stored = c .before .before .store-pair .ensures in
+    let kept = c .before .before .store-pair .kept .0 in (
       omega arith,
       kept ∙ same,
       (λ s. rw old (stored-carries (l .pairs) (l .k) (l .carried) fits stored s _ below) ∙ l .inv .2 s),
@@ -52,12 +52,12 @@ returns c =
     let all : l .k ≡ n = omega (arith, l .inv .0, c .before .before .before .before .loop-test .left) in
     let same : length (l .pairs) ≡ _ = l .inv .1 in
     let fits : 5 * n + 5 ≤ length (l .pairs) = omega (arith, c .before .before .before .before .before .before .before .pre) in
-    let stored = c .before .before .put-pair2 .ensures in (
+    let stored = c .before .before .store-pair2 .ensures in (
       (λ s. stored-last (l .pairs) n (l .carried) fits stored s n refl ∙ (rw all at (l .inv .2 s))),
       (λ m h w.
           let was = l .inv .3 m h w in
           record {
-            long = omega (arith, c .before .before .put-pair2 .kept .0, was .0 .long);
+            long = omega (arith, c .before .before .store-pair2 .kept .0, was .0 .long);
             most = omega arith;
             parts = λ j b. stored-within (l .pairs) n (l .carried) fits stored m j (λ q. was .0 .parts j (omega arith)) (was .1);
           }),

@@ -1,16 +1,17 @@
 use borrow.Author.Needs.{needs}
 use mathlib.Core.Path.{sym, ap, _∙_}
-use mathlib.Core.Bool.{cond}
+use mathlib.Core.Bool.{false, cond}
 use native.Mathlib.Omega.{arith}
 use denote.Ref.{now}
 use Rattle.laws.proofs.Steps.{seen}
 use Rattle.sheet.specs.Nodes.{node}
-use Rattle.sheet.specs.Walked.{shape}
+use Rattle.sheet.specs.Shape.{shape}
 use Rattle.heads.specs.Views.{argumentAs}
-use Rattle.report.specs.ModuleInfo.{unknown}
-use Rattle.attributes.specs.Attributes.{ofArgument}
-use Rattle.attributes.proofs.Objects.{first-argument, no-first, no-arguments}
-use Rattle.attributes.proofs.Shapes.{other-argument}
+use Rattle.heads.proofs.FirstArgument.{no-first, no-arguments}
+use Rattle.report.specs.ModuleInfo.{none, unknown}
+use Rattle.attributes.specs.Attributes.{ofObject, argumentProperties, dynamicAttributes}
+use Rattle.attributes.proofs.Objects.{first-argument}
+use Rattle.attributes.proofs.Shapes.{other-unknown}
 use Rattle.attributes.proofs.readings.parse_dynamic_import_attributes.Statement.{statement}
 use Rattle.attributes.proofs.readings.parse_dynamic_import_attributes.Tie as tie
 
@@ -21,7 +22,7 @@ returns c =
     let head = seen (argumentAs s) (c .before .before .before .before .read-argument .ensures .0) (c .before .before .spread .given .1) in (
       (λ xs t e.
           let (n, u, x, is) = first-argument (node (now (a .source)) (a .levels)) (now (a .source)) _ (a .count) (c .before .before .before .before .before .if1 .taken) e head in
-          sym (is ∙ ap (λ b. cond b unknown (ofArgument (shape n))) (c .if2 .taken))),
+          sym (is ∙ ap (λ b. cond b unknown (ofObject (argumentProperties false none) (shape n))) (c .if2 .taken))),
       tt,
     )
 
@@ -35,7 +36,7 @@ returns-2 c =
     let a = c .before .before .before .before .before .before .before .args in
     let s = now (a .sheet) in
     let stop = seen (argumentAs s) (c .before .before .read-argument .ensures .0) (c .enum-told .given .1) in
-    ((λ xs t e. absurd (no-first (node (now (a .source)) (a .levels)) (now (a .source)) _ (a .count) (c .before .before .before .if1 .taken) e stop)), tt)
+    ((λ xs t e. absurd (no-first (node (now (a .source)) (a .levels)) (now (a .source)) (a .count) _ (c .before .before .before .if1 .taken) e stop)), tt)
 
 returns-3 : tie.Need-returns-3
 returns-3 c =
@@ -45,7 +46,7 @@ returns-3 c =
       (λ xs t e.
           let (n, u, x, is) = first-argument (node (now (a .source)) (a .levels)) (now (a .source)) _ (a .count) (c .before .before .before .before .before .before .before .before .if1 .taken) e head in
           let value = rw (c .enum-told2 .given .1) at (c .before .before .read-value .ensures .0 n u x) in
-          sym (is ∙ ap (λ b. cond b unknown (ofArgument (shape n))) (c .before .before .before .if2 .left) ∙ ap ofArgument value)),
+          sym (is ∙ ap (λ b. cond b unknown (ofObject (argumentProperties false none) (shape n))) (c .before .before .before .if2 .left) ∙ ap (ofObject (argumentProperties false none)) value)),
       tt,
     )
 
@@ -57,7 +58,7 @@ returns-4 c =
       (λ xs t e.
           let (n, u, x, is) = first-argument (node (now (a .source)) (a .levels)) (now (a .source)) _ (a .count) (c .before .before .before .before .before .before .before .before .if1 .taken) e head in
           let value = rw (c .enum-told3 .given .1) at (c .before .before .read-value .ensures .0 n u x) in
-          sym (is ∙ ap (λ b. cond b unknown (ofArgument (shape n))) (c .before .before .before .if2 .left) ∙ other-argument (shape n) value)),
+          sym (is ∙ ap (λ b. cond b unknown (ofObject (argumentProperties false none) (shape n))) (c .before .before .before .if2 .left) ∙ other-unknown (argumentProperties false none) (shape n) value)),
       tt,
     )
 
@@ -69,14 +70,15 @@ returns-5 c =
       (λ xs t e.
           let (n, u, x, is) = first-argument (node (now (a .source)) (a .levels)) (now (a .source)) _ (a .count) (c .before .before .before .before .before .before .before .before .before .before .before .before .before .if1 .taken) e head in
           let (ps, v, object, y) = rw (c .before .before .before .before .before .n .given .1) at (c .before .before .before .before .before .before .before .read-value .ensures .0 n u x) in
-          c .before .before .parse-argument-properties .ensures .0 ps v y ∙ sym (is ∙ ap (λ b. cond b unknown (ofArgument (shape n))) (c .before .before .before .before .before .before .before .before .if2 .left) ∙ ap ofArgument object)),
+          c .before .before .parse-argument-properties .ensures .0 ps v y ∙ sym (is ∙ ap (λ b. cond b unknown (ofObject (argumentProperties false none) (shape n))) (c .before .before .before .before .before .before .before .before .if2 .left) ∙ ap (ofObject (argumentProperties false none)) object)),
       c .before .before .parse-argument-properties .ensures .1,
     )
 
 returns-6 : tie.Need-returns-6
+unfolding dynamicAttributes
 returns-6 c =
     let a = c .before .before .before .before .args in
-    ((λ xs t e. sym (no-arguments (node (now (a .source)) (a .levels)) (now (a .source)) _ (a .count) (c .if1 .left) e)), tt)
+    ((λ xs t e. sym (ap dynamicAttributes (no-arguments (node (now (a .source)) (a .levels)) (now (a .source)) (a .count) _ (c .if1 .left) e))), tt)
 
 pub parse-dynamic-import-attributes-spec : {M : Type 1} → statement M
 parse-dynamic-import-attributes-spec =

@@ -1,9 +1,10 @@
 use borrow.Author.Needs.{needs}
 use mathlib.Core.Path.{sym, ap, _∙_}
+use mathlib.Core.List.{[]}
 use native.Mathlib.Omega.{arith}
-use Rattle.sheet.specs.Walked.{shape}
-use Rattle.attributes.specs.Attributes.{nested}
-use Rattle.attributes.proofs.Shapes.{other-nested}
+use Rattle.sheet.specs.Shape.{shape}
+use Rattle.attributes.specs.Attributes.{objectAttributes, ofObject}
+use Rattle.attributes.proofs.Shapes.{other-unknown}
 use Rattle.attributes.proofs.readings.parse_nested.Statement.{statement}
 use Rattle.attributes.proofs.readings.parse_nested.Tie as tie
 
@@ -18,16 +19,16 @@ parse-requires c κs =
     (within .1, c .before .before .before .before .before .before .before .before .pre)
 
 returns : tie.Need-returns
-returns c = ((λ v t e. let is = rw (c .enum-told .given .1) at (c .before .before .read-value .ensures .0 v t e) in sym (ap nested is)), tt)
+returns c = ((λ v t e. let is = rw (c .enum-told .given .1) at (c .before .before .read-value .ensures .0 v t e) in sym (ap (ofObject (objectAttributes [])) is)), tt)
 
 returns-2 : tie.Need-returns-2
-returns-2 c = ((λ v t e. let is = rw (c .enum-told2 .given .1) at (c .before .before .read-value .ensures .0 v t e) in sym (other-nested (shape v) is)), tt)
+returns-2 c = ((λ v t e. let is = rw (c .enum-told2 .given .1) at (c .before .before .read-value .ensures .0 v t e) in sym (other-unknown (objectAttributes []) (shape v) is)), tt)
 
 returns-3 : tie.Need-returns-3
 returns-3 c = (
   (λ v t e.
       let (ps, u, is, x) = rw (c .before .before .before .before .before .n .given .1) at (c .before .before .before .before .before .before .before .read-value .ensures .0 v t e) in
-      c .before .before .parse-import-attributes-from-object-lit .ensures .0 ps u x ∙ sym (ap nested is)),
+      c .before .before .parse-import-attributes-from-object-lit .ensures .0 ps u x ∙ sym (ap (ofObject (objectAttributes [])) is)),
   c .before .before .parse-import-attributes-from-object-lit .ensures .1,
 )
 

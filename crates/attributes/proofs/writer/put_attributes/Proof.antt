@@ -2,7 +2,7 @@ use borrow.Author.Needs.{needs}
 use denote.Ref.{now}
 use Rattle.sheet.proofs.Rows.{rows-length}
 use Rattle.report.specs.Encode.{encodeList, encodeAttributes}
-use Rattle.report.proofs.Worlds.{wrote-append, wrote-cons}
+use Rattle.report.proofs.Buffers.{wrote-append, wrote-cons}
 use Rattle.attributes.specs.Views.{pairIn}
 use Rattle.attributes.proofs.writer.put_attributes.Statement.{statement}
 use Rattle.attributes.proofs.writer.put_attributes.Tie as tie

@@ -1,6 +1,7 @@
 use borrow.Author.Needs.{needs}
-use Rattle.report.specs.Encode.{encodeOptional, encodeKeyValue}
-use Rattle.report.proofs.Worlds.{wrote-append, wrote-cons}
+use Rattle.wire.specs.Optional.{encodeOptional}
+use Rattle.report.specs.Encode.{encodeKeyValue}
+use Rattle.report.proofs.Buffers.{wrote-append, wrote-cons}
 use Rattle.attributes.proofs.writer.put_pair.Statement.{statement}
 use Rattle.attributes.proofs.writer.put_pair.Tie as tie
 

@@ -5,19 +5,20 @@ use native.Mathlib.Nat.{sub-zero}
 use native.Mathlib.Omega.{arith}
 use lib.ListN.{length}
 use denote.Ref.{now}
+use mathlib.Core.List.{flatMap}
 use Rattle.sheet.specs.Tables.{rows}
-use Rattle.report.specs.Encode.{each, encodeKeyValue}
-use Rattle.report.specs.World.{wrote, worldAs}
-use Rattle.report.proofs.Worlds.{wrote-append, wrote-nil}
+use Rattle.sheet.proofs.Rows.{rows-first}
+use Rattle.report.specs.Encode.{encodeKeyValue}
+use Rattle.report.specs.Buffer.{wrote, bufferAs}
+use Rattle.report.proofs.Buffers.{wrote-append, wrote-nil}
 use Rattle.attributes.specs.Views.{pairIn, pairsFrom, pairsIn}
-use Rattle.attributes.proofs.Rows.{rows-first}
 use Rattle.attributes.proofs.writer.put_pairs.Statement.{statement}
 use Rattle.attributes.proofs.writer.put_pairs.Tie as tie
 
 abbrev Inv-loop : tie.InvT-loop
 Inv-loop sheet pairs n out₀ p₀ k₀ out p k =
     (length out ≡ length out₀)
-    × (wrote (worldAs out₀ p₀) (each encodeKeyValue (pairsIn sheet pairs n)) ≡ wrote (worldAs out p) (each encodeKeyValue (pairsFrom sheet pairs k (n - k))))
+    × (wrote (bufferAs out₀ p₀) (flatMap encodeKeyValue (pairsIn sheet pairs n)) ≡ wrote (bufferAs out p) (flatMap encodeKeyValue (pairsFrom sheet pairs k (n - k))))
 
 abbrev μ-loop : tie.MeasureT-loop
 μ-loop sheet pairs n out₀ p₀ k₀ out p k = n - k
@@ -34,7 +35,7 @@ put-pair-requires : tie.Need-put-pair-requires Inv-loop μ-loop
 put-pair-requires c κs = rw (c .before .pair-at .ensures) (c .before .before .before .before .before .before .before .pre .parts _ (c .before .before .loop-test .taken))
 
 loop-again : tie.Need-loop-again Inv-loop μ-loop
-unfolding each
+unfolding flatMap
 loop-again c =
     let l = c .before .before .before .before .before .before .loop in
     let a = c .before .before .before .before .before .before .before .before .before .before .args in
@@ -45,7 +46,7 @@ loop-again c =
     )
 
 returns : tie.Need-returns Inv-loop μ-loop
-unfolding each rows
+unfolding flatMap rows
 returns c =
     let l = c .before .loop in
     let none : c .before .before .before .before .before .args .n - l .k ≡ 0 = omega arith in

@@ -1,15 +1,14 @@
 use borrow.Author.Needs.{needs}
 use mathlib.Core.Path.{_≡_, refl, sym, _∙_}
-use mathlib.Core.List.{List, [], _++_, append-nil}
+use mathlib.Core.List.{List, [], _++_, append-nil, flatMap}
 use Prim.Native.Nat.{ℕ, _+_, _*_, _≤_}
 use native.Mathlib.Omega.{arith}
 use lib.ListN.{length, drop}
 use denote.Ref.{now}
-use Rattle.report.specs.Encode.{each}
-use Rattle.report.specs.Valid.{All}
-use Rattle.report.specs.World.{worldAs}
-use Rattle.report.proofs.Worlds.{wrote-nil}
-use Rattle.citation.specs.Citation.{Line, citeEach}
+use Rattle.laws.specs.Codec.{All}
+use Rattle.report.specs.Buffer.{bufferAs}
+use Rattle.report.proofs.Buffers.{wrote-nil}
+use Rattle.citation.specs.Citation.{Line}
 use Rattle.citation.specs.Reads.{Printed}
 use Rattle.citation.specs.Items.{Item, encodeItem, ValidItem, citeItem}
 use Rattle.citation.proofs.Lists.{Stand, next-item, no-item}
@@ -21,17 +20,17 @@ abbrev Inv-loop : tie.InvT-loop
 Inv-loop report at kind count out₀ p₀ lines₀ next₀ left₀ out p lines next left =
     (length out ≡ length out₀)
     × (lines + 2 * left ≤ 2 * count)
-    × ((l : List (Item kind)) → (length l ≡ count) × All (ValidItem kind) l → (t : List ℕ) → drop at report ≡ each (encodeItem kind) l ++ t
+    × ((l : List (Item kind)) → (length l ≡ count) × All (ValidItem kind) l → (t : List ℕ) → drop at report ≡ flatMap (encodeItem kind) l ++ t
     → (l′ : List (Item kind)) × (done : List Line)
     × Stand (encodeItem kind) (ValidItem kind) report t next left l′
-    × Printed (worldAs out₀ p₀) done (worldAs out p) lines
-    × (citeEach (citeItem kind) l ≡ done ++ citeEach (citeItem kind) l′))
+    × Printed (bufferAs out₀ p₀) done (bufferAs out p) lines
+    × (flatMap (citeItem kind) l ≡ done ++ flatMap (citeItem kind) l′))
 
 abbrev μ-loop : tie.MeasureT-loop
 μ-loop report at kind count out₀ p₀ lines₀ next₀ left₀ out p lines next left = left
 
 loop-holds : tie.Need-loop-holds Inv-loop μ-loop
-unfolding each
+unfolding flatMap
 loop-holds c =
     let a = c .before .before .args in
     (refl, omega arith, λ l v t e. (l, [], (v .0, v .1, e), record { written = sym (wrote-nil (now (a .out)) (a .place)); counted = refl }, refl))
@@ -51,7 +50,7 @@ loop-again c =
     )
 
 returns : tie.Need-returns Inv-loop μ-loop
-unfolding citeEach
+unfolding flatMap
 returns c =
     let a = c .before .before .before .before .args in
     let i = c .before .loop in (

@@ -1,10 +1,10 @@
 use borrow.Author.Needs.{needs}
 use mathlib.Core.Path.{sym, _∙_}
-use mathlib.Core.List.{append-assoc}
+use mathlib.Core.List.{append-assoc, flatMap}
 use native.Mathlib.Omega.{arith}
 use lib.ListN.{length}
 use Rattle.wire.specs.Number.{encodeNumber}
-use Rattle.report.specs.Encode.{each, encodeList}
+use Rattle.report.specs.Encode.{encodeList}
 use Rattle.citation.specs.Items.{encodeItem}
 use Rattle.citation.proofs.cite.cite_list.Statement.{statement}
 use Rattle.citation.proofs.cite.cite_list.Tie as tie
@@ -14,7 +14,7 @@ unfolding encodeList
 returns c =
     let count = c .before .before .before .before .read-number in (
       λ l v t e.
-          let (n, e) = count .ensures .read (length l) (v .0) _ (e ∙ append-assoc (encodeNumber (length l)) (each (encodeItem (c .before .before .before .before .before .before .before .args .kind)) l) t) in
+          let (n, e) = count .ensures .read (length l) (v .0) _ (e ∙ append-assoc (encodeNumber (length l)) (flatMap (encodeItem (c .before .before .before .before .before .before .before .args .kind)) l) t) in
           c .before .before .cite-items .ensures .0 l (sym n, v .1) t e,
       omega (arith, c .before .before .cite-items .ensures .1, count .ensures .small),
     )

@@ -2,14 +2,15 @@ use borrow.Author.Needs.{needs}
 use mathlib.Core.Path.{refl, sym}
 use native.Mathlib.Omega.{arith}
 use denote.Ref.{now}
-use Rattle.report.specs.Encode.{each, encodeSpecifier}
-use Rattle.report.proofs.Worlds.{wrote-nil}
+use mathlib.Core.List.{flatMap}
+use Rattle.report.specs.Encode.{encodeSpecifier}
+use Rattle.report.proofs.Buffers.{wrote-nil}
 use Rattle.citation.proofs.FromBytes.{none-there, some-there}
 use Rattle.citation.proofs.cite.cite_optional.Statement.{statement}
 use Rattle.citation.proofs.cite.cite_optional.Tie as tie
 
 returns : tie.Need-returns
-unfolding each
+unfolding flatMap
 returns c = (
   λ o v t e.
       let a = c .before .before .before .before .before .args in

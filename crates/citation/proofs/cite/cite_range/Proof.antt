@@ -1,13 +1,12 @@
 use borrow.Author.Needs.{needs}
 use mathlib.Core.Path.{refl}
-use mathlib.Core.List.{append-nil}
+use mathlib.Core.List.{append-nil, flatMap}
 use native.Mathlib.Omega.{arith}
-use Rattle.report.specs.Encode.{each}
 use Rattle.citation.proofs.cite.cite_range.Statement.{statement}
 use Rattle.citation.proofs.cite.cite_range.Tie as tie
 
 returns : tie.Need-returns
-unfolding each
+unfolding flatMap
 returns c = (
   λ r v t e.
       let (p, e) = c .before .before .before .before .read-range .ensures .0 r v t e in

@@ -4,7 +4,7 @@ use mathlib.Core.List.{[], append-nil}
 use native.Mathlib.Omega.{arith}
 use lib.ListN.{length, length-take}
 use Rattle.report.specs.Encode.{encode}
-use Rattle.report.proofs.Worlds.{wrote-append}
+use Rattle.report.proofs.Buffers.{wrote-append}
 use Rattle.citation.specs.Citation.{citation}
 use Rattle.citation.proofs.Whole.{all-written}
 use Rattle.citation.proofs.Lengths.{citation-short}

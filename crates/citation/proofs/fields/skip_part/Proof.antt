@@ -2,7 +2,8 @@ use borrow.Author.Needs.{needs}
 use mathlib.Core.Path.{_∙_}
 use mathlib.Core.List.{append-assoc}
 use Rattle.wire.specs.Text.{encodeText}
-use Rattle.report.specs.Encode.{encodeOptional, encodeKeyValue}
+use Rattle.wire.specs.Optional.{encodeOptional}
+use Rattle.report.specs.Encode.{encodeKeyValue}
 use Rattle.citation.proofs.fields.skip_part.Statement.{statement}
 use Rattle.citation.proofs.fields.skip_part.Tie as tie
 

@@ -1,11 +1,10 @@
 use borrow.Author.Needs.{needs}
 use mathlib.Core.Path.{_≡_}
-use mathlib.Core.List.{List, _++_}
+use mathlib.Core.List.{List, _++_, flatMap}
 use Prim.Native.Nat.{ℕ}
 use lib.ListN.{length, drop}
 use denote.Ref.{now}
-use Rattle.report.specs.Encode.{each}
-use Rattle.report.specs.Valid.{All}
+use Rattle.laws.specs.Codec.{All}
 use Rattle.citation.specs.Items.{Part, encodePart, ValidPart}
 use Rattle.citation.proofs.Lists.{Stand, next-item, no-item}
 use Rattle.citation.proofs.fields.skip_parts.Statement.{statement}
@@ -13,7 +12,7 @@ use Rattle.citation.proofs.fields.skip_parts.Tie as tie
 
 abbrev Inv-loop : tie.InvT-loop
 Inv-loop report at keyed count place₀ left₀ place left =
-    (l : List (Part keyed)) → (length l ≡ count) × All (ValidPart keyed) l → (t : List ℕ) → drop at report ≡ each (encodePart keyed) l ++ t
+    (l : List (Part keyed)) → (length l ≡ count) × All (ValidPart keyed) l → (t : List ℕ) → drop at report ≡ flatMap (encodePart keyed) l ++ t
     → (l′ : List (Part keyed)) × Stand (encodePart keyed) (ValidPart keyed) report t place left l′
 
 abbrev μ-loop : tie.MeasureT-loop

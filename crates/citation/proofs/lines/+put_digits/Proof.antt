@@ -6,12 +6,12 @@ use native.Mathlib.Omega.{arith}
 use borrow.Fn.Kinds.{In}
 use borrow.Fn.PlainCycle.{Measures, is, falls, and}
 use denote.Ref.{now}
-use Rattle.report.proofs.Worlds.{wrote-append, wrote-nil}
+use Rattle.report.proofs.Buffers.{wrote-append, wrote-nil}
+use Rattle.report.proofs.writer.Place.put.Reads as put-reads
 use Rattle.citation.proofs.Digits.{no-digit, one-digit, more-digits}
 use Rattle.citation.proofs.lines.put_digits.Reads as put-digits
 use Rattle.citation.proofs.lines.put_digits.Kinds as put-digits-kinds
 use Rattle.citation.proofs.lines.+put_digits.Lts-put_digits as put-digits-lts
-use Rattle.report.proofs.writer.Place.put.Reads as put-reads
 use Rattle.citation.proofs.lines.+put_digits.{statement}
 use Rattle.citation.proofs.lines.+put_digits.Tie.{close}
 

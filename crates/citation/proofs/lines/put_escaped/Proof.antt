@@ -2,8 +2,8 @@ use borrow.Author.Needs.{needs}
 use mathlib.Core.List.{[], _∷_}
 use denote.Ref.{now}
 use Rattle.laws.proofs.Steps.{known}
-use Rattle.report.specs.World.{worldAs}
-use Rattle.report.proofs.Worlds.{wrote-append, wrote-cons}
+use Rattle.report.specs.Buffer.{bufferAs}
+use Rattle.report.proofs.Buffers.{wrote-append, wrote-cons}
 use Rattle.citation.specs.Citation.{escaped}
 use Rattle.citation.proofs.lines.put_escaped.Statement.{statement}
 use Rattle.citation.proofs.lines.put_escaped.Tie as tie
@@ -12,7 +12,7 @@ returns : tie.Need-returns
 unfolding escaped
 returns c =
     let a = c .before .before .before .before .before .before .before .before .before .before .before .before .before .before .before .before .before .before .args in
-    let on = wrote-append (worldAs (now (a .out)) (a .place)) (0x5C ∷ 0x78 ∷ []) in
+    let on = wrote-append (bufferAs (now (a .out)) (a .place)) (0x5C ∷ 0x78 ∷ []) in
     rw (
       known (c .before .before .before .before .before .before .before .before .before .before .before .before .before .before .before .before .is-escaped .ensures) (c .before .before .before .before .before .before .before .before .before .before .before .before .before .before .before .if1 .taken),
       on,

@@ -5,28 +5,28 @@ use native.Mathlib.Numerals.{add-one}
 use lib.ListN.{length, drop, drop-of-length-le}
 use lib.Seq.{drop-cons}
 use denote.Ref.{now}
-use Rattle.report.specs.Encode.{each}
-use Rattle.report.specs.World.{wrote, worldAs}
-use Rattle.report.proofs.Worlds.{wrote-append, wrote-nil}
+use mathlib.Core.List.{flatMap}
+use Rattle.report.specs.Buffer.{wrote, bufferAs}
+use Rattle.report.proofs.Buffers.{wrote-append, wrote-nil}
 use Rattle.citation.specs.Citation.{escaped}
 use Rattle.citation.proofs.lines.put_text.Statement.{statement}
 use Rattle.citation.proofs.lines.put_text.Tie as tie
 
 abbrev Inv-loop : tie.InvT-loop
-Inv-loop out₀ text p₀ i₀ out p i = (length out ≡ length out₀) × (wrote (worldAs out₀ p₀) (each escaped text) ≡ wrote (worldAs out p) (each escaped (drop i text)))
+Inv-loop out₀ text p₀ i₀ out p i = (length out ≡ length out₀) × (wrote (bufferAs out₀ p₀) (flatMap escaped text) ≡ wrote (bufferAs out p) (flatMap escaped (drop i text)))
 
 abbrev μ-loop : tie.MeasureT-loop
 μ-loop out₀ text p₀ i₀ out p i = length text - i
 
 loop-again : tie.Need-loop-again Inv-loop μ-loop
-unfolding each
+unfolding flatMap
 loop-again c =
     let l = c .before .before .before .before .before .before .loop in
     let s = now (c .before .before .before .before .before .before .before .before .before .args .text) in
     (c .before .before .put-escaped .kept .1 .0 ∙ l .inv .0, l .inv .1 ∙ rw (add-one, drop-cons s (l .i) 0 (c .before .before .before .before .before .loop-test .taken), wrote-append, ← (c .before .before .put-escaped .ensures)))
 
 returns : tie.Need-returns Inv-loop μ-loop
-unfolding each
+unfolding flatMap
 returns c =
     let l = c .before .loop in
     let s = now (c .before .before .before .before .args .text) in

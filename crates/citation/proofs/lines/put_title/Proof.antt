@@ -1,5 +1,5 @@
 use borrow.Author.Needs.{needs}
-use Rattle.report.proofs.Worlds.{wrote-append}
+use Rattle.report.proofs.Buffers.{wrote-append}
 use Rattle.citation.specs.Citation.{title}
 use Rattle.citation.proofs.lines.put_title.Statement.{statement}
 use Rattle.citation.proofs.lines.put_title.Tie as tie

@@ -3,17 +3,16 @@ use borrow.Author.Needs.{needs}
 use mathlib.Core.Path.{sym, ap, _∙_}
 use lib.ListN.{drop}
 use denote.Ref.{now}
-use Rattle.laws.proofs.Decoding.{refused, onOk-no}
+use Rattle.laws.proofs.Decoding.{refused, onOk-no, same-rest}
 use Rattle.laws.proofs.Steps.{seen}
 use Rattle.sheet.specs.Nodes.{node, arguments}
 use Rattle.nodes.specs.Judged.{judged}
 use Rattle.nodes.specs.Answers.{checkedAs}
-use Rattle.report.specs.World.{worldAs}
+use Rattle.report.specs.Buffer.{bufferAs}
 use Rattle.arguments.specs.Argument.{argumentOf}
 use Rattle.dep.specs.declared.entries.DynamicDependencyDescriptor.{DynamicDependencyDescriptor}
 use Rattle.dep.specs.Collect.{callEntry}
-use Rattle.dep.specs.Walk.{typesFrom, listed, dynamicOf}
-use Rattle.dep.proofs.FirstArgument.{same-rest}
+use Rattle.dep.specs.Walk.{typesFrom, wroteEntries, dynamicOf}
 use Rattle.dep.proofs.entries.put_argument_entry.Statement.{statement}
 use Rattle.dep.proofs.entries.put_argument_entry.Tie as tie
 
@@ -35,13 +34,13 @@ returns-2 c =
     let s = now (a .sheet) in
     let source = now (a .source) in
     let types = typesFrom source (now (a .cs)) (now (a .gs)) (a .k) in
-    let w = worldAs (now (a .out)) (a .p) in
+    let w = bufferAs (now (a .out)) (a .p) in
     let x = node source (a .levels) (drop (a .c .at) s) in
     let d : DynamicDependencyDescriptor =
-    record { kind = a .d .kind; start = a .d .range .start; argument = c .before .before .before .before .before .before .before .before .parse-argument .result; range = a .range; attributes = c .before .before .before .before .before .before .parse-dynamic-import-attributes .result } in
+    record { kind = a .d .kind; start = a .d .span .start; argument = c .before .before .before .before .before .before .before .before .parse-argument .result; «argument_range» = a .range; «import_attributes» = c .before .before .before .before .before .before .parse-dynamic-import-attributes .result } in
     λ dots n xs t u is are.
     c .before .before .put-dynamic-entry .ensures (argumentOf n) (c .before .before .before .before .before .before .before .before .parse-argument .ensures .0 n t is)
-    ∙ ap (λ b. listed w (dynamicOf source types d (argumentOf n) b))
+    ∙ ap (λ b. wroteEntries w (dynamicOf source types d (argumentOf n) b))
     (c .before .before .before .before .before .before .parse-dynamic-import-attributes .ensures .0 xs u
     (ap (arguments (node source (a .levels)) source (a .more)) (same-rest judged x is (seen (checkedAs s) (c .before .before .before .before .before .before .before .before .before .before .before .before .check-node .ensures .0) (c .before .before .before .before .before .before .before .before .before .before .next .given .1))) ∙ are))
 

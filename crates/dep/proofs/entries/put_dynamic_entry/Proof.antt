@@ -3,7 +3,7 @@ use borrow.Author.Needs.{needs}
 use denote.Ref.{now}
 use Rattle.report.specs.ModuleInfo as info
 use Rattle.report.specs.Range.{rangeOf}
-use Rattle.report.specs.World.{worldAs}
+use Rattle.report.specs.Buffer.{bufferAs}
 use Rattle.attributes.specs.Views.{attributesAs}
 use Rattle.dep.specs.Walk.{typesFrom}
 use Rattle.dep.proofs.Fields.{dynamic-written}
@@ -25,14 +25,14 @@ returns c =
     let s = now (a .sheet) in
     let source = now (a .source) in
     let types = typesFrom source (now (a .cs)) (now (a .gs)) (a .k) in
-    let w = worldAs (now (a .out)) (a .p) in
+    let w = bufferAs (now (a .out)) (a .p) in
     let entry : info.DynamicArgument → info.DynamicDependencyDescriptor =
     λ v. record {
       kind = a .d .kind;
       typesSpecifier = types (a .d .start);
       argument = v;
-      argumentRange = rangeOf source (a .d .range);
-      importAttributes = attributesAs s (now (a .pairs)) (a .d .attributes);
+      argumentRange = rangeOf source (a .d .«argument_range»);
+      importAttributes = attributesAs s (now (a .pairs)) (a .d .«import_attributes»);
     } in
     λ v stands. dynamic-written w (entry v) (c .before .before .before .before .before .before .before .before .before .before .before .before .before .before .before .before .before .before .put .ensures) (c .before .before .before .before .before .before .before .before .before .before .before .before .before .before .analyze-ts-or-deno-types .ensures) (c .before .before .before .before .before .before .before .before .before .before .put-argument .ensures v stands) (c .before .before .before .before .before .before .put-span .ensures) (c .before .before .put-attributes .ensures)
 

@@ -2,10 +2,10 @@
 use borrow.Author.Needs.{needs}
 use denote.Ref.{now}
 use Rattle.text.specs.Lossy.{lossy}
-use Rattle.wire.specs.Views.{part}
+use Rattle.text.specs.Bytes.{part}
 use Rattle.report.specs.ModuleInfo as info
 use Rattle.report.specs.Range.{rangeOf}
-use Rattle.report.specs.World.{worldAs}
+use Rattle.report.specs.Buffer.{bufferAs}
 use Rattle.attributes.specs.Views.{attributesAs}
 use Rattle.dep.specs.Collect.{staticEntry}
 use Rattle.dep.specs.Walk.{typesFrom}
@@ -26,14 +26,14 @@ returns c =
     let s = now (a .sheet) in
     let source = now (a .source) in
     let types = typesFrom source (now (a .cs)) (now (a .gs)) (a .k) in
-    let w = worldAs (now (a .out)) (a .p) in
+    let w = bufferAs (now (a .out)) (a .p) in
     let x = a .d .specifier in
     let d : info.StaticDependencyDescriptor =
     record {
       kind = a .d .kind;
-      typesSpecifier = types (a .d .range .start);
+      typesSpecifier = types (a .d .span .start);
       specifier = record { text = lossy (part s (x .start) (x .end)); range = rangeOf source (x .span) };
-      sideEffect = a .d .side;
+      sideEffect = a .d .«is_side_effect»;
       importAttributes = attributesAs s (now (a .pairs)) (a .a);
     } in
     static-written w d (c .before .before .before .before .before .before .before .before .before .before .before .before .before .before .before .before .before .before .before .put .ensures) (c .before .before .before .before .before .before .before .before .before .before .before .before .before .before .before .analyze-ts-or-deno-types .ensures) (c .before .before .before .before .before .before .before .before .before .before .put-lossy-specifier .ensures) (c .before .before .before .before .before .before .put-flag .ensures) (c .before .before .put-attributes .ensures)

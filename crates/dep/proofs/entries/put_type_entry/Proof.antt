@@ -2,8 +2,8 @@
 use borrow.Author.Needs.{needs}
 use mathlib.Core.Path.{ap, _∙_}
 use denote.Ref.{now}
-use Rattle.report.specs.World.{worldAs}
-use Rattle.dep.specs.Walk.{typesFrom, listed, staticOf}
+use Rattle.report.specs.Buffer.{bufferAs}
+use Rattle.dep.specs.Walk.{typesFrom, wroteEntries, staticOf}
 use Rattle.dep.proofs.entries.put_type_entry.Statement.{statement}
 use Rattle.dep.proofs.entries.put_type_entry.Tie as tie
 
@@ -13,8 +13,8 @@ returns c =
     let s = now (a .sheet) in
     let source = now (a .source) in
     let types = typesFrom source (now (a .cs)) (now (a .gs)) (a .k) in
-    let w = worldAs (now (a .out)) (a .p) in
-    λ b t is. c .before .before .put-static-entry .ensures ∙ ap (λ x. listed w (staticOf source types s (a .d) x)) (c .before .before .before .before .before .before .parse-type-attributes .ensures .0 b t is)
+    let w = bufferAs (now (a .out)) (a .p) in
+    λ b t is. c .before .before .put-static-entry .ensures ∙ ap (λ x. wroteEntries w (staticOf source types s (a .d) x)) (c .before .before .before .before .before .before .parse-type-attributes .ensures .0 b t is)
 
 pub put-type-entry-spec : {M : Type 1} → statement M
 put-type-entry-spec = tie.close (tie.spec (λ c. search needs) (λ c κs. search needs) (λ c. search needs) (λ c κs. search needs) (λ c. search needs) returns)

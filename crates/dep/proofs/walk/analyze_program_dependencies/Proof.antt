@@ -6,7 +6,7 @@ use denote.Ref.{now}
 use Rattle.laws.proofs.Decoding.{refused, onOk-no}
 use Rattle.laws.proofs.Steps.{seen}
 use Rattle.sheet.specs.Nodes.{node}
-use Rattle.report.specs.World.{worldAs}
+use Rattle.report.specs.Buffer.{bufferAs}
 use Rattle.dep.specs.Walk.{typesFrom, walkedAs, afterNode}
 use Rattle.dep.proofs.Counted.{program-written}
 use Rattle.dep.proofs.walk.analyze_program_dependencies.Statement.{statement}
@@ -20,7 +20,7 @@ returns c =
     let source = now (a .source) in
     let types = typesFrom source (now (a .cs)) (now (a .gs)) (a .k) in
     let root = node source 64 (drop (a .root .at) s) in
-    let w1 = worldAs (c .before .before .before .before .before .before .before .before .put-number .last .1 .0) (c .before .before .before .before .before .before .before .before .put-number .result) in
+    let w1 = bufferAs (c .before .before .before .before .before .before .before .before .put-number .last .1 .0) (c .before .before .before .before .before .before .before .before .put-number .result) in
     λ n t is as-many. absurd (refused (sym (onOk-no (afterNode source types w1) root (seen (walkedAs s (c .before .before .before .before .walk-node .last .1 .1 .1 .1 .1 .1 .1 .1 .0)) (c .before .before .before .before .walk-node .ensures .0) (c .enum-told .given .1))) ∙ is))
 
 returns-2 : tie.Need-returns-2
@@ -30,7 +30,7 @@ returns-2 c =
     let source = now (a .source) in
     let types = typesFrom source (now (a .cs)) (now (a .gs)) (a .k) in
     let root = node source 64 (drop (a .root .at) s) in
-    λ n t is as-many. program-written source types (worldAs (now (a .out)) (a .p)) root is as-many (c .before .before .before .before .before .before .before .before .before .put-number .ensures) (seen (walkedAs s (c .before .before .before .before .before .walk-node .last .1 .1 .1 .1 .1 .1 .1 .1 .0)) (c .before .before .before .before .before .walk-node .ensures .0) (c .before .p .given .1))
+    λ n t is as-many. program-written source types (bufferAs (now (a .out)) (a .p)) root is as-many (c .before .before .before .before .before .before .before .before .before .put-number .ensures) (seen (walkedAs s (c .before .before .before .before .before .walk-node .last .1 .1 .1 .1 .1 .1 .1 .1 .0)) (c .before .before .before .before .before .walk-node .ensures .0) (c .before .p .given .1))
 
 pub analyze-program-dependencies-spec : {M : Type 1} → statement M
 analyze-program-dependencies-spec =

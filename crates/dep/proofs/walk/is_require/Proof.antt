@@ -1,28 +1,35 @@
--- `is_require`: a node is the Name `require` if its head says so.
+-- `is_require`: what the check of the callee finds.
 use borrow.Author.Needs.{needs}
-use mathlib.Core.Path.{sym, _∙_}
+use mathlib.Core.Path.{_≡_, sym, ap, _∙_}
 use lib.ListN.{drop}
 use denote.Ref.{now}
+use Rattle.laws.proofs.Decoding.{refused, onOk-ok, onOk-no}
 use Rattle.laws.proofs.Steps.{seen}
-use Rattle.heads.specs.Views.{headAs}
-use Rattle.dep.proofs.Required.{require-by-head, no-head}
+use Rattle.sheet.specs.Nodes.{node}
+use Rattle.sheet.specs.Shape.{shape, isRequire}
+use Rattle.nodes.specs.Judged.{judged}
+use Rattle.nodes.specs.Answers.{checkedAs}
 use Rattle.dep.proofs.walk.is_require.Statement.{statement}
 use Rattle.dep.proofs.walk.is_require.Tie as tie
 
-names-require-requires : tie.Need-names-require-requires
-names-require-requires c κs = (rw (c .before .head .given .1) at (c .before .before .before .read-head .ensures .1)) .3
-
 returns : tie.Need-returns
 returns c =
-    let a = c .before .before .before .before .before .args in
+    let a = c .before .before .before .before .before .before .args in
     let s = now (a .sheet) in
-    λ n t is. absurd (no-head (now (a .source)) (a .levels) (drop (a .c .at) s) is (seen (headAs s) (c .before .before .read-head .ensures .0) (c .enum-told .given .1)))
+    let x = node (now (a .source)) (a .levels) (drop (a .c .at) s) in
+    let says = seen (checkedAs s) (c .before .before .before .check-node .ensures .0) (c .before .j .given .1) in
+    λ n t is.
+    let (m, found, gives) = onOk-ok judged x says in
+    let both = sym found ∙ is in
+    let same : m ≡ n = cc in
+    sym (ap (λ j. j .require) gives) ∙ ap (λ n. isRequire (shape n)) same
 
 returns-2 : tie.Need-returns-2
 returns-2 c =
-    let a = c .before .before .before .before .before .before .before .args in
+    let a = c .before .before .before .before .before .args in
     let s = now (a .sheet) in
-    λ n t is. c .names-require .ensures ∙ sym (require-by-head (now (a .source)) (a .levels) (drop (a .c .at) s) is (seen (headAs s) (c .before .before .before .before .read-head .ensures .0) (c .before .before .head .given .1)))
+    let x = node (now (a .source)) (a .levels) (drop (a .c .at) s) in
+    λ n t is. absurd (refused (sym (onOk-no judged x (seen (checkedAs s) (c .before .before .check-node .ensures .0) (c .enum-told .given .1))) ∙ is))
 
 pub is-require-spec : {M : Type 1} → statement M
-is-require-spec = tie.close (tie.spec (λ c κs. search needs) (λ c. search needs) (λ c. search needs) names-require-requires returns returns-2)
+is-require-spec = tie.close (tie.spec (λ c κs. search needs) (λ c. search needs) (λ c. search needs) returns returns-2)

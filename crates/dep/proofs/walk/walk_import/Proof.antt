@@ -1,5 +1,6 @@
 -- `walk_import`: the entry is that of the attributes that were read.
 use borrow.Author.Needs.{needs}
+use mathlib.Core.Path.{ap, _∙_}
 use lib.ListN.{drop}
 use denote.Ref.{now}
 use Rattle.laws.proofs.Decoding.{onOk-no}
@@ -8,8 +9,8 @@ use Rattle.sheet.specs.Nodes.{attributesObject}
 use Rattle.heads.specs.Rest.{behind}
 use Rattle.nodes.specs.Judged.{tallyWith}
 use Rattle.nodes.specs.Answers.{talliedAs}
-use Rattle.report.specs.World.{worldAs}
-use Rattle.dep.specs.Walk.{typesFrom}
+use Rattle.report.specs.Buffer.{bufferAs}
+use Rattle.dep.specs.Walk.{typesFrom, wroteEntries, staticOf}
 use Rattle.dep.proofs.Arms.{import-written}
 use Rattle.dep.proofs.walk.walk_import.Statement.{statement}
 use Rattle.dep.proofs.walk.walk_import.Tie as tie
@@ -24,13 +25,14 @@ returns c =
 
 returns-2 : tie.Need-returns-2
 returns-2 c =
-    let a = c .before .before .before .before .before .before .before .before .before .before .before .before .before .before .args in
+    let a = c .before .before .before .before .before .before .before .before .before .before .before .before .before .before .before .before .before .before .args in
     let s = now (a .sheet) in
     let source = now (a .source) in
     let types = typesFrom source (now (a .cs)) (now (a .gs)) (a .k) in
+    let w = bufferAs (now (a .out)) (a .p) in
     let x = behind (a .there) (attributesObject source (a .levels)) (drop (a .c .at) s) in
-    let past = rw (c .before .before .before .before .before .next .given .1) at (c .before .before .before .before .before .before .before .check-attributes .ensures .1) in
-    (import-written source types (worldAs (now (a .out)) (a .p)) s (a .d) x (seen (talliedAs s) (c .before .before .before .before .before .before .before .check-attributes .ensures .0) (c .before .before .before .before .before .next .given .1)) (c .before .before .put-import-entry .ensures), past .0)
+    let past = rw (c .before .before .before .before .before .before .before .before .before .next .given .1) at (c .before .before .before .before .before .before .before .before .before .before .before .check-attributes .ensures .1) in
+    (import-written source types w s (a .d) x (seen (talliedAs s) (c .before .before .before .before .before .before .before .before .before .before .before .check-attributes .ensures .0) (c .before .before .before .before .before .before .before .before .before .next .given .1)) (λ b t is. c .before .before .put-static-entry .ensures ∙ ap (λ y. wroteEntries w (staticOf source types s (a .d) y)) (c .before .before .before .before .before .before .parse-import-attributes .ensures .0 b t is)), past .0)
 
 pub walk-import-spec : {M : Type 1} → statement M
-walk-import-spec = tie.close (tie.spec (λ c κs. search needs) (λ c. search needs) (λ c. search needs) (λ c κs. search needs) returns (λ c. search needs) returns-2)
+walk-import-spec = tie.close (tie.spec (λ c κs. search needs) (λ c. search needs) (λ c. search needs) (λ c. search needs) (λ c κs. search needs) (λ c. search needs) (λ c κs. search needs) returns (λ c. search needs) returns-2)

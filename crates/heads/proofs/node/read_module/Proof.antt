@@ -2,26 +2,26 @@ use borrow.Author.Needs.{needs}
 use denote.Ref.{now}
 use Rattle.laws.proofs.Steps.{seen}
 use Rattle.wire.specs.Views.{flagAs, readAs}
+use Rattle.wire.specs.Optional.{optional}
 use Rattle.heads.specs.Views.{quotedAs}
 use Rattle.heads.specs.Head.{moduleStart}
-use Rattle.sheet.specs.Nodes.{optionalQuoted}
 use Rattle.heads.proofs.node.read_module.Statement.{statement}
 use Rattle.heads.proofs.node.read_module.Tie as tie
 
 returns : tie.Need-returns
-unfolding moduleStart optionalQuoted
+unfolding moduleStart optional
 returns c =
     let s = now (c .before .before .before .before .before .before .before .before .before .before .before .args .sheet) in
     (rw (seen (flagAs s) (c .before .before .before .before .before .before .before .before .flag .ensures .0) (c .before .before .before .before .before .before .named .given .1), c .before .before .before .before .if1 .taken, seen (quotedAs s) (c .before .before .before .read-quoted .ensures .0) (c .before .r2 .given .1)), tt)
 
 returns-2 : tie.Need-returns-2
-unfolding moduleStart optionalQuoted
+unfolding moduleStart optional
 returns-2 c =
     let s = now (c .before .before .before .before .before .before .before .before .before .before .before .before .before .before .before .args .sheet) in
     (rw (seen (flagAs s) (c .before .before .before .before .before .before .before .before .before .before .before .before .flag .ensures .0) (c .before .before .before .before .before .before .before .before .before .before .named .given .1), c .before .before .before .before .before .before .before .before .if1 .taken, seen (quotedAs s) (c .before .before .before .before .before .before .before .read-quoted .ensures .0) (c .before .before .before .before .before .x .given .1), seen (readAs s) (c .before .before .before .number .ensures .0) (c .before .r3 .given .1)), tt)
 
 returns-3 : tie.Need-returns-3
-unfolding moduleStart optionalQuoted
+unfolding moduleStart optional
 returns-3 c =
     let s = now (c .before .before .before .before .before .before .before .before .before .before .before .before .before .before .before .args .sheet) in
     let p1 = rw (c .before .before .before .before .before .before .before .before .before .before .named .given .1) at (c .before .before .before .before .before .before .before .before .before .before .before .before .flag .ensures .1) in
@@ -30,19 +30,19 @@ returns-3 c =
     (rw (seen (flagAs s) (c .before .before .before .before .before .before .before .before .before .before .before .before .flag .ensures .0) (c .before .before .before .before .before .before .before .before .before .before .named .given .1), c .before .before .before .before .before .before .before .before .if1 .taken, seen (quotedAs s) (c .before .before .before .before .before .before .before .read-quoted .ensures .0) (c .before .before .before .before .before .x .given .1), seen (readAs s) (c .before .before .before .number .ensures .0) (c .before .n .given .1)), search needs)
 
 returns-4 : tie.Need-returns-4
-unfolding moduleStart optionalQuoted
+unfolding moduleStart optional
 returns-4 c =
     let s = now (c .before .before .before .before .before .before .args .sheet) in
     (rw (seen (flagAs s) (c .before .before .before .flag .ensures .0) (c .before .r .given .1)), tt)
 
 returns-5 : tie.Need-returns-5
-unfolding moduleStart optionalQuoted
+unfolding moduleStart optional
 returns-5 c =
     let s = now (c .before .before .before .before .before .before .before .before .before .before .before .args .sheet) in
     (rw (seen (flagAs s) (c .before .before .before .before .before .before .before .before .flag .ensures .0) (c .before .before .before .before .before .before .named .given .1), c .before .before .before .before .if1 .left, seen (readAs s) (c .before .before .before .number2 .ensures .0) (c .before .r4 .given .1)), tt)
 
 returns-6 : tie.Need-returns-6
-unfolding moduleStart optionalQuoted
+unfolding moduleStart optional
 returns-6 c =
     let s = now (c .before .before .before .before .before .before .before .before .before .before .before .args .sheet) in
     let p1 = rw (c .before .before .before .before .before .before .named .given .1) at (c .before .before .before .before .before .before .before .before .flag .ensures .1) in

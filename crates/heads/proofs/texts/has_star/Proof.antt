@@ -4,7 +4,7 @@ use borrow.Author.Needs.{needs}
 use borrow.Author.Tests.{eq-eqb, ne-eqb}
 use lib.ListN.{length, drop}
 use denote.Ref.{now}
-use Rattle.sheet.specs.Walked.{hasStar}
+use Rattle.sheet.specs.Shape.{hasStar}
 use Rattle.heads.proofs.Stars.{star-or-later, no-star-left}
 use Rattle.heads.proofs.texts.has_star.Statement.{statement}
 use Rattle.heads.proofs.texts.has_star.Tie as tie

@@ -24,8 +24,8 @@ returns-2 c =
       ordered = tt;
     }
 
-parse-with-requires : tie.Need-parse-with-requires
-parse-with-requires c κs = inside (c .before .before .before .quote-at .ensures) (c .before .end .given .1) .2
+parse-attributes-requires : tie.Need-parse-attributes-requires
+parse-attributes-requires c κs = inside (c .before .before .before .quote-at .ensures) (c .before .end .given .1) .2
 
 returns-3 : tie.Need-returns-3
 unfolding parseFrom
@@ -36,7 +36,7 @@ returns-3 c =
             ← c .before .before .before .before .before .before .before .before .before .before .before .before .before .skip-whitespace .ensures .0,
             read (c .before .before .before .before .before .before .before .before .before .before .before .word .ensures) (c .before .before .before .before .before .before .before .before .before .start .given .1),
             read (c .before .before .before .before .before .before .before .quote-at .ensures) (c .before .before .before .before .before .end .given .1),
-            read (c .before .before .before .parse-with .ensures) (c .before .mode .given .1),
+            read (c .before .before .before .parse-attributes .ensures) (c .before .mode .given .1),
           );
       ordered = inside (c .before .before .before .before .before .before .before .quote-at .ensures) (c .before .before .before .before .before .end .given .1) .2;
     }
@@ -50,7 +50,7 @@ returns-4 c =
             ← c .before .before .before .before .before .before .before .before .before .before .before .before .skip-whitespace .ensures .0,
             read (c .before .before .before .before .before .before .before .before .before .before .word .ensures) (c .before .before .before .before .before .before .before .before .start .given .1),
             read (c .before .before .before .before .before .before .quote-at .ensures) (c .before .before .before .before .end .given .1),
-            read (c .before .before .parse-with .ensures) (c .enum-told3 .given .1),
+            read (c .before .before .parse-attributes .ensures) (c .enum-told3 .given .1),
           );
       ordered = inside (c .before .before .before .before .before .before .quote-at .ensures) (c .before .before .before .before .end .given .1) .2;
     }
@@ -69,7 +69,7 @@ parse-from-spec =
     (λ c. search needs)
     (λ c. search needs)
     returns-2
-    parse-with-requires
+    parse-attributes-requires
     (λ c. search needs)
     (λ c. search needs)
     returns-3

@@ -1,29 +1,38 @@
 use borrow.Author.Needs.{needs}
 use native.Mathlib.Omega.{arith}
-use mathlib.Core.Path.{_≡_, refl}
-use Prim.Native.Nat.{ℕ, _<_, _-_}
-use lib.ListN.{length, getD, length-set}
-use Rattle.jsdoc.proofs.Marked.{zero-more, zero-all}
+use mathlib.Core.Path.{_≡_, refl, _∙_}
+use mathlib.Core.List.{_++_, append-nil}
+use Prim.Native.Nat.{_-_, _≤_}
+use lib.ListN.{length, drop, replicate, length-set, drop-of-length-le}
+use borrow.Author.Fill.{fill-none, fill-more}
+use denote.Ref.{now}
 use Rattle.jsdoc.proofs.imports.clear.Statement.{statement}
 use Rattle.jsdoc.proofs.imports.clear.Tie as tie
 
 abbrev Inv-loop : tie.InvT-loop
-Inv-loop marks₀ i₀ marks i = (length marks ≡ length marks₀) × ((q : ℕ) → q < i → getD marks q 0 ≡ 0)
+Inv-loop marks₀ i₀ marks i = (i ≤ length marks₀) × (length marks ≡ length marks₀) × (marks ≡ replicate i 0 ++ drop i marks₀)
 
 abbrev μ-loop : tie.MeasureT-loop
 μ-loop marks₀ i₀ marks i = length marks - i
 
 loop-holds : tie.Need-loop-holds Inv-loop μ-loop
-loop-holds c = (refl, λ q h. absurd (omega arith))
+loop-holds c = (omega arith, refl, fill-none (now (c .args .marks)) 0)
 
 loop-less : tie.Need-loop-less Inv-loop μ-loop
 loop-less c = simp length-set (omega arith)
 
 loop-again : tie.Need-loop-again Inv-loop μ-loop
-loop-again c = (simp length-set (c .before .loop .inv .0), zero-more (c .before .loop .marks) (c .before .loop .i) (c .loop-test .taken) (c .before .loop .inv .1))
+loop-again c =
+    let l = c .before .loop in
+    (omega arith, simp length-set (l .inv .1), rw (l .inv .2) (fill-more (l .i) 0 (now (c .before .before .args .marks)) (omega arith)))
 
 returns : tie.Need-returns Inv-loop μ-loop
-returns c = (c .before .loop .inv .0, zero-all (c .before .loop .marks) (c .before .loop .i) (c .loop-test .left) (c .before .loop .inv .1))
+returns c =
+    let l = c .before .loop in
+    let marks = now (c .before .before .args .marks) in
+    let all : l .i ≡ length marks = omega arith in
+    let none : length marks ≤ l .i = omega arith in
+    l .inv .2 ∙ rw (drop-of-length-le marks none, append-nil, all)
 
 pub clear-spec : {M : Type 1} → statement M
 clear-spec =

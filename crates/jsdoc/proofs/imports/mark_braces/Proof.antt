@@ -1,7 +1,8 @@
 use borrow.Author.Needs.{needs}
 use native.Mathlib.Omega.{arith}
+use mathlib.Core.Path.{sym, ap, _∙_}
 use Prim.Native.Nat.{_≤_, _-_}
-use lib.ListN.{length, length-drop}
+use lib.ListN.{length, length-drop, length-replicate}
 use denote.Ref.{now}
 use Rattle.jsdoc.specs.Grammar.{Brace}
 use Rattle.jsdoc.specs.Marks.{Marks}
@@ -18,7 +19,7 @@ abbrev μ-loop : tie.MeasureT-loop
 μ-loop body marks₀ i₀ marks i = length body - i
 
 loop-holds : tie.Need-loop-holds Inv-loop μ-loop
-loop-holds c = (search needs, marks-none _ _ (c .before .before .pre .0) (c .before .before .pre .1))
+loop-holds c = (search needs, rw (c .before .before .pre) (marks-none _))
 
 mark-requires : tie.Need-mark-requires Inv-loop μ-loop
 mark-requires c κs =
@@ -51,6 +52,9 @@ loop-again c =
 loop-again-2 : tie.Need-loop-again-2 Inv-loop μ-loop
 loop-again-2 c = (omega arith, no-brace-turn _ (c .before .before .before .loop .i) (c .before .before .before .loop .inv .1) (c .before .before .loop-test .taken) (c .if1 .left))
 
+same-length : tie.Need-same-length Inv-loop μ-loop
+same-length c = c .before .loop .inv .1 .same ∙ sym (ap length (c .before .before .before .before .pre) ∙ length-replicate _ 0)
+
 returns : tie.Need-returns Inv-loop μ-loop
 returns c = braces-all _ (c .before .loop .i) (c .before .loop .inv .1) (c .loop-test .left)
 
@@ -73,5 +77,5 @@ mark-braces-spec =
     (λ c. search needs)
     (λ c. search needs)
     loop-again-2
-    (λ c. search needs)
+    same-length
     returns)

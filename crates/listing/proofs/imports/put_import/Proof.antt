@@ -3,15 +3,14 @@ use mathlib.Core.Path.{sym}
 use native.Mathlib.Omega.{arith}
 use denote.Ref.{now}
 use Rattle.jsdoc.proofs.Answered.{read, inside}
-use Rattle.report.specs.Encode.{each}
-use Rattle.report.proofs.Worlds.{wrote-append, wrote-cons, wrote-nil}
+use Rattle.report.proofs.Buffers.{wrote-append, wrote-cons, wrote-nil}
 use Rattle.listing.specs.Imports.{importAt}
 use Rattle.listing.proofs.Turns.{encode-import}
 use Rattle.listing.proofs.imports.put_import.Statement.{statement}
 use Rattle.listing.proofs.imports.put_import.Tie as tie
 
 returns : tie.Need-returns
-unfolding importAt each
+unfolding importAt
 returns c = rw (read (c .before .before .quote-at .ensures) (c .enum-told .given .1)) (sym (wrote-nil (now (c .before .before .before .before .before .before .args .out)) (c .before .before .before .before .before .before .args .place)))
 
 sub-put-specifier : tie.Need-sub-put-specifier

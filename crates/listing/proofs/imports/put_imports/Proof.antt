@@ -4,9 +4,10 @@ use Prim.Native.Nat.{_-_}
 use native.Mathlib.Omega.{arith}
 use lib.ListN.{length, drop, drop-of-length-le}
 use denote.Ref.{now}
-use Rattle.report.specs.Encode.{each, encodeJsDoc}
-use Rattle.report.specs.World.{wrote, worldAs}
-use Rattle.report.proofs.Worlds.{wrote-append, wrote-nil}
+use mathlib.Core.List.{flatMap}
+use Rattle.report.specs.Encode.{encodeJsDoc}
+use Rattle.report.specs.Buffer.{wrote, bufferAs}
+use Rattle.report.proofs.Buffers.{wrote-append, wrote-nil}
 use Rattle.listing.specs.Imports.{importsFrom}
 use Rattle.listing.proofs.Turns.{unmarked-next, marked-next}
 use Rattle.listing.proofs.imports.put_imports.Statement.{statement}
@@ -14,7 +15,7 @@ use Rattle.listing.proofs.imports.put_imports.Tie as tie
 
 abbrev Inv-loop : tie.InvT-loop
 Inv-loop source index marks out₀ p₀ q₀ out p q =
-    (length out ≡ length out₀) × (wrote (worldAs out₀ p₀) (each encodeJsDoc (importsFrom source 0 marks)) ≡ wrote (worldAs out p) (each encodeJsDoc (importsFrom source q (drop q marks))))
+    (length out ≡ length out₀) × (wrote (bufferAs out₀ p₀) (flatMap encodeJsDoc (importsFrom source 0 marks)) ≡ wrote (bufferAs out p) (flatMap encodeJsDoc (importsFrom source q (drop q marks))))
 
 abbrev μ-loop : tie.MeasureT-loop
 μ-loop source index marks out₀ p₀ q₀ out p q = length marks - q
@@ -33,7 +34,7 @@ loop-again-2 c =
     (c .before .before .put-import .kept .1 .1 .1 .1 .0 ∙ l .inv .0, l .inv .1 ∙ rw (marked-next _ _ (l .q) (c .before .before .before .before .before .before .loop-test .taken) (c .before .before .before .before .if1 .left), wrote-append, ← c .before .before .put-import .ensures))
 
 returns : tie.Need-returns Inv-loop μ-loop
-unfolding importsFrom each
+unfolding importsFrom flatMap
 returns c =
     let l = c .before .loop in
     let marks = now (c .before .before .before .before .before .before .args .marks) in

@@ -1,9 +1,10 @@
 use borrow.Author.Needs.{needs}
 use denote.Ref.{now}
 use Rattle.sheet.proofs.Members.{placed-within}
-use Rattle.sheet.proofs.Marks.{roomy}
+use Rattle.sheet.proofs.Marks.{holds-marks}
+use Rattle.sheet.proofs.Bodies.{placed-body}
 use Rattle.pragmas.specs.Readings.{specifierIn}
-use Rattle.pragmas.proofs.Captures.{body-long, capture-within}
+use Rattle.pragmas.proofs.Captures.{capture-within}
 use Rattle.pragmas.proofs.readings.put_capture.Statement.{statement}
 use Rattle.pragmas.proofs.readings.put_capture.Tie as tie
 
@@ -11,13 +12,13 @@ comment-source-to-span-requires : tie.Need-comment-source-to-span-requires
 comment-source-to-span-requires c κs =
     let h = c .before .before .before .pre .1 in
     let source = now (c .before .before .before .args .source) in
-    (roomy source (c .before .before .before .args .c) (h .placed), rw (body-long source (c .before .before .before .args .c) (h .placed) .0) at (h .inside))
+    (holds-marks source (c .before .before .before .args .c) (h .placed), rw (placed-body source (c .before .before .before .args .c) (h .placed) .long) at (h .inside))
 
 body-requires : tie.Need-body-requires
 body-requires c κs =
     let placed = c .before .before .before .before .pre .1 .placed in
     let source = now (c .before .before .before .before .args .source) in
-    (roomy source (c .before .before .before .before .args .c) placed, placed-within source (c .before .before .before .before .args .c) placed)
+    (holds-marks source (c .before .before .before .before .args .c) placed, placed-within source (c .before .before .before .before .args .c) placed)
 
 specifier-requires : tie.Need-specifier-requires
 specifier-requires c κs = rw (c .body .ensures) (c .before .before .before .before .before .pre .1 .inside)

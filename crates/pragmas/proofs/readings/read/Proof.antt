@@ -1,13 +1,13 @@
 use borrow.Author.Needs.{needs}
 use Rattle.laws.proofs.Steps.{known}
 use Rattle.sheet.proofs.Members.{placed-within}
-use Rattle.sheet.proofs.Marks.{roomy}
+use Rattle.sheet.proofs.Marks.{holds-marks}
 use Rattle.pragmas.specs.Readings.{readBy}
 use Rattle.pragmas.proofs.readings.read.Statement.{statement}
 use Rattle.pragmas.proofs.readings.read.Tie as tie
 
 body-requires : tie.Need-body-requires
-body-requires c κs = let placed = c .before .before .before .pre in (roomy _ _ placed, placed-within _ _ placed)
+body-requires c κs = let placed = c .before .before .before .pre in (holds-marks _ _ placed, placed-within _ _ placed)
 
 returns : tie.Need-returns
 unfolding readBy

@@ -1,9 +1,10 @@
 use borrow.Author.Needs.{needs}
 use native.Mathlib.Omega.{arith}
 use denote.Ref.{now}
+use mathlib.Core.List.{flatMap}
 use Rattle.wire.specs.Number.{encodeGroups, encodeNumber}
-use Rattle.report.specs.Encode.{each, encodeList}
-use Rattle.report.proofs.Worlds.{wrote-append}
+use Rattle.report.specs.Encode.{encodeList}
+use Rattle.report.proofs.Buffers.{wrote-append}
 use Rattle.pragmas.specs.Readings.{allOf}
 use Rattle.pragmas.specs.Pragmas.{referencesIn}
 use Rattle.pragmas.proofs.Between.{group-from}
@@ -38,7 +39,7 @@ returns c =
     (c .before .before .put-between .ensures)
 
 returns-2 : tie.Need-returns-2
-unfolding encodeList referencesIn allOf each encodeNumber encodeGroups
+unfolding encodeList referencesIn allOf flatMap encodeNumber encodeGroups
 returns-2 c = rw (c .before .before .before .before .enum-told .given .1) (c .before .before .put .ensures)
 
 pub analyze-ts-references-spec : {M : Type 1} → statement M

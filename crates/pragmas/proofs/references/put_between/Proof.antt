@@ -4,13 +4,14 @@ use mathlib.Core.Path.{_≡_, sym, _∙_}
 use Prim.Native.Nat.{_-_}
 use lib.ListN.{length}
 use denote.Ref.{now}
+use mathlib.Core.List.{flatMap}
 use Rattle.sheet.proofs.Members.{row-placed}
-use Rattle.report.specs.Encode.{each, encodeReference}
-use Rattle.report.specs.World.{wrote, worldAs}
-use Rattle.report.proofs.Worlds.{wrote-append, wrote-nil}
+use Rattle.report.specs.Encode.{encodeReference}
+use Rattle.report.specs.Buffer.{wrote, bufferAs}
+use Rattle.report.proofs.Buffers.{wrote-append, wrote-nil}
 use Rattle.pragmas.specs.Readings.{allOf}
 use Rattle.pragmas.specs.Pragmas.{reference}
-use Rattle.pragmas.specs.Rules.{commentsFrom}
+use Rattle.pragmas.specs.Views.{commentsFrom}
 use Rattle.pragmas.proofs.Between.{all-next, all-none, listed-each}
 use Rattle.pragmas.proofs.references.put_between.Statement.{statement}
 use Rattle.pragmas.proofs.references.put_between.Tie as tie
@@ -18,8 +19,8 @@ use Rattle.pragmas.proofs.references.put_between.Tie as tie
 abbrev Inv-loop : tie.InvT-loop
 Inv-loop source comments n index start end out₀ p₀ i₀ out p i =
     (length out ≡ length out₀)
-    × (wrote (worldAs out₀ p₀) (each encodeReference (allOf (reference source) (commentsFrom comments start end)))
-    ≡ wrote (worldAs out p) (each encodeReference (allOf (reference source) (commentsFrom comments i end))))
+    × (wrote (bufferAs out₀ p₀) (flatMap encodeReference (allOf (reference source) (commentsFrom comments start end)))
+    ≡ wrote (bufferAs out p) (flatMap encodeReference (allOf (reference source) (commentsFrom comments i end))))
 
 abbrev μ-loop : tie.MeasureT-loop
 μ-loop source comments n index start end out₀ p₀ i₀ out p i = end - i
@@ -40,7 +41,7 @@ loop-again c =
     (c .before .before .put-reference .kept .1 .1 .1 .1 .0 ∙ l .inv .0, l .inv .1 ∙ rw (step, listed-each, wrote-append, ← c .before .before .before .before .read-reference .ensures .0, ← c .before .before .put-reference .ensures))
 
 returns : tie.Need-returns Inv-loop μ-loop
-unfolding each
+unfolding flatMap
 returns c =
     let a = c .before .before .before .before .before .before .args in
     let l = c .before .loop in

@@ -2,7 +2,7 @@ use borrow.Author.Needs.{needs}
 use mathlib.Core.Path.{sym}
 use denote.Ref.{now}
 use Rattle.report.specs.Encode.{encodeReference}
-use Rattle.report.proofs.Worlds.{wrote-append, wrote-cons, wrote-nil}
+use Rattle.report.proofs.Buffers.{wrote-append, wrote-cons, wrote-nil}
 use Rattle.pragmas.proofs.references.put_reference.Statement.{statement}
 use Rattle.pragmas.proofs.references.put_reference.Tie as tie
 

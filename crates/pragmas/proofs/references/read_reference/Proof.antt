@@ -2,7 +2,7 @@ use borrow.Author.Needs.{needs}
 use borrow.Author.Tests.{eq-eqb, ne-eqb}
 use Rattle.laws.proofs.Steps.{known}
 use Rattle.sheet.proofs.Members.{placed-within}
-use Rattle.sheet.proofs.Marks.{roomy}
+use Rattle.sheet.proofs.Marks.{holds-marks}
 use Rattle.pragmas.specs.Pragmas.{modeIn, reference}
 use Rattle.pragmas.proofs.references.read_reference.Statement.{statement}
 use Rattle.pragmas.proofs.references.read_reference.Tie as tie
@@ -12,7 +12,7 @@ unfolding reference
 returns c = (rw (ne-eqb _ _ (c .if1 .taken)), tt)
 
 body-requires : tie.Need-body-requires
-body-requires c κs = let placed = c .before .before .before .pre in (roomy _ _ placed, placed-within _ _ placed)
+body-requires c κs = let placed = c .before .before .before .pre in (holds-marks _ _ placed, placed-within _ _ placed)
 
 returns-2 : tie.Need-returns-2
 unfolding reference

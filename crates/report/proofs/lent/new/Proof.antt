@@ -1,5 +1,5 @@
 -- `lent::new` meets its contract: a walk of its MIR, by hand. The borrow of the buffer goes into the result as it is, beside the place at its start.
--- The parameter is spent: the result names its lifetime, so nothing is had of it at exit, and `buf .entry` is all that the contract can say.
+-- The parameter is spent: the result names its lifetime, so nothing is had of it at exit, and `out .entry` is all that the contract can say.
 -- Assumes nothing.
 use mathlib.Core.Path.{refl}
 use Prim.Native.Nat.{ℕ}

@@ -4,7 +4,7 @@ use denote.Ref.{now}
 use Rattle.laws.proofs.Steps.{known, seen}
 use Rattle.wire.specs.Views.{readAs}
 use Rattle.sheet.specs.Comments.{comment}
-use Rattle.sheet.proofs.Judged.{end-within}
+use Rattle.sheet.proofs.Judged.{end-codec}
 use Rattle.sheet.proofs.comments.read_comment.Statement.{statement}
 use Rattle.sheet.proofs.comments.read_comment.Tie as tie
 
@@ -17,17 +17,17 @@ returns c =
 sub-is-marked : tie.Need-sub-is-marked
 sub-is-marked c =
     let a = c .before .before .before .before .before .before .before .before .before .before .before .before .before .before .before .args in
-    end-within _ _ _ (seen (readAs (now (a .sheet))) (c .before .before .before .read-end .ensures .0) (c .before .end .given .1)) .0
+    end-codec _ _ .sound _ _ _ (seen (readAs (now (a .sheet))) (c .before .before .before .read-end .ensures .0) (c .before .end .given .1)) .1 .1
 
 part-is-marked-start : tie.Need-part-is-marked-start
 part-is-marked-start c =
     let a = c .before .before .before .before .before .before .before .before .before .before .before .before .before .before .before .args in
-    end-within _ _ _ (seen (readAs (now (a .sheet))) (c .before .before .before .read-end .ensures .0) (c .before .end .given .1)) .0
+    end-codec _ _ .sound _ _ _ (seen (readAs (now (a .sheet))) (c .before .before .before .read-end .ensures .0) (c .before .end .given .1)) .1 .1
 
 part-is-marked-end : tie.Need-part-is-marked-end
 part-is-marked-end c =
     let a = c .before .before .before .before .before .before .before .before .before .before .before .before .before .before .before .args in
-    end-within _ _ _ (seen (readAs (now (a .sheet))) (c .before .before .before .read-end .ensures .0) (c .before .end .given .1)) .1
+    end-codec _ _ .sound _ _ _ (seen (readAs (now (a .sheet))) (c .before .before .before .read-end .ensures .0) (c .before .end .given .1)) .1 .0 .boundary .0
 
 returns-2 : tie.Need-returns-2
 unfolding comment

@@ -10,7 +10,7 @@ use Rattle.sheet.specs.Tables.{commentIn}
 use Rattle.sheet.specs.Views.{commentAs}
 use Rattle.sheet.proofs.Stores.{comment-table}
 use Rattle.sheet.proofs.Filling.{Filling, fill-none, fill-stop, fill-more, fill-all}
-use Rattle.sheet.proofs.Judged.{comment-ok}
+use Rattle.sheet.proofs.Judged.{comment-codec}
 use Rattle.sheet.proofs.comments.read_comments.Statement.{statement}
 use Rattle.sheet.proofs.comments.read_comments.Tie as tie
 
@@ -33,7 +33,7 @@ returns c =
 put-comment-requires : tie.Need-put-comment-requires Inv-loop μ-loop
 put-comment-requires c κs =
     let a = c .before .before .before .before .before .before .before .before .before .before .args in
-    let judged = comment-ok (now (a .source)) _ _ (seen (commentAs (now (a .sheet))) (c .before .before .before .before .read-comment .ensures) (c .before .before .found .given .1)) in
+    let judged = comment-codec (now (a .source)) _ .sound _ _ _ (seen (commentAs (now (a .sheet))) (c .before .before .before .before .read-comment .ensures) (c .before .before .found .given .1)) .1 in
     let kind = judged .placed .kind in
     (omega (arith, c .before .before .before .before .before .before .before .before .before .before .pre, c .before .before .before .before .before .before .loop .inv .0), (omega arith, omega (arith, judged .small .0), omega (arith, judged .small .1)))
 

@@ -3,7 +3,7 @@ use native.Mathlib.Omega.{arith}
 use borrow.Author.Tests.{le-leb, lt-leb}
 use lib.ListN.{length}
 use denote.Ref.{now}
-use Rattle.sheet.specs.Fields.{isBoundary}
+use Rattle.text.specs.Position.{isBoundary}
 use Rattle.sheet.proofs.Places.{at-or-past}
 use Rattle.sheet.proofs.fields.is_boundary.Statement.{statement}
 use Rattle.sheet.proofs.fields.is_boundary.Tie as tie

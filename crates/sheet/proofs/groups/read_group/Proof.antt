@@ -3,15 +3,15 @@ use denote.Ref.{now}
 use native.Mathlib.Omega.{arith}
 use Rattle.laws.proofs.Steps.{known, seen}
 use Rattle.wire.specs.Views.{readAs}
+use Rattle.wire.proofs.NumberCodec.{number-codec}
 use Rattle.sheet.specs.Comments.{group}
-use Rattle.sheet.proofs.Judged.{number-ok}
 use Rattle.sheet.proofs.groups.read_group.Statement.{statement}
 use Rattle.sheet.proofs.groups.read_group.Tie as tie
 
 reaches-requires : tie.Need-reaches-requires
 reaches-requires c κs =
     let s = now (c .before .before .before .before .before .before .before .before .before .before .before .before .before .before .before .before .before .before .before .before .args .sheet) in
-    (omega (arith, number-ok _ (seen (readAs s) (c .before .before .before .before .before .before .before .number .ensures .0) (c .before .before .before .before .before .first .given .1))), omega (arith, number-ok _ (seen (readAs s) (c .before .before .before .number2 .ensures .0) (c .before .count .given .1))))
+    (omega (arith, number-codec .sound _ _ _ (seen (readAs s) (c .before .before .before .before .before .before .before .number .ensures .0) (c .before .before .before .before .before .first .given .1)) .1), omega (arith, number-codec .sound _ _ _ (seen (readAs s) (c .before .before .before .number2 .ensures .0) (c .before .count .given .1)) .1))
 
 returns : tie.Need-returns
 unfolding group

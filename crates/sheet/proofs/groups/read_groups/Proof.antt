@@ -10,7 +10,7 @@ use Rattle.sheet.specs.Tables.{groupIn}
 use Rattle.sheet.specs.Views.{afterAs, groupAs}
 use Rattle.sheet.proofs.Stores.{group-table}
 use Rattle.sheet.proofs.Filling.{Filling, fill-none, fill-stop, fill-more, fill-all}
-use Rattle.sheet.proofs.Judged.{group-ok}
+use Rattle.sheet.proofs.Judged.{group-codec}
 use Rattle.sheet.proofs.groups.read_groups.Statement.{statement}
 use Rattle.sheet.proofs.groups.read_groups.Tie as tie
 
@@ -33,7 +33,7 @@ returns c =
 put-group-requires : tie.Need-put-group-requires Inv-loop μ-loop
 put-group-requires c κs =
     let a = c .before .before .before .before .before .before .before .before .before .before .args in
-    let ranged = group-ok (now (a .source)) _ _ _ (seen (groupAs (now (a .sheet))) (c .before .before .before .before .read-group .ensures) (c .before .before .g .given .1)) in
+    let ranged = group-codec (now (a .source)) _ _ .sound _ _ _ (seen (groupAs (now (a .sheet))) (c .before .before .before .before .read-group .ensures) (c .before .before .g .given .1)) .1 in
     let side = ranged .reaching .side in
     (omega (arith, c .before .before .before .before .before .before .before .before .before .before .pre, c .before .before .before .before .before .before .loop .inv .0), (omega arith, omega (arith, ranged .small .0), omega (arith, ranged .small .1), omega (arith, ranged .small .2)))
 

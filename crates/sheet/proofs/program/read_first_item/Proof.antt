@@ -2,30 +2,30 @@ use borrow.Author.Needs.{needs}
 use denote.Ref.{now}
 use Rattle.laws.proofs.Steps.{seen}
 use Rattle.wire.specs.Views.{readAs, flagAs}
-use Rattle.sheet.specs.Program.{firstItem}
+use Rattle.wire.specs.Optional.{optional}
 use Rattle.sheet.proofs.program.read_first_item.Statement.{statement}
 use Rattle.sheet.proofs.program.read_first_item.Tie as tie
 
 returns : tie.Need-returns
-unfolding firstItem
+unfolding optional
 returns c =
     let s = now (c .before .before .before .before .before .before .args .sheet) in
     rw (seen (flagAs s) (c .before .before .before .flag .ensures .0) (c .before .r .given .1))
 
 returns-2 : tie.Need-returns-2
-unfolding firstItem
+unfolding optional
 returns-2 c =
     let s = now (c .before .before .before .before .before .before .before .before .before .before .before .args .sheet) in
     rw (seen (flagAs s) (c .before .before .before .before .before .before .before .before .flag .ensures .0) (c .before .before .before .before .before .before .there .given .1), c .before .before .before .before .if1 .taken, seen (readAs s) (c .before .before .before .read-position .ensures .0) (c .before .r2 .given .1))
 
 returns-3 : tie.Need-returns-3
-unfolding firstItem
+unfolding optional
 returns-3 c =
     let s = now (c .before .before .before .before .before .before .before .before .before .before .before .args .sheet) in
     rw (seen (flagAs s) (c .before .before .before .before .before .before .before .before .flag .ensures .0) (c .before .before .before .before .before .before .there .given .1), c .before .before .before .before .if1 .taken, seen (readAs s) (c .before .before .before .read-position .ensures .0) (c .before .p .given .1))
 
 returns-4 : tie.Need-returns-4
-unfolding firstItem
+unfolding optional
 returns-4 c =
     let s = now (c .before .before .before .before .before .before .before .args .sheet) in
     rw (seen (flagAs s) (c .before .before .before .before .flag .ensures .0) (c .before .before .there .given .1), c .if1 .left)

@@ -8,13 +8,13 @@ use lib.ListN.{getD, drop}
 use denote.Ref.{now}
 use Rattle.laws.proofs.Steps.{known}
 use Rattle.wire.specs.Number.{number, lastGroup, groups}
-use Rattle.wire.proofs.Groups.{none-left, cut-off, next-group, Place, first-place, scale-small, group-small, next-place}
+use Rattle.wire.proofs.Groups.{none-left, cut-off, next-group, PlaceValue, first-place, scale-small, group-small, next-place}
 use Rattle.wire.proofs.Cursor.number.Statement.{statement}
 use Rattle.wire.proofs.Cursor.number.Tie as tie
 
 abbrev Inv-loop : tie.InvT-loop
 Inv-loop sheet at₀ left₀ scale₀ low₀ at left scale low =
-    (at₀ ≤ at) × Place left scale low × (number (drop at₀ sheet) ≡ groups left scale low (drop at sheet))
+    (at₀ ≤ at) × PlaceValue left scale low × (number (drop at₀ sheet) ≡ groups left scale low (drop at sheet))
 
 abbrev μ-loop : tie.MeasureT-loop
 μ-loop sheet at₀ left₀ scale₀ low₀ at left scale low = left

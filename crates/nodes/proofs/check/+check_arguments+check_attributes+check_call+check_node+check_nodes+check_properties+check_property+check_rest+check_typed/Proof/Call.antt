@@ -5,14 +5,14 @@ use native.Mathlib.Omega.{arith}
 use lib.ListN.{length, drop}
 use denote.Ref.{now}
 use Rattle.laws.specs.Decoded.{onOk, _>>=_}
-use Rattle.laws.proofs.Decoding.{onOk-no}
+use Rattle.laws.proofs.Decoding.{onOk-no, then-no}
 use Rattle.laws.proofs.Steps.{seen}
 use Rattle.wire.specs.Number.{number}
 use Rattle.wire.specs.Views.{readAs}
 use Rattle.sheet.specs.Nodes.{node, nodes, arguments}
 use Rattle.nodes.specs.Judged.{passed, passedAll, callParts}
 use Rattle.nodes.specs.Answers.{passedAs}
-use Rattle.nodes.proofs.Arms.{pair, arguments-nodes, then-no}
+use Rattle.nodes.proofs.Arms.{pair, arguments-nodes}
 use Rattle.nodes.proofs.Rooms.{room, nodes-past}
 use Rattle.nodes.proofs.check.check_call.Reads as check-call
 use Rattle.nodes.proofs.check.+check_arguments+check_attributes+check_call+check_node+check_nodes+check_properties+check_property+check_rest+check_typed.Lts-check_call as check-call-lts

@@ -11,7 +11,7 @@ use Rattle.laws.proofs.Decoding.{onOk-no}
 use Rattle.laws.proofs.Steps.{seen}
 use Rattle.wire.specs.Views.{flagAs}
 use Rattle.sheet.specs.Tree.{other, object, importDecl, exportFrom, exportAll, moduleDecl}
-use Rattle.sheet.specs.Walked.{anyUncooked}
+use Rattle.sheet.specs.Shape.{anyUncooked}
 use Rattle.sheet.specs.Nodes.{many, piece, node, nodes, properties, attributesObject}
 use Rattle.heads.specs.Rest.{behind}
 use Rattle.heads.specs.Views.{quotedOf}

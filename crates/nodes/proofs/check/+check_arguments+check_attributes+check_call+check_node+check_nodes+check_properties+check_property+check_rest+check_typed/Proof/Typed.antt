@@ -5,13 +5,13 @@ use native.Mathlib.Omega.{arith}
 use lib.ListN.{length, drop}
 use denote.Ref.{now}
 use Rattle.laws.specs.Decoded.{onOk, _>>=_}
-use Rattle.laws.proofs.Decoding.{onOk-no}
+use Rattle.laws.proofs.Decoding.{onOk-no, then-no}
 use Rattle.laws.proofs.Steps.{seen}
 use Rattle.wire.specs.Views.{flagAs}
 use Rattle.sheet.specs.Nodes.{node, nodes, attributes, attributesObject}
 use Rattle.nodes.specs.Judged.{tallyAll, tallyTyped, typedParts}
 use Rattle.nodes.specs.Answers.{talliedAs}
-use Rattle.nodes.proofs.Arms.{pair, nodes-attributes, then-no}
+use Rattle.nodes.proofs.Arms.{pair, nodes-attributes}
 use Rattle.nodes.proofs.Rooms.{room, joined-past}
 use Rattle.nodes.proofs.check.check_typed.Reads as check-typed
 use Rattle.nodes.proofs.check.+check_arguments+check_attributes+check_call+check_node+check_nodes+check_properties+check_property+check_rest+check_typed.Lts-check_typed as check-typed-lts

@@ -41,7 +41,7 @@ use denote.Signature.Struct.{inStruct, makes}
 use Rattle.report.specs.declared.lent.Writer.{Writer}
 use Rattle.report.specs.declared.writer.Place.{Place}
 use Rattle.report.specs.declared.writer.Outcome.{Outcome}
-use Rattle.report.specs.World.{worldAs}
+use Rattle.report.specs.Buffer.{bufferAs}
 use Rattle.report.specs.Answer.{answered, outcomeAs}
 use Rattle.report.proofs.lent.Writer as T
 use Rattle.report.proofs.lent.Writer.Laws as T′
@@ -97,7 +97,7 @@ module _ {M : Type 1} (𝓤 : URA M) (H : Heap 𝓤) (A : Atoms 𝓤) (W : Given
   to-end = (((κ, tt), (q, tt), tt, (x, (p, tt)), (s ∷ [], (u ∷ [], tt))), tt)
 
   abbrev Said : Outcome → List ℕ → Type 0
-  Said r zs = outcomeAs r zs ≡ answered (length ys) (worldAs ys p)
+  Said r zs = outcomeAs r zs ≡ answered (length ys) (bufferAs ys p)
 
   goes : ent 𝓤 (sep 𝓤 (sep 𝓤 (A .lft κ q) (sem 𝓤 H A ftrue)) (sem 𝓤 H A (MutSlice (named 0) κ u8 .own x (s ∷ [])))) (AtEnd 𝓤 H A mem run .pre to-end)
   goes =

@@ -1,7 +1,7 @@
 use borrow.Author.Needs.{needs}
 use denote.Ref.{now}
-use Rattle.report.specs.World.{wrote}
-use Rattle.report.proofs.Worlds.{put-room, put-none}
+use Rattle.report.specs.Buffer.{wrote}
+use Rattle.report.proofs.Buffers.{put-room, put-none}
 use Rattle.report.proofs.writer.Place.put.Statement.{statement}
 use Rattle.report.proofs.writer.Place.put.Tie as tie
 

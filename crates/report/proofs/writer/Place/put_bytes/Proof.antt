@@ -5,13 +5,13 @@ use native.Mathlib.Numerals.{add-one}
 use lib.ListN.{length, drop, drop-of-length-le}
 use lib.Seq.{drop-cons}
 use denote.Ref.{now}
-use Rattle.report.specs.World.{wrote, worldAs}
-use Rattle.report.proofs.Worlds.{wrote-cons, wrote-nil}
+use Rattle.report.specs.Buffer.{wrote, bufferAs}
+use Rattle.report.proofs.Buffers.{wrote-cons, wrote-nil}
 use Rattle.report.proofs.writer.Place.put_bytes.Statement.{statement}
 use Rattle.report.proofs.writer.Place.put_bytes.Tie as tie
 
 abbrev Inv-loop : tie.InvT-loop
-Inv-loop out₀ s p₀ i₀ out p i = (length out ≡ length out₀) × (wrote (worldAs out₀ p₀) s ≡ wrote (worldAs out p) (drop i s))
+Inv-loop out₀ s p₀ i₀ out p i = (length out ≡ length out₀) × (wrote (bufferAs out₀ p₀) s ≡ wrote (bufferAs out p) (drop i s))
 
 abbrev μ-loop : tie.MeasureT-loop
 μ-loop out₀ s p₀ i₀ out p i = length s - i

@@ -7,13 +7,13 @@ use denote.Ref.{now}
 use Rattle.laws.proofs.Steps.{known}
 use Rattle.text.specs.Lossy.{lossy, replacing}
 use Rattle.text.proofs.Replaced.{marked, copied}
-use Rattle.report.specs.World.{wrote, worldAs}
-use Rattle.report.proofs.Worlds.{wrote-append, wrote-cons, wrote-nil}
+use Rattle.report.specs.Buffer.{wrote, bufferAs}
+use Rattle.report.proofs.Buffers.{wrote-append, wrote-cons, wrote-nil}
 use Rattle.report.proofs.writer.Place.put_lossy.Statement.{statement}
 use Rattle.report.proofs.writer.Place.put_lossy.Tie as tie
 
 abbrev Inv-loop : tie.InvT-loop
-Inv-loop out₀ s p₀ i₀ out p i = (length out ≡ length out₀) × (wrote (worldAs out₀ p₀) (lossy s) ≡ wrote (worldAs out p) (lossy (drop i s)))
+Inv-loop out₀ s p₀ i₀ out p i = (length out ≡ length out₀) × (wrote (bufferAs out₀ p₀) (lossy s) ≡ wrote (bufferAs out p) (lossy (drop i s)))
 
 abbrev μ-loop : tie.MeasureT-loop
 μ-loop out₀ s p₀ i₀ out p i = length s - i
@@ -23,7 +23,7 @@ loop-again c =
     let l = c .before .before .before .before .before .before .before .loop in
     let s = now (c .before .before .before .before .before .before .before .before .before .before .args .s) in
     let found = known (c .before .before .before .before .before .surrogate-at .ensures) (c .before .before .before .before .if1 .taken) in
-    let on = wrote-append (worldAs (l .out) (l .p)) (0xEF ∷ 0xBF ∷ 0xBD ∷ []) (lossy (drop (l .i + 3) s)) in
+    let on = wrote-append (bufferAs (l .out) (l .p)) (0xEF ∷ 0xBF ∷ 0xBD ∷ []) (lossy (drop (l .i + 3) s)) in
     (c .before .before .put-replacement .kept .1 .0 ∙ l .inv .0, l .inv .1 ∙ rw (marked s (l .i) (c .before .before .before .before .before .before .loop-test .taken) found, on, ← (c .before .before .put-replacement .ensures)))
 
 loop-again-2 : tie.Need-loop-again-2 Inv-loop μ-loop

@@ -2,7 +2,7 @@ use borrow.Author.Needs.{needs}
 use denote.Ref.{now}
 use Rattle.text.proofs.Replaced.{lossy-length}
 use Rattle.wire.specs.Text.{encodeText}
-use Rattle.report.proofs.Worlds.{wrote-append}
+use Rattle.report.proofs.Buffers.{wrote-append}
 use Rattle.report.proofs.writer.Place.put_lossy_text.Statement.{statement}
 use Rattle.report.proofs.writer.Place.put_lossy_text.Tie as tie
 

@@ -2,14 +2,14 @@ use borrow.Author.Needs.{needs}
 use mathlib.Core.Path.{_≡_, sym, _∙_}
 use lib.ListN.{length}
 use Rattle.wire.specs.Number.{encodeGroups, encodeNumber}
-use Rattle.report.specs.World.{wrote, worldAs}
-use Rattle.report.proofs.Worlds.{wrote-cons, wrote-nil}
+use Rattle.report.specs.Buffer.{wrote, bufferAs}
+use Rattle.report.proofs.Buffers.{wrote-cons, wrote-nil}
 use Rattle.report.proofs.Numbers.{no-group, last-group, next-group}
 use Rattle.report.proofs.writer.Place.put_number.Statement.{statement}
 use Rattle.report.proofs.writer.Place.put_number.Tie as tie
 
 abbrev Inv-loop : tie.InvT-loop
-Inv-loop out₀ n p₀ left₀ rest₀ out p left rest = (length out ≡ length out₀) × (wrote (worldAs out₀ p₀) (encodeNumber n) ≡ wrote (worldAs out p) (encodeGroups left rest))
+Inv-loop out₀ n p₀ left₀ rest₀ out p left rest = (length out ≡ length out₀) × (wrote (bufferAs out₀ p₀) (encodeNumber n) ≡ wrote (bufferAs out p) (encodeGroups left rest))
 
 abbrev μ-loop : tie.MeasureT-loop
 μ-loop out₀ n p₀ left₀ rest₀ out p left rest = left

@@ -1,6 +1,6 @@
 use borrow.Author.Needs.{needs}
 use Rattle.report.specs.Encode.{encodePosition}
-use Rattle.report.proofs.Worlds.{wrote-append}
+use Rattle.report.proofs.Buffers.{wrote-append}
 use Rattle.report.proofs.writer.Place.put_position.Statement.{statement}
 use Rattle.report.proofs.writer.Place.put_position.Tie as tie
 

@@ -1,5 +1,5 @@
 use borrow.Author.Needs.{needs}
-use Rattle.report.proofs.Worlds.{wrote-cons}
+use Rattle.report.proofs.Buffers.{wrote-cons}
 use Rattle.report.proofs.writer.Place.put_replacement.Statement.{statement}
 use Rattle.report.proofs.writer.Place.put_replacement.Tie as tie
 

@@ -1,6 +1,6 @@
 use borrow.Author.Needs.{needs}
 use Rattle.wire.specs.Text.{encodeText}
-use Rattle.report.proofs.Worlds.{wrote-append}
+use Rattle.report.proofs.Buffers.{wrote-append}
 use Rattle.report.proofs.writer.Place.put_text.Statement.{statement}
 use Rattle.report.proofs.writer.Place.put_text.Tie as tie
 

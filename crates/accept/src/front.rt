@@ -1,0 +1,140 @@
+// What stands in front of the program: the media byte, the source, and the tables of comments and groups.
+use sheet::comments::Filled;
+use sheet::comments::read_comments;
+use sheet::covering::is_covered;
+use sheet::groups::read_groups;
+use text::utf8::Encoding;
+use wire::Cursor;
+use wire::Read;
+use wire::Text;
+ghost use mathlib.Core.Path.{_≡_};
+ghost use Prim.Native.Nat.{_≤_};
+ghost use lib.ListN.{length, drop};
+ghost use Rattle.accept.specs.Pieces.{sourceFields, commentFields, groupFields, front};
+ghost use Rattle.accept.specs.Views.{sourceAs, commentTableAs, groupTableAs, frontAs, WithinSource, WithinFront};
+
+// The media byte and where the source starts, with the cursor at its end, or a refusal's number.
+pub enum SourceRead {
+    Is(usize, usize, Cursor),
+    Refused(u8),
+}
+
+// How many rows a table was filled with, and the cursor past them, or a refusal's number.
+pub enum Counted {
+    Is(usize, Cursor),
+    Refused(u8),
+}
+
+// The media byte, the source from a place of the sheet to another, and how many rows the tables of comments and groups have.
+pub struct Front {
+    pub media: usize,
+    pub source_start: usize,
+    pub source_end: usize,
+    pub comments: usize,
+    pub groups: usize,
+}
+
+// What stands in front of the program with the cursor past it, or a refusal's number.
+pub enum FrontRead {
+    Is(Front, Cursor),
+    Refused(u8),
+}
+
+// The media byte and the source.
+fn read_source(sheet: &[u8]) -> SourceRead
+    ensures { λ r. ⌜ sourceAs (now (sheet .entry)) r ≡ sourceFields (now (sheet .entry)) ⌝ }
+    ensures { λ r. ⌜ WithinSource (length (now (sheet .entry))) r ⌝ }
+{
+    let c = Cursor { at: 0 };
+    match c.below(sheet, 11) {
+        Read::Refused(r) => SourceRead::Refused(r),
+        Read::Value(media, next) => match next.text(sheet, Encoding::Utf8, 32768) {
+            Text::Refused(r) => SourceRead::Refused(r),
+            Text::From(start, next) => SourceRead::Is(media, start, next),
+        },
+    }
+}
+
+// Reads the comments into a table.
+fn read_comment_table(sheet: &[u8], source: &[u8], c: Cursor, table: &mut [u32]) -> Counted
+    requires { ⌜ 3072 ≤ length (now table) ⌝ }
+    ensures { λ r. ⌜ commentTableAs (now (sheet .entry)) (now (table .exit)) r
+        ≡ commentFields (now (source .entry)) (drop (c .at) (now (sheet .entry))) ⌝ }
+{
+    match c.count(sheet, 1024) {
+        Read::Refused(r) => Counted::Refused(r),
+        Read::Value(n, next) => match read_comments(sheet, source, next, n, table) {
+            Filled::Refused(r) => Counted::Refused(r),
+            Filled::To(next) => Counted::Is(n, next),
+        },
+    }
+}
+
+// Reads the groups of n comments into a table; `longest` is lent to work in.
+fn read_group_table(
+    sheet: &[u8],
+    source: &[u8],
+    c: Cursor,
+    n: usize,
+    table: &mut [u32],
+    longest: &mut [u32],
+) -> Counted
+    requires { ⌜ 4096 ≤ length (now table) ⌝ }
+    requires { ⌜ n ≤ length (now longest) ⌝ }
+    ensures { λ r. ⌜ groupTableAs (now (sheet .entry)) (now (table .exit)) r
+        ≡ groupFields (now (source .entry)) n (drop (c .at) (now (sheet .entry))) ⌝ }
+{
+    match c.count(sheet, 1024) {
+        Read::Refused(r) => Counted::Refused(r),
+        Read::Value(m, next) => match read_groups(sheet, source, next, n, m, table) {
+            Filled::Refused(r) => Counted::Refused(r),
+            Filled::To(next) => {
+                if is_covered(table, m, n, longest) {
+                    Counted::Is(m, next)
+                } else {
+                    Counted::Refused(7)
+                }
+            }
+        },
+    }
+}
+
+// Reads all that stands in front of the program.
+pub fn read_front(
+    sheet: &[u8],
+    comments: &mut [u32],
+    groups: &mut [u32],
+    longest: &mut [u32],
+) -> FrontRead
+    requires { ⌜ 3072 ≤ length (now comments) ⌝ }
+    requires { ⌜ 4096 ≤ length (now groups) ⌝ }
+    requires { ⌜ 1024 ≤ length (now longest) ⌝ }
+    ensures { λ r. ⌜ frontAs (now (sheet .entry)) (now (comments .exit)) (now (groups .exit)) r ≡ front (now (sheet .entry)) ⌝ }
+    ensures { λ r. ⌜ WithinFront (length (now (sheet .entry))) r ⌝ }
+{
+    match read_source(sheet) {
+        SourceRead::Refused(r) => FrontRead::Refused(r),
+        SourceRead::Is(media, source_start, next) => {
+            let source_end = next.at;
+            let source = &sheet[source_start..source_end];
+            match read_comment_table(sheet, source, next, comments) {
+                Counted::Refused(r) => FrontRead::Refused(r),
+                Counted::Is(n, next) => {
+                    match read_group_table(sheet, source, next, n, groups, longest) {
+                        Counted::Refused(r) => FrontRead::Refused(r),
+                        Counted::Is(m, next) => FrontRead::Is(
+                            Front {
+                                media,
+                                source_start,
+                                source_end,
+                                comments: n,
+                                groups: m,
+                            },
+                            next,
+                        ),
+                    }
+                }
+            }
+        }
+    }
+}

@@ -1,0 +1,123 @@
+-- What holds of each entry that a node of a tree can have holds of all dependencies of the tree.
+use mathlib.Core.Bool.{Bool, true, false, cond}
+use mathlib.Core.List.{List, [], _∷_, _++_}
+use mathlib.Core.Option.{Option}
+use Prim.Native.Nat.{ℕ, _≤_}
+use native.Mathlib.Omega.{arith}
+use lib.Dec.{eqb}
+use Rattle.laws.specs.Codec.{All}
+use Rattle.sheet.specs.declared.fields.Span.{Span}
+use Rattle.sheet.specs.Tree.{Quoted, Node, other, string, name, template, binary, object, importCall, call, importDecl, namedExport, exportFrom, exportAll, importType, importEquals, importRequire, moduleDecl, Nodes, none, more, Arguments, noArguments, argument, Properties, noProperties, spread, otherProperty, childKey, stringKey, nameKey, Attributes, without, withObject}
+use Rattle.sheet.specs.Shape.{shape, isRequire, isAugmentation}
+use Rattle.report.specs.ModuleInfo.{SpecifierWithRange, ImportAttributes, DependencyDescriptor}
+use Rattle.report.specs.Ascending.{KeysAscend}
+use Rattle.attributes.specs.Attributes.{staticAttributes, typeAttributes}
+use Rattle.attributes.proofs.Ascending.{static-ascends, type-ascends}
+use Rattle.dep.specs.Collect.{importKind, exportKind, equalsKind, dynamicKind, staticEntry, callEntry, moduleEntry, collect, collectAll, collectOf, collectIn, collectWith}
+
+-- a list of which each is so
+pub record Each (P : DependencyDescriptor → Type 0) (l : List DependencyDescriptor) : Type 0 where
+  pub each : All P l
+
+module _ {P : DependencyDescriptor → Type 0} where
+  infixr 20 _followed-by_
+  _followed-by_ : {l m : List DependencyDescriptor} → Each P l → Each P m → Each P (l ++ m)
+  _followed-by_ {l = l} {m = m} p q = record { each = go l (p .each) }
+    where
+      go : (l : List DependencyDescriptor) → All P l → All P (l ++ m)
+      go [] a = q .each
+      go (d ∷ l) a = (a .0, go l (a .1))
+
+  nothing : Each P []
+  nothing = record { each = tt }
+
+  pub single : {d : DependencyDescriptor} → P d → Each P (d ∷ [])
+  single p = record { each = (p, tt) }
+
+  if-listed : (b : Bool) {l : List DependencyDescriptor} → Each P l → Each P (cond b l [])
+  if-listed true p = p
+  if-listed false p = nothing
+
+-- the kinds
+import-kind : (typeOnly : Bool) (a b : Bool) → cond typeOnly 3 (cond a 2 (cond b 1 0)) ≤ 8
+import-kind true a b = omega arith
+import-kind false true b = omega arith
+import-kind false false true = omega arith
+import-kind false false false = omega arith
+
+export-kind : (typeOnly : Bool) → exportKind typeOnly ≤ 8
+export-kind true = omega arith
+export-kind false = omega arith
+
+equals-kind : (typeOnly export : Bool) → equalsKind typeOnly export ≤ 8
+equals-kind true export = omega arith
+equals-kind false true = omega arith
+equals-kind false false = omega arith
+
+dynamic-kind : (a b : Bool) → (9 ≤ cond a 11 (cond b 10 9)) × (cond a 11 (cond b 10 9) ≤ 12)
+dynamic-kind true b = omega arith
+dynamic-kind false true = omega arith
+dynamic-kind false false = omega arith
+
+module _ (source : List ℕ) (types : ℕ → Option SpecifierWithRange) (P : DependencyDescriptor → Type 0)
+    (of-static : (kind : ℕ) (sp : Span) (x : Quoted) (sideEffect : Bool) (a : ImportAttributes) → KeysAscend a → kind ≤ 8
+    → P (staticEntry source types kind sp x sideEffect a))
+    (of-dynamic : (kind : ℕ) (sp : Span) (dots : Bool) (at : Span) (n : Node) (xs : Arguments) → (9 ≤ kind) × (kind ≤ 12)
+    → Each P (callEntry source types kind sp (argument dots at n xs))) where
+  of-call : (kind : ℕ) (sp : Span) (xs : Arguments) → (9 ≤ kind) × (kind ≤ 12) → Each P (callEntry source types kind sp xs)
+  unfolding callEntry
+  of-call kind sp noArguments k = nothing
+  of-call kind sp (argument dots at n xs) k = of-dynamic kind sp dots at n xs k
+
+  of-module : (sp : Span) (x : Option Quoted) → Each P (moduleEntry source types sp x)
+  unfolding moduleEntry
+  of-module sp Option.none = nothing
+  of-module sp (Option.some x) = if-listed (isAugmentation (x .text)) (single (of-static 8 sp x false ImportAttributes.none tt (omega arith)))
+
+  mutual
+    unfolding collect
+
+    pub collect-each : (n : Node) → Each P (collect source types n)
+    collect-each (other sp ns) = nodes-each ns
+    collect-each (string sp x) = nothing
+    collect-each (name sp x) = nothing
+    collect-each (template sp ps ns) = nodes-each ns
+    collect-each (binary sp plus l r) = collect-each l followed-by collect-each r
+    collect-each (object sp ps) = properties-each ps
+    collect-each (importCall sp phase xs ns) =
+        arguments-each xs followed-by nodes-each ns followed-by of-call (dynamicKind phase) sp xs (dynamic-kind (eqb phase 1) (eqb phase 2))
+    collect-each (call sp e xs ns) =
+        collect-each e
+        followed-by arguments-each xs followed-by nodes-each ns followed-by if-listed (isRequire (shape e)) (of-call 12 sp xs (omega arith))
+    collect-each (importDecl sp typeOnly phase sideEffect x a) =
+        single
+        (of-static (importKind typeOnly phase) sp x sideEffect (staticAttributes a) (static-ascends a) (import-kind typeOnly (eqb phase 1) (eqb phase 2)))
+    collect-each (namedExport sp typeOnly) = nothing
+    collect-each (exportFrom sp typeOnly x a) = single (of-static (exportKind typeOnly) sp x false (staticAttributes a) (static-ascends a) (export-kind typeOnly))
+    collect-each (exportAll sp typeOnly x a) = single (of-static (exportKind typeOnly) sp x false (staticAttributes a) (static-ascends a) (export-kind typeOnly))
+    collect-each (importType sp x ns a) =
+        single (of-static 3 sp x false (typeAttributes a) (type-ascends a) (omega arith)) followed-by nodes-each ns followed-by attributes-each a
+    collect-each (importEquals sp) = nothing
+    collect-each (importRequire sp typeOnly export x) =
+        single (of-static (equalsKind typeOnly export) sp x false ImportAttributes.none tt (equals-kind typeOnly export))
+    collect-each (moduleDecl sp x ns) = of-module sp x followed-by nodes-each ns
+
+    nodes-each : (ns : Nodes) → Each P (collectAll source types ns)
+    nodes-each none = nothing
+    nodes-each (more n ns) = collect-each n followed-by nodes-each ns
+
+    arguments-each : (xs : Arguments) → Each P (collectOf source types xs)
+    arguments-each noArguments = nothing
+    arguments-each (argument dots sp n xs) = collect-each n followed-by arguments-each xs
+
+    properties-each : (ps : Properties) → Each P (collectIn source types ps)
+    properties-each noProperties = nothing
+    properties-each (spread n ps) = collect-each n followed-by properties-each ps
+    properties-each (otherProperty n ps) = collect-each n followed-by properties-each ps
+    properties-each (childKey k v ps) = collect-each k followed-by collect-each v followed-by properties-each ps
+    properties-each (stringKey k v ps) = collect-each v followed-by properties-each ps
+    properties-each (nameKey k v ps) = collect-each v followed-by properties-each ps
+
+    attributes-each : (a : Attributes) → Each P (collectWith source types a)
+    attributes-each without = nothing
+    attributes-each (withObject sp ps) = properties-each ps

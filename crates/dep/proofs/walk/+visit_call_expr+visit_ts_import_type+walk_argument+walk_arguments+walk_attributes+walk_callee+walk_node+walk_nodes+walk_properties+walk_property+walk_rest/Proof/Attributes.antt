@@ -1,0 +1,53 @@
+-- `walk_attributes`: an Object that holds attributes is its head and its properties.
+use mathlib.Core.Path.{refl, sym, ap, _∙_}
+use Prim.Native.Nat.{ℕ, _-_}
+use native.Mathlib.Omega.{arith}
+use lib.ListN.{drop}
+use denote.Ref.{now}
+use Rattle.laws.specs.Decoded.{ok}
+use Rattle.laws.proofs.Steps.{seen}
+use Rattle.laws.proofs.Decoding.{built}
+use Rattle.sheet.specs.Tree.{withObject}
+use Rattle.sheet.specs.Nodes.{node, properties}
+use Rattle.heads.specs.Views.{attributesAs}
+use Rattle.heads.proofs.ByHead.{attributes-by-head}
+use Rattle.report.specs.Buffer.{bufferAs}
+use Rattle.dep.specs.Collect.{collect}
+use Rattle.dep.specs.Walk.{typesFrom, afterProperties, afterWith}
+use Rattle.dep.proofs.Wrote.{entries-nil}
+use Rattle.dep.proofs.walk.walk_attributes.Reads as walk-attributes
+use Rattle.dep.proofs.walk.+visit_call_expr+visit_ts_import_type+walk_argument+walk_arguments+walk_attributes+walk_callee+walk_node+walk_nodes+walk_properties+walk_property+walk_rest.Lts-walk_attributes as walk-attributes-lts
+use Rattle.dep.proofs.walk.+visit_call_expr+visit_ts_import_type+walk_argument+walk_arguments+walk_attributes+walk_callee+walk_node+walk_nodes+walk_properties+walk_property+walk_rest.Proof.Calls.{walk-attributes-at, walk-attributes-calls}
+
+pub sub-walk-properties : (t : ℕ) → walk-attributes-lts.Need-sub-walk-properties (walk-attributes-calls t) (walk-attributes-at t) walk-attributes.Post
+sub-walk-properties t c = (rw (c .before .n .given .1) at (c .before .before .before .read-attributes .ensures .1)) .0
+
+pub walk-properties-requires : (t : ℕ) → walk-attributes-lts.Need-walk-properties-requires (walk-attributes-calls t) (walk-attributes-at t) walk-attributes.Post
+walk-properties-requires t c κs =
+    let past = rw (c .before .before .n .given .1) at (c .before .before .before .before .read-attributes .ensures .1) in
+    (omega arith, (c .before .before .before .before .before .before .before .before .before .before .before .before .pre .1 .0, past .2))
+
+pub returns : (t : ℕ) → walk-attributes-lts.Need-returns (walk-attributes-calls t) (walk-attributes-at t) walk-attributes.Post
+returns t c =
+    let a = c .before .before .before .before .before .before .before .before .before .before .before .args in
+    let s = now (a .sheet) in
+    let source = now (a .source) in
+    (rw (c .before .before .before .before .if1 .taken, attributes-by-head source (a .levels) (drop (a .c .at) s), seen (attributesAs s) (c .before .before .before .read-attributes .ensures .0) (c .before .r .given .1)), tt)
+
+pub returns-2 : (t : ℕ) → walk-attributes-lts.Need-returns-2 (walk-attributes-calls t) (walk-attributes-at t) walk-attributes.Post
+unfolding collect
+returns-2 t c =
+    let a = c .before .before .before .before .before .before .before .before .before .before .before .before .before .before .before .args in
+    let s = now (a .sheet) in
+    let source = now (a .source) in
+    let types = typesFrom source (now (a .cs)) (now (a .gs)) (a .k) in
+    let w = bufferAs (now (a .out)) (a .p) in
+    let h = c .before .before .before .before .before .n .given .0 in
+    (rw (c .before .before .before .before .before .before .before .before .if1 .taken, attributes-by-head source (a .levels) (drop (a .c .at) s), seen (attributesAs s) (c .before .before .before .before .before .before .before .read-attributes .ensures .0) (c .before .before .before .before .before .n .given .1)) (c .before .before .walk-properties .ensures .0 ∙ built (afterProperties source types w) (afterWith source types w) (withObject (h .0)) (λ ps. refl) (properties (node source (a .levels - 1)) (h .1 .0) (drop (h .1 .1 .0 .at) s))), c .before .before .walk-properties .ensures .1)
+
+pub returns-3 : (t : ℕ) → walk-attributes-lts.Need-returns-3 (walk-attributes-calls t) (walk-attributes-at t) walk-attributes.Post
+unfolding collect
+returns-3 t c =
+    let a = c .before .before .before .before .before .before .before .args in
+    let s = now (a .sheet) in
+    (rw (c .if1 .left) (sym (ap (λ w. ok w (drop (a .c .at) s)) (entries-nil (now (a .out)) (a .p)))), c .before .before .before .before .before .before .before .pre .1 .1)

@@ -1,0 +1,104 @@
+-- `visit_call_expr`: arguments, further children, and then the call's entry.
+use mathlib.Core.Path.{_≡_, sym, ap, _∙_}
+use Prim.Native.Nat.{ℕ, _+_, _*_, _<_}
+use native.Mathlib.Omega.{arith}
+use lib.ListN.{drop}
+use denote.Ref.{now}
+use Rattle.laws.specs.Decoded.{onOk, _>>=_}
+use Rattle.laws.proofs.Decoding.{onOk-no, then-no}
+use Rattle.laws.proofs.Steps.{seen}
+use Rattle.wire.specs.Number.{number}
+use Rattle.wire.specs.Views.{readAs}
+use Rattle.sheet.specs.Nodes.{node, nodes, arguments}
+use Rattle.nodes.specs.Judged.{callParts}
+use Rattle.nodes.proofs.Arms.{pair}
+use Rattle.report.specs.Buffer.{bufferAs}
+use Rattle.dep.specs.Walk.{typesFrom, walkedAs, afterNodes, afterArguments, afterCall}
+use Rattle.dep.proofs.Arms.{call-walked}
+use Rattle.dep.proofs.walk.visit_call_expr.Reads as visit-call-expr
+use Rattle.dep.proofs.walk.+visit_call_expr+visit_ts_import_type+walk_argument+walk_arguments+walk_attributes+walk_callee+walk_node+walk_nodes+walk_properties+walk_property+walk_rest.Lts-visit_call_expr as visit-call-expr-lts
+use Rattle.dep.proofs.walk.+visit_call_expr+visit_ts_import_type+walk_argument+walk_arguments+walk_attributes+walk_callee+walk_node+walk_nodes+walk_properties+walk_property+walk_rest.Proof.Calls.{visit-call-expr-at, visit-call-expr-calls}
+
+pub walk-arguments-requires : (t : ℕ) → visit-call-expr-lts.Need-walk-arguments-requires (visit-call-expr-calls t) (visit-call-expr-at t) visit-call-expr.Post
+walk-arguments-requires t c κs =
+    let past = rw (c .before .before .n .given .1) at (c .before .before .before .before .number .ensures .1) in
+    (omega arith, (c .before .before .before .before .before .before .before .before .before .before .before .pre .1, past .1))
+
+pub walk-nodes-requires : (t : ℕ) → visit-call-expr-lts.Need-walk-nodes-requires (visit-call-expr-calls t) (visit-call-expr-at t) visit-call-expr.Post
+walk-nodes-requires t c κs =
+    let past = rw (c .before .before .m .given .1) at (c .before .before .before .before .number2 .ensures .1) in
+    let is : 6 * (c .before .before .before .before .before .before .before .before .before .before .before .before .before .before .before .before .before .before .before .before .before .before .args .levels) + 3 ≡ t = c .before .before .before .before .before .before .before .before .before .before .before .before .before .before .before .before .before .before .before .before .before .before .pre .0 in
+    let less : 6 * (c .before .before .before .before .before .before .before .before .before .before .before .before .before .before .before .before .before .before .before .before .before .before .args .levels) + 1 < t = omega (arith, is) in
+    (less, (c .before .before .before .before .before .before .before .before .before .before .before .before .before .before .before .before .before .before .before .before .before .before .pre .1, past .1))
+
+pub put-call-entry-requires : (t : ℕ) → visit-call-expr-lts.Need-put-call-entry-requires (visit-call-expr-calls t) (visit-call-expr-at t) visit-call-expr.Post
+put-call-entry-requires t c κs = c .before .before .before .before .before .before .before .before .before .before .before .before .before .before .before .before .before .before .before .before .before .before .before .before .before .before .before .before .before .pre .1
+
+pub returns : (t : ℕ) → visit-call-expr-lts.Need-returns (visit-call-expr-calls t) (visit-call-expr-at t) visit-call-expr.Post
+unfolding callParts
+returns t c =
+    let a = c .before .before .before .before .before .before .before .before .before .before .args in
+    let s = now (a .sheet) in
+    (rw (seen (readAs s) (c .before .before .before .number .ensures .0) (c .before .r .given .1)), tt)
+
+pub returns-2 : (t : ℕ) → visit-call-expr-lts.Need-returns-2 (visit-call-expr-calls t) (visit-call-expr-at t) visit-call-expr.Post
+unfolding callParts
+returns-2 t c =
+    let a = c .before .before .before .before .before .before .before .before .before .before .before .before .before .before .before .before .before .args in
+    let s = now (a .sheet) in
+    let source = now (a .source) in
+    let types = typesFrom source (now (a .cs)) (now (a .gs)) (a .k) in
+    let w = bufferAs (now (a .out)) (a .p) in
+    let inner = node source (a .levels) in
+    let (n, next) = c .before .before .before .before .before .before .before .before .n .given .0 in
+    let xs = arguments inner source n (drop (next .0 .at) s) in
+    (rw (seen (readAs s) (c .before .before .before .before .before .before .before .before .before .before .number .ensures .0) (c .before .before .before .before .before .before .before .before .n .given .1), onOk-no (afterArguments source types w) xs (seen (walkedAs s (c .before .before .before .before .before .walk-arguments .last .1 .1 .1 .1 .1 .1 .1 .1 .1 .0)) (c .before .before .before .before .before .walk-arguments .ensures .0) (c .before .r2 .given .1))), tt)
+
+pub returns-3 : (t : ℕ) → visit-call-expr-lts.Need-returns-3 (visit-call-expr-calls t) (visit-call-expr-at t) visit-call-expr.Post
+unfolding callParts
+returns-3 t c =
+    let a = c .before .before .before .before .before .before .before .before .before .before .before .before .before .before .before .before .before .before .before .before .before .args in
+    let s = now (a .sheet) in
+    let source = now (a .source) in
+    let types = typesFrom source (now (a .cs)) (now (a .gs)) (a .k) in
+    let w = bufferAs (now (a .out)) (a .p) in
+    let inner = node source (a .levels) in
+    let (n, next) = c .before .before .before .before .before .before .before .before .before .before .before .before .n .given .0 in
+    let xs = arguments inner source n (drop (next .0 .at) s) in
+    let cut = seen (readAs s) (c .before .before .before .number2 .ensures .0) (c .before .r4 .given .1) in
+    let none = then-no (afterArguments source types w) xs (seen (walkedAs s (c .before .before .before .before .before .before .before .before .before .walk-arguments .last .1 .1 .1 .1 .1 .1 .1 .1 .1 .0)) (c .before .before .before .before .before .before .before .before .before .walk-arguments .ensures .0) (c .before .before .before .before .before .r3 .given .1)) (λ xs. number >>= λ m. nodes inner m >>= pair xs) (c .before .r4 .given .0 .0) (λ xs. rw cut) in
+    (rw (seen (readAs s) (c .before .before .before .before .before .before .before .before .before .before .before .before .before .before .number .ensures .0) (c .before .before .before .before .before .before .before .before .before .before .before .before .n .given .1)) (sym (ap (onOk (afterCall source types (a .d) w)) none)), tt)
+
+pub returns-4 : (t : ℕ) → visit-call-expr-lts.Need-returns-4 (visit-call-expr-calls t) (visit-call-expr-at t) visit-call-expr.Post
+unfolding callParts
+returns-4 t c =
+    let a = c .before .before .before .before .before .before .before .before .before .before .before .before .before .before .before .before .before .before .before .before .before .before .before .before .before .before .before .before .args in
+    let s = now (a .sheet) in
+    let source = now (a .source) in
+    let types = typesFrom source (now (a .cs)) (now (a .gs)) (a .k) in
+    let w = bufferAs (now (a .out)) (a .p) in
+    let inner = node source (a .levels) in
+    let (n, next) = c .before .before .before .before .before .before .before .before .before .before .before .before .before .before .before .before .before .before .before .n .given .0 in
+    let xs = arguments inner source n (drop (next .0 .at) s) in
+    let (m, after) = c .before .before .before .before .before .before .before .before .m .given .0 in
+    let w1 = bufferAs (c .before .before .before .before .before .before .before .before .before .before .before .before .before .before .before .before .walk-arguments .last .1 .1 .1 .1 .1 .1 .1 .1 .1 .0) (c .before .before .before .before .before .before .before .before .before .before .before .before .r3 .given .0 .0) in
+    let cut = onOk-no (afterNodes source types w1) (nodes inner m (drop (after .0 .at) s)) (seen (walkedAs s (c .before .before .before .before .before .walk-nodes .last .1 .1 .1 .1 .1 .1 .1 .1 .1 .0)) (c .before .before .before .before .before .walk-nodes .ensures .0) (c .before .r5 .given .1)) in
+    let none = then-no (afterArguments source types w) xs (seen (walkedAs s (c .before .before .before .before .before .before .before .before .before .before .before .before .before .before .before .before .walk-arguments .last .1 .1 .1 .1 .1 .1 .1 .1 .1 .0)) (c .before .before .before .before .before .before .before .before .before .before .before .before .before .before .before .before .walk-arguments .ensures .0) (c .before .before .before .before .before .before .before .before .before .before .before .before .r3 .given .1)) (λ xs. number >>= λ m. nodes inner m >>= pair xs) (c .before .r5 .given .0 .0) (λ xs. rw (seen (readAs s) (c .before .before .before .before .before .before .before .before .before .before .number2 .ensures .0) (c .before .before .before .before .before .before .before .before .m .given .1), cut)) in
+    (rw (seen (readAs s) (c .before .before .before .before .before .before .before .before .before .before .before .before .before .before .before .before .before .before .before .before .before .number .ensures .0) (c .before .before .before .before .before .before .before .before .before .before .before .before .before .before .before .before .before .before .before .n .given .1)) (sym (ap (onOk (afterCall source types (a .d) w)) none)), tt)
+
+pub same-length-4 : (t : ℕ) → visit-call-expr-lts.Need-same-length-4 (visit-call-expr-calls t) (visit-call-expr-at t) visit-call-expr.Post
+same-length-4 t c = c .before .before .put-call-entry .kept .1 .1 .1 .1 .1 .1 .1 .1 .1 .1 .0 ∙ (c .before .before .before .before .before .before .before .before .before .walk-nodes .kept .1 .1 .1 .1 .1 .1 .1 .1 .1 .0 ∙ c .before .before .before .before .before .before .before .before .before .before .before .before .before .before .before .before .before .before .before .before .walk-arguments .kept .1 .1 .1 .1 .1 .1 .1 .1 .1 .0)
+
+pub returns-5 : (t : ℕ) → visit-call-expr-lts.Need-returns-5 (visit-call-expr-calls t) (visit-call-expr-at t) visit-call-expr.Post
+unfolding callParts
+returns-5 t c =
+    let a = c .before .before .before .before .before .before .before .before .before .before .before .before .before .before .before .before .before .before .before .before .before .before .before .before .before .before .before .before .before .before .before .before .args in
+    let s = now (a .sheet) in
+    let source = now (a .source) in
+    let types = typesFrom source (now (a .cs)) (now (a .gs)) (a .k) in
+    let w = bufferAs (now (a .out)) (a .p) in
+    let inner = node source (a .levels) in
+    let (n, next) = c .before .before .before .before .before .before .before .before .before .before .before .before .before .before .before .before .before .before .before .before .before .before .before .n .given .0 in
+    let xs = arguments inner source n (drop (next .0 .at) s) in
+    let past = rw (c .before .before .before .before .before .r6 .given .1) at (c .before .before .before .before .before .before .before .before .before .walk-nodes .ensures .1) in
+    (rw (seen (readAs s) (c .before .before .before .before .before .before .before .before .before .before .before .before .before .before .before .before .before .before .before .before .before .before .before .before .before .number .ensures .0) (c .before .before .before .before .before .before .before .before .before .before .before .before .before .before .before .before .before .before .before .before .before .before .before .n .given .1)) (call-walked source types w (a .d) inner xs (seen (walkedAs s (c .before .before .before .before .before .before .before .before .before .before .before .before .before .before .before .before .before .before .before .before .walk-arguments .last .1 .1 .1 .1 .1 .1 .1 .1 .1 .0)) (c .before .before .before .before .before .before .before .before .before .before .before .before .before .before .before .before .before .before .before .before .walk-arguments .ensures .0) (c .before .before .before .before .before .before .before .before .before .before .before .before .before .before .before .before .r3 .given .1)) (seen (readAs s) (c .before .before .before .before .before .before .before .before .before .before .before .before .before .before .number2 .ensures .0) (c .before .before .before .before .before .before .before .before .before .before .before .before .m .given .1)) (seen (walkedAs s (c .before .before .before .before .before .before .before .before .before .walk-nodes .last .1 .1 .1 .1 .1 .1 .1 .1 .1 .0)) (c .before .before .before .before .before .before .before .before .before .walk-nodes .ensures .0) (c .before .before .before .before .before .r6 .given .1)) (c .before .before .put-call-entry .ensures)), past)

@@ -1,0 +1,200 @@
+-- The measures of the members of the cycle, and what the callees of each ask and give.
+use mathlib.Core.Path.{_≡_}
+use mathlib.Core.List.{List}
+use Prim.Native.Nat.{ℕ, _+_, _*_, _<_}
+use borrow.Fn.Kinds.{PK, In}
+use borrow.Fn.PlainCycle.{Measures}
+use Rattle.dep.proofs.walk.walk_argument.Reads as walk-argument
+use Rattle.dep.proofs.walk.walk_argument.Kinds as walk-argument-kinds
+use Rattle.dep.proofs.walk.+visit_call_expr+visit_ts_import_type+walk_argument+walk_arguments+walk_attributes+walk_callee+walk_node+walk_nodes+walk_properties+walk_property+walk_rest.Lts-walk_argument as walk-argument-lts
+use Rattle.dep.proofs.walk.walk_arguments.Reads as walk-arguments
+use Rattle.dep.proofs.walk.walk_arguments.Kinds as walk-arguments-kinds
+use Rattle.dep.proofs.walk.+visit_call_expr+visit_ts_import_type+walk_argument+walk_arguments+walk_attributes+walk_callee+walk_node+walk_nodes+walk_properties+walk_property+walk_rest.Lts-walk_arguments as walk-arguments-lts
+use Rattle.dep.proofs.walk.walk_attributes.Reads as walk-attributes
+use Rattle.dep.proofs.walk.walk_attributes.Kinds as walk-attributes-kinds
+use Rattle.dep.proofs.walk.+visit_call_expr+visit_ts_import_type+walk_argument+walk_arguments+walk_attributes+walk_callee+walk_node+walk_nodes+walk_properties+walk_property+walk_rest.Lts-walk_attributes as walk-attributes-lts
+use Rattle.dep.proofs.walk.visit_call_expr.Reads as visit-call-expr
+use Rattle.dep.proofs.walk.visit_call_expr.Kinds as visit-call-expr-kinds
+use Rattle.dep.proofs.walk.+visit_call_expr+visit_ts_import_type+walk_argument+walk_arguments+walk_attributes+walk_callee+walk_node+walk_nodes+walk_properties+walk_property+walk_rest.Lts-visit_call_expr as visit-call-expr-lts
+use Rattle.dep.proofs.walk.walk_callee.Reads as walk-callee
+use Rattle.dep.proofs.walk.walk_callee.Kinds as walk-callee-kinds
+use Rattle.dep.proofs.walk.+visit_call_expr+visit_ts_import_type+walk_argument+walk_arguments+walk_attributes+walk_callee+walk_node+walk_nodes+walk_properties+walk_property+walk_rest.Lts-walk_callee as walk-callee-lts
+use Rattle.dep.proofs.walk.walk_node.Reads as walk-node
+use Rattle.dep.proofs.walk.walk_node.Kinds as walk-node-kinds
+use Rattle.dep.proofs.walk.+visit_call_expr+visit_ts_import_type+walk_argument+walk_arguments+walk_attributes+walk_callee+walk_node+walk_nodes+walk_properties+walk_property+walk_rest.Lts-walk_node as walk-node-lts
+use Rattle.dep.proofs.walk.walk_nodes.Reads as walk-nodes
+use Rattle.dep.proofs.walk.walk_nodes.Kinds as walk-nodes-kinds
+use Rattle.dep.proofs.walk.+visit_call_expr+visit_ts_import_type+walk_argument+walk_arguments+walk_attributes+walk_callee+walk_node+walk_nodes+walk_properties+walk_property+walk_rest.Lts-walk_nodes as walk-nodes-lts
+use Rattle.dep.proofs.walk.walk_properties.Reads as walk-properties
+use Rattle.dep.proofs.walk.walk_properties.Kinds as walk-properties-kinds
+use Rattle.dep.proofs.walk.+visit_call_expr+visit_ts_import_type+walk_argument+walk_arguments+walk_attributes+walk_callee+walk_node+walk_nodes+walk_properties+walk_property+walk_rest.Lts-walk_properties as walk-properties-lts
+use Rattle.dep.proofs.walk.walk_property.Reads as walk-property
+use Rattle.dep.proofs.walk.walk_property.Kinds as walk-property-kinds
+use Rattle.dep.proofs.walk.+visit_call_expr+visit_ts_import_type+walk_argument+walk_arguments+walk_attributes+walk_callee+walk_node+walk_nodes+walk_properties+walk_property+walk_rest.Lts-walk_property as walk-property-lts
+use Rattle.dep.proofs.walk.walk_rest.Reads as walk-rest
+use Rattle.dep.proofs.walk.walk_rest.Kinds as walk-rest-kinds
+use Rattle.dep.proofs.walk.+visit_call_expr+visit_ts_import_type+walk_argument+walk_arguments+walk_attributes+walk_callee+walk_node+walk_nodes+walk_properties+walk_property+walk_rest.Lts-walk_rest as walk-rest-lts
+use Rattle.dep.proofs.walk.visit_ts_import_type.Reads as visit-ts-import-type
+use Rattle.dep.proofs.walk.visit_ts_import_type.Kinds as visit-ts-import-type-kinds
+use Rattle.dep.proofs.walk.+visit_call_expr+visit_ts_import_type+walk_argument+walk_arguments+walk_attributes+walk_callee+walk_node+walk_nodes+walk_properties+walk_property+walk_rest.Lts-visit_ts_import_type as visit-ts-import-type-lts
+use Rattle.dep.proofs.entries.call_head.Reads as call-head
+use Rattle.nodes.proofs.check.check_nodes.Reads as check-nodes
+use Rattle.dep.proofs.entries.dynamic_kind.Reads as dynamic-kind
+use Rattle.dep.proofs.entries.equals_kind.Reads as equals-kind
+use Rattle.dep.proofs.entries.export_kind.Reads as export-kind
+use Rattle.wire.proofs.Cursor.flag.Reads as flag
+use Rattle.dep.proofs.entries.import_kind.Reads as import-kind
+use Rattle.dep.proofs.walk.is_require.Reads as is-require
+use Rattle.nodes.proofs.tally.nodes_of.Reads as nodes-of
+use Rattle.wire.proofs.Cursor.number.Reads as number
+use Rattle.dep.proofs.entries.put_call_entry.Reads as put-call-entry
+use Rattle.dep.proofs.entries.put_module_entry.Reads as put-module-entry
+use Rattle.dep.proofs.entries.put_type_entry.Reads as put-type-entry
+use Rattle.heads.proofs.parts.read_argument.Reads as read-argument
+use Rattle.heads.proofs.parts.read_attributes.Reads as read-attributes
+use Rattle.heads.proofs.node.read_head.Reads as read-head
+use Rattle.heads.proofs.parts.read_pieces.Reads as read-pieces
+use Rattle.heads.proofs.parts.read_property.Reads as read-property
+use Rattle.dep.proofs.entries.static_dependency.Reads as static-dependency
+use Rattle.dep.proofs.walk.walk_import.Reads as walk-import
+
+-- six for each level that is left; a member that calls another on the same level is above it
+abbrev pub μ-walk-argument : Measures 6 walk-argument-kinds.ps ℕ
+μ-walk-argument κs a = 6 * (a .1 .1 .1 .0) + 1
+
+abbrev pub μ-walk-arguments : Measures 6 walk-arguments-kinds.ps ℕ
+μ-walk-arguments κs a = 6 * (a .1 .1 .1 .1 .0) + 2
+
+abbrev pub μ-walk-attributes : Measures 6 walk-attributes-kinds.ps ℕ
+μ-walk-attributes κs a = 6 * (a .1 .1 .1 .1 .0)
+
+abbrev pub μ-visit-call-expr : Measures 6 visit-call-expr-kinds.ps ℕ
+μ-visit-call-expr κs a = 6 * (a .1 .1 .1 .0) + 3
+
+abbrev pub μ-walk-callee : Measures 6 walk-callee-kinds.ps ℕ
+μ-walk-callee κs a = 6 * (a .1 .1 .1 .0) + 4
+
+abbrev pub μ-walk-node : Measures 6 walk-node-kinds.ps ℕ
+μ-walk-node κs a = 6 * (a .1 .1 .1 .0)
+
+abbrev pub μ-walk-nodes : Measures 6 walk-nodes-kinds.ps ℕ
+μ-walk-nodes κs a = 6 * (a .1 .1 .1 .1 .0) + 1
+
+abbrev pub μ-walk-properties : Measures 6 walk-properties-kinds.ps ℕ
+μ-walk-properties κs a = 6 * (a .1 .1 .1 .1 .0) + 3
+
+abbrev pub μ-walk-property : Measures 6 walk-property-kinds.ps ℕ
+μ-walk-property κs a = 6 * (a .1 .1 .1 .0) + 2
+
+abbrev pub μ-walk-rest : Measures 6 walk-rest-kinds.ps ℕ
+μ-walk-rest κs a = 6 * (a .1 .1 .1 .0) + 5
+
+abbrev pub μ-visit-ts-import-type : Measures 6 visit-ts-import-type-kinds.ps ℕ
+μ-visit-ts-import-type κs a = 6 * (a .1 .1 .1 .1 .0) + 2
+
+-- what a member asks, where its measure is t, and where it is below t
+abbrev At : (ps : List (PK 6)) → Measures 6 ps ℕ → In 6 ps → ℕ → In 6 ps
+At ps μ pre t κs a = (μ κs a ≡ t) × pre κs a
+
+abbrev Below : (ps : List (PK 6)) → Measures 6 ps ℕ → In 6 ps → ℕ → In 6 ps
+Below ps μ pre t κs a = (μ κs a < t) × pre κs a
+
+abbrev pub walk-argument-at : ℕ → In 6 walk-argument-kinds.ps
+walk-argument-at = At walk-argument-kinds.ps μ-walk-argument walk-argument.Pre
+
+abbrev pub walk-argument-below : ℕ → In 6 walk-argument-kinds.ps
+walk-argument-below = Below walk-argument-kinds.ps μ-walk-argument walk-argument.Pre
+
+abbrev pub walk-arguments-at : ℕ → In 6 walk-arguments-kinds.ps
+walk-arguments-at = At walk-arguments-kinds.ps μ-walk-arguments walk-arguments.Pre
+
+abbrev pub walk-arguments-below : ℕ → In 6 walk-arguments-kinds.ps
+walk-arguments-below = Below walk-arguments-kinds.ps μ-walk-arguments walk-arguments.Pre
+
+abbrev pub walk-attributes-at : ℕ → In 6 walk-attributes-kinds.ps
+walk-attributes-at = At walk-attributes-kinds.ps μ-walk-attributes walk-attributes.Pre
+
+abbrev pub walk-attributes-below : ℕ → In 6 walk-attributes-kinds.ps
+walk-attributes-below = Below walk-attributes-kinds.ps μ-walk-attributes walk-attributes.Pre
+
+abbrev pub visit-call-expr-at : ℕ → In 6 visit-call-expr-kinds.ps
+visit-call-expr-at = At visit-call-expr-kinds.ps μ-visit-call-expr visit-call-expr.Pre
+
+abbrev pub visit-call-expr-below : ℕ → In 6 visit-call-expr-kinds.ps
+visit-call-expr-below = Below visit-call-expr-kinds.ps μ-visit-call-expr visit-call-expr.Pre
+
+abbrev pub walk-callee-at : ℕ → In 6 walk-callee-kinds.ps
+walk-callee-at = At walk-callee-kinds.ps μ-walk-callee walk-callee.Pre
+
+abbrev pub walk-callee-below : ℕ → In 6 walk-callee-kinds.ps
+walk-callee-below = Below walk-callee-kinds.ps μ-walk-callee walk-callee.Pre
+
+abbrev pub walk-node-at : ℕ → In 6 walk-node-kinds.ps
+walk-node-at = At walk-node-kinds.ps μ-walk-node walk-node.Pre
+
+abbrev pub walk-node-below : ℕ → In 6 walk-node-kinds.ps
+walk-node-below = Below walk-node-kinds.ps μ-walk-node walk-node.Pre
+
+abbrev pub walk-nodes-at : ℕ → In 6 walk-nodes-kinds.ps
+walk-nodes-at = At walk-nodes-kinds.ps μ-walk-nodes walk-nodes.Pre
+
+abbrev pub walk-nodes-below : ℕ → In 6 walk-nodes-kinds.ps
+walk-nodes-below = Below walk-nodes-kinds.ps μ-walk-nodes walk-nodes.Pre
+
+abbrev pub walk-properties-at : ℕ → In 6 walk-properties-kinds.ps
+walk-properties-at = At walk-properties-kinds.ps μ-walk-properties walk-properties.Pre
+
+abbrev pub walk-properties-below : ℕ → In 6 walk-properties-kinds.ps
+walk-properties-below = Below walk-properties-kinds.ps μ-walk-properties walk-properties.Pre
+
+abbrev pub walk-property-at : ℕ → In 6 walk-property-kinds.ps
+walk-property-at = At walk-property-kinds.ps μ-walk-property walk-property.Pre
+
+abbrev pub walk-property-below : ℕ → In 6 walk-property-kinds.ps
+walk-property-below = Below walk-property-kinds.ps μ-walk-property walk-property.Pre
+
+abbrev pub walk-rest-at : ℕ → In 6 walk-rest-kinds.ps
+walk-rest-at = At walk-rest-kinds.ps μ-walk-rest walk-rest.Pre
+
+abbrev pub walk-rest-below : ℕ → In 6 walk-rest-kinds.ps
+walk-rest-below = Below walk-rest-kinds.ps μ-walk-rest walk-rest.Pre
+
+abbrev pub visit-ts-import-type-at : ℕ → In 6 visit-ts-import-type-kinds.ps
+visit-ts-import-type-at = At visit-ts-import-type-kinds.ps μ-visit-ts-import-type visit-ts-import-type.Pre
+
+abbrev pub visit-ts-import-type-below : ℕ → In 6 visit-ts-import-type-kinds.ps
+visit-ts-import-type-below = Below visit-ts-import-type-kinds.ps μ-visit-ts-import-type visit-ts-import-type.Pre
+
+-- what the callees of a member ask and give, where its measure is t
+abbrev pub walk-argument-calls : ℕ → walk-argument-lts.Claims
+walk-argument-calls t = (read-argument.Asked, read-argument.Learnt, walk-node-below t, walk-node.Post)
+
+abbrev pub walk-arguments-calls : ℕ → walk-arguments-lts.Claims
+walk-arguments-calls t = (walk-argument-below t, walk-argument.Post)
+
+abbrev pub walk-attributes-calls : ℕ → walk-attributes-lts.Claims
+walk-attributes-calls t = (read-attributes.Asked, read-attributes.Learnt, walk-properties-below t, walk-properties.Post)
+
+abbrev pub visit-call-expr-calls : ℕ → visit-call-expr-lts.Claims
+visit-call-expr-calls t = (number.Asked, number.Learnt, walk-arguments-below t, walk-arguments.Post, walk-nodes-below t, walk-nodes.Post, put-call-entry.Asked, put-call-entry.Learnt)
+
+abbrev pub walk-callee-calls : ℕ → walk-callee-lts.Claims
+walk-callee-calls t = (is-require.Asked, is-require.Learnt, call-head.Asked, call-head.Learnt, walk-node-below t, walk-node.Post, visit-call-expr-below t, visit-call-expr.Post)
+
+abbrev pub walk-node-calls : ℕ → walk-node-lts.Claims
+walk-node-calls t = (read-head.Asked, read-head.Learnt, walk-rest-below t, walk-rest.Post)
+
+abbrev pub walk-nodes-calls : ℕ → walk-nodes-lts.Claims
+walk-nodes-calls t = (walk-node-below t, walk-node.Post)
+
+abbrev pub walk-properties-calls : ℕ → walk-properties-lts.Claims
+walk-properties-calls t = (walk-property-below t, walk-property.Post)
+
+abbrev pub walk-property-calls : ℕ → walk-property-lts.Claims
+walk-property-calls t = (read-property.Asked, read-property.Learnt, nodes-of.Asked, nodes-of.Learnt, walk-nodes-below t, walk-nodes.Post)
+
+abbrev pub walk-rest-calls : ℕ → walk-rest-lts.Claims
+walk-rest-calls t = (walk-nodes-below t, walk-nodes.Post, read-pieces.Asked, read-pieces.Learnt, walk-properties-below t, walk-properties.Post, dynamic-kind.Asked, dynamic-kind.Learnt, call-head.Asked, call-head.Learnt, visit-call-expr-below t, visit-call-expr.Post, walk-callee-below t, walk-callee.Post, import-kind.Asked, import-kind.Learnt, static-dependency.Asked, static-dependency.Learnt, walk-import.Asked, walk-import.Learnt, visit-ts-import-type-below t, visit-ts-import-type.Post, equals-kind.Asked, equals-kind.Learnt, put-module-entry.Asked, put-module-entry.Learnt, export-kind.Asked, export-kind.Learnt)
+
+abbrev pub visit-ts-import-type-calls : ℕ → visit-ts-import-type-lts.Claims
+visit-ts-import-type-calls t = (check-nodes.Asked, check-nodes.Learnt, flag.Asked, flag.Learnt, put-type-entry.Asked, put-type-entry.Learnt, walk-nodes-below t, walk-nodes.Post, walk-attributes-below t, walk-attributes.Post)

@@ -1,0 +1,33 @@
+use borrow.Author.Needs.{needs}
+use Rattle.jsdoc.specs.Reader.{parseAttributes}
+use Rattle.jsdoc.proofs.Answered.{read, inside}
+use Rattle.jsdoc.proofs.import_decl.parse_attributes.Statement.{statement}
+use Rattle.jsdoc.proofs.import_decl.parse_attributes.Tie as tie
+
+returns : tie.Need-returns
+unfolding parseAttributes
+returns c = record { is = rw (← c .before .before .before .before .skip-whitespace .ensures .0, read (c .before .before .word .ensures) (c .enum-told .given .1)); ordered = tt }
+
+block-at-requires : tie.Need-block-at-requires
+block-at-requires c κs = inside (c .before .before .before .word .ensures) (c .before .b .given .1)
+
+returns-2 : tie.Need-returns-2
+unfolding parseAttributes
+returns-2 c =
+    record {
+      is = rw (← c .before .before .before .before .before .before .skip-whitespace .ensures .0, read (c .before .before .before .before .word .ensures) (c .before .before .b .given .1)) (c .block-at .ensures .is);
+      ordered = c .block-at .ensures .ordered;
+    }
+
+pub parse-attributes-spec : {M : Type 1} → statement M
+parse-attributes-spec =
+    tie.close
+    (tie.spec
+    (λ c κs. search needs)
+    (λ c. search needs)
+    (λ c κs. search needs)
+    (λ c. search needs)
+    (λ c. search needs)
+    returns
+    block-at-requires
+    returns-2)

@@ -1,0 +1,83 @@
+-- What the answers of the code stand for, and the rules that it reads comments by.
+use mathlib.Core.Bool.{Bool, true, cond}
+use mathlib.Core.List.{List, []}
+use mathlib.Core.Option.{Option}
+use Prim.Native.Nat.{ℕ, _-_}
+use lib.Dec.{eqb}
+use lib.ListN.{length}
+use Rattle.analysis.specs.declared.Capture.{Capture}
+use Rattle.analysis.specs.Row.{Row}
+use Rattle.analysis.specs.Place.{Inside}
+use Rattle.analysis.specs.Patterns.{jsxImportSourceRow, jsxImportSourceTypesRow, sourceMappingUrlRow, tsSelfTypesRow, tsTypesRow, denoTypesRow}
+use Rattle.sheet.specs.declared.comments.Comment.{Comment}
+use Rattle.sheet.specs.Tables.{rows, commentIn}
+use Rattle.sheet.specs.Fit.{Placed}
+use Rattle.sheet.specs.Lookups.{body}
+use Rattle.report.specs.ModuleInfo.{SpecifierWithRange, TypeScriptReference, path, types}
+use Rattle.pragmas.specs.declared.readings.Rule.{Rule}
+use Rattle.pragmas.specs.declared.readings.Rule.the-variants.{TsSelfTypes, JsxImportSource, JsxImportSourceTypes, SourceMapUrl, TsTypes, DenoTypes}
+use Rattle.pragmas.specs.declared.readings.Reading.{Reading}
+use Rattle.pragmas.specs.declared.readings.Reading.the-variants as reading
+use Rattle.pragmas.specs.declared.references.Reference.{Reference}
+use Rattle.pragmas.specs.declared.references.Reference.the-variants as reference
+use Rattle.pragmas.specs.Readings.{specifierIn, readBy}
+
+-- the pattern of a rule
+abbrev pub rowOf : Rule → Row
+rowOf TsSelfTypes = tsSelfTypesRow
+rowOf JsxImportSource = jsxImportSourceRow
+rowOf JsxImportSourceTypes = jsxImportSourceTypesRow
+rowOf SourceMapUrl = sourceMappingUrlRow
+rowOf TsTypes = tsTypesRow
+rowOf DenoTypes = denoTypesRow
+
+-- whether it takes comments of a kind
+abbrev pub takes : Rule → ℕ → Bool
+takes TsSelfTypes kind = true
+takes JsxImportSource kind = eqb kind 1
+takes JsxImportSourceTypes kind = eqb kind 1
+takes SourceMapUrl kind = true
+takes TsTypes kind = true
+takes DenoTypes kind = true
+
+-- the specifier that it reads in a comment
+abbrev pub readRule : Rule → List ℕ → Comment → Option SpecifierWithRange
+readRule rule source c = cond (takes rule (c .kind)) (readBy (rowOf rule) source c) Option.none
+
+-- the capture and its marks lie in the body of a comment of the source
+pub record CaptureIn (source : List ℕ) (c : Comment) (k : Capture) : Type 0 where
+  pub placed : Placed source c
+  pub inside : Inside k (length (body source c))
+
+abbrev pub readAs : List ℕ → Reading → Option SpecifierWithRange
+readAs source (reading.Of c k) = Option.some (specifierIn source c k)
+readAs source reading.Nothing = Option.none
+
+abbrev pub ReadIn : List ℕ → Reading → Type 0
+ReadIn source (reading.Of c k) = CaptureIn source c k
+ReadIn source reading.Nothing = Unit {0}
+
+-- the comments of a table from one row to another
+abbrev pub commentsFrom : List ℕ → ℕ → ℕ → List Comment
+commentsFrom table start end = rows (commentIn table) start (end - start)
+
+abbrev pub referenceAs : List ℕ → Comment → Reference → Option TypeScriptReference
+referenceAs source c (reference.Path k) = Option.some (path (specifierIn source c k))
+referenceAs source c (reference.Types k mode) = Option.some (types (specifierIn source c k) mode)
+referenceAs source c reference.Nothing = Option.none
+
+abbrev pub ReferenceIn : List ℕ → Comment → Reference → Type 0
+ReferenceIn source c (reference.Path k) = CaptureIn source c k
+ReferenceIn source c (reference.Types k mode) = CaptureIn source c k
+ReferenceIn source c reference.Nothing = Unit {0}
+
+-- how many references it is: one, or none
+abbrev pub amount : Reference → ℕ
+amount (reference.Path k) = 1
+amount (reference.Types k mode) = 1
+amount reference.Nothing = 0
+
+-- the bytes of what is there, none if there is nothing
+abbrev pub encodeAny : {A : Type 0} → (A → List ℕ) → Option A → List ℕ
+encodeAny f Option.none = []
+encodeAny f (Option.some a) = f a

@@ -1,0 +1,61 @@
+-- A buffer beside a report with zeros behind it: from one place to the next; and what an outcome's answer holds.
+use mathlib.Core.Path.{_≡_, refl, _∙_}
+use mathlib.Core.Bool.{Bool, true, false, _&&_}
+use mathlib.Core.List.{List, [], _∷_, _++_}
+use Prim.Native.Nat.{ℕ, zero, suc, _+_, _-_, _≤_, _<_}
+use native.Mathlib.Omega.{arith}
+use native.Mathlib.Numerals.{add-one}
+use lib.Dec.{eqb, leb}
+use lib.ListN.{length, getD, drop, drop-of-length-le, length-append, length-replicate}
+use lib.Seq.{drop-cons}
+use borrow.Author.Tests.{leb-true, eq-eqb, ne-eqb}
+use Rattle.text.specs.Bytes.{same}
+use Rattle.report.specs.declared.writer.Outcome.{Outcome}
+use Rattle.report.specs.declared.writer.Outcome.the-variants.{Accepted, Refused}
+use Rattle.report.specs.Answer.{zeros, outcomeAs}
+
+zero-at : (n i : ℕ) → getD (zeros n) i 0 ≡ 0
+zero-at zero i = refl
+zero-at (suc n) zero = refl
+zero-at (suc n) (suc i) = zero-at n i
+
+padded-at : (report : List ℕ) (n i : ℕ) → getD (report ++ zeros n) i 0 ≡ getD report i 0
+padded-at [] n i = zero-at n i
+padded-at (x ∷ report) n zero = refl
+padded-at (x ∷ report) n (suc i) = padded-at report n i
+
+-- the report with zeros up to the size of a buffer
+abbrev pub padded : ℕ → List ℕ → List ℕ
+padded size report = report ++ zeros (size - length report)
+
+padded-length : (size : ℕ) (report : List ℕ) → length (padded size report) ≡ length report + (size - length report)
+padded-length size report = length-append report (zeros (size - length report)) ∙ rw length-replicate
+
+module _ (buffer report : List ℕ) (i : ℕ) where
+  pub held-end : length buffer ≤ i → leb (length report) (length buffer) && same (drop i buffer) (drop i (padded (length buffer) report)) ≡ leb (length report) (length buffer)
+  unfolding same
+  held-end h = by-room (leb (length report) (length buffer)) refl
+    where
+      by-room : (b : Bool) → leb (length report) (length buffer) ≡ b → b && same (drop i buffer) (drop i (padded (length buffer) report)) ≡ b
+      by-room true e =
+          let room = leb-true (length report) (length buffer) e in
+          rw (drop-of-length-le buffer h, drop-of-length-le (padded (length buffer) report) {i = i} (rw (padded-length (length buffer) report) (omega arith)))
+      by-room false e = refl
+
+  module _ (h : i < length buffer) where
+    heads : same (drop i buffer) (drop i (padded (length buffer) report)) ≡ (eqb (getD buffer i 0) (getD report i 0) && same (drop (i + 1) buffer) (drop (i + 1) (padded (length buffer) report)))
+    unfolding same
+    heads =
+        let long : i < length (padded (length buffer) report) = rw (padded-length (length buffer) report) (omega arith) in
+        rw (add-one, drop-cons buffer i 0 h, drop-cons (padded (length buffer) report) i 0 long, padded-at report (length buffer - length report) i)
+
+    pub held-differ : (getD buffer i 0 ≡ getD report i 0 → ⊥) → same (drop i buffer) (drop i (padded (length buffer) report)) ≡ false
+    held-differ n = rw (heads, ne-eqb _ _ n)
+
+    pub held-agree : getD buffer i 0 ≡ getD report i 0 → same (drop i buffer) (drop i (padded (length buffer) report)) ≡ same (drop (i + 1) buffer) (drop (i + 1) (padded (length buffer) report))
+    held-agree e = rw (heads, eq-eqb _ _ e)
+
+-- the answer holds what the buffer has
+pub outcome-buffer : (o : Outcome) (buffer : List ℕ) → outcomeAs o buffer .buffer ≡ buffer
+outcome-buffer (Accepted n) buffer = refl
+outcome-buffer (Refused r) buffer = refl

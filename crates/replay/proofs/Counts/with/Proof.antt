@@ -1,0 +1,24 @@
+-- `with`: a sheet is accepted or refused, so that one of the two counts goes up by one.
+use borrow.Author.Needs.{needs}
+use mathlib.Core.Path.{_≡_, refl}
+use mathlib.Core.Bool.{Bool, true, false, not}
+use Prim.Native.Nat.{_+_}
+use native.Mathlib.Omega.{arith}
+use Rattle.sheet.specs.Walked.{one}
+use Rattle.replay.proofs.Counts.with.Statement.{statement}
+use Rattle.replay.proofs.Counts.with.Tie as tie
+
+either-one : (b : Bool) → one b + one (not b) ≡ 1
+either-one true = refl
+either-one false = refl
+
+returns : tie.Need-returns
+returns c =
+    let accepted = c .before .before .before .before .before .before .before .one-if .ensures in
+    let refused = c .before .before .before .before .before .one-if2 .ensures in
+    let differ = c .before .before .before .one-if3 .ensures in
+    let one-of-two = either-one (c .before .before .before .before .before .before .before .before .args .ran .accepted) in
+    (rw (accepted .0, refused .0, differ .0), λ left h. (omega arith, omega arith))
+
+pub with-spec : {M : Type 1} → statement M
+with-spec = tie.close (tie.spec (λ c κs. search needs) (λ c κs. search needs) (λ c κs. search needs) (λ c. search needs) (λ c. search needs) (λ c. search needs) returns)

@@ -1,0 +1,23 @@
+use borrow.Author.Needs.{needs}
+use mathlib.Core.Path.{_≡_, ap, _∙_}
+use denote.Ref.{now}
+use lib.Dec.{eqb}
+use lib.ListN.{length}
+use Rattle.report.specs.Answer.{Answer}
+use Rattle.module_info.specs.Information.{answerOf}
+use Rattle.replay.specs.Compared.{isStored}
+use Rattle.replay.proofs.run.Statement.{statement}
+use Rattle.replay.proofs.run.Tie as tie
+
+returns : tie.Need-returns
+returns c =
+    let a = c .before .before .before .before .before .before .before .before .before .before .before .before .before .before .args in
+    let long : length (c .before .before .before .before .before .before .before .before .before .fill .last .0) ≡ length (now (a .buffer)) = search needs in
+    let answer = c .before .before .before .before .before .module-info .ensures .answer ∙ ap (answerOf (now (a .sheet))) long in
+    record {
+      accepted = ap (λ n. eqb n 0) (c .before .before .number-of .ensures _ ∙ ap (λ (x : Answer). x .number) answer);
+      same = c .is-stored .ensures ∙ ap (isStored (a .number) (now (a .report))) answer;
+    }
+
+pub run-spec : {M : Type 1} → statement M
+run-spec = tie.close (tie.spec (λ c κs. search needs) (λ c κs. search needs) (λ c. search needs) (λ c κs. search needs) (λ c. search needs) returns)

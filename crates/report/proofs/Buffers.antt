@@ -1,0 +1,49 @@
+-- Writing into a buffer part by part: a byte has room or not, parts one after the other are written as one, and no byte changes nothing.
+use mathlib.Core.Path.{_≡_, refl}
+use mathlib.Core.Bool.{Bool, true, false, cond}
+use mathlib.Core.List.{List, [], _∷_, _++_, append-assoc, append-nil}
+use Prim.Native.Nat.{ℕ, _+_, _≤_, _<_}
+use native.Mathlib.Nat.{add-assoc}
+use native.Mathlib.Numerals.{add-one}
+use native.Mathlib.Omega.{arith}
+use lib.Dec.{leb}
+use lib.ListN.{length, take, set, length-append, length-take, length-set}
+use lib.Seq.{length-take-le, take-all, take-suc-set}
+use borrow.Author.Tests.{leb-false, le-leb, lt-leb}
+use Rattle.report.specs.declared.writer.Place.{Place}
+use Rattle.report.specs.Buffer.{Buffer, holds, full, wrote, bufferAs}
+
+pub wrote-append : (w : Buffer) (a b : List ℕ) → wrote w (a ++ b) ≡ wrote (wrote w a) b
+unfolding wrote
+wrote-append full a b = refl
+wrote-append (holds size xs) a b = by-room (leb (length xs + length a) size) refl
+  where
+    by-room : (t : Bool) → leb (length xs + length a) size ≡ t → wrote (holds size xs) (a ++ b) ≡ wrote (wrote (holds size xs) a) b
+    by-room true e = rw (e, length-append a b, length-append xs a, add-assoc, append-assoc)
+    by-room false e =
+        let over : size < length xs + (length a + length b) = omega (arith, leb-false (length xs + length a) size e) in
+        rw (e, length-append a b, lt-leb (length xs + (length a + length b)) size over)
+
+-- a byte, and then the others
+pub wrote-cons : (w : Buffer) (b : ℕ) (bs : List ℕ) → wrote w (b ∷ bs) ≡ wrote (wrote w (b ∷ [])) bs
+wrote-cons w b bs = wrote-append w (b ∷ []) bs
+
+pub wrote-nil : (out : List ℕ) (p : Place) → wrote (bufferAs out p) [] ≡ bufferAs out p
+unfolding wrote
+wrote-nil out p = by-full (p .full)
+  where
+    by-full : (t : Bool) → wrote (cond t full (holds (length out) (take (p .at) out))) [] ≡ cond t full (holds (length out) (take (p .at) out))
+    by-full true = refl
+    by-full false =
+        let room : length (take (p .at) out) + 0 ≤ length out = omega (arith, length-take (p .at) out) in
+        rw (le-leb (length (take (p .at) out) + 0) (length out) room, append-nil)
+
+module _ (out : List ℕ) (at b : ℕ) where
+  pub put-room : at < length out → holds (length (set out at b)) (take (at + 1) (set out at b)) ≡ wrote (holds (length out) (take at out)) (b ∷ [])
+  unfolding wrote
+  put-room h =
+      rw (length-take-le at out (omega arith), le-leb (at + 1) (length out) (omega arith), length-set, add-one, take-suc-set out at b h)
+
+  pub put-none : length out ≤ at → full ≡ wrote (holds (length out) (take at out)) (b ∷ [])
+  unfolding wrote
+  put-none h = rw (take-all at out h, lt-leb (length out + 1) (length out) (omega arith))

@@ -1,0 +1,21 @@
+-- A buffer that is written from the front, and stops where it is full.
+use mathlib.Core.Bool.{cond}
+use mathlib.Core.List.{List, _++_}
+use Prim.Native.Nat.{ℕ, _+_}
+use lib.Dec.{leb}
+use lib.ListN.{length, take}
+use Rattle.report.specs.declared.writer.Place.{Place}
+
+-- what stands in a buffer of so many bytes; or some byte found no room
+pub data Buffer : Type 0 where
+  holds : ℕ → List ℕ → Buffer
+  full : Buffer
+
+-- the bytes written behind what stands there, if there is room for all of them
+unfoldable pub wrote : Buffer → List ℕ → Buffer
+wrote (holds size xs) bs = cond (leb (length xs + length bs) size) (holds size (xs ++ bs)) full
+wrote full bs = full
+
+-- what a buffer with a place in it stands for
+abbrev pub bufferAs : List ℕ → Place → Buffer
+bufferAs out p = cond (p .full) full (holds (length out) (take (p .at) out))

@@ -3,8 +3,8 @@ use mathlib.Core.Path.{_≡_, refl}
 use mathlib.Core.List.{List, [], _∷_, _++_, map}
 use Prim.Native.Nat.{ℕ}
 use lib.ListN.{length}
-use Rattle.laws.specs.Decoded.{refusal}
 use Rattle.laws.specs.Quoted.{ascii}
+use Rattle.laws.proofs.Decoding.{refusal}
 use Rattle.text.specs.Bytes.{begins, same}
 use Rattle.text.specs.Utf8.{admits, lengthBy, charLength, formed}
 use Rattle.text.specs.Position.{isBoundary}

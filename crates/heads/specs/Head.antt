@@ -1,4 +1,5 @@
--- The head of a node: its tag, its span and its fields up to its first child, or up to a template's pieces.
+-- The head of a node: its tag, its span and its fields up to its first child, or up to a template's pieces. A node is its head and then what follows it
+-- (specs/Rest; proofs/ByHead, law `node-by-head`).
 use mathlib.Core.Bool.{Bool, cond}
 use mathlib.Core.List.{List, [], _∷_}
 use mathlib.Core.Option.{Option}

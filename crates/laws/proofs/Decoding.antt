@@ -6,6 +6,11 @@ use Prim.Native.Nat.{ℕ}
 use native.Mathlib.Omega.{arith}
 use Rattle.laws.specs.Decoded.{Decoded, ok, no, andThen, onOk, return, require}
 
+-- the number of the refusal, 0 for none: for tables of cases
+abbrev pub refusal : {A : Type 0} → Decoded A → ℕ
+refusal (ok a t) = 0
+refusal (no r) = r
+
 -- a refusal is no value
 pub refused : {A : Type 0} {r : ℕ} {a : A} {t : List ℕ} → no r ≡ ok a t → ⊥
 refused e = let z : _≡_ {A = ℕ} 0 1 = cc in omega arith

@@ -7,11 +7,6 @@ pub data Decoded (A : Type 0) : Type 0 where
   ok : A → List ℕ → Decoded A
   no : ℕ → Decoded A
 
--- the number of the refusal, 0 for none
-abbrev pub refusal : {A : Type 0} → Decoded A → ℕ
-refusal (ok a t) = 0
-refusal (no r) = r
-
 -- the value and what is left handed on; a refusal stays
 abbrev pub andThen : {A B : Type 0} → Decoded A → (A → List ℕ → Decoded B) → Decoded B
 andThen (ok a t) f = f a t

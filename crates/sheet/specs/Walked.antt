@@ -6,18 +6,22 @@ use Prim.Native.Nat.{ℕ, _+_}
 use Rattle.sheet.specs.Tree.{Quoted, Node, other, string, name, template, binary, object, importCall, call, importDecl, namedExport, exportFrom, exportAll, importType, importEquals, importRequire, moduleDecl, Nodes, none, more, Arguments, noArguments, argument, Properties, noProperties, spread, otherProperty, childKey, stringKey, nameKey, Attributes, without, withObject}
 use Rattle.sheet.specs.Shape.{shape, isRequire, isUncooked, isAugmentation}
 
+-- there is an argument
 abbrev pub anyArgument : Arguments → Bool
 anyArgument noArguments = false
 anyArgument (argument dots sp n xs) = true
 
+-- the first argument is a template with an uncooked piece
 abbrev pub firstUncooked : Arguments → Bool
 firstUncooked noArguments = false
 firstUncooked (argument dots sp n xs) = isUncooked (shape n)
 
+-- a module declaration with such a name gives an entry
 abbrev pub declares : Option Quoted → Bool
 declares Option.none = false
 declares (Option.some q) = isAugmentation (q .text)
 
+-- 1 for true, 0 for false
 abbrev pub one : Bool → ℕ
 one b = cond b 1 0
 

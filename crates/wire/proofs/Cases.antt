@@ -2,7 +2,8 @@
 use mathlib.Core.Path.{_≡_, refl}
 use mathlib.Core.List.{List, [], _∷_, map}
 use Prim.Native.Nat.{ℕ}
-use Rattle.laws.specs.Decoded.{ok, refusal}
+use Rattle.laws.specs.Decoded.{ok}
+use Rattle.laws.proofs.Decoding.{refusal}
 use Rattle.text.specs.declared.utf8.Encoding.the-variants.{Utf8}
 use Rattle.text.specs.Utf8.{admits, lengthBy, charLength, formed}
 use Rattle.wire.specs.Fields.{byte, below, flag, bytes}

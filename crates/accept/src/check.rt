@@ -21,7 +21,7 @@ pub struct Parts {
 // A sheet that meets none of refusals 1 to 9, or the number of the first that it meets.
 pub enum SheetChecked {
     Accepted(Parts),
-    Refused(u8),
+    Refused(usize),
 }
 
 // Judges a sheet. The tables of its comments and groups are lent, and `longest` to work in.

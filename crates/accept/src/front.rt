@@ -16,13 +16,13 @@ ghost use Rattle.accept.specs.Views.{sourceAs, commentTableAs, groupTabl
 // The media byte and where the source starts, with the cursor at its end, or a refusal's number.
 pub enum SourceRead {
     Is(usize, usize, Cursor),
-    Refused(u8),
+    Refused(usize),
 }
 
 // How many rows a table was filled with, and the cursor past them, or a refusal's number.
 pub enum Counted {
     Is(usize, Cursor),
-    Refused(u8),
+    Refused(usize),
 }
 
 // The media byte, the source from a place of the sheet to another, and how many rows the tables of comments and groups have.
@@ -37,7 +37,7 @@ pub struct Front {
 // What stands in front of the program with the cursor past it, or a refusal's number.
 pub enum FrontRead {
     Is(Front, Cursor),
-    Refused(u8),
+    Refused(usize),
 }
 
 // The media byte and the source.

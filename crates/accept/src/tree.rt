@@ -17,7 +17,7 @@ pub struct Tree {
 // The tree, behind which the sheet ends, or a refusal's number.
 pub enum TreeRead {
     Is(Tree),
-    Refused(u8),
+    Refused(usize),
 }
 
 // Reads the program and checks the root; then refusal 8, then refusal 9.

@@ -34,7 +34,7 @@ pub enum Value {
 pub enum PropRead {
     Keyless(Cursor),
     Keyed(usize, usize, Cursor, Cursor),
-    Refused(u8),
+    Refused(usize),
 }
 
 // The node at a cursor, with so many levels left, its own among them.

@@ -4,10 +4,11 @@ use mathlib.Core.Bool.{Bool, true, false, cond}
 use mathlib.Core.List.{List, [], _∷_}
 use Prim.Native.Nat.{ℕ, zero, suc, _+_, _≤_}
 use native.Mathlib.Omega.{arith}
+use lib.Dec.{eqb}
 use lib.ListN.{length, take}
 use borrow.Author.Tests.{le-leb}
 use Rattle.report.specs.declared.writer.Place.{Place}
-use Rattle.report.specs.Buffer.{holds, full, wrote, bufferAs}
+use Rattle.report.specs.Buffer.{holds, full, wrote, fullPlace, bufferAs}
 
 take-taken : (n : ℕ) (l : List ℕ) → take (length (take n l)) l ≡ take n l
 take-taken zero l = refl
@@ -18,7 +19,7 @@ take-taken (suc n) (a ∷ l) = ap (a ∷_) (take-taken n l)
 module _ (out : List ℕ) (p : Place) (size : ℕ) (bs : List ℕ) (h : bufferAs out p ≡ wrote (holds size []) bs) (room : length bs ≤ size) where
   begins : take (p .at) out ≡ bs
   unfolding wrote
-  begins = by-full (p .full) (h ∙ rw (le-leb (0 + length bs) size (omega arith)))
+  begins = by-full (eqb (p .at) fullPlace) (h ∙ rw (le-leb (0 + length bs) size (omega arith)))
     where
       by-full : (b : Bool) → cond b full (holds (length out) (take (p .at) out)) ≡ holds size bs → take (p .at) out ≡ bs
       by-full true e = let z : _≡_ {A = ℕ} 0 1 = cc in absurd (omega arith)

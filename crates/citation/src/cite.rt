@@ -280,7 +280,7 @@ pub fn cite_report(report: &[u8], out: &mut [u8]) -> usize
         → (r ≡ length (citation m)) × (take r (now (out .exit)) ≡ citation m)) ⌝ }
     ensures { λ r. ⌜ r ≤ length (now (out .exit)) ⌝ }
 {
-    let start = Place { at: 0, full: false };
+    let start = Place { at: 0 };
     let counted = cite_lines(report, out, start);
     let p = put_title(start, out, b"module ", counted.lines);
     let cited = cite_lines(report, out, p);
@@ -293,7 +293,7 @@ pub fn cite_refusal(number: u8, out: &mut [u8]) -> usize
     ensures { λ r. ⌜ (r ≡ length (refusal number)) × (take r (now (out .exit)) ≡ refusal number) ⌝ }
     ensures { λ r. ⌜ r ≤ length (now (out .exit)) ⌝ }
 {
-    let start = Place { at: 0, full: false };
+    let start = Place { at: 0 };
     let p = put_title(start, out, b"refused ", number as usize);
     written(out, p)
 }

@@ -4,5 +4,6 @@ pub mod Loops
 pub mod Arms
 pub mod Counted
 pub mod Fields
+pub mod Callee
 mod Each
 pub mod Proper

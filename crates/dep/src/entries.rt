@@ -19,7 +19,7 @@ use report::writer::Place;
 use sheet::fields::Span;
 use wire::Cursor;
 ghost use mathlib.Core.Path.{_≡_};
-ghost use mathlib.Core.Bool.{Bool};
+ghost use mathlib.Core.Bool.{Bool, cond};
 ghost use mathlib.Core.List.{List};
 ghost use mathlib.Core.Option.{Option};
 ghost use Prim.Native.Nat.{ℕ};
@@ -32,7 +32,7 @@ ghost use Rattle.heads.specs.Views.{quotedOf};
 ghost use Rattle.report.specs.ModuleInfo as info;
 ghost use Rattle.report.specs.Range.{InSource};
 ghost use Rattle.report.specs.Buffer.{bufferAs};
-ghost use Rattle.attributes.specs.Attributes.{typeAttributes};
+ghost use Rattle.attributes.specs.Attributes.{typeAttributes, staticAttributes, dynamicAttributes};
 ghost use Rattle.attributes.specs.Views.{attributesAs, AttributesWithin};
 ghost use Rattle.arguments.specs.Views.{Stands, ArgumentWithin};
 ghost use Rattle.pragmas.specs.Held.{Held};
@@ -59,7 +59,6 @@ pub struct DynamicDependencyDescriptor {
     pub start: usize,
     pub argument: DynamicArgument,
     pub argument_range: Span,
-    pub import_attributes: ImportAttributes,
 }
 
 // A call up to its arguments: its kind, and the span of its node. Is it an import or a require?
@@ -143,16 +142,16 @@ pub fn call_head(kind: u8, span: Span, listed: bool) -> CallHead
 }
 
 // The entry of a static dependency, with its attributes in the table.
-pub fn put_static_entry(
+fn put_static_entry(
     sheet: &[u8],
     source: &[u8],
     d: StaticDependencyDescriptor,
     pairs: &[usize],
     a: ImportAttributes,
-    cs: &[u32],
-    gs: &[u32],
+    cs: &[u32; 3072],
+    gs: &[u32; 4096],
     k: Counts,
-    index: &[u32],
+    index: &[u32; 1026],
     out: &mut [u8],
     p: Place,
 ) -> Place
@@ -176,42 +175,48 @@ pub fn put_static_entry(
     put_attributes(sheet, pairs, a, out, p)
 }
 
-// The entry of an import type, with the Object of its attributes at the cursor, if there is one.
-pub fn put_type_entry(
+// The entry of an import type, or of a declaration, with the Object of its attributes at the cursor, if there is one. The table is here, and not in
+// the walk, so that no level of the walk has one on the stack: the compiler does not inline what is called at two places.
+pub fn put_with_entry(
     sheet: &[u8],
     source: &[u8],
     c: Cursor,
     there: bool,
     levels: usize,
     d: StaticDependencyDescriptor,
-    cs: &[u32],
-    gs: &[u32],
+    cs: &[u32; 3072],
+    gs: &[u32; 4096],
     k: Counts,
-    index: &[u32],
+    index: &[u32; 1026],
     out: &mut [u8],
     p: Place,
+    is_type: bool,
 ) -> Place
     requires { ⌜ Held (now source) (now cs) (k .comments) (now gs) (k .groups) (now index) × Quotes (now sheet) (now source) (d .specifier) ⌝ }
     ensures { λ r. ⌜ ((a : Attributes) (t : List ℕ)
         → behind there (attributesObject (now (source .entry)) levels) (drop (c .at) (now (sheet .entry))) ≡ ok a t
         → bufferAs (now (out .exit)) r
         ≡ wroteEntries (bufferAs (now (out .entry)) p)
-        (staticOf (now (source .entry)) (typesFrom (now (source .entry)) (now (cs .entry)) (now (gs .entry)) k) (now (sheet .entry)) d (typeAttributes a))) ⌝ }
+        (staticOf (now (source .entry)) (typesFrom (now (source .entry)) (now (cs .entry)) (now (gs .entry)) k) (now (sheet .entry)) d (cond «is_type» (typeAttributes a) (staticAttributes a)))) ⌝ }
 {
     let mut pairs: [usize; 320] = [0; 320];
-    let a = parse_type_attributes(sheet, source, c, there, levels, &mut pairs);
+    if is_type {
+        let a = parse_type_attributes(sheet, source, c, there, levels, &mut pairs);
+        return put_static_entry(sheet, source, d, &pairs, a, cs, gs, k, index, out, p);
+    }
+    let a = parse_import_attributes(sheet, source, c, there, levels, &mut pairs);
     put_static_entry(sheet, source, d, &pairs, a, cs, gs, k, index, out, p)
 }
 
 // The entry of a static dependency that has no attributes.
-fn put_plain_entry(
+pub fn put_plain_entry(
     sheet: &[u8],
     source: &[u8],
     d: StaticDependencyDescriptor,
-    cs: &[u32],
-    gs: &[u32],
+    cs: &[u32; 3072],
+    gs: &[u32; 4096],
     k: Counts,
-    index: &[u32],
+    index: &[u32; 1026],
     out: &mut [u8],
     p: Place,
 ) -> Place
@@ -220,7 +225,7 @@ fn put_plain_entry(
         ≡ wroteEntries (bufferAs (now (out .entry)) p)
         (staticOf (now (source .entry)) (typesFrom (now (source .entry)) (now (cs .entry)) (now (gs .entry)) k) (now (sheet .entry)) d info.none) ⌝ }
 {
-    let pairs: [usize; 320] = [0; 320];
+    let pairs: [usize; 1] = [0; 1];
     let a = ImportAttributes::None;
     put_static_entry(sheet, source, d, &pairs, a, cs, gs, k, index, out, p)
 }
@@ -231,10 +236,10 @@ pub fn put_module_entry(
     source: &[u8],
     span: Span,
     specifier: Quoted,
-    cs: &[u32],
-    gs: &[u32],
+    cs: &[u32; 3072],
+    gs: &[u32; 4096],
     k: Counts,
-    index: &[u32],
+    index: &[u32; 1026],
     out: &mut [u8],
     p: Place,
 ) -> Place
@@ -252,38 +257,41 @@ pub fn put_module_entry(
     p
 }
 
-// The entry of a dynamic dependency, with its attributes in the table.
+// The entry of a dynamic dependency, with so many arguments behind the first at the cursor. The table is here as in `put_with_entry`.
 fn put_dynamic_entry(
     sheet: &[u8],
     source: &[u8],
+    c: Cursor,
+    more: usize,
     levels: usize,
     d: DynamicDependencyDescriptor,
-    pairs: &[usize],
-    cs: &[u32],
-    gs: &[u32],
+    cs: &[u32; 3072],
+    gs: &[u32; 4096],
     k: Counts,
-    index: &[u32],
+    index: &[u32; 1026],
     out: &mut [u8],
     p: Place,
 ) -> Place
     requires { ⌜ Held (now source) (now cs) (k .comments) (now gs) (k .groups) (now index)
         × InSource (now source) (d .«argument_range»)
-        × ArgumentWithin (length (now sheet)) (d .argument)
-        × AttributesWithin (length (now sheet)) (now pairs) (d .«import_attributes») ⌝ }
-    ensures { λ r. ⌜ ((v : info.DynamicArgument) → Stands (now (sheet .entry)) (now (source .entry)) levels (d .argument) v
+        × ArgumentWithin (length (now sheet)) (d .argument) ⌝ }
+    ensures { λ r. ⌜ ((v : info.DynamicArgument) (xs : Arguments) (t : List ℕ)
+        → Stands (now (sheet .entry)) (now (source .entry)) levels (d .argument) v
+        → arguments (node (now (source .entry)) levels) (now (source .entry)) more (drop (c .at) (now (sheet .entry))) ≡ ok xs t
         → bufferAs (now (out .exit)) r
         ≡ wroteEntries (bufferAs (now (out .entry)) p)
         (dynamicOf (now (source .entry))
         (typesFrom (now (source .entry)) (now (cs .entry)) (now (gs .entry)) k)
-        d v (attributesAs (now (sheet .entry)) (now (pairs .entry)) (d .«import_attributes»)))) ⌝ }
+        d v (dynamicAttributes xs))) ⌝ }
 {
+    let mut pairs: [usize; 320] = [0; 320];
+    let attributes = parse_dynamic_import_attributes(sheet, source, c, more, levels, &mut pairs);
     let argument = d.argument;
-    let attributes = d.import_attributes;
     let p = p.put(out, d.kind);
     let p = analyze_ts_or_deno_types(source, cs, k.comments, gs, k.groups, index, d.start, out, p);
     let p = put_argument(sheet, source, levels, argument, out, p);
     let p = p.put_span(out, source, index, d.argument_range);
-    put_attributes(sheet, pairs, attributes, out, p)
+    put_attributes(sheet, &pairs, attributes, out, p)
 }
 
 // The entry of a call by its first argument, whose node is at the cursor, with so many arguments behind it.
@@ -295,10 +303,10 @@ fn put_argument_entry(
     levels: usize,
     d: CallHead,
     range: Span,
-    cs: &[u32],
-    gs: &[u32],
+    cs: &[u32; 3072],
+    gs: &[u32; 4096],
     k: Counts,
-    index: &[u32],
+    index: &[u32; 1026],
     out: &mut [u8],
     p: Place,
 ) -> Place
@@ -312,27 +320,33 @@ fn put_argument_entry(
         (typesFrom (now (source .entry)) (now (cs .entry)) (now (gs .entry)) k)
         (d .kind) (d .span) (argument dots range n xs))) ⌝ }
 {
+    let argument = parse_argument(sheet, source, c, levels);
+    let e = DynamicDependencyDescriptor {
+        kind: d.kind,
+        start: d.span.start,
+        argument,
+        argument_range: range,
+    };
+    if more == 0 {
+        return put_dynamic_entry(sheet, source, c, 0, levels, e, cs, gs, k, index, out, p);
+    }
     match check_node(sheet, source, c, levels) {
         Checked::Refused(_) => p,
         Checked::Is(_, next) => {
-            let mut pairs: [usize; 320] = [0; 320];
-            let argument = parse_argument(sheet, source, c, levels);
-            let import_attributes = parse_dynamic_import_attributes(
+            put_dynamic_entry(
                 sheet,
                 source,
                 next,
                 more,
                 levels,
-                &mut pairs,
-            );
-            let e = DynamicDependencyDescriptor {
-                kind: d.kind,
-                start: d.span.start,
-                argument,
-                argument_range: range,
-                import_attributes,
-            };
-            put_dynamic_entry(sheet, source, levels, e, &pairs, cs, gs, k, index, out, p)
+                e,
+                cs,
+                gs,
+                k,
+                index,
+                out,
+                p,
+            )
         }
     }
 }
@@ -345,10 +359,10 @@ pub fn put_call_entry(
     count: usize,
     levels: usize,
     d: CallHead,
-    cs: &[u32],
-    gs: &[u32],
+    cs: &[u32; 3072],
+    gs: &[u32; 4096],
     k: Counts,
-    index: &[u32],
+    index: &[u32; 1026],
     out: &mut [u8],
     p: Place,
 ) -> Place

@@ -11,10 +11,9 @@ use super::entries::export_kind;
 use super::entries::import_kind;
 use super::entries::put_call_entry;
 use super::entries::put_module_entry;
-use super::entries::put_static_entry;
-use super::entries::put_type_entry;
+use super::entries::put_plain_entry;
+use super::entries::put_with_entry;
 use super::entries::static_dependency;
-use attributes::readings::parse_import_attributes;
 use heads::node::Head;
 use heads::node::HeadRead;
 use heads::node::read_head;
@@ -26,9 +25,7 @@ use heads::parts::read_attributes;
 use heads::parts::read_pieces;
 use heads::parts::read_property;
 use nodes::check::check_attributes;
-use nodes::check::check_node;
 use nodes::check::check_nodes;
-use nodes::tally::Checked;
 use nodes::tally::Tallied;
 use nodes::tally::nodes_of;
 use report::writer::Place;
@@ -58,16 +55,19 @@ ghost use Rattle.dep.specs.Walk.{typesFrom, Quotes, PastHead, walkedAs, 
 // The next place in the buffer, with the cursor past what was walked, or a refusal's number.
 pub enum Walked {
     Is(Place, Cursor),
-    Refused(u8),
+    Refused(usize),
 }
 
 // Is the callee at the cursor the Name `require`?
 fn is_require(sheet: &[u8], source: &[u8], c: Cursor, levels: usize) -> bool
     ensures { λ r. ⌜ ((n : Node) (t : List ℕ) → node (now (source .entry)) levels (drop (c .at) (now (sheet .entry))) ≡ ok n t → r ≡ isRequire (shape n)) ⌝ }
 {
-    match check_node(sheet, source, c, levels) {
-        Checked::Is(j, _) => j.require,
-        Checked::Refused(_) => false,
+    match read_head(sheet, source, c, levels) {
+        HeadRead::Refused(_) => false,
+        HeadRead::Is(_, head, _) => match head {
+            Head::Name(start, end) => heads::texts::is_require(&sheet[start..end]),
+            _ => false,
+        },
     }
 }
 
@@ -80,10 +80,10 @@ fn walk_import(
     there: bool,
     levels: usize,
     d: StaticDependencyDescriptor,
-    cs: &[u32],
-    gs: &[u32],
+    cs: &[u32; 3072],
+    gs: &[u32; 4096],
     k: Counts,
-    index: &[u32],
+    index: &[u32; 1026],
     out: &mut [u8],
     p: Place,
 ) -> Walked
@@ -97,15 +97,31 @@ fn walk_import(
         (behind there (attributesObject (now (source .entry)) levels) (drop (c .at) (now (sheet .entry)))) ⌝ }
     ensures { λ r. ⌜ PastWalked (length (now (sheet .entry))) r ⌝ }
 {
-    match check_attributes(sheet, source, c, there, levels) {
-        Tallied::Refused(r) => Walked::Refused(r),
-        Tallied::Is(_, next) => {
-            let mut pairs: [usize; 320] = [0; 320];
-            let a = parse_import_attributes(sheet, source, c, there, levels, &mut pairs);
-            let p = put_static_entry(sheet, source, d, &pairs, a, cs, gs, k, index, out, p);
-            Walked::Is(p, next)
-        }
+    if there {
+        return match check_attributes(sheet, source, c, there, levels) {
+            Tallied::Refused(r) => Walked::Refused(r),
+            Tallied::Is(_, next) => {
+                let p = put_with_entry(
+                    sheet,
+                    source,
+                    c,
+                    there,
+                    levels,
+                    d,
+                    cs,
+                    gs,
+                    k,
+                    index,
+                    out,
+                    p,
+                    false,
+                );
+                Walked::Is(p, next)
+            }
+        };
     }
+    let p = put_plain_entry(sheet, source, d, cs, gs, k, index, out, p);
+    Walked::Is(p, c)
 }
 
 // The node at a cursor, with so many levels left, its own among them.
@@ -114,10 +130,10 @@ fn walk_node(
     source: &[u8],
     c: Cursor,
     levels: usize,
-    cs: &[u32],
-    gs: &[u32],
+    cs: &[u32; 3072],
+    gs: &[u32; 4096],
     k: Counts,
-    index: &[u32],
+    index: &[u32; 1026],
     out: &mut [u8],
     p: Place,
 ) -> Walked
@@ -156,10 +172,10 @@ fn walk_rest(
     levels: usize,
     span: Span,
     head: Head,
-    cs: &[u32],
-    gs: &[u32],
+    cs: &[u32; 3072],
+    gs: &[u32; 4096],
     k: Counts,
-    index: &[u32],
+    index: &[u32; 1026],
     out: &mut [u8],
     p: Place,
 ) -> Walked
@@ -217,10 +233,10 @@ fn walk_nodes(
     c: Cursor,
     count: usize,
     levels: usize,
-    cs: &[u32],
-    gs: &[u32],
+    cs: &[u32; 3072],
+    gs: &[u32; 4096],
     k: Counts,
-    index: &[u32],
+    index: &[u32; 1026],
     out: &mut [u8],
     p: Place,
 ) -> Walked
@@ -254,10 +270,10 @@ fn walk_argument(
     source: &[u8],
     c: Cursor,
     levels: usize,
-    cs: &[u32],
-    gs: &[u32],
+    cs: &[u32; 3072],
+    gs: &[u32; 4096],
     k: Counts,
-    index: &[u32],
+    index: &[u32; 1026],
     out: &mut [u8],
     p: Place,
 ) -> Walked
@@ -282,10 +298,10 @@ fn walk_arguments(
     c: Cursor,
     count: usize,
     levels: usize,
-    cs: &[u32],
-    gs: &[u32],
+    cs: &[u32; 3072],
+    gs: &[u32; 4096],
     k: Counts,
-    index: &[u32],
+    index: &[u32; 1026],
     out: &mut [u8],
     p: Place,
 ) -> Walked
@@ -320,10 +336,10 @@ fn walk_callee(
     c: Cursor,
     levels: usize,
     span: Span,
-    cs: &[u32],
-    gs: &[u32],
+    cs: &[u32; 3072],
+    gs: &[u32; 4096],
     k: Counts,
-    index: &[u32],
+    index: &[u32; 1026],
     out: &mut [u8],
     p: Place,
 ) -> Walked
@@ -349,10 +365,10 @@ fn visit_call_expr(
     c: Cursor,
     levels: usize,
     d: CallHead,
-    cs: &[u32],
-    gs: &[u32],
+    cs: &[u32; 3072],
+    gs: &[u32; 4096],
     k: Counts,
-    index: &[u32],
+    index: &[u32; 1026],
     out: &mut [u8],
     p: Place,
 ) -> Walked
@@ -405,10 +421,10 @@ fn walk_property(
     source: &[u8],
     c: Cursor,
     levels: usize,
-    cs: &[u32],
-    gs: &[u32],
+    cs: &[u32; 3072],
+    gs: &[u32; 4096],
     k: Counts,
-    index: &[u32],
+    index: &[u32; 1026],
     out: &mut [u8],
     p: Place,
 ) -> Walked
@@ -434,10 +450,10 @@ fn walk_properties(
     c: Cursor,
     count: usize,
     levels: usize,
-    cs: &[u32],
-    gs: &[u32],
+    cs: &[u32; 3072],
+    gs: &[u32; 4096],
     k: Counts,
-    index: &[u32],
+    index: &[u32; 1026],
     out: &mut [u8],
     p: Place,
 ) -> Walked
@@ -472,10 +488,10 @@ fn walk_attributes(
     c: Cursor,
     there: bool,
     levels: usize,
-    cs: &[u32],
-    gs: &[u32],
+    cs: &[u32; 3072],
+    gs: &[u32; 4096],
     k: Counts,
-    index: &[u32],
+    index: &[u32; 1026],
     out: &mut [u8],
     p: Place,
 ) -> Walked
@@ -504,10 +520,10 @@ fn visit_ts_import_type(
     count: usize,
     levels: usize,
     d: StaticDependencyDescriptor,
-    cs: &[u32],
-    gs: &[u32],
+    cs: &[u32; 3072],
+    gs: &[u32; 4096],
     k: Counts,
-    index: &[u32],
+    index: &[u32; 1026],
     out: &mut [u8],
     p: Place,
 ) -> Walked
@@ -526,7 +542,7 @@ fn visit_ts_import_type(
         Tallied::Is(_, next) => match next.flag(sheet) {
             Flag::Refused(r) => Walked::Refused(r),
             Flag::Is(there, at) => {
-                let p = put_type_entry(
+                let p = put_with_entry(
                     sheet,
                     source,
                     at,
@@ -539,6 +555,7 @@ fn visit_ts_import_type(
                     index,
                     out,
                     p,
+                    true,
                 );
                 match walk_nodes(sheet, source, c, count, levels, cs, gs, k, index, out, p) {
                     Walked::Refused(r) => Walked::Refused(r),
@@ -557,10 +574,10 @@ pub fn analyze_program_dependencies(
     source: &[u8],
     root: Cursor,
     count: usize,
-    cs: &[u32],
-    gs: &[u32],
+    cs: &[u32; 3072],
+    gs: &[u32; 4096],
     k: Counts,
-    index: &[u32],
+    index: &[u32; 1026],
     out: &mut [u8],
     p: Place,
 ) -> Place

@@ -57,19 +57,19 @@ pub enum Head {
 // The fields of a head with the cursor past them, or a refusal's number.
 pub enum FieldsRead {
     Is(Head, Cursor),
-    Refused(u8),
+    Refused(usize),
 }
 
 // A String and whether an Object follows, with the cursor past them, or a refusal's number.
 pub enum OriginRead {
     Is(Quoted, bool, Cursor),
-    Refused(u8),
+    Refused(usize),
 }
 
 // A node's span and its head with the cursor past it, or a refusal's number.
 pub enum HeadRead {
     Is(Span, Head, Cursor),
-    Refused(u8),
+    Refused(usize),
 }
 
 fn read_other(sheet: &[u8], c: Cursor) -> FieldsRead

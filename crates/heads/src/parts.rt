@@ -23,13 +23,13 @@ ghost use Rattle.heads.specs.Views.{pieceAs, argumentAs, propertyAs, att
 pub enum PieceRead {
     Cooked(usize, Cursor),
     Uncooked(Cursor),
-    Refused(u8),
+    Refused(usize),
 }
 
 // Is an argument spread, and its span, with the cursor past them, or a refusal's number.
 pub enum ArgumentRead {
     Is(bool, Span, Cursor),
-    Refused(u8),
+    Refused(usize),
 }
 
 // What stands before a property's first node. A key's text is from a place of the sheet to another.
@@ -44,13 +44,13 @@ pub enum Property {
 // A property's head with the cursor past it, or a refusal's number.
 pub enum PropertyRead {
     Is(Property, Cursor),
-    Refused(u8),
+    Refused(usize),
 }
 
 // The span of an Object that holds attributes and the number of its properties, with the cursor past them, or a refusal's number.
 pub enum AttributesRead {
     Is(Span, usize, Cursor),
-    Refused(u8),
+    Refused(usize),
 }
 
 // A piece of a template.

@@ -26,7 +26,7 @@ pub struct Quoted {
 // A String with the cursor past it, or a refusal's number.
 pub enum QuotedRead {
     Is(Quoted, Cursor),
-    Refused(u8),
+    Refused(usize),
 }
 
 // A tag that was read: is it allowed there, and only then, is a level left for its node?

@@ -14,6 +14,7 @@ pub mod Marking
 pub mod Moved
 pub mod Places
 pub mod Searches
+pub mod Skips
 pub mod Steps
 pub mod Suffixes
 pub mod Texts

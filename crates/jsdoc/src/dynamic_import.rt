@@ -4,7 +4,7 @@ use super::answers::ModeRead;
 use super::answers::Searched;
 use super::answers::Skipped;
 use super::answers::Text;
-use super::attributes::block_at;
+use super::block::block_at;
 use super::pieces::skip_whitespace;
 use super::pieces::tag;
 use super::pieces::up_to;

@@ -3,7 +3,7 @@ use super::answers::JsDocImport;
 use super::answers::ModeRead;
 use super::answers::Skipped;
 use super::answers::Text;
-use super::attributes::block_at;
+use super::block::block_at;
 use super::clause::skip_clause;
 use super::pieces::skip_whitespace;
 use super::pieces::tag;

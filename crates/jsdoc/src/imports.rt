@@ -2,6 +2,7 @@
 use super::answers::JsDocImport;
 use super::dynamic_import::parse_jsdoc_dynamic_import;
 use super::import_decl::parse_jsdoc_import_decl;
+use text::bytes::next_of;
 ghost use mathlib.Core.Path.{_≡_};
 ghost use lib.ListN.{length, replicate};
 ghost use Rattle.jsdoc.specs.Grammar.{Brace, ListedBy, Listed};
@@ -48,7 +49,7 @@ fn mark_braces(body: &[u8], marks: &mut [u8])
             mark(marks, i, found);
             i += read.end;
         } else {
-            i += 1;
+            i = next_of(body, i + 1, b'{');
         }
     }
 }
@@ -61,7 +62,7 @@ fn mark_declarations(body: &[u8], marks: &mut [u8])
     let mut i = 0;
     while i < body.len() {
         mark(marks, i, parse_jsdoc_import_decl(&body[i..]));
-        i += 1;
+        i = next_of(body, i + 1, b'@');
     }
 }
 

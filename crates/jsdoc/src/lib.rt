@@ -1,6 +1,6 @@
 // JSDoc imports in the body of a comment: `{import("./a.ts").A}` and `@import A from "./a.ts"`.
 pub mod answers;
-mod attributes;
+mod block;
 mod clause;
 pub mod dynamic_import;
 pub mod import_decl;

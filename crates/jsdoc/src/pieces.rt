@@ -1,5 +1,6 @@
 // The pieces that all readers are made of, from a place of the bytes on; named after monch's.
 use super::answers::Skipped;
+use text::bytes::next_of;
 use text::bytes::starts_with;
 use text::class::Class;
 use text::class::run_end;
@@ -59,12 +60,9 @@ pub fn up_to(s: &[u8], at: usize, mark: u8) -> Skipped
     requires { ⌜ at ≤ length (now s) ⌝ }
     ensures { λ r. ⌜ Finds (now (s .entry)) (upTo mark (drop at (now (s .entry)))) r ⌝ }
 {
-    let mut i = at;
-    while i < s.len() {
-        if s[i] == mark {
-            return Skipped::At(i + 1);
-        }
-        i += 1;
+    let i = next_of(s, at, mark);
+    if i < s.len() {
+        return Skipped::At(i + 1);
     }
     Skipped::Backtrace
 }

@@ -1,5 +1,5 @@
 -- The turns of the loops over the marks, and the bytes that are written.
-use mathlib.Core.Path.{_≡_, ap, sym, _∙_}
+use mathlib.Core.Path.{_≡_, refl, ap, sym, _∙_}
 use mathlib.Core.Bool.{true, false}
 use mathlib.Core.List.{List, [], _∷_, _++_, append-nil, flatMap}
 use Prim.Native.Nat.{ℕ, suc, _+_, _-_, _≤_, _<_}
@@ -10,6 +10,7 @@ use lib.Seq.{drop-cons}
 use Rattle.text.specs.declared.utf8.Encoding.the-variants.{Utf8}
 use Rattle.text.specs.Utf8.{formed}
 use Rattle.text.specs.Bytes.{part}
+use Rattle.laws.proofs.Onward.{carried-to}
 use Rattle.wire.specs.Number.{encodeNumber}
 use Rattle.jsdoc.specs.Parsed.{ok}
 use Rattle.jsdoc.specs.Reader.{parseQuote}
@@ -55,6 +56,16 @@ module _ (marks : List ℕ) (q : ℕ) (h : q < length marks) where
   count-one e =
       let n : getD marks q 0 ≡ suc (getD marks q 0 - 1) = first-mode (getD marks q 0) e in
       ap countOf (first-mark marks q h ∙ ap (_∷ drop (q + 1) marks) n) ∙ sym (add-one (countOf (drop (q + 1) marks)))
+
+-- places without a mark are passed
+module _ (marks : List ℕ) (q r : ℕ) (l : q ≤ r) (h : r ≤ length marks) (none : (k : ℕ) → q ≤ k → k < r → getD marks k 0 ≡ 0) where
+  pub count-skip : countOf (drop q marks) ≡ countOf (drop r marks)
+  count-skip = carried-to (λ k. countOf (drop q marks) ≡ countOf (drop k marks)) q r l refl (λ k g n e. e ∙ count-next marks k (omega arith) (none k g n))
+
+  pub unmarked-skip : (source : List ℕ) → importsFrom source q (drop q marks) ≡ importsFrom source r (drop r marks)
+  unmarked-skip source =
+      carried-to (λ k. importsFrom source q (drop q marks) ≡ importsFrom source k (drop k marks)) q r l refl
+      (λ k g n e. e ∙ unmarked-next source marks k (omega arith) (none k g n))
 
 -- the bytes of an import whose quote was read
 pub encode-import : (source : List ℕ) (at mode from to past : ℕ) → parseQuote (drop at source) ≡ ok (part source from to) (drop past source) → past ≤ length source

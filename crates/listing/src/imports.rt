@@ -8,10 +8,11 @@ use sheet::comments::comment_at;
 use sheet::fields::Span;
 use sheet::lookups::body;
 use sheet::lookups::body_span;
+use text::bytes::next_nonzero;
 ghost use mathlib.Core.Path.{_≡_};
 ghost use mathlib.Core.List.{flatMap};
 ghost use Prim.Native.Nat.{_*_, _≤_};
-ghost use lib.ListN.{length};
+ghost use lib.ListN.{length, replicate};
 ghost use Rattle.sheet.specs.Tables.{commentsIn};
 ghost use Rattle.sheet.specs.Fit.{Fit};
 ghost use Rattle.sheet.specs.Lookups.{HoldsMarks};
@@ -49,14 +50,13 @@ fn mark_comment(source: &[u8], c: Comment, marks: &mut [u8])
     }
 }
 
-// Marks each place of the source at which the place of a reading begins with 1 + its mode, and each other with 0.
+// Marks each place of the source at which the place of a reading begins with 1 + its mode; each other keeps its 0.
 fn mark_comments(source: &[u8], comments: &[u32], n: usize, marks: &mut [u8])
     requires { ⌜ 3 * n ≤ length (now comments) ⌝ }
     requires { ⌜ Fit (now source) (commentsIn (now comments) n) ⌝ }
-    requires { ⌜ length (now marks) ≡ length (now source) ⌝ }
+    requires { ⌜ now marks ≡ replicate (length (now source)) 0 ⌝ }
     ensures { λ r. ⌜ now (marks .exit) ≡ marksOf (now (source .entry)) (commentsIn (now (comments .entry)) n) ⌝ }
 {
-    jsdoc::imports::clear(marks);
     let mut k = 0;
     while k < n {
         mark_comment(source, comment_at(comments, k), marks);
@@ -72,7 +72,7 @@ fn count_marks(marks: &[u8]) -> usize
     let mut q = 0;
     while q < marks.len() {
         if marks[q] == 0 {
-            q += 1;
+            q = next_nonzero(marks, q + 1);
         } else {
             count += 1;
             q += 1;
@@ -119,7 +119,7 @@ fn put_imports(source: &[u8], index: &[u32], marks: &[u8], out: &mut [u8], place
     while q < marks.len() {
         let mark = marks[q];
         if mark == 0 {
-            q += 1;
+            q = next_nonzero(marks, q + 1);
         } else {
             p = put_import(source, index, q, mark - 1, out, p);
             q += 1;
@@ -128,7 +128,7 @@ fn put_imports(source: &[u8], index: &[u32], marks: &[u8], out: &mut [u8], place
     p
 }
 
-// Writes the JSDoc imports of a sheet of this media. `marks` is lent to work in.
+// Writes the JSDoc imports of a sheet of this media. `marks` is lent to work in, and cleared.
 pub fn analyze_jsdoc_imports(
     media: usize,
     source: &[u8],
@@ -140,7 +140,7 @@ pub fn analyze_jsdoc_imports(
     place: Place,
 ) -> Place
     requires { ⌜ Commented (now source) (now comments) n (now index) ⌝ }
-    requires { ⌜ length (now marks) ≡ length (now source) ⌝ }
+    requires { ⌜ now marks ≡ replicate (length (now source)) 0 ⌝ }
     ensures { λ r. ⌜ bufferAs (now (out .exit)) r
         ≡ wrote (bufferAs (now (out .entry)) place)
         (encodeList encodeJsDoc (jsdocImports media (now (source .entry)) (commentsIn (now (comments .entry)) n))) ⌝ }

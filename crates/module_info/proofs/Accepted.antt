@@ -19,6 +19,7 @@ use Rattle.sheet_codec.specs.Limits.{FieldsFit}
 use Rattle.sheet_codec.proofs.Sheets.{accepted-within}
 use Rattle.accept.specs.declared.check.Parts.{Parts}
 use Rattle.accept.specs.Accepts.{Accepts}
+use Rattle.accept.proofs.Refusals.{Decision, decided}
 use Rattle.report.specs.declared.writer.Outcome.{Outcome}
 use Rattle.report.specs.ModuleInfo.{DependencyDescriptor}
 use Rattle.report.specs.Answer.{outcomeAs, refusedWith, fitted}
@@ -102,6 +103,17 @@ module _ {s comments groups : List ℕ} {p : Parts} (a : Accepts s comments grou
 
       shown : (P : Sheet → Type 0) → P (a .sheet) → OfAccepted s P
       shown P h t e = rw (same-sheet e (a .accepted)) h
+
+-- a refusal is at most 9, and so fits a byte
+pub refusal-small : (s : List ℕ) {r : ℕ} → accept s ≡ no r → r ≤ 9
+refusal-small s {r} e = by (decided s)
+  where
+    by : Decision s → r ≤ 9
+    by (Decision.accepted t f) = absurd (refused (sym e ∙ f))
+    by (Decision.refused q low high f) =
+        let g : no q ≡ no r = sym f ∙ e in
+        let same : q ≡ r = cc in
+        rw (← same) high
 
 -- a refused sheet: its answer, and nothing is asked of it beyond
 pub refusal-demanded : (s : List ℕ) {size r : ℕ} {outcome : Outcome} {buffer : List ℕ} → accept s ≡ no r → outcomeAs outcome buffer ≡ refusedWith r size

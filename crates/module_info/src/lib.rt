@@ -21,10 +21,10 @@ use wire::Cursor;
 ghost use mathlib.Core.Path.{_≡_};
 ghost use mathlib.Core.List.{List, []};
 ghost use Prim.Native.Nat.{ℕ, _≤_};
-ghost use lib.ListN.{length};
+ghost use lib.ListN.{length, replicate};
 ghost use Rattle.laws.specs.Decoded.{ok};
 ghost use Rattle.sheet.specs.Sheet.{Sheet, accept};
-ghost use Rattle.accept.specs.Accepts.{Accepts};
+ghost use Rattle.accept.specs.Accepts.{Accepts, Judges};
 ghost use Rattle.report.specs.declared.writer.Outcome.{Outcome};
 ghost use Rattle.report.specs.Buffer.{wrote, bufferAs};
 ghost use Rattle.report.specs.Encode.{encode};
@@ -39,9 +39,9 @@ fn put_dependencies(
     sheet: &[u8],
     source: &[u8],
     parts: Parts,
-    comments: &[u32],
-    groups: &[u32],
-    index: &[u32],
+    comments: &[u32; 3072],
+    groups: &[u32; 4096],
+    index: &[u32; 1026],
     out: &mut [u8],
     place: Place,
 ) -> Place
@@ -93,7 +93,7 @@ fn put_head(
     analyze_jsx_import_source_types(media, source, comments, n, index, head, out, p)
 }
 
-// The JSDoc imports and the source map; `marks` is lent to work in.
+// The JSDoc imports and the source map; `marks` is lent to work in, and cleared.
 fn put_rest(
     source: &[u8],
     parts: Parts,
@@ -104,7 +104,7 @@ fn put_rest(
     out: &mut [u8],
     place: Place,
 ) -> Place
-    requires { ⌜ 32768 ≤ length (now marks) ⌝ }
+    requires { ⌜ (length (now source) ≤ length (now marks)) × (now marks ≡ replicate (length (now marks)) 0) ⌝ }
     requires { ⌜ Held (now source) (now comments) (parts .comments) (now groups) (parts .groups) (now index) ⌝ }
     ensures { λ r. ⌜ ((t : Sheet) → PartsOf t (now (source .entry)) (now (comments .entry)) (now (groups .entry)) parts
         → bufferAs (now (out .exit)) r ≡ wrote (bufferAs (now (out .entry)) place) (restBytes t)) ⌝ }
@@ -125,6 +125,63 @@ fn put_rest(
     analyze_source_map_url(source, comments, n, index, end, out, p)
 }
 
+// The same for a source of at most 4096 bytes: marks for 32768 take longer to clear than many a sheet takes.
+fn put_rest_small(
+    source: &[u8],
+    parts: Parts,
+    comments: &[u32],
+    groups: &[u32],
+    index: &[u32],
+    out: &mut [u8],
+    place: Place,
+) -> Place
+    requires { ⌜ Held (now source) (now comments) (parts .comments) (now groups) (parts .groups) (now index) × (length (now source) ≤ 4096) ⌝ }
+    ensures { λ r. ⌜ ((t : Sheet) → PartsOf t (now (source .entry)) (now (comments .entry)) (now (groups .entry)) parts
+        → bufferAs (now (out .exit)) r ≡ wrote (bufferAs (now (out .entry)) place) (restBytes t)) ⌝ }
+{
+    let mut marks = [0u8; 4096];
+    put_rest(
+        source,
+        parts,
+        comments,
+        groups,
+        index,
+        &mut marks,
+        out,
+        place,
+    )
+}
+
+// The same for any other source.
+fn put_rest_large(
+    source: &[u8],
+    parts: Parts,
+    comments: &[u32],
+    groups: &[u32],
+    index: &[u32],
+    out: &mut [u8],
+    place: Place,
+) -> Place
+    requires { ⌜ Held (now source) (now comments) (parts .comments) (now groups) (parts .groups) (now index) ⌝ }
+    ensures { λ r. ⌜ ((t : Sheet) → PartsOf t (now (source .entry)) (now (comments .entry)) (now (groups .entry)) parts
+        → bufferAs (now (out .exit)) r ≡ wrote (bufferAs (now (out .entry)) place) (restBytes t)) ⌝ }
+{
+    let mut marks = [0u8; 32768];
+    put_rest(
+        source,
+        parts,
+        comments,
+        groups,
+        index,
+        &mut marks,
+        out,
+        place,
+    )
+}
+
+// Does nothing: where an array is lent as a slice, its length is known to the proof.
+fn show_lengths(_comments: &[u32], _groups: &[u32]) {}
+
 // The parts of the report of an accepted sheet, one after the other.
 fn put_report(
     sheet: &[u8],
@@ -142,11 +199,14 @@ fn put_report(
     let end = parts.source_end;
     let source = &sheet[start..end];
     let mut index = [0u32; 1026];
-    let mut marks = [0u8; 32768];
     build_index(source, &mut index);
+    show_lengths(comments, groups);
     let p = put_dependencies(sheet, source, parts, comments, groups, &index, out, place);
     let p = put_head(source, parts, comments, groups, &index, out, p);
-    put_rest(source, parts, comments, groups, &index, &mut marks, out, p)
+    if source.len() <= 4096 {
+        return put_rest_small(source, parts, comments, groups, &index, out, p);
+    }
+    put_rest_large(source, parts, comments, groups, &index, out, p)
 }
 
 // The report of an accepted sheet: the buffer goes into a writer, and is held there to the end.
@@ -170,15 +230,22 @@ fn write_report(
     w.finish()
 }
 
+// Judges a sheet. The table that only the judge works in is here, so that its room on the stack is free again for what follows.
+fn judge(sheet: &[u8], comments: &mut [u32; 3072], groups: &mut [u32; 4096]) -> SheetChecked
+    ensures { λ r. ⌜ Judges (now (sheet .entry)) (now (comments .exit)) (now (groups .exit)) r ⌝ }
+{
+    let mut longest = [0u32; 1024];
+    check_sheet(sheet, comments, groups, &mut longest)
+}
+
 // The report of a sheet, or the first refusal that it meets.
 pub fn module_info(sheet: &[u8], buffer: &mut [u8]) -> Outcome
     ensures { λ r. ⌜ Demands (now (sheet .entry)) (length (now (buffer .entry))) r (now (buffer .exit)) ⌝ }
 {
     let mut comments = [0u32; 3072];
     let mut groups = [0u32; 4096];
-    let mut longest = [0u32; 1024];
-    match check_sheet(sheet, &mut comments, &mut groups, &mut longest) {
-        SheetChecked::Refused(r) => refuse_all(buffer, r),
+    match judge(sheet, &mut comments, &mut groups) {
+        SheetChecked::Refused(r) => refuse_all(buffer, r as u8),
         SheetChecked::Accepted(parts) => write_report(sheet, parts, &comments, &groups, buffer),
     }
 }

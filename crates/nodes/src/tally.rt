@@ -33,19 +33,19 @@ pub struct Passed {
 // What was found in a node, with the cursor past it, or a refusal's number.
 pub enum Checked {
     Is(Judged, Cursor),
-    Refused(u8),
+    Refused(usize),
 }
 
 // What was found in nodes, with the cursor past them, or a refusal's number.
 pub enum Tallied {
     Is(Tally, Cursor),
-    Refused(u8),
+    Refused(usize),
 }
 
 // What was found in arguments, with the cursor past them, or a refusal's number.
 pub enum PassedRead {
     Is(Passed, Cursor),
-    Refused(u8),
+    Refused(usize),
 }
 
 // How many nodes a property holds.

@@ -6,12 +6,12 @@ use Prim.Native.Nat.{ℕ, _+_, _≤_, _<_}
 use native.Mathlib.Nat.{add-assoc}
 use native.Mathlib.Numerals.{add-one}
 use native.Mathlib.Omega.{arith}
-use lib.Dec.{leb}
+use lib.Dec.{eqb, leb}
 use lib.ListN.{length, take, set, length-append, length-take, length-set}
 use lib.Seq.{length-take-le, take-all, take-suc-set}
-use borrow.Author.Tests.{leb-false, le-leb, lt-leb}
+use borrow.Author.Tests.{leb-false, le-leb, lt-leb, ne-eqb}
 use Rattle.report.specs.declared.writer.Place.{Place}
-use Rattle.report.specs.Buffer.{Buffer, holds, full, wrote, bufferAs}
+use Rattle.report.specs.Buffer.{Buffer, holds, full, wrote, fullPlace, bufferAs}
 
 pub wrote-append : (w : Buffer) (a b : List ℕ) → wrote w (a ++ b) ≡ wrote (wrote w a) b
 unfolding wrote
@@ -30,7 +30,7 @@ wrote-cons w b bs = wrote-append w (b ∷ []) bs
 
 pub wrote-nil : (out : List ℕ) (p : Place) → wrote (bufferAs out p) [] ≡ bufferAs out p
 unfolding wrote
-wrote-nil out p = by-full (p .full)
+wrote-nil out p = by-full (eqb (p .at) fullPlace)
   where
     by-full : (t : Bool) → wrote (cond t full (holds (length out) (take (p .at) out))) [] ≡ cond t full (holds (length out) (take (p .at) out))
     by-full true = refl
@@ -39,11 +39,17 @@ wrote-nil out p = by-full (p .full)
         rw (le-leb (length (take (p .at) out) + 0) (length out) room, append-nil)
 
 module _ (out : List ℕ) (at b : ℕ) where
-  pub put-room : at < length out → holds (length (set out at b)) (take (at + 1) (set out at b)) ≡ wrote (holds (length out) (take at out)) (b ∷ [])
+  -- no buffer is as long as the largest number
+  pub put-room : length out < 9223372036854775808 → at < length out → bufferAs (set out at b) (record { at = at + 1 }) ≡ wrote (bufferAs out (record { at = at })) (b ∷ [])
   unfolding wrote
-  put-room h =
-      rw (length-take-le at out (omega arith), le-leb (at + 1) (length out) (omega arith), length-set, add-one, take-suc-set out at b h)
+  put-room l h =
+      rw
+      (ne-eqb (at + 1) fullPlace (λ e. omega (arith, e, l, h)), ne-eqb at fullPlace (λ e. omega (arith, e, l, h)), length-take-le at out (omega arith), le-leb (at + 1) (length out) (omega arith), length-set, add-one, take-suc-set out at b h)
 
-  pub put-none : length out ≤ at → full ≡ wrote (holds (length out) (take at out)) (b ∷ [])
+  pub put-none : length out ≤ at → full ≡ wrote (bufferAs out (record { at = at })) (b ∷ [])
   unfolding wrote
-  put-none h = rw (take-all at out h, lt-leb (length out + 1) (length out) (omega arith))
+  put-none h = by-full (eqb at fullPlace)
+    where
+      by-full : (t : Bool) → full ≡ wrote (cond t full (holds (length out) (take at out))) (b ∷ [])
+      by-full true = refl
+      by-full false = rw (take-all at out h, lt-leb (length out + 1) (length out) (omega arith))

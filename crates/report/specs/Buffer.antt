@@ -2,7 +2,7 @@
 use mathlib.Core.Bool.{cond}
 use mathlib.Core.List.{List, _++_}
 use Prim.Native.Nat.{ℕ, _+_}
-use lib.Dec.{leb}
+use lib.Dec.{eqb, leb}
 use lib.ListN.{length, take}
 use Rattle.report.specs.declared.writer.Place.{Place}
 
@@ -16,6 +16,10 @@ unfoldable pub wrote : Buffer → List ℕ → Buffer
 wrote (holds size xs) bs = cond (leb (length xs + length bs) size) (holds size (xs ++ bs)) full
 wrote full bs = full
 
+-- the place that stands for full: the largest number of the machine, which is no place in any buffer
+abbrev pub fullPlace : ℕ
+fullPlace = 18446744073709551615
+
 -- what a buffer with a place in it stands for
 abbrev pub bufferAs : List ℕ → Place → Buffer
-bufferAs out p = cond (p .full) full (holds (length out) (take (p .at) out))
+bufferAs out p = cond (eqb (p .at) fullPlace) full (holds (length out) (take (p .at) out))

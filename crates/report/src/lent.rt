@@ -19,7 +19,7 @@ pub fn new<'a>(out: &'a mut [u8]) -> Writer<'a>
 {
     Writer {
         out: out,
-        place: Place { at: 0, full: false },
+        place: Place { at: 0 },
     }
 }
 

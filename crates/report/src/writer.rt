@@ -13,10 +13,13 @@ ghost use Rattle.report.specs.Range.{rangeOf, InSource, IndexOf};
 ghost use Rattle.report.specs.Buffer.{wrote, bufferAs};
 ghost use Rattle.report.specs.Answer.{clearedFrom, refusedWith, answered, outcomeAs};
 
-// The next place in the buffer, and whether a byte found no room.
+// The place that stands for full: no buffer is so long. One number, and not a flag beside the place: two are copied as one through memory
+// at each call, right after they are stored one by one, and the processor waits for that.
+const FULL: usize = 18446744073709551615;
+
+// The next place in the buffer, or `FULL` once a byte found no room.
 pub struct Place {
     pub at: usize,
-    pub full: bool,
 }
 
 // The report's length, or a refusal's number.
@@ -31,17 +34,11 @@ impl Place {
         ensures { λ r. ⌜ bufferAs (now (out .exit)) r ≡ wrote (bufferAs (now (out .entry)) self) (b ∷ []) ⌝ }
     {
         let at = self.at;
-        if self.full {
-            return self;
-        }
         if at < out.len() {
             out[at] = b;
-            return Place {
-                at: at + 1,
-                full: false,
-            };
+            return Place { at: at + 1 };
         }
-        Place { at, full: true }
+        Place { at: FULL }
     }
 
     // Writes a flag.
@@ -219,7 +216,7 @@ pub fn finish(out: &mut [u8], place: Place) -> Outcome
     ensures { λ r. ⌜ outcomeAs r (now (out .exit)) ≡ answered (length (now (out .entry))) (bufferAs (now (out .entry)) place) ⌝ }
 {
     let at = place.at;
-    if place.full {
+    if at == FULL {
         return refuse_all(out, 10);
     }
     if at < out.len() {

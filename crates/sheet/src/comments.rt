@@ -21,13 +21,13 @@ pub struct Comment {
 // A comment with the cursor past it, or a refusal's number.
 pub enum CommentRead {
     Is(Comment, Cursor),
-    Refused(u8),
+    Refused(usize),
 }
 
 // A table is filled, and the cursor is past what it holds; or a refusal's number.
 pub enum Filled {
     To(Cursor),
-    Refused(u8),
+    Refused(usize),
 }
 
 // Does the text begin with one mark and end with the other, and is it no shorter than the two?

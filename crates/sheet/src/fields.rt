@@ -17,7 +17,7 @@ pub struct Span {
 // A span with the cursor past it, or a refusal's number.
 pub enum SpanRead {
     Is(Span, Cursor),
-    Refused(u8),
+    Refused(usize),
 }
 
 // Is the place neither past the source nor inside a character?

@@ -24,7 +24,7 @@ pub struct Group {
 // A group with the cursor past it, or a refusal's number.
 pub enum GroupRead {
     Is(Group, Cursor),
-    Refused(u8),
+    Refused(usize),
 }
 
 // The side and the position of the group before, if there is one.

@@ -29,13 +29,13 @@ pub struct Program {
 // The first item's start with the cursor past it, or a refusal's number.
 pub enum FirstRead {
     Is(FirstItem, Cursor),
-    Refused(u8),
+    Refused(usize),
 }
 
 // A program with the cursor past it, or a refusal's number.
 pub enum ProgramRead {
     Is(Program, Cursor),
-    Refused(u8),
+    Refused(usize),
 }
 
 fn read_first_item(sheet: &[u8], source: &[u8], c: Cursor) -> FirstRead

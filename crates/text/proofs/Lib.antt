@@ -1,3 +1,4 @@
+pub mod Ascii
 pub mod Boundary
 pub mod Bounds
 pub mod Cases
@@ -13,6 +14,7 @@ pub mod Reader
 pub mod Replaced
 pub mod Rows
 pub mod Runs
+pub mod Sums
 pub mod TextCases
 pub mod Within
 pub mod Words

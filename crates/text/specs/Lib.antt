@@ -1,9 +1,10 @@
-pub mod Ranges
-pub mod Bytes
-pub mod Utf8
-pub mod Encode
-pub mod WhiteSpace
 pub mod Alphabetic
+pub mod Bytes
 pub mod Class
-pub mod Position
+pub mod Encode
 pub mod Lossy
+pub mod Position
+pub mod Ranges
+pub mod Totals
+pub mod Utf8
+pub mod WhiteSpace

@@ -1,6 +1,7 @@
 // Texts compared byte by byte.
 ghost use mathlib.Core.Path.{_≡_};
-ghost use Prim.Native.Nat.{_<_, _≤_};
+ghost use mathlib.Core.Bool.{true};
+ghost use Prim.Native.Nat.{ℕ, _+_, _<_, _≤_};
 ghost use lib.ListN.{length, getD, drop};
 ghost use Rattle.text.specs.Bytes.{begins, same, order};
 
@@ -68,4 +69,114 @@ pub fn compare(a: &[u8], b: &[u8]) -> Order
         return Order::Less;
     }
     Order::Equal
+}
+
+// How many of the 32 bytes at `at` are `b`.
+fn count_in_block(s: &[u8], at: usize, b: u8) -> u8
+    requires { ⌜ at + 32 ≤ length (now s) ⌝ }
+    ensures { λ r. ⌜ (r ≡ 0 → (k : ℕ) → k < 32 → getD (now (s .entry)) (at + k) 0 ≡ b → ⊥) ⌝ }
+{
+    let mut n: u8 = 0;
+    let mut i: usize = 0;
+    while i < 32 {
+        if s[at + i] == b {
+            n += 1;
+        }
+        i += 1;
+    }
+    n
+}
+
+// Is `b` none of the 32 bytes at `at`, which are all there?
+fn absent_at(s: &[u8], at: usize, b: u8) -> bool
+    requires { ⌜ at ≤ length (now s) ⌝ }
+    ensures { λ r. ⌜ (r ≡ true → (at + 32 ≤ length (now (s .entry))) × ((k : ℕ) → k < 32 → getD (now (s .entry)) (at + k) 0 ≡ b → ⊥)) ⌝ }
+{
+    if s.len() - at < 32 {
+        return false;
+    }
+    count_in_block(s, at, b) == 0
+}
+
+// The place from which on to look for `b` byte by byte: it is nowhere from `at` up to there.
+fn skip_blocks(s: &[u8], at: usize, b: u8) -> usize
+    requires { ⌜ at ≤ length (now s) ⌝ }
+    ensures { λ r. ⌜ (at ≤ r) × (r ≤ length (now (s .entry))) × ((k : ℕ) → at ≤ k → k < r → getD (now (s .entry)) k 0 ≡ b → ⊥) ⌝ }
+{
+    let mut i = at;
+    while absent_at(s, i, b) {
+        i += 32;
+    }
+    i
+}
+
+// The first place of `b` from `at` on, or the end.
+pub fn next_of(s: &[u8], at: usize, b: u8) -> usize
+    requires { ⌜ at ≤ length (now s) ⌝ }
+    ensures { λ r. ⌜ (at ≤ r) × (r ≤ length (now (s .entry))) × ((k : ℕ) → at ≤ k → k < r → getD (now (s .entry)) k 0 ≡ b → ⊥)
+        × (r < length (now (s .entry)) → getD (now (s .entry)) r 0 ≡ b) ⌝ }
+{
+    let mut i = skip_blocks(s, at, b);
+    while i < s.len() {
+        if s[i] == b {
+            return i;
+        }
+        i += 1;
+    }
+    i
+}
+
+// The largest of the 32 bytes at `at`, or more.
+pub fn block_top(s: &[u8], at: usize) -> u8
+    requires { ⌜ at + 32 ≤ length (now s) ⌝ }
+    ensures { λ r. ⌜ ((k : ℕ) → k < 32 → getD (now (s .entry)) (at + k) 0 ≤ r) ⌝ }
+{
+    let mut top: u8 = 0;
+    let mut i: usize = 0;
+    while i < 32 {
+        let b = s[at + i];
+        if top < b {
+            top = b;
+        }
+        i += 1;
+    }
+    top
+}
+
+// Do 32 zeros stand at `at`?
+fn zeros_at(s: &[u8], at: usize) -> bool
+    requires { ⌜ at ≤ length (now s) ⌝ }
+    ensures { λ r. ⌜ (r ≡ true → (at + 32 ≤ length (now (s .entry))) × ((k : ℕ) → k < 32 → getD (now (s .entry)) (at + k) 0 ≡ 0)) ⌝ }
+{
+    if s.len() - at < 32 {
+        return false;
+    }
+    block_top(s, at) == 0
+}
+
+// The place from which on to look byte by byte for what is not 0: from `at` up to there all is 0.
+fn skip_zeros(s: &[u8], at: usize) -> usize
+    requires { ⌜ at ≤ length (now s) ⌝ }
+    ensures { λ r. ⌜ (at ≤ r) × (r ≤ length (now (s .entry))) × ((k : ℕ) → at ≤ k → k < r → getD (now (s .entry)) k 0 ≡ 0) ⌝ }
+{
+    let mut i = at;
+    while zeros_at(s, i) {
+        i += 32;
+    }
+    i
+}
+
+// The first place from `at` on of what is not 0, or the end.
+pub fn next_nonzero(s: &[u8], at: usize) -> usize
+    requires { ⌜ at ≤ length (now s) ⌝ }
+    ensures { λ r. ⌜ (at ≤ r) × (r ≤ length (now (s .entry))) × ((k : ℕ) → at ≤ k → k < r → getD (now (s .entry)) k 0 ≡ 0) ⌝ }
+{
+    let mut i = skip_zeros(s, at);
+    while i < s.len() {
+        if s[i] != 0 {
+            return i;
+        }
+        i += 1;
+    }
+    i
 }

@@ -57,8 +57,8 @@ pub fn in_class(class: Class, code: u32) -> bool
     }
 }
 
-// The length in bytes of the character of the class at `at`, 0 where none stands there.
-pub fn class_at(s: &[u8], at: usize, class: Class) -> usize
+// The same for a character of any length.
+fn wide_class_at(s: &[u8], at: usize, class: Class) -> usize
     requires { ⌜ at ≤ length (now s) ⌝ }
     ensures { λ r. ⌜ r ≡ classAt class (drop at (now (s .entry))) ⌝ }
     ensures { λ r. ⌜ at + r ≤ length (now (s .entry)) ⌝ }
@@ -67,6 +67,25 @@ pub fn class_at(s: &[u8], at: usize, class: Class) -> usize
     let len = c.len;
     let code = c.code;
     if in_class(class, code) { len } else { 0 }
+}
+
+// The length in bytes of the character of the class at `at`, 0 where none stands there.
+pub fn class_at(s: &[u8], at: usize, class: Class) -> usize
+    requires { ⌜ at ≤ length (now s) ⌝ }
+    ensures { λ r. ⌜ r ≡ classAt class (drop at (now (s .entry))) ⌝ }
+    ensures { λ r. ⌜ at + r ≤ length (now (s .entry)) ⌝ }
+{
+    if s.len() <= at {
+        return wide_class_at(s, at, class);
+    }
+    let b = s[at];
+    if b < 0x80 {
+        if in_class(class, b as u32) {
+            return 1;
+        }
+        return 0;
+    }
+    wide_class_at(s, at, class)
 }
 
 // The end of the longest run of the class from `at` on.

@@ -1,9 +1,10 @@
 // Lines and columns of a text, from 0: a line ends at LF, a column counts characters.
 ghost use mathlib.Core.Path.{_≡_};
-ghost use Prim.Native.Nat.{_+_, _-_, _*_, _/_, _≤_, _<_};
-ghost use lib.ListN.{length, take, drop};
+ghost use Prim.Native.Nat.{ℕ, _+_, _-_, _*_, _/_, _≤_, _<_};
+ghost use lib.ListN.{length, getD, take, drop};
 ghost use Rattle.text.specs.Ranges.{within};
 ghost use Rattle.text.specs.Utf8.{continuation};
+ghost use Rattle.text.specs.Totals.{total, endsLine, beginsOne};
 ghost use Rattle.text.specs.Position.{characters, step, walk, stored, kept, Indexed, indexedPosition};
 
 pub struct Position {
@@ -74,6 +75,84 @@ fn get(index: &[u32], k: usize) -> Position
     Position { line, column }
 }
 
+// How many of the 64 bytes at `from` are LF.
+fn lines_in(s: &[u8], from: usize) -> u8
+    requires { ⌜ from + 64 ≤ length (now s) ⌝ }
+    ensures { λ r. ⌜ (r ≡ total endsLine (take 64 (drop from (now (s .entry))))) × (r ≤ 64) ⌝ }
+{
+    let mut n: u8 = 0;
+    let mut i: usize = 0;
+    while i < 64 {
+        if s[from + i] == 0x0A {
+            n += 1;
+        }
+        i += 1;
+    }
+    n
+}
+
+// The place past the last LF among the 64 bytes at `from`, 0 for none.
+fn past_last(s: &[u8], from: usize) -> u8
+    requires { ⌜ from + 64 ≤ length (now s) ⌝ }
+    ensures { λ r. ⌜ (r ≤ 64) × ((k : ℕ) → r ≤ k → k < 64 → getD (now (s .entry)) (from + k) 0 ≡ 0x0A → ⊥)
+        × ((m : ℕ) → r ≡ m + 1 → getD (now (s .entry)) (from + m) 0 ≡ 0x0A) ⌝ }
+{
+    let mut last: u8 = 0;
+    let mut i: usize = 0;
+    let mut next: u8 = 1;
+    while i < 64 {
+        let here = if s[from + i] == 0x0A { next } else { 0 };
+        if last < here {
+            last = here;
+        }
+        i += 1;
+        next += 1;
+    }
+    last
+}
+
+// How many of the 64 bytes at `from`, from the kth on, begin a character.
+fn begun_in(s: &[u8], from: usize, k: u8) -> u8
+    requires { ⌜ (from + 64 ≤ length (now s)) × (k ≤ 64) ⌝ }
+    ensures { λ r. ⌜ (r ≡ total beginsOne (take (64 - k) (drop (from + k) (now (s .entry))))) × (r ≤ 64) ⌝ }
+{
+    let mut n: u8 = 0;
+    let mut i: usize = 0;
+    let mut j: u8 = 0;
+    while i < 64 {
+        let b = s[from + i];
+        if !goes_on(b) {
+            if k <= j {
+                n += 1;
+            }
+        }
+        i += 1;
+        j += 1;
+    }
+    n
+}
+
+// The position past the 64 bytes at `from`, where that at `from` is `p`.
+fn scan_block(s: &[u8], p: Position, from: usize) -> Position
+    requires { ⌜ (from + 64 ≤ length (now s)) × (p .line < 4294967296) × (p .column < 4294967296) ⌝ }
+    ensures { λ r. ⌜ r ≡ walk characters p (take 64 (drop from (now (s .entry)))) ⌝ }
+{
+    let lines = lines_in(s, from);
+    let last = past_last(s, from);
+    let begun = begun_in(s, from, last);
+    let line = p.line + (lines as usize);
+    if last == 0 {
+        return Position {
+            line,
+            column: p.column + (begun as usize),
+        };
+    }
+    Position {
+        line,
+        column: begun as usize,
+    }
+}
+
 // Fills the index: the line and the column at each 64th byte of the text.
 pub fn build_index(s: &[u8], index: &mut [u32])
     requires { ⌜ (length (now s) < 4294967296) × (2 * (length (now s) / 64) + 1 < length (now index)) ⌝ }
@@ -84,7 +163,7 @@ pub fn build_index(s: &[u8], index: &mut [u32])
     let n = s.len() / 64;
     put(index, k, p);
     while k < n {
-        p = scan(s, p, 64 * k, 64 * (k + 1));
+        p = scan_block(s, p, 64 * k);
         k += 1;
         put(index, k, p);
     }

@@ -1,11 +1,13 @@
 // UTF-8 and WTF-8, by the rows of Unicode's table of well-formed byte sequences.
+use super::bytes::block_top;
 use super::bytes::byte_at;
 ghost use mathlib.Core.Path.{_≡_};
+ghost use mathlib.Core.Bool.{true, false};
 ghost use mathlib.Core.List.{[], _∷_};
-ghost use Prim.Native.Nat.{_≤_, _+_};
-ghost use lib.ListN.{length, drop};
+ghost use Prim.Native.Nat.{ℕ, _≤_, _<_, _+_};
+ghost use lib.ListN.{length, getD, drop};
 ghost use Rattle.text.specs.Ranges.{_to_};
-ghost use Rattle.text.specs.Utf8.{admits, continuation, pair, surrogate, besides, rows, lengthBy, charLength, codeBy, charAt, wellFormed};
+ghost use Rattle.text.specs.Utf8.{admits, continuation, pair, surrogate, besides, rows, lengthBy, charLength, codeBy, charAt, formed, wellFormed};
 
 // UTF-8, or WTF-8, in which a surrogate stands by itself too.
 pub enum Encoding {
@@ -145,6 +147,17 @@ fn length_from_three(s: &[u8], at: usize, encoding: Encoding) -> usize
     length_from_four(s, at, encoding)
 }
 
+// The length by the rows from that of two bytes on.
+fn length_from_two(s: &[u8], at: usize, encoding: Encoding) -> usize
+    requires { ⌜ at ≤ length (now s) ⌝ }
+    ensures { λ r. ⌜ r ≡ lengthBy (drop 1 (rows encoding)) (drop at (now (s .entry))) ⌝ }
+{
+    if row2(s, at, 0xC2, 0xDF, 0x80, 0xBF) {
+        return 2;
+    }
+    length_from_three(s, at, encoding)
+}
+
 // How many bytes the character at `at` has; 0 where none of the rows admits what stands there.
 pub fn char_length(s: &[u8], at: usize, encoding: Encoding) -> usize
     requires { ⌜ at ≤ length (now s) ⌝ }
@@ -153,10 +166,7 @@ pub fn char_length(s: &[u8], at: usize, encoding: Encoding) -> usize
     if inside(s, at, 0x00, 0x7F) {
         return 1;
     }
-    if row2(s, at, 0xC2, 0xDF, 0x80, 0xBF) {
-        return 2;
-    }
-    length_from_three(s, at, encoding)
+    length_from_two(s, at, encoding)
 }
 
 // The code point of the `n` bytes at `at`.
@@ -193,17 +203,59 @@ pub fn char_at(s: &[u8], at: usize, encoding: Encoding) -> Char
     Char { len, code }
 }
 
+// Do 32 bytes of ASCII stand at `at`?
+fn ascii_at(s: &[u8], at: usize) -> bool
+    requires { ⌜ at ≤ length (now s) ⌝ }
+    ensures { λ r. ⌜ (r ≡ true → (at + 32 ≤ length (now (s .entry))) × ((k : ℕ) → k < 32 → getD (now (s .entry)) (at + k) 0 < 128)) ⌝ }
+{
+    if s.len() - at < 32 {
+        return false;
+    }
+    block_top(s, at) < 128
+}
+
+// The place 32 bytes on, or the end.
+fn block_end(s: &[u8], at: usize) -> usize
+    requires { ⌜ at < length (now s) ⌝ }
+    ensures { λ r. ⌜ (at < r) × (r ≤ length (now (s .entry))) ⌝ }
+{
+    if s.len() - at < 32 { s.len() } else { at + 32 }
+}
+
+// Character by character from `at` to `stop` or past it; a place before `stop` is one where no character stands.
+fn run_to(s: &[u8], at: usize, stop: usize, encoding: Encoding) -> usize
+    requires { ⌜ (at ≤ stop) × (stop ≤ length (now s)) ⌝ }
+    ensures { λ r. ⌜ (formed encoding 0 (drop at (now (s .entry))) ≡ formed encoding 0 (drop r (now (s .entry))))
+        × (r ≤ length (now (s .entry)))
+        × (r < stop → formed encoding 0 (drop r (now (s .entry))) ≡ false) ⌝ }
+{
+    let mut i = at;
+    while i < stop {
+        let n = char_length(s, i, encoding);
+        if n == 0 {
+            return i;
+        }
+        i += n;
+    }
+    i
+}
+
 // The whole of `s` is one character after the other.
 pub fn well_formed(s: &[u8], encoding: Encoding) -> bool
     ensures { λ r. ⌜ r ≡ wellFormed encoding (now (s .entry)) ⌝ }
 {
     let mut at = 0;
     while at < s.len() {
-        let n = char_length(s, at, encoding);
-        if n == 0 {
-            return false;
+        if ascii_at(s, at) {
+            at += 32;
+        } else {
+            let stop = block_end(s, at);
+            let r = run_to(s, at, stop, encoding);
+            if r < stop {
+                return false;
+            }
+            at = r;
         }
-        at += n;
     }
     true
 }

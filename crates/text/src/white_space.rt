@@ -29,6 +29,13 @@ const BOUNDS: [u32; 20] = [
     0x3001,
 ];
 
+// The same by the table. A function of its own, so that the table is laid out only where it is read.
+fn is_wide_white_space(code: u32) -> bool
+    ensures { λ r. ⌜ r ≡ inRanges whiteSpace code ⌝ }
+{
+    at_most(&BOUNDS, code) % 2 == 1
+}
+
 // Is the code point White_Space? ASCII needs no table.
 pub fn is_white_space(code: u32) -> bool
     ensures { λ r. ⌜ r ≡ inRanges whiteSpace code ⌝ }
@@ -36,5 +43,5 @@ pub fn is_white_space(code: u32) -> bool
     if code < 0x80 {
         return in_either(code, 0x09, 0x0D, 0x20, 0x20);
     }
-    at_most(&BOUNDS, code) % 2 == 1
+    is_wide_white_space(code)
 }

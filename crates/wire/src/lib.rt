@@ -17,19 +17,19 @@ pub struct Cursor {
 // A number with the cursor past it, or a refusal's number.
 pub enum Read {
     Value(usize, Cursor),
-    Refused(u8),
+    Refused(usize),
 }
 
 // A flag with the cursor past it, or a refusal's number.
 pub enum Flag {
     Is(bool, Cursor),
-    Refused(u8),
+    Refused(usize),
 }
 
 // Where a text starts, with the cursor at its end, or a refusal's number.
 pub enum Text {
     From(usize, Cursor),
-    Refused(u8),
+    Refused(usize),
 }
 
 // A last group is not 0, unless it is the only one.

@@ -9,19 +9,28 @@ build-index-requires : tie.Need-build-index-requires
 build-index-requires c κs = let short = source-short (c .before .before .before .before .pre) in (omega arith, omega arith)
 
 put-dependencies-requires : tie.Need-put-dependencies-requires
-put-dependencies-requires c κs = lent (c .before .before .before .before .before .before .before .before .before .before .pre) (search needs) (search needs) (search needs) (c .before .before .before .before .before .build-index .ensures)
+put-dependencies-requires c κs = lent (c .before .before .before .before .before .before .before .before .before .before .before .pre) (search needs) (search needs) (search needs) (c .before .before .before .before .before .before .build-index .ensures)
 
 put-head-requires : tie.Need-put-head-requires
-put-head-requires c κs = lent (c .before .before .before .before .before .before .before .before .before .before .before .before .before .before .before .before .before .pre) (search needs) (search needs) (search needs) (c .before .before .before .before .before .before .before .before .before .before .before .before .build-index .ensures)
+put-head-requires c κs = lent (c .before .before .before .before .before .before .before .before .before .before .before .before .before .before .before .before .before .before .pre) (search needs) (search needs) (search needs) (c .before .before .before .before .before .before .before .before .before .before .before .before .before .build-index .ensures)
 
-put-rest-requires : tie.Need-put-rest-requires
-put-rest-requires c κs = (search needs, lent (c .before .before .before .before .before .before .before .before .before .before .before .before .before .before .before .before .before .before .before .before .before .before .before .before .before .pre) (search needs) (search needs) (search needs) (c .before .before .before .before .before .before .before .before .before .before .before .before .before .before .before .before .before .before .before .before .build-index .ensures))
+put-rest-small-requires : tie.Need-put-rest-small-requires
+put-rest-small-requires c κs = (lent (c .before .before .before .before .before .before .before .before .before .before .before .before .before .before .before .before .before .before .before .before .before .before .before .before .before .before .pre) (search needs) (search needs) (search needs) (c .before .before .before .before .before .before .before .before .before .before .before .before .before .before .before .before .before .before .before .before .before .build-index .ensures), c .before .before .before .before .if1 .taken)
 
 returns : tie.Need-returns
 returns c =
     λ t e.
     let a = c .before .before .before .before .before .before .before .before .before .before .before .before .before .before .before .before .before .before .before .before .before .before .before .before .before .before .before .before .before .pre in
-    report-written t _ (c .before .before .before .before .before .before .before .before .before .before .before .before .before .before .before .before .before .before .put-dependencies .ensures t (parts-of a e) (root-of a e)) (c .before .before .before .before .before .before .before .before .before .before .before .put-head .ensures t (parts-of a e)) (c .before .before .before .put-rest .ensures t (parts-of a e))
+    report-written t _ (c .before .before .before .before .before .before .before .before .before .before .before .before .before .before .before .before .before .put-dependencies .ensures t (parts-of a e) (root-of a e)) (c .before .before .before .before .before .before .before .before .before .before .put-head .ensures t (parts-of a e)) (c .before .before .put-rest-small .ensures t (parts-of a e))
+
+put-rest-large-requires : tie.Need-put-rest-large-requires
+put-rest-large-requires c κs = lent (c .before .before .before .before .before .before .before .before .before .before .before .before .before .before .before .before .before .before .before .before .before .before .before .before .before .before .pre) (search needs) (search needs) (search needs) (c .before .before .before .before .before .before .before .before .before .before .before .before .before .before .before .before .before .before .before .before .before .build-index .ensures)
+
+returns-2 : tie.Need-returns-2
+returns-2 c =
+    λ t e.
+    let a = c .before .before .before .before .before .before .before .before .before .before .before .before .before .before .before .before .before .before .before .before .before .before .before .before .before .before .before .before .before .pre in
+    report-written t _ (c .before .before .before .before .before .before .before .before .before .before .before .before .before .before .before .before .before .put-dependencies .ensures t (parts-of a e) (root-of a e)) (c .before .before .before .before .before .before .before .before .before .before .put-head .ensures t (parts-of a e)) (c .before .before .put-rest-large .ensures t (parts-of a e))
 
 pub put-report-spec : {M : Type 1} → statement M
 put-report-spec =
@@ -32,12 +41,15 @@ put-report-spec =
     (λ c. search needs)
     (λ c. search needs)
     build-index-requires
-    (λ c. search needs)
+    (λ c κs. search needs)
     put-dependencies-requires
     (λ c. search needs)
     put-head-requires
     (λ c. search needs)
+    put-rest-small-requires
     (λ c. search needs)
-    put-rest-requires
+    returns
     (λ c. search needs)
-    returns)
+    put-rest-large-requires
+    (λ c. search needs)
+    returns-2)

@@ -1,48 +1,68 @@
--- `put_argument_entry`: the entry with the argument and the attributes that were read.
+-- `put_argument_entry`: the entry with the argument and the attributes that were read. With no argument behind the first it does not matter where
+-- the first ends.
 use borrow.Author.Needs.{needs}
-use mathlib.Core.Path.{sym, ap, _∙_}
+use mathlib.Core.Path.{_≡_, sym, ap, _∙_}
+use mathlib.Core.List.{List}
+use Prim.Native.Nat.{ℕ}
 use lib.ListN.{drop}
 use denote.Ref.{now}
+use Rattle.laws.specs.Decoded.{ok, Decoder}
 use Rattle.laws.proofs.Decoding.{refused, onOk-no, same-rest}
 use Rattle.laws.proofs.Steps.{seen}
-use Rattle.sheet.specs.Nodes.{node, arguments}
+use Rattle.sheet.specs.Tree.{Node, Arguments, noArguments}
+use Rattle.sheet.specs.Nodes.{many, node, arguments}
 use Rattle.nodes.specs.Judged.{judged}
 use Rattle.nodes.specs.Answers.{checkedAs}
-use Rattle.report.specs.Buffer.{bufferAs}
 use Rattle.arguments.specs.Argument.{argumentOf}
-use Rattle.dep.specs.declared.entries.DynamicDependencyDescriptor.{DynamicDependencyDescriptor}
 use Rattle.dep.specs.Collect.{callEntry}
-use Rattle.dep.specs.Walk.{typesFrom, wroteEntries, dynamicOf}
 use Rattle.dep.proofs.entries.put_argument_entry.Statement.{statement}
 use Rattle.dep.proofs.entries.put_argument_entry.Tie as tie
 
-put-dynamic-entry-requires : tie.Need-put-dynamic-entry-requires
-put-dynamic-entry-requires c κs = (c .before .before .before .before .before .before .before .before .before .before .before .before .before .before .before .before .pre .0, c .before .before .before .before .before .before .before .before .before .before .before .before .before .before .before .before .pre .1, c .before .before .before .before .before .parse-argument .ensures .1, c .before .before .before .parse-dynamic-import-attributes .ensures .1)
+none-anywhere : (inner : Decoder Node) (source t : List ℕ) {u : List ℕ} {xs : Arguments} → arguments inner source 0 t ≡ ok xs u → (s : List ℕ) → arguments inner source 0 s ≡ ok xs s
+unfolding arguments many
+none-anywhere inner source t {u} {xs} e s =
+    let read : ok noArguments t ≡ ok xs u = e in
+    let none : noArguments ≡ xs = cc in
+    ap (λ x. ok x s) none
 
 returns : tie.Need-returns
+unfolding callEntry
 returns c =
     let a = c .before .before .before .before .before .before .before .before .before .args in
+    λ dots n xs t u is are.
+    c .before .before .put-dynamic-entry .ensures (argumentOf n) xs (drop (a .c .at) (now (a .sheet))) (c .before .before .before .before .before .parse-argument .ensures .0 n t is) (none-anywhere (node (now (a .source)) (a .levels)) (now (a .source)) t (rw (c .before .before .before .before .if1 .taken) at are) (drop (a .c .at) (now (a .sheet))))
+
+returns-2 : tie.Need-returns-2
+returns-2 c =
+    let a = c .before .before .before .before .before .before .before .before .args in
     let s = now (a .sheet) in
     let source = now (a .source) in
     let x = node source (a .levels) (drop (a .c .at) s) in
     λ dots n xs t u is are. absurd (refused (sym (onOk-no judged x (seen (checkedAs s) (c .before .before .check-node .ensures .0) (c .enum-told .given .1))) ∙ is))
 
-returns-2 : tie.Need-returns-2
+returns-3 : tie.Need-returns-3
 unfolding callEntry
-returns-2 c =
-    let a = c .before .before .before .before .before .before .before .before .before .before .before .before .before .before .before .before .before .before .before .args in
+returns-3 c =
+    let a = c .before .before .before .before .before .before .before .before .before .before .before .before .before .args in
     let s = now (a .sheet) in
     let source = now (a .source) in
-    let types = typesFrom source (now (a .cs)) (now (a .gs)) (a .k) in
-    let w = bufferAs (now (a .out)) (a .p) in
     let x = node source (a .levels) (drop (a .c .at) s) in
-    let d : DynamicDependencyDescriptor =
-    record { kind = a .d .kind; start = a .d .span .start; argument = c .before .before .before .before .before .before .before .before .parse-argument .result; «argument_range» = a .range; «import_attributes» = c .before .before .before .before .before .before .parse-dynamic-import-attributes .result } in
     λ dots n xs t u is are.
-    c .before .before .put-dynamic-entry .ensures (argumentOf n) (c .before .before .before .before .before .before .before .before .parse-argument .ensures .0 n t is)
-    ∙ ap (λ b. wroteEntries w (dynamicOf source types d (argumentOf n) b))
-    (c .before .before .before .before .before .before .parse-dynamic-import-attributes .ensures .0 xs u
-    (ap (arguments (node source (a .levels)) source (a .more)) (same-rest judged x is (seen (checkedAs s) (c .before .before .before .before .before .before .before .before .before .before .before .before .check-node .ensures .0) (c .before .before .before .before .before .before .before .before .before .before .next .given .1))) ∙ are))
+    c .before .before .put-dynamic-entry2 .ensures (argumentOf n) xs u (c .before .before .before .before .before .before .before .before .before .parse-argument .ensures .0 n t is)
+    (ap (arguments (node source (a .levels)) source (a .more)) (same-rest judged x is (seen (checkedAs s) (c .before .before .before .before .before .before .before .check-node .ensures .0) (c .before .before .before .before .before .next .given .1))) ∙ are)
 
 pub put-argument-entry-spec : {M : Type 1} → statement M
-put-argument-entry-spec = tie.close (tie.spec (λ c κs. search needs) (λ c. search needs) (λ c. search needs) (λ c κs. search needs) (λ c. search needs) (λ c κs. search needs) (λ c. search needs) put-dynamic-entry-requires returns (λ c. search needs) returns-2)
+put-argument-entry-spec =
+    tie.close
+    (tie.spec
+    (λ c κs. search needs)
+    (λ c κs. search needs)
+    (λ c. search needs)
+    returns
+    (λ c κs. search needs)
+    (λ c. search needs)
+    (λ c. search needs)
+    (λ c κs. search needs)
+    returns-2
+    (λ c. search needs)
+    returns-3)

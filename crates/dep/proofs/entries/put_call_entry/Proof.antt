@@ -17,14 +17,14 @@ use Rattle.dep.proofs.entries.put_call_entry.Tie as tie
 
 put-argument-entry-requires : tie.Need-put-argument-entry-requires
 put-argument-entry-requires c κs =
-    let a = c .before .before .before .before .before .before .before .before .before .before .before .before .before .args in
+    let a = c .before .before .before .before .before .before .before .before .before .before .args in
     let s = now (a .sheet) in
     let source = now (a .source) in
-    (c .before .before .before .before .before .before .before .before .before .before .before .before .before .pre, argument-spanned source (drop (a .c .at) s) (seen (argumentAs s) (c .before .before .before .before .read-argument .ensures .0) (c .before .before .range .given .1)))
+    (c .before .before .before .before .before .before .before .before .before .before .pre, argument-spanned source (drop (a .c .at) s) (seen (argumentAs s) (c .before .before .before .before .read-argument .ensures .0) (c .before .before .range .given .1)))
 
 returns : tie.Need-returns
 returns c =
-    let a = c .before .before .before .before .before .before .before .before .before .before .before .args in
+    let a = c .before .before .before .before .before .before .before .before .args in
     let s = now (a .sheet) in
     let source = now (a .source) in
     let inner = node source (a .levels) in
@@ -33,7 +33,7 @@ returns c =
 
 returns-2 : tie.Need-returns-2
 returns-2 c =
-    let a = c .before .before .before .before .before .before .before .before .before .before .before .before .before .before .before .before .args in
+    let a = c .before .before .before .before .before .before .before .before .before .before .before .before .before .args in
     let s = now (a .sheet) in
     let source = now (a .source) in
     let types = typesFrom source (now (a .cs)) (now (a .gs)) (a .k) in
@@ -49,7 +49,7 @@ returns-2 c =
 returns-3 : tie.Need-returns-3
 unfolding callEntry
 returns-3 c =
-    let a = c .before .before .before .before .before .before .before .before .args in
+    let a = c .before .before .before .before .before .args in
     let s = now (a .sheet) in
     let source = now (a .source) in
     let inner = node source (a .levels) in
@@ -58,7 +58,7 @@ returns-3 c =
 
 returns-4 : tie.Need-returns-4
 returns-4 c =
-    let a = c .before .before .before .before .before .before .before .args in
+    let a = c .before .before .before .before .args in
     λ xs t is. rw (c .if1 .left) (sym (entries-nil (now (a .out)) (a .p)))
 
 pub put-call-entry-spec : {M : Type 1} → statement M

@@ -82,7 +82,7 @@ pub +visit-call-expr+visit-ts-import-type+walk-argument+walk-arguments+walk-attr
     (λ c κs. search needs)
     (λ c. search needs)
     (λ c. search needs)
-    (ImportType.put-type-entry-requires t)
+    (ImportType.put-with-entry-requires t)
     (ImportType.walk-nodes-requires t)
     (λ c. search needs)
     (λ c. search needs)

@@ -1,35 +1,60 @@
--- `is_require`: what the check of the callee finds.
+-- `is_require`: what the head of the callee says.
 use borrow.Author.Needs.{needs}
-use mathlib.Core.Path.{_≡_, sym, ap, _∙_}
-use lib.ListN.{drop}
+use mathlib.Core.Path.{_∙_}
+use native.Mathlib.Omega.{arith}
 use denote.Ref.{now}
-use Rattle.laws.proofs.Decoding.{refused, onOk-ok, onOk-no}
 use Rattle.laws.proofs.Steps.{seen}
-use Rattle.sheet.specs.Nodes.{node}
-use Rattle.sheet.specs.Shape.{shape, isRequire}
-use Rattle.nodes.specs.Judged.{judged}
-use Rattle.nodes.specs.Answers.{checkedAs}
+use Rattle.heads.specs.Views.{headAs}
+use Rattle.heads.proofs.ByHead.{no-head}
+use Rattle.dep.proofs.Callee.{name-is, other-is}
 use Rattle.dep.proofs.walk.is_require.Statement.{statement}
 use Rattle.dep.proofs.walk.is_require.Tie as tie
 
+sub-is-require : tie.Need-sub-is-require
+sub-is-require c =
+    let past = rw (c .before .before .before .before .head .given .1) at (c .before .before .before .before .before .before .read-head .ensures .1) in
+    let w = rw (c .before .head2 .given .1) at (past .3) in
+    omega arith
+
+part-is-require-start : tie.Need-part-is-require-start
+part-is-require-start c =
+    let past = rw (c .before .before .before .before .head .given .1) at (c .before .before .before .before .before .before .read-head .ensures .1) in
+    let w = rw (c .before .head2 .given .1) at (past .3) in
+    omega arith
+
+part-is-require-end : tie.Need-part-is-require-end
+part-is-require-end c =
+    let past = rw (c .before .before .before .before .head .given .1) at (c .before .before .before .before .before .before .read-head .ensures .1) in
+    let w = rw (c .before .head2 .given .1) at (past .3) in
+    omega arith
+
 returns : tie.Need-returns
 returns c =
-    let a = c .before .before .before .before .before .before .args in
-    let s = now (a .sheet) in
-    let x = node (now (a .source)) (a .levels) (drop (a .c .at) s) in
-    let says = seen (checkedAs s) (c .before .before .before .check-node .ensures .0) (c .before .j .given .1) in
-    λ n t is.
-    let (m, found, gives) = onOk-ok judged x says in
-    let both = sym found ∙ is in
-    let same : m ≡ n = cc in
-    sym (ap (λ j. j .require) gives) ∙ ap (λ n. isRequire (shape n)) same
+    let a = c .before .before .before .before .before .args in
+    λ n t e. absurd (no-head (now (a .source)) (a .levels) _ e (seen (headAs (now (a .sheet))) (c .before .before .read-head .ensures .0) (c .enum-told .given .1)))
 
 returns-2 : tie.Need-returns-2
 returns-2 c =
-    let a = c .before .before .before .before .before .args in
-    let s = now (a .sheet) in
-    let x = node (now (a .source)) (a .levels) (drop (a .c .at) s) in
-    λ n t is. absurd (refused (sym (onOk-no judged x (seen (checkedAs s) (c .before .before .check-node .ensures .0) (c .enum-told .given .1))) ∙ is))
+    let a = c .before .before .before .before .before .before .before .before .before .before .before .args in
+    λ n t e. c .is-require .ensures ∙ name-is (now (a .sheet)) (now (a .source)) (a .c .at) (a .levels) (c .before .before .before .before .before .before .before .before .read-head .ensures .0) (c .before .before .before .before .before .before .head .given .1) e (c .before .before .before .head2 .given .1)
+
+returns-3 : tie.Need-returns-3
+returns-3 c =
+    let a = c .before .before .before .before .before .before .before .args in
+    λ n t e. other-is (now (a .sheet)) (now (a .source)) (a .c .at) (a .levels) (c .before .before .before .before .read-head .ensures .0) (c .before .before .head .given .1) e (c .match2 .keys2)
 
 pub is-require-spec : {M : Type 1} → statement M
-is-require-spec = tie.close (tie.spec (λ c κs. search needs) (λ c. search needs) (λ c. search needs) returns returns-2)
+is-require-spec =
+    tie.close
+    (tie.spec
+    (λ c κs. search needs)
+    (λ c. search needs)
+    (λ c. search needs)
+    (λ c. search needs)
+    sub-is-require
+    part-is-require-start
+    part-is-require-end
+    (λ c κs. search needs)
+    returns
+    returns-2
+    returns-3)

@@ -1,8 +1,9 @@
--- `walk_import`: the entry is that of the attributes that were read.
+-- `walk_import`: the entry is that of the attributes that were read, or of none.
 use borrow.Author.Needs.{needs}
-use mathlib.Core.Path.{ap, _∙_}
+use mathlib.Core.Path.{ap}
 use lib.ListN.{drop}
 use denote.Ref.{now}
+use Rattle.laws.specs.Decoded.{ok}
 use Rattle.laws.proofs.Decoding.{onOk-no}
 use Rattle.laws.proofs.Steps.{seen}
 use Rattle.sheet.specs.Nodes.{attributesObject}
@@ -10,14 +11,15 @@ use Rattle.heads.specs.Rest.{behind}
 use Rattle.nodes.specs.Judged.{tallyWith}
 use Rattle.nodes.specs.Answers.{talliedAs}
 use Rattle.report.specs.Buffer.{bufferAs}
-use Rattle.dep.specs.Walk.{typesFrom, wroteEntries, staticOf}
+use Rattle.attributes.specs.Attributes.{staticAttributes}
+use Rattle.dep.specs.Walk.{typesFrom}
 use Rattle.dep.proofs.Arms.{import-written}
 use Rattle.dep.proofs.walk.walk_import.Statement.{statement}
 use Rattle.dep.proofs.walk.walk_import.Tie as tie
 
 returns : tie.Need-returns
 returns c =
-    let a = c .before .before .before .before .before .before .before .before .before .before .args in
+    let a = c .before .before .before .before .before .before .before .before .args in
     let s = now (a .sheet) in
     let source = now (a .source) in
     let x = behind (a .there) (attributesObject source (a .levels)) (drop (a .c .at) s) in
@@ -25,14 +27,20 @@ returns c =
 
 returns-2 : tie.Need-returns-2
 returns-2 c =
-    let a = c .before .before .before .before .before .before .before .before .before .before .before .before .before .before .before .before .before .before .args in
+    let a = c .before .before .before .before .before .before .before .before .before .before .before .before .args in
     let s = now (a .sheet) in
     let source = now (a .source) in
     let types = typesFrom source (now (a .cs)) (now (a .gs)) (a .k) in
     let w = bufferAs (now (a .out)) (a .p) in
     let x = behind (a .there) (attributesObject source (a .levels)) (drop (a .c .at) s) in
-    let past = rw (c .before .before .before .before .before .before .before .before .before .next .given .1) at (c .before .before .before .before .before .before .before .before .before .before .before .check-attributes .ensures .1) in
-    (import-written source types w s (a .d) x (seen (talliedAs s) (c .before .before .before .before .before .before .before .before .before .before .before .check-attributes .ensures .0) (c .before .before .before .before .before .before .before .before .before .next .given .1)) (λ b t is. c .before .before .put-static-entry .ensures ∙ ap (λ y. wroteEntries w (staticOf source types s (a .d) y)) (c .before .before .before .before .before .before .parse-import-attributes .ensures .0 b t is)), past .0)
+    let past = rw (c .before .before .before .before .before .next .given .1) at (c .before .before .before .before .before .before .before .check-attributes .ensures .1) in
+    (import-written source types w s (a .d) x (seen (talliedAs s) (c .before .before .before .before .before .before .before .check-attributes .ensures .0) (c .before .before .before .before .before .next .given .1)) (c .before .before .put-with-entry .ensures), past .0)
+
+returns-3 : tie.Need-returns-3
+unfolding staticAttributes
+returns-3 c =
+    let a = c .before .before .before .before .before .before .before .before .args in
+    (rw (c .before .before .before .before .if1 .left) (ap (λ w. ok w (drop (a .c .at) (now (a .sheet)))) (c .before .before .put-plain-entry .ensures)), c .before .before .before .before .before .before .before .before .pre .2)
 
 pub walk-import-spec : {M : Type 1} → statement M
-walk-import-spec = tie.close (tie.spec (λ c κs. search needs) (λ c. search needs) (λ c. search needs) (λ c. search needs) (λ c κs. search needs) (λ c. search needs) (λ c κs. search needs) returns (λ c. search needs) returns-2)
+walk-import-spec = tie.close (tie.spec (λ c κs. search needs) (λ c. search needs) (λ c. search needs) (λ c κs. search needs) returns (λ c. search needs) returns-2 (λ c κs. search needs) (λ c. search needs) returns-3)

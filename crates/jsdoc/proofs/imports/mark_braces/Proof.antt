@@ -1,7 +1,7 @@
 use borrow.Author.Needs.{needs}
 use native.Mathlib.Omega.{arith}
 use mathlib.Core.Path.{sym, ap, _∙_}
-use Prim.Native.Nat.{_≤_, _-_}
+use Prim.Native.Nat.{_+_, _≤_, _-_}
 use lib.ListN.{length, length-drop, length-replicate}
 use denote.Ref.{now}
 use Rattle.jsdoc.specs.Grammar.{Brace}
@@ -9,6 +9,7 @@ use Rattle.jsdoc.specs.Marks.{Marks}
 use Rattle.jsdoc.proofs.Moved.{part-to-end}
 use Rattle.jsdoc.proofs.Searches.{search-goes-on}
 use Rattle.jsdoc.proofs.Marking.{Before, braces, room, marks-none, braces-all, no-brace-turn, brace-turn}
+use Rattle.jsdoc.proofs.Skips.{braces-skip}
 use Rattle.jsdoc.proofs.imports.mark_braces.Statement.{statement}
 use Rattle.jsdoc.proofs.imports.mark_braces.Tie as tie
 
@@ -50,7 +51,14 @@ loop-again c =
     (omega (arith, t .inside, length-drop i b), rw (c .before .before .before .mark .ensures) (brace-turn b i (c .before .before .before .before .before .before .before .before .before .before .loop .inv .1) (c .before .before .before .before .before .before .before .before .before .loop-test .taken) (c .before .before .before .before .before .before .before .if1 .taken) _ t))
 
 loop-again-2 : tie.Need-loop-again-2 Inv-loop μ-loop
-loop-again-2 c = (omega arith, no-brace-turn _ (c .before .before .before .loop .i) (c .before .before .before .loop .inv .1) (c .before .before .loop-test .taken) (c .if1 .left))
+loop-again-2 c =
+    let b = now (c .before .before .before .before .before .before .before .args .body) in
+    let l = c .before .before .before .before .loop in
+    let f = c .next-of .ensures in (
+      f .1,
+      braces-skip b (l .i + 1) (c .next-of .result) (f .0) (f .1) (f .2)
+          (no-brace-turn b (l .i) (l .inv .1) (c .before .before .before .loop-test .taken) (c .before .if1 .left)),
+    )
 
 same-length : tie.Need-same-length Inv-loop μ-loop
 same-length c = c .before .loop .inv .1 .same ∙ sym (ap length (c .before .before .before .before .pre) ∙ length-replicate _ 0)
@@ -75,7 +83,8 @@ mark-braces-spec =
     loop-less
     loop-again
     (λ c. search needs)
-    (λ c. search needs)
+    (λ c κs. search needs)
+    (λ c. omega (arith, c .next-of .ensures .0, c .next-of .ensures .1))
     loop-again-2
     same-length
     returns)

@@ -1,11 +1,12 @@
 use borrow.Author.Needs.{needs}
 use native.Mathlib.Omega.{arith}
-use Prim.Native.Nat.{_≤_, _-_}
+use Prim.Native.Nat.{_+_, _≤_, _-_}
 use lib.ListN.{length}
 use denote.Ref.{now}
 use Rattle.jsdoc.specs.Marks.{Marks}
 use Rattle.jsdoc.proofs.Moved.{part-to-end}
 use Rattle.jsdoc.proofs.Marking.{Besides, declarations, room, besides-none, listed-all, declaration-turn}
+use Rattle.jsdoc.proofs.Skips.{declarations-skip}
 use Rattle.jsdoc.proofs.imports.mark_declarations.Statement.{statement}
 use Rattle.jsdoc.proofs.imports.mark_declarations.Tie as tie
 
@@ -26,10 +27,14 @@ mark-requires c κs =
 
 loop-again : tie.Need-loop-again Inv-loop μ-loop
 loop-again c =
-    let b = now (c .before .before .before .before .before .before .before .before .before .before .args .body) in
-    let i = c .before .before .before .before .before .before .before .loop .i in (
-      omega (arith, c .before .before .before .before .before .before .loop-test .taken),
-      rw (c .before .before .mark .ensures) (declaration-turn b i (c .before .before .before .before .before .before .before .loop .inv .1) (c .before .before .before .before .before .before .loop-test .taken) _ (rw (part-to-end b i) at (c .before .before .before .parse-jsdoc-import-decl .ensures))),
+    let b = now (c .before .before .before .before .before .before .before .before .before .before .before .args .body) in
+    let l = c .before .before .before .before .before .before .before .before .loop in
+    let n = c .before .before .before .before .before .before .before .loop-test .taken in
+    let f = c .next-of .ensures in (
+      f .1,
+      rw (c .before .before .before .mark .ensures)
+          (declarations-skip b (l .i + 1) (c .next-of .result) (f .0) (f .1) (f .2)
+          (declaration-turn b (l .i) (l .inv .1) n _ (rw (part-to-end b (l .i)) at (c .before .before .before .before .parse-jsdoc-import-decl .ensures)))),
     )
 
 returns : tie.Need-returns Inv-loop μ-loop
@@ -48,7 +53,8 @@ mark-declarations-spec =
     (λ c κs. search needs)
     mark-requires
     (λ c. search needs)
-    (λ c. search needs)
+    (λ c κs. search needs)
+    (λ c. omega (arith, c .next-of .ensures .0, c .next-of .ensures .1))
     loop-again
     (λ c. search needs)
     returns)

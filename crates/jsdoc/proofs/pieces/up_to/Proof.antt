@@ -1,41 +1,35 @@
 use borrow.Author.Needs.{needs}
+use native.Mathlib.Omega.{arith}
 use mathlib.Core.Path.{_≡_, refl, sym, _∙_}
-use Prim.Native.Nat.{_≤_, _-_}
-use lib.ListN.{length, drop}
+use mathlib.Core.List.{List}
+use Prim.Native.Nat.{ℕ, _≤_, _<_}
+use lib.ListN.{length, drop, getD}
+use denote.Ref.{now}
+use Rattle.laws.proofs.Onward.{carried-to}
 use Rattle.jsdoc.specs.Reader.{upTo}
 use Rattle.jsdoc.proofs.Steps.{upTo-ended, upTo-here, upTo-further}
 use Rattle.jsdoc.proofs.pieces.up_to.Statement.{statement}
 use Rattle.jsdoc.proofs.pieces.up_to.Tie as tie
 
-abbrev Inv-loop : tie.InvT-loop
-Inv-loop s at mark i₀ i = (i ≤ length s) × (upTo mark (drop at s) ≡ upTo mark (drop i s))
+upTo-skip : (m : ℕ) (s : List ℕ) (i r : ℕ) → i ≤ r → r ≤ length s → ((k : ℕ) → i ≤ k → k < r → getD s k 0 ≡ m → ⊥)
+    → upTo m (drop i s) ≡ upTo m (drop r s)
+upTo-skip m s i r l h f =
+    carried-to (λ k. upTo m (drop i s) ≡ upTo m (drop k s)) i r l refl (λ k g n e. e ∙ upTo-further _ _ _ (let u : k < length s = omega arith in u) (f k g n))
 
-abbrev μ-loop : tie.MeasureT-loop
-μ-loop s at mark i₀ i = length s - i
+returns : tie.Need-returns
+returns c =
+    let a = c .before .before .before .args in
+    let f = c .before .next-of .ensures in
+    record {
+      is = sym (upTo-skip (a .mark) (now (a .s)) (a .at) (c .before .next-of .result) (f .0) (f .1) (f .2) ∙ upTo-here _ _ _ (c .if1 .taken) (f .3 (c .if1 .taken)));
+      ordered = search needs;
+    }
 
-loop-holds : tie.Need-loop-holds Inv-loop μ-loop
-loop-holds c = (search needs, refl)
-
-returns : tie.Need-returns Inv-loop μ-loop
-returns c = record { is = sym (c .before .before .before .loop .inv .1 ∙ upTo-here _ _ _ (c .before .before .loop-test .taken) (c .if1 .taken)); ordered = search needs }
-
-loop-again : tie.Need-loop-again Inv-loop μ-loop
-loop-again c = (search needs, c .before .before .before .loop .inv .1 ∙ upTo-further _ _ _ (c .before .before .loop-test .taken) (c .if1 .left))
-
-returns-2 : tie.Need-returns-2 Inv-loop μ-loop
-returns-2 c = record { is = sym (c .before .loop .inv .1 ∙ upTo-ended _ _ _ (c .loop-test .left)); ordered = tt }
+returns-2 : tie.Need-returns-2
+returns-2 c =
+    let a = c .before .before .before .args in
+    let f = c .before .next-of .ensures in
+    record { is = sym (upTo-skip (a .mark) (now (a .s)) (a .at) (c .before .next-of .result) (f .0) (f .1) (f .2) ∙ upTo-ended _ _ _ (c .if1 .left)); ordered = tt }
 
 pub up-to-spec : {M : Type 1} → statement M
-up-to-spec =
-    tie.close
-    (tie.spec
-    Inv-loop
-    μ-loop
-    loop-holds
-    (λ c. search needs)
-    (λ c. search needs)
-    returns
-    (λ c. search needs)
-    (λ c. search needs)
-    loop-again
-    returns-2)
+up-to-spec = tie.close (tie.spec (λ c κs. search needs) (λ c. search needs) returns returns-2)

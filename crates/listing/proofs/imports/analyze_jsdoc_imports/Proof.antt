@@ -1,9 +1,14 @@
 use borrow.Author.Needs.{needs}
+use mathlib.Core.Path.{ap, _∙_}
+use lib.ListN.{length, length-replicate}
 use Rattle.laws.proofs.Steps.{known}
 use Rattle.report.proofs.Buffers.{wrote-append}
 use Rattle.listing.proofs.Turns.{encode-none, encode-all}
 use Rattle.listing.proofs.imports.analyze_jsdoc_imports.Statement.{statement}
 use Rattle.listing.proofs.imports.analyze_jsdoc_imports.Tie as tie
+
+put-imports-requires : tie.Need-put-imports-requires
+put-imports-requires c κs = (c .before .before .before .before .before .before .before .before .before .before .before .before .before .before .before .before .before .before .before .pre .0 .indexed, c .before .before .before .before .before .before .before .before .before .before .mark-comments .kept .1 .1 .1 .0 ∙ (ap length (c .before .before .before .before .before .before .before .before .before .before .before .before .before .before .before .before .before .before .before .pre .1) ∙ length-replicate _ 0))
 
 returns : tie.Need-returns
 returns c =
@@ -22,7 +27,7 @@ analyze-jsdoc-imports-spec =
     (λ c κs. search needs)
     (λ c κs. search needs)
     (λ c κs. search needs)
-    (λ c κs. search needs)
+    put-imports-requires
     (λ c. search needs)
     (λ c. search needs)
     returns

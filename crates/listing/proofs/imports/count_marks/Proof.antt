@@ -5,7 +5,7 @@ use native.Mathlib.Omega.{arith}
 use lib.ListN.{length, drop, drop-of-length-le}
 use denote.Ref.{now}
 use Rattle.listing.specs.Imports.{countOf}
-use Rattle.listing.proofs.Turns.{count-next, count-one}
+use Rattle.listing.proofs.Turns.{count-next, count-one, count-skip}
 use Rattle.listing.proofs.imports.count_marks.Statement.{statement}
 use Rattle.listing.proofs.imports.count_marks.Tie as tie
 
@@ -17,13 +17,16 @@ abbrev μ-loop : tie.MeasureT-loop
 
 loop-again : tie.Need-loop-again Inv-loop μ-loop
 loop-again c =
-    let l = c .before .before .before .loop in
-    (omega (arith, l .inv), omega (arith, c .before .before .loop-test .taken), omega (arith, l .inv .2, count-next (now (c .before .before .before .before .args .marks)) (l .q) (c .before .before .loop-test .taken) (c .if1 .taken)))
+    let l = c .before .before .before .before .loop in
+    let marks = now (c .before .before .before .before .before .before .args .marks) in
+    let f = c .next-nonzero .ensures in
+    let n = c .before .before .before .loop-test .taken in
+    (omega (arith, l .inv, f .0), f .1, omega (arith, l .inv .2, count-next marks (l .q) n (c .before .if1 .taken), count-skip marks (l .q + 1) (c .next-nonzero .result) (f .0) (f .1) (f .2)))
 
 loop-again-2 : tie.Need-loop-again-2 Inv-loop μ-loop
 loop-again-2 c =
     let l = c .before .before .before .loop in
-    (omega (arith, l .inv), omega (arith, c .before .before .loop-test .taken), omega (arith, l .inv .2, count-one (now (c .before .before .before .before .args .marks)) (l .q) (c .before .before .loop-test .taken) (c .if1 .left)))
+    (omega (arith, l .inv), omega (arith, c .before .before .loop-test .taken), omega (arith, l .inv .2, count-one (now (c .before .before .before .before .before .args .marks)) (l .q) (c .before .before .loop-test .taken) (c .if1 .left)))
 
 returns : tie.Need-returns Inv-loop μ-loop
 unfolding countOf
@@ -38,7 +41,8 @@ count-marks-spec =
     (λ c. search needs)
     (λ c. search needs)
     (λ c. search needs)
-    (λ c. search needs)
+    (λ c κs. search needs)
+    (λ c. omega (arith, c .next-nonzero .ensures .0, c .next-nonzero .ensures .1))
     loop-again
     (λ c. search needs)
     (λ c. search needs)

@@ -22,19 +22,22 @@ abbrev μ-loop : tie.MeasureT-loop
 
 loop-holds : tie.Need-loop-holds Inv-loop μ-loop
 loop-holds c =
-    let zeros = rw (c .before .before .before .before .before .before .before .pre .1 .1) at (c .before .before .clear .ensures) in
+    let zeros = c .before .before .before .pre .1 .1 in
     (omega arith, ap length zeros ∙ length-replicate _ 0, rw (sub-zero, zeros))
 
 mark-comment-requires : tie.Need-mark-comment-requires Inv-loop μ-loop
 mark-comment-requires c κs =
-    let p = row-placed (now (c .before .before .before .before .before .before .before .before .before .before .before .args .comments)) (c .before .before .before .before .before .before .before .before .before .before .before .args .n) (c .before .before .before .before .before .before .before .before .before .before .before .pre .1 .0) (c .before .before .before .loop .k) (c .before .before .loop-test .taken) in
+    let p = row-placed (now (c .before .before .before .before .before .before .before .args .comments)) (c .before .before .before .before .before .before .before .args .n) (c .before .before .before .before .before .before .before .pre .1 .0) (c .before .before .before .loop .k) (c .before .before .loop-test .taken) in
     let row = c .before .comment-at .ensures in
     (rw row (holds-marks _ _ p), (rw row (placed-within _ _ p), c .before .before .before .loop .inv .1))
 
 loop-again : tie.Need-loop-again Inv-loop μ-loop
 loop-again c =
     let l = c .before .before .before .before .before .before .loop in
-    (omega (arith, c .before .before .before .before .before .loop-test .taken), c .before .before .mark-comment .kept .1 .1 .0 ∙ l .inv .1, rw (c .before .before .mark-comment .ensures, c .before .before .before .before .comment-at .ensures) (sym (mark-more (now (c .before .before .before .before .before .before .before .before .before .before .before .before .before .before .args .source)) (l .marks) (commentIn (now (c .before .before .before .before .before .before .before .before .before .before .before .before .before .before .args .comments))) (c .before .before .before .before .before .before .before .before .before .before .before .before .before .before .args .n) (l .k) (c .before .before .before .before .before .loop-test .taken)) ∙ l .inv .2))
+    (omega (arith, c .before .before .before .before .before .loop-test .taken), c .before .before .mark-comment .kept .1 .1 .0 ∙ l .inv .1, rw (c .before .before .mark-comment .ensures, c .before .before .before .before .comment-at .ensures) (sym (mark-more (now (c .before .before .before .before .before .before .before .before .before .before .args .source)) (l .marks) (commentIn (now (c .before .before .before .before .before .before .before .before .before .before .args .comments))) (c .before .before .before .before .before .before .before .before .before .before .args .n) (l .k) (c .before .before .before .before .before .loop-test .taken)) ∙ l .inv .2))
+
+same-length : tie.Need-same-length Inv-loop μ-loop
+same-length c = c .before .loop .inv .1 ∙ sym (ap length (c .before .before .before .before .before .pre .1 .1) ∙ length-replicate _ 0)
 
 returns : tie.Need-returns Inv-loop μ-loop
 unfolding rows markedByAll
@@ -46,12 +49,11 @@ mark-comments-spec =
     (tie.spec
     Inv-loop
     μ-loop
-    (λ c κs. search needs)
     loop-holds
     (λ c κs. search needs)
     mark-comment-requires
     (λ c. search needs)
     (λ c. search needs)
     loop-again
-    (λ c. search needs)
+    same-length
     returns)

@@ -1,6 +1,6 @@
 use borrow.Author.Needs.{needs}
 use mathlib.Core.Path.{_≡_, sym, _∙_}
-use Prim.Native.Nat.{_-_}
+use Prim.Native.Nat.{_+_, _-_}
 use native.Mathlib.Omega.{arith}
 use lib.ListN.{length, drop, drop-of-length-le}
 use denote.Ref.{now}
@@ -9,7 +9,7 @@ use Rattle.report.specs.Encode.{encodeJsDoc}
 use Rattle.report.specs.Buffer.{wrote, bufferAs}
 use Rattle.report.proofs.Buffers.{wrote-append, wrote-nil}
 use Rattle.listing.specs.Imports.{importsFrom}
-use Rattle.listing.proofs.Turns.{unmarked-next, marked-next}
+use Rattle.listing.proofs.Turns.{unmarked-next, unmarked-skip, marked-next}
 use Rattle.listing.proofs.imports.put_imports.Statement.{statement}
 use Rattle.listing.proofs.imports.put_imports.Tie as tie
 
@@ -22,8 +22,12 @@ abbrev μ-loop : tie.MeasureT-loop
 
 loop-again : tie.Need-loop-again Inv-loop μ-loop
 loop-again c =
-    let l = c .before .before .before .loop in
-    (l .inv .0, l .inv .1 ∙ rw (unmarked-next _ _ (l .q) (c .before .before .loop-test .taken) (c .if1 .taken)))
+    let l = c .before .before .before .before .loop in
+    let f = c .next-nonzero .ensures in (
+      l .inv .0,
+      l .inv .1
+          ∙ rw (unmarked-next _ _ (l .q) (c .before .before .before .loop-test .taken) (c .before .if1 .taken), unmarked-skip _ (l .q + 1) (c .next-nonzero .result) (f .0) (f .1) (f .2) _),
+    )
 
 put-import-requires : tie.Need-put-import-requires Inv-loop μ-loop
 put-import-requires c κs = (c .before .before .before .before .before .before .before .before .before .pre .0, omega (arith, c .before .before .before .before .before .before .before .before .before .pre .1, c .before .before .before .loop-test .taken))
@@ -49,7 +53,8 @@ put-imports-spec =
     (λ c. search needs)
     (λ c. search needs)
     (λ c. search needs)
-    (λ c. search needs)
+    (λ c κs. search needs)
+    (λ c. omega (arith, c .next-nonzero .ensures .0, c .next-nonzero .ensures .1))
     loop-again
     (λ c. search needs)
     put-import-requires

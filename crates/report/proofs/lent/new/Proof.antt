@@ -18,7 +18,7 @@ use ghost.Atoms.{Atoms}
 use contract.Monad.{Fun}
 use contract.Running.{givenOf, tables, tablesOf}
 use types.Kit.{Given, ‵, raw, _⊛_, _$_, _∵_, !, qed, by, move, fsplit, fjoin, suffices, frame}
-use types.Run.{look, init, forget, stop, hop, fld, from, load, lit, false-lit, addr, and-then, no-more, assigns, returns, enter, alloc1, alloc0, params1, pass1, pass0, free1, free0}
+use types.Run.{look, init, forget, stop, hop, fld, from, load, lit, addr, and-then, no-more, assigns, returns, enter, alloc1, alloc0, params1, pass1, pass0, free1, free0}
 use types.Part.{agg, whole, sub, look-in}
 use sound.WpLaws.{WpFn-mono}
 use denote.RattleType.{owns}
@@ -68,7 +68,7 @@ module _ {M : Type 1} (𝓤 : URA M) (H : Heap 𝓤) (A : Atoms 𝓤) (W : Given
   w = writerVal (x .ptr) (length (x .now)) start
 
   started : Is P.the-row start (u ∷ [])
-  started = LL.owes P.the-type P′.the-laws start ((refl, lit< tt), (refl, tt))
+  started = LL.owes P.the-type P′.the-laws start ((refl, lit< tt), tt)
 
   abbrev at : List Val × Unit {0}
   at = (v ∷ [], tt)
@@ -92,7 +92,7 @@ module _ {M : Type 1} (𝓤 : URA M) (H : Heap 𝓤) (A : Atoms 𝓤) (W : Given
         -- [_4; room…; _3; …; _2; …; _1; …; room for _0; …]: the slice is lent on, put together again, and put into the struct beside the place
         assigns ! (addr ! (from ! (fld ! refl (hop ! (look-in ! 6 (sub ! 0 refl (whole !))) (stop !))))) (from ! (stop !)) (init ! 4 refl (tt, tt)) $
         assigns ! (agg ! (and-then ! (load ! (from ! (stop !)) (look ! 4 refl)) (and-then ! (load ! (from ! (fld ! refl (stop !))) (look-in ! 6 (sub ! 1 refl (whole !)))) (no-more !)))) (from ! (stop !)) (init ! 2 refl (tt, (tt, (record { fits = p .0 .1 .0 }, tt)))) $
-        assigns ! (agg ! (and-then ! (lit ! tt) (and-then ! (false-lit !) (no-more !)))) (from ! (stop !)) (init ! 0 refl (place-typed 𝓤 H A W start u started)) $
+        assigns ! (agg ! (and-then ! (lit ! tt) (no-more !))) (from ! (stop !)) (init ! 0 refl (place-typed 𝓤 H A W start u started)) $
         assigns ! (agg ! (and-then ! (load ! (from ! (stop !)) (look ! 2 refl)) (and-then ! (load ! (from ! (stop !)) (look ! 0 refl)) (no-more !)))) (from ! (stop !)) (init ! 8 refl (writer-made 𝓤 H A W (x .ptr) (length (x .now)) start (p .0 .1) started)) $
         returns ! (look ! 8 refl) $ forget ! 0 refl $ forget ! 2 refl $ forget ! 4 refl $ forget ! 6 refl $ forget ! 8 refl $
         move ! (8 ∷ 9 ∷ []) $ free1 ! $ move ! (6 ∷ 7 ∷ []) $ free1 ! $ move ! (4 ∷ 5 ∷ []) $ free1 ! $ move ! (2 ∷ 3 ∷ []) $ free1 ! $ free1 ! $ free0 ! $ by ! exits)))))

@@ -1,5 +1,7 @@
 use borrow.Author.Needs.{needs}
+use borrow.Author.Tests.{ne-eqb}
 use denote.Ref.{now}
+use Rattle.report.specs.Buffer.{fullPlace}
 use Rattle.report.proofs.Answers.{accepted-front, accepted-whole}
 use Rattle.report.proofs.writer.finish.Statement.{statement}
 use Rattle.report.proofs.writer.finish.Tie as tie
@@ -8,10 +10,10 @@ returns : tie.Need-returns
 returns c = rw (c .before .before .before .before .if1 .taken) (c .before .before .refuse-all .ensures)
 
 returns-2 : tie.Need-returns-2
-returns-2 c = rw (c .before .before .before .before .before .if1 .left, c .before .before .clear-from .ensures) (accepted-front (now (c .before .before .before .before .before .before .before .args .out)) (c .before .before .before .before .before .before .before .args .place .at) (c .before .before .before .before .if2 .taken))
+returns-2 c = rw (ne-eqb (c .before .before .before .before .before .before .before .args .place .at) fullPlace (c .before .before .before .before .before .if1 .left), c .before .before .clear-from .ensures) (accepted-front (now (c .before .before .before .before .before .before .before .args .out)) (c .before .before .before .before .before .before .before .args .place .at) (c .before .before .before .before .if2 .taken))
 
 returns-3 : tie.Need-returns-3
-returns-3 c = rw (c .before .if1 .left) (accepted-whole (now (c .before .before .before .args .out)) (c .before .before .before .args .place .at) (c .if2 .left))
+returns-3 c = rw (ne-eqb (c .before .before .before .args .place .at) fullPlace (c .before .if1 .left)) (accepted-whole (now (c .before .before .before .args .out)) (c .before .before .before .args .place .at) (c .if2 .left))
 
 pub finish-spec : {M : Type 1} → statement M
 finish-spec =

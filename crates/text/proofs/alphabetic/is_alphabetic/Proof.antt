@@ -2,8 +2,7 @@ use borrow.Author.Needs.{needs}
 use native.Mathlib.Omega.{arith}
 use mathlib.Core.Path.{refl, _∙_}
 use Rattle.text.specs.Alphabetic.{alphabetic}
-use Rattle.text.specs.Ranges.{bounds}
-use Rattle.text.proofs.Bounds.{ascending, odd, among-first}
+use Rattle.text.proofs.Bounds.{among-first}
 use Rattle.text.proofs.alphabetic.is_alphabetic.Statement.{statement}
 use Rattle.text.proofs.alphabetic.is_alphabetic.Tie as tie
 
@@ -11,15 +10,8 @@ returns : tie.Need-returns
 unfolding alphabetic
 returns c = c .in-either .ensures ∙ among-first 2 alphabetic 0x7F refl (c .before .before .args .code) (omega arith)
 
-at-most-requires : tie.Need-at-most-requires
-unfolding alphabetic
-at-most-requires c κs = ascending (bounds alphabetic) refl
-
 returns-2 : tie.Need-returns-2
-unfolding alphabetic
-returns-2 c = odd alphabetic (c .at-most .ensures)
+returns-2 c = c .is-wide-alphabetic .ensures
 
 pub is-alphabetic-spec : {M : Type 1} → statement M
-is-alphabetic-spec =
-    tie.close
-    (tie.spec (λ c κs. search needs) returns (λ c. search needs) at-most-requires returns-2)
+is-alphabetic-spec = tie.close (tie.spec (λ c κs. search needs) returns (λ c κs. search needs) returns-2)

@@ -21,17 +21,18 @@ loop-holds c =
     let a = c .before .before .before .before .before .before .args in
     (omega arith, refl, refl, rw (c .before .before .put .ensures) (index-more (index-none characters (now (a .s)) (now (a .index))) _ (omega arith) refl))
 
-scan-requires : tie.Need-scan-requires Inv-loop μ-loop
-scan-requires c κs =
+scan-block-requires : tie.Need-scan-block-requires Inv-loop μ-loop
+scan-block-requires c κs =
     let k = c .before .loop .k in
     let b = bounded (now (c .before .before .before .before .before .before .before .before .args .s)) (64 * k) (omega arith) (c .before .loop .inv .2) in
-    (omega arith, omega arith, omega arith, omega arith)
+    (omega arith, omega arith, omega arith)
 
 put-requires-2 : tie.Need-put-requires-2 Inv-loop μ-loop
 put-requires-2 c κs =
     let s = now (c .before .before .before .before .before .before .before .before .before .before .args .s) in
     let l = c .before .before .before .loop in
-    let e = scanned characters s (64 * l .k) (64 * (l .k + 1)) (omega arith) (l .inv .2) (c .before .scan .ensures) in
+    let d : 64 * (l .k + 1) - 64 * l .k ≡ 64 = omega arith in
+    let e = scanned characters s (64 * l .k) (64 * (l .k + 1)) (omega arith) {q = c .before .scan-block .result} (l .inv .2) (rw d (c .before .scan-block .ensures)) in
     let b = bounded s (64 * (l .k + 1)) (omega arith) e in
     omega arith
 
@@ -39,7 +40,8 @@ loop-again : tie.Need-loop-again Inv-loop μ-loop
 loop-again c =
     let s = now (c .before .before .before .before .before .before .before .before .before .before .before .before .before .args .s) in
     let l = c .before .before .before .before .before .before .loop in
-    let e = scanned characters s (64 * l .k) (64 * (l .k + 1)) (omega arith) (l .inv .2) (c .before .before .before .before .scan .ensures) in
+    let d : 64 * (l .k + 1) - 64 * l .k ≡ 64 = omega arith in
+    let e = scanned characters s (64 * l .k) (64 * (l .k + 1)) (omega arith) {q = c .before .before .before .before .scan-block .result} (l .inv .2) (rw d (c .before .before .before .before .scan-block .ensures)) in
     (omega arith, c .before .before .put2 .kept .0 ∙ l .inv .1, e, rw (c .before .before .put2 .ensures) (index-more (l .inv .3) _ (omega arith) e))
 
 returns : tie.Need-returns Inv-loop μ-loop
@@ -56,9 +58,7 @@ build-index-spec =
     (λ c κs. search needs)
     loop-holds
     (λ c. search needs)
-    (λ c. search needs)
-    (λ c. search needs)
-    scan-requires
+    scan-block-requires
     (λ c. search needs)
     put-requires-2
     (λ c. search needs)

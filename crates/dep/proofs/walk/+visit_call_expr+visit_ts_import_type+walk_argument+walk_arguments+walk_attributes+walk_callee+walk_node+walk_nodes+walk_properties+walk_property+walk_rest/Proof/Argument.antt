@@ -16,14 +16,14 @@ use Rattle.dep.proofs.walk.+visit_call_expr+visit_ts_import_type+walk_a
 
 pub returns : (t : ℕ) → walk-argument-lts.Need-returns (walk-argument-calls t) (walk-argument-at t) walk-argument.Post
 returns t c =
-    let a = c .before .before .before .before .before .before .before .before .before .before .args in
+    let a = c .before .before .before .before .before .before .before .args in
     let s = now (a .sheet) in
     let source = now (a .source) in
     (rw (argument-by-head (node source (a .levels)) source (drop (a .c .at) s), seen (argumentAs s) (c .before .before .before .read-argument .ensures .0) (c .before .r .given .1)), tt)
 
 pub returns-2 : (t : ℕ) → walk-argument-lts.Need-returns-2 (walk-argument-calls t) (walk-argument-at t) walk-argument.Post
 returns-2 t c =
-    let a = c .before .before .before .before .before .before .before .before .before .before .before .before .before .before .args in
+    let a = c .before .before .before .before .before .before .before .before .before .before .before .args in
     let s = now (a .sheet) in
     let source = now (a .source) in
     let types = typesFrom source (now (a .cs)) (now (a .gs)) (a .k) in

@@ -25,11 +25,11 @@ sub-walk-properties t c = (rw (c .before .n .given .1) at (c .before .before .be
 pub walk-properties-requires : (t : ℕ) → walk-attributes-lts.Need-walk-properties-requires (walk-attributes-calls t) (walk-attributes-at t) walk-attributes.Post
 walk-properties-requires t c κs =
     let past = rw (c .before .before .n .given .1) at (c .before .before .before .before .read-attributes .ensures .1) in
-    (omega arith, (c .before .before .before .before .before .before .before .before .before .before .before .before .pre .1 .0, past .2))
+    (omega arith, (c .before .before .before .before .before .before .before .before .before .pre .1 .0, past .2))
 
 pub returns : (t : ℕ) → walk-attributes-lts.Need-returns (walk-attributes-calls t) (walk-attributes-at t) walk-attributes.Post
 returns t c =
-    let a = c .before .before .before .before .before .before .before .before .before .before .before .args in
+    let a = c .before .before .before .before .before .before .before .before .args in
     let s = now (a .sheet) in
     let source = now (a .source) in
     (rw (c .before .before .before .before .if1 .taken, attributes-by-head source (a .levels) (drop (a .c .at) s), seen (attributesAs s) (c .before .before .before .read-attributes .ensures .0) (c .before .r .given .1)), tt)
@@ -37,7 +37,7 @@ returns t c =
 pub returns-2 : (t : ℕ) → walk-attributes-lts.Need-returns-2 (walk-attributes-calls t) (walk-attributes-at t) walk-attributes.Post
 unfolding collect
 returns-2 t c =
-    let a = c .before .before .before .before .before .before .before .before .before .before .before .before .before .before .before .args in
+    let a = c .before .before .before .before .before .before .before .before .before .before .before .before .args in
     let s = now (a .sheet) in
     let source = now (a .source) in
     let types = typesFrom source (now (a .cs)) (now (a .gs)) (a .k) in
@@ -48,6 +48,6 @@ returns-2 t c =
 pub returns-3 : (t : ℕ) → walk-attributes-lts.Need-returns-3 (walk-attributes-calls t) (walk-attributes-at t) walk-attributes.Post
 unfolding collect
 returns-3 t c =
-    let a = c .before .before .before .before .before .before .before .args in
+    let a = c .before .before .before .before .args in
     let s = now (a .sheet) in
-    (rw (c .if1 .left) (sym (ap (λ w. ok w (drop (a .c .at) s)) (entries-nil (now (a .out)) (a .p)))), c .before .before .before .before .before .before .before .pre .1 .1)
+    (rw (c .if1 .left) (sym (ap (λ w. ok w (drop (a .c .at) s)) (entries-nil (now (a .out)) (a .p)))), c .before .before .before .before .pre .1 .1)

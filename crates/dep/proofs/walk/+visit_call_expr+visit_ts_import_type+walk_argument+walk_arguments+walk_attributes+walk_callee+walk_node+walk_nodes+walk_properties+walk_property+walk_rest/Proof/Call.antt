@@ -22,29 +22,29 @@ use Rattle.dep.proofs.walk.+visit_call_expr+visit_ts_import_type+walk_a
 pub walk-arguments-requires : (t : ℕ) → visit-call-expr-lts.Need-walk-arguments-requires (visit-call-expr-calls t) (visit-call-expr-at t) visit-call-expr.Post
 walk-arguments-requires t c κs =
     let past = rw (c .before .before .n .given .1) at (c .before .before .before .before .number .ensures .1) in
-    (omega arith, (c .before .before .before .before .before .before .before .before .before .before .before .pre .1, past .1))
+    (omega arith, (c .before .before .before .before .before .before .before .before .pre .1, past .1))
 
 pub walk-nodes-requires : (t : ℕ) → visit-call-expr-lts.Need-walk-nodes-requires (visit-call-expr-calls t) (visit-call-expr-at t) visit-call-expr.Post
 walk-nodes-requires t c κs =
     let past = rw (c .before .before .m .given .1) at (c .before .before .before .before .number2 .ensures .1) in
-    let is : 6 * (c .before .before .before .before .before .before .before .before .before .before .before .before .before .before .before .before .before .before .before .before .before .before .args .levels) + 3 ≡ t = c .before .before .before .before .before .before .before .before .before .before .before .before .before .before .before .before .before .before .before .before .before .before .pre .0 in
-    let less : 6 * (c .before .before .before .before .before .before .before .before .before .before .before .before .before .before .before .before .before .before .before .before .before .before .args .levels) + 1 < t = omega (arith, is) in
-    (less, (c .before .before .before .before .before .before .before .before .before .before .before .before .before .before .before .before .before .before .before .before .before .before .pre .1, past .1))
+    let is : 6 * (c .before .before .before .before .before .before .before .before .before .before .before .before .before .before .before .before .before .before .before .args .levels) + 3 ≡ t = c .before .before .before .before .before .before .before .before .before .before .before .before .before .before .before .before .before .before .before .pre .0 in
+    let less : 6 * (c .before .before .before .before .before .before .before .before .before .before .before .before .before .before .before .before .before .before .before .args .levels) + 1 < t = omega (arith, is) in
+    (less, (c .before .before .before .before .before .before .before .before .before .before .before .before .before .before .before .before .before .before .before .pre .1, past .1))
 
 pub put-call-entry-requires : (t : ℕ) → visit-call-expr-lts.Need-put-call-entry-requires (visit-call-expr-calls t) (visit-call-expr-at t) visit-call-expr.Post
-put-call-entry-requires t c κs = c .before .before .before .before .before .before .before .before .before .before .before .before .before .before .before .before .before .before .before .before .before .before .before .before .before .before .before .before .before .pre .1
+put-call-entry-requires t c κs = c .before .before .before .before .before .before .before .before .before .before .before .before .before .before .before .before .before .before .before .before .before .before .before .before .before .before .pre .1
 
 pub returns : (t : ℕ) → visit-call-expr-lts.Need-returns (visit-call-expr-calls t) (visit-call-expr-at t) visit-call-expr.Post
 unfolding callParts
 returns t c =
-    let a = c .before .before .before .before .before .before .before .before .before .before .args in
+    let a = c .before .before .before .before .before .before .before .args in
     let s = now (a .sheet) in
     (rw (seen (readAs s) (c .before .before .before .number .ensures .0) (c .before .r .given .1)), tt)
 
 pub returns-2 : (t : ℕ) → visit-call-expr-lts.Need-returns-2 (visit-call-expr-calls t) (visit-call-expr-at t) visit-call-expr.Post
 unfolding callParts
 returns-2 t c =
-    let a = c .before .before .before .before .before .before .before .before .before .before .before .before .before .before .before .before .before .args in
+    let a = c .before .before .before .before .before .before .before .before .before .before .before .before .before .before .args in
     let s = now (a .sheet) in
     let source = now (a .source) in
     let types = typesFrom source (now (a .cs)) (now (a .gs)) (a .k) in
@@ -57,7 +57,7 @@ returns-2 t c =
 pub returns-3 : (t : ℕ) → visit-call-expr-lts.Need-returns-3 (visit-call-expr-calls t) (visit-call-expr-at t) visit-call-expr.Post
 unfolding callParts
 returns-3 t c =
-    let a = c .before .before .before .before .before .before .before .before .before .before .before .before .before .before .before .before .before .before .before .before .before .args in
+    let a = c .before .before .before .before .before .before .before .before .before .before .before .before .before .before .before .before .before .before .args in
     let s = now (a .sheet) in
     let source = now (a .source) in
     let types = typesFrom source (now (a .cs)) (now (a .gs)) (a .k) in
@@ -72,7 +72,7 @@ returns-3 t c =
 pub returns-4 : (t : ℕ) → visit-call-expr-lts.Need-returns-4 (visit-call-expr-calls t) (visit-call-expr-at t) visit-call-expr.Post
 unfolding callParts
 returns-4 t c =
-    let a = c .before .before .before .before .before .before .before .before .before .before .before .before .before .before .before .before .before .before .before .before .before .before .before .before .before .before .before .before .args in
+    let a = c .before .before .before .before .before .before .before .before .before .before .before .before .before .before .before .before .before .before .before .before .before .before .before .before .before .args in
     let s = now (a .sheet) in
     let source = now (a .source) in
     let types = typesFrom source (now (a .cs)) (now (a .gs)) (a .k) in
@@ -92,7 +92,7 @@ same-length-4 t c = c .before .before .put-call-entry .kept .1 .1 .1 .1 .1 .1 .1
 pub returns-5 : (t : ℕ) → visit-call-expr-lts.Need-returns-5 (visit-call-expr-calls t) (visit-call-expr-at t) visit-call-expr.Post
 unfolding callParts
 returns-5 t c =
-    let a = c .before .before .before .before .before .before .before .before .before .before .before .before .before .before .before .before .before .before .before .before .before .before .before .before .before .before .before .before .before .before .before .before .args in
+    let a = c .before .before .before .before .before .before .before .before .before .before .before .before .before .before .before .before .before .before .before .before .before .before .before .before .before .before .before .before .before .args in
     let s = now (a .sheet) in
     let source = now (a .source) in
     let types = typesFrom source (now (a .cs)) (now (a .gs)) (a .k) in

@@ -15,11 +15,11 @@ use Rattle.dep.proofs.walk.+visit_call_expr+visit_ts_import_type+walk_a
 use Rattle.dep.proofs.walk.+visit_call_expr+visit_ts_import_type+walk_argument+walk_arguments+walk_attributes+walk_callee+walk_node+walk_nodes+walk_properties+walk_property+walk_rest.Proof.Calls.{walk-callee-at, walk-callee-calls}
 
 pub visit-call-expr-requires : (t : ℕ) → walk-callee-lts.Need-visit-call-expr-requires (walk-callee-calls t) (walk-callee-at t) walk-callee.Post
-visit-call-expr-requires t c κs = (omega arith, c .before .before .before .before .before .before .before .before .before .before .before .before .before .before .before .before .pre .1 .0)
+visit-call-expr-requires t c κs = (omega arith, c .before .before .before .before .before .before .before .before .before .before .before .before .before .pre .1 .0)
 
 pub returns : (t : ℕ) → walk-callee-lts.Need-returns (walk-callee-calls t) (walk-callee-at t) walk-callee.Post
 returns t c =
-    let a = c .before .before .before .before .before .before .before .before .before .before .before .before .before .before .before .args in
+    let a = c .before .before .before .before .before .before .before .before .before .before .before .before .args in
     let s = now (a .sheet) in
     let source = now (a .source) in
     let types = typesFrom source (now (a .cs)) (now (a .gs)) (a .k) in
@@ -28,7 +28,7 @@ returns t c =
 
 pub returns-2 : (t : ℕ) → walk-callee-lts.Need-returns-2 (walk-callee-calls t) (walk-callee-at t) walk-callee.Post
 returns-2 t c =
-    let a = c .before .before .before .before .before .before .before .before .before .before .before .before .before .before .before .before .before .before .before .args in
+    let a = c .before .before .before .before .before .before .before .before .before .before .before .before .before .before .before .before .args in
     let s = now (a .sheet) in
     let source = now (a .source) in
     let types = typesFrom source (now (a .cs)) (now (a .gs)) (a .k) in

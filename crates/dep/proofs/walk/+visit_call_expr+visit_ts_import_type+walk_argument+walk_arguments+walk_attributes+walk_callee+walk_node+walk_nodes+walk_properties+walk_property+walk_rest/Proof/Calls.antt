@@ -49,7 +49,7 @@ use Rattle.nodes.proofs.tally.nodes_of.Reads as nodes-of
 use Rattle.wire.proofs.Cursor.number.Reads as number
 use Rattle.dep.proofs.entries.put_call_entry.Reads as put-call-entry
 use Rattle.dep.proofs.entries.put_module_entry.Reads as put-module-entry
-use Rattle.dep.proofs.entries.put_type_entry.Reads as put-type-entry
+use Rattle.dep.proofs.entries.put_with_entry.Reads as put-with-entry
 use Rattle.heads.proofs.parts.read_argument.Reads as read-argument
 use Rattle.heads.proofs.parts.read_attributes.Reads as read-attributes
 use Rattle.heads.proofs.node.read_head.Reads as read-head
@@ -197,4 +197,4 @@ abbrev pub walk-rest-calls : ℕ → walk-rest-lts.Claims
 walk-rest-calls t = (walk-nodes-below t, walk-nodes.Post, read-pieces.Asked, read-pieces.Learnt, walk-properties-below t, walk-properties.Post, dynamic-kind.Asked, dynamic-kind.Learnt, call-head.Asked, call-head.Learnt, visit-call-expr-below t, visit-call-expr.Post, walk-callee-below t, walk-callee.Post, import-kind.Asked, import-kind.Learnt, static-dependency.Asked, static-dependency.Learnt, walk-import.Asked, walk-import.Learnt, visit-ts-import-type-below t, visit-ts-import-type.Post, equals-kind.Asked, equals-kind.Learnt, put-module-entry.Asked, put-module-entry.Learnt, export-kind.Asked, export-kind.Learnt)
 
 abbrev pub visit-ts-import-type-calls : ℕ → visit-ts-import-type-lts.Claims
-visit-ts-import-type-calls t = (check-nodes.Asked, check-nodes.Learnt, flag.Asked, flag.Learnt, put-type-entry.Asked, put-type-entry.Learnt, walk-nodes-below t, walk-nodes.Post, walk-attributes-below t, walk-attributes.Post)
+visit-ts-import-type-calls t = (check-nodes.Asked, check-nodes.Learnt, flag.Asked, flag.Learnt, put-with-entry.Asked, put-with-entry.Learnt, walk-nodes-below t, walk-nodes.Post, walk-attributes-below t, walk-attributes.Post)

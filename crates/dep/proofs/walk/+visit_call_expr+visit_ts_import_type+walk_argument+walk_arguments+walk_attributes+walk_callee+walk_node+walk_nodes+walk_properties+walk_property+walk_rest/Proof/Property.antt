@@ -19,18 +19,18 @@ use Rattle.dep.proofs.walk.+visit_call_expr+visit_ts_import_type+walk_a
 pub walk-nodes-requires : (t : ℕ) → walk-property-lts.Need-walk-nodes-requires (walk-property-calls t) (walk-property-at t) walk-property.Post
 walk-nodes-requires t c κs =
     let past = rw (c .before .before .before .x .given .1) at (c .before .before .before .before .before .read-property .ensures .1) in
-    (omega arith, (c .before .before .before .before .before .before .before .before .before .before .before .before .pre .1, past .1))
+    (omega arith, (c .before .before .before .before .before .before .before .before .before .pre .1, past .1))
 
 pub returns : (t : ℕ) → walk-property-lts.Need-returns (walk-property-calls t) (walk-property-at t) walk-property.Post
 returns t c =
-    let a = c .before .before .before .before .before .before .before .before .before .before .args in
+    let a = c .before .before .before .before .before .before .before .args in
     let s = now (a .sheet) in
     let source = now (a .source) in
     (rw (property-by-head (node source (a .levels)) (drop (a .c .at) s), seen (propertyAs s) (c .before .before .before .read-property .ensures .0) (c .before .r .given .1)), tt)
 
 pub returns-2 : (t : ℕ) → walk-property-lts.Need-returns-2 (walk-property-calls t) (walk-property-at t) walk-property.Post
 returns-2 t c =
-    let a = c .before .before .before .before .before .before .before .before .before .before .before .before .before .before .before .args in
+    let a = c .before .before .before .before .before .before .before .before .before .before .before .before .args in
     let s = now (a .sheet) in
     let source = now (a .source) in
     let types = typesFrom source (now (a .cs)) (now (a .gs)) (a .k) in

@@ -28,47 +28,47 @@ use Rattle.dep.proofs.walk.+visit_call_expr+visit_ts_import_type+walk_a
 
 pub add-read-pieces : (t : ℕ) → walk-rest-lts.Need-add-read-pieces (walk-rest-calls t) (walk-rest-at t) walk-rest.Post
 add-read-pieces t c =
-    let w = rw (c .before .head2 .given .1) at (c .before .before .before .before .before .before .before .before .before .pre .1 .1 .1) in
+    let w = rw (c .before .head2 .given .1) at (c .before .before .before .before .before .before .pre .1 .1 .1) in
     omega arith
 
 pub walk-nodes-requires-2 : (t : ℕ) → walk-rest-lts.Need-walk-nodes-requires-2 (walk-rest-calls t) (walk-rest-at t) walk-rest.Post
 walk-nodes-requires-2 t c κs =
     let past = rw (c .before .before .c .given .1) at (c .before .before .before .before .read-pieces .ensures .1) in
-    (omega arith, (c .before .before .before .before .before .before .before .before .before .before .before .before .before .before .pre .1 .0, past .1))
+    (omega arith, (c .before .before .before .before .before .before .before .before .before .before .before .pre .1 .0, past .1))
 
 pub walk-import-requires : (t : ℕ) → walk-rest-lts.Need-walk-import-requires (walk-rest-calls t) (walk-rest-at t) walk-rest.Post
 walk-import-requires t c κs =
     rw (c .before .static-dependency .ensures)
-    (c .before .before .before .before .before .before .before .before .before .before .before .before .pre .1 .0, (rw (c .before .before .before .before .head5 .given .1) at (c .before .before .before .before .before .before .before .before .before .before .before .before .pre .1 .1 .1), rw (c .before .before .before .before .head5 .given .1) at (c .before .before .before .before .before .before .before .before .before .before .before .before .pre .1 .1 .2)), c .before .before .before .before .before .before .before .before .before .before .before .before .pre .1 .1 .0)
+    (c .before .before .before .before .before .before .before .before .before .pre .1 .0, (rw (c .before .before .before .before .head5 .given .1) at (c .before .before .before .before .before .before .before .before .before .pre .1 .1 .1), rw (c .before .before .before .before .head5 .given .1) at (c .before .before .before .before .before .before .before .before .before .pre .1 .1 .2)), c .before .before .before .before .before .before .before .before .before .pre .1 .1 .0)
 
 pub visit-ts-import-type-requires : (t : ℕ) → walk-rest-lts.Need-visit-ts-import-type-requires (walk-rest-calls t) (walk-rest-at t) walk-rest.Post
 visit-ts-import-type-requires t c κs =
-    (omega arith, rw (c .before .static-dependency2 .ensures) (c .before .before .before .before .before .before .before .before .before .before .before .pre .1 .0, (rw (c .before .before .before .head8 .given .1) at (c .before .before .before .before .before .before .before .before .before .before .before .pre .1 .1 .1), rw (c .before .before .before .head8 .given .1) at (c .before .before .before .before .before .before .before .before .before .before .before .pre .1 .1 .2)), c .before .before .before .before .before .before .before .before .before .before .before .pre .1 .1 .0))
+    (omega arith, rw (c .before .static-dependency2 .ensures) (c .before .before .before .before .before .before .before .before .pre .1 .0, (rw (c .before .before .before .head8 .given .1) at (c .before .before .before .before .before .before .before .before .pre .1 .1 .1), rw (c .before .before .before .head8 .given .1) at (c .before .before .before .before .before .before .before .before .pre .1 .1 .2)), c .before .before .before .before .before .before .before .before .pre .1 .1 .0))
 
 pub walk-import-requires-2 : (t : ℕ) → walk-rest-lts.Need-walk-import-requires-2 (walk-rest-calls t) (walk-rest-at t) walk-rest.Post
 walk-import-requires-2 t c κs =
     rw (c .before .static-dependency3 .ensures)
-    (c .before .before .before .before .before .before .before .before .before .before .before .before .pre .1 .0, (rw (c .before .before .before .before .head9 .given .1) at (c .before .before .before .before .before .before .before .before .before .before .before .before .pre .1 .1 .1), rw (c .before .before .before .before .head9 .given .1) at (c .before .before .before .before .before .before .before .before .before .before .before .before .pre .1 .1 .2)), c .before .before .before .before .before .before .before .before .before .before .before .before .pre .1 .1 .0)
+    (c .before .before .before .before .before .before .before .before .before .pre .1 .0, (rw (c .before .before .before .before .head9 .given .1) at (c .before .before .before .before .before .before .before .before .before .pre .1 .1 .1), rw (c .before .before .before .before .head9 .given .1) at (c .before .before .before .before .before .before .before .before .before .pre .1 .1 .2)), c .before .before .before .before .before .before .before .before .before .pre .1 .1 .0)
 
 pub put-module-entry-requires : (t : ℕ) → walk-rest-lts.Need-put-module-entry-requires (walk-rest-calls t) (walk-rest-at t) walk-rest.Post
-put-module-entry-requires t c κs = (c .before .before .before .before .before .before .before .before .before .before .pre .1 .0, (rw (c .before .before .head11 .given .1) at (c .before .before .before .before .before .before .before .before .before .before .pre .1 .1 .1), rw (c .before .before .head11 .given .1) at (c .before .before .before .before .before .before .before .before .before .before .pre .1 .1 .2)))
+put-module-entry-requires t c κs = (c .before .before .before .before .before .before .before .pre .1 .0, (rw (c .before .before .head11 .given .1) at (c .before .before .before .before .before .before .before .pre .1 .1 .1), rw (c .before .before .head11 .given .1) at (c .before .before .before .before .before .before .before .pre .1 .1 .2)))
 
 -- the two heads of an export
 exports : (t : ℕ) (c : walk-rest-lts.At-match-came (walk-rest-calls t) (walk-rest-at t) walk-rest.Post)
-    → ExportHead (c .before .before .before .before .before .before .before .args .head) (c .match .type-only) (c .match .x) (c .match .there)
+    → ExportHead (c .before .before .before .before .args .head) (c .match .type-only) (c .match .x) (c .match .there)
 exports t c = elim (c .match .came) [ inl m ↦ inl (rw (m .3, m .4, m .5) (m .1 .given .1)) | inr m ↦ inr (rw (m .3, m .4, m .5) (m .1 .given .1)) ]
 
 pub walk-import-requires-3 : (t : ℕ) → walk-rest-lts.Need-walk-import-requires-3 (walk-rest-calls t) (walk-rest-at t) walk-rest.Post
 walk-import-requires-3 t c κs =
-    let pre = c .before .before .before .before .before .before .before .before .before .before .pre .1 in
-    let a = c .before .before .before .before .before .before .before .before .before .before .args in
+    let pre = c .before .before .before .before .before .before .before .pre .1 in
+    let a = c .before .before .before .before .before .before .before .args in
     rw (c .before .static-dependency4 .ensures)
     (pre .0, export-quotes (now (a .sheet)) (now (a .source)) (a .c .at) (exports t (c .before .before .before)) (pre .1), pre .1 .0)
 
 pub returns : (t : ℕ) → walk-rest-lts.Need-returns (walk-rest-calls t) (walk-rest-at t) walk-rest.Post
 unfolding collect
 returns t c =
-    let a = c .before .before .before .before .before .before .before .before .before .before .before .before .before .args in
+    let a = c .before .before .before .before .before .before .before .before .before .before .args in
     let s = now (a .sheet) in
     let source = now (a .source) in
     let types = typesFrom source (now (a .cs)) (now (a .gs)) (a .k) in
@@ -79,15 +79,15 @@ returns t c =
 
 pub returns-2 : (t : ℕ) → walk-rest-lts.Need-returns-2 (walk-rest-calls t) (walk-rest-at t) walk-rest.Post
 returns-2 t c =
-    let a = c .before .before .before .before .before .before .before .args in
+    let a = c .before .before .before .before .args in
     let s = now (a .sheet) in
     let source = now (a .source) in
     let types = typesFrom source (now (a .cs)) (now (a .gs)) (a .k) in
-    (leaf-holds source types s (a .levels) (a .span) (a .head) (c .match .keys2) (entries-nil (now (a .out)) (a .p)) (drop (a .c .at) s), c .before .before .before .before .before .before .before .pre .1 .1 .0)
+    (leaf-holds source types s (a .levels) (a .span) (a .head) (c .match .keys2) (entries-nil (now (a .out)) (a .p)) (drop (a .c .at) s), c .before .before .before .before .pre .1 .1 .0)
 
 pub returns-3 : (t : ℕ) → walk-rest-lts.Need-returns-3 (walk-rest-calls t) (walk-rest-at t) walk-rest.Post
 returns-3 t c =
-    let a = c .before .before .before .before .before .before .before .before .before .before .before .before .before .args in
+    let a = c .before .before .before .before .before .before .before .before .before .before .args in
     let s = now (a .sheet) in
     let u = drop (a .c .at) s in
     let pieces = many [] piece (c .before .before .before .before .before .head2 .given .0 .0 + 1) u in
@@ -95,7 +95,7 @@ returns-3 t c =
 
 pub returns-4 : (t : ℕ) → walk-rest-lts.Need-returns-4 (walk-rest-calls t) (walk-rest-at t) walk-rest.Post
 returns-4 t c =
-    let a = c .before .before .before .before .before .before .before .before .before .before .before .before .before .before .before .before .before .args in
+    let a = c .before .before .before .before .before .before .before .before .before .before .before .before .before .before .args in
     let s = now (a .sheet) in
     let source = now (a .source) in
     let types = typesFrom source (now (a .cs)) (now (a .gs)) (a .k) in
@@ -107,7 +107,7 @@ returns-4 t c =
 
 pub returns-5 : (t : ℕ) → walk-rest-lts.Need-returns-5 (walk-rest-calls t) (walk-rest-at t) walk-rest.Post
 returns-5 t c =
-    let a = c .before .before .before .before .before .before .before .before .before .before .before .before .args in
+    let a = c .before .before .before .before .before .before .before .before .before .args in
     let s = now (a .sheet) in
     let source = now (a .source) in
     let types = typesFrom source (now (a .cs)) (now (a .gs)) (a .k) in
@@ -119,7 +119,7 @@ returns-5 t c =
 pub returns-6 : (t : ℕ) → walk-rest-lts.Need-returns-6 (walk-rest-calls t) (walk-rest-at t) walk-rest.Post
 unfolding collect
 returns-6 t c =
-    let a = c .before .before .before .before .before .before .before .before .before .before .before .before .before .args in
+    let a = c .before .before .before .before .before .before .before .before .before .before .args in
     let s = now (a .sheet) in
     let source = now (a .source) in
     let types = typesFrom source (now (a .cs)) (now (a .gs)) (a .k) in
@@ -130,7 +130,7 @@ returns-6 t c =
 
 pub returns-7 : (t : ℕ) → walk-rest-lts.Need-returns-7 (walk-rest-calls t) (walk-rest-at t) walk-rest.Post
 returns-7 t c =
-    let a = c .before .before .before .before .before .before .before .before .before .before .before .before .before .before .before .args in
+    let a = c .before .before .before .before .before .before .before .before .before .before .before .before .args in
     let s = now (a .sheet) in
     let source = now (a .source) in
     let types = typesFrom source (now (a .cs)) (now (a .gs)) (a .k) in
@@ -145,7 +145,7 @@ returns-8 t c = (rw (c .before .before .before .before .enum-told2 .given .1) (c
 pub returns-9 : (t : ℕ) → walk-rest-lts.Need-returns-9 (walk-rest-calls t) (walk-rest-at t) walk-rest.Post
 unfolding collect
 returns-9 t c =
-    let a = c .before .before .before .before .before .before .before .before .before .before .before .before .before .before .before .args in
+    let a = c .before .before .before .before .before .before .before .before .before .before .before .before .args in
     let s = now (a .sheet) in
     let source = now (a .source) in
     let types = typesFrom source (now (a .cs)) (now (a .gs)) (a .k) in
@@ -157,7 +157,7 @@ returns-9 t c =
 
 pub returns-10 : (t : ℕ) → walk-rest-lts.Need-returns-10 (walk-rest-calls t) (walk-rest-at t) walk-rest.Post
 returns-10 t c =
-    let a = c .before .before .before .before .before .before .before .before .before .before .before .before .before .before .args in
+    let a = c .before .before .before .before .before .before .before .before .before .before .before .args in
     let s = now (a .sheet) in
     let source = now (a .source) in
     let types = typesFrom source (now (a .cs)) (now (a .gs)) (a .k) in
@@ -175,7 +175,7 @@ returns-11 t c =
 pub returns-12 : (t : ℕ) → walk-rest-lts.Need-returns-12 (walk-rest-calls t) (walk-rest-at t) walk-rest.Post
 unfolding moduleEntry
 returns-12 t c =
-    let a = c .before .before .before .before .before .before .before .before .before .before .before .before .before .args in
+    let a = c .before .before .before .before .before .before .before .before .before .before .args in
     let s = now (a .sheet) in
     let source = now (a .source) in
     let types = typesFrom source (now (a .cs)) (now (a .gs)) (a .k) in
@@ -186,7 +186,7 @@ returns-12 t c =
 
 pub returns-13 : (t : ℕ) → walk-rest-lts.Need-returns-13 (walk-rest-calls t) (walk-rest-at t) walk-rest.Post
 returns-13 t c =
-    let a = c .before .before .before .before .before .before .before .before .before .before .before .before .before .before .before .before .before .args in
+    let a = c .before .before .before .before .before .before .before .before .before .before .before .before .before .before .args in
     let s = now (a .sheet) in
     let source = now (a .source) in
     let types = typesFrom source (now (a .cs)) (now (a .gs)) (a .k) in
@@ -198,7 +198,7 @@ returns-13 t c =
 
 pub returns-14 : (t : ℕ) → walk-rest-lts.Need-returns-14 (walk-rest-calls t) (walk-rest-at t) walk-rest.Post
 returns-14 t c =
-    let a = c .before .before .before .before .before .before .before .before .before .before .before .before .before .args in
+    let a = c .before .before .before .before .before .before .before .before .before .before .args in
     let s = now (a .sheet) in
     let source = now (a .source) in
     let types = typesFrom source (now (a .cs)) (now (a .gs)) (a .k) in

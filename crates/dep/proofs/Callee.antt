@@ -1,0 +1,54 @@
+-- Whether a callee is the Name `require`, by its head.
+use mathlib.Core.Path.{_≡_, refl, sym}
+use mathlib.Core.Bool.{false}
+use mathlib.Core.List.{List, [], _∷_}
+use Prim.Native.Nat.{ℕ, _-_}
+use types.Run.{OneOf, miss}
+use denote.Enum.Declared.{tagOf}
+use lib.ListN.{drop}
+use Rattle.laws.specs.Decoded.{ok}
+use Rattle.laws.specs.Quoted.{ascii}
+use Rattle.laws.proofs.Steps.{seen}
+use Rattle.text.specs.Bytes.{same, part}
+use Rattle.wire.specs.declared.Cursor.{Cursor}
+use Rattle.sheet.specs.declared.fields.Span.{Span}
+use Rattle.sheet.specs.Tree.{Node, name}
+use Rattle.sheet.specs.Nodes.{node}
+use Rattle.sheet.specs.Shape.{shape, isRequire}
+use Rattle.heads.specs.declared.node.Head.{Head}
+use Rattle.heads.specs.declared.node.Head.the-variants as head
+use Rattle.heads.specs.declared.node.HeadRead.{HeadRead}
+use Rattle.heads.specs.declared.node.HeadRead.the-variants as headRead
+use Rattle.heads.specs.Head as heads
+use Rattle.heads.specs.Rest.{rest}
+use Rattle.heads.specs.Views.{headOf, headAs}
+use Rattle.heads.proofs.ByHead.{behind-head}
+use Rattle.heads.proofs.Shapes.{shape-by-head}
+use Rattle.heads.proofs.node.Head.{the-type}
+
+-- the variants besides Name
+abbrev others : List ℕ
+others = 0 ∷ 1 ∷ 3 ∷ 4 ∷ 5 ∷ 6 ∷ 7 ∷ 8 ∷ 9 ∷ 10 ∷ 11 ∷ 12 ∷ 13 ∷ 14 ∷ 15 ∷ 16 ∷ []
+
+module _ (s source : List ℕ) (at levels : ℕ) {r : HeadRead} {sp : Span} {x : Head} {next : Cursor} {n : Node} {t : List ℕ}
+    (says : headAs s r ≡ heads.head source levels (drop at s)) (is : r ≡ headRead.Is sp x next) (whole : node source levels (drop at s) ≡ ok n t) where
+  follows : rest source (levels - 1) (sp, headOf s x) (drop (next .at) s) ≡ ok n t
+  follows = behind-head source levels (drop at s) whole (seen (headAs s) says is)
+
+  pub name-is : {from to : ℕ} → x ≡ head.Name from to → same (part s from to) (ascii "require") ≡ isRequire (shape n)
+  name-is {from} {to} h =
+      let e = rw h at follows in
+      let named : name sp (part s from to) ≡ n = cc in
+      rw (← named)
+
+  pub other-is : OneOf others (tagOf the-type x) → false ≡ isRequire (shape n)
+  other-is k =
+      rw follows at
+      (shape-by-head s source (levels - 1) sp (λ n. false ≡ isRequire (shape n)) others
+      (λ n e. rw e)
+      (λ i x. refl)
+      (λ i. absurd (miss others 2 tt i))
+      (λ i ps ns. refl)
+      (λ i plus l r. refl)
+      (λ i ps. refl)
+      x k .at (drop (next .at) s))

@@ -1,0 +1,43 @@
+-- `put_with_entry`: the entry with the attributes that were read.
+use borrow.Author.Needs.{needs}
+use mathlib.Core.Path.{ap, _∙_}
+use denote.Ref.{now}
+use Rattle.report.specs.Buffer.{bufferAs}
+use Rattle.dep.specs.Walk.{typesFrom, wroteEntries, staticOf}
+use Rattle.dep.proofs.entries.put_with_entry.Statement.{statement}
+use Rattle.dep.proofs.entries.put_with_entry.Tie as tie
+
+returns : tie.Need-returns
+returns c =
+    let a = c .before .before .before .before .before .before .before .before .before .before .before .before .args in
+    let s = now (a .sheet) in
+    let source = now (a .source) in
+    let types = typesFrom source (now (a .cs)) (now (a .gs)) (a .k) in
+    let w = bufferAs (now (a .out)) (a .p) in
+    λ b t is. c .before .before .put-static-entry .ensures ∙ ap (λ x. wroteEntries w (staticOf source types s (a .d) x)) (rw (c .before .before .before .before .before .before .before .before .if1 .taken) (c .before .before .before .before .before .before .parse-type-attributes .ensures .0 b t is))
+
+returns-2 : tie.Need-returns-2
+returns-2 c =
+    let a = c .before .before .before .before .before .before .before .before .before .before .before .before .args in
+    let s = now (a .sheet) in
+    let source = now (a .source) in
+    let types = typesFrom source (now (a .cs)) (now (a .gs)) (a .k) in
+    let w = bufferAs (now (a .out)) (a .p) in
+    λ b t is. c .before .before .put-static-entry2 .ensures ∙ ap (λ x. wroteEntries w (staticOf source types s (a .d) x)) (rw (c .before .before .before .before .before .before .before .before .if1 .left) (c .before .before .before .before .before .before .parse-import-attributes .ensures .0 b t is))
+
+pub put-with-entry-spec : {M : Type 1} → statement M
+put-with-entry-spec =
+    tie.close
+    (tie.spec
+    (λ c. search needs)
+    (λ c κs. search needs)
+    (λ c. search needs)
+    (λ c κs. search needs)
+    (λ c. search needs)
+    returns
+    (λ c. search needs)
+    (λ c κs. search needs)
+    (λ c. search needs)
+    (λ c κs. search needs)
+    (λ c. search needs)
+    returns-2)

@@ -1,0 +1,37 @@
+-- Places at which no reading can begin are passed without a look.
+use mathlib.Core.Path.{_≡_}
+use mathlib.Core.Bool.{false}
+use mathlib.Core.List.{List}
+use Prim.Native.Nat.{ℕ, _+_, _≤_, _<_}
+use Prim.Native.Char.{code}
+use native.Mathlib.Omega.{arith}
+use lib.ListN.{length, drop, getD}
+use borrow.Author.Tests.{ne-eqb}
+use Rattle.text.specs.Bytes.{begins}
+use Rattle.laws.proofs.Onward.{carried-to}
+use Rattle.jsdoc.specs.Grammar.{Bytes, Brace}
+use Rattle.jsdoc.specs.Parsed.{value}
+use Rattle.jsdoc.specs.Reader.{tag, parseJsdocImportDecl}
+use Rattle.jsdoc.specs.Answers.{Imports}
+use Rattle.jsdoc.specs.Marks.{Marks}
+use Rattle.jsdoc.specs.declared.answers.JsDocImport.the-variants as jsDocImport
+use Rattle.jsdoc.proofs.Marking.{Before, Besides, no-brace-turn, declaration-turn}
+use Rattle.jsdoc.proofs.Steps.{cons-at}
+
+module _ (b : Bytes) (i r : ℕ) (l : i ≤ r) (h : r ≤ length b) {t : List ℕ} where
+  pub braces-skip : ((k : ℕ) → i ≤ k → k < r → getD b k 0 ≡ code "{" → ⊥) → Marks (Before Brace b i) (length b) t → Marks (Before Brace b r) (length b) t
+  braces-skip f m = carried-to (λ k. Marks (Before Brace b k) (length b) t) i r l m (λ k g n p. no-brace-turn b k p (omega arith) (f k g n))
+
+-- where no `@` stands, no declaration begins
+no-at : (b : Bytes) (k : ℕ) → k < length b → (getD b k 0 ≡ code "@" → ⊥)
+    → Imports (drop k b) (value (parseJsdocImportDecl (drop k b))) jsDocImport.Backtrace
+unfolding parseJsdocImportDecl tag begins
+no-at b k l n = record { is = rw (cons-at b k l, ne-eqb (getD b k 0) (code "@") n); ordered = tt }
+
+module _ (b : Bytes) (i r : ℕ) (l : i ≤ r) (h : r ≤ length b) {t : List ℕ} where
+  pub declarations-skip : ((k : ℕ) → i ≤ k → k < r → getD b k 0 ≡ code "@" → ⊥) → Marks (Besides b i) (length b) t → Marks (Besides b r) (length b) t
+  declarations-skip f m =
+      carried-to (λ k. Marks (Besides b k) (length b) t) i r l m
+      (λ k g n p.
+      let u : k < length b = omega arith in
+      declaration-turn b k p u jsDocImport.Backtrace (no-at b k u (f k g n)))

@@ -1,0 +1,41 @@
+use borrow.Author.Needs.{needs}
+use native.Mathlib.Omega.{arith}
+use mathlib.Core.Path.{sym}
+use lib.ListN.{length-drop}
+use denote.Ref.{now}
+use Rattle.jsdoc.proofs.Answered.{read, inside}
+use Rattle.jsdoc.proofs.Moved.{part-to-end, moved-mode}
+use Rattle.jsdoc.proofs.block.block_at.Statement.{statement}
+use Rattle.jsdoc.proofs.block.block_at.Tie as tie
+
+add-t11 : tie.Need-add-t11
+add-t11 c =
+    let a = c .before .before .before .before .before .before .args in
+    let h = rw (part-to-end (now (a .s)) (a .at)) at (c .before .before .before .parse-import-attribute-block-for-resolution-mode .ensures) in
+    omega (arith, inside h (c .before .mode .given .1), length-drop (a .at) (now (a .s)))
+
+returns : tie.Need-returns
+returns c =
+    let a = c .before .before .before .before .before .before .args in
+    let h = rw (part-to-end (now (a .s)) (a .at)) at (c .before .before .before .parse-import-attribute-block-for-resolution-mode .ensures) in
+    moved-mode (now (a .s)) (a .at) (c .before .before .before .before .before .before .pre) (read h (c .before .mode .given .1)) (inside h (c .before .mode .given .1))
+
+returns-2 : tie.Need-returns-2
+returns-2 c =
+    let a = c .before .before .before .before .before .args in
+    let h = rw (part-to-end (now (a .s)) (a .at)) at (c .before .before .parse-import-attribute-block-for-resolution-mode .ensures) in
+    record { is = sym (read h (c .enum-told .given .1)); ordered = tt }
+
+pub block-at-spec : {M : Type 1} → statement M
+block-at-spec =
+    tie.close
+    (tie.spec
+    (λ c. search needs)
+    (λ c. search needs)
+    (λ c. search needs)
+    (λ c κs. search needs)
+    (λ c. search needs)
+    add-t11
+    (λ c. search needs)
+    returns
+    returns-2)

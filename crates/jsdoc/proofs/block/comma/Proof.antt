@@ -1,0 +1,12 @@
+use borrow.Author.Needs.{needs}
+use Rattle.jsdoc.specs.Reader.{comma}
+use Rattle.jsdoc.proofs.block.comma.Statement.{statement}
+use Rattle.jsdoc.proofs.block.comma.Tie as tie
+
+returns : tie.Need-returns
+unfolding comma
+returns c = record { is = rw (← c .before .before .skip-whitespace .ensures .0) (c .word .ensures .is); ordered = c .word .ensures .ordered }
+
+pub comma-spec : {M : Type 1} → statement M
+comma-spec =
+    tie.close (tie.spec (λ c κs. search needs) (λ c. search needs) (λ c κs. search needs) returns)

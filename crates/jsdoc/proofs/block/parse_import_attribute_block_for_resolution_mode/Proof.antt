@@ -1,0 +1,87 @@
+use borrow.Author.Needs.{needs}
+use borrow.Author.Tests.{eq-eqb, ne-eqb}
+use Rattle.jsdoc.specs.Reader.{parseImportAttributeBlockForResolutionMode}
+use Rattle.jsdoc.proofs.Answered.{read, inside}
+use Rattle.jsdoc.proofs.block.parse_import_attribute_block_for_resolution_mode.Statement.{statement}
+use Rattle.jsdoc.proofs.block.parse_import_attribute_block_for_resolution_mode.Tie as tie
+
+returns : tie.Need-returns
+unfolding parseImportAttributeBlockForResolutionMode
+returns c = record { is = rw (read (c .before .before .word .ensures) (c .enum-told .given .1)); ordered = tt }
+
+separated-list-requires : tie.Need-separated-list-requires
+separated-list-requires c κs = inside (c .before .before .before .word .ensures) (c .before .first .given .1)
+
+returns-2 : tie.Need-returns-2
+unfolding parseImportAttributeBlockForResolutionMode
+returns-2 c =
+    record { is = rw (read (c .before .before .before .before .before .before .word .ensures) (c .before .before .before .before .first .given .1), read (c .before .before .separated-list .ensures) (c .enum-told2 .given .1)); ordered = tt }
+
+skip-whitespace-requires : tie.Need-skip-whitespace-requires
+skip-whitespace-requires c κs = inside (c .before .before .before .separated-list .ensures) (c .before .mode .given .1)
+
+returns-3 : tie.Need-returns-3
+unfolding parseImportAttributeBlockForResolutionMode
+returns-3 c =
+    record {
+      is =
+          rw (
+            read (c .before .before .before .before .before .before .before .before .before .before .before .before .word .ensures) (c .before .before .before .before .before .before .before .before .before .before .first .given .1),
+            read (c .before .before .before .before .before .before .before .before .separated-list .ensures) (c .before .before .before .before .before .before .mode .given .1),
+            ← c .before .before .before .before .skip-whitespace .ensures .0,
+            read (c .before .before .tag .ensures) (c .enum-told3 .given .1),
+          );
+      ordered = tt;
+    }
+
+returns-4 : tie.Need-returns-4
+unfolding parseImportAttributeBlockForResolutionMode
+returns-4 c =
+    record {
+      is =
+          rw (
+            read (c .before .before .before .before .before .before .before .before .before .before .before .before .before .before .word .ensures) (c .before .before .before .before .before .before .before .before .before .before .before .before .first .given .1),
+            read (c .before .before .before .before .before .before .before .before .before .before .separated-list .ensures) (c .before .before .before .before .before .before .before .before .mode .given .1),
+            ← c .before .before .before .before .before .before .skip-whitespace .ensures .0,
+            read (c .before .before .before .before .tag .ensures) (c .before .before .end .given .1),
+            eq-eqb _ _ (c .if1 .taken),
+          );
+      ordered = inside (c .before .before .before .before .tag .ensures) (c .before .before .end .given .1);
+    }
+
+returns-5 : tie.Need-returns-5
+unfolding parseImportAttributeBlockForResolutionMode
+returns-5 c =
+    record {
+      is =
+          rw (
+            read (c .before .before .before .before .before .before .before .before .before .before .before .before .before .before .word .ensures) (c .before .before .before .before .before .before .before .before .before .before .before .before .first .given .1),
+            read (c .before .before .before .before .before .before .before .before .before .before .separated-list .ensures) (c .before .before .before .before .before .before .before .before .mode .given .1),
+            ← c .before .before .before .before .before .before .skip-whitespace .ensures .0,
+            read (c .before .before .before .before .tag .ensures) (c .before .before .end .given .1),
+            ne-eqb _ _ (c .if1 .left),
+          );
+      ordered = inside (c .before .before .before .before .tag .ensures) (c .before .before .end .given .1);
+    }
+
+pub parse-import-attribute-block-for-resolution-mode-spec : {M : Type 1} → statement M
+parse-import-attribute-block-for-resolution-mode-spec =
+    tie.close
+    (tie.spec
+    (λ c. search needs)
+    (λ c κs. search needs)
+    (λ c. search needs)
+    (λ c. search needs)
+    returns
+    separated-list-requires
+    (λ c. search needs)
+    (λ c. search needs)
+    returns-2
+    skip-whitespace-requires
+    (λ c. search needs)
+    (λ c κs. search needs)
+    (λ c. search needs)
+    (λ c. search needs)
+    returns-3
+    returns-4
+    returns-5)

@@ -1,0 +1,74 @@
+use borrow.Author.Needs.{needs}
+use native.Mathlib.Omega.{arith}
+use mathlib.Core.Path.{_≡_, refl, sym, _∙_}
+use Prim.Native.Nat.{_≤_, _-_}
+use lib.ListN.{length, drop, length-drop}
+use denote.Ref.{now}
+use Rattle.jsdoc.specs.Reader.{separatedList}
+use Rattle.jsdoc.proofs.Answered.{read, inside}
+use Rattle.jsdoc.proofs.Blocks.{attributes-none, attributes-last, attributes-shorter, attributes-next}
+use Rattle.jsdoc.proofs.block.separated_list.Statement.{statement}
+use Rattle.jsdoc.proofs.block.separated_list.Tie as tie
+
+abbrev Inv-loop : tie.InvT-loop
+Inv-loop s at i₀ mode₀ i mode = (i ≤ length s) × (separatedList 3 (drop at s) ≡ separatedList mode (drop i s))
+
+abbrev μ-loop : tie.MeasureT-loop
+μ-loop s at i₀ mode₀ i mode = length s - i
+
+loop-holds : tie.Need-loop-holds Inv-loop μ-loop
+loop-holds c = (search needs, refl)
+
+returns : tie.Need-returns Inv-loop μ-loop
+returns c = record { is = sym (c .before .before .before .loop .inv .1 ∙ attributes-none _ _ (read (c .before .before .parse-attribute .ensures) (c .enum-told .given .1))); ordered = search needs }
+
+comma-requires : tie.Need-comma-requires Inv-loop μ-loop
+comma-requires c κs = inside (c .before .before .before .before .parse-attribute .ensures) (c .before .before .n .given .1)
+
+returns-2 : tie.Need-returns-2 Inv-loop μ-loop
+returns-2 c =
+    record {
+      is =
+          rw (c .before .before .before .first-mode .ensures)
+          (sym (c .before .before .before .before .before .before .before .before .loop .inv .1 ∙ attributes-last _ _ (read (c .before .before .before .before .before .before .before .parse-attribute .ensures) (c .before .before .before .before .before .n .given .1)) (read (c .before .before .comma .ensures) (c .enum-told2 .given .1))));
+      ordered = inside (c .before .before .before .before .before .before .before .parse-attribute .ensures) (c .before .before .before .before .before .n .given .1);
+    }
+
+loop-less : tie.Need-loop-less Inv-loop μ-loop
+loop-less c =
+    let s = now (c .before .before .before .before .before .before .before .before .before .before .before .args .s) in
+    let i = c .before .before .before .before .before .before .before .before .before .loop .i in
+    let j = c .before .next .given .0 .0 in
+    omega (
+      arith,
+      attributes-shorter 3 (drop i s) (read (c .before .before .before .before .before .before .before .before .parse-attribute .ensures) (c .before .before .before .before .before .before .n .given .1)) (read (c .before .before .before .comma .ensures) (c .before .next .given .1)),
+      inside (c .before .before .before .comma .ensures) (c .before .next .given .1),
+      length-drop i s,
+      length-drop j s,
+    )
+
+loop-again : tie.Need-loop-again Inv-loop μ-loop
+loop-again c = (
+  inside (c .before .before .before .comma .ensures) (c .before .next .given .1),
+  rw (c .before .before .before .before .first-mode .ensures)
+      (c .before .before .before .before .before .before .before .before .before .loop .inv .1 ∙ attributes-next _ _ (read (c .before .before .before .before .before .before .before .before .parse-attribute .ensures) (c .before .before .before .before .before .before .n .given .1)) (read (c .before .before .before .comma .ensures) (c .before .next .given .1))),
+)
+
+pub separated-list-spec : {M : Type 1} → statement M
+separated-list-spec =
+    tie.close
+    (tie.spec
+    Inv-loop
+    μ-loop
+    loop-holds
+    (λ c κs. search needs)
+    (λ c. search needs)
+    (λ c. search needs)
+    returns
+    (λ c κs. search needs)
+    comma-requires
+    (λ c. search needs)
+    (λ c. search needs)
+    returns-2
+    loop-less
+    loop-again)

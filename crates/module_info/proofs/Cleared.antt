@@ -1,0 +1,16 @@
+-- The front of cleared marks.
+use mathlib.Core.Path.{_≡_, refl, ap, _∙_}
+use mathlib.Core.List.{List, _∷_}
+use Prim.Native.Nat.{ℕ, zero, suc, _≤_}
+use native.Mathlib.Nat.{sub-zero}
+use native.Mathlib.Omega.{arith}
+use lib.ListN.{length, take, replicate}
+use Rattle.text.specs.Bytes.{part}
+
+take-zeros : (n k : ℕ) → k ≤ n → take k (replicate {A = ℕ} n 0) ≡ replicate k 0
+take-zeros n zero h = refl
+take-zeros zero (suc k) h = absurd (omega (arith, h))
+take-zeros (suc n) (suc k) h = ap (0 ∷_) (take-zeros n k (omega (arith, h)))
+
+pub front-cleared : (marks : List ℕ) (k : ℕ) → marks ≡ replicate (length marks) 0 → k ≤ length marks → part marks 0 k ≡ replicate k 0
+front-cleared marks k e h = rw sub-zero (ap (take k) e ∙ take-zeros (length marks) k h)

@@ -1,0 +1,15 @@
+use borrow.Author.Needs.{needs}
+use native.Mathlib.Omega.{arith}
+use mathlib.Core.Bool.{false≢true}
+use borrow.Author.Tests.{eqb-true}
+use Rattle.text.proofs.bytes.zeros_at.Statement.{statement}
+use Rattle.text.proofs.bytes.zeros_at.Tie as tie
+
+returns : tie.Need-returns
+returns c = λ e. absurd (false≢true e)
+
+returns-2 : tie.Need-returns-2
+returns-2 c = λ e. (omega arith, λ k h. omega (arith, c .block-top .ensures k h, eqb-true (c .block-top .result) 0 e))
+
+pub zeros-at-spec : {M : Type 1} → statement M
+zeros-at-spec = tie.close (tie.spec (λ c. search needs) returns (λ c κs. search needs) returns-2)

@@ -1,0 +1,47 @@
+use borrow.Author.Needs.{needs}
+use native.Mathlib.Omega.{arith}
+use mathlib.Core.Path.{_≡_, sym, _∙_}
+use Prim.Native.Nat.{_+_}
+use lib.ListN.{take, drop}
+use denote.Ref.{now}
+use Rattle.text.specs.Position.{characters, walk}
+use Rattle.text.proofs.Sums.{walk-line, same-place, block-unbroken, block-broken}
+use Rattle.text.proofs.position.scan_block.Statement.{statement}
+use Rattle.text.proofs.position.scan_block.Tie as tie
+
+returns : tie.Need-returns
+returns c =
+    let a = c .before .before .before .before .before .before .before .args in
+    let t = take 64 (drop (a .from) (now (a .s))) in
+    let lines = c .before .before .before .before .before .lines-in .ensures .0 in
+    let past = c .before .before .before .before .past-last .ensures in
+    let begun = c .before .before .before .begun-in .ensures .0 in
+    let line = walk-line (a .p) t in
+    let column = block-unbroken (a .p) (now (a .s)) (a .from) (omega arith) _ (past .0) (past .1) (c .before .if1 .taken) in
+    same-place (walk characters (a .p) t) (omega arith) (omega arith)
+
+returns-2 : tie.Need-returns-2
+returns-2 c =
+    let a = c .before .before .before .before .before .before .args in
+    let t = take 64 (drop (a .from) (now (a .s))) in
+    let lines = c .before .before .before .before .lines-in .ensures .0 in
+    let past = c .before .before .before .past-last .ensures in
+    let begun = c .before .before .begun-in .ensures .0 in
+    let line = walk-line (a .p) t in
+    let column = block-broken (a .p) (now (a .s)) (a .from) (omega arith) _ (past .0) (past .1) (c .if1 .left) (past .2) in
+    same-place (walk characters (a .p) t) (omega arith) (omega arith)
+
+pub scan-block-spec : {M : Type 1} → statement M
+scan-block-spec =
+    tie.close
+    (tie.spec
+    (λ c κs. search needs)
+    (λ c κs. search needs)
+    (λ c κs. search needs)
+    (λ c. search needs)
+    (λ c. search needs)
+    (λ c. search needs)
+    (λ c. search needs)
+    returns
+    (λ c. search needs)
+    returns-2)

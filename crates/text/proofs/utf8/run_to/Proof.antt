@@ -1,0 +1,56 @@
+use borrow.Author.Needs.{needs}
+use native.Mathlib.Omega.{arith}
+use mathlib.Core.Path.{_≡_, refl, sym, _∙_}
+use Prim.Native.Nat.{_-_, _≤_}
+use lib.ListN.{length, drop, length-drop}
+use denote.Ref.{now}
+use Rattle.text.specs.Utf8.{formed}
+use Rattle.text.proofs.Formed.{stuck, passed, fits}
+use Rattle.text.proofs.utf8.run_to.Statement.{statement}
+use Rattle.text.proofs.utf8.run_to.Tie as tie
+
+abbrev Inv-loop : tie.InvT-loop
+Inv-loop s at stop encoding i₀ i = (i ≤ length s) × (formed encoding 0 (drop at s) ≡ formed encoding 0 (drop i s))
+
+abbrev μ-loop : tie.MeasureT-loop
+μ-loop s at stop encoding i₀ i = stop - i
+
+loop-holds : tie.Need-loop-holds Inv-loop μ-loop
+loop-holds c = (omega arith, refl)
+
+returns : tie.Need-returns Inv-loop μ-loop
+returns c =
+    let a = c .before .before .before .before .before .args in
+    let l = c .before .before .before .loop in
+    (l .inv .1, omega arith, λ h. stuck (a .encoding) (now (a .s)) (l .i) (omega arith) (c .before .char-length .ensures) (c .if1 .taken))
+
+add-i : tie.Need-add-i Inv-loop μ-loop
+add-i c =
+    let a = c .before .before .before .before .before .args in
+    let l = c .before .before .before .loop in
+    omega (arith, fits (a .encoding) (drop (l .i) (now (a .s))), length-drop (l .i) (now (a .s)), c .before .char-length .ensures)
+
+loop-again : tie.Need-loop-again Inv-loop μ-loop
+loop-again c =
+    let a = c .before .before .before .before .before .args in
+    let l = c .before .before .before .loop in (
+      omega (arith, fits (a .encoding) (drop (l .i) (now (a .s))), length-drop (l .i) (now (a .s)), c .before .char-length .ensures),
+      l .inv .1 ∙ passed (a .encoding) (now (a .s)) (l .i) (omega arith) _ (c .before .char-length .ensures) (c .if1 .left),
+    )
+
+returns-2 : tie.Need-returns-2 Inv-loop μ-loop
+returns-2 c = (c .before .loop .inv .1, c .before .loop .inv .0, λ h. absurd (omega arith))
+
+pub run-to-spec : {M : Type 1} → statement M
+run-to-spec =
+    tie.close
+    (tie.spec
+    Inv-loop
+    μ-loop
+    loop-holds
+    (λ c κs. search needs)
+    returns
+    add-i
+    (λ c. search needs)
+    loop-again
+    returns-2)

@@ -35,7 +35,7 @@ use Rattle.report.specs.Buffer.{Buffer}
 use Rattle.attributes.specs.Attributes.{staticAttributes, typeAttributes}
 use Rattle.dep.specs.declared.entries.CallHead.{CallHead}
 use Rattle.dep.specs.declared.entries.StaticDependencyDescriptor.{StaticDependencyDescriptor}
-use Rattle.dep.specs.Collect.{exportKind, dynamicKind, moduleEntry, collect, collectAll, collectOf, collectWith}
+use Rattle.dep.specs.Collect.{exportKind, dynamicKind, moduleEntry, collector, collect, collectAll, collectOf, collectWith}
 use Rattle.dep.specs.Walk.{Quotes, PastHead, wroteEntries, staticOf, entryOfCall, afterNode, afterNodes, afterArgument, afterArguments, afterProperty, afterWith, afterImport, afterCall, afterTyped}
 use Rattle.dep.proofs.Wrote.{entries-append}
 
@@ -52,13 +52,13 @@ module _ (source : List ℕ) (types : ℕ → Option SpecifierWithRange) where
   -- an argument
   pub argument-holds : (w : Buffer) (dots : Bool) (sp : Span) (x : Decoded Node)
       → onOk (afterNode source types w) x ≡ onOk (afterArgument source types w) (andThen x (λ n. return (argument dots sp n)))
-  unfolding collect
+  unfolding collector
   argument-holds w dots sp = built (afterNode source types w) (afterArgument source types w) (argument dots sp) (λ n. rw (append-nil (collect source types n)))
 
   -- a property: one node, or two with a child for its key
   pub property-holds : (w : Buffer) (inner : Decoder Node) (s : List ℕ) (p : Property) (u : List ℕ)
       → onOk (afterNodes source types w) (nodes inner (nodesOf p) u) ≡ onOk (afterProperty source types w) (propertyRest inner (propertyOf s p) u)
-  unfolding collect
+  unfolding collector
   property-holds w inner s property.Spread u = rw (nodes-one inner u) (alike inner (afterNodes source types w) (afterProperty source types w) (λ n. more n none) spread (λ n. refl) (inner u))
   property-holds w inner s property.Other u = rw (nodes-one inner u) (alike inner (afterNodes source types w) (afterProperty source types w) (λ n. more n none) otherProperty (λ n. refl) (inner u))
   property-holds w inner s property.ChildKey u = rw (nodes-two inner u) (alike-two inner (afterNodes source types w) (afterProperty source types w) (λ k v. more k (more v none)) childKey (λ k v. refl) (inner u))
@@ -68,7 +68,7 @@ module _ (source : List ℕ) (types : ℕ → Option SpecifierWithRange) where
   -- a node that holds nothing and has no entry: a String, a Name, an export or an import-equals that names no module
   pub leaf-holds : (s : List ℕ) (levels : ℕ) (sp : Span) (x : Head) → OneOf (1 ∷ 2 ∷ 9 ∷ 13 ∷ []) (tagOf the-type x)
       → {w : Buffer} → wroteEntries w [] ≡ w → (u : List ℕ) → ok w u ≡ onOk (afterNode source types w) (rest source levels (sp, headOf s x) u)
-  unfolding collect
+  unfolding collector
   leaf-holds s levels sp x (inl k) e u = rw (lives-at enum x 1 k .1, e)
   leaf-holds s levels sp x (inr (inl k)) e u = rw (lives-at enum x 2 k .1, e)
   leaf-holds s levels sp x (inr (inr (inl k))) e u = rw (lives-at enum x 9 k .1, e)
@@ -77,7 +77,7 @@ module _ (source : List ℕ) (types : ℕ → Option SpecifierWithRange) where
   -- a template, its pieces read
   pub template-holds : (w : Buffer) (sp : Span) (inner : Decoder Node) (n : ℕ) (x : Decoded Pieces) {b : Bool} {v : List ℕ} → onOk anyUncooked x ≡ ok b v
       → onOk (afterNodes source types w) (nodes inner n v) ≡ onOk (afterNode source types w) (andThen x (λ ps. nodes inner n >>= λ ns. return (template sp ps ns)))
-  unfolding collect
+  unfolding collector
   template-holds w sp inner n x {b} {v} e =
       let (ps, is, gives) = onOk-ok anyUncooked x e in
       rw is (built (afterNodes source types w) (afterNode source types w) (template sp ps) (λ ns. refl) (nodes inner n v))
@@ -85,7 +85,7 @@ module _ (source : List ℕ) (types : ℕ → Option SpecifierWithRange) where
   -- a binary operation holds two nodes
   pub binary-holds : (w : Buffer) (sp : Span) (plus : Bool) (inner : Decoder Node) (u : List ℕ)
       → onOk (afterNodes source types w) (nodes inner 2 u) ≡ onOk (afterNode source types w) ((inner >>= λ l. inner >>= λ r. return (binary sp plus l r)) u)
-  unfolding collect
+  unfolding collector
   binary-holds w sp plus inner u =
       rw (nodes-two inner u)
       (alike-two inner (afterNodes source types w) (afterNode source types w) (λ m n. more m (more n none)) (binary sp plus) (λ m n. rw (append-nil (collect source types n))) (inner u))
@@ -93,7 +93,7 @@ module _ (source : List ℕ) (types : ℕ → Option SpecifierWithRange) where
   -- a module declaration, its entry written
   pub module-holds : (w : Buffer) {w′ : Buffer} (sp : Span) (q : Option Quoted) → w′ ≡ wroteEntries w (moduleEntry source types sp q) → (x : Decoded Nodes)
       → onOk (afterNodes source types w′) x ≡ onOk (afterNode source types w) (andThen x (λ ns. return (moduleDecl sp q ns)))
-  unfolding collect
+  unfolding collector
   module-holds w sp q e = rw e
       (built (afterNodes source types (wroteEntries w (moduleEntry source types sp q))) (afterNode source types w) (moduleDecl sp q)
       (λ ns. sym (entries-append w (moduleEntry source types sp q) (collectAll source types ns))))
@@ -110,7 +110,7 @@ module _ (source : List ℕ) (types : ℕ → Option SpecifierWithRange) where
     pub import-call-holds : (w : Buffer) (phase : ℕ) {kind : ℕ} → kind ≡ dynamicKind phase → (u : List ℕ)
         → onOk (afterCall source types (record { kind = kind; span = sp; listed = true }) w) (callParts source inner u)
         ≡ onOk (afterNode source types w) (callRest source levels inner object′ sp (importCall sp phase) u)
-    unfolding collect
+    unfolding collector
     import-call-holds w phase e u = rw e (call-holds (record { kind = dynamicKind phase; span = sp; listed = true }) w w (importCall sp phase) (λ p. refl) u)
 
     -- and the callee, an expression
@@ -118,7 +118,7 @@ module _ (source : List ℕ) (types : ℕ → Option SpecifierWithRange) where
         → {b : Bool} → ((n : Node) (u : List ℕ) → x ≡ ok n u → b ≡ isRequire (shape n))
         → onOk (afterCall source types (record { kind = 12; span = sp; listed = b }) v) (callParts source inner t)
         ≡ onOk (afterNode source types w) (andThen x (λ e. callRest source levels inner object′ sp (call sp e)))
-    unfolding collect
+    unfolding collector
     call-of-holds w (ok n u) {v} {t} e {b} f =
         let gives : v ≡ afterNode source types w n = cc in
         let left : t ≡ u = cc in
@@ -172,7 +172,7 @@ module _ (source : List ℕ) (types : ℕ → Option SpecifierWithRange) where
   pub typed-holds : (w : Buffer) (s : List ℕ) (sp : Span) (q : heads.Quoted) (inner : Decoder Node) (object′ : Decoder Attributes) (n : ℕ) (u : List ℕ)
       → onOk (afterTyped source types s (record { kind = 3; span = sp; specifier = q; «is_side_effect» = false }) w) (typedParts inner object′ n u)
       ≡ onOk (afterNode source types w) ((nodes inner n >>= λ ns. attributes object′ >>= λ a. return (importType sp (quotedOf s q) ns a)) u)
-  unfolding collect
+  unfolding collector
   typed-holds w s sp q inner object′ n u =
       rw (typed-parted sp (quotedOf s q) inner object′ n u)
       (built (afterTyped source types s (record { kind = 3; span = sp; specifier = q; «is_side_effect» = false }) w) (afterNode source types w) (λ p. importType sp (quotedOf s q) (p .0) (p .1)) (λ p. refl) (typedParts inner object′ n u))
@@ -191,7 +191,7 @@ module _ (source : List ℕ) (types : ℕ → Option SpecifierWithRange) where
       → onOk (afterImport source types s (record { kind = exportKind typeOnly; span = sp; specifier = q; «is_side_effect» = false }) w)
       (behind there (attributesObject source levels) u)
       ≡ onOk (afterNode source types w) (rest source levels (sp, headOf s x) u)
-  unfolding collect
+  unfolding collector
   export-holds w s levels sp {x} {typeOnly} {q} {there} (inl e) u =
       rw e (built _ (afterNode source types w) (exportFrom sp typeOnly (quotedOf s q)) (λ a. refl) (behind there (attributesObject source levels) u))
   export-holds w s levels sp {x} {typeOnly} {q} {there} (inr e) u =

@@ -1,32 +1,26 @@
 -- There are as many dependencies as the check of the tree counts.
 use mathlib.Core.Path.{_≡_, refl, sym, ap, _∙_}
 use mathlib.Core.Bool.{Bool, true, false, cond, _&&_}
-use mathlib.Core.List.{List, [], _∷_, _++_, flatMap}
+use mathlib.Core.List.{List, [], _∷_, append-nil, flatMap}
 use mathlib.Core.Option.{Option}
-use Prim.Native.Nat.{ℕ, _+_}
-use native.Mathlib.Nat.{add-assoc}
-use native.Mathlib.Omega.{arith}
+use Prim.Native.Nat.{ℕ}
 use lib.ListN.{length, length-append}
 use Rattle.laws.specs.Decoded.{Decoded, ok, onOk}
+use Rattle.laws.proofs.Lists.{flatMap-append}
 use Rattle.wire.specs.Number.{encodeNumber}
 use Rattle.sheet.specs.declared.fields.Span.{Span}
-use Rattle.sheet.specs.Tree.{Quoted, Node, other, string, name, template, binary, object, importCall, call, importDecl, namedExport, exportFrom, exportAll, importType, importEquals, importRequire, moduleDecl, Nodes, none, more, Arguments, noArguments, argument, Properties, noProperties, spread, otherProperty, childKey, stringKey, nameKey, Attributes, without, withObject}
+use Rattle.sheet.specs.Tree.{Quoted, Node, Arguments, noArguments, argument}
 use Rattle.sheet.specs.Shape.{shape, isRequire, isAugmentation}
-use Rattle.sheet.specs.Walked.{declares, one, anyArgument, entries, entriesAll, entriesOf, entriesIn, entriesWith}
+use Rattle.sheet.specs.Walk.{Visit, called, importing, expression, imported, exported, typed, required, declared, visiting, visits}
+use Rattle.sheet.specs.Walked.{declares, gives, one, anyArgument, counting, entries}
+use Rattle.sheet.proofs.Walks.{walks-related}
 use Rattle.report.specs.ModuleInfo.{SpecifierWithRange}
 use Rattle.report.specs.ModuleInfo as info
 use Rattle.report.specs.Encode.{encodeList, encodeDependency}
 use Rattle.report.specs.Buffer.{Buffer, wrote}
 use Rattle.report.proofs.Buffers.{wrote-append}
 use Rattle.dep.specs.Walk.{wroteEntries, afterNode}
-use Rattle.dep.specs.Collect.{dynamicKind, staticEntry, callEntry, moduleEntry, collect, collectAll, collectOf, collectIn, collectWith}
-
--- three lists, one after the other
-in-turn : {A : Type 0} (a b c : List A) {k m n : ℕ} → length a ≡ k → length b ≡ m → length c ≡ n → length (a ++ (b ++ c)) ≡ k + m + n
-in-turn a b c e f g = rw (length-append a (b ++ c), length-append b c, e, f, g) (omega arith)
-
-four : (a b c d : ℕ) → a + (b + c + d) ≡ a + b + c + d
-four a b c d = omega arith
+use Rattle.dep.specs.Collect.{dynamicKind, staticEntry, callEntry, moduleEntry, entryOf, collector, collect}
 
 module _ (source : List ℕ) (types : ℕ → Option SpecifierWithRange) where
   call-one : (kind : ℕ) (sp : Span) (xs : Arguments) → length (callEntry source types kind sp xs) ≡ one (anyArgument xs)
@@ -47,58 +41,25 @@ module _ (source : List ℕ) (types : ℕ → Option SpecifierWithRange) where
       go true = refl
       go false = refl
 
-  mutual
-    unfolding collect
+  entry-one : (v : Visit) → length (entryOf source types v) ≡ one (gives v)
+  entry-one (called sp (importing phase) xs) = call-one (dynamicKind phase) sp xs
+  entry-one (called sp (expression e) xs) = listed-one (isRequire (shape e)) 12 sp xs
+  entry-one (imported sp typeOnly phase sideEffect x a) = refl
+  entry-one (exported sp typeOnly x a) = refl
+  entry-one (typed sp x a) = refl
+  entry-one (required sp typeOnly export x) = refl
+  entry-one (declared sp x) = module-one sp x
 
-    pub counted : (n : Node) → length (collect source types n) ≡ entries n
-    counted (other sp ns) = counted-all ns
-    counted (string sp x) = refl
-    counted (name sp x) = refl
-    counted (template sp ps ns) = counted-all ns
-    counted (binary sp plus l r) = rw (length-append (collect source types l) (collect source types r), counted l, counted r)
-    counted (object sp ps) = counted-in ps
-    counted (importCall sp phase xs ns) = in-turn (collectOf source types xs) (collectAll source types ns) (callEntry source types (dynamicKind phase) sp xs) (counted-of xs) (counted-all ns) (call-one (dynamicKind phase) sp xs)
-    counted (call sp e xs ns) =
-        let d = cond (isRequire (shape e)) (callEntry source types 12 sp xs) [] in
-        rw (
-          length-append (collect source types e) (collectOf source types xs ++ (collectAll source types ns ++ d)),
-          counted e,
-          in-turn (collectOf source types xs) (collectAll source types ns) d (counted-of xs) (counted-all ns) (listed-one (isRequire (shape e)) 12 sp xs),
-        )
-        (four (entries e) (entriesOf xs) (entriesAll ns) (one (isRequire (shape e) && anyArgument xs)))
-    counted (importDecl sp typeOnly phase sideEffect x a) = refl
-    counted (namedExport sp typeOnly) = refl
-    counted (exportFrom sp typeOnly x a) = refl
-    counted (exportAll sp typeOnly x a) = refl
-    counted (importType sp x ns a) =
-        let l = length-append (collectAll source types ns) (collectWith source types a) in
-        let m = counted-all ns in
-        let n = counted-with a in
-        omega (arith, l, m, n)
-    counted (importEquals sp) = refl
-    counted (importRequire sp typeOnly export x) = refl
-    counted (moduleDecl sp x ns) = rw (length-append (moduleEntry source types sp x) (collectAll source types ns), module-one sp x, counted-all ns)
+  pub counted : (n : Node) → length (collect source types n) ≡ entries n
+  unfolding collector
+  counted = walks-related (λ l n. length l ≡ n) (collector source types) counting
+      (record { nothing = refl; both = λ e f. rw (length-append, e, f); own = entry-one })
 
-    counted-all : (ns : Nodes) → length (collectAll source types ns) ≡ entriesAll ns
-    counted-all none = refl
-    counted-all (more n ns) = rw (length-append (collect source types n) (collectAll source types ns), counted n, counted-all ns)
-
-    counted-of : (xs : Arguments) → length (collectOf source types xs) ≡ entriesOf xs
-    counted-of noArguments = refl
-    counted-of (argument dots sp n xs) = rw (length-append (collect source types n) (collectOf source types xs), counted n, counted-of xs)
-
-    counted-in : (ps : Properties) → length (collectIn source types ps) ≡ entriesIn ps
-    counted-in noProperties = refl
-    counted-in (spread n ps) = rw (length-append (collect source types n) (collectIn source types ps), counted n, counted-in ps)
-    counted-in (otherProperty n ps) = rw (length-append (collect source types n) (collectIn source types ps), counted n, counted-in ps)
-    counted-in (childKey k v ps) =
-        rw (length-append (collect source types k) (collect source types v ++ collectIn source types ps), length-append (collect source types v) (collectIn source types ps), counted k, counted v, counted-in ps, add-assoc (entries k) (entries v) (entriesIn ps))
-    counted-in (stringKey k v ps) = rw (length-append (collect source types v) (collectIn source types ps), counted v, counted-in ps)
-    counted-in (nameKey k v ps) = rw (length-append (collect source types v) (collectIn source types ps), counted v, counted-in ps)
-
-    counted-with : (a : Attributes) → length (collectWith source types a) ≡ entriesWith a
-    counted-with without = refl
-    counted-with (withObject sp ps) = counted-in ps
+  -- the dependencies are the entries of the visits, one after the other
+  pub collect-visits : (n : Node) → collect source types n ≡ flatMap (entryOf source types) (visits n)
+  unfolding collector flatMap
+  collect-visits = walks-related (λ l vs. l ≡ flatMap (entryOf source types) vs) (collector source types) visiting
+      (record { nothing = refl; both = λ e f. rw (flatMap-append, e, f); own = λ v. sym (append-nil (entryOf source types v)) })
 
   -- their number, and then their entries
   pub program-written : (w : Buffer) (x : Decoded Node) {n : Node} {t : List ℕ} → x ≡ ok n t → {count : ℕ} → count ≡ entries n

@@ -7,13 +7,15 @@ use native.Mathlib.Omega.{arith}
 use lib.Dec.{eqb}
 use Rattle.laws.specs.Codec.{All}
 use Rattle.sheet.specs.declared.fields.Span.{Span}
-use Rattle.sheet.specs.Tree.{Quoted, Node, other, string, name, template, binary, object, importCall, call, importDecl, namedExport, exportFrom, exportAll, importType, importEquals, importRequire, moduleDecl, Nodes, none, more, Arguments, noArguments, argument, Properties, noProperties, spread, otherProperty, childKey, stringKey, nameKey, Attributes, without, withObject}
+use Rattle.sheet.specs.Tree.{Quoted, Node, Arguments, noArguments, argument}
 use Rattle.sheet.specs.Shape.{shape, isRequire, isAugmentation}
+use Rattle.sheet.specs.Walk.{Visit, called, importing, expression, imported, exported, typed, required, declared}
+use Rattle.sheet.proofs.Walks.{walks-related}
 use Rattle.report.specs.ModuleInfo.{SpecifierWithRange, ImportAttributes, DependencyDescriptor}
 use Rattle.report.specs.Ascending.{KeysAscend}
 use Rattle.attributes.specs.Attributes.{staticAttributes, typeAttributes}
 use Rattle.attributes.proofs.Ascending.{static-ascends, type-ascends}
-use Rattle.dep.specs.Collect.{importKind, exportKind, equalsKind, dynamicKind, staticEntry, callEntry, moduleEntry, collect, collectAll, collectOf, collectIn, collectWith}
+use Rattle.dep.specs.Collect.{importKind, exportKind, equalsKind, dynamicKind, staticEntry, callEntry, moduleEntry, entryOf, collector, collect}
 
 -- a list of which each is so
 pub record Each (P : DependencyDescriptor → Type 0) (l : List DependencyDescriptor) : Type 0 where
@@ -74,50 +76,16 @@ module _ (source : List ℕ) (types : ℕ → Option SpecifierWithRange) (P : De
   of-module sp Option.none = nothing
   of-module sp (Option.some x) = if-listed (isAugmentation (x .text)) (single (of-static 8 sp x false ImportAttributes.none tt (omega arith)))
 
-  mutual
-    unfolding collect
+  of-visit : (v : Visit) → Each P (entryOf source types v)
+  of-visit (called sp (importing phase) xs) = of-call (dynamicKind phase) sp xs (dynamic-kind (eqb phase 1) (eqb phase 2))
+  of-visit (called sp (expression e) xs) = if-listed (isRequire (shape e)) (of-call 12 sp xs (omega arith))
+  of-visit (imported sp typeOnly phase sideEffect x a) =
+      single (of-static (importKind typeOnly phase) sp x sideEffect (staticAttributes a) (static-ascends a) (import-kind typeOnly (eqb phase 1) (eqb phase 2)))
+  of-visit (exported sp typeOnly x a) = single (of-static (exportKind typeOnly) sp x false (staticAttributes a) (static-ascends a) (export-kind typeOnly))
+  of-visit (typed sp x a) = single (of-static 3 sp x false (typeAttributes a) (type-ascends a) (omega arith))
+  of-visit (required sp typeOnly export x) = single (of-static (equalsKind typeOnly export) sp x false ImportAttributes.none tt (equals-kind typeOnly export))
+  of-visit (declared sp x) = of-module sp x
 
-    pub collect-each : (n : Node) → Each P (collect source types n)
-    collect-each (other sp ns) = nodes-each ns
-    collect-each (string sp x) = nothing
-    collect-each (name sp x) = nothing
-    collect-each (template sp ps ns) = nodes-each ns
-    collect-each (binary sp plus l r) = collect-each l followed-by collect-each r
-    collect-each (object sp ps) = properties-each ps
-    collect-each (importCall sp phase xs ns) =
-        arguments-each xs followed-by nodes-each ns followed-by of-call (dynamicKind phase) sp xs (dynamic-kind (eqb phase 1) (eqb phase 2))
-    collect-each (call sp e xs ns) =
-        collect-each e
-        followed-by arguments-each xs followed-by nodes-each ns followed-by if-listed (isRequire (shape e)) (of-call 12 sp xs (omega arith))
-    collect-each (importDecl sp typeOnly phase sideEffect x a) =
-        single
-        (of-static (importKind typeOnly phase) sp x sideEffect (staticAttributes a) (static-ascends a) (import-kind typeOnly (eqb phase 1) (eqb phase 2)))
-    collect-each (namedExport sp typeOnly) = nothing
-    collect-each (exportFrom sp typeOnly x a) = single (of-static (exportKind typeOnly) sp x false (staticAttributes a) (static-ascends a) (export-kind typeOnly))
-    collect-each (exportAll sp typeOnly x a) = single (of-static (exportKind typeOnly) sp x false (staticAttributes a) (static-ascends a) (export-kind typeOnly))
-    collect-each (importType sp x ns a) =
-        single (of-static 3 sp x false (typeAttributes a) (type-ascends a) (omega arith)) followed-by nodes-each ns followed-by attributes-each a
-    collect-each (importEquals sp) = nothing
-    collect-each (importRequire sp typeOnly export x) =
-        single (of-static (equalsKind typeOnly export) sp x false ImportAttributes.none tt (equals-kind typeOnly export))
-    collect-each (moduleDecl sp x ns) = of-module sp x followed-by nodes-each ns
-
-    nodes-each : (ns : Nodes) → Each P (collectAll source types ns)
-    nodes-each none = nothing
-    nodes-each (more n ns) = collect-each n followed-by nodes-each ns
-
-    arguments-each : (xs : Arguments) → Each P (collectOf source types xs)
-    arguments-each noArguments = nothing
-    arguments-each (argument dots sp n xs) = collect-each n followed-by arguments-each xs
-
-    properties-each : (ps : Properties) → Each P (collectIn source types ps)
-    properties-each noProperties = nothing
-    properties-each (spread n ps) = collect-each n followed-by properties-each ps
-    properties-each (otherProperty n ps) = collect-each n followed-by properties-each ps
-    properties-each (childKey k v ps) = collect-each k followed-by collect-each v followed-by properties-each ps
-    properties-each (stringKey k v ps) = collect-each v followed-by properties-each ps
-    properties-each (nameKey k v ps) = collect-each v followed-by properties-each ps
-
-    attributes-each : (a : Attributes) → Each P (collectWith source types a)
-    attributes-each without = nothing
-    attributes-each (withObject sp ps) = properties-each ps
+  pub collect-each : (n : Node) → Each P (collect source types n)
+  unfolding collector
+  collect-each = walks-related (λ l m. Each P l) (collector source types) (collector source types) (record { nothing = nothing; both = λ p q. p followed-by q; own = of-visit })

@@ -6,4 +6,5 @@ pub mod Counted
 pub mod Fields
 pub mod Callee
 mod Each
+pub mod Turns
 pub mod Proper

@@ -15,7 +15,7 @@ use Rattle.nodes.proofs.Loops.{nodeItem}
 use Rattle.report.specs.declared.writer.Place.{Place}
 use Rattle.report.specs.ModuleInfo.{SpecifierWithRange, DependencyDescriptor}
 use Rattle.report.specs.Buffer.{Buffer, bufferAs}
-use Rattle.dep.specs.Collect.{collect, collectAll, collectOf, collectIn}
+use Rattle.dep.specs.Collect.{collector, collect, collectAll, collectOf, collectIn}
 use Rattle.dep.specs.Walk.{wroteEntries, afterNode, afterNodes, afterArgument, afterArguments, afterProperty, afterProperties}
 use Rattle.dep.proofs.Wrote.{entries-append, entries-nil}
 
@@ -54,12 +54,12 @@ module _ (source : List ℕ) (types : ℕ → Option SpecifierWithRange) (inner 
   nodesFrom = walkFrom (collectAll source types) none (nodeItem inner)
 
   node-adds : Reads (Adds (collectAll source types) none) (nodeItem inner)
-  unfolding collect
+  unfolding collector
   node-adds = changed (λ n l. more n l) (anything inner) (λ n h ns. rw (append-nil (collect source types n)))
 
   -- a node among others
   one-node : (w : Buffer) (x : Decoded Node) → onOk (afterOne (collectAll source types) none w) (onOk (λ n l. more n l) x) ≡ onOk (afterNode source types w) x
-  unfolding collect
+  unfolding collector
   one-node w (ok n t) = rw (append-nil (collect source types n))
   one-node w (no r) = refl
 
@@ -75,14 +75,14 @@ module _ (source : List ℕ) (types : ℕ → Option SpecifierWithRange) (inner 
     nodes-stop h e = walk-stop (collectAll source types) none (nodeItem inner) k u w h (one-node w (inner u) ∙ e)
 
   pub nodes-end : (k : ℕ) (u out : List ℕ) (p : Place) → k ≤ 0 → nodesFrom (bufferAs out p) k u ≡ ok (bufferAs out p) u
-  unfolding collect
+  unfolding collector
   nodes-end k u = walk-end (collectAll source types) none (nodeItem inner) k u refl
 
   abbrev pub argumentsFrom : Buffer → ℕ → List ℕ → Decoded Buffer
   argumentsFrom = walkFrom (collectOf source types) noArguments (argumentItem inner source)
 
   argument-adds : Reads (Adds (collectOf source types) noArguments) (argumentItem inner source)
-  unfolding collect
+  unfolding collector
   argument-adds = record { at = λ u. rw (argument-by-head inner source u) (adds .at u) }
     where
       adds : Reads (Adds (collectOf source types) noArguments) (argumentHead source >>= argumentRest inner)
@@ -100,14 +100,14 @@ module _ (source : List ℕ) (types : ℕ → Option SpecifierWithRange) (inner 
     arguments-stop = walk-stop (collectOf source types) noArguments (argumentItem inner source) k u w
 
   pub arguments-end : (k : ℕ) (u out : List ℕ) (p : Place) → k ≤ 0 → argumentsFrom (bufferAs out p) k u ≡ ok (bufferAs out p) u
-  unfolding collect
+  unfolding collector
   arguments-end k u = walk-end (collectOf source types) noArguments (argumentItem inner source) k u refl
 
   abbrev pub propertiesFrom : Buffer → ℕ → List ℕ → Decoded Buffer
   propertiesFrom = walkFrom (collectIn source types) noProperties (propertyItem inner)
 
   by-kind : (h : PropertyHead) → Reads (Adds (collectIn source types) noProperties) (propertyRest inner h)
-  unfolding collect
+  unfolding collector
   by-kind spreadHead = behind inner λ n. ends λ ps. rw (append-nil (collect source types n))
   by-kind otherPropertyHead = behind inner λ n. ends λ ps. rw (append-nil (collect source types n))
   by-kind childKeyHead = behind inner λ n. behind inner λ v. ends λ ps. rw (append-nil (collect source types v), append-assoc (collect source types n) (collect source types v) (collectIn source types ps))
@@ -129,5 +129,5 @@ module _ (source : List ℕ) (types : ℕ → Option SpecifierWithRange) (inner 
     properties-stop = walk-stop (collectIn source types) noProperties (propertyItem inner) k u w
 
   pub properties-end : (k : ℕ) (u out : List ℕ) (p : Place) → k ≤ 0 → propertiesFrom (bufferAs out p) k u ≡ ok (bufferAs out p) u
-  unfolding collect
+  unfolding collector
   properties-end k u = walk-end (collectIn source types) noProperties (propertyItem inner) k u refl

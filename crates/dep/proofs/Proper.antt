@@ -1,5 +1,4 @@
--- The dependencies of a tree have the kinds of a report, ranges that can be written and keys that ascend; their types are those of places.
-use mathlib.Core.Path.{_≡_, refl}
+-- The dependencies of a tree have the kinds of a report, ranges that can be written and keys that ascend.
 use mathlib.Core.List.{List}
 use mathlib.Core.Option.{Option}
 use Prim.Native.Nat.{ℕ, _≤_}
@@ -11,7 +10,6 @@ use Rattle.report.specs.ModuleInfo.{SpecifierWithRange}
 use Rattle.report.proofs.Proper.{ProperSpecifier, ProperDependency}
 use Rattle.report.proofs.Ranges.{range-valid}
 use Rattle.attributes.proofs.Ascending.{dynamic-ascends}
-use Rattle.pragmas.specs.Texts.{typesOf}
 use Rattle.dep.specs.Collect.{staticEntry, callEntry, collect}
 use Rattle.dep.proofs.Each.{Each, single, collect-each}
 
@@ -22,11 +20,3 @@ module _ (source : List ℕ) (types : ℕ → Option SpecifierWithRange) where
       collect-each source types ProperDependency
       (λ kind sp x sideEffect a up k. record { kind = k; typesSpecifier = typed (sp .start); specifier = range-valid source (x .span) short; importAttributes = up })
       (λ kind sp dots at n xs k. single (record { kind = k; typesSpecifier = typed (sp .start); argumentRange = range-valid source at short; importAttributes = dynamic-ascends xs }))
-
-  -- the types of an entry are those of the place where its node starts
-  pub collect-typed : (n : Node) → Each (λ d. (start : ℕ) × (typesOf d ≡ types start)) (collect source types n)
-  unfolding staticEntry callEntry
-  collect-typed =
-      collect-each source types (λ d. (start : ℕ) × (typesOf d ≡ types start))
-      (λ kind sp x sideEffect a up k. (sp .start, refl))
-      (λ kind sp dots at n xs k. single (sp .start, refl))

@@ -1,4 +1,4 @@
--- The dependencies of a tree: `DependencyCollector` of src/ast/dep.rs, clause by clause.
+-- The dependencies of a tree: `DependencyCollector` of src/ast/dep.rs, entry by entry. Their order is that of the walk.
 use mathlib.Core.Bool.{Bool, false, cond}
 use mathlib.Core.List.{List, [], _∷_, _++_}
 use mathlib.Core.Option.{Option}
@@ -6,8 +6,9 @@ use Prim.Native.Nat.{ℕ}
 use lib.Dec.{eqb}
 use Rattle.text.specs.Lossy.{lossy}
 use Rattle.sheet.specs.declared.fields.Span.{Span}
-use Rattle.sheet.specs.Tree.{Quoted, Phase, Node, other, string, name, template, binary, object, importCall, call, importDecl, namedExport, exportFrom, exportAll, importType, importEquals, importRequire, moduleDecl, Nodes, none, more, Arguments, noArguments, argument, Properties, noProperties, spread, otherProperty, childKey, stringKey, nameKey, Attributes, without, withObject}
+use Rattle.sheet.specs.Tree.{Quoted, Phase, Node, Nodes, Arguments, noArguments, argument, Properties, Attributes}
 use Rattle.sheet.specs.Shape.{shape, isRequire, isAugmentation}
+use Rattle.sheet.specs.Walk.{Visit, called, importing, expression, imported, exported, typed, required, declared, Collector, walk, walkAll, walkOf, walkIn, walkWith}
 use Rattle.report.specs.ModuleInfo.{SpecifierWithRange, ImportAttributes, DependencyDescriptor, static, dynamic}
 use Rattle.report.specs.ModuleInfo as info
 use Rattle.report.specs.Range.{rangeOf}
@@ -64,44 +65,32 @@ module _ (source : List ℕ) (types : ℕ → Option SpecifierWithRange) where
   moduleEntry sp Option.none = []
   moduleEntry sp (Option.some x) = cond (isAugmentation (x .text)) (staticEntry 8 sp x false info.none ∷ []) []
 
-  -- children in sheet order; a call's entry after them, an import type's (3 ImportType) and a module declaration's before; 12 Require
-  unfoldable mutual
-    pub collect : Node → List DependencyDescriptor
-    collect (other sp ns) = collectAll ns
-    collect (string sp x) = []
-    collect (name sp x) = []
-    collect (template sp ps ns) = collectAll ns
-    collect (binary sp plus l r) = collect l ++ collect r
-    collect (object sp ps) = collectIn ps
-    collect (importCall sp phase xs ns) = collectOf xs ++ (collectAll ns ++ callEntry (dynamicKind phase) sp xs)
-    collect (call sp e xs ns) =
-        collect e ++ (collectOf xs ++ (collectAll ns ++ cond (isRequire (shape e)) (callEntry 12 sp xs) []))
-    collect (importDecl sp typeOnly phase sideEffect x a) =
-        staticEntry (importKind typeOnly phase) sp x sideEffect (staticAttributes a) ∷ []
-    collect (namedExport sp typeOnly) = []
-    collect (exportFrom sp typeOnly x a) = staticEntry (exportKind typeOnly) sp x false (staticAttributes a) ∷ []
-    collect (exportAll sp typeOnly x a) = staticEntry (exportKind typeOnly) sp x false (staticAttributes a) ∷ []
-    collect (importType sp x ns a) = staticEntry 3 sp x false (typeAttributes a) ∷ (collectAll ns ++ collectWith a)
-    collect (importEquals sp) = []
-    collect (importRequire sp typeOnly export x) = staticEntry (equalsKind typeOnly export) sp x false info.none ∷ []
-    collect (moduleDecl sp x ns) = moduleEntry sp x ++ collectAll ns
+  -- the entry of a visit, if it gives one: 12 Require, 3 ImportType
+  abbrev pub entryOf : Visit → List DependencyDescriptor
+  entryOf (called sp (importing phase) xs) = callEntry (dynamicKind phase) sp xs
+  entryOf (called sp (expression e) xs) = cond (isRequire (shape e)) (callEntry 12 sp xs) []
+  entryOf (imported sp typeOnly phase sideEffect x a) = staticEntry (importKind typeOnly phase) sp x sideEffect (staticAttributes a) ∷ []
+  entryOf (exported sp typeOnly x a) = staticEntry (exportKind typeOnly) sp x false (staticAttributes a) ∷ []
+  entryOf (typed sp x a) = staticEntry 3 sp x false (typeAttributes a) ∷ []
+  entryOf (required sp typeOnly export x) = staticEntry (equalsKind typeOnly export) sp x false info.none ∷ []
+  entryOf (declared sp x) = moduleEntry sp x
 
-    pub collectAll : Nodes → List DependencyDescriptor
-    collectAll none = []
-    collectAll (more n ns) = collect n ++ collectAll ns
+  -- `DependencyCollector`: entries one after the other
+  unfoldable pub collector : Collector (List DependencyDescriptor)
+  collector = record { nothing = []; both = _++_; own = entryOf }
 
-    pub collectOf : Arguments → List DependencyDescriptor
-    collectOf noArguments = []
-    collectOf (argument dots sp n xs) = collect n ++ collectOf xs
+  -- the dependencies of a node, and of parts of one
+  abbrev pub collect : Node → List DependencyDescriptor
+  collect = walk collector
 
-    pub collectIn : Properties → List DependencyDescriptor
-    collectIn noProperties = []
-    collectIn (spread n ps) = collect n ++ collectIn ps
-    collectIn (otherProperty n ps) = collect n ++ collectIn ps
-    collectIn (childKey k v ps) = collect k ++ (collect v ++ collectIn ps)
-    collectIn (stringKey k v ps) = collect v ++ collectIn ps
-    collectIn (nameKey k v ps) = collect v ++ collectIn ps
+  abbrev pub collectAll : Nodes → List DependencyDescriptor
+  collectAll = walkAll collector
 
-    pub collectWith : Attributes → List DependencyDescriptor
-    collectWith without = []
-    collectWith (withObject sp ps) = collectIn ps
+  abbrev pub collectOf : Arguments → List DependencyDescriptor
+  collectOf = walkOf collector
+
+  abbrev pub collectIn : Properties → List DependencyDescriptor
+  collectIn = walkIn collector
+
+  abbrev pub collectWith : Attributes → List DependencyDescriptor
+  collectWith = walkWith collector

@@ -7,12 +7,12 @@ use native.Mathlib.Omega.{arith}
 use lib.ListN.{length}
 use Rattle.laws.specs.Decoded.{Decoded, ok, no}
 use Rattle.laws.proofs.Decoding.{refused}
-use Rattle.laws.proofs.Lists.{all-member}
 use Rattle.text.specs.declared.utf8.Encoding.the-variants.{Utf8}
 use Rattle.text.specs.Utf8.{wellFormed}
 use Rattle.text.specs.Position.{characters, Indexed}
 use Rattle.text.specs.Bytes.{part}
 use Rattle.sheet.specs.Fit.{Fit}
+use Rattle.sheet.specs.Walk.{startOf}
 use Rattle.sheet.specs.Sheet.{Sheet, accept}
 use Rattle.sheet.proofs.Rows.{rows-length}
 use Rattle.sheet_codec.specs.Limits.{FieldsFit}
@@ -31,7 +31,7 @@ use Rattle.pragmas.specs.Held.{Held}
 use Rattle.pragmas.proofs.Present.{present, types-present}
 use Rattle.pragmas.proofs.Texts.{types-shown, texts}
 use Rattle.listing.proofs.Right.{jsdoc-right}
-use Rattle.dep.proofs.Proper.{collect-typed}
+use Rattle.dep.proofs.Turns.{turn-member, collect-turns}
 use Rattle.module_info.specs.Information.{moduleInfo, answerOf}
 use Rattle.module_info.specs.Pieces.{PartsOf, RootOf}
 use Rattle.module_info.specs.Demands.{OfAccepted, Demands}
@@ -92,14 +92,14 @@ module _ {s comments groups : List ℕ} {p : Parts} (a : Accepts s comments grou
     answer = rw (a .accepted) (answer (a .sheet) (a .accepted));
     jsdoc = shown (λ t. _) (jsdoc-right fit formed-source (a .sheet .media));
     pragmas = shown (λ t. _) (pragmas-present (a .sheet));
-    types = shown (λ t. _) (types-present (a .sheet));
+    types = shown (λ t. _) (collect-turns (a .sheet .source) (typesAt (a .sheet)) _ (λ start d e. rw e (types-present (a .sheet) start)) (a .sheet .root));
     texts = shown (λ t. _) (texts (a .sheet) formed-source fit (moduleInfo (a .sheet)) (pragmas-present (a .sheet)) typed);
   }
     where
       typed : (d : DependencyDescriptor) → List·Memᴰ d (moduleInfo (a .sheet) .dependencies) → Shown (a .sheet .source) (typesOf d)
       typed d m x e =
-          let (start, i) = all-member _ _ (collect-typed (a .sheet .source) (typesAt (a .sheet)) (a .sheet .root) .each) m in
-          types-shown (a .sheet) formed-source fit start x (sym i ∙ e)
+          let (v, j, g, i) = turn-member (collect-turns (a .sheet .source) (typesAt (a .sheet)) (λ start d. typesOf d ≡ typesAt (a .sheet) start) (λ start d e. e) (a .sheet .root)) m in
+          types-shown (a .sheet) formed-source fit (startOf v) x (sym i ∙ e)
 
       shown : (P : Sheet → Type 0) → P (a .sheet) → OfAccepted s P
       shown P h t e = rw (same-sheet e (a .accepted)) h

@@ -3,13 +3,14 @@ use mathlib.Core.Path.{_≡_}
 use mathlib.Core.List.{List, []}
 use Prim.Native.Nat.{ℕ}
 use Rattle.laws.specs.Decoded.{ok}
+use Rattle.sheet.specs.Walk.{visits}
 use Rattle.sheet.specs.Sheet.{Sheet, accept}
 use Rattle.report.specs.declared.writer.Outcome.{Outcome}
 use Rattle.report.specs.Answer.{outcomeAs}
-use Rattle.pragmas.specs.Pragmas.{typesAt}
 use Rattle.pragmas.specs.Present.{Present, TypesPresent}
-use Rattle.pragmas.specs.Texts.{Texts}
+use Rattle.pragmas.specs.Texts.{typesOf, Texts}
 use Rattle.listing.specs.Demand.{JsDocRight}
+use Rattle.dep.specs.InTurn.{InTurn}
 use Rattle.module_info.specs.Information.{moduleInfo, answerOf}
 
 -- what holds of the sheet that the bytes s are, if they are accepted
@@ -28,7 +29,7 @@ pub record Demands (s : List ℕ) (size : ℕ) (outcome : Outcome) (buffer : Lis
   -- every reference and pragma appears exactly when its rule has a reading in the comments that 01 gives to it, at that reading's place, references in
   -- the order of their comments
   pub pragmas : OfAccepted s (λ t. Present t (moduleInfo t))
-  -- and so do the types of an entry, by the start of its node
-  pub types : OfAccepted s (λ t. (start : ℕ) → TypesPresent t start (typesAt t start))
+  -- and so do the types of each dependency, by the start of its node: dependencies and the walk's visits that give one stand one to one, in order
+  pub types : OfAccepted s (λ t. InTurn (λ start d. TypesPresent t start (typesOf d)) (visits (t .root)) (moduleInfo t .dependencies))
   -- the source between the two positions of each, less the two marks where a quoted text is read, is its text
   pub texts : OfAccepted s (λ t. Texts (t .source) (moduleInfo t))

@@ -7,7 +7,8 @@ use native.Mathlib.Omega.{arith}
 use Rattle.sheet.specs.declared.fields.Span.{Span}
 use Rattle.sheet.specs.Tree.{Node, Arguments, noArguments, argument}
 use Rattle.sheet.specs.Shape.{shape, isUncooked}
-use Rattle.sheet.specs.Walked.{one, entries, entriesOf, uncooked, uncookedOf}
+use Rattle.sheet.specs.Walk.{walkOf}
+use Rattle.sheet.specs.Walked.{one, counting, entries, judging, uncooked}
 use Rattle.nodes.specs.declared.tally.Tally.{Tally}
 use Rattle.nodes.specs.declared.tally.Judged.{Judged}
 use Rattle.nodes.specs.declared.tally.Passed.{Passed}
@@ -49,7 +50,7 @@ behindPassed p xs =
 pub one-more : (p : Passed) (dots : Bool) (sp : Span) (n : Node) (xs : Arguments) → behindPassed p (argument dots sp n xs) ≡ behindPassed (withArgument p (judged n)) xs
 one-more p dots sp n xs =
     let first : Bool = p .template || (not (p .any) && isUncooked (shape n)) in
-    rw (add-assoc (p .entries) (entries n) (entriesOf xs), or-assoc (p .uncooked) (uncooked n) (uncookedOf xs), or-true (p .any), or-false first)
+    rw (add-assoc (p .entries) (entries n) (walkOf counting xs), or-assoc (p .uncooked) (uncooked n) (walkOf judging xs), or-true (p .any), or-false first)
 
 pub all-passed : (xs : Arguments) → behindPassed noPassed xs ≡ passed xs
 all-passed xs = rw zero-add

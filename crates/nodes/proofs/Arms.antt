@@ -14,7 +14,7 @@ use Rattle.sheet.specs.declared.fields.Span.{Span}
 use Rattle.sheet.specs.Tree.{Quoted, Pieces, Node, template, binary, importCall, call, importType, Nodes, none, more, spread, otherProperty, childKey, stringKey, nameKey, Arguments, Properties, Attributes, withObject}
 use Rattle.sheet.specs.Nodes.{many, nodes, arguments, attributes, callRest}
 use Rattle.sheet.specs.Shape.{anyUncooked}
-use Rattle.sheet.specs.Walked.{entries, entriesAll, entriesOf, entriesWith, uncooked, uncookedAll, uncookedOf}
+use Rattle.sheet.specs.Walked.{uncooked}
 use Rattle.heads.specs.declared.parts.Property.{Property}
 use Rattle.heads.specs.declared.parts.Property.the-variants as property
 use Rattle.heads.specs.Rest.{behind}
@@ -81,7 +81,7 @@ module _ (inner : Decoder Node) where
   pub property-holds : (s : List ℕ) (p : Property) (u : List ℕ) → onOk tallyAll (nodes inner (nodesOf p) u) ≡ onOk gain (propertyRest inner (propertyOf s p) u)
   property-holds s property.Spread u = rw (nodes-one u) (alike inner tallyAll gain (λ n. more n none) spread (λ n. refl) (inner u))
   property-holds s property.Other u = rw (nodes-one u) (alike inner tallyAll gain (λ n. more n none) otherProperty (λ n. refl) (inner u))
-  property-holds s property.ChildKey u = rw (nodes-two u) (alike-two inner tallyAll gain (λ k v. more k (more v none)) childKey (λ k v. rw (← add-assoc (entries k) (entries v) 0, ← or-assoc (uncooked k) (uncooked v) false)) (inner u))
+  property-holds s property.ChildKey u = rw (nodes-two u) (alike-two inner tallyAll gain (λ k v. more k (more v none)) childKey (λ k v. refl) (inner u))
   property-holds s (property.StringKey from to) u = rw (nodes-one u) (alike inner tallyAll gain (λ n. more n none) (stringKey (part s from to)) (λ n. refl) (inner u))
   property-holds s (property.NameKey from to) u = rw (nodes-one u) (alike inner tallyAll gain (λ n. more n none) (nameKey (part s from to)) (λ n. refl) (inner u))
 
@@ -179,7 +179,7 @@ module _ (s : List ℕ) where
 
     pub import-call-holds : (phase : ℕ) (u : List ℕ) (y : PassedRead) → passedAs s y ≡ onOk passedAll (callParts source inner u)
         → checkedAs s (calledBy importCallee y) ≡ onOk judged (callRest source levels inner object′ sp (importCall sp phase) u)
-    import-call-holds phase = call-holds importCallee (importCall sp phase) (λ p. rw zero-add)
+    import-call-holds phase = call-holds importCallee (importCall sp phase) (λ p. simp (zero-add, add-assoc, or-assoc))
 
     -- and the callee, an expression
     pub call-of-holds : (x : Decoded Node) {e : Judged} {v : List ℕ} → onOk judged x ≡ ok e v
@@ -189,8 +189,7 @@ module _ (s : List ℕ) where
         let h : e ≡ judged n = cc in
         let w : v ≡ t = cc in
         rw h
-        (call-holds (judged n) (call sp n) (λ p. rw (add-assoc (entries n) (entriesOf (p .0)) (entriesAll (p .1)), or-assoc (uncooked n) (uncookedOf (p .0)) (uncookedAll (p .1))))
-        t y (f ∙ ap (λ t. onOk passedAll (callParts source inner t)) w))
+        (call-holds (judged n) (call sp n) (λ p. simp (add-assoc, or-assoc)) t y (f ∙ ap (λ t. onOk passedAll (callParts source inner t)) w))
     call-of-holds (no r) g y f = absurd (refused g)
 
   -- what follows the head of an import type
@@ -198,7 +197,7 @@ module _ (s : List ℕ) where
       (y : Tallied) → talliedAs s y ≡ onOk tallyTyped (typedParts inner object′ n u)
       → checkedAs s (withOwn true false y) ≡ onOk judged ((nodes inner n >>= λ ns. attributes object′ >>= λ a. return (importType sp q ns a)) u)
   typed-holds sp q inner object′ n u y f =
-      holds tallyTyped (λ p. importType sp q (p .0) (p .1)) (typedParts inner object′ n u) y f true false (λ p. rw (add-assoc 1 (entriesAll (p .0)) (entriesWith (p .1))))
+      holds tallyTyped (λ p. importType sp q (p .0) (p .1)) (typedParts inner object′ n u) y f true false (λ p. refl)
       ∙ sym (ap (onOk judged) (typed-parted sp q inner object′ n u))
 
   -- nodes behind arguments

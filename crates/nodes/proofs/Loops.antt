@@ -90,7 +90,8 @@ module _ (inner : Decoder Node) where
   by-kind : (h : PropertyHead) → Reads Adds (propertyRest inner h)
   by-kind spreadHead = behind inner λ n. ends λ ps. added (tallyOf (judged n)) (tallyIn ps)
   by-kind otherPropertyHead = behind inner λ n. ends λ ps. added (tallyOf (judged n)) (tallyIn ps)
-  by-kind childKeyHead = behind inner λ k. behind inner λ v. ends λ ps. added (plus (tallyOf (judged k)) (tallyOf (judged v))) (tallyIn ps)
+  by-kind childKeyHead = behind inner λ k. behind inner λ v. ends λ ps.
+      ap (plus (tallyOf (judged k))) (added (tallyOf (judged v)) (tallyIn ps)) ∙ sym (plus-assoc (tallyOf (judged k)) (plus (tallyOf (judged v)) nothing) (tallyIn ps))
   by-kind (stringKeyHead x) = behind inner λ n. ends λ ps. added (tallyOf (judged n)) (tallyIn ps)
   by-kind (nameKeyHead x) = behind inner λ n. ends λ ps. added (tallyOf (judged n)) (tallyIn ps)
 

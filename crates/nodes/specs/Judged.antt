@@ -7,7 +7,8 @@ use Rattle.wire.specs.Number.{number}
 use Rattle.sheet.specs.Tree.{Node, Nodes, Arguments, Properties, noProperties, Attributes}
 use Rattle.sheet.specs.Nodes.{nodes, arguments, attributes}
 use Rattle.sheet.specs.Shape.{shape, isRequire, isUncooked}
-use Rattle.sheet.specs.Walked.{anyArgument, firstUncooked, entries, entriesAll, entriesOf, entriesIn, entriesWith, uncooked, uncookedAll, uncookedOf, uncookedIn, uncookedWith}
+use Rattle.sheet.specs.Walk.{walkAll, walkOf, walkIn, walkWith}
+use Rattle.sheet.specs.Walked.{anyArgument, firstUncooked, counting, entries, judging, uncooked}
 use Rattle.nodes.specs.declared.tally.Tally.{Tally}
 use Rattle.nodes.specs.declared.tally.Judged.{Judged}
 use Rattle.nodes.specs.declared.tally.Passed.{Passed}
@@ -18,17 +19,17 @@ judged n = record { entries = entries n; uncooked = uncooked n; require = isRequ
 
 -- in nodes, in properties and in attributes
 abbrev pub tallyAll : Nodes → Tally
-tallyAll ns = record { entries = entriesAll ns; uncooked = uncookedAll ns }
+tallyAll ns = record { entries = walkAll counting ns; uncooked = walkAll judging ns }
 
 abbrev pub tallyIn : Properties → Tally
-tallyIn ps = record { entries = entriesIn ps; uncooked = uncookedIn ps }
+tallyIn ps = record { entries = walkIn counting ps; uncooked = walkIn judging ps }
 
 abbrev pub tallyWith : Attributes → Tally
-tallyWith a = record { entries = entriesWith a; uncooked = uncookedWith a }
+tallyWith a = record { entries = walkWith counting a; uncooked = walkWith judging a }
 
 -- in arguments
 abbrev pub passed : Arguments → Passed
-passed xs = record { entries = entriesOf xs; uncooked = uncookedOf xs; any = anyArgument xs; template = firstUncooked xs }
+passed xs = record { entries = walkOf counting xs; uncooked = walkOf judging xs; any = anyArgument xs; template = firstUncooked xs }
 
 -- in one part and in another
 abbrev pub plus : Tally → Tally → Tally
@@ -64,8 +65,8 @@ callParts source inner = do
 abbrev pub passedAll : Arguments × Nodes → Passed
 passedAll p =
     record {
-      entries = entriesOf (p .0) + entriesAll (p .1);
-      uncooked = uncookedOf (p .0) || uncookedAll (p .1);
+      entries = walkOf counting (p .0) + walkAll counting (p .1);
+      uncooked = walkOf judging (p .0) || walkAll judging (p .1);
       any = anyArgument (p .0);
       template = firstUncooked (p .0);
     }

@@ -12,3 +12,5 @@ pub mod Coverings
 pub mod Members
 pub mod Bodies
 pub mod CommentCases
+pub mod Walks
+pub mod Reaches

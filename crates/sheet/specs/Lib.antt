@@ -9,6 +9,8 @@ pub mod Fit
 pub mod Lookups
 pub mod Nodes
 pub mod Shape
+pub mod Walk
 pub mod Walked
+pub mod Reached
 pub mod Sheet
 pub mod Views

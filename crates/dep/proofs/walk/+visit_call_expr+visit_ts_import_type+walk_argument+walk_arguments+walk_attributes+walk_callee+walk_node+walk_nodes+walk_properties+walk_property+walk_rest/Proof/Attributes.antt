@@ -12,7 +12,7 @@ use Rattle.sheet.specs.Nodes.{node, properties}
 use Rattle.heads.specs.Views.{attributesAs}
 use Rattle.heads.proofs.ByHead.{attributes-by-head}
 use Rattle.report.specs.Buffer.{bufferAs}
-use Rattle.dep.specs.Collect.{collect}
+use Rattle.dep.specs.Collect.{collector}
 use Rattle.dep.specs.Walk.{typesFrom, afterProperties, afterWith}
 use Rattle.dep.proofs.Wrote.{entries-nil}
 use Rattle.dep.proofs.walk.walk_attributes.Reads as walk-attributes
@@ -35,7 +35,7 @@ returns t c =
     (rw (c .before .before .before .before .if1 .taken, attributes-by-head source (a .levels) (drop (a .c .at) s), seen (attributesAs s) (c .before .before .before .read-attributes .ensures .0) (c .before .r .given .1)), tt)
 
 pub returns-2 : (t : ℕ) → walk-attributes-lts.Need-returns-2 (walk-attributes-calls t) (walk-attributes-at t) walk-attributes.Post
-unfolding collect
+unfolding collector
 returns-2 t c =
     let a = c .before .before .before .before .before .before .before .before .before .before .before .before .args in
     let s = now (a .sheet) in
@@ -46,7 +46,7 @@ returns-2 t c =
     (rw (c .before .before .before .before .before .before .before .before .if1 .taken, attributes-by-head source (a .levels) (drop (a .c .at) s), seen (attributesAs s) (c .before .before .before .before .before .before .before .read-attributes .ensures .0) (c .before .before .before .before .before .n .given .1)) (c .before .before .walk-properties .ensures .0 ∙ built (afterProperties source types w) (afterWith source types w) (withObject (h .0)) (λ ps. refl) (properties (node source (a .levels - 1)) (h .1 .0) (drop (h .1 .1 .0 .at) s))), c .before .before .walk-properties .ensures .1)
 
 pub returns-3 : (t : ℕ) → walk-attributes-lts.Need-returns-3 (walk-attributes-calls t) (walk-attributes-at t) walk-attributes.Post
-unfolding collect
+unfolding collector
 returns-3 t c =
     let a = c .before .before .before .before .args in
     let s = now (a .sheet) in

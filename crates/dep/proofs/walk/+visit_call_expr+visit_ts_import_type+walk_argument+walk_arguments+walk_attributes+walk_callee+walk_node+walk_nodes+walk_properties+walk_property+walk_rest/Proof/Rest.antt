@@ -18,7 +18,7 @@ use Rattle.heads.specs.Views.{quotedOf}
 use Rattle.report.specs.Buffer.{bufferAs}
 use Rattle.attributes.specs.Attributes.{staticAttributes}
 use Rattle.dep.specs.declared.entries.StaticDependencyDescriptor.{StaticDependencyDescriptor}
-use Rattle.dep.specs.Collect.{moduleEntry, collect}
+use Rattle.dep.specs.Collect.{moduleEntry, collector}
 use Rattle.dep.specs.Walk.{typesFrom, afterNode, afterNodes, afterProperties, afterImport}
 use Rattle.dep.proofs.Wrote.{entries-nil}
 use Rattle.dep.proofs.Arms.{leaf-holds, template-holds, binary-holds, module-holds, import-call-holds, typed-holds, ExportHead, export-quotes, export-holds}
@@ -66,7 +66,7 @@ walk-import-requires-3 t c κs =
     (pre .0, export-quotes (now (a .sheet)) (now (a .source)) (a .c .at) (exports t (c .before .before .before)) (pre .1), pre .1 .0)
 
 pub returns : (t : ℕ) → walk-rest-lts.Need-returns (walk-rest-calls t) (walk-rest-at t) walk-rest.Post
-unfolding collect
+unfolding collector
 returns t c =
     let a = c .before .before .before .before .before .before .before .before .before .before .args in
     let s = now (a .sheet) in
@@ -117,7 +117,7 @@ returns-5 t c =
     (rw (c .before .before .before .before .enum-told .given .1) (c .before .before .walk-nodes3 .ensures .0 ∙ binary-holds source types w (a .span) (c .before .before .before .before .enum-told .given .0 .0) inner u), c .before .before .walk-nodes3 .ensures .1)
 
 pub returns-6 : (t : ℕ) → walk-rest-lts.Need-returns-6 (walk-rest-calls t) (walk-rest-at t) walk-rest.Post
-unfolding collect
+unfolding collector
 returns-6 t c =
     let a = c .before .before .before .before .before .before .before .before .before .before .args in
     let s = now (a .sheet) in
@@ -143,7 +143,7 @@ pub returns-8 : (t : ℕ) → walk-rest-lts.Need-returns-8 (walk-rest-calls t) (
 returns-8 t c = (rw (c .before .before .before .before .enum-told2 .given .1) (c .before .before .walk-callee .ensures .0), c .before .before .walk-callee .ensures .1)
 
 pub returns-9 : (t : ℕ) → walk-rest-lts.Need-returns-9 (walk-rest-calls t) (walk-rest-at t) walk-rest.Post
-unfolding collect
+unfolding collector
 returns-9 t c =
     let a = c .before .before .before .before .before .before .before .before .before .before .before .before .args in
     let s = now (a .sheet) in
@@ -168,7 +168,7 @@ returns-10 t c =
     (rw (c .before .before .before .before .before .before .head8 .given .1) (c .before .before .visit-ts-import-type .ensures .0 ∙ rw (c .before .before .before .before .static-dependency2 .ensures) (typed-holds source types w s (a .span) (h .0) inner (attributesObject source (a .levels)) (h .1 .0) u)), c .before .before .visit-ts-import-type .ensures .1)
 
 pub returns-11 : (t : ℕ) → walk-rest-lts.Need-returns-11 (walk-rest-calls t) (walk-rest-at t) walk-rest.Post
-unfolding staticAttributes collect
+unfolding staticAttributes collector
 returns-11 t c =
     (rw (c .before .before .before .before .before .before .before .head9 .given .1, c .before .before .walk-import2 .ensures .0, c .before .before .before .before .static-dependency3 .ensures, c .before .before .before .before .before .equals-kind .ensures), c .before .before .walk-import2 .ensures .1)
 

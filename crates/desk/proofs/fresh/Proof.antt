@@ -1,0 +1,13 @@
+use mathlib.Core.Path.{refl}
+use Rattle.desk.specs.History.{after}
+use Rattle.desk.specs.Block.{ring, queuesIn}
+use Rattle.desk.proofs.Fairness.{fair}
+use Rattle.desk.proofs.fresh.Statement.{statement}
+use Rattle.desk.proofs.fresh.Tie as tie
+
+returns : tie.Need-returns
+unfolding ring queuesIn after
+returns c = (refl, fair)
+
+pub fresh-spec : {M : Type 1} → statement M
+fresh-spec = tie.close (tie.spec returns)

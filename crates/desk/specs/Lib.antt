@@ -1,0 +1,4 @@
+pub mod Desk
+pub mod History
+pub mod Fair
+pub mod Block

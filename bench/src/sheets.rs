@@ -14,6 +14,7 @@ pub fn classes(small_decoder: Vec<u8>) -> Vec<Class> {
         class("typical", "typical module", typical()),
         class("comments", "comment-heavy module", comment_heavy()),
         class("full", "sheet of 65,536 bytes", full()),
+        // the body that `dearest` writes for 32764: no star-opened body of its length has a greater scan sum
         class("braces", "worst comment: only `{`", one_comment("{")),
         class("imports", "worst comment: `{import('a') ` over and over", one_comment("{import('a') ")),
         class("declarations", "worst comment: `@import {` over and over", one_comment("@import {")),

@@ -1,0 +1,4 @@
+pub mod Numerals
+pub mod Requests
+pub mod Bodies
+pub mod Writing

@@ -1,0 +1,30 @@
+use borrow.Author.Needs.{needs}
+use native.Mathlib.Omega.{arith}
+use mathlib.Core.Path.{refl, sym}
+use Prim.Native.Nat.{_≤_}
+use lib.ListN.{length}
+use lib.Seq.{length-take-le}
+use Rattle.dearest.proofs.Numerals.{facts}
+use Rattle.dearest.proofs.Writing.{writes-body, writes-nothing}
+use Rattle.dearest.proofs.dearest.Statement.{statement}
+use Rattle.dearest.proofs.dearest.Tie as tie
+
+put-body-requires : tie.Need-put-body-requires
+put-body-requires c κs =
+    let s = rw (c .before .before .size .given .1) at (c .before .before .before .before .read-request .ensures) in
+    (facts (s .0 .number .0) .positive, omega (arith, s .0 .number .1))
+
+returns : tie.Need-returns
+returns c =
+    let s = rw (c .before .before .before .size .given .1) at (c .before .before .before .before .before .read-request .ensures) in
+    let short : c .before .before .before .size .given .0 .0 ≤ length (c .put-body .last .1 .0) = omega (arith, s .0 .number .1) in
+    ((λ input read. writes-body read s (c .put-body .ensures)), (short, sym (length-take-le _ _ short)))
+
+returns-2 : tie.Need-returns-2
+returns-2 c =
+    ((λ input read. writes-nothing read (rw (c .enum-told .given .1) at (c .before .before .read-request .ensures))), (search needs, refl))
+
+pub dearest-spec : {M : Type 1} → statement M
+dearest-spec =
+    tie.close
+    (tie.spec (λ c κs. search needs) (λ c. search needs) put-body-requires (λ c. search needs) returns returns-2)

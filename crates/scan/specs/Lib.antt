@@ -1,0 +1,3 @@
+pub mod Scan
+pub mod Dearest
+pub mod Answers

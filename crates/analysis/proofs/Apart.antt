@@ -33,7 +33,7 @@ unfolding all
 past-run {c} {r} h s at k = only-longest c s (λ e. all r s e k) (λ e. h .nowhere s e k) at
 
 -- a class has a character at a place only where that is a member
-pub member-at : (c : Class) (s : List ℕ) → (classAt c s ≡ 0 → ⊥) → member c (charAt Utf8 s .code) ≡ true
+member-at : (c : Class) (s : List ℕ) → (classAt c s ≡ 0 → ⊥) → member c (charAt Utf8 s .code) ≡ true
 unfolding classAt
 member-at c s h = go (member c (charAt Utf8 s .code)) h
   where

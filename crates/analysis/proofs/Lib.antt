@@ -4,6 +4,7 @@ pub mod Apart
 pub mod Search
 pub mod Rows
 pub mod Meaning
+pub mod Order
 pub mod Preference
 pub mod Boundaries
 pub mod Cases

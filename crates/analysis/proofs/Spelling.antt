@@ -1,17 +1,21 @@
--- A letter ends in the text, and a word goes on from one of its letters to the next.
-use mathlib.Core.Path.{_≡_}
-use mathlib.Core.List.{List}
-use Prim.Native.Nat.{ℕ, _+_, _≤_, _<_}
+-- A letter ends in the text, and a word goes on from one of its letters to the next. `wordAt` answers where the letters that `Spelled` asks for end.
+use mathlib.Core.Path.{_≡_, refl}
+use mathlib.Core.List.{List, [], _∷_}
+use Prim.Native.Nat.{ℕ, zero, suc, _+_, _≤_, _<_}
 use native.Mathlib.Numerals.{add-one}
-use lib.Dec.{eqb}
+use native.Mathlib.Omega.{arith}
+use lib.Dec.{eqb, eqb·suc-zero}
 use lib.ListN.{length, getD, drop, drop-of-length-le}
 use lib.Seq.{drop-cons}
-use borrow.Author.Tests.{eq-eqb, ne-eqb}
+use borrow.Author.Tests.{eqb-true, eq-eqb, ne-eqb}
 use Rattle.text.specs.declared.utf8.Encoding.the-variants.{Utf8}
 use Rattle.text.specs.Utf8.{charAt}
+use Rattle.text.specs.Characters.{Stands}
 use Rattle.text.proofs.Formed.{fits-if}
+use Rattle.text.proofs.Characters.{stands-sound, stands-complete}
 use Rattle.analysis.specs.declared.matcher.Matched.the-variants.{At, Not}
-use Rattle.analysis.specs.Letters.{foldCase, letterAt, wordAt}
+use Rattle.analysis.specs.Letters.{foldCase, letterAt, behind, onMatch, wordAt}
+use Rattle.analysis.specs.Matches.{Letter, Spelled}
 
 -- a letter has no more bytes than the text
 pub letter-fits : (w : ℕ) (s : List ℕ) → letterAt w s ≤ length s
@@ -32,3 +36,35 @@ module _ (w s : List ℕ) (k at : ℕ) (h : k < length w) {n : ℕ} (e : n ≡ l
 pub word-ends : (w s : List ℕ) (k at : ℕ) → length w ≤ k → wordAt (drop k w) s at ≡ At at
 unfolding wordAt
 word-ends w s k at h = rw (drop-of-length-le w h)
+
+-- a letter at a place, for every list
+module _ (w : ℕ) (s : List ℕ) (at : ℕ) where
+  letter-stands : (letterAt w (drop at s) ≡ 0 → ⊥) → Stands (Letter w) s at (at + letterAt w (drop at s))
+  unfolding letterAt
+  letter-stands =
+      stands-sound (λ p. eqb (foldCase p) (foldCase w)) (λ p. (eqb-true (foldCase p) (foldCase w), eq-eqb (foldCase p) (foldCase w))) s at
+
+  letter-there : {end : ℕ} → Stands (Letter w) s at end → (letterAt w (drop at s) ≡ 0 → ⊥) × (end ≡ at + letterAt w (drop at s))
+  unfolding letterAt
+  letter-there =
+      stands-complete (λ p. eqb (foldCase p) (foldCase w)) (λ p. (eqb-true (foldCase p) (foldCase w), eq-eqb (foldCase p) (foldCase w))) s at
+
+-- and a word
+pub word-spelled : (w s : List ℕ) (at : ℕ) {end : ℕ} → wordAt w s at ≡ At end → Spelled s w at end
+unfolding wordAt
+word-spelled [] s at {end} e = let p : at ≡ end = cc in rw p Spelled.none
+word-spelled (w ∷ ws) s at {end} e = go (letterAt w (drop at s)) refl (λ b. word-spelled ws s b) e
+  where
+    go : (n : ℕ) → letterAt w (drop at s) ≡ n → ((b : ℕ) → wordAt ws s b ≡ At end → Spelled s ws b end)
+        → onMatch (behind at n) Not (λ b. wordAt ws s b) ≡ At end → Spelled s (w ∷ ws) at end
+    go zero n more f = let z : _≡_ {A = ℕ} 0 1 = cc in absurd (omega arith)
+    go (suc n) p more f =
+        let x = letter-stands w s at (λ z. omega arith) in
+        Spelled.more (rw p at x) (more (at + suc n) (rw (eqb·suc-zero n) at f))
+
+pub spelled-word : {w s : List ℕ} {at end : ℕ} → Spelled s w at end → wordAt w s at ≡ At end
+unfolding wordAt
+spelled-word Spelled.none = refl
+spelled-word {s} (Spelled.more {w} {at} x r) =
+    let (z, e) = letter-there w s at x in
+    rw (ne-eqb (letterAt w (drop at s)) 0 z, ← e) (spelled-word r)

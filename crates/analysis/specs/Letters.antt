@@ -1,4 +1,4 @@
--- A word at a place of a body, letter by letter, whatever the case of the letters.
+-- Letters whatever their case, and a word at a place of a body, letter by letter: `wordAt` answers where the letters that `Spelled` (Matches) asks for end.
 use mathlib.Core.Bool.{cond}
 use mathlib.Core.List.{List, [], _∷_}
 use Prim.Native.Nat.{ℕ, _+_}

@@ -5,3 +5,4 @@ pub mod Matcher
 pub mod Patterns
 pub mod Place
 pub mod Matches
+pub mod Prefers

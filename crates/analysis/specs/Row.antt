@@ -1,5 +1,6 @@
--- A pattern as a row of steps, and what it means: all its matches from a place, in order of preference. The match is the first of them, from
--- the leftmost place that has one.
+-- A pattern as a row of steps. What a row matches, and which match is preferred, is said in Matches and Prefers: those are the files to be believed.
+-- The functions here give the value that the report computes, and the law `finds` ties them to it, for every row: all matches from a place, in order of
+-- preference; the first of them, from the leftmost place that has one.
 use mathlib.Core.Bool.{Bool, true, false, cond}
 use mathlib.Core.List.{List, [], _∷_, _++_, reverse, flatMap}
 use Prim.Native.Nat.{ℕ, zero, suc}
@@ -31,6 +32,10 @@ infixr 30 _▸_
 abbrev pub _▸_ : (Row → Row) → Row → Row
 step ▸ r = step r
 
+-- before anything is captured
+abbrev pub noCapture : Capture
+noCapture = record { quoted = false; from = 0; to = 0 }
+
 -- where a character of the class ends that begins at a place
 abbrev pub oneAt : Class → List ℕ → ℕ → Matched
 oneAt c s at = behind at (classAt c (drop at s))
@@ -55,9 +60,6 @@ all (shortest c r) s at k = flatMap (λ e. all r s e k) (runEnds c s at)
 all (from quoted r) s at k = all r s at (record { quoted = quoted; from = at; to = k .to })
 all (to r) s at k = all r s at (record { quoted = k .quoted; from = k .from; to = at })
 all (either a b) s at k = all a s at k ++ all b s at k
-
-abbrev pub noCapture : Capture
-noCapture = record { quoted = false; from = 0; to = 0 }
 
 unfoldable pub first : List Capture → Found
 first [] = Nothing

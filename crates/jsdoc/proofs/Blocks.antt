@@ -15,9 +15,10 @@ use Rattle.text.specs.Bytes.{same}
 use Rattle.text.specs.Ranges.{inRanges}
 use Rattle.text.specs.Alphabetic.{alphabetic}
 use Rattle.text.specs.Class.{outside, ranges, member}
+use Rattle.text.specs.Characters.{OneOf}
 use Rattle.analysis.specs.Mode.{modeOf}
 use Rattle.analysis.proofs.Modes.{named-small}
-use Rattle.jsdoc.specs.Grammar.{Bytes, OneOf, done, W*, Word, Quote, Name, Attribute, Pair, pair, Attributes, none, last, next, modeIn, Block}
+use Rattle.jsdoc.specs.Grammar.{Bytes, done, W*, Word, Quote, Name, Attribute, Pair, pair, Attributes, none, last, next, modeIn, Block}
 use Rattle.jsdoc.specs.Parsed.{Parsed, ok, backtrace, onParsed}
 use Rattle.jsdoc.specs.Reader.{skip, skipWhitespace, tag, word, parseQuote, parseKey, attributeMode, parseAttribute, firstMode, comma, separatedListBy, separatedList, parseImportAttributeBlockForResolutionMode}
 use Rattle.jsdoc.proofs.Chains.{never, no-reading, then-ok}

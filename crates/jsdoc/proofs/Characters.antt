@@ -1,24 +1,22 @@
 -- Characters of a class, and the longest runs of them: the grammar and the functions agree.
 use mathlib.Core.Path.{_≡_, refl, sym, ap, _∙_}
-use mathlib.Core.Bool.{Bool, true, false, cond, false≢true}
+use mathlib.Core.Bool.{true, false, false≢true}
 use mathlib.Core.List.{[], _∷_, _++_}
 use Prim.Native.Nat.{ℕ, zero, suc, _≤_, _<_}
 use native.Mathlib.Omega.{arith}
 use native.Mathlib.Decide.{ℕ-discrete}
-use lib.ListN.{length, drop, length-append}
-use lib.Seq.{drop-append-seam, drop-drop}
+use lib.ListN.{length, drop}
+use lib.Seq.{drop-drop}
 use borrow.Author.Tests.{ne-eqb}
 use Rattle.text.specs.declared.class.Class.{Class}
 use Rattle.text.specs.declared.class.Class.the-variants.{White}
-use Rattle.text.specs.declared.utf8.Char.{Char}
-use Rattle.text.specs.declared.utf8.Encoding.the-variants.{Utf8}
-use Rattle.text.specs.Utf8.{charAt}
 use Rattle.text.specs.Encode.{encode}
 use Rattle.text.specs.Class.{member, classAt, runLength}
+use Rattle.text.specs.Characters.{OneOf}
 use Rattle.text.proofs.CodePoint.{by-length, nonempty}
-use Rattle.text.proofs.Reader.{reader-sound, reader-complete}
+use Rattle.text.proofs.Characters.{with-shorter, one-sound, one-complete}
 use Rattle.text.proofs.Runs.{class-fits, run-stops, run-goes-on}
-use Rattle.jsdoc.specs.Grammar.{Bytes, OneOf, LongestRun, done, more, W*, W+, Without}
+use Rattle.jsdoc.specs.Grammar.{Bytes, LongestRun, done, more, W*, W+, Without}
 use Rattle.jsdoc.specs.Parsed.{ok}
 use Rattle.jsdoc.specs.Reader.{skip, skipWhitespace, whitespace}
 use Rattle.jsdoc.proofs.Chains.{never}
@@ -29,27 +27,6 @@ without-append m [] w h k = k
 without-append m (x ∷ v) w h k = (h .0, without-append m v w (h .1) k)
 
 module _ (c : Class) where
-  pub one-sound : (s : Bytes) → (classAt c s ≡ 0 → ⊥) → OneOf c s (drop (classAt c s) s)
-  unfolding classAt charAt
-  one-sound s = go (member c (charAt Utf8 s .code)) refl
-    where
-      go : (b : Bool) → member c (charAt Utf8 s .code) ≡ b → (cond b (charAt Utf8 s .len) 0 ≡ 0 → ⊥) → OneOf c s (drop (cond b (charAt Utf8 s .len) 0) s)
-      go false e z = absurd (z refl)
-      go true e z =
-          let (p, r) = reader-sound Utf8 s z in
-          record { point = p; among = r .among; belongs = sym (ap (λ (x : Char). member c (x .code)) (r .read)) ∙ e; all = r .begins }
-
-  module _ {s t : Bytes} (r : OneOf c s t) where
-    one-length : classAt c s ≡ length (encode (r .point))
-    unfolding classAt
-    one-length = rw (r .all, reader-complete (r .point) t (r .among), r .belongs)
-
-    pub one-complete : (classAt c s ≡ 0 → ⊥) × (drop (classAt c s) s ≡ t)
-    one-complete = (λ z. omega (arith, nonempty (r .point), one-length), rw one-length (rw (r .all) (drop-append-seam (encode (r .point)) t)))
-
-    pub one-shorter : length t < length s
-    one-shorter = omega (arith, nonempty (r .point), ap length (r .all), length-append (encode (r .point)) t)
-
   -- no other byte of ASCII is in a character of the class
   free : (x : ℕ) → x < 0x80 → member c x ≡ false → (p : ℕ) → member c p ≡ true → Without x (encode p)
   free x h f p m =
@@ -61,7 +38,7 @@ module _ (c : Class) where
 
   -- so none begins with such a byte
   pub begins-not : (x : ℕ) → x < 0x80 → member c x ≡ false → {s t u : Bytes} → s ≡ x ∷ u → OneOf c s t → ⊥
-  begins-not x h f {t} {u} e r = go (encode (r .point)) (free x h f (r .point) (r .belongs)) (nonempty (r .point)) (sym e ∙ r .all)
+  begins-not x h f {t} {u} e r = go (encode (r .point)) (free x h f (r .point) (r .meets)) (nonempty (r .point)) (sym e ∙ r .all)
     where
       go : (bs : Bytes) → Without x bs → 0 < length bs → x ∷ u ≡ bs ++ t → ⊥
       go [] w l e = omega arith
@@ -76,7 +53,7 @@ module _ (c : Class) where
   skip-goes-on s z = rw (run-goes-on c s refl z) (sym (drop-drop (runLength c (drop (classAt c s) s)) (classAt c s) s))
 
   stopped : (s : Bytes) → classAt c s ≡ 0 → LongestRun c s (skip c s)
-  stopped s z = rw (skip-stops s z) (done (λ u r. one-complete r .0 z))
+  stopped s z = rw (skip-stops s z) (done (λ u r. one-complete c r .0 z))
 
   run-by : (n : ℕ) (s : Bytes) → length s ≤ n → LongestRun c s (skip c s)
   run-by zero s h = stopped s (omega (arith, class-fits c s))
@@ -85,8 +62,8 @@ module _ (c : Class) where
       go : ((t : Bytes) → length t ≤ n → LongestRun c t (skip c t)) → Dec (classAt c s ≡ 0) → LongestRun c s (skip c s)
       go ih (yes z) = stopped s z
       go ih (no z) =
-          let r = one-sound s z in
-          rw (skip-goes-on s z) (more r (ih (drop (classAt c s) s) (omega (arith, one-shorter r))))
+          let r = one-sound c s z in
+          rw (skip-goes-on s z) (more r (ih (drop (classAt c s) s) (omega (arith, with-shorter r))))
 
   pub run-sound : (s : Bytes) → LongestRun c s (skip c s)
   run-sound s = run-by (length s) s (omega arith)
@@ -96,9 +73,9 @@ module _ (c : Class) where
     where
       go : Dec (classAt c t ≡ 0) → skip c t ≡ t
       go (yes z) = skip-stops t z
-      go (no z) = absurd (h (drop (classAt c t) t) (one-sound t z))
+      go (no z) = absurd (h (drop (classAt c t) t) (one-sound c t z))
   run-complete (more {s} {u} {t} r rest) =
-      let (z, e) = one-complete r in
+      let (z, e) = one-complete c r in
       skip-goes-on s z ∙ ap (skip c) e ∙ run-complete rest
 
   -- behind a run stands no other character of the class
@@ -114,7 +91,7 @@ module _ (c : Class) where
   pub run-free : (x : ℕ) → x < 0x80 → member c x ≡ false → {s t : Bytes} (r : LongestRun c s t) → Without x (run-ends r .0)
   run-free x h f (done k) = tt
   run-free x h f (more r rest) =
-      without-append x (encode (r .point)) (run-ends rest .0) (free x h f (r .point) (r .belongs)) (run-free x h f rest)
+      without-append x (encode (r .point)) (run-ends rest .0) (free x h f (r .point) (r .meets)) (run-free x h f rest)
 
   pub run-shorter : {s t : Bytes} → LongestRun c s t → length t ≤ length s
   run-shorter r = ends-shorter (run-ends r)

@@ -16,13 +16,14 @@ use Rattle.text.specs.Encode.{encode}
 use Rattle.text.specs.Ranges.{inRanges}
 use Rattle.text.specs.Alphabetic.{alphabetic}
 use Rattle.text.specs.Class.{outside, ranges, member, classAt}
+use Rattle.text.proofs.Characters.{with-shorter, one-sound, one-complete}
 use Rattle.text.proofs.Words.{begins-sound, begins-complete}
 use Rattle.jsdoc.specs.Grammar.{Bytes, Word, Without, Upto, Quote, Name}
 use Rattle.jsdoc.specs.Parsed.{Parsed, ok, backtrace, Parser, onParsed}
 use Rattle.jsdoc.specs.Reader.{skip, tag, word, upTo, before, isMark, parseQuote, specifier, hit, pastIdent, parseIdent, parseKey}
 use Rattle.jsdoc.proofs.Ends.{ends-trans}
 use Rattle.jsdoc.proofs.Chains.{never, no-reading, then-ok, if-ok}
-use Rattle.jsdoc.proofs.Characters.{one-sound, one-complete, one-shorter, begins-not, run-sound, run-complete, run-ends, run-shorter, white-sound, white-complete}
+use Rattle.jsdoc.proofs.Characters.{begins-not, run-sound, run-complete, run-ends, run-shorter, white-sound, white-complete}
 
 -- ---- words
 
@@ -148,7 +149,7 @@ ident-complete {k} {s} {t} r =
     rw (ne-eqb (classAt Alphabetic s) 0 z, e, run-complete NameRest (r .rest), before-is k t (r .all))
 
 pub name-shorter : {k s t : Bytes} → Name k s t → length t < length s
-name-shorter r = omega (arith, one-shorter Alphabetic (r .first), run-shorter NameRest (r .rest))
+name-shorter r = omega (arith, with-shorter (r .first), run-shorter NameRest (r .rest))
 
 -- a name does not begin with a byte of ASCII that is no letter
 pub name-not : (x : ℕ) → x < 0x80 → member Alphabetic x ≡ false → {k s t u : Bytes} → s ≡ x ∷ u → Name k s t → ⊥

@@ -1,7 +1,7 @@
 -- The grammar of JSDoc imports, with no parser. A piece P is a relation: `P s t` says that the bytes s are the piece, followed by the bytes t.
 -- Where a piece is made of others, r1, r2 and so on are the bytes that are left between them.
 use mathlib.Core.Path.{_≡_}
-use mathlib.Core.Bool.{true, cond}
+use mathlib.Core.Bool.{cond}
 use mathlib.Core.Logic.{_⊎_}
 use mathlib.Core.List.{List, [], _∷_, _++_}
 use Prim.Native.Nat.{ℕ, _≤_, _<_}
@@ -10,22 +10,12 @@ use lib.ListN.{length, drop}
 use Rattle.laws.specs.Quoted.{ascii}
 use Rattle.text.specs.declared.class.Class.{Class}
 use Rattle.text.specs.declared.class.Class.the-variants.{White, Alphabetic, NameRest}
-use Rattle.text.specs.declared.utf8.Encoding.the-variants.{Utf8}
-use Rattle.text.specs.Ranges.{inRanges}
-use Rattle.text.specs.Encode.{encode, codePoints}
-use Rattle.text.specs.Class.{member}
+use Rattle.text.specs.Characters.{OneOf}
 use Rattle.text.specs.Bytes.{Mark, same}
 use Rattle.analysis.specs.Mode.{modeOf}
 
 abbrev pub Bytes : Type 0
 Bytes = List ℕ
-
--- a character of the class, by its code point
-pub record OneOf (c : Class) (s t : Bytes) : Type 0 where
-  pub point : ℕ
-  pub among : inRanges (codePoints Utf8) point ≡ true
-  pub belongs : member c point ≡ true
-  pub all : s ≡ encode point ++ t
 
 -- the longest run of characters of the class
 pub data LongestRun (c : Class) : Bytes → Bytes → Type 0 where

@@ -11,8 +11,7 @@ use Rattle.analysis.specs.declared.Found.{Found}
 use Rattle.analysis.specs.declared.Found.the-variants.{At, Nothing}
 use Rattle.analysis.specs.Row.{Row, find, isFound}
 use Rattle.analysis.specs.Patterns.{tripleSlashRow, pathRow, typesRow, resolutionModeRow, jsxImportSourceRow, jsxImportSourceTypesRow, sourceMappingUrlRow, tsSelfTypesRow, tsTypesRow, denoTypesRow}
-use Rattle.analysis.proofs.Meaning.{found-reads, reading-found}
-use Rattle.analysis.proofs.Preference.{found-preferred, preferred-found}
+use Rattle.analysis.proofs.Preference.{preferred-reads, finds}
 use Rattle.sheet.specs.declared.comments.Comment.{Comment}
 use Rattle.sheet.specs.Lookups.{leading, groupAt, body}
 use Rattle.sheet.specs.Sheet.{Sheet}
@@ -30,28 +29,21 @@ record Agrees {A : Type 0} (f : Comment → Option A) (r : Reader A) : Type 0 wh
 -- ---- a pattern
 
 module _ (row : Row) (source : List ℕ) (c : Comment) where
-  -- a pattern that is found reads, and one that is not reads nothing
-  found-matched : {k : Capture} → find row (body source c) ≡ At k → Matched row source c
-  found-matched {k} e = (k, found-reads row (body source c) e)
-
+  -- a pattern that is not found reads nothing
   unmatched : find row (body source c) ≡ Nothing → Matched row source c → ⊥
-  unmatched e (k, m) = reading-found row (body source c) m e
+  unmatched e (k, m) = finds row (body source c) .none .0 e k m
 
   unread-none : (Matched row source c → ⊥) → find row (body source c) ≡ Nothing
-  unread-none h = go (find row (body source c)) refl
-    where
-      go : (f : Found) → find row (body source c) ≡ f → f ≡ Nothing
-      go (At k) e = absurd (h (found-matched e))
-      go Nothing e = refl
+  unread-none h = finds row (body source c) .none .1 (λ k m. h (k, m))
 
   found-read : {k : Capture} → find row (body source c) ≡ At k → Read row source c (specifierIn source c k)
   unfolding specifierIn
-  found-read {k} e = record { capture = k; preferred = found-preferred row (body source c) e; text = refl; range = refl }
+  found-read {k} e = record { capture = k; preferred = finds row (body source c) .some k .0 e; text = refl; range = refl }
 
   -- a reading is the one that is found
   read-found : {x : SpecifierWithRange} → Read row source c x → (k : Capture) × (find row (body source c) ≡ At k) × (specifierIn source c k ≡ x)
   unfolding specifierIn
-  read-found {x} r = (r .capture, preferred-found row (body source c) (r .preferred), sym (rw (← r .text, ← r .range)))
+  read-found {x} r = (r .capture, finds row (body source c) .some (r .capture) .1 (r .preferred), sym (rw (← r .text, ← r .range)))
 
 -- what is made of a pattern's reading
 module _ (row : Row) (source : List ℕ) {A : Type 0} (make : Comment → SpecifierWithRange → A) {Gives : Comment → A → Type 0} where
@@ -133,12 +125,12 @@ module _ (source : List ℕ) where
   mode-read c = go (find resolutionModeRow (body source c)) refl
     where
       go : (f : Found) → find resolutionModeRow (body source c) ≡ f → ModeRead source c (modeBy (body source c) f)
-      go (At k) e = ModeRead.named (found-preferred resolutionModeRow (body source c) e)
+      go (At k) e = ModeRead.named (finds resolutionModeRow (body source c) .some k .0 e)
       go Nothing e = ModeRead.none (unmatched resolutionModeRow source c e)
 
   read-mode : (c : Comment) {m : Mode} → ModeRead source c m → modeIn source c ≡ m
   unfolding modeIn
-  read-mode c (ModeRead.named p) = rw (preferred-found resolutionModeRow (body source c) p)
+  read-mode c (ModeRead.named {k} p) = rw (finds resolutionModeRow (body source c) .some k .1 p)
   read-mode c (ModeRead.none n) = rw (unread-none resolutionModeRow source c n)
 
   -- a line comment that the triple-slash pattern reads
@@ -146,7 +138,7 @@ module _ (source : List ℕ) where
   is-found c = (some (find tripleSlashRow (body source c)) refl, λ m. back m (find tripleSlashRow (body source c)) refl)
     where
       some : (f : Found) → find tripleSlashRow (body source c) ≡ f → isFound f ≡ true → Matched tripleSlashRow source c
-      some (At k) e i = found-matched tripleSlashRow source c e
+      some (At k) e i = (k, preferred-reads tripleSlashRow (body source c) (finds tripleSlashRow (body source c) .some k .0 e))
       some Nothing e i = absurd (false≢true i)
 
       back : Matched tripleSlashRow source c → (f : Found) → find tripleSlashRow (body source c) ≡ f → isFound f ≡ true

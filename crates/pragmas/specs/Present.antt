@@ -8,7 +8,8 @@ use Rattle.analysis.specs.declared.Capture.{Capture}
 use Rattle.analysis.specs.Mode.{modeOf}
 use Rattle.analysis.specs.Row.{Row}
 use Rattle.analysis.specs.Place.{textOf}
-use Rattle.analysis.specs.Matches.{Reading, Preferred}
+use Rattle.analysis.specs.Matches.{Reading}
+use Rattle.analysis.specs.Prefers.{Preferred}
 use Rattle.analysis.specs.Patterns.{tripleSlashRow, pathRow, typesRow, resolutionModeRow, jsxImportSourceRow, jsxImportSourceTypesRow, sourceMappingUrlRow, tsSelfTypesRow, tsTypesRow, denoTypesRow}
 use Rattle.sheet.specs.declared.comments.Comment.{Comment}
 use Rattle.sheet.specs.Lookups.{leading, groupAt, body}

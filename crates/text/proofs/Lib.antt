@@ -2,6 +2,7 @@ pub mod Ascii
 pub mod Boundary
 pub mod Bounds
 pub mod Cases
+pub mod Characters
 pub mod ClassCases
 pub mod CodePoint
 pub mod Cuts

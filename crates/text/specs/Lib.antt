@@ -1,5 +1,6 @@
 pub mod Alphabetic
 pub mod Bytes
+pub mod Characters
 pub mod Class
 pub mod Encode
 pub mod Lossy

@@ -426,9 +426,17 @@ class Tree {
 // ---- the sheet ----
 
 class SheetWriter extends Writer {
-  constructor(offsets) {
+  constructor(source, offsets) {
     super();
+    this.source = source;
     this.offsets = offsets;
+  }
+
+  // the span of a String begins and ends with the same mark; another one is a fault of this program
+  quoted(n) {
+    const mark = this.source[n.start];
+    const right = n.end - n.start >= 2 && (mark === '"' || mark === "'") && this.source[n.end - 1] === mark;
+    if (!right) throw new Error(`the String from ${n.start} to ${n.end} is not quoted`);
   }
 
   place(n) {
@@ -449,6 +457,8 @@ class SheetWriter extends Writer {
       case 0:
         return this.list(n.children, inner);
       case 1:
+        this.quoted(n);
+        return this.text(n.text);
       case 2:
         return this.text(n.text);
       case 3:
@@ -552,7 +562,7 @@ function sheetOf(name) {
   const { comments, tokens, last } = readComments(text, file, shebang.length);
   if (comments.length > LIMITS.comments) refuse(`more than ${LIMITS.comments} comments`);
 
-  const w = new SheetWriter(offsets);
+  const w = new SheetWriter(text, offsets);
   w.byte(ending[1]);
   w.text(text, LIMITS.source);
   w.number(comments.length);

@@ -1,9 +1,11 @@
 //! generate SEED FIRST COUNT SHEETS KINDS
+//! generate kinds
 //! Writes COUNT sheets, from number FIRST on, as a batch (each: length as u32 little-endian, bytes) to the file SHEETS, and a line with
-//! the kind of each to the file KINDS. The sheet of a number depends on SEED and that number only.
-//! Kinds: `small`, `rich`, `comments`, `jsdoc`, `near`, `tree` and `letters` are well-formed; `uncooked` has uncooked pieces (refusal 9);
-//! `long` has a long report; `text` has a text at the border of UTF-8 or WTF-8; `order` meets two refusals; `limit` hits a limit of document 01,
+//! the kind of each to the file KINDS. The sheet of a number depends on SEED and that number only. `kinds` prints the well-formed kinds.
+//! Kinds: `small`, `rich`, `comments`, `jsdoc`, `near`, `tree`, `letters` and `long` (a long report) are well-formed; `uncooked` has uncooked
+//! pieces (refusal 9); `text` has a text at the border of UTF-8 or WTF-8; `order` meets two refusals; `limit` hits a limit of document 01,
 //! `over` exceeds one by one; `flip`, `cut`, `insert`, `delete`, `splice` and `number` are damaged copies; `noise` is bytes at random.
+//! The span of a String, if nothing damaged it, is a quoted place of the source: it begins and ends with the same mark, `"` or `'`.
 
 use std::collections::BTreeMap;
 use std::io::{BufWriter, Write};
@@ -340,6 +342,8 @@ struct Maker<'a> {
     places: Vec<usize>,
     /// Those of the leading groups.
     leads: Vec<usize>,
+    /// Those of the marks `"` and `'`: two of a sort enclose a quoted place.
+    marks: [Vec<usize>; 2],
     /// Fields drawn before those in front of them.
     late: Vec<u8>,
     nodes: usize,
@@ -355,6 +359,7 @@ fn sheet(r: &mut Rng, style: &Style) -> Vec<u8> {
         source: String::new(),
         places: vec![0],
         leads: vec![],
+        marks: [vec![], vec![]],
         late: vec![],
         nodes: style.nodes,
         uncooked: style.uncooked,
@@ -381,7 +386,9 @@ fn sheet(r: &mut Rng, style: &Style) -> Vec<u8> {
     let program = std::mem::take(&mut m.late);
     m.out.extend(program);
     let depth = if m.r.percent(3) { 63 } else { 7 };
-    if m.r.percent(80) {
+    if m.marks.iter().all(|marks| marks.len() < 2) {
+        m.empty_other();
+    } else if m.r.percent(80) {
         m.other(depth, 1 + style.nodes / 20);
     } else {
         m.node(depth);
@@ -419,8 +426,19 @@ impl Maker<'_> {
         if style.comments > 1 || self.r.percent(50) {
             self.source += &words(self.r);
         }
+        // mostly a quoted place for Strings; with none there is no String
+        if self.r.percent(if self.marks().iter().any(|marks| marks.len() > 1) { 30 } else { 97 }) {
+            self.places.push(self.source.len());
+            let text = self.r.pick(&SPECIFIERS);
+            self.source += &quote(self.r, text);
+        }
         self.places.push(self.source.len());
+        self.marks = self.marks();
         comments
+    }
+
+    fn marks(&self) -> [Vec<usize>; 2] {
+        ['"', '\''].map(|mark| self.source.match_indices(mark).map(|(at, _)| at).collect())
     }
 
     fn place(&mut self) -> usize {
@@ -445,6 +463,16 @@ impl Maker<'_> {
         let (a, b) = (self.place(), self.place());
         number(&mut self.out, a.min(b));
         number(&mut self.out, a.max(b));
+    }
+
+    /// A quoted place: from one mark to another of its sort, mostly to the next.
+    fn quoted_span(&mut self) {
+        let sorts: Vec<usize> = (0..2).filter(|sort| self.marks[*sort].len() > 1).collect();
+        let marks = &self.marks[self.r.pick(&sorts)];
+        let first = self.r.below(marks.len() - 1);
+        let next = if self.r.percent(80) { 1 } else { 1 + self.r.below(marks.len() - first - 1) };
+        number(&mut self.out, marks[first]);
+        number(&mut self.out, marks[first + next] + 1);
     }
 
     /// Runs of comments, each at a key of its own: mostly where the head group and the end group are looked for.
@@ -538,7 +566,7 @@ impl Maker<'_> {
 
     fn string(&mut self) {
         self.out.push(1);
-        self.span();
+        self.quoted_span();
         self.wtf8(&["./a.ts", "b", "json", "*", "./*"]);
     }
 
@@ -640,6 +668,12 @@ impl Maker<'_> {
         }
     }
 
+    fn empty_other(&mut self) {
+        self.out.push(0);
+        self.span();
+        self.out.push(0);
+    }
+
     fn other(&mut self, depth: usize, most: usize) {
         self.out.push(0);
         self.span();
@@ -679,11 +713,7 @@ impl Maker<'_> {
         self.nodes = self.nodes.saturating_sub(1);
         if depth == 0 || self.nodes == 0 {
             return match self.r.below(3) {
-                0 => {
-                    self.out.push(0);
-                    self.span();
-                    self.out.push(0);
-                }
+                0 => self.empty_other(),
                 1 => self.string(),
                 _ => self.name_node(),
             };
@@ -782,19 +812,19 @@ fn texts(r: &mut Rng) -> Vec<u8> {
         return out;
     }
     let (mut root, after): (Vec<u8>, &[u8]) = match r.below(9) {
-        0 => (vec![1, 0, 0], &[]),
+        0 => (vec![1, 0, 2], &[]),
         1 => (vec![2, 0, 0], &[]),
         2 => (vec![3, 0, 0, 0, 1], &[]),
-        3 => (vec![5, 0, 0, 1, 2, 1], &[1, 0, 0, 0]),
-        4 => (vec![5, 0, 0, 1, 2, 2], &[1, 0, 0, 0]),
-        5 => (vec![9, 0, 0, 0, 1, 0, 0], &[0]),
-        6 => (vec![6, 0, 0, 0, 1, 0, 0, 0, 1, 0, 0], &[0]),
+        3 => (vec![5, 0, 0, 1, 2, 1], &[1, 0, 2, 0]),
+        4 => (vec![5, 0, 0, 1, 2, 2], &[1, 0, 2, 0]),
+        5 => (vec![9, 0, 0, 0, 1, 0, 2], &[0]),
+        6 => (vec![6, 0, 0, 0, 1, 0, 0, 0, 1, 0, 2], &[0]),
         7 => (vec![6, 0, 0, 0, 1, 0, 0, 0, 3, 0, 0, 0, 1], &[0]),
-        _ => (vec![9, 0, 0, 0, 1, 0, 0, 0, 1, 5, 0, 0, 1, 2, 1], &[1, 0, 0, 1, b'v']),
+        _ => (vec![9, 0, 0, 0, 1, 0, 2, 0, 1, 5, 0, 0, 1, 2, 1], &[1, 0, 2, 1, b'v']),
     };
     text(&mut root, &x);
     root.extend(after);
-    plain(4, "", &[], &[], &root)
+    bare(&root)
 }
 
 /// A sheet of given parts; the program is the whole source, with no item.
@@ -822,24 +852,34 @@ fn plain(media: u8, source: &str, comments: &[(u8, usize, usize)], groups: &[(u8
     out
 }
 
+/// A sheet whose source is an empty string, for the spans of Strings, from 0 to 2.
+fn bare(root: &[u8]) -> Vec<u8> {
+    plain(4, "\"\"", &[], &[], root)
+}
+
 /// A report around and over 65,536 bytes: many entries with one long types pragma.
 fn long_report(r: &mut Rng) -> Vec<u8> {
     let size = 500 + r.below(2000);
-    let source = format!("//@ts-types=\"{}\"\n", "é".repeat(size / 2));
+    let pragma = format!("//@ts-types=\"{}\"", "é".repeat(size / 2));
+    let source = format!("{pragma}\n''");
+    let at = pragma.len() + 1;
     let entry = 25 + size;
     let n = (65_536 / entry).saturating_sub(2) + r.below(6);
     let mut root = vec![0, 0, 0];
     number(&mut root, n);
     for _ in 0..n {
-        root.extend([9]);
-        number(&mut root, source.len());
-        number(&mut root, source.len());
-        root.push(0);
-        root.extend([1, 0, 0]);
+        for tag in [9, 1] {
+            root.push(tag);
+            number(&mut root, at);
+            number(&mut root, at + 2);
+            if tag == 9 {
+                root.push(0);
+            }
+        }
         text(&mut root, &vec![b'a'; r.below(90)]);
         root.push(0);
     }
-    plain(4, &source, &[(0, 0, source.len() - 1)], &[(0, source.len(), 0, 1)], &root)
+    plain(4, &source, &[(0, 0, pragma.len())], &[(0, at, 0, 1)], &root)
 }
 
 // ---- limits ----
@@ -848,18 +888,18 @@ fn long_report(r: &mut Rng) -> Vec<u8> {
 fn nested(sort: usize, levels: usize, last: &[u8]) -> Vec<u8> {
     let (front, back): (&[u8], &[u8]) = match sort {
         0 => (&[0, 0, 0, 1], &[]),
-        1 => (&[4, 0, 0, 1], &[1, 0, 0, 0]),
-        2 => (&[4, 0, 0, 0, 1, 0, 0, 0], &[]),
+        1 => (&[4, 0, 0, 1], &[1, 0, 2, 0]),
+        2 => (&[4, 0, 0, 0, 1, 0, 2, 0], &[]),
         3 => (&[3, 0, 0, 1, 1, 0, 1, 0], &[]),
         4 => (&[5, 0, 0, 1, 0], &[]),
         5 => (&[5, 0, 0, 1, 1], &[]),
-        6 => (&[5, 0, 0, 1, 2, 0], &[1, 0, 0, 0]),
+        6 => (&[5, 0, 0, 1, 2, 0], &[1, 0, 2, 0]),
         7 => (&[5, 0, 0, 1, 2, 2, 1, b'a'], &[]),
         8 => (&[6, 0, 0, 3], &[0, 0]),
         9 => (&[6, 0, 0, 0, 1, 0, 0, 0], &[0]),
         10 => (&[6, 0, 0, 1, 0, 1], &[]),
-        11 => (&[10, 0, 0, 1, 0, 0, 1, b'a', 1], &[0]),
-        12 => (&[10, 0, 0, 1, 0, 0, 1, b'a', 0, 1, 5, 0, 0, 1, 1], &[]),
+        11 => (&[10, 0, 0, 1, 0, 2, 1, b'a', 1], &[0]),
+        12 => (&[10, 0, 0, 1, 0, 2, 1, b'a', 0, 1, 5, 0, 0, 1, 1], &[]),
         _ => (&[12, 0, 0, 0, 1], &[]),
     };
     // the Object of sort 12 is a level of its own
@@ -891,12 +931,12 @@ fn limit(r: &mut Rng, over: usize) -> Vec<u8> {
             let target = 65_536 + over;
             let mut root = vec![0, 0, 0, 16 + 1];
             for _ in 0..16 {
-                root.extend([1, 0, 0]);
+                root.extend([1, 0, 2]);
                 text(&mut root, &[b'x'; 4000]);
             }
-            let mut s = plain(0, "", &[], &[], &root);
+            let mut s = bare(&root);
             let rest = target - s.len() - 5;
-            s.extend([1, 0, 0]);
+            s.extend([1, 0, 2]);
             text(&mut s, &vec![b'y'; rest]);
             s
         }
@@ -907,23 +947,23 @@ fn limit(r: &mut Rng, over: usize) -> Vec<u8> {
         2 => {
             let x = vec![b'a'; 4_096 + over];
             let mut root: Vec<u8> = match r.below(8) {
-                0 => vec![1, 0, 0],
+                0 => vec![1, 0, 2],
                 1 => vec![2, 0, 0],
                 2 => vec![3, 0, 0, 0, 1],
                 3 => vec![5, 0, 0, 1, 2, 1],
                 4 => vec![5, 0, 0, 1, 2, 2],
-                5 => vec![9, 0, 0, 0, 1, 0, 0],
-                6 => vec![6, 0, 0, 0, 1, 0, 0, 0, 1, 0, 0],
-                _ => vec![12, 0, 0, 1, 1, 0, 0],
+                5 => vec![9, 0, 0, 0, 1, 0, 2],
+                6 => vec![6, 0, 0, 0, 1, 0, 0, 0, 1, 0, 2],
+                _ => vec![12, 0, 0, 1, 1, 0, 2],
             };
             let after: &[u8] = match root[0] {
-                5 => &[1, 0, 0, 0],
+                5 => &[1, 0, 2, 0],
                 9 | 6 | 12 => &[0],
                 _ => &[],
             };
             text(&mut root, &x);
             root.extend(after);
-            plain(4, "", &[], &[], &root)
+            bare(&root)
         }
         3 => {
             let n = 1_024 + over;
@@ -943,34 +983,34 @@ fn limit(r: &mut Rng, over: usize) -> Vec<u8> {
             let sort = r.below(14);
             let last: &[u8] = match r.below(3) {
                 0 => empty,
-                1 => &[1, 0, 0, 1, b'z'],
+                1 => &[1, 0, 2, 1, b'z'],
                 _ => &[2, 0, 0, 0],
             };
-            plain(4, "", &[], &[], &nested(sort, 63 + over, last))
+            bare(&nested(sort, 63 + over, last))
         }
         7 => {
             // a String or an Object that another node holds is a level too
             let (hold, levels): (&[u8], usize) = match r.below(8) {
-                0 => (&[7, 0, 0, 0, 0, 0, 1, 0, 0, 1, b'a', 0], 62),
-                1 => (&[7, 0, 0, 0, 0, 0, 1, 0, 0, 1, b'a', 1, 5, 0, 0, 0], 62),
-                2 => (&[7, 0, 0, 0, 0, 0, 1, 0, 0, 1, b'a', 1, 5, 0, 0, 1, 0, 1, 0, 0, 0], 61),
-                3 => (&[8, 0, 0, 0, 1, 1, 0, 0, 1, b'a', 0], 62),
-                4 => (&[9, 0, 0, 0, 1, 0, 0, 1, b'a', 0], 62),
-                5 => (&[10, 0, 0, 1, 0, 0, 1, b'a', 0, 0], 62),
-                6 => (&[11, 0, 0, 1, 0, 0, 1, 0, 0, 1, b'a'], 62),
-                _ => (&[12, 0, 0, 1, 1, 0, 0, 1, b'a', 0], 62),
+                0 => (&[7, 0, 0, 0, 0, 0, 1, 0, 2, 1, b'a', 0], 62),
+                1 => (&[7, 0, 0, 0, 0, 0, 1, 0, 2, 1, b'a', 1, 5, 0, 0, 0], 62),
+                2 => (&[7, 0, 0, 0, 0, 0, 1, 0, 2, 1, b'a', 1, 5, 0, 0, 1, 0, 1, 0, 2, 0], 61),
+                3 => (&[8, 0, 0, 0, 1, 1, 0, 2, 1, b'a', 0], 62),
+                4 => (&[9, 0, 0, 0, 1, 0, 2, 1, b'a', 0], 62),
+                5 => (&[10, 0, 0, 1, 0, 2, 1, b'a', 0, 0], 62),
+                6 => (&[11, 0, 0, 1, 0, 0, 1, 0, 2, 1, b'a'], 62),
+                _ => (&[12, 0, 0, 1, 1, 0, 2, 1, b'a', 0], 62),
             };
-            plain(4, "", &[], &[], &nested(0, levels + over, hold))
+            bare(&nested(0, levels + over, hold))
         }
         8 => {
             let mut root = vec![5, 0, 0, 64 + over as u8];
             for i in 0..64 + over {
-                root.extend([2, 2, 2, b'a' + (i % 26) as u8, b'a' + (i / 26) as u8, 1, 0, 0, 0]);
+                root.extend([2, 2, 2, b'a' + (i % 26) as u8, b'a' + (i / 26) as u8, 1, 0, 2, 0]);
             }
             if r.percent(50) {
-                root = [&[9, 0, 0, 0, 1, 0, 0, 1, b'x', 1][..], &root].concat();
+                root = [&[9, 0, 0, 0, 1, 0, 2, 1, b'x', 1][..], &root].concat();
             }
-            plain(4, "", &[], &[], &root)
+            bare(&root)
         }
         9 => {
             // the largest number, and one more: as a count of children, and as a group's first comment
@@ -1022,7 +1062,6 @@ fn limit(r: &mut Rng, over: usize) -> Vec<u8> {
 fn order(r: &mut Rng) -> Vec<u8> {
     let empty: &[u8] = &[0, 0, 0, 0];
     let comments = |pairs: &[(u8, usize, usize)], groups: &[(u8, usize, usize, usize)]| plain(0, "////\u{E9}/**/", pairs, groups, empty);
-    let bare = |root: &[u8]| plain(4, "", &[], &[], root);
     let uncooked: &[u8] = &[6, 0, 0, 0, 1, 0, 0, 0, 3, 0, 0, 0, 0, 0];
     match r.below(22) {
         // too deep, and a tag out of range, one that the place does not allow, or none
@@ -1047,8 +1086,8 @@ fn order(r: &mut Rng) -> Vec<u8> {
         15 => vec![0, 2, b'/', b'/', 1, 0, 0, 2, 0],
         16 => comments(&[(0, 0, 2), (0, 2, 4)], &[(0, 0, r.below(2), 1)]),
         // a length over its limit, and cut off; bytes that are cut off, and ill-formed
-        17 => bare(&[1, 0, 0, 0x81, 0x20]),
-        18 => bare(&[1, 0, 0, 2, 0xFF]),
+        17 => bare(&[1, 0, 2, 0x81, 0x20]),
+        18 => bare(&[1, 0, 2, 2, 0xFF]),
         19 => bare(&[5, 0, 0, 65]),
         // bytes behind the root, and an uncooked piece
         20 => bare(&[uncooked, &[0]].concat()),
@@ -1111,6 +1150,9 @@ fn well_formed(r: &mut Rng, kind: &str) -> Vec<u8> {
     }
 }
 
+/// The kinds whose sheets meet none of refusals 1 to 9.
+const WELL_FORMED: [&str; 8] = ["small", "rich", "comments", "jsdoc", "near", "tree", "letters", "long"];
+
 /// How many sheets are of each kind, among as many as the numbers make together.
 #[rustfmt::skip]
 const KINDS: [(&str, usize); 19] = [
@@ -1153,8 +1195,12 @@ fn make(seed: u64, index: u64) -> (&'static str, Vec<u8>) {
 
 fn main() -> std::io::Result<()> {
     let args: Vec<String> = std::env::args().skip(1).collect();
+    if args == ["kinds"] {
+        println!("{}", WELL_FORMED.join(" "));
+        return Ok(());
+    }
     let [seed, first, count, sheets, kinds] = &args[..] else {
-        eprintln!("usage: generate SEED FIRST COUNT SHEETS KINDS");
+        eprintln!("usage: generate SEED FIRST COUNT SHEETS KINDS | kinds");
         std::process::exit(2)
     };
     let numeral = |s: &str| {

@@ -1,5 +1,5 @@
 //! A second answer to sheets, from the text of docs/01-scope.md: no code of deno_graph, no crate, no parser combinators.
-//! tools/compare takes it for the library where none is given. So it tries itself, and shows where the text and the Rust differ.
+//! tools/compare runs it beside the library and the Rust, so that it shows where the text and the Rust differ.
 //! It is slow and plain on purpose. Where the text is silent, it follows docs/DECISIONS.md.
 
 use std::collections::BTreeMap;
@@ -153,6 +153,8 @@ struct Sheet {
 struct Cursor<'a> {
     rest: &'a [u8],
     source: &'a [u8],
+    /// Whether a String must look like one: request #108, which has not landed.
+    quoted: bool,
 }
 
 impl<'a> Cursor<'a> {
@@ -248,6 +250,9 @@ impl<'a> Cursor<'a> {
             return Err(4);
         }
         let mut n = Node { tag, span: self.span()?, ..Node::default() };
+        if self.quoted && tag == 1 && !is_quoted(&self.source[n.span.0..n.span.1]) {
+            return Err(13);
+        }
         let below = depth + 1;
         match tag {
             0 => n.children = self.nodes(below)?,
@@ -316,11 +321,16 @@ impl<'a> Cursor<'a> {
     }
 }
 
-fn decode(bytes: &[u8]) -> Read<Sheet> {
+/// Begins and ends with the same mark, which are two bytes.
+fn is_quoted(place: &[u8]) -> bool {
+    matches!(place, [first @ (b'"' | b'\''), .., last] if first == last)
+}
+
+fn decode(bytes: &[u8], quoted: bool) -> Read<Sheet> {
     if bytes.is_empty() || bytes.len() > 65_536 {
         return Err(1);
     }
-    let mut c = Cursor { rest: bytes, source: &[] };
+    let mut c = Cursor { rest: bytes, source: &[], quoted };
     let media = c.among(11)?;
     let source = c.text(32_768, false)?;
     c.source = source;
@@ -1006,11 +1016,11 @@ fn call_attributes(argument: Option<&(bool, Span, Node)>) -> Attributes {
 /// # Safety
 /// `sheet` has `n` bytes to read, and `buffer` has `m` bytes to write.
 #[unsafe(no_mangle)]
-pub unsafe extern "C" fn module_info_answer(sheet: *const u8, n: usize, buffer: *mut u8, m: usize) -> u64 {
+pub unsafe extern "C" fn second_answer(sheet: *const u8, n: usize, buffer: *mut u8, m: usize) -> u64 {
     let sheet = if n == 0 { &[] } else { unsafe { std::slice::from_raw_parts(sheet, n) } };
     let buffer = if m == 0 { &mut [] } else { unsafe { std::slice::from_raw_parts_mut(buffer, m) } };
     buffer.fill(0);
-    match decode(sheet).and_then(|sheet| sheet.report()) {
+    match decode(sheet, false).and_then(|sheet| sheet.report()) {
         Err(refusal) => u64::from(refusal),
         Ok(report) if report.len() > m => 10,
         Ok(report) => {
@@ -1018,4 +1028,14 @@ pub unsafe extern "C" fn module_info_answer(sheet: *const u8, n: usize, buffer: 
             256 * report.len() as u64
         }
     }
+}
+
+/// Whether a String of the sheet does not look like one: then request #108 will refuse it (13).
+///
+/// # Safety
+/// `sheet` has `n` bytes to read.
+#[unsafe(no_mangle)]
+pub unsafe extern "C" fn second_unquoted(sheet: *const u8, n: usize) -> bool {
+    let sheet = if n == 0 { &[] } else { unsafe { std::slice::from_raw_parts(sheet, n) } };
+    matches!(decode(sheet, true), Err(13))
 }

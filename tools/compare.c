@@ -1,10 +1,15 @@
-/* compare SHEETS ANSWERS KINDS FILE
- * Calls the linked library on every sheet of a batch, with lent buffers of several sizes, and compares number, length and every byte of the
- * buffer with the answers of tools/oracle. Prints the number of sheets by kind and answer, and the shortest sheet that differs,
- * which is also written to FILE.
+/* compare SHEETS ANSWERS KINDS FILE [KIND]...
+ * Runs the linked library and tools/second.rs on every sheet of a batch and compares them with each other and with ANSWERS, those of
+ * tools/oracle: the library with lent buffers of several sizes, by number, length and every byte of the buffer. Where the oracle leaves a
+ * sheet out, the library is compared with second. Prints by kind how many sheets were accepted, refused with each number and left out, and
+ * the shortest sheet that differs, which is also written to FILE.
+ * `unquoted` counts sheets that request #108 will refuse, since the span of a String is no quoted place of the source.
+ * The status is 1 if a sheet differs, or if one of the kinds named has no accepted sheet or an unquoted one.
  * The buffer is full of other bytes before each call; sheet and buffer each end at a page that must not be touched.
+ * Without LIBRARY defined there is no library: second is compared with the oracle.
  */
 #define _GNU_SOURCE
+#include <stdbool.h>
 #include <stddef.h>
 #include <stdint.h>
 #include <stdio.h>
@@ -13,16 +18,29 @@
 #include <sys/mman.h>
 #include <unistd.h>
 
+#ifdef LIBRARY
 uint64_t module_info_answer(const uint8_t *sheet, size_t n, uint8_t *buffer, size_t m);
+#endif
+uint64_t second_answer(const uint8_t *sheet, size_t n, uint8_t *buffer, size_t m);
+bool second_unquoted(const uint8_t *sheet, size_t n);
 
 #define ROOM ((size_t)1 << 20)
 #define LARGE 65536
 #define MAX_KINDS 64
-#define NUMBERS 11
+/* an answer's number is a byte; the oracle's last one says that the sheet is left out */
+#define NUMBERS 256
+#define BUFFER_REFUSAL 10
+#define LEFT_OUT 255
 
 struct file {
     uint8_t *bytes;
     size_t size;
+};
+
+struct answer {
+    unsigned number;
+    const uint8_t *report;
+    size_t length;
 };
 
 static void fail(const char *name, const char *message) {
@@ -46,6 +64,21 @@ static uint32_t u32(const uint8_t *p) {
     return p[0] | (uint32_t)p[1] << 8 | (uint32_t)p[2] << 16 | (uint32_t)p[3] << 24;
 }
 
+/* ---- the three answers ---- */
+
+static bool same(struct answer a, struct answer b) {
+    return a.number == b.number && a.length == b.length && !memcmp(a.report, b.report, a.length);
+}
+
+/* The answer of second, with a buffer that has room for a report of so many bytes and some more. */
+static struct answer answer_of_second(const uint8_t *sheet, size_t n, size_t length) {
+    static uint8_t buffer[ROOM];
+    uint64_t got = second_answer(sheet, n, buffer, length + 64);
+    if ((got & 255) == BUFFER_REFUSAL) got = second_answer(sheet, n, buffer, ROOM);
+    return (struct answer){(unsigned)(got & 255), buffer, (size_t)(got >> 8)};
+}
+
+#ifdef LIBRARY
 /* Memory whose end is followed by a page that must not be touched. */
 static uint8_t *guarded_end(void) {
     size_t page = (size_t)sysconf(_SC_PAGESIZE);
@@ -56,28 +89,27 @@ static uint8_t *guarded_end(void) {
 
 static uint8_t *sheet_end, *buffer_end;
 static const uint8_t zeros[ROOM];
+static unsigned long calls;
 
-/* What differs in the answer with a buffer of m bytes, or NULL. */
-static const char *difference(const uint8_t *sheet, size_t n, unsigned number, const uint8_t *report, size_t length, size_t m) {
+/* What differs in the library's answer with a buffer of m bytes, or NULL. */
+static const char *difference(const uint8_t *sheet, size_t n, struct answer expected, size_t m) {
     static char message[200];
-    if (number == 0 && length > m) {
-        number = 10;
-        length = 0;
-    }
+    if (expected.number == 0 && expected.length > m) expected = (struct answer){BUFFER_REFUSAL, zeros, 0};
     uint8_t *copy = sheet_end - n, *buffer = buffer_end - m;
     memcpy(copy, sheet, n);
     memset(buffer - 64, 0xA5, m + 64);
     uint64_t got = module_info_answer(copy, n, buffer, m);
-    if (got != number + 256 * (uint64_t)length) {
-        snprintf(message, sizeof message, "buffer %zu: number %u and length %zu are expected, got %u and %llu", m, number, length,
-                 (unsigned)(got & 255), (unsigned long long)(got >> 8));
+    calls++;
+    if (got != expected.number + 256 * (uint64_t)expected.length) {
+        snprintf(message, sizeof message, "buffer %zu: number %u and length %zu are expected, got %u and %llu", m, expected.number,
+                 expected.length, (unsigned)(got & 255), (unsigned long long)(got >> 8));
         return message;
     }
-    if (memcmp(buffer, report, length) || memcmp(buffer + length, zeros, m - length)) {
+    if (memcmp(buffer, expected.report, expected.length) || memcmp(buffer + expected.length, zeros, m - expected.length)) {
         size_t i = 0;
-        while (i < length ? buffer[i] == report[i] : buffer[i] == 0) i++;
-        snprintf(message, sizeof message, "buffer %zu: byte %zu of %zu is %02x, expected %02x", m, i, length, buffer[i],
-                 i < length ? report[i] : 0);
+        while (buffer[i] == (i < expected.length ? expected.report[i] : 0)) i++;
+        snprintf(message, sizeof message, "buffer %zu: byte %zu of %zu is %02x, expected %02x", m, i, expected.length, buffer[i],
+                 i < expected.length ? expected.report[i] : 0);
         return message;
     }
     for (size_t i = 1; i <= 64; i++)
@@ -86,90 +118,186 @@ static const char *difference(const uint8_t *sheet, size_t n, unsigned number, c
     return NULL;
 }
 
-static void print_hex(const char *name, const uint8_t *p, size_t n) {
-    printf("%s:", name);
+/* The same with five sizes: exact, one less and one more for a report; some small size for a refusal. */
+static const char *library_differs(const uint8_t *sheet, size_t n, struct answer expected) {
+    size_t length = expected.length;
+    size_t sizes[] = {LARGE, 0, length ? length : 7, length ? length - 1 : 1, length + 1};
+    const char *message = NULL;
+    for (size_t i = 0; i < sizeof sizes / sizeof *sizes && !message; i++) message = difference(sheet, n, expected, sizes[i]);
+    return message;
+}
+#endif
+
+/* ---- what is printed ---- */
+
+struct kind {
+    const char *name;
+    unsigned long sheets, numbers[NUMBERS], unquoted;
+};
+
+static struct kind kinds[MAX_KINDS];
+static size_t n_kinds;
+
+static struct kind *kind_of(const char *name) {
+    size_t k = 0;
+    while (k < n_kinds && strcmp(kinds[k].name, name)) k++;
+    if (k == MAX_KINDS) fail(name, "one kind too many");
+    if (k == n_kinds) kinds[n_kinds++].name = name;
+    return &kinds[k];
+}
+
+static void print_kinds(void) {
+    bool occurs[NUMBERS] = {true};
+    for (unsigned r = 1; r < NUMBERS; r++)
+        for (size_t k = 0; k < n_kinds; k++) occurs[r] = occurs[r] || kinds[k].numbers[r];
+    printf("%-10s %8s %8s", "kind", "sheets", "accepted");
+    for (unsigned r = 1; r < LEFT_OUT; r++)
+        if (occurs[r]) printf(" %6s%2u", "refus.", r);
+    printf(" %8s %8s\n", "left out", "unquoted");
+    for (size_t k = 0; k < n_kinds; k++) {
+        printf("%-10s %8lu", kinds[k].name, kinds[k].sheets);
+        for (unsigned r = 0; r < LEFT_OUT; r++)
+            if (occurs[r]) printf(" %8lu", kinds[k].numbers[r]);
+        printf(" %8lu %8lu\n", kinds[k].numbers[LEFT_OUT], kinds[k].unquoted);
+    }
+}
+
+static void print_hex(const uint8_t *p, size_t n) {
     for (size_t i = 0; i < n; i++) printf("%s%02x", i % 32 ? "" : "\n  ", p[i]);
     printf("\n");
 }
 
+static void print_answer(const char *name, struct answer a) {
+    printf("%s: number %u, %zu bytes", name, a.number, a.length);
+    print_hex(a.report, a.length);
+}
+
+/* The shortest sheet that differs. */
+static struct {
+    unsigned long index;
+    const char *kind;
+    const uint8_t *sheet;
+    size_t size;
+    struct answer oracle;
+    char message[240];
+} shortest;
+
+static void print_shortest(const char *file) {
+    printf("the shortest sheet that differs is number %lu, of kind %s: %s\nsheet: %zu bytes", shortest.index, shortest.kind,
+           shortest.message, shortest.size);
+    print_hex(shortest.sheet, shortest.size);
+    if (shortest.oracle.number == LEFT_OUT)
+        printf("oracle: left out\n");
+    else
+        print_answer("oracle", shortest.oracle);
+    print_answer("second", answer_of_second(shortest.sheet, shortest.size, LARGE));
+    FILE *f = fopen(file, "wb");
+    if (!f || fwrite(shortest.sheet, 1, shortest.size, f) != shortest.size || fclose(f)) fail(file, "cannot be written");
+}
+
+/* ---- the batch ---- */
+
+static unsigned long differ, second_and_oracle, library_and_oracle, library_and_second;
+
+/* What differs among the three answers to a sheet, or NULL. */
+static const char *compared(const uint8_t *sheet, size_t n, struct answer oracle, struct answer second) {
+    static char message[240];
+    const char *found = NULL;
+    bool left_out = oracle.number == LEFT_OUT;
+    if (!left_out && !same(oracle, second)) {
+        second_and_oracle++;
+        found = "second and the oracle differ";
+    }
+#ifdef LIBRARY
+    const char *of_library = left_out ? NULL : library_differs(sheet, n, oracle);
+    if (of_library) {
+        library_and_oracle++;
+        snprintf(message, sizeof message, "the library and the oracle differ, %s", of_library);
+        found = message;
+    }
+    if (left_out || !same(oracle, second)) {
+        of_library = library_differs(sheet, n, second);
+        if (of_library) {
+            library_and_second++;
+            snprintf(message, sizeof message, "the library and second differ, %s", of_library);
+            found = message;
+        }
+    } else if (of_library)
+        library_and_second++;
+#else
+    (void)sheet, (void)n, (void)message;
+#endif
+    return found;
+}
+
+/* Each kind named has an accepted sheet, and all Strings of its sheets are quoted. */
+static bool kinds_are_there(char **names, int count) {
+    bool all = true;
+    for (int i = 0; i < count; i++) {
+        struct kind *k = kind_of(names[i]);
+        if (!k->numbers[0]) {
+            printf("of kind %s no sheet is accepted\n", names[i]);
+            all = false;
+        }
+        if (k->unquoted) {
+            printf("of kind %s %lu sheets have a String that is not quoted\n", names[i], k->unquoted);
+            all = false;
+        }
+    }
+    return all;
+}
+
 int main(int argc, char **argv) {
-    if (argc != 5) {
-        fprintf(stderr, "usage: compare SHEETS ANSWERS KINDS FILE\n");
+    if (argc < 5) {
+        fprintf(stderr, "usage: compare SHEETS ANSWERS KINDS FILE [KIND]...\n");
         return 2;
     }
-    struct file sheets = read_file(argv[1]), answers = read_file(argv[2]), kinds = read_file(argv[3]);
-    kinds.bytes[kinds.size] = 0;
+    struct file sheets = read_file(argv[1]), answers = read_file(argv[2]), names = read_file(argv[3]);
+    names.bytes[names.size] = 0;
+#ifdef LIBRARY
     sheet_end = guarded_end();
     buffer_end = guarded_end();
-
-    char *names[MAX_KINDS];
-    static unsigned long counts[MAX_KINDS][NUMBERS];
-    size_t n_kinds = 0;
-    unsigned long total = 0, calls = 0, differ = 0, best_index = 0;
-    const uint8_t *best = NULL, *best_report = NULL;
-    size_t best_size = 0, best_length = 0;
-    unsigned best_number = 0;
-    const char *best_kind = "";
-    char best_message[200] = "";
-
+#endif
+    unsigned long total = 0;
     size_t at = 0, answer_at = 0;
-    char *kind = strtok((char *)kinds.bytes, "\n");
-    for (; at < sheets.size; total++, kind = strtok(NULL, "\n")) {
-        if (!kind) fail(argv[3], "has too few lines");
+    char *name = strtok((char *)names.bytes, "\n");
+    for (; at < sheets.size; total++, name = strtok(NULL, "\n")) {
+        if (!name) fail(argv[3], "has too few lines");
         if (sheets.size - at < 4 || sheets.size - at - 4 < u32(sheets.bytes + at)) fail(argv[1], "is cut off");
         if (answers.size - answer_at < 5 || answers.size - answer_at - 5 < u32(answers.bytes + answer_at + 1)) fail(argv[2], "is cut off");
-        size_t n = u32(sheets.bytes + at), length = u32(answers.bytes + answer_at + 1);
-        const uint8_t *sheet = sheets.bytes + at + 4, *report = answers.bytes + answer_at + 5;
-        unsigned number = answers.bytes[answer_at];
+        size_t n = u32(sheets.bytes + at);
+        const uint8_t *sheet = sheets.bytes + at + 4;
+        struct answer oracle = {answers.bytes[answer_at], answers.bytes + answer_at + 5, u32(answers.bytes + answer_at + 1)};
         at += 4 + n;
-        answer_at += 5 + length;
-        if (n > ROOM || length > ROOM - 64) fail(argv[1], "has a sheet or a report that is too large to compare");
+        answer_at += 5 + oracle.length;
+        if (n > ROOM || oracle.length > ROOM - 64) fail(argv[1], "has a sheet or a report that is too large to compare");
 
-        size_t k = 0;
-        while (k < n_kinds && strcmp(names[k], kind)) k++;
-        if (k == n_kinds) {
-            if (k == MAX_KINDS) fail(argv[3], "has too many kinds");
-            names[n_kinds++] = kind;
-        }
-        counts[k][number < NUMBERS ? number : NUMBERS - 1]++;
-
-        /* exact, one less and one more for a report; some small size for a refusal */
-        size_t sizes[] = {LARGE, 0, length ? length : 7, length ? length - 1 : 1, length + 1};
-        const char *message = NULL;
-        for (size_t i = 0; i < sizeof sizes / sizeof *sizes && !message; i++, calls++)
-            message = difference(sheet, n, number, report, length, sizes[i]);
-        if (message) {
-            differ++;
-            if (!best || n < best_size) {
-                best = sheet;
-                best_size = n;
-                best_report = report;
-                best_length = length;
-                best_number = number;
-                best_index = total;
-                best_kind = kind;
-                strcpy(best_message, message);
-            }
+        struct kind *k = kind_of(name);
+        k->sheets++;
+        k->numbers[oracle.number]++;
+        k->unquoted += second_unquoted(sheet, n);
+        struct answer second = answer_of_second(sheet, n, oracle.length);
+        const char *message = compared(sheet, n, oracle, second);
+        if (message && (!differ++ || n < shortest.size)) {
+            shortest.index = total;
+            shortest.kind = name;
+            shortest.sheet = sheet;
+            shortest.size = n;
+            shortest.oracle = oracle;
+            snprintf(shortest.message, sizeof shortest.message, "%s", message);
         }
     }
     if (answer_at != answers.size) fail(argv[2], "has too many answers");
 
-    printf("%-10s %9s", "kind", "accepted");
-    for (unsigned r = 1; r < 10; r++) printf(" %7s%u", "refused", r);
-    printf("\n");
-    for (size_t k = 0; k < n_kinds; k++) {
-        printf("%-10s %9lu", names[k], counts[k][0]);
-        for (unsigned r = 1; r < 10; r++) printf(" %8lu", counts[k][r]);
-        printf("\n");
-    }
-    if (differ) {
-        printf("the shortest sheet that differs is number %lu, of kind %s: %s\n", best_index, best_kind, best_message);
-        print_hex("sheet", best, best_size);
-        printf("expected number %u\n", best_number);
-        print_hex("expected report", best_report, best_length);
-        FILE *f = fopen(argv[4], "wb");
-        if (!f || fwrite(best, 1, best_size, f) != best_size || fclose(f)) fail(argv[4], "cannot be written");
-    }
+    bool there = kinds_are_there(argv + 5, argc - 5);
+    print_kinds();
+    if (differ) print_shortest(argv[4]);
+    printf("second and oracle: %lu sheets differ\n", second_and_oracle);
+#ifdef LIBRARY
+    printf("library and oracle: %lu sheets differ\nlibrary and second: %lu sheets differ\n", library_and_oracle, library_and_second);
     printf("%lu sheets, %lu calls, %lu sheets differ\n", total, calls, differ);
-    return differ != 0;
+#else
+    printf("%lu sheets, %lu sheets differ\n", total, differ);
+#endif
+    return differ || !there;
 }

@@ -10,7 +10,10 @@ use deno_ast::{MediaType, MultiThreadedComments, ProgramRef, SourceTextInfo};
 use deno_graph::analysis::ModuleInfo;
 use deno_graph::ast::ParserModuleAnalyzer;
 
-/// The module's information, or the refusal (1 to 9).
+/// In place of a refusal's number: the sheet is left out, since the crate's answer cannot be compared. No sheet is left out today.
+pub const LEFT_OUT: u8 = 255;
+
+/// The module's information, or the refusal (1 to 9), or `LEFT_OUT`.
 pub fn module_info(bytes: &[u8]) -> Result<ModuleInfo, u8> {
     let sheet = sheet::decode(bytes)?;
     if sheet.is_uncooked() {
@@ -54,7 +57,7 @@ impl Parsed {
     }
 }
 
-/// The refusal's number and no bytes, or 0 and the report, however long it is.
+/// The refusal's number or `LEFT_OUT` and no bytes, or 0 and the report, however long it is.
 pub fn answer(bytes: &[u8]) -> (u8, Vec<u8>) {
     match module_info(bytes) {
         Ok(info) => (0, report::encode(&info)),

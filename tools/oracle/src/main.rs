@@ -60,6 +60,7 @@ fn batch(out: &mut impl Write, mut input: &[u8]) -> std::io::Result<()> {
 fn cite(sheet: &[u8]) -> Vec<u8> {
     match oracle::module_info(sheet) {
         Ok(info) => oracle::report::cite(&info),
+        Err(oracle::LEFT_OUT) => b"left out\n".to_vec(),
         Err(refusal) => format!("refused {refusal}\n").into_bytes(),
     }
 }

@@ -1,86 +1,129 @@
-//! replay FILE SHEETS ANSWERS KINDS [SHEET ANSWER]...
-//! Picks small sheets of a batch with the oracle's answers, so that every kind, every number and every sort of entry is there several times,
-//! and writes them to FILE, with the single sheets before them. Numbers in FILE are u32 little-endian:
+//! replay FILE SHEETS ANSWERS NAMES [SHEET ANSWER NAME]...
+//! Writes the stored list: the cases of tools/cases (SHEETS, NAMES) with the oracle's answers (ANSWERS), then of the single sheets, which
+//! are in order of their length, as many as the program crates/replay can read. Numbers in FILE are u32 little-endian:
 //!   the number of sheets; for each: length and bytes of the sheet; number (a byte); length and bytes of the report.
-//! FILE.counts gets the lines that the program crates/replay prints if no answer differs.
+//! FILE.names gets a line for each sheet, the number of its answer and its name; FILE.counts the lines that the program prints if no answer
+//! differs. The status is 1, and nothing is written, if an answer is not the one that a case is made for, if tools/second.rs differs, or if an
+//! accepted sheet has a String whose span is no quoted place, which request #108 will refuse.
 
-use std::collections::{BTreeMap, BTreeSet};
+#[path = "second.rs"]
+#[allow(dead_code)]
+mod second;
 
-/// Longest sheet and longest report that are picked, and how often something should be there.
-const SHEET: usize = 1_000;
-const REPORT: usize = 2_000;
-const TIMES: usize = 5;
+/// The bytes that crates/replay reads, which must be more than the list has.
+const SPACE: usize = 131_072;
+
+/// In place of a number: the oracle leaves the sheet out.
+const LEFT_OUT: u8 = 255;
+
+struct Item<'a> {
+    name: &'a str,
+    sheet: &'a [u8],
+    number: u8,
+    report: &'a [u8],
+}
 
 fn main() {
     let args: Vec<String> = std::env::args().skip(1).collect();
-    let ([file, sheets, answers, kinds, singles @ ..], true) = (&args[..], args.len() % 2 == 0) else {
-        eprintln!("usage: replay FILE SHEETS ANSWERS KINDS [SHEET ANSWER]...");
-        std::process::exit(2)
+    let ([file, sheets, answers, names, singles @ ..], true) = (&args[..], args.len() % 3 == 1) else {
+        fail(2, "usage: replay FILE SHEETS ANSWERS NAMES [SHEET ANSWER NAME]...")
     };
-    let read = |name: &str| {
-        std::fs::read(name).unwrap_or_else(|e| {
-            eprintln!("replay: {name}: {e}");
-            std::process::exit(2)
-        })
-    };
-    let singles: Vec<Vec<u8>> = singles.iter().map(|name| read(name)).collect();
-    let (sheets, answers, kinds) = (read(sheets), read(answers), read(kinds));
-    let kinds = String::from_utf8(kinds).expect("kinds are text");
-    let (mut sheets, mut answers) = (&sheets[..], &answers[..]);
+    let (sheets, answers) = (read(sheets), read(answers));
+    let names = String::from_utf8(read(names)).unwrap_or_else(|_| fail(2, "the names are no text"));
+    let mut items = cases(&sheets, &answers, &names);
+    let files: Vec<(Vec<u8>, Vec<u8>)> = singles.chunks(3).map(|s| (read(&s[0]), read(&s[1]))).collect();
+    let mut size = 4 + items.iter().map(size_of).sum::<usize>();
+    if size >= SPACE {
+        fail(1, &format!("the cases have {size} bytes, and fewer than {SPACE} are read"));
+    }
+    for ((sheet, stored), name) in files.iter().zip(singles.chunks(3).map(|s| &s[2])) {
+        let (number, report) = answer(&mut &stored[..]);
+        let item = Item { name, sheet, number, report };
+        size += size_of(&item);
+        if number != LEFT_OUT && size < SPACE {
+            items.push(item);
+        }
+    }
+    let wrong = items.iter().filter(|item| differs(item)).count();
+    if wrong > 0 {
+        fail(1, &format!("{wrong} answers of second differ from the oracle's"));
+    }
+    if let Some(item) = items.iter().find(|item| item.number == 0 && second::unquoted(item.sheet)) {
+        fail(1, &format!("a String is not quoted: {}", item.name));
+    }
+    write_list(file, &items);
+}
+
+fn fail(status: i32, message: &str) -> ! {
+    eprintln!("replay: {message}");
+    std::process::exit(status)
+}
+
+fn read(name: &str) -> Vec<u8> {
+    std::fs::read(name).unwrap_or_else(|e| fail(2, &format!("{name}: {e}")))
+}
+
+/// The cases that the oracle answers: each with the number that it is made for.
+fn cases<'a>(mut sheets: &'a [u8], mut answers: &'a [u8], names: &'a str) -> Vec<Item<'a>> {
     let mut items = Vec::new();
-    for kind in kinds.lines() {
+    let mut wrong = 0;
+    for line in names.lines() {
+        let (made_for, name) = line.split_once(' ').unwrap_or_else(|| fail(2, "a name has no number"));
         let sheet = part(&mut sheets);
         let (number, report) = answer(&mut answers);
-        if sheet.len() <= SHEET && report.len() <= REPORT {
-            items.push((sheet, number, report, kind));
-        }
-    }
-    items.sort_by_key(|item| (item.0.len(), item.0));
-    items.dedup_by_key(|item| item.0);
-    for pair in singles.chunks(2).rev() {
-        let (number, report) = answer(&mut &pair[1][..]);
-        items.insert(0, (&pair[0], number, report, "example"));
-    }
-
-    let mut seen: BTreeMap<String, usize> = BTreeMap::new();
-    let mut out = Vec::new();
-    let (mut picked, mut accepted) = (0u32, 0u32);
-    for (sheet, number, report, kind) in items {
-        let mut traits = BTreeSet::from([format!("{kind}, {number}")]);
-        if number == 0 {
-            traits.extend(Reader(report).traits());
-        }
-        if kind != "example" && traits.iter().all(|t| seen.get(t).is_some_and(|n| *n >= TIMES)) {
+        if number == LEFT_OUT {
+            println!("left out: {name}");
             continue;
         }
-        for t in traits {
-            *seen.entry(t).or_default() += 1;
+        if made_for != number.to_string() {
+            println!("made for {made_for}, the oracle answers {number}: {name}");
+            wrong += 1;
         }
-        picked += 1;
-        accepted += u32::from(number == 0);
-        out.extend((sheet.len() as u32).to_le_bytes());
-        out.extend(sheet);
-        out.push(number);
-        out.extend((report.len() as u32).to_le_bytes());
-        out.extend(report);
+        items.push(Item { name, sheet, number, report });
     }
-    out.splice(0..0, picked.to_le_bytes());
-    let counts = format!("{picked} sheets\n{accepted} accepted\n{} refused\n0 differ\n", picked - accepted);
-    for (name, bytes) in [(file.clone(), &out[..]), (format!("{file}.counts"), counts.as_bytes())] {
-        if let Err(e) = std::fs::write(&name, bytes) {
-            eprintln!("replay: {name}: {e}");
-            std::process::exit(2)
-        }
+    if wrong > 0 {
+        fail(1, &format!("{wrong} cases are answered otherwise than they are made for"));
     }
-    for (t, n) in seen {
-        println!("{n:4}  {t}");
+    items
+}
+
+fn differs(item: &Item) -> bool {
+    let expected = if item.number == 0 { Ok(item.report) } else { Err(item.number) };
+    let differs = second::answer(item.sheet).as_deref() != expected.as_ref().map(|r| *r);
+    if differs {
+        println!("second differs from the oracle: {}", item.name);
     }
-    println!("{picked} sheets, {} bytes", out.len());
+    differs
+}
+
+fn size_of(item: &Item) -> usize {
+    4 + item.sheet.len() + 1 + 4 + item.report.len()
+}
+
+fn write_list(file: &str, items: &[Item]) {
+    let mut out = (items.len() as u32).to_le_bytes().to_vec();
+    let mut names = String::new();
+    for item in items {
+        out.extend((item.sheet.len() as u32).to_le_bytes());
+        out.extend(item.sheet);
+        out.push(item.number);
+        out.extend((item.report.len() as u32).to_le_bytes());
+        out.extend(item.report);
+        names += &format!("{} {}\n", item.number, item.name);
+    }
+    let accepted = items.iter().filter(|item| item.number == 0).count();
+    let counts = format!("{} sheets\n{accepted} accepted\n{} refused\n0 differ\n", items.len(), items.len() - accepted);
+    for (name, bytes) in
+        [(file.into(), &out[..]), (format!("{file}.names"), names.as_bytes()), (format!("{file}.counts"), counts.as_bytes())]
+    {
+        std::fs::write(&name, bytes).unwrap_or_else(|e| fail(2, &format!("{name}: {e}")));
+    }
+    println!("{} sheets, {accepted} accepted, {} bytes", items.len(), out.len());
 }
 
 /// The next length and bytes of a stream.
 fn part<'a>(stream: &mut &'a [u8]) -> &'a [u8] {
-    let (head, rest) = stream.split_first_chunk::<4>().expect("a length");
+    let (head, rest) = stream.split_first_chunk::<4>().unwrap_or_else(|| fail(2, "a stream is cut off"));
     let (bytes, rest) = rest.split_at(u32::from_le_bytes(*head) as usize);
     *stream = rest;
     bytes
@@ -88,110 +131,7 @@ fn part<'a>(stream: &mut &'a [u8]) -> &'a [u8] {
 
 /// The next answer of a stream: its number and its report.
 fn answer<'a>(stream: &mut &'a [u8]) -> (u8, &'a [u8]) {
-    let number = stream[0];
-    *stream = &stream[1..];
-    (number, part(stream))
-}
-
-/// A report, read for the sorts of its entries.
-struct Reader<'a>(&'a [u8]);
-
-impl Reader<'_> {
-    fn byte(&mut self) -> u8 {
-        let b = self.0[0];
-        self.0 = &self.0[1..];
-        b
-    }
-
-    fn number(&mut self) -> usize {
-        let b = self.byte() as usize;
-        if b < 128 { b } else { b - 128 + 128 * self.number() }
-    }
-
-    fn text(&mut self) -> &'static str {
-        let n = self.number();
-        let (text, rest) = self.0.split_at(n);
-        self.0 = rest;
-        match (n, text.is_ascii()) {
-            (0, _) => "empty text",
-            (_, true) => "text",
-            _ => "text beyond ASCII",
-        }
-    }
-
-    /// Whether the range is on one line.
-    fn range(&mut self) -> &'static str {
-        let [line, _, last, _] = [(); 4].map(|()| self.number());
-        if line == last { "one line" } else { "several lines" }
-    }
-
-    fn specifier(&mut self) -> String {
-        format!("{}, {}", self.text(), self.range())
-    }
-
-    fn traits(mut self) -> Vec<String> {
-        let mut all = vec![format!("script {}", self.byte())];
-        for _ in 0..self.number() {
-            let kind = self.byte();
-            all.push(format!("dependency {kind}"));
-            if self.byte() == 1 {
-                all.push(format!("dependency {kind} with types"));
-                all.push(format!("types: {}", self.specifier()));
-            }
-            if kind < 9 {
-                all.push(format!("static: {}", self.specifier()));
-                all.push(format!("side effect {}", self.byte()));
-            } else {
-                match self.byte() {
-                    0 => all.push("argument Expr".into()),
-                    1 => all.push(format!("argument: {}", self.text())),
-                    _ => {
-                        for _ in 0..self.number() {
-                            let there = self.byte() == 1;
-                            let part = if there { self.text() } else { "Expr" };
-                            all.push(format!("template part: {part}"));
-                        }
-                    }
-                }
-                self.range();
-            }
-            let attributes = self.byte();
-            let sort = if kind < 9 { "static" } else { "dynamic" };
-            all.push(format!("{sort} attributes {attributes}"));
-            if attributes == 2 {
-                let n = self.number();
-                all.push(format!("{sort} attributes: {} pairs", n.min(3)));
-                for _ in 0..n {
-                    all.push(format!("key: {}", self.text()));
-                    let there = self.byte() == 1;
-                    let value = if there { self.text() } else { "unknown" };
-                    all.push(format!("value: {value}"));
-                }
-            }
-        }
-        for _ in 0..self.number() {
-            let kind = self.byte();
-            let specifier = self.specifier();
-            let mode = if kind == 1 { self.byte() } else { 0 };
-            all.push(format!("reference {kind}, mode {mode}"));
-            all.push(format!("reference {kind}: {specifier}"));
-        }
-        for name in ["self types", "JSX source", "JSX source types"] {
-            if self.byte() == 1 {
-                all.push(format!("{name}: {}", self.specifier()));
-            }
-        }
-        let n = self.number();
-        all.push(format!("{} JSDoc imports", n.min(4)));
-        for _ in 0..n {
-            self.byte();
-            let specifier = self.specifier();
-            all.push(format!("JSDoc import, mode {}", self.byte()));
-            all.push(format!("JSDoc import: {specifier}"));
-        }
-        if self.byte() == 1 {
-            all.push(format!("source map: {}", self.specifier()));
-        }
-        all
-    }
+    let (number, rest) = stream.split_first().unwrap_or_else(|| fail(2, "a stream is cut off"));
+    *stream = rest;
+    (*number, part(stream))
 }

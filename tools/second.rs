@@ -4,7 +4,8 @@
 
 use std::collections::BTreeMap;
 
-type Read<T> = Result<T, u8>;
+/// What is read, or the refusal.
+pub type Read<T> = Result<T, u8>;
 type Span = (usize, usize);
 /// A text and its place.
 type Specifier = (Vec<u8>, Span);
@@ -1013,6 +1014,11 @@ fn call_attributes(argument: Option<&(bool, Span, Node)>) -> Attributes {
     found
 }
 
+/// The report of a sheet, however long, or its refusal (1 to 9).
+pub fn answer(sheet: &[u8]) -> Read<Vec<u8>> {
+    decode(sheet, false)?.report()
+}
+
 /// # Safety
 /// `sheet` has `n` bytes to read, and `buffer` has `m` bytes to write.
 #[unsafe(no_mangle)]
@@ -1020,7 +1026,7 @@ pub unsafe extern "C" fn second_answer(sheet: *const u8, n: usize, buffer: *mut 
     let sheet = if n == 0 { &[] } else { unsafe { std::slice::from_raw_parts(sheet, n) } };
     let buffer = if m == 0 { &mut [] } else { unsafe { std::slice::from_raw_parts_mut(buffer, m) } };
     buffer.fill(0);
-    match decode(sheet, false).and_then(|sheet| sheet.report()) {
+    match answer(sheet) {
         Err(refusal) => u64::from(refusal),
         Ok(report) if report.len() > m => 10,
         Ok(report) => {
@@ -1031,11 +1037,13 @@ pub unsafe extern "C" fn second_answer(sheet: *const u8, n: usize, buffer: *mut 
 }
 
 /// Whether a String of the sheet does not look like one: then request #108 will refuse it (13).
-///
+pub fn unquoted(sheet: &[u8]) -> bool {
+    matches!(decode(sheet, true), Err(13))
+}
+
 /// # Safety
 /// `sheet` has `n` bytes to read.
 #[unsafe(no_mangle)]
 pub unsafe extern "C" fn second_unquoted(sheet: *const u8, n: usize) -> bool {
-    let sheet = if n == 0 { &[] } else { unsafe { std::slice::from_raw_parts(sheet, n) } };
-    matches!(decode(sheet, true), Err(13))
+    unquoted(if n == 0 { &[] } else { unsafe { std::slice::from_raw_parts(sheet, n) } })
 }

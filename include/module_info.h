@@ -45,7 +45,8 @@ enum module_info_number {
 /* Answers the n bytes of a sheet with its report, in a buffer of m bytes: number + 256 * length.
  * Accepted: the report begins the buffer, and every byte behind it is 0. Refused: the whole buffer is 0.
  * What the buffer held before does not matter. The sheet is not changed, nothing is kept, and no memory is allocated.
- * Neither pointer is null, even where its length is 0, and sheet and buffer do not overlap. Nothing else is asked of the caller. */
+ * A pointer whose length is 0 may be null: nothing is read or written through it. Sheet and buffer do not overlap: a store to the buffer would
+ * change a sheet that is still being read, and the proof takes the two for apart. Nothing else is asked of the caller. */
 uint64_t module_info_answer(const uint8_t *sheet, size_t n, uint8_t *buffer, size_t m);
 
 #ifdef __cplusplus

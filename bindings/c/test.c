@@ -1,13 +1,14 @@
-/* test FILE
- * Tries the library through its C interface: document 01's example, some refusals, and the stored list of sheets FILE, whose format stands at
- * the head of tools/replay.rs. The status is 1 if an answer differs, 2 if the list cannot be read. */
+/* test FILE NAMES [LARGEST]
+ * Tries the library through its C interface: document 01's example, some refusals, null pointers, and the stored list of sheets FILE with a
+ * line of NAMES for each; the formats stand at the head of tools/replay.rs. LARGEST is the size of the largest buffer (65,536).
+ * The status is 1 if an answer differs, 2 if a file cannot be read. */
 #include <stdio.h>
 #include <stdlib.h>
 #include <string.h>
 
 #include "module_info.h"
 
-/* The largest buffer that is lent, and the bytes on both sides of it that must stay. */
+/* The room for a buffer, and the bytes on both sides of it that must stay. */
 #define LARGE 65536
 #define EDGE 64
 #define FILL 0xA5
@@ -16,26 +17,32 @@
 #define SHOWN 10
 
 static unsigned long calls, failures;
+static size_t largest = LARGE;
 
-/* Compares the answer with a buffer of m bytes: number, length, every byte of the buffer, and nothing beside it. */
+/* Compares the answer with a buffer of m bytes: number, length, every byte of the buffer, and nothing beside it. The sheet has a block of its
+ * own, so that valgrind sees what is read beside it. */
 static void answers(const char *name, unsigned long index, const uint8_t *sheet, size_t n, size_t m, int number, const uint8_t *report,
                     size_t length) {
     static uint8_t room[EDGE + LARGE + EDGE];
     uint8_t *buffer = room + EDGE;
+    uint8_t *copy = sheet ? malloc(n + !n) : NULL;
     const char *problem = NULL;
     uint64_t answer;
     size_t i;
 
-    memset(room, FILL, sizeof room);
-    answer = module_info_answer(sheet, n, buffer, m);
+    if (sheet && !copy) exit(2);
+    if (n) memcpy(copy, sheet, n);
+    memset(room, FILL, EDGE + m + EDGE);
+    answer = module_info_answer(copy, n, buffer, m);
     calls++;
+    free(copy);
     if (MODULE_INFO_NUMBER(answer) != number || MODULE_INFO_LENGTH(answer) != length) problem = "number or length";
     for (i = 0; i < m && !problem; i++)
         if (buffer[i] != (i < length ? report[i] : 0)) problem = "a byte of the buffer";
     for (i = 0; i < EDGE && !problem; i++)
         if (room[i] != FILL || buffer[m + i] != FILL) problem = "a byte beside the buffer";
     if (problem && ++failures <= SHOWN)
-        printf("%s %lu, buffer %lu: %s differs: number %d and length %lu are expected, got %d and %lu\n", name, index, (unsigned long)m,
+        printf("%s (%lu), buffer %lu: %s differs: number %d and length %lu are expected, got %d and %lu\n", name, index, (unsigned long)m,
                problem, number, (unsigned long)length, MODULE_INFO_NUMBER(answer), (unsigned long)MODULE_INFO_LENGTH(answer));
 }
 
@@ -44,7 +51,7 @@ static void all_sizes(const char *name, unsigned long index, const uint8_t *shee
     size_t sizes[5];
     int i;
 
-    sizes[0] = LARGE;
+    sizes[0] = largest;
     sizes[1] = length;
     sizes[2] = length ? length - 1 : 1;
     sizes[3] = length + 1;
@@ -82,13 +89,25 @@ static void changed(size_t at, int byte, int number) {
     all_sizes("the example with a change at byte", (unsigned long)at, sheet, EXAMPLE, number, example_report, 0);
 }
 
+/* A null pointer for a buffer of no bytes. */
+static void null_buffer(const char *name, const uint8_t *sheet, size_t n, int number) {
+    calls++;
+    if (module_info_answer(sheet, n, NULL, 0) != (uint64_t)number && ++failures <= SHOWN) printf("%s, no buffer: differs\n", name);
+}
+
 static void examples(void) {
     static uint8_t long_sheet[MODULE_INFO_MAX_SHEET + 1];
     size_t n;
 
     all_sizes("the example", 1, example, EXAMPLE, MODULE_INFO_ACCEPTED, example_report, sizeof example_report - 1);
     all_sizes("no sheet", 0, example, 0, MODULE_INFO_SHEET_LENGTH, example_report, 0);
-    all_sizes("a long sheet", 1, long_sheet, sizeof long_sheet, MODULE_INFO_SHEET_LENGTH, example_report, 0);
+    /* zeros are a sheet of 13 bytes */
+    all_sizes("the longest sheet", 1, long_sheet, MODULE_INFO_MAX_SHEET, MODULE_INFO_TRAILING, example_report, 0);
+    all_sizes("a longer sheet", 1, long_sheet, MODULE_INFO_MAX_SHEET + 1, MODULE_INFO_SHEET_LENGTH, example_report, 0);
+    all_sizes("no sheet, a null pointer", 0, NULL, 0, MODULE_INFO_SHEET_LENGTH, example_report, 0);
+    null_buffer("the example", example, EXAMPLE, MODULE_INFO_BUFFER);
+    null_buffer("the example, cut off", example, EXAMPLE - 1, MODULE_INFO_CUT_OFF);
+    null_buffer("no sheet", NULL, 0, MODULE_INFO_SHEET_LENGTH);
     for (n = 1; n < EXAMPLE; n++) all_sizes("the example, cut off at", (unsigned long)n, example, n, MODULE_INFO_CUT_OFF, example_report, 0);
     changed(0, 11, MODULE_INFO_BYTE);      /* the media */
     changed(2, 0xFF, MODULE_INFO_TEXT);    /* the source */
@@ -102,6 +121,7 @@ static void examples(void) {
 /* ---- the stored list ---- */
 
 static const uint8_t *list;
+static char *names;
 static size_t list_size, list_at;
 
 static const uint8_t *take(size_t n) {
@@ -121,26 +141,29 @@ static size_t take_number(void) {
     return p[0] | (size_t)p[1] << 8 | (size_t)p[2] << 16 | (size_t)p[3] << 24;
 }
 
-static void read_list(const char *name) {
+/* The bytes of a file, with a zero behind them. */
+static uint8_t *read_file(const char *name, size_t *size) {
     FILE *f = fopen(name, "rb");
     uint8_t *bytes = NULL;
-    long size = -1;
+    long end = -1;
 
-    if (f && !fseek(f, 0, SEEK_END)) size = ftell(f);
-    if (size >= 0 && !fseek(f, 0, SEEK_SET)) bytes = malloc((size_t)size + 1);
-    if (!bytes || fread(bytes, 1, (size_t)size, f) != (size_t)size) {
-        fprintf(stderr, "test: the stored list %s cannot be read\n", name);
+    if (f && !fseek(f, 0, SEEK_END)) end = ftell(f);
+    if (end >= 0 && !fseek(f, 0, SEEK_SET)) bytes = malloc((size_t)end + 1);
+    if (!bytes || fread(bytes, 1, (size_t)end, f) != (size_t)end) {
+        fprintf(stderr, "test: %s cannot be read\n", name);
         exit(2);
     }
     fclose(f);
-    list = bytes;
-    list_size = (size_t)size;
+    bytes[end] = 0;
+    *size = (size_t)end;
+    return bytes;
 }
 
 static unsigned long replay(void) {
     unsigned long count = (unsigned long)take_number(), i;
+    const char *name = strtok(names, "\n");
 
-    for (i = 0; i < count; i++) {
+    for (i = 0; i < count; i++, name = strtok(NULL, "\n")) {
         size_t n = take_number(), length;
         const uint8_t *sheet = take(n), *report;
         int number = *take(1);
@@ -151,7 +174,7 @@ static unsigned long replay(void) {
             fprintf(stderr, "test: the stored list has a report that is too long\n");
             exit(2);
         }
-        all_sizes("sheet", i, sheet, n, number, report, length);
+        all_sizes(name ? name : "a sheet without a name", i, sheet, n, number, report, length);
     }
     if (list_at != list_size) {
         fprintf(stderr, "test: bytes follow the stored list\n");
@@ -162,12 +185,16 @@ static unsigned long replay(void) {
 
 int main(int argc, char **argv) {
     unsigned long count;
+    size_t names_size;
 
-    if (argc != 2) {
-        fprintf(stderr, "usage: test FILE\n");
+    if (argc < 3 || argc > 4) {
+        fprintf(stderr, "usage: test FILE NAMES [LARGEST]\n");
         return 2;
     }
-    read_list(argv[1]);
+    if (argc == 4) largest = (size_t)strtoul(argv[3], NULL, 10);
+    if (largest > LARGE) largest = LARGE;
+    list = read_file(argv[1], &list_size);
+    names = (char *)read_file(argv[2], &names_size);
     examples();
     count = replay();
     printf("C: %lu stored sheets, %lu calls, %lu differ\n", count, calls, failures);

@@ -1,12 +1,14 @@
 //! The stored list of sheets with deno_graph's own answers: number, length and every byte of the library's answer, and the decoded reports.
-//! REPLAY names the list, else crates/replay/data/replay.bin of the repository. Its format stands at the head of tools/replay.rs.
+//! REPLAY names the list, else crates/replay/data/replay.bin of the repository; beside it stands a file with the names of its sheets. Their
+//! formats stand at the head of tools/replay.rs.
 
 use module_info::*;
 
 const DEFAULT: &str = "../../crates/replay/data/replay.bin";
 
 struct Item {
-    index: usize,
+    /// The number of the answer, and the case's name.
+    name: String,
     sheet: Vec<u8>,
     number: u8,
     report: Vec<u8>,
@@ -15,6 +17,8 @@ struct Item {
 fn stored() -> Vec<Item> {
     let name = std::env::var("REPLAY").unwrap_or(DEFAULT.to_string());
     let bytes = std::fs::read(&name).unwrap_or_else(|e| panic!("the stored list {name}: {e} (REPLAY names another)"));
+    let names = std::fs::read_to_string(name.replace(".bin", ".names")).expect("the names of the stored list");
+    let mut names = names.lines();
     let mut rest = &bytes[..];
     let mut take = |n: usize| {
         let (part, after) = rest.split_at_checked(n).expect("the stored list is cut off");
@@ -24,14 +28,15 @@ fn stored() -> Vec<Item> {
     let number = |b: Vec<u8>| u32::from_le_bytes(b.try_into().expect("four bytes")) as usize;
     let count = number(take(4));
     let mut items = Vec::new();
-    for index in 0..count {
+    for _ in 0..count {
         let n = number(take(4));
         let sheet = take(n);
         let refusal = take(1)[0];
         let n = number(take(4));
-        items.push(Item { index, sheet, number: refusal, report: take(n) });
+        let name = names.next().expect("a name for each sheet").to_string();
+        items.push(Item { name, sheet, number: refusal, report: take(n) });
     }
-    assert!(rest.is_empty(), "bytes follow the stored list");
+    assert!(rest.is_empty() && names.next().is_none(), "bytes or names follow the stored list");
     assert!(items.iter().any(|i| i.number == 0) && items.iter().any(|i| i.number != 0), "the stored list has too little");
     items
 }
@@ -39,7 +44,7 @@ fn stored() -> Vec<Item> {
 /// Every answer, with buffers that hold the report, fit it, lack a byte, have one more and are empty.
 #[test]
 fn answers() {
-    for Item { index, sheet, number, report } in stored() {
+    for Item { name, sheet, number, report } in stored() {
         let n = report.len();
         for size in [65_536, n, n.saturating_sub(1), n + 1, 0] {
             let mut buffer = vec![0xA5; size];
@@ -49,9 +54,9 @@ fn answers() {
                 None if n > size => (Err(Refusal::Buffer), &[][..]),
                 None => (Ok(n), &report[..]),
             };
-            assert_eq!(answer, expected, "sheet {index}, buffer {size}");
+            assert_eq!(answer, expected, "{name}, buffer {size}");
             let (head, tail) = buffer.split_at(written.len());
-            assert!(head == written && tail.iter().all(|b| *b == 0), "sheet {index}, buffer {size}: the bytes differ");
+            assert!(head == written && tail.iter().all(|b| *b == 0), "{name}, buffer {size}: the bytes differ");
         }
     }
 }
@@ -59,31 +64,31 @@ fn answers() {
 /// Every report decodes, encodes to itself, and no report is a part of another one.
 #[test]
 fn reports() {
-    for Item { index, report, .. } in stored().into_iter().filter(|i| i.number == 0) {
-        let info = ModuleInfo::decode(&report).unwrap_or_else(|e| panic!("sheet {index}: {e}"));
-        assert_eq!(encode(&info), report, "sheet {index}");
+    for Item { name, report, .. } in stored().into_iter().filter(|i| i.number == 0) {
+        let info = ModuleInfo::decode(&report).unwrap_or_else(|e| panic!("{name}: {e}"));
+        assert_eq!(encode(&info), report, "{name}");
         for n in 0..report.len() {
             let error = ModuleInfo::decode(&report[..n]).expect_err("a part is no report");
-            assert_eq!(error, DecodeError { at: n, problem: Problem::CutOff }, "sheet {index}");
+            assert_eq!(error, DecodeError { at: n, problem: Problem::CutOff }, "{name}");
         }
         let longer = [&report[..], &[0]].concat();
         let trailing = DecodeError { at: report.len(), problem: Problem::Trailing };
-        assert_eq!(ModuleInfo::decode(&longer), Err(trailing), "sheet {index}");
+        assert_eq!(ModuleInfo::decode(&longer), Err(trailing), "{name}");
     }
 }
 
 /// The source at each place has the text, and the JSDoc imports ascend.
 #[test]
 fn places() {
-    for Item { index, sheet, report, .. } in stored().into_iter().filter(|i| i.number == 0) {
+    for Item { name, sheet, report, .. } in stored().into_iter().filter(|i| i.number == 0) {
         let info = ModuleInfo::decode(&report).expect("a report");
         let source = source(&sheet);
         let place = |r: &PositionRange| &source[offset(source, r.start)..offset(source, r.end)];
         let quoted = |s: &SpecifierWithRange| {
             let inner = place(&s.range).strip_prefix(['"', '\'']).and_then(|p| p.strip_suffix(['"', '\'']));
-            assert_eq!(inner, Some(&*s.text), "sheet {index}");
+            assert_eq!(inner, Some(&*s.text), "{name}");
         };
-        let bare = |s: &SpecifierWithRange| assert_eq!(place(&s.range), s.text, "sheet {index}");
+        let bare = |s: &SpecifierWithRange| assert_eq!(place(&s.range), s.text, "{name}");
         info.ts_references.iter().for_each(|r| quoted(r.specifier()));
         info.self_types_specifier.iter().for_each(quoted);
         info.jsx_import_source.iter().for_each(bare);
@@ -94,10 +99,10 @@ fn places() {
             // `@deno-types` may be bare
             d.types_specifier().iter().for_each(|s| if place(&s.range) == s.text { bare(s) } else { quoted(s) });
             let range = d.as_static().map(|d| d.specifier_range).or(d.as_dynamic().map(|d| d.argument_range));
-            assert!(range.is_some_and(|r| offset(source, r.start) <= offset(source, r.end)), "sheet {index}");
+            assert!(range.is_some_and(|r| offset(source, r.start) <= offset(source, r.end)), "{name}");
         }
         let starts: Vec<Position> = info.jsdoc_imports.iter().map(|i| i.specifier.range.start).collect();
-        assert!(starts.is_sorted_by(|a, b| a < b), "sheet {index}: the JSDoc imports do not ascend");
+        assert!(starts.is_sorted_by(|a, b| a < b), "{name}: the JSDoc imports do not ascend");
     }
 }
 

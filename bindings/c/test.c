@@ -46,7 +46,16 @@ static void answers(const char *name, unsigned long index, const uint8_t *sheet,
                problem, number, (unsigned long)length, MODULE_INFO_NUMBER(answer), (unsigned long)MODULE_INFO_LENGTH(answer));
 }
 
-/* The answer with buffers that hold the report, fit it, lack a byte, have one more and are empty. */
+/* A null pointer for a buffer of no bytes. */
+static void no_buffer(const char *name, const uint8_t *sheet, size_t n, int number) {
+    uint64_t answer = module_info_answer(sheet, n, NULL, 0);
+
+    calls++;
+    if (answer != (uint64_t)number && ++failures <= SHOWN)
+        printf("%s, no buffer: number %d is expected, got %d\n", name, number, MODULE_INFO_NUMBER(answer));
+}
+
+/* The answer with buffers that hold the report, fit it, lack a byte, have one more, are empty and are none. */
 static void all_sizes(const char *name, unsigned long index, const uint8_t *sheet, size_t n, int number, const uint8_t *report, size_t length) {
     size_t sizes[5];
     int i;
@@ -62,6 +71,7 @@ static void all_sizes(const char *name, unsigned long index, const uint8_t *shee
         else
             answers(name, index, sheet, n, sizes[i], number, report, length);
     }
+    no_buffer(name, sheet, n, number == MODULE_INFO_ACCEPTED ? MODULE_INFO_BUFFER : number);
 }
 
 /* ---- document 01's example, and changes of it ---- */
@@ -89,12 +99,6 @@ static void changed(size_t at, int byte, int number) {
     all_sizes("the example with a change at byte", (unsigned long)at, sheet, EXAMPLE, number, example_report, 0);
 }
 
-/* A null pointer for a buffer of no bytes. */
-static void null_buffer(const char *name, const uint8_t *sheet, size_t n, int number) {
-    calls++;
-    if (module_info_answer(sheet, n, NULL, 0) != (uint64_t)number && ++failures <= SHOWN) printf("%s, no buffer: differs\n", name);
-}
-
 static void examples(void) {
     static uint8_t long_sheet[MODULE_INFO_MAX_SHEET + 1];
     size_t n;
@@ -105,9 +109,6 @@ static void examples(void) {
     all_sizes("the longest sheet", 1, long_sheet, MODULE_INFO_MAX_SHEET, MODULE_INFO_TRAILING, example_report, 0);
     all_sizes("a longer sheet", 1, long_sheet, MODULE_INFO_MAX_SHEET + 1, MODULE_INFO_SHEET_LENGTH, example_report, 0);
     all_sizes("no sheet, a null pointer", 0, NULL, 0, MODULE_INFO_SHEET_LENGTH, example_report, 0);
-    null_buffer("the example", example, EXAMPLE, MODULE_INFO_BUFFER);
-    null_buffer("the example, cut off", example, EXAMPLE - 1, MODULE_INFO_CUT_OFF);
-    null_buffer("no sheet", NULL, 0, MODULE_INFO_SHEET_LENGTH);
     for (n = 1; n < EXAMPLE; n++) all_sizes("the example, cut off at", (unsigned long)n, example, n, MODULE_INFO_CUT_OFF, example_report, 0);
     changed(0, 11, MODULE_INFO_BYTE);      /* the media */
     changed(2, 0xFF, MODULE_INFO_TEXT);    /* the source */

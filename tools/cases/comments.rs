@@ -87,7 +87,7 @@ fn typed(comment: &str) -> Bytes {
     Doc { source: &source, comments: &comments, groups: &[(0, end, 0, 1)], root, ..Doc::default() }.bytes()
 }
 
-/// A comment that leads the program's start and trails its end, of each media that is asked.
+/// A comment that leads the program's start and trails its end.
 fn comment(media: u8, comment: &str) -> Bytes {
     let n = comment.len();
     let comments = [(u8::from(comment.starts_with("/*")), 0, n)];
@@ -96,49 +96,61 @@ fn comment(media: u8, comment: &str) -> Bytes {
 
 #[rustfmt::skip]
 const REFERENCES: [&str; 63] = [
-    "/<reference path=\"a\"/>", "/ <reference path='a' />", "/\u{85}\u{3000}<reference path='a'/>", "/<REFerence path='a'/>", "/<reference\tpath='a'/>",
-    "/<reference\npath='a'/>", "/<reference path='a'>", "/<reference path='a'/", "/<reference path='a'/ >", "/<referencepath='a'/>", " /<reference path='a'/>",
-    "<reference path='a'/>", "/<reference path='a'\n/>", "/<reference path='a'\r/>", "/<reference path='a'\u{2028}/>", "/x<reference path='a'/>",
-    "/<referenc path='a'/>", "/< reference path='a'/>", "/<reference />", "/<reference/> path='a'", "/<reference /> path='a'", "/<reference >/> path='a'",
-    "/<reference path=''/>", "/<reference path='a\"/>", "/<reference path=\"a'/>", "/<reference path=a/>", "/<reference path='a/>", "/<reference path 'a'/>",
-    "/<reference path='a' path='b'/>", "/<reference xpath='a' path='b'/>", "/<reference path= path='b'/>", "/<reference PATH\u{2003}=\u{A0}'a'/>", "/<reference  path='a'/>",
-    "/<reference \u{FEFF}path='a'/>", "/<reference pat='a'/>", "/<reference path='é'/>", "/<reference path='a\nb'/>", "/<reference path='a=b'/>",
-    "/<reference types='a'/>", "/<reference types=''/>", "/<reference tYpeſ='a'/>", "/<reference types ='a'/>", "/<reference types='a\"/>", "/<reference types=a/>",
+    "/<reference path=\"a\"/>", "/ <reference path='a' />", "/\u{85}\u{3000}<reference path='a'/>", "/<REFerence path='a'/>",
+    "/<reference\tpath='a'/>", "/<reference\npath='a'/>", "/<reference path='a'>", "/<reference path='a'/", "/<reference path='a'/ >",
+    "/<referencepath='a'/>", " /<reference path='a'/>", "<reference path='a'/>", "/<reference path='a'\n/>", "/<reference path='a'\r/>",
+    "/<reference path='a'\u{2028}/>", "/x<reference path='a'/>", "/<referenc path='a'/>", "/< reference path='a'/>", "/<reference />",
+    "/<reference/> path='a'", "/<reference /> path='a'", "/<reference >/> path='a'", "/<reference path=''/>", "/<reference path='a\"/>",
+    "/<reference path=\"a'/>", "/<reference path=a/>", "/<reference path='a/>", "/<reference path 'a'/>",
+    "/<reference path='a' path='b'/>", "/<reference xpath='a' path='b'/>", "/<reference path= path='b'/>",
+    "/<reference PATH\u{2003}=\u{A0}'a'/>", "/<reference  path='a'/>", "/<reference \u{FEFF}path='a'/>", "/<reference pat='a'/>",
+    "/<reference path='é'/>", "/<reference path='a\nb'/>", "/<reference path='a=b'/>", "/<reference types='a'/>",
+    "/<reference types=''/>", "/<reference tYpeſ='a'/>", "/<reference types ='a'/>", "/<reference types='a\"/>", "/<reference types=a/>",
     "/<reference type='a'/>", "/<reference types='a' path='b'/>", "/<reference types='a' path=b/>", "/<reference types='a' types='b'/>",
-    "/<reference types='a' resolution-mode='import'/>", "/<reference types='a' resolution-mode='require'/>", "/<reference resolution-mode='require' types='a'/>",
-    "/<reference types='a' reſolution-mode='import'/>", "/<reference types='a' RESOLUTION-MODE = \"import'/>", "/<reference types='a' resolution-mode='Import'/>",
-    "/<reference types='a' resolution-mode=''/>", "/<reference types='a' resolution-mode='imports'/>", "/<reference types='a' resolution-mode=import/>",
-    "/<reference types='a'/> resolution-mode='import'", "/<reference types='a'resolution-mode='import'/>", "/<reference types='a' resolution-mode='x' resolution-mode='import'/>",
-    "/<reference types='a' resolution_mode='import'/>", "/<reference path='a' resolution-mode='import'/>", "/<reference types='a' resolution-mode=' import'/>",
+    "/<reference types='a' resolution-mode='import'/>", "/<reference types='a' resolution-mode='require'/>",
+    "/<reference resolution-mode='require' types='a'/>", "/<reference types='a' reſolution-mode='import'/>",
+    "/<reference types='a' RESOLUTION-MODE = \"import'/>", "/<reference types='a' resolution-mode='Import'/>",
+    "/<reference types='a' resolution-mode=''/>", "/<reference types='a' resolution-mode='imports'/>",
+    "/<reference types='a' resolution-mode=import/>", "/<reference types='a'/> resolution-mode='import'",
+    "/<reference types='a'resolution-mode='import'/>", "/<reference types='a' resolution-mode='x' resolution-mode='import'/>",
+    "/<reference types='a' resolution_mode='import'/>", "/<reference path='a' resolution-mode='import'/>",
+    "/<reference types='a' resolution-mode=' import'/>",
 ];
 
 #[rustfmt::skip]
 const SELF_TYPES: [&str; 24] = [
-    "@ts-self-types=\"a\"", "@ts-self-types='a'", "@ts-self-types='a\"", "\u{2029} @ts-self-types = \n'a' x", "@ts-self-types=''", "@ts-self-types='", "@ts-self-types='a",
-    "@ts-self-types=a", "x@ts-self-types='a'", "@TS-SELF-TYPES='a'", "@tſ-ſelf-typeſ='a'", "@ts-self-types 'a'", "@ts-self-types=='a'", "@ts-self-type='a'", "@ts-self-typess='a'",
-    "ts-self-types='a'", "@ts_self_types='a'", "@ts-self-types=\"'\"", "@ts-self-types='a\nb'", "@ts-self-types='é'", "@ts-types='a'", "\u{FEFF}@ts-self-types='a'", "*@ts-self-types='a'",
-    "@ts-self-types=' '",
+    "@ts-self-types=\"a\"", "@ts-self-types='a'", "@ts-self-types='a\"", "\u{2029} @ts-self-types = \n'a' x", "@ts-self-types=''",
+    "@ts-self-types='", "@ts-self-types='a", "@ts-self-types=a", "x@ts-self-types='a'", "@TS-SELF-TYPES='a'", "@tſ-ſelf-typeſ='a'",
+    "@ts-self-types 'a'", "@ts-self-types=='a'", "@ts-self-type='a'", "@ts-self-typess='a'", "ts-self-types='a'", "@ts_self_types='a'",
+    "@ts-self-types=\"'\"", "@ts-self-types='a\nb'", "@ts-self-types='é'", "@ts-types='a'", "\u{FEFF}@ts-self-types='a'",
+    "*@ts-self-types='a'", "@ts-self-types=' '",
 ];
 
 #[rustfmt::skip]
 const TYPES: [&str; 36] = [
-    "@ts-types=\"a\"", "@ts-types='a\"", " @ts-types = 'a'x", "@ts-types=''", "@ts-types='a", "@ts-types=a", "x@ts-types='a'", "@TS-TYPES='a'", "@tſ-typeſ='a'", "@ts-types='\n'", "@ts-type='a'", "@ts-types 'a'",
-    "\u{B}@ts-types\u{1680}=\u{205F}'a'", "\u{180E}@ts-types='a'", "*@ts-types='a'",
-    "@deno-types=\"a\"", "@deno-types='a\"", "@deno-types='a b'", "@deno-types=a", "@deno-types=a b", "@deno-types = a", "@deno-types=\"\"", "@deno-types=\"a", "@deno-types=' a", "@deno-types=a\"b\"", "@deno-types='a'b",
-    "@deno-types=", "@deno-types= ", "@deno-types", "@deno-types==a", "@DENO-TYPES=a", "@deno-typeſ=é", "x@deno-types=a", "@deno-type=a", "@deno-types=\u{2003}a\u{2003}b", "@deno-types=''x",
+    "@ts-types=\"a\"", "@ts-types='a\"", " @ts-types = 'a'x", "@ts-types=''", "@ts-types='a", "@ts-types=a", "x@ts-types='a'",
+    "@TS-TYPES='a'", "@tſ-typeſ='a'", "@ts-types='\n'", "@ts-type='a'", "@ts-types 'a'", "\u{B}@ts-types\u{1680}=\u{205F}'a'",
+    "\u{180E}@ts-types='a'", "*@ts-types='a'", "@deno-types=\"a\"", "@deno-types='a\"", "@deno-types='a b'", "@deno-types=a",
+    "@deno-types=a b", "@deno-types = a", "@deno-types=\"\"", "@deno-types=\"a", "@deno-types=' a", "@deno-types=a\"b\"",
+    "@deno-types='a'b", "@deno-types=", "@deno-types= ", "@deno-types", "@deno-types==a", "@DENO-TYPES=a", "@deno-typeſ=é",
+    "x@deno-types=a", "@deno-type=a", "@deno-types=\u{2003}a\u{2003}b", "@deno-types=''x",
 ];
 
 #[rustfmt::skip]
 const JSX: [&str; 22] = [
-    "@jsxImportSource a", "* @jsxImportSource a", "**\n*@jsxImportSource\u{2003}\n a b", "@JSXimportſource a", "@jsxImportSource", "@jsxImportSource ", "@jsxImportSourcea", "x@jsxImportSource a", "*x@jsxImportSource a",
-    "jsxImportSource a", "@jsxImportSource=a", "@jsxImportSources a", "@jsxImport a", "@jsxImportSource 'é'", "\u{FEFF}@jsxImportSource a", "/@jsxImportSource a",
-    "@jsxImportSourceTypes a", "*\u{3000}@jsxImportSOURCETYPES\ta ", "@jsxImportSourceTypes", "@jsxImportſourceTypeſ a", "@jsxImportSource Types a", "@jsxImportSourceTypesa",
+    "@jsxImportSource a", "* @jsxImportSource a", "**\n*@jsxImportSource\u{2003}\n a b", "@JSXimportſource a", "@jsxImportSource",
+    "@jsxImportSource ", "@jsxImportSourcea", "x@jsxImportSource a", "*x@jsxImportSource a", "jsxImportSource a", "@jsxImportSource=a",
+    "@jsxImportSources a", "@jsxImport a", "@jsxImportSource 'é'", "\u{FEFF}@jsxImportSource a", "/@jsxImportSource a",
+    "@jsxImportSourceTypes a", "*\u{3000}@jsxImportSOURCETYPES\ta ", "@jsxImportSourceTypes", "@jsxImportſourceTypeſ a",
+    "@jsxImportSource Types a", "@jsxImportSourceTypesa",
 ];
 
 #[rustfmt::skip]
 const SOURCE_MAPS: [&str; 23] = [
-    "#sourceMappingURL=a", "@sourceMappingURL=a", "# sourceMappingURL = a b", "#\u{85}sourceMappingURL=a", "#sourcemappingurl=a", "#ſourceMappingURL=a", "#souſceMappingURL=a", "#sourceMappingURL=", "#sourceMappingURL= ", "#sourceMappingURL a", " #sourceMappingURL=a",
-    "##sourceMappingURL=a", "sourceMappingURL=a", "#\u{FEFF}sourceMappingURL=a", "#sourceMappingURL=\n'a'", "#sourceMappingUR=a", "#sourceMappingURLs=a", "#sourceMappingURL==a", "#sourceMappingURL=\u{200B}a\u{2028}b", "$sourceMappingURL=a",
+    "#sourceMappingURL=a", "@sourceMappingURL=a", "# sourceMappingURL = a b", "#\u{85}sourceMappingURL=a", "#sourcemappingurl=a",
+    "#ſourceMappingURL=a", "#souſceMappingURL=a", "#sourceMappingURL=", "#sourceMappingURL= ", "#sourceMappingURL a",
+    " #sourceMappingURL=a", "##sourceMappingURL=a", "sourceMappingURL=a", "#\u{FEFF}sourceMappingURL=a", "#sourceMappingURL=\n'a'",
+    "#sourceMappingUR=a", "#sourceMappingURLs=a", "#sourceMappingURL==a", "#sourceMappingURL=\u{200B}a\u{2028}b", "$sourceMappingURL=a",
     "#@sourceMappingURL=a", "# sourceMappingURL\t=\t\"é", "#s ourceMappingURL=a",
 ];
 
@@ -221,24 +233,49 @@ fn listing(c: &mut Cases) {
 
 #[rustfmt::skip]
 const BRACES: [&str; 84] = [
-    "{import(\"a\")}", "{import('a')}", "{import(\"a')}", "{import('')}", "{\u{2028}import\t(\n'a' )\r}", "{x import('a').A[] }", "{important import('a')}", "{import('a')", "{import('a'}", "{import'a')}", "{import(a)}",
-    "{import('a)}", "{}import('a')}", "{x}{import('a')}", "{{import('a')}}", "{a{import('b')}}", "{import(\"{import('a')}\")}", "{Import('a')}", "{import('}')}", "{import('a'))}", "{import('a')x{y}", "{import import('a')}", "{importimport('a')}",
-    "{impor t('a')}", "{imporx('a')}", "{impor import('a')}", "{iimport('a')}", "{éimport('é')}", "import('a')}", "{import('a')}{import('b')}", "{import('a'){import('b')}", "{import('a'),import('b')}", "{import()}", "{import(('a'))}", "{import('a''b')}", "{", "{import", "{import(", "{import('", "{import('a', {with:",
-    "{import('a',)}", "{import('a',{})}", "{import('a',{with:{}})}", "{import('a' , { with : { } } ) }", "{import('a',{with:{},})}", "{import('a',{with:{}},)}", "{import('a',{with{}})}", "{import('a',{wit:{}})}", "{import('a',with:{}})}", "{import('a',{with:})}", "{import('a',{with:{}}}", "{import('a',{with:{})}", "{import('a',{'with':{}})}", "{import('a',{With:{}})}",
-    "{import('a',{with:{'resolution-mode':'import'}})}", "{import('a',{with:{\"resolution-mode\":\"require\"}})}", "{import('a',{with:{'resolution-mode':'Import'}})}", "{import('a',{with:{'resolution-mode':''}})}", "{import('a',{with:{'Resolution-mode':'import'}})}", "{import('a',{with:{resolution-mode:'import'}})}",
-    "{import('a',{with:{'resolution-mode':'x','resolution-mode':'import'}})}", "{import('a',{with:{'resolution-mode':'import','resolution-mode':'x'}})}", "{import('a',{with:{type:'json','resolution-mode':'require'}})}", "{import('a',{with:{'type':'json'}})}", "{import('a',{with:{'resolution-mode' : 'import' , }})}",
-    "{import('a',{with:{,}})}", "{import('a',{with:{b:'1',,}})}", "{import('a',{with:{b:'1' 'c':'2'}})}", "{import('a',{with:{b:'1','c':'2'}})}", "{import('a',{with:{b'1'}})}", "{import('a',{with:{b:1}})}", "{import('a',{with:{b:'1}})}", "{import('a',{with:{9:'1'}})}", "{import('a',{with:{$:'1'}})}", "{import('a',{with:{b$9é:'1'}})}", "{import('a',{with:{b-c:'1'}})}", "{import('a',{with:{b c:'1'}})}", "{import('a',{with:{b}:'1'}})}", "{import('a',{with:{b,c:'1'}})}",
-    "{import('a',{with:{'b'c:'1'}})}", "{import('a',{with:{b:'1';}})}", "{import('a',{with:{'':''}})}", "{import('a',{with:{é:'1'}})}", "{import('a',{with: {'resolution-mode': \"import'}})}",
+    "{import(\"a\")}", "{import('a')}", "{import(\"a')}", "{import('')}", "{\u{2028}import\t(\n'a' )\r}", "{x import('a').A[] }",
+    "{important import('a')}", "{import('a')", "{import('a'}", "{import'a')}", "{import(a)}", "{import('a)}", "{}import('a')}",
+    "{x}{import('a')}", "{{import('a')}}", "{a{import('b')}}", "{import(\"{import('a')}\")}", "{Import('a')}", "{import('}')}",
+    "{import('a'))}", "{import('a')x{y}", "{import import('a')}", "{importimport('a')}", "{impor t('a')}", "{imporx('a')}",
+    "{impor import('a')}", "{iimport('a')}", "{éimport('é')}", "import('a')}", "{import('a')}{import('b')}", "{import('a'){import('b')}",
+    "{import('a'),import('b')}", "{import()}", "{import(('a'))}", "{import('a''b')}", "{", "{import", "{import(", "{import('",
+    "{import('a', {with:", "{import('a',)}", "{import('a',{})}", "{import('a',{with:{}})}", "{import('a' , { with : { } } ) }",
+    "{import('a',{with:{},})}", "{import('a',{with:{}},)}", "{import('a',{with{}})}", "{import('a',{wit:{}})}", "{import('a',with:{}})}",
+    "{import('a',{with:})}", "{import('a',{with:{}}}", "{import('a',{with:{})}", "{import('a',{'with':{}})}", "{import('a',{With:{}})}",
+    "{import('a',{with:{'resolution-mode':'import'}})}", "{import('a',{with:{\"resolution-mode\":\"require\"}})}",
+    "{import('a',{with:{'resolution-mode':'Import'}})}", "{import('a',{with:{'resolution-mode':''}})}",
+    "{import('a',{with:{'Resolution-mode':'import'}})}", "{import('a',{with:{resolution-mode:'import'}})}",
+    "{import('a',{with:{'resolution-mode':'x','resolution-mode':'import'}})}",
+    "{import('a',{with:{'resolution-mode':'import','resolution-mode':'x'}})}",
+    "{import('a',{with:{type:'json','resolution-mode':'require'}})}", "{import('a',{with:{'type':'json'}})}",
+    "{import('a',{with:{'resolution-mode' : 'import' , }})}", "{import('a',{with:{,}})}", "{import('a',{with:{b:'1',,}})}",
+    "{import('a',{with:{b:'1' 'c':'2'}})}", "{import('a',{with:{b:'1','c':'2'}})}", "{import('a',{with:{b'1'}})}",
+    "{import('a',{with:{b:1}})}", "{import('a',{with:{b:'1}})}", "{import('a',{with:{9:'1'}})}", "{import('a',{with:{$:'1'}})}",
+    "{import('a',{with:{b$9é:'1'}})}", "{import('a',{with:{b-c:'1'}})}", "{import('a',{with:{b c:'1'}})}",
+    "{import('a',{with:{b}:'1'}})}", "{import('a',{with:{b,c:'1'}})}", "{import('a',{with:{'b'c:'1'}})}",
+    "{import('a',{with:{b:'1';}})}", "{import('a',{with:{'':''}})}", "{import('a',{with:{é:'1'}})}",
+    "{import('a',{with: {'resolution-mode': \"import'}})}",
 ];
 
 #[rustfmt::skip]
 const DECLARATIONS: [&str; 67] = [
-    "@import A from 'a'", "@import A from \"a\"", "@import {A} from 'a'", "@import {A}from'a'", "@import {}from''", "@import * as A from 'a'", "@import *as A from'a'", "@import *\u{85}as\u{2003}A\u{3000}from\u{A0}'a'", "@import A, {B} from 'a'", "@import{A} from 'a'", "@import A from'a'", "@import Afrom 'a'", "@import A 'a'",
-    "@import * asA from 'a'", "@import * as Afrom 'a'", "@import * A from 'a'", "@import * as from 'a'", "@import * as from from 'a'", "@import * as 9 from 'a'", "@import * from 'a'", "@import *", "@import * as A", "@import from from 'a'", "@import {A from 'a'", "@import { from 'a'", "@import {} 'a'", "@import {} from a", "@import {} from 'a", "@import {} from 'a\"", "@import {a}} from 'a'", "@import {{a} from 'b'",
-    "@import {\n a,\n b\n}\n from\n 'a'", "@import $ from 'a'", "@import _ from 'a'", "@import 9 from 'a'", "@import a$9_ from 'a'", "@import é from 'a'", "@import \u{345} from 'a'", "@import a:b from 'a'", "@import a-b from 'a'", "@import a,b from 'a'", "@Import {} from 'a'", "@import {} From 'a'", "@imports {} from 'a'", "@import type {A} from 'a'", "import {} from 'a'", "@import", "@import ", "@import a from",
-    "x@import {} from 'a'", "@import @import {} from 'a'", "@import {@import {} from 'a'}", "@import a from '@import b from \"c\"'", "{@import a from 'b'}", "@import a from 'b'@import c from 'd'", "@import {} from '{import(\"a\")}'", "@import {import('a')} from 'b'",
-    "@import A from 'a' with {'resolution-mode':'import'}", "@import A from 'a'with{\"resolution-mode\" : \"require\",}", "@import A from 'a' with {", "@import A from 'a' with {resolution-mode:'import'}", "@import A from 'a' With {'resolution-mode':'import'}", "@import A from 'a' with\n{type:'x', 'resolution-mode':'import'}", "@import A from 'a' x with {'resolution-mode':'import'}",
-    "@import A from 'a' with {'resolution-mode':'import' x}", "@import A from 'a' with: {'resolution-mode':'import'}", "@import A from 'a' with {'resolution-mode':'x','resolution-mode':'import'}",
+    "@import A from 'a'", "@import A from \"a\"", "@import {A} from 'a'", "@import {A}from'a'", "@import {}from''",
+    "@import * as A from 'a'", "@import *as A from'a'", "@import *\u{85}as\u{2003}A\u{3000}from\u{A0}'a'", "@import A, {B} from 'a'",
+    "@import{A} from 'a'", "@import A from'a'", "@import Afrom 'a'", "@import A 'a'", "@import * asA from 'a'", "@import * as Afrom 'a'",
+    "@import * A from 'a'", "@import * as from 'a'", "@import * as from from 'a'", "@import * as 9 from 'a'", "@import * from 'a'",
+    "@import *", "@import * as A", "@import from from 'a'", "@import {A from 'a'", "@import { from 'a'", "@import {} 'a'",
+    "@import {} from a", "@import {} from 'a", "@import {} from 'a\"", "@import {a}} from 'a'", "@import {{a} from 'b'",
+    "@import {\n a,\n b\n}\n from\n 'a'", "@import $ from 'a'", "@import _ from 'a'", "@import 9 from 'a'", "@import a$9_ from 'a'",
+    "@import é from 'a'", "@import \u{345} from 'a'", "@import a:b from 'a'", "@import a-b from 'a'", "@import a,b from 'a'",
+    "@Import {} from 'a'", "@import {} From 'a'", "@imports {} from 'a'", "@import type {A} from 'a'", "import {} from 'a'", "@import",
+    "@import ", "@import a from", "x@import {} from 'a'", "@import @import {} from 'a'", "@import {@import {} from 'a'}",
+    "@import a from '@import b from \"c\"'", "{@import a from 'b'}", "@import a from 'b'@import c from 'd'",
+    "@import {} from '{import(\"a\")}'", "@import {import('a')} from 'b'", "@import A from 'a' with {'resolution-mode':'import'}",
+    "@import A from 'a'with{\"resolution-mode\" : \"require\",}", "@import A from 'a' with {",
+    "@import A from 'a' with {resolution-mode:'import'}", "@import A from 'a' With {'resolution-mode':'import'}",
+    "@import A from 'a' with\n{type:'x', 'resolution-mode':'import'}", "@import A from 'a' x with {'resolution-mode':'import'}",
+    "@import A from 'a' with {'resolution-mode':'import' x}", "@import A from 'a' with: {'resolution-mode':'import'}",
+    "@import A from 'a' with {'resolution-mode':'x','resolution-mode':'import'}",
 ];
 
 fn grammar(c: &mut Cases) {

@@ -4,6 +4,7 @@ use super::front::read_front;
 use super::tree::TreeRead;
 use super::tree::check_tree;
 use sheet::program::Program;
+ghost use Rattle.laws.specs.Left.{Free};
 ghost use Rattle.accept.specs.Accepts.{Judges};
 
 // What the report is made from: places in the sheet, and how many rows its tables have.
@@ -24,7 +25,8 @@ pub enum SheetChecked {
     Refused(usize),
 }
 
-// Judges a sheet. The tables of its comments and groups are lent, and `longest` to work in.
+// Judges a sheet. The tables of its comments and groups are lent, and `longest` to work in. Left free: `longest`, the rows behind those of the
+// sheet, and after a refusal all rows.
 pub fn check_sheet(
     sheet: &[u8],
     comments: &mut [u32; 3072],
@@ -32,6 +34,9 @@ pub fn check_sheet(
     longest: &mut [u32; 1024],
 ) -> SheetChecked
     ensures { λ r. ⌜ Judges (now (sheet .entry)) (now (comments .exit)) (now (groups .exit)) r ⌝ }
+    ensures { λ _. ⌜ Free (now (comments .entry)) (now (comments .exit))
+        × Free (now (groups .entry)) (now (groups .exit))
+        × Free (now (longest .entry)) (now (longest .exit)) ⌝ }
 {
     if sheet.len() == 0 {
         return SheetChecked::Refused(1);

@@ -10,6 +10,7 @@ use wire::Text;
 ghost use mathlib.Core.Path.{_≡_};
 ghost use Prim.Native.Nat.{_≤_};
 ghost use lib.ListN.{length, drop};
+ghost use Rattle.laws.specs.Left.{Free};
 ghost use Rattle.accept.specs.Pieces.{sourceFields, commentFields, groupFields, front};
 ghost use Rattle.accept.specs.Views.{sourceAs, commentTableAs, groupTableAs, frontAs, WithinSource, WithinFront};
 
@@ -99,7 +100,7 @@ fn read_group_table(
     }
 }
 
-// Reads all that stands in front of the program.
+// Reads all that stands in front of the program. Left free: `longest`, the rows behind those that were read, and after a refusal all rows.
 pub fn read_front(
     sheet: &[u8],
     comments: &mut [u32],
@@ -111,6 +112,9 @@ pub fn read_front(
     requires { ⌜ 1024 ≤ length (now longest) ⌝ }
     ensures { λ r. ⌜ frontAs (now (sheet .entry)) (now (comments .exit)) (now (groups .exit)) r ≡ front (now (sheet .entry)) ⌝ }
     ensures { λ r. ⌜ WithinFront (length (now (sheet .entry))) r ⌝ }
+    ensures { λ _. ⌜ Free (now (comments .entry)) (now (comments .exit))
+        × Free (now (groups .entry)) (now (groups .exit))
+        × Free (now (longest .entry)) (now (longest .exit)) ⌝ }
 {
     match read_source(sheet) {
         SourceRead::Refused(r) => FrontRead::Refused(r),

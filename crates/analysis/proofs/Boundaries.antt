@@ -1,6 +1,6 @@
 -- In a well-formed body the place of what a finder captures begins and ends at character boundaries. It lies in the body, between marks where it is quoted.
 use mathlib.Core.Path.{_≡_, refl, sym, ap, _∙_}
-use mathlib.Core.Bool.{true, false≢true}
+use mathlib.Core.Bool.{true, false, false≢true}
 use mathlib.Core.List.{List, [], _∷_, _++_, List·Memᴰ·cases-cons, List·Memᴰ·eq-of-singleton}
 use mathlib.Core.Logic.{inl, inr, ⊎-elim}
 use Prim.Native.Nat.{ℕ, _+_, _-_, _≤_}
@@ -22,10 +22,11 @@ use Rattle.analysis.specs.declared.Found.the-variants.{At}
 use Rattle.analysis.specs.Row.{Row, noCapture, find}
 use Rattle.analysis.specs.Place.{placeOf, Inside}
 use Rattle.analysis.specs.Matches.{Run, Matches}
-use Rattle.analysis.specs.Patterns.{quoted, quotedSome, bare, attributeRow, pathRow, typesRow, jsxRow, jsxImportSourceRow, jsxImportSourceTypesRow, sourceMappingUrlRow, pragmaRow, tsSelfTypesRow, tsTypesRow, denoTypesRow}
+use Rattle.analysis.specs.Patterns.{quoted, quotedSome, bare, pathRow, typesRow, jsxImportSourceRow, jsxImportSourceTypesRow, sourceMappingUrlRow, tsSelfTypesRow, tsTypesRow, denoTypesRow}
 use Rattle.analysis.proofs.Apart.{quotes}
 use Rattle.analysis.proofs.Order.{run-onward}
 use Rattle.analysis.proofs.Preference.{found-preferred, preferred-reads}
+use Rattle.analysis.proofs.Values.{EndsIn, attribute-value, jsx-value, source-value, pragma-value, deno-value, quoted-marks, some-marks, bare-marks}
 
 -- the place of what is captured begins and ends at character boundaries; the marks stand where they should
 pub record Whole (s : List ℕ) (k : Capture) : Type 0 where
@@ -34,16 +35,16 @@ pub record Whole (s : List ℕ) (k : Capture) : Type 0 where
   pub inside : Inside k (length s)
   pub marks : k .quoted ≡ true → Mark (getD s (placeOf k .from) 0) × Mark (getD s (k .to) 0)
 
--- what is said of each pattern that captures a specifier
-pub record EachSpecifier (P : Row → Type 0) : Type 0 where
-  pub path : P pathRow
-  pub types : P typesRow
-  pub jsx-import-source : P jsxImportSourceRow
-  pub jsx-import-source-types : P jsxImportSourceTypesRow
-  pub source-mapping-url : P sourceMappingUrlRow
-  pub ts-self-types : P tsSelfTypesRow
-  pub ts-types : P tsTypesRow
-  pub deno-types : P denoTypesRow
+-- what is said of each pattern that captures a specifier: quoted, bare, or either of the two
+pub record EachSpecifier (P : Row → (Capture → Type 0) → Type 0) : Type 0 where
+  pub path : P pathRow (λ k. k .quoted ≡ true)
+  pub types : P typesRow (λ k. k .quoted ≡ true)
+  pub jsx-import-source : P jsxImportSourceRow (λ k. k .quoted ≡ false)
+  pub jsx-import-source-types : P jsxImportSourceTypesRow (λ k. k .quoted ≡ false)
+  pub source-mapping-url : P sourceMappingUrlRow (λ k. k .quoted ≡ false)
+  pub ts-self-types : P tsSelfTypesRow (λ k. k .quoted ≡ true)
+  pub ts-types : P tsTypesRow (λ k. k .quoted ≡ true)
+  pub deno-types : P denoTypesRow (λ k. Unit {0})
 
 -- places of the body
 module _ (s : List ℕ) where
@@ -106,35 +107,28 @@ module _ (s : List ℕ) (f : formed Utf8 0 s ≡ true) where
       }
 
   -- the rows that end in them
-  attribute-whole : {w : List ℕ} {at end : ℕ} {k l : Capture} → Matches s (attributeRow w) at end k l → Whole s l
-  attribute-whole (Matches.one _ (Matches.word _ (Matches.longest _ (Matches.word _ (Matches.longest _ m))))) = quoted-whole m
-
-  jsx-whole : {w : List ℕ} {at end : ℕ} {k l : Capture} → Matches s (jsxRow w) at end k l → Whole s l
-  jsx-whole (Matches.start _ (Matches.longest _ (Matches.word _ (Matches.one _ (Matches.longest _ m))))) = bare-whole m
-
-  source-whole : {at end : ℕ} {k l : Capture} → Matches s sourceMappingUrlRow at end k l → Whole s l
-  source-whole (Matches.start _ (Matches.one _ (Matches.longest _ (Matches.word _ (Matches.longest _ (Matches.word _ (Matches.longest _ m))))))) = bare-whole m
-
-  pragma-whole : {w : List ℕ} {at end : ℕ} {k l : Capture} → Matches s (pragmaRow w) at end k l → Whole s l
-  pragma-whole (Matches.start _ (Matches.longest _ (Matches.word _ (Matches.longest _ (Matches.word _ (Matches.longest _ m)))))) = some-whole m
-
-  deno-whole : {at end : ℕ} {k l : Capture} → Matches s denoTypesRow at end k l → Whole s l
-  deno-whole (Matches.start _ (Matches.longest _ (Matches.word _ (Matches.longest _ (Matches.word _ (Matches.longest _ (Matches.left m))))))) = some-whole m
-  deno-whole (Matches.start _ (Matches.longest _ (Matches.word _ (Matches.longest _ (Matches.word _ (Matches.longest _ (Matches.right m))))))) = bare-whole m
-
-  answered : (r : Row) → ((at end : ℕ) (l : Capture) → Matches s r at end noCapture l → Whole s l)
-      → (k : Capture) → find r s ≡ At k → Whole s k
+  answered : (r : Row) {Q : Capture → Type 0} → ((at end : ℕ) (l : Capture) → Matches s r at end noCapture l → Whole s l × Q l)
+      → (k : Capture) → find r s ≡ At k → Whole s k × Q k
   answered r h k e = let (at, _, end, m) = preferred-reads r s (found-preferred r s e) in h at end k m
 
+  in-quoted : {end : ℕ} {k l : Capture} → EndsIn s quoted end k l → Whole s l × (l .quoted ≡ true)
+  in-quoted (at, m) = (quoted-whole m, quoted-marks s m)
+
+  in-some : {end : ℕ} {k l : Capture} → EndsIn s quotedSome end k l → Whole s l × (l .quoted ≡ true)
+  in-some (at, m) = (some-whole m, some-marks s m)
+
+  in-bare : {end : ℕ} {k l : Capture} → EndsIn s bare end k l → Whole s l × (l .quoted ≡ false)
+  in-bare (at, m) = (bare-whole m, bare-marks s m)
+
   -- what the finders of specifiers answer
-  pub whole : EachSpecifier (λ r. (k : Capture) → find r s ≡ At k → Whole s k)
+  pub whole : EachSpecifier (λ r Q. (k : Capture) → find r s ≡ At k → Whole s k × Q k)
   whole = record {
-    path = answered _ (λ at end l. attribute-whole);
-    types = answered _ (λ at end l. attribute-whole);
-    jsx-import-source = answered _ (λ at end l. jsx-whole);
-    jsx-import-source-types = answered _ (λ at end l. jsx-whole);
-    source-mapping-url = answered _ (λ at end l. source-whole);
-    ts-self-types = answered _ (λ at end l. pragma-whole);
-    ts-types = answered _ (λ at end l. pragma-whole);
-    deno-types = answered _ (λ at end l. deno-whole);
+    path = answered _ (λ at end l m. in-quoted (attribute-value s m));
+    types = answered _ (λ at end l m. in-quoted (attribute-value s m));
+    jsx-import-source = answered _ (λ at end l m. in-bare (jsx-value s m));
+    jsx-import-source-types = answered _ (λ at end l m. in-bare (jsx-value s m));
+    source-mapping-url = answered _ (λ at end l m. in-bare (source-value s m));
+    ts-self-types = answered _ (λ at end l m. in-some (pragma-value s m));
+    ts-types = answered _ (λ at end l m. in-some (pragma-value s m));
+    deno-types = answered _ (λ at end l m. ⊎-elim (λ v. (in-some v .0, tt)) (λ v. (in-bare v .0, tt)) (deno-value s m));
   }

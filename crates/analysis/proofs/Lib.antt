@@ -6,6 +6,7 @@ pub mod Rows
 pub mod Meaning
 pub mod Order
 pub mod Preference
+pub mod Values
 pub mod Boundaries
 pub mod Cases
 pub mod Modes

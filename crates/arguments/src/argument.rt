@@ -15,6 +15,7 @@ ghost use mathlib.Core.List.{List, []};
 ghost use Prim.Native.Nat.{ℕ, _+_, _≤_};
 ghost use lib.ListN.{length, drop};
 ghost use Rattle.laws.specs.Decoded.{ok};
+ghost use Rattle.laws.specs.Left.{Free};
 ghost use Rattle.wire.specs.Number.{largest};
 ghost use Rattle.sheet.specs.Tree.{Node, Pieces};
 ghost use Rattle.sheet.specs.Nodes.{node, many, piece};
@@ -69,7 +70,7 @@ pub fn parse_argument(sheet: &[u8], source: &[u8], c: Cursor, levels: usize) -> 
     }
 }
 
-// Writes an argument.
+// Writes an argument. Where the sheet has no such argument, the buffer is left free.
 pub fn put_argument(
     sheet: &[u8],
     source: &[u8],
@@ -81,6 +82,7 @@ pub fn put_argument(
     requires { ⌜ ArgumentWithin (length (now sheet)) a ⌝ }
     ensures { λ r. ⌜ ((v : info.DynamicArgument) → Stands (now (sheet .entry)) (now (source .entry)) levels a v
         → bufferAs (now (out .exit)) r ≡ wrote (bufferAs (now (out .entry)) place) (encodeArgument v)) ⌝ }
+    ensures { λ _. ⌜ Free (now (out .entry)) (now (out .exit)) ⌝ }
 {
     match a {
         DynamicArgument::Expr => place.put(out, 0),

@@ -13,6 +13,7 @@ ghost use mathlib.Core.Option.{Option};
 ghost use Prim.Native.Nat.{ℕ};
 ghost use lib.ListN.{drop};
 ghost use Rattle.laws.specs.Decoded.{ok};
+ghost use Rattle.laws.specs.Left.{Free};
 ghost use Rattle.wire.specs.Optional.{encodeOptional};
 ghost use Rattle.wire.specs.Text.{encodeText};
 ghost use Rattle.sheet.specs.Tree.{Node};
@@ -75,7 +76,7 @@ fn put_operand(
     }
 }
 
-// Writes the parts of a chain: the left side, then the right.
+// Writes the parts of a chain: the left side, then the right. Where the bytes are no chain, the buffer is left free.
 pub fn put_bin(
     sheet: &[u8],
     source: &[u8],
@@ -88,6 +89,7 @@ pub fn put_bin(
         → chain n ≡ Option.some l
         → (bufferAs (now (out .exit)) (r .place) ≡ wrote (bufferAs (now (out .entry)) place) (encodeParts l))
         × (drop (r .next .at) (now (sheet .entry)) ≡ t)) ⌝ }
+    ensures { λ _. ⌜ Free (now (out .entry)) (now (out .exit)) ⌝ }
 {
     match read_expression(sheet, source, c, levels) {
         Expression::String(from, to, next) => {

@@ -12,6 +12,7 @@ ghost use mathlib.Core.Option.{Option};
 ghost use Prim.Native.Nat.{ℕ, _+_, _≤_};
 ghost use lib.ListN.{length, drop};
 ghost use Rattle.laws.specs.Decoded.{ok};
+ghost use Rattle.laws.specs.Left.{Free};
 ghost use Rattle.text.specs.Bytes.{part};
 ghost use Rattle.wire.specs.Number.{largest};
 ghost use Rattle.sheet.specs.Tree.{Pieces};
@@ -82,11 +83,12 @@ fn put_hole(there: bool, out: &mut [u8], place: Place) -> Place
     place
 }
 
-// Writes the parts of the pieces and of the holes between them.
+// Writes the parts of the pieces and of the holes between them. Where the bytes are no such pieces, the buffer is left free.
 pub fn put_parts(sheet: &[u8], c: Cursor, holes: usize, out: &mut [u8], place: Place) -> Place
     requires { ⌜ holes ≤ largest ⌝ }
     ensures { λ r. ⌜ ((ps : Pieces) (u : List ℕ) → many [] piece (holes + 1) (drop (c .at) (now (sheet .entry))) ≡ ok ps u
         → bufferAs (now (out .exit)) r ≡ wrote (bufferAs (now (out .entry)) place) (encodeParts (templateParts ps))) ⌝ }
+    ensures { λ _. ⌜ Free (now (out .entry)) (now (out .exit)) ⌝ }
 {
     let mut left = holes + 1;
     let mut at = c;

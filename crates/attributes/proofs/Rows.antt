@@ -40,6 +40,7 @@ pair-table =
             v (5 * j + 3) (λ l. omega arith),
             v (5 * j + 4) (λ l. omega arith),
           );
+      wide = λ p. refl;
     }
 
 -- a pair p stored in the kth row

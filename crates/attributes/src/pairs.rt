@@ -7,6 +7,7 @@ ghost use mathlib.Core.List.{List};
 ghost use Prim.Native.Nat.{ℕ, _+_, _*_, _≤_, _<_};
 ghost use lib.ListN.{length};
 ghost use lib.Seq.{sets};
+ghost use Rattle.laws.specs.Left.{Free};
 ghost use Rattle.attributes.specs.Attributes.{insert, insertKnown};
 ghost use Rattle.attributes.specs.Views.{pairRow, rowIn, pairAs, pairsIn, PairWithin, Pairs, opened, slotAs, SlotWithin};
 
@@ -104,12 +105,15 @@ fn insert_before(pairs: &mut [usize], n: usize, i: usize, p: Pair)
     store_pair(pairs, n, carried);
 }
 
-// Puts a pair in its place among the first n rows, instead of one with the same key. Answers how many rows there are then.
+// Puts a pair in its place among the first n rows, instead of one with the same key. Answers how many rows there are then; the rows behind
+// them are left free.
 pub fn insert(sheet: &[u8], pairs: &mut [usize], n: usize, p: Pair) -> usize
     requires { ⌜ (n < 64) × Pairs (length (now sheet)) (now pairs) n × PairWithin (length (now sheet)) p ⌝ }
     ensures { λ r. ⌜ pairsIn (now (sheet .entry)) (now (pairs .exit)) r
         ≡ insert (pairAs (now (sheet .entry)) p) (pairsIn (now (sheet .entry)) (now (pairs .entry)) n) ⌝ }
-    ensures { λ r. ⌜ (r ≤ n + 1) × Pairs (length (now (sheet .entry))) (now (pairs .exit)) r ⌝ }
+    ensures { λ r. ⌜ (r ≤ n + 1)
+        × Pairs (length (now (sheet .entry))) (now (pairs .exit)) r
+        × Free (now (pairs .entry)) (now (pairs .exit)) ⌝ }
 {
     match find(sheet, pairs, n, p) {
         Slot::Same(i) => {
@@ -128,7 +132,9 @@ pub fn insert_known(sheet: &[u8], pairs: &mut [usize], n: usize, p: Pair) -> usi
     requires { ⌜ (n < 64) × Pairs (length (now sheet)) (now pairs) n × PairWithin (length (now sheet)) p ⌝ }
     ensures { λ r. ⌜ pairsIn (now (sheet .entry)) (now (pairs .exit)) r
         ≡ insertKnown (pairAs (now (sheet .entry)) p .key) (pairAs (now (sheet .entry)) p .value) (pairsIn (now (sheet .entry)) (now (pairs .entry)) n) ⌝ }
-    ensures { λ r. ⌜ (r ≤ n + 1) × Pairs (length (now (sheet .entry))) (now (pairs .exit)) r ⌝ }
+    ensures { λ r. ⌜ (r ≤ n + 1)
+        × Pairs (length (now (sheet .entry))) (now (pairs .exit)) r
+        × Free (now (pairs .entry)) (now (pairs .exit)) ⌝ }
 {
     if p.known {
         return insert(sheet, pairs, n, p);

@@ -26,6 +26,7 @@ ghost use Rattle.sheet.specs.Shape.{shape};
 ghost use Rattle.heads.specs.Rest.{behind};
 ghost use Rattle.heads.specs.Views.{Part};
 ghost use Rattle.report.specs.ModuleInfo.{none};
+ghost use Rattle.laws.specs.Left.{Free};
 ghost use Rattle.attributes.specs.Attributes.{props, staticPairs, staticAttributes, objectAttributes, typeAttributes, ofObject, argumentProperties, dynamicAttributes, isAttributesKey};
 ghost use Rattle.attributes.specs.Views.{pairsIn, attributesAs, Pairs, AttributesWithin};
 
@@ -73,7 +74,8 @@ fn parse_known(
     n
 }
 
-// The Object behind a declaration, if there is one. Values that are no strings are skipped.
+// The Object behind a declaration, if there is one. Values that are no strings are skipped. The table is left free behind the rows of the answer,
+// and all of it where the bytes are no such Object.
 pub fn parse_import_attributes(
     sheet: &[u8],
     source: &[u8],
@@ -86,6 +88,7 @@ pub fn parse_import_attributes(
     ensures { λ r. ⌜ ((a : Attributes) (t : List ℕ) → behind there (attributesObject (now (source .entry)) levels) (drop (c .at) (now (sheet .entry))) ≡ ok a t
         → attributesAs (now (sheet .entry)) (now (pairs .exit)) r ≡ staticAttributes a) ⌝ }
     ensures { λ r. ⌜ AttributesWithin (length (now (sheet .entry))) (now (pairs .exit)) r ⌝ }
+    ensures { λ _. ⌜ Free (now (pairs .entry)) (now (pairs .exit)) ⌝ }
 {
     if there {
         return match read_attributes(sheet, source, c, levels) {
@@ -134,7 +137,7 @@ fn parse_import_attributes_from_object_lit(
     ImportAttributes::Known(n)
 }
 
-// The Object of an import type, if there is one.
+// The Object of an import type, if there is one. The table is left free as above.
 pub fn parse_type_attributes(
     sheet: &[u8],
     source: &[u8],
@@ -147,6 +150,7 @@ pub fn parse_type_attributes(
     ensures { λ r. ⌜ ((a : Attributes) (t : List ℕ) → behind there (attributesObject (now (source .entry)) levels) (drop (c .at) (now (sheet .entry))) ≡ ok a t
         → attributesAs (now (sheet .entry)) (now (pairs .exit)) r ≡ typeAttributes a) ⌝ }
     ensures { λ r. ⌜ AttributesWithin (length (now (sheet .entry))) (now (pairs .exit)) r ⌝ }
+    ensures { λ _. ⌜ Free (now (pairs .entry)) (now (pairs .exit)) ⌝ }
 {
     if there {
         return match read_attributes(sheet, source, c, levels) {
@@ -261,7 +265,7 @@ fn parse_argument_properties(
     found
 }
 
-// From the arguments behind the first of a call, so many of them.
+// From the arguments behind the first of a call, so many of them. The table is left free as above.
 pub fn parse_dynamic_import_attributes(
     sheet: &[u8],
     source: &[u8],
@@ -275,6 +279,7 @@ pub fn parse_dynamic_import_attributes(
         → arguments (node (now (source .entry)) levels) (now (source .entry)) count (drop (c .at) (now (sheet .entry))) ≡ ok xs t
         → attributesAs (now (sheet .entry)) (now (pairs .exit)) r ≡ dynamicAttributes xs) ⌝ }
     ensures { λ r. ⌜ AttributesWithin (length (now (sheet .entry))) (now (pairs .exit)) r ⌝ }
+    ensures { λ _. ⌜ Free (now (pairs .entry)) (now (pairs .exit)) ⌝ }
 {
     if 0 < count {
         return match read_argument(sheet, source, c) {

@@ -21,7 +21,7 @@ module _ (out : List ℕ) (p : Place) (size : ℕ) (bs : List ℕ) (h : bufferAs
   unfolding wrote
   begins = by-full (eqb (p .at) fullPlace) (h ∙ rw (le-leb (0 + length bs) size (omega arith)))
     where
-      by-full : (b : Bool) → cond b full (holds (length out) (take (p .at) out)) ≡ holds size bs → take (p .at) out ≡ bs
+      by-full : (b : Bool) → cond b (full (length out)) (holds (length out) (take (p .at) out)) ≡ holds size bs → take (p .at) out ≡ bs
       by-full true e = let z : _≡_ {A = ℕ} 0 1 = cc in absurd (omega arith)
       by-full false e = cc
 

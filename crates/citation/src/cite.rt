@@ -12,6 +12,7 @@ ghost use mathlib.Core.Path.{_≡_};
 ghost use mathlib.Core.List.{[], _∷_, flatMap};
 ghost use Prim.Native.Nat.{_+_, _*_, _≤_};
 ghost use lib.ListN.{length, take};
+ghost use Rattle.laws.specs.Left.{Free};
 ghost use Rattle.laws.specs.Codec.{IfThere, All};
 ghost use Rattle.wire.specs.Number.{largest};
 ghost use Rattle.wire.specs.Optional.{encodeOptional};
@@ -273,12 +274,14 @@ fn written(out: &[u8], place: Place) -> usize
     out.len()
 }
 
-// Writes the citation of a report, and answers its length. A first pass counts the lines; what it writes is written over.
+// Writes the citation of a report, and answers its length. A first pass counts the lines; what it writes is written over. Behind the citation the
+// buffer is left free, and all of it where the bytes are no report.
 pub fn cite_report(report: &[u8], out: &mut [u8]) -> usize
     requires { ⌜ 4 * length (now report) ≤ length (now out) ⌝ }
     ensures { λ r. ⌜ ((m : ModuleInfo) → Valid m → encode m ≡ now (report .entry)
         → (r ≡ length (citation m)) × (take r (now (out .exit)) ≡ citation m)) ⌝ }
     ensures { λ r. ⌜ r ≤ length (now (out .exit)) ⌝ }
+    ensures { λ _. ⌜ Free (now (out .entry)) (now (out .exit)) ⌝ }
 {
     let start = Place { at: 0 };
     let counted = cite_lines(report, out, start);
@@ -287,11 +290,12 @@ pub fn cite_report(report: &[u8], out: &mut [u8]) -> usize
     written(out, cited.place)
 }
 
-// Writes the citation of a refusal, and answers its length.
+// Writes the citation of a refusal, and answers its length. Behind it the buffer is left free.
 pub fn cite_refusal(number: u8, out: &mut [u8]) -> usize
     requires { ⌜ 12 ≤ length (now out) ⌝ }
     ensures { λ r. ⌜ (r ≡ length (refusal number)) × (take r (now (out .exit)) ≡ refusal number) ⌝ }
     ensures { λ r. ⌜ r ≤ length (now (out .exit)) ⌝ }
+    ensures { λ _. ⌜ Free (now (out .entry)) (now (out .exit)) ⌝ }
 {
     let start = Place { at: 0 };
     let p = put_title(start, out, b"refused ", number as usize);

@@ -54,7 +54,7 @@ module _ {s buffer : List ℕ} where
             info = moduleInfo t;
             within = omega (arith, ap length held, length-append (encode (moduleInfo t)) (zeros (65536 - length (encode (moduleInfo t)))));
             room = rw (← begins) (omega arith);
-            valid = readable t (omega (arith, accepted-within s e .fields .source .0)) (d .jsdoc t e) (omega arith);
+            valid = readable t (omega (arith, accepted-within s e .fields .source .0)) (d .jsdoc t e .right) (omega arith);
             bytes = begins;
             lines = rw (e, h);
           }

@@ -25,6 +25,7 @@ ghost use mathlib.Core.Option.{Option};
 ghost use Prim.Native.Nat.{ℕ};
 ghost use lib.ListN.{length, drop};
 ghost use Rattle.laws.specs.Decoded.{ok};
+ghost use Rattle.laws.specs.Left.{Free};
 ghost use Rattle.sheet.specs.Tree.{Node, Attributes, Arguments, argument};
 ghost use Rattle.sheet.specs.Nodes.{node, arguments, attributesObject};
 ghost use Rattle.heads.specs.Rest.{behind};
@@ -176,7 +177,8 @@ fn put_static_entry(
 }
 
 // The entry of an import type, or of a declaration, with the Object of its attributes at the cursor, if there is one. The table is here, and not in
-// the walk, so that no level of the walk has one on the stack: the compiler does not inline what is called at two places.
+// the walk, so that no level of the walk has one on the stack: the compiler does not inline what is called at two places. Where the bytes are no such Object,
+// the buffer is left free.
 pub fn put_with_entry(
     sheet: &[u8],
     source: &[u8],
@@ -198,6 +200,7 @@ pub fn put_with_entry(
         → bufferAs (now (out .exit)) r
         ≡ wroteEntries (bufferAs (now (out .entry)) p)
         (staticOf (now (source .entry)) (typesFrom (now (source .entry)) (now (cs .entry)) (now (gs .entry)) k) (now (sheet .entry)) d (cond «is_type» (typeAttributes a) (staticAttributes a)))) ⌝ }
+    ensures { λ _. ⌜ Free (now (out .entry)) (now (out .exit)) ⌝ }
 {
     let mut pairs: [usize; 320] = [0; 320];
     if is_type {
@@ -351,7 +354,8 @@ fn put_argument_entry(
     }
 }
 
-// The entry of a call that is listed, with so many arguments at the cursor; none if there is no argument.
+// The entry of a call that is listed, with so many arguments at the cursor; none if there is no argument. Where the bytes are no such arguments,
+// the buffer is left free.
 pub fn put_call_entry(
     sheet: &[u8],
     source: &[u8],
@@ -372,6 +376,7 @@ pub fn put_call_entry(
         → bufferAs (now (out .exit)) r
         ≡ wroteEntries (bufferAs (now (out .entry)) p)
         (entryOfCall (now (source .entry)) (typesFrom (now (source .entry)) (now (cs .entry)) (now (gs .entry)) k) d xs)) ⌝ }
+    ensures { λ _. ⌜ Free (now (out .entry)) (now (out .exit)) ⌝ }
 {
     if d.listed {
         if 0 < count {

@@ -38,6 +38,7 @@ ghost use mathlib.Core.List.{List};
 ghost use Prim.Native.Nat.{ℕ, _≤_};
 ghost use lib.ListN.{length, drop};
 ghost use Rattle.laws.specs.Decoded.{ok, onOk};
+ghost use Rattle.laws.specs.Left.{Free};
 ghost use Rattle.sheet.specs.Tree.{Node};
 ghost use Rattle.sheet.specs.Nodes.{node, nodes, argumentItem, arguments, propertyItem, properties, attributesObject};
 ghost use Rattle.sheet.specs.Shape.{shape, isRequire};
@@ -568,7 +569,8 @@ fn visit_ts_import_type(
     }
 }
 
-// The dependencies of a tree: their number, which the check of the tree counted, and their entries.
+// The dependencies of a tree: their number, which the check of the tree counted, and their entries. Where the bytes are no tree with so many,
+// the buffer is left free.
 pub fn analyze_program_dependencies(
     sheet: &[u8],
     source: &[u8],
@@ -588,6 +590,7 @@ pub fn analyze_program_dependencies(
         → bufferAs (now (out .exit)) r
         ≡ wrote (bufferAs (now (out .entry)) p)
         (encodeList encodeDependency (collect (now (source .entry)) (typesFrom (now (source .entry)) (now (cs .entry)) (now (gs .entry)) k) n))) ⌝ }
+    ensures { λ _. ⌜ Free (now (out .entry)) (now (out .exit)) ⌝ }
 {
     let p = p.put_number(out, count);
     match walk_node(sheet, source, root, 64, cs, gs, k, index, out, p) {

@@ -18,18 +18,18 @@ module _ (s : Bytes) (i : ℕ) where
   part-to-end = take-all (length s - i) (drop i s) (omega (arith, length-drop i s))
 
   module _ (h : i ≤ length s) where
-    pub movable : length s < 2 ^ 64 → (o : Parsed Bytes) (r : Text) → Spells (drop i s) o r → Movable i r
-    movable l o (text.Part a b j) t = let (x, y, z) = t .ordered in (x, y, omega (arith, length-drop i s))
-    movable l o text.Backtrace t = tt
+    pub movable : length s < 2 ^ 64 → (mark : ℕ) (o : Parsed Bytes) (r : Text) → Spells (drop i s) 0 mark o r → Movable i r
+    movable l mark o (text.Part a b j) t = let (x, y, z, u, v) = t .ordered in (x, y, omega (arith, length-drop i s))
+    movable l mark o text.Backtrace t = tt
 
     part-moved : (a b : ℕ) → part (drop i s) a b ≡ part s (i + a) (i + b)
     part-moved a b = let n : i + b - (i + a) ≡ b - a = omega arith in rw (n, drop-drop a i s)
 
-    pub moved-text : (o : Parsed Bytes) (r : Text) → Spells (drop i s) o r → Spells s o (moved i r)
-    moved-text o (text.Part a b j) t =
-        let (x, y, z) = t .ordered in
-        record { is = rw (← part-moved a b, ← drop-drop j i s) (t .is); ordered = (omega arith, omega arith, omega (arith, length-drop i s)) }
-    moved-text o text.Backtrace t = record { is = t .is; ordered = tt }
+    pub moved-text : (mark : ℕ) (o : Parsed Bytes) (r : Text) → Spells (drop i s) 0 mark o r → Spells s i mark o (moved i r)
+    moved-text mark o (text.Part a b j) t =
+        let (x, y, z, u, v) = t .ordered in
+        record { is = rw (← part-moved a b, ← drop-drop j i s) (t .is); ordered = (omega arith, omega arith, omega (arith, length-drop i s), omega arith, omega arith) }
+    moved-text mark o text.Backtrace t = record { is = t .is; ordered = tt }
 
     pub moved-mode : {o : Parsed ℕ} {m j : ℕ} → o ≡ ok m (drop j (drop i s)) → j ≤ length (drop i s) → Gives s o (modeRead.Past m (i + j))
     moved-mode {m} {j} e l = record { is = rw (← drop-drop j i s) (sym e); ordered = omega (arith, length-drop i s) }

@@ -16,7 +16,7 @@ use Rattle.text.proofs.Words.{begins-sound}
 use Rattle.jsdoc.specs.Grammar.{Bytes}
 use Rattle.jsdoc.specs.Parsed.{ok, backtrace, onParsed}
 use Rattle.jsdoc.specs.Reader.{skip, skipWhitespace, whitespace, tag, upTo, before, isMark, parseQuote, pastIdent, parseIdent}
-use Rattle.jsdoc.specs.Answers.{Finds, Spells}
+use Rattle.jsdoc.specs.Answers.{Finds, Spells, quoteMark, nameMark}
 use Rattle.jsdoc.specs.declared.answers.Skipped.the-variants as skipped
 use Rattle.jsdoc.specs.declared.answers.Text.the-variants as text
 use Rattle.jsdoc.proofs.Texts.{upTo-sound}
@@ -73,18 +73,18 @@ module _ (s : Bytes) (i : ℕ) where
 
 -- a name that begins the bytes
 module _ (s : Bytes) {n : ℕ} (e : n ≡ classAt Alphabetic (drop 0 s)) where
-  pub ident-missing : n ≡ 0 → Spells s (parseIdent s) text.Backtrace
+  pub ident-missing : n ≡ 0 → Spells s 0 nameMark (parseIdent s) text.Backtrace
   unfolding parseIdent
   ident-missing z = record { is = rw (← e, z); ordered = tt }
 
-  pub ident-found : (n ≡ 0 → ⊥) → {r : ℕ} → r ≡ n + runLength NameRest (drop n s) → r ≤ length s → Spells s (parseIdent s) (text.Part 0 r r)
+  pub ident-found : (n ≡ 0 → ⊥) → {r : ℕ} → r ≡ n + runLength NameRest (drop n s) → r ≤ length s → Spells s 0 nameMark (parseIdent s) (text.Part 0 r r)
   unfolding parseIdent pastIdent skip
   ident-found z {r} f h =
       let g : length s - length (drop r s) ≡ r = omega (arith, length-drop r s) in
-      record { is = rw (← e, ne-eqb n 0 z, drop-drop (runLength NameRest (drop n s)) n s, ← f, g, sub-zero); ordered = (omega arith, omega arith, h) }
+      record { is = rw (← e, ne-eqb n 0 z, drop-drop (runLength NameRest (drop n s)) n s, ← f, g, sub-zero); ordered = (omega arith, omega arith, h, omega arith, omega arith) }
 
 -- a quote that begins the bytes
-pub quote-empty : (s : Bytes) → length s ≡ 0 → Spells s (parseQuote s) text.Backtrace
+pub quote-empty : (s : Bytes) → length s ≡ 0 → Spells s 0 quoteMark (parseQuote s) text.Backtrace
 unfolding parseQuote
 quote-empty [] h = record { is = refl; ordered = tt }
 quote-empty (x ∷ s) h = absurd (omega arith)
@@ -96,11 +96,11 @@ quote-first [] n = absurd (n refl)
 quote-first (x ∷ s) n = refl
 
 module _ (s : Bytes) (n : length s ≡ 0 → ⊥) where
-  pub quote-unmarked : isMark (getD s 0 0) ≡ false → Spells s (parseQuote s) text.Backtrace
+  pub quote-unmarked : isMark (getD s 0 0) ≡ false → Spells s 0 quoteMark (parseQuote s) text.Backtrace
   quote-unmarked k = record { is = rw (quote-first s n, k); ordered = tt }
 
   module _ (k : isMark (getD s 0 0) ≡ true) where
-    pub quote-open : upTo (getD s 0 0) (drop 1 s) ≡ backtrace → Spells s (parseQuote s) text.Backtrace
+    pub quote-open : upTo (getD s 0 0) (drop 1 s) ≡ backtrace → Spells s 0 quoteMark (parseQuote s) text.Backtrace
     quote-open e = record { is = rw (quote-first s n, k, e); ordered = tt }
 
     module _ {j : ℕ} (e : upTo (getD s 0 0) (drop 1 s) ≡ ok tt (drop j s)) (h : j ≤ length s) where
@@ -109,7 +109,7 @@ module _ (s : Bytes) (n : length s ≡ 0 → ⊥) where
           let (w, (f, i)) = upTo-sound (getD s 0 0) (drop 1 s) (drop j s) e in
           omega (arith, ap length i, length-append w (getD s 0 0 ∷ drop j s), length-drop 1 s, length-drop j s)
 
-      pub quote-closed : Spells s (parseQuote s) (text.Part 1 (j - 1) j)
+      pub quote-closed : Spells s 0 quoteMark (parseQuote s) (text.Part 1 (j - 1) j)
       quote-closed =
           let i : length (drop 1 s) - suc (length (drop j s)) ≡ j - 1 - 1 = omega (arith, length-drop 1 s, length-drop j s, quote-long) in
-          record { is = rw (quote-first s n, k, e, i); ordered = (omega (arith, quote-long), omega arith, h) }
+          record { is = rw (quote-first s n, k, e, i); ordered = (omega (arith, quote-long), omega arith, h, omega arith, omega (arith, quote-long)) }

@@ -5,8 +5,8 @@ use Prim.Native.Nat.{ℕ, _+_, _^_, _≤_, _<_}
 use lib.ListN.{length, drop}
 use Rattle.text.specs.Bytes.{part}
 use Rattle.jsdoc.specs.Grammar.{Bytes}
-use Rattle.jsdoc.specs.Parsed.{Parsed, ok, backtrace, value}
-use Rattle.jsdoc.specs.Reader.{Hit, hit, sought, parseJsdocDynamicImport}
+use Rattle.jsdoc.specs.Parsed.{Parsed, ok, backtrace, onParsed, value}
+use Rattle.jsdoc.specs.Reader.{Hit, hit, parseQuote, sought, parseJsdocDynamicImport}
 use Rattle.jsdoc.specs.declared.answers.Skipped.{Skipped}
 use Rattle.jsdoc.specs.declared.answers.Skipped.the-variants as skipped
 use Rattle.jsdoc.specs.declared.answers.Text.{Text}
@@ -36,9 +36,10 @@ module _ (s : Bytes) where
   textAs (text.Part a b j) = ok (part s a b) (drop j s)
   textAs text.Backtrace = backtrace
 
-  abbrev textIn : Text → Type 0
-  textIn (text.Part a b j) = (a ≤ b) × (b ≤ j) × (j ≤ length s)
-  textIn text.Backtrace = Unit {0}
+  -- what is read begins at `at`; the text stands in it with marks of so many bytes on either side
+  abbrev textIn : ℕ → ℕ → Text → Type 0
+  textIn at mark (text.Part a b j) = (a ≤ b) × (b ≤ j) × (j ≤ length s) × (a ≡ at + mark) × (b + mark ≡ j)
+  textIn at mark text.Backtrace = Unit {0}
 
   abbrev modeReadAs : ModeRead → Parsed ℕ
   modeReadAs (modeRead.Past m j) = ok m (drop j s)
@@ -60,14 +61,25 @@ module _ (s : Bytes) where
   abbrev pub Finds : Parsed (Unit {0}) → Skipped → Type 0
   Finds = Reads skippedAs skippedIn
 
-  abbrev pub Spells : Parsed Bytes → Text → Type 0
-  Spells = Reads textAs textIn
+  -- so does a text that is read from `at` on, with the width of its marks
+  abbrev pub Spells : ℕ → ℕ → Parsed Bytes → Text → Type 0
+  Spells at mark = Reads textAs (textIn at mark)
 
   abbrev pub Gives : Parsed ℕ → ModeRead → Type 0
   Gives = Reads modeReadAs modeReadIn
 
   abbrev pub Imports : Option Hit → JsDocImport → Type 0
   Imports = Reads importAs importIn
+
+-- the marks of a quote have a byte each, and a name has none; a key is either
+abbrev pub quoteMark : ℕ
+quoteMark = 1
+
+abbrev pub nameMark : ℕ
+nameMark = 0
+
+unfoldable pub keyMark : Bytes → ℕ
+keyMark s = onParsed (parseQuote s) (λ k t. quoteMark) nameMark
 
 -- a text by the places of bytes that begin i bytes before
 abbrev pub moved : ℕ → Text → Text

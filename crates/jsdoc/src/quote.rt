@@ -9,7 +9,7 @@ ghost use mathlib.Core.Path.{_≡_};
 ghost use Prim.Native.Nat.{_≤_};
 ghost use lib.ListN.{length, drop};
 ghost use Rattle.jsdoc.specs.Reader.{isMark, parseQuote, parseIdent, parseKey};
-ghost use Rattle.jsdoc.specs.Answers.{Spells, moved, Movable};
+ghost use Rattle.jsdoc.specs.Answers.{Spells, quoteMark, nameMark, keyMark, moved, Movable};
 
 fn is_mark(b: u8) -> bool
     ensures { λ r. ⌜ r ≡ isMark b ⌝ }
@@ -22,7 +22,7 @@ fn is_mark(b: u8) -> bool
 
 // The quote that begins `rest`.
 pub fn parse_quote(rest: &[u8]) -> Text
-    ensures { λ r. ⌜ Spells (now (rest .entry)) (parseQuote (now (rest .entry))) r ⌝ }
+    ensures { λ r. ⌜ Spells (now (rest .entry)) 0 quoteMark (parseQuote (now (rest .entry))) r ⌝ }
 {
     if rest.len() == 0 {
         return Text::Backtrace;
@@ -43,7 +43,7 @@ pub fn parse_quote(rest: &[u8]) -> Text
 
 // The name that begins `rest`.
 pub fn parse_ident(rest: &[u8]) -> Text
-    ensures { λ r. ⌜ Spells (now (rest .entry)) (parseIdent (now (rest .entry))) r ⌝ }
+    ensures { λ r. ⌜ Spells (now (rest .entry)) 0 nameMark (parseIdent (now (rest .entry))) r ⌝ }
 {
     let first = class_at(rest, 0, Class::Alphabetic);
     if first == 0 {
@@ -75,7 +75,7 @@ fn from_place(text: Text, at: usize) -> Text
 // The quote at `at`.
 pub fn quote_at(s: &[u8], at: usize) -> Text
     requires { ⌜ at ≤ length (now s) ⌝ }
-    ensures { λ r. ⌜ Spells (now (s .entry)) (parseQuote (drop at (now (s .entry)))) r ⌝ }
+    ensures { λ r. ⌜ Spells (now (s .entry)) at quoteMark (parseQuote (drop at (now (s .entry)))) r ⌝ }
 {
     from_place(parse_quote(&s[at..]), at)
 }
@@ -83,7 +83,7 @@ pub fn quote_at(s: &[u8], at: usize) -> Text
 // The name at `at`.
 pub fn ident_at(s: &[u8], at: usize) -> Text
     requires { ⌜ at ≤ length (now s) ⌝ }
-    ensures { λ r. ⌜ Spells (now (s .entry)) (parseIdent (drop at (now (s .entry)))) r ⌝ }
+    ensures { λ r. ⌜ Spells (now (s .entry)) at nameMark (parseIdent (drop at (now (s .entry)))) r ⌝ }
 {
     from_place(parse_ident(&s[at..]), at)
 }
@@ -91,7 +91,7 @@ pub fn ident_at(s: &[u8], at: usize) -> Text
 // The quote or the name at `at`.
 pub fn parse_key(s: &[u8], at: usize) -> Text
     requires { ⌜ at ≤ length (now s) ⌝ }
-    ensures { λ r. ⌜ Spells (now (s .entry)) (parseKey (drop at (now (s .entry)))) r ⌝ }
+    ensures { λ r. ⌜ Spells (now (s .entry)) at (keyMark (drop at (now (s .entry)))) (parseKey (drop at (now (s .entry)))) r ⌝ }
 {
     match quote_at(s, at) {
         Text::Part { from, to, past } => Text::Part { from, to, past },

@@ -1,3 +1,5 @@
 pub mod Codec
 pub mod Decoded
 pub mod Quoted
+pub mod Ordered
+pub mod Left

@@ -2,6 +2,7 @@ pub mod StarOpened
 pub mod Marking
 pub mod Quotes
 pub mod Entries
+pub mod Only
 pub mod Right
 pub mod Turns
 pub mod Proper

@@ -19,7 +19,7 @@ use Rattle.report.specs.ModuleInfo.{JsDocImportInfo}
 use Rattle.report.specs.Range.{rangeOf}
 use Rattle.report.proofs.Places.{range-at}
 use Rattle.listing.specs.Imports.{importAt}
-use Rattle.listing.specs.Demand.{StandsAt}
+use Rattle.listing.specs.Demand.{ImportAt}
 
 -- a quote is one whatever follows it
 quote-then : {k s t : List ℕ} (u : List ℕ) → Quote k s t → Quote k (s ++ u) (t ++ u)
@@ -43,7 +43,7 @@ quote-alone {k} {s} {t} n e r =
 pub record Standing (source : List ℕ) (q e mode : ℕ) : Type 0 where
   pub import : JsDocImportInfo
   pub is : importAt source q mode ≡ Option.some import
-  pub stands : StandsAt source import (record { start = q; end = e })
+  pub stands : ImportAt source import (record { start = q; end = e })
   pub mode-is : import .mode ≡ mode
 
 module _ {source : List ℕ} (f : formed Utf8 0 source ≡ true) where

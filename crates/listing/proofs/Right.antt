@@ -20,10 +20,11 @@ use Rattle.sheet.specs.Media.{isJavaScript}
 use Rattle.sheet.proofs.Bodies.{Within, placed-body}
 use Rattle.report.specs.ModuleInfo.{Mode, JsDocImportInfo}
 use Rattle.listing.specs.Imports.{marksOf, importAt, importsFrom, jsdocImports}
-use Rattle.listing.specs.Demand.{ListedIn, StandsAt, Lists, JsDocRight}
+use Rattle.listing.specs.Demand.{ListedIn, ImportAt, Lists, JsDocRight, OnlyRight}
 use Rattle.listing.proofs.Marking.{ReadIn, read-below, marks-of}
 use Rattle.listing.proofs.Quotes.{Standing, reading-stands}
 use Rattle.listing.proofs.Entries.{found, in-list, Standings, ascends}
+use Rattle.listing.proofs.Only.{one-right}
 
 module _ {source : List ℕ} {cs : List Comment} where
   -- the place of a reading by its start
@@ -89,7 +90,7 @@ module _ {source : List ℕ} {cs : List Comment} (fit : Fit source cs) where
     record Origin (i : JsDocImportInfo) : Type 0 where
       place : Span
       listed : ListedIn source cs place (i .mode)
-      stand : StandsAt source i place
+      stand : ImportAt source i place
 
     origin-by : {p : Span} {m : ℕ} (l : ListedIn source cs p m) {i : JsDocImportInfo} → importAt source (p .start) m ≡ Option.some i → Origin i
     origin-by {p} {m} l {i} is =
@@ -119,7 +120,7 @@ module _ {source : List ℕ} {cs : List Comment} (fit : Fit source cs) where
           mode-is = t .mode-is;
         }
 
-    pub jsdoc-right : (media : ℕ) → JsDocRight media source cs (jsdocImports media source cs)
+    jsdoc-right : (media : ℕ) → JsDocRight media source cs (jsdocImports media source cs)
     unfolding jsdocImports
     jsdoc-right media = go (isJavaScript media) refl
       where
@@ -136,3 +137,6 @@ module _ {source : List ℕ} {cs : List Comment} (fit : Fit source cs) where
           ascending = tt;
           one-mode = one-mode;
         }
+
+    pub only-right : (media : ℕ) → OnlyRight media source cs (jsdocImports media source cs)
+    only-right media = record { right = jsdoc-right media; only = λ m r. one-right r (jsdoc-right media) }

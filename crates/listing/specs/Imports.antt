@@ -37,6 +37,10 @@ markedByAll source (c ∷ cs) marks = markedByAll source cs (markedBy source c m
 abbrev pub marksOf : List ℕ → List Comment → List ℕ
 marksOf source cs = markedByAll source cs (replicate (length source) 0)
 
+-- none but in JavaScript
+abbrev pub marksIn : ℕ → List ℕ → List Comment → List ℕ
+marksIn media source cs = cond (isJavaScript media) (marksOf source cs) (replicate (length source) 0)
+
 -- how many places are marked
 unfoldable pub countOf : List ℕ → ℕ
 countOf [] = 0

@@ -21,7 +21,7 @@ ghost use Rattle.report.specs.Range.{IndexOf};
 ghost use Rattle.report.specs.Buffer.{wrote, bufferAs};
 ghost use Rattle.pragmas.specs.Held.{Commented};
 ghost use Rattle.pragmas.specs.Views.{encodeAny};
-ghost use Rattle.listing.specs.Imports.{isStarOpened, markedBy, marksOf, countOf, importAt, importsFrom, jsdocImports};
+ghost use Rattle.listing.specs.Imports.{isStarOpened, markedBy, marksOf, marksIn, countOf, importAt, importsFrom, jsdocImports};
 
 // Is it a block comment whose body begins with `*`?
 fn is_star_opened(source: &[u8], c: Comment) -> bool
@@ -128,7 +128,7 @@ fn put_imports(source: &[u8], index: &[u32], marks: &[u8], out: &mut [u8], place
     p
 }
 
-// Writes the JSDoc imports of a sheet of this media. `marks` is lent to work in, and cleared.
+// Writes the JSDoc imports of a sheet of this media. `marks` is lent to work in, comes cleared, and is left with the marks.
 pub fn analyze_jsdoc_imports(
     media: usize,
     source: &[u8],
@@ -144,6 +144,7 @@ pub fn analyze_jsdoc_imports(
     ensures { λ r. ⌜ bufferAs (now (out .exit)) r
         ≡ wrote (bufferAs (now (out .entry)) place)
         (encodeList encodeJsDoc (jsdocImports media (now (source .entry)) (commentsIn (now (comments .entry)) n))) ⌝ }
+    ensures { λ _. ⌜ now (marks .exit) ≡ marksIn media (now (source .entry)) (commentsIn (now (comments .entry)) n) ⌝ }
 {
     if is_javascript(media) {
         mark_comments(source, comments, n, marks);

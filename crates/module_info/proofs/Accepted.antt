@@ -1,12 +1,14 @@
 -- What the judge says of an accepted sheet is what the writers ask, and what demand 3 is shown from.
 use mathlib.Core.Path.{_≡_, refl, sym, _∙_}
 use mathlib.Core.Bool.{true}
-use mathlib.Core.List.{List, [], List·Memᴰ}
+use mathlib.Core.List.{List, []}
 use Prim.Native.Nat.{ℕ, _+_, _/_, _≤_}
 use native.Mathlib.Omega.{arith}
 use lib.ListN.{length}
 use Rattle.laws.specs.Decoded.{Decoded, ok, no}
+use Rattle.laws.specs.Codec.{All, IfThere}
 use Rattle.laws.proofs.Decoding.{refused}
+use Rattle.laws.proofs.Lists.{of-members}
 use Rattle.text.specs.declared.utf8.Encoding.the-variants.{Utf8}
 use Rattle.text.specs.Utf8.{wellFormed}
 use Rattle.text.specs.Position.{characters, Indexed}
@@ -21,16 +23,15 @@ use Rattle.accept.specs.declared.check.Parts.{Parts}
 use Rattle.accept.specs.Accepts.{Accepts}
 use Rattle.accept.proofs.Refusals.{Decision, decided}
 use Rattle.report.specs.declared.writer.Outcome.{Outcome}
-use Rattle.report.specs.ModuleInfo.{DependencyDescriptor}
 use Rattle.report.specs.Answer.{outcomeAs, refusedWith, fitted}
 use Rattle.report.specs.Encode.{encode}
 use Rattle.pragmas.specs.Pragmas.{typesAt}
 use Rattle.pragmas.specs.Present.{Present}
-use Rattle.pragmas.specs.Texts.{typesOf, Shown}
+use Rattle.pragmas.specs.Texts.{TypesShown, typesOf}
 use Rattle.pragmas.specs.Held.{Held}
 use Rattle.pragmas.proofs.Present.{present, types-present}
 use Rattle.pragmas.proofs.Texts.{types-shown, texts}
-use Rattle.listing.proofs.Right.{jsdoc-right}
+use Rattle.listing.proofs.Right.{only-right}
 use Rattle.dep.proofs.Turns.{turn-member, collect-turns}
 use Rattle.module_info.specs.Information.{moduleInfo, answerOf}
 use Rattle.module_info.specs.Pieces.{PartsOf, RootOf}
@@ -90,16 +91,17 @@ module _ {s comments groups : List ℕ} {p : Parts} (a : Accepts s comments grou
   unfolding answerOf moduleInfo
   demanded answer = record {
     answer = rw (a .accepted) (answer (a .sheet) (a .accepted));
-    jsdoc = shown (λ t. _) (jsdoc-right fit formed-source (a .sheet .media));
+    jsdoc = shown (λ t. _) (only-right fit formed-source (a .sheet .media));
     pragmas = shown (λ t. _) (pragmas-present (a .sheet));
     types = shown (λ t. _) (collect-turns (a .sheet .source) (typesAt (a .sheet)) _ (λ start d e. rw e (types-present (a .sheet) start)) (a .sheet .root));
     texts = shown (λ t. _) (texts (a .sheet) formed-source fit (moduleInfo (a .sheet)) (pragmas-present (a .sheet)) typed);
   }
     where
-      typed : (d : DependencyDescriptor) → List·Memᴰ d (moduleInfo (a .sheet) .dependencies) → Shown (a .sheet .source) (typesOf d)
-      typed d m x e =
+      typed : All (λ d. IfThere (TypesShown (a .sheet)) (typesOf d)) (moduleInfo (a .sheet) .dependencies)
+      typed =
+          of-members _ _ (λ d m.
           let (v, j, g, i) = turn-member (collect-turns (a .sheet .source) (typesAt (a .sheet)) (λ start d. typesOf d ≡ typesAt (a .sheet) start) (λ start d e. e) (a .sheet .root)) m in
-          types-shown (a .sheet) formed-source fit (startOf v) x (sym i ∙ e)
+          rw i (types-shown (a .sheet) formed-source fit (startOf v)))
 
       shown : (P : Sheet → Type 0) → P (a .sheet) → OfAccepted s P
       shown P h t e = rw (same-sheet e (a .accepted)) h

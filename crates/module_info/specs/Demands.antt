@@ -9,7 +9,7 @@ use Rattle.report.specs.declared.writer.Outcome.{Outcome}
 use Rattle.report.specs.Answer.{outcomeAs}
 use Rattle.pragmas.specs.Present.{Present, TypesPresent}
 use Rattle.pragmas.specs.Texts.{typesOf, Texts}
-use Rattle.listing.specs.Demand.{JsDocRight}
+use Rattle.listing.specs.Demand.{OnlyRight}
 use Rattle.dep.specs.InTurn.{InTurn}
 use Rattle.module_info.specs.Information.{moduleInfo, answerOf}
 
@@ -24,12 +24,13 @@ pub record Demands (s : List ℕ) (size : ℕ) (outcome : Outcome) (buffer : Lis
   -- 2: the report has the values of 01's rules, `moduleInfo`
   pub answer : outcomeAs outcome buffer ≡ answerOf s size
   -- 3: a JSDoc import is listed exactly when the sheet is JavaScript and some star-opened block comment has a reading of it: each once, strictly
-  -- ascending by the start of its place, with the one mode that all its readings give; the source there, less the two marks, is its text
-  pub jsdoc : OfAccepted s (λ t. JsDocRight (t .media) (t .source) (t .comments) (moduleInfo t .jsdocImports))
+  -- ascending by the start of its place, with the one mode that all its readings give; the source there, less the two marks, is its text. No other list
+  -- is so
+  pub jsdoc : OfAccepted s (λ t. OnlyRight (t .media) (t .source) (t .comments) (moduleInfo t .jsdocImports))
   -- every reference and pragma appears exactly when its rule has a reading in the comments that 01 gives to it, at that reading's place, references in
   -- the order of their comments
   pub pragmas : OfAccepted s (λ t. Present t (moduleInfo t))
   -- and so do the types of each dependency, by the start of its node: dependencies and the walk's visits that give one stand one to one, in order
   pub types : OfAccepted s (λ t. InTurn (λ start d. TypesPresent t start (typesOf d)) (visits (t .root)) (moduleInfo t .dependencies))
-  -- the source between the two positions of each, less the two marks where a quoted text is read, is its text
-  pub texts : OfAccepted s (λ t. Texts (t .source) (moduleInfo t))
+  -- the source between the two positions of each is its text, in two marks or bare as the alternative that matched asks
+  pub texts : OfAccepted s (λ t. Texts t (moduleInfo t))

@@ -93,7 +93,7 @@ fn put_head(
     analyze_jsx_import_source_types(media, source, comments, n, index, head, out, p)
 }
 
-// The JSDoc imports and the source map; `marks` is lent to work in, and cleared.
+// The JSDoc imports and the source map; `marks` is lent to work in, and comes cleared.
 fn put_rest(
     source: &[u8],
     parts: Parts,

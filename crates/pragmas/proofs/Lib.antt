@@ -3,4 +3,5 @@ pub mod Captures
 pub mod Reached
 pub mod Present
 pub mod Texts
+pub mod Cases
 pub mod Proper

@@ -1,17 +1,19 @@
--- The source between the two positions of a reference or a pragma, less the marks where a quoted text is read, is its text.
+-- Each reference and pragma stands in the source at its reading's place, in marks or bare, as its rule's row asks.
 use mathlib.Core.Path.{_≡_, refl, sym, _∙_}
 use mathlib.Core.Bool.{Bool, true, false}
 use mathlib.Core.Logic.{inl, inr, ⊎-elim}
 use mathlib.Core.List.{List, [], _∷_, List·Memᴰ, List·Memᴰ·head, List·Memᴰ·tail, List·Memᴰ·not-nil, List·Memᴰ·cases-cons}
 use mathlib.Core.Option.{Option, Option·none-ne-some}
 use Prim.Native.Nat.{ℕ, suc, _+_, _-_, _<_}
+use native.Mathlib.Nat.{add-zero, sub-zero}
 use native.Mathlib.Omega.{arith}
 use lib.ListN.{length, getD, drop}
 use lib.Seq.{drop-drop}
-use Rattle.laws.proofs.Lists.{part-part, front-member, back-member, last-member, middle-member}
+use Rattle.laws.specs.Codec.{All, IfThere}
+use Rattle.laws.proofs.Lists.{of-members, if-there, part-part, between-two, front-member, back-member, last-member, middle-member}
 use Rattle.text.specs.declared.utf8.Encoding.the-variants.{Utf8}
 use Rattle.text.specs.Utf8.{formed}
-use Rattle.text.specs.Bytes.{Mark}
+use Rattle.text.specs.Bytes.{part}
 use Rattle.analysis.specs.declared.Capture.{Capture}
 use Rattle.analysis.specs.declared.Found.the-variants.{At}
 use Rattle.analysis.specs.Row.{Row, find}
@@ -25,14 +27,15 @@ use Rattle.sheet.specs.Fit.{Placed, commentOf, Fit}
 use Rattle.sheet.specs.Lookups.{leading, groupAt, headGroup, endGroup, commentsOf, bodySpan, body}
 use Rattle.sheet.specs.Sheet.{Sheet}
 use Rattle.sheet.specs.Media.{isJavaScript, isJsx}
-use Rattle.sheet.proofs.Bodies.{Within, placed-body, body-byte, body-formed, body-boundary}
-use Rattle.report.specs.ModuleInfo.{SpecifierWithRange, TypeScriptReference, DependencyDescriptor, ModuleInfo}
+use Rattle.sheet.proofs.Bodies.{Within, placed-body, body-formed, body-boundary}
+use Rattle.report.specs.ModuleInfo.{SpecifierWithRange, TypeScriptReference, ModuleInfo}
 use Rattle.report.specs.Range.{rangeOf}
+use Rattle.report.specs.Stands.{StandsAt}
 use Rattle.report.proofs.Places.{range-at}
 use Rattle.pragmas.specs.Readings.{placeIn}
 use Rattle.pragmas.specs.Pragmas.{inGroup, headComments, endComments, givenIf, lastIn, typesAt}
 use Rattle.pragmas.specs.Present.{Read, Reader, InOrder, FirstReading, referenceRule, tsOrDenoTypesRule, Present}
-use Rattle.pragmas.specs.Texts.{lessMarks, Between, specifierOf, typesOf, Shown, Texts}
+use Rattle.pragmas.specs.Texts.{writtenIf, ShownInMarks, ShownBare, ShownEither, ReferenceShown, TypesShown, typesOf, Texts}
 use Rattle.pragmas.proofs.Present.{types-present}
 
 module _ (source : List ℕ) (f : formed Utf8 0 source ≡ true) (c : Comment) (h : Placed source c) where
@@ -40,58 +43,43 @@ module _ (source : List ℕ) (f : formed Utf8 0 source ≡ true) (c : Comment) (
   within = placed-body source c h
 
   module _ (k : Capture) (w : Whole (body source c) k) where
-    -- the text
-    capture-text : slice source (lessMarks (k .quoted) (placeIn c k)) ≡ textOf (body source c) k
+    -- the bytes at the place are those of the body
+    place-bytes : slice source (placeIn c k) ≡ part (body source c) (placeOf k .from) (placeOf k .to)
     unfolding placeIn placeOf
-    capture-text =
+    place-bytes =
         let i = w .inside in
         let b = within in
         let sp = bodySpan c in
-        let start : sp .start + (k .from - markWidth k) + markWidth k ≡ sp .start + k .from = omega arith in
-        let size : sp .start + (k .to + markWidth k) - markWidth k - (sp .start + k .from) ≡ k .to - k .from = omega arith in
-        rw (start, size, ← drop-drop (k .from) (sp .start) source) (sym (part-part (drop (sp .start) source) (sp .end - sp .start) (k .from) (k .to - k .from) (omega arith)))
+        let from = k .from - markWidth k in
+        let size : sp .start + (k .to + markWidth k) - (sp .start + from) ≡ k .to + markWidth k - from = omega arith in
+        rw (size, ← drop-drop from (sp .start) source) (sym (part-part (drop (sp .start) source) (sp .end - sp .start) from (k .to + markWidth k - from) (omega arith)))
 
-    -- its marks
-    capture-marks : k .quoted ≡ true → Mark (getD source (placeIn c k .start) 0) × Mark (getD source (placeIn c k .end - 1) 0)
-    unfolding placeIn placeOf
-    capture-marks q =
+    -- the text and its marks
+    written : (q : Bool) → k .quoted ≡ q → writtenIf q (textOf (body source c) k) (slice source (placeIn c k))
+    unfolding placeOf
+    written true e =
         let i = w .inside in
-        let one : markWidth k ≡ 1 = rw q in
-        let (a, b) = w .marks q in
-        let last : bodySpan c .start + (k .to + markWidth k) - 1 ≡ bodySpan c .start + k .to = omega arith in
-        (rw (body-byte source c within (k .from - markWidth k) (omega arith)) at a, rw last (rw (body-byte source c within (k .to) (omega arith)) at b))
+        let one : markWidth k ≡ 1 = rw e in
+        let from : k .from - 1 + 1 ≡ k .from = omega arith in
+        let (a, b) = w .marks e in
+        record {
+          opening = getD (body source c) (k .from - 1) 0;
+          closing = getD (body source c) (k .to) 0;
+          opens = rw one at a;
+          closes = b;
+          all = place-bytes ∙ rw one (rw from at (between-two (body source c) 0 (k .from - 1) (k .to) (omega arith) (omega arith)));
+        }
+    written false e =
+        let none : markWidth k ≡ 0 = rw e in
+        place-bytes ∙ rw (none, sub-zero, add-zero)
 
-    capture-between : (x : SpecifierWithRange) → x .text ≡ textOf (body source c) k → x .range ≡ rangeOf source (placeIn c k) → Between source x
+    capture-stands : (x : SpecifierWithRange) → x .text ≡ textOf (body source c) k → x .range ≡ rangeOf source (placeIn c k) → (q : Bool) → k .quoted ≡ q
+        → StandsAt (writtenIf q) source x (placeIn c k)
     unfolding placeIn placeOf
-    capture-between x t r =
-        let i = w .inside in
+    capture-stands x t r q e =
         let start = body-boundary source c f h (placeOf k .from) (w .opens) in
         let end = body-boundary source c f h (placeOf k .to) (w .closes) in
-        record {
-          place = placeIn c k;
-          quoted = k .quoted;
-          range = range-at start end r;
-          marks = capture-marks;
-          text = capture-text ∙ sym t;
-        }
-
-  read-between : {row : Row} → ((k : Capture) → find row (body source c) ≡ At k → Whole (body source c) k) → {x : SpecifierWithRange} → Read row source c x → Between source x
-  read-between {row} whole {x} r = capture-between (r .capture) (whole (r .capture) (preferred-found row (body source c) (r .preferred))) x (r .text) (r .range)
-
-  -- so it is of each pattern that captures a specifier
-  pub read-texts : EachSpecifier (λ row. (x : SpecifierWithRange) → Read row source c x → Between source x)
-  read-texts =
-      let each = whole (body source c) (body-formed source c f h) in
-      record {
-        path = λ x. read-between (each .path);
-        types = λ x. read-between (each .types);
-        jsx-import-source = λ x. read-between (each .jsx-import-source);
-        jsx-import-source-types = λ x. read-between (each .jsx-import-source-types);
-        source-mapping-url = λ x. read-between (each .source-mapping-url);
-        ts-self-types = λ x. read-between (each .ts-self-types);
-        ts-types = λ x. read-between (each .ts-types);
-        deno-types = λ x. read-between (each .deno-types);
-      }
+        record { range = range-at start end r; text = rw t (written q e) }
 
 -- ---- the comments that they stand in
 
@@ -104,9 +92,13 @@ comment-index (d ∷ cs) m =
 fit-placed : {source : List ℕ} {cs : List Comment} → Fit source cs → {c : Comment} → List·Memᴰ c cs → Placed source c
 fit-placed {cs = cs} f m = let (k, l, e) = comment-index cs m in rw (← e) (f .each k l)
 
-pub group-placed : {source : List ℕ} {cs : List Comment} → Fit source cs → (o : Option Group) (c : Comment) → List·Memᴰ c (inGroup cs o) → Placed source c
-group-placed f Option.none c m = absurd (List·Memᴰ·not-nil m)
-group-placed {cs = cs} f (Option.some g) c m = fit-placed f (back-member (g .first) cs (front-member (g .count) (drop (g .first) cs) m))
+group-member : (cs : List Comment) (o : Option Group) {c : Comment} → List·Memᴰ c (inGroup cs o) → List·Memᴰ c cs
+group-member cs Option.none m = absurd (List·Memᴰ·not-nil m)
+group-member cs (Option.some g) m = back-member (g .first) cs (front-member (g .count) (drop (g .first) cs) m)
+
+last-in : (cs : List Comment) (o : Option Group) {c : Comment} → lastIn cs o ≡ Option.some c → List·Memᴰ c cs
+last-in cs Option.none {c} e = absurd (Option·none-ne-some c e)
+last-in cs (Option.some g) e = group-member cs (Option.some g) (last-member (commentsOf cs g) e)
 
 given-member : (b : Bool) (cs : List Comment) {c : Comment} → List·Memᴰ c (givenIf b cs) → List·Memᴰ c cs
 given-member true cs m = m
@@ -118,50 +110,75 @@ order-member (InOrder.reads {c = c} g o) m =
     ⊎-elim (λ e. (c, List·Memᴰ·head refl, rw e g)) (λ i. let (d, n, h) = order-member o i in (d, List·Memᴰ·tail n, h)) (List·Memᴰ·cases-cons m)
 order-member (InOrder.passes n o) m = let (d, i, h) = order-member o m in (d, List·Memᴰ·tail i, h)
 
-module _ (source : List ℕ) (f : formed Utf8 0 source ≡ true) where
-  reference-shown : (c : Comment) → Placed source c → (r : TypeScriptReference) → referenceRule source .Gives c r → Between source (specifierOf r)
-  reference-shown c h r (t, inl (x, p, e)) = rw e (read-texts source f c h .path x p)
-  reference-shown c h r (t, inr (n, (x, m, p, q, e))) = rw e (read-texts source f c h .types x p)
+-- ---- those of a sheet
 
-  types-given : (c : Comment) → Placed source c → (x : SpecifierWithRange) → tsOrDenoTypesRule source .Gives c x → Between source x
-  types-given c h x (inl p) = read-texts source f c h .ts-types x p
-  types-given c h x (inr (n, p)) = read-texts source f c h .deno-types x p
-
--- those of a sheet
 module _ (t : Sheet) (f : formed Utf8 0 (t .source) ≡ true) (fit : Fit (t .source) (t .comments)) where
-  pub types-shown : (start : ℕ) → Shown (t .source) (typesAt t start)
-  types-shown start x e =
-      let (c, l, g) = types-present t start .some x .0 e in
-      types-given (t .source) f c (placed (groupAt (t .groups) leading start) c l) x g
-    where
-      placed : (o : Option Group) (c : Comment) → lastIn (t .comments) o ≡ Option.some c → Placed (t .source) c
-      placed Option.none c e = absurd (Option·none-ne-some c e)
-      placed (Option.some g) c e = group-placed fit (Option.some g) c (last-member (commentsOf (t .comments) g) e)
+  -- what a comment of the sheet gives
+  module _ {c : Comment} (i : List·Memᴰ c (t .comments)) where
+    placed : Placed (t .source) c
+    placed = fit-placed fit i
 
-  in-head : (c : Comment) → List·Memᴰ c (headComments t) → Placed (t .source) c
+    -- what is captured in the comment is whole, and quoted or not
+    abbrev Captured : Row → (Capture → Type 0) → Type 0
+    Captured row Q = (k : Capture) → find row (body (t .source) c) ≡ At k → Whole (body (t .source) c) k × Q k
+
+    each : EachSpecifier Captured
+    each = whole (body (t .source) c) (body-formed (t .source) c f placed)
+
+    module _ {row : Row} {Q : Capture → Type 0} (w : Captured row Q) {x : SpecifierWithRange} (r : Read row (t .source) c x) where
+      captured : Whole (body (t .source) c) (r .capture) × Q (r .capture)
+      captured = w (r .capture) (preferred-found row (body (t .source) c) (r .preferred))
+
+      stands : (q : Bool) → r .capture .quoted ≡ q → StandsAt (writtenIf q) (t .source) x (placeIn c (r .capture))
+      stands = capture-stands (t .source) f c placed (r .capture) (captured .0) x (r .text) (r .range)
+
+    in-marks : {row : Row} → Captured row (λ k. k .quoted ≡ true) → {x : SpecifierWithRange} → Read row (t .source) c x → ShownInMarks row t x
+    in-marks w r = record { comment = c; among = i; read = r; stands = stands w r true (captured w r .1) }
+
+    bare : {row : Row} → Captured row (λ k. k .quoted ≡ false) → {x : SpecifierWithRange} → Read row (t .source) c x → ShownBare row t x
+    bare w r = record { comment = c; among = i; read = r; stands = stands w r false (captured w r .1) }
+
+    either : {row : Row} {Q : Capture → Type 0} → Captured row Q → {x : SpecifierWithRange} → Read row (t .source) c x → ShownEither row t x
+    either w r = record { comment = c; among = i; read = r; stands = stands w r (r .capture .quoted) refl }
+
+    reference-shown : (r : TypeScriptReference) → referenceRule (t .source) .Gives c r → ReferenceShown t r
+    reference-shown r (p, inl (x, g, e)) = rw e (in-marks (each .path) g)
+    reference-shown r (p, inr (n, (x, m, g, q, e))) = rw e (in-marks (each .types) g)
+
+    types-given : {x : SpecifierWithRange} → tsOrDenoTypesRule (t .source) .Gives c x → TypesShown t x
+    types-given (inl g) = inl (in-marks (each .ts-types) g)
+    types-given (inr (n, g)) = inr (either (each .deno-types) g)
+
+  pub types-shown : (start : ℕ) → IfThere (TypesShown t) (typesAt t start)
+  types-shown start =
+      if-there _ (typesAt t start)
+      (λ x e. let (c, l, g) = types-present t start .some x .0 e in types-given (last-in (t .comments) (groupAt (t .groups) leading start) l) g)
+
+  in-head : {c : Comment} → List·Memᴰ c (headComments t) → List·Memᴰ c (t .comments)
   unfolding headComments
-  in-head = group-placed fit (headGroup (t .program) (t .groups))
+  in-head = group-member (t .comments) (headGroup (t .program) (t .groups))
 
-  in-end : (c : Comment) → List·Memᴰ c (endComments t) → Placed (t .source) c
+  in-end : {c : Comment} → List·Memᴰ c (endComments t) → List·Memᴰ c (t .comments)
   unfolding endComments
-  in-end = group-placed fit (endGroup (t .program) (t .groups))
+  in-end = group-member (t .comments) (endGroup (t .program) (t .groups))
 
-  -- the comment whose reading counts, with what is shown of it
-  first-shown : {A : Type 0} {r : Reader A} {cs : List Comment} {a : A} → FirstReading r cs a → ((c : Comment) → List·Memᴰ c cs → Placed (t .source) c)
-      → (c : Comment) × Placed (t .source) c × r .Gives c a
-  first-shown h placed = (h .comment, placed (h .comment) (middle-member (h .before) (h .behind) (h .among)), h .gives)
+  -- the comment of the first reading in those of the head group that a rule is given
+  first-shown : {A : Type 0} {r : Reader A} (b : Bool) {a : A} (h : FirstReading r (givenIf b (headComments t)) a) → List·Memᴰ (h .comment) (t .comments)
+  first-shown b h = in-head (given-member b (headComments t) (middle-member (h .before) (h .behind) (h .among)))
 
-  given : (b : Bool) (c : Comment) → List·Memᴰ c (givenIf b (headComments t)) → Placed (t .source) c
-  given b c i = in-head c (given-member b (headComments t) i)
-
-  pub texts : (m : ModuleInfo) → Present t m → ((d : DependencyDescriptor) → List·Memᴰ d (m .dependencies) → Shown (t .source) (typesOf d)) → Texts (t .source) m
+  pub texts : (m : ModuleInfo) → Present t m → All (λ d. IfThere (TypesShown t) (typesOf d)) (m .dependencies) → Texts t m
   texts m p types = record {
     types = types;
-    references = λ r i. let (c, j, g) = order-member (p .references (m .tsReferences) .0 refl) i in reference-shown (t .source) f c (in-head c j) r g;
-    self-types = λ x e. let (c, h, g) = first-shown (p .self-types .some x .0 e) (given (isJavaScript (t .media))) in read-texts (t .source) f c h .ts-self-types x g;
-    jsx-import-source = λ x e. let (c, h, g) = first-shown (p .jsx-import-source .some x .0 e) (given (isJsx (t .media))) in read-texts (t .source) f c h .jsx-import-source x (g .1);
-    jsx-import-source-types = λ x e. let (c, h, g) = first-shown (p .jsx-import-source-types .some x .0 e) (given (isJsx (t .media))) in read-texts (t .source) f c h .jsx-import-source-types x (g .1);
-    source-map-url = λ x e.
+    references = of-members _ (m .tsReferences) (λ r i. let (c, j, g) = order-member (p .references (m .tsReferences) .0 refl) i in reference-shown (in-head j) r g);
+    self-types = if-there _ (m .selfTypesSpecifier)
+        (λ x e. let h = p .self-types .some x .0 e in let i = first-shown (isJavaScript (t .media)) h in in-marks i (each i .ts-self-types) (h .gives));
+    jsx-import-source = if-there _ (m .jsxImportSource)
+        (λ x e. let h = p .jsx-import-source .some x .0 e in let i = first-shown (isJsx (t .media)) h in bare i (each i .jsx-import-source) (h .gives .1));
+    jsx-import-source-types = if-there _ (m .jsxImportSourceTypes)
+        (λ x e. let h = p .jsx-import-source-types .some x .0 e in let i = first-shown (isJsx (t .media)) h in bare i (each i .jsx-import-source-types) (h .gives .1));
+    source-map-url = if-there _ (m .sourceMapUrl)
+        (λ x e.
         let h = p .source-map-url .some x .0 e in
-        read-texts (t .source) f (h .comment) (in-end (h .comment) (middle-member (h .before) (h .behind) (h .among))) .source-mapping-url x (h .gives);
+        let i = in-end (middle-member (h .before) (h .behind) (h .among)) in
+        bare i (each i .source-mapping-url) (h .gives));
   }

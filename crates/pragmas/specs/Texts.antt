@@ -1,45 +1,58 @@
--- Demand 3 for the texts of references and pragmas: the source between the two positions of each, less the two marks where a quoted text is read, is its text.
-use mathlib.Core.Path.{_≡_}
-use mathlib.Core.Bool.{Bool, true, cond}
+-- Demand 3 for the texts of references and pragmas: each stands in the source at its reading's place, in two marks or bare, as its rule's row asks.
+use mathlib.Core.Bool.{Bool, true, false}
+use mathlib.Core.Logic.{_⊎_}
 use mathlib.Core.List.{List, List·Memᴰ}
 use mathlib.Core.Option.{Option}
-use Prim.Native.Nat.{ℕ, _+_, _-_}
-use lib.ListN.{getD}
-use Rattle.text.specs.Bytes.{Mark}
-use Rattle.sheet.specs.declared.fields.Span.{Span}
-use Rattle.sheet.specs.Comments.{slice}
+use Prim.Native.Nat.{ℕ}
+use Rattle.laws.specs.Codec.{All, IfThere}
+use Rattle.analysis.specs.declared.Capture.{Capture}
+use Rattle.analysis.specs.Row.{Row}
+use Rattle.analysis.specs.Patterns.{pathRow, typesRow, jsxImportSourceRow, jsxImportSourceTypesRow, sourceMappingUrlRow, tsSelfTypesRow, tsTypesRow, denoTypesRow}
+use Rattle.sheet.specs.declared.comments.Comment.{Comment}
+use Rattle.sheet.specs.Sheet.{Sheet}
 use Rattle.report.specs.ModuleInfo.{SpecifierWithRange, TypeScriptReference, path, types, DependencyDescriptor, static, dynamic, ModuleInfo}
-use Rattle.report.specs.Range.{RangeAt}
+use Rattle.report.specs.Stands.{Bare, InMarks, StandsAt}
+use Rattle.pragmas.specs.Readings.{placeIn}
+use Rattle.pragmas.specs.Present.{Read}
 
--- a span without a byte at either end where it is quoted
-abbrev pub lessMarks : Bool → Span → Span
-lessMarks quoted sp = record { start = sp .start + cond quoted 1 0; end = sp .end - cond quoted 1 0 }
+-- how the text is written that a capture says is quoted or not
+abbrev pub writtenIf : Bool → List ℕ → List ℕ → Type 0
+writtenIf true = InMarks
+writtenIf false = Bare
 
--- the two positions of a specifier are those of one place of the source only, and there stands its text, between two marks where it is quoted
-pub record Between (source : List ℕ) (x : SpecifierWithRange) : Type 0 where
-  pub place : Span
-  pub quoted : Bool
-  pub range : RangeAt source (x .range) place
-  pub marks : quoted ≡ true → Mark (getD source (place .start) 0) × Mark (getD source (place .end - 1) 0)
-  pub text : slice source (lessMarks quoted place) ≡ x .text
+-- x is the reading of a row in some comment of the sheet, and stands at the place of what is captured there, written as the row asks
+pub record Shown (row : Row) (asks : Capture → List ℕ → List ℕ → Type 0) (t : Sheet) (x : SpecifierWithRange) : Type 0 where
+  pub comment : Comment
+  pub among : List·Memᴰ comment (t .comments)
+  pub read : Read row (t .source) comment x
+  pub stands : StandsAt (asks (read .capture)) (t .source) x (placeIn comment (read .capture))
 
-abbrev pub specifierOf : TypeScriptReference → SpecifierWithRange
-specifierOf (path x) = x
-specifierOf (types x mode) = x
+-- the row asks for two marks, for none, or, by its alternatives, for either
+abbrev pub ShownInMarks : Row → Sheet → SpecifierWithRange → Type 0
+ShownInMarks row = Shown row (λ k. InMarks)
+
+abbrev pub ShownBare : Row → Sheet → SpecifierWithRange → Type 0
+ShownBare row = Shown row (λ k. Bare)
+
+abbrev pub ShownEither : Row → Sheet → SpecifierWithRange → Type 0
+ShownEither row = Shown row (λ k. writtenIf (k .quoted))
+
+abbrev pub ReferenceShown : Sheet → TypeScriptReference → Type 0
+ReferenceShown t (path x) = ShownInMarks pathRow t x
+ReferenceShown t (types x mode) = ShownInMarks typesRow t x
+
+abbrev pub TypesShown : Sheet → SpecifierWithRange → Type 0
+TypesShown t x = ShownInMarks tsTypesRow t x ⊎ ShownEither denoTypesRow t x
 
 abbrev pub typesOf : DependencyDescriptor → Option SpecifierWithRange
 typesOf (static d) = d .typesSpecifier
 typesOf (dynamic d) = d .typesSpecifier
 
--- an answer, if there is one, stands in the source
-abbrev pub Shown : List ℕ → Option SpecifierWithRange → Type 0
-Shown source answer = (x : SpecifierWithRange) → answer ≡ Option.some x → Between source x
-
 -- so does each types specifier, reference and pragma that the module information m has
-pub record Texts (source : List ℕ) (m : ModuleInfo) : Type 0 where
-  pub types : (d : DependencyDescriptor) → List·Memᴰ d (m .dependencies) → Shown source (typesOf d)
-  pub references : (r : TypeScriptReference) → List·Memᴰ r (m .tsReferences) → Between source (specifierOf r)
-  pub self-types : Shown source (m .selfTypesSpecifier)
-  pub jsx-import-source : Shown source (m .jsxImportSource)
-  pub jsx-import-source-types : Shown source (m .jsxImportSourceTypes)
-  pub source-map-url : Shown source (m .sourceMapUrl)
+pub record Texts (t : Sheet) (m : ModuleInfo) : Type 0 where
+  pub types : All (λ d. IfThere (TypesShown t) (typesOf d)) (m .dependencies)
+  pub references : All (ReferenceShown t) (m .tsReferences)
+  pub self-types : IfThere (ShownInMarks tsSelfTypesRow t) (m .selfTypesSpecifier)
+  pub jsx-import-source : IfThere (ShownBare jsxImportSourceRow t) (m .jsxImportSource)
+  pub jsx-import-source-types : IfThere (ShownBare jsxImportSourceTypesRow t) (m .jsxImportSourceTypes)
+  pub source-map-url : IfThere (ShownBare sourceMappingUrlRow t) (m .sourceMapUrl)

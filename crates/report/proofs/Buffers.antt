@@ -15,7 +15,7 @@ use Rattle.report.specs.Buffer.{Buffer, holds, full, wrote, fullPlace, b
 
 pub wrote-append : (w : Buffer) (a b : List ℕ) → wrote w (a ++ b) ≡ wrote (wrote w a) b
 unfolding wrote
-wrote-append full a b = refl
+wrote-append (full size) a b = refl
 wrote-append (holds size xs) a b = by-room (leb (length xs + length a) size) refl
   where
     by-room : (t : Bool) → leb (length xs + length a) size ≡ t → wrote (holds size xs) (a ++ b) ≡ wrote (wrote (holds size xs) a) b
@@ -32,7 +32,7 @@ pub wrote-nil : (out : List ℕ) (p : Place) → wrote (bufferAs out p) [] ≡ b
 unfolding wrote
 wrote-nil out p = by-full (eqb (p .at) fullPlace)
   where
-    by-full : (t : Bool) → wrote (cond t full (holds (length out) (take (p .at) out))) [] ≡ cond t full (holds (length out) (take (p .at) out))
+    by-full : (t : Bool) → wrote (cond t (full (length out)) (holds (length out) (take (p .at) out))) [] ≡ cond t (full (length out)) (holds (length out) (take (p .at) out))
     by-full true = refl
     by-full false =
         let room : length (take (p .at) out) + 0 ≤ length out = omega (arith, length-take (p .at) out) in
@@ -46,10 +46,10 @@ module _ (out : List ℕ) (at b : ℕ) where
       rw
       (ne-eqb (at + 1) fullPlace (λ e. omega (arith, e, l, h)), ne-eqb at fullPlace (λ e. omega (arith, e, l, h)), length-take-le at out (omega arith), le-leb (at + 1) (length out) (omega arith), length-set, add-one, take-suc-set out at b h)
 
-  pub put-none : length out ≤ at → full ≡ wrote (bufferAs out (record { at = at })) (b ∷ [])
+  pub put-none : length out ≤ at → full (length out) ≡ wrote (bufferAs out (record { at = at })) (b ∷ [])
   unfolding wrote
   put-none h = by-full (eqb at fullPlace)
     where
-      by-full : (t : Bool) → full ≡ wrote (cond t full (holds (length out) (take at out))) (b ∷ [])
+      by-full : (t : Bool) → full (length out) ≡ wrote (cond t (full (length out)) (holds (length out) (take at out))) (b ∷ [])
       by-full true = refl
       by-full false = rw (take-all at out h, lt-leb (length out + 1) (length out) (omega arith))

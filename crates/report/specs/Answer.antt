@@ -35,7 +35,7 @@ fitted size bytes = cond (leb (length bytes) size) (accepted size bytes) (refuse
 -- the answer once all is written
 abbrev pub answered : ℕ → Buffer → Answer
 answered size (holds n bytes) = accepted size bytes
-answered size full = refusedWith 10 size
+answered size (full n) = refusedWith 10 size
 
 -- what the code's answer stands for, with what the buffer has then
 abbrev pub outcomeAs : Outcome → List ℕ → Answer

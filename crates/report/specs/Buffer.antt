@@ -6,15 +6,15 @@ use lib.Dec.{eqb, leb}
 use lib.ListN.{length, take}
 use Rattle.report.specs.declared.writer.Place.{Place}
 
--- what stands in a buffer of so many bytes; or some byte found no room
+-- how many bytes a buffer has, and those that begin it, what is behind them being left free; or some byte found no room, and all its bytes are left free
 pub data Buffer : Type 0 where
   holds : ℕ → List ℕ → Buffer
-  full : Buffer
+  full : ℕ → Buffer
 
 -- the bytes written behind what stands there, if there is room for all of them
 unfoldable pub wrote : Buffer → List ℕ → Buffer
-wrote (holds size xs) bs = cond (leb (length xs + length bs) size) (holds size (xs ++ bs)) full
-wrote full bs = full
+wrote (holds size xs) bs = cond (leb (length xs + length bs) size) (holds size (xs ++ bs)) (full size)
+wrote (full size) bs = full size
 
 -- the place that stands for full: the largest number of the machine, which is no place in any buffer
 abbrev pub fullPlace : ℕ
@@ -22,4 +22,4 @@ fullPlace = 18446744073709551615
 
 -- what a buffer with a place in it stands for
 abbrev pub bufferAs : List ℕ → Place → Buffer
-bufferAs out p = cond (eqb (p .at) fullPlace) full (holds (length out) (take (p .at) out))
+bufferAs out p = cond (eqb (p .at) fullPlace) (full (length out)) (holds (length out) (take (p .at) out))

@@ -4,5 +4,6 @@ pub mod Encode
 pub mod Buffer
 pub mod Valid
 pub mod Range
+pub mod Stands
 pub mod Answer
 pub mod Lent

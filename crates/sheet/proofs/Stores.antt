@@ -27,6 +27,7 @@ in-sets t i (v ∷ vs) h (suc j) n l e = in-sets (set t i v) (suc i) vs (simp le
 pub record Table {A : Type 0} (width : ℕ) (read : List ℕ → ℕ → A) (row : A → List ℕ) : Type 0 where
   pub same : (t : List ℕ) (k : ℕ) (a : A) → width * k + width ≤ length t → read (sets t (width * k) (row a)) k ≡ a
   pub other : (t : List ℕ) (k : ℕ) (a : A) (j : ℕ) → (j ≡ k → ⊥) → read (sets t (width * k) (row a)) j ≡ read t j
+  pub wide : (a : A) → length (row a) ≡ width
 
 pub comment-table : Table 3 commentIn commentRow
 comment-table =
@@ -37,6 +38,7 @@ comment-table =
       other = λ t k c j h.
           let v = outside-sets t (3 * k) (commentRow c) in
           simp (v (3 * j) (λ l. omega arith), v (3 * j + 1) (λ l. omega arith), v (3 * j + 2) (λ l. omega arith));
+      wide = λ c. refl;
     }
 
 pub group-table : Table 4 groupIn groupRow
@@ -53,6 +55,7 @@ group-table =
       other = λ t k g j h.
           let v = outside-sets t (4 * k) (groupRow g) in
           simp (v (4 * j) (λ l. omega arith), v (4 * j + 1) (λ l. omega arith), v (4 * j + 2) (λ l. omega arith), v (4 * j + 3) (λ l. omega arith));
+      wide = λ g. refl;
     }
 
 module _ {A : Type 0} {width : ℕ} {read : List ℕ → ℕ → A} {row : A → List ℕ} (table : Table width read row) where

@@ -8,6 +8,7 @@ ghost use mathlib.Core.Path.{_≡_};
 ghost use Prim.Native.Nat.{_+_, _*_, _≤_, _<_};
 ghost use lib.ListN.{length, drop};
 ghost use lib.Seq.{sets};
+ghost use Rattle.laws.specs.Left.{KeptFrom};
 ghost use Rattle.sheet.specs.Comments.{enclosed, marked, comment, comments};
 ghost use Rattle.sheet.specs.Tables.{commentRow, commentIn};
 ghost use Rattle.sheet.specs.Views.{commentAs, commentsAs};
@@ -106,10 +107,11 @@ pub fn comment_at(table: &[u32], k: usize) -> Comment
     Comment { kind, span }
 }
 
-// Reads n comments into the first rows of a table.
+// Reads n comments into the first n rows of a table, which a refusal leaves free. Behind these nothing is changed.
 pub fn read_comments(sheet: &[u8], source: &[u8], c: Cursor, n: usize, table: &mut [u32]) -> Filled
     requires { ⌜ 3 * n ≤ length (now table) ⌝ }
     ensures { λ r. ⌜ commentsAs (now (sheet .entry)) (now (table .exit)) n r ≡ comments (now (source .entry)) 0 n (drop (c .at) (now (sheet .entry))) ⌝ }
+    ensures { λ _. ⌜ KeptFrom (3 * n) (now (table .entry)) (now (table .exit)) ⌝ }
 {
     let mut next = c;
     let mut last = 0;

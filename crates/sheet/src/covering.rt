@@ -5,6 +5,7 @@ ghost use mathlib.Core.List.{_++_};
 ghost use Prim.Native.Nat.{ℕ, _*_, _≤_, _<_, max};
 ghost use lib.Dec.{eqb};
 ghost use lib.ListN.{length, getD, drop, replicate};
+ghost use Rattle.laws.specs.Left.{Free};
 ghost use Rattle.sheet.specs.Comments.{covered};
 ghost use Rattle.sheet.specs.Tables.{groupsIn};
 ghost use Rattle.sheet.specs.Covering.{longestAt};
@@ -53,11 +54,12 @@ fn larger(a: usize, b: usize) -> usize
     if a < b { b } else { a }
 }
 
-// Is each of the first n comments in one of the m groups? `longest` is lent to work in.
+// Is each of the first n comments in one of the m groups? `longest` is lent to work in, and left free.
 pub fn is_covered(table: &[u32], m: usize, n: usize, longest: &mut [u32]) -> bool
     requires { ⌜ 4 * m ≤ length (now table) ⌝ }
     requires { ⌜ n ≤ length (now longest) ⌝ }
     ensures { λ r. ⌜ r ≡ covered (groupsIn (now (table .entry)) m) n ⌝ }
+    ensures { λ _. ⌜ Free (now (longest .entry)) (now (longest .exit)) ⌝ }
 {
     clear(longest, n);
     keep_longest(table, m, longest, n);

@@ -9,6 +9,7 @@ ghost use Prim.Native.Nat.{_+_, _*_, _≤_, _<_};
 ghost use lib.Dec.{leb, ltb};
 ghost use lib.ListN.{length, drop};
 ghost use lib.Seq.{sets};
+ghost use Rattle.laws.specs.Left.{KeptFrom};
 ghost use Rattle.sheet.specs.Comments.{precedes, anywhere, group, groups};
 ghost use Rattle.sheet.specs.Tables.{groupRow, groupIn};
 ghost use Rattle.sheet.specs.Views.{afterAs, groupAs, groupsAs};
@@ -134,7 +135,7 @@ pub fn group_at(table: &[u32], k: usize) -> Group
     }
 }
 
-// Reads m groups of comments among `total` into the first rows of a table.
+// Reads m groups of comments among `total` into the first m rows of a table, which a refusal leaves free. Behind these nothing is changed.
 pub fn read_groups(
     sheet: &[u8],
     source: &[u8],
@@ -146,6 +147,7 @@ pub fn read_groups(
     requires { ⌜ 4 * m ≤ length (now table) ⌝ }
     ensures { λ r. ⌜ groupsAs (now (sheet .entry)) (now (table .exit)) m r
         ≡ groups (now (source .entry)) total anywhere m (drop (c .at) (now (sheet .entry))) ⌝ }
+    ensures { λ _. ⌜ KeptFrom (4 * m) (now (table .entry)) (now (table .exit)) ⌝ }
 {
     let mut next = c;
     let mut before = Before::Nothing;

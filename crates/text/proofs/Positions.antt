@@ -8,7 +8,7 @@ use native.Mathlib.Omega.{arith}
 use native.Mathlib.Numerals.{add-one}
 use lib.Dec.{eqb}
 use lib.ListN.{length, getD, set, take, drop, length-set}
-use lib.Seq.{take-add, drop-cons, length-take-le, getD-set-same, getD-set-other}
+use lib.Seq.{take-add, drop-cons, length-take-le, getD-set-same, getD-set-other, drop-set-lt}
 use borrow.Author.Count.{below-more}
 use Rattle.text.specs.declared.position.Position.{Position}
 use Rattle.text.specs.Ranges.{within}
@@ -103,6 +103,18 @@ pub index-more : {unit : Units} {s t : List ℕ} {n : ℕ} → Indexed unit s t 
     → Indexed unit s (stored t n p) (n + 1)
 index-more {unit} {s} {t} {n} h p l e = record {
   right = below-more (λ k. kept (stored t n p) k ≡ positionOf unit s (64 * k)) n (λ k i. kept-other t n k p i ∙ h .right k i) (kept-same t n p l ∙ e);
+}
+
+-- an index is as it was from the nth position on
+pub record Untouched (before after : List ℕ) (n : ℕ) : Type 0 where
+  pub from : (m : ℕ) → 2 * n ≤ m → drop m after ≡ drop m before
+
+pub untouched-none : (t : List ℕ) (n : ℕ) → Untouched t t n
+untouched-none t n = record { from = λ m l. refl }
+
+pub untouched-more : {before after : List ℕ} {n : ℕ} → Untouched before after n → (p : Position) → Untouched before (stored after n p) (n + 1)
+untouched-more {after = t} {n = n} h p = record {
+  from = λ m l. drop-set-lt m (set t (2 * n) (p .line)) (2 * n + 1) (p .column) (omega arith) ∙ drop-set-lt m t (2 * n) (p .line) (omega arith) ∙ h .from m (omega arith);
 }
 
 -- by a right index the position is that of the text

@@ -2,6 +2,7 @@
 ghost use mathlib.Core.Path.{_≡_};
 ghost use Prim.Native.Nat.{ℕ, _+_, _-_, _*_, _/_, _≤_, _<_};
 ghost use lib.ListN.{length, getD, take, drop};
+ghost use Rattle.laws.specs.Left.{KeptFrom};
 ghost use Rattle.text.specs.Ranges.{within};
 ghost use Rattle.text.specs.Utf8.{continuation};
 ghost use Rattle.text.specs.Totals.{total, endsLine, beginsOne};
@@ -153,10 +154,11 @@ fn scan_block(s: &[u8], p: Position, from: usize) -> Position
     }
 }
 
-// Fills the index: the line and the column at each 64th byte of the text.
+// Fills the index: the line and the column at each 64th byte of the text. Behind these nothing is changed.
 pub fn build_index(s: &[u8], index: &mut [u32])
     requires { ⌜ (length (now s) < 4294967296) × (2 * (length (now s) / 64) + 1 < length (now index)) ⌝ }
     ensures { λ _. ⌜ Indexed characters (now (s .entry)) (now (index .exit)) (length (now (s .entry)) / 64 + 1) ⌝ }
+    ensures { λ _. ⌜ KeptFrom (2 * (length (now (s .entry)) / 64) + 2) (now (index .entry)) (now (index .exit)) ⌝ }
 {
     let mut p = Position { line: 0, column: 0 };
     let mut k = 0;

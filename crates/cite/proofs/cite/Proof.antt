@@ -17,12 +17,12 @@ cite-report-requires c κs = let room = reported (rw (c .before .before .before 
 
 returns : tie.Need-returns
 returns c =
-    (rw (refused-lines (rw (c .before .before .before .before .before .before .before .before .before .before .before .before .before .before .pre .0, c .before .before .before .before .before .r .given .1) at (c .before .before .before .before .before .before .before .before .before .module-info .ensures))) (c .before .before .cite-refusal .ensures .0), c .before .before .cite-refusal .ensures .1)
+    (rw (refused-lines (rw (c .before .before .before .before .before .before .before .before .before .before .before .before .before .before .pre .0, c .before .before .before .before .before .r .given .1) at (c .before .before .before .before .before .before .before .before .before .module-info .ensures))) (c .before .before .cite-refusal .ensures .0), c .before .before .cite-refusal .ensures .1 .0)
 
 returns-2 : tie.Need-returns-2
 returns-2 c =
     let q = reported (rw (c .before .before .before .before .before .before .before .before .before .before .before .before .before .before .before .pre .0, c .before .before .before .before .before .before .n .given .1) at (c .before .before .before .before .before .before .before .before .before .before .module-info .ensures)) in
-    (rw (q .lines) (c .before .before .cite-report .ensures .0 (q .info) (q .valid) (q .bytes)), c .before .before .cite-report .ensures .1)
+    (rw (q .lines) (c .before .before .cite-report .ensures .0 (q .info) (q .valid) (q .bytes)), c .before .before .cite-report .ensures .1 .0)
 
 pub cite-spec : {M : Type 1} → statement M
 cite-spec =

@@ -4,7 +4,7 @@ use Rattle.module_info.proofs.put_dependencies.Statement.{statement}
 use Rattle.module_info.proofs.put_dependencies.Tie as tie
 
 returns : tie.Need-returns
-returns c = λ t o r. dependencies-written o r _ (c .before .before .before .before .before .before .put-flag .ensures) (c .before .before .analyze-program-dependencies .ensures)
+returns c = λ t o r. dependencies-written o r _ (c .before .before .before .before .before .before .put-flag .ensures) (c .before .before .analyze-program-dependencies .ensures .0)
 
 pub put-dependencies-spec : {M : Type 1} → statement M
 put-dependencies-spec = tie.close (tie.spec (λ c κs. search needs) (λ c κs. search needs) (λ c. search needs) returns)

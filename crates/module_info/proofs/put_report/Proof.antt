@@ -9,13 +9,13 @@ build-index-requires : tie.Need-build-index-requires
 build-index-requires c κs = let short = source-short (c .before .before .before .before .pre) in (omega arith, omega arith)
 
 put-dependencies-requires : tie.Need-put-dependencies-requires
-put-dependencies-requires c κs = lent (c .before .before .before .before .before .before .before .before .before .before .before .pre) (search needs) (search needs) (search needs) (c .before .before .before .before .before .before .build-index .ensures)
+put-dependencies-requires c κs = lent (c .before .before .before .before .before .before .before .before .before .before .before .pre) (search needs) (search needs) (search needs) (c .before .before .before .before .before .before .build-index .ensures .0)
 
 put-head-requires : tie.Need-put-head-requires
-put-head-requires c κs = lent (c .before .before .before .before .before .before .before .before .before .before .before .before .before .before .before .before .before .before .pre) (search needs) (search needs) (search needs) (c .before .before .before .before .before .before .before .before .before .before .before .before .before .build-index .ensures)
+put-head-requires c κs = lent (c .before .before .before .before .before .before .before .before .before .before .before .before .before .before .before .before .before .before .pre) (search needs) (search needs) (search needs) (c .before .before .before .before .before .before .before .before .before .before .before .before .before .build-index .ensures .0)
 
 put-rest-small-requires : tie.Need-put-rest-small-requires
-put-rest-small-requires c κs = (lent (c .before .before .before .before .before .before .before .before .before .before .before .before .before .before .before .before .before .before .before .before .before .before .before .before .before .before .pre) (search needs) (search needs) (search needs) (c .before .before .before .before .before .before .before .before .before .before .before .before .before .before .before .before .before .before .before .before .before .build-index .ensures), c .before .before .before .before .if1 .taken)
+put-rest-small-requires c κs = (lent (c .before .before .before .before .before .before .before .before .before .before .before .before .before .before .before .before .before .before .before .before .before .before .before .before .before .before .pre) (search needs) (search needs) (search needs) (c .before .before .before .before .before .before .before .before .before .before .before .before .before .before .before .before .before .before .before .before .before .build-index .ensures .0), c .before .before .before .before .if1 .taken)
 
 returns : tie.Need-returns
 returns c =
@@ -24,7 +24,7 @@ returns c =
     report-written t _ (c .before .before .before .before .before .before .before .before .before .before .before .before .before .before .before .before .before .put-dependencies .ensures t (parts-of a e) (root-of a e)) (c .before .before .before .before .before .before .before .before .before .before .put-head .ensures t (parts-of a e)) (c .before .before .put-rest-small .ensures t (parts-of a e))
 
 put-rest-large-requires : tie.Need-put-rest-large-requires
-put-rest-large-requires c κs = lent (c .before .before .before .before .before .before .before .before .before .before .before .before .before .before .before .before .before .before .before .before .before .before .before .before .before .before .pre) (search needs) (search needs) (search needs) (c .before .before .before .before .before .before .before .before .before .before .before .before .before .before .before .before .before .before .before .before .before .build-index .ensures)
+put-rest-large-requires c κs = lent (c .before .before .before .before .before .before .before .before .before .before .before .before .before .before .before .before .before .before .before .before .before .before .before .before .before .before .pre) (search needs) (search needs) (search needs) (c .before .before .before .before .before .before .before .before .before .before .before .before .before .before .before .before .before .before .before .before .before .build-index .ensures .0)
 
 returns-2 : tie.Need-returns-2
 returns-2 c =

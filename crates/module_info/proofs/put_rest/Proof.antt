@@ -17,7 +17,7 @@ analyze-source-map-url-requires : tie.Need-analyze-source-map-url-requires
 analyze-source-map-url-requires c κs = (c .before .before .before .before .before .before .before .before .before .before .before .before .before .before .before .pre .1 .0, end-reached (c .before .before .before .before .before .before .before .before .before .before .before .before .before .before .before .pre .1 .1 .grouped) (programOf (c .before .before .before .before .before .before .before .before .before .before .before .before .before .before .before .args .parts .program)) _ (c .before .end-group .ensures))
 
 returns : tie.Need-returns
-returns c = λ t o. rest-written o _ (c .before .before .before .before .end-group .ensures) (c .before .before .before .before .before .before .before .before .before .analyze-jsdoc-imports .ensures) (c .before .before .analyze-source-map-url .ensures)
+returns c = λ t o. rest-written o _ (c .before .before .before .before .end-group .ensures) (c .before .before .before .before .before .before .before .before .before .analyze-jsdoc-imports .ensures .0) (c .before .before .analyze-source-map-url .ensures)
 
 pub put-rest-spec : {M : Type 1} → statement M
 put-rest-spec =

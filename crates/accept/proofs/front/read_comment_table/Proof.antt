@@ -23,13 +23,13 @@ returns-2 : tie.Need-returns-2
 unfolding commentFields
 returns-2 c =
     let s = now (c .before .before .before .before .before .before .before .before .before .before .before .before .before .before .args .sheet) in
-    rw (seen (readAs s) (c .before .before .before .before .before .before .before .before .before .before .count .ensures .0) (c .before .before .before .before .before .before .before .before .n .given .1), ← (rw (c .before .r2 .given .1) at (c .before .before .before .before .before .read-comments .ensures)))
+    rw (seen (readAs s) (c .before .before .before .before .before .before .before .before .before .before .count .ensures .0) (c .before .before .before .before .before .before .before .before .n .given .1), ← (rw (c .before .r2 .given .1) at (c .before .before .before .before .before .read-comments .ensures .0)))
 
 returns-3 : tie.Need-returns-3
 unfolding commentFields
 returns-3 c =
     let s = now (c .before .before .before .before .before .before .before .before .before .before .before .before .before .before .args .sheet) in
-    rw (seen (readAs s) (c .before .before .before .before .before .before .before .before .before .before .count .ensures .0) (c .before .before .before .before .before .before .before .before .n .given .1), ← (rw (c .before .next .given .1) at (c .before .before .before .before .before .read-comments .ensures)))
+    rw (seen (readAs s) (c .before .before .before .before .before .before .before .before .before .before .count .ensures .0) (c .before .before .before .before .before .before .before .before .n .given .1), ← (rw (c .before .next .given .1) at (c .before .before .before .before .before .read-comments .ensures .0)))
 
 pub read-comment-table-spec : {M : Type 1} → statement M
 read-comment-table-spec =

@@ -28,25 +28,25 @@ returns : tie.Need-returns
 unfolding front
 returns c =
     let s = now (c .before .before .before .before .before .before .before .before .args .sheet) in
-    (rw (seen (sourceAs s) (c .before .before .before .read-source .ensures .0) (c .before .r .given .1)), tt)
+    (rw (seen (sourceAs s) (c .before .before .before .read-source .ensures .0) (c .before .r .given .1)), (tt, search needs))
 
 returns-2 : tie.Need-returns-2
 unfolding front
 returns-2 c =
     let s = now (c .before .before .before .before .before .before .before .before .before .before .before .before .before .before .before .before .args .sheet) in
-    (rw (seen (sourceAs s) (c .before .before .before .before .before .before .before .before .before .before .before .read-source .ensures .0) (c .before .before .before .before .before .before .before .before .before .media .given .1), ← (rw (c .before .r2 .given .1) at (c .before .before .before .before .before .read-comment-table .ensures))), tt)
+    (rw (seen (sourceAs s) (c .before .before .before .before .before .before .before .before .before .before .before .read-source .ensures .0) (c .before .before .before .before .before .before .before .before .before .media .given .1), ← (rw (c .before .r2 .given .1) at (c .before .before .before .before .before .read-comment-table .ensures))), (tt, search needs))
 
 returns-3 : tie.Need-returns-3
 unfolding front
 returns-3 c =
     let s = now (c .before .before .before .before .before .before .before .before .before .before .before .before .before .before .before .before .before .before .before .before .before .before .before .before .before .before .args .sheet) in
-    (rw (seen (sourceAs s) (c .before .before .before .before .before .before .before .before .before .before .before .before .before .before .before .before .before .before .before .before .before .read-source .ensures .0) (c .before .before .before .before .before .before .before .before .before .before .before .before .before .before .before .before .before .before .before .media .given .1), ← (rw (c .before .before .before .before .before .before .before .before .before .before .before .n .given .1) at (c .before .before .before .before .before .before .before .before .before .before .before .before .before .before .before .read-comment-table .ensures)), ← (rw (c .before .r3 .given .1) at (c .before .before .before .before .before .before .before .read-group-table .ensures))), tt)
+    (rw (seen (sourceAs s) (c .before .before .before .before .before .before .before .before .before .before .before .before .before .before .before .before .before .before .before .before .before .read-source .ensures .0) (c .before .before .before .before .before .before .before .before .before .before .before .before .before .before .before .before .before .before .before .media .given .1), ← (rw (c .before .before .before .before .before .before .before .before .before .before .before .n .given .1) at (c .before .before .before .before .before .before .before .before .before .before .before .before .before .before .before .read-comment-table .ensures)), ← (rw (c .before .r3 .given .1) at (c .before .before .before .before .before .before .before .read-group-table .ensures))), (tt, search needs))
 
 returns-4 : tie.Need-returns-4
 unfolding front
 returns-4 c =
     let s = now (c .before .before .before .before .before .before .before .before .before .before .before .before .before .before .before .before .before .before .before .before .before .before .before .before .before .before .args .sheet) in
-    (rw (seen (sourceAs s) (c .before .before .before .before .before .before .before .before .before .before .before .before .before .before .before .before .before .before .before .before .before .read-source .ensures .0) (c .before .before .before .before .before .before .before .before .before .before .before .before .before .before .before .before .before .before .before .media .given .1), ← (rw (c .before .before .before .before .before .before .before .before .before .before .before .n .given .1) at (c .before .before .before .before .before .before .before .before .before .before .before .before .before .before .before .read-comment-table .ensures)), ← (rw (c .before .m .given .1) at (c .before .before .before .before .before .before .before .read-group-table .ensures))), rw (c .before .before .before .before .before .before .before .before .before .before .before .before .before .before .before .before .before .before .before .media .given .1) at (c .before .before .before .before .before .before .before .before .before .before .before .before .before .before .before .before .before .before .before .before .before .read-source .ensures .1))
+    (rw (seen (sourceAs s) (c .before .before .before .before .before .before .before .before .before .before .before .before .before .before .before .before .before .before .before .before .before .read-source .ensures .0) (c .before .before .before .before .before .before .before .before .before .before .before .before .before .before .before .before .before .before .before .media .given .1), ← (rw (c .before .before .before .before .before .before .before .before .before .before .before .n .given .1) at (c .before .before .before .before .before .before .before .before .before .before .before .before .before .before .before .read-comment-table .ensures)), ← (rw (c .before .m .given .1) at (c .before .before .before .before .before .before .before .read-group-table .ensures))), (rw (c .before .before .before .before .before .before .before .before .before .before .before .before .before .before .before .before .before .before .before .media .given .1) at (c .before .before .before .before .before .before .before .before .before .before .before .before .before .before .before .before .before .before .before .before .before .read-source .ensures .1), search needs))
 
 pub read-front-spec : {M : Type 1} → statement M
 read-front-spec =

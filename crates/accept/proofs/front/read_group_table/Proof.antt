@@ -28,19 +28,19 @@ returns-2 : tie.Need-returns-2
 unfolding groupFields
 returns-2 c =
     let s = now (c .before .before .before .before .before .before .before .before .before .before .before .before .before .before .before .args .sheet) in
-    rw (seen (readAs s) (c .before .before .before .before .before .before .before .before .before .before .count .ensures .0) (c .before .before .before .before .before .before .before .before .m .given .1), ← (rw (c .before .r2 .given .1) at (c .before .before .before .before .before .read-groups .ensures)))
+    rw (seen (readAs s) (c .before .before .before .before .before .before .before .before .before .before .count .ensures .0) (c .before .before .before .before .before .before .before .before .m .given .1), ← (rw (c .before .r2 .given .1) at (c .before .before .before .before .before .read-groups .ensures .0)))
 
 returns-3 : tie.Need-returns-3
 unfolding groupFields
 returns-3 c =
     let s = now (c .before .before .before .before .before .before .before .before .before .before .before .before .before .before .before .before .before .before .before .before .before .args .sheet) in
-    rw (seen (readAs s) (c .before .before .before .before .before .before .before .before .before .before .before .before .before .before .before .before .count .ensures .0) (c .before .before .before .before .before .before .before .before .before .before .before .before .before .before .m .given .1), ← (rw (c .before .before .before .before .before .before .before .next .given .1) at (c .before .before .before .before .before .before .before .before .before .before .before .read-groups .ensures)), known (c .before .before .before .is-covered .ensures) (c .if1 .taken))
+    rw (seen (readAs s) (c .before .before .before .before .before .before .before .before .before .before .before .before .before .before .before .before .count .ensures .0) (c .before .before .before .before .before .before .before .before .before .before .before .before .before .before .m .given .1), ← (rw (c .before .before .before .before .before .before .before .next .given .1) at (c .before .before .before .before .before .before .before .before .before .before .before .read-groups .ensures .0)), known (c .before .before .before .is-covered .ensures .0) (c .if1 .taken))
 
 returns-4 : tie.Need-returns-4
 unfolding groupFields
 returns-4 c =
     let s = now (c .before .before .before .before .before .before .before .before .before .before .before .before .before .before .before .before .before .before .before .before .before .args .sheet) in
-    rw (seen (readAs s) (c .before .before .before .before .before .before .before .before .before .before .before .before .before .before .before .before .count .ensures .0) (c .before .before .before .before .before .before .before .before .before .before .before .before .before .before .m .given .1), ← (rw (c .before .before .before .before .before .before .before .next .given .1) at (c .before .before .before .before .before .before .before .before .before .before .before .read-groups .ensures)), known (c .before .before .before .is-covered .ensures) (c .if1 .left))
+    rw (seen (readAs s) (c .before .before .before .before .before .before .before .before .before .before .before .before .before .before .before .before .count .ensures .0) (c .before .before .before .before .before .before .before .before .before .before .before .before .before .before .m .given .1), ← (rw (c .before .before .before .before .before .before .before .next .given .1) at (c .before .before .before .before .before .before .before .before .before .before .before .read-groups .ensures .0)), known (c .before .before .before .is-covered .ensures .0) (c .if1 .left))
 
 pub read-group-table-spec : {M : Type 1} → statement M
 read-group-table-spec =

@@ -52,34 +52,43 @@ sub-check-node : (t : ℕ) → put-bin-lts.Need-sub-check-node (calls t) (put-bi
 sub-check-node t c = (rw (c .before .before .before .before .before .before .before .before .before .before .next .given .1) at (c .before .before .before .before .before .before .before .before .before .before .before .before .read-expression .ensures .1))
 
 returns : (t : ℕ) → put-bin-lts.Need-returns (calls t) (put-bin-at t) put-bin.Post
-returns t c n u l e is =
-    let string = rw (c .before .before .before .before .before .from .given .1) at (c .before .before .before .before .before .before .before .read-expression .ensures .0 n u e) in
-    (rw (← (only-part (string-chain string) is), encode-one) (c .before .before .put-string .ensures), string .past)
+returns t c = (
+  (λ n u l e is.
+      let string = rw (c .before .before .before .before .before .from .given .1) at (c .before .before .before .before .before .before .before .read-expression .ensures .0 n u e) in
+      (rw (← (only-part (string-chain string) is), encode-one) (c .before .before .put-string .ensures), string .past)),
+  search needs,
+)
 
 returns-2 : (t : ℕ) → put-bin-lts.Need-returns-2 (calls t) (put-bin-at t) put-bin.Post
-returns-2 t c n u l e is = absurd (no-parts (template-chain (rw (c .enum-told .given .1) at (c .before .before .read-expression .ensures .0 n u e))) is)
+returns-2 t c = ((λ n u l e is. absurd (no-parts (template-chain (rw (c .enum-told .given .1) at (c .before .before .read-expression .ensures .0 n u e))) is)), search needs)
 
 returns-3 : (t : ℕ) → put-bin-lts.Need-returns-3 (calls t) (put-bin-at t) put-bin.Post
-returns-3 t c n u l e is =
-    let a = c .before .before .before .before .before .before .before .before .before .before .before .before .before .before .before .before .before .before .before .args in
-    let plus = rw (c .before .before .before .before .before .before .before .before .before .before .before .before .before .next .given .1) at (c .before .before .before .before .before .before .before .before .before .before .before .before .before .before .before .read-expression .ensures .0 n u e) in
-    let (m, first, whole) = plus-parts plus is in
-    let left = c .before .before .before .before .before .before .before .before .before .before .put-bin .ensures (plus .left) (plus .between) m (plus .first) first in
-    absurd (checked-refused (ap (node (now (a .source)) (a .levels - 1)) (left .1) ∙ plus .second) (seen (checkedAs (now (a .sheet))) (c .before .before .check-node .ensures .0) (c .enum-told2 .given .1)))
+returns-3 t c = (
+  (λ n u l e is.
+      let a = c .before .before .before .before .before .before .before .before .before .before .before .before .before .before .before .before .before .before .before .args in
+      let plus = rw (c .before .before .before .before .before .before .before .before .before .before .before .before .before .next .given .1) at (c .before .before .before .before .before .before .before .before .before .before .before .before .before .before .before .read-expression .ensures .0 n u e) in
+      let (m, first, whole) = plus-parts plus is in
+      let left = c .before .before .before .before .before .before .before .before .before .before .put-bin .ensures .0 (plus .left) (plus .between) m (plus .first) first in
+      absurd (checked-refused (ap (node (now (a .source)) (a .levels - 1)) (left .1) ∙ plus .second) (seen (checkedAs (now (a .sheet))) (c .before .before .check-node .ensures .0) (c .enum-told2 .given .1)))),
+  search needs,
+)
 
 returns-4 : (t : ℕ) → put-bin-lts.Need-returns-4 (calls t) (put-bin-at t) put-bin.Post
-returns-4 t c n u l e is =
-    let a = c .before .before .before .before .before .before .before .before .before .before .before .before .before .before .before .before .before .before .before .before .args in
-    let plus = rw (c .before .before .before .before .before .before .before .before .before .before .before .before .before .before .next .given .1) at (c .before .before .before .before .before .before .before .before .before .before .before .before .before .before .before .before .read-expression .ensures .0 n u e) in
-    let (m, first, whole) = plus-parts plus is in
-    let left = c .before .before .before .before .before .before .before .before .before .before .before .put-bin .ensures (plus .left) (plus .between) m (plus .first) first in
-    let second = ap (node (now (a .source)) (a .levels - 1)) (left .1) ∙ plus .second in (
-      rw (← whole, wrote-parts, ← (left .0), encode-one) (c .before .before .before .before .before .before .put-operand .ensures (plus .right) u second),
-      same-rest judged (node (now (a .source)) (a .levels - 1) _) second (seen (checkedAs (now (a .sheet))) (c .before .before .before .check-node .ensures .0) (c .before .next3 .given .1)),
-    )
+returns-4 t c = (
+  (λ n u l e is.
+      let a = c .before .before .before .before .before .before .before .before .before .before .before .before .before .before .before .before .before .before .before .before .args in
+      let plus = rw (c .before .before .before .before .before .before .before .before .before .before .before .before .before .before .next .given .1) at (c .before .before .before .before .before .before .before .before .before .before .before .before .before .before .before .before .read-expression .ensures .0 n u e) in
+      let (m, first, whole) = plus-parts plus is in
+      let left = c .before .before .before .before .before .before .before .before .before .before .before .put-bin .ensures .0 (plus .left) (plus .between) m (plus .first) first in
+      let second = ap (node (now (a .source)) (a .levels - 1)) (left .1) ∙ plus .second in (
+        rw (← whole, wrote-parts, ← (left .0), encode-one) (c .before .before .before .before .before .before .put-operand .ensures (plus .right) u second),
+        same-rest judged (node (now (a .source)) (a .levels - 1) _) second (seen (checkedAs (now (a .sheet))) (c .before .before .before .check-node .ensures .0) (c .before .next3 .given .1)),
+      )),
+  search needs,
+)
 
 returns-5 : (t : ℕ) → put-bin-lts.Need-returns-5 (calls t) (put-bin-at t) put-bin.Post
-returns-5 t c n u l e is = absurd (no-parts ((rw (c .enum-told3 .given .1) at (c .before .before .read-expression .ensures .0 n u e)) .parts) is)
+returns-5 t c = ((λ n u l e is. absurd (no-parts ((rw (c .enum-told3 .given .1) at (c .before .before .read-expression .ensures .0 n u e)) .parts) is)), search needs)
 
 pub +put-bin-spec : {M : Type 1} → statement M
 +put-bin-spec =

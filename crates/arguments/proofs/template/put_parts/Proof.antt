@@ -36,11 +36,14 @@ loop-holds : tie.Need-loop-holds Inv-loop μ-loop
 loop-holds c = (refl, λ ps u e. (ps, e, refl))
 
 returns : tie.Need-returns Inv-loop μ-loop
-returns c ps u e =
-    let s = now (c .before .before .before .before .before .before .before .args .sheet) in
-    let l = c .before .before .before .before .loop in
-    let (qs, read, total) = l .inv .1 ps u e in
-    absurd (many-refused [] piece (l .left) (drop (l .at .at) s) (c .before .before .before .loop-test .taken) (seen (pieceAs s) (c .before .before .read-piece .ensures .0) (c .enum-told .given .1)) read)
+returns c = (
+  (λ ps u e.
+      let s = now (c .before .before .before .before .before .before .before .args .sheet) in
+      let l = c .before .before .before .before .loop in
+      let (qs, read, total) = l .inv .1 ps u e in
+      absurd (many-refused [] piece (l .left) (drop (l .at .at) s) (c .before .before .before .loop-test .taken) (seen (pieceAs s) (c .before .before .read-piece .ensures .0) (c .enum-told .given .1)) read)),
+  search needs,
+)
 
 put-piece-requires : tie.Need-put-piece-requires Inv-loop μ-loop
 put-piece-requires c κs =
@@ -73,11 +76,14 @@ loop-again-2 c =
 
 returns-2 : tie.Need-returns-2 Inv-loop μ-loop
 unfolding flatMap
-returns-2 c ps u e =
-    let s = now (c .before .before .before .before .args .sheet) in
-    let l = c .before .loop in
-    let (qs, read, total) = l .inv .1 ps u e in
-    sym (total ∙ rw (many-end [] piece (l .left) (drop (l .at .at) s) (c .loop-test .left) read) (wrote-nil (l .out) (l .p)))
+returns-2 c = (
+  (λ ps u e.
+      let s = now (c .before .before .before .before .args .sheet) in
+      let l = c .before .loop in
+      let (qs, read, total) = l .inv .1 ps u e in
+      sym (total ∙ rw (many-end [] piece (l .left) (drop (l .at .at) s) (c .loop-test .left) read) (wrote-nil (l .out) (l .p)))),
+  search needs,
+)
 
 pub put-parts-spec : {M : Type 1} → statement M
 put-parts-spec =

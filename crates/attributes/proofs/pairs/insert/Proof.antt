@@ -35,13 +35,14 @@ returns c =
           most = pairs .most;
           parts = λ j b. stored-within t i (a .p) fits stored _ j (λ q. pairs .parts j b) (c .before .before .before .before .before .before .before .before .before .before .before .pre .2);
         },
+        search needs,
       ),
     )
 
 returns-2 : tie.Need-returns-2
 returns-2 c =
     let is = rw (c .before .before .before .before .before .i2 .given .1) at (c .before .before .before .before .before .before .before .find .ensures .0) in
-    (c .before .before .insert-before .ensures .0 (now (c .before .before .before .before .before .before .before .before .before .before .before .args .sheet)) ∙ is, (omega arith, c .before .before .insert-before .ensures .1 _ (c .before .before .before .before .before .before .before .before .before .before .before .pre .1) (c .before .before .before .before .before .before .before .before .before .before .before .pre .2)))
+    (c .before .before .insert-before .ensures .0 (now (c .before .before .before .before .before .before .before .before .before .before .before .args .sheet)) ∙ is, (omega arith, c .before .before .insert-before .ensures .1 _ (c .before .before .before .before .before .before .before .before .before .before .before .pre .1) (c .before .before .before .before .before .before .before .before .before .before .before .pre .2), search needs))
 
 pub insert-spec : {M : Type 1} → statement M
 insert-spec =

@@ -23,7 +23,7 @@ returns c =
       (λ xs t e.
           let (n, u, x, is) = first-argument (node (now (a .source)) (a .levels)) (now (a .source)) _ (a .count) (c .before .before .before .before .before .if1 .taken) e head in
           sym (is ∙ ap (λ b. cond b unknown (ofObject (argumentProperties false none) (shape n))) (c .if2 .taken))),
-      tt,
+      (tt, search needs),
     )
 
 sub-parse-argument-properties : tie.Need-sub-parse-argument-properties
@@ -36,7 +36,7 @@ returns-2 c =
     let a = c .before .before .before .before .before .before .before .args in
     let s = now (a .sheet) in
     let stop = seen (argumentAs s) (c .before .before .read-argument .ensures .0) (c .enum-told .given .1) in
-    ((λ xs t e. absurd (no-first (node (now (a .source)) (a .levels)) (now (a .source)) (a .count) _ (c .before .before .before .if1 .taken) e stop)), tt)
+    ((λ xs t e. absurd (no-first (node (now (a .source)) (a .levels)) (now (a .source)) (a .count) _ (c .before .before .before .if1 .taken) e stop)), (tt, search needs))
 
 returns-3 : tie.Need-returns-3
 returns-3 c =
@@ -47,7 +47,7 @@ returns-3 c =
           let (n, u, x, is) = first-argument (node (now (a .source)) (a .levels)) (now (a .source)) _ (a .count) (c .before .before .before .before .before .before .before .before .if1 .taken) e head in
           let value = rw (c .enum-told2 .given .1) at (c .before .before .read-value .ensures .0 n u x) in
           sym (is ∙ ap (λ b. cond b unknown (ofObject (argumentProperties false none) (shape n))) (c .before .before .before .if2 .left) ∙ ap (ofObject (argumentProperties false none)) value)),
-      tt,
+      (tt, search needs),
     )
 
 returns-4 : tie.Need-returns-4
@@ -59,7 +59,7 @@ returns-4 c =
           let (n, u, x, is) = first-argument (node (now (a .source)) (a .levels)) (now (a .source)) _ (a .count) (c .before .before .before .before .before .before .before .before .if1 .taken) e head in
           let value = rw (c .enum-told3 .given .1) at (c .before .before .read-value .ensures .0 n u x) in
           sym (is ∙ ap (λ b. cond b unknown (ofObject (argumentProperties false none) (shape n))) (c .before .before .before .if2 .left) ∙ other-unknown (argumentProperties false none) (shape n) value)),
-      tt,
+      (tt, search needs),
     )
 
 returns-5 : tie.Need-returns-5
@@ -71,14 +71,14 @@ returns-5 c =
           let (n, u, x, is) = first-argument (node (now (a .source)) (a .levels)) (now (a .source)) _ (a .count) (c .before .before .before .before .before .before .before .before .before .before .before .before .before .if1 .taken) e head in
           let (ps, v, object, y) = rw (c .before .before .before .before .before .n .given .1) at (c .before .before .before .before .before .before .before .read-value .ensures .0 n u x) in
           c .before .before .parse-argument-properties .ensures .0 ps v y ∙ sym (is ∙ ap (λ b. cond b unknown (ofObject (argumentProperties false none) (shape n))) (c .before .before .before .before .before .before .before .before .if2 .left) ∙ ap (ofObject (argumentProperties false none)) object)),
-      c .before .before .parse-argument-properties .ensures .1,
+      (c .before .before .parse-argument-properties .ensures .1, search needs),
     )
 
 returns-6 : tie.Need-returns-6
 unfolding dynamicAttributes
 returns-6 c =
     let a = c .before .before .before .before .args in
-    ((λ xs t e. sym (ap dynamicAttributes (no-arguments (node (now (a .source)) (a .levels)) (now (a .source)) (a .count) _ (c .if1 .left) e))), tt)
+    ((λ xs t e. sym (ap dynamicAttributes (no-arguments (node (now (a .source)) (a .levels)) (now (a .source)) (a .count) _ (c .if1 .left) e))), (tt, search needs))
 
 pub parse-dynamic-import-attributes-spec : {M : Type 1} → statement M
 parse-dynamic-import-attributes-spec =

@@ -24,7 +24,7 @@ returns : tie.Need-returns
 returns c =
     let a = c .before .before .before .before .before .before .before .args in
     let stop = seen (attributesAs (now (a .sheet))) (c .before .before .read-attributes .ensures .0) (c .enum-told .given .1) in
-    ((λ x t e. absurd (no-attributes (now (a .source)) (a .levels) _ (rw (c .before .before .before .if1 .taken) at e) stop)), tt)
+    ((λ x t e. absurd (no-attributes (now (a .source)) (a .levels) _ (rw (c .before .before .before .if1 .taken) at e) stop)), (tt, search needs))
 
 returns-2 : tie.Need-returns-2
 unfolding typeAttributes
@@ -34,7 +34,7 @@ returns-2 c =
       (λ y t e.
           let (ps, x, object) = behind-attributes (now (a .source)) (a .levels) _ (rw (c .before .before .before .before .before .before .before .before .if1 .taken) at e) is in
           c .before .before .parse-import-attributes-from-object-lit .ensures .0 ps t x ∙ ap typeAttributes object),
-      c .before .before .parse-import-attributes-from-object-lit .ensures .1,
+      (c .before .before .parse-import-attributes-from-object-lit .ensures .1, search needs),
     )
 
 returns-3 : tie.Need-returns-3
@@ -44,7 +44,7 @@ returns-3 c = (
       let nothing = rw (c .if1 .left) at e in
       let is : without ≡ y = cc in
       ap typeAttributes is),
-  tt,
+  (tt, search needs),
 )
 
 pub parse-type-attributes-spec : {M : Type 1} → statement M

@@ -29,7 +29,7 @@ returns c =
           (omega (arith, citation-short m v, ap length e, counted .kept .1 .0, c .before .before .before .before .before .before .before .before .before .before .before .before .before .before .before .before .before .pre))
           (n .result)
           (n .ensures),
-      omega (arith, n .ensures, length-take (cited .result .place .at) (cited .last .1 .0)),
+      (omega (arith, n .ensures, length-take (cited .result .place .at) (cited .last .1 .0)), search needs),
     )
 
 pub cite-report-spec : {M : Type 1} → statement M

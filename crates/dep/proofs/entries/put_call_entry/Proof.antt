@@ -29,7 +29,7 @@ returns c =
     let source = now (a .source) in
     let inner = node source (a .levels) in
     let u = drop (a .c .at) s in
-    λ xs t is. absurd (no-first inner source (a .count) u (c .before .before .before .if2 .taken) is (seen (argumentAs s) (c .before .before .read-argument .ensures .0) (c .enum-told .given .1)))
+    ((λ xs t is. absurd (no-first inner source (a .count) u (c .before .before .before .if2 .taken) is (seen (argumentAs s) (c .before .before .read-argument .ensures .0) (c .enum-told .given .1)))), search needs)
 
 returns-2 : tie.Need-returns-2
 returns-2 c =
@@ -39,12 +39,14 @@ returns-2 c =
     let types = typesFrom source (now (a .cs)) (now (a .gs)) (a .k) in
     let w = bufferAs (now (a .out)) (a .p) in
     let inner = node source (a .levels) in
-    let u = drop (a .c .at) s in
-    λ xs t is.
-    let f = first inner source (a .count) u (c .before .before .before .before .before .before .before .before .if2 .taken) is (seen (argumentAs s) (c .before .before .before .before .before .before .before .read-argument .ensures .0) (c .before .before .before .before .before .range .given .1)) in
-    rw (c .before .before .before .before .before .before .before .before .before .if1 .taken)
-    (c .before .before .put-argument-entry .ensures (c .before .before .before .before .before .range .given .0 .0) (f .node) (f .others) (f .between) t (f .read) (f .behind)
-    ∙ ap (λ xs. wroteEntries w (callEntry source types (a .d .kind) (a .d .span) xs)) (sym (f .are)))
+    let u = drop (a .c .at) s in (
+      (λ xs t is.
+          let f = first inner source (a .count) u (c .before .before .before .before .before .before .before .before .if2 .taken) is (seen (argumentAs s) (c .before .before .before .before .before .before .before .read-argument .ensures .0) (c .before .before .before .before .before .range .given .1)) in
+          rw (c .before .before .before .before .before .before .before .before .before .if1 .taken)
+          (c .before .before .put-argument-entry .ensures (c .before .before .before .before .before .range .given .0 .0) (f .node) (f .others) (f .between) t (f .read) (f .behind)
+          ∙ ap (λ xs. wroteEntries w (callEntry source types (a .d .kind) (a .d .span) xs)) (sym (f .are)))),
+      search needs,
+    )
 
 returns-3 : tie.Need-returns-3
 unfolding callEntry
@@ -54,12 +56,12 @@ returns-3 c =
     let source = now (a .source) in
     let inner = node source (a .levels) in
     let u = drop (a .c .at) s in
-    λ xs t is. rw (c .before .if1 .taken, no-arguments inner source (a .count) u (c .if2 .left) is) (sym (entries-nil (now (a .out)) (a .p)))
+    ((λ xs t is. rw (c .before .if1 .taken, no-arguments inner source (a .count) u (c .if2 .left) is) (sym (entries-nil (now (a .out)) (a .p)))), search needs)
 
 returns-4 : tie.Need-returns-4
 returns-4 c =
     let a = c .before .before .before .before .args in
-    λ xs t is. rw (c .if1 .left) (sym (entries-nil (now (a .out)) (a .p)))
+    ((λ xs t is. rw (c .if1 .left) (sym (entries-nil (now (a .out)) (a .p)))), search needs)
 
 pub put-call-entry-spec : {M : Type 1} → statement M
 put-call-entry-spec = tie.close (tie.spec (λ c κs. search needs) (λ c. search needs) (λ c. search needs) (λ c. search needs) put-argument-entry-requires returns (λ c. search needs) returns-2 returns-3 returns-4)

@@ -34,7 +34,7 @@ returns-2 c =
     let w = bufferAs (now (a .out)) (a .p) in
     let x = behind (a .there) (attributesObject source (a .levels)) (drop (a .c .at) s) in
     let past = rw (c .before .before .before .before .before .next .given .1) at (c .before .before .before .before .before .before .before .check-attributes .ensures .1) in
-    (import-written source types w s (a .d) x (seen (talliedAs s) (c .before .before .before .before .before .before .before .check-attributes .ensures .0) (c .before .before .before .before .before .next .given .1)) (c .before .before .put-with-entry .ensures), past .0)
+    (import-written source types w s (a .d) x (seen (talliedAs s) (c .before .before .before .before .before .before .before .check-attributes .ensures .0) (c .before .before .before .before .before .next .given .1)) (c .before .before .put-with-entry .ensures .0), past .0)
 
 returns-3 : tie.Need-returns-3
 unfolding staticAttributes

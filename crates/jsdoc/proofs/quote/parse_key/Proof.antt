@@ -1,16 +1,17 @@
 use borrow.Author.Needs.{needs}
 use Rattle.jsdoc.specs.Reader.{parseKey}
+use Rattle.jsdoc.specs.Answers.{keyMark}
 use Rattle.jsdoc.proofs.Answered.{read, inside}
 use Rattle.jsdoc.proofs.quote.parse_key.Statement.{statement}
 use Rattle.jsdoc.proofs.quote.parse_key.Tie as tie
 
 returns : tie.Need-returns
-unfolding parseKey
-returns c = record { is = rw (read (c .before .before .before .quote-at .ensures) (c .before .from .given .1)); ordered = inside (c .before .before .before .quote-at .ensures) (c .before .from .given .1) }
+unfolding parseKey keyMark
+returns c = record { is = rw (read (c .before .before .before .quote-at .ensures) (c .before .from .given .1)); ordered = rw (read (c .before .before .before .quote-at .ensures) (c .before .from .given .1)) (inside (c .before .before .before .quote-at .ensures) (c .before .from .given .1)) }
 
 returns-2 : tie.Need-returns-2
-unfolding parseKey
-returns-2 c = record { is = rw (read (c .before .before .before .quote-at .ensures) (c .before .enum-told .given .1)) (c .ident-at .ensures .is); ordered = c .ident-at .ensures .ordered }
+unfolding parseKey keyMark
+returns-2 c = record { is = rw (read (c .before .before .before .quote-at .ensures) (c .before .enum-told .given .1)) (c .ident-at .ensures .is); ordered = rw (read (c .before .before .before .quote-at .ensures) (c .before .enum-told .given .1)) (c .ident-at .ensures .ordered) }
 
 pub parse-key-spec : {M : Type 1} → statement M
 parse-key-spec =

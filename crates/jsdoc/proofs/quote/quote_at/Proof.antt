@@ -8,13 +8,13 @@ use Rattle.jsdoc.proofs.quote.quote_at.Tie as tie
 from-place-requires : tie.Need-from-place-requires
 from-place-requires c κs =
     let a = c .before .before .before .args in
-    movable (now (a .s)) (a .at) (c .before .before .before .pre) (omega arith) _ _ (rw (part-to-end (now (a .s)) (a .at)) at (c .parse-quote .ensures))
+    movable (now (a .s)) (a .at) (c .before .before .before .pre) (omega arith) _ _ _ (rw (part-to-end (now (a .s)) (a .at)) at (c .parse-quote .ensures))
 
 returns : tie.Need-returns
 returns c =
     let a = c .before .before .before .before .args in
     rw (c .from-place .ensures)
-    (moved-text (now (a .s)) (a .at) (c .before .before .before .before .pre) _ _ (rw (part-to-end (now (a .s)) (a .at)) at (c .before .parse-quote .ensures)))
+    (moved-text (now (a .s)) (a .at) (c .before .before .before .before .pre) _ _ _ (rw (part-to-end (now (a .s)) (a .at)) at (c .before .parse-quote .ensures)))
 
 pub quote-at-spec : {M : Type 1} → statement M
 quote-at-spec =

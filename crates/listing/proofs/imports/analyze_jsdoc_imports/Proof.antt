@@ -1,7 +1,9 @@
 use borrow.Author.Needs.{needs}
-use mathlib.Core.Path.{ap, _∙_}
+use mathlib.Core.Path.{_≡_, ap, _∙_}
+use mathlib.Core.Bool.{true, false}
 use lib.ListN.{length, length-replicate}
 use Rattle.laws.proofs.Steps.{known}
+use Rattle.sheet.specs.Media.{isJavaScript}
 use Rattle.report.proofs.Buffers.{wrote-append}
 use Rattle.listing.proofs.Turns.{encode-none, encode-all}
 use Rattle.listing.proofs.imports.analyze_jsdoc_imports.Statement.{statement}
@@ -12,12 +14,20 @@ put-imports-requires c κs = (c .before .before .before .before .before .before 
 
 returns : tie.Need-returns
 returns c =
-    let held = c .before .before .before .before .before .before .before .before .before .before .before .before .before .before .before .before .before .before .before .before .before .before .pre .0 in
-    rw (encode-all _ _ (c .before .before .before .before .before .before .before .before .before .before .before .before .before .before .before .before .before .before .before .before .before .before .args .media) (held .fit) (held .utf8) (known (c .before .before .before .before .before .before .before .before .before .before .before .before .before .before .before .before .is-javascript .ensures) (c .before .before .before .before .before .before .before .before .before .before .before .before .before .before .before .if1 .taken)), wrote-append, ← c .before .before .before .before .before .before .before .before .before .before .before .before .before .mark-comments .ensures, ← c .before .before .before .before .before .before .before .before .count-marks .ensures, ← c .before .before .before .before .before .before .before .put-number .ensures)
-    (c .before .before .put-imports .ensures)
+    let start = c .before .before .before .before .before .before .before .before .before .before .before .before .before .before .before .before .before .before .before .before .before .before in
+    let held = start .pre .0 in
+    let media : isJavaScript (start .args .media) ≡ true = known (c .before .before .before .before .before .before .before .before .before .before .before .before .before .before .before .before .is-javascript .ensures) (c .before .before .before .before .before .before .before .before .before .before .before .before .before .before .before .if1 .taken) in
+    let marks = c .before .before .before .before .before .before .before .before .before .before .before .before .before .mark-comments .ensures in (
+      rw (encode-all _ _ (start .args .media) (held .fit) (held .utf8) media, wrote-append, ← marks, ← c .before .before .before .before .before .before .before .before .count-marks .ensures, ← c .before .before .before .before .before .before .before .put-number .ensures)
+          (c .before .before .put-imports .ensures),
+      rw media marks,
+    )
 
 returns-2 : tie.Need-returns-2
-returns-2 c = rw (encode-none _ _ (c .before .before .before .before .before .before .before .before .before .before .before .args .media) (known (c .before .before .before .before .before .is-javascript .ensures) (c .before .before .before .before .if1 .left))) (c .before .before .put-number2 .ensures)
+returns-2 c =
+    let start = c .before .before .before .before .before .before .before .before .before .before .before in
+    let media : isJavaScript (start .args .media) ≡ false = known (c .before .before .before .before .before .is-javascript .ensures) (c .before .before .before .before .if1 .left) in
+    (rw (encode-none _ _ (start .args .media) media) (c .before .before .put-number2 .ensures), rw media (start .pre .1))
 
 pub analyze-jsdoc-imports-spec : {M : Type 1} → statement M
 analyze-jsdoc-imports-spec =

@@ -1,8 +1,8 @@
 use borrow.Author.Needs.{needs}
 use native.Mathlib.Omega.{arith}
-use mathlib.Core.Path.{_≡_, refl, sym, _∙_}
+use mathlib.Core.Path.{sym}
 use Prim.Native.Nat.{_-_}
-use lib.ListN.{length, drop}
+use lib.ListN.{drop}
 use denote.Ref.{now}
 use Rattle.laws.proofs.Steps.{seen}
 use Rattle.sheet.specs.Comments.{comment, endOf}
@@ -16,36 +16,36 @@ use Rattle.sheet.proofs.comments.read_comments.Tie as tie
 
 abbrev Inv-loop : tie.InvT-loop
 Inv-loop sheet source n table₀ next₀ last₀ k₀ table next last k =
-    (length table ≡ length table₀)
-    × Filling (comment source) endOf commentIn 0 n (drop (next₀ .at) sheet) table last k (drop (next .at) sheet)
+    Filling (comment source) endOf commentIn 3 0 n (drop (next₀ .at) sheet) table₀ table last k (drop (next .at) sheet)
 
 abbrev μ-loop : tie.MeasureT-loop
 μ-loop sheet source n table₀ next₀ last₀ k₀ table next last k = n - k
 
 loop-holds : tie.Need-loop-holds Inv-loop μ-loop
-loop-holds c = (refl, fill-none _ _ _ _ _ _ _)
+loop-holds c = fill-none _ _ _ _ _ _ _ _
 
 returns : tie.Need-returns Inv-loop μ-loop
 returns c =
     let s = now (c .before .before .before .before .before .before .before .before .before .args .sheet) in
-    sym (fill-stop (c .before .before .before .before .before .loop .inv .1) (c .before .before .before .before .loop-test .taken) (seen (commentAs s) (c .before .before .before .read-comment .ensures) (c .before .r .given .1)))
+    let f = c .before .before .before .before .before .loop .inv in
+    (sym (fill-stop f (c .before .before .before .before .loop-test .taken) (seen (commentAs s) (c .before .before .before .read-comment .ensures) (c .before .r .given .1))), f .kept)
 
 put-comment-requires : tie.Need-put-comment-requires Inv-loop μ-loop
 put-comment-requires c κs =
     let a = c .before .before .before .before .before .before .before .before .before .before .args in
     let judged = comment-codec (now (a .source)) _ .sound _ _ _ (seen (commentAs (now (a .sheet))) (c .before .before .before .before .read-comment .ensures) (c .before .before .found .given .1)) .1 in
     let kind = judged .placed .kind in
-    (omega (arith, c .before .before .before .before .before .before .before .before .before .before .pre, c .before .before .before .before .before .before .loop .inv .0), (omega arith, omega (arith, judged .small .0), omega (arith, judged .small .1)))
+    (omega (arith, c .before .before .before .before .before .before .before .before .before .before .pre, c .before .before .before .before .before .before .loop .inv .kept .0), (omega arith, omega (arith, judged .small .0), omega (arith, judged .small .1)))
 
 loop-again : tie.Need-loop-again Inv-loop μ-loop
 loop-again c =
     let a = c .before .before .before .before .before .before .before .before .before .before .before .before .before .args in
     let l = c .before .before .before .before .before .before .before .before .before .loop in
     let read = seen (commentAs (now (a .sheet))) (c .before .before .before .before .before .before .before .read-comment .ensures) (c .before .before .before .before .before .found .given .1) in
-    (c .before .before .put-comment .kept .0 ∙ l .inv .0, fill-more (l .inv .1) comment-table (omega (arith, c .before .before .before .before .before .before .before .before .before .before .before .before .before .pre, l .inv .0)) (c .before .before .before .before .before .before .before .before .loop-test .taken) read (c .before .before .put-comment .ensures))
+    fill-more (l .inv) comment-table (c .before .before .before .before .before .before .before .before .before .before .before .before .before .pre) (c .before .before .before .before .before .before .before .before .loop-test .taken) read (c .before .before .put-comment .ensures)
 
 returns-2 : tie.Need-returns-2 Inv-loop μ-loop
-returns-2 c = sym (fill-all (c .before .loop .inv .1) (c .loop-test .left))
+returns-2 c = (sym (fill-all (c .before .loop .inv) (c .loop-test .left)), c .before .loop .inv .kept)
 
 pub read-comments-spec : {M : Type 1} → statement M
 read-comments-spec =

@@ -1,8 +1,8 @@
 use borrow.Author.Needs.{needs}
 use native.Mathlib.Omega.{arith}
-use mathlib.Core.Path.{_≡_, refl, sym, _∙_}
+use mathlib.Core.Path.{sym}
 use Prim.Native.Nat.{_-_}
-use lib.ListN.{length, drop}
+use lib.ListN.{drop}
 use denote.Ref.{now}
 use Rattle.laws.proofs.Steps.{seen}
 use Rattle.sheet.specs.Comments.{anywhere, group, mayFollow}
@@ -16,36 +16,36 @@ use Rattle.sheet.proofs.groups.read_groups.Tie as tie
 
 abbrev Inv-loop : tie.InvT-loop
 Inv-loop sheet source total m table₀ next₀ before₀ k₀ table next before k =
-    (length table ≡ length table₀)
-    × Filling (group source total) mayFollow groupIn anywhere m (drop (next₀ .at) sheet) table (afterAs before) k (drop (next .at) sheet)
+    Filling (group source total) mayFollow groupIn 4 anywhere m (drop (next₀ .at) sheet) table₀ table (afterAs before) k (drop (next .at) sheet)
 
 abbrev μ-loop : tie.MeasureT-loop
 μ-loop sheet source total m table₀ next₀ before₀ k₀ table next before k = m - k
 
 loop-holds : tie.Need-loop-holds Inv-loop μ-loop
-loop-holds c = (refl, fill-none _ _ _ _ _ _ _)
+loop-holds c = fill-none _ _ _ _ _ _ _ _
 
 returns : tie.Need-returns Inv-loop μ-loop
 returns c =
     let s = now (c .before .before .before .before .before .before .before .before .before .args .sheet) in
-    sym (fill-stop (c .before .before .before .before .before .loop .inv .1) (c .before .before .before .before .loop-test .taken) (seen (groupAs s) (c .before .before .before .read-group .ensures) (c .before .r .given .1)))
+    let f = c .before .before .before .before .before .loop .inv in
+    (sym (fill-stop f (c .before .before .before .before .loop-test .taken) (seen (groupAs s) (c .before .before .before .read-group .ensures) (c .before .r .given .1))), f .kept)
 
 put-group-requires : tie.Need-put-group-requires Inv-loop μ-loop
 put-group-requires c κs =
     let a = c .before .before .before .before .before .before .before .before .before .before .args in
     let ranged = group-codec (now (a .source)) _ _ .sound _ _ _ (seen (groupAs (now (a .sheet))) (c .before .before .before .before .read-group .ensures) (c .before .before .g .given .1)) .1 in
     let side = ranged .reaching .side in
-    (omega (arith, c .before .before .before .before .before .before .before .before .before .before .pre, c .before .before .before .before .before .before .loop .inv .0), (omega arith, omega (arith, ranged .small .0), omega (arith, ranged .small .1), omega (arith, ranged .small .2)))
+    (omega (arith, c .before .before .before .before .before .before .before .before .before .before .pre, c .before .before .before .before .before .before .loop .inv .kept .0), (omega arith, omega (arith, ranged .small .0), omega (arith, ranged .small .1), omega (arith, ranged .small .2)))
 
 loop-again : tie.Need-loop-again Inv-loop μ-loop
 loop-again c =
     let a = c .before .before .before .before .before .before .before .before .before .before .before .before .before .args in
     let l = c .before .before .before .before .before .before .before .before .before .loop in
     let read = seen (groupAs (now (a .sheet))) (c .before .before .before .before .before .before .before .read-group .ensures) (c .before .before .before .before .before .g .given .1) in
-    (c .before .before .put-group .kept .0 ∙ l .inv .0, fill-more (l .inv .1) group-table (omega (arith, c .before .before .before .before .before .before .before .before .before .before .before .before .before .pre, l .inv .0)) (c .before .before .before .before .before .before .before .before .loop-test .taken) read (c .before .before .put-group .ensures))
+    fill-more (l .inv) group-table (c .before .before .before .before .before .before .before .before .before .before .before .before .before .pre) (c .before .before .before .before .before .before .before .before .loop-test .taken) read (c .before .before .put-group .ensures)
 
 returns-2 : tie.Need-returns-2 Inv-loop μ-loop
-returns-2 c = sym (fill-all (c .before .loop .inv .1) (c .loop-test .left))
+returns-2 c = (sym (fill-all (c .before .loop .inv) (c .loop-test .left)), c .before .loop .inv .kept)
 
 pub read-groups-spec : {M : Type 1} → statement M
 read-groups-spec =

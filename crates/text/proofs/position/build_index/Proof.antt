@@ -4,13 +4,15 @@ use mathlib.Core.Path.{_≡_, refl, _∙_}
 use Prim.Native.Nat.{_+_, _*_, _/_, _-_, _≤_}
 use lib.ListN.{length}
 use denote.Ref.{now}
-use Rattle.text.specs.Position.{characters, walk, positionOf, Indexed}
-use Rattle.text.proofs.Positions.{scanned, bounded, index-none, index-more}
+use Rattle.text.specs.Position.{characters, walk, origin, positionOf, Indexed}
+use Rattle.text.proofs.Positions.{scanned, bounded, index-none, index-more, Untouched, untouched-none, untouched-more}
 use Rattle.text.proofs.position.build_index.Statement.{statement}
 use Rattle.text.proofs.position.build_index.Tie as tie
 
 abbrev Inv-loop : tie.InvT-loop
-Inv-loop s index₀ p₀ k₀ n index p k = (k ≤ n) × (length index ≡ length index₀) × (p ≡ positionOf characters s (64 * k)) × Indexed characters s index (k + 1)
+Inv-loop s index₀ p₀ k₀ n index p k =
+    (k ≤ n) × (length index ≡ length index₀) × (p ≡ positionOf characters s (64 * k)) × Indexed characters s index (k + 1)
+    × Untouched index₀ index (k + 1)
 
 abbrev μ-loop : tie.MeasureT-loop
 μ-loop s index₀ p₀ k₀ n index p k = n - k
@@ -19,7 +21,7 @@ loop-holds : tie.Need-loop-holds Inv-loop μ-loop
 unfolding positionOf walk
 loop-holds c =
     let a = c .before .before .before .before .before .before .args in
-    (omega arith, refl, refl, rw (c .before .before .put .ensures) (index-more (index-none characters (now (a .s)) (now (a .index))) _ (omega arith) refl))
+    (omega arith, refl, refl, rw (c .before .before .put .ensures) (index-more (index-none characters (now (a .s)) (now (a .index))) _ (omega arith) refl), untouched-none _ _)
 
 scan-block-requires : tie.Need-scan-block-requires Inv-loop μ-loop
 scan-block-requires c κs =
@@ -42,12 +44,15 @@ loop-again c =
     let l = c .before .before .before .before .before .before .loop in
     let d : 64 * (l .k + 1) - 64 * l .k ≡ 64 = omega arith in
     let e = scanned characters s (64 * l .k) (64 * (l .k + 1)) (omega arith) {q = c .before .before .before .before .scan-block .result} (l .inv .2) (rw d (c .before .before .before .before .scan-block .ensures)) in
-    (omega arith, c .before .before .put2 .kept .0 ∙ l .inv .1, e, rw (c .before .before .put2 .ensures) (index-more (l .inv .3) _ (omega arith) e))
+    (omega arith, c .before .before .put2 .kept .0 ∙ l .inv .1, e, rw (c .before .before .put2 .ensures) (index-more (l .inv .3) _ (omega arith) e), rw (c .before .before .put2 .ensures) (untouched-more (l .inv .4) _))
 
 returns : tie.Need-returns Inv-loop μ-loop
 returns c =
     let e : c .before .loop .k ≡ length (now (c .before .before .before .before .before .before .before .before .args .s)) / 64 = omega arith in
-    rw e at (c .before .loop .inv .3)
+    let a = c .before .before .before .before .before .before .before .before .args in
+    let past = 2 * (length (now (a .s)) / 64) + 2 in
+    let first = rw (← c .before .before .before .before .put .ensures) at (untouched-more (untouched-none (now (a .index)) 0) origin) in
+    (rw e at (c .before .loop .inv .3), (search needs, c .before .loop .inv .4 .from past (omega arith) ∙ first .from past (omega arith)))
 
 pub build-index-spec : {M : Type 1} → statement M
 build-index-spec =

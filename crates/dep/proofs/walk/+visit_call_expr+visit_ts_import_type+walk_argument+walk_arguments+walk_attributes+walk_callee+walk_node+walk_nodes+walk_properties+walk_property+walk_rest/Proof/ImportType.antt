@@ -86,4 +86,4 @@ returns-4 t c =
     let inner = node source (a .levels) in
     let ns = nodes inner (a .count) (drop (a .c .at) s) in
     let object′ = attributesObject source (a .levels) in
-    (c .before .before .walk-attributes .ensures .0 ∙ typed-walked source types w s (a .d) object′ ns (seen (talliedAs s) (c .before .before .before .before .before .before .before .before .before .before .before .before .before .before .before .before .before .before .before .before .before .before .check-nodes .ensures .0) (c .before .before .before .before .before .before .before .before .before .before .before .before .before .before .before .before .before .before .before .before .next .given .1)) (seen (flagAs s) (c .before .before .before .before .before .before .before .before .before .before .before .before .before .before .before .before .before .before .flag .ensures .0) (c .before .before .before .before .before .before .before .before .before .before .before .before .before .before .before .before .there .given .1)) (c .before .before .before .before .before .before .before .before .before .before .before .before .before .put-with-entry .ensures) (seen (walkedAs s (c .before .before .before .before .before .before .before .before .before .walk-nodes .last .1 .1 .1 .1 .1 .1 .1 .1 .1 .0)) (c .before .before .before .before .before .before .before .before .before .walk-nodes .ensures .0) (c .before .before .before .before .before .p .given .1)), c .before .before .walk-attributes .ensures .1)
+    (c .before .before .walk-attributes .ensures .0 ∙ typed-walked source types w s (a .d) object′ ns (seen (talliedAs s) (c .before .before .before .before .before .before .before .before .before .before .before .before .before .before .before .before .before .before .before .before .before .before .check-nodes .ensures .0) (c .before .before .before .before .before .before .before .before .before .before .before .before .before .before .before .before .before .before .before .before .next .given .1)) (seen (flagAs s) (c .before .before .before .before .before .before .before .before .before .before .before .before .before .before .before .before .before .before .flag .ensures .0) (c .before .before .before .before .before .before .before .before .before .before .before .before .before .before .before .before .there .given .1)) (c .before .before .before .before .before .before .before .before .before .before .before .before .before .put-with-entry .ensures .0) (seen (walkedAs s (c .before .before .before .before .before .before .before .before .before .walk-nodes .last .1 .1 .1 .1 .1 .1 .1 .1 .1 .0)) (c .before .before .before .before .before .before .before .before .before .walk-nodes .ensures .0) (c .before .before .before .before .before .p .given .1)), c .before .before .walk-attributes .ensures .1)

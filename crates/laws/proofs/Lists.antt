@@ -24,6 +24,11 @@ pub of-members : {A : Type 0} (P : A → Type 0) (l : List A) → ((a : A) → L
 of-members P [] h = tt
 of-members P (a ∷ l) h = (h a (List·Memᴰ·head refl), of-members P l (λ b m. h b (List·Memᴰ·tail m)))
 
+-- and of two lists one after the other it holds of each
+pub all-parts : {A : Type 0} (P : A → Type 0) (l m : List A) → All P (l ++ m) → All P l × All P m
+all-parts P [] m h = (tt, h)
+all-parts P (x ∷ l) m h = let (a, b) = all-parts P l m (h .1) in ((h .0, a), b)
+
 -- what holds of the answer, if there is one
 pub if-there : {A : Type 0} (P : A → Type 0) (o : Option A) → ((a : A) → o ≡ Option.some a → P a) → IfThere P o
 if-there P Option.none h = tt

@@ -1,29 +1,46 @@
--- Where a well-formed text may be cut: at its character boundaries. What follows one is well-formed, and so is what stands between two.
+-- Where a well-formed text may be cut: at its character boundaries, which are the places behind a row of its characters.
 use mathlib.Core.Path.{_≡_, refl, sym, ap, _∙_}
 use mathlib.Core.Bool.{Bool, true, false, true≢false}
-use mathlib.Core.List.{List, [], _∷_, _++_}
+use mathlib.Core.List.{List, [], _∷_, _++_, append-nil, append-assoc, flatMap}
+use mathlib.Core.Logic.{_↔_}
 use Prim.Native.Nat.{ℕ, zero, suc, _+_, _-_, _/_, _%_, _≤_, _<_}
-use native.Mathlib.Nat.{zero-add}
+use native.Mathlib.Nat.{add-zero}
 use native.Mathlib.Omega.{arith}
-use lib.Dec.{leb, ltb}
-use lib.ListN.{length, getD, take, drop, length-append, length-drop, List·getD-eq-default}
-use lib.Seq.{drop-drop, drop-cons, take-append-add, drop-append-seam}
-use borrow.Author.Tests.{le-leb, leb-true, leb-false, ltb-true, ltb-false, not-true}
+use lib.Dec.{ltb}
+use lib.ListN.{length, getD, take, drop, length-append, length-drop}
+use lib.Seq.{drop-cons, getD-drop, getD-append-add, take-append-seam, drop-append-seam}
+use borrow.Author.Tests.{le-leb, lt-leb, ltb-true, ltb-false}
+use Rattle.laws.specs.Codec.{All}
+use Rattle.laws.proofs.Lists.{flatMap-append, all-parts}
 use Rattle.text.specs.declared.utf8.Char.{Char}
+use Rattle.text.specs.declared.utf8.Encoding.{Encoding}
 use Rattle.text.specs.declared.utf8.Encoding.the-variants.{Utf8}
 use Rattle.text.specs.Bytes.{part}
-use Rattle.text.specs.Ranges.{within}
+use Rattle.text.specs.Ranges.{within, inRanges}
 use Rattle.text.specs.Utf8.{admits, continuation, lengthBy, charLength, charAt, formed}
-use Rattle.text.specs.Encode.{encode, encode2, encode3, encode4}
-use Rattle.text.specs.Position.{Boundary}
-use Rattle.text.proofs.Formed.{ended, stuck, passed, fits}
-use Rattle.text.proofs.CodePoint.{by-length, nonempty}
-use Rattle.text.proofs.Reader.{reader-sound, reader-complete}
-use Rattle.text.proofs.Boundary.{leads, boundary}
+use Rattle.text.specs.Encode.{encode, encode2, encode3, encode4, codePoints}
+use Rattle.text.specs.WellFormed.{TextOf, WellFormed}
+use Rattle.text.specs.Position.{Boundary, Cut}
+use Rattle.text.proofs.CodePoint.{by-length}
+use Rattle.text.proofs.Formed.{fits}
+use Rattle.text.proofs.Reader.{bounded, reader-sound}
+use Rattle.text.proofs.WellFormed.{first-point, well-formed-iff}
 
--- ---- the front of a text, up to a boundary
+-- ---- the bytes of a code point
 
--- a byte of an encoding but the first goes on with the character
+-- the first byte of an encoding goes on with no character
+begins-one : (p : ℕ) (t : List ℕ) → within continuation (getD (encode p ++ t) 0 0) ≡ false
+begins-one p t =
+    by-length (λ bs. within continuation (getD (bs ++ t) 0 0) ≡ false) p
+    (λ l. rw (lt-leb 0x80 p l))
+    (λ l h. behind (0xC0 + p / 64) (omega arith))
+    (λ l h. behind (0xE0 + p / 4096) (omega arith))
+    (λ l. behind (0xF0 + p / 262144) (omega arith))
+  where
+    behind : (b : ℕ) → 0xC0 ≤ b → within continuation b ≡ false
+    behind b l = rw (le-leb 0x80 b (omega arith), lt-leb b 0xBF l)
+
+-- and each other byte does
 six-bits : (n : ℕ) → within continuation (0x80 + n % 64) ≡ true
 six-bits n = rw (le-leb 0x80 (0x80 + n % 64) (omega arith), le-leb (0x80 + n % 64) 0xBF (omega arith))
 
@@ -53,107 +70,128 @@ inner p t =
     four (suc (suc (suc zero))) z h = six-bits p
     four (suc (suc (suc (suc q)))) z h = absurd (omega arith)
 
--- a text that begins with a character of n bytes, of which q bytes are taken
-module _ (s : List ℕ) (some : 0 < length s) (f : formed Utf8 0 s ≡ true) (q : ℕ) (z : 0 < q) (g : formed Utf8 0 (drop q s) ≡ true) where
-  first-char : charLength Utf8 s ≡ 0 → ⊥
-  first-char e = true≢false (sym f ∙ stuck Utf8 s 0 some refl e)
+-- ---- rows of code points
 
-  -- the character is taken whole
-  whole-char : charLength Utf8 s ≤ q
-  unfolding charAt
-  whole-char = go (leb (charLength Utf8 s) q) refl
-    where
-      go : (b : Bool) → leb (charLength Utf8 s) q ≡ b → charLength Utf8 s ≤ q
-      go true e = leb-true (charLength Utf8 s) q e
-      go false e =
-          let (p, c) = reader-sound Utf8 s first-char in
-          let n : charLength Utf8 s ≡ length (encode p) = ap (λ (r : Char). r .len) (c .read) in
-          let l : q < length (encode p) = omega (arith, leb-false (charLength Utf8 s) q e) in
-          let inside : within continuation (getD s q 0) ≡ true = rw (c .begins) (inner p (drop (charLength Utf8 s) s) q z l) in
-          let h : q < length s = omega (arith, fits Utf8 s) in
-          absurd (true≢false (sym g ∙ rw (boundary Utf8 s q f h, inside)))
+-- the two parts of a row
+module _ (e : Encoding) (front back : List ℕ) {x : List ℕ} (t : TextOf e (front ++ back) x) where
+  parts : All (λ p. inRanges (codePoints e) p ≡ true) front × All (λ p. inRanges (codePoints e) p ≡ true) back
+  parts = all-parts (λ p. inRanges (codePoints e) p ≡ true) front back (t .each)
 
-  -- so the front begins with it too
-  front-next : formed Utf8 0 (take q s) ≡ formed Utf8 0 (take (q - charLength Utf8 s) (drop (charLength Utf8 s) s))
-  unfolding charAt
-  front-next =
-      let (p, c) = reader-sound Utf8 s first-char in
-      let n : charLength Utf8 s ≡ length (encode p) = ap (λ (r : Char). r .len) (c .read) in
-      let rest = drop (charLength Utf8 s) s in
-      let m = q - charLength Utf8 s in
-      let w = whole-char in
-      let all : q ≡ length (encode p) + m = omega arith in
-      let front : take q s ≡ encode p ++ take m rest =
-      ap (λ k. take k s) all ∙ ap (take (length (encode p) + m)) (c .begins) ∙ take-append-add (encode p) rest m in
-      let here : length (encode p) ≡ charLength Utf8 (encode p ++ take m rest) = sym (ap (λ (r : Char). r .len) (reader-complete p (take m rest) (c .among))) in
-      let long : 0 < length (encode p ++ take m rest) = omega (arith, length-append (encode p) (take m rest), nonempty p) in
-      ap (formed Utf8 0) front
-      ∙ passed Utf8 (encode p ++ take m rest) 0 long (length (encode p)) here (λ e. omega (arith, nonempty p))
-      ∙ ap (formed Utf8 0) (rw zero-add (drop-append-seam (encode p) (take m rest)))
+  front-text : TextOf e front (flatMap encode front)
+  front-text = record {
+    each = parts .0;
+    unpaired = λ f b p q h. t .unpaired f (b ++ back) p q (ap (_++ back) h ∙ append-assoc f (p ∷ q ∷ b) back);
+    bytes = refl;
+  }
 
--- the front of each well-formed text, of at most so many bytes
-abbrev Fronts : ℕ → Type 0
-Fronts most = (s : List ℕ) (q : ℕ) → q ≤ most → formed Utf8 0 s ≡ true → formed Utf8 0 (drop q s) ≡ true → formed Utf8 0 (take q s) ≡ true
+  back-text : TextOf e back (flatMap encode back)
+  back-text = record {
+    each = parts .1;
+    unpaired = λ f b p q h. t .unpaired (front ++ f) b p q (ap (front ++_) h ∙ sym (append-assoc front f (p ∷ q ∷ b)));
+    bytes = refl;
+  }
 
-fronts-more : {most : ℕ} → Fronts most → Fronts (suc most)
-unfolding formed
-fronts-more on s zero h f g = refl
-fronts-more on [] (suc q) h f g = refl
-fronts-more on (x ∷ s) (suc q) h f g =
-    let t = x ∷ s in
-    let some : 0 < length t = omega arith in
-    let z : 0 < suc q = omega arith in
-    let c = first-char t some f (suc q) z g in
-    let n = charLength Utf8 t in
-    let w = whole-char t some f (suc q) z g in
-    let k : n + (suc q - n) ≡ suc q = omega arith in
-    let one : 0 < n = go n c in
-    front-next t some f (suc q) z g
-    ∙ on (drop n t) (suc q - n) (omega arith) (sym (rw zero-add at (passed Utf8 t 0 some n refl c)) ∙ f) (rw (drop-drop (suc q - n) n t, k) g)
+-- a boundary of its text parts a row in two
+abbrev Parted : List ℕ → ℕ → Type 0
+Parted ps at = (front : List ℕ) × (back : List ℕ) × (ps ≡ front ++ back) × (at ≡ length (flatMap encode front))
+
+cut-row : (ps : List ℕ) (at : ℕ) → Boundary (flatMap encode ps) at → Parted ps at
+unfolding flatMap
+cut-row [] at b = ([], [], refl, omega arith)
+cut-row (p ∷ ps) at b = go (ltb at (length (encode p))) refl at refl (cut-row ps)
   where
-    go : (m : ℕ) → (m ≡ 0 → ⊥) → 0 < m
-    go zero c = absurd (c refl)
-    go (suc m) c = omega arith
+    t : List ℕ
+    t = flatMap encode ps
 
-fronts : (most : ℕ) → Fronts most
-fronts zero = λ s q h f g. let e : q ≡ 0 = omega arith in rw e (ended Utf8 [] 0 (omega arith))
-fronts (suc most) = fronts-more (fronts most)
+    more : (n : ℕ) → at ≡ length (encode p) + n → Parted ps n → Parted (p ∷ ps) at
+    more n there (front, back, e, k) = (p ∷ front, back, ap (p ∷_) e, omega (arith, there, k, length-append (encode p) (flatMap encode front)))
 
--- the front of a well-formed text up to a boundary is well-formed
-front-formed : (s : List ℕ) (q : ℕ) → formed Utf8 0 s ≡ true → formed Utf8 0 (drop q s) ≡ true → formed Utf8 0 (take q s) ≡ true
-front-formed s q = fronts q s q (omega arith)
+    go : (short : Bool) → ltb at (length (encode p)) ≡ short → (k : ℕ) → at ≡ k → ((at : ℕ) → Boundary t at → Parted ps at) → Parted (p ∷ ps) at
+    go true h zero e on = ([], p ∷ ps, refl, e)
+    go true h (suc k) e on =
+        absurd (true≢false (sym (inner p t at (omega arith) (ltb-true at (length (encode p)) h)) ∙ b .1))
+    go false h k e on =
+        let l = ltb-false at (length (encode p)) h in
+        let n = at - length (encode p) in
+        let there : at ≡ length (encode p) + n = omega arith in
+        let byte : within continuation (getD t n 0) ≡ false = sym (ap (within continuation) (ap (λ (i : ℕ). getD (encode p ++ t) i 0) there ∙ getD-append-add (encode p) t n 0)) ∙ b .1 in
+        more n there (on n (omega (arith, b .0, length-append (encode p) t), byte))
+
+-- and where it is parted stands a boundary
+seam : (front back : List ℕ) → Boundary (flatMap encode front ++ flatMap encode back) (length (flatMap encode front))
+unfolding flatMap
+seam front back = (
+  omega (arith, length-append (flatMap encode front) (flatMap encode back)),
+  rw (rw add-zero at (getD-append-add (flatMap encode front) (flatMap encode back) 0 0)) (next back),
+)
+  where
+    next : (back : List ℕ) → within continuation (getD (flatMap encode back) 0 0) ≡ false
+    next [] = refl
+    next (p ∷ ps) = begins-one p (flatMap encode ps)
 
 -- ---- boundaries
 
-module _ (s : List ℕ) (f : formed Utf8 0 s ≡ true) where
-  -- what follows a boundary is well-formed, and only that
-  cut : (p : ℕ) → Boundary s p → formed Utf8 0 (drop p s) ≡ true
-  cut p (h, e) = go (ltb p (length s)) refl
-    where
-      go : (b : Bool) → ltb p (length s) ≡ b → formed Utf8 0 (drop p s) ≡ true
-      go true l = rw (boundary Utf8 s p f (ltb-true p (length s) l), e)
-      go false l = ended Utf8 s p (ltb-false p (length s) l)
+module _ (s : List ℕ) (w : WellFormed Utf8 s) where
+  cut : (at : ℕ) → Boundary s at → (front : List ℕ) × (back : List ℕ) × Cut s at front back
+  cut at b =
+      let (ps, t) = w in
+      let (front, back, e, k) = cut-row ps at (rw (t .bytes) at b) in
+      (front, back, record { text = rw e at t; place = k })
 
-  uncut : (p : ℕ) → p ≤ length s → formed Utf8 0 (drop p s) ≡ true → Boundary s p
-  uncut p h e = (h, go (ltb p (length s)) refl)
+  pub boundary-iff : (at : ℕ) → Boundary s at ↔ ((front : List ℕ) × (back : List ℕ) × Cut s at front back)
+  boundary-iff at = (cut at, λ (front, back, c). rw (c .place, c .text .bytes, flatMap-append) (seam front back))
+
+-- behind a boundary of a text
+module _ {s : List ℕ} {at : ℕ} {front back : List ℕ} (c : Cut s at front back) where
+  -- stands the text of the rest of the row
+  behind : drop at s ≡ flatMap encode back
+  behind = rw (c .place, c .text .bytes, flatMap-append) (drop-append-seam (flatMap encode front) (flatMap encode back))
+
+  rest : TextOf Utf8 back (flatMap encode back)
+  rest = back-text Utf8 front back (c .text)
+
+  -- behind one character more stands the next boundary
+  past-one : (q : ℕ) (t : List ℕ) → q ≤ 0x10FFFF → drop at s ≡ encode q ++ t → Boundary s (at + length (encode q))
+  unfolding flatMap
+  past-one q t b e =
+      let (last, is) = first-point Utf8 back (rest .each) q t b (sym behind ∙ e) in
+      let row : front ++ back ≡ (front ++ q ∷ []) ++ last = ap (front ++_) is ∙ sym (append-assoc front (q ∷ []) last) in
+      boundary-iff s (front ++ back, c .text) (at + length (encode q)) .1 (
+        front ++ q ∷ [],
+        last,
+        record {
+          text = rw row at (c .text);
+          place = rw (flatMap-append, length-append, ← c .place, append-nil);
+        },
+      )
+
+  -- and what stands between it and a later one is well-formed
+  up-to : (n : ℕ) → Boundary (drop at s) n → formed Utf8 0 (take n (drop at s)) ≡ true
+  up-to n b = go (cut-row back n (rw behind at b))
     where
-      go : (b : Bool) → ltb p (length s) ≡ b → within continuation (getD s p 0) ≡ false
-      go true l = not-true (within continuation (getD s p 0)) (sym (boundary Utf8 s p f (ltb-true p (length s) l)) ∙ e)
-      go false l = let h : length s ≤ p = ltb-false p (length s) l in rw (List·getD-eq-default s 0 h)
+      go : Parted back n → formed Utf8 0 (take n (drop at s)) ≡ true
+      go (mid, last, e, k) =
+          let is : take n (drop at s) ≡ flatMap encode mid = rw (behind, k, e, flatMap-append) (take-append-seam (flatMap encode mid) (flatMap encode last)) in
+          rw is (well-formed-iff Utf8 (flatMap encode mid) .1 (mid, front-text Utf8 mid last (rw e at rest)))
+
+module _ (s : List ℕ) (f : formed Utf8 0 s ≡ true) where
+  w : WellFormed Utf8 s
+  w = well-formed-iff Utf8 s .0 f
 
   -- a character of n bytes stands between two boundaries
   pub between : (p n : ℕ) → n ≡ charLength Utf8 (drop p s) → (n ≡ 0 → ⊥) → Boundary s p × Boundary s (p + n)
+  unfolding charAt
   between p n e z =
-      let room = fits Utf8 (drop p s) in
-      let whole : p + n ≤ length s = omega (arith, length-drop p s) in
-      go (ltb p (length s)) refl whole
+      let (q, c) = reader-sound Utf8 (drop p s) (λ none. z (e ∙ none)) in
+      let long : n ≡ length (encode q) = e ∙ ap (λ (r : Char). r .len) (c .read) in
+      let inside : p + n ≤ length s = omega (arith, z, fits Utf8 (drop p s), length-drop p s) in
+      let first : within continuation (getD (drop p s) 0 0) ≡ false = rw (c .begins) (begins-one q (drop (charLength Utf8 (drop p s)) (drop p s))) in
+      let start : Boundary s p = (omega arith, rw (getD-drop, add-zero) at first) in
+      (start, rw long (past-next q (drop (charLength Utf8 (drop p s)) (drop p s)) (bounded Utf8 q (c .among)) (c .begins) (cut s w p start)))
     where
-      go : (b : Bool) → ltb p (length s) ≡ b → p + n ≤ length s → Boundary s p × Boundary s (p + n)
-      go false l whole = let h = ltb-false p (length s) l in let none : n ≡ 0 = omega arith in absurd (z none)
-      go true l whole =
-          let h = ltb-true p (length s) l in
-          let start : Boundary s p = (omega arith, leads Utf8 (getD s p 0) (drop (suc p) s) (λ none. z (rw (drop-cons s p 0 h) at e ∙ none))) in
-          (start, uncut (p + n) whole (sym (passed Utf8 s p h n e z) ∙ cut p start))
+      past-next : (q : ℕ) (t : List ℕ) → q ≤ 0x10FFFF → drop p s ≡ encode q ++ t → (front : List ℕ) × (back : List ℕ) × Cut s p front back
+          → Boundary s (p + length (encode q))
+      past-next q t b e (front, back, c) = past-one c q t b e
 
   -- an ASCII byte is a character
   pub ascii-between : (p : ℕ) → p < length s → getD s p 0 < 0x80 → Boundary s p × Boundary s (p + 1)
@@ -164,5 +202,5 @@ module _ (s : List ℕ) (f : formed Utf8 0 s ≡ true) where
   -- what stands between two boundaries is well-formed
   pub part-formed : (p q : ℕ) → p ≤ q → Boundary s p → Boundary s q → formed Utf8 0 (part s p q) ≡ true
   part-formed p q h b d =
-      let e : p + (q - p) ≡ q = omega arith in
-      front-formed (drop p s) (q - p) (cut p b) (rw (drop-drop (q - p) p s, e) (cut q d))
+      let there : p + (q - p) ≡ q = omega arith in
+      up-to (cut s w p b .2) (q - p) (omega (arith, length-drop p s, d .0), rw (getD-drop, there) (d .1))

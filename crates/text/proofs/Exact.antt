@@ -11,7 +11,7 @@ use borrow.Author.Tests.{lt-ltb, le-ltb}
 use Rattle.text.specs.declared.utf8.Encoding.{Encoding}
 use Rattle.text.specs.declared.utf8.Encoding.the-variants.{Utf8, Wtf8}
 use Rattle.text.specs.Ranges.{Range, _to_, within}
-use Rattle.text.specs.Utf8.{admits, continuation, rows, besides}
+use Rattle.text.specs.Utf8.{admits, continuation, surrogate, leadSurrogate, trailSurrogate, rows, besides}
 use Rattle.text.specs.Encode.{encode, Exact, AllExact}
 use Rattle.text.proofs.Within.{within-iff}
 use Rattle.text.proofs.Rows.{admits-append}
@@ -112,6 +112,9 @@ infixr 40 _then_
 _then_ : {A B : Type 0} → A → B → A × B
 a then b = (a, b)
 
+pub surrogates : Exact 0xD800 0xDFFF surrogate
+surrogates = three (more (next (lead 0xE0 0xD 0xD) 0x20 0x3F (omega arith))) (omega arith)
+
 pub exact : (e : Encoding) → AllExact (rows e)
 exact e =
     one (lead 0x00 0x00 0x7F) (omega arith)
@@ -127,4 +130,11 @@ exact e =
   where
     also : (e : Encoding) → AllExact (besides e)
     also Utf8 = tt
-    also Wtf8 = three (more (next (lead 0xE0 0xD 0xD) 0x20 0x3F (omega arith))) (omega arith) then tt
+    also Wtf8 = surrogates then tt
+
+-- so are the two halves of the surrogates' row
+pub leads : Exact 0xD800 0xDBFF leadSurrogate
+leads = three (more (next (lead 0xE0 0xD 0xD) 0x20 0x2F (omega arith))) (omega arith)
+
+pub trails : Exact 0xDC00 0xDFFF trailSurrogate
+trails = three (more (next (lead 0xE0 0xD 0xD) 0x30 0x3F (omega arith))) (omega arith)

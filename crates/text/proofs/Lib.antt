@@ -5,6 +5,7 @@ pub mod Cases
 pub mod Characters
 pub mod ClassCases
 pub mod CodePoint
+pub mod Columns
 pub mod Cuts
 pub mod Exact
 pub mod Formed
@@ -13,9 +14,11 @@ pub mod Places
 pub mod Positions
 pub mod Reader
 pub mod Replaced
+pub mod Reported
 pub mod Rows
 pub mod Runs
 pub mod Sums
 pub mod TextCases
 pub mod Within
+pub mod WellFormed
 pub mod Words

@@ -31,6 +31,13 @@ abbrev pub codePoints : Encoding → List Range
 codePoints Utf8 = (0x0000 to 0xD7FF) ∷ (0xE000 to 0x10FFFF) ∷ []
 codePoints Wtf8 = (0x0000 to 0x10FFFF) ∷ []
 
+-- a lead surrogate, and a trail one
+abbrev pub Lead : ℕ → Type 0
+Lead p = (0xD800 ≤ p) × (p ≤ 0xDBFF)
+
+abbrev pub Trail : ℕ → Type 0
+Trail p = (0xDC00 ≤ p) × (p ≤ 0xDFFF)
+
 -- the bytes that a row admits are the encodings of the code points from the first to the last, and no others
 pub record Exact (first last : ℕ) (rs : List Range) : Type 0 where
   pub only : (bs : List ℕ) → length bs ≡ length rs → admits rs bs ≡ true → (p : ℕ) × (first ≤ p) × (p ≤ last) × (bs ≡ encode p)

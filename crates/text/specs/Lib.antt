@@ -8,4 +8,5 @@ pub mod Position
 pub mod Ranges
 pub mod Totals
 pub mod Utf8
+pub mod WellFormed
 pub mod WhiteSpace

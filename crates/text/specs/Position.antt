@@ -1,14 +1,17 @@
 -- Lines and columns of a text, from 0: a line ends at LF, a column counts characters, each by its units.
 use mathlib.Core.Path.{_≡_}
 use mathlib.Core.Bool.{Bool, false, cond, not, _&&_}
-use mathlib.Core.Logic.{_⊎_}
-use mathlib.Core.List.{List, [], _∷_}
+use mathlib.Core.Logic.{_⊎_, _↔_}
+use mathlib.Core.List.{List, [], _∷_, _++_, flatMap}
 use Prim.Native.Nat.{ℕ, _+_, _*_, _≤_, _<_, _/_, _%_}
 use lib.Dec.{eqb, leb}
 use lib.ListN.{length, getD, take, drop, set}
 use Rattle.text.specs.declared.position.Position.{Position}
+use Rattle.text.specs.declared.utf8.Encoding.the-variants.{Utf8}
 use Rattle.text.specs.Ranges.{within}
 use Rattle.text.specs.Utf8.{continuation}
+use Rattle.text.specs.Encode.{encode}
+use Rattle.text.specs.WellFormed.{TextOf}
 
 -- the units of a character, by its first byte
 abbrev pub Units : Type 0
@@ -37,13 +40,6 @@ origin = record { line = 0; column = 0 }
 unfoldable pub positionOf : Units → List ℕ → ℕ → Position
 positionOf unit s at = walk unit origin (take at s)
 
--- the position past a character, given by its code point: LF ends the line, any other is one column
-unfoldable pub pastCharacter : Position → ℕ → Position
-pastCharacter p c =
-    cond (eqb c 0x0A)
-    (record { line = p .line + 1; column = 0 })
-    (record { line = p .line; column = p .column + 1 })
-
 -- a place neither past a text nor inside a character; at the end `getD` gives 0, which goes on with none
 abbrev pub Boundary : List ℕ → ℕ → Type 0
 Boundary s p = (p ≤ length s) × (within continuation (getD s p 0) ≡ false)
@@ -55,6 +51,32 @@ isBoundary s p = leb p (length s) && not (within continuation (getD s p 0))
 -- one position comes before another: on an earlier line, or on its line in an earlier column
 abbrev pub Before : Position → Position → Type 0
 Before p q = (p .line < q .line) ⊎ ((p .line ≡ q .line) × (p .column < q .column))
+
+-- ---- "A line ends at LF; a column counts characters"
+
+-- the position past a character, given by its code point: LF ends the line, any other adds its units
+unfoldable pub pastCharacter : Units → Position → ℕ → Position
+pastCharacter unit p c =
+    cond (eqb c 0x0A)
+    (record { line = p .line + 1; column = 0 })
+    (record { line = p .line; column = p .column + unit (getD (encode c) 0 0) })
+
+-- the position past a row of characters: one step for each
+unfoldable pub pastCharacters : Units → Position → List ℕ → Position
+pastCharacters unit p [] = p
+pastCharacters unit p (c ∷ cs) = pastCharacters unit (pastCharacter unit p c) cs
+
+-- a place of a text that is behind the characters `front` and before the characters `back`
+pub record Cut (s : List ℕ) (at : ℕ) (front back : List ℕ) : Type 0 where
+  pub text : TextOf Utf8 (front ++ back) s
+  pub place : at ≡ length (flatMap encode front)
+
+-- in a text the places that are neither past it nor inside a character are those behind a row of its characters, and the position there is the one past that row
+pub record Counted (unit : Units) (s : List ℕ) : Type 0 where
+  pub places : (at : ℕ) → Boundary s at ↔ ((front : List ℕ) × (back : List ℕ) × Cut s at front back)
+  pub positions : (at : ℕ) (front back : List ℕ) → Cut s at front back → positionOf unit s at ≡ pastCharacters unit origin front
+
+-- ---- an index of positions
 
 -- an index holds the position at each 64th byte in two numbers: stored as the kth, and what is kept there
 abbrev pub stored : List ℕ → ℕ → Position → List ℕ

@@ -38,13 +38,19 @@ table =
     ∷ char 0x100000 0x10FFFF ((0xF4 to 0xF4) ∷ (0x80 to 0x8F) ∷ continuation ∷ continuation ∷ [])
     ∷ []
 
--- a surrogate
+-- a surrogate: a lead one, or a trail one
 abbrev pub surrogate : List Range
 surrogate = (0xED to 0xED) ∷ (0xA0 to 0xBF) ∷ continuation ∷ []
 
+abbrev pub leadSurrogate : List Range
+leadSurrogate = (0xED to 0xED) ∷ (0xA0 to 0xAF) ∷ continuation ∷ []
+
+abbrev pub trailSurrogate : List Range
+trailSurrogate = (0xED to 0xED) ∷ (0xB0 to 0xBF) ∷ continuation ∷ []
+
 -- a lead surrogate with a trail surrogate right behind it
 abbrev pub pair : List Range
-pair = (0xED to 0xED) ∷ (0xA0 to 0xAF) ∷ continuation ∷ (0xED to 0xED) ∷ (0xB0 to 0xBF) ∷ continuation ∷ []
+pair = leadSurrogate ++ trailSurrogate
 
 -- what WTF-8 has besides the table: a surrogate, but for the lead one of a pair
 abbrev pub besides : Encoding → List Row

@@ -8,6 +8,7 @@ ghost use Prim.Native.Nat.{ℕ, _≤_, _<_, _+_};
 ghost use lib.ListN.{length, getD, drop};
 ghost use Rattle.text.specs.Ranges.{_to_};
 ghost use Rattle.text.specs.Utf8.{admits, continuation, pair, surrogate, besides, rows, lengthBy, charLength, codeBy, charAt, formed, wellFormed};
+ghost use Rattle.text.specs.WellFormed.{Judges};
 
 // UTF-8, or WTF-8, in which a surrogate stands by itself too.
 pub enum Encoding {
@@ -240,9 +241,10 @@ fn run_to(s: &[u8], at: usize, stop: usize, encoding: Encoding) -> usize
     i
 }
 
-// The whole of `s` is one character after the other.
+// The whole of `s` is one character after the other: the text of a row of code points.
 pub fn well_formed(s: &[u8], encoding: Encoding) -> bool
     ensures { λ r. ⌜ r ≡ wellFormed encoding (now (s .entry)) ⌝ }
+    ensures { λ r. ⌜ Judges encoding (now (s .entry)) r ⌝ }
 {
     let mut at = 0;
     while at < s.len() {

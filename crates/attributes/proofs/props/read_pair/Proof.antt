@@ -14,7 +14,7 @@ part-is-exact-end c = let within = rw (c .before .from .given .1) at (c .before 
 
 returns : tie.Need-returns
 returns c = (
-  (λ v t e. let is = rw (c .before .before .before .from .given .1) at (c .before .before .before .before .before .read-value .ensures .0 v t e) in rw (is, c .is-exact .ensures)),
+  (λ v t e. let is = rw (c .before .before .before .from .given .1) at (c .before .before .before .before .before .read-value .ensures .0 v t e) in rw (is, c .is-exact .ensures .0)),
   record { key = c .before .before .before .before .before .before .before .before .pre; value = rw (c .before .before .before .from .given .1) at (c .before .before .before .before .before .read-value .ensures .1) },
 )
 

@@ -1,8 +1,6 @@
 use borrow.Author.Needs.{needs}
-use mathlib.Core.List.{[], _∷_}
 use denote.Ref.{now}
-use Rattle.text.specs.Ranges.{_to_}
-use Rattle.text.specs.Utf8.{continuation}
+use Rattle.text.specs.Utf8.{leadSurrogate, trailSurrogate}
 use Rattle.text.proofs.Rows.{more, none}
 use Rattle.text.proofs.utf8.pair_at.Statement.{statement}
 use Rattle.text.proofs.utf8.pair_at.Tie as tie
@@ -10,12 +8,12 @@ use Rattle.text.proofs.utf8.pair_at.Tie as tie
 returns : tie.Need-returns
 returns c =
     let a = c .before .before .before .before .args in
-    more ((0xED to 0xED) ∷ (0xA0 to 0xAF) ∷ continuation ∷ []) ((0xED to 0xED) ∷ (0xB0 to 0xBF) ∷ continuation ∷ []) (now (a .s)) (a .at) (c .before .before .row3 .ensures) (c .before .if1 .taken) (c .row32 .ensures)
+    more leadSurrogate trailSurrogate (now (a .s)) (a .at) (c .before .before .row3 .ensures) (c .before .if1 .taken) (c .row32 .ensures)
 
 returns-2 : tie.Need-returns-2
 returns-2 c =
     let a = c .before .before .before .args in
-    none ((0xED to 0xED) ∷ (0xA0 to 0xAF) ∷ continuation ∷ []) ((0xED to 0xED) ∷ (0xB0 to 0xBF) ∷ continuation ∷ []) (now (a .s)) (a .at) (c .before .row3 .ensures) (c .if1 .left)
+    none leadSurrogate trailSurrogate (now (a .s)) (a .at) (c .before .row3 .ensures) (c .if1 .left)
 
 pub pair-at-spec : {M : Type 1} → statement M
 pair-at-spec = tie.close (tie.spec (λ c κs. search needs) (λ c. search needs) (λ c κs. search needs) returns returns-2)

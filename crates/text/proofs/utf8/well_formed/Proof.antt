@@ -7,6 +7,7 @@ use denote.Ref.{now}
 use Rattle.text.specs.Utf8.{formed}
 use Rattle.text.proofs.Formed.{ended}
 use Rattle.text.proofs.Ascii.{ascii-run}
+use Rattle.text.proofs.WellFormed.{judged}
 use Rattle.text.proofs.utf8.well_formed.Statement.{statement}
 use Rattle.text.proofs.utf8.well_formed.Tie as tie
 
@@ -33,7 +34,7 @@ returns : tie.Need-returns Inv-loop μ-loop
 returns c =
     let l = c .before .before .before .before .before .before .loop in
     let r = c .before .run-to .ensures in
-    sym (l .inv .1 ∙ r .0 ∙ r .2 (c .if2 .taken))
+    judged _ _ (sym (l .inv .1 ∙ r .0 ∙ r .2 (c .if2 .taken)))
 
 loop-less-2 : tie.Need-loop-less-2 Inv-loop μ-loop
 loop-less-2 c = omega arith
@@ -45,7 +46,7 @@ loop-again-2 c =
     (r .1, l .inv .1 ∙ r .0)
 
 returns-2 : tie.Need-returns-2 Inv-loop μ-loop
-returns-2 c = sym (c .before .loop .inv .1 ∙ ended _ _ _ (c .loop-test .left))
+returns-2 c = judged _ _ (sym (c .before .loop .inv .1 ∙ ended _ _ _ (c .loop-test .left)))
 
 pub well-formed-spec : {M : Type 1} → statement M
 well-formed-spec =

@@ -32,7 +32,7 @@ returns-2 c =
     let (n, next) = c .before .before .before .before .before .n .given .0 in
     let there = bytes-at s (next .0 .at) n (c .before .before .before .if1 .left) in
     let past = rw found at (read .1) in
-    (rw (seen (readAs s) (read .0) found, there, known (c .before .well-formed .ensures) (c .if2 .taken)), omega (arith, past .0, past .1))
+    (rw (seen (readAs s) (read .0) found, there, known (c .before .well-formed .ensures .0) (c .if2 .taken)), omega (arith, past .0, past .1))
 
 returns-3 : tie.Need-returns-3
 unfolding text
@@ -42,7 +42,7 @@ returns-3 c =
     let found = c .before .before .before .before .before .n .given .1 in
     let (n, next) = c .before .before .before .before .before .n .given .0 in
     let there = bytes-at s (next .0 .at) n (c .before .before .before .if1 .left) in
-    (rw (seen (readAs s) (read .0) found, there, known (c .before .well-formed .ensures) (c .if2 .left)), tt)
+    (rw (seen (readAs s) (read .0) found, there, known (c .before .well-formed .ensures .0) (c .if2 .left)), tt)
 
 returns-4 : tie.Need-returns-4
 unfolding text

@@ -13,6 +13,8 @@ use Rattle.text.specs.declared.utf8.Encoding.the-variants.{Utf8}
 use Rattle.text.specs.Utf8.{wellFormed}
 use Rattle.text.specs.Position.{characters, Indexed}
 use Rattle.text.specs.Bytes.{part}
+use Rattle.text.proofs.Columns.{counted}
+use Rattle.text.proofs.WellFormed.{well-formed-iff}
 use Rattle.sheet.specs.Fit.{Fit}
 use Rattle.sheet.specs.Walk.{startOf}
 use Rattle.sheet.specs.Sheet.{Sheet, accept}
@@ -50,7 +52,7 @@ module _ {s comments groups : List ℕ} {p : Parts} (a : Accepts s comments grou
   within = accepted-within s (a .accepted) .fields
 
   formed-source : wellFormed Utf8 (a .sheet .source) ≡ true
-  formed-source = within .source .1
+  formed-source = well-formed-iff Utf8 (a .sheet .source) .1 (within .source .1)
 
   fit : Fit (a .sheet .source) (a .sheet .comments)
   fit = within .comments .1
@@ -95,6 +97,7 @@ module _ {s comments groups : List ℕ} {p : Parts} (a : Accepts s comments grou
     pragmas = shown (λ t. _) (pragmas-present (a .sheet));
     types = shown (λ t. _) (collect-turns (a .sheet .source) (typesAt (a .sheet)) _ (λ start d e. rw e (types-present (a .sheet) start)) (a .sheet .root));
     texts = shown (λ t. _) (texts (a .sheet) formed-source fit (moduleInfo (a .sheet)) (pragmas-present (a .sheet)) typed);
+    columns = shown (λ t. _) (counted characters (a .sheet .source) (within .source .1));
   }
     where
       typed : All (λ d. IfThere (TypesShown (a .sheet)) (typesOf d)) (moduleInfo (a .sheet) .dependencies)
@@ -127,6 +130,7 @@ refusal-demanded s e answer = record {
   pragmas = λ t f. never t f;
   types = λ t f. never t f;
   texts = λ t f. never t f;
+  columns = λ t f. never t f;
 }
   where
     never : {P : Type 0} (t : Sheet) → accept s ≡ ok t [] → P

@@ -3,6 +3,7 @@ use mathlib.Core.Path.{_≡_}
 use mathlib.Core.List.{List, []}
 use Prim.Native.Nat.{ℕ}
 use Rattle.laws.specs.Decoded.{ok}
+use Rattle.text.specs.Position.{characters, Counted}
 use Rattle.sheet.specs.Walk.{visits}
 use Rattle.sheet.specs.Sheet.{Sheet, accept}
 use Rattle.report.specs.declared.writer.Outcome.{Outcome}
@@ -34,3 +35,5 @@ pub record Demands (s : List ℕ) (size : ℕ) (outcome : Outcome) (buffer : Lis
   pub types : OfAccepted s (λ t. InTurn (λ start d. TypesPresent t start (typesOf d)) (visits (t .root)) (moduleInfo t .dependencies))
   -- the source between the two positions of each is its text, in two marks or bare as the alternative that matched asks
   pub texts : OfAccepted s (λ t. Texts t (moduleInfo t))
+  -- and these positions are 01's: a line ends at LF, a column counts characters
+  pub columns : OfAccepted s (λ t. Counted characters (t .source))

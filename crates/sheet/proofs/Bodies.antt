@@ -1,23 +1,22 @@
 -- The body of a comment lies within the comment. In a well-formed source it is well-formed, and its boundaries are boundaries of the source.
 use mathlib.Core.Path.{_≡_, refl, sym, ap, _∙_}
-use mathlib.Core.Bool.{Bool, true, false, cond, _&&_, and-eq-true-iff}
+use mathlib.Core.Bool.{Bool, true, false, cond}
 use mathlib.Core.List.{List, [], _++_}
 use Prim.Native.Nat.{ℕ, _+_, _-_, _≤_, _<_}
 use native.Mathlib.Nat.{sub-zero}
 use native.Mathlib.Omega.{arith}
-use lib.Dec.{eqb, leb, ltb}
-use lib.ListN.{length, getD, take, drop, length-take, length-drop, take-append-drop, List·getD-append}
-use lib.Seq.{getD-take, getD-drop, drop-drop, drop-append-le}
+use lib.Dec.{eqb, ltb}
+use lib.ListN.{length, getD, take, drop, length-append, length-take, length-drop, take-append-drop, List·getD-append}
+use lib.Seq.{getD-take, getD-drop, getD-at, drop-drop, drop-append-le}
 use borrow.Author.Tests.{ltb-true, ltb-false}
 use Rattle.laws.specs.Quoted.{ascii}
 use Rattle.text.specs.declared.utf8.Encoding.the-variants.{Utf8}
-use Rattle.text.specs.Bytes.{part, begins}
+use Rattle.text.specs.Bytes.{part}
 use Rattle.text.specs.Utf8.{formed}
 use Rattle.text.specs.Position.{Boundary}
-use Rattle.text.proofs.Words.{begins-sound}
 use Rattle.text.proofs.Cuts.{ascii-between, part-formed}
 use Rattle.sheet.specs.declared.comments.Comment.{Comment}
-use Rattle.sheet.specs.Comments.{slice, opening, closing, enclosed, marked}
+use Rattle.sheet.specs.Comments.{slice, opening, closing}
 use Rattle.sheet.specs.Fit.{Placed}
 use Rattle.sheet.specs.Lookups.{HoldsMarks, bodySpan, body}
 use Rattle.sheet.proofs.Members.{placed-within}
@@ -62,15 +61,6 @@ body-byte source c w i l = part-byte source (bodySpan c .start) (bodySpan c .end
 
 -- ---- boundaries
 
--- the text of a comment begins with one mark and ends with the other
-enclosed-by : (front back c : List ℕ) → enclosed front back c ≡ true
-    → (c ≡ front ++ drop (length front) c) × (drop (length c - length back) c ≡ back ++ drop (length back) (drop (length c - length back) c))
-unfolding enclosed
-enclosed-by front back c e =
-    let (x, y) = and-eq-true-iff (leb (length front + length back) (length c) && begins front c) (begins back (drop (length c - length back) c)) .0 e in
-    let b = and-eq-true-iff (leb (length front + length back) (length c)) (begins front c) .0 x .1 in
-    (begins-sound front c b, begins-sound back (drop (length c - length back) c) y)
-
 opening-ascii : (kind : ℕ) → getD (opening kind) 1 0 < 0x80
 opening-ascii kind = go (eqb kind 0)
   where
@@ -78,27 +68,33 @@ opening-ascii kind = go (eqb kind 0)
     go true = omega arith
     go false = omega arith
 
+closing-star : (kind : ℕ) (t s : List ℕ) → s ≡ opening kind ++ (t ++ closing kind) → eqb kind 0 ≡ false → getD s (length s - 2) 0 ≡ 0x2A
+closing-star kind t s h e =
+    let front = ascii "/*" ++ t in
+    let all : s ≡ front ++ ascii "*/" = rw e at h in
+    let k : length front ≡ length s - 2 = omega (arith, ap length all ∙ length-append front (ascii "*/")) in
+    ap (λ (r : List ℕ). getD r (length s - 2) 0) all ∙ getD-at front 0x2A (ascii "/") 0 (length s - 2) k
+
 module _ (source : List ℕ) (c : Comment) (f : formed Utf8 0 source ≡ true) (h : Placed source c) where
   -- the body begins behind an ASCII byte
   body-starts : Boundary source (bodySpan c .start)
-  unfolding bodySpan marked
+  unfolding bodySpan
   body-starts =
       let start = c .span .start in
-      let s = slice source (c .span) in
       let front = opening (c .kind) in
       let two = opening-long (c .kind) in
       let room = holds-marks source c h in
       let end = placed-within source c h in
       let byte : getD source (start + 1) 0 ≡ getD front 1 0 =
       sym (part-byte source start (c .span .end) 1 (omega arith))
-      ∙ ap (λ (t : List ℕ). getD t 1 0) (enclosed-by front (closing (c .kind)) s (h .marks) .0)
-      ∙ List·getD-append front (drop (length front) s) 0 1 (omega arith) in
+      ∙ ap (λ (t : List ℕ). getD t 1 0) (h .marks)
+      ∙ List·getD-append front (body source c ++ closing (c .kind)) 0 1 (omega arith) in
       let behind : start + length front ≡ start + 1 + 1 = omega arith in
       rw behind (ascii-between source f (start + 1) (omega arith) (rw byte (opening-ascii (c .kind))) .1)
 
   -- and ends where the comment ends, or before an ASCII byte
   body-ends : Boundary source (bodySpan c .end)
-  unfolding bodySpan marked
+  unfolding bodySpan
   body-ends = go (eqb (c .kind) 0) refl
     where
       go : (b : Bool) → eqb (c .kind) 0 ≡ b → Boundary source (c .span .end - length (cond b [] (ascii "*/")))
@@ -108,10 +104,9 @@ module _ (source : List ℕ) (c : Comment) (f : formed Utf8 0 source ≡ true) (
           let room : c .span .start + (2 + 2) ≤ c .span .end = rw e at (holds-marks source c h) in
           let end = placed-within source c h in
           let n : length s ≡ c .span .end - c .span .start = simp (length-take, length-drop) (omega arith) in
-          let back = enclosed-by (ascii "/*") (ascii "*/") s (rw e at (h .marks)) .1 in
-          let star : getD s (length s - 2 + 0) 0 ≡ 0x2A = sym (getD-drop (length s - 2) s 0 0) ∙ ap (λ (t : List ℕ). getD t 0 0) back in
-          let there : c .span .start + (length s - 2 + 0) ≡ c .span .end - 2 = omega arith in
-          let same = rw there at (part-byte source (c .span .start) (c .span .end) (length s - 2 + 0) (omega arith)) in
+          let star = closing-star (c .kind) (body source c) s (h .marks) e in
+          let there : c .span .start + (length s - 2) ≡ c .span .end - 2 = omega arith in
+          let same = rw there at (part-byte source (c .span .start) (c .span .end) (length s - 2) (omega arith)) in
           ascii-between source f (c .span .end - 2) (omega arith) (omega arith) .0
 
   pub body-formed : formed Utf8 0 (body source c) ≡ true

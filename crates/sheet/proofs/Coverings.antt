@@ -1,18 +1,19 @@
 -- Which comments are in some group, from the longest group that begins at each.
 use mathlib.Core.Path.{_≡_, refl, sym, _∙_}
-use mathlib.Core.Bool.{Bool, true, false, cond, _&&_, _||_, or-assoc, true≢false, and-eq-true-iff}
-use mathlib.Core.Logic.{_⊎_, inl, inr}
-use mathlib.Core.List.{List, [], _∷_, _++_}
+use mathlib.Core.Bool.{Bool, true, false, cond, _&&_, _||_, or-assoc, or-true, true≢false, false≢true, and-eq-true-iff}
+use mathlib.Core.Logic.{_⊎_, inl, inr, ⊎-elim, _↔_}
+use mathlib.Core.List.{List, [], _∷_, _++_, List·Memᴰ, List·Memᴰ·head, List·Memᴰ·tail, List·Memᴰ·not-nil, List·Memᴰ·cases-cons}
 use Prim.Native.Nat.{ℕ, zero, suc, _+_, _-_, _≤_, _<_, max, zero-le}
 use native.Mathlib.Nat.{zero-max, max-zero, max-eq-left, max-eq-right, sub-zero, sub-eq-zero-of-le, not-suc-le-zero, le-of-suc-le-suc, eq-or-lt-of-le}
 use native.Mathlib.Numerals.{add-one}
 use native.Mathlib.Omega.{arith}
-use lib.Dec.{eqb, ltb, leb·suc-suc}
+use lib.Dec.{eqb, leb, ltb, leb·suc-suc}
 use lib.ListN.{length, getD, set, replicate, length-replicate, getD-replicate, List·getD-append}
 use lib.Seq.{getD-set-same, getD-set-other}
-use borrow.Author.Tests.{ltb-true, ltb-false, eqb-true, eqb-false, lt-ltb, le-ltb, ne-eqb}
+use borrow.Author.Tests.{leb-true, le-leb, ltb-true, ltb-false, eqb-true, eqb-false, lt-ltb, le-ltb, ne-eqb}
 use Rattle.sheet.specs.declared.groups.Group.{Group}
-use Rattle.sheet.specs.Comments.{inSome, covered}
+use Rattle.sheet.specs.Comments.{holds, inSome, covered}
+use Rattle.sheet.specs.Fit.{Holds, HeldBySome}
 use Rattle.sheet.specs.Tables.{rows, groupIn, groupsIn}
 use Rattle.sheet.specs.Covering.{longestAt}
 
@@ -68,7 +69,7 @@ begun-more (g ∷ gs) k j h = go (begun-more gs k j h) (ltb (g .first) k) refl (
         rw (le-ltb (g .first) (suc k) (omega (arith, ltb-false (g .first) k e, other)), zero-max) more
 
 -- where each comment is in some group, this one is
-pub covered-at : (gs : List Group) (n i : ℕ) → i < n → covered gs n ≡ true → inSome gs i ≡ true
+covered-at : (gs : List Group) (n i : ℕ) → i < n → covered gs n ≡ true → inSome gs i ≡ true
 unfolding covered
 covered-at gs zero i l e = absurd (not-suc-le-zero l)
 covered-at gs (suc n) i l e = go (eq-or-lt-of-le (le-of-suc-le-suc l)) (covered-at gs n i)
@@ -76,6 +77,38 @@ covered-at gs (suc n) i l e = go (eq-or-lt-of-le (le-of-suc-le-suc l)) (covered-
     go : (i ≡ n) ⊎ (i < n) → (i < n → covered gs n ≡ true → inSome gs i ≡ true) → inSome gs i ≡ true
     go (inl x) f = rw x (and-eq-true-iff (covered gs n) (inSome gs n) .0 e .1)
     go (inr x) f = f x (and-eq-true-iff (covered gs n) (inSome gs n) .0 e .0)
+
+-- and back
+covers : (gs : List Group) (n : ℕ) → ((i : ℕ) → i < n → inSome gs i ≡ true) → covered gs n ≡ true
+unfolding covered
+covers gs zero all = refl
+covers gs (suc n) all = rw (covers gs n (λ i l. all i (omega arith)), all n (omega arith))
+
+-- to be in some group is to be held by one of the list
+held : (gs : List Group) (i : ℕ) → inSome gs i ≡ true → HeldBySome gs i
+held [] i e = absurd (false≢true e)
+held (g ∷ gs) i e = go (holds i g) refl e (held gs i)
+  where
+    go : (b : Bool) → holds i g ≡ b → (b || inSome gs i) ≡ true → (inSome gs i ≡ true → HeldBySome gs i) → HeldBySome (g ∷ gs) i
+    go true h e on =
+        let (l, u) = and-eq-true-iff (leb (g .first) i) (ltb i (g .first + g .count)) .0 h in
+        record { group = g; member = List·Memᴰ·head refl; holds = (leb-true (g .first) i l, ltb-true i (g .first + g .count) u) }
+    go false h e on = let r = on e in record { group = r .group; member = List·Memᴰ·tail (r .member); holds = r .holds }
+
+in-held : (gs : List Group) (i : ℕ) (g : Group) → List·Memᴰ g gs → Holds g i → inSome gs i ≡ true
+in-held [] i g m h = absurd (List·Memᴰ·not-nil m)
+in-held (x ∷ gs) i g m (l, u) =
+    ⊎-elim
+    (λ e. rw (← e, le-leb (g .first) i l, lt-ltb i (g .first + g .count) u))
+    (λ n. rw (in-held gs i g n (l, u), or-true))
+    (List·Memᴰ·cases-cons m)
+
+-- the first n comments are covered just where each is held by some group
+pub covered-iff : (gs : List Group) (n : ℕ) → (covered gs n ≡ true) ↔ ((i : ℕ) → i < n → HeldBySome gs i)
+covered-iff gs n = (
+  λ e i l. held gs i (covered-at gs n i l e),
+  λ all. covers gs n (λ i l. let r = all i l in in-held gs i (r .group) (r .member) (r .holds)),
+)
 
 uncovered : (gs : List Group) (n i : ℕ) → i < n → inSome gs i ≡ false → covered gs n ≡ false
 uncovered gs n i l e = go (covered gs n) refl

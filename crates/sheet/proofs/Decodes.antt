@@ -12,9 +12,9 @@ use Rattle.wire.specs.Number.{largest}
 use Rattle.sheet.specs.declared.comments.Comment.{Comment}
 use Rattle.sheet.specs.declared.groups.Group.{Group}
 use Rattle.sheet.specs.Comments.{comments, encodeComment, endOf, groups, encodeGroup, anywhere, mayFollow}
-use Rattle.sheet.specs.Fit.{Placed, Fit, noComment, Reaching, Grouped, noGroup, groupOf}
+use Rattle.sheet.specs.Fit.{Placed, Fit, noComment, Reaching, Precedes, Grouped, noGroup, groupOf}
 use Rattle.sheet.proofs.Chains.{Chained, chained-codec, of-each, of-pairs, chain}
-use Rattle.sheet.proofs.Order.{precedes-trans}
+use Rattle.sheet.proofs.Order.{by-order, in-order, earlier-trans}
 use Rattle.sheet.proofs.Judged.{Judged, comment-codec, Ranged, group-codec}
 
 module _ (source : List ℕ) where
@@ -44,24 +44,25 @@ module _ (source : List ℕ) where
   module _ (total : ℕ) where
     -- groups, each behind the one before, are in order
     chained-grouped : (gs : List Group) → Chained (Ranged source total) mayFollow anywhere gs → Grouped total gs × AtBoundaries gs
-    chained-grouped gs c =
-        let Behind : Group → Group → Type 0 = λ g h. mayFollow g (h .side) (h .position) ≡ true in (
-          record {
-            each = of-each (Ranged source total) mayFollow noGroup (Reaching total) (λ after g q. q .reaching) anywhere gs c;
-            ascending = record {
-              rise = of-pairs (Ranged source total) mayFollow noGroup Behind (λ g h q. q .follows)
-                  (λ a b c. precedes-trans (a .side) (a .position) (b .side) (b .position) (c .side) (c .position)) anywhere gs c;
-            };
-          },
-          of-each (Ranged source total) mayFollow noGroup (λ g. Boundary source (g .position)) (λ after g q. q .place) anywhere gs c,
-        )
+    chained-grouped gs c = (
+      record {
+        each = of-each (Ranged source total) mayFollow noGroup (Reaching total) (λ after g q. q .reaching) anywhere gs c;
+        ascending = record {
+          rise = of-pairs (Ranged source total) mayFollow noGroup Precedes
+              (λ g h q. by-order (g .side) (g .position) (h .side) (h .position) (q .follows))
+              (λ a b c. earlier-trans (a .side) (a .position) (b .side) (b .position) (c .side) (c .position)) anywhere gs c;
+        };
+      },
+      of-each (Ranged source total) mayFollow noGroup (λ g. Boundary source (g .position)) (λ after g q. q .place) anywhere gs c,
+    )
 
     grouped-chained : length source ≤ largest → total ≤ largest → (gs : List Group) → Grouped total gs × AtBoundaries gs
         → Chained (Ranged source total) mayFollow anywhere gs
     grouped-chained small few gs (f, at) =
         chain (Ranged source total) mayFollow noGroup (λ g. Reaching total g × Boundary source (g .position)) (λ after g. after (g .side) (g .position) ≡ true)
         (λ after g (r, p) q. record { reaching = r; place = p; follows = q; small = (omega (arith, p .0), omega (arith, r .reach), omega (arith, r .reach)) })
-        anywhere gs (λ k h. (f .each k h, at k h)) (λ k h. refl) (f .ascending .rise)
+        anywhere gs (λ k h. (f .each k h, at k h)) (λ k h. refl)
+        (λ j k i h. in-order (groupOf gs j .side) (groupOf gs j .position) (groupOf gs k .side) (groupOf gs k .position) (f .ascending .rise j k i h))
 
     pub groups-codec : length source ≤ largest → total ≤ largest → (m : ℕ)
         → Codec (groups source total anywhere m) (flatMap encodeGroup) (λ gs. (length gs ≡ m) × (Grouped total gs × AtBoundaries gs))

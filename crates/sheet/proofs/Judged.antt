@@ -17,6 +17,7 @@ use Rattle.sheet.specs.declared.groups.Group.{Group}
 use Rattle.sheet.specs.Fields.{position, endFrom}
 use Rattle.sheet.specs.Comments.{slice, marked, comment, encodeComment, group, encodeGroup}
 use Rattle.sheet.specs.Fit.{Placed, Reaching}
+use Rattle.sheet.proofs.Marks.{marked-iff}
 
 -- a position
 pub record At (source : List ℕ) (p : ℕ) : Type 0 where
@@ -59,12 +60,12 @@ module _ (source : List ℕ) where
       let w = v .placed in
       let start : At source (c .span .start) = record { boundary = w .start; small = v .small .0 } in
       let end : At source (c .span .end) = record { boundary = w .end; small = v .small .1 } in
-      ((c .kind, (c .span .start, (c .span .end, tt))), refl, (w .kind, (start, (le-leb last (c .span .start) (v .behind), ((end, w .order), (w .marks, tt)))))))
+      ((c .kind, (c .span .start, (c .span .end, tt))), refl, (w .kind, (start, (le-leb last (c .span .start) (v .behind), ((end, w .order), (marked-iff source c (w .order) (w .end .0) .1 (w .marks), tt)))))))
       (λ p v.
       let (kind, (start, (behind, ((end, order), (marks, z))))) = v in (
         rw (append-nil (encodeNumber (p .1 .1 .0))),
         record {
-          placed = record { kind = kind; start = start .boundary; end = end .boundary; order = order; marks = marks };
+          placed = record { kind = kind; start = start .boundary; end = end .boundary; order = order; marks = marked-iff source _ order (end .boundary .0) .0 marks };
           behind = leb-true last (p .1 .0) behind;
           small = (start .small, end .small);
         },

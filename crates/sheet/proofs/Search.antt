@@ -15,7 +15,7 @@ use Rattle.sheet.specs.Tables.{rows, groupIn, groupsIn}
 use Rattle.sheet.specs.Fit.{Ascending}
 use Rattle.sheet.specs.Lookups.{standsAt, groupAt}
 use Rattle.sheet.proofs.Rows.{rows-length, group-row}
-use Rattle.sheet.proofs.Order.{irreflexive, precedes-trans, otherwise}
+use Rattle.sheet.proofs.Order.{in-order, irreflexive, precedes-trans, otherwise}
 
 module _ (g : Group) (side position : ℕ) where
   stands : standsAt g side position ≡ true → (g .side ≡ side) × (g .position ≡ position)
@@ -77,7 +77,9 @@ module _ {table : List ℕ} {m side position lo hi : ℕ} (s : Searched table m 
   module _ (asc : Ascending (groupsIn table m)) (mid : ℕ) (l : mid < m) where
     -- a row comes before a later one
     rise : (j k : ℕ) → j < k → k < m → mayFollow (groupIn table j) (groupIn table k .side) (groupIn table k .position) ≡ true
-    rise j k i h = rw (group-row table m j (omega arith), group-row table m k h) at (asc .rise j k i (rw rows-length h))
+    rise j k i h =
+        in-order (groupIn table j .side) (groupIn table j .position) (groupIn table k .side) (groupIn table k .position)
+        (rw (group-row table m j (omega arith), group-row table m k h) at (asc .rise j k i (rw rows-length h)))
 
     pub search-found : standsAt (groupIn table mid) side position ≡ true → groupAt (groupsIn table m) side position ≡ Option.some (groupIn table mid)
     search-found e =

@@ -1,9 +1,9 @@
 -- Decoding and encoding sheets undo each other: what is decoded is within document 01's limits and stood there as its bytes, and each sheet within these
 -- limits is decoded from its bytes.
 use mathlib.Core.Path.{_≡_, refl, sym, _∙_}
-use mathlib.Core.Bool.{true, false, not, _&&_, and-eq-true-iff}
+use mathlib.Core.Bool.{false, not, _&&_, and-eq-true-iff}
 use mathlib.Core.List.{List, [], _∷_, append-nil}
-use Prim.Native.Nat.{ℕ, zero, suc, _≤_, _<_}
+use Prim.Native.Nat.{ℕ, _≤_, _<_}
 use native.Mathlib.Omega.{arith}
 use lib.Dec.{leb, ltb}
 use lib.ListN.{length}
@@ -15,23 +15,16 @@ use Rattle.laws.proofs.Codecs.{built-given, built-then, built-require, codec-of
 use Rattle.text.specs.declared.utf8.Encoding.the-variants.{Utf8}
 use Rattle.wire.specs.Number.{largest}
 use Rattle.wire.proofs.TextCodec.{below-codec, text-codec}
-use Rattle.sheet.specs.declared.groups.Group.{Group}
-use Rattle.sheet.specs.Comments.{inSome, covered}
+use Rattle.sheet.specs.Comments.{covered}
 use Rattle.sheet.specs.Sheet.{Sheet, sheet, ending, decodeSheet, accept}
 use Rattle.sheet.specs.Walked.{uncooked}
-use Rattle.sheet.proofs.Coverings.{covered-at}
+use Rattle.sheet.proofs.Coverings.{covered-iff}
 use Rattle.sheet.proofs.Decodes.{comments-codec, groups-codec}
 use Rattle.sheet_codec.specs.Encode.{encodeSheet}
 use Rattle.sheet_codec.specs.Limits.{FieldsFit, WithinLimits}
 use Rattle.sheet_codec.proofs.Building.{limit-codec}
 use Rattle.sheet_codec.proofs.Parts.{program-codec}
 use Rattle.sheet_codec.proofs.Levels.{node-codec}
-
--- where each comment is in some group, they are covered
-covers : (gs : List Group) (n : ℕ) → ((i : ℕ) → i < n → inSome gs i ≡ true) → covered gs n ≡ true
-unfolding covered
-covers gs zero all = refl
-covers gs (suc n) all = rw (covers gs n (λ i l. all i (omega arith)), all n (omega arith))
 
 -- refusals 2 to 7
 sheet-codec : Codec sheet encodeSheet FieldsFit
@@ -47,7 +40,7 @@ sheet-codec =
     (λ t v. (
       (t .media, (t .source, (length (t .comments), (t .comments, (length (t .groups), (t .groups, (t .program, t .root))))))),
       refl,
-      (v .media, (v .source, (v .comments .0, ((refl, v .comments .1), (v .groups .0, ((refl, (v .groups .1, v .places)), (covers (t .groups) (length (t .comments)) (v .grouped), (v .program, v .root)))))))),
+      (v .media, (v .source, (v .comments .0, ((refl, v .comments .1), (v .groups .0, ((refl, (v .groups .1, v .places)), (covered-iff (t .groups) (length (t .comments)) .1 (v .grouped), (v .program, v .root)))))))),
     ))
     (λ a v.
     let (media, (source, (few, ((long, comments), (few′, ((long′, (groups, places)), (all, (p, root)))))))) = v in (
@@ -58,7 +51,7 @@ sheet-codec =
         comments = (rw long few, comments);
         groups = (rw long′ few′, rw long groups);
         places = places;
-        grouped = λ i l. covered-at _ _ i (rw long at l) all;
+        grouped = λ i l. covered-iff _ _ .0 all i (rw long at l);
         program = p;
         root = root;
       },

@@ -1,18 +1,16 @@
 -- What document 01 asks of a sheet, stated without a decoder: just such sheets are decoded (proofs/Sheets, laws `encoded` and `accepted`).
 use mathlib.Core.Path.{_≡_}
-use mathlib.Core.Bool.{true}
 use mathlib.Core.List.{List}
 use Prim.Native.Nat.{ℕ, zero, suc, _+_, _≤_, _<_}
 use lib.ListN.{length}
 use Rattle.laws.specs.Codec.{All, IfThere}
 use Rattle.text.specs.declared.utf8.Encoding.{Encoding}
 use Rattle.text.specs.declared.utf8.Encoding.the-variants.{Utf8, Wtf8}
-use Rattle.text.specs.Utf8.{wellFormed}
+use Rattle.text.specs.WellFormed.{WellFormed}
 use Rattle.text.specs.Position.{Boundary}
 use Rattle.wire.specs.Number.{largest}
 use Rattle.sheet.specs.declared.fields.Span.{Span}
-use Rattle.sheet.specs.Comments.{inSome}
-use Rattle.sheet.specs.Fit.{Fit, Grouped, groupOf}
+use Rattle.sheet.specs.Fit.{Fit, Grouped, groupOf, HeldBySome}
 use Rattle.sheet.specs.Program.{Program}
 use Rattle.sheet.specs.Tree.{Quoted, Node, other, string, name, template, binary, object, importCall, call, importDecl, namedExport, exportFrom, exportAll, importType, importEquals, importRequire, moduleDecl, Nodes, none, more, Arguments, noArguments, argument, Properties, noProperties, spread, otherProperty, childKey, stringKey, nameKey, Attributes, without, withObject}
 use Rattle.sheet.specs.Sheet.{Sheet}
@@ -20,7 +18,7 @@ use Rattle.sheet_codec.specs.Encode.{nodesIn, argumentsIn, propertiesIn,
 
 -- a text: at most so many bytes, well-formed
 abbrev pub TextFits : Encoding → ℕ → List ℕ → Type 0
-TextFits e limit x = (length x ≤ limit) × (wellFormed e x ≡ true)
+TextFits e limit x = (length x ≤ limit) × WellFormed e x
 
 -- a start and an end: not past the source, not inside a character, the end not before the start
 pub record SpanFits (source : List ℕ) (sp : Span) : Type 0 where
@@ -116,7 +114,7 @@ pub record FieldsFit (t : Sheet) : Type 0 where
   pub comments : (length (t .comments) ≤ 1024) × Fit (t .source) (t .comments)
   pub groups : (length (t .groups) ≤ 1024) × Grouped (length (t .comments)) (t .groups)
   pub places : (k : ℕ) → k < length (t .groups) → Boundary (t .source) (groupOf (t .groups) k .position)  -- each group is at a boundary
-  pub grouped : (i : ℕ) → i < length (t .comments) → inSome (t .groups) i ≡ true  -- each comment is in some group
+  pub grouped : (i : ℕ) → i < length (t .comments) → HeldBySome (t .groups) i  -- each comment is in some group
   pub program : ProgramFits (t .source) (t .program)
   pub root : NodeFits (t .source) (t .root) 64  -- nodes nest at most 64 deep, the root is 1
 

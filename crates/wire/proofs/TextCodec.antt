@@ -14,6 +14,8 @@ use Rattle.laws.proofs.Decoding.{refused}
 use Rattle.laws.proofs.Codecs.{built-return, built-then, built-require, codec-of}
 use Rattle.text.specs.declared.utf8.Encoding.{Encoding}
 use Rattle.text.specs.Utf8.{wellFormed}
+use Rattle.text.specs.WellFormed.{WellFormed}
+use Rattle.text.proofs.WellFormed.{well-formed-iff}
 use Rattle.wire.specs.Fields.{byte, below, flag, encodeFlag, bytes}
 use Rattle.wire.specs.Number.{largest, encodeNumber}
 use Rattle.wire.specs.Text.{count, text, encodeText}
@@ -68,9 +70,9 @@ bytes-codec n =
         rw (← p, ← q) (sym (take-append-drop n s), length-take-le n s (leb-true n (length s) h))
     cut s x t false h e = absurd (refused e)
 
-pub text-codec : (e : Encoding) (limit : ℕ) → limit ≤ largest → Codec (text e limit) encodeText (λ x. (length x ≤ limit) × (wellFormed e x ≡ true))
+pub text-codec : (e : Encoding) (limit : ℕ) → limit ≤ largest → Codec (text e limit) encodeText (λ x. (length x ≤ limit) × WellFormed e x)
 unfolding text encodeText
 text-codec e limit h =
     codec-of (built-then (count-codec limit) (λ n. built-then (bytes-codec n) (λ x. built-require (wellFormed e x) 5 (built-return x))))
-    (λ x v. ((length x, (x, tt)), refl, ((v .0, omega (arith, v .0)), (refl, (v .1, tt)))))
-    (λ p v. (rw (append-nil (p .1 .0), v .1 .0), (omega (arith, v .0 .0, v .1 .0), v .1 .1 .0)))
+    (λ x v. ((length x, (x, tt)), refl, ((v .0, omega (arith, v .0)), (refl, (well-formed-iff e x .1 (v .1), tt)))))
+    (λ p v. (rw (append-nil (p .1 .0), v .1 .0), (omega (arith, v .0 .0, v .1 .0), well-formed-iff e (p .1 .0) .0 (v .1 .1 .0))))

@@ -2,6 +2,7 @@
 // parser of TypeScript instead; run it by tools/export.
 //   export.js FILE [SHEET]             one sheet, to the file SHEET or to standard output
 //   export.js --batch SHEETS KINDS     a sheet for each file named on standard input: a batch, and a line with each sheet's media
+//   export.js --each FOLDER            the same, each sheet in a file of its own: that of the first line is FOLDER/1.sheet
 // What a sheet cannot express, or this parser cannot read, is refused with a line on standard error; then the status is 1 (in a batch, the file
 // is passed over and counted).
 //
@@ -605,18 +606,20 @@ function attempt(name) {
   try {
     return sheetOf(name);
   } catch (e) {
-    if (!(e instanceof Refused)) throw e;
+    if (!(e instanceof Refused || e instanceof RangeError)) throw e; // the parser's stack has an end
     console.error(`export: ${name}: ${e.message}`);
     return undefined;
   }
 }
+
+const namesOnInput = () => fs.readFileSync(0, 'utf8').split('\n').filter((n) => n);
 
 function batch(sheetsName, kindsName) {
   const sheets = fs.openSync(sheetsName, 'w');
   const kinds = fs.openSync(kindsName, 'w');
   let made = 0;
   let refused = 0;
-  for (const name of fs.readFileSync(0, 'utf8').split('\n').filter((n) => n)) {
+  for (const name of namesOnInput()) {
     const sheet = attempt(name);
     if (!sheet) {
       refused++;
@@ -631,13 +634,33 @@ function batch(sheetsName, kindsName) {
   console.log(`${made} files exported, ${refused} refused`);
 }
 
+// where many files take a while, a terminal is told how far it is
+function each(folder) {
+  const names = namesOnInput();
+  const told = names.length >= 20 && process.stderr.isTTY;
+  names.forEach((name, i) => {
+    if (told) process.stderr.write(`export: ${i + 1} of ${names.length}\r`);
+    const sheet = attempt(name);
+    if (sheet) fs.writeFileSync(`${folder}/${i + 1}.sheet`, sheet.bytes);
+    else process.exitCode = 1;
+  });
+  if (told) process.stderr.write(`${' '.repeat(30)}\r`);
+}
+
+// what is not foreseen is a failure, and no refusal
+process.on('uncaughtException', (e) => {
+  console.error(e.stack);
+  process.exit(2);
+});
+
 const args = process.argv.slice(2);
 if (args[0] === '--batch' && args.length === 3) batch(args[1], args[2]);
+else if (args[0] === '--each' && args.length === 2) each(args[1]);
 else if (args.length === 1 || (args.length === 2 && !args[0].startsWith('-'))) {
   const sheet = attempt(args[0]);
   if (!sheet) process.exit(1);
   fs.writeFileSync(args.length === 2 ? args[1] : 1, sheet.bytes);
 } else {
-  console.error('usage: export FILE [SHEET] | export --batch SHEETS KINDS');
+  console.error('usage: export FILE [SHEET] | export --batch SHEETS KINDS | export --each FOLDER');
   process.exit(2);
 }

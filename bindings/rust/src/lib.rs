@@ -35,11 +35,18 @@
 
 mod analysis;
 mod decode;
+mod json;
 mod refusal;
+mod sheet;
+mod sheet_decode;
+mod sheet_encode;
 
 pub use analysis::*;
 pub use decode::{DecodeError, Problem};
+pub use json::json_string;
 pub use refusal::Refusal;
+pub use sheet::*;
+pub use sheet_encode::OutOfForm;
 
 /// The longest sheet that is not refused.
 pub const MAX_SHEET: usize = 65_536;

@@ -1,6 +1,9 @@
 // Prints the citation of the sheet on standard input.
 use citation::cite::cite_refusal;
 use citation::cite::cite_report;
+use input::Input;
+use input::read_input;
+use libc::STDERR_FILENO;
 use libc::STDIN_FILENO;
 use libc::STDOUT_FILENO;
 use module_info::module_info;
@@ -30,12 +33,21 @@ fn line_buffer() -> [u8; 262144]
     [0; 262144]
 }
 
-// Reads one byte more than the longest sheet has, so that a longer one is refused.
+// Reads one byte more than the longest sheet has, so that a longer one is refused. Nothing is cited of what cannot be read.
 fn main() {
     let mut sheet = [0u8; 65537];
+    let input = read_input(STDIN_FILENO, &mut sheet);
+    let Input::Bytes(n) = input else {
+        io::write_all(STDERR_FILENO, b"cite: standard input cannot be read\n");
+        return;
+    };
     let mut report = io::large_buffer();
     let mut lines = line_buffer();
-    let n = io::read_full(STDIN_FILENO, &mut sheet);
     let length = cite(&sheet[..n], &mut report, &mut lines);
-    io::write_all(STDOUT_FILENO, &lines[..length]);
+    if !io::write_all(STDOUT_FILENO, &lines[..length]) {
+        io::write_all(
+            STDERR_FILENO,
+            b"cite: standard output cannot be written to\n",
+        );
+    }
 }

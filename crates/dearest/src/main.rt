@@ -1,4 +1,7 @@
 // Writes the dearest body of as many bytes as standard input says.
+use input::Input;
+use input::read_input;
+use libc::STDERR_FILENO;
 use libc::STDIN_FILENO;
 use libc::STDOUT_FILENO;
 use scan::LONGEST;
@@ -91,10 +94,20 @@ fn dearest(front: &[u8], body: &mut [u8; LONGEST]) -> usize
 }
 
 // Reads one byte more than the longest input that asks for a body, so that a longer one is known to be longer.
+// Nothing is written to an input that cannot be read.
 fn main() {
     let mut front = [0u8; 7];
+    let input = read_input(STDIN_FILENO, &mut front);
+    let Input::Bytes(read) = input else {
+        io::write_all(STDERR_FILENO, b"dearest: standard input cannot be read\n");
+        return;
+    };
     let mut body = [0u8; LONGEST];
-    let read = io::read_full(STDIN_FILENO, &mut front);
     let size = dearest(&front[..read], &mut body);
-    io::write_all(STDOUT_FILENO, &body[..size]);
+    if !io::write_all(STDOUT_FILENO, &body[..size]) {
+        io::write_all(
+            STDERR_FILENO,
+            b"dearest: standard output cannot be written to\n",
+        );
+    }
 }

@@ -1,24 +1,33 @@
 //! oracle answer [FILE]   the answer to one sheet
 //! oracle batch [FILE]    the answers to a batch of sheets
 //! oracle cite [FILE]     what `cite` prints for one sheet
+//! oracle json [FILE]     what serde_json prints of one sheet's module information, or `refused N`
+//! oracle reads BATCH [FILE]   whether the lines of FILE, one for each sheet of BATCH, are the same JSON
 //! With no FILE, or `-`, standard input is read. See README.md for the formats.
 
 use std::io::{Read, Write};
 
+const USAGE: &str = "usage: oracle answer|batch|cite|json [FILE] | oracle reads BATCH [FILE]";
+
 fn main() {
     let args: Vec<String> = std::env::args().skip(1).collect();
-    let (mode, file) = match &args[..] {
-        [mode] => (mode.as_str(), "-"),
-        [mode, file] => (mode.as_str(), file.as_str()),
-        _ => fail("usage: oracle answer|batch|cite [FILE]"),
+    let (mode, sheets, file) = match &args[..] {
+        [mode, sheets] if mode == "reads" => ("reads", sheets.as_str(), "-"),
+        [mode, sheets, file] if mode == "reads" => ("reads", sheets.as_str(), file.as_str()),
+        [mode] => (mode.as_str(), "", "-"),
+        [mode, file] => (mode.as_str(), "", file.as_str()),
+        _ => fail(USAGE),
     };
-    let input = read(file).unwrap_or_else(|e| fail(&format!("{file}: {e}")));
+    let read = |file: &str| read(file).unwrap_or_else(|e| fail(&format!("{file}: {e}")));
+    let input = read(file);
     let mut out = std::io::BufWriter::new(std::io::stdout().lock());
     let written = match mode {
         "answer" => write_answer(&mut out, &input),
         "batch" => batch(&mut out, &input),
         "cite" => out.write_all(&cite(&input)),
-        _ => fail("usage: oracle answer|batch|cite [FILE]"),
+        "json" => writeln!(out, "{}", json(&input)),
+        "reads" => reads(&mut out, &read(sheets), &input),
+        _ => fail(USAGE),
     };
     if let Err(e) = written.and_then(|()| out.flush()) {
         fail(&e.to_string());
@@ -46,15 +55,20 @@ fn write_answer(out: &mut impl Write, sheet: &[u8]) -> std::io::Result<()> {
     out.write_all(&report)
 }
 
-fn batch(out: &mut impl Write, mut input: &[u8]) -> std::io::Result<()> {
+fn batch(out: &mut impl Write, input: &[u8]) -> std::io::Result<()> {
+    sheets(input).into_iter().try_for_each(|sheet| write_answer(out, sheet))
+}
+
+fn sheets(mut input: &[u8]) -> Vec<&[u8]> {
+    let mut sheets = Vec::new();
     while !input.is_empty() {
         let Some((head, rest)) = input.split_first_chunk::<4>() else { fail("the batch is cut off") };
         let n = u32::from_le_bytes(*head) as usize;
         let Some((sheet, rest)) = rest.split_at_checked(n) else { fail("the batch is cut off") };
-        write_answer(out, sheet)?;
+        sheets.push(sheet);
         input = rest;
     }
-    Ok(())
+    sheets
 }
 
 fn cite(sheet: &[u8]) -> Vec<u8> {
@@ -63,4 +77,41 @@ fn cite(sheet: &[u8]) -> Vec<u8> {
         Err(oracle::LEFT_OUT) => b"left out\n".to_vec(),
         Err(refusal) => format!("refused {refusal}\n").into_bytes(),
     }
+}
+
+fn json(sheet: &[u8]) -> String {
+    match oracle::module_info(sheet) {
+        Ok(info) => serde_json::to_string(&info).expect("JSON"),
+        Err(refusal) => format!("refused {refusal}"),
+    }
+}
+
+/// Each line is what serde_json prints, or the same with attributes in another order (the crate's map has none), and the crate reads it as the same
+/// module information. Refusal 10 is the caller's, and such a line is passed over.
+fn reads(out: &mut impl Write, batch: &[u8], lines: &[u8]) -> std::io::Result<()> {
+    let sheets = sheets(batch);
+    let lines: Vec<&str> = std::str::from_utf8(lines).unwrap_or_else(|e| fail(&e.to_string())).lines().collect();
+    if sheets.len() != lines.len() {
+        fail(&format!("{} sheets, {} lines", sheets.len(), lines.len()));
+    }
+    let mut passed = 0;
+    let count = sheets.len();
+    for (index, (sheet, line)) in sheets.into_iter().zip(lines).enumerate() {
+        let right = json(sheet);
+        if line == "refused 10" && right.starts_with('{') {
+            passed += 1;
+            continue;
+        }
+        if line != right && !(line.starts_with('{') && right.starts_with('{') && value(line) == value(&right)) {
+            fail(&format!("sheet {index}:\n{line}\nserde_json prints\n{right}"));
+        }
+        if line.starts_with('{') && serde_json::from_str(line).ok() != oracle::module_info(sheet).ok() {
+            fail(&format!("sheet {index}: the crate reads other module information from\n{line}"));
+        }
+    }
+    writeln!(out, "{count} sheets, none differs, {passed} passed over (refused 10)")
+}
+
+fn value(line: &str) -> serde_json::Value {
+    serde_json::from_str(line).unwrap_or_else(|e| fail(&format!("{e}: {line}")))
 }

@@ -4,23 +4,39 @@ use lib.Seq.{length-take-le}
 use Rattle.cite.proofs.main.Statement.{statement}
 use Rattle.cite.proofs.main.Tie as tie
 
-slice-aggregate-write-all : tie.Need-slice-aggregate-write-all
-slice-aggregate-write-all c = sym (length-take-le _ _ (c .before .before .before .cite .ensures .1))
+array-share-prefix-sheet : tie.Need-array-share-prefix-sheet
+array-share-prefix-sheet c =
+    (rw (c .before .before .before .input .given .1) at (c .before .before .before .before .before .before .read-input .ensures)) .0
+
+slice-aggregate-cite : tie.Need-slice-aggregate-cite
+slice-aggregate-cite c =
+    (rw (c .before .before .before .before .input .given .1) at (c .before .before .before .before .before .before .before .read-input .ensures)) .1
+
+slice-aggregate-write-all-2 : tie.Need-slice-aggregate-write-all-2
+slice-aggregate-write-all-2 c = sym (length-take-le _ _ (c .before .before .before .cite .ensures .1))
 
 pub main-spec : {M : Type 1} → statement M
 main-spec =
     tie.close
     (tie.spec
-    (λ c κs. search needs)
-    (λ c κs. search needs)
     (λ c. search needs)
     (λ c κs. search needs)
     (λ c. search needs)
     (λ c. search needs)
     (λ c. search needs)
+    (λ c κs. search needs)
+    (λ c. search needs)
+    (λ c κs. search needs)
+    (λ c κs. search needs)
+    array-share-prefix-sheet
+    slice-aggregate-cite
+    (λ c. search needs)
     (λ c. search needs)
     (λ c κs. search needs)
     (λ c. search needs)
-    slice-aggregate-write-all
+    slice-aggregate-write-all-2
     (λ c κs. search needs)
+    (λ c. search needs)
+    (λ c κs. search needs)
+    (λ c. search needs)
     (λ c. search needs))

@@ -21,7 +21,7 @@ pub mod source {
 
 pub mod graph {
     use deno_ast::{SourcePos, SourceRange, SourceTextInfo};
-    use serde::{Deserialize, Serialize};
+    use serde::{Deserialize, Serialize, Serializer};
 
     #[derive(Debug, Default, Clone, Copy, PartialEq, Eq, PartialOrd, Ord, Hash, Serialize, Deserialize)]
     pub struct Position {
@@ -36,10 +36,17 @@ pub mod graph {
         }
     }
 
-    #[derive(Debug, Default, Clone, PartialEq, Eq, Hash, Serialize, Deserialize)]
+    #[derive(Debug, Default, Clone, PartialEq, Eq, Hash, Deserialize)]
     pub struct PositionRange {
         pub start: Position,
         pub end: Position,
+    }
+
+    /// `[[line, character], [line, character]]`, as the module graphs on JSR are known to have it; src/graph.rs is not at hand.
+    impl Serialize for PositionRange {
+        fn serialize<S: Serializer>(&self, serializer: S) -> Result<S::Ok, S::Error> {
+            [[self.start.line, self.start.character], [self.end.line, self.end.character]].serialize(serializer)
+        }
     }
 
     impl PositionRange {

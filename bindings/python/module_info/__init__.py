@@ -1,0 +1,68 @@
+"""Which modules a JavaScript or TypeScript module asks for, in code and in comments, as deno_graph 0.111.1 answers it.
+
+A parser hands over a *sheet*: source, comments and syntax tree, in bytes (docs/01-scope.md). A proved library answers
+it with a *report*; this package calls the library and decodes its reports. It needs Python 3.8 and nothing else;
+`bindings/python/build` links the shared library.
+
+    >>> from module_info import module_info, Refused
+    >>> from pathlib import Path
+    >>> info = module_info(Path("examples/tariff.ts.sheet").read_bytes())
+    >>> info.dependencies[0].specifier
+    './bands.ts'
+    >>> try:
+    ...     module_info(b"x")
+    ... except Refused as refusal:
+    ...     print(refusal.number, refusal.meaning)
+    3 a byte or flag is outside its stated values, or a node has a tag its place doesn't allow
+"""
+
+from .analysis import (
+    DependencyDescriptor,
+    DynamicArgument,
+    DynamicDependencyDescriptor,
+    DynamicDependencyKind,
+    ImportAttributes,
+    JsDocImportInfo,
+    ModuleInfo,
+    PathReference,
+    Position,
+    PositionRange,
+    SpecifierWithRange,
+    StaticDependencyDescriptor,
+    StaticDependencyKind,
+    TypeScriptReference,
+    TypeScriptTypesResolutionMode,
+    TypesReference,
+)
+from .citation import Line, citation, lines
+from .decode import decode
+from .json_form import to_json
+from .library import module_info
+from .refusal import MEANINGS, Refused
+
+__all__ = [
+    "DependencyDescriptor",
+    "DynamicArgument",
+    "DynamicDependencyDescriptor",
+    "DynamicDependencyKind",
+    "ImportAttributes",
+    "JsDocImportInfo",
+    "Line",
+    "MEANINGS",
+    "ModuleInfo",
+    "PathReference",
+    "Position",
+    "PositionRange",
+    "Refused",
+    "SpecifierWithRange",
+    "StaticDependencyDescriptor",
+    "StaticDependencyKind",
+    "TypeScriptReference",
+    "TypeScriptTypesResolutionMode",
+    "TypesReference",
+    "citation",
+    "decode",
+    "lines",
+    "module_info",
+    "to_json",
+]

@@ -1,0 +1,58 @@
+"""The lines that the program `cite` prints (document 01, "Report"; docs/READING.md)."""
+
+from dataclasses import dataclass
+from typing import List, Optional
+
+from .analysis import ModuleInfo, Position, PositionRange, SpecifierWithRange, StaticDependencyDescriptor
+
+
+@dataclass(frozen=True)
+class Line:
+    letter: str
+    range: PositionRange
+    text: Optional[str]
+    """None where a dependency has no single text."""
+
+    def __str__(self) -> str:
+        return f"{self.letter} {_place(self.range.start)}-{_place(self.range.end)} {_printed(self.text)}"
+
+
+def lines(info: ModuleInfo) -> List[Line]:
+    """The entries of a report, in its order, each with its letter."""
+    found: List[Line] = []
+
+    def add(letter: str, specifier: Optional[SpecifierWithRange]) -> None:
+        if specifier is not None:
+            found.append(Line(letter, specifier.range, specifier.text))
+
+    for d in info.dependencies:
+        if isinstance(d, StaticDependencyDescriptor):
+            found.append(Line("D", d.specifier_range, d.specifier))
+        else:
+            found.append(Line("D", d.argument_range, d.argument if isinstance(d.argument, str) else None))
+        add("T", d.types_specifier)
+    for r in info.ts_references:
+        add("R", r.specifier)
+    add("S", info.self_types_specifier)
+    add("X", info.jsx_import_source)
+    add("Y", info.jsx_import_source_types)
+    for i in info.jsdoc_imports:
+        add("J", i.specifier)
+    add("M", info.source_map_url)
+    return found
+
+
+def citation(info: ModuleInfo) -> str:
+    """What `cite` prints."""
+    found = lines(info)
+    return f"module {len(found)}\n" + "".join(f"{line}\n" for line in found)
+
+
+def _place(p: Position) -> str:
+    return f"{p.line + 1}:{p.character + 1}"
+
+
+def _printed(text: Optional[str]) -> str:
+    if text is None:
+        return "?"
+    return "".join(f"\\x{ord(c):02X}" if ord(c) < 32 or c in "\x7f\\" else c for c in text)

@@ -1,0 +1,45 @@
+"""The proved library, as bindings/python/build links it."""
+
+import ctypes
+import os
+from pathlib import Path
+from typing import Optional
+
+from .analysis import ModuleInfo
+from .decode import decode
+from .refusal import Refused
+
+BUFFER = 65_536
+"""The buffer that `cite` lends for a report, in bytes."""
+
+_library: Optional[ctypes.CDLL] = None
+
+
+def _load() -> ctypes.CDLL:
+    global _library
+    if _library is None:
+        default = Path(__file__).resolve().parents[3] / "target/python/libmodule_info.so"
+        name = os.environ.get("MODULE_INFO_SO", str(default))
+        try:
+            library = ctypes.CDLL(name)
+        except OSError as e:
+            raise OSError(f"the library cannot be loaded: {e} (bindings/python/build links it, MODULE_INFO_SO names another)")
+        library.module_info_answer.argtypes = [ctypes.c_char_p, ctypes.c_size_t, ctypes.c_char_p, ctypes.c_size_t]
+        library.module_info_answer.restype = ctypes.c_uint64
+        _library = library
+    return _library
+
+
+def report(sheet: bytes, size: int = BUFFER) -> bytes:
+    """The report of a sheet, if it is no longer than `size` bytes. Raises `Refused` with the first refusal in checking order."""
+    buffer = ctypes.create_string_buffer(max(size, 1))
+    answer = _load().module_info_answer(bytes(sheet), len(sheet), buffer, size)
+    number, length = answer % 256, answer // 256
+    if number != 0:
+        raise Refused(number)
+    return buffer.raw[:length]
+
+
+def module_info(sheet: bytes, size: int = BUFFER) -> ModuleInfo:
+    """What the module of a sheet asks for. Raises `Refused`."""
+    return decode(report(sheet, size))

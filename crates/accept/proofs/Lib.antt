@@ -1,6 +1,4 @@
 pub mod ByPieces
 pub mod Trees
 pub mod Judging
-pub mod Numbered
-pub mod Refusals
 pub mod SheetCases

@@ -11,8 +11,8 @@ use borrow.Author.Tests.{leb-true}
 use Rattle.laws.specs.Decoded.{ok}
 use Rattle.laws.proofs.Decoding.{refused}
 use Rattle.sheet.specs.Sheet.{Sheet, accept}
-use Rattle.sheet_codec.proofs.Sheets.{accepted-within}
-use Rattle.accept.proofs.Refusals.{Decision, decided}
+use Rattle.sheet_codec.proofs.Sheets.{accepts-exactly}
+use Rattle.sheet_codec.proofs.Refusals.{Decision, decided}
 use Rattle.report.specs.ModuleInfo.{ModuleInfo}
 use Rattle.report.specs.Encode.{encode}
 use Rattle.report.specs.Valid.{Valid}
@@ -50,11 +50,12 @@ module _ {s buffer : List ℕ} where
           let held : buffer ≡ encode (moduleInfo t) ++ zeros (65536 - length (encode (moduleInfo t))) = ap (λ (a : Answer). a .buffer) answer in
           let begins : encode (moduleInfo t) ≡ take n buffer = rw (long, held) (sym (take-append-seam (encode (moduleInfo t)) _)) in
           let room = leb-true (length (encode (moduleInfo t))) 65536 h in
+          let meets = accepts-exactly s t .0 e in
           record {
             info = moduleInfo t;
             within = omega (arith, ap length held, length-append (encode (moduleInfo t)) (zeros (65536 - length (encode (moduleInfo t)))));
             room = rw (← begins) (omega arith);
-            valid = readable t (omega (arith, accepted-within s e .fields .source .0)) (d .jsdoc t e .right) (omega arith);
+            valid = readable t (omega (arith, meets .encodes .within .fields .source .0)) (d .jsdoc t meets .right) (omega arith);
             bytes = begins;
             lines = rw (e, h);
           }

@@ -1,17 +1,16 @@
 -- There are as many dependencies as the check of the tree counts.
 use mathlib.Core.Path.{_≡_, refl, sym, ap, _∙_}
 use mathlib.Core.Bool.{Bool, true, false, cond, _&&_}
-use mathlib.Core.List.{List, [], _∷_, append-nil, flatMap}
+use mathlib.Core.List.{List, [], _∷_, flatMap}
 use mathlib.Core.Option.{Option}
 use Prim.Native.Nat.{ℕ}
 use lib.ListN.{length, length-append}
 use Rattle.laws.specs.Decoded.{Decoded, ok, onOk}
-use Rattle.laws.proofs.Lists.{flatMap-append}
 use Rattle.wire.specs.Number.{encodeNumber}
 use Rattle.sheet.specs.declared.fields.Span.{Span}
 use Rattle.sheet.specs.Tree.{Quoted, Node, Arguments, noArguments, argument}
 use Rattle.sheet.specs.Shape.{shape, isRequire, isAugmentation}
-use Rattle.sheet.specs.Walk.{Visit, called, importing, expression, imported, exported, typed, required, declared, visiting, visits}
+use Rattle.sheet.specs.Walk.{Visit, called, importing, expression, imported, exported, typed, required, declared}
 use Rattle.sheet.specs.Walked.{declares, gives, one, anyArgument, counting, entries}
 use Rattle.sheet.proofs.Walks.{walks-related}
 use Rattle.report.specs.ModuleInfo.{SpecifierWithRange}
@@ -54,12 +53,6 @@ module _ (source : List ℕ) (types : ℕ → Option SpecifierWithRange) where
   unfolding collector
   counted = walks-related (λ l n. length l ≡ n) (collector source types) counting
       (record { nothing = refl; both = λ e f. rw (length-append, e, f); own = entry-one })
-
-  -- the dependencies are the entries of the visits, one after the other
-  pub collect-visits : (n : Node) → collect source types n ≡ flatMap (entryOf source types) (visits n)
-  unfolding collector flatMap
-  collect-visits = walks-related (λ l vs. l ≡ flatMap (entryOf source types) vs) (collector source types) visiting
-      (record { nothing = refl; both = λ e f. rw (flatMap-append, e, f); own = λ v. sym (append-nil (entryOf source types v)) })
 
   -- their number, and then their entries
   pub program-written : (w : Buffer) (x : Decoded Node) {n : Node} {t : List ℕ} → x ≡ ok n t → {count : ℕ} → count ≡ entries n

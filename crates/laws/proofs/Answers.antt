@@ -3,7 +3,8 @@ use mathlib.Core.Bool.{Bool, true, false, cond}
 use mathlib.Core.List.{List, [], _∷_}
 use Prim.Native.Nat.{ℕ, zero, suc}
 use lib.ListN.{getD}
-use Rattle.laws.specs.Decoded.{Decoded, ok, no, andThen, onOk, Decoder, _>>=_, _>>_, return, refuse, require}
+use Rattle.laws.specs.Decoded.{Decoded, ok, no, andThen, onOk, Decoder, _>>=_, return, refuse}
+use Rattle.laws.proofs.Kept.{Kept}
 
 abbrev pub Answer : {A : Type 0} → (A → Type 0) → (ℕ → Type 0) → Decoded A → Type 0
 Answer P N (ok a t) = P a
@@ -24,17 +25,13 @@ module _ {A : Type 0} {P : A → Type 0} {N : ℕ → Type 0} where
   pub refuses : {r : ℕ} → N r → Answers P N (refuse r)
   refuses n = record { at = λ s. n }
 
-  -- behind a first decoder, and behind a test
+  -- behind a first decoder
   pub with : {C : Type 0} {Q : C → Type 0} {d : Decoder C} {f : C → Decoder A} → Answers Q N d → ((c : C) → Q c → Answers P N (f c)) → Answers P N (d >>= f)
   with {C} {Q} {d} {f} q h = record { at = λ s. go (d s) (q .at s) }
     where
       go : (x : Decoded C) → Answer Q N x → Answer P N (andThen x f)
       go (ok c t) p = h c p .at t
       go (no r) p = p
-
-  pub test : (b : Bool) (r : ℕ) {d : Decoder A} → N r → Answers P N d → Answers P N (require b r >> d)
-  test true r n p = record { at = p .at }
-  test false r n p = record { at = λ s. n }
 
   -- a value changed
   pub changed : {C : Type 0} {Q : C → Type 0} {d : Decoder C} (f : C → A) → Answers Q N d → ((c : C) → Q c → P (f c)) → Answers P N (λ s. onOk f (d s))
@@ -53,6 +50,16 @@ module _ {A : Type 0} {P : A → Type 0} {N : ℕ → Type 0} where
   at-index done i r n = refuses n
   at-index (next e es) zero r n = e
   at-index (next e es) (suc i) r n = at-index es i r n
+
+-- what holds of the numbers alone is kept however decoders are put together
+pub answers-kept : {N : ℕ → Type 0} → Kept (λ A d. Answers (λ (a : A). Unit {0}) N d) N
+answers-kept =
+    record {
+      ends = λ a. ends tt;
+      refuses = λ n. refuses n;
+      then = λ p q. with p (λ a h. q a);
+      changed = λ f p. changed f p (λ a h. tt);
+    }
 
 -- of a refusal nothing need hold
 abbrev pub Reads : {A : Type 0} → (A → Type 0) → Decoder A → Type 0

@@ -1,6 +1,7 @@
 -- What a decoder in steps answered at each of them, if it answered a value.
 use mathlib.Core.Path.{_≡_, refl, ap}
 use mathlib.Core.Bool.{Bool, true, false}
+use mathlib.Core.Logic.{_⊎_, inl, inr}
 use mathlib.Core.List.{List}
 use Prim.Native.Nat.{ℕ}
 use native.Mathlib.Omega.{arith}
@@ -25,6 +26,12 @@ module _ {A B : Type 0} where
       → (a : A) × (u : List ℕ) × (x ≡ ok a u) × (f a u ≡ ok b t)
   then-ok (ok a u) f e = (a, u, refl, e)
   then-ok (no r) f e = absurd (refused e)
+
+  -- a step was refused, or the steps behind it were
+  pub then-refused : (x : Decoded A) (f : A → List ℕ → Decoded B) {r : ℕ} → andThen x f ≡ no r
+      → (x ≡ no r) ⊎ ((a : A) × (u : List ℕ) × (x ≡ ok a u) × (f a u ≡ no r))
+  then-refused (ok a u) f e = inr (a, u, refl, e)
+  then-refused (no q) f e = inl (cc)
 
   pub onOk-ok : (f : A → B) (x : Decoded A) {b : B} {t : List ℕ} → onOk f x ≡ ok b t → (a : A) × (x ≡ ok a t) × (f a ≡ b)
   onOk-ok f (ok a u) e = (a, cc, cc)

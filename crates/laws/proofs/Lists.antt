@@ -1,7 +1,7 @@
 -- Laws of lists that the library does not have.
 use mathlib.Core.Path.{_≡_, refl, sym, _∙_}
 use mathlib.Core.Logic.{⊎-elim}
-use mathlib.Core.List.{List, [], _∷_, _++_, append-assoc, flatMap, getLast?, List·Memᴰ, List·Memᴰ·head, List·Memᴰ·tail, List·Memᴰ·not-nil, List·Memᴰ·cases-cons, Memᴰ·append-right}
+use mathlib.Core.List.{List, [], _∷_, _++_, append-assoc, append-nil, flatMap, getLast?, List·Memᴰ, List·Memᴰ·head, List·Memᴰ·tail, List·Memᴰ·not-nil, List·Memᴰ·cases-cons, Memᴰ·append-left, Memᴰ·append-right}
 use mathlib.Core.Option.{Option, Option·some-injective, Option·none-ne-some}
 use Prim.Native.Nat.{ℕ, zero, suc, _+_, _-_, _≤_, _<_}
 use native.Mathlib.Omega.{arith}
@@ -19,6 +19,10 @@ flatMap-append f (x ∷ a) b = rw (append-assoc (f x) (flatMap f a) (flatMap f b
 pub all-member : {A : Type 0} (P : A → Type 0) (l : List A) → All P l → {a : A} → List·Memᴰ a l → P a
 all-member P [] h m = absurd (List·Memᴰ·not-nil m)
 all-member P (x ∷ l) h m = ⊎-elim (λ e. rw e (h .0)) (λ i. all-member P l (h .1) i) (List·Memᴰ·cases-cons m)
+
+pub all-append : {A : Type 0} (P : A → Type 0) (l m : List A) → All P l → All P m → All P (l ++ m)
+all-append P [] m p q = q
+all-append P (a ∷ l) m p q = (p .0, all-append P l m (p .1) q)
 
 pub of-members : {A : Type 0} (P : A → Type 0) (l : List A) → ((a : A) → List·Memᴰ a l → P a) → All P l
 of-members P [] h = tt
@@ -95,3 +99,28 @@ module _ {A : Type 0} where
     same-members (a ∷ l) (b ∷ m) o p on back =
         let e : a ≡ b = same-head o p (on a (List·Memᴰ·head refl)) (back b (List·Memᴰ·head refl)) in
         rw (e, same-members l m (o .1) (p .1) (inner o (rw (← e) at on)) (inner (rw (← e) at p) (rw (← e) at back)))
+
+-- a list stands in another, with elements before and behind it
+pub record PartOf {A : Type 0} (x l : List A) : Type 0 where
+  pub before : List A
+  pub behind : List A
+  pub among : l ≡ before ++ (x ++ behind)
+
+module _ {A : Type 0} where
+  pub part-whole : (l : List A) → PartOf l l
+  part-whole l = record { before = []; behind = []; among = sym (append-nil l) }
+
+  pub part-inner : {x y z : List A} → PartOf x y → PartOf y z → PartOf x z
+  part-inner p q = record { before = q .before ++ p .before; behind = p .behind ++ q .behind; among = rw (q .among, p .among) (simp append-assoc) }
+
+  pub part-member : {x l : List A} → PartOf x l → {a : A} → List·Memᴰ a x → List·Memᴰ a l
+  part-member p m = rw (p .among) (Memᴰ·append-right (p .before) (Memᴰ·append-left (p .behind) m))
+
+  pub part-flatMap : {B : Type 0} (f : B → List A) (l : List B) {b : B} → List·Memᴰ b l → PartOf (f b) (flatMap f l)
+  unfolding flatMap
+  part-flatMap f [] m = absurd (List·Memᴰ·not-nil m)
+  part-flatMap f (x ∷ l) m =
+      ⊎-elim
+      (λ e. record { before = []; behind = flatMap f l; among = rw e })
+      (λ i. part-inner (part-flatMap f l i) (record { before = f x; behind = []; among = rw (append-nil (flatMap f l)) }))
+      (List·Memᴰ·cases-cons m)

@@ -16,14 +16,16 @@ use Rattle.text.specs.Bytes.{part}
 use Rattle.text.proofs.Columns.{counted}
 use Rattle.text.proofs.WellFormed.{well-formed-iff}
 use Rattle.sheet.specs.Fit.{Fit}
-use Rattle.sheet.specs.Walk.{startOf}
+use Rattle.sheet.specs.Walk.{startOf, visits}
 use Rattle.sheet.specs.Sheet.{Sheet, accept}
 use Rattle.sheet.proofs.Rows.{rows-length}
+use Rattle.sheet.proofs.Reaches.{walk-right}
 use Rattle.sheet_codec.specs.Limits.{FieldsFit}
-use Rattle.sheet_codec.proofs.Sheets.{accepted-within}
+use Rattle.sheet_codec.specs.SheetOf.{SheetOf}
+use Rattle.sheet_codec.proofs.Sheets.{accepts-exactly}
+use Rattle.sheet_codec.proofs.Refusals.{Decision, decided}
 use Rattle.accept.specs.declared.check.Parts.{Parts}
 use Rattle.accept.specs.Accepts.{Accepts}
-use Rattle.accept.proofs.Refusals.{Decision, decided}
 use Rattle.report.specs.declared.writer.Outcome.{Outcome}
 use Rattle.report.specs.Answer.{outcomeAs, refusedWith, fitted}
 use Rattle.report.specs.Encode.{encode}
@@ -34,10 +36,12 @@ use Rattle.pragmas.specs.Held.{Held}
 use Rattle.pragmas.proofs.Present.{present, types-present}
 use Rattle.pragmas.proofs.Texts.{types-shown, texts}
 use Rattle.listing.proofs.Right.{only-right}
+use Rattle.dep.specs.InTurn.{InTurn, EntryOf}
 use Rattle.dep.proofs.Turns.{turn-member, collect-turns}
 use Rattle.module_info.specs.Information.{moduleInfo, answerOf}
 use Rattle.module_info.specs.Pieces.{PartsOf, RootOf}
 use Rattle.module_info.specs.Demands.{OfAccepted, Demands}
+use Rattle.module_info.proofs.Numbers.{number-right}
 
 -- there is one such sheet
 same-sheet : {x : Decoded Sheet} {t u : Sheet} → x ≡ ok t [] → x ≡ ok u [] → t ≡ u
@@ -48,8 +52,11 @@ unfolding moduleInfo
 pragmas-present t = present t (moduleInfo t) refl refl refl refl refl
 
 module _ {s comments groups : List ℕ} {p : Parts} (a : Accepts s comments groups p) where
+  meets : SheetOf s (a .sheet)
+  meets = accepts-exactly s (a .sheet) .0 (a .accepted)
+
   within : FieldsFit (a .sheet)
-  within = accepted-within s (a .accepted) .fields
+  within = meets .encodes .within .fields
 
   formed-source : wellFormed Utf8 (a .sheet .source) ≡ true
   formed-source = well-formed-iff Utf8 (a .sheet .source) .1 (within .source .1)
@@ -87,27 +94,36 @@ module _ {s comments groups : List ℕ} {p : Parts} (a : Accepts s comments grou
     pub root-of : RootOf t s p
     root-of = rw (same-sheet e (a .accepted)) (record { root = a .root; count = a .entries })
 
-  -- its answer, and demand 3
+  -- the demands
   pub demanded : {size : ℕ} {outcome : Outcome} {buffer : List ℕ}
       → ((t : Sheet) → accept s ≡ ok t [] → outcomeAs outcome buffer ≡ fitted size (encode (moduleInfo t))) → Demands s size outcome buffer
   unfolding answerOf moduleInfo
-  demanded answer = record {
-    answer = rw (a .accepted) (answer (a .sheet) (a .accepted));
+  demanded {size} {outcome} {buffer} report = record {
+    answer = answer;
+    complete = λ t h. report t (accepts-exactly s t .1 h);
+    number = rw answer (number-right s size);
+    dependencies = shown (λ t. _) in-turn;
+    walk = λ t h. walk-right (t .root);
     jsdoc = shown (λ t. _) (only-right fit formed-source (a .sheet .media));
     pragmas = shown (λ t. _) (pragmas-present (a .sheet));
-    types = shown (λ t. _) (collect-turns (a .sheet .source) (typesAt (a .sheet)) _ (λ start d e. rw e (types-present (a .sheet) start)) (a .sheet .root));
     texts = shown (λ t. _) (texts (a .sheet) formed-source fit (moduleInfo (a .sheet)) (pragmas-present (a .sheet)) typed);
     columns = shown (λ t. _) (counted characters (a .sheet .source) (within .source .1));
   }
     where
+      answer : outcomeAs outcome buffer ≡ answerOf s size
+      answer = rw (a .accepted) (report (a .sheet) (a .accepted))
+
+      in-turn : InTurn (EntryOf (a .sheet)) (visits (a .sheet .root)) (moduleInfo (a .sheet) .dependencies)
+      in-turn = collect-turns (a .sheet .source) (typesAt (a .sheet)) (EntryOf (a .sheet)) (λ v d e i. record { entry = e; types = rw i (types-present (a .sheet) (startOf v)) }) (a .sheet .root)
+
       typed : All (λ d. IfThere (TypesShown (a .sheet)) (typesOf d)) (moduleInfo (a .sheet) .dependencies)
       typed =
           of-members _ _ (λ d m.
-          let (v, j, g, i) = turn-member (collect-turns (a .sheet .source) (typesAt (a .sheet)) (λ start d. typesOf d ≡ typesAt (a .sheet) start) (λ start d e. e) (a .sheet .root)) m in
+          let (v, i) = turn-member (collect-turns (a .sheet .source) (typesAt (a .sheet)) (λ v d. typesOf d ≡ typesAt (a .sheet) (startOf v)) (λ v d e i. i) (a .sheet .root)) m in
           rw i (types-shown (a .sheet) formed-source fit (startOf v)))
 
       shown : (P : Sheet → Type 0) → P (a .sheet) → OfAccepted s P
-      shown P h t e = rw (same-sheet e (a .accepted)) h
+      shown P h t e = rw (same-sheet (accepts-exactly s t .1 e) (a .accepted)) h
 
 -- a refusal is at most 9, and so fits a byte
 pub refusal-small : (s : List ℕ) {r : ℕ} → accept s ≡ no r → r ≤ 9
@@ -120,18 +136,24 @@ refusal-small s {r} e = by (decided s)
         let same : q ≡ r = cc in
         rw (← same) high
 
--- a refused sheet: its answer, and nothing is asked of it beyond
+-- a refused sheet: its answer and its number, and nothing is asked of it beyond
 pub refusal-demanded : (s : List ℕ) {size r : ℕ} {outcome : Outcome} {buffer : List ℕ} → accept s ≡ no r → outcomeAs outcome buffer ≡ refusedWith r size
     → Demands s size outcome buffer
 unfolding answerOf
-refusal-demanded s e answer = record {
-  answer = rw e answer;
-  jsdoc = λ t f. never t f;
-  pragmas = λ t f. never t f;
-  types = λ t f. never t f;
-  texts = λ t f. never t f;
-  columns = λ t f. never t f;
+refusal-demanded s {size} {outcome = outcome} {buffer = buffer} e refusal = record {
+  answer = answer;
+  complete = λ t h. never t h;
+  number = rw answer (number-right s size);
+  dependencies = λ t h. never t h;
+  walk = λ t h. never t h;
+  jsdoc = λ t h. never t h;
+  pragmas = λ t h. never t h;
+  texts = λ t h. never t h;
+  columns = λ t h. never t h;
 }
   where
-    never : {P : Type 0} (t : Sheet) → accept s ≡ ok t [] → P
-    never t f = absurd (refused (sym e ∙ f))
+    answer : outcomeAs outcome buffer ≡ answerOf s size
+    answer = rw e refusal
+
+    never : {P : Type 0} (t : Sheet) → SheetOf s t → P
+    never t h = absurd (refused (sym e ∙ accepts-exactly s t .1 h))

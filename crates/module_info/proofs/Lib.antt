@@ -1,4 +1,5 @@
 pub mod Written
+pub mod Numbers
 pub mod Accepted
 pub mod Cleared
 pub mod Cases

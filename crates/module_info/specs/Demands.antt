@@ -1,22 +1,25 @@
 -- The user's three demands of one call of the report function (docs/DEMANDS.md).
 use mathlib.Core.Path.{_≡_}
-use mathlib.Core.List.{List, []}
+use mathlib.Core.List.{List}
 use Prim.Native.Nat.{ℕ}
-use Rattle.laws.specs.Decoded.{ok}
 use Rattle.text.specs.Position.{characters, Counted}
 use Rattle.sheet.specs.Walk.{visits}
-use Rattle.sheet.specs.Sheet.{Sheet, accept}
+use Rattle.sheet.specs.WalkRight.{WalkRight}
+use Rattle.sheet.specs.Sheet.{Sheet}
+use Rattle.sheet_codec.specs.SheetOf.{SheetOf}
 use Rattle.report.specs.declared.writer.Outcome.{Outcome}
-use Rattle.report.specs.Answer.{outcomeAs}
-use Rattle.pragmas.specs.Present.{Present, TypesPresent}
-use Rattle.pragmas.specs.Texts.{typesOf, Texts}
+use Rattle.report.specs.Encode.{encode}
+use Rattle.report.specs.Answer.{outcomeAs, fitted}
+use Rattle.pragmas.specs.Present.{Present}
+use Rattle.pragmas.specs.Texts.{Texts}
 use Rattle.listing.specs.Demand.{OnlyRight}
-use Rattle.dep.specs.InTurn.{InTurn}
+use Rattle.dep.specs.InTurn.{InTurn, EntryOf}
 use Rattle.module_info.specs.Information.{moduleInfo, answerOf}
+use Rattle.module_info.specs.Numbers.{NumberRight}
 
--- what holds of the sheet that the bytes s are, if they are accepted
+-- what holds of the sheet that the bytes s are, if they meet none of refusals 1 to 9
 abbrev pub OfAccepted : List ℕ → (Sheet → Type 0) → Type 0
-OfAccepted s P = (t : Sheet) → accept s ≡ ok t [] → P t
+OfAccepted s P = (t : Sheet) → SheetOf s t → P t
 
 -- the bytes s of a sheet, the size of the lent buffer, the outcome, and what the buffer holds then
 pub record Demands (s : List ℕ) (size : ℕ) (outcome : Outcome) (buffer : List ℕ) : Type 0 where
@@ -24,6 +27,15 @@ pub record Demands (s : List ℕ) (size : ℕ) (outcome : Outcome) (buffer : Lis
   -- 01's order names, and a buffer of zeros. Nothing is asked of the caller, and old contents do not matter.
   -- 2: the report has the values of 01's rules, `moduleInfo`
   pub answer : outcomeAs outcome buffer ≡ answerOf s size
+  -- and both without the decoder: the encoding of a sheet within 01's limits, in which no walked call has an uncooked template, gets its report, or 10
+  pub complete : OfAccepted s (λ t. outcomeAs outcome buffer ≡ fitted size (encode (moduleInfo t)))
+  -- and what each number means
+  pub number : NumberRight s (outcomeAs outcome buffer .number)
+  -- 2: dependencies and the visits that give one stand one to one, in order: each dependency is the entry of its visit, with the types that the comments
+  -- before its node give
+  pub dependencies : OfAccepted s (λ t. InTurn (EntryOf t) (visits (t .root)) (moduleInfo t .dependencies))
+  -- and these are the visits of the walked nodes: children in sheet order, a call behind all nodes inside it, any other node before them
+  pub walk : OfAccepted s (λ t. WalkRight (t .root) (visits (t .root)))
   -- 3: a JSDoc import is listed exactly when the sheet is JavaScript and some star-opened block comment has a reading of it: each once, strictly
   -- ascending by the start of its place, with the one mode that all its readings give; the source there, less the two marks, is its text. No other list
   -- is so
@@ -31,8 +43,6 @@ pub record Demands (s : List ℕ) (size : ℕ) (outcome : Outcome) (buffer : Lis
   -- every reference and pragma appears exactly when its rule has a reading in the comments that 01 gives to it, at that reading's place, references in
   -- the order of their comments
   pub pragmas : OfAccepted s (λ t. Present t (moduleInfo t))
-  -- and so do the types of each dependency, by the start of its node: dependencies and the walk's visits that give one stand one to one, in order
-  pub types : OfAccepted s (λ t. InTurn (λ start d. TypesPresent t start (typesOf d)) (visits (t .root)) (moduleInfo t .dependencies))
   -- the source between the two positions of each is its text, in two marks or bare as the alternative that matched asks
   pub texts : OfAccepted s (λ t. Texts t (moduleInfo t))
   -- and these positions are 01's: a line ends at LF, a column counts characters

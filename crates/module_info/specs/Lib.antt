@@ -1,3 +1,4 @@
 pub mod Information
+pub mod Numbers
 pub mod Pieces
 pub mod Demands

@@ -95,7 +95,7 @@ held (g ∷ gs) i e = go (holds i g) refl e (held gs i)
         record { group = g; member = List·Memᴰ·head refl; holds = (leb-true (g .first) i l, ltb-true i (g .first + g .count) u) }
     go false h e on = let r = on e in record { group = r .group; member = List·Memᴰ·tail (r .member); holds = r .holds }
 
-in-held : (gs : List Group) (i : ℕ) (g : Group) → List·Memᴰ g gs → Holds g i → inSome gs i ≡ true
+pub in-held : (gs : List Group) (i : ℕ) (g : Group) → List·Memᴰ g gs → Holds g i → inSome gs i ≡ true
 in-held [] i g m h = absurd (List·Memᴰ·not-nil m)
 in-held (x ∷ gs) i g m (l, u) =
     ⊎-elim

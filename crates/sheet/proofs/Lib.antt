@@ -12,5 +12,7 @@ pub mod Coverings
 pub mod Members
 pub mod Bodies
 pub mod CommentCases
+pub mod NameCases
 pub mod Walks
 pub mod Reaches
+pub mod Kept

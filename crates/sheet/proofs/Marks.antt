@@ -28,7 +28,7 @@ opening-long kind = go (eqb kind 0)
 
 -- a text is enclosed by two marks just where it is something between them
 module _ (front back c : List ℕ) where
-  enclosed-sound : enclosed front back c ≡ true → (t : List ℕ) × (c ≡ front ++ (t ++ back))
+  pub enclosed-sound : enclosed front back c ≡ true → (t : List ℕ) × (c ≡ front ++ (t ++ back))
   unfolding enclosed
   enclosed-sound e =
       let (x, y) = and-eq-true-iff (leb (length front + length back) (length c) && begins front c) (begins back (drop (length c - length back) c)) .0 e in
@@ -44,7 +44,7 @@ module _ (front back c : List ℕ) where
       let closes : last ≡ back = begins-sound back last y ∙ ap (back ++_) none ∙ append-nil back in
       (take n rest, begins-sound front c b ∙ ap (front ++_) (sym (take-append-drop n rest) ∙ ap (take n rest ++_) (end ∙ closes)))
 
-  enclosed-complete : (t : List ℕ) → c ≡ front ++ (t ++ back) → enclosed front back c ≡ true
+  pub enclosed-complete : (t : List ℕ) → c ≡ front ++ (t ++ back) → enclosed front back c ≡ true
   unfolding enclosed
   enclosed-complete t e =
       let n = ap length e ∙ length-append front (t ++ back) in

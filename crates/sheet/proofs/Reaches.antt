@@ -1,24 +1,20 @@
--- The visits of a node are those of the nodes that the walk reaches, and a node is refused by 9 exactly where one of them is a call that meets it.
+-- The walk makes the visits that it should, in their order, and a node is refused by 9 exactly where one of them is a call that meets it.
 use mathlib.Core.Path.{_≡_, refl, sym, ap, _∙_}
 use mathlib.Core.Bool.{Bool, true, false, cond, false≢true, _&&_, _||_, or-true}
-use mathlib.Core.List.{List, [], _∷_, _++_, append-nil, append-assoc, flatMap, List·Memᴰ, List·Memᴰ·head, List·Memᴰ·tail, List·Memᴰ·not-nil, List·Memᴰ·cases-cons, List·Memᴰ·append-cases, List·Memᴰ·eq-of-singleton, Memᴰ·append-left, Memᴰ·append-right}
+use mathlib.Core.List.{List, [], _∷_, _++_, append-nil, append-assoc, flatMap, List·Memᴰ, List·Memᴰ·head, List·Memᴰ·tail, List·Memᴰ·not-nil, List·Memᴰ·cases-cons, List·Memᴰ·append-cases, List·Memᴰ·eq-of-singleton, Memᴰ·append-right}
 use mathlib.Core.Logic.{_↔_, ⊎-elim, _⊎_, inl, inr}
 use mathlib.Core.Option.{Option, Option·none-ne-some}
 use Rattle.laws.specs.Codec.{All}
 use Rattle.laws.specs.Quoted.{ascii}
-use Rattle.laws.proofs.Lists.{flatMap-append, all-member}
-use Rattle.text.specs.Bytes.{same}
+use Rattle.laws.proofs.Lists.{flatMap-append, all-append, all-member, of-members, PartOf, part-whole, part-inner, part-member, part-flatMap}
 use Rattle.text.proofs.Words.{same-sound, same-refl}
 use Rattle.sheet.specs.Tree.{Pieces, Node, other, string, name, template, binary, object, importCall, call, importDecl, namedExport, exportFrom, exportAll, importType, importEquals, importRequire, moduleDecl, Nodes, none, more, Arguments, noArguments, argument, Properties, noProperties, spread, otherProperty, childKey, stringKey, nameKey, Attributes, without, withObject}
 use Rattle.sheet.specs.Walk.{Visit, called, importing, expression, declared, walkAll, walkOf, walkIn, walkWith, total, visiting, visits}
 use Rattle.sheet.specs.Shape.{Shape, text, named, pieces, operation, properties, anything, shape, isRequire, isUncooked, anyUncooked}
 use Rattle.sheet.specs.Walked.{firstUncooked, refused, judging, uncooked}
 use Rattle.sheet.specs.Reached.{nodesIn, argumentsIn, propertiesIn, objectIn, children, Walked, itself, child, ownVisit, isCall, placed, UncookedFirst, uncookedFirst, MeetsNine, ofImport, ofRequire}
+use Rattle.sheet.specs.WalkRight.{Visited, visited, AllVisited, noNodes, first, StandsAmong, WalkRight}
 use Rattle.sheet.proofs.Walks.{uncooked-any}
-
-all-append : {A : Type 0} (P : A → Type 0) (l m : List A) → All P l → All P m → All P (l ++ m)
-all-append P [] m p q = q
-all-append P (a ∷ l) m p q = (p .0, all-append P l m (p .1) q)
 
 -- induction over the children that are walked
 module _ (P : Node → Type 0) (step : (n : Node) → All P (children n) → P n) where
@@ -87,7 +83,7 @@ object-visits without = refl
 object-visits (withObject sp ps) = sym (append-nil (walkIn visiting ps))
 
 -- the visits of a node are its own and those of its children, in their order
-pub visits-placed : (n : Node) → visits n ≡ placed (ownVisit n) (flatMap visits (children n))
+visits-placed : (n : Node) → visits n ≡ placed (ownVisit n) (flatMap visits (children n))
 unfolding flatMap
 visits-placed (other sp ns) = nodes-visits ns
 visits-placed (string sp x) = refl
@@ -115,12 +111,6 @@ flatMap-member f [] m = absurd (List·Memᴰ·not-nil m)
 flatMap-member f (a ∷ l) {b} m =
     ⊎-elim (λ i. (a, List·Memᴰ·head refl, i)) (λ i. let (c, j, k) = flatMap-member f l i in (c, List·Memᴰ·tail j, k)) (List·Memᴰ·append-cases (f a) m)
 
-member-flatMap : {A B : Type 0} (f : A → List B) (l : List A) {a : A} {b : B} → List·Memᴰ a l → List·Memᴰ b (f a) → List·Memᴰ b (flatMap f l)
-unfolding flatMap
-member-flatMap f [] m i = absurd (List·Memᴰ·not-nil m)
-member-flatMap f (x ∷ l) {a} {b} m i =
-    ⊎-elim (λ e. Memᴰ·append-left (flatMap f l) (rw e at i)) (λ j. Memᴰ·append-right (f x) (member-flatMap f l j i)) (List·Memᴰ·cases-cons m)
-
 -- a visit of a node is its own or one of a child's
 placed-cases : (o : Option Visit) (l : List Visit) {v : Visit} → List·Memᴰ v (placed o l) → (o ≡ Option.some v) ⊎ List·Memᴰ v l
 placed-cases Option.none l m = inr m
@@ -137,13 +127,13 @@ placed-own v l = go (isCall v)
     go true = Memᴰ·append-right l (List·Memᴰ·head refl)
     go false = List·Memᴰ·head refl
 
-placed-child : (o : Option Visit) (l : List Visit) {v : Visit} → List·Memᴰ v l → List·Memᴰ v (placed o l)
-placed-child Option.none l m = m
-placed-child (Option.some w) l {v} m = go (isCall w)
+placed-part : (o : Option Visit) (l : List Visit) → PartOf l (placed o l)
+placed-part Option.none l = part-whole l
+placed-part (Option.some v) l = go (isCall v)
   where
-    go : (b : Bool) → List·Memᴰ v (cond b (l ++ w ∷ []) (w ∷ l))
-    go true = Memᴰ·append-left (w ∷ []) m
-    go false = List·Memᴰ·tail m
+    go : (b : Bool) → PartOf l (cond b (l ++ v ∷ []) (v ∷ l))
+    go true = record { before = []; behind = v ∷ []; among = refl }
+    go false = record { before = v ∷ []; behind = []; among = rw (append-nil l) }
 
 -- what is reached from a child is reached
 from-child : {n c m : Node} → List·Memᴰ c (children n) → Walked c m → Walked n m
@@ -151,7 +141,7 @@ from-child i itself = child itself i
 from-child i (child w j) = child (from-child i w) j
 
 -- each visit is that of a node that the walk reaches, and back
-pub visit-walked : (n : Node) (v : Visit) → List·Memᴰ v (visits n) → (m : Node) × Walked n m × (ownVisit m ≡ Option.some v)
+visit-walked : (n : Node) (v : Visit) → List·Memᴰ v (visits n) → (m : Node) × Walked n m × (ownVisit m ≡ Option.some v)
 visit-walked = by-children (λ n. (v : Visit) → List·Memᴰ v (visits n) → (m : Node) × Walked n m × (ownVisit m ≡ Option.some v)) step
   where
     step : (n : Node) → All (λ c. (v : Visit) → List·Memᴰ v (visits c) → (m : Node) × Walked c m × (ownVisit m ≡ Option.some v)) (children n)
@@ -162,13 +152,38 @@ visit-walked = by-children (λ n. (v : Visit) → List·Memᴰ v (visits n) → 
         (λ j. let (c, k, l) = flatMap-member visits (children n) j in let (m, w, e) = all-member _ (children n) below k v l in (m, from-child k w, e))
         (placed-cases (ownVisit n) (flatMap visits (children n)) (rw (visits-placed n) at i))
 
-visits-within : {n m : Node} → Walked n m → (v : Visit) → List·Memᴰ v (visits m) → List·Memᴰ v (visits n)
-visits-within itself v i = i
-visits-within (child {n = n} w j) v i =
-    visits-within w v (rw (visits-placed n) (placed-child (ownVisit n) (flatMap visits (children n)) (member-flatMap visits (children n) j i)))
+-- the visits of a node that the walk reaches stand together
+visits-within : {n m : Node} → Walked n m → PartOf (visits m) (visits n)
+visits-within {m = m} itself = part-whole (visits m)
+visits-within (child {n = n} w i) =
+    part-inner (part-flatMap visits (children n) i) (part-inner (rw (visits-placed n) (placed-part (ownVisit n) (flatMap visits (children n)))) (visits-within w))
 
-pub walked-visit : {n m : Node} → Walked n m → (v : Visit) → ownVisit m ≡ Option.some v → List·Memᴰ v (visits n)
-walked-visit {m = m} w v e = visits-within w v (rw (visits-placed m, e) (placed-own v (flatMap visits (children m))))
+walked-visit : {n m : Node} → Walked n m → (v : Visit) → ownVisit m ≡ Option.some v → List·Memᴰ v (visits n)
+walked-visit {m = m} w v e = part-member (visits-within w) (rw (visits-placed m, e) (placed-own v (flatMap visits (children m))))
+
+-- which visits there are and in what order
+pub walk-right : (root : Node) → WalkRight root (visits root)
+unfolding flatMap
+walk-right root = record { in-order = in-order root; of-walked = visit-walked root; of-each = of-each }
+  where
+    all-visited : (ns : List Node) → All (λ n. Visited n (visits n)) ns → AllVisited ns (flatMap visits ns)
+    all-visited [] h = noNodes
+    all-visited (n ∷ ns) h = first (h .0) (all-visited ns (h .1))
+
+    in-order : (n : Node) → Visited n (visits n)
+    in-order = by-children (λ n. Visited n (visits n)) (λ n below. rw (visits-placed n) (visited (all-visited (children n) below)))
+
+    of-each : (n : Node) → Walked root n → (v : Visit) → ownVisit n ≡ Option.some v → StandsAmong (visits root) n v
+    of-each n w v e =
+        let p = visits-within w in
+        let own : visits n ≡ placed (Option.some v) (flatMap visits (children n)) = rw e at (visits-placed n) in
+        record {
+          before = p .before;
+          inside = flatMap visits (children n);
+          behind = p .behind;
+          among = rw own at (p .among);
+          within = all-visited (children n) (of-members _ (children n) (λ c m. in-order c));
+        }
 
 -- some visit meets refusal 9
 any-refused : (vs : List Visit) → total judging vs ≡ true → (v : Visit) × List·Memᴰ v vs × (refused v ≡ true)

@@ -2,10 +2,9 @@
 use mathlib.Core.Path.{_≡_, refl, sym, ap, _∙_}
 use mathlib.Core.Bool.{or-false, or-assoc}
 use mathlib.Core.List.{List, [], _∷_, _++_}
-use native.Mathlib.Nat.{add-assoc, add-zero, zero-add}
 use Rattle.sheet.specs.Tree.{Node, other, string, name, template, binary, object, importCall, call, importDecl, namedExport, exportFrom, exportAll, importType, importEquals, importRequire, moduleDecl, Nodes, none, more, Arguments, noArguments, argument, Properties, noProperties, spread, otherProperty, childKey, stringKey, nameKey, Attributes, without, withObject}
 use Rattle.sheet.specs.Walk.{Visit, called, importing, expression, imported, exported, typed, required, declared, Collector, walk, walkAll, walkOf, walkIn, walkWith, total, visiting, visits}
-use Rattle.sheet.specs.Walked.{counting, entries, judging, uncooked}
+use Rattle.sheet.specs.Walked.{judging, uncooked}
 
 -- a relation that two collectors keep: at nothing, at parts and at each visit
 pub record Keep {M N : Type 0} (R : M → N → Type 0) (c : Collector M) (d : Collector N) : Type 0 where
@@ -66,9 +65,6 @@ module _ {M : Type 0} (c : Collector M) (left : (m : M) → c .both (c .nothing)
 
   pub walk-total : (n : Node) → walk c n ≡ total c (visits n)
   walk-total = walks-related (λ m vs. m ≡ total c vs) c visiting total-keeps
-
-pub entries-total : (n : Node) → entries n ≡ total counting (visits n)
-entries-total = walk-total counting zero-add add-zero add-assoc
 
 pub uncooked-any : (n : Node) → uncooked n ≡ total judging (visits n)
 uncooked-any = walk-total judging (λ b. refl) or-false or-assoc

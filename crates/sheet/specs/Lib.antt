@@ -12,5 +12,6 @@ pub mod Shape
 pub mod Walk
 pub mod Walked
 pub mod Reached
+pub mod WalkRight
 pub mod Sheet
 pub mod Views

@@ -6,4 +6,12 @@ pub mod Trees
 pub mod Tags
 pub mod Levels
 pub mod Sheets
+pub mod FieldBytes
+pub mod Fields
+pub mod Leaves
+pub mod Numbers
+pub mod Sequences
+pub mod TreeFields
+pub mod SheetFields
+pub mod Refusals
 pub mod Cases

@@ -1,8 +1,9 @@
 -- Decoding and encoding sheets undo each other: what is decoded is within document 01's limits and stood there as its bytes, and each sheet within these
 -- limits is decoded from its bytes.
 use mathlib.Core.Path.{_≡_, refl, sym, _∙_}
-use mathlib.Core.Bool.{false, not, _&&_, and-eq-true-iff}
+use mathlib.Core.Bool.{Bool, true, false, not, _&&_, and-eq-true-iff, true≢false}
 use mathlib.Core.List.{List, [], _∷_, append-nil}
+use mathlib.Core.Logic.{_↔_}
 use Prim.Native.Nat.{ℕ, _≤_, _<_}
 use native.Mathlib.Omega.{arith}
 use lib.Dec.{leb, ltb}
@@ -10,7 +11,7 @@ use lib.ListN.{length}
 use borrow.Author.Tests.{leb-true, lt-ltb, le-leb}
 use Rattle.laws.specs.Decoded.{ok, _>>_, return}
 use Rattle.laws.specs.Codec.{Codec}
-use Rattle.laws.proofs.Decoding.{refused, then-ok, require-ok}
+use Rattle.laws.proofs.Decoding.{refused, value, then-ok, require-ok}
 use Rattle.laws.proofs.Codecs.{built-given, built-then, built-require, codec-of, built-end}
 use Rattle.text.specs.declared.utf8.Encoding.the-variants.{Utf8}
 use Rattle.wire.specs.Number.{largest}
@@ -20,14 +21,16 @@ use Rattle.sheet.specs.Sheet.{Sheet, sheet, ending, decodeSheet, accept}
 use Rattle.sheet.specs.Walked.{uncooked}
 use Rattle.sheet.proofs.Coverings.{covered-iff}
 use Rattle.sheet.proofs.Decodes.{comments-codec, groups-codec}
+use Rattle.sheet.proofs.Reaches.{nine-exactly}
 use Rattle.sheet_codec.specs.Encode.{encodeSheet}
-use Rattle.sheet_codec.specs.Limits.{FieldsFit, WithinLimits}
+use Rattle.sheet_codec.specs.Limits.{FieldsFit}
+use Rattle.sheet_codec.specs.SheetOf.{Encodes, SheetOf}
 use Rattle.sheet_codec.proofs.Building.{limit-codec}
 use Rattle.sheet_codec.proofs.Parts.{program-codec}
 use Rattle.sheet_codec.proofs.Levels.{node-codec}
 
 -- refusals 2 to 7
-sheet-codec : Codec sheet encodeSheet FieldsFit
+pub sheet-codec : Codec sheet encodeSheet FieldsFit
 unfolding sheet encodeSheet
 sheet-codec =
     codec-of
@@ -58,40 +61,52 @@ sheet-codec =
     ))
 
 -- what is decoded is within the limits, and stood there as its bytes
-pub encoded : {s : List ℕ} {t : Sheet} → decodeSheet s ≡ ok t [] → (encodeSheet t ≡ s) × WithinLimits t
+pub encoded : {s : List ℕ} {t : Sheet} → decodeSheet s ≡ ok t [] → Encodes s t
 unfolding decodeSheet
 encoded {s} {t} e =
     let (size, e) = require-ok (ltb 0 (length s) && leb (length s) 65536) 1 s _ e in
     let (r, u, x, e) = then-ok (sheet s) _ e in
     let (i, fit) = sheet-codec .sound s t [] (x ∙ all r u e) in
     let same : encodeSheet t ≡ s = sym (i ∙ append-nil (encodeSheet t)) in
-    (same, record { fields = fit; bytes = rw same (leb-true (length s) 65536 (and-eq-true-iff (ltb 0 (length s)) (leb (length s) 65536) .0 size .1)) })
+    let few = leb-true (length s) 65536 (and-eq-true-iff (ltb 0 (length s)) (leb (length s) 65536) .0 size .1) in
+    record { bytes = same; within = record { fields = fit; bytes = rw same few } }
   where
     all : (r : Sheet) (u : List ℕ) → (ending >> return r) u ≡ ok t [] → ok r u ≡ ok t []
     all r [] e = e
     all r (b ∷ u) e = absurd (refused e)
 
--- so is what is accepted
-pub accepted-within : (s : List ℕ) {t : Sheet} → accept s ≡ ok t [] → WithinLimits t
-unfolding accept
-accepted-within s e =
-    let (t, u, x, e) = then-ok (decodeSheet s) _ e in
-    let (cooked, e) = require-ok (not (uncooked (t .root))) 9 u _ e in
-    encoded (x ∙ e) .1
-
 -- a sheet has the media byte
-some : (t : Sheet) → 0 < length (encodeSheet t)
+pub some : (t : Sheet) → 0 < length (encodeSheet t)
 unfolding encodeSheet
 some t = omega arith
 
 -- each sheet within the limits is decoded from its bytes
-pub accepted : {t : Sheet} → WithinLimits t → decodeSheet (encodeSheet t) ≡ ok t []
+pub decoded : {s : List ℕ} {t : Sheet} → Encodes s t → decodeSheet s ≡ ok t []
 unfolding decodeSheet
-accepted {t} w =
+decoded {s} {t} h =
     let bytes = encodeSheet t in
-    rw (lt-ltb 0 (length bytes) (some t), le-leb (length bytes) 65536 (w .bytes), rw append-nil at (sheet-codec .complete t (w .fields) []))
+    rw (
+      ← h .bytes,
+      lt-ltb 0 (length bytes) (some t),
+      le-leb (length bytes) 65536 (h .within .bytes),
+      rw append-nil at (sheet-codec .complete t (h .within .fields) []),
+    )
 
--- and if no call meets refusal 9, it meets none
-pub unrefused : {t : Sheet} → WithinLimits t → uncooked (t .root) ≡ false → accept (encodeSheet t) ≡ ok t []
+-- what is accepted meets none of refusals 1 to 9, and back
+pub accepts-exactly : (s : List ℕ) (t : Sheet) → (accept s ≡ ok t []) ↔ SheetOf s t
 unfolding accept
-unrefused w cooked = rw (accepted w, cooked)
+accepts-exactly s t = (there, back)
+  where
+    there : accept s ≡ ok t [] → SheetOf s t
+    there e =
+        let (r, u, x, e) = then-ok (decodeSheet s) _ e in
+        let (cooked, e) = require-ok (not (uncooked (r .root))) 9 u _ e in
+        let same : r ≡ t = value e in
+        record { encodes = encoded (x ∙ e); cooked = λ c. let met = nine-exactly (t .root) .1 c in true≢false (sym (rw (same, met) at cooked)) }
+
+    back : SheetOf s t → accept s ≡ ok t []
+    back h = rw (decoded (h .encodes), unmet (uncooked (t .root)) refl)
+      where
+        unmet : (b : Bool) → uncooked (t .root) ≡ b → b ≡ false
+        unmet true e = absurd (h .cooked (nine-exactly (t .root) .0 e))
+        unmet false e = refl

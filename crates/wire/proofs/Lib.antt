@@ -3,4 +3,5 @@ pub mod Groups
 pub mod NumberCodec
 pub mod TextCodec
 pub mod OptionalCodec
+pub mod Kept
 pub mod Cases

@@ -1,0 +1,97 @@
+-- Fields one after the other: texts, spans, comments, groups, the program, and items that are counted.
+use mathlib.Core.Path.{_≡_, refl, sym, ap, _∙_}
+use mathlib.Core.Bool.{Bool, true, false, cond, _&&_}
+use mathlib.Core.List.{List, [], _∷_, _++_}
+use mathlib.Core.Option.{Option}
+use Prim.Native.Nat.{ℕ, zero, suc, _+_}
+use lib.Dec.{leb, ltb}
+use lib.ListN.{length}
+use Rattle.laws.specs.Decoded.{Decoder, onOk, return}
+use Rattle.text.specs.declared.utf8.Encoding.{Encoding}
+use Rattle.wire.specs.Number.{number}
+use Rattle.wire.specs.Text as wire
+use Rattle.wire.specs.Optional.{optional}
+use Rattle.sheet.specs.declared.groups.Group.{Group}
+use Rattle.sheet.specs.Fields as sheet
+use Rattle.sheet.specs.Comments.{slice, marked, chained, comment, comments, endOf, group, groups, anywhere, mayFollow}
+use Rattle.sheet.specs.Program.{program}
+use Rattle.sheet.specs.Nodes.{many}
+use Rattle.sheet_codec.specs.Field as field
+use Rattle.sheet_codec.specs.Field.{Count, limit, Entry}
+use Rattle.sheet_codec.specs.FieldsOf.{aFlag, textFields, optionalFields, chainFields, spanFields, commentFields, groupFields, programFields}
+use Rattle.sheet_codec.proofs.Fields.{Judges, FieldsOf, Any, ends, has, with, map, then, last, then-tested}
+use Rattle.sheet_codec.proofs.Leaves.{byte-field, flag-field, bytes-field}
+use Rattle.sheet_codec.proofs.Numbers.{free-field, count-field, group-count-field, start-field, end-field, comment-start, comment-end, group-position, after}
+
+-- a text
+pub text-fields : (c : Count) (e : Encoding) → FieldsOf (wire.text e (limit c)) Any (textFields c e)
+unfolding wire.text
+text-fields c e = then (count-field c) (λ n u. has (bytes-field e n) (λ x l h. (tt, rw (h .1, h .0))))
+
+-- a flag, and what follows it if it is 1
+pub optional-fields : {A : Type 0} {d : Decoder A} {fields : A → List Entry} → FieldsOf d Any fields → FieldsOf (optional d) Any (optionalFields fields)
+unfolding optional
+optional-fields {A} {d} {fields} k = then flag-field (λ b u. by b)
+  where
+    by : (b : Bool) → Judges (cond b (λ s. onOk (λ a. Option.some a) (d s)) (return Option.none)) (λ x l. Unit {0} × (aFlag b ∷ l ≡ optionalFields fields x))
+    by true = map k (λ a. Option.some a) (λ a l h. (tt, ap (aFlag true ∷_) (h .1)))
+    by false = ends Option.none (tt, refl)
+
+-- items, each judged by what the one before leaves, which some state stands for
+module _ {A S Q : Type 0} (item : S → Decoder A) (leaves : A → S) (of : Q → S) (next : A → Q) (stands : (a : A) → leaves a ≡ of (next a))
+    {fields : Q → A → List Entry} (k : (q : Q) → FieldsOf (item (of q)) Any (fields q)) where
+  chained-more : (q : Q) (n : ℕ) → ((a : A) → FieldsOf (chained item leaves (of (next a)) n) (λ l. length l ≡ n) (chainFields fields next (next a)))
+      → FieldsOf (chained item leaves (of q) (suc n)) (λ l. length l ≡ suc n) (chainFields fields next q)
+  unfolding chained
+  chained-more q n rest = then (k q) (λ a u. rw (stands a) (map (rest a) (a ∷_) (λ l m h. (ap suc (h .0), ap (fields q a ++_) (h .1)))))
+
+  pub chained-fields : (q : Q) (n : ℕ) → FieldsOf (chained item leaves (of q) n) (λ l. length l ≡ n) (chainFields fields next q)
+  unfolding chained
+  chained-fields q zero = ends [] (refl, refl)
+  chained-fields q (suc n) = chained-more q n (λ a. chained-fields (next a) n)
+
+module _ (source : List ℕ) where
+  pub span-fields : FieldsOf (sheet.span source) Any (spanFields source)
+  unfolding sheet.span
+  span-fields = then (start-field source) (λ start u. last (λ end. record { start = start; end = end }) (end-field source start) (λ end v. (tt, refl)))
+
+  comment-fields : (last : ℕ) → FieldsOf (comment source last) Any (commentFields source last)
+  unfolding comment
+  comment-fields last =
+      then (byte-field field.kind) (λ kind l.
+      then-tested (sheet.position source) (leb last) 7 (comment-start source last) (λ start u.
+      then-tested (sheet.endFrom source start) (λ end. marked kind (slice source (record { start = start; end = end }))) 7 (comment-end source kind start) (λ end v. ends _ (tt, refl))))
+
+  pub comments-fields : (n : ℕ) → FieldsOf (comments source 0 n) (λ cs. length cs ≡ n) (chainFields (commentFields source) endOf 0)
+  comments-fields = chained-fields (comment source) endOf (λ last. last) endOf (λ c. refl) comment-fields 0
+
+  group-fields : (total : ℕ) (last : Option Group) → FieldsOf (group source total (after last)) Any (groupFields source total last)
+  unfolding group
+  group-fields total last =
+      then (byte-field field.side) (λ side l.
+      then-tested (sheet.position source) (after last side) 7 (group-position source last side) (λ p u.
+      then free-field (λ first v.
+      then-tested number (λ n. ltb 0 n && leb (first + n) total) 7 (group-count-field total first) (λ n w. ends _ (tt, refl)))))
+
+  pub groups-fields : (total m : ℕ)
+      → FieldsOf (groups source total anywhere m) (λ gs. length gs ≡ m) (chainFields (groupFields source total) (λ g. Option.some g) Option.none)
+  groups-fields total = chained-fields (group source total) mayFollow after (λ g. Option.some g) (λ g. refl) (group-fields total) Option.none
+
+  pub program-fields : FieldsOf (program source) Any (programFields source)
+  unfolding program
+  program-fields =
+      then flag-field (λ script a. then span-fields (λ sp b. then flag-field (λ shebang c.
+      last (λ first. record { script = script; span = sp; shebang = shebang; first = first }) (optional-fields (start-field source)) (λ first d. (tt, refl)))))
+
+-- items that add to a list
+module _ {L : Type 0} (size : L → ℕ) (fields : L → List Entry) where
+  -- a function adds an item of these fields
+  abbrev pub Adds : (L → L) → List Entry → Type 0
+  Adds add e = (l : L) → (size (add l) ≡ suc (size l)) × (e ++ fields l ≡ fields (add l))
+
+  pub many-fields : {end : L} {item : Decoder (L → L)} → (size end ≡ 0) × (fields end ≡ []) → Judges item Adds → (n : ℕ)
+      → FieldsOf (many end item n) (λ l. size l ≡ n) fields
+  unfolding many
+  many-fields {end} none k zero = ends end (none .0, sym (none .1))
+  many-fields {end} none k (suc n) =
+      with k (λ add e h. map (many-fields none k n) add (λ l m i. (h l .0 ∙ ap suc (i .0), ap (e ++_) (i .1) ∙ h l .1)))

@@ -1,0 +1,87 @@
+-- Refusals 2 to 7 as document 01 states them, each of the bytes from a field on; and how they are judged, at each field from the front.
+use mathlib.Core.Path.{_≡_}
+use mathlib.Core.Logic.{_⊎_}
+use mathlib.Core.List.{List, [], _∷_, _++_, flatMap}
+use mathlib.Core.Option.{Option}
+use Prim.Native.Nat.{ℕ, _+_, _≤_, _<_}
+use lib.ListN.{length}
+use Rattle.laws.specs.Codec.{All}
+use Rattle.text.specs.declared.utf8.Encoding.{Encoding}
+use Rattle.text.specs.WellFormed.{WellFormed}
+use Rattle.text.specs.Position.{Boundary}
+use Rattle.wire.specs.Number.{largest, encodeNumber}
+use Rattle.sheet.specs.declared.groups.Group.{Group}
+use Rattle.sheet.specs.Comments.{opening, closing, slice}
+use Rattle.sheet.specs.Fit.{HeldBySome}
+use Rattle.sheet_codec.specs.Field.{Byte, values, Count, limit, Position, end, commentStart, commentEnd, groupPosition, Number, limited, position, groupCount, Place, anyNode, aString, anObject, Field, byte, tag, number, text, everyComment, Entry}
+
+-- a number that is not too large stands in front, in its shortest form
+pub record Shows (u : List ℕ) (n : ℕ) : Type 0 where
+  pub rest : List ℕ
+  pub small : n ≤ largest
+  pub bytes : u ≡ encodeNumber n ++ rest
+
+-- the tags that a place allows
+abbrev pub Allows : Place → ℕ → Type 0
+Allows anyNode t = t < 13
+Allows aString t = t ≡ 1
+Allows anObject t = t ≡ 5
+
+-- a number n that is refused where it stands
+pub data Wrong : Number → ℕ → ℕ → Type 0 where
+  -- 4. A count or length is over its limit
+  over : {c : Count} {n : ℕ} → limit c < n → Wrong (limited c) n 4
+  -- 6. A position is past the source or inside a character
+  outside : {source : List ℕ} {at : Position} {n : ℕ} → (Boundary source n → ⊥) → Wrong (position source at) n 6
+  -- or an end precedes its start
+  reversed : {source : List ℕ} {start n : ℕ} → n < start → Wrong (position source (end start)) n 6
+  commentReversed : {source : List ℕ} {kind start n : ℕ} → n < start → Wrong (position source (commentEnd kind start)) n 6
+  -- 7. A comment starts before the last one's end
+  early : {source : List ℕ} {last n : ℕ} → n < last → Wrong (position source (commentStart last)) n 7
+  -- lacks its marks, or is shorter than them
+  unmarked : {source : List ℕ} {kind start n : ℕ} → ((body : List ℕ) → slice source (record { start = start; end = n }) ≡ opening kind ++ (body ++ closing kind) → ⊥)
+      → Wrong (position source (commentEnd kind start)) n 7
+  -- or a group is out of order
+  disordered : {source : List ℕ} {g : Group} {side n : ℕ} → ((g .side < side) ⊎ ((g .side ≡ side) × (g .position < n)) → ⊥)
+      → Wrong (position source (groupPosition (Option.some g) side)) n 7
+  -- has count 0, or reaches past the comments
+  empty : {total first n : ℕ} → n ≡ 0 → Wrong (groupCount total first) n 7
+  beyond : {total first n : ℕ} → total < first + n → Wrong (groupCount total first) n 7
+
+-- the bytes u from a field on are refused at it
+pub data Breaks : Field → List ℕ → ℕ → Type 0 where
+  -- 2. A field is cut off, or a number is not shortest or too large
+  noByte : {b : Byte} → Breaks (byte b) [] 2
+  noTag : {place : Place} {levels : ℕ} → Breaks (tag place levels) [] 2
+  noNumber : {f : Number} {u : List ℕ} → ((n : ℕ) → Shows u n → ⊥) → Breaks (number f) u 2
+  fewBytes : {e : Encoding} {n : ℕ} {u : List ℕ} → length u < n → Breaks (text e n) u 2
+  -- 3. A byte or flag is outside its stated values, or a node has a tag its place doesn't allow
+  otherByte : {b : Byte} {x : ℕ} {u : List ℕ} → values b ≤ x → Breaks (byte b) (x ∷ u) 3
+  otherTag : {place : Place} {levels t : ℕ} {u : List ℕ} → (Allows place t → ⊥) → Breaks (tag place levels) (t ∷ u) 3
+  -- 4. A depth is over its limit
+  tooDeep : {place : Place} {levels : ℕ} {u : List ℕ} → levels ≡ 0 → Breaks (tag place levels) u 4
+  -- 5. A text is not well-formed
+  illFormed : {e : Encoding} {n : ℕ} {u : List ℕ} (x rest : List ℕ) → u ≡ x ++ rest → length x ≡ n → (WellFormed e x → ⊥) → Breaks (text e n) u 5
+  -- 4, 6 and 7 of a number
+  wrong : {f : Number} {u : List ℕ} {n r : ℕ} → Shows u n → Wrong f n r → Breaks (number f) u r
+  -- 7. A comment is in no group
+  alone : {gs : List Group} {n : ℕ} {u : List ℕ} (i : ℕ) → i < n → (HeldBySome gs i → ⊥) → Breaks (everyComment gs n) u 7
+
+-- none of them is met at a field
+abbrev pub Unbroken : Entry → Type 0
+Unbroken e = (r : ℕ) → Breaks (e .field) (e .bytes) r → ⊥
+
+abbrev pub bytesOf : Entry → List ℕ
+bytesOf e = e .bytes
+
+-- the bytes s, which should be those fields, meet a refusal: some fields stand there unbroken, and at the next one what is left is refused, by no lower number
+pub record Meets (fields : List Entry) (s : List ℕ) (r : ℕ) : Type 0 where
+  pub front : List Entry
+  pub at : Entry
+  pub back : List Entry
+  pub among : fields ≡ front ++ at ∷ back
+  pub unbroken : All Unbroken front
+  pub rest : List ℕ
+  pub bytes : s ≡ flatMap bytesOf front ++ rest
+  pub breaks : Breaks (at .field) rest r
+  pub lowest : (q : ℕ) → q < r → Breaks (at .field) rest q → ⊥

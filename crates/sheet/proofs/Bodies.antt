@@ -1,15 +1,14 @@
 -- The body of a comment lies within the comment. In a well-formed source it is well-formed, and its boundaries are boundaries of the source.
 use mathlib.Core.Path.{_≡_, refl, sym, ap, _∙_}
-use mathlib.Core.Bool.{Bool, true, false, cond}
-use mathlib.Core.List.{List, [], _++_}
+use mathlib.Core.Bool.{Bool, true, false}
+use mathlib.Core.List.{List, [], _∷_, _++_, append-assoc}
 use Prim.Native.Nat.{ℕ, _+_, _-_, _≤_, _<_}
 use native.Mathlib.Nat.{sub-zero}
 use native.Mathlib.Omega.{arith}
-use lib.Dec.{eqb, ltb}
+use lib.Dec.{ltb}
 use lib.ListN.{length, getD, take, drop, length-append, length-take, length-drop, take-append-drop, List·getD-append}
 use lib.Seq.{getD-take, getD-drop, getD-at, drop-drop, drop-append-le}
 use borrow.Author.Tests.{ltb-true, ltb-false}
-use Rattle.laws.specs.Quoted.{ascii}
 use Rattle.text.specs.declared.utf8.Encoding.the-variants.{Utf8}
 use Rattle.text.specs.Bytes.{part}
 use Rattle.text.specs.Utf8.{formed}
@@ -20,7 +19,7 @@ use Rattle.sheet.specs.Comments.{slice, opening, closing}
 use Rattle.sheet.specs.Fit.{Placed}
 use Rattle.sheet.specs.Lookups.{HoldsMarks, bodySpan, body}
 use Rattle.sheet.proofs.Members.{placed-within}
-use Rattle.sheet.proofs.Marks.{opening-long, holds-marks}
+use Rattle.sheet.proofs.Marks.{fenced, holds-marks}
 
 -- the body lies within the comment, and the comment within the source
 pub record Within (source : List ℕ) (c : Comment) : Type 0 where
@@ -61,20 +60,6 @@ body-byte source c w i l = part-byte source (bodySpan c .start) (bodySpan c .end
 
 -- ---- boundaries
 
-opening-ascii : (kind : ℕ) → getD (opening kind) 1 0 < 0x80
-opening-ascii kind = go (eqb kind 0)
-  where
-    go : (b : Bool) → getD (cond b (ascii "//") (ascii "/*")) 1 0 < 0x80
-    go true = omega arith
-    go false = omega arith
-
-closing-star : (kind : ℕ) (t s : List ℕ) → s ≡ opening kind ++ (t ++ closing kind) → eqb kind 0 ≡ false → getD s (length s - 2) 0 ≡ 0x2A
-closing-star kind t s h e =
-    let front = ascii "/*" ++ t in
-    let all : s ≡ front ++ ascii "*/" = rw e at h in
-    let k : length front ≡ length s - 2 = omega (arith, ap length all ∙ length-append front (ascii "*/")) in
-    ap (λ (r : List ℕ). getD r (length s - 2) 0) all ∙ getD-at front 0x2A (ascii "/") 0 (length s - 2) k
-
 module _ (source : List ℕ) (c : Comment) (f : formed Utf8 0 source ≡ true) (h : Placed source c) where
   -- the body begins behind an ASCII byte
   body-starts : Boundary source (bodySpan c .start)
@@ -82,32 +67,40 @@ module _ (source : List ℕ) (c : Comment) (f : formed Utf8 0 source ≡ true) (
   body-starts =
       let start = c .span .start in
       let front = opening (c .kind) in
-      let two = opening-long (c .kind) in
+      let back = closing (c .kind) in
+      let marks = fenced (c .kind) in
+      let some = marks .some in
       let room = holds-marks source c h in
       let end = placed-within source c h in
-      let byte : getD source (start + 1) 0 ≡ getD front 1 0 =
-      sym (part-byte source start (c .span .end) 1 (omega arith))
-      ∙ ap (λ (t : List ℕ). getD t 1 0) (h .marks)
-      ∙ List·getD-append front (body source c ++ closing (c .kind)) 0 1 (omega arith) in
-      let behind : start + length front ≡ start + 1 + 1 = omega arith in
-      rw behind (ascii-between source f (start + 1) (omega arith) (rw byte (opening-ascii (c .kind))) .1)
+      let k = length front - 1 in
+      let byte : getD source (start + k) 0 ≡ getD front k 0 =
+      sym (part-byte source start (c .span .end) k (omega arith))
+      ∙ ap (λ (t : List ℕ). getD t k 0) (h .marks)
+      ∙ List·getD-append front (body source c ++ back) 0 k (omega arith) in
+      let behind : start + length front ≡ start + k + 1 = omega arith in
+      rw behind (ascii-between source f (start + k) (omega arith) (rw byte (marks .last)) .1)
 
   -- and ends where the comment ends, or before an ASCII byte
   body-ends : Boundary source (bodySpan c .end)
   unfolding bodySpan
-  body-ends = go (eqb (c .kind) 0) refl
+  body-ends = go (closing (c .kind)) refl
     where
-      go : (b : Bool) → eqb (c .kind) 0 ≡ b → Boundary source (c .span .end - length (cond b [] (ascii "*/")))
-      go true e = rw sub-zero (h .end)
-      go false e =
+      go : (back : List ℕ) → closing (c .kind) ≡ back → Boundary source (c .span .end - length back)
+      go [] e = rw sub-zero (h .end)
+      go (b ∷ bs) e =
           let s = slice source (c .span) in
-          let room : c .span .start + (2 + 2) ≤ c .span .end = rw e at (holds-marks source c h) in
+          let front = opening (c .kind) ++ body source c in
+          let room = rw e at (holds-marks source c h) in
           let end = placed-within source c h in
           let n : length s ≡ c .span .end - c .span .start = simp (length-take, length-drop) (omega arith) in
-          let star = closing-star (c .kind) (body source c) s (h .marks) e in
-          let there : c .span .start + (length s - 2) ≡ c .span .end - 2 = omega arith in
-          let same = rw there at (part-byte source (c .span .start) (c .span .end) (length s - 2) (omega arith)) in
-          ascii-between source f (c .span .end - 2) (omega arith) (omega arith) .0
+          let k = length s - length (b ∷ bs) in
+          let all : s ≡ front ++ b ∷ bs = h .marks ∙ ap (λ (t : List ℕ). opening (c .kind) ++ (body source c ++ t)) e ∙ sym (append-assoc (opening (c .kind)) (body source c) (b ∷ bs)) in
+          let size : length front ≡ k = omega (arith, ap length all ∙ length-append front (b ∷ bs)) in
+          let byte : getD s k 0 ≡ b = ap (λ (r : List ℕ). getD r k 0) all ∙ getD-at front b bs 0 k size in
+          let there : c .span .start + k ≡ c .span .end - length (b ∷ bs) = omega arith in
+          let same = rw there at (part-byte source (c .span .start) (c .span .end) k (omega arith)) in
+          let first : b < 0x80 = rw e at (fenced (c .kind) .first) in
+          ascii-between source f (c .span .end - length (b ∷ bs)) (omega arith) (rw (← same, byte) first) .0
 
   pub body-formed : formed Utf8 0 (body source c) ≡ true
   body-formed = part-formed source f (bodySpan c .start) (bodySpan c .end) (placed-body source c h .order) body-starts body-ends

@@ -1,30 +1,36 @@
 -- The marks of a comment: what the test for them says, and that a comment is no shorter than they are.
 use mathlib.Core.Path.{_≡_, refl, sym, ap, _∙_}
-use mathlib.Core.Bool.{Bool, true, false, cond, _&&_, and-eq-true-iff}
+use mathlib.Core.Bool.{true, _&&_, and-eq-true-iff}
 use mathlib.Core.List.{List, [], _++_, append-nil, append-assoc}
 use mathlib.Core.Logic.{_↔_}
-use Prim.Native.Nat.{ℕ, _+_, _-_, _≤_}
+use Prim.Native.Nat.{ℕ, zero, suc, _+_, _-_, _≤_, _<_}
 use native.Mathlib.Omega.{arith}
-use lib.Dec.{leb, eqb}
-use lib.ListN.{length, take, drop, length-append, length-take, length-drop, take-append-drop, drop-of-length-le}
+use lib.Dec.{leb}
+use lib.ListN.{length, getD, take, drop, length-append, length-take, length-drop, take-append-drop, drop-of-length-le}
 use lib.Seq.{length-take-le, drop-drop, take-at, drop-at, drop-append-seam}
 use borrow.Author.Tests.{leb-true, le-leb}
-use Rattle.laws.specs.Quoted.{ascii}
 use Rattle.laws.proofs.Lists.{part-part}
 use Rattle.text.specs.Bytes.{begins}
 use Rattle.text.proofs.Words.{begins-sound, begins-complete}
 use Rattle.sheet.specs.declared.comments.Comment.{Comment}
-use Rattle.sheet.specs.Comments.{opening, closing, slice, enclosed, marked}
+use Rattle.sheet.specs.Comments.{Marks, marksOf, opening, closing, slice, enclosed, marked}
 use Rattle.sheet.specs.Fit.{Placed}
 use Rattle.sheet.specs.Lookups.{HoldsMarks, bodySpan, body}
 
--- each kind opens with two bytes
-pub opening-long : (kind : ℕ) → length (opening kind) ≡ 2
-opening-long kind = go (eqb kind 0)
-  where
-    go : (b : Bool) → length (cond b (ascii "//") (ascii "/*")) ≡ 2
-    go true = refl
-    go false = refl
+-- an opening is not empty, and its last byte is ASCII; a closing is empty, or its first byte is ASCII
+pub record Fenced (m : Marks) : Type 0 where
+  pub some : 0 < length (m .opening)
+  pub last : getD (m .opening) (length (m .opening) - 1) 0 < 0x80
+  pub first : getD (m .closing) 0 0 < 0x80
+
+pub fenced : (kind : ℕ) → Fenced (marksOf kind)
+fenced zero = record { some = omega arith; last = omega arith; first = omega arith }
+fenced (suc kind) = record { some = omega arith; last = omega arith; first = omega arith }
+
+-- the row of every kind but 0
+pub other-kind : (kind : ℕ) → (kind ≡ 0 → ⊥) → marksOf kind ≡ marksOf 1
+other-kind zero h = absurd (h refl)
+other-kind (suc kind) h = refl
 
 -- a text is enclosed by two marks just where it is something between them
 module _ (front back c : List ℕ) where

@@ -1,5 +1,5 @@
 -- Comments and the groups that they stand in.
-use mathlib.Core.Bool.{Bool, true, false, cond, _&&_, _||_}
+use mathlib.Core.Bool.{Bool, true, false, _&&_, _||_}
 use mathlib.Core.List.{List, [], _∷_, _++_}
 use Prim.Native.Nat.{ℕ, zero, suc, _+_, _-_}
 use lib.Dec.{eqb, leb, ltb}
@@ -18,12 +18,21 @@ use Rattle.sheet.specs.Fields.{position, endFrom, encodeSpan}
 abbrev pub slice : List ℕ → Span → List ℕ
 slice source sp = part source (sp .start) (sp .end)
 
--- the marks that open and close a comment of a kind
+-- the marks that open and close a comment
+pub record Marks : Type 0 where
+  pub opening : List ℕ
+  pub closing : List ℕ
+
+-- by its kind: 0 line, 1 block
+abbrev pub marksOf : ℕ → Marks
+marksOf zero = record { opening = ascii "//"; closing = [] }
+marksOf (suc kind) = record { opening = ascii "/*"; closing = ascii "*/" }
+
 abbrev pub opening : ℕ → List ℕ
-opening kind = cond (eqb kind 0) (ascii "//") (ascii "/*")
+opening kind = marksOf kind .opening
 
 abbrev pub closing : ℕ → List ℕ
-closing kind = cond (eqb kind 0) [] (ascii "*/")
+closing kind = marksOf kind .closing
 
 -- the text begins with one mark, ends with the other, and is no shorter than the two
 unfoldable pub enclosed : List ℕ → List ℕ → List ℕ → Bool

@@ -48,10 +48,10 @@ fn is_enclosed(text: &[u8], front: &[u8], back: &[u8]) -> bool
 fn is_marked(text: &[u8], kind: usize) -> bool
     ensures { λ r. ⌜ r ≡ marked kind (now (text .entry)) ⌝ }
 {
-    if kind == 0 {
-        return is_enclosed(text, b"//", b"");
+    match kind {
+        0 => is_enclosed(text, b"//", b""),
+        _ => is_enclosed(text, b"/*", b"*/"),
     }
-    is_enclosed(text, b"/*", b"*/")
 }
 
 // A comment that starts no earlier than `last`, the end of the one before.

@@ -77,16 +77,23 @@ pub fn head_group(table: &[u32], m: usize, program: Program) -> GroupFound
     }
 }
 
+// The lengths of the marks of a kind.
 fn opening_length(kind: usize) -> usize
     ensures { λ r. ⌜ r ≡ length (opening kind) ⌝ }
 {
-    2
+    match kind {
+        0 => 2,
+        _ => 2,
+    }
 }
 
 fn closing_length(kind: usize) -> usize
     ensures { λ r. ⌜ r ≡ length (closing kind) ⌝ }
 {
-    if kind == 0 { 0 } else { 2 }
+    match kind {
+        0 => 0,
+        _ => 2,
+    }
 }
 
 // Where the body of a comment stands: its span without the marks.

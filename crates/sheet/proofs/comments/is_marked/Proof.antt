@@ -1,16 +1,16 @@
 use borrow.Author.Needs.{needs}
-use borrow.Author.Tests.{ne-eqb}
 use Rattle.sheet.specs.Comments.{marked}
+use Rattle.sheet.proofs.Marks.{other-kind}
 use Rattle.sheet.proofs.comments.is_marked.Statement.{statement}
 use Rattle.sheet.proofs.comments.is_marked.Tie as tie
 
 returns : tie.Need-returns
 unfolding marked
-returns c = rw (c .before .before .before .if1 .taken) (c .is-enclosed .ensures)
+returns c = rw (c .before .before .before .match .keys1) (c .is-enclosed .ensures)
 
 returns-2 : tie.Need-returns-2
 unfolding marked
-returns-2 c = rw (ne-eqb _ 0 (c .before .before .before .if1 .left)) (c .is-enclosed2 .ensures)
+returns-2 c = rw (other-kind _ (c .before .before .before .match .rest .1)) (c .is-enclosed2 .ensures)
 
 pub is-marked-spec : {M : Type 1} → statement M
 is-marked-spec =
@@ -19,8 +19,8 @@ is-marked-spec =
     (λ c. search needs)
     (λ c. search needs)
     (λ c κs. search needs)
-    returns
     (λ c. search needs)
     (λ c. search needs)
     (λ c κs. search needs)
+    returns
     returns-2)

@@ -14,7 +14,7 @@ use Rattle.wire.specs.Number.{lastGroup, groups, number}
 use Rattle.wire.specs.Text.{count, text}
 use Rattle.wire.specs.Optional.{optional}
 use Rattle.sheet.specs.Fields.{position, endFrom, span}
-use Rattle.sheet.specs.Nodes.{many, tag, piece, nodes, stringFields, nameFields, templateFields, binaryFields, fields, node}
+use Rattle.sheet.specs.Nodes.{many, tag, piece, nodes, stringText, stringFields, nameFields, templateFields, binaryFields, fields, node}
 use Rattle.report.specs.ModuleInfo.{DynamicArgument, expr, string, template}
 use Rattle.arguments.specs.Argument.{chain, argumentOf}
 
@@ -63,6 +63,6 @@ cases =
     ∷ []
 
 as-stated : map (λ x. (x .0, onOk argumentOf (node [] 64 (x .0)))) cases ≡ cases
-unfolding byte below flag bytes lastGroup groups number count text admits lengthBy charLength formed replacing isBoundary position endFrom span many tag optional piece nodes stringFields
+unfolding byte below flag bytes lastGroup groups number count text admits lengthBy charLength formed replacing isBoundary position endFrom span many tag optional piece nodes stringText stringFields
     nameFields templateFields binaryFields fields node chain argumentOf
 as-stated = refl

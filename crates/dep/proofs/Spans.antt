@@ -9,7 +9,7 @@ use lib.Dec.{eqb, ltb}
 use Rattle.laws.specs.Codec.{IfThere}
 use Rattle.laws.specs.Decoded.{Decoded, ok, no, andThen, _>>=_, return}
 use Rattle.laws.proofs.Answers.{Answer, Reads, done, next, ends, behind, with, changed, either, at-index, anything}
-use Rattle.text.specs.declared.utf8.Encoding.the-variants.{Utf8, Wtf8}
+use Rattle.text.specs.declared.utf8.Encoding.the-variants.{Utf8}
 use Rattle.wire.specs.Fields.{below, flag}
 use Rattle.wire.specs.Number.{number}
 use Rattle.wire.specs.Text.{count, text}
@@ -17,7 +17,7 @@ use Rattle.wire.specs.Optional.{optional}
 use Rattle.sheet.specs.declared.fields.Span.{Span}
 use Rattle.sheet.specs.Tree.{Quoted}
 use Rattle.sheet.specs.Fields.{position, endFrom, span}
-use Rattle.sheet.specs.Nodes.{tag, quoted}
+use Rattle.sheet.specs.Nodes.{tag, stringText, quoted}
 use Rattle.sheet.proofs.Judged.{end-codec}
 use Rattle.heads.specs.Head.{Head, otherHead, stringHead, nameHead, templateHead, binaryHead, objectHead, moduleHead, callStart, origin, importStart, namedExportStart, exportAllStart, importTypeStart, importRequireStart, importEqualsStart, moduleStart, start, head}
 use Rattle.heads.specs.Parts.{argumentHead}
@@ -49,7 +49,7 @@ module _ (source : List ℕ) where
   module _ (levels : ℕ) where
     quoted-within : Reads Within (quoted source levels)
     unfolding quoted
-    quoted-within = behind (tag (eqb 1) levels) λ t. with span-within λ sp h. behind (text Wtf8 4096) λ x. ends h
+    quoted-within = behind (tag (eqb 1) levels) λ t. with span-within λ sp h. behind (stringText source sp) λ x. ends h
 
     optional-within : Reads (IfThere Within) (optional (quoted source levels))
     unfolding optional
@@ -89,11 +89,11 @@ module _ (source : List ℕ) where
     unfolding callStart
     call-within = behind (below 4) λ callee. either (ltb callee 3) (ends tt) (ends tt)
 
-    start-within : (t : ℕ) → Reads (Spanned source) (start source levels t)
+    start-within : (sp : Span) (t : ℕ) → Reads (Spanned source) (start source levels sp t)
     unfolding start
-    start-within t = at-index
+    start-within sp t = at-index
         (next (changed otherHead (anything number) (λ n h. tt))
-        (next (changed stringHead (anything (text Wtf8 4096)) (λ x h. tt))
+        (next (changed stringHead (anything (stringText source sp)) (λ x h. tt))
         (next (changed nameHead (anything (text Utf8 4096)) (λ x h. tt))
         (next (changed templateHead (anything number) (λ n h. tt))
         (next (changed binaryHead (anything flag) (λ b h. tt))
@@ -103,7 +103,7 @@ module _ (source : List ℕ) where
 
   head-within : (levels : ℕ) → Reads (λ (p : Span × Head). Spanned source (p .1)) (head source levels)
   unfolding head
-  head-within levels = behind (tag (λ t. ltb t 13) levels) λ t. behind (span source) λ sp. with (start-within (levels - 1) t) λ h fits. ends fits
+  head-within levels = behind (tag (λ t. ltb t 13) levels) λ t. behind (span source) λ sp. with (start-within (levels - 1) sp t) λ h fits. ends fits
 
   pub head-spanned : (levels : ℕ) (u : List ℕ) {p : Span × Head} {t : List ℕ} → head source levels u ≡ ok p t → Spanned source (p .1)
   head-spanned levels u e = rw e at (head-within levels .at u)

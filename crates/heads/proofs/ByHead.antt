@@ -16,7 +16,7 @@ use Rattle.wire.specs.Optional.{optional}
 use Rattle.sheet.specs.declared.fields.Span.{Span}
 use Rattle.sheet.specs.Tree.{Quoted, Node, importDecl, exportFrom, exportAll, Arguments, argument, Properties, spread, otherProperty, childKey, stringKey, nameKey, Attributes, withObject}
 use Rattle.sheet.specs.Fields.{span}
-use Rattle.sheet.specs.Nodes.{tag, quoted, properties, attributes, otherFields, stringFields, nameFields, templateFields, binaryFields, objectFields, callFields, importFields, namedExportFields, exportAllFields, importTypeFields, importEqualsFields, moduleFields, fields, argumentItem, keyedItem, propertyItem, node, attributesObject}
+use Rattle.sheet.specs.Nodes.{tag, stringText, quoted, properties, attributes, otherFields, stringFields, nameFields, templateFields, binaryFields, objectFields, callFields, importFields, namedExportFields, exportAllFields, importTypeFields, importEqualsFields, moduleFields, fields, argumentItem, keyedItem, propertyItem, node, attributesObject}
 use Rattle.heads.specs.Head.{Head, otherHead, stringHead, nameHead, templateHead, binaryHead, objectHead, importHead, exportFromHead, exportAllHead, callStart, origin, importStart, namedExportStart, exportAllStart, importTypeStart, importRequireStart, importEqualsStart, moduleStart, start, head}
 use Rattle.heads.specs.Parts.{PropertyHead, spreadHead, otherPropertyHead, childKeyHead, stringKeyHead, nameKeyHead, keyHead, propertyHead, argumentHead, attributesHead}
 use Rattle.heads.specs.Rest.{behind, restOf, rest}
@@ -94,11 +94,11 @@ module _ (source : List ℕ) (levels : ℕ) (inner : Decoder Node) (object′ : 
   unfolding moduleFields moduleStart
   by-module = first (optional (quoted source levels)) λ x. first number λ n. ends λ s. refl
 
-  by-tag : (t : ℕ) → From (fields source levels inner object′ sp t) (start source levels t)
+  by-tag : (t : ℕ) → From (fields source levels inner object′ sp t) (start source levels sp t)
   unfolding fields start otherFields stringFields nameFields templateFields binaryFields objectFields
   by-tag t = at-index
       (next (one number otherHead (λ n s. refl))
-      (next (one (text Wtf8 4096) stringHead (λ x s. refl))
+      (next (one (stringText source sp) stringHead (λ x s. refl))
       (next (one (text Utf8 4096) nameHead (λ x s. refl))
       (next (one number templateHead (λ n s. refl))
       (next (one flag binaryHead (λ plus s. refl))
@@ -131,9 +131,9 @@ node-by-head source (suc d) s = let down : suc d - 1 ≡ d = omega arith in rw d
   where
     by-parts : Splits (rest source d)
         (tag (λ t. ltb t 13) (suc d) >>= λ t. span source >>= λ sp. fields source d (node source d) (attributesObject source d) sp t)
-        (tag (λ t. ltb t 13) (suc d) >>= λ t. span source >>= λ sp. start source d t >>= λ h. return (sp, h))
+        (tag (λ t. ltb t 13) (suc d) >>= λ t. span source >>= λ sp. start source d sp t >>= λ h. return (sp, h))
     by-parts = first (tag (λ t. ltb t 13) (suc d)) λ t. first (span source) λ sp.
-        record { at = λ s. by-tag source d (node source d) (attributesObject source d) sp t .at s ∙ sym (then-then (start source d t s) (λ h. return (sp, h)) (rest source d)) }
+        record { at = λ s. by-tag source d (node source d) (attributesObject source d) sp t .at s ∙ sym (then-then (start source d sp t s) (λ h. return (sp, h)) (rest source d)) }
 
 -- a node's head, and what is read behind it; without a head there is no node
 module _ (source : List ℕ) (levels : ℕ) (u : List ℕ) {v : Node} {t : List ℕ} (e : node source levels u ≡ ok v t) where

@@ -6,6 +6,7 @@ use native.Mathlib.Omega.{arith}
 use lib.ListN.{List·getD-eq-default}
 use Rattle.laws.specs.Decoded.{ok, no, refuse}
 use Rattle.wire.specs.Fields.{byte}
+use Rattle.sheet.specs.declared.fields.Span.{Span}
 use Rattle.heads.specs.Head.{start}
 use Rattle.heads.specs.Parts.{keyHead, propertyHead}
 
@@ -21,9 +22,9 @@ beyond n (suc k) h =
     let other = h .1 in
     omega arith
 
-pub no-start : (source : List ℕ) (levels t : ℕ) (s : List ℕ) → NoneOf t 13 → start source levels t s ≡ no 3
+pub no-start : (source : List ℕ) (levels : ℕ) (sp : Span) (t : ℕ) (s : List ℕ) → NoneOf t 13 → start source levels sp t s ≡ no 3
 unfolding start
-no-start source levels t s h = rw (List·getD-eq-default _ (refuse 3) (beyond t 13 h))
+no-start source levels sp t s h = rw (List·getD-eq-default _ (refuse 3) (beyond t 13 h))
 
 pub no-key : (kind : ℕ) (s : List ℕ) → NoneOf kind 3 → keyHead kind s ≡ no 3
 unfolding keyHead

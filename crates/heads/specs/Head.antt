@@ -7,7 +7,7 @@ use Prim.Native.Nat.{ℕ, _-_}
 use lib.Dec.{ltb}
 use lib.ListN.{getD}
 use Rattle.laws.specs.Decoded.{Decoder, onOk, _>>=_, _>>_, return, refuse, require}
-use Rattle.text.specs.declared.utf8.Encoding.the-variants.{Utf8, Wtf8}
+use Rattle.text.specs.declared.utf8.Encoding.the-variants.{Utf8}
 use Rattle.wire.specs.Fields.{below, flag}
 use Rattle.wire.specs.Number.{number}
 use Rattle.wire.specs.Text.{count, text}
@@ -15,7 +15,7 @@ use Rattle.wire.specs.Optional.{optional}
 use Rattle.sheet.specs.declared.fields.Span.{Span}
 use Rattle.sheet.specs.Tree.{Quoted, Phase}
 use Rattle.sheet.specs.Fields.{span}
-use Rattle.sheet.specs.Nodes.{tag, quoted}
+use Rattle.sheet.specs.Nodes.{tag, stringText, quoted}
 
 -- what the fields say; of 7, 8 and 9 with the flag of the attributes
 pub data Head : Type 0 where
@@ -103,12 +103,12 @@ module _ (source : List ℕ) (levels : ℕ) where
     n ← number
     return (moduleHead x n)
 
-  -- the fields of a head, by the tag
-  unfoldable pub start : ℕ → Decoder Head
-  start t =
+  -- the fields of a head, by the span and the tag
+  unfoldable pub start : Span → ℕ → Decoder Head
+  start sp t =
       getD
       ((λ s. onOk otherHead (number s))
-      ∷ (λ s. onOk stringHead (text Wtf8 4096 s))
+      ∷ (λ s. onOk stringHead (stringText source sp s))
       ∷ (λ s. onOk nameHead (text Utf8 4096 s))
       ∷ (λ s. onOk templateHead (number s))
       ∷ (λ s. onOk binaryHead (flag s))
@@ -122,5 +122,5 @@ unfoldable pub head : List ℕ → ℕ → Decoder (Span × Head)
 head source levels = do
   t ← tag (λ t. ltb t 13) levels
   sp ← span source
-  h ← start source (levels - 1) t
+  h ← start source (levels - 1) sp t
   return (sp, h)

@@ -2,6 +2,7 @@
 use super::quoted::Quoted;
 use super::quoted::QuotedRead;
 use super::quoted::read_quoted;
+use super::quoted::read_string_text;
 use super::quoted::read_tag;
 use sheet::fields::Span;
 use sheet::fields::SpanRead;
@@ -14,10 +15,11 @@ use wire::Text;
 ghost use mathlib.Core.Path.{_≡_};
 ghost use lib.ListN.{length, drop};
 ghost use Rattle.laws.specs.Decoded.{onOk};
-ghost use Rattle.text.specs.declared.utf8.Encoding.the-variants.{Utf8, Wtf8};
+ghost use Rattle.text.specs.declared.utf8.Encoding.the-variants.{Utf8};
 ghost use Rattle.wire.specs.Fields.{flag};
 ghost use Rattle.wire.specs.Number.{number};
 ghost use Rattle.wire.specs.Text.{count, text};
+ghost use Rattle.sheet.specs.Nodes.{stringText};
 ghost use Rattle.heads.specs.Head.{otherHead, stringHead, nameHead, templateHead, binaryHead, objectHead, callStart, origin, importStart, namedExportStart, exportAllStart, importTypeStart, importRequireStart, importEqualsStart, moduleStart, start, head};
 ghost use Rattle.heads.specs.Views.{originAs, fieldsAs, headAs, PastOrigin, PastFields, PastHead};
 
@@ -82,11 +84,11 @@ fn read_other(sheet: &[u8], c: Cursor) -> FieldsRead
     }
 }
 
-fn read_string(sheet: &[u8], c: Cursor) -> FieldsRead
-    ensures { λ r. ⌜ fieldsAs (now (sheet .entry)) r ≡ onOk stringHead (text Wtf8 4096 (drop (c .at) (now (sheet .entry)))) ⌝ }
+fn read_string(sheet: &[u8], source: &[u8], c: Cursor, span: Span) -> FieldsRead
+    ensures { λ r. ⌜ fieldsAs (now (sheet .entry)) r ≡ onOk stringHead (stringText (now (source .entry)) span (drop (c .at) (now (sheet .entry)))) ⌝ }
     ensures { λ r. ⌜ PastFields (c .at) (length (now (sheet .entry))) r ⌝ }
 {
-    match c.text(sheet, Encoding::Wtf8, 4096) {
+    match read_string_text(sheet, source, c, span) {
         Text::Refused(r) => FieldsRead::Refused(r),
         Text::From(start, next) => FieldsRead::Is(Head::String(start, next.at), next),
     }
@@ -291,14 +293,21 @@ fn read_module(sheet: &[u8], source: &[u8], c: Cursor, levels: usize) -> FieldsR
     }
 }
 
-// The fields of a head, by the tag, where so many levels are left below the node.
-fn read_fields(sheet: &[u8], source: &[u8], c: Cursor, levels: usize, tag: usize) -> FieldsRead
-    ensures { λ r. ⌜ fieldsAs (now (sheet .entry)) r ≡ start (now (source .entry)) levels tag (drop (c .at) (now (sheet .entry))) ⌝ }
+// The fields of a head, by the span and the tag, where so many levels are left below the node.
+fn read_fields(
+    sheet: &[u8],
+    source: &[u8],
+    c: Cursor,
+    levels: usize,
+    span: Span,
+    tag: usize,
+) -> FieldsRead
+    ensures { λ r. ⌜ fieldsAs (now (sheet .entry)) r ≡ start (now (source .entry)) levels span tag (drop (c .at) (now (sheet .entry))) ⌝ }
     ensures { λ r. ⌜ PastFields (c .at) (length (now (sheet .entry))) r ⌝ }
 {
     match tag {
         0 => read_other(sheet, c),
-        1 => read_string(sheet, c),
+        1 => read_string(sheet, source, c, span),
         2 => read_name(sheet, c),
         3 => read_template(sheet, c),
         4 => read_binary(sheet, c),
@@ -324,7 +333,7 @@ pub fn read_head(sheet: &[u8], source: &[u8], c: Cursor, levels: usize) -> HeadR
         Read::Value(tag, next) => match read_span(sheet, source, next) {
             SpanRead::Refused(r) => HeadRead::Refused(r),
             SpanRead::Is(span, next) => {
-                match read_fields(sheet, source, next, levels - 1, tag) {
+                match read_fields(sheet, source, next, levels - 1, span, tag) {
                     FieldsRead::Refused(r) => HeadRead::Refused(r),
                     FieldsRead::Is(fields, next) => HeadRead::Is(span, fields, next),
                 }

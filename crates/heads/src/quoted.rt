@@ -11,8 +11,8 @@ ghost use mathlib.Core.List.{List};
 ghost use Prim.Native.Nat.{ℕ, _≤_, _<_};
 ghost use lib.Dec.{eqb, ltb};
 ghost use lib.ListN.{length, drop};
-ghost use Rattle.wire.specs.Views.{readAs};
-ghost use Rattle.sheet.specs.Nodes.{tag, quoted};
+ghost use Rattle.wire.specs.Views.{readAs, textAs, PastText};
+ghost use Rattle.sheet.specs.Nodes.{tag, stringText, quoted};
 ghost use Rattle.heads.specs.Head.{judgeTag};
 ghost use Rattle.heads.specs.Views.{quotedAs, PastTag, PastQuoted};
 
@@ -65,6 +65,14 @@ pub fn read_tag_of(sheet: &[u8], c: Cursor, wanted: usize, levels: usize) -> Rea
     }
 }
 
+// The text of a String whose span was read.
+pub fn read_string_text(sheet: &[u8], source: &[u8], c: Cursor, span: Span) -> Text
+    ensures { λ r. ⌜ textAs (now (sheet .entry)) r ≡ stringText (now (source .entry)) span (drop (c .at) (now (sheet .entry))) ⌝ }
+    ensures { λ r. ⌜ PastText (c .at) (length (now (sheet .entry))) r ⌝ }
+{
+    c.text(sheet, Encoding::Wtf8, 4096)
+}
+
 // A String, with so many levels left, its own among them.
 pub fn read_quoted(sheet: &[u8], source: &[u8], c: Cursor, levels: usize) -> QuotedRead
     ensures { λ r. ⌜ quotedAs (now (sheet .entry)) r ≡ quoted (now (source .entry)) levels (drop (c .at) (now (sheet .entry))) ⌝ }
@@ -74,7 +82,7 @@ pub fn read_quoted(sheet: &[u8], source: &[u8], c: Cursor, levels: usize) -> Quo
         Read::Refused(r) => QuotedRead::Refused(r),
         Read::Value(_, next) => match read_span(sheet, source, next) {
             SpanRead::Refused(r) => QuotedRead::Refused(r),
-            SpanRead::Is(span, next) => match next.text(sheet, Encoding::Wtf8, 4096) {
+            SpanRead::Is(span, next) => match read_string_text(sheet, source, next, span) {
                 Text::Refused(r) => QuotedRead::Refused(r),
                 Text::From(start, next) => QuotedRead::Is(
                     Quoted {

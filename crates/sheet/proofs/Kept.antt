@@ -16,7 +16,7 @@ use Rattle.sheet.specs.Tree.{Quoted, Pieces, Node, Nodes, Arguments, Pro
 use Rattle.sheet.specs.Fields.{position, endFrom, span}
 use Rattle.sheet.specs.Comments.{slice, marked, chained, comment, group, anywhere, covered}
 use Rattle.sheet.specs.Program.{Program, program}
-use Rattle.sheet.specs.Nodes.{many, tag, quoted, piece, nodes, argumentItem, arguments, keyedItem, propertyItem, properties, attributes, otherFields, stringFields, nameFields, templateFields, binaryFields, objectFields, callRest, callFields, importFields, namedExportFields, exportAllFields, importTypeFields, importEqualsFields, moduleFields, fields, node, attributesObject}
+use Rattle.sheet.specs.Nodes.{many, tag, stringText, quoted, piece, nodes, argumentItem, arguments, keyedItem, propertyItem, properties, attributes, otherFields, stringFields, nameFields, templateFields, binaryFields, objectFields, callRest, callFields, importFields, namedExportFields, exportAllFields, importTypeFields, importEqualsFields, moduleFields, fields, node, attributesObject}
 use Rattle.sheet.specs.Sheet.{Sheet, sheet}
 
 module _ {P : (A : Type 0) → Decoder A → Type 0} (h : OfFields P) where
@@ -69,9 +69,13 @@ module _ {P : (A : Type 0) → Decoder A → Type 0} (h : OfFields P) where
   unfolding tag
   tag-kept allowed levels = then a-byte (λ t. test kept (allowed t) three (test kept (ltb 0 levels) four (ends t)))
 
+  string-text-kept : (source : List ℕ) (sp : Span) → P (List ℕ) (stringText source sp)
+  unfolding stringText
+  string-text-kept source sp = text-kept h Wtf8 4096
+
   quoted-kept : (source : List ℕ) (levels : ℕ) → P Quoted (quoted source levels)
   unfolding quoted
-  quoted-kept source levels = then (tag-kept (eqb 1) levels) (λ t. then (span-kept source) (λ sp. then (text-kept h Wtf8 4096) (λ x. ends _)))
+  quoted-kept source levels = then (tag-kept (eqb 1) levels) (λ t. then (span-kept source) (λ sp. then (string-text-kept source sp) (λ x. ends _)))
 
   piece-kept : P (Pieces → Pieces) piece
   unfolding piece
@@ -119,7 +123,7 @@ module _ {P : (A : Type 0) → Decoder A → Type 0} (h : OfFields P) where
         let flag-first = flag-kept h in
         at-index kept
         (next (then a-number (λ n. then (nodes-kept p n) (λ ns. ends _)))
-        (next (then (text-kept h Wtf8 4096) (λ x. ends _))
+        (next (then (string-text-kept source sp) (λ x. ends _))
         (next (then (text-kept h Utf8 4096) (λ x. ends _))
         (next (then a-number (λ n. then (many-kept [] piece-kept (n + 1)) (λ ps. then (nodes-kept p n) (λ ns. ends _))))
         (next (then flag-first (λ plus. then p (λ l. then p (λ r. ends _))))

@@ -27,12 +27,16 @@ tag allowed levels = do
   require (ltb 0 levels) 4
   return t
 
+-- the text of a String whose span is read
+unfoldable pub stringText : List ℕ → Span → Decoder (List ℕ)
+stringText source sp = text Wtf8 4096
+
 -- a String, with so many levels left, its own among them
 unfoldable pub quoted : List ℕ → ℕ → Decoder Quoted
 quoted source levels = do
   tag (eqb 1) levels
   sp ← span source
-  x ← text Wtf8 4096
+  x ← stringText source sp
   return (record { span = sp; text = x })
 
 -- a piece of a template: a flag, and its text if it is cooked
@@ -99,7 +103,7 @@ module _ (source : List ℕ) (levels : ℕ) (node : Decoder Node) (object′ : D
 
   unfoldable pub stringFields : Decoder Node
   stringFields = do
-    x ← text Wtf8 4096
+    x ← stringText source sp
     return (string sp x)
 
   unfoldable pub nameFields : Decoder Node

@@ -25,7 +25,7 @@ use Rattle.sheet_codec.proofs.Tags.{ObjectCodec, fields-sound, fields-c
 level : (source : List ℕ) (levels : ℕ) (n : Node) → NodeFits source n levels → 0 < levels
 unfolding NodeFits
 level source levels (other sp ns) v = v .0 .deep
-level source levels (string sp x) v = v .0 .deep
+level source levels (string sp x) v = v .place .deep
 level source levels (name sp x) v = v .0 .deep
 level source levels (template sp ps ns) v = v .0 .deep
 level source levels (binary sp plus l r) v = v .0 .deep

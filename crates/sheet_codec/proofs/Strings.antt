@@ -16,7 +16,8 @@ use Rattle.text.specs.declared.utf8.Encoding.the-variants.{Wtf8}
 use Rattle.wire.specs.Number.{largest}
 use Rattle.wire.specs.Text.{text, encodeText}
 use Rattle.wire.proofs.TextCodec.{byte-codec, text-codec}
-use Rattle.sheet.specs.Nodes.{tag, quoted}
+use Rattle.sheet.specs.declared.fields.Span.{Span}
+use Rattle.sheet.specs.Nodes.{tag, stringText, quoted}
 use Rattle.sheet_codec.specs.Encode.{encodeQuoted}
 use Rattle.sheet_codec.specs.Limits.{TextFits, QuotedFits}
 use Rattle.sheet_codec.proofs.Parts.{span-codec}
@@ -45,10 +46,15 @@ module _ {A B : Type 0} {d : Decoder B} {build : A → B} {encode : A → List �
 pub short-text : (e : Encoding) → Codec (text e 4096) encodeText (TextFits e 4096)
 short-text e = text-codec e 4096 (omega arith)
 
+-- of a String
+pub string-text : (source : List ℕ) (sp : Span) → Codec (stringText source sp) encodeText (TextFits Wtf8 4096)
+unfolding stringText
+string-text source sp = short-text Wtf8
+
 module _ (source : List ℕ) (small : length source ≤ largest) (levels : ℕ) where
   pub quoted-codec : Codec (quoted source levels) encodeQuoted (QuotedFits source levels)
   unfolding quoted
   quoted-codec =
-      codec-of (built-tag 1 levels (built-then (span-codec source small) (λ sp. built-end (short-text Wtf8) (λ x. record { span = sp; text = x }))))
+      codec-of (built-tag 1 levels (built-then (span-codec source small) (λ sp. built-end (string-text source sp) (λ x. record { span = sp; text = x }))))
       (λ q v. ((q .span, q .text), refl, (v .place .deep, (v .place .span, v .text))))
       (λ p v. (refl, record { place = record { deep = v .0; span = v .1 .0 }; text = v .1 .1 }))

@@ -26,7 +26,7 @@ use Rattle.sheet.specs.Fields.{encodeSpan}
 use Rattle.sheet_codec.specs.Encode.{nodesIn, argumentsIn, propertiesIn, encodeNode, encodeNodes, encodeArguments, encodeProperties, encodeAttributes}
 use Rattle.sheet_codec.specs.Limits.{TextFits, SpanFits, PlaceFits, NodeFits, NodesFit, ArgumentsFit, AttributesFit}
 use Rattle.sheet_codec.proofs.Building.{built-below, limit-codec, built-counted, built-counted-end, done, next, at-index}
-use Rattle.sheet_codec.proofs.Strings.{short-text, quoted-codec}
+use Rattle.sheet_codec.proofs.Strings.{short-text, string-text, quoted-codec}
 use Rattle.sheet_codec.proofs.Trees.{pieces-codec, nodes-codec, arguments-codec, properties-codec}
 
 -- a decoder of the fields behind a tag and a span, and the nodes that it builds
@@ -80,7 +80,7 @@ module _ (source : List ℕ) (small : length source ≤ largest) (d : ℕ) (node
 
       string-fields : Fields 1 (stringFields source d node object′ sp) (string sp)
       unfolding stringFields encodeNode NodeFits
-      string-fields = tagged 1 (built-end (short-text Wtf8) (string sp)) (λ a. (refl, λ v. v, λ v. v))
+      string-fields = tagged 1 (built-end (string-text source sp) (string sp)) (λ a. (refl, λ v. (v .place, v .text), λ v. record { place = v .0; text = v .1 }))
 
       name-fields : Fields 2 (nameFields source d node object′ sp) (name sp)
       unfolding nameFields encodeNode NodeFits

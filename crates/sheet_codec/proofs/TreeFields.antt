@@ -15,7 +15,7 @@ use Rattle.text.specs.declared.utf8.Encoding.the-variants.{Utf8, Wtf8}
 use Rattle.wire.specs.Fields.{byte, below, flag}
 use Rattle.sheet.specs.declared.fields.Span.{Span}
 use Rattle.sheet.specs.Tree.{Node, other, string, name, template, binary, object, importCall, call, importDecl, namedExport, exportFrom, exportAll, importType, importEquals, importRequire, moduleDecl, Nodes, none, more, Arguments, argument, Properties, noProperties, spread, otherProperty, childKey, stringKey, nameKey, Attributes, without, withObject}
-use Rattle.sheet.specs.Nodes.{many, tag, quoted, piece, nodes, argumentItem, arguments, keyedItem, propertyItem, properties, attributes, otherFields, stringFields, nameFields, templateFields, binaryFields, objectFields, callRest, callFields, importFields, namedExportFields, exportAllFields, importTypeFields, importEqualsFields, moduleFields, fields, node, attributesObject}
+use Rattle.sheet.specs.Nodes.{many, tag, stringText, quoted, piece, nodes, argumentItem, arguments, keyedItem, propertyItem, properties, attributes, otherFields, stringFields, nameFields, templateFields, binaryFields, objectFields, callRest, callFields, importFields, namedExportFields, exportAllFields, importTypeFields, importEqualsFields, moduleFields, fields, node, attributesObject}
 use Rattle.sheet_codec.specs.Encode.{nodesIn, argumentsIn, propertiesIn}
 use Rattle.sheet_codec.specs.Field as field
 use Rattle.sheet_codec.specs.Field.{Byte, values, textLength, anyNode, anObject, Entry}
@@ -53,10 +53,14 @@ chosen {Has = Has} {ds = ds} b each long =
     same (by-byte ds (values b) long) (then (byte-field b) (λ i l. at-index (λ i d. Judges d (λ x m. Has x (aByte b i ∷ m))) (refuse 3) each i (rw long l)))
 
 module _ (source : List ℕ) where
+  string-text-fields : (sp : Span) → FieldsOf (stringText source sp) Any (shortText Wtf8)
+  unfolding stringText
+  string-text-fields sp = text-fields textLength Wtf8
+
   quoted-fields : (levels : ℕ) → FieldsOf (quoted source levels) Any (quotedFields source levels)
   unfolding quoted
   quoted-fields levels =
-      then (string-tag levels) (λ t e. then (span-fields source) (λ sp a. last (λ x. record { span = sp; text = x }) (text-fields textLength Wtf8) (λ x b. (tt, rw e))))
+      then (string-tag levels) (λ t e. then (span-fields source) (λ sp a. last (λ x. record { span = sp; text = x }) (string-text-fields sp) (λ x b. (tt, rw e))))
 
   pieces-fields : (n : ℕ) → FieldsOf (many [] piece n) (λ ps. length ps ≡ n) (flatMap (optionalFields (shortText Wtf8)))
   unfolding piece flatMap
@@ -160,7 +164,7 @@ module _ (source : List ℕ) where
       unfolding fields otherFields stringFields nameFields templateFields binaryFields objectFields importFields exportAllFields importTypeFields moduleFields nodeFields
       tag-fields = at-index (λ t. Behind t []) (refuse 3)
           (next (then free-field (λ n a. last (λ ns. other sp ns) (nodes-fields n) (λ ns e. (tt, rw e))))
-          (next (last (λ x. string sp x) (text-fields textLength Wtf8) (λ x a. (tt, refl)))
+          (next (last (λ x. string sp x) (string-text-fields sp) (λ x a. (tt, refl)))
           (next (last (λ x. name sp x) (text-fields textLength Utf8) (λ x a. (tt, refl)))
           (next (then free-field (λ n a. then (pieces-fields (n + 1)) (λ ps b. last (λ ns. template sp ps ns) (nodes-fields n) (λ ns e. (tt, rw e)))))
           (next (then flag-field (λ plus a. then k (λ l b. last (λ r. binary sp plus l r) k (λ r c. (tt, refl)))))

@@ -77,15 +77,19 @@ module _ (source : List ℕ) where
   programFields p =
       aFlag (p .script) ∷ (spanFields (p .span) ++ (aFlag (p .shebang) ∷ optionalFields (λ first. aNumber (position source start) first ∷ []) (p .first)))
 
-  -- a String, where so many levels are left
+  -- a String behind its tag: start, end, text
+  abbrev pub stringFields : Span → List ℕ → List Entry
+  stringFields sp x = spanFields sp ++ shortText Wtf8 x
+
+  -- one that another node holds, where so many levels are left
   abbrev pub quotedFields : ℕ → Quoted → List Entry
-  quotedFields levels q = aTag aString levels 1 ∷ (spanFields (q .span) ++ shortText Wtf8 (q .text))
+  quotedFields levels q = aTag aString levels 1 ∷ stringFields (q .span) (q .text)
 
   -- a node: a tag byte, start, end, then its fields
   unfoldable mutual
     pub nodeFields : Node → ℕ → List Entry
     nodeFields (other sp ns) levels = aTag anyNode levels 0 ∷ (spanFields sp ++ (aNumber free (nodesIn ns) ∷ nodesFields ns (under levels)))
-    nodeFields (string sp x) levels = aTag anyNode levels 1 ∷ (spanFields sp ++ shortText Wtf8 x)
+    nodeFields (string sp x) levels = aTag anyNode levels 1 ∷ stringFields sp x
     nodeFields (name sp x) levels = aTag anyNode levels 2 ∷ (spanFields sp ++ shortText Utf8 x)
     nodeFields (template sp ps ns) levels =
         aTag anyNode levels 3

@@ -42,15 +42,19 @@ under zero = zero
 under (suc d) = d
 
 -- a String: WTF-8 of at most 4,096 bytes
-pub record QuotedFits (source : List ℕ) (levels : ℕ) (q : Quoted) : Type 0 where
-  pub place : PlaceFits source levels (q .span)
-  pub text : TextFits Wtf8 4096 (q .text)
+pub record StringFits (source : List ℕ) (levels : ℕ) (sp : Span) (x : List ℕ) : Type 0 where
+  pub place : PlaceFits source levels sp
+  pub text : TextFits Wtf8 4096 x
+
+-- one that another node holds
+abbrev pub QuotedFits : List ℕ → ℕ → Quoted → Type 0
+QuotedFits source levels q = StringFits source levels (q .span) (q .text)
 
 -- a node with so many levels left, its own among them; each count is at most 4,294,967,295, a phase below 3
 unfoldable mutual
   pub NodeFits : List ℕ → Node → ℕ → Type 0
   NodeFits source (other sp ns) levels = PlaceFits source levels sp × ((nodesIn ns ≤ largest) × NodesFit source ns (under levels))
-  NodeFits source (string sp x) levels = PlaceFits source levels sp × TextFits Wtf8 4096 x
+  NodeFits source (string sp x) levels = StringFits source levels sp x
   NodeFits source (name sp x) levels = PlaceFits source levels sp × TextFits Utf8 4096 x
   NodeFits source (template sp ps ns) levels =
       PlaceFits source levels sp

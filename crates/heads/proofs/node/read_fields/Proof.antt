@@ -62,7 +62,7 @@ returns-13 c = (rw (c .before .match .keys13) (c .read-module .ensures .0), c .r
 returns-14 : tie.Need-returns-14
 returns-14 c =
     let a = c .before .before .before .args in
-    (sym (no-start (now (a .source)) (a .levels) (a .tag) (drop (a .c .at) (now (a .sheet))) (c .match .rest)), tt)
+    (sym (no-start (now (a .source)) (a .levels) (a .span) (a .tag) (drop (a .c .at) (now (a .sheet))) (c .match .rest)), tt)
 
 pub read-fields-spec : {M : Type 1} → statement M
 read-fields-spec =

@@ -7,14 +7,14 @@ use Rattle.heads.proofs.node.read_string.Tie as tie
 
 returns : tie.Need-returns
 returns c =
-    let s = now (c .before .before .before .before .before .args .sheet) in
-    (rw (seen (textAs s) (c .before .before .before .text .ensures .0) (c .before .r .given .1)), tt)
+    let s = now (c .before .before .before .before .before .before .args .sheet) in
+    (rw (seen (textAs s) (c .before .before .before .read-string-text .ensures .0) (c .before .r .given .1)), tt)
 
 returns-2 : tie.Need-returns-2
 returns-2 c =
-    let s = now (c .before .before .before .before .before .args .sheet) in
-    let p1 = rw (c .before .start .given .1) at (c .before .before .before .text .ensures .1) in
-    (rw (seen (textAs s) (c .before .before .before .text .ensures .0) (c .before .start .given .1)), search needs)
+    let s = now (c .before .before .before .before .before .before .args .sheet) in
+    let p1 = rw (c .before .start .given .1) at (c .before .before .before .read-string-text .ensures .1) in
+    (rw (seen (textAs s) (c .before .before .before .read-string-text .ensures .0) (c .before .start .given .1)), search needs)
 
 pub read-string-spec : {M : Type 1} → statement M
 read-string-spec =

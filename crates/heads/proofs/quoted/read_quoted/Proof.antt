@@ -23,7 +23,7 @@ returns-3 : tie.Need-returns-3
 unfolding quoted
 returns-3 c =
     let s = now (c .before .before .before .before .before .before .before .before .before .before .before .before .before .before .args .sheet) in
-    (rw (seen (readAs s) (c .before .before .before .before .before .before .before .before .before .before .before .read-tag-of .ensures .0) (c .before .before .before .before .before .before .before .before .before .next .given .1), seen (spanAs s) (c .before .before .before .before .before .before .before .read-span .ensures .0) (c .before .before .before .before .before .span .given .1), seen (textAs s) (c .before .before .before .text .ensures .0) (c .before .r3 .given .1)), tt)
+    (rw (seen (readAs s) (c .before .before .before .before .before .before .before .before .before .before .before .read-tag-of .ensures .0) (c .before .before .before .before .before .before .before .before .before .next .given .1), seen (spanAs s) (c .before .before .before .before .before .before .before .read-span .ensures .0) (c .before .before .before .before .before .span .given .1), seen (textAs s) (c .before .before .before .read-string-text .ensures .0) (c .before .r3 .given .1)), tt)
 
 returns-4 : tie.Need-returns-4
 unfolding quoted
@@ -31,8 +31,8 @@ returns-4 c =
     let s = now (c .before .before .before .before .before .before .before .before .before .before .before .before .before .before .args .sheet) in
     let p1 = rw (c .before .before .before .before .before .before .before .before .before .next .given .1) at (c .before .before .before .before .before .before .before .before .before .before .before .read-tag-of .ensures .1) in
     let p2 = rw (c .before .before .before .before .before .span .given .1) at (c .before .before .before .before .before .before .before .read-span .ensures .1) in
-    let p3 = rw (c .before .start .given .1) at (c .before .before .before .text .ensures .1) in
-    (rw (seen (readAs s) (c .before .before .before .before .before .before .before .before .before .before .before .read-tag-of .ensures .0) (c .before .before .before .before .before .before .before .before .before .next .given .1), seen (spanAs s) (c .before .before .before .before .before .before .before .read-span .ensures .0) (c .before .before .before .before .before .span .given .1), seen (textAs s) (c .before .before .before .text .ensures .0) (c .before .start .given .1)), search needs)
+    let p3 = rw (c .before .start .given .1) at (c .before .before .before .read-string-text .ensures .1) in
+    (rw (seen (readAs s) (c .before .before .before .before .before .before .before .before .before .before .before .read-tag-of .ensures .0) (c .before .before .before .before .before .before .before .before .before .next .given .1), seen (spanAs s) (c .before .before .before .before .before .before .before .read-span .ensures .0) (c .before .before .before .before .before .span .given .1), seen (textAs s) (c .before .before .before .read-string-text .ensures .0) (c .before .start .given .1)), search needs)
 
 pub read-quoted-spec : {M : Type 1} → statement M
 read-quoted-spec =

@@ -6,6 +6,7 @@ use Rattle.laws.specs.Decoded.{ok, andThen, Decoder, _>>=_, return}
 use Rattle.laws.proofs.Decoding.{value, then-ok, then-then}
 use Rattle.wire.specs.Text.{count}
 use Rattle.wire.proofs.TextCodec.{count-codec}
+use Rattle.sheet.specs.Limits.{commentLimit}
 use Rattle.sheet.specs.declared.comments.Comment.{Comment}
 use Rattle.sheet.specs.Comments.{comments}
 use Rattle.sheet.specs.Program.{Program}
@@ -28,9 +29,9 @@ unfolding accept decodeSheet sheet front sourceFields commentFields groupFields 
 accept-by-pieces s = simp then-then
 
 -- there are at most 1,024 comments
-pub few-comments : (source s : List ℕ) {p : ℕ × List Comment} {t : List ℕ} → commentFields source s ≡ ok p t → p .0 ≤ 1024
+pub few-comments : (source s : List ℕ) {p : ℕ × List Comment} {t : List ℕ} → commentFields source s ≡ ok p t → p .0 ≤ commentLimit
 unfolding commentFields
 few-comments source s e =
-    let (n, u, a, e) = then-ok (count 1024 s) _ e in
+    let (n, u, a, e) = then-ok (count commentLimit s) _ e in
     let (cs, v, b, e) = then-ok (comments source 0 n u) _ e in
-    rw (← value e) (count-codec 1024 .sound s n u a .1 .0)
+    rw (← value e) (count-codec commentLimit .sound s n u a .1 .0)

@@ -6,6 +6,7 @@ use Prim.Native.Nat.{ℕ}
 use lib.ListN.{drop}
 use Rattle.laws.specs.Decoded.{ok, no, onOk}
 use Rattle.laws.proofs.Decoding.{onOk-ok, onOk-no}
+use Rattle.sheet.specs.Limits.{depthLimit}
 use Rattle.sheet.specs.Program.{Program, program}
 use Rattle.sheet.specs.Nodes.{node}
 use Rattle.sheet.specs.Views.{programOf}
@@ -16,27 +17,27 @@ use Rattle.accept.specs.Pieces.{tree}
 use Rattle.accept.specs.Views.{Stands}
 
 module _ (source s : List ℕ) {p : Program} {t : List ℕ} (before : program source s ≡ ok p t) where
-  pub root-refused : {r : ℕ} → onOk judged (node source 64 t) ≡ no r → tree source s ≡ no r
+  pub root-refused : {r : ℕ} → onOk judged (node source depthLimit t) ≡ no r → tree source s ≡ no r
   unfolding tree
-  root-refused e = rw (before, onOk-no judged (node source 64 t) e)
+  root-refused e = rw (before, onOk-no judged (node source depthLimit t) e)
 
-  pub bytes-follow : {j : Judged} {b : ℕ} {u : List ℕ} → onOk judged (node source 64 t) ≡ ok j (b ∷ u) → tree source s ≡ no 8
+  pub bytes-follow : {j : Judged} {b : ℕ} {u : List ℕ} → onOk judged (node source depthLimit t) ≡ ok j (b ∷ u) → tree source s ≡ no 8
   unfolding tree
   bytes-follow e =
-      let (root, stands, found) = onOk-ok judged (node source 64 t) e in
+      let (root, stands, found) = onOk-ok judged (node source depthLimit t) e in
       rw (before, stands)
 
-  pub root-uncooked : {j : Judged} → onOk judged (node source 64 t) ≡ ok j [] → j .uncooked ≡ true → tree source s ≡ no 9
+  pub root-uncooked : {j : Judged} → onOk judged (node source depthLimit t) ≡ ok j [] → j .uncooked ≡ true → tree source s ≡ no 9
   unfolding tree
   root-uncooked e h =
-      let (root, stands, found) = onOk-ok judged (node source 64 t) e in
+      let (root, stands, found) = onOk-ok judged (node source depthLimit t) e in
       rw (before, stands, ap (λ j. j .uncooked) found ∙ h)
 
 -- the root ends the sheet, and no call in it meets refusal 9
 pub tree-stands : (s source : List ℕ) (at : ℕ) (x : Tree) {j : Judged} → program source (drop at s) ≡ ok (programOf (x .program)) (drop (x .root) s)
-    → onOk judged (node source 64 (drop (x .root) s)) ≡ ok j [] → j .uncooked ≡ false → j .entries ≡ x .entries → Stands s source at x
+    → onOk judged (node source depthLimit (drop (x .root) s)) ≡ ok j [] → j .uncooked ≡ false → j .entries ≡ x .entries → Stands s source at x
 tree-stands s source at x before e h gives =
-    let (root, stands, found) = onOk-ok judged (node source 64 (drop (x .root) s)) e in
+    let (root, stands, found) = onOk-ok judged (node source depthLimit (drop (x .root) s)) e in
     record {
       root = root;
       before = before;

@@ -5,6 +5,7 @@ use Prim.Native.Nat.{ℕ, _≤_}
 use lib.ListN.{length, drop}
 use Rattle.laws.specs.Decoded.{ok, no}
 use Rattle.text.specs.Bytes.{part}
+use Rattle.sheet.specs.Limits.{depthLimit}
 use Rattle.sheet.specs.Tables.{commentsIn, groupsIn}
 use Rattle.sheet.specs.Nodes.{node}
 use Rattle.sheet.specs.Walked.{entries}
@@ -24,7 +25,7 @@ pub record Accepts (s commentTable groupTable : List ℕ) (p : Parts) : Type 0 w
   pub comments : commentsIn commentTable (p .comments) ≡ sheet .comments
   pub groups : groupsIn groupTable (p .groups) ≡ sheet .groups
   pub program : programOf (p .program) ≡ sheet .program
-  pub root : node (sheet .source) 64 (drop (p .root) s) ≡ ok (sheet .root) []
+  pub root : node (sheet .source) depthLimit (drop (p .root) s) ≡ ok (sheet .root) []
   pub entries : entries (sheet .root) ≡ p .entries
 
 -- what the answer says of a sheet, with what the tables hold

@@ -6,6 +6,7 @@ use Rattle.laws.specs.Decoded.{Decoder, _>>=_, _>>_, return, require}
 use Rattle.text.specs.declared.utf8.Encoding.the-variants.{Utf8}
 use Rattle.wire.specs.Fields.{below}
 use Rattle.wire.specs.Text.{count, text}
+use Rattle.sheet.specs.Limits.{sourceLimit, commentLimit, groupLimit, depthLimit}
 use Rattle.sheet.specs.declared.comments.Comment.{Comment}
 use Rattle.sheet.specs.declared.groups.Group.{Group}
 use Rattle.sheet.specs.Tree.{Node}
@@ -19,20 +20,20 @@ use Rattle.sheet.specs.Sheet.{ending}
 unfoldable pub sourceFields : Decoder (ℕ × List ℕ)
 sourceFields = do
   media ← below 11
-  source ← text Utf8 32768
+  source ← text Utf8 sourceLimit
   return (media, source)
 
 -- how many comments, and the comments
 unfoldable pub commentFields : List ℕ → Decoder (ℕ × List Comment)
 commentFields source = do
-  n ← count 1024
+  n ← count commentLimit
   cs ← comments source 0 n
   return (n, cs)
 
 -- the groups of n comments, with refusal 7 where one of these is in none
 unfoldable pub groupFields : List ℕ → ℕ → Decoder (List Group)
 groupFields source n = do
-  m ← count 1024
+  m ← count groupLimit
   gs ← groups source n anywhere m
   require (covered gs n) 7
   return gs
@@ -55,7 +56,7 @@ front = do
 unfoldable pub tree : List ℕ → Decoder (Program × Node)
 tree source = do
   p ← program source
-  root ← node source 64
+  root ← node source depthLimit
   ending
   require (not (uncooked root)) 9
   return (p, root)

@@ -6,6 +6,7 @@ use Prim.Native.Nat.{ℕ, _≤_}
 use lib.ListN.{drop}
 use Rattle.laws.specs.Decoded.{Decoded, ok, no}
 use Rattle.text.specs.Bytes.{part}
+use Rattle.sheet.specs.Limits.{depthLimit}
 use Rattle.sheet.specs.declared.comments.Comment.{Comment}
 use Rattle.sheet.specs.declared.groups.Group.{Group}
 use Rattle.sheet.specs.Tree.{Node}
@@ -65,7 +66,7 @@ WithinFront n (frontRead.Refused r) = Unit {0}
 pub record Stands (s source : List ℕ) (at : ℕ) (t : Tree) : Type 0 where
   pub root : Node
   pub before : program source (drop at s) ≡ ok (programOf (t .program)) (drop (t .root) s)
-  pub stands : node source 64 (drop (t .root) s) ≡ ok root []
+  pub stands : node source depthLimit (drop (t .root) s) ≡ ok root []
   pub cooked : uncooked root ≡ false
   pub gives : entries root ≡ t .entries
 

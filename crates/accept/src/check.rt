@@ -3,6 +3,10 @@ use super::front::FrontRead;
 use super::front::read_front;
 use super::tree::TreeRead;
 use super::tree::check_tree;
+use sheet::limits::COMMENT_LIMIT;
+use sheet::limits::COMMENT_NUMBERS;
+use sheet::limits::GROUP_NUMBERS;
+use sheet::limits::SHEET_LIMIT;
 use sheet::program::Program;
 ghost use Rattle.laws.specs.Left.{Free};
 ghost use Rattle.accept.specs.Accepts.{Judges};
@@ -29,9 +33,9 @@ pub enum SheetChecked {
 // sheet, and after a refusal all rows.
 pub fn check_sheet(
     sheet: &[u8],
-    comments: &mut [u32; 3072],
-    groups: &mut [u32; 4096],
-    longest: &mut [u32; 1024],
+    comments: &mut [u32; COMMENT_NUMBERS],
+    groups: &mut [u32; GROUP_NUMBERS],
+    longest: &mut [u32; COMMENT_LIMIT],
 ) -> SheetChecked
     ensures { λ r. ⌜ Judges (now (sheet .entry)) (now (comments .exit)) (now (groups .exit)) r ⌝ }
     ensures { λ _. ⌜ Free (now (comments .entry)) (now (comments .exit))
@@ -41,7 +45,7 @@ pub fn check_sheet(
     if sheet.len() == 0 {
         return SheetChecked::Refused(1);
     }
-    if 65536 < sheet.len() {
+    if SHEET_LIMIT < sheet.len() {
         return SheetChecked::Refused(1);
     }
     match read_front(sheet, comments, groups, longest) {

@@ -3,6 +3,9 @@ use sheet::comments::Filled;
 use sheet::comments::read_comments;
 use sheet::covering::is_covered;
 use sheet::groups::read_groups;
+use sheet::limits::COMMENT_LIMIT;
+use sheet::limits::GROUP_LIMIT;
+use sheet::limits::SOURCE_LIMIT;
 use text::utf8::Encoding;
 use wire::Cursor;
 use wire::Read;
@@ -11,6 +14,7 @@ ghost use mathlib.Core.Path.{_≡_};
 ghost use Prim.Native.Nat.{_≤_};
 ghost use lib.ListN.{length, drop};
 ghost use Rattle.laws.specs.Left.{Free};
+ghost use Rattle.sheet.specs.Limits.{commentLimit, commentNumbers, groupNumbers};
 ghost use Rattle.accept.specs.Pieces.{sourceFields, commentFields, groupFields, front};
 ghost use Rattle.accept.specs.Views.{sourceAs, commentTableAs, groupTableAs, frontAs, WithinSource, WithinFront};
 
@@ -49,7 +53,7 @@ fn read_source(sheet: &[u8]) -> SourceRead
     let c = Cursor { at: 0 };
     match c.below(sheet, 11) {
         Read::Refused(r) => SourceRead::Refused(r),
-        Read::Value(media, next) => match next.text(sheet, Encoding::Utf8, 32768) {
+        Read::Value(media, next) => match next.text(sheet, Encoding::Utf8, SOURCE_LIMIT) {
             Text::Refused(r) => SourceRead::Refused(r),
             Text::From(start, next) => SourceRead::Is(media, start, next),
         },
@@ -58,11 +62,11 @@ fn read_source(sheet: &[u8]) -> SourceRead
 
 // Reads the comments into a table.
 fn read_comment_table(sheet: &[u8], source: &[u8], c: Cursor, table: &mut [u32]) -> Counted
-    requires { ⌜ 3072 ≤ length (now table) ⌝ }
+    requires { ⌜ commentNumbers ≤ length (now table) ⌝ }
     ensures { λ r. ⌜ commentTableAs (now (sheet .entry)) (now (table .exit)) r
         ≡ commentFields (now (source .entry)) (drop (c .at) (now (sheet .entry))) ⌝ }
 {
-    match c.count(sheet, 1024) {
+    match c.count(sheet, COMMENT_LIMIT) {
         Read::Refused(r) => Counted::Refused(r),
         Read::Value(n, next) => match read_comments(sheet, source, next, n, table) {
             Filled::Refused(r) => Counted::Refused(r),
@@ -80,12 +84,12 @@ fn read_group_table(
     table: &mut [u32],
     longest: &mut [u32],
 ) -> Counted
-    requires { ⌜ 4096 ≤ length (now table) ⌝ }
+    requires { ⌜ groupNumbers ≤ length (now table) ⌝ }
     requires { ⌜ n ≤ length (now longest) ⌝ }
     ensures { λ r. ⌜ groupTableAs (now (sheet .entry)) (now (table .exit)) r
         ≡ groupFields (now (source .entry)) n (drop (c .at) (now (sheet .entry))) ⌝ }
 {
-    match c.count(sheet, 1024) {
+    match c.count(sheet, GROUP_LIMIT) {
         Read::Refused(r) => Counted::Refused(r),
         Read::Value(m, next) => match read_groups(sheet, source, next, n, m, table) {
             Filled::Refused(r) => Counted::Refused(r),
@@ -107,9 +111,9 @@ pub fn read_front(
     groups: &mut [u32],
     longest: &mut [u32],
 ) -> FrontRead
-    requires { ⌜ 3072 ≤ length (now comments) ⌝ }
-    requires { ⌜ 4096 ≤ length (now groups) ⌝ }
-    requires { ⌜ 1024 ≤ length (now longest) ⌝ }
+    requires { ⌜ commentNumbers ≤ length (now comments) ⌝ }
+    requires { ⌜ groupNumbers ≤ length (now groups) ⌝ }
+    requires { ⌜ commentLimit ≤ length (now longest) ⌝ }
     ensures { λ r. ⌜ frontAs (now (sheet .entry)) (now (comments .exit)) (now (groups .exit)) r ≡ front (now (sheet .entry)) ⌝ }
     ensures { λ r. ⌜ WithinFront (length (now (sheet .entry))) r ⌝ }
     ensures { λ _. ⌜ Free (now (comments .entry)) (now (comments .exit))

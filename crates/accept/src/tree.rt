@@ -1,6 +1,7 @@
 // The program and the root of a sheet, with refusals 8 and 9 behind them.
 use nodes::check::check_node;
 use nodes::tally::Checked;
+use sheet::limits::DEPTH_LIMIT;
 use sheet::program::Program;
 use sheet::program::ProgramRead;
 use sheet::program::read_program;
@@ -26,7 +27,7 @@ pub fn check_tree(sheet: &[u8], source: &[u8], c: Cursor) -> TreeRead
 {
     match read_program(sheet, source, c) {
         ProgramRead::Refused(r) => TreeRead::Refused(r),
-        ProgramRead::Is(program, next) => match check_node(sheet, source, next, 64) {
+        ProgramRead::Is(program, next) => match check_node(sheet, source, next, DEPTH_LIMIT) {
             Checked::Refused(r) => TreeRead::Refused(r),
             Checked::Is(found, after) => {
                 let end = after.at;

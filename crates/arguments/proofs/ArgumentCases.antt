@@ -13,6 +13,7 @@ use Rattle.wire.specs.Fields.{byte, below, flag, bytes}
 use Rattle.wire.specs.Number.{lastGroup, groups, number}
 use Rattle.wire.specs.Text.{count, text}
 use Rattle.wire.specs.Optional.{optional}
+use Rattle.sheet.specs.Limits.{depthLimit}
 use Rattle.sheet.specs.Fields.{position, endFrom, span}
 use Rattle.sheet.specs.Nodes.{many, tag, piece, nodes, stringText, stringFields, nameFields, templateFields, binaryFields, fields, node}
 use Rattle.report.specs.ModuleInfo.{DynamicArgument, expr, string, template}
@@ -62,7 +63,7 @@ cases =
     ∷ (minus (plus a b) c, ok expr [])
     ∷ []
 
-as-stated : map (λ x. (x .0, onOk argumentOf (node [] 64 (x .0)))) cases ≡ cases
+as-stated : map (λ x. (x .0, onOk argumentOf (node [] depthLimit (x .0)))) cases ≡ cases
 unfolding byte below flag bytes lastGroup groups number count text admits lengthBy charLength formed replacing isBoundary position endFrom span many tag optional piece nodes stringText stringFields
     nameFields templateFields binaryFields fields node chain argumentOf
 as-stated = refl

@@ -15,6 +15,7 @@ use Rattle.text.specs.Lossy.{lossy}
 use Rattle.text.specs.Bytes.{part}
 use Rattle.wire.specs.Text.{text}
 use Rattle.wire.specs.Optional.{optional}
+use Rattle.sheet.specs.Limits.{textLimit}
 use Rattle.sheet.specs.Tree.{Pieces}
 use Rattle.sheet.specs.Nodes.{many, piece}
 use Rattle.sheet.specs.Walked.{one}
@@ -27,7 +28,7 @@ use Rattle.arguments.specs.Argument.{pieceParts, templateParts, ofPieces
 one-piece : (s : List ℕ) {add : Pieces → Pieces} {t : List ℕ} → piece s ≡ ok add t → (p : Option (List ℕ)) × ((ps : Pieces) → add ps ≡ p ∷ ps)
 unfolding piece
 one-piece s {add} e =
-    let (p, u, x, y) = then-ok (optional (text Wtf8 4096) s) _ e in
+    let (p, u, x, y) = then-ok (optional (text Wtf8 textLimit) s) _ e in
     let g : (p ∷_) ≡ add = cc in
     (p, λ ps. sym (ap (λ h. h ps) g))
 

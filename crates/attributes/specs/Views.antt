@@ -10,6 +10,7 @@ use Rattle.laws.specs.Decoded.{ok, no, Decoder}
 use Rattle.text.specs.Lossy.{exact}
 use Rattle.text.specs.Bytes.{part}
 use Rattle.wire.specs.declared.Cursor.{Cursor}
+use Rattle.sheet.specs.Limits.{propertyLimit, pairNumbers}
 use Rattle.sheet.specs.Tree.{Node, Properties}
 use Rattle.sheet.specs.Tables.{rows}
 use Rattle.sheet.specs.Nodes.{node, propertyItem}
@@ -70,10 +71,10 @@ pub record PairWithin (m : ℕ) (p : Pair) : Type 0 where
   pub key : Part m (p .«key_start») (p .«key_end»)
   pub value : Part m (p .«value_start») (p .«value_end»)
 
--- a table of 64 rows, in the first n of them parts of m bytes
+-- a table of a row for each property, in the first n of them parts of m bytes
 pub record Pairs (m : ℕ) (table : List ℕ) (n : ℕ) : Type 0 where
-  pub long : 320 ≤ length table
-  pub most : n ≤ 64
+  pub long : pairNumbers ≤ length table
+  pub most : n ≤ propertyLimit
   pub parts : (k : ℕ) → k < n → PairWithin m (rowIn table k)
 
 abbrev pub AttributesWithin : ℕ → List ℕ → ImportAttributes → Type 0
@@ -114,7 +115,7 @@ ValueIs s source levels value.Other x = isOther x ≡ true
 
 abbrev pub ValueWithin : ℕ → ℕ → Value → Type 0
 ValueWithin m levels (value.Text from to) = Part m from to
-ValueWithin m levels (value.Object n next) = (0 < levels) × (n ≤ 64)
+ValueWithin m levels (value.Object n next) = (0 < levels) × (n ≤ propertyLimit)
 ValueWithin m levels value.Other = Unit {0}
 
 -- a property from its head, with the cursors at its value and behind it

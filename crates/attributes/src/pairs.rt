@@ -8,6 +8,7 @@ ghost use Prim.Native.Nat.{ℕ, _+_, _*_, _≤_, _<_};
 ghost use lib.ListN.{length};
 ghost use lib.Seq.{sets};
 ghost use Rattle.laws.specs.Left.{Free};
+ghost use Rattle.sheet.specs.Limits.{propertyLimit, pairNumbers};
 ghost use Rattle.attributes.specs.Attributes.{insert, insertKnown};
 ghost use Rattle.attributes.specs.Views.{pairRow, rowIn, pairAs, pairsIn, PairWithin, Pairs, opened, slotAs, SlotWithin};
 
@@ -90,7 +91,7 @@ fn find(sheet: &[u8], pairs: &[usize], n: usize, p: Pair) -> Slot
 
 // Puts a pair before the ith of n rows, and moves the others up.
 fn insert_before(pairs: &mut [usize], n: usize, i: usize, p: Pair)
-    requires { ⌜ (i ≤ n) × (n < 64) × (320 ≤ length (now pairs)) ⌝ }
+    requires { ⌜ (i ≤ n) × (n < propertyLimit) × (pairNumbers ≤ length (now pairs)) ⌝ }
     ensures { λ _. ⌜ ((s : List ℕ) → pairsIn s (now (pairs .exit)) (n + 1) ≡ opened s (now (pairs .entry)) n (pairAs s p) i) ⌝ }
     ensures { λ _. ⌜ ((m : ℕ) → Pairs m (now (pairs .entry)) n → PairWithin m p → Pairs m (now (pairs .exit)) (n + 1)) ⌝ }
 {
@@ -108,7 +109,7 @@ fn insert_before(pairs: &mut [usize], n: usize, i: usize, p: Pair)
 // Puts a pair in its place among the first n rows, instead of one with the same key. Answers how many rows there are then; the rows behind
 // them are left free.
 pub fn insert(sheet: &[u8], pairs: &mut [usize], n: usize, p: Pair) -> usize
-    requires { ⌜ (n < 64) × Pairs (length (now sheet)) (now pairs) n × PairWithin (length (now sheet)) p ⌝ }
+    requires { ⌜ (n < propertyLimit) × Pairs (length (now sheet)) (now pairs) n × PairWithin (length (now sheet)) p ⌝ }
     ensures { λ r. ⌜ pairsIn (now (sheet .entry)) (now (pairs .exit)) r
         ≡ insert (pairAs (now (sheet .entry)) p) (pairsIn (now (sheet .entry)) (now (pairs .entry)) n) ⌝ }
     ensures { λ r. ⌜ (r ≤ n + 1)
@@ -129,7 +130,7 @@ pub fn insert(sheet: &[u8], pairs: &mut [usize], n: usize, p: Pair) -> usize
 
 // The same for a pair whose value is known; any other is passed over.
 pub fn insert_known(sheet: &[u8], pairs: &mut [usize], n: usize, p: Pair) -> usize
-    requires { ⌜ (n < 64) × Pairs (length (now sheet)) (now pairs) n × PairWithin (length (now sheet)) p ⌝ }
+    requires { ⌜ (n < propertyLimit) × Pairs (length (now sheet)) (now pairs) n × PairWithin (length (now sheet)) p ⌝ }
     ensures { λ r. ⌜ pairsIn (now (sheet .entry)) (now (pairs .exit)) r
         ≡ insertKnown (pairAs (now (sheet .entry)) p .key) (pairAs (now (sheet .entry)) p .value) (pairsIn (now (sheet .entry)) (now (pairs .entry)) n) ⌝ }
     ensures { λ r. ⌜ (r ≤ n + 1)

@@ -20,6 +20,7 @@ ghost use lib.ListN.{length, drop};
 ghost use Rattle.laws.specs.Decoded.{ok};
 ghost use Rattle.laws.specs.Quoted.{ascii};
 ghost use Rattle.text.specs.Bytes.{same, part};
+ghost use Rattle.sheet.specs.Limits.{propertyLimit, pairNumbers};
 ghost use Rattle.sheet.specs.Tree.{Node, Arguments, Properties, Attributes};
 ghost use Rattle.sheet.specs.Nodes.{node, properties, arguments, attributesObject};
 ghost use Rattle.sheet.specs.Shape.{shape};
@@ -46,7 +47,7 @@ fn parse_known(
     levels: usize,
     pairs: &mut [usize],
 ) -> usize
-    requires { ⌜ (count ≤ 64) × (320 ≤ length (now pairs)) ⌝ }
+    requires { ⌜ (count ≤ propertyLimit) × (pairNumbers ≤ length (now pairs)) ⌝ }
     ensures { λ r. ⌜ ((ps : Properties) (t : List ℕ) → properties (node (now (source .entry)) levels) count (drop (c .at) (now (sheet .entry))) ≡ ok ps t
         → pairsIn (now (sheet .entry)) (now (pairs .exit)) r ≡ staticPairs [] (props ps)) ⌝ }
     ensures { λ r. ⌜ Pairs (length (now (sheet .entry))) (now (pairs .exit)) r ⌝ }
@@ -84,7 +85,7 @@ pub fn parse_import_attributes(
     levels: usize,
     pairs: &mut [usize],
 ) -> ImportAttributes
-    requires { ⌜ 320 ≤ length (now pairs) ⌝ }
+    requires { ⌜ pairNumbers ≤ length (now pairs) ⌝ }
     ensures { λ r. ⌜ ((a : Attributes) (t : List ℕ) → behind there (attributesObject (now (source .entry)) levels) (drop (c .at) (now (sheet .entry))) ≡ ok a t
         → attributesAs (now (sheet .entry)) (now (pairs .exit)) r ≡ staticAttributes a) ⌝ }
     ensures { λ r. ⌜ AttributesWithin (length (now (sheet .entry))) (now (pairs .exit)) r ⌝ }
@@ -110,7 +111,7 @@ fn parse_import_attributes_from_object_lit(
     levels: usize,
     pairs: &mut [usize],
 ) -> ImportAttributes
-    requires { ⌜ (count ≤ 64) × (320 ≤ length (now pairs)) ⌝ }
+    requires { ⌜ (count ≤ propertyLimit) × (pairNumbers ≤ length (now pairs)) ⌝ }
     ensures { λ r. ⌜ ((ps : Properties) (t : List ℕ) → properties (node (now (source .entry)) levels) count (drop (c .at) (now (sheet .entry))) ≡ ok ps t
         → attributesAs (now (sheet .entry)) (now (pairs .exit)) r ≡ objectAttributes [] (props ps)) ⌝ }
     ensures { λ r. ⌜ AttributesWithin (length (now (sheet .entry))) (now (pairs .exit)) r ⌝ }
@@ -146,7 +147,7 @@ pub fn parse_type_attributes(
     levels: usize,
     pairs: &mut [usize],
 ) -> ImportAttributes
-    requires { ⌜ 320 ≤ length (now pairs) ⌝ }
+    requires { ⌜ pairNumbers ≤ length (now pairs) ⌝ }
     ensures { λ r. ⌜ ((a : Attributes) (t : List ℕ) → behind there (attributesObject (now (source .entry)) levels) (drop (c .at) (now (sheet .entry))) ≡ ok a t
         → attributesAs (now (sheet .entry)) (now (pairs .exit)) r ≡ typeAttributes a) ⌝ }
     ensures { λ r. ⌜ AttributesWithin (length (now (sheet .entry))) (now (pairs .exit)) r ⌝ }
@@ -178,7 +179,7 @@ fn parse_nested(
     levels: usize,
     pairs: &mut [usize],
 ) -> ImportAttributes
-    requires { ⌜ 320 ≤ length (now pairs) ⌝ }
+    requires { ⌜ pairNumbers ≤ length (now pairs) ⌝ }
     ensures { λ r. ⌜ ((v : Node) (t : List ℕ) → node (now (source .entry)) levels (drop (c .at) (now (sheet .entry))) ≡ ok v t
         → attributesAs (now (sheet .entry)) (now (pairs .exit)) r ≡ ofObject (objectAttributes []) (shape v)) ⌝ }
     ensures { λ r. ⌜ AttributesWithin (length (now (sheet .entry))) (now (pairs .exit)) r ⌝ }
@@ -222,7 +223,7 @@ fn parse_argument_properties(
     levels: usize,
     pairs: &mut [usize],
 ) -> ImportAttributes
-    requires { ⌜ 320 ≤ length (now pairs) ⌝ }
+    requires { ⌜ pairNumbers ≤ length (now pairs) ⌝ }
     ensures { λ r. ⌜ ((ps : Properties) (t : List ℕ) → properties (node (now (source .entry)) levels) count (drop (c .at) (now (sheet .entry))) ≡ ok ps t
         → attributesAs (now (sheet .entry)) (now (pairs .exit)) r ≡ argumentProperties false none (props ps)) ⌝ }
     ensures { λ r. ⌜ AttributesWithin (length (now (sheet .entry))) (now (pairs .exit)) r ⌝ }
@@ -274,7 +275,7 @@ pub fn parse_dynamic_import_attributes(
     levels: usize,
     pairs: &mut [usize],
 ) -> ImportAttributes
-    requires { ⌜ 320 ≤ length (now pairs) ⌝ }
+    requires { ⌜ pairNumbers ≤ length (now pairs) ⌝ }
     ensures { λ r. ⌜ ((xs : Arguments) (t : List ℕ)
         → arguments (node (now (source .entry)) levels) (now (source .entry)) count (drop (c .at) (now (sheet .entry))) ≡ ok xs t
         → attributesAs (now (sheet .entry)) (now (pairs .exit)) r ≡ dynamicAttributes xs) ⌝ }

@@ -21,7 +21,7 @@ use Rattle.report.specs.declared.writer.Outcome.the-variants.{Accepted, Refused
 use Rattle.module_info.specs.Information.{moduleInfo, answerOf}
 use Rattle.module_info.specs.Demands.{Demands}
 use Rattle.citation.specs.Citation.{citation, refusal}
-use Rattle.cite.specs.Cited.{cited}
+use Rattle.cite.specs.Cited.{reportRoom, lineRoom, cited}
 use Rattle.cite.proofs.Readable.{readable}
 
 -- a report has bytes
@@ -33,27 +33,27 @@ some-bytes m e = absurd (omega arith)
 pub record Reported (s : List ℕ) (n : ℕ) (buffer : List ℕ) : Type 0 where
   pub info : ModuleInfo
   pub within : n ≤ length buffer
-  pub room : 4 * length (take n buffer) ≤ 262144
+  pub room : 4 * length (take n buffer) ≤ lineRoom
   pub valid : Valid info
   pub bytes : encode info ≡ take n buffer
   pub lines : cited s ≡ citation info
 
 module _ {s buffer : List ℕ} where
-  pub reported : {n : ℕ} → Demands s 65536 (Accepted n) buffer → Reported s n buffer
+  pub reported : {n : ℕ} → Demands s reportRoom (Accepted n) buffer → Reported s n buffer
   unfolding answerOf fitted cited
   reported {n} d = by-sheet (decided s)
     where
-      by-room : (t : Sheet) → accept s ≡ ok t [] → (b : Bool) → leb (length (encode (moduleInfo t))) 65536 ≡ b → Reported s n buffer
+      by-room : (t : Sheet) → accept s ≡ ok t [] → (b : Bool) → leb (length (encode (moduleInfo t))) reportRoom ≡ b → Reported s n buffer
       by-room t e true h =
-          let answer : record { number = 0; length = n; buffer = buffer } ≡ accepted 65536 (encode (moduleInfo t)) = rw (e, h) at (d .answer) in
+          let answer : record { number = 0; length = n; buffer = buffer } ≡ accepted reportRoom (encode (moduleInfo t)) = rw (e, h) at (d .answer) in
           let long : n ≡ length (encode (moduleInfo t)) = ap (λ (a : Answer). a .length) answer in
-          let held : buffer ≡ encode (moduleInfo t) ++ zeros (65536 - length (encode (moduleInfo t))) = ap (λ (a : Answer). a .buffer) answer in
+          let held : buffer ≡ encode (moduleInfo t) ++ zeros (reportRoom - length (encode (moduleInfo t))) = ap (λ (a : Answer). a .buffer) answer in
           let begins : encode (moduleInfo t) ≡ take n buffer = rw (long, held) (sym (take-append-seam (encode (moduleInfo t)) _)) in
-          let room = leb-true (length (encode (moduleInfo t))) 65536 h in
+          let room = leb-true (length (encode (moduleInfo t))) reportRoom h in
           let meets = accepts-exactly s t .0 e in
           record {
             info = moduleInfo t;
-            within = omega (arith, ap length held, length-append (encode (moduleInfo t)) (zeros (65536 - length (encode (moduleInfo t)))));
+            within = omega (arith, ap length held, length-append (encode (moduleInfo t)) (zeros (reportRoom - length (encode (moduleInfo t)))));
             room = rw (← begins) (omega arith);
             valid = readable t (omega (arith, meets .encodes .within .fields .source .0)) (d .jsdoc t meets .right) (omega arith);
             bytes = begins;
@@ -64,17 +64,17 @@ module _ {s buffer : List ℕ} where
           absurd (omega arith)
 
       by-sheet : Decision s → Reported s n buffer
-      by-sheet (Decision.accepted t e) = by-room t e (leb (length (encode (moduleInfo t))) 65536) refl
+      by-sheet (Decision.accepted t e) = by-room t e (leb (length (encode (moduleInfo t))) reportRoom) refl
       by-sheet (Decision.refused r a b e) =
           let none : 0 ≡ r = ap (λ (a : Answer). a .number) (rw e at (d .answer)) in
           absurd (omega arith)
 
   -- a refusal that was answered
-  pub refused-lines : {r : ℕ} → Demands s 65536 (Refused r) buffer → cited s ≡ refusal r
+  pub refused-lines : {r : ℕ} → Demands s reportRoom (Refused r) buffer → cited s ≡ refusal r
   unfolding answerOf fitted cited
   refused-lines {r} d = by-sheet (decided s)
     where
-      by-room : (t : Sheet) → accept s ≡ ok t [] → (b : Bool) → leb (length (encode (moduleInfo t))) 65536 ≡ b → cited s ≡ refusal r
+      by-room : (t : Sheet) → accept s ≡ ok t [] → (b : Bool) → leb (length (encode (moduleInfo t))) reportRoom ≡ b → cited s ≡ refusal r
       by-room t e true h =
           let none : 0 ≡ length (encode (moduleInfo t)) = ap (λ (a : Answer). a .length) (rw (e, h) at (d .answer)) in
           absurd (some-bytes (moduleInfo t) none)
@@ -83,7 +83,7 @@ module _ {s buffer : List ℕ} where
           rw (e, h, ten)
 
       by-sheet : Decision s → cited s ≡ refusal r
-      by-sheet (Decision.accepted t e) = by-room t e (leb (length (encode (moduleInfo t))) 65536) refl
+      by-sheet (Decision.accepted t e) = by-room t e (leb (length (encode (moduleInfo t))) reportRoom) refl
       by-sheet (Decision.refused q a b e) =
           let same : r ≡ q = ap (λ (a : Answer). a .number) (rw e at (d .answer)) in
           rw (e, same)

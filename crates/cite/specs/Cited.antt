@@ -1,7 +1,7 @@
 -- What `cite` prints for the bytes of a sheet.
 use mathlib.Core.Bool.{cond}
 use mathlib.Core.List.{List}
-use Prim.Native.Nat.{ℕ}
+use Prim.Native.Nat.{ℕ, _*_}
 use lib.Dec.{leb}
 use lib.ListN.{length}
 use Rattle.laws.specs.Decoded.{Decoded, ok, no}
@@ -11,9 +11,17 @@ use Rattle.report.specs.Encode.{encode}
 use Rattle.module_info.specs.Information.{moduleInfo}
 use Rattle.citation.specs.Citation.{citation, refusal}
 
--- the citation, if the report is no longer than the buffer of 65,536 bytes
+-- bytes of the buffer for the report
+abbrev pub reportRoom : ℕ
+reportRoom = 65536
+
+-- and of that for the lines
+abbrev pub lineRoom : ℕ
+lineRoom = 4 * reportRoom
+
+-- the citation, if the report is no longer than its buffer
 abbrev pub citedIn : ModuleInfo → List ℕ
-citedIn m = cond (leb (length (encode m)) 65536) (citation m) (refusal 10)
+citedIn m = cond (leb (length (encode m)) reportRoom) (citation m) (refusal 10)
 
 abbrev pub citedBy : Decoded Sheet → List ℕ
 citedBy (ok t s) = citedIn (moduleInfo t)

@@ -8,15 +8,16 @@ use libc::STDIN_FILENO;
 use libc::STDOUT_FILENO;
 use module_info::module_info;
 use report::writer::Outcome;
+use sheet::limits::SHEET_LIMIT;
 ghost use mathlib.Core.Path.{_≡_};
 ghost use Prim.Native.Nat.{_≤_};
 ghost use lib.ListN.{length, take};
-ghost use Rattle.cite.specs.Cited.{cited};
+ghost use Rattle.cite.specs.Cited.{reportRoom, lineRoom, cited};
 
 // Writes the lines for a sheet, and answers how many bytes they are.
 fn cite(sheet: &[u8], report: &mut [u8], lines: &mut [u8]) -> usize
-    requires { ⌜ length (now report) ≡ 65536 ⌝ }
-    requires { ⌜ 262144 ≤ length (now lines) ⌝ }
+    requires { ⌜ length (now report) ≡ reportRoom ⌝ }
+    requires { ⌜ lineRoom ≤ length (now lines) ⌝ }
     ensures { λ r. ⌜ (r ≡ length (cited (now (sheet .entry)))) × (take r (now (lines .exit)) ≡ cited (now (sheet .entry))) ⌝ }
     ensures { λ r. ⌜ r ≤ length (now (lines .exit)) ⌝ }
 {
@@ -27,15 +28,20 @@ fn cite(sheet: &[u8], report: &mut [u8], lines: &mut [u8]) -> usize
 }
 
 // Room for the lines of every report of 65,536 bytes.
-fn line_buffer() -> [u8; 262144]
-    ensures { λ r. ⌜ 262144 ≡ length r ⌝ }
+const LINE_ROOM: usize = 4 * 65536;
+
+fn line_buffer() -> [u8; LINE_ROOM]
+    ensures { λ r. ⌜ lineRoom ≡ length r ⌝ }
 {
-    [0; 262144]
+    [0; LINE_ROOM]
 }
 
-// Reads one byte more than the longest sheet has, so that a longer one is refused. Nothing is cited of what cannot be read.
+// One byte more than the longest sheet has, so that a longer one is refused.
+const INPUT_ROOM: usize = SHEET_LIMIT + 1;
+
+// Nothing is cited of what cannot be read.
 fn main() {
-    let mut sheet = [0u8; 65537];
+    let mut sheet = [0u8; INPUT_ROOM];
     let input = read_input(STDIN_FILENO, &mut sheet);
     let Input::Bytes(n) = input else {
         io::write_all(STDERR_FILENO, b"cite: standard input cannot be read\n");

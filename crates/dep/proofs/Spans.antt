@@ -14,6 +14,7 @@ use Rattle.wire.specs.Fields.{below, flag}
 use Rattle.wire.specs.Number.{number}
 use Rattle.wire.specs.Text.{count, text}
 use Rattle.wire.specs.Optional.{optional}
+use Rattle.sheet.specs.Limits.{textLimit, propertyLimit}
 use Rattle.sheet.specs.declared.fields.Span.{Span}
 use Rattle.sheet.specs.Tree.{Quoted}
 use Rattle.sheet.specs.Fields.{position, endFrom, span}
@@ -94,10 +95,10 @@ module _ (source : List ℕ) where
     start-within sp t = at-index
         (next (changed otherHead (anything number) (λ n h. tt))
         (next (changed stringHead (anything (stringText source sp)) (λ x h. tt))
-        (next (changed nameHead (anything (text Utf8 4096)) (λ x h. tt))
+        (next (changed nameHead (anything (text Utf8 textLimit)) (λ x h. tt))
         (next (changed templateHead (anything number) (λ n h. tt))
         (next (changed binaryHead (anything flag) (λ b h. tt))
-        (next (changed objectHead (anything (count 64)) (λ n h. tt))
+        (next (changed objectHead (anything (count propertyLimit)) (λ n h. tt))
         (next call-within (next import-within (next named-export-within (next export-all-within (next import-type-within (next import-equals-within (next module-within done)))))))))))))
         t 3 tt
 

@@ -17,6 +17,10 @@ use nodes::tally::Checked;
 use pragmas::analyze_ts_or_deno_types;
 use report::writer::Place;
 use sheet::fields::Span;
+use sheet::limits::COMMENT_NUMBERS;
+use sheet::limits::GROUP_NUMBERS;
+use sheet::limits::INDEX_NUMBERS;
+use sheet::limits::PAIR_NUMBERS;
 use wire::Cursor;
 ghost use mathlib.Core.Path.{_≡_};
 ghost use mathlib.Core.Bool.{Bool, cond};
@@ -149,10 +153,10 @@ fn put_static_entry(
     d: StaticDependencyDescriptor,
     pairs: &[usize],
     a: ImportAttributes,
-    cs: &[u32; 3072],
-    gs: &[u32; 4096],
+    cs: &[u32; COMMENT_NUMBERS],
+    gs: &[u32; GROUP_NUMBERS],
     k: Counts,
-    index: &[u32; 1026],
+    index: &[u32; INDEX_NUMBERS],
     out: &mut [u8],
     p: Place,
 ) -> Place
@@ -186,10 +190,10 @@ pub fn put_with_entry(
     there: bool,
     levels: usize,
     d: StaticDependencyDescriptor,
-    cs: &[u32; 3072],
-    gs: &[u32; 4096],
+    cs: &[u32; COMMENT_NUMBERS],
+    gs: &[u32; GROUP_NUMBERS],
     k: Counts,
-    index: &[u32; 1026],
+    index: &[u32; INDEX_NUMBERS],
     out: &mut [u8],
     p: Place,
     is_type: bool,
@@ -202,7 +206,7 @@ pub fn put_with_entry(
         (staticOf (now (source .entry)) (typesFrom (now (source .entry)) (now (cs .entry)) (now (gs .entry)) k) (now (sheet .entry)) d (cond «is_type» (typeAttributes a) (staticAttributes a)))) ⌝ }
     ensures { λ _. ⌜ Free (now (out .entry)) (now (out .exit)) ⌝ }
 {
-    let mut pairs: [usize; 320] = [0; 320];
+    let mut pairs: [usize; PAIR_NUMBERS] = [0; PAIR_NUMBERS];
     if is_type {
         let a = parse_type_attributes(sheet, source, c, there, levels, &mut pairs);
         return put_static_entry(sheet, source, d, &pairs, a, cs, gs, k, index, out, p);
@@ -216,10 +220,10 @@ pub fn put_plain_entry(
     sheet: &[u8],
     source: &[u8],
     d: StaticDependencyDescriptor,
-    cs: &[u32; 3072],
-    gs: &[u32; 4096],
+    cs: &[u32; COMMENT_NUMBERS],
+    gs: &[u32; GROUP_NUMBERS],
     k: Counts,
-    index: &[u32; 1026],
+    index: &[u32; INDEX_NUMBERS],
     out: &mut [u8],
     p: Place,
 ) -> Place
@@ -239,10 +243,10 @@ pub fn put_module_entry(
     source: &[u8],
     span: Span,
     specifier: Quoted,
-    cs: &[u32; 3072],
-    gs: &[u32; 4096],
+    cs: &[u32; COMMENT_NUMBERS],
+    gs: &[u32; GROUP_NUMBERS],
     k: Counts,
-    index: &[u32; 1026],
+    index: &[u32; INDEX_NUMBERS],
     out: &mut [u8],
     p: Place,
 ) -> Place
@@ -268,10 +272,10 @@ fn put_dynamic_entry(
     more: usize,
     levels: usize,
     d: DynamicDependencyDescriptor,
-    cs: &[u32; 3072],
-    gs: &[u32; 4096],
+    cs: &[u32; COMMENT_NUMBERS],
+    gs: &[u32; GROUP_NUMBERS],
     k: Counts,
-    index: &[u32; 1026],
+    index: &[u32; INDEX_NUMBERS],
     out: &mut [u8],
     p: Place,
 ) -> Place
@@ -287,7 +291,7 @@ fn put_dynamic_entry(
         (typesFrom (now (source .entry)) (now (cs .entry)) (now (gs .entry)) k)
         d v (dynamicAttributes xs))) ⌝ }
 {
-    let mut pairs: [usize; 320] = [0; 320];
+    let mut pairs: [usize; PAIR_NUMBERS] = [0; PAIR_NUMBERS];
     let attributes = parse_dynamic_import_attributes(sheet, source, c, more, levels, &mut pairs);
     let argument = d.argument;
     let p = p.put(out, d.kind);
@@ -306,10 +310,10 @@ fn put_argument_entry(
     levels: usize,
     d: CallHead,
     range: Span,
-    cs: &[u32; 3072],
-    gs: &[u32; 4096],
+    cs: &[u32; COMMENT_NUMBERS],
+    gs: &[u32; GROUP_NUMBERS],
     k: Counts,
-    index: &[u32; 1026],
+    index: &[u32; INDEX_NUMBERS],
     out: &mut [u8],
     p: Place,
 ) -> Place
@@ -363,10 +367,10 @@ pub fn put_call_entry(
     count: usize,
     levels: usize,
     d: CallHead,
-    cs: &[u32; 3072],
-    gs: &[u32; 4096],
+    cs: &[u32; COMMENT_NUMBERS],
+    gs: &[u32; GROUP_NUMBERS],
     k: Counts,
-    index: &[u32; 1026],
+    index: &[u32; INDEX_NUMBERS],
     out: &mut [u8],
     p: Place,
 ) -> Place

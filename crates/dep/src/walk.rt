@@ -30,6 +30,10 @@ use nodes::tally::Tallied;
 use nodes::tally::nodes_of;
 use report::writer::Place;
 use sheet::fields::Span;
+use sheet::limits::COMMENT_NUMBERS;
+use sheet::limits::DEPTH_LIMIT;
+use sheet::limits::GROUP_NUMBERS;
+use sheet::limits::INDEX_NUMBERS;
 use wire::Cursor;
 use wire::Flag;
 use wire::Read;
@@ -39,6 +43,7 @@ ghost use Prim.Native.Nat.{ℕ, _≤_};
 ghost use lib.ListN.{length, drop};
 ghost use Rattle.laws.specs.Decoded.{ok, onOk};
 ghost use Rattle.laws.specs.Left.{Free};
+ghost use Rattle.sheet.specs.Limits.{depthLimit};
 ghost use Rattle.sheet.specs.Tree.{Node};
 ghost use Rattle.sheet.specs.Nodes.{node, nodes, argumentItem, arguments, propertyItem, properties, attributesObject};
 ghost use Rattle.sheet.specs.Shape.{shape, isRequire};
@@ -81,10 +86,10 @@ fn walk_import(
     there: bool,
     levels: usize,
     d: StaticDependencyDescriptor,
-    cs: &[u32; 3072],
-    gs: &[u32; 4096],
+    cs: &[u32; COMMENT_NUMBERS],
+    gs: &[u32; GROUP_NUMBERS],
     k: Counts,
-    index: &[u32; 1026],
+    index: &[u32; INDEX_NUMBERS],
     out: &mut [u8],
     p: Place,
 ) -> Walked
@@ -131,10 +136,10 @@ fn walk_node(
     source: &[u8],
     c: Cursor,
     levels: usize,
-    cs: &[u32; 3072],
-    gs: &[u32; 4096],
+    cs: &[u32; COMMENT_NUMBERS],
+    gs: &[u32; GROUP_NUMBERS],
     k: Counts,
-    index: &[u32; 1026],
+    index: &[u32; INDEX_NUMBERS],
     out: &mut [u8],
     p: Place,
 ) -> Walked
@@ -173,10 +178,10 @@ fn walk_rest(
     levels: usize,
     span: Span,
     head: Head,
-    cs: &[u32; 3072],
-    gs: &[u32; 4096],
+    cs: &[u32; COMMENT_NUMBERS],
+    gs: &[u32; GROUP_NUMBERS],
     k: Counts,
-    index: &[u32; 1026],
+    index: &[u32; INDEX_NUMBERS],
     out: &mut [u8],
     p: Place,
 ) -> Walked
@@ -234,10 +239,10 @@ fn walk_nodes(
     c: Cursor,
     count: usize,
     levels: usize,
-    cs: &[u32; 3072],
-    gs: &[u32; 4096],
+    cs: &[u32; COMMENT_NUMBERS],
+    gs: &[u32; GROUP_NUMBERS],
     k: Counts,
-    index: &[u32; 1026],
+    index: &[u32; INDEX_NUMBERS],
     out: &mut [u8],
     p: Place,
 ) -> Walked
@@ -271,10 +276,10 @@ fn walk_argument(
     source: &[u8],
     c: Cursor,
     levels: usize,
-    cs: &[u32; 3072],
-    gs: &[u32; 4096],
+    cs: &[u32; COMMENT_NUMBERS],
+    gs: &[u32; GROUP_NUMBERS],
     k: Counts,
-    index: &[u32; 1026],
+    index: &[u32; INDEX_NUMBERS],
     out: &mut [u8],
     p: Place,
 ) -> Walked
@@ -299,10 +304,10 @@ fn walk_arguments(
     c: Cursor,
     count: usize,
     levels: usize,
-    cs: &[u32; 3072],
-    gs: &[u32; 4096],
+    cs: &[u32; COMMENT_NUMBERS],
+    gs: &[u32; GROUP_NUMBERS],
     k: Counts,
-    index: &[u32; 1026],
+    index: &[u32; INDEX_NUMBERS],
     out: &mut [u8],
     p: Place,
 ) -> Walked
@@ -337,10 +342,10 @@ fn walk_callee(
     c: Cursor,
     levels: usize,
     span: Span,
-    cs: &[u32; 3072],
-    gs: &[u32; 4096],
+    cs: &[u32; COMMENT_NUMBERS],
+    gs: &[u32; GROUP_NUMBERS],
     k: Counts,
-    index: &[u32; 1026],
+    index: &[u32; INDEX_NUMBERS],
     out: &mut [u8],
     p: Place,
 ) -> Walked
@@ -366,10 +371,10 @@ fn visit_call_expr(
     c: Cursor,
     levels: usize,
     d: CallHead,
-    cs: &[u32; 3072],
-    gs: &[u32; 4096],
+    cs: &[u32; COMMENT_NUMBERS],
+    gs: &[u32; GROUP_NUMBERS],
     k: Counts,
-    index: &[u32; 1026],
+    index: &[u32; INDEX_NUMBERS],
     out: &mut [u8],
     p: Place,
 ) -> Walked
@@ -422,10 +427,10 @@ fn walk_property(
     source: &[u8],
     c: Cursor,
     levels: usize,
-    cs: &[u32; 3072],
-    gs: &[u32; 4096],
+    cs: &[u32; COMMENT_NUMBERS],
+    gs: &[u32; GROUP_NUMBERS],
     k: Counts,
-    index: &[u32; 1026],
+    index: &[u32; INDEX_NUMBERS],
     out: &mut [u8],
     p: Place,
 ) -> Walked
@@ -451,10 +456,10 @@ fn walk_properties(
     c: Cursor,
     count: usize,
     levels: usize,
-    cs: &[u32; 3072],
-    gs: &[u32; 4096],
+    cs: &[u32; COMMENT_NUMBERS],
+    gs: &[u32; GROUP_NUMBERS],
     k: Counts,
-    index: &[u32; 1026],
+    index: &[u32; INDEX_NUMBERS],
     out: &mut [u8],
     p: Place,
 ) -> Walked
@@ -489,10 +494,10 @@ fn walk_attributes(
     c: Cursor,
     there: bool,
     levels: usize,
-    cs: &[u32; 3072],
-    gs: &[u32; 4096],
+    cs: &[u32; COMMENT_NUMBERS],
+    gs: &[u32; GROUP_NUMBERS],
     k: Counts,
-    index: &[u32; 1026],
+    index: &[u32; INDEX_NUMBERS],
     out: &mut [u8],
     p: Place,
 ) -> Walked
@@ -521,10 +526,10 @@ fn visit_ts_import_type(
     count: usize,
     levels: usize,
     d: StaticDependencyDescriptor,
-    cs: &[u32; 3072],
-    gs: &[u32; 4096],
+    cs: &[u32; COMMENT_NUMBERS],
+    gs: &[u32; GROUP_NUMBERS],
     k: Counts,
-    index: &[u32; 1026],
+    index: &[u32; INDEX_NUMBERS],
     out: &mut [u8],
     p: Place,
 ) -> Walked
@@ -576,16 +581,16 @@ pub fn analyze_program_dependencies(
     source: &[u8],
     root: Cursor,
     count: usize,
-    cs: &[u32; 3072],
-    gs: &[u32; 4096],
+    cs: &[u32; COMMENT_NUMBERS],
+    gs: &[u32; GROUP_NUMBERS],
     k: Counts,
-    index: &[u32; 1026],
+    index: &[u32; INDEX_NUMBERS],
     out: &mut [u8],
     p: Place,
 ) -> Place
     requires { ⌜ Held (now source) (now cs) (k .comments) (now gs) (k .groups) (now index) ⌝ }
     ensures { λ r. ⌜ ((n : Node) (t : List ℕ)
-        → node (now (source .entry)) 64 (drop (root .at) (now (sheet .entry))) ≡ ok n t
+        → node (now (source .entry)) depthLimit (drop (root .at) (now (sheet .entry))) ≡ ok n t
         → count ≡ entries n
         → bufferAs (now (out .exit)) r
         ≡ wrote (bufferAs (now (out .entry)) p)
@@ -593,7 +598,7 @@ pub fn analyze_program_dependencies(
     ensures { λ _. ⌜ Free (now (out .entry)) (now (out .exit)) ⌝ }
 {
     let p = p.put_number(out, count);
-    match walk_node(sheet, source, root, 64, cs, gs, k, index, out, p) {
+    match walk_node(sheet, source, root, DEPTH_LIMIT, cs, gs, k, index, out, p) {
         Walked::Refused(_) => p,
         Walked::Is(p, _) => p,
     }

@@ -13,6 +13,7 @@ use Rattle.wire.specs.Fields.{byte, below, flag}
 use Rattle.wire.specs.Number.{number}
 use Rattle.wire.specs.Text.{count, text}
 use Rattle.wire.specs.Optional.{optional}
+use Rattle.sheet.specs.Limits.{textLimit, propertyLimit}
 use Rattle.sheet.specs.declared.fields.Span.{Span}
 use Rattle.sheet.specs.Tree.{Quoted, Node, importDecl, exportFrom, exportAll, Arguments, argument, Properties, spread, otherProperty, childKey, stringKey, nameKey, Attributes, withObject}
 use Rattle.sheet.specs.Fields.{span}
@@ -99,10 +100,10 @@ module _ (source : List ℕ) (levels : ℕ) (inner : Decoder Node) (object′ : 
   by-tag t = at-index
       (next (one number otherHead (λ n s. refl))
       (next (one (stringText source sp) stringHead (λ x s. refl))
-      (next (one (text Utf8 4096) nameHead (λ x s. refl))
+      (next (one (text Utf8 textLimit) nameHead (λ x s. refl))
       (next (one number templateHead (λ n s. refl))
       (next (one flag binaryHead (λ plus s. refl))
-      (next (one (count 64) objectHead (λ n s. refl))
+      (next (one (count propertyLimit) objectHead (λ n s. refl))
       (next by-call (next by-import (next by-named-export (next by-export-all (next by-import-type (next by-import-equals (next by-module done)))))))))))))
       t 3
 
@@ -150,9 +151,9 @@ attributes-by-head source zero s = no-level (eqb 5) s _ (attributesRest source (
 attributes-by-head source (suc d) s = let down : suc d - 1 ≡ d = omega arith in rw down (by-parts .at s)
   where
     by-parts : Splits (attributesRest source d)
-        (tag (eqb 5) (suc d) >>= λ t. span source >>= λ sp. count 64 >>= λ n. attributesRest source d (sp, n))
-        (tag (eqb 5) (suc d) >>= λ t. span source >>= λ sp. count 64 >>= λ n. return (sp, n))
-    by-parts = first (tag (eqb 5) (suc d)) λ t. first (span source) λ sp. first (count 64) λ n. ends λ s. refl
+        (tag (eqb 5) (suc d) >>= λ t. span source >>= λ sp. count propertyLimit >>= λ n. attributesRest source d (sp, n))
+        (tag (eqb 5) (suc d) >>= λ t. span source >>= λ sp. count propertyLimit >>= λ n. return (sp, n))
+    by-parts = first (tag (eqb 5) (suc d)) λ t. first (span source) λ sp. first (count propertyLimit) λ n. ends λ s. refl
 
 module _ (inner : Decoder Node) where
   pub argument-by-head : (source s : List ℕ) → argumentItem inner source s ≡ andThen (argumentHead source s) (argumentRest inner)
@@ -166,8 +167,8 @@ module _ (inner : Decoder Node) where
   unfolding keyedItem keyHead
   by-key kind = at-index
       (next (ends λ s. refl)
-      (next (one (text Wtf8 4096) stringKeyHead (λ x s. refl))
-      (next (one (text Utf8 4096) nameKeyHead (λ x s. refl)) done)))
+      (next (one (text Wtf8 textLimit) stringKeyHead (λ x s. refl))
+      (next (one (text Utf8 textLimit) nameKeyHead (λ x s. refl)) done)))
       kind 3
 
   pub property-by-head : (s : List ℕ) → propertyItem inner s ≡ andThen (propertyHead s) (propertyRest inner)

@@ -12,6 +12,7 @@ use Rattle.wire.specs.Fields.{below, flag}
 use Rattle.wire.specs.Number.{number}
 use Rattle.wire.specs.Text.{count, text}
 use Rattle.wire.specs.Optional.{optional}
+use Rattle.sheet.specs.Limits.{textLimit, propertyLimit}
 use Rattle.sheet.specs.declared.fields.Span.{Span}
 use Rattle.sheet.specs.Tree.{Quoted, Phase}
 use Rattle.sheet.specs.Fields.{span}
@@ -109,10 +110,10 @@ module _ (source : List ℕ) (levels : ℕ) where
       getD
       ((λ s. onOk otherHead (number s))
       ∷ (λ s. onOk stringHead (stringText source sp s))
-      ∷ (λ s. onOk nameHead (text Utf8 4096 s))
+      ∷ (λ s. onOk nameHead (text Utf8 textLimit s))
       ∷ (λ s. onOk templateHead (number s))
       ∷ (λ s. onOk binaryHead (flag s))
-      ∷ (λ s. onOk objectHead (count 64 s))
+      ∷ (λ s. onOk objectHead (count propertyLimit s))
       ∷ callStart ∷ importStart ∷ namedExportStart ∷ exportAllStart ∷ importTypeStart ∷ importEqualsStart ∷ moduleStart ∷ [])
       t
       (refuse 3)

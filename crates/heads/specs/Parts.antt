@@ -8,6 +8,7 @@ use Rattle.laws.specs.Decoded.{Decoder, onOk, _>>=_, _>>_, return, refuse}
 use Rattle.text.specs.declared.utf8.Encoding.the-variants.{Utf8, Wtf8}
 use Rattle.wire.specs.Fields.{byte, flag}
 use Rattle.wire.specs.Text.{count, text}
+use Rattle.sheet.specs.Limits.{textLimit, propertyLimit}
 use Rattle.sheet.specs.declared.fields.Span.{Span}
 use Rattle.sheet.specs.Fields.{span}
 use Rattle.sheet.specs.Nodes.{tag}
@@ -25,8 +26,8 @@ unfoldable pub keyHead : ℕ → Decoder PropertyHead
 keyHead kind =
     getD
     (return childKeyHead
-    ∷ (λ s. onOk stringKeyHead (text Wtf8 4096 s))
-    ∷ (λ s. onOk nameKeyHead (text Utf8 4096 s))
+    ∷ (λ s. onOk stringKeyHead (text Wtf8 textLimit s))
+    ∷ (λ s. onOk nameKeyHead (text Utf8 textLimit s))
     ∷ [])
     kind
     (refuse 3)
@@ -54,5 +55,5 @@ unfoldable pub attributesHead : List ℕ → ℕ → Decoder (Span × ℕ)
 attributesHead source levels = do
   tag (eqb 5) levels
   sp ← span source
-  n ← count 64
+  n ← count propertyLimit
   return (sp, n)

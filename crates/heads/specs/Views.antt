@@ -11,6 +11,7 @@ use Rattle.wire.specs.declared.Read.{Read}
 use Rattle.wire.specs.declared.Read.the-variants as read
 use Rattle.wire.specs.declared.Flag.{Flag}
 use Rattle.wire.specs.declared.Flag.the-variants as flag
+use Rattle.sheet.specs.Limits.{propertyLimit}
 use Rattle.sheet.specs.declared.fields.Span.{Span}
 use Rattle.sheet.specs.Tree.{Quoted, Pieces}
 use Rattle.heads.specs.Head.{Head, otherHead, stringHead, nameHead, templateHead, binaryHead, objectHead, importCallHead, callHead, importHead, namedExportHead, exportFromHead, exportAllHead, importTypeHead, importEqualsHead, importRequireHead, moduleHead}
@@ -114,7 +115,7 @@ Within n (head.String from to) = Part n from to
 Within n (head.Name from to) = Part n from to
 Within n (head.Template holes) = holes ≤ largest
 Within n (head.Binary plus) = Unit {0}
-Within n (head.Object k) = k ≤ 64
+Within n (head.Object k) = k ≤ propertyLimit
 Within n (head.ImportCall phase) = Unit {0}
 Within n head.Call = Unit {0}
 Within n (head.Import typeOnly phase sideEffect x there) = QuotedPart n x
@@ -173,5 +174,5 @@ PastProperty at n (propertyRead.Is x next) = (at ≤ next .at) × (next .at ≤ 
 PastProperty at n (propertyRead.Refused r) = Unit {0}
 
 abbrev pub PastAttributes : ℕ → ℕ → ℕ → AttributesRead → Type 0
-PastAttributes at n levels (attributesRead.Is sp k next) = (0 < levels) × (at < next .at) × (next .at ≤ n) × (k ≤ 64)
+PastAttributes at n levels (attributesRead.Is sp k next) = (0 < levels) × (at < next .at) × (next .at ≤ n) × (k ≤ propertyLimit)
 PastAttributes at n levels (attributesRead.Refused r) = Unit {0}

@@ -7,6 +7,8 @@ use super::quoted::read_tag;
 use sheet::fields::Span;
 use sheet::fields::SpanRead;
 use sheet::fields::read_span;
+use sheet::limits::PROPERTY_LIMIT;
+use sheet::limits::TEXT_LIMIT;
 use text::utf8::Encoding;
 use wire::Cursor;
 use wire::Flag;
@@ -19,6 +21,7 @@ ghost use Rattle.text.specs.declared.utf8.Encoding.the-variants.{Utf8};
 ghost use Rattle.wire.specs.Fields.{flag};
 ghost use Rattle.wire.specs.Number.{number};
 ghost use Rattle.wire.specs.Text.{count, text};
+ghost use Rattle.sheet.specs.Limits.{textLimit, propertyLimit};
 ghost use Rattle.sheet.specs.Nodes.{stringText};
 ghost use Rattle.heads.specs.Head.{otherHead, stringHead, nameHead, templateHead, binaryHead, objectHead, callStart, origin, importStart, namedExportStart, exportAllStart, importTypeStart, importRequireStart, importEqualsStart, moduleStart, start, head};
 ghost use Rattle.heads.specs.Views.{originAs, fieldsAs, headAs, PastOrigin, PastFields, PastHead};
@@ -95,10 +98,10 @@ fn read_string(sheet: &[u8], source: &[u8], c: Cursor, span: Span) -> FieldsRead
 }
 
 fn read_name(sheet: &[u8], c: Cursor) -> FieldsRead
-    ensures { λ r. ⌜ fieldsAs (now (sheet .entry)) r ≡ onOk nameHead (text Utf8 4096 (drop (c .at) (now (sheet .entry)))) ⌝ }
+    ensures { λ r. ⌜ fieldsAs (now (sheet .entry)) r ≡ onOk nameHead (text Utf8 textLimit (drop (c .at) (now (sheet .entry)))) ⌝ }
     ensures { λ r. ⌜ PastFields (c .at) (length (now (sheet .entry))) r ⌝ }
 {
-    match c.text(sheet, Encoding::Utf8, 4096) {
+    match c.text(sheet, Encoding::Utf8, TEXT_LIMIT) {
         Text::Refused(r) => FieldsRead::Refused(r),
         Text::From(start, next) => FieldsRead::Is(Head::Name(start, next.at), next),
     }
@@ -125,10 +128,10 @@ fn read_binary(sheet: &[u8], c: Cursor) -> FieldsRead
 }
 
 fn read_object(sheet: &[u8], c: Cursor) -> FieldsRead
-    ensures { λ r. ⌜ fieldsAs (now (sheet .entry)) r ≡ onOk objectHead (count 64 (drop (c .at) (now (sheet .entry)))) ⌝ }
+    ensures { λ r. ⌜ fieldsAs (now (sheet .entry)) r ≡ onOk objectHead (count propertyLimit (drop (c .at) (now (sheet .entry)))) ⌝ }
     ensures { λ r. ⌜ PastFields (c .at) (length (now (sheet .entry))) r ⌝ }
 {
-    match c.count(sheet, 64) {
+    match c.count(sheet, PROPERTY_LIMIT) {
         Read::Refused(r) => FieldsRead::Refused(r),
         Read::Value(n, next) => FieldsRead::Is(Head::Object(n), next),
     }

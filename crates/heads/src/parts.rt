@@ -3,6 +3,8 @@ use super::quoted::read_tag_of;
 use sheet::fields::Span;
 use sheet::fields::SpanRead;
 use sheet::fields::read_span;
+use sheet::limits::PROPERTY_LIMIT;
+use sheet::limits::TEXT_LIMIT;
 use text::utf8::Encoding;
 use wire::Cursor;
 use wire::Flag;
@@ -62,7 +64,7 @@ pub fn read_piece(sheet: &[u8], c: Cursor) -> PieceRead
         Flag::Refused(r) => PieceRead::Refused(r),
         Flag::Is(cooked, next) => {
             if cooked {
-                return match next.text(sheet, Encoding::Wtf8, 4096) {
+                return match next.text(sheet, Encoding::Wtf8, TEXT_LIMIT) {
                     Text::Refused(r) => PieceRead::Refused(r),
                     Text::From(start, next) => PieceRead::Cooked(start, next),
                 };
@@ -122,11 +124,11 @@ fn read_key(sheet: &[u8], c: Cursor, kind: usize) -> PropertyRead
 {
     match kind {
         0 => PropertyRead::Is(Property::ChildKey, c),
-        1 => match c.text(sheet, Encoding::Wtf8, 4096) {
+        1 => match c.text(sheet, Encoding::Wtf8, TEXT_LIMIT) {
             Text::Refused(r) => PropertyRead::Refused(r),
             Text::From(start, next) => PropertyRead::Is(Property::StringKey(start, next.at), next),
         },
-        2 => match c.text(sheet, Encoding::Utf8, 4096) {
+        2 => match c.text(sheet, Encoding::Utf8, TEXT_LIMIT) {
             Text::Refused(r) => PropertyRead::Refused(r),
             Text::From(start, next) => PropertyRead::Is(Property::NameKey(start, next.at), next),
         },
@@ -162,7 +164,7 @@ pub fn read_attributes(sheet: &[u8], source: &[u8], c: Cursor, levels: usize) ->
         Read::Refused(r) => AttributesRead::Refused(r),
         Read::Value(_, next) => match read_span(sheet, source, next) {
             SpanRead::Refused(r) => AttributesRead::Refused(r),
-            SpanRead::Is(span, next) => match next.count(sheet, 64) {
+            SpanRead::Is(span, next) => match next.count(sheet, PROPERTY_LIMIT) {
                 Read::Refused(r) => AttributesRead::Refused(r),
                 Read::Value(n, next) => AttributesRead::Is(span, n, next),
             },

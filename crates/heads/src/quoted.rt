@@ -2,6 +2,7 @@
 use sheet::fields::Span;
 use sheet::fields::SpanRead;
 use sheet::fields::read_span;
+use sheet::limits::TEXT_LIMIT;
 use text::utf8::Encoding;
 use wire::Cursor;
 use wire::Read;
@@ -70,7 +71,7 @@ pub fn read_string_text(sheet: &[u8], source: &[u8], c: Cursor, span: Span) -> T
     ensures { λ r. ⌜ textAs (now (sheet .entry)) r ≡ stringText (now (source .entry)) span (drop (c .at) (now (sheet .entry))) ⌝ }
     ensures { λ r. ⌜ PastText (c .at) (length (now (sheet .entry))) r ⌝ }
 {
-    c.text(sheet, Encoding::Wtf8, 4096)
+    c.text(sheet, Encoding::Wtf8, TEXT_LIMIT)
 }
 
 // A String, with so many levels left, its own among them.

@@ -15,6 +15,7 @@ use Rattle.text.specs.Position.{characters, Indexed}
 use Rattle.text.specs.Bytes.{part}
 use Rattle.text.proofs.Columns.{counted}
 use Rattle.text.proofs.WellFormed.{well-formed-iff}
+use Rattle.sheet.specs.Limits.{sourceLimit, commentLimit, groupLimit, commentNumbers, groupNumbers, indexNumbers}
 use Rattle.sheet.specs.Fit.{Fit}
 use Rattle.sheet.specs.Walk.{startOf, visits}
 use Rattle.sheet.specs.Sheet.{Sheet, accept}
@@ -64,16 +65,16 @@ module _ {s comments groups : List ℕ} {p : Parts} (a : Accepts s comments grou
   fit : Fit (a .sheet .source) (a .sheet .comments)
   fit = within .comments .1
 
-  pub source-short : length (part s (p .«source_start») (p .«source_end»)) ≤ 32768
+  pub source-short : length (part s (p .«source_start») (p .«source_end»)) ≤ sourceLimit
   source-short = rw (a .source) (within .source .0)
 
-  pub lent : 3072 ≤ length comments → 4096 ≤ length groups → {index : List ℕ} → 1026 ≤ length index
+  pub lent : commentNumbers ≤ length comments → groupNumbers ≤ length groups → {index : List ℕ} → indexNumbers ≤ length index
       → Indexed characters (part s (p .«source_start») (p .«source_end»)) index (length (part s (p .«source_start») (p .«source_end»)) / 64 + 1)
       → Held (part s (p .«source_start») (p .«source_end»)) comments (p .comments) groups (p .groups) index
   lent c g {index} i positions =
       let short = source-short in
-      let n : p .comments ≤ 1024 = rw (← a .comments, rows-length) at (within .comments .0) in
-      let m : p .groups ≤ 1024 = rw (← a .groups, rows-length) at (within .groups .0) in (
+      let n : p .comments ≤ commentLimit = rw (← a .comments, rows-length) at (within .comments .0) in
+      let m : p .groups ≤ groupLimit = rw (← a .groups, rows-length) at (within .groups .0) in (
         record {
           utf8 = rw (a .source) formed-source;
           short = short;

@@ -7,6 +7,7 @@ use lib.ListN.{drop}
 use Rattle.laws.specs.Decoded.{ok}
 use Rattle.wire.specs.Fields.{encodeFlag}
 use Rattle.wire.specs.Optional.{encodeOptional}
+use Rattle.sheet.specs.Limits.{depthLimit}
 use Rattle.sheet.specs.declared.groups.Group.{Group}
 use Rattle.sheet.specs.Tree.{Node}
 use Rattle.sheet.specs.Nodes.{node}
@@ -27,7 +28,7 @@ use Rattle.module_info.specs.Pieces.{dependencyBytes, headBytes, restByt
 
 module _ {t : Sheet} {source comments groups : List ℕ} {p : Parts} (o : PartsOf t source comments groups p) where
   pub dependencies-written : {s : List ℕ} (r : RootOf t s p) (u : Buffer) {v w : Buffer} → v ≡ wrote u (encodeFlag (p .program .script))
-      → ((n : Node) (l : List ℕ) → node source 64 (drop (p .root) s) ≡ ok n l → p .entries ≡ entries n
+      → ((n : Node) (l : List ℕ) → node source depthLimit (drop (p .root) s) ≡ ok n l → p .entries ≡ entries n
       → w ≡ wrote v (encodeList encodeDependency (collect source (typesIn source (commentsIn comments (p .comments)) (groupsIn groups (p .groups))) n)))
       → w ≡ wrote u (dependencyBytes t)
   unfolding dependencyBytes

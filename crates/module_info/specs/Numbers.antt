@@ -4,6 +4,7 @@ use mathlib.Core.Logic.{_⊎_, _↔_}
 use mathlib.Core.List.{List, _++_}
 use Prim.Native.Nat.{ℕ, _≤_}
 use lib.ListN.{length}
+use Rattle.sheet.specs.Limits.{sheetLimit}
 use Rattle.sheet.specs.Sheet.{Sheet}
 use Rattle.sheet_codec.specs.SheetOf.{Encodes, Uncooked, SheetOf}
 use Rattle.sheet_codec.specs.Refused.{Missized, MetAtField, BytesFollow}
@@ -18,7 +19,7 @@ pub record NumberRight (s : List ℕ) (number : ℕ) : Type 0 where
   -- 2 to 7: at some field, all before which are unbroken, s breaks what 01 asks, and nothing of a lower number
   pub at-field : 2 ≤ number → number ≤ 7 → MetAtField s number
   -- 3 to 7 are judged from the front: they stay the answer to every longer sheet that begins with s, up to the limit of 1
-  pub stays : 3 ≤ number → number ≤ 7 → (u : List ℕ) → length (s ++ u) ≤ 65536 → (size : ℕ) → answerOf (s ++ u) size .number ≡ number
+  pub stays : 3 ≤ number → number ≤ 7 → (u : List ℕ) → length (s ++ u) ≤ sheetLimit → (size : ℕ) → answerOf (s ++ u) size .number ≡ number
   -- 8: bytes follow the root node
   pub eight : (number ≡ 8) ↔ BytesFollow s
   -- 9: s is the encoding of a sheet within the limits, and a walked call has an uncooked template

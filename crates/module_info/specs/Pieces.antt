@@ -6,6 +6,7 @@ use lib.ListN.{drop}
 use Rattle.laws.specs.Decoded.{ok}
 use Rattle.wire.specs.Fields.{encodeFlag}
 use Rattle.wire.specs.Optional.{encodeOptional}
+use Rattle.sheet.specs.Limits.{depthLimit}
 use Rattle.sheet.specs.Nodes.{node}
 use Rattle.sheet.specs.Walked.{entries}
 use Rattle.sheet.specs.Sheet.{Sheet}
@@ -42,5 +43,5 @@ pub record PartsOf (t : Sheet) (source comments groups : List ℕ) (p : Parts) :
 
 -- its tree in its bytes s
 pub record RootOf (t : Sheet) (s : List ℕ) (p : Parts) : Type 0 where
-  pub root : node (t .source) 64 (drop (p .root) s) ≡ ok (t .root) []
+  pub root : node (t .source) depthLimit (drop (p .root) s) ≡ ok (t .root) []
   pub count : entries (t .root) ≡ p .entries

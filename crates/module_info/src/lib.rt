@@ -14,6 +14,11 @@ use report::lent::Writer;
 use report::writer::Outcome;
 use report::writer::Place;
 use report::writer::refuse_all;
+use sheet::limits::COMMENT_LIMIT;
+use sheet::limits::COMMENT_NUMBERS;
+use sheet::limits::GROUP_NUMBERS;
+use sheet::limits::INDEX_NUMBERS;
+use sheet::limits::SOURCE_LIMIT;
 use sheet::lookups::end_group;
 use sheet::lookups::head_group;
 use text::position::build_index;
@@ -39,9 +44,9 @@ fn put_dependencies(
     sheet: &[u8],
     source: &[u8],
     parts: Parts,
-    comments: &[u32; 3072],
-    groups: &[u32; 4096],
-    index: &[u32; 1026],
+    comments: &[u32; COMMENT_NUMBERS],
+    groups: &[u32; GROUP_NUMBERS],
+    index: &[u32; INDEX_NUMBERS],
     out: &mut [u8],
     place: Place,
 ) -> Place
@@ -166,7 +171,7 @@ fn put_rest_large(
     ensures { λ r. ⌜ ((t : Sheet) → PartsOf t (now (source .entry)) (now (comments .entry)) (now (groups .entry)) parts
         → bufferAs (now (out .exit)) r ≡ wrote (bufferAs (now (out .entry)) place) (restBytes t)) ⌝ }
 {
-    let mut marks = [0u8; 32768];
+    let mut marks = [0u8; SOURCE_LIMIT];
     put_rest(
         source,
         parts,
@@ -186,8 +191,8 @@ fn show_lengths(_comments: &[u32], _groups: &[u32]) {}
 fn put_report(
     sheet: &[u8],
     parts: Parts,
-    comments: &[u32; 3072],
-    groups: &[u32; 4096],
+    comments: &[u32; COMMENT_NUMBERS],
+    groups: &[u32; GROUP_NUMBERS],
     out: &mut [u8],
     place: Place,
 ) -> Place
@@ -198,7 +203,7 @@ fn put_report(
     let start = parts.source_start;
     let end = parts.source_end;
     let source = &sheet[start..end];
-    let mut index = [0u32; 1026];
+    let mut index = [0u32; INDEX_NUMBERS];
     build_index(source, &mut index);
     show_lengths(comments, groups);
     let p = put_dependencies(sheet, source, parts, comments, groups, &index, out, place);
@@ -213,8 +218,8 @@ fn put_report(
 fn write_report(
     sheet: &[u8],
     parts: Parts,
-    comments: &[u32; 3072],
-    groups: &[u32; 4096],
+    comments: &[u32; COMMENT_NUMBERS],
+    groups: &[u32; GROUP_NUMBERS],
     buffer: &mut [u8],
 ) -> Outcome
     requires { ⌜ Accepts (now sheet) (now comments) (now groups) parts ⌝ }
@@ -231,10 +236,14 @@ fn write_report(
 }
 
 // Judges a sheet. The table that only the judge works in is here, so that its room on the stack is free again for what follows.
-fn judge(sheet: &[u8], comments: &mut [u32; 3072], groups: &mut [u32; 4096]) -> SheetChecked
+fn judge(
+    sheet: &[u8],
+    comments: &mut [u32; COMMENT_NUMBERS],
+    groups: &mut [u32; GROUP_NUMBERS],
+) -> SheetChecked
     ensures { λ r. ⌜ Judges (now (sheet .entry)) (now (comments .exit)) (now (groups .exit)) r ⌝ }
 {
-    let mut longest = [0u32; 1024];
+    let mut longest = [0u32; COMMENT_LIMIT];
     check_sheet(sheet, comments, groups, &mut longest)
 }
 
@@ -242,8 +251,8 @@ fn judge(sheet: &[u8], comments: &mut [u32; 3072], groups: &mut [u32; 4096]) -> 
 pub fn module_info(sheet: &[u8], buffer: &mut [u8]) -> Outcome
     ensures { λ r. ⌜ Demands (now (sheet .entry)) (length (now (buffer .entry))) r (now (buffer .exit)) ⌝ }
 {
-    let mut comments = [0u32; 3072];
-    let mut groups = [0u32; 4096];
+    let mut comments = [0u32; COMMENT_NUMBERS];
+    let mut groups = [0u32; GROUP_NUMBERS];
     match judge(sheet, &mut comments, &mut groups) {
         SheetChecked::Refused(r) => refuse_all(buffer, r as u8),
         SheetChecked::Accepted(parts) => write_report(sheet, parts, &comments, &groups, buffer),

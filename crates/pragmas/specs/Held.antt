@@ -7,6 +7,7 @@ use Prim.Native.Nat.{ℕ, _*_, _≤_}
 use lib.ListN.{length}
 use Rattle.text.specs.declared.utf8.Encoding.the-variants.{Utf8}
 use Rattle.text.specs.Utf8.{formed}
+use Rattle.sheet.specs.Limits.{sourceLimit}
 use Rattle.sheet.specs.declared.groups.Group.{Group}
 use Rattle.sheet.specs.Tables.{commentsIn, groupsIn}
 use Rattle.sheet.specs.Fit.{Fit, Reaching, Grouped}
@@ -15,7 +16,7 @@ use Rattle.report.specs.Range.{IndexOf}
 -- n comments of the source in a table, and the index of its positions
 pub record Commented (source comments : List ℕ) (n : ℕ) (index : List ℕ) : Type 0 where
   pub utf8 : formed Utf8 0 source ≡ true
-  pub short : length source ≤ 32768
+  pub short : length source ≤ sourceLimit
   pub room : 3 * n ≤ length comments
   pub fit : Fit source (commentsIn comments n)
   pub indexed : IndexOf source index

@@ -10,6 +10,7 @@ use Rattle.text.specs.Position.{isBoundary}
 use Rattle.wire.specs.Fields.{byte, below}
 use Rattle.wire.specs.Number.{lastGroup, number}
 use Rattle.wire.specs.Text.{count}
+use Rattle.sheet.specs.Limits.{commentLimit, groupLimit}
 use Rattle.sheet.specs.declared.groups.Group.{Group}
 use Rattle.sheet.specs.Fields.{position, endFrom}
 use Rattle.sheet.specs.Comments.{enclosed, marked, comment, comments, group, groups, anywhere, covered, chained}
@@ -21,9 +22,9 @@ source = ascii "/*/*///" ++ (0xC3 ∷ 0xA9 ∷ [])
 -- the fields of a sheet from the comment count up to the last group
 abbrev fields : Decoder (List Group)
 fields = do
-  n ← count 1024
+  n ← count commentLimit
   cs ← comments source 0 n
-  m ← count 1024
+  m ← count groupLimit
   gs ← groups source n anywhere m
   require (covered gs n) 7
   return gs

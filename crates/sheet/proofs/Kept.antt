@@ -9,6 +9,7 @@ use Rattle.text.specs.declared.utf8.Encoding.the-variants.{Utf8, Wtf8}
 use Rattle.text.specs.Position.{isBoundary}
 use Rattle.wire.specs.Number.{number}
 use Rattle.wire.proofs.Kept.{OfFields, two, three, four, six, seven, below-kept, flag-kept, optional-kept, number-kept, count-kept, text-kept}
+use Rattle.sheet.specs.Limits.{sourceLimit, textLimit, commentLimit, groupLimit, depthLimit, propertyLimit}
 use Rattle.sheet.specs.declared.fields.Span.{Span}
 use Rattle.sheet.specs.declared.comments.Comment.{Comment}
 use Rattle.sheet.specs.declared.groups.Group.{Group}
@@ -71,7 +72,7 @@ module _ {P : (A : Type 0) → Decoder A → Type 0} (h : OfFields P) where
 
   string-text-kept : (source : List ℕ) (sp : Span) → P (List ℕ) (stringText source sp)
   unfolding stringText
-  string-text-kept source sp = text-kept h Wtf8 4096
+  string-text-kept source sp = text-kept h Wtf8 textLimit
 
   quoted-kept : (source : List ℕ) (levels : ℕ) → P Quoted (quoted source levels)
   unfolding quoted
@@ -79,7 +80,7 @@ module _ {P : (A : Type 0) → Decoder A → Type 0} (h : OfFields P) where
 
   piece-kept : P (Pieces → Pieces) piece
   unfolding piece
-  piece-kept = then (optional-kept h (text-kept h Wtf8 4096)) (λ x. ends _)
+  piece-kept = then (optional-kept h (text-kept h Wtf8 textLimit)) (λ x. ends _)
 
   -- the parts of a node that hold nodes
   module _ {inner : Decoder Node} (p : P Node inner) where
@@ -96,8 +97,8 @@ module _ {P : (A : Type 0) → Decoder A → Type 0} (h : OfFields P) where
     keyed-kept kind =
         at-index kept
         (next (then p (λ k. then p (λ v. ends _)))
-        (next (then (text-kept h Wtf8 4096) (λ k. then p (λ v. ends _)))
-        (next (then (text-kept h Utf8 4096) (λ k. then p (λ v. ends _))) done)))
+        (next (then (text-kept h Wtf8 textLimit) (λ k. then p (λ v. ends _)))
+        (next (then (text-kept h Utf8 textLimit) (λ k. then p (λ v. ends _))) done)))
         kind three
 
     properties-kept : (k : ℕ) → P Properties (properties inner k)
@@ -124,10 +125,10 @@ module _ {P : (A : Type 0) → Decoder A → Type 0} (h : OfFields P) where
         at-index kept
         (next (then a-number (λ n. then (nodes-kept p n) (λ ns. ends _)))
         (next (then (string-text-kept source sp) (λ x. ends _))
-        (next (then (text-kept h Utf8 4096) (λ x. ends _))
+        (next (then (text-kept h Utf8 textLimit) (λ x. ends _))
         (next (then a-number (λ n. then (many-kept [] piece-kept (n + 1)) (λ ps. then (nodes-kept p n) (λ ns. ends _))))
         (next (then flag-first (λ plus. then p (λ l. then p (λ r. ends _))))
-        (next (then (count-kept h 64) (λ n. then (properties-kept p n) (λ ps. ends _)))
+        (next (then (count-kept h propertyLimit) (λ n. then (properties-kept p n) (λ ps. ends _)))
         (next (then (below-kept h 4) (λ callee. either kept (ltb callee 3) (rest-kept _) (then p (λ e. rest-kept _))))
         (next (then flag-first (λ typeOnly. then (below-kept h 3) (λ phase. then flag-first (λ sideEffect. then x (λ x. attributed _)))))
         (next (then flag-first (λ typeOnly. then flag-first (λ there. either kept there (then x (λ x. attributed _)) (ends _))))
@@ -149,12 +150,12 @@ module _ {P : (A : Type 0) → Decoder A → Type 0} (h : OfFields P) where
       object-kept : (levels : ℕ) → P Attributes (attributesObject source levels)
       object-kept zero = then (tag-kept (eqb 5) 0) (λ t. refuses four)
       object-kept (suc d) =
-          then (tag-kept (eqb 5) (suc d)) (λ t. then (span-kept source) (λ sp. then (count-kept h 64) (λ n. then (properties-kept (node-kept d) n) (λ ps. ends _))))
+          then (tag-kept (eqb 5) (suc d)) (λ t. then (span-kept source) (λ sp. then (count-kept h propertyLimit) (λ n. then (properties-kept (node-kept d) n) (λ ps. ends _))))
 
   pub sheet-kept : P Sheet sheet
   unfolding sheet
   sheet-kept =
-      then (below-kept h 11) (λ media. then (text-kept h Utf8 32768) (λ source.
-      then (count-kept h 1024) (λ n. then (chained-kept _ (comment-kept source) 0 n) (λ cs.
-      then (count-kept h 1024) (λ m. then (chained-kept _ (group-kept source n) anywhere m) (λ gs.
-      test kept (covered gs n) seven (then (program-kept source) (λ p. then (node-kept source 64) (λ root. ends _)))))))))
+      then (below-kept h 11) (λ media. then (text-kept h Utf8 sourceLimit) (λ source.
+      then (count-kept h commentLimit) (λ n. then (chained-kept _ (comment-kept source) 0 n) (λ cs.
+      then (count-kept h groupLimit) (λ m. then (chained-kept _ (group-kept source n) anywhere m) (λ gs.
+      test kept (covered gs n) seven (then (program-kept source) (λ p. then (node-kept source depthLimit) (λ root. ends _)))))))))

@@ -1,3 +1,4 @@
+pub mod Limits
 pub mod Media
 pub mod Tree
 pub mod Fields

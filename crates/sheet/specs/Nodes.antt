@@ -10,6 +10,7 @@ use Rattle.wire.specs.Fields.{byte, below, flag}
 use Rattle.wire.specs.Number.{number}
 use Rattle.wire.specs.Text.{count, text}
 use Rattle.wire.specs.Optional.{optional}
+use Rattle.sheet.specs.Limits.{textLimit, propertyLimit}
 use Rattle.sheet.specs.declared.fields.Span.{Span}
 use Rattle.sheet.specs.Tree.{Quoted, Pieces, Node, other, string, name, template, binary, object, importCall, call, importDecl, namedExport, exportFrom, exportAll, importType, importEquals, importRequire, moduleDecl, Nodes, none, more, Arguments, noArguments, argument, Properties, noProperties, spread, otherProperty, childKey, stringKey, nameKey, Attributes, without, withObject}
 use Rattle.sheet.specs.Fields.{span}
@@ -29,7 +30,7 @@ tag allowed levels = do
 
 -- the text of a String whose span is read
 unfoldable pub stringText : List ℕ → Span → Decoder (List ℕ)
-stringText source sp = text Wtf8 4096
+stringText source sp = text Wtf8 textLimit
 
 -- a String, with so many levels left, its own among them
 unfoldable pub quoted : List ℕ → ℕ → Decoder Quoted
@@ -42,7 +43,7 @@ quoted source levels = do
 -- a piece of a template: a flag, and its text if it is cooked
 unfoldable pub piece : Decoder (Pieces → Pieces)
 piece = do
-  x ← optional (text Wtf8 4096)
+  x ← optional (text Wtf8 textLimit)
   return (x ∷_)
 
 -- the parts of a node that hold nodes, from a decoder of a node one level down
@@ -66,8 +67,8 @@ module _ (node : Decoder Node) where
   keyedItem kind =
       getD
       ((node >>= λ k. node >>= λ v. return (childKey k v))
-      ∷ (text Wtf8 4096 >>= λ k. node >>= λ v. return (stringKey k v))
-      ∷ (text Utf8 4096 >>= λ k. node >>= λ v. return (nameKey k v))
+      ∷ (text Wtf8 textLimit >>= λ k. node >>= λ v. return (stringKey k v))
+      ∷ (text Utf8 textLimit >>= λ k. node >>= λ v. return (nameKey k v))
       ∷ [])
       kind
       (refuse 3)
@@ -108,7 +109,7 @@ module _ (source : List ℕ) (levels : ℕ) (node : Decoder Node) (object′ : D
 
   unfoldable pub nameFields : Decoder Node
   nameFields = do
-    x ← text Utf8 4096
+    x ← text Utf8 textLimit
     return (name sp x)
 
   -- holes, pieces, the holes' nodes
@@ -128,7 +129,7 @@ module _ (source : List ℕ) (levels : ℕ) (node : Decoder Node) (object′ : D
 
   unfoldable pub objectFields : Decoder Node
   objectFields = do
-    n ← count 64
+    n ← count propertyLimit
     ps ← properties node n
     return (object sp ps)
 
@@ -222,6 +223,6 @@ unfoldable mutual
   attributesObject source (suc d) = do
     tag (eqb 5) (suc d)
     sp ← span source
-    n ← count 64
+    n ← count propertyLimit
     ps ← properties (node source d) n
     return (withObject sp ps)

@@ -8,6 +8,7 @@ use Rattle.laws.specs.Decoded.{ok, no, Decoder, _>>=_, _>>_, return, require}
 use Rattle.text.specs.declared.utf8.Encoding.the-variants.{Utf8}
 use Rattle.wire.specs.Fields.{below}
 use Rattle.wire.specs.Text.{count, text}
+use Rattle.sheet.specs.Limits.{sheetLimit, sourceLimit, commentLimit, groupLimit, depthLimit}
 use Rattle.sheet.specs.Tree.{Node}
 use Rattle.sheet.specs.declared.comments.Comment.{Comment}
 use Rattle.sheet.specs.declared.groups.Group.{Group}
@@ -29,19 +30,19 @@ pub record Sheet : Type 0 where
 unfoldable pub sheet : Decoder Sheet
 sheet = do
   media ← below 11
-  source ← text Utf8 32768
-  n ← count 1024
+  source ← text Utf8 sourceLimit
+  n ← count commentLimit
   cs ← comments source 0 n
-  m ← count 1024
+  m ← count groupLimit
   gs ← groups source n anywhere m
   require (covered gs n) 7
   p ← program source
-  root ← node source 64
+  root ← node source depthLimit
   return (record { media = media; source = source; comments = cs; groups = gs; program = p; root = root })
 
 -- refusal 1 of no byte or too many
 abbrev pub sized : Decoder (Unit {0})
-sized s = require (ltb 0 (length s) && leb (length s) 65536) 1 s
+sized s = require (ltb 0 (length s) && leb (length s) sheetLimit) 1 s
 
 -- refusal 8 where bytes are left
 abbrev pub ending : Decoder (Unit {0})

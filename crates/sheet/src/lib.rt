@@ -3,5 +3,6 @@ pub mod comments;
 pub mod covering;
 pub mod fields;
 pub mod groups;
+pub mod limits;
 pub mod lookups;
 pub mod program;

@@ -10,6 +10,7 @@ use Rattle.text.specs.declared.utf8.Encoding.the-variants.{Wtf8}
 use Rattle.wire.specs.Number.{encodeNumber}
 use Rattle.wire.specs.Text.{encodeText}
 use Rattle.wire.specs.Optional.{encodeOptional}
+use Rattle.sheet.specs.Limits.{depthLimit}
 use Rattle.sheet.specs.declared.fields.Span.{Span}
 use Rattle.sheet.specs.declared.comments.Comment.{Comment}
 use Rattle.sheet.specs.declared.groups.Group.{Group}
@@ -126,5 +127,5 @@ fields-bytes t =
       chain-bytes (commentFields (t .source)) endOf encodeComment (comment-bytes (t .source)) 0 (t .comments),
       chain-bytes (groupFields (t .source) (length (t .comments))) (λ g. Option.some g) encodeGroup (group-bytes (t .source) (length (t .comments))) Option.none (t .groups),
       first-bytes (t .source) (t .program .first),
-      node-bytes (t .source) (t .root) 64,
+      node-bytes (t .source) (t .root) depthLimit,
     )

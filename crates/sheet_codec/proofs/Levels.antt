@@ -10,6 +10,7 @@ use Rattle.laws.specs.Codec.{Codec}
 use Rattle.laws.proofs.Decoding.{refused, then-ok}
 use Rattle.laws.proofs.Codecs.{built-then}
 use Rattle.wire.specs.Number.{largest}
+use Rattle.sheet.specs.Limits.{propertyLimit}
 use Rattle.sheet.specs.Tree.{Node, other, string, name, template, binary, object, importCall, call, importDecl, namedExport, exportFrom, exportAll, importType, importEquals, importRequire, moduleDecl, withObject}
 use Rattle.sheet.specs.Fields.{span, encodeSpan}
 use Rattle.sheet.specs.Nodes.{tag, node, attributesObject}
@@ -89,7 +90,7 @@ module _ (source : List ℕ) (small : length source ≤ largest) where
     unfolding attributesObject AttributesFit
     one-object =
         let k = built-tag 5 (suc d) (built-then (span-codec source small) (λ sp.
-        built-counted-end (limit-codec 64 (omega arith)) (properties-codec source small d (node source d) down) (withObject sp))) in
+        built-counted-end (limit-codec propertyLimit (omega arith)) (properties-codec source small d (node source d) down) (withObject sp))) in
         record {
           complete = λ p v. k .complete p (v .0 .deep, (v .0 .span, v .1));
           sound = λ s a u e.

@@ -14,6 +14,7 @@ use Rattle.laws.proofs.Answers.{Answer, Answers, answers-kept}
 use Rattle.laws.proofs.Steady.{Followed, Steady, steady-kept}
 use Rattle.wire.specs.Fields.{byte, bytes}
 use Rattle.wire.proofs.Kept.{AtField, OfFields, two}
+use Rattle.sheet.specs.Limits.{sheetLimit}
 use Rattle.sheet.specs.Walked.{uncooked}
 use Rattle.sheet.specs.Sheet.{Sheet, sheet, ending, decodeSheet, accept}
 use Rattle.sheet.proofs.Kept.{sheet-kept}
@@ -68,32 +69,32 @@ fields-steady =
 data Stage (s : List ℕ) : Decoded Sheet → Type 0 where
   size : Missized s → Stage s (no 1)
   field : {r : ℕ} → AtField r → 0 < length s → sheet s ≡ no r → Stage s (no r)
-  bytesFollow : (t : Sheet) (b : ℕ) (u : List ℕ) → sheet s ≡ ok t (b ∷ u) → length s ≤ 65536 → Stage s (no 8)
+  bytesFollow : (t : Sheet) (b : ℕ) (u : List ℕ) → sheet s ≡ ok t (b ∷ u) → length s ≤ sheetLimit → Stage s (no 8)
   call : (t : Sheet) → decodeSheet s ≡ ok t [] → uncooked (t .root) ≡ true → Stage s (no 9)
   nowhere : (t : Sheet) → accept s ≡ ok t [] → Stage s (ok t [])
 
 stage : (s : List ℕ) → Stage s (accept s)
 unfolding accept decodeSheet
-stage s = by-size (ltb 0 (length s)) refl (leb (length s) 65536) refl
+stage s = by-size (ltb 0 (length s)) refl (leb (length s) sheetLimit) refl
   where
     by-calls : (t : Sheet) → decodeSheet s ≡ ok t [] → (b : Bool) → uncooked (t .root) ≡ b → Stage s ((require (not b) 9 >> return t) [])
     by-calls t e true is = call t e is
     by-calls t e false is = nowhere t (rw (e, is))
 
-    by-end : length s ≤ 65536 → (t : Sheet) (u : List ℕ) → sheet s ≡ ok t u → decodeSheet s ≡ (ending >> return t) u
+    by-end : length s ≤ sheetLimit → (t : Sheet) (u : List ℕ) → sheet s ≡ ok t u → decodeSheet s ≡ (ending >> return t) u
         → Stage s (((ending >> return t) >>= λ t. require (not (uncooked (t .root))) 9 >> return t) u)
     by-end few t [] x e = by-calls t e (uncooked (t .root)) refl
     by-end few t (b ∷ u) x e = bytesFollow t b u x few
 
-    by-fields : 0 < length s → length s ≤ 65536 → (x : Decoded Sheet) → sheet s ≡ x → Answer (λ t. Unit {0}) AtField x
+    by-fields : 0 < length s → length s ≤ sheetLimit → (x : Decoded Sheet) → sheet s ≡ x → Answer (λ t. Unit {0}) AtField x
         → Stage s (andThen (andThen x (λ t. ending >> return t)) (λ t. require (not (uncooked (t .root))) 9 >> return t))
-    by-fields some few (ok t u) e h = by-end few t u e (rw (lt-ltb 0 (length s) some, le-leb (length s) 65536 few, e))
+    by-fields some few (ok t u) e h = by-end few t u e (rw (lt-ltb 0 (length s) some, le-leb (length s) sheetLimit few, e))
     by-fields some few (no r) e h = field h some e
 
-    by-size : (b : Bool) → ltb 0 (length s) ≡ b → (c : Bool) → leb (length s) 65536 ≡ c
+    by-size : (b : Bool) → ltb 0 (length s) ≡ b → (c : Bool) → leb (length s) sheetLimit ≡ c
         → Stage s ((require (b && c) 1 >> (sheet >>= λ t. ending >> return t) >>= λ t. require (not (uncooked (t .root))) 9 >> return t) s)
-    by-size true i true j = by-fields (ltb-true 0 (length s) i) (leb-true (length s) 65536 j) (sheet s) refl (sheet-kept fields-numbered .at s)
-    by-size true i false j = size (inr (leb-false (length s) 65536 j))
+    by-size true i true j = by-fields (ltb-true 0 (length s) i) (leb-true (length s) sheetLimit j) (sheet s) refl (sheet-kept fields-numbered .at s)
+    by-size true i false j = size (inr (leb-false (length s) sheetLimit j))
     by-size false i c j = let none : length s ≡ 0 = omega (arith, ltb-false 0 (length s) i) in size (inl none)
 
 -- a sheet is accepted, or refused with a number from 1 to 9
@@ -125,7 +126,7 @@ module _ (s : List ℕ) where
 
       back : Missized s → accept s ≡ no 1
       back (inl e) = rw (le-ltb 0 (length s) (omega arith))
-      back (inr l) = rw (lt-leb (length s) 65536 l, and-false (ltb 0 (length s)))
+      back (inr l) = rw (lt-leb (length s) sheetLimit l, and-false (ltb 0 (length s)))
 
   pub at-field : {r : ℕ} → 2 ≤ r → r ≤ 7 → accept s ≡ no r → MetAtField s r
   at-field {r} low high e = by r refl (rw e at (stage s))
@@ -155,7 +156,7 @@ module _ (s : List ℕ) where
           let read : sheet s ≡ ok (h .sheet) (h .next ∷ h .behind) = rw (h .bytes) (sheet-codec .complete (h .sheet) (h .fit) (h .next ∷ h .behind)) in
           let long = length-append (encodeSheet (h .sheet)) (h .next ∷ h .behind) in
           let first : 0 < length s = omega (arith, some (h .sheet), ap length (h .bytes)) in
-          rw (lt-ltb 0 (length s) first, le-leb (length s) 65536 (h .few), read)
+          rw (lt-ltb 0 (length s) first, le-leb (length s) sheetLimit (h .few), read)
 
   -- the bytes are those of a sheet within the limits, and a walked call of it meets 9
   pub nine : (accept s ≡ no 9) ↔ ((t : Sheet) × Encodes s t × Uncooked t)
@@ -172,14 +173,14 @@ module _ (s : List ℕ) where
       back (t, e, c) = rw (decoded e, nine-exactly (t .root) .1 c)
 
 -- a refusal 3 to 7 stays the answer where more bytes follow, up to the limit of refusal 1
-pub stays : (s u : List ℕ) {r : ℕ} → 3 ≤ r → r ≤ 7 → accept s ≡ no r → length (s ++ u) ≤ 65536 → accept (s ++ u) ≡ no r
+pub stays : (s u : List ℕ) {r : ℕ} → 3 ≤ r → r ≤ 7 → accept s ≡ no r → length (s ++ u) ≤ sheetLimit → accept (s ++ u) ≡ no r
 unfolding accept decodeSheet
 stays s u {r} low high e fits = by r refl (rw e at (stage s))
   where
     followed : (q : ℕ) → q ≡ r → 0 < length s → Followed u (no q) (sheet (s ++ u)) → accept (s ++ u) ≡ no r
     followed q i some (inl two) = absurd (omega arith)
     followed q i some (inr e) =
-        rw (lt-ltb 0 (length (s ++ u)) (rw length-append (omega arith)), le-leb (length (s ++ u)) 65536 fits, e, i)
+        rw (lt-ltb 0 (length (s ++ u)) (rw length-append (omega arith)), le-leb (length (s ++ u)) sheetLimit fits, e, i)
 
     by : (q : ℕ) → q ≡ r → Stage s (no q) → accept (s ++ u) ≡ no r
     by q i (size h) = absurd (omega arith)

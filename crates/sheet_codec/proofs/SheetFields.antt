@@ -1,5 +1,6 @@
 -- A refusal 2 to 7 is met at a field of some sheet.
 use Rattle.text.specs.declared.utf8.Encoding.the-variants.{Utf8}
+use Rattle.sheet.specs.Limits.{depthLimit}
 use Rattle.sheet.specs.Sheet.{sheet}
 use Rattle.sheet_codec.specs.Field.{media, sourceLength, comments, groups}
 use Rattle.sheet_codec.specs.FieldsOf.{fieldsOf}
@@ -16,5 +17,5 @@ sheet-fields =
     then (count-field comments) (λ n c. then (comments-fields source n) (λ cs long.
     then (count-field groups) (λ m d. then (groups-fields source n m) (λ gs long′.
     then (every-comment gs n) (λ u e. then (program-fields source) (λ p f.
-    last (λ root. record { media = media; source = source; comments = cs; groups = gs; program = p; root = root }) (node-fields source 64) (λ root g.
+    last (λ root. record { media = media; source = source; comments = cs; groups = gs; program = p; root = root }) (node-fields source depthLimit) (λ root g.
     (tt, rw (long, long′)))))))))))

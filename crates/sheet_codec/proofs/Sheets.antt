@@ -16,6 +16,7 @@ use Rattle.laws.proofs.Codecs.{built-given, built-then, built-require, codec-of
 use Rattle.text.specs.declared.utf8.Encoding.the-variants.{Utf8}
 use Rattle.wire.specs.Number.{largest}
 use Rattle.wire.proofs.TextCodec.{below-codec, text-codec}
+use Rattle.sheet.specs.Limits.{sheetLimit, sourceLimit, commentLimit, groupLimit, depthLimit}
 use Rattle.sheet.specs.Comments.{covered}
 use Rattle.sheet.specs.Sheet.{Sheet, sheet, ending, decodeSheet, accept}
 use Rattle.sheet.specs.Walked.{uncooked}
@@ -34,11 +35,11 @@ pub sheet-codec : Codec sheet encodeSheet FieldsFit
 unfolding sheet encodeSheet
 sheet-codec =
     codec-of
-    (built-then (below-codec 11) (λ media. built-given (text-codec Utf8 32768 (omega arith)) (λ source fit.
+    (built-then (below-codec 11) (λ media. built-given (text-codec Utf8 sourceLimit (omega arith)) (λ source fit.
     let small : length source ≤ largest = omega (arith, fit .0) in
-    built-given (limit-codec 1024 (omega arith)) (λ n few. built-then (comments-codec source small n) (λ cs.
-    built-then (limit-codec 1024 (omega arith)) (λ m. built-then (groups-codec source n small (omega arith) m) (λ gs.
-    built-require (covered gs n) 7 (built-then (program-codec source small) (λ p. built-end (node-codec source small 64) (λ root.
+    built-given (limit-codec commentLimit (omega arith)) (λ n few. built-then (comments-codec source small n) (λ cs.
+    built-then (limit-codec groupLimit (omega arith)) (λ m. built-then (groups-codec source n small (omega arith) m) (λ gs.
+    built-require (covered gs n) 7 (built-then (program-codec source small) (λ p. built-end (node-codec source small depthLimit) (λ root.
     record { media = media; source = source; comments = cs; groups = gs; program = p; root = root }))))))))))
     (λ t v. (
       (t .media, (t .source, (length (t .comments), (t .comments, (length (t .groups), (t .groups, (t .program, t .root))))))),
@@ -64,11 +65,11 @@ sheet-codec =
 pub encoded : {s : List ℕ} {t : Sheet} → decodeSheet s ≡ ok t [] → Encodes s t
 unfolding decodeSheet
 encoded {s} {t} e =
-    let (size, e) = require-ok (ltb 0 (length s) && leb (length s) 65536) 1 s _ e in
+    let (size, e) = require-ok (ltb 0 (length s) && leb (length s) sheetLimit) 1 s _ e in
     let (r, u, x, e) = then-ok (sheet s) _ e in
     let (i, fit) = sheet-codec .sound s t [] (x ∙ all r u e) in
     let same : encodeSheet t ≡ s = sym (i ∙ append-nil (encodeSheet t)) in
-    let few = leb-true (length s) 65536 (and-eq-true-iff (ltb 0 (length s)) (leb (length s) 65536) .0 size .1) in
+    let few = leb-true (length s) sheetLimit (and-eq-true-iff (ltb 0 (length s)) (leb (length s) sheetLimit) .0 size .1) in
     record { bytes = same; within = record { fields = fit; bytes = rw same few } }
   where
     all : (r : Sheet) (u : List ℕ) → (ending >> return r) u ≡ ok t [] → ok r u ≡ ok t []
@@ -88,7 +89,7 @@ decoded {s} {t} h =
     rw (
       ← h .bytes,
       lt-ltb 0 (length bytes) (some t),
-      le-leb (length bytes) 65536 (h .within .bytes),
+      le-leb (length bytes) sheetLimit (h .within .bytes),
       rw append-nil at (sheet-codec .complete t (h .within .fields) []),
     )
 

@@ -16,6 +16,7 @@ use Rattle.text.specs.declared.utf8.Encoding.the-variants.{Wtf8}
 use Rattle.wire.specs.Number.{largest}
 use Rattle.wire.specs.Text.{text, encodeText}
 use Rattle.wire.proofs.TextCodec.{byte-codec, text-codec}
+use Rattle.sheet.specs.Limits.{textLimit}
 use Rattle.sheet.specs.declared.fields.Span.{Span}
 use Rattle.sheet.specs.Nodes.{tag, stringText, quoted}
 use Rattle.sheet_codec.specs.Encode.{encodeQuoted}
@@ -43,11 +44,11 @@ module _ {A B : Type 0} {d : Decoder B} {build : A → B} {encode : A → List �
       }
 
 -- a text of at most 4,096 bytes
-pub short-text : (e : Encoding) → Codec (text e 4096) encodeText (TextFits e 4096)
-short-text e = text-codec e 4096 (omega arith)
+pub short-text : (e : Encoding) → Codec (text e textLimit) encodeText (TextFits e textLimit)
+short-text e = text-codec e textLimit (omega arith)
 
 -- of a String
-pub string-text : (source : List ℕ) (sp : Span) → Codec (stringText source sp) encodeText (TextFits Wtf8 4096)
+pub string-text : (source : List ℕ) (sp : Span) → Codec (stringText source sp) encodeText (TextFits Wtf8 textLimit)
 unfolding stringText
 string-text source sp = short-text Wtf8
 

@@ -19,6 +19,7 @@ use Rattle.wire.specs.Optional.{encodeOptional}
 use Rattle.wire.proofs.NumberCodec.{number-codec}
 use Rattle.wire.proofs.TextCodec.{below-codec, flag-codec}
 use Rattle.wire.proofs.OptionalCodec.{optional-codec}
+use Rattle.sheet.specs.Limits.{textLimit, propertyLimit}
 use Rattle.sheet.specs.declared.fields.Span.{Span}
 use Rattle.sheet.specs.Tree.{Quoted, Pieces, Phase, Node, other, string, name, template, binary, object, importCall, call, importDecl, namedExport, exportFrom, exportAll, importType, importEquals, importRequire, moduleDecl, Nodes, Arguments, Properties, Attributes, without, withObject}
 use Rattle.sheet.specs.Nodes.{attributes, otherFields, stringFields, nameFields, templateFields, binaryFields, objectFields, callRest, callFields, importFields, namedExportFields, exportAllFields, importTypeFields, importEqualsFields, moduleFields, fields}
@@ -89,7 +90,7 @@ module _ (source : List ℕ) (small : length source ≤ largest) (d : ℕ) (node
       template-built : Built (templateFields source d node object′ sp)
           (λ (p : Pieces × Nodes). template sp (p .0) (p .1))
           (λ p. encodeNumber (nodesIn (p .1)) ++ (flatMap (encodeOptional encodeText) (p .0) ++ encodeNodes (p .1)))
-          (λ p. ((length (p .0) ≡ nodesIn (p .1) + 1) × All (IfThere (TextFits Wtf8 4096)) (p .0)) × ((nodesIn (p .1) ≤ largest) × NodesFit source (p .1) d))
+          (λ p. ((length (p .0) ≡ nodesIn (p .1) + 1) × All (IfThere (TextFits Wtf8 textLimit)) (p .0)) × ((nodesIn (p .1) ≤ largest) × NodesFit source (p .1) d))
       unfolding templateFields
       template-built =
           let k = built-then number-codec (λ n. built-then (pieces-codec (n + 1)) (λ ps. built-end (nodes-codec source small d node node-codec n) (template sp ps))) in
@@ -112,7 +113,7 @@ module _ (source : List ℕ) (small : length source ≤ largest) (d : ℕ) (node
       object-fields : Fields 5 (objectFields source d node object′ sp) (object sp)
       unfolding objectFields encodeNode NodeFits
       object-fields =
-          tagged 5 (built-counted-end (limit-codec 64 (omega arith)) (properties-codec source small d node node-codec) (object sp)) (λ a. (refl, λ v. v, λ v. v))
+          tagged 5 (built-counted-end (limit-codec propertyLimit (omega arith)) (properties-codec source small d node node-codec) (object sp)) (λ a. (refl, λ v. v, λ v. v))
 
       call-rest : (of : Arguments → Nodes → Node) → Built (callRest source d node object′ sp of)
           (λ (p : Arguments × Nodes). of (p .0) (p .1))

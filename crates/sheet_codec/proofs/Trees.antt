@@ -15,6 +15,7 @@ use Rattle.wire.specs.Text.{text, encodeText}
 use Rattle.wire.specs.Optional.{optional, encodeOptional}
 use Rattle.wire.proofs.TextCodec.{flag-codec}
 use Rattle.wire.proofs.OptionalCodec.{optional-codec}
+use Rattle.sheet.specs.Limits.{textLimit}
 use Rattle.sheet.specs.Tree.{Pieces, Node, none, more, Arguments, noArguments, argument, Properties, noProperties, spread, otherProperty, childKey, stringKey, nameKey}
 use Rattle.sheet.specs.Nodes.{many, piece, nodes, argumentItem, arguments, keyedItem, propertyItem, properties}
 use Rattle.sheet.specs.Fields.{encodeSpan}
@@ -26,18 +27,18 @@ use Rattle.sheet_codec.proofs.Parts.{span-codec}
 use Rattle.sheet_codec.proofs.Strings.{short-text}
 
 -- the pieces of a template
-pub pieces-codec : (k : ℕ) → Codec (many [] piece k) (flatMap (encodeOptional encodeText)) (λ ps. (length ps ≡ k) × All (IfThere (TextFits Wtf8 4096)) ps)
+pub pieces-codec : (k : ℕ) → Codec (many [] piece k) (flatMap (encodeOptional encodeText)) (λ ps. (length ps ≡ k) × All (IfThere (TextFits Wtf8 textLimit)) ps)
 unfolding piece flatMap
-pieces-codec = many-codec length (flatMap (encodeOptional encodeText)) (All (IfThere (TextFits Wtf8 4096))) (record {
+pieces-codec = many-codec length (flatMap (encodeOptional encodeText)) (All (IfThere (TextFits Wtf8 textLimit))) (record {
   empty = (refl, refl, tt);
   reads = reads-built _ _ _ (built-end piece-text (λ x. x ∷_)) [] (λ x v ps. (refl, refl, λ w. (v, w)));
   opens = opens;
 })
   where
-    piece-text : Codec (optional (text Wtf8 4096)) (encodeOptional encodeText) (IfThere (TextFits Wtf8 4096))
+    piece-text : Codec (optional (text Wtf8 textLimit)) (encodeOptional encodeText) (IfThere (TextFits Wtf8 textLimit))
     piece-text = optional-codec (short-text Wtf8)
 
-    opens : (ps : Pieces) → All (IfThere (TextFits Wtf8 4096)) ps → Opens length (flatMap (encodeOptional encodeText)) (All (IfThere (TextFits Wtf8 4096))) [] piece ps
+    opens : (ps : Pieces) → All (IfThere (TextFits Wtf8 textLimit)) ps → Opens length (flatMap (encodeOptional encodeText)) (All (IfThere (TextFits Wtf8 textLimit))) [] piece ps
     opens [] v = inl refl
     opens (x ∷ ps) v = inr (x ∷_, ps, encodeOptional encodeText x, refl, refl, refl, v .1, λ t. rw (piece-text .complete x (v .0) t))
 

@@ -3,6 +3,7 @@ use mathlib.Core.List.{List}
 use mathlib.Core.Option.{Option}
 use Prim.Native.Nat.{ℕ}
 use Rattle.text.specs.declared.utf8.Encoding.{Encoding}
+use Rattle.sheet.specs.Limits.{sourceLimit, textLimit, commentLimit, groupLimit, propertyLimit}
 use Rattle.sheet.specs.declared.groups.Group.{Group}
 
 -- bytes and flags
@@ -25,11 +26,11 @@ pub data Count : Type 0 where
   sourceLength textLength comments groups properties : Count
 
 abbrev pub limit : Count → ℕ
-limit sourceLength = 32768
-limit textLength = 4096
-limit comments = 1024
-limit groups = 1024
-limit properties = 64
+limit sourceLength = sourceLimit
+limit textLength = textLimit
+limit comments = commentLimit
+limit groups = groupLimit
+limit properties = propertyLimit
 
 -- positions
 pub data Position : Type 0 where

@@ -8,6 +8,7 @@ use Rattle.text.specs.declared.utf8.Encoding.{Encoding}
 use Rattle.text.specs.declared.utf8.Encoding.the-variants.{Utf8, Wtf8}
 use Rattle.wire.specs.Fields.{encodeFlag}
 use Rattle.wire.specs.Number.{encodeNumber}
+use Rattle.sheet.specs.Limits.{depthLimit}
 use Rattle.sheet.specs.declared.fields.Span.{Span}
 use Rattle.sheet.specs.declared.comments.Comment.{Comment}
 use Rattle.sheet.specs.declared.groups.Group.{Group}
@@ -162,4 +163,4 @@ fieldsOf t =
     ++ (aNumber (limited groups) (length (t .groups)) ∷ (chainFields (groupFields (t .source) (length (t .comments))) (λ g. Option.some g) Option.none (t .groups)
     ++ (record { field = everyComment (t .groups) (length (t .comments)); bytes = [] }
     ∷ (programFields (t .source) (t .program)
-    ++ nodeFields (t .source) (t .root) 64)))))))
+    ++ nodeFields (t .source) (t .root) depthLimit)))))))

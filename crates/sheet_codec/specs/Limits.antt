@@ -9,6 +9,7 @@ use Rattle.text.specs.declared.utf8.Encoding.the-variants.{Utf8, Wtf8}
 use Rattle.text.specs.WellFormed.{WellFormed}
 use Rattle.text.specs.Position.{Boundary}
 use Rattle.wire.specs.Number.{largest}
+use Rattle.sheet.specs.Limits.{sheetLimit, sourceLimit, textLimit, commentLimit, groupLimit, depthLimit, propertyLimit}
 use Rattle.sheet.specs.declared.fields.Span.{Span}
 use Rattle.sheet.specs.Fit.{Fit, Grouped, groupOf, HeldBySome}
 use Rattle.sheet.specs.Program.{Program}
@@ -44,7 +45,7 @@ under (suc d) = d
 -- a String: WTF-8 of at most 4,096 bytes
 pub record StringFits (source : List ℕ) (levels : ℕ) (sp : Span) (x : List ℕ) : Type 0 where
   pub place : PlaceFits source levels sp
-  pub text : TextFits Wtf8 4096 x
+  pub text : TextFits Wtf8 textLimit x
 
 -- one that another node holds
 abbrev pub QuotedFits : List ℕ → ℕ → Quoted → Type 0
@@ -55,13 +56,13 @@ unfoldable mutual
   pub NodeFits : List ℕ → Node → ℕ → Type 0
   NodeFits source (other sp ns) levels = PlaceFits source levels sp × ((nodesIn ns ≤ largest) × NodesFit source ns (under levels))
   NodeFits source (string sp x) levels = StringFits source levels sp x
-  NodeFits source (name sp x) levels = PlaceFits source levels sp × TextFits Utf8 4096 x
+  NodeFits source (name sp x) levels = PlaceFits source levels sp × TextFits Utf8 textLimit x
   NodeFits source (template sp ps ns) levels =
       PlaceFits source levels sp
-      × (((length ps ≡ nodesIn ns + 1) × All (IfThere (TextFits Wtf8 4096)) ps)  -- a piece more than holes
+      × (((length ps ≡ nodesIn ns + 1) × All (IfThere (TextFits Wtf8 textLimit)) ps)  -- a piece more than holes
       × ((nodesIn ns ≤ largest) × NodesFit source ns (under levels)))
   NodeFits source (binary sp plus l r) levels = PlaceFits source levels sp × (NodeFits source l (under levels) × NodeFits source r (under levels))
-  NodeFits source (object sp ps) levels = PlaceFits source levels sp × ((propertiesIn ps ≤ 64) × PropertiesFit source ps (under levels))
+  NodeFits source (object sp ps) levels = PlaceFits source levels sp × ((propertiesIn ps ≤ propertyLimit) × PropertiesFit source ps (under levels))
   NodeFits source (importCall sp phase xs ns) levels =
       PlaceFits source levels sp
       × ((phase < 3)
@@ -103,26 +104,26 @@ unfoldable mutual
   PropertiesFit source (spread n ps) levels = NodeFits source n levels × PropertiesFit source ps levels
   PropertiesFit source (otherProperty n ps) levels = NodeFits source n levels × PropertiesFit source ps levels
   PropertiesFit source (childKey k v ps) levels = (NodeFits source k levels × NodeFits source v levels) × PropertiesFit source ps levels
-  PropertiesFit source (stringKey k v ps) levels = (TextFits Wtf8 4096 k × NodeFits source v levels) × PropertiesFit source ps levels
-  PropertiesFit source (nameKey k v ps) levels = (TextFits Utf8 4096 k × NodeFits source v levels) × PropertiesFit source ps levels
+  PropertiesFit source (stringKey k v ps) levels = (TextFits Wtf8 textLimit k × NodeFits source v levels) × PropertiesFit source ps levels
+  PropertiesFit source (nameKey k v ps) levels = (TextFits Utf8 textLimit k × NodeFits source v levels) × PropertiesFit source ps levels
 
   -- the Object is a node too
   pub AttributesFit : List ℕ → Attributes → ℕ → Type 0
   AttributesFit source without levels = Unit {0}
-  AttributesFit source (withObject sp ps) levels = PlaceFits source levels sp × ((propertiesIn ps ≤ 64) × PropertiesFit source ps (under levels))
+  AttributesFit source (withObject sp ps) levels = PlaceFits source levels sp × ((propertiesIn ps ≤ propertyLimit) × PropertiesFit source ps (under levels))
 
 -- the fields of a sheet
 pub record FieldsFit (t : Sheet) : Type 0 where
   pub media : t .media < 11
-  pub source : TextFits Utf8 32768 (t .source)
-  pub comments : (length (t .comments) ≤ 1024) × Fit (t .source) (t .comments)
-  pub groups : (length (t .groups) ≤ 1024) × Grouped (length (t .comments)) (t .groups)
+  pub source : TextFits Utf8 sourceLimit (t .source)
+  pub comments : (length (t .comments) ≤ commentLimit) × Fit (t .source) (t .comments)
+  pub groups : (length (t .groups) ≤ groupLimit) × Grouped (length (t .comments)) (t .groups)
   pub places : (k : ℕ) → k < length (t .groups) → Boundary (t .source) (groupOf (t .groups) k .position)  -- each group is at a boundary
   pub grouped : (i : ℕ) → i < length (t .comments) → HeldBySome (t .groups) i  -- each comment is in some group
   pub program : ProgramFits (t .source) (t .program)
-  pub root : NodeFits (t .source) (t .root) 64  -- nodes nest at most 64 deep, the root is 1
+  pub root : NodeFits (t .source) (t .root) depthLimit  -- nodes nest at most 64 deep, the root is 1
 
 -- and the sheet has at most 65,536 bytes
 pub record WithinLimits (t : Sheet) : Type 0 where
   pub fields : FieldsFit t
-  pub bytes : length (encodeSheet t) ≤ 65536
+  pub bytes : length (encodeSheet t) ≤ sheetLimit

@@ -4,6 +4,7 @@ use mathlib.Core.Logic.{_⊎_}
 use mathlib.Core.List.{List, _∷_, _++_, flatMap}
 use Prim.Native.Nat.{ℕ, _≤_, _<_}
 use lib.ListN.{length}
+use Rattle.sheet.specs.Limits.{sheetLimit}
 use Rattle.sheet.specs.Sheet.{Sheet}
 use Rattle.sheet_codec.specs.Encode.{encodeSheet}
 use Rattle.sheet_codec.specs.Limits.{FieldsFit}
@@ -12,7 +13,7 @@ use Rattle.sheet_codec.specs.FieldsOf.{fieldsOf}
 
 -- 1. The sheet has 0 bytes or more than 65,536
 abbrev pub Missized : List ℕ → Type 0
-Missized s = (length s ≡ 0) ⊎ (65536 < length s)
+Missized s = (length s ≡ 0) ⊎ (sheetLimit < length s)
 
 -- 2 to 7. The refusal is met at a field of some sheet, which goes on from the fields before it in any way
 pub record MetAtField (s : List ℕ) (r : ℕ) : Type 0 where
@@ -27,4 +28,4 @@ pub record BytesFollow (s : List ℕ) : Type 0 where
   pub next : ℕ
   pub behind : List ℕ
   pub bytes : s ≡ encodeSheet sheet ++ next ∷ behind
-  pub few : length s ≤ 65536
+  pub few : length s ≤ sheetLimit

@@ -44,6 +44,7 @@ use denote.Exit.{yes}
 use denote.Signature.{plain}
 use denote.Signature.Struct.{makes}
 use Rattle.laws.specs.Decoded.{ok}
+use Rattle.sheet.specs.Limits.{commentNumbers, groupNumbers}
 use Rattle.sheet.specs.Sheet.{Sheet, accept}
 use Rattle.accept.specs.declared.check.Parts.{Parts}
 use Rattle.accept.specs.Accepts.{Accepts}
@@ -84,7 +85,7 @@ use Rattle.module_info.proofs.write_report.Statement as stated
 use Rattle.module_info.proofs.write_report.Code as code
 
 abbrev stayed : Stays (write.ended .signature .params) (write.ended .kept)
-stayed = (stay-none-slice (0 ∷ []) tt (plain (λ _. u8)) yes, (stay-none (λ _. N.the-row) yes, (stay-none-ref (1 ∷ []) tt (plain (λ _. Array u32 3072)) yes, (stay-none-ref (2 ∷ []) tt (plain (λ _. Array u32 4096)) yes, (gave-slice (3 ∷ []) tt (plain (λ _. u8)), tt)))))
+stayed = (stay-none-slice (0 ∷ []) tt (plain (λ _. u8)) yes, (stay-none (λ _. N.the-row) yes, (stay-none-ref (1 ∷ []) tt (plain (λ _. Array u32 commentNumbers)) yes, (stay-none-ref (2 ∷ []) tt (plain (λ _. Array u32 groupNumbers)) yes, (gave-slice (3 ∷ []) tt (plain (λ _. u8)), tt)))))
 
 -- the contracts that the proof cites
 module _ {M : Type 1} (𝓤 : URA M) (H : Heap 𝓤) (A : Atoms 𝓤) (mem : Memory → SProp 𝓤) (run : Routine → Fun 𝓤) where
@@ -131,10 +132,10 @@ module _ {M : Type 1} (𝓤 : URA M) (H : Heap 𝓤) (A : Atoms 𝓤) (W : Given
   own₀ = ShrSlice (named 0) κ₀ u8 .own x₀ (v₀ ∷ [])
 
   abbrev own₁ : Fml
-  own₁ = ShrRef (named 1) κ₁ (Array u32 3072) .own x₁ (ptr-vals x₁)
+  own₁ = ShrRef (named 1) κ₁ (Array u32 commentNumbers) .own x₁ (ptr-vals x₁)
 
   abbrev own₂ : Fml
-  own₂ = ShrRef (named 2) κ₂ (Array u32 4096) .own x₂ (ptr-vals x₂)
+  own₂ = ShrRef (named 2) κ₂ (Array u32 groupNumbers) .own x₂ (ptr-vals x₂)
 
   starts : {w : Val} → Is (T.the-row (passing κ)) (h start ys) (w ∷ []) → Is P.the-row start (P′.lowered start ∷ [])
   starts is = LL.owed (T.the-type (passing κ)) (T′.the-laws (passing κ)) (h start ys) _ is .1 .0
@@ -212,7 +213,7 @@ module _ {M : Type 1} (𝓤 : URA M) (H : Heap 𝓤) (A : Atoms 𝓤) (W : Given
     walk : Is (ShrSlice (named 0) κ₀ u8) x₀ (v₀ ∷ []) → Room u8 (length ys)
         → ent 𝓤 (onEntry 𝓤 H A write.signature (lfts κ) (q₀, (q₁, (q₂, (q, tt)))) a vals) (WpFn 𝓤 H C Λ code.function (v₀ ∷ vₚ ∷ only (ptr-vals x₁) ∷ only (ptr-vals x₂) ∷ s ∷ []) Post)
     walk is₀ room =
-        qed W ((‵ (flft κ₀ q₀) ⊛ ‵ (flft κ₁ q₁) ⊛ ‵ (flft κ₂ q₂) ⊛ ‵ (flft κ q) ⊛ ‵ ftrue) ∷ ‵ (owns (ShrSlice (named 0) κ₀ u8 ∷ N.the-row ∷ ShrRef (named 1) κ₁ (Array u32 3072) ∷ ShrRef (named 2) κ₂ (Array u32 4096) ∷ MutSlice (named 3) κ u8 ∷ []) a vals) ∷ []) ∵
+        qed W ((‵ (flft κ₀ q₀) ⊛ ‵ (flft κ₁ q₁) ⊛ ‵ (flft κ₂ q₂) ⊛ ‵ (flft κ q) ⊛ ‵ ftrue) ∷ ‵ (owns (ShrSlice (named 0) κ₀ u8 ∷ N.the-row ∷ ShrRef (named 1) κ₁ (Array u32 commentNumbers) ∷ ShrRef (named 2) κ₂ (Array u32 groupNumbers) ∷ MutSlice (named 3) κ u8 ∷ []) a vals) ∷ []) ∵
         enter ! C Λ code.function (v₀ ∷ vₚ ∷ only (ptr-vals x₁) ∷ only (ptr-vals x₂) ∷ s ∷ []) _ $
         alloc1 ! (λ l₀. alloc1 ! (λ l₁. alloc1 ! (λ l₂. alloc1 ! (λ l₃. alloc1 ! (λ l₄. alloc1 ! (λ l₅. alloc1 ! (λ l₆. alloc1 ! (λ l₇. alloc1 ! (λ l₈. alloc1 ! (λ l₉. alloc1 ! (λ l₁₀. alloc1 ! (λ l₁₁. alloc1 ! (λ l₁₂. alloc1 ! (λ l₁₃. alloc1 ! (λ l₁₄. alloc1 ! (λ l₁₅. alloc1 ! (λ l₁₆. alloc0 ! $ params1 ! $
         pass1 ! (init ! 30 refl (shr-slice-lawful 𝓤 H A W (named 0) κ₀ u8 .typed x₀ (v₀ ∷ []) is₀ .0)) $ pass1 ! (init ! 28 refl (LL.lawful N.the-type N′.the-laws 𝓤 H A W .typed parts _ is-parts .0)) $ pass1 ! (init ! 26 refl (tt, tt)) $ pass1 ! (init ! 24 refl (tt, tt)) $ pass1 ! (init ! 22 refl (tt, (tt, (record { fits = room .0 }, tt)))) $ pass0 ! $
@@ -222,8 +223,8 @@ module _ {M : Type 1} (𝓤 : URA M) (H : Heap 𝓤) (A : Atoms 𝓤) (W : Given
         -- what the three that are read own is had twice, once for the call and once for the exit
         move ! (35 ∷ []) $ fsplit ! $ move ! (1 ∷ []) $ fsplit ! $ move ! (1 ∷ []) $ fsplit ! $ move ! (1 ∷ []) $ fsplit ! $ move ! (1 ∷ []) $ fsplit ! $
         move ! (5 ∷ []) $ use1 W (‵ own₀ ⊛ ‵ own₀) (shr-slice-copy 𝓤 H A W (named 0) κ₀ u8 .twice x₀ (v₀ ∷ [])) $ split ! $
-        move ! (5 ∷ []) $ use1 W (‵ own₁ ⊛ ‵ own₁) (shr-copy 𝓤 H A W (named 1) κ₁ (Array u32 3072) .twice x₁ _) $ split ! $
-        move ! (6 ∷ []) $ use1 W (‵ own₂ ⊛ ‵ own₂) (shr-copy 𝓤 H A W (named 2) κ₂ (Array u32 4096) .twice x₂ _) $ split ! $
+        move ! (5 ∷ []) $ use1 W (‵ own₁ ⊛ ‵ own₁) (shr-copy 𝓤 H A W (named 1) κ₁ (Array u32 commentNumbers) .twice x₁ _) $ split ! $
+        move ! (6 ∷ []) $ use1 W (‵ own₂ ⊛ ‵ own₂) (shr-copy 𝓤 H A W (named 2) κ₂ (Array u32 groupNumbers) .twice x₂ _) $ split ! $
         move ! (43 ∷ []) $ split ! $ move ! (1 ∷ []) $ split ! $ move ! (1 ∷ []) $ split ! $ move ! (1 ∷ []) $ split ! $
         -- `new`
         move ! (0 ∷ 11 ∷ []) $ use2 W (raw (New 𝓤 H A mem run .pre to-new)) goes-new $
@@ -270,7 +271,7 @@ module _ {M : Type 1} (𝓤 : URA M) (H : Heap 𝓤) (A : Atoms 𝓤) (W : Given
       → Walks 𝓤 H A write.ended stayed (WpFn 𝓤 H C Λ code.function) (write.clauses 𝓤 H A mem run)
   write-walks C Λ fm known-new known-put known-finish = walked 𝓤 H A write.ended stayed (write.clauses 𝓤 H A mem run) (WpFn 𝓤 H C Λ code.function)
       (λ κs. (slice-vals, (LL.vals N.the-type N′.the-laws, (ptr-vals, (ptr-vals, (slice-vals, tt))))))
-      (λ κs. (shr-slice-tells (named 0) (κs .0) u8, (LL.tells N.the-type N′.the-laws, (shr-tells (named 1) (κs .1 .0) (Array u32 3072), (shr-tells (named 2) (κs .1 .1 .0) (Array u32 4096), (mut-slice-tells (named 3) (κs .1 .1 .1 .0) u8, tt))))))
+      (λ κs. (shr-slice-tells (named 0) (κs .0) u8, (LL.tells N.the-type N′.the-laws, (shr-tells (named 1) (κs .1 .0) (Array u32 commentNumbers), (shr-tells (named 2) (κs .1 .1 .0) (Array u32 groupNumbers), (mut-slice-tells (named 3) (κs .1 .1 .1 .0) u8, tt))))))
       (λ κs qs bounds a g are. needs 𝓤 (Accepts (now (a .0)) (now (a .1 .1 .0)) (now (a .1 .1 .1 .0)) (a .1 .0)) _ (λ accepts.
       walk 𝓤 H A W mem run (κs .0) (κs .1 .0) (κs .1 .1 .0) (κs .1 .1 .1 .0) (qs .0) (qs .1 .0) (qs .1 .1 .0) (qs .1 .1 .1 .0) (a .0) (a .1 .1 .0) (a .1 .1 .1 .0) (a .1 .0)
       (a .1 .1 .1 .1 .0 .ptr .0) (a .1 .1 .1 .1 .0 .ptr .1) (a .1 .1 .1 .1 .0 .name) (a .1 .1 .1 .1 .0 .now) (are .1 .0) accepts C Λ fm known-new known-put known-finish (are .0) (are .1 .1 .1 .1 .0 .0 .1)))
@@ -280,7 +281,7 @@ write-meets : {M : Type 1} (𝓤 : URA M) (H : Heap 𝓤) (A : Atoms 𝓤) → G
     → Meets 𝓤 H A write.signature (WpFn 𝓤 H (𝓣 .C) (𝓣 .Λ) code.function) (write.spec 𝓤 H A mem run)
 write-meets 𝓤 H A W mem run 𝓣 known-new known-put known-finish =
     walk-meets 𝓤 H A write.ended stayed W
-    (goes-none-slice 𝓤 H A W 4 (0 ∷ []) tt (plain (λ _. u8)) yes, (goes-none 𝓤 H A W 4 (λ _. N.the-row) yes (λ κs x f. refl), (goes-none-ref 𝓤 H A W 4 (1 ∷ []) tt (plain (λ _. Array u32 3072)) yes, (goes-none-ref 𝓤 H A W 4 (2 ∷ []) tt (plain (λ _. Array u32 4096)) yes, (goes-gave-slice 𝓤 H A W 4 3 tt (plain (λ _. u8)), tt)))))
+    (goes-none-slice 𝓤 H A W 4 (0 ∷ []) tt (plain (λ _. u8)) yes, (goes-none 𝓤 H A W 4 (λ _. N.the-row) yes (λ κs x f. refl), (goes-none-ref 𝓤 H A W 4 (1 ∷ []) tt (plain (λ _. Array u32 commentNumbers)) yes, (goes-none-ref 𝓤 H A W 4 (2 ∷ []) tt (plain (λ _. Array u32 groupNumbers)) yes, (goes-gave-slice 𝓤 H A W 4 3 tt (plain (λ _. u8)), tt)))))
     (write.clauses 𝓤 H A mem run)
     (WpFn 𝓤 H (𝓣 .C) (𝓣 .Λ) code.function) (WpFn-mono 𝓤 H (W .laws) 𝓣 code.function) (write-walks 𝓤 H A W mem run (𝓣 .C) (𝓣 .Λ) (fmOf 𝓤 H (W .laws) 𝓣) known-new known-put known-finish)
 

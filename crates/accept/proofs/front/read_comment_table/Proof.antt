@@ -4,6 +4,7 @@ use denote.Ref.{now}
 use Rattle.laws.proofs.Steps.{seen}
 use Rattle.wire.specs.Views.{readAs}
 use Rattle.wire.proofs.TextCodec.{count-codec}
+use Rattle.sheet.specs.Limits.{commentLimit}
 use Rattle.accept.specs.Pieces.{commentFields}
 use Rattle.accept.proofs.front.read_comment_table.Statement.{statement}
 use Rattle.accept.proofs.front.read_comment_table.Tie as tie
@@ -11,7 +12,7 @@ use Rattle.accept.proofs.front.read_comment_table.Tie as tie
 read-comments-requires : tie.Need-read-comments-requires
 read-comments-requires c κs =
     let s = now (c .before .before .before .before .before .before .before .before .args .sheet) in
-    omega (arith, count-codec 1024 .sound _ _ _ (seen (readAs s) (c .before .before .before .before .count .ensures .0) (c .before .before .n .given .1)) .1 .0, c .before .before .before .before .before .before .before .before .pre)
+    omega (arith, count-codec commentLimit .sound _ _ _ (seen (readAs s) (c .before .before .before .before .count .ensures .0) (c .before .before .n .given .1)) .1 .0, c .before .before .before .before .before .before .before .before .pre)
 
 returns : tie.Need-returns
 unfolding commentFields

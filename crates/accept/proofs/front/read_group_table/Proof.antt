@@ -4,6 +4,7 @@ use denote.Ref.{now}
 use Rattle.laws.proofs.Steps.{known, seen}
 use Rattle.wire.specs.Views.{readAs}
 use Rattle.wire.proofs.TextCodec.{count-codec}
+use Rattle.sheet.specs.Limits.{groupLimit}
 use Rattle.accept.specs.Pieces.{groupFields}
 use Rattle.accept.proofs.front.read_group_table.Statement.{statement}
 use Rattle.accept.proofs.front.read_group_table.Tie as tie
@@ -11,12 +12,12 @@ use Rattle.accept.proofs.front.read_group_table.Tie as tie
 read-groups-requires : tie.Need-read-groups-requires
 read-groups-requires c κs =
     let s = now (c .before .before .before .before .before .before .before .before .before .args .sheet) in
-    omega (arith, count-codec 1024 .sound _ _ _ (seen (readAs s) (c .before .before .before .before .count .ensures .0) (c .before .before .m .given .1)) .1 .0, c .before .before .before .before .before .before .before .before .before .pre .0)
+    omega (arith, count-codec groupLimit .sound _ _ _ (seen (readAs s) (c .before .before .before .before .count .ensures .0) (c .before .before .m .given .1)) .1 .0, c .before .before .before .before .before .before .before .before .before .pre .0)
 
 is-covered-requires : tie.Need-is-covered-requires
 is-covered-requires c κs =
     let s = now (c .before .before .before .before .before .before .before .before .before .before .before .before .before .before .before .before .before .args .sheet) in
-    (omega (arith, count-codec 1024 .sound _ _ _ (seen (readAs s) (c .before .before .before .before .before .before .before .before .before .before .before .before .count .ensures .0) (c .before .before .before .before .before .before .before .before .before .before .m .given .1)) .1 .0, c .before .before .before .before .before .before .before .read-groups .kept .1 .1 .1 .1 .1 .0, c .before .before .before .before .before .before .before .before .before .before .before .before .before .before .before .before .before .pre .0), c .before .before .before .before .before .before .before .before .before .before .before .before .before .before .before .before .before .pre .1)
+    (omega (arith, count-codec groupLimit .sound _ _ _ (seen (readAs s) (c .before .before .before .before .before .before .before .before .before .before .before .before .count .ensures .0) (c .before .before .before .before .before .before .before .before .before .before .m .given .1)) .1 .0, c .before .before .before .before .before .before .before .read-groups .kept .1 .1 .1 .1 .1 .0, c .before .before .before .before .before .before .before .before .before .before .before .before .before .before .before .before .before .pre .0), c .before .before .before .before .before .before .before .before .before .before .before .before .before .before .before .before .before .pre .1)
 
 returns : tie.Need-returns
 unfolding groupFields

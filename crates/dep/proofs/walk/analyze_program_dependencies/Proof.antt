@@ -5,6 +5,7 @@ use lib.ListN.{drop}
 use denote.Ref.{now}
 use Rattle.laws.proofs.Decoding.{refused, onOk-no}
 use Rattle.laws.proofs.Steps.{seen}
+use Rattle.sheet.specs.Limits.{depthLimit}
 use Rattle.sheet.specs.Nodes.{node}
 use Rattle.report.specs.Buffer.{bufferAs}
 use Rattle.dep.specs.Walk.{typesFrom, walkedAs, afterNode}
@@ -19,7 +20,7 @@ returns c =
     let s = now (a .sheet) in
     let source = now (a .source) in
     let types = typesFrom source (now (a .cs)) (now (a .gs)) (a .k) in
-    let root = node source 64 (drop (a .root .at) s) in
+    let root = node source depthLimit (drop (a .root .at) s) in
     let w1 = bufferAs (c .before .before .before .before .before .before .before .before .put-number .last .1 .0) (c .before .before .before .before .before .before .before .before .put-number .result) in
     ((λ n t is as-many. absurd (refused (sym (onOk-no (afterNode source types w1) root (seen (walkedAs s (c .before .before .before .before .walk-node .last .1 .1 .1 .1 .1 .1 .1 .1 .0)) (c .before .before .before .before .walk-node .ensures .0) (c .enum-told .given .1))) ∙ is))), search needs)
 
@@ -29,7 +30,7 @@ returns-2 c =
     let s = now (a .sheet) in
     let source = now (a .source) in
     let types = typesFrom source (now (a .cs)) (now (a .gs)) (a .k) in
-    let root = node source 64 (drop (a .root .at) s) in
+    let root = node source depthLimit (drop (a .root .at) s) in
     ((λ n t is as-many. program-written source types (bufferAs (now (a .out)) (a .p)) root is as-many (c .before .before .before .before .before .before .before .before .before .put-number .ensures) (seen (walkedAs s (c .before .before .before .before .before .walk-node .last .1 .1 .1 .1 .1 .1 .1 .1 .0)) (c .before .before .before .before .before .walk-node .ensures .0) (c .before .p .given .1))), search needs)
 
 pub analyze-program-dependencies-spec : {M : Type 1} → statement M

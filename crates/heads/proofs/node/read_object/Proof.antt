@@ -3,6 +3,7 @@ use denote.Ref.{now}
 use Rattle.laws.proofs.Steps.{seen}
 use Rattle.wire.specs.Views.{readAs}
 use Rattle.wire.proofs.TextCodec.{count-codec}
+use Rattle.sheet.specs.Limits.{propertyLimit}
 use Rattle.heads.proofs.node.read_object.Statement.{statement}
 use Rattle.heads.proofs.node.read_object.Tie as tie
 
@@ -16,7 +17,7 @@ returns-2 c =
     let s = now (c .before .before .before .before .before .args .sheet) in
     let is = seen (readAs s) (c .before .before .before .count .ensures .0) (c .before .n .given .1) in
     let past = rw (c .before .n .given .1) at (c .before .before .before .count .ensures .1) in
-    let few = count-codec 64 .sound _ _ _ is .1 in
+    let few = count-codec propertyLimit .sound _ _ _ is .1 in
     (rw is, search needs)
 
 pub read-object-spec : {M : Type 1} → statement M

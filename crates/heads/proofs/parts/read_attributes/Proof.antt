@@ -3,6 +3,7 @@ use denote.Ref.{now}
 use Rattle.laws.proofs.Steps.{seen}
 use Rattle.wire.specs.Views.{readAs}
 use Rattle.wire.proofs.TextCodec.{count-codec}
+use Rattle.sheet.specs.Limits.{propertyLimit}
 use Rattle.sheet.specs.Views.{spanAs}
 use Rattle.heads.specs.Parts.{attributesHead}
 use Rattle.heads.proofs.parts.read_attributes.Statement.{statement}
@@ -34,7 +35,7 @@ returns-4 c =
     let p2 = rw (c .before .before .before .before .before .span .given .1) at (c .before .before .before .before .before .before .before .read-span .ensures .1) in
     let p3 = rw (c .before .n .given .1) at (c .before .before .before .count .ensures .1) in
     let is = seen (readAs s) (c .before .before .before .count .ensures .0) (c .before .n .given .1) in
-    let few = count-codec 64 .sound _ _ _ is .1 in
+    let few = count-codec propertyLimit .sound _ _ _ is .1 in
     (rw (seen (readAs s) (c .before .before .before .before .before .before .before .before .before .before .before .read-tag-of .ensures .0) (c .before .before .before .before .before .before .before .before .before .next .given .1), seen (spanAs s) (c .before .before .before .before .before .before .before .read-span .ensures .0) (c .before .before .before .before .before .span .given .1), is), search needs)
 
 pub read-attributes-spec : {M : Type 1} → statement M

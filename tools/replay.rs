@@ -10,8 +10,8 @@
 #[allow(dead_code)]
 mod second;
 
-/// The bytes that crates/replay reads, which must be more than the list has.
-const SPACE: usize = 131_072;
+/// The program that reads the list.
+const READER: &str = include_str!("../crates/replay/src/main.rt");
 
 /// In place of a number: the oracle leaves the sheet out.
 const LEFT_OUT: u8 = 255;
@@ -33,14 +33,15 @@ fn main() {
     let mut items = cases(&sheets, &answers, &names);
     let files: Vec<(Vec<u8>, Vec<u8>)> = singles.chunks(3).map(|s| (read(&s[0]), read(&s[1]))).collect();
     let mut size = 4 + items.iter().map(size_of).sum::<usize>();
-    if size >= SPACE {
-        fail(1, &format!("the cases have {size} bytes, and fewer than {SPACE} are read"));
+    let space = space();
+    if size >= space {
+        fail(1, &format!("the cases have {size} bytes, and fewer than {space} are read"));
     }
     for ((sheet, stored), name) in files.iter().zip(singles.chunks(3).map(|s| &s[2])) {
         let (number, report) = answer(&mut &stored[..]);
         let item = Item { name, sheet, number, report };
         size += size_of(&item);
-        if number != LEFT_OUT && size < SPACE {
+        if number != LEFT_OUT && size < space {
             items.push(item);
         }
     }
@@ -57,6 +58,12 @@ fn main() {
 fn fail(status: i32, message: &str) -> ! {
     eprintln!("replay: {message}");
     std::process::exit(status)
+}
+
+/// The bytes that the program reads, which must be more than the list has: its constant SPACE.
+fn space() -> usize {
+    let value = READER.split_once("const SPACE: usize = ").and_then(|(_, rest)| rest.split_once(';'));
+    value.and_then(|(value, _)| value.parse().ok()).unwrap_or_else(|| fail(2, "crates/replay has no SPACE"))
 }
 
 fn read(name: &str) -> Vec<u8> {

@@ -2,6 +2,8 @@
 use Prim.Native.Nat.{ℕ, _+_, _≤_}
 use Rattle.replay.specs.declared.Part.{Part}
 use Rattle.replay.specs.declared.Part.the-variants as part
+use Rattle.replay.specs.declared.Step.{Step}
+use Rattle.replay.specs.declared.Step.the-variants as step
 use Rattle.replay.specs.declared.Counts.{Counts}
 use Rattle.replay.specs.declared.Tally.{Tally}
 use Rattle.replay.specs.declared.Tally.the-variants as tally
@@ -10,6 +12,11 @@ use Rattle.replay.specs.declared.Tally.the-variants as tally
 abbrev pub Within : ℕ → Part → Type 0
 Within n (part.Bytes start end) = (start ≤ end) × (end ≤ n)
 Within n part.Missing = Unit {0}
+
+-- the next row stands in it, or at its end
+abbrev pub NextWithin : ℕ → Step → Type 0
+NextWithin n (step.Next ran next) = next ≤ n
+NextWithin n step.Short = Unit {0}
 
 -- so many more sheets can be counted
 abbrev pub Room : ℕ → Counts → Type 0

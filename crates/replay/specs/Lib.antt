@@ -1,2 +1,4 @@
 pub mod Bounds
+pub mod Stored
 pub mod Compared
+pub mod Views

@@ -10,12 +10,15 @@ use text::bytes::byte_at;
 ghost use mathlib.Core.Path.{_≡_};
 ghost use mathlib.Core.List.{List};
 ghost use Prim.Native.Nat.{ℕ, _+_, _≤_};
-ghost use lib.ListN.{length};
+ghost use lib.ListN.{length, drop};
+ghost use Rattle.laws.specs.Decoded.{ok, onOk};
+ghost use Rattle.text.specs.Bytes.{same};
 ghost use Rattle.sheet.specs.Walked.{one};
 ghost use Rattle.report.specs.Answer.{outcomeAs};
-ghost use Rattle.module_info.specs.Information.{answerOf};
-ghost use Rattle.replay.specs.Compared.{holdsReport, isStored, RunAs, counted};
-ghost use Rattle.replay.specs.Bounds.{Within, Room, Printable};
+ghost use Rattle.replay.specs.Stored.{fourBytes, piece, row, storedRows};
+ghost use Rattle.replay.specs.Compared.{padded, storedAnswer, sameAnswer, ranOf, counted, tallyOf};
+ghost use Rattle.replay.specs.Views.{partAs, stepAs};
+ghost use Rattle.replay.specs.Bounds.{Within, NextWithin, Room, Printable};
 
 // The bytes that are read at most.
 const SPACE: usize = 131072;
@@ -54,6 +57,7 @@ enum Tally {
 // A number of four bytes.
 fn number_at(list: &[u8], at: usize) -> usize
     requires { ⌜ at + 4 ≤ length (now list) ⌝ }
+    ensures { λ r. ⌜ fourBytes (drop at (now (list .entry))) ≡ ok r (drop (at + 4) (now (list .entry))) ⌝ }
     ensures { λ r. ⌜ r ≤ 4294967295 ⌝ }
 {
     let low = byte_at(list, at) + 256 * byte_at(list, at + 1);
@@ -63,6 +67,7 @@ fn number_at(list: &[u8], at: usize) -> usize
 
 // A length at a place, and so many bytes behind it.
 fn part_at(list: &[u8], at: usize) -> Part
+    ensures { λ r. ⌜ partAs (now (list .entry)) r ≡ piece (drop at (now (list .entry))) ⌝ }
     ensures { λ r. ⌜ Within (length (now (list .entry))) r ⌝ }
 {
     if list.len() < 4 {
@@ -90,7 +95,7 @@ fn fill(buffer: &mut [u8], b: u8) {
 
 // The report begins the buffer, and every byte behind it is zero.
 fn holds_report(buffer: &[u8], report: &[u8]) -> bool
-    ensures { λ r. ⌜ r ≡ holdsReport (now (buffer .entry)) (now (report .entry)) ⌝ }
+    ensures { λ r. ⌜ r ≡ same (now (buffer .entry)) (padded (length (now (buffer .entry))) (now (report .entry))) ⌝ }
 {
     let mut i = 0;
     while i < buffer.len() {
@@ -124,12 +129,12 @@ fn length_of(outcome: Outcome) -> usize
 
 // The answer, with what the buffer holds then, is the stored one.
 fn is_stored(outcome: Outcome, buffer: &[u8], number: u8, report: &[u8]) -> bool
-    ensures { λ r. ⌜ r ≡ isStored number (now (report .entry)) (outcomeAs outcome (now (buffer .entry))) ⌝ }
+    ensures { λ r. ⌜ r ≡ sameAnswer (outcomeAs outcome (now (buffer .entry))) (storedAnswer (length (now (buffer .entry))) number (now (report .entry))) ⌝ }
 {
-    if number != number_of(outcome) {
+    if number_of(outcome) != number {
         return false;
     }
-    if report.len() != length_of(outcome) {
+    if length_of(outcome) != report.len() {
         return false;
     }
     holds_report(buffer, report)
@@ -137,7 +142,7 @@ fn is_stored(outcome: Outcome, buffer: &[u8], number: u8, report: &[u8]) -> bool
 
 // Runs a sheet, in a buffer that holds something else before, and compares the answer.
 fn run(sheet: &[u8], number: u8, report: &[u8], buffer: &mut [u8]) -> Ran
-    ensures { λ r. ⌜ RunAs number (now (report .entry)) (answerOf (now (sheet .entry)) (length (now (buffer .entry)))) r ⌝ }
+    ensures { λ r. ⌜ r ≡ ranOf (length (now (buffer .entry))) (record { sheet = now (sheet .entry); number = number; report = now (report .entry) }) ⌝ }
 {
     fill(buffer, 165);
     let outcome = module_info(sheet, buffer);
@@ -148,7 +153,10 @@ fn run(sheet: &[u8], number: u8, report: &[u8], buffer: &mut [u8]) -> Ran
 }
 
 // Runs the sheet at a place of the list.
-fn replay_one(list: &[u8], at: usize, buffer: &mut [u8]) -> Step {
+fn replay_one(list: &[u8], at: usize, buffer: &mut [u8]) -> Step
+    ensures { λ r. ⌜ stepAs (now (list .entry)) r ≡ onOk (ranOf (length (now (buffer .entry)))) (row (drop at (now (list .entry)))) ⌝ }
+    ensures { λ r. ⌜ NextWithin (length (now (list .entry))) r ⌝ }
+{
     match part_at(list, at) {
         Part::Bytes(start, end) => {
             if list.len() <= end {
@@ -209,6 +217,7 @@ fn print_line(n: u64, what: &[u8]) {
 
 // Runs every sheet of the list.
 fn replay(list: &[u8], buffer: &mut [u8]) -> Tally
+    ensures { λ r. ⌜ r ≡ tallyOf (length (now (buffer .entry))) (storedRows (now (list .entry))) ⌝ }
     ensures { λ r. ⌜ Printable r ⌝ }
 {
     if list.len() < 4 {

@@ -1,18 +1,16 @@
 use borrow.Author.Needs.{needs}
 use mathlib.Core.Path.{_≡_, refl, sym, _∙_}
-use mathlib.Core.Bool.{_&&_, and-false}
 use Prim.Native.Nat.{_-_}
-use lib.Dec.{leb}
 use lib.ListN.{length, drop}
 use denote.Ref.{now}
 use Rattle.text.specs.Bytes.{same}
-use Rattle.replay.specs.Compared.{holdsReport}
-use Rattle.replay.proofs.Compared.{padded, held-end, held-differ, held-agree}
+use Rattle.replay.specs.Compared.{padded}
+use Rattle.replay.proofs.Compared.{held-end, held-differ, held-agree}
 use Rattle.replay.proofs.holds_report.Statement.{statement}
 use Rattle.replay.proofs.holds_report.Tie as tie
 
 abbrev Inv-loop : tie.InvT-loop
-Inv-loop buffer report i₀ i = holdsReport buffer report ≡ (leb (length report) (length buffer) && same (drop i buffer) (drop i (padded (length buffer) report)))
+Inv-loop buffer report i₀ i = same buffer (padded (length buffer) report) ≡ same (drop i buffer) (drop i (padded (length buffer) report))
 
 abbrev μ-loop : tie.MeasureT-loop
 μ-loop buffer report i₀ i = length buffer - i
@@ -23,19 +21,19 @@ returns c =
     let a = c .before .before .before .before .before .before .before .args in
     let l = c .before .before .before .before .loop in
     let other = held-differ (now (a .buffer)) (now (a .report)) (l .i) (c .before .before .before .loop-test .taken) (λ e. c .if1 .taken (c .before .before .byte-at .ensures .0 ∙ e ∙ sym (c .before .byte-at2 .ensures .0))) in
-    sym (l .inv ∙ rw other (and-false (leb (length (now (a .report))) (length (now (a .buffer))))))
+    sym (l .inv ∙ other)
 
 loop-again : tie.Need-loop-again Inv-loop μ-loop
 loop-again c =
     let a = c .before .before .before .before .before .before .before .args in
     let l = c .before .before .before .before .loop in
-    l .inv ∙ rw (held-agree (now (a .buffer)) (now (a .report)) (l .i) (c .before .before .before .loop-test .taken) (sym (c .before .before .byte-at .ensures .0) ∙ c .if1 .left ∙ c .before .byte-at2 .ensures .0))
+    l .inv ∙ held-agree (now (a .buffer)) (now (a .report)) (l .i) (c .before .before .before .loop-test .taken) (sym (c .before .before .byte-at .ensures .0) ∙ c .if1 .left ∙ c .before .byte-at2 .ensures .0)
 
 returns-2 : tie.Need-returns-2 Inv-loop μ-loop
 returns-2 c =
     let a = c .before .before .before .before .args in
     let l = c .before .loop in
-    sym (l .inv ∙ held-end (now (a .buffer)) (now (a .report)) (l .i) (c .loop-test .left))
+    sym (held-end (now (a .buffer)) (now (a .report)) (l .i) (c .loop-test .left) (l .inv))
 
 pub holds-report-spec : {M : Type 1} → statement M
 holds-report-spec =

@@ -1,22 +1,77 @@
+-- The loop goes through the rows: what is left of them gives, with the counts so far, the tally from the start on.
 use borrow.Author.Needs.{needs}
 use native.Mathlib.Omega.{arith}
-use mathlib.Core.Path.{_≡_}
-use Prim.Native.Nat.{_-_}
-use lib.ListN.{length}
+use mathlib.Core.Path.{_≡_, refl, sym, ap, _∙_}
+use Prim.Native.Nat.{_-_, _≤_}
+use lib.ListN.{length, drop}
+use denote.Ref.{now}
+use Rattle.laws.proofs.Steps.{seen}
+use Rattle.replay.specs.Stored.{rows}
+use Rattle.replay.specs.Views.{stepAs}
 use Rattle.replay.specs.Bounds.{Room}
+use Rattle.replay.proofs.Rows.{onward, tally-rows, tally-short, row-counted, row-missing, rows-done, bytes-left}
 use Rattle.replay.proofs.replay.Statement.{statement}
 use Rattle.replay.proofs.replay.Tie as tie
 
 abbrev Inv-loop : tie.InvT-loop
-Inv-loop list buffer₀ counts₀ left₀ at₀ buffer counts left at = (length buffer ≡ length buffer₀) × Room left counts
+Inv-loop list buffer₀ counts₀ left₀ at₀ buffer counts left at =
+    (length buffer ≡ length buffer₀)
+    × Room left counts
+    × (at ≤ length list)
+    × (onward (length buffer₀) counts₀ (rows left₀ (drop at₀ list)) ≡ onward (length buffer₀) counts (rows left (drop at list)))
 
 abbrev μ-loop : tie.MeasureT-loop
 μ-loop list buffer₀ counts₀ left₀ at₀ buffer counts left at = left
 
+returns : tie.Need-returns Inv-loop μ-loop
+returns c = (sym (tally-short _ _ (c .if1 .taken)), tt)
+
+loop-holds : tie.Need-loop-holds Inv-loop μ-loop
+loop-holds c = (refl, search needs, search needs, refl)
+
+returns-2 : tie.Need-returns-2 Inv-loop μ-loop
+returns-2 c =
+    let a = c .before .before .before .before .before .before .before .before .before .before .before .before .args in
+    let l = c .before .before .before .before .before .before .before .loop in
+    let s = now (a .list) in
+    let none = rw (l .inv .0) at (seen (stepAs s) (c .before .before .before .before .replay-one .ensures .0) (c .enum-told .given .1)) in
+    (sym (tally-rows (length (now (a .buffer))) s (c .before .before .before .before .before .before .before .before .number-at .ensures .0) ∙ l .inv .3 ∙ row-missing (length (now (a .buffer))) (l .counts) (l .left) (drop (l .at) s) (c .before .before .before .before .before .before .loop-test .taken) none), tt)
+
 loop-again : tie.Need-loop-again Inv-loop μ-loop
 loop-again c =
+    let a = c .before .before .before .before .before .before .before .before .before .before .before .before .before .before .args in
     let l = c .before .before .before .before .before .before .before .before .before .loop in
-    (search needs, c .with .ensures .1 (l .left - 1) (omega arith, omega arith))
+    let s = now (a .list) in
+    let size = length (now (a .buffer)) in
+    let called = c .before .before .before .before .before .before .replay-one in
+    let found = c .before .before .ran .given in
+    let next = rw (l .inv .0) at (seen (stepAs s) (called .ensures .0) (found .1)) in
+    let onto = row-counted size (l .counts) (l .left) (drop (l .at) s) (c .before .before .before .before .before .before .before .before .loop-test .taken) next in (
+      search needs,
+      c .with .ensures .1 (l .left - 1) (omega arith, omega arith),
+      rw (found .1) at (called .ensures .1),
+      l .inv .3 ∙ onto ∙ ap (λ k. onward size k (rows (l .left - 1) (drop (found .0 .1 .0) s))) (sym (c .with .ensures .0)),
+    )
+
+returns-3 : tie.Need-returns-3 Inv-loop μ-loop
+returns-3 c =
+    let a = c .before .before .before .before .before .before .before .args in
+    let l = c .before .before .loop in
+    let s = now (a .list) in
+    let size = length (now (a .buffer)) in (
+      sym (tally-rows size s (c .before .before .before .number-at .ensures .0) ∙ l .inv .3 ∙ rows-done size (l .counts) (l .left) s (l .at) (c .before .loop-test .left) (c .if2 .taken)),
+      search needs,
+    )
+
+returns-4 : tie.Need-returns-4 Inv-loop μ-loop
+returns-4 c =
+    let a = c .before .before .before .before .before .before .before .args in
+    let l = c .before .before .loop in
+    let s = now (a .list) in
+    let size = length (now (a .buffer)) in (
+      sym (tally-rows size s (c .before .before .before .number-at .ensures .0) ∙ l .inv .3 ∙ bytes-left size (l .counts) (l .left) s (l .at) (c .before .loop-test .left) (omega arith)),
+      tt,
+    )
 
 pub replay-spec : {M : Type 1} → statement M
 replay-spec =
@@ -24,19 +79,19 @@ replay-spec =
     (tie.spec
     Inv-loop
     μ-loop
-    (λ c. search needs)
+    returns
+    (λ c κs. search needs)
+    loop-holds
     (λ c κs. search needs)
     (λ c. search needs)
     (λ c κs. search needs)
     (λ c. search needs)
-    (λ c κs. search needs)
     (λ c. search needs)
-    (λ c. search needs)
-    (λ c. search needs)
+    returns-2
     (λ c. search needs)
     (λ c. search needs)
     loop-again
     (λ c. search needs)
+    returns-3
     (λ c. search needs)
-    (λ c. search needs)
-    (λ c. search needs))
+    returns-4)

@@ -3,21 +3,22 @@ use mathlib.Core.Path.{_≡_, ap, _∙_}
 use denote.Ref.{now}
 use lib.Dec.{eqb}
 use lib.ListN.{length}
-use Rattle.report.specs.Answer.{Answer}
+use Rattle.report.specs.Answer.{Answer, outcomeAs}
 use Rattle.module_info.specs.Information.{answerOf}
-use Rattle.replay.specs.Compared.{isStored}
+use Rattle.replay.specs.Compared.{sameAnswer, storedAnswer}
 use Rattle.replay.proofs.run.Statement.{statement}
 use Rattle.replay.proofs.run.Tie as tie
 
 returns : tie.Need-returns
 returns c =
     let a = c .before .before .before .before .before .before .before .before .before .before .before .before .before .before .args in
-    let long : length (c .before .before .before .before .before .before .before .before .before .fill .last .0) ≡ length (now (a .buffer)) = search needs in
-    let answer = c .before .before .before .before .before .module-info .ensures .answer ∙ ap (answerOf (now (a .sheet))) long in
-    record {
-      accepted = ap (λ n. eqb n 0) (c .before .before .number-of .ensures _ ∙ ap (λ (x : Answer). x .number) answer);
-      same = c .is-stored .ensures ∙ ap (isStored (a .number) (now (a .report))) answer;
-    }
+    let called = c .before .before .before .before .before .module-info in
+    let filled : length (c .before .before .before .before .before .before .before .before .before .fill .last .0) ≡ length (now (a .buffer)) = search needs in
+    let kept : length (called .last .1 .0) ≡ length (now (a .buffer)) = search needs in
+    let answer = called .ensures .answer ∙ ap (answerOf (now (a .sheet))) filled in
+    let accepted = ap (λ n. eqb n 0) (c .before .before .number-of .ensures _ ∙ ap (λ (x : Answer). x .number) answer) in
+    let same = c .is-stored .ensures ∙ ap (λ n. sameAnswer (outcomeAs (called .result) (called .last .1 .0)) (storedAnswer n (a .number) (now (a .report)))) kept in
+    rw (accepted, same, answer)
 
 pub run-spec : {M : Type 1} → statement M
 run-spec = tie.close (tie.spec (λ c κs. search needs) (λ c κs. search needs) (λ c. search needs) (λ c κs. search needs) (λ c. search needs) returns)

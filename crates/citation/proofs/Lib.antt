@@ -1,7 +1,5 @@
 pub mod Lengths
 mod Digits
-mod FromBytes
-mod Lists
 mod Printing
 mod Whole
 mod Cases

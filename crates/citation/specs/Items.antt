@@ -1,14 +1,9 @@
 -- The items of the report's lists, by their kind.
-use mathlib.Core.Bool.{Bool, true, false}
 use mathlib.Core.List.{List, _++_}
-use mathlib.Core.Option.{Option}
 use Prim.Native.Nat.{ℕ}
-use Rattle.laws.specs.Codec.{IfThere}
-use Rattle.wire.specs.Text.{encodeText}
-use Rattle.wire.specs.Optional.{encodeOptional}
-use Rattle.report.specs.ModuleInfo.{PositionRange, DynamicArgument, TypeScriptReference, JsDocImportInfo, KeyValue, DependencyDescriptor}
-use Rattle.report.specs.Encode.{encodeRange, encodeArgument, encodeReference, encodeJsDoc, encodeKeyValue, encodeDependency}
-use Rattle.report.specs.Valid.{Short, ValidRange, ValidArgument, ValidReference, ValidJsDoc, ValidKeyValue, ValidDependency}
+use Rattle.report.specs.ModuleInfo.{PositionRange, DynamicArgument, TypeScriptReference, JsDocImportInfo, DependencyDescriptor}
+use Rattle.report.specs.Encode.{encodeRange, encodeArgument, encodeReference, encodeJsDoc, encodeDependency}
+use Rattle.report.specs.Valid.{ValidRange, ValidArgument, ValidReference, ValidJsDoc, ValidDependency}
 use Rattle.citation.specs.Citation.{Line, citeDependency, citeReference, citeJsDoc}
 use Rattle.citation.specs.declared.cite.Kind.{Kind}
 use Rattle.citation.specs.declared.cite.Kind.the-variants as kind
@@ -39,16 +34,3 @@ encodeRanged a = encodeArgument (a .0) ++ encodeRange (a .1)
 
 abbrev pub ValidRanged : DynamicArgument × PositionRange → Type 0
 ValidRanged a = ValidArgument (a .0) × ValidRange (a .1)
-
--- what is skipped in lists: attributes, which have a key, and parts of a template
-abbrev pub Part : Bool → Type 0
-Part true = KeyValue
-Part false = Option (List ℕ)
-
-abbrev pub encodePart : (keyed : Bool) → Part keyed → List ℕ
-encodePart true = encodeKeyValue
-encodePart false = encodeOptional encodeText
-
-abbrev pub ValidPart : (keyed : Bool) → Part keyed → Type 0
-ValidPart true = ValidKeyValue
-ValidPart false = IfThere Short

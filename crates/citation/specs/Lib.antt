@@ -1,3 +1,3 @@
 pub mod Citation
-pub mod Reads
+pub mod Cites
 pub mod Items

@@ -1,13 +1,13 @@
 // The citation of a report, read from its front and written line by line.
-use super::fields::read_number;
-use super::fields::read_range;
-use super::fields::read_text;
-use super::fields::skip_attributes;
-use super::fields::skip_list;
-use super::fields::skip_optional_specifier;
 use super::lines::put_line;
 use super::lines::put_title;
 use report::writer::Place;
+use report_reader::fields::read_number;
+use report_reader::fields::read_range;
+use report_reader::fields::read_text;
+use report_reader::fields::skip_attributes;
+use report_reader::fields::skip_list;
+use report_reader::fields::skip_optional_specifier;
 ghost use mathlib.Core.Path.{_≡_};
 ghost use mathlib.Core.List.{[], _∷_, flatMap};
 ghost use Prim.Native.Nat.{_+_, _*_, _≤_};
@@ -21,7 +21,7 @@ ghost use Rattle.report.specs.Encode.{encodeList, encodeRange, encodeSpecifier,
 ghost use Rattle.report.specs.Valid.{Short, ValidRange, ValidSpecifier, ValidReference, ValidJsDoc, ValidDependency, Valid};
 ghost use Rattle.report.specs.Buffer.{bufferAs};
 ghost use Rattle.citation.specs.Citation.{citeSpecifier, citeOptional, citeArgument, citeReference, citeJsDoc, citeDependency, lines, citation, refusal};
-ghost use Rattle.citation.specs.Reads.{Cites};
+ghost use Rattle.citation.specs.Cites.{Cites};
 ghost use Rattle.citation.specs.Items.{encodeRanged, ValidRanged, encodeItem, ValidItem, citeItem};
 
 // Where the next byte goes in the buffer, how many lines were written, and the place behind what was read of the report.

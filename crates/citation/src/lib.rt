@@ -1,4 +1,3 @@
 // The lines that `cite` prints for a report, written into a lent buffer.
 pub mod cite;
-pub mod fields;
 pub mod lines;

@@ -3,7 +3,7 @@ use mathlib.Core.Path.{sym, _∙_}
 use mathlib.Core.List.{append-assoc}
 use Rattle.wire.specs.Text.{encodeText}
 use Rattle.report.specs.Encode.{encodeRange, encodeSpecifier, encodeArgument}
-use Rattle.citation.proofs.FromBytes.{text-argument, parts-argument, no-argument}
+use Rattle.report_reader.proofs.FromBytes.{text-argument, parts-argument, no-argument}
 use Rattle.citation.proofs.cite.cite_argument.Statement.{statement}
 use Rattle.citation.proofs.cite.cite_argument.Tie as tie
 

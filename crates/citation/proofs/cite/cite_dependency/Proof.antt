@@ -3,7 +3,7 @@ use mathlib.Core.List.{_++_, append-assoc}
 use native.Mathlib.Omega.{arith}
 use Rattle.report.specs.ModuleInfo.{static, dynamic}
 use Rattle.report.specs.Encode.{encodeAttributes, encodeStatic, encodeDynamic, encodeDependency}
-use Rattle.citation.proofs.FromBytes.{byte-read, flag-read}
+use Rattle.report_reader.proofs.FromBytes.{byte-read, flag-read}
 use Rattle.citation.proofs.Printing.{both}
 use Rattle.citation.proofs.cite.cite_dependency.Statement.{statement}
 use Rattle.citation.proofs.cite.cite_dependency.Tie as tie

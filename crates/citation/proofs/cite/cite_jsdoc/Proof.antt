@@ -3,7 +3,7 @@ use mathlib.Core.Path.{_∙_}
 use mathlib.Core.List.{[], _∷_, append-assoc}
 use native.Mathlib.Omega.{arith}
 use Rattle.report.specs.Encode.{encodeSpecifier, encodeJsDoc}
-use Rattle.citation.proofs.FromBytes.{byte-read}
+use Rattle.report_reader.proofs.FromBytes.{byte-read}
 use Rattle.citation.proofs.cite.cite_jsdoc.Statement.{statement}
 use Rattle.citation.proofs.cite.cite_jsdoc.Tie as tie
 

@@ -3,7 +3,7 @@ use mathlib.Core.Path.{_∙_}
 use mathlib.Core.List.{append-assoc}
 use Rattle.report.specs.Encode.{encode}
 use Rattle.citation.specs.Citation.{lines}
-use Rattle.citation.proofs.FromBytes.{flag-read}
+use Rattle.report_reader.proofs.FromBytes.{flag-read}
 use Rattle.citation.proofs.Printing.{both}
 use Rattle.citation.proofs.cite.cite_lines.Statement.{statement}
 use Rattle.citation.proofs.cite.cite_lines.Tie as tie

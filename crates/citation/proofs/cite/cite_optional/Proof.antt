@@ -5,7 +5,7 @@ use denote.Ref.{now}
 use mathlib.Core.List.{flatMap}
 use Rattle.report.specs.Encode.{encodeSpecifier}
 use Rattle.report.proofs.Buffers.{wrote-nil}
-use Rattle.citation.proofs.FromBytes.{none-there, some-there}
+use Rattle.report_reader.proofs.FromBytes.{none-there, some-there}
 use Rattle.citation.proofs.cite.cite_optional.Statement.{statement}
 use Rattle.citation.proofs.cite.cite_optional.Tie as tie
 

@@ -4,7 +4,7 @@ use mathlib.Core.List.{[], _∷_, append-assoc}
 use native.Mathlib.Omega.{arith}
 use Rattle.report.specs.ModuleInfo.{path, types}
 use Rattle.report.specs.Encode.{encodeSpecifier, encodeReference}
-use Rattle.citation.proofs.FromBytes.{byte-read}
+use Rattle.report_reader.proofs.FromBytes.{byte-read}
 use Rattle.citation.proofs.cite.cite_reference.Statement.{statement}
 use Rattle.citation.proofs.cite.cite_reference.Tie as tie
 

@@ -5,10 +5,10 @@ use Prim.Native.Nat.{ℕ}
 use lib.ListN.{length, drop}
 use denote.Ref.{now}
 use Rattle.laws.specs.Codec.{All}
-use Rattle.citation.specs.Items.{Part, encodePart, ValidPart}
-use Rattle.citation.proofs.Lists.{Stand, next-item, no-item}
-use Rattle.citation.proofs.fields.skip_parts.Statement.{statement}
-use Rattle.citation.proofs.fields.skip_parts.Tie as tie
+use Rattle.report_reader.specs.Parts.{Part, encodePart, ValidPart}
+use Rattle.report_reader.proofs.Lists.{Stand, next-item, no-item}
+use Rattle.report_reader.proofs.fields.skip_parts.Statement.{statement}
+use Rattle.report_reader.proofs.fields.skip_parts.Tie as tie
 
 abbrev Inv-loop : tie.InvT-loop
 Inv-loop report at keyed count place₀ left₀ place left =

@@ -2,9 +2,9 @@ use borrow.Author.Needs.{needs}
 use native.Mathlib.Omega.{arith}
 use Rattle.report.specs.ModuleInfo.{none, unknown, known}
 use Rattle.report.specs.Encode.{encodeAttributes}
-use Rattle.citation.proofs.FromBytes.{byte-read}
-use Rattle.citation.proofs.fields.skip_attributes.Statement.{statement}
-use Rattle.citation.proofs.fields.skip_attributes.Tie as tie
+use Rattle.report_reader.proofs.FromBytes.{byte-read}
+use Rattle.report_reader.proofs.fields.skip_attributes.Statement.{statement}
+use Rattle.report_reader.proofs.fields.skip_attributes.Tie as tie
 
 returns : tie.Need-returns
 unfolding encodeAttributes

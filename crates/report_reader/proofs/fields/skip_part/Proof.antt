@@ -4,8 +4,8 @@ use mathlib.Core.List.{append-assoc}
 use Rattle.wire.specs.Text.{encodeText}
 use Rattle.wire.specs.Optional.{encodeOptional}
 use Rattle.report.specs.Encode.{encodeKeyValue}
-use Rattle.citation.proofs.fields.skip_part.Statement.{statement}
-use Rattle.citation.proofs.fields.skip_part.Tie as tie
+use Rattle.report_reader.proofs.fields.skip_part.Statement.{statement}
+use Rattle.report_reader.proofs.fields.skip_part.Tie as tie
 
 returns : tie.Need-returns
 unfolding encodeKeyValue

@@ -1,17 +1,9 @@
--- What the code does with a report s from a place on, if the bytes of a valid value stand there: it finds the place behind them, and the value or its lines.
+-- What the code does with a report s from a place on, if the bytes of a valid value stand there: it finds the place behind them, and the value.
 use mathlib.Core.Path.{_≡_}
-use mathlib.Core.List.{List, _++_, flatMap}
+use mathlib.Core.List.{List, _++_}
 use Prim.Native.Nat.{ℕ, _≤_}
 use lib.ListN.{length, drop}
 use Rattle.wire.specs.Number.{largest, encodeNumber}
-use Rattle.report.specs.Buffer.{Buffer, wrote, bufferAs}
-use Rattle.citation.specs.Citation.{Line, printed}
-use Rattle.citation.specs.declared.cite.Cited.{Cited}
-
--- lines, and so many, are written behind what stood in the buffer
-pub record Printed (before : Buffer) (lines : List Line) (after : Buffer) (count : ℕ) : Type 0 where
-  pub written : after ≡ wrote before (flatMap printed lines)
-  pub counted : count ≡ length lines
 
 module _ {A : Type 0} (encode : A → List ℕ) (Valid : A → Type 0) (s : List ℕ) (at : ℕ) where
   -- the value is the one whose bytes stand there
@@ -21,12 +13,6 @@ module _ {A : Type 0} (encode : A → List ℕ) (Valid : A → Type 0) (s : List
   -- only the place is found
   abbrev pub Skips : ℕ → Type 0
   Skips next = (a : A) → Valid a → (t : List ℕ) → drop at s ≡ encode a ++ t → drop next s ≡ t
-
-  -- its lines are written
-  abbrev pub Cites : (A → List Line) → Buffer → List ℕ → Cited → Type 0
-  Cites lines before out r =
-      (a : A) → Valid a → (t : List ℕ) → drop at s ≡ encode a ++ t
-      → Printed before (lines a) (bufferAs out (r .place)) (r .lines) × (drop (r .next) s ≡ t)
 
 -- a number that can be written is read, up to a place of the report
 pub record Number (s : List ℕ) (at value next : ℕ) : Type 0 where

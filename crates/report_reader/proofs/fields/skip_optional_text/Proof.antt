@@ -1,8 +1,8 @@
 use borrow.Author.Needs.{needs}
 use Rattle.wire.specs.Text.{encodeText}
-use Rattle.citation.proofs.FromBytes.{none-there, some-there}
-use Rattle.citation.proofs.fields.skip_optional_text.Statement.{statement}
-use Rattle.citation.proofs.fields.skip_optional_text.Tie as tie
+use Rattle.report_reader.proofs.FromBytes.{none-there, some-there}
+use Rattle.report_reader.proofs.fields.skip_optional_text.Statement.{statement}
+use Rattle.report_reader.proofs.fields.skip_optional_text.Tie as tie
 
 returns : tie.Need-returns
 returns c = λ o v t e.

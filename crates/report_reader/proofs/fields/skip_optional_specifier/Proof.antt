@@ -4,9 +4,9 @@ use mathlib.Core.List.{append-assoc}
 use Rattle.wire.specs.Text.{encodeText}
 use Rattle.report.specs.Encode.{encodeRange, encodeSpecifier}
 use Rattle.report.specs.Valid.{ValidSpecifier}
-use Rattle.citation.proofs.FromBytes.{none-there, some-there}
-use Rattle.citation.proofs.fields.skip_optional_specifier.Statement.{statement}
-use Rattle.citation.proofs.fields.skip_optional_specifier.Tie as tie
+use Rattle.report_reader.proofs.FromBytes.{none-there, some-there}
+use Rattle.report_reader.proofs.fields.skip_optional_specifier.Statement.{statement}
+use Rattle.report_reader.proofs.fields.skip_optional_specifier.Tie as tie
 
 returns : tie.Need-returns
 returns c = λ o v t e.

@@ -5,9 +5,9 @@ use denote.Ref.{now}
 use Rattle.laws.proofs.Steps.{seen}
 use Rattle.wire.specs.Views.{readAs}
 use Rattle.wire.proofs.NumberCodec.{number-codec}
-use Rattle.citation.proofs.FromBytes.{number-read, number-refused}
-use Rattle.citation.proofs.fields.read_number.Statement.{statement}
-use Rattle.citation.proofs.fields.read_number.Tie as tie
+use Rattle.report_reader.proofs.FromBytes.{number-read, number-refused}
+use Rattle.report_reader.proofs.fields.read_number.Statement.{statement}
+use Rattle.report_reader.proofs.fields.read_number.Tie as tie
 
 returns : tie.Need-returns
 returns c =

@@ -4,9 +4,9 @@ use mathlib.Core.List.{append-assoc, flatMap}
 use lib.ListN.{length}
 use Rattle.wire.specs.Number.{encodeNumber}
 use Rattle.report.specs.Encode.{encodeList}
-use Rattle.citation.specs.Items.{encodePart}
-use Rattle.citation.proofs.fields.skip_list.Statement.{statement}
-use Rattle.citation.proofs.fields.skip_list.Tie as tie
+use Rattle.report_reader.specs.Parts.{encodePart}
+use Rattle.report_reader.proofs.fields.skip_list.Statement.{statement}
+use Rattle.report_reader.proofs.fields.skip_list.Tie as tie
 
 returns : tie.Need-returns
 unfolding encodeList

@@ -1,8 +1,8 @@
 use borrow.Author.Needs.{needs}
 use mathlib.Core.List.{append-assoc}
 use Rattle.report.specs.Encode.{encodePosition, encodeRange}
-use Rattle.citation.proofs.fields.read_range.Statement.{statement}
-use Rattle.citation.proofs.fields.read_range.Tie as tie
+use Rattle.report_reader.proofs.fields.read_range.Statement.{statement}
+use Rattle.report_reader.proofs.fields.read_range.Tie as tie
 
 returns : tie.Need-returns
 unfolding encodeRange encodePosition

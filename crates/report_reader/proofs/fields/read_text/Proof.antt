@@ -1,8 +1,8 @@
 use borrow.Author.Needs.{needs}
 use native.Mathlib.Omega.{arith}
-use Rattle.citation.proofs.FromBytes.{text-read, text-short}
-use Rattle.citation.proofs.fields.read_text.Statement.{statement}
-use Rattle.citation.proofs.fields.read_text.Tie as tie
+use Rattle.report_reader.proofs.FromBytes.{text-read, text-short}
+use Rattle.report_reader.proofs.fields.read_text.Statement.{statement}
+use Rattle.report_reader.proofs.fields.read_text.Tie as tie
 
 returns : tie.Need-returns
 returns c =

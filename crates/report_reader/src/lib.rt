@@ -1,0 +1,2 @@
+// The reading of a report, field by field, by those who hold one.
+pub mod fields;

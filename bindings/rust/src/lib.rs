@@ -58,6 +58,7 @@ unsafe extern "C" {
 
 /// Writes the report of a sheet into `buffer` and answers its length; every byte behind the report becomes 0.
 /// A refusal is the first that document 01's order names, and then the whole buffer is 0.
+/// The call runs on a thread with 128 KiB of stack: measured on the deepest sheets of every form, not proved.
 ///
 /// What the buffer held before does not matter.
 ///

@@ -1,21 +1,22 @@
 -- What is written for a node, from what is written for the parts that it holds.
 use mathlib.Core.Path.{_≡_, refl, sym, ap, _∙_}
-use mathlib.Core.Bool.{Bool, true, false}
+use mathlib.Core.Bool.{Bool, true, false, cond}
 use mathlib.Core.List.{List, [], _∷_, _++_, append-nil}
 use mathlib.Core.Logic.{_⊎_, inl, inr}
 use mathlib.Core.Option.{Option}
 use Prim.Native.Nat.{ℕ}
+use lib.Dec.{eqb}
 use types.Run.{OneOf}
 use denote.Enum.Declared.{tagOf}
 use borrow.Enum.Known.{lives-at}
 use Rattle.laws.specs.Decoded.{Decoded, ok, no, andThen, onOk, Decoder, _>>=_, return}
-use Rattle.laws.proofs.Decoding.{refused, onOk-ok, built}
+use Rattle.laws.proofs.Decoding.{refused, onOk-ok, onOk-no, built}
 use Rattle.text.specs.Bytes.{part}
 use Rattle.wire.specs.Fields.{flag}
 use Rattle.wire.specs.Number.{number}
 use Rattle.sheet.specs.declared.fields.Span.{Span}
 use Rattle.sheet.specs.Tree.{Quoted, Pieces, Node, template, binary, importCall, call, exportFrom, exportAll, importType, moduleDecl, Nodes, none, more, spread, otherProperty, childKey, stringKey, nameKey, Arguments, argument, Attributes}
-use Rattle.sheet.specs.Nodes.{nodes, attributes, callRest, attributesObject}
+use Rattle.sheet.specs.Nodes.{many, nodes, attributes, callRest, node, attributesObject}
 use Rattle.sheet.specs.Shape.{shape, isRequire, anyUncooked}
 use Rattle.heads.specs.declared.node.Head.{Head}
 use Rattle.heads.specs.declared.node.Head.the-variants as head
@@ -36,7 +37,7 @@ use Rattle.attributes.specs.Attributes.{staticAttributes, typeAttributes}
 use Rattle.dep.specs.declared.entries.CallHead.{CallHead}
 use Rattle.dep.specs.declared.entries.StaticDependencyDescriptor.{StaticDependencyDescriptor}
 use Rattle.dep.specs.Collect.{exportKind, dynamicKind, moduleEntry, collector, collect, collectAll, collectOf, collectWith}
-use Rattle.dep.specs.Walk.{Quotes, PastHead, wroteEntries, staticOf, entryOfCall, afterNode, afterNodes, afterArgument, afterArguments, afterProperty, afterWith, afterImport, afterCall, afterTyped}
+use Rattle.dep.specs.Walk.{Quotes, PastHead, Calls, Begins, calleesOf, wroteEntries, staticOf, entryOfCall, afterNode, afterNodes, afterArgument, afterArguments, afterProperty, afterWith, afterImport, afterCall, afterTyped}
 use Rattle.dep.proofs.Wrote.{entries-append}
 
 -- an export with a String, of either form
@@ -47,6 +48,24 @@ pub export-quotes : (s source : List ℕ) (at : ℕ) {x : Head} {typeOnly : Bool
     → PastHead s source at x → Quotes s source q
 export-quotes s source at (inl e) p = let past = rw e at p in (past .1, past .2)
 export-quotes s source at (inr e) p = let past = rw e at p in (past .1, past .2)
+
+-- the variants of a call's head
+pub calls : (x : Head) → OneOf (6 ∷ 7 ∷ []) (tagOf the-type x) → Calls x
+calls x (inl k) = inl (lives-at enum x 6 k .0 .0, lives-at enum x 6 k .1)
+calls x (inr k) = inr (lives-at enum x 7 k .1)
+
+-- an import has no node for its callee
+import-alone : (phase : ℕ) → calleesOf (dynamicKind phase) ≡ 0
+import-alone phase = go (eqb phase 1) (eqb phase 2)
+  where
+    go : (a b : Bool) → calleesOf (cond a 11 (cond b 10 9)) ≡ 0
+    go true b = refl
+    go false true = refl
+    go false false = refl
+
+no-nodes : (inner : Decoder Node) (u : List ℕ) → nodes inner 0 u ≡ ok none u
+unfolding nodes many
+no-nodes inner u = refl
 
 module _ (source : List ℕ) (types : ℕ → Option SpecifierWithRange) where
   -- an argument
@@ -107,14 +126,14 @@ module _ (source : List ℕ) (types : ℕ → Option SpecifierWithRange) where
         rw (call-parted source levels inner object′ sp build u)
         (built (afterCall source types d v) (afterNode source types w) (λ p. build (p .0) (p .1)) e (callParts source inner u))
 
-    pub import-call-holds : (w : Buffer) (phase : ℕ) {kind : ℕ} → kind ≡ dynamicKind phase → (u : List ℕ)
+    import-call-holds : (w : Buffer) (phase : ℕ) {kind : ℕ} → kind ≡ dynamicKind phase → (u : List ℕ)
         → onOk (afterCall source types (record { kind = kind; span = sp; listed = true }) w) (callParts source inner u)
         ≡ onOk (afterNode source types w) (callRest source levels inner object′ sp (importCall sp phase) u)
     unfolding collector
     import-call-holds w phase e u = rw e (call-holds (record { kind = dynamicKind phase; span = sp; listed = true }) w w (importCall sp phase) (λ p. refl) u)
 
     -- and the callee, an expression
-    pub call-of-holds : (w : Buffer) (x : Decoded Node) {v : Buffer} {t : List ℕ} → onOk (afterNode source types w) x ≡ ok v t
+    call-of-holds : (w : Buffer) (x : Decoded Node) {v : Buffer} {t : List ℕ} → onOk (afterNode source types w) x ≡ ok v t
         → {b : Bool} → ((n : Node) (u : List ℕ) → x ≡ ok n u → b ≡ isRequire (shape n))
         → onOk (afterCall source types (record { kind = 12; span = sp; listed = b }) v) (callParts source inner t)
         ≡ onOk (afterNode source types w) (andThen x (λ e. callRest source levels inner object′ sp (call sp e)))
@@ -128,6 +147,35 @@ module _ (source : List ℕ) (types : ℕ → Option SpecifierWithRange) where
         (λ p. sym (entries-append w (collect source types n) (collectOf source types (p .0) ++ (collectAll source types (p .1) ++ entryOfCall source types d (p .0)))))
         u)
     call-of-holds w (no r) e f = absurd (refused e)
+
+  -- a call, its callee walked
+  module _ (levels : ℕ) (sp : Span) (s : List ℕ) (x : Head) {d : CallHead} {u : List ℕ} (begins : Begins source levels sp u x d) {w : Buffer} (same : wroteEntries w [] ≡ w) where
+    alone : (phase : ℕ) → x ≡ head.ImportCall phase → onOk (afterNodes source types w) (nodes (node source levels) (calleesOf (d .kind)) u) ≡ ok w u
+    unfolding collector
+    alone phase e = rw (begins .import-is phase e, import-alone phase, no-nodes (node source levels) u, same)
+
+    one : x ≡ head.Call → onOk (afterNodes source types w) (nodes (node source levels) (calleesOf (d .kind)) u) ≡ onOk (afterNode source types w) (node source levels u)
+    unfolding collector
+    one e =
+        ap (λ d. onOk (afterNodes source types w) (nodes (node source levels) (calleesOf (d .kind)) u)) (begins .call-is e)
+        ∙ (ap (onOk (afterNodes source types w)) (nodes-one (node source levels) u)
+        ∙ sym (built (afterNode source types w) (afterNodes source types w) (λ n. more n none) (λ n. rw (append-nil (collect source types n))) (node source levels u)))
+
+    pub called-refused : Calls x → {r : ℕ} → onOk (afterNodes source types w) (nodes (node source levels) (calleesOf (d .kind)) u) ≡ no r
+        → no r ≡ onOk (afterNode source types w) (rest source levels (sp, headOf s x) u)
+    called-refused (inl (phase, e)) f = absurd (refused (sym f ∙ alone phase e))
+    called-refused (inr e) f = rw (e, onOk-no (afterNode source types w) (node source levels u) (sym (one e) ∙ f))
+
+    pub called-holds : Calls x → {v : Buffer} {t : List ℕ} → onOk (afterNodes source types w) (nodes (node source levels) (calleesOf (d .kind)) u) ≡ ok v t
+        → onOk (afterCall source types d v) (callParts source (node source levels) t) ≡ onOk (afterNode source types w) (rest source levels (sp, headOf s x) u)
+    called-holds (inl (phase, e)) {v} {t} f =
+        let is = sym f ∙ alone phase e in
+        let gives : v ≡ w = cc in
+        let left : t ≡ u = cc in
+        rw (gives, left, e, begins .import-is phase e) (import-call-holds levels (node source levels) (attributesObject source levels) sp w phase refl u)
+    called-holds (inr e) {v} {t} f =
+        ap (λ d. onOk (afterCall source types d v) (callParts source (node source levels) t)) (begins .call-is e)
+        ∙ rw e (call-of-holds levels (node source levels) (attributesObject source levels) sp w (node source levels u) (sym (one e) ∙ f) (begins .listed-is e))
 
   -- three lists of entries, one after the other
   in-turn : (w : Buffer) (a b c : List DependencyDescriptor) → wroteEntries (wroteEntries (wroteEntries w a) b) c ≡ wroteEntries w (a ++ (b ++ c))

@@ -1,14 +1,21 @@
 -- What the answers of the walk stand for, in a sheet s with the buffer, and the bounds that they keep.
-use mathlib.Core.Bool.{cond}
+use mathlib.Core.Path.{_≡_}
+use mathlib.Core.Bool.{true, cond}
 use mathlib.Core.List.{List, [], _∷_, _++_, flatMap}
+use mathlib.Core.Logic.{_⊎_}
 use mathlib.Core.Option.{Option}
 use Prim.Native.Nat.{ℕ, _≤_}
+use lib.Dec.{eqb}
 use lib.ListN.{length, drop}
 use Rattle.laws.specs.Decoded.{Decoded, ok, no}
+use Rattle.sheet.specs.declared.fields.Span.{Span}
 use Rattle.sheet.specs.Tree.{Quoted, Node, Nodes, Arguments, noArguments, Properties, noProperties, Attributes}
+use Rattle.sheet.specs.Nodes.{node}
+use Rattle.sheet.specs.Shape.{shape, isRequire}
 use Rattle.sheet.specs.Tables.{commentsIn, groupsIn}
 use Rattle.heads.specs.declared.quoted.Quoted as q
 use Rattle.heads.specs.declared.node.Head as h
+use Rattle.heads.specs.declared.node.Head.the-variants as head
 use Rattle.heads.specs.Head.{Head, otherHead, stringHead, nameHead, templateHead, binaryHead, objectHead, importCallHead, callHead, importHead, namedExportHead, exportFromHead, exportAllHead, importTypeHead, importEqualsHead, importRequireHead, moduleHead}
 use Rattle.heads.specs.Views.{quotedOf, QuotedPart, headOf, Within}
 use Rattle.report.specs.ModuleInfo.{SpecifierWithRange, ImportAttributes, DynamicArgument, DependencyDescriptor, dynamic}
@@ -23,7 +30,7 @@ use Rattle.dep.specs.declared.entries.StaticDependencyDescriptor.{Static
 use Rattle.dep.specs.declared.entries.DynamicDependencyDescriptor.{DynamicDependencyDescriptor}
 use Rattle.dep.specs.declared.walk.Walked.{Walked}
 use Rattle.dep.specs.declared.walk.Walked.the-variants as walked
-use Rattle.dep.specs.Collect.{staticEntry, callEntry, collect, collectAll, collectOf, collectIn, collectWith}
+use Rattle.dep.specs.Collect.{dynamicKind, staticEntry, callEntry, collect, collectAll, collectOf, collectIn, collectWith}
 
 -- the types that the comments and the groups in the tables give
 abbrev pub typesFrom : List ℕ → List ℕ → List ℕ → Counts → ℕ → Option SpecifierWithRange
@@ -56,6 +63,20 @@ Spanned source (moduleHead (Option.some x) n) = InSource source (x .span)
 -- a cursor past a head that was read
 abbrev pub PastHead : List ℕ → List ℕ → ℕ → h.Head → Type 0
 PastHead s source at x = (at ≤ length s) × Within (length s) x × Spanned source (headOf s x)
+
+-- the head of a call: an import, or a call of an expression
+abbrev pub Calls : h.Head → Type 0
+Calls x = ((phase : ℕ) × (x ≡ head.ImportCall phase)) ⊎ (x ≡ head.Call)
+
+-- how a call begins, by its head: that of an expression, which follows, has to name `require` to be listed
+pub record Begins (source : List ℕ) (levels : ℕ) (sp : Span) (u : List ℕ) (x : h.Head) (d : CallHead) : Type 0 where
+  pub import-is : (phase : ℕ) → x ≡ head.ImportCall phase → d ≡ record { kind = dynamicKind phase; span = sp; listed = true }
+  pub call-is : x ≡ head.Call → d ≡ record { kind = 12; span = sp; listed = d .listed }
+  pub listed-is : x ≡ head.Call → (n : Node) (t : List ℕ) → node source levels u ≡ ok n t → d .listed ≡ isRequire (shape n)
+
+-- how many nodes stand for the callee of a call of that kind
+abbrev pub calleesOf : ℕ → ℕ
+calleesOf kind = cond (eqb kind 12) 1 0
 
 abbrev pub walkedAs : List ℕ → List ℕ → Walked → Decoded Buffer
 walkedAs s out (walked.Is p next) = ok (bufferAs out p) (drop (next .at) s)

@@ -49,14 +49,13 @@ ghost use Rattle.sheet.specs.Nodes.{node, nodes, argumentItem, arguments, prope
 ghost use Rattle.sheet.specs.Shape.{shape, isRequire};
 ghost use Rattle.sheet.specs.Walked.{entries};
 ghost use Rattle.heads.specs.Rest.{behind, rest};
-ghost use Rattle.heads.specs.Head.{callHead};
 ghost use Rattle.heads.specs.Views.{headOf};
 ghost use Rattle.nodes.specs.Judged.{callParts, typedParts};
 ghost use Rattle.report.specs.Encode.{encodeList, encodeDependency};
 ghost use Rattle.report.specs.Buffer.{wrote, bufferAs};
 ghost use Rattle.pragmas.specs.Held.{Held};
 ghost use Rattle.dep.specs.Collect.{collect};
-ghost use Rattle.dep.specs.Walk.{typesFrom, Quotes, PastHead, walkedAs, PastWalked, afterNode, afterNodes, afterArgument, afterArguments, afterProperties, afterProperty, afterWith, afterImport, afterCall, afterTyped};
+ghost use Rattle.dep.specs.Walk.{typesFrom, Quotes, PastHead, Calls, Begins, calleesOf, walkedAs, PastWalked, afterNode, afterNodes, afterArgument, afterArguments, afterProperties, afterProperty, afterWith, afterImport, afterCall, afterTyped};
 
 // The next place in the buffer, with the cursor past what was walked, or a refusal's number.
 pub enum Walked {
@@ -75,6 +74,33 @@ fn is_require(sheet: &[u8], source: &[u8], c: Cursor, levels: usize) -> bool
             _ => false,
         },
     }
+}
+
+// A call up to its arguments, by its head: an import, or a call of the expression at the cursor.
+fn call_of(
+    sheet: &[u8],
+    source: &[u8],
+    c: Cursor,
+    levels: usize,
+    span: Span,
+    head: Head,
+) -> CallHead
+    ensures { λ r. ⌜ Begins (now (source .entry)) levels span (drop (c .at) (now (sheet .entry))) head r ⌝ }
+{
+    match head {
+        Head::ImportCall(phase) => call_head(dynamic_kind(phase), span, true),
+        _ => call_head(12, span, is_require(sheet, source, c, levels)),
+    }
+}
+
+// How many nodes stand for the callee of a call of that kind: none for an import.
+fn callees(kind: u8) -> usize
+    ensures { λ r. ⌜ r ≡ calleesOf kind ⌝ }
+{
+    if kind == 12 {
+        return 1;
+    }
+    0
 }
 
 // `visit_import_decl`, `visit_named_export`, `visit_export_all` and `visit_ts_import_equals_decl`: the entry of an import or an export,
@@ -203,11 +229,22 @@ fn walk_rest(
         Head::Object(n) => {
             walk_properties(sheet, source, c, n, levels, cs, gs, k, index, out, p)
         }
-        Head::ImportCall(phase) => {
-            let d = call_head(dynamic_kind(phase), span, true);
-            visit_call_expr(sheet, source, c, levels, d, cs, gs, k, index, out, p)
+        Head::ImportCall(_) | Head::Call => {
+            walk_callee(
+                sheet,
+                source,
+                c,
+                levels,
+                span,
+                head,
+                cs,
+                gs,
+                k,
+                index,
+                out,
+                p,
+            )
         }
-        Head::Call => { walk_callee(sheet, source, c, levels, span, cs, gs, k, index, out, p) }
         Head::Import(type_only, phase, side_effect, x, there) => {
             let d = static_dependency(import_kind(type_only, phase), span, x, side_effect);
             walk_import(sheet, source, c, there, levels, d, cs, gs, k, index, out, p)
@@ -335,13 +372,15 @@ fn walk_arguments(
     Walked::Is(p, at)
 }
 
-// A call of an expression: the callee, and what follows it.
+// A call: its callee, if that is an expression, and what follows it. Both forms of a call come here: what is called at one place is inlined, so that
+// a level of calls has fewer frames on the stack.
 fn walk_callee(
     sheet: &[u8],
     source: &[u8],
     c: Cursor,
     levels: usize,
     span: Span,
+    head: Head,
     cs: &[u32; COMMENT_NUMBERS],
     gs: &[u32; GROUP_NUMBERS],
     k: Counts,
@@ -349,14 +388,15 @@ fn walk_callee(
     out: &mut [u8],
     p: Place,
 ) -> Walked
-    requires { ⌜ Held (now source) (now cs) (k .comments) (now gs) (k .groups) (now index) × (c .at ≤ length (now sheet)) ⌝ }
+    requires { ⌜ Held (now source) (now cs) (k .comments) (now gs) (k .groups) (now index) × (c .at ≤ length (now sheet)) × Calls head ⌝ }
     ensures { λ r. ⌜ walkedAs (now (sheet .entry)) (now (out .exit)) r
         ≡ onOk (afterNode (now (source .entry)) (typesFrom (now (source .entry)) (now (cs .entry)) (now (gs .entry)) k) (bufferAs (now (out .entry)) p))
-        (rest (now (source .entry)) levels (span, callHead) (drop (c .at) (now (sheet .entry)))) ⌝ }
+        (rest (now (source .entry)) levels (span, headOf (now (sheet .entry)) head) (drop (c .at) (now (sheet .entry)))) ⌝ }
     ensures { λ r. ⌜ PastWalked (length (now (sheet .entry))) r ⌝ }
 {
-    let d = call_head(12, span, is_require(sheet, source, c, levels));
-    match walk_node(sheet, source, c, levels, cs, gs, k, index, out, p) {
+    let d = call_of(sheet, source, c, levels, span, head);
+    let n = callees(d.kind);
+    match walk_nodes(sheet, source, c, n, levels, cs, gs, k, index, out, p) {
         Walked::Refused(r) => Walked::Refused(r),
         Walked::Is(p, next) => {
             visit_call_expr(sheet, source, next, levels, d, cs, gs, k, index, out, p)

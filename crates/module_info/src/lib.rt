@@ -98,7 +98,9 @@ fn put_head(
     analyze_jsx_import_source_types(media, source, comments, n, index, head, out, p)
 }
 
-// The JSDoc imports and the source map; `marks` is lent to work in, and comes cleared.
+// The JSDoc imports and the source map. `marks` is lent to work in, and comes cleared. Where they are too few, there are more here: marks for the
+// longest source take longer to clear than many a sheet takes. The compiler inlines no function that calls itself, so these are not on the stack
+// while the tree is walked.
 fn put_rest(
     source: &[u8],
     parts: Parts,
@@ -109,13 +111,26 @@ fn put_rest(
     out: &mut [u8],
     place: Place,
 ) -> Place
-    requires { ⌜ (length (now source) ≤ length (now marks)) × (now marks ≡ replicate (length (now marks)) 0) ⌝ }
+    requires { ⌜ now marks ≡ replicate (length (now marks)) 0 ⌝ }
     requires { ⌜ Held (now source) (now comments) (parts .comments) (now groups) (parts .groups) (now index) ⌝ }
     ensures { λ r. ⌜ ((t : Sheet) → PartsOf t (now (source .entry)) (now (comments .entry)) (now (groups .entry)) parts
         → bufferAs (now (out .exit)) r ≡ wrote (bufferAs (now (out .entry)) place) (restBytes t)) ⌝ }
 {
     let n = parts.comments;
     let long = source.len();
+    if marks.len() < long {
+        let mut more = [0u8; SOURCE_LIMIT];
+        return put_rest(
+            source,
+            parts,
+            comments,
+            groups,
+            index,
+            &mut more,
+            out,
+            place,
+        );
+    }
     let p = analyze_jsdoc_imports(
         parts.media,
         source,
@@ -128,60 +143,6 @@ fn put_rest(
     );
     let end = end_group(groups, parts.groups, parts.program);
     analyze_source_map_url(source, comments, n, index, end, out, p)
-}
-
-// The same for a source of at most 4096 bytes: marks for 32768 take longer to clear than many a sheet takes.
-fn put_rest_small(
-    source: &[u8],
-    parts: Parts,
-    comments: &[u32],
-    groups: &[u32],
-    index: &[u32],
-    out: &mut [u8],
-    place: Place,
-) -> Place
-    requires { ⌜ Held (now source) (now comments) (parts .comments) (now groups) (parts .groups) (now index) × (length (now source) ≤ 4096) ⌝ }
-    ensures { λ r. ⌜ ((t : Sheet) → PartsOf t (now (source .entry)) (now (comments .entry)) (now (groups .entry)) parts
-        → bufferAs (now (out .exit)) r ≡ wrote (bufferAs (now (out .entry)) place) (restBytes t)) ⌝ }
-{
-    let mut marks = [0u8; 4096];
-    put_rest(
-        source,
-        parts,
-        comments,
-        groups,
-        index,
-        &mut marks,
-        out,
-        place,
-    )
-}
-
-// The same for any other source.
-fn put_rest_large(
-    source: &[u8],
-    parts: Parts,
-    comments: &[u32],
-    groups: &[u32],
-    index: &[u32],
-    out: &mut [u8],
-    place: Place,
-) -> Place
-    requires { ⌜ Held (now source) (now comments) (parts .comments) (now groups) (parts .groups) (now index) ⌝ }
-    ensures { λ r. ⌜ ((t : Sheet) → PartsOf t (now (source .entry)) (now (comments .entry)) (now (groups .entry)) parts
-        → bufferAs (now (out .exit)) r ≡ wrote (bufferAs (now (out .entry)) place) (restBytes t)) ⌝ }
-{
-    let mut marks = [0u8; SOURCE_LIMIT];
-    put_rest(
-        source,
-        parts,
-        comments,
-        groups,
-        index,
-        &mut marks,
-        out,
-        place,
-    )
 }
 
 // Does nothing: where an array is lent as a slice, its length is known to the proof.
@@ -209,9 +170,12 @@ fn put_report(
     let p = put_dependencies(sheet, source, parts, comments, groups, &index, out, place);
     let p = put_head(source, parts, comments, groups, &index, out, p);
     if source.len() <= 4096 {
-        return put_rest_small(source, parts, comments, groups, &index, out, p);
+        let mut marks = [0u8; 4096];
+        return put_rest(source, parts, comments, groups, &index, &mut marks, out, p);
     }
-    put_rest_large(source, parts, comments, groups, &index, out, p)
+    // more are made there
+    let mut few = [0u8; 1];
+    put_rest(source, parts, comments, groups, &index, &mut few, out, p)
 }
 
 // The report of an accepted sheet: the buffer goes into a writer, and is held there to the end.

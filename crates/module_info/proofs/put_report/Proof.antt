@@ -14,23 +14,23 @@ put-dependencies-requires c κs = lent (c .before .before .before .before .befor
 put-head-requires : tie.Need-put-head-requires
 put-head-requires c κs = lent (c .before .before .before .before .before .before .before .before .before .before .before .before .before .before .before .before .before .before .pre) (search needs) (search needs) (search needs) (c .before .before .before .before .before .before .before .before .before .before .before .before .before .build-index .ensures .0)
 
-put-rest-small-requires : tie.Need-put-rest-small-requires
-put-rest-small-requires c κs = (lent (c .before .before .before .before .before .before .before .before .before .before .before .before .before .before .before .before .before .before .before .before .before .before .before .before .before .before .pre) (search needs) (search needs) (search needs) (c .before .before .before .before .before .before .before .before .before .before .before .before .before .before .before .before .before .before .before .before .before .build-index .ensures .0), c .before .before .before .before .if1 .taken)
+put-rest-requires : tie.Need-put-rest-requires
+put-rest-requires c κs = (search needs, lent (c .before .before .before .before .before .before .before .before .before .before .before .before .before .before .before .before .before .before .before .before .before .before .before .before .before .before .before .pre) (search needs) (search needs) (search needs) (c .before .before .before .before .before .before .before .before .before .before .before .before .before .before .before .before .before .before .before .before .before .before .build-index .ensures .0))
 
 returns : tie.Need-returns
 returns c =
     λ t e.
-    let a = c .before .before .before .before .before .before .before .before .before .before .before .before .before .before .before .before .before .before .before .before .before .before .before .before .before .before .before .before .before .pre in
-    report-written t _ (c .before .before .before .before .before .before .before .before .before .before .before .before .before .before .before .before .before .put-dependencies .ensures t (parts-of a e) (root-of a e)) (c .before .before .before .before .before .before .before .before .before .before .put-head .ensures t (parts-of a e)) (c .before .before .put-rest-small .ensures t (parts-of a e))
+    let a = c .before .before .before .before .before .before .before .before .before .before .before .before .before .before .before .before .before .before .before .before .before .before .before .before .before .before .before .before .before .before .before .pre in
+    report-written t _ (c .before .before .before .before .before .before .before .before .before .before .before .before .before .before .before .before .before .before .before .put-dependencies .ensures t (parts-of a e) (root-of a e)) (c .before .before .before .before .before .before .before .before .before .before .before .before .put-head .ensures t (parts-of a e)) (c .before .before .before .put-rest .ensures t (parts-of a e))
 
-put-rest-large-requires : tie.Need-put-rest-large-requires
-put-rest-large-requires c κs = lent (c .before .before .before .before .before .before .before .before .before .before .before .before .before .before .before .before .before .before .before .before .before .before .before .before .before .before .pre) (search needs) (search needs) (search needs) (c .before .before .before .before .before .before .before .before .before .before .before .before .before .before .before .before .before .before .before .before .before .build-index .ensures .0)
+put-rest-requires-2 : tie.Need-put-rest-requires-2
+put-rest-requires-2 c κs = (search needs, lent (c .before .before .before .before .before .before .before .before .before .before .before .before .before .before .before .before .before .before .before .before .before .before .before .before .before .before .before .pre) (search needs) (search needs) (search needs) (c .before .before .before .before .before .before .before .before .before .before .before .before .before .before .before .before .before .before .before .before .before .before .build-index .ensures .0))
 
 returns-2 : tie.Need-returns-2
 returns-2 c =
     λ t e.
-    let a = c .before .before .before .before .before .before .before .before .before .before .before .before .before .before .before .before .before .before .before .before .before .before .before .before .before .before .before .before .before .pre in
-    report-written t _ (c .before .before .before .before .before .before .before .before .before .before .before .before .before .before .before .before .before .put-dependencies .ensures t (parts-of a e) (root-of a e)) (c .before .before .before .before .before .before .before .before .before .before .put-head .ensures t (parts-of a e)) (c .before .before .put-rest-large .ensures t (parts-of a e))
+    let a = c .before .before .before .before .before .before .before .before .before .before .before .before .before .before .before .before .before .before .before .before .before .before .before .before .before .before .before .before .before .before .before .pre in
+    report-written t _ (c .before .before .before .before .before .before .before .before .before .before .before .before .before .before .before .before .before .before .before .put-dependencies .ensures t (parts-of a e) (root-of a e)) (c .before .before .before .before .before .before .before .before .before .before .before .before .put-head .ensures t (parts-of a e)) (c .before .before .before .put-rest2 .ensures t (parts-of a e))
 
 pub put-report-spec : {M : Type 1} → statement M
 put-report-spec =
@@ -46,10 +46,12 @@ put-report-spec =
     (λ c. search needs)
     put-head-requires
     (λ c. search needs)
-    put-rest-small-requires
+    (λ c. search needs)
+    put-rest-requires
     (λ c. search needs)
     returns
     (λ c. search needs)
-    put-rest-large-requires
+    (λ c. search needs)
+    put-rest-requires-2
     (λ c. search needs)
     returns-2)

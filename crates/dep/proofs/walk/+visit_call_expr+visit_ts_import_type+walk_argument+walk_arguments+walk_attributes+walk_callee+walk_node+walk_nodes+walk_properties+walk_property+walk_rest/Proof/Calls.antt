@@ -37,14 +37,13 @@ use Rattle.dep.proofs.walk.+visit_call_expr+visit_ts_import_type+walk_a
 use Rattle.dep.proofs.walk.visit_ts_import_type.Reads as visit-ts-import-type
 use Rattle.dep.proofs.walk.visit_ts_import_type.Kinds as visit-ts-import-type-kinds
 use Rattle.dep.proofs.walk.+visit_call_expr+visit_ts_import_type+walk_argument+walk_arguments+walk_attributes+walk_callee+walk_node+walk_nodes+walk_properties+walk_property+walk_rest.Lts-visit_ts_import_type as visit-ts-import-type-lts
-use Rattle.dep.proofs.entries.call_head.Reads as call-head
+use Rattle.dep.proofs.walk.call_of.Reads as call-of
+use Rattle.dep.proofs.walk.callees.Reads as callees
 use Rattle.nodes.proofs.check.check_nodes.Reads as check-nodes
-use Rattle.dep.proofs.entries.dynamic_kind.Reads as dynamic-kind
 use Rattle.dep.proofs.entries.equals_kind.Reads as equals-kind
 use Rattle.dep.proofs.entries.export_kind.Reads as export-kind
 use Rattle.wire.proofs.Cursor.flag.Reads as flag
 use Rattle.dep.proofs.entries.import_kind.Reads as import-kind
-use Rattle.dep.proofs.walk.is_require.Reads as is-require
 use Rattle.nodes.proofs.tally.nodes_of.Reads as nodes-of
 use Rattle.wire.proofs.Cursor.number.Reads as number
 use Rattle.dep.proofs.entries.put_call_entry.Reads as put-call-entry
@@ -179,7 +178,7 @@ abbrev pub visit-call-expr-calls : ℕ → visit-call-expr-lts.Claims
 visit-call-expr-calls t = (number.Asked, number.Learnt, walk-arguments-below t, walk-arguments.Post, walk-nodes-below t, walk-nodes.Post, put-call-entry.Asked, put-call-entry.Learnt)
 
 abbrev pub walk-callee-calls : ℕ → walk-callee-lts.Claims
-walk-callee-calls t = (is-require.Asked, is-require.Learnt, call-head.Asked, call-head.Learnt, walk-node-below t, walk-node.Post, visit-call-expr-below t, visit-call-expr.Post)
+walk-callee-calls t = (call-of.Asked, call-of.Learnt, callees.Asked, callees.Learnt, walk-nodes-below t, walk-nodes.Post, visit-call-expr-below t, visit-call-expr.Post)
 
 abbrev pub walk-node-calls : ℕ → walk-node-lts.Claims
 walk-node-calls t = (read-head.Asked, read-head.Learnt, walk-rest-below t, walk-rest.Post)
@@ -194,7 +193,7 @@ abbrev pub walk-property-calls : ℕ → walk-property-lts.Claims
 walk-property-calls t = (read-property.Asked, read-property.Learnt, nodes-of.Asked, nodes-of.Learnt, walk-nodes-below t, walk-nodes.Post)
 
 abbrev pub walk-rest-calls : ℕ → walk-rest-lts.Claims
-walk-rest-calls t = (walk-nodes-below t, walk-nodes.Post, read-pieces.Asked, read-pieces.Learnt, walk-properties-below t, walk-properties.Post, dynamic-kind.Asked, dynamic-kind.Learnt, call-head.Asked, call-head.Learnt, visit-call-expr-below t, visit-call-expr.Post, walk-callee-below t, walk-callee.Post, import-kind.Asked, import-kind.Learnt, static-dependency.Asked, static-dependency.Learnt, walk-import.Asked, walk-import.Learnt, visit-ts-import-type-below t, visit-ts-import-type.Post, equals-kind.Asked, equals-kind.Learnt, put-module-entry.Asked, put-module-entry.Learnt, export-kind.Asked, export-kind.Learnt)
+walk-rest-calls t = (walk-nodes-below t, walk-nodes.Post, read-pieces.Asked, read-pieces.Learnt, walk-properties-below t, walk-properties.Post, walk-callee-below t, walk-callee.Post, import-kind.Asked, import-kind.Learnt, static-dependency.Asked, static-dependency.Learnt, walk-import.Asked, walk-import.Learnt, visit-ts-import-type-below t, visit-ts-import-type.Post, equals-kind.Asked, equals-kind.Learnt, put-module-entry.Asked, put-module-entry.Learnt, export-kind.Asked, export-kind.Learnt)
 
 abbrev pub visit-ts-import-type-calls : ℕ → visit-ts-import-type-lts.Claims
 visit-ts-import-type-calls t = (check-nodes.Asked, check-nodes.Learnt, flag.Asked, flag.Learnt, put-with-entry.Asked, put-with-entry.Learnt, walk-nodes-below t, walk-nodes.Post, walk-attributes-below t, walk-attributes.Post)

@@ -11,10 +11,8 @@ use Rattle.wire.specs.Number.{encodeNumber}
 use Rattle.wire.specs.Text.{encodeText}
 use Rattle.wire.specs.Optional.{encodeOptional}
 use Rattle.sheet.specs.Limits.{depthLimit}
-use Rattle.sheet.specs.declared.fields.Span.{Span}
 use Rattle.sheet.specs.declared.comments.Comment.{Comment}
 use Rattle.sheet.specs.declared.groups.Group.{Group}
-use Rattle.sheet.specs.Fields.{encodeSpan}
 use Rattle.sheet.specs.Comments.{encodeComment, encodeGroup, endOf}
 use Rattle.sheet.specs.Tree.{Quoted, Pieces, Node, other, string, name, template, binary, object, importCall, call, importDecl, namedExport, exportFrom, exportAll, importType, importEquals, importRequire, moduleDecl, Nodes, none, more, Arguments, noArguments, argument, Properties, noProperties, spread, otherProperty, childKey, stringKey, nameKey, Attributes, without, withObject}
 use Rattle.sheet.specs.Sheet.{Sheet}
@@ -22,7 +20,7 @@ use Rattle.sheet_codec.specs.Encode.{encodeQuoted, encodeNode, encodeNod
 use Rattle.sheet_codec.specs.Limits.{under}
 use Rattle.sheet_codec.specs.Field.{Count, textLength, start, position, Entry}
 use Rattle.sheet_codec.specs.Breaks.{bytesOf}
-use Rattle.sheet_codec.specs.FieldsOf.{aNumber, textFields, optionalFields, shortText, chainFields, spanFields, commentFields, groupFields, quotedFields, nodeFields, nodesFields, argumentsFields, propertiesFields, attributesFields, fieldsOf}
+use Rattle.sheet_codec.specs.FieldsOf.{aNumber, textFields, optionalFields, shortText, chainFields, commentFields, groupFields, quotedFields, nodeFields, nodesFields, argumentsFields, propertiesFields, attributesFields, fieldsOf}
 
 abbrev bytes : List Entry → List ℕ
 bytes = flatMap bytesOf
@@ -55,10 +53,6 @@ pieces-bytes (p ∷ ps) =
     )
 
 module _ (source : List ℕ) where
-  span-bytes : (sp : Span) → bytes (spanFields source sp) ≡ encodeSpan sp
-  unfolding flatMap
-  span-bytes sp = simp append-nil
-
   comment-bytes : (last : ℕ) (c : Comment) → bytes (commentFields source last c) ≡ encodeComment c
   unfolding flatMap
   comment-bytes last c = simp append-nil

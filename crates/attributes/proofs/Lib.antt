@@ -6,4 +6,5 @@ pub mod Loops
 pub mod Objects
 pub mod Keys
 pub mod Ascending
+pub mod Right
 pub mod Cases

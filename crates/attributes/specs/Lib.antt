@@ -1,2 +1,3 @@
 pub mod Attributes
+pub mod Right
 pub mod Views

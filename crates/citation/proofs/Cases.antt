@@ -8,7 +8,7 @@ use Rattle.laws.specs.Quoted.{ascii}
 use Rattle.wire.specs.Fields.{byte, below, flag, bytes}
 use Rattle.wire.specs.Number.{lastGroup, groups, number}
 use Rattle.wire.specs.Optional.{optional}
-use Rattle.report.proofs.Decode.{times, list, text, position, range, specifier, reference, jsDoc, keyValue, attributes, argument, staticRest, dynamicRest, dependency, report}
+use Rattle.report.specs.Decode.{times, list, text, position, range, specifier, reference, jsDoc, keyValue, attributes, argument, staticRest, dynamicRest, dependency, report}
 use Rattle.citation.specs.Citation.{digits, escaped, citePosition, citeRange, printed, lines, title, citation, refusal}
 
 -- lines, each with its end

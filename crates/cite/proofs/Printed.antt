@@ -22,7 +22,6 @@ use Rattle.module_info.specs.Information.{moduleInfo, answerOf}
 use Rattle.module_info.specs.Demands.{Demands}
 use Rattle.citation.specs.Citation.{citation, refusal}
 use Rattle.cite.specs.Cited.{reportRoom, lineRoom, cited}
-use Rattle.cite.proofs.Readable.{readable}
 
 -- a report has bytes
 some-bytes : (m : ModuleInfo) → 0 ≡ length (encode m) → ⊥
@@ -50,12 +49,11 @@ module _ {s buffer : List ℕ} where
           let held : buffer ≡ encode (moduleInfo t) ++ zeros (reportRoom - length (encode (moduleInfo t))) = ap (λ (a : Answer). a .buffer) answer in
           let begins : encode (moduleInfo t) ≡ take n buffer = rw (long, held) (sym (take-append-seam (encode (moduleInfo t)) _)) in
           let room = leb-true (length (encode (moduleInfo t))) reportRoom h in
-          let meets = accepts-exactly s t .0 e in
           record {
             info = moduleInfo t;
             within = omega (arith, ap length held, length-append (encode (moduleInfo t)) (zeros (reportRoom - length (encode (moduleInfo t)))));
             room = rw (← begins) (omega arith);
-            valid = readable t (omega (arith, meets .encodes .within .fields .source .0)) (d .jsdoc t meets .right) (omega arith);
+            valid = d .report t (accepts-exactly s t .0 e) .fits;
             bytes = begins;
             lines = rw (e, h);
           }

@@ -5,6 +5,5 @@ pub mod Arms
 pub mod Counted
 pub mod Fields
 pub mod Callee
-mod Each
+pub mod EntryKinds
 pub mod Turns
-pub mod Proper

@@ -1,10 +1,12 @@
 -- The dependencies of a tree come from the visits in turn, each the entry of its visit.
 use mathlib.Core.Path.{_≡_, refl}
 use mathlib.Core.Bool.{Bool, true, false, cond, _&&_, and-false}
-use mathlib.Core.List.{List, [], _∷_, _++_, List·Memᴰ, List·Memᴰ·not-nil, List·Memᴰ·cases-cons}
+use mathlib.Core.List.{List, [], _∷_, _++_, List·Memᴰ, List·Memᴰ·head, List·Memᴰ·tail, List·Memᴰ·not-nil, List·Memᴰ·cases-cons}
 use mathlib.Core.Logic.{⊎-elim}
 use mathlib.Core.Option.{Option}
-use Prim.Native.Nat.{ℕ}
+use Prim.Native.Nat.{ℕ, _≤_}
+use native.Mathlib.Omega.{arith}
+use lib.ListN.{length}
 use Rattle.sheet.specs.declared.fields.Span.{Span}
 use Rattle.sheet.specs.Tree.{Quoted, Node, Arguments, noArguments, argument}
 use Rattle.sheet.specs.Shape.{shape, isRequire, isAugmentation}
@@ -28,6 +30,19 @@ pub turn-member : {P : Visit → DependencyDescriptor → Type 0} {vs : List Vis
 turn-member nothing m = absurd (List·Memᴰ·not-nil m)
 turn-member (entry {v = v} g h p) m = ⊎-elim (λ e. (v, rw e h)) (λ i. turn-member p i) (List·Memᴰ·cases-cons m)
 turn-member (passed g p) m = turn-member p m
+
+-- there are no more of them than visits
+pub turns-few : {P : Visit → DependencyDescriptor → Type 0} {vs : List Visit} {l : List DependencyDescriptor} → InTurn P vs l → length l ≤ length vs
+turns-few nothing = omega arith
+turns-few (entry g h p) = omega (arith, turns-few p)
+turns-few (passed g p) = omega (arith, turns-few p)
+
+-- what is known of visits that are made can be used of their entries
+pub turns-with : {P Q : Visit → DependencyDescriptor → Type 0} {vs : List Visit} {l : List DependencyDescriptor} → InTurn P vs l
+    → ((v : Visit) → List·Memᴰ v vs → (d : DependencyDescriptor) → P v d → Q v d) → InTurn Q vs l
+turns-with nothing f = nothing
+turns-with (entry {v = v} {d = d} g h p) f = entry g (f v (List·Memᴰ·head refl) d h) (turns-with p (λ w i. f w (List·Memᴰ·tail i)))
+turns-with (passed g p) f = passed g (turns-with p (λ w i. f w (List·Memᴰ·tail i)))
 
 module _ (source : List ℕ) (types : ℕ → Option SpecifierWithRange) (P : Visit → DependencyDescriptor → Type 0)
     (holds : (v : Visit) (d : DependencyDescriptor) → entryOf source types v ≡ d ∷ [] → typesOf d ≡ types (startOf v) → P v d) where

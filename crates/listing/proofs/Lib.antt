@@ -5,4 +5,4 @@ pub mod Entries
 pub mod Only
 pub mod Right
 pub mod Turns
-pub mod Proper
+pub mod Valid

@@ -1,7 +1,7 @@
 -- What the judge says of an accepted sheet is what the writers ask, and what demand 3 is shown from.
 use mathlib.Core.Path.{_≡_, refl, sym, _∙_}
 use mathlib.Core.Bool.{true}
-use mathlib.Core.List.{List, []}
+use mathlib.Core.List.{List, [], _∷_}
 use Prim.Native.Nat.{ℕ, _+_, _/_, _≤_}
 use native.Mathlib.Omega.{arith}
 use lib.ListN.{length}
@@ -17,7 +17,7 @@ use Rattle.text.proofs.Columns.{counted}
 use Rattle.text.proofs.WellFormed.{well-formed-iff}
 use Rattle.sheet.specs.Limits.{sourceLimit, commentLimit, groupLimit, commentNumbers, groupNumbers, indexNumbers}
 use Rattle.sheet.specs.Fit.{Fit}
-use Rattle.sheet.specs.Walk.{startOf, visits}
+use Rattle.sheet.specs.Walk.{Visit, startOf, visits}
 use Rattle.sheet.specs.Sheet.{Sheet, accept}
 use Rattle.sheet.proofs.Rows.{rows-length}
 use Rattle.sheet.proofs.Reaches.{walk-right}
@@ -29,20 +29,30 @@ use Rattle.accept.specs.declared.check.Parts.{Parts}
 use Rattle.accept.specs.Accepts.{Accepts}
 use Rattle.report.specs.declared.writer.Outcome.{Outcome}
 use Rattle.report.specs.Answer.{outcomeAs, refusedWith, fitted}
+use Rattle.report.specs.ModuleInfo.{DependencyDescriptor}
 use Rattle.report.specs.Encode.{encode}
 use Rattle.pragmas.specs.Pragmas.{typesAt}
 use Rattle.pragmas.specs.Present.{Present}
-use Rattle.pragmas.specs.Texts.{TypesShown, typesOf}
+use Rattle.pragmas.specs.Texts.{TypesShown, typesOf, Texts}
 use Rattle.pragmas.specs.Held.{Held}
 use Rattle.pragmas.proofs.Present.{present, types-present}
 use Rattle.pragmas.proofs.Texts.{types-shown, texts}
+use Rattle.listing.specs.Demand.{OnlyRight}
 use Rattle.listing.proofs.Right.{only-right}
+use Rattle.dep.specs.Collect.{entryOf}
 use Rattle.dep.specs.InTurn.{InTurn, EntryOf}
-use Rattle.dep.proofs.Turns.{turn-member, collect-turns}
+use Rattle.dep.proofs.Turns.{turn-member, turns-with, collect-turns}
 use Rattle.module_info.specs.Information.{moduleInfo, answerOf}
 use Rattle.module_info.specs.Pieces.{PartsOf, RootOf}
 use Rattle.module_info.specs.Demands.{OfAccepted, Demands}
 use Rattle.module_info.proofs.Numbers.{number-right}
+use Rattle.module_info.proofs.Fine.{Fine}
+use Rattle.module_info.proofs.Reports.{entries-fine, report-right}
+
+-- a dependency of a visit
+record Known (t : Sheet) (v : Visit) (d : DependencyDescriptor) : Type 0 where
+  entry : entryOf (t .source) (typesAt t) v ≡ d ∷ []
+  types : typesOf d ≡ typesAt t (startOf v)
 
 -- there is one such sheet
 same-sheet : {x : Decoded Sheet} {t u : Sheet} → x ≡ ok t [] → x ≡ ok u [] → t ≡ u
@@ -105,23 +115,45 @@ module _ {s comments groups : List ℕ} {p : Parts} (a : Accepts s comments grou
     number = rw answer (number-right s size);
     dependencies = shown (λ t. _) in-turn;
     walk = λ t h. walk-right (t .root);
-    jsdoc = shown (λ t. _) (only-right fit formed-source (a .sheet .media));
+    jsdoc = shown (λ t. _) jsdoc-right;
     pragmas = shown (λ t. _) (pragmas-present (a .sheet));
-    texts = shown (λ t. _) (texts (a .sheet) formed-source fit (moduleInfo (a .sheet)) (pragmas-present (a .sheet)) typed);
+    texts = shown (λ t. _) sheet-texts;
     columns = shown (λ t. _) (counted characters (a .sheet .source) (within .source .1));
+    report = shown (λ t. _) (report-right (a .sheet) (meets .encodes .within) types-there fine (pragmas-present (a .sheet)) sheet-texts (jsdoc-right .right));
   }
     where
       answer : outcomeAs outcome buffer ≡ answerOf s size
       answer = rw (a .accepted) (report (a .sheet) (a .accepted))
 
-      in-turn : InTurn (EntryOf (a .sheet)) (visits (a .sheet .root)) (moduleInfo (a .sheet) .dependencies)
-      in-turn = collect-turns (a .sheet .source) (typesAt (a .sheet)) (EntryOf (a .sheet)) (λ v d e i. record { entry = e; types = rw i (types-present (a .sheet) (startOf v)) }) (a .sheet .root)
+      t : Sheet
+      t = a .sheet
+
+      types-there : (start : ℕ) → IfThere (TypesShown t) (typesAt t start)
+      types-there = types-shown t formed-source fit
+
+      -- each entry with what the limits say of it
+      known-turns : InTurn (λ v d. Known t v d × Fine d) (visits (t .root)) (moduleInfo t .dependencies)
+      known-turns = entries-fine t (meets .encodes .within) types-there (λ v d k. k .entry) (collect-turns (t .source) (typesAt t) (Known t) (λ v d e i. record { entry = e; types = i }) (t .root))
+
+      fine : InTurn (λ v d. Fine d) (visits (t .root)) (moduleInfo t .dependencies)
+      fine = turns-with known-turns (λ v i d p. p .1)
+
+      in-turn : InTurn (EntryOf t) (visits (t .root)) (moduleInfo t .dependencies)
+      in-turn =
+          turns-with known-turns λ v i d (k, f).
+          record { entry = k .entry; types = rw (k .types) (types-present t (startOf v)) }
 
       typed : All (λ d. IfThere (TypesShown (a .sheet)) (typesOf d)) (moduleInfo (a .sheet) .dependencies)
       typed =
           of-members _ _ (λ d m.
-          let (v, i) = turn-member (collect-turns (a .sheet .source) (typesAt (a .sheet)) (λ v d. typesOf d ≡ typesAt (a .sheet) (startOf v)) (λ v d e i. i) (a .sheet .root)) m in
-          rw i (types-shown (a .sheet) formed-source fit (startOf v)))
+          let (v, p) = turn-member known-turns m in
+          rw (p .0 .types) (types-there (startOf v)))
+
+      sheet-texts : Texts t (moduleInfo t)
+      sheet-texts = texts t formed-source fit (moduleInfo t) (pragmas-present t) typed
+
+      jsdoc-right : OnlyRight (t .media) (t .source) (t .comments) (moduleInfo t .jsdocImports)
+      jsdoc-right = only-right fit formed-source (t .media)
 
       shown : (P : Sheet → Type 0) → P (a .sheet) → OfAccepted s P
       shown P h t e = rw (same-sheet (accepts-exactly s t .1 e) (a .accepted)) h
@@ -151,6 +183,7 @@ refusal-demanded s {size} {outcome = outcome} {buffer = buffer} e refusal = reco
   pragmas = λ t h. never t h;
   texts = λ t h. never t h;
   columns = λ t h. never t h;
+  report = λ t h. never t h;
 }
   where
     answer : outcomeAs outcome buffer ≡ answerOf s size

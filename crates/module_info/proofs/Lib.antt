@@ -1,5 +1,8 @@
 pub mod Written
 pub mod Numbers
+pub mod Inside
+pub mod Fine
+pub mod Reports
 pub mod Accepted
 pub mod Cleared
 pub mod Cases

@@ -16,6 +16,7 @@ use Rattle.listing.specs.Demand.{OnlyRight}
 use Rattle.dep.specs.InTurn.{InTurn, EntryOf}
 use Rattle.module_info.specs.Information.{moduleInfo, answerOf}
 use Rattle.module_info.specs.Numbers.{NumberRight}
+use Rattle.module_info.specs.Report.{ReportRight}
 
 -- what holds of the sheet that the bytes s are, if they meet none of refusals 1 to 9
 abbrev pub OfAccepted : List ℕ → (Sheet → Type 0) → Type 0
@@ -47,3 +48,5 @@ pub record Demands (s : List ℕ) (size : ℕ) (outcome : Outcome) (buffer : Lis
   pub texts : OfAccepted s (λ t. Texts t (moduleInfo t))
   -- and these positions are 01's: a line ends at LF, a column counts characters
   pub columns : OfAccepted s (λ t. Counted characters (t .source))
+  -- every report can be read back, and its texts are well-formed
+  pub report : OfAccepted s (λ t. ReportRight (moduleInfo t))

@@ -4,4 +4,4 @@ pub mod Reached
 pub mod Present
 pub mod Texts
 pub mod Cases
-pub mod Proper
+pub mod Valid

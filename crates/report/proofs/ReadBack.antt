@@ -16,7 +16,7 @@ use Rattle.wire.proofs.NumberCodec.{number-codec}
 use Rattle.wire.proofs.TextCodec.{below-codec, flag-codec, bytes-codec}
 use Rattle.report.specs.ModuleInfo.{path, types, none, unknown, known, expr, string, template, StaticDependencyDescriptor, DynamicDependencyDescriptor, static, dynamic, ModuleInfo}
 use Rattle.report.specs.Encode.{encodeList, encodePosition, encodeRange, encodeSpecifier, encodeReference, encodeJsDoc, encodeKeyValue, encodeAttributes, encodeArgument, encodeStatic, encodeDynamic, encodeDependency, encode}
-use Rattle.report.proofs.Decode.{times, list, text, position, range, specifier, reference, jsDoc, keyValue, attributes, argument, staticRest, dynamicRest, dependency, report}
+use Rattle.report.specs.Decode.{times, list, text, position, range, specifier, reference, jsDoc, keyValue, attributes, argument, staticRest, dynamicRest, dependency, report}
 use Rattle.report.specs.Valid.{Short, ValidPosition, ValidRange, ValidSpecifier, ValidReference, ValidJsDoc, ValidKeyValue, ValidAttributes, ValidArgument, ValidStatic, ValidDynamic, ValidDependency, Valid}
 
 -- each valid value is decoded from its bytes, whatever follows them

@@ -1,8 +1,10 @@
 pub mod ModuleInfo
 pub mod Ascending
 pub mod Encode
+pub mod Decode
 pub mod Buffer
 pub mod Valid
+pub mod Texts
 pub mod Range
 pub mod Stands
 pub mod Answer

@@ -1,4 +1,4 @@
--- The report read back.
+-- Document 01's report read back from its bytes.
 use mathlib.Core.Bool.{cond}
 use mathlib.Core.List.{List, [], _∷_}
 use mathlib.Core.Option.{Option}

@@ -1,0 +1,77 @@
+-- What the rules read in the comments of a well-formed source can be written.
+use mathlib.Core.Path.{_≡_}
+use mathlib.Core.Bool.{Bool, true, false}
+use mathlib.Core.Logic.{inl, inr, ⊎-elim}
+use mathlib.Core.List.{List}
+use mathlib.Core.Option.{Option}
+use Prim.Native.Nat.{ℕ, _≤_}
+use native.Mathlib.Omega.{arith}
+use lib.ListN.{length, length-take, length-drop}
+use Rattle.laws.specs.Codec.{All}
+use Rattle.text.specs.declared.utf8.Encoding.the-variants.{Utf8}
+use Rattle.text.specs.WellFormed.{WellFormed}
+use Rattle.analysis.specs.Row.{Row}
+use Rattle.analysis.specs.Place.{textOf}
+use Rattle.analysis.proofs.Modes.{named-small}
+use Rattle.sheet.specs.declared.fields.Span.{Span}
+use Rattle.sheet.specs.declared.comments.Comment.{Comment}
+use Rattle.sheet.specs.declared.groups.Group.{Group}
+use Rattle.sheet.specs.Lookups.{headGroup, body}
+use Rattle.sheet.specs.Sheet.{Sheet}
+use Rattle.report.specs.ModuleInfo.{SpecifierWithRange, Mode, TypeScriptReference, path, types}
+use Rattle.report.specs.Stands.{StandsAt}
+use Rattle.report.proofs.Stands.{Good, bare-good, marks-good}
+use Rattle.pragmas.specs.Pragmas.{inGroup, headComments}
+use Rattle.pragmas.specs.Present.{Reader, ModeRead, referenceRule, InOrder}
+use Rattle.pragmas.specs.Texts.{writtenIf, ShownInMarks, ShownBare, ShownEither, ReferenceShown, TypesShown}
+
+abbrev pub GoodReference : TypeScriptReference → Type 0
+GoodReference (path x) = Good x
+GoodReference (types x mode) = Good x × (mode ≤ 2)
+
+module _ (t : Sheet) (short : length (t .source) ≤ 32768) (w : WellFormed Utf8 (t .source)) where
+  pub marks-shown : {row : Row} {x : SpecifierWithRange} → ShownInMarks row t x → Good x
+  marks-shown s = marks-good short w (s .stands)
+
+  pub bare-shown : {row : Row} {x : SpecifierWithRange} → ShownBare row t x → Good x
+  bare-shown s = bare-good short w (s .stands)
+
+  either-shown : {row : Row} {x : SpecifierWithRange} → ShownEither row t x → Good x
+  either-shown {x = x} s = go (s .read .capture .quoted) (s .stands)
+    where
+      go : (b : Bool) {place : Span} → StandsAt (writtenIf b) (t .source) x place → Good x
+      go true = marks-good short w
+      go false = bare-good short w
+
+  pub types-shown-good : {x : SpecifierWithRange} → TypesShown t x → Good x
+  types-shown-good = ⊎-elim marks-shown either-shown
+
+  -- ---- references
+
+  mode-small : {c : Comment} {m : Mode} → ModeRead (t .source) c m → m ≤ 2
+  mode-small {c} (ModeRead.named {k = k} p) = named-small (textOf (body (t .source) c) k)
+  mode-small (ModeRead.none n) = omega arith
+
+  reference-good : (c : Comment) (a : TypeScriptReference) → referenceRule (t .source) .Gives c a → ReferenceShown t a → GoodReference a
+  reference-good c (path x) g s = marks-shown s
+  reference-good c (types x m) (p, inl (y, r, e)) s = let z : _≡_ {A = ℕ} 0 1 = cc in absurd (omega arith)
+  reference-good c (types x m) (p, inr (n, (y, k, r, read, e))) s = let same : m ≡ k = cc in (marks-shown s, rw same (mode-small read))
+
+  pub references-good : {cs : List Comment} {l : List TypeScriptReference} → InOrder (referenceRule (t .source)) cs l → All (ReferenceShown t) l → All GoodReference l
+  references-good InOrder.none s = tt
+  references-good (InOrder.reads {c = c} {a = a} g o) s = (reference-good c a g (s .0), references-good o (s .1))
+  references-good (InOrder.passes n o) s = references-good o s
+
+-- there are no more than comments
+in-order-few : {A : Type 0} {r : Reader A} {cs : List Comment} {l : List A} → InOrder r cs l → length l ≤ length cs
+in-order-few InOrder.none = omega arith
+in-order-few (InOrder.reads g o) = omega (arith, in-order-few o)
+in-order-few (InOrder.passes n o) = omega (arith, in-order-few o)
+
+pub references-few : (t : Sheet) {l : List TypeScriptReference} → InOrder (referenceRule (t .source)) (headComments t) l → length l ≤ length (t .comments)
+unfolding headComments
+references-few t o = omega (arith, in-order-few o, group-few (headGroup (t .program) (t .groups)))
+  where
+    group-few : (g : Option Group) → length (inGroup (t .comments) g) ≤ length (t .comments)
+    group-few Option.none = omega arith
+    group-few (Option.some g) = simp (length-take, length-drop) (omega arith)

@@ -1,0 +1,44 @@
+-- What holds of each text of a report.
+use mathlib.Core.List.{List}
+use Prim.Native.Nat.{ℕ}
+use Rattle.laws.specs.Codec.{All, IfThere}
+use Rattle.report.specs.ModuleInfo.{SpecifierWithRange, TypeScriptReference, path, types, JsDocImportInfo, KeyValue, ImportAttributes, none, unknown, known, DynamicArgument, expr, string, template, DependencyDescriptor, static, dynamic, ModuleInfo}
+
+module _ (P : List ℕ → Type 0) where
+  abbrev pub SpecifierText : SpecifierWithRange → Type 0
+  SpecifierText s = P (s .text)
+
+  abbrev pub ReferenceText : TypeScriptReference → Type 0
+  ReferenceText (path s) = SpecifierText s
+  ReferenceText (types s mode) = SpecifierText s
+
+  abbrev pub JsDocText : JsDocImportInfo → Type 0
+  JsDocText i = SpecifierText (i .specifier)
+
+  -- a key, and its value if that is a text
+  abbrev pub PairTexts : KeyValue → Type 0
+  PairTexts a = P (a .key) × IfThere P (a .value)
+
+  abbrev pub AttributeTexts : ImportAttributes → Type 0
+  AttributeTexts none = Unit {0}
+  AttributeTexts unknown = Unit {0}
+  AttributeTexts (known l) = All PairTexts l
+
+  abbrev pub ArgumentTexts : DynamicArgument → Type 0
+  ArgumentTexts expr = Unit {0}
+  ArgumentTexts (string x) = P x
+  ArgumentTexts (template l) = All (IfThere P) l
+
+  -- its types, its specifier or argument, its attributes
+  abbrev pub DependencyTexts : DependencyDescriptor → Type 0
+  DependencyTexts (static d) = IfThere SpecifierText (d .typesSpecifier) × (SpecifierText (d .specifier) × AttributeTexts (d .importAttributes))
+  DependencyTexts (dynamic d) = IfThere SpecifierText (d .typesSpecifier) × (ArgumentTexts (d .argument) × AttributeTexts (d .importAttributes))
+
+  pub record EachText (m : ModuleInfo) : Type 0 where
+    pub dependencies : All DependencyTexts (m .dependencies)
+    pub tsReferences : All ReferenceText (m .tsReferences)
+    pub selfTypesSpecifier : IfThere SpecifierText (m .selfTypesSpecifier)
+    pub jsxImportSource : IfThere SpecifierText (m .jsxImportSource)
+    pub jsxImportSourceTypes : IfThere SpecifierText (m .jsxImportSourceTypes)
+    pub jsdocImports : All JsDocText (m .jsdocImports)
+    pub sourceMapUrl : IfThere SpecifierText (m .sourceMapUrl)

@@ -2,10 +2,15 @@
 use mathlib.Core.Path.{_≡_}
 use mathlib.Core.Bool.{true, false}
 use mathlib.Core.List.{List, [], _∷_}
-use Rattle.sheet.specs.Walk.{Visit, startOf}
+use mathlib.Core.Option.{Option}
+use Prim.Native.Nat.{ℕ}
+use Rattle.sheet.specs.Tree.{Quoted, noArguments, argument}
+use Rattle.sheet.specs.Shape.{Shape, text, named, pieces, operation, properties, anything, shape}
+use Rattle.sheet.specs.Walk.{Visit, called, imported, exported, typed, required, declared, startOf}
 use Rattle.sheet.specs.Walked.{gives}
 use Rattle.sheet.specs.Sheet.{Sheet}
-use Rattle.report.specs.ModuleInfo.{DependencyDescriptor}
+use Rattle.report.specs.ModuleInfo.{DynamicArgument, string, DependencyDescriptor, static, dynamic}
+use Rattle.report.specs.Texts.{Reports}
 use Rattle.pragmas.specs.Pragmas.{typesAt}
 use Rattle.pragmas.specs.Present.{TypesPresent}
 use Rattle.pragmas.specs.Texts.{typesOf}
@@ -17,7 +22,35 @@ pub data InTurn (P : Visit → DependencyDescriptor → Type 0) : List Visit →
   entry : {v : Visit} {vs : List Visit} {d : DependencyDescriptor} {l : List DependencyDescriptor} → gives v ≡ true → P v d → InTurn P vs l → InTurn P (v ∷ vs) (d ∷ l)
   passed : {v : Visit} {vs : List Visit} {l : List DependencyDescriptor} → gives v ≡ false → InTurn P vs l → InTurn P (v ∷ vs) l
 
--- a dependency is the entry of a visit, with the types that the comments before its node give
+-- the text of an entry, by its node's String or a String that is its call's first argument
+abbrev pub Specifies : Quoted → DependencyDescriptor → Type 0
+Specifies x (static d) = Reports (x .text) (d .specifier .text)
+Specifies x (dynamic d) = ⊥
+
+abbrev pub Argues : Shape → DynamicArgument → Type 0
+Argues (text x) a = (y : List ℕ) × (a ≡ string y) × Reports x y
+Argues (named x) a = Unit {0}
+Argues (pieces ps) a = Unit {0}
+Argues (operation plus l r) a = Unit {0}
+Argues (properties ps) a = Unit {0}
+Argues anything a = Unit {0}
+
+abbrev pub ArguedBy : Shape → DependencyDescriptor → Type 0
+ArguedBy v (static d) = ⊥
+ArguedBy v (dynamic d) = Argues v (d .argument)
+
+abbrev pub Worded : Visit → DependencyDescriptor → Type 0
+Worded (called sp e noArguments) = λ d. Unit {0}
+Worded (called sp e (argument dots at n xs)) = ArguedBy (shape n)
+Worded (imported sp typeOnly phase sideEffect x o) = Specifies x
+Worded (exported sp typeOnly x o) = Specifies x
+Worded (typed sp x o) = Specifies x
+Worded (required sp typeOnly export x) = Specifies x
+Worded (declared sp Option.none) = λ d. Unit {0}
+Worded (declared sp (Option.some x)) = Specifies x
+
+-- a dependency is the entry of a visit, with the types that the comments before its node give, and its text
 pub record EntryOf (t : Sheet) (v : Visit) (d : DependencyDescriptor) : Type 0 where
   pub entry : entryOf (t .source) (typesAt t) v ≡ d ∷ []
   pub types : TypesPresent t (startOf v) (typesOf d)
+  pub worded : Worded v d

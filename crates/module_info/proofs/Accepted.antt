@@ -40,7 +40,7 @@ use Rattle.pragmas.proofs.Texts.{types-shown, texts}
 use Rattle.listing.specs.Demand.{OnlyRight}
 use Rattle.listing.proofs.Right.{only-right}
 use Rattle.dep.specs.Collect.{entryOf}
-use Rattle.dep.specs.InTurn.{InTurn, EntryOf}
+use Rattle.dep.specs.InTurn.{InTurn, Worded, EntryOf}
 use Rattle.dep.proofs.Turns.{turn-member, turns-with, collect-turns}
 use Rattle.module_info.specs.Information.{moduleInfo, answerOf}
 use Rattle.module_info.specs.Pieces.{PartsOf, RootOf}
@@ -132,16 +132,16 @@ module _ {s comments groups : List ℕ} {p : Parts} (a : Accepts s comments grou
       types-there = types-shown t formed-source fit
 
       -- each entry with what the limits say of it
-      known-turns : InTurn (λ v d. Known t v d × Fine d) (visits (t .root)) (moduleInfo t .dependencies)
+      known-turns : InTurn (λ v d. Known t v d × Fine (Worded v) d) (visits (t .root)) (moduleInfo t .dependencies)
       known-turns = entries-fine t (meets .encodes .within) types-there (λ v d k. k .entry) (collect-turns (t .source) (typesAt t) (Known t) (λ v d e i. record { entry = e; types = i }) (t .root))
 
-      fine : InTurn (λ v d. Fine d) (visits (t .root)) (moduleInfo t .dependencies)
+      fine : InTurn (λ v d. Fine (Worded v) d) (visits (t .root)) (moduleInfo t .dependencies)
       fine = turns-with known-turns (λ v i d p. p .1)
 
       in-turn : InTurn (EntryOf t) (visits (t .root)) (moduleInfo t .dependencies)
       in-turn =
           turns-with known-turns λ v i d (k, f).
-          record { entry = k .entry; types = rw (k .types) (types-present t (startOf v)) }
+          record { entry = k .entry; types = rw (k .types) (types-present t (startOf v)); worded = f .worded }
 
       typed : All (λ d. IfThere (TypesShown (a .sheet)) (typesOf d)) (moduleInfo (a .sheet) .dependencies)
       typed =

@@ -17,21 +17,22 @@ use Rattle.wire.specs.Optional.{encodeOptional}
 use Rattle.sheet.specs.declared.fields.Span.{Span}
 use Rattle.sheet.specs.Tree.{Quoted, Pieces, Node, other, string, name, template, binary, object, importCall, call, importDecl, namedExport, exportFrom, exportAll, importType, importEquals, importRequire, moduleDecl, Arguments, noArguments, argument, Properties, noProperties, spread, otherProperty, childKey, stringKey, nameKey, Attributes, withObject}
 use Rattle.sheet.specs.Shape.{Shape, text, named, pieces, operation, properties, anything, shape, isRequire, isAugmentation}
-use Rattle.sheet.specs.Walk.{Visit}
+use Rattle.sheet.specs.Walk.{Visit, Callee, called, importing, expression}
 use Rattle.sheet.specs.Reached.{Walked, ownVisit}
 use Rattle.sheet_codec.specs.Encode.{propertiesIn, encodeNode, encodeArguments}
 use Rattle.sheet_codec.specs.Limits.{TextFits, QuotedFits, under, NodeFits, ArgumentsFit, PropertiesFit, AttributesFit}
 use Rattle.report.specs.ModuleInfo.{SpecifierWithRange, ImportAttribute, KeyValue, ImportAttributes, none, unknown, known, DynamicTemplatePart, DynamicArgument, DependencyDescriptor}
 use Rattle.report.specs.ModuleInfo as info
-use Rattle.report.specs.Texts.{PairTexts, AttributeTexts, ArgumentTexts, DependencyTexts, SpecifierText}
+use Rattle.report.specs.Texts.{Reports, PairTexts, AttributeTexts, ArgumentTexts, DependencyTexts, SpecifierText}
 use Rattle.report.specs.Valid.{Short, ValidSpecifier, ValidAttributes, ValidArgument, ValidDependency}
 use Rattle.report.proofs.Ranges.{range-valid}
 use Rattle.report.proofs.Stands.{Good}
 use Rattle.attributes.specs.Attributes.{Prop, keyless, keyed, props}
 use Rattle.attributes.specs.Right.{Value, PairsOf, StaticOf, ObjectOf, TypeOf, Holds, SecondOf, DynamicOf}
 use Rattle.attributes.proofs.Right.{last-among, pairs-few, static-right, type-right, dynamic-right}
-use Rattle.arguments.specs.Argument.{pieceParts, templateParts, ofPieces, operand, appended, chain, ofChain, argumentOf}
+use Rattle.arguments.specs.Argument.{pieceParts, templateParts, ofPieces, operand, appended, chain, ofChain, ofShape, argumentOf}
 use Rattle.dep.specs.Collect.{importKind, exportKind, equalsKind, dynamicKind, staticEntry, callEntry, moduleEntry, entryOf}
+use Rattle.dep.specs.InTurn.{Specifies, Argues, Worded}
 use Rattle.dep.proofs.EntryKinds.{import-kind, export-kind, equals-kind, dynamic-kind}
 use Rattle.module_info.proofs.Inside.{walked-fits, walked-bytes}
 
@@ -39,6 +40,9 @@ use Rattle.module_info.proofs.Inside.{walked-fits, walked-bytes}
 
 abbrev pub Text : List ℕ → Type 0
 Text = TextFits Utf8 32768
+
+reports : {x : List ℕ} → TextFits Wtf8 4096 x → Reports x (lossy x)
+reports (l, (points, t)) = record { points = points; read = t; given = lossy-of t .text }
 
 lossy-text : {x : List ℕ} → TextFits Wtf8 4096 x → Text (lossy x)
 lossy-text {x} (l, (points, t)) = (omega (arith, lossy-length x), (map reported points, lossy-of t .text))
@@ -62,10 +66,11 @@ pub good-text : (o : Option SpecifierWithRange) → IfThere Good o → IfThere (
 good-text Option.none g = tt
 good-text (Option.some x) g = g .text
 
--- a dependency that can be written
-pub record Fine (d : DependencyDescriptor) : Type 0 where
+-- a dependency that can be written, with what is said of its text
+pub record Fine (Says : DependencyDescriptor → Type 0) (d : DependencyDescriptor) : Type 0 where
   pub valid : ValidDependency d
   pub texts : DependencyTexts Text d
+  pub worded : Says d
 
 -- a list that is there or not
 all-if : {A : Type 0} (P : A → Type 0) (b : Bool) (l : List A) → All P l → All P (cond b l [])
@@ -295,9 +300,17 @@ module _ (source : List ℕ) where
 
   -- ---- entries
 
+  argues : (v : Shape) → ShapeFits v → (parts : Option (List DynamicTemplatePart)) → Argues v (ofShape v parts)
+  argues (text x) f parts = (lossy x, refl, reports f)
+  argues (named x) f parts = tt
+  argues (pieces ps) f parts = tt
+  argues (operation plus l r) f parts = tt
+  argues (properties ps) f parts = tt
+  argues anything f parts = tt
+
   module _ (short : length source ≤ 32768) (types : ℕ → Option SpecifierWithRange) (typed : (start : ℕ) → IfThere Good (types start)) where
     static-entry : (kind : ℕ) → kind ≤ 8 → (sp : Span) (k : ℕ) {x : Quoted} → QuotedFits source k x → (sideEffect : Bool) {a : ImportAttributes} → FineAttributes a
-        → Fine (staticEntry source types kind sp x sideEffect a)
+        → Fine (Specifies x) (staticEntry source types kind sp x sideEffect a)
     unfolding staticEntry
     static-entry kind small sp k {x} q sideEffect a = record {
       valid = record {
@@ -307,13 +320,14 @@ module _ (source : List ℕ) where
         importAttributes = a .valid;
       };
       texts = (good-text (types (sp .start)) (typed (sp .start)), (lossy-text (q .text), a .texts));
+      worded = reports (q .text);
     }
 
-    call-entry : (kind : ℕ) → (9 ≤ kind) × (kind ≤ 12) → (sp : Span) (xs : Arguments) (k : ℕ) → ArgumentsFit source xs k → length (encodeArguments xs) ≤ 65536
-        → All Fine (callEntry source types kind sp xs)
+    call-entry : (kind : ℕ) → (9 ≤ kind) × (kind ≤ 12) → (sp : Span) (e : Callee) (xs : Arguments) (k : ℕ) → ArgumentsFit source xs k → length (encodeArguments xs) ≤ 65536
+        → All (Fine (Worded (called sp e xs))) (callEntry source types kind sp xs)
     unfolding callEntry ArgumentsFit encodeArguments argumentOf
-    call-entry kind small sp noArguments k f h = tt
-    call-entry kind small sp (argument dots at n xs) k f h =
+    call-entry kind small sp e noArguments k f h = tt
+    call-entry kind small sp e (argument dots at n xs) k f h =
         let g = simp length-append at h in
         let x = argument-fine k n (f .0 .1) (omega arith) in
         let a = dynamic-fine k (f .1) (dynamic-right xs) in (
@@ -326,6 +340,7 @@ module _ (source : List ℕ) where
               importAttributes = a .valid;
             };
             texts = (good-text (types (sp .start)) (typed (sp .start)), (x .texts, a .texts));
+            worded = argues (shape n) (shape-fits k n (f .0 .1)) (chain n);
           },
           tt,
         )
@@ -333,7 +348,7 @@ module _ (source : List ℕ) where
     -- the entries of a node's own visit
     abbrev OwnFine : Option Visit → Type 0
     OwnFine Option.none = Unit {0}
-    OwnFine (Option.some v) = All Fine (entryOf source types v)
+    OwnFine (Option.some v) = All (Fine (Worded v)) (entryOf source types v)
 
     own-fine : (k : ℕ) (n : Node) → NodeFits source n k → length (encodeNode n) ≤ 65536 → OwnFine (ownVisit n)
     unfolding NodeFits encodeNode moduleEntry
@@ -344,9 +359,9 @@ module _ (source : List ℕ) where
     own-fine k (binary sp plus l r) f h = tt
     own-fine k (object sp ps) f h = tt
     own-fine k (importCall sp phase xs ns) f h =
-        let g = simp length-append at h in call-entry (dynamicKind phase) (dynamic-kind phase) sp xs (under k) (f .1 .1 .0 .1) (omega arith)
+        let g = simp length-append at h in call-entry (dynamicKind phase) (dynamic-kind phase) sp (importing phase) xs (under k) (f .1 .1 .0 .1) (omega arith)
     own-fine k (call sp e xs ns) f h =
-        let g = simp length-append at h in all-if _ (isRequire (shape e)) (callEntry source types 12 sp xs) (call-entry 12 (omega arith) sp xs (under k) (f .1 .1 .0 .1) (omega arith))
+        let g = simp length-append at h in all-if _ (isRequire (shape e)) (callEntry source types 12 sp xs) (call-entry 12 (omega arith) sp (expression e) xs (under k) (f .1 .1 .0 .1) (omega arith))
     own-fine k (importDecl sp typeOnly phase sideEffect x a) f h =
         (static-entry (importKind typeOnly phase) (import-kind typeOnly phase) sp (under k) (f .1 .1 .0) sideEffect (static-fine (under k) (f .1 .1 .1) (static-right a)), tt)
     own-fine k (namedExport sp typeOnly) f h = tt
@@ -360,9 +375,9 @@ module _ (source : List ℕ) where
 
     -- the entry of a walked node's visit
     pub walked-fine : {root n : Node} {v : Visit} {d : DependencyDescriptor} → Walked root n → ownVisit n ≡ Option.some v → NodeFits source root 64 → length (encodeNode root) ≤ 65536
-        → entryOf source types v ≡ d ∷ [] → Fine d
+        → entryOf source types v ≡ d ∷ [] → Fine (Worded v) d
     walked-fine {n = n} {v = v} {d = d} w o f h e =
         let (k, g) = walked-fits source w 64 f in
         let own : OwnFine (Option.some v) = rw o at (own-fine k n g (omega (arith, walked-bytes w))) in
-        let one : All Fine (d ∷ []) = rw e at own in
+        let one : All (Fine (Worded v)) (d ∷ []) = rw e at own in
         one .0

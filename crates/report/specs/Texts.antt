@@ -1,8 +1,17 @@
--- What holds of each text of a report.
-use mathlib.Core.List.{List}
+-- The texts of a report: what is reported of a text of WTF-8, and what holds of each text.
+use mathlib.Core.List.{List, map}
 use Prim.Native.Nat.{ℕ}
 use Rattle.laws.specs.Codec.{All, IfThere}
+use Rattle.text.specs.declared.utf8.Encoding.the-variants.{Utf8, Wtf8}
+use Rattle.text.specs.WellFormed.{TextOf}
+use Rattle.text.specs.Lossy.{reported}
 use Rattle.report.specs.ModuleInfo.{SpecifierWithRange, TypeScriptReference, path, types, JsDocImportInfo, KeyValue, ImportAttributes, none, unknown, known, DynamicArgument, expr, string, template, DependencyDescriptor, static, dynamic, ModuleInfo}
+
+-- y is what is reported of the text x of WTF-8: its code points, with U+FFFD for each surrogate, in UTF-8
+pub record Reports (x y : List ℕ) : Type 0 where
+  pub points : List ℕ
+  pub read : TextOf Wtf8 points x
+  pub given : TextOf Utf8 (map reported points) y
 
 module _ (P : List ℕ → Type 0) where
   abbrev pub SpecifierText : SpecifierWithRange → Type 0

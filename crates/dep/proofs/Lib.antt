@@ -7,3 +7,4 @@ pub mod Fields
 pub mod Callee
 pub mod EntryKinds
 pub mod Turns
+pub mod Right

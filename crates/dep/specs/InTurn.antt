@@ -9,8 +9,9 @@ use Rattle.sheet.specs.Shape.{Shape, text, named, pieces, operation, properties
 use Rattle.sheet.specs.Walk.{Visit, called, imported, exported, typed, required, declared, startOf}
 use Rattle.sheet.specs.Walked.{gives}
 use Rattle.sheet.specs.Sheet.{Sheet}
-use Rattle.report.specs.ModuleInfo.{DynamicArgument, string, DependencyDescriptor, static, dynamic}
+use Rattle.report.specs.ModuleInfo.{ImportAttributes, none, DynamicArgument, string, DependencyDescriptor, static, dynamic}
 use Rattle.report.specs.Texts.{Reports}
+use Rattle.attributes.specs.Right.{StaticOf, TypeOf, DynamicOf}
 use Rattle.pragmas.specs.Pragmas.{typesAt}
 use Rattle.pragmas.specs.Present.{TypesPresent}
 use Rattle.pragmas.specs.Texts.{typesOf}
@@ -21,6 +22,20 @@ pub data InTurn (P : Visit → DependencyDescriptor → Type 0) : List Visit →
   nothing : InTurn P [] []
   entry : {v : Visit} {vs : List Visit} {d : DependencyDescriptor} {l : List DependencyDescriptor} → gives v ≡ true → P v d → InTurn P vs l → InTurn P (v ∷ vs) (d ∷ l)
   passed : {v : Visit} {vs : List Visit} {l : List DependencyDescriptor} → gives v ≡ false → InTurn P vs l → InTurn P (v ∷ vs) l
+
+abbrev pub attributesOf : DependencyDescriptor → ImportAttributes
+attributesOf (static d) = d .importAttributes
+attributesOf (dynamic d) = d .importAttributes
+
+-- the attributes of an entry, by its node's Object or its call's second argument; a call without arguments gives no entry
+abbrev pub Attributed : Visit → ImportAttributes → Type 0
+Attributed (called sp e noArguments) = λ a. Unit {0}
+Attributed (called sp e (argument dots at n xs)) = DynamicOf xs
+Attributed (imported sp typeOnly phase sideEffect x o) = StaticOf o
+Attributed (exported sp typeOnly x o) = StaticOf o
+Attributed (typed sp x o) = TypeOf o
+Attributed (required sp typeOnly export x) = λ a. a ≡ none
+Attributed (declared sp x) = λ a. a ≡ none
 
 -- the text of an entry, by its node's String or a String that is its call's first argument
 abbrev pub Specifies : Quoted → DependencyDescriptor → Type 0
@@ -49,8 +64,9 @@ Worded (required sp typeOnly export x) = Specifies x
 Worded (declared sp Option.none) = λ d. Unit {0}
 Worded (declared sp (Option.some x)) = Specifies x
 
--- a dependency is the entry of a visit, with the types that the comments before its node give, and its text
+-- a dependency is the entry of a visit, with the types that the comments before its node give, its attributes and its text
 pub record EntryOf (t : Sheet) (v : Visit) (d : DependencyDescriptor) : Type 0 where
   pub entry : entryOf (t .source) (typesAt t) v ≡ d ∷ []
   pub types : TypesPresent t (startOf v) (typesOf d)
+  pub attributes : Attributed v (attributesOf d)
   pub worded : Worded v d

@@ -42,6 +42,7 @@ use Rattle.listing.proofs.Right.{only-right}
 use Rattle.dep.specs.Collect.{entryOf}
 use Rattle.dep.specs.InTurn.{InTurn, Worded, EntryOf}
 use Rattle.dep.proofs.Turns.{turn-member, turns-with, collect-turns}
+use Rattle.dep.proofs.Right.{attributes-right}
 use Rattle.module_info.specs.Information.{moduleInfo, answerOf}
 use Rattle.module_info.specs.Pieces.{PartsOf, RootOf}
 use Rattle.module_info.specs.Demands.{OfAccepted, Demands}
@@ -141,7 +142,7 @@ module _ {s comments groups : List ℕ} {p : Parts} (a : Accepts s comments grou
       in-turn : InTurn (EntryOf t) (visits (t .root)) (moduleInfo t .dependencies)
       in-turn =
           turns-with known-turns λ v i d (k, f).
-          record { entry = k .entry; types = rw (k .types) (types-present t (startOf v)); worded = f .worded }
+          record { entry = k .entry; types = rw (k .types) (types-present t (startOf v)); attributes = attributes-right (t .source) (typesAt t) v (k .entry); worded = f .worded }
 
       typed : All (λ d. IfThere (TypesShown (a .sheet)) (typesOf d)) (moduleInfo (a .sheet) .dependencies)
       typed =

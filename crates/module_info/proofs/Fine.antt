@@ -34,6 +34,7 @@ use Rattle.arguments.specs.Argument.{pieceParts, templateParts, ofPieces, opera
 use Rattle.dep.specs.Collect.{importKind, exportKind, equalsKind, dynamicKind, staticEntry, callEntry, moduleEntry, entryOf}
 use Rattle.dep.specs.InTurn.{Specifies, Argues, Worded}
 use Rattle.dep.proofs.EntryKinds.{import-kind, export-kind, equals-kind, dynamic-kind}
+use Rattle.dep.proofs.Right.{all-if}
 use Rattle.module_info.proofs.Inside.{walked-fits, walked-bytes}
 
 -- ---- texts
@@ -71,11 +72,6 @@ pub record Fine (Says : DependencyDescriptor → Type 0) (d : DependencyDescript
   pub valid : ValidDependency d
   pub texts : DependencyTexts Text d
   pub worded : Says d
-
--- a list that is there or not
-all-if : {A : Type 0} (P : A → Type 0) (b : Bool) (l : List A) → All P l → All P (cond b l [])
-all-if P true l a = a
-all-if P false l a = tt
 
 -- ---- attributes
 

@@ -33,7 +33,7 @@ pub record Demands (s : List ℕ) (size : ℕ) (outcome : Outcome) (buffer : Lis
   -- and what each number means
   pub number : NumberRight s (outcomeAs outcome buffer .number)
   -- 2: dependencies and the visits that give one stand one to one, in order: each dependency is the entry of its visit, with the types that the comments
-  -- before its node give, and the text of its String
+  -- before its node give, the attributes of its Object and the text of its String
   pub dependencies : OfAccepted s (λ t. InTurn (EntryOf t) (visits (t .root)) (moduleInfo t .dependencies))
   -- and these are the visits of the walked nodes: children in sheet order, a call behind all nodes inside it, any other node before them
   pub walk : OfAccepted s (λ t. WalkRight (t .root) (visits (t .root)))

@@ -14,6 +14,7 @@ use Rattle.text.proofs.Replaced.{lossy-length, exact-lossy}
 use Rattle.text.proofs.Reported.{lossy-of}
 use Rattle.wire.specs.Text.{encodeText}
 use Rattle.wire.specs.Optional.{encodeOptional}
+use Rattle.sheet.specs.Limits.{sheetLimit, sourceLimit, textLimit, depthLimit}
 use Rattle.sheet.specs.declared.fields.Span.{Span}
 use Rattle.sheet.specs.Tree.{Quoted, Pieces, Node, other, string, name, template, binary, object, importCall, call, importDecl, namedExport, exportFrom, exportAll, importType, importEquals, importRequire, moduleDecl, Arguments, noArguments, argument, Properties, noProperties, spread, otherProperty, childKey, stringKey, nameKey, Attributes, withObject}
 use Rattle.sheet.specs.Shape.{Shape, text, named, pieces, operation, properties, anything, shape, isRequire, isAugmentation}
@@ -40,15 +41,15 @@ use Rattle.module_info.proofs.Inside.{walked-fits, walked-bytes}
 -- ---- texts
 
 abbrev pub Text : List ℕ → Type 0
-Text = TextFits Utf8 32768
+Text = TextFits Utf8 sourceLimit
 
-reports : {x : List ℕ} → TextFits Wtf8 4096 x → Reports x (lossy x)
+reports : {x : List ℕ} → TextFits Wtf8 textLimit x → Reports x (lossy x)
 reports (l, (points, t)) = record { points = points; read = t; given = lossy-of t .text }
 
-lossy-text : {x : List ℕ} → TextFits Wtf8 4096 x → Text (lossy x)
+lossy-text : {x : List ℕ} → TextFits Wtf8 textLimit x → Text (lossy x)
 lossy-text {x} (l, (points, t)) = (omega (arith, lossy-length x), (map reported points, lossy-of t .text))
 
-exact-text : {x : List ℕ} → TextFits Wtf8 4096 x → exact x ≡ true → Text x
+exact-text : {x : List ℕ} → TextFits Wtf8 textLimit x → exact x ≡ true → Text x
 exact-text {x} f e = rw (exact-lossy x e) at (lossy-text f)
 
 short-text : {x : List ℕ} → Text x → Short x
@@ -78,7 +79,7 @@ pub record Fine (Says : DependencyDescriptor → Type 0) (d : DependencyDescript
 module _ (source : List ℕ) where
   -- what is known of a value
   abbrev ShapeFits : Shape → Type 0
-  ShapeFits (text x) = TextFits Wtf8 4096 x
+  ShapeFits (text x) = TextFits Wtf8 textLimit x
   ShapeFits (named x) = Unit {0}
   ShapeFits (pieces ps) = Unit {0}
   ShapeFits (operation plus l r) = Unit {0}
@@ -133,7 +134,7 @@ module _ (source : List ℕ) where
 
   value-text : (v : Shape) (o : ImportAttribute) → Value v o → ShapeFits v → IfThere Text o
   value-text v Option.none is f = tt
-  value-text v (Option.some x) (e, i) f = let g : TextFits Wtf8 4096 x = rw e at f in exact-text g i
+  value-text v (Option.some x) (e, i) f = let g : TextFits Wtf8 textLimit x = rw e at f in exact-text g i
 
   record FineAttributes (a : ImportAttributes) : Type 0 where
     valid : ValidAttributes a
@@ -200,14 +201,14 @@ module _ (source : List ℕ) where
   fine-expr : FineArgument info.expr
   fine-expr = record { valid = tt; texts = tt }
 
-  fine-string : {x : List ℕ} → TextFits Wtf8 4096 x → FineArgument (info.string (lossy x))
+  fine-string : {x : List ℕ} → TextFits Wtf8 textLimit x → FineArgument (info.string (lossy x))
   fine-string f = record { valid = short-text (lossy-text f); texts = lossy-text f }
 
   fine-template : {l : List DynamicTemplatePart} → length l ≤ 131072 → All (IfThere Text) l → FineArgument (info.template l)
   fine-template {l} n a = record { valid = (omega arith, of-members _ l (λ o i. short-there o (all-member _ l a i))); texts = a }
 
   abbrev PieceFits : Option (List ℕ) → Type 0
-  PieceFits = IfThere (TextFits Wtf8 4096)
+  PieceFits = IfThere (TextFits Wtf8 textLimit)
 
   piece-texts : (p : Option (List ℕ)) → PieceFits p → (length (pieceParts p) ≤ 1) × All (IfThere Text) (pieceParts p)
   piece-texts Option.none f = (omega arith, tt)
@@ -222,7 +223,7 @@ module _ (source : List ℕ) where
       let (m, b) = parts-texts (q ∷ ps) (f .1) in
       (simp length-append (omega arith), all-append _ (pieceParts p) (Option.none ∷ templateParts (q ∷ ps)) a (tt, b))
 
-  pieces-fine : (ps : Pieces) → All PieceFits ps → length ps ≤ 65536 → FineArgument (ofPieces ps)
+  pieces-fine : (ps : Pieces) → All PieceFits ps → length ps ≤ sheetLimit → FineArgument (ofPieces ps)
   pieces-fine [] f n = fine-expr
   pieces-fine (Option.none ∷ []) f n = fine-expr
   pieces-fine (Option.some x ∷ []) f n = fine-string (f .0)
@@ -271,7 +272,7 @@ module _ (source : List ℕ) where
   chain-fine k (importRequire sp typeOnly export x) f = tt
   chain-fine k (moduleDecl sp x ns) f = tt
 
-  argument-fine : (k : ℕ) (n : Node) → NodeFits source n k → length (encodeNode n) ≤ 65536 → FineArgument (argumentOf n)
+  argument-fine : (k : ℕ) (n : Node) → NodeFits source n k → length (encodeNode n) ≤ sheetLimit → FineArgument (argumentOf n)
   unfolding argumentOf NodeFits encodeNode
   argument-fine k (other sp ns) f h = fine-expr
   argument-fine k (string sp x) f h = fine-string (f .1)
@@ -304,7 +305,7 @@ module _ (source : List ℕ) where
   argues (properties ps) f parts = tt
   argues anything f parts = tt
 
-  module _ (short : length source ≤ 32768) (types : ℕ → Option SpecifierWithRange) (typed : (start : ℕ) → IfThere Good (types start)) where
+  module _ (short : length source ≤ sourceLimit) (types : ℕ → Option SpecifierWithRange) (typed : (start : ℕ) → IfThere Good (types start)) where
     static-entry : (kind : ℕ) → kind ≤ 8 → (sp : Span) (k : ℕ) {x : Quoted} → QuotedFits source k x → (sideEffect : Bool) {a : ImportAttributes} → FineAttributes a
         → Fine (Specifies x) (staticEntry source types kind sp x sideEffect a)
     unfolding staticEntry
@@ -319,7 +320,7 @@ module _ (source : List ℕ) where
       worded = reports (q .text);
     }
 
-    call-entry : (kind : ℕ) → (9 ≤ kind) × (kind ≤ 12) → (sp : Span) (e : Callee) (xs : Arguments) (k : ℕ) → ArgumentsFit source xs k → length (encodeArguments xs) ≤ 65536
+    call-entry : (kind : ℕ) → (9 ≤ kind) × (kind ≤ 12) → (sp : Span) (e : Callee) (xs : Arguments) (k : ℕ) → ArgumentsFit source xs k → length (encodeArguments xs) ≤ sheetLimit
         → All (Fine (Worded (called sp e xs))) (callEntry source types kind sp xs)
     unfolding callEntry ArgumentsFit encodeArguments argumentOf
     call-entry kind small sp e noArguments k f h = tt
@@ -346,7 +347,7 @@ module _ (source : List ℕ) where
     OwnFine Option.none = Unit {0}
     OwnFine (Option.some v) = All (Fine (Worded v)) (entryOf source types v)
 
-    own-fine : (k : ℕ) (n : Node) → NodeFits source n k → length (encodeNode n) ≤ 65536 → OwnFine (ownVisit n)
+    own-fine : (k : ℕ) (n : Node) → NodeFits source n k → length (encodeNode n) ≤ sheetLimit → OwnFine (ownVisit n)
     unfolding NodeFits encodeNode moduleEntry
     own-fine k (other sp ns) f h = tt
     own-fine k (string sp x) f h = tt
@@ -370,7 +371,7 @@ module _ (source : List ℕ) where
     own-fine k (moduleDecl sp (Option.some x) ns) f h = all-if _ (isAugmentation (x .text)) (staticEntry source types 8 sp x false none ∷ []) (static-entry 8 (omega arith) sp (under k) (f .1 .0) false fine-none, tt)
 
     -- the entry of a walked node's visit
-    pub walked-fine : {root n : Node} {v : Visit} {d : DependencyDescriptor} → Walked root n → ownVisit n ≡ Option.some v → NodeFits source root 64 → length (encodeNode root) ≤ 65536
+    pub walked-fine : {root n : Node} {v : Visit} {d : DependencyDescriptor} → Walked root n → ownVisit n ≡ Option.some v → NodeFits source root depthLimit → length (encodeNode root) ≤ sheetLimit
         → entryOf source types v ≡ d ∷ [] → Fine (Worded v) d
     walked-fine {n = n} {v = v} {d = d} w o f h e =
         let (k, g) = walked-fits source w 64 f in

@@ -9,6 +9,7 @@ use Rattle.laws.specs.Codec.{All, IfThere}
 use Rattle.laws.proofs.Lists.{all-member, of-members}
 use Rattle.analysis.specs.Row.{Row}
 use Rattle.analysis.specs.Patterns.{jsxImportSourceRow, jsxImportSourceTypesRow, sourceMappingUrlRow, tsSelfTypesRow}
+use Rattle.sheet.specs.Limits.{sheetLimit}
 use Rattle.sheet.specs.Walk.{Visit, visits}
 use Rattle.sheet.specs.Sheet.{Sheet}
 use Rattle.sheet.proofs.Reaches.{walk-right}
@@ -33,7 +34,7 @@ use Rattle.module_info.specs.Report.{ReportRight}
 use Rattle.module_info.proofs.Inside.{visits-few}
 use Rattle.module_info.proofs.Fine.{Text, Fine, walked-fine, good-valid, good-text}
 
-root-bytes : (t : Sheet) → WithinLimits t → length (encodeNode (t .root)) ≤ 65536
+root-bytes : (t : Sheet) → WithinLimits t → length (encodeNode (t .root)) ≤ sheetLimit
 unfolding encodeSheet
 root-bytes t h = let g = simp length-append at (h .bytes) in omega arith
 

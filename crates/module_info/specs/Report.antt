@@ -4,6 +4,7 @@ use mathlib.Core.List.{List, _++_}
 use Prim.Native.Nat.{ℕ}
 use Rattle.laws.specs.Decoded.{ok}
 use Rattle.text.specs.declared.utf8.Encoding.the-variants.{Utf8}
+use Rattle.sheet.specs.Limits.{sourceLimit}
 use Rattle.sheet_codec.specs.Limits.{TextFits}
 use Rattle.report.specs.ModuleInfo.{ModuleInfo}
 use Rattle.report.specs.Encode.{encode}
@@ -17,4 +18,4 @@ pub record ReportRight (m : ModuleInfo) : Type 0 where
   -- its bytes, whatever follows them, are read back as it, and just what follows is left
   pub back : (u : List ℕ) → report (encode m ++ u) ≡ ok m u
   -- each text is well-formed UTF-8, and has at most 32,768 bytes
-  pub texts : EachText (TextFits Utf8 32768) m
+  pub texts : EachText (TextFits Utf8 sourceLimit) m

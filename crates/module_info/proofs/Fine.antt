@@ -89,7 +89,7 @@ module _ (source : List ℕ) where
   shape-fits : (k : ℕ) (n : Node) → NodeFits source n k → ShapeFits (shape n)
   unfolding NodeFits
   shape-fits k (other sp ns) f = tt
-  shape-fits k (string sp x) f = f .1
+  shape-fits k (string sp x) f = f .text
   shape-fits k (name sp x) f = tt
   shape-fits k (template sp ps ns) f = tt
   shape-fits k (binary sp plus l r) f = tt
@@ -275,7 +275,7 @@ module _ (source : List ℕ) where
   argument-fine : (k : ℕ) (n : Node) → NodeFits source n k → length (encodeNode n) ≤ sheetLimit → FineArgument (argumentOf n)
   unfolding argumentOf NodeFits encodeNode
   argument-fine k (other sp ns) f h = fine-expr
-  argument-fine k (string sp x) f h = fine-string (f .1)
+  argument-fine k (string sp x) f h = fine-string (f .text)
   argument-fine k (name sp x) f h = fine-expr
   argument-fine k (template sp ps ns) f h = let g = simp length-append at h in pieces-fine ps (f .1 .0 .1) (omega (arith, pieces-bytes ps))
   argument-fine k (binary sp plus l r) f h = by-chain (chain (binary sp plus l r)) (chain-fine k (binary sp plus l r) f)

@@ -250,7 +250,7 @@ module _ (source : List ℕ) where
   chain-fine : (k : ℕ) (n : Node) → NodeFits source n k → ChainFine n
   unfolding NodeFits chain encodeNode
   chain-fine k (other sp ns) f = tt
-  chain-fine k (string sp x) f = (omega arith, (lossy-text (f .1), tt))
+  chain-fine k (string sp x) f = (omega arith, (lossy-text (f .text), tt))
   chain-fine k (name sp x) f = tt
   chain-fine k (template sp ps ns) f = tt
   chain-fine k (binary sp plus l r) f = by-plus plus (chain l) (chain-fine (under k) l (f .1 .0))

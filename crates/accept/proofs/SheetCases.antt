@@ -8,7 +8,7 @@ use Rattle.laws.proofs.Decoding.{refusal}
 use Rattle.text.specs.Bytes.{begins, same}
 use Rattle.text.specs.Utf8.{admits, lengthBy, charLength, formed}
 use Rattle.text.specs.Position.{isBoundary}
-use Rattle.wire.specs.Fields.{byte, below, flag, bytes}
+use Rattle.wire.specs.Fields.{byte, below, numbered, flag, bytes}
 use Rattle.wire.specs.Number.{lastGroup, number}
 use Rattle.wire.specs.Text.{count, text}
 use Rattle.wire.specs.Optional.{optional}
@@ -60,5 +60,5 @@ cases =
     ∷ []
 
 as-stated : map (λ c. refusal (accept (c .0))) cases ≡ map (λ c. c .1) cases
-unfolding byte below flag bytes lastGroup Rattle.wire.specs.Number.groups number count text admits lengthBy charLength formed begins same isBoundary position endFrom span enclosed marked comment group covered chained program many tag stringText quoted optional piece nodes argumentItem arguments keyedItem propertyItem properties attributes otherFields stringFields nameFields templateFields binaryFields objectFields callRest callFields importFields namedExportFields exportAllFields importTypeFields importEqualsFields moduleFields fields node attributesObject sheet decodeSheet accept
+unfolding byte below numbered flag bytes lastGroup Rattle.wire.specs.Number.groups number count text admits lengthBy charLength formed begins same isBoundary position endFrom span enclosed marked comment group covered chained program many tag stringText quoted optional piece nodes argumentItem arguments keyedItem propertyItem properties attributes otherFields stringFields nameFields templateFields binaryFields objectFields callRest callFields importFields namedExportFields exportAllFields importTypeFields importEqualsFields moduleFields fields node attributesObject sheet decodeSheet accept
 as-stated = refl

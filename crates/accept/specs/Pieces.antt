@@ -4,11 +4,13 @@ use mathlib.Core.List.{List}
 use Prim.Native.Nat.{ℕ}
 use Rattle.laws.specs.Decoded.{Decoder, _>>=_, _>>_, return, require}
 use Rattle.text.specs.declared.utf8.Encoding.the-variants.{Utf8}
-use Rattle.wire.specs.Fields.{below}
+use Rattle.wire.specs.Fields.{numbered}
 use Rattle.wire.specs.Text.{count, text}
 use Rattle.sheet.specs.Limits.{sourceLimit, commentLimit, groupLimit, depthLimit}
 use Rattle.sheet.specs.declared.comments.Comment.{Comment}
 use Rattle.sheet.specs.declared.groups.Group.{Group}
+use Rattle.sheet.specs.declared.names.MediaType.{MediaType}
+use Rattle.sheet.specs.Names.{mediaTypes}
 use Rattle.sheet.specs.Tree.{Node}
 use Rattle.sheet.specs.Comments.{comments, anywhere, groups, covered}
 use Rattle.sheet.specs.Program.{Program, program}
@@ -17,9 +19,9 @@ use Rattle.sheet.specs.Walked.{uncooked}
 use Rattle.sheet.specs.Sheet.{ending}
 
 -- the media byte and the source
-unfoldable pub sourceFields : Decoder (ℕ × List ℕ)
+unfoldable pub sourceFields : Decoder (MediaType × List ℕ)
 sourceFields = do
-  media ← below 11
+  media ← numbered mediaTypes
   source ← text Utf8 sourceLimit
   return (media, source)
 
@@ -40,7 +42,7 @@ groupFields source n = do
 
 -- what stands in front of the program
 pub record Front : Type 0 where
-  pub media : ℕ
+  pub media : MediaType
   pub source : List ℕ
   pub comments : List Comment
   pub groups : List Group

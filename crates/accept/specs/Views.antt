@@ -9,6 +9,7 @@ use Rattle.text.specs.Bytes.{part}
 use Rattle.sheet.specs.Limits.{depthLimit}
 use Rattle.sheet.specs.declared.comments.Comment.{Comment}
 use Rattle.sheet.specs.declared.groups.Group.{Group}
+use Rattle.sheet.specs.declared.names.MediaType.{MediaType}
 use Rattle.sheet.specs.Tree.{Node}
 use Rattle.sheet.specs.Tables.{commentsIn, groupsIn}
 use Rattle.sheet.specs.Program.{program}
@@ -27,7 +28,7 @@ use Rattle.accept.specs.declared.tree.TreeRead.{TreeRead}
 use Rattle.accept.specs.declared.tree.TreeRead.the-variants as treeRead
 use Rattle.accept.specs.Pieces.{Front, tree}
 
-abbrev pub sourceAs : List ℕ → SourceRead → Decoded (ℕ × List ℕ)
+abbrev pub sourceAs : List ℕ → SourceRead → Decoded (MediaType × List ℕ)
 sourceAs s (sourceRead.Is media start next) = ok (media, part s start (next .at)) (drop (next .at) s)
 sourceAs s (sourceRead.Refused r) = no r
 

@@ -7,13 +7,14 @@ use sheet::limits::COMMENT_LIMIT;
 use sheet::limits::COMMENT_NUMBERS;
 use sheet::limits::GROUP_NUMBERS;
 use sheet::limits::SHEET_LIMIT;
+use sheet::names::MediaType;
 use sheet::program::Program;
 ghost use Rattle.laws.specs.Left.{Free};
 ghost use Rattle.accept.specs.Accepts.{Judges};
 
 // What the report is made from: places in the sheet, and how many rows its tables have.
 pub struct Parts {
-    pub media: usize,
+    pub media: MediaType,
     pub source_start: usize,
     pub source_end: usize,
     pub comments: usize,
@@ -56,9 +57,10 @@ pub fn check_sheet(
             match check_tree(sheet, &sheet[start..end], next) {
                 TreeRead::Refused(r) => SheetChecked::Refused(r),
                 TreeRead::Is(tree) => {
+                    let media = t.media;
                     let program = tree.program;
                     SheetChecked::Accepted(Parts {
-                        media: t.media,
+                        media,
                         source_start: start,
                         source_end: end,
                         comments: t.comments,

@@ -6,6 +6,8 @@ use sheet::groups::read_groups;
 use sheet::limits::COMMENT_LIMIT;
 use sheet::limits::GROUP_LIMIT;
 use sheet::limits::SOURCE_LIMIT;
+use sheet::names::MediaType;
+use sheet::names::media_type;
 use text::utf8::Encoding;
 use wire::Cursor;
 use wire::Read;
@@ -20,7 +22,7 @@ ghost use Rattle.accept.specs.Views.{sourceAs, commentTableAs, groupTabl
 
 // The media byte and where the source starts, with the cursor at its end, or a refusal's number.
 pub enum SourceRead {
-    Is(usize, usize, Cursor),
+    Is(MediaType, usize, Cursor),
     Refused(usize),
 }
 
@@ -32,7 +34,7 @@ pub enum Counted {
 
 // The media byte, the source from a place of the sheet to another, and how many rows the tables of comments and groups have.
 pub struct Front {
-    pub media: usize,
+    pub media: MediaType,
     pub source_start: usize,
     pub source_end: usize,
     pub comments: usize,
@@ -55,7 +57,7 @@ fn read_source(sheet: &[u8]) -> SourceRead
         Read::Refused(r) => SourceRead::Refused(r),
         Read::Value(media, next) => match next.text(sheet, Encoding::Utf8, SOURCE_LIMIT) {
             Text::Refused(r) => SourceRead::Refused(r),
-            Text::From(start, next) => SourceRead::Is(media, start, next),
+            Text::From(start, next) => SourceRead::Is(media_type(media), start, next),
         },
     }
 }

@@ -1,11 +1,10 @@
 -- What is written for a node, from what is written for the parts that it holds.
 use mathlib.Core.Path.{_≡_, refl, sym, ap, _∙_}
-use mathlib.Core.Bool.{Bool, true, false, cond}
+use mathlib.Core.Bool.{Bool, true, false}
 use mathlib.Core.List.{List, [], _∷_, _++_, append-nil}
 use mathlib.Core.Logic.{_⊎_, inl, inr}
 use mathlib.Core.Option.{Option}
 use Prim.Native.Nat.{ℕ}
-use lib.Dec.{eqb}
 use types.Run.{OneOf}
 use denote.Enum.Declared.{tagOf}
 use borrow.Enum.Known.{lives-at}
@@ -14,6 +13,8 @@ use Rattle.laws.proofs.Decoding.{refused, onOk-ok, onOk-no, built}
 use Rattle.text.specs.Bytes.{part}
 use Rattle.wire.specs.Fields.{flag}
 use Rattle.wire.specs.Number.{number}
+use Rattle.sheet.specs.declared.names.ImportPhase.{ImportPhase}
+use Rattle.sheet.specs.declared.names.ImportPhase.the-variants.{Evaluation, Source, Defer}
 use Rattle.sheet.specs.declared.fields.Span.{Span}
 use Rattle.sheet.specs.Tree.{Quoted, Pieces, Node, template, binary, importCall, call, exportFrom, exportAll, importType, moduleDecl, Nodes, none, more, spread, otherProperty, childKey, stringKey, nameKey, Arguments, argument, Attributes}
 use Rattle.sheet.specs.Nodes.{many, nodes, attributes, callRest, node, attributesObject}
@@ -55,13 +56,10 @@ calls x (inl k) = inl (lives-at enum x 6 k .0 .0, lives-at enum x 6 k .1)
 calls x (inr k) = inr (lives-at enum x 7 k .1)
 
 -- an import has no node for its callee
-import-alone : (phase : ℕ) → calleesOf (dynamicKind phase) ≡ 0
-import-alone phase = go (eqb phase 1) (eqb phase 2)
-  where
-    go : (a b : Bool) → calleesOf (cond a 11 (cond b 10 9)) ≡ 0
-    go true b = refl
-    go false true = refl
-    go false false = refl
+import-alone : (phase : ImportPhase) → calleesOf (dynamicKind phase) ≡ 0
+import-alone Evaluation = refl
+import-alone Source = refl
+import-alone Defer = refl
 
 no-nodes : (inner : Decoder Node) (u : List ℕ) → nodes inner 0 u ≡ ok none u
 unfolding nodes many
@@ -126,7 +124,7 @@ module _ (source : List ℕ) (types : ℕ → Option SpecifierWithRange) where
         rw (call-parted source levels inner object′ sp build u)
         (built (afterCall source types d v) (afterNode source types w) (λ p. build (p .0) (p .1)) e (callParts source inner u))
 
-    import-call-holds : (w : Buffer) (phase : ℕ) {kind : ℕ} → kind ≡ dynamicKind phase → (u : List ℕ)
+    import-call-holds : (w : Buffer) (phase : ImportPhase) {kind : ℕ} → kind ≡ dynamicKind phase → (u : List ℕ)
         → onOk (afterCall source types (record { kind = kind; span = sp; listed = true }) w) (callParts source inner u)
         ≡ onOk (afterNode source types w) (callRest source levels inner object′ sp (importCall sp phase) u)
     unfolding collector
@@ -150,7 +148,7 @@ module _ (source : List ℕ) (types : ℕ → Option SpecifierWithRange) where
 
   -- a call, its callee walked
   module _ (levels : ℕ) (sp : Span) (s : List ℕ) (x : Head) {d : CallHead} {u : List ℕ} (begins : Begins source levels sp u x d) {w : Buffer} (same : wroteEntries w [] ≡ w) where
-    alone : (phase : ℕ) → x ≡ head.ImportCall phase → onOk (afterNodes source types w) (nodes (node source levels) (calleesOf (d .kind)) u) ≡ ok w u
+    alone : (phase : ImportPhase) → x ≡ head.ImportCall phase → onOk (afterNodes source types w) (nodes (node source levels) (calleesOf (d .kind)) u) ≡ ok w u
     unfolding collector
     alone phase e = rw (begins .import-is phase e, import-alone phase, no-nodes (node source levels) u, same)
 

@@ -10,11 +10,12 @@ use Rattle.laws.specs.Codec.{IfThere}
 use Rattle.laws.specs.Decoded.{Decoded, ok, no, andThen, _>>=_, return}
 use Rattle.laws.proofs.Answers.{Answer, Reads, done, next, ends, behind, with, changed, either, at-index, anything}
 use Rattle.text.specs.declared.utf8.Encoding.the-variants.{Utf8}
-use Rattle.wire.specs.Fields.{below, flag}
+use Rattle.wire.specs.Fields.{below, numbered, flag}
 use Rattle.wire.specs.Number.{number}
 use Rattle.wire.specs.Text.{count, text}
 use Rattle.wire.specs.Optional.{optional}
 use Rattle.sheet.specs.Limits.{textLimit, propertyLimit}
+use Rattle.sheet.specs.Names.{importPhases}
 use Rattle.sheet.specs.declared.fields.Span.{Span}
 use Rattle.sheet.specs.Tree.{Quoted}
 use Rattle.sheet.specs.Fields.{position, endFrom, span}
@@ -62,7 +63,7 @@ module _ (source : List ℕ) where
 
     import-within : Reads (Spanned source) (importStart source levels)
     unfolding importStart
-    import-within = behind flag λ typeOnly. behind (below 3) λ phase. behind flag λ sideEffect. with origin-within λ p h. ends h
+    import-within = behind flag λ typeOnly. behind (numbered importPhases) λ phase. behind flag λ sideEffect. with origin-within λ p h. ends h
 
     named-export-within : Reads (Spanned source) (namedExportStart source levels)
     unfolding namedExportStart

@@ -3,10 +3,11 @@ use mathlib.Core.Bool.{Bool, false, cond}
 use mathlib.Core.List.{List, [], _∷_, _++_}
 use mathlib.Core.Option.{Option}
 use Prim.Native.Nat.{ℕ}
-use lib.Dec.{eqb}
 use Rattle.text.specs.Lossy.{lossy}
 use Rattle.sheet.specs.declared.fields.Span.{Span}
-use Rattle.sheet.specs.Tree.{Quoted, Phase, Node, Nodes, Arguments, noArguments, argument, Properties, Attributes}
+use Rattle.sheet.specs.declared.names.ImportPhase.{ImportPhase}
+use Rattle.sheet.specs.declared.names.ImportPhase.the-variants.{Evaluation, Source, Defer}
+use Rattle.sheet.specs.Tree.{Quoted, Node, Nodes, Arguments, noArguments, argument, Properties, Attributes}
 use Rattle.sheet.specs.Shape.{shape, isRequire, isAugmentation}
 use Rattle.sheet.specs.Walk.{Visit, called, importing, expression, imported, exported, typed, required, declared, Collector, walk, walkAll, walkOf, walkIn, walkWith}
 use Rattle.report.specs.ModuleInfo.{SpecifierWithRange, ImportAttributes, DependencyDescriptor, static, dynamic}
@@ -15,10 +16,12 @@ use Rattle.report.specs.Range.{rangeOf}
 use Rattle.attributes.specs.Attributes.{staticAttributes, typeAttributes, dynamicAttributes}
 use Rattle.arguments.specs.Argument.{argumentOf}
 
--- `StaticDependencyKind` and `DynamicDependencyKind` by their numbers in the report; the sheet's phases are 1 source, 2 defer
+-- `StaticDependencyKind` and `DynamicDependencyKind` by their numbers in the report
 -- 3 ImportType, 2 ImportSource, 1 ImportDefer, 0 Import
-abbrev pub importKind : Bool → Phase → ℕ
-importKind typeOnly phase = cond typeOnly 3 (cond (eqb phase 1) 2 (cond (eqb phase 2) 1 0))
+abbrev pub importKind : Bool → ImportPhase → ℕ
+importKind typeOnly Evaluation = cond typeOnly 3 0
+importKind typeOnly Source = cond typeOnly 3 2
+importKind typeOnly Defer = cond typeOnly 3 1
 
 -- 6 ExportType, 5 Export
 abbrev pub exportKind : Bool → ℕ
@@ -29,8 +32,10 @@ abbrev pub equalsKind : Bool → Bool → ℕ
 equalsKind typeOnly export = cond typeOnly 3 (cond export 7 4)
 
 -- 11 ImportSource, 10 ImportDefer, 9 Import
-abbrev pub dynamicKind : Phase → ℕ
-dynamicKind phase = cond (eqb phase 1) 11 (cond (eqb phase 2) 10 9)
+abbrev pub dynamicKind : ImportPhase → ℕ
+dynamicKind Evaluation = 9
+dynamicKind Source = 11
+dynamicKind Defer = 10
 
 -- over a source, with the types that a comment before a place gives to the node that starts there
 module _ (source : List ℕ) (types : ℕ → Option SpecifierWithRange) where

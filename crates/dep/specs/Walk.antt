@@ -8,6 +8,7 @@ use Prim.Native.Nat.{ℕ, _≤_}
 use lib.Dec.{eqb}
 use lib.ListN.{length, drop}
 use Rattle.laws.specs.Decoded.{Decoded, ok, no}
+use Rattle.sheet.specs.declared.names.ImportPhase.{ImportPhase}
 use Rattle.sheet.specs.declared.fields.Span.{Span}
 use Rattle.sheet.specs.Tree.{Quoted, Node, Nodes, Arguments, noArguments, Properties, noProperties, Attributes}
 use Rattle.sheet.specs.Nodes.{node}
@@ -66,11 +67,11 @@ PastHead s source at x = (at ≤ length s) × Within (length s) x × Spanned sou
 
 -- the head of a call: an import, or a call of an expression
 abbrev pub Calls : h.Head → Type 0
-Calls x = ((phase : ℕ) × (x ≡ head.ImportCall phase)) ⊎ (x ≡ head.Call)
+Calls x = ((phase : ImportPhase) × (x ≡ head.ImportCall phase)) ⊎ (x ≡ head.Call)
 
 -- how a call begins, by its head: that of an expression, which follows, has to name `require` to be listed
 pub record Begins (source : List ℕ) (levels : ℕ) (sp : Span) (u : List ℕ) (x : h.Head) (d : CallHead) : Type 0 where
-  pub import-is : (phase : ℕ) → x ≡ head.ImportCall phase → d ≡ record { kind = dynamicKind phase; span = sp; listed = true }
+  pub import-is : (phase : ImportPhase) → x ≡ head.ImportCall phase → d ≡ record { kind = dynamicKind phase; span = sp; listed = true }
   pub call-is : x ≡ head.Call → d ≡ record { kind = 12; span = sp; listed = d .listed }
   pub listed-is : x ≡ head.Call → (n : Node) (t : List ℕ) → node source levels u ≡ ok n t → d .listed ≡ isRequire (shape n)
 

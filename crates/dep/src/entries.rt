@@ -21,6 +21,7 @@ use sheet::limits::COMMENT_NUMBERS;
 use sheet::limits::GROUP_NUMBERS;
 use sheet::limits::INDEX_NUMBERS;
 use sheet::limits::PAIR_NUMBERS;
+use sheet::names::ImportPhase;
 use wire::Cursor;
 ghost use mathlib.Core.Path.{_≡_};
 ghost use mathlib.Core.Bool.{Bool, cond};
@@ -74,19 +75,14 @@ pub struct CallHead {
 }
 
 // The kinds by their numbers in the report.
-pub fn import_kind(typed: bool, phase: usize) -> u8
+pub fn import_kind(typed: bool, phase: ImportPhase) -> u8
     ensures { λ r. ⌜ r ≡ importKind typed phase ⌝ }
 {
-    if typed {
-        return 3;
+    match phase {
+        ImportPhase::Evaluation => if typed { 3 } else { 0 },
+        ImportPhase::Source => if typed { 3 } else { 2 },
+        ImportPhase::Defer => if typed { 3 } else { 1 },
     }
-    if phase == 1 {
-        return 2;
-    }
-    if phase == 2 {
-        return 1;
-    }
-    0
 }
 
 pub fn export_kind(typed: bool) -> u8
@@ -110,16 +106,14 @@ pub fn equals_kind(typed: bool, export: bool) -> u8
     4
 }
 
-pub fn dynamic_kind(phase: usize) -> u8
+pub fn dynamic_kind(phase: ImportPhase) -> u8
     ensures { λ r. ⌜ r ≡ dynamicKind phase ⌝ }
 {
-    if phase == 1 {
-        return 11;
+    match phase {
+        ImportPhase::Evaluation => 9,
+        ImportPhase::Source => 11,
+        ImportPhase::Defer => 10,
     }
-    if phase == 2 {
-        return 10;
-    }
-    9
 }
 
 // A static dependency of the node with that span.

@@ -9,11 +9,12 @@ use Rattle.laws.specs.Decoded.{Decoded, ok, no, andThen, Decoder, _>>=_, _>>_, 
 use Rattle.laws.proofs.Decoding.{refused, then-then}
 use Rattle.laws.proofs.Splits.{Splits, ends, first, one, either, done, next, at-index}
 use Rattle.text.specs.declared.utf8.Encoding.the-variants.{Utf8, Wtf8}
-use Rattle.wire.specs.Fields.{byte, below, flag}
+use Rattle.wire.specs.Fields.{byte, below, numbered, flag}
 use Rattle.wire.specs.Number.{number}
 use Rattle.wire.specs.Text.{count, text}
 use Rattle.wire.specs.Optional.{optional}
 use Rattle.sheet.specs.Limits.{textLimit, propertyLimit}
+use Rattle.sheet.specs.Names.{importPhases}
 use Rattle.sheet.specs.declared.fields.Span.{Span}
 use Rattle.sheet.specs.Tree.{Quoted, Node, importDecl, exportFrom, exportAll, Arguments, argument, Properties, spread, otherProperty, childKey, stringKey, nameKey, Attributes, withObject}
 use Rattle.sheet.specs.Fields.{span}
@@ -69,7 +70,7 @@ module _ (source : List ℕ) (levels : ℕ) (inner : Decoder Node) (object′ : 
 
   by-import : From (importFields source levels inner object′ sp) (importStart source levels)
   unfolding importFields importStart
-  by-import = first flag λ typeOnly. first (below 3) λ phase. first flag λ sideEffect. by-origin (importDecl sp typeOnly phase sideEffect) (importHead typeOnly phase sideEffect) (λ x there s. refl)
+  by-import = first flag λ typeOnly. first (numbered importPhases) λ phase. first flag λ sideEffect. by-origin (importDecl sp typeOnly phase sideEffect) (importHead typeOnly phase sideEffect) (λ x there s. refl)
 
   by-named-export : From (namedExportFields source levels inner object′ sp) (namedExportStart source levels)
   unfolding namedExportFields namedExportStart

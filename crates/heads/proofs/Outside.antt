@@ -1,26 +1,14 @@
 -- A tag, and the bytes of a property and of its key, outside their values.
 use mathlib.Core.Path.{_≡_}
 use mathlib.Core.List.{List}
-use Prim.Native.Nat.{ℕ, zero, suc, _≤_}
-use native.Mathlib.Omega.{arith}
+use Prim.Native.Nat.{ℕ}
 use lib.ListN.{List·getD-eq-default}
 use Rattle.laws.specs.Decoded.{ok, no, refuse}
 use Rattle.wire.specs.Fields.{byte}
+use Rattle.wire.proofs.Numbered.{NoneOf, beyond}
 use Rattle.sheet.specs.declared.fields.Span.{Span}
 use Rattle.heads.specs.Head.{start}
 use Rattle.heads.specs.Parts.{keyHead, propertyHead}
-
--- none of the first k numbers
-abbrev pub NoneOf : ℕ → ℕ → Type 0
-NoneOf n zero = Unit {0}
-NoneOf n (suc k) = NoneOf n k × (n ≡ k → ⊥)
-
-beyond : (n k : ℕ) → NoneOf n k → k ≤ n
-beyond n zero h = omega arith
-beyond n (suc k) h =
-    let below = beyond n k (h .0) in
-    let other = h .1 in
-    omega arith
 
 pub no-start : (source : List ℕ) (levels : ℕ) (sp : Span) (t : ℕ) (s : List ℕ) → NoneOf t 13 → start source levels sp t s ≡ no 3
 unfolding start

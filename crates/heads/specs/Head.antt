@@ -8,13 +8,15 @@ use lib.Dec.{ltb}
 use lib.ListN.{getD}
 use Rattle.laws.specs.Decoded.{Decoder, onOk, _>>=_, _>>_, return, refuse, require}
 use Rattle.text.specs.declared.utf8.Encoding.the-variants.{Utf8}
-use Rattle.wire.specs.Fields.{below, flag}
+use Rattle.wire.specs.Fields.{below, valueOf, numbered, flag}
 use Rattle.wire.specs.Number.{number}
 use Rattle.wire.specs.Text.{count, text}
 use Rattle.wire.specs.Optional.{optional}
 use Rattle.sheet.specs.Limits.{textLimit, propertyLimit}
 use Rattle.sheet.specs.declared.fields.Span.{Span}
-use Rattle.sheet.specs.Tree.{Quoted, Phase}
+use Rattle.sheet.specs.declared.names.ImportPhase.{ImportPhase}
+use Rattle.sheet.specs.Names.{importPhases}
+use Rattle.sheet.specs.Tree.{Quoted}
 use Rattle.sheet.specs.Fields.{span}
 use Rattle.sheet.specs.Nodes.{tag, stringText, quoted}
 
@@ -26,9 +28,9 @@ pub data Head : Type 0 where
   templateHead : ℕ → Head  -- 3: holes
   binaryHead : Bool → Head  -- 4: is it a plus?
   objectHead : ℕ → Head  -- 5: properties
-  importCallHead : Phase → Head  -- 6, of an import
+  importCallHead : ImportPhase → Head  -- 6, of an import
   callHead : Head  -- 6, of an expression
-  importHead : Bool → Phase → Bool → Quoted → Bool → Head  -- 7: type-only, phase, side effect
+  importHead : Bool → ImportPhase → Bool → Quoted → Bool → Head  -- 7: type-only, phase, side effect
   namedExportHead : Bool → Head  -- 8, without a String: type-only
   exportFromHead : Bool → Quoted → Bool → Head  -- 8, with a String
   exportAllHead : Bool → Quoted → Bool → Head  -- 9: type-only
@@ -47,7 +49,7 @@ judgeTag allowed levels t = do
 unfoldable pub callStart : Decoder Head
 callStart = do
   callee ← below 4
-  cond (ltb callee 3) (return (importCallHead callee)) (return callHead)
+  cond (ltb callee 3) (return (importCallHead (valueOf importPhases callee))) (return callHead)
 
 -- where so many levels are left below the node
 module _ (source : List ℕ) (levels : ℕ) where
@@ -61,7 +63,7 @@ module _ (source : List ℕ) (levels : ℕ) where
   unfoldable pub importStart : Decoder Head
   importStart = do
     typeOnly ← flag
-    phase ← below 3
+    phase ← numbered importPhases
     sideEffect ← flag
     p ← origin
     return (importHead typeOnly phase sideEffect (p .0) (p .1))

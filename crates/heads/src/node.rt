@@ -9,6 +9,8 @@ use sheet::fields::SpanRead;
 use sheet::fields::read_span;
 use sheet::limits::PROPERTY_LIMIT;
 use sheet::limits::TEXT_LIMIT;
+use sheet::names::ImportPhase;
+use sheet::names::import_phase;
 use text::utf8::Encoding;
 use wire::Cursor;
 use wire::Flag;
@@ -38,11 +40,10 @@ pub enum Head {
     Binary(bool),
     // The number of properties.
     Object(usize),
-    // The phase: 0 evaluation, 1 source, 2 defer.
-    ImportCall(usize),
+    ImportCall(ImportPhase),
     Call,
     // Type-only, phase, side effect, String; does an Object follow?
-    Import(bool, usize, bool, Quoted, bool),
+    Import(bool, ImportPhase, bool, Quoted, bool),
     // Without a String: type-only.
     NamedExport(bool),
     // With a String: type-only; does an Object follow?
@@ -145,7 +146,7 @@ fn read_call(sheet: &[u8], c: Cursor) -> FieldsRead
         Read::Refused(r) => FieldsRead::Refused(r),
         Read::Value(callee, next) => {
             if callee < 3 {
-                FieldsRead::Is(Head::ImportCall(callee), next)
+                FieldsRead::Is(Head::ImportCall(import_phase(callee)), next)
             } else {
                 FieldsRead::Is(Head::Call, next)
             }
@@ -180,7 +181,10 @@ fn read_import(sheet: &[u8], source: &[u8], c: Cursor, levels: usize) -> FieldsR
                 Flag::Is(side, next) => match read_origin(sheet, source, next, levels) {
                     OriginRead::Refused(r) => FieldsRead::Refused(r),
                     OriginRead::Is(x, there, next) => {
-                        FieldsRead::Is(Head::Import(type_only, phase, side, x, there), next)
+                        FieldsRead::Is(
+                            Head::Import(type_only, import_phase(phase), side, x, there),
+                            next,
+                        )
                     }
                 },
             },

@@ -12,6 +12,7 @@ use Rattle.jsdoc.specs.Parsed.{ok}
 use Rattle.jsdoc.proofs.Texts.{quote-complete}
 use Rattle.sheet.specs.declared.fields.Span.{Span}
 use Rattle.sheet.specs.declared.comments.Comment.{Comment}
+use Rattle.sheet.specs.declared.names.MediaType.{MediaType}
 use Rattle.report.specs.ModuleInfo.{JsDocImportInfo}
 use Rattle.listing.specs.Demand.{ImportAt, Lists, startOf, JsDocRight}
 
@@ -34,7 +35,7 @@ apart p q (inl h) (inr k) = omega arith
 apart p q (inr h) (inl k) = omega arith
 apart p q (inr h) (inr k) = omega arith
 
-module _ {media : ℕ} {source : List ℕ} {cs : List Comment} where
+module _ {media : MediaType} {source : List ℕ} {cs : List Comment} where
   -- what one of the lists has, the other has
   shared : {l m : List JsDocImportInfo} → JsDocRight media source cs l → JsDocRight media source cs m → (i : JsDocImportInfo) → List·Memᴰ i l → List·Memᴰ i m
   shared {l} {m} r t i among =

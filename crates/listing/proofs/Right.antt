@@ -16,6 +16,7 @@ use Rattle.sheet.specs.declared.fields.Span.{Span}
 use Rattle.sheet.specs.declared.comments.Comment.{Comment}
 use Rattle.sheet.specs.Fit.{commentOf, Fit}
 use Rattle.sheet.specs.Lookups.{bodySpan, body}
+use Rattle.sheet.specs.declared.names.MediaType.{MediaType}
 use Rattle.sheet.specs.Media.{isJavaScript}
 use Rattle.sheet.proofs.Bodies.{Within, placed-body}
 use Rattle.report.specs.ModuleInfo.{Mode, JsDocImportInfo}
@@ -120,7 +121,7 @@ module _ {source : List ℕ} {cs : List Comment} (fit : Fit source cs) where
           mode-is = t .mode-is;
         }
 
-    jsdoc-right : (media : ℕ) → JsDocRight media source cs (jsdocImports media source cs)
+    jsdoc-right : (media : MediaType) → JsDocRight media source cs (jsdocImports media source cs)
     unfolding jsdocImports
     jsdoc-right media = go (isJavaScript media) refl
       where
@@ -138,5 +139,5 @@ module _ {source : List ℕ} {cs : List Comment} (fit : Fit source cs) where
           one-mode = one-mode;
         }
 
-    pub only-right : (media : ℕ) → OnlyRight media source cs (jsdocImports media source cs)
+    pub only-right : (media : MediaType) → OnlyRight media source cs (jsdocImports media source cs)
     only-right media = record { right = jsdoc-right media; only = λ m r. one-right r (jsdoc-right media) }

@@ -16,6 +16,7 @@ use Rattle.jsdoc.specs.Parsed.{ok}
 use Rattle.jsdoc.specs.Reader.{parseQuote}
 use Rattle.sheet.specs.declared.comments.Comment.{Comment}
 use Rattle.sheet.specs.Fit.{Fit}
+use Rattle.sheet.specs.declared.names.MediaType.{MediaType}
 use Rattle.sheet.specs.Media.{isJavaScript}
 use Rattle.report.specs.Encode.{encodeList, encodeSpecifier, encodeJsDoc}
 use Rattle.report.specs.Range.{rangeOf}
@@ -77,7 +78,7 @@ encode-import source at mode from to past e l =
     rw (e, n)
 
 -- the bytes of all imports
-module _ (source : List ℕ) (cs : List Comment) (media : ℕ) where
+module _ (source : List ℕ) (cs : List Comment) (media : MediaType) where
   pub encode-none : isJavaScript media ≡ false → encodeList encodeJsDoc (jsdocImports media source cs) ≡ encodeNumber 0
   unfolding jsdocImports encodeList flatMap
   encode-none h = rw h (append-nil (encodeNumber 0))

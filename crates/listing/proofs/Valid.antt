@@ -12,6 +12,8 @@ use Rattle.text.specs.declared.utf8.Encoding.the-variants.{Utf8}
 use Rattle.text.specs.WellFormed.{WellFormed}
 use Rattle.jsdoc.specs.Grammar.{Quote}
 use Rattle.jsdoc.proofs.Marking.{mode-small}
+use Rattle.sheet.specs.Limits.{sourceLimit}
+use Rattle.sheet.specs.declared.names.MediaType.{MediaType}
 use Rattle.sheet.specs.declared.comments.Comment.{Comment}
 use Rattle.sheet.specs.Fit.{Fit}
 use Rattle.sheet.specs.Media.{isJavaScript}
@@ -28,7 +30,7 @@ use Rattle.listing.proofs.Marking.{marks-of}
 in-marks : {k s : List ℕ} → Quote k s [] → InMarks k s
 in-marks q = record { opening = q .mark; closing = q .mark; opens = q .is-mark; closes = q .is-mark; all = q .first ∙ ap (λ (r : List ℕ). q .mark ∷ r) (q .rest .1) }
 
-pub imports-good : (t : Sheet) → length (t .source) ≤ 32768 → WellFormed Utf8 (t .source) → {l : List JsDocImportInfo} → JsDocRight (t .media) (t .source) (t .comments) l
+pub imports-good : (t : Sheet) → length (t .source) ≤ sourceLimit → WellFormed Utf8 (t .source) → {l : List JsDocImportInfo} → JsDocRight (t .media) (t .source) (t .comments) l
     → All (λ i. Good (i .specifier) × (i .mode ≤ 2)) l
 imports-good t short w {l} right =
     of-members _ l λ i m.
@@ -46,7 +48,7 @@ from-few source q (suc mode ∷ marks) = go (importAt source q mode) (from-few s
     go Option.none h = omega arith
     go (Option.some i) h = omega arith
 
-pub imports-few : (media : ℕ) {source : List ℕ} {cs : List Comment} → Fit source cs → length (jsdocImports media source cs) ≤ length source
+pub imports-few : (media : MediaType) {source : List ℕ} {cs : List Comment} → Fit source cs → length (jsdocImports media source cs) ≤ length source
 unfolding jsdocImports
 imports-few media {source} {cs} f = go (isJavaScript media)
   where

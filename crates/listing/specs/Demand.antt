@@ -14,13 +14,15 @@ use Rattle.sheet.specs.declared.fields.Span.{Span}
 use Rattle.sheet.specs.declared.comments.Comment.{Comment}
 use Rattle.sheet.specs.Fit.{commentOf}
 use Rattle.sheet.specs.Lookups.{bodySpan, body}
+use Rattle.sheet.specs.declared.names.CommentKind.the-variants.{Block}
+use Rattle.sheet.specs.declared.names.MediaType.{MediaType}
 use Rattle.sheet.specs.Media.{isJavaScript}
 use Rattle.report.specs.ModuleInfo.{Mode, JsDocImportInfo}
 use Rattle.report.specs.Stands.{StandsAt}
 
 -- a block comment whose body begins with `*`
 pub record StarOpened (source : List ℕ) (c : Comment) : Type 0 where
-  pub block : c .kind ≡ 1
+  pub block : c .kind ≡ Block
   pub rest : List ℕ
   pub star : body source c ≡ ascii "*" ++ rest
 
@@ -58,7 +60,7 @@ abbrev pub Ascending : List JsDocImportInfo → Type 0
 Ascending = Ordered (λ i j. Before (startOf i) (startOf j))
 
 -- a list of imports is as it is demanded of a sheet
-pub record JsDocRight (media : ℕ) (source : List ℕ) (cs : List Comment) (l : List JsDocImportInfo) : Type 0 where
+pub record JsDocRight (media : MediaType) (source : List ℕ) (cs : List Comment) (l : List JsDocImportInfo) : Type 0 where
   -- it lists an import exactly when the sheet is JavaScript and some star-opened block comment has a reading of it
   pub exactly : (place : Span) (mode : Mode) → Lists source l place mode ↔ ((isJavaScript media ≡ true) × ListedIn source cs place mode)
   -- each import stands at some place, so the source between its positions, less the two marks, is its text
@@ -69,6 +71,6 @@ pub record JsDocRight (media : ℕ) (source : List ℕ) (cs : List Comment) (l :
   pub one-mode : (p q : Span) (m n : Mode) → ListedIn source cs p m → ListedIn source cs q n → p .start ≡ q .start → (p .end ≡ q .end) × (m ≡ n)
 
 -- and it is the only one
-pub record OnlyRight (media : ℕ) (source : List ℕ) (cs : List Comment) (l : List JsDocImportInfo) : Type 0 where
+pub record OnlyRight (media : MediaType) (source : List ℕ) (cs : List Comment) (l : List JsDocImportInfo) : Type 0 where
   pub right : JsDocRight media source cs l
   pub only : (m : List JsDocImportInfo) → JsDocRight media source cs m → m ≡ l

@@ -11,6 +11,7 @@ use Rattle.jsdoc.specs.Reader.{parseQuote}
 use Rattle.jsdoc.specs.Listing.{listing}
 use Rattle.sheet.specs.declared.comments.Comment.{Comment}
 use Rattle.sheet.specs.Lookups.{bodySpan, body}
+use Rattle.sheet.specs.declared.names.MediaType.{MediaType}
 use Rattle.sheet.specs.Media.{isJavaScript}
 use Rattle.report.specs.ModuleInfo.{Mode, JsDocImportInfo}
 use Rattle.report.specs.Range.{rangeOf}
@@ -38,7 +39,7 @@ abbrev pub marksOf : List ℕ → List Comment → List ℕ
 marksOf source cs = markedByAll source cs (replicate (length source) 0)
 
 -- none but in JavaScript
-abbrev pub marksIn : ℕ → List ℕ → List Comment → List ℕ
+abbrev pub marksIn : MediaType → List ℕ → List Comment → List ℕ
 marksIn media source cs = cond (isJavaScript media) (marksOf source cs) (replicate (length source) 0)
 
 -- how many places are marked
@@ -64,5 +65,5 @@ importsFrom source q (zero ∷ marks) = importsFrom source (suc q) marks
 importsFrom source q (suc mode ∷ marks) = listed (importAt source q mode) (importsFrom source (suc q) marks)
 
 -- none but in JavaScript
-unfoldable pub jsdocImports : ℕ → List ℕ → List Comment → List JsDocImportInfo
+unfoldable pub jsdocImports : MediaType → List ℕ → List Comment → List JsDocImportInfo
 jsdocImports media source cs = cond (isJavaScript media) (importsFrom source 0 (marksOf source cs)) []

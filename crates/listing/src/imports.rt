@@ -2,12 +2,14 @@
 use jsdoc::answers::Text;
 use jsdoc::quote::quote_at;
 use pragmas::is_javascript;
+use pragmas::readings::is_block;
 use report::writer::Place;
 use sheet::comments::Comment;
 use sheet::comments::comment_at;
 use sheet::fields::Span;
 use sheet::lookups::body;
 use sheet::lookups::body_span;
+use sheet::names::MediaType;
 use text::bytes::next_nonzero;
 ghost use mathlib.Core.Path.{_≡_};
 ghost use mathlib.Core.List.{flatMap};
@@ -29,7 +31,8 @@ fn is_star_opened(source: &[u8], c: Comment) -> bool
     requires { ⌜ c .span .end ≤ length (now source) ⌝ }
     ensures { λ r. ⌜ r ≡ isStarOpened (now (source .entry)) c ⌝ }
 {
-    if c.kind == 1 {
+    let kind = c.kind;
+    if is_block(kind) {
         return text::bytes::starts_with(body(source, c), 0, b"*");
     }
     false
@@ -130,7 +133,7 @@ fn put_imports(source: &[u8], index: &[u32], marks: &[u8], out: &mut [u8], place
 
 // Writes the JSDoc imports of a sheet of this media. `marks` is lent to work in, comes cleared, and is left with the marks.
 pub fn analyze_jsdoc_imports(
-    media: usize,
+    media: MediaType,
     source: &[u8],
     comments: &[u32],
     n: usize,

@@ -21,8 +21,13 @@ use Rattle.jsdoc.specs.Reader.{skip, skipWhitespace, whitespace, tag, word, upT
 use Rattle.jsdoc.specs.Listing.{listing}
 use Rattle.sheet.specs.declared.fields.Span.{Span}
 use Rattle.sheet.specs.declared.groups.Group.{Group}
+use Rattle.sheet.specs.declared.names.CommentKind.{CommentKind}
+use Rattle.sheet.specs.declared.names.CommentKind.the-variants.{Line, Block}
+use Rattle.sheet.specs.declared.names.MediaType.the-variants.{JavaScript}
+use Rattle.sheet.specs.declared.names.Side.{Side}
+use Rattle.sheet.specs.declared.names.Side.the-variants.{Leading, Trailing}
 use Rattle.sheet.specs.Comments.{opening, closing}
-use Rattle.sheet.specs.Lookups.{leading, trailing, groupAt, headGroup, bodySpan}
+use Rattle.sheet.specs.Lookups.{groupAt, headGroup, bodySpan}
 use Rattle.sheet.specs.Tree.{other, none}
 use Rattle.sheet.specs.Sheet.{Sheet}
 use Rattle.report.specs.ModuleInfo.{SpecifierWithRange, Mode, TypeScriptReference, path, JsDocImportInfo}
@@ -63,30 +68,30 @@ table =
     ∷ references "/ <reference path=\"a\" />" (path (specifier "a" 20 23) ∷ [])
     ∷ []
 
-abbrev group : ℕ → ℕ → Group
+abbrev group : Side → ℕ → Group
 group side at = record { side = side; position = at; first = 0; count = 1 }
 
 -- JavaScript whose source is one comment with that body, in the leading group at the program's start and in both groups at its end; no item, an empty
 -- Other as root
-sheetOf : ℕ → String → Sheet
+sheetOf : CommentKind → String → Sheet
 sheetOf kind body =
     let source : List ℕ = opening kind ++ (ascii body ++ closing kind) in
     let span : Span = record { start = 0; end = length source } in
     record {
-      media = 0;
+      media = JavaScript;
       source = source;
       comments = record { kind = kind; span = span } ∷ [];
-      groups = group leading 0 ∷ group leading (length source) ∷ group trailing (length source) ∷ [];
+      groups = group Leading 0 ∷ group Leading (length source) ∷ group Trailing (length source) ∷ [];
       program = record { script = false; span = span; shebang = false; first = Option.none };
       root = other span none;
     }
 
 -- the case of a body by the information of its sheet: JSDoc in a block comment, the others in a line comment
 abbrev computed : Case → Case
-computed (jsdoc body l) = jsdoc body (moduleInfo (sheetOf 1 body) .jsdocImports)
-computed (types body x) = types body (typesAt (sheetOf 0 body) (length (sheetOf 0 body .source)))
-computed (references body l) = references body (moduleInfo (sheetOf 0 body) .tsReferences)
-computed (sourceMap body x) = sourceMap body (moduleInfo (sheetOf 0 body) .sourceMapUrl)
+computed (jsdoc body l) = jsdoc body (moduleInfo (sheetOf Block body) .jsdocImports)
+computed (types body x) = types body (typesAt (sheetOf Line body) (length (sheetOf Line body .source)))
+computed (references body l) = references body (moduleInfo (sheetOf Line body) .tsReferences)
+computed (sourceMap body x) = sourceMap body (moduleInfo (sheetOf Line body) .sourceMapUrl)
 
 as-stated : map computed table ≡ table
 unfolding table sheetOf flatMap inRanges admits lengthBy charLength codeBy charAt alphabetic outside ranges member classAt run begins same step walk positionOf modeOf foldCase letterAt wordAt ends all first places find placeOf skip skipWhitespace whitespace tag word upTo isMark parseQuote pastIdent parseIdent parseKey attributeMode parseAttribute firstMode comma separatedListBy separatedList parseImportAttributeBlockForResolutionMode secondParamStart parseSecondParamObjWithLeadingComma closeCall parseTail seek parseCall parseJsdocDynamicImport skipNamedImports skipDefaultImport skipNamespaceImport skipClause parseAttributes parseFrom parseJsdocImportDecl listing groupAt headGroup bodySpan placeIn specifierIn readBy lastOf allOf headComments endComments reference referencesIn sourceMapUrlIn tsOrDenoTypes typesIn markedBy markedByAll importAt importsFrom jsdocImports moduleInfo

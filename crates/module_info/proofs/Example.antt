@@ -9,7 +9,7 @@ use Rattle.text.specs.Ranges.{inRanges}
 use Rattle.text.specs.Class.{outside, ranges, member, classAt, run}
 use Rattle.text.specs.Bytes.{begins}
 use Rattle.text.specs.Position.{step, walk, positionOf, isBoundary}
-use Rattle.wire.specs.Fields.{byte, below, flag, bytes}
+use Rattle.wire.specs.Fields.{byte, below, numbered, flag, bytes}
 use Rattle.wire.specs.Number.{lastGroup, number, encodeGroups, encodeNumber}
 use Rattle.wire.specs.Text.{count, text, encodeText}
 use Rattle.wire.specs.Optional.{encodeOptional, optional}
@@ -45,7 +45,7 @@ report =
     ∷ 0 ∷ [])  -- no source map
 
 computed : (size : ℕ) → answerOf example size ≡ fitted size report
-unfolding admits lengthBy charLength codeBy charAt formed inRanges outside ranges member classAt run begins step walk positionOf byte below flag bytes lastGroup Rattle.wire.specs.Number.groups number encodeGroups encodeNumber count text encodeText skip skipWhitespace Rattle.jsdoc.specs.Reader.tag word upTo isMark parseQuote secondParamStart parseSecondParamObjWithLeadingComma closeCall parseTail seek parseCall parseJsdocDynamicImport parseJsdocImportDecl listing isBoundary position endFrom span enclosed marked comment group covered chained optional program many Rattle.sheet.specs.Nodes.tag nodes otherFields fields node groupAt headGroup bodySpan sheet decodeSheet accept encodeOptional flatMap encodeList encodePosition encodeRange encodeSpecifier encodeJsDoc encode firstOf lastOf allOf headComments endComments referencesIn selfTypesIn jsxImportSourceIn jsxImportSourceTypesIn sourceMapUrlIn markedBy markedByAll importAt importsFrom jsdocImports collector moduleInfo answerOf
+unfolding admits lengthBy charLength codeBy charAt formed inRanges outside ranges member classAt run begins step walk positionOf byte below numbered flag bytes lastGroup Rattle.wire.specs.Number.groups number encodeGroups encodeNumber count text encodeText skip skipWhitespace Rattle.jsdoc.specs.Reader.tag word upTo isMark parseQuote secondParamStart parseSecondParamObjWithLeadingComma closeCall parseTail seek parseCall parseJsdocDynamicImport parseJsdocImportDecl listing isBoundary position endFrom span enclosed marked comment group covered chained optional program many Rattle.sheet.specs.Nodes.tag nodes otherFields fields node groupAt headGroup bodySpan sheet decodeSheet accept encodeOptional flatMap encodeList encodePosition encodeRange encodeSpecifier encodeJsDoc encode firstOf lastOf allOf headComments endComments referencesIn selfTypesIn jsxImportSourceIn jsxImportSourceTypesIn sourceMapUrlIn markedBy markedByAll importAt importsFrom jsdocImports collector moduleInfo answerOf
 computed size = refl
 
 -- in any buffer that can hold it: number 0, the report's length and bytes, and zeros behind them

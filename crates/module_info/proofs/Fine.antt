@@ -356,11 +356,11 @@ module _ (source : List ℕ) where
     own-fine k (binary sp plus l r) f h = tt
     own-fine k (object sp ps) f h = tt
     own-fine k (importCall sp phase xs ns) f h =
-        let g = simp length-append at h in call-entry (dynamicKind phase) (dynamic-kind phase) sp (importing phase) xs (under k) (f .1 .1 .0 .1) (omega arith)
+        let g = simp length-append at h in call-entry (dynamicKind phase) (dynamic-kind phase) sp (importing phase) xs (under k) (f .1 .0 .1) (omega arith)
     own-fine k (call sp e xs ns) f h =
         let g = simp length-append at h in all-if _ (isRequire (shape e)) (callEntry source types 12 sp xs) (call-entry 12 (omega arith) sp (expression e) xs (under k) (f .1 .1 .0 .1) (omega arith))
     own-fine k (importDecl sp typeOnly phase sideEffect x a) f h =
-        (static-entry (importKind typeOnly phase) (import-kind typeOnly phase) sp (under k) (f .1 .1 .0) sideEffect (static-fine (under k) (f .1 .1 .1) (static-right a)), tt)
+        (static-entry (importKind typeOnly phase) (import-kind typeOnly phase) sp (under k) (f .1 .0) sideEffect (static-fine (under k) (f .1 .1) (static-right a)), tt)
     own-fine k (namedExport sp typeOnly) f h = tt
     own-fine k (exportFrom sp typeOnly x a) f h = (static-entry (exportKind typeOnly) (export-kind typeOnly) sp (under k) (f .1 .0) false (static-fine (under k) (f .1 .1) (static-right a)), tt)
     own-fine k (exportAll sp typeOnly x a) f h = (static-entry (exportKind typeOnly) (export-kind typeOnly) sp (under k) (f .1 .0) false (static-fine (under k) (f .1 .1) (static-right a)), tt)

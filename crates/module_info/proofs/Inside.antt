@@ -55,7 +55,7 @@ module _ (source : List ℕ) where
   children-fit k (binary sp plus l r) f = (f .1 .0, (f .1 .1, tt))
   children-fit k (object sp ps) f = properties-fit (under k) ps (f .1 .1)
   children-fit k (importCall sp phase xs ns) f =
-      all-append _ (argumentsIn xs) (nodesIn ns) (arguments-fit (under k) xs (f .1 .1 .0 .1)) (nodes-fit (under k) ns (f .1 .1 .1 .1))
+      all-append _ (argumentsIn xs) (nodesIn ns) (arguments-fit (under k) xs (f .1 .0 .1)) (nodes-fit (under k) ns (f .1 .1 .1))
   children-fit k (call sp e xs ns) f =
       (f .1 .0, all-append _ (argumentsIn xs) (nodesIn ns) (arguments-fit (under k) xs (f .1 .1 .0 .1)) (nodes-fit (under k) ns (f .1 .1 .1 .1)))
   children-fit k (importDecl sp typeOnly phase sideEffect x a) f = tt

@@ -117,6 +117,7 @@ fn put_rest(
         → bufferAs (now (out .exit)) r ≡ wrote (bufferAs (now (out .entry)) place) (restBytes t)) ⌝ }
 {
     let n = parts.comments;
+    let media = parts.media;
     let long = source.len();
     if marks.len() < long {
         let mut more = [0u8; SOURCE_LIMIT];
@@ -132,7 +133,7 @@ fn put_rest(
         );
     }
     let p = analyze_jsdoc_imports(
-        parts.media,
+        media,
         source,
         comments,
         n,

@@ -10,6 +10,7 @@ use Rattle.laws.proofs.Splits.{Splits, ends, first}
 use Rattle.text.specs.Bytes.{part}
 use Rattle.wire.specs.Fields.{flag}
 use Rattle.wire.specs.Number.{number}
+use Rattle.sheet.specs.declared.names.ImportPhase.{ImportPhase}
 use Rattle.sheet.specs.declared.fields.Span.{Span}
 use Rattle.sheet.specs.Tree.{Quoted, Pieces, Node, template, binary, importCall, call, importType, Nodes, none, more, spread, otherProperty, childKey, stringKey, nameKey, Arguments, Properties, Attributes, withObject}
 use Rattle.sheet.specs.Nodes.{many, nodes, arguments, attributes, callRest}
@@ -177,7 +178,7 @@ module _ (s : List ℕ) where
         ∙ found-built (callOf e) passedAll judged (λ p. build (p .0) (p .1)) h (callParts source inner u)
         ∙ sym (ap (onOk judged) (call-parted source levels inner object′ sp build u))
 
-    pub import-call-holds : (phase : ℕ) (u : List ℕ) (y : PassedRead) → passedAs s y ≡ onOk passedAll (callParts source inner u)
+    pub import-call-holds : (phase : ImportPhase) (u : List ℕ) (y : PassedRead) → passedAs s y ≡ onOk passedAll (callParts source inner u)
         → checkedAs s (calledBy importCallee y) ≡ onOk judged (callRest source levels inner object′ sp (importCall sp phase) u)
     import-call-holds phase = call-holds importCallee (importCall sp phase) (λ p. simp (zero-add, add-assoc, or-assoc))
 

@@ -9,7 +9,7 @@ use Rattle.laws.specs.Quoted.{ascii}
 use Rattle.text.specs.Bytes.{same}
 use Rattle.text.specs.Utf8.{admits, lengthBy, charLength, formed}
 use Rattle.text.specs.Position.{isBoundary}
-use Rattle.wire.specs.Fields.{byte, below, flag, bytes}
+use Rattle.wire.specs.Fields.{byte, below, numbered, flag, bytes}
 use Rattle.wire.specs.Number.{lastGroup, groups, number}
 use Rattle.wire.specs.Text.{count, text}
 use Rattle.wire.specs.Optional.{optional}
@@ -98,5 +98,5 @@ abbrev computed : Case → Case
 computed (levels, s, r) = (levels, s, onOk judged (node [] levels s))
 
 as-stated : map computed cases ≡ cases
-unfolding byte below flag bytes lastGroup groups number count text admits lengthBy charLength formed same isBoundary position endFrom span many tag stringText quoted optional piece nodes argumentItem arguments keyedItem propertyItem properties attributes otherFields stringFields nameFields templateFields binaryFields objectFields callRest callFields importFields namedExportFields exportAllFields importTypeFields importEqualsFields moduleFields fields node attributesObject
+unfolding byte below numbered flag bytes lastGroup groups number count text admits lengthBy charLength formed same isBoundary position endFrom span many tag stringText quoted optional piece nodes argumentItem arguments keyedItem propertyItem properties attributes otherFields stringFields nameFields templateFields binaryFields objectFields callRest callFields importFields namedExportFields exportAllFields importTypeFields importEqualsFields moduleFields fields node attributesObject
 as-stated = refl

@@ -1,10 +1,12 @@
 -- The references and the pragmas are exactly the readings of their rules.
 use mathlib.Core.Path.{_≡_, refl, sym, ap, _∙_}
-use mathlib.Core.Bool.{Bool, true, false, cond, _&&_, and-eq-true-iff, false≢true}
+use mathlib.Core.Bool.{Bool, true, false, cond, not, _&&_, and-eq-true-iff, false≢true}
 use mathlib.Core.Logic.{_⊎_, inl, inr, ⊎-elim, _↔_}
 use mathlib.Core.List.{List, [], _∷_, _++_, List·Memᴰ·head, List·Memᴰ·tail, List·Memᴰ·not-nil, List·Memᴰ·cases-cons}
 use mathlib.Core.Option.{Option, Option·some-injective, Option·none-ne-some}
 use Prim.Native.Nat.{ℕ}
+use native.Mathlib.Omega.{arith}
+use lib.Dec.{eqb}
 use borrow.Author.Tests.{eqb-true, eq-eqb}
 use Rattle.analysis.specs.declared.Capture.{Capture}
 use Rattle.analysis.specs.declared.Found.{Found}
@@ -12,11 +14,17 @@ use Rattle.analysis.specs.declared.Found.the-variants.{At, Nothing}
 use Rattle.analysis.specs.Row.{Row, find, isFound}
 use Rattle.analysis.specs.Patterns.{tripleSlashRow, pathRow, typesRow, resolutionModeRow, jsxImportSourceRow, jsxImportSourceTypesRow, sourceMappingUrlRow, tsSelfTypesRow, tsTypesRow, denoTypesRow}
 use Rattle.analysis.proofs.Preference.{preferred-reads, finds}
+use Rattle.wire.proofs.Numbered.{one-number}
 use Rattle.sheet.specs.declared.comments.Comment.{Comment}
-use Rattle.sheet.specs.Lookups.{leading, groupAt, body}
+use Rattle.sheet.specs.declared.names.CommentKind.{CommentKind}
+use Rattle.sheet.specs.declared.names.CommentKind.the-variants.{Line, Block}
+use Rattle.sheet.specs.declared.names.Side.the-variants.{Leading}
+use Rattle.sheet.specs.Names.{kindNumber}
+use Rattle.sheet.specs.Lookups.{groupAt, body}
 use Rattle.sheet.specs.Sheet.{Sheet}
 use Rattle.sheet.specs.Media.{isJavaScript, isJsx}
 use Rattle.report.specs.ModuleInfo.{SpecifierWithRange, Mode, path, types, ModuleInfo}
+use Rattle.sheet.proofs.Numbered.{kind-numbers}
 use Rattle.pragmas.specs.Readings.{specifierIn, onFound, readBy, orElse, firstOf, lastOf, listed, allOf}
 use Rattle.pragmas.specs.Pragmas.{headComments, endComments, givenIf, isLine, isBlock, modeIn, modeBy, referenceBy, reference, referencesIn, selfTypesIn, jsxImportSourceIn, jsxImportSourceTypesIn, sourceMapUrlIn, tsReferences, selfTypesSpecifier, jsxImportSource, jsxImportSourceTypes, sourceMapUrl, tsOrDenoTypes, typesBy, lastIn, typesIn, typesAt}
 use Rattle.pragmas.specs.Present.{Matched, Read, Reader, byPattern, only, orElseBy, ModeRead, referenceRule, tsOrDenoTypesRule, NoReading, FirstReading, LastReading, InOrder, Exactly, ExactlyFirst, ExactlyLast, Present, TypesPresent}
@@ -145,10 +153,14 @@ module _ (source : List ℕ) where
       back m (At k) e = refl
       back m Nothing e = absurd (unmatched tripleSlashRow source c e m)
 
-  is-reference : (c : Comment) → (isLine c && isFound (find tripleSlashRow (body source c)) ≡ true) ↔ ((c .kind ≡ 0) × Matched tripleSlashRow source c)
+  is-line : (kind : CommentKind) → (not (eqb (kindNumber kind) (kindNumber Block)) ≡ true) ↔ (kind ≡ Line)
+  is-line Line = (λ e. refl, λ e. refl)
+  is-line Block = (λ e. absurd (false≢true e), λ e. let z : _≡_ {A = ℕ} 1 0 = ap kindNumber e in absurd (omega arith))
+
+  is-reference : (c : Comment) → (isLine c && isFound (find tripleSlashRow (body source c)) ≡ true) ↔ ((c .kind ≡ Line) × Matched tripleSlashRow source c)
   is-reference c = (
-    λ t. let (l, m) = and-eq-true-iff (isLine c) (isFound (find tripleSlashRow (body source c))) .0 t in (eqb-true (c .kind) 0 l, is-found c .0 m),
-    λ (l, m). rw (eq-eqb (c .kind) 0 l) (is-found c .1 m),
+    λ t. let (l, m) = and-eq-true-iff (isLine c) (isFound (find tripleSlashRow (body source c))) .0 t in (is-line (c .kind) .0 l, is-found c .0 m),
+    λ (l, m). rw (is-line (c .kind) .1 l) (is-found c .1 m),
   )
 
   by-either : (c : Comment) (f t : Found)
@@ -268,8 +280,8 @@ module _ {A : Type 0} {f : Comment → Option A} {r : Reader A} (h : Agrees f r)
 
 -- ---- the rules of document 01
 
-is-block : (c : Comment) → (isBlock c ≡ true) ↔ (c .kind ≡ 1)
-is-block c = (eqb-true (c .kind) 1, eq-eqb (c .kind) 1)
+is-block : (c : Comment) → (isBlock c ≡ true) ↔ (c .kind ≡ Block)
+is-block c = (λ e. one-number kind-numbers (eqb-true (kindNumber (c .kind)) 1 e), λ e. eq-eqb (kindNumber (c .kind)) 1 (ap kindNumber e))
 
 pub present : (t : Sheet) (m : ModuleInfo)
     → m .tsReferences ≡ tsReferences t
@@ -289,7 +301,7 @@ present t m references self jsx jsx-types map = record {
 
 pub types-present : (t : Sheet) (start : ℕ) → TypesPresent t start (typesAt t start)
 unfolding typesIn tsOrDenoTypes
-types-present t start = by-last (lastIn (t .comments) (groupAt (t .groups) leading start))
+types-present t start = by-last (lastIn (t .comments) (groupAt (t .groups) Leading start))
   where
     source : List ℕ
     source = t .source

@@ -6,7 +6,8 @@ use Prim.Native.Nat.{ℕ}
 use Rattle.sheet.specs.declared.groups.Group.{Group}
 use Rattle.sheet.specs.Program.{Program}
 use Rattle.sheet.specs.Fit.{Grouped}
-use Rattle.sheet.specs.Lookups.{trailing, headGroup, endGroup}
+use Rattle.sheet.specs.declared.names.Side.the-variants.{Trailing}
+use Rattle.sheet.specs.Lookups.{headGroup, endGroup}
 use Rattle.sheet.proofs.Members.{found-reaching, head-reaching}
 use Rattle.pragmas.specs.Held.{Reached}
 
@@ -17,4 +18,4 @@ module _ {n : ℕ} {gs : List Group} (h : Grouped n gs) (p : Program) where
 
   pub end-reached : (o : Option Group) → o ≡ endGroup p gs → Reached n o
   end-reached Option.none e = tt
-  end-reached (Option.some g) e = found-reaching h trailing (p .span .end) (sym e)
+  end-reached (Option.some g) e = found-reaching h Trailing (p .span .end) (sym e)

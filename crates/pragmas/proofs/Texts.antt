@@ -24,7 +24,8 @@ use Rattle.sheet.specs.declared.comments.Comment.{Comment}
 use Rattle.sheet.specs.Comments.{slice}
 use Rattle.sheet.specs.declared.groups.Group.{Group}
 use Rattle.sheet.specs.Fit.{Placed, commentOf, Fit}
-use Rattle.sheet.specs.Lookups.{leading, groupAt, headGroup, endGroup, commentsOf, bodySpan, body}
+use Rattle.sheet.specs.declared.names.Side.the-variants.{Leading}
+use Rattle.sheet.specs.Lookups.{groupAt, headGroup, endGroup, commentsOf, bodySpan, body}
 use Rattle.sheet.specs.Sheet.{Sheet}
 use Rattle.sheet.specs.Media.{isJavaScript, isJsx}
 use Rattle.sheet.proofs.Bodies.{Within, placed-body, body-formed, body-boundary}
@@ -152,7 +153,7 @@ module _ (t : Sheet) (f : formed Utf8 0 (t .source) ≡ true) (fit : Fit (t .sou
   pub types-shown : (start : ℕ) → IfThere (TypesShown t) (typesAt t start)
   types-shown start =
       if-there _ (typesAt t start)
-      (λ x e. let (c, l, g) = types-present t start .some x .0 e in types-given (last-in (t .comments) (groupAt (t .groups) leading start) l) g)
+      (λ x e. let (c, l, g) = types-present t start .some x .0 e in types-given (last-in (t .comments) (groupAt (t .groups) Leading start) l) g)
 
   in-head : {c : Comment} → List·Memᴰ c (headComments t) → List·Memᴰ c (t .comments)
   unfolding headComments

@@ -13,6 +13,7 @@ use Rattle.text.specs.WellFormed.{WellFormed}
 use Rattle.analysis.specs.Row.{Row}
 use Rattle.analysis.specs.Place.{textOf}
 use Rattle.analysis.proofs.Modes.{named-small}
+use Rattle.sheet.specs.Limits.{sourceLimit}
 use Rattle.sheet.specs.declared.fields.Span.{Span}
 use Rattle.sheet.specs.declared.comments.Comment.{Comment}
 use Rattle.sheet.specs.declared.groups.Group.{Group}
@@ -29,7 +30,7 @@ abbrev pub GoodReference : TypeScriptReference → Type 0
 GoodReference (path x) = Good x
 GoodReference (types x mode) = Good x × (mode ≤ 2)
 
-module _ (t : Sheet) (short : length (t .source) ≤ 32768) (w : WellFormed Utf8 (t .source)) where
+module _ (t : Sheet) (short : length (t .source) ≤ sourceLimit) (w : WellFormed Utf8 (t .source)) where
   pub marks-shown : {row : Row} {x : SpecifierWithRange} → ShownInMarks row t x → Good x
   marks-shown s = marks-good short w (s .stands)
 

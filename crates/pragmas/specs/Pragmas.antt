@@ -1,5 +1,5 @@
 -- The references and the pragmas of a sheet: each rule of document 01's "Readings" with the comments that it gives to it.
-use mathlib.Core.Bool.{Bool, cond, _&&_}
+use mathlib.Core.Bool.{Bool, cond, not, _&&_}
 use mathlib.Core.List.{List, []}
 use mathlib.Core.Option.{Option}
 use Prim.Native.Nat.{ℕ}
@@ -12,8 +12,12 @@ use Rattle.analysis.specs.Place.{textOf}
 use Rattle.analysis.specs.Patterns.{tripleSlashRow, pathRow, typesRow, resolutionModeRow, jsxImportSourceRow, jsxImportSourceTypesRow, sourceMappingUrlRow, tsSelfTypesRow, tsTypesRow, denoTypesRow}
 use Rattle.sheet.specs.declared.comments.Comment.{Comment}
 use Rattle.sheet.specs.declared.groups.Group.{Group}
-use Rattle.sheet.specs.Lookups.{leading, groupAt, headGroup, endGroup, commentsOf, lastCommentOf, body}
+use Rattle.sheet.specs.Lookups.{groupAt, headGroup, endGroup, commentsOf, lastCommentOf, body}
 use Rattle.sheet.specs.Sheet.{Sheet}
+use Rattle.sheet.specs.declared.names.MediaType.{MediaType}
+use Rattle.sheet.specs.declared.names.CommentKind.the-variants.{Block}
+use Rattle.sheet.specs.declared.names.Side.the-variants.{Leading}
+use Rattle.sheet.specs.Names.{kindNumber}
 use Rattle.sheet.specs.Media.{isJavaScript, isJsx}
 use Rattle.report.specs.ModuleInfo.{SpecifierWithRange, Mode, TypeScriptReference, path, types}
 use Rattle.pragmas.specs.Readings.{specifierIn, readBy, orElse, firstOf, lastOf, allOf}
@@ -31,11 +35,11 @@ unfoldable pub endComments : Sheet → List Comment
 endComments t = inGroup (t .comments) (endGroup (t .program) (t .groups))
 
 -- a line comment, a block comment
-abbrev pub isLine : Comment → Bool
-isLine c = eqb (c .kind) 0
-
 abbrev pub isBlock : Comment → Bool
-isBlock c = eqb (c .kind) 1
+isBlock c = eqb (kindNumber (c .kind)) (kindNumber Block)
+
+abbrev pub isLine : Comment → Bool
+isLine c = not (isBlock c)
 
 -- the mode that a comment names for a types reference
 abbrev pub modeBy : List ℕ → Found → Mode
@@ -66,17 +70,17 @@ abbrev pub givenIf : Bool → List Comment → List Comment
 givenIf b cs = cond b cs []
 
 -- the first comment that reads
-unfoldable pub selfTypesIn : ℕ → List ℕ → List Comment → Option SpecifierWithRange
+unfoldable pub selfTypesIn : MediaType → List ℕ → List Comment → Option SpecifierWithRange
 selfTypesIn media source cs = firstOf (readBy tsSelfTypesRow source) (givenIf (isJavaScript media) cs)
 
 -- the first block comment that reads
 abbrev pub inBlock : {A : Type 0} → (Comment → Option A) → Comment → Option A
 inBlock f c = cond (isBlock c) (f c) Option.none
 
-unfoldable pub jsxImportSourceIn : ℕ → List ℕ → List Comment → Option SpecifierWithRange
+unfoldable pub jsxImportSourceIn : MediaType → List ℕ → List Comment → Option SpecifierWithRange
 jsxImportSourceIn media source cs = firstOf (inBlock (readBy jsxImportSourceRow source)) (givenIf (isJsx media) cs)
 
-unfoldable pub jsxImportSourceTypesIn : ℕ → List ℕ → List Comment → Option SpecifierWithRange
+unfoldable pub jsxImportSourceTypesIn : MediaType → List ℕ → List Comment → Option SpecifierWithRange
 jsxImportSourceTypesIn media source cs = firstOf (inBlock (readBy jsxImportSourceTypesRow source)) (givenIf (isJsx media) cs)
 
 -- the last comment that reads
@@ -113,7 +117,7 @@ lastIn cs (Option.some g) = lastCommentOf cs g
 
 -- the types of an entry, from the last comment of the leading group at the start of its node
 unfoldable pub typesIn : List ℕ → List Comment → List Group → ℕ → Option SpecifierWithRange
-typesIn source cs gs start = typesBy source (lastIn cs (groupAt gs leading start))
+typesIn source cs gs start = typesBy source (lastIn cs (groupAt gs Leading start))
 
 abbrev pub typesAt : Sheet → ℕ → Option SpecifierWithRange
 typesAt t = typesIn (t .source) (t .comments) (t .groups)

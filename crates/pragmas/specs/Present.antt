@@ -12,8 +12,10 @@ use Rattle.analysis.specs.Matches.{Reading}
 use Rattle.analysis.specs.Prefers.{Preferred}
 use Rattle.analysis.specs.Patterns.{tripleSlashRow, pathRow, typesRow, resolutionModeRow, jsxImportSourceRow, jsxImportSourceTypesRow, sourceMappingUrlRow, tsSelfTypesRow, tsTypesRow, denoTypesRow}
 use Rattle.sheet.specs.declared.comments.Comment.{Comment}
-use Rattle.sheet.specs.Lookups.{leading, groupAt, body}
+use Rattle.sheet.specs.Lookups.{groupAt, body}
 use Rattle.sheet.specs.Sheet.{Sheet}
+use Rattle.sheet.specs.declared.names.CommentKind.the-variants.{Line, Block}
+use Rattle.sheet.specs.declared.names.Side.the-variants.{Leading}
 use Rattle.sheet.specs.Media.{isJavaScript, isJsx}
 use Rattle.report.specs.ModuleInfo.{SpecifierWithRange, Mode, TypeScriptReference, path, types, ModuleInfo}
 use Rattle.report.specs.Range.{rangeOf}
@@ -65,16 +67,16 @@ typesRule source = record {
 
 -- the rules of document 01's "Readings"
 abbrev pub referenceRule : List ℕ → Reader TypeScriptReference
-referenceRule source = only (λ c. (c .kind ≡ 0) × Matched tripleSlashRow source c) (orElseBy (pathRule source) (typesRule source))
+referenceRule source = only (λ c. (c .kind ≡ Line) × Matched tripleSlashRow source c) (orElseBy (pathRule source) (typesRule source))
 
 abbrev pub selfTypesRule : List ℕ → Reader SpecifierWithRange
 selfTypesRule = byPattern tsSelfTypesRow
 
 abbrev pub jsxImportSourceRule : List ℕ → Reader SpecifierWithRange
-jsxImportSourceRule source = only (λ c. c .kind ≡ 1) (byPattern jsxImportSourceRow source)
+jsxImportSourceRule source = only (λ c. c .kind ≡ Block) (byPattern jsxImportSourceRow source)
 
 abbrev pub jsxImportSourceTypesRule : List ℕ → Reader SpecifierWithRange
-jsxImportSourceTypesRule source = only (λ c. c .kind ≡ 1) (byPattern jsxImportSourceTypesRow source)
+jsxImportSourceTypesRule source = only (λ c. c .kind ≡ Block) (byPattern jsxImportSourceTypesRow source)
 
 abbrev pub sourceMapUrlRule : List ℕ → Reader SpecifierWithRange
 sourceMapUrlRule = byPattern sourceMappingUrlRow
@@ -134,5 +136,5 @@ pub record Present (t : Sheet) (m : ModuleInfo) : Type 0 where
 abbrev pub TypesPresent : Sheet → ℕ → Option SpecifierWithRange → Type 0
 TypesPresent t start =
     Exactly
-    (λ x. (c : Comment) × (lastIn (t .comments) (groupAt (t .groups) leading start) ≡ Option.some c) × tsOrDenoTypesRule (t .source) .Gives c x)
-    ((c : Comment) → lastIn (t .comments) (groupAt (t .groups) leading start) ≡ Option.some c → tsOrDenoTypesRule (t .source) .Reads c → ⊥)
+    (λ x. (c : Comment) × (lastIn (t .comments) (groupAt (t .groups) Leading start) ≡ Option.some c) × tsOrDenoTypesRule (t .source) .Gives c x)
+    ((c : Comment) → lastIn (t .comments) (groupAt (t .groups) Leading start) ≡ Option.some c → tsOrDenoTypesRule (t .source) .Reads c → ⊥)

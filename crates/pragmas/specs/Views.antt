@@ -9,6 +9,9 @@ use Rattle.analysis.specs.declared.Capture.{Capture}
 use Rattle.analysis.specs.Row.{Row}
 use Rattle.analysis.specs.Place.{Inside}
 use Rattle.analysis.specs.Patterns.{jsxImportSourceRow, jsxImportSourceTypesRow, sourceMappingUrlRow, tsSelfTypesRow, tsTypesRow, denoTypesRow}
+use Rattle.sheet.specs.declared.names.CommentKind.{CommentKind}
+use Rattle.sheet.specs.declared.names.CommentKind.the-variants.{Block}
+use Rattle.sheet.specs.Names.{kindNumber}
 use Rattle.sheet.specs.declared.comments.Comment.{Comment}
 use Rattle.sheet.specs.Tables.{rows, commentIn}
 use Rattle.sheet.specs.Fit.{Placed}
@@ -32,10 +35,10 @@ rowOf TsTypes = tsTypesRow
 rowOf DenoTypes = denoTypesRow
 
 -- whether it takes comments of a kind
-abbrev pub takes : Rule → ℕ → Bool
+abbrev pub takes : Rule → CommentKind → Bool
 takes TsSelfTypes kind = true
-takes JsxImportSource kind = eqb kind 1
-takes JsxImportSourceTypes kind = eqb kind 1
+takes JsxImportSource kind = eqb (kindNumber kind) (kindNumber Block)
+takes JsxImportSourceTypes kind = eqb (kindNumber kind) (kindNumber Block)
 takes SourceMapUrl kind = true
 takes TsTypes kind = true
 takes DenoTypes kind = true

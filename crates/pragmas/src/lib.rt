@@ -13,6 +13,8 @@ use sheet::comments::Comment;
 use sheet::comments::comment_at;
 use sheet::lookups::GroupFound;
 use sheet::lookups::find_group;
+use sheet::names::MediaType;
+use sheet::names::Side;
 ghost use mathlib.Core.Path.{_≡_};
 ghost use Rattle.wire.specs.Optional.{encodeOptional};
 ghost use Rattle.sheet.specs.Tables.{commentsIn, groupsIn};
@@ -26,21 +28,45 @@ ghost use Rattle.pragmas.specs.Pragmas.{inGroup, selfTypesIn, jsxImportS
 ghost use Rattle.pragmas.specs.Views.{readAs, ReadIn};
 
 // The opposite of the Rust's `is_typed`.
-pub fn is_javascript(media: usize) -> bool
+pub fn is_javascript(media: MediaType) -> bool
     ensures { λ r. ⌜ r ≡ isJavaScript media ⌝ }
 {
-    media <= 3
+    match media {
+        MediaType::JavaScript => true,
+        MediaType::Jsx => true,
+        MediaType::Mjs => true,
+        MediaType::Cjs => true,
+        MediaType::TypeScript => false,
+        MediaType::Mts => false,
+        MediaType::Cts => false,
+        MediaType::Dts => false,
+        MediaType::Dmts => false,
+        MediaType::Dcts => false,
+        MediaType::Tsx => false,
+    }
 }
 
-fn is_jsx(media: usize) -> bool
+fn is_jsx(media: MediaType) -> bool
     ensures { λ r. ⌜ r ≡ isJsx media ⌝ }
 {
-    media == 1 || media == 10
+    match media {
+        MediaType::JavaScript => false,
+        MediaType::Jsx => true,
+        MediaType::Mjs => false,
+        MediaType::Cjs => false,
+        MediaType::TypeScript => false,
+        MediaType::Mts => false,
+        MediaType::Cts => false,
+        MediaType::Dts => false,
+        MediaType::Dmts => false,
+        MediaType::Dcts => false,
+        MediaType::Tsx => true,
+    }
 }
 
-// The JSX source: the first block comment that reads, for media 1 and 10.
+// The JSX source: the first block comment that reads, for Jsx and Tsx.
 pub fn analyze_jsx_import_source(
-    media: usize,
+    media: MediaType,
     source: &[u8],
     comments: &[u32],
     n: usize,
@@ -63,9 +89,9 @@ pub fn analyze_jsx_import_source(
     place.put(out, 0)
 }
 
-// The JSX source of types: the first block comment that reads, for media 1 and 10.
+// The JSX source of types: the first block comment that reads, for Jsx and Tsx.
 pub fn analyze_jsx_import_source_types(
-    media: usize,
+    media: MediaType,
     source: &[u8],
     comments: &[u32],
     n: usize,
@@ -88,9 +114,9 @@ pub fn analyze_jsx_import_source_types(
     place.put(out, 0)
 }
 
-// The self types: the first comment that reads, for media 0 to 3.
+// The self types: the first comment that reads, for JavaScript.
 pub fn analyze_ts_self_types(
-    media: usize,
+    media: MediaType,
     source: &[u8],
     comments: &[u32],
     n: usize,
@@ -166,7 +192,7 @@ pub fn analyze_ts_or_deno_types(
         (encodeOptional encodeSpecifier
         (typesIn (now (source .entry)) (commentsIn (now (comments .entry)) n) (groupsIn (now (groups .entry)) m) start)) ⌝ }
 {
-    match find_group(groups, m, 0, start) {
+    match find_group(groups, m, Side::Leading, start) {
         GroupFound::At(g) => {
             let reading = read_types(source, comment_at(comments, g.first + (g.count - 1)));
             put_reading(source, index, reading, out, place)

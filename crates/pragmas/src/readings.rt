@@ -16,12 +16,16 @@ use sheet::fields::Span;
 use sheet::lookups::GroupFound;
 use sheet::lookups::body;
 use sheet::lookups::body_span;
+use sheet::names::CommentKind;
 ghost use mathlib.Core.Path.{_≡_};
 ghost use Prim.Native.Nat.{_-_, _*_, _≤_};
+ghost use lib.Dec.{eqb};
 ghost use lib.ListN.{length};
 ghost use Rattle.wire.specs.Optional.{encodeOptional};
 ghost use Rattle.analysis.specs.Row.{find};
 ghost use Rattle.analysis.specs.Place.{Inside, Within};
+ghost use Rattle.sheet.specs.declared.names.CommentKind.the-variants.{Block};
+ghost use Rattle.sheet.specs.Names.{kindNumber};
 ghost use Rattle.sheet.specs.Tables.{commentsIn};
 ghost use Rattle.sheet.specs.Fit.{Placed, Fit};
 ghost use Rattle.sheet.specs.Lookups.{HoldsMarks, bodySpan};
@@ -65,13 +69,22 @@ fn find_by(body: &[u8], rule: Rule) -> Found
     }
 }
 
+pub fn is_block(kind: CommentKind) -> bool
+    ensures { λ r. ⌜ r ≡ eqb (kindNumber kind) (kindNumber Block) ⌝ }
+{
+    match kind {
+        CommentKind::Line => false,
+        CommentKind::Block => true,
+    }
+}
+
 // Does the rule take comments of this kind? The JSX rules take block comments only.
-fn takes(rule: Rule, kind: usize) -> bool
+fn takes(rule: Rule, kind: CommentKind) -> bool
     ensures { λ r. ⌜ r ≡ takes rule kind ⌝ }
 {
     match rule {
-        Rule::JsxImportSource => kind == 1,
-        Rule::JsxImportSourceTypes => kind == 1,
+        Rule::JsxImportSource => is_block(kind),
+        Rule::JsxImportSourceTypes => is_block(kind),
         Rule::TsSelfTypes => true,
         Rule::SourceMapUrl => true,
         Rule::TsTypes => true,
@@ -85,7 +98,8 @@ pub fn read(source: &[u8], c: Comment, rule: Rule) -> Reading
     ensures { λ r. ⌜ readAs (now (source .entry)) r ≡ readRule rule (now (source .entry)) c ⌝ }
     ensures { λ r. ⌜ ReadIn (now (source .entry)) r ⌝ }
 {
-    if takes(rule, c.kind) {
+    let kind = c.kind;
+    if takes(rule, kind) {
         return match find_by(body(source, c), rule) {
             Found::At(k) => Reading::Of(c, k),
             Found::Nothing => Reading::Nothing,

@@ -1,4 +1,5 @@
 // The references of the head group.
+use super::readings::is_block;
 use super::readings::put_capture;
 use analysis::Capture;
 use analysis::Found;
@@ -53,7 +54,8 @@ fn read_reference(source: &[u8], c: Comment) -> Reference
     ensures { λ r. ⌜ referenceAs (now (source .entry)) c r ≡ reference (now (source .entry)) c ⌝ }
     ensures { λ r. ⌜ ReferenceIn (now (source .entry)) c r ⌝ }
 {
-    if c.kind != 0 {
+    let kind = c.kind;
+    if is_block(kind) {
         return Reference::Nothing;
     }
     let text = body(source, c);

@@ -15,6 +15,7 @@ use Rattle.text.specs.Utf8.{formed}
 use Rattle.text.specs.WellFormed.{WellFormed}
 use Rattle.text.proofs.Cuts.{ascii-between, part-formed}
 use Rattle.text.proofs.WellFormed.{well-formed-iff}
+use Rattle.sheet.specs.Limits.{sourceLimit}
 use Rattle.sheet.specs.declared.fields.Span.{Span}
 use Rattle.sheet.specs.Comments.{slice}
 use Rattle.report.specs.ModuleInfo.{PositionRange, SpecifierWithRange}
@@ -26,7 +27,7 @@ use Rattle.report.proofs.Ranges.{range-valid}
 -- a specifier that can be written, with a well-formed text of at most 32,768 bytes
 pub record Good (x : SpecifierWithRange) : Type 0 where
   pub valid : ValidSpecifier x
-  pub text : (length (x .text) ≤ 32768) × WellFormed Utf8 (x .text)
+  pub text : (length (x .text) ≤ sourceLimit) × WellFormed Utf8 (x .text)
 
 -- what stands between two marks is well-formed if all of it is
 between-marks : {x bytes : List ℕ} → formed Utf8 0 bytes ≡ true → InMarks x bytes → (length x ≤ length bytes) × (formed Utf8 0 x ≡ true)
@@ -44,7 +45,7 @@ between-marks {x} {bytes} f m =
     ascii : {b : ℕ} → Mark b → b < 0x80
     ascii m = ⊎-elim (λ e. omega arith) (λ e. omega arith) m
 
-module _ {source : List ℕ} (short : length source ≤ 32768) (w : WellFormed Utf8 source) where
+module _ {source : List ℕ} (short : length source ≤ sourceLimit) (w : WellFormed Utf8 source) where
   -- the bytes between two boundaries
   slice-formed : {r : PositionRange} {place : Span} → RangeAt source r place → (length (slice source place) ≤ length source) × (formed Utf8 0 (slice source place) ≡ true)
   unfolding formed

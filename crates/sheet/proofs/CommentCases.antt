@@ -7,7 +7,7 @@ use Rattle.laws.specs.Quoted.{ascii}
 use Rattle.laws.proofs.Decoding.{refusal}
 use Rattle.text.specs.Bytes.{begins}
 use Rattle.text.specs.Position.{isBoundary}
-use Rattle.wire.specs.Fields.{byte, below}
+use Rattle.wire.specs.Fields.{byte, below, numbered}
 use Rattle.wire.specs.Number.{lastGroup, number}
 use Rattle.wire.specs.Text.{count}
 use Rattle.sheet.specs.Limits.{commentLimit, groupLimit}
@@ -54,5 +54,5 @@ cases =
     ∷ []
 
 as-stated : map (λ c. refusal (fields (c .0))) cases ≡ map (λ c. c .1) cases
-unfolding byte below lastGroup Rattle.wire.specs.Number.groups number count begins isBoundary position endFrom enclosed marked comment group covered chained
+unfolding byte below numbered lastGroup Rattle.wire.specs.Number.groups number count begins isBoundary position endFrom enclosed marked comment group covered chained
 as-stated = refl

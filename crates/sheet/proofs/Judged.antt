@@ -6,17 +6,19 @@ use Prim.Native.Nat.{ℕ, _+_, _≤_}
 use lib.Dec.{leb, ltb}
 use borrow.Author.Tests.{ltb-true, leb-true, lt-ltb, le-leb}
 use Rattle.laws.specs.Codec.{Codec}
-use Rattle.laws.proofs.Codecs.{built-return, built-then, built-require, codec-of, codec-as, tested}
+use Rattle.laws.proofs.Codecs.{built-return, built-then, built-require, codec-of, codec-as, tested, built-free}
 use Rattle.text.specs.Position.{Boundary, isBoundary}
 use Rattle.text.proofs.Boundary.{is-boundary-iff}
 use Rattle.wire.specs.Number.{largest, encodeNumber}
 use Rattle.wire.proofs.NumberCodec.{number-codec}
-use Rattle.wire.proofs.TextCodec.{below-codec}
+use Rattle.wire.proofs.Numbered.{numbered-codec}
 use Rattle.sheet.specs.declared.comments.Comment.{Comment}
 use Rattle.sheet.specs.declared.groups.Group.{Group}
+use Rattle.sheet.specs.declared.names.Side.{Side}
 use Rattle.sheet.specs.Fields.{position, endFrom}
 use Rattle.sheet.specs.Comments.{slice, marked, comment, encodeComment, group, encodeGroup}
 use Rattle.sheet.specs.Fit.{Placed, Reaching}
+use Rattle.sheet.proofs.Numbered.{kind-numbers, side-numbers}
 use Rattle.sheet.proofs.Marks.{marked-iff}
 
 -- a position
@@ -31,7 +33,7 @@ pub record Judged (source : List ℕ) (last : ℕ) (c : Comment) : Type 0 where
   pub small : (c .span .start ≤ largest) × (c .span .end ≤ largest)
 
 -- a group that may come after what is before, whose numbers are small
-pub record Ranged (source : List ℕ) (total : ℕ) (after : ℕ → ℕ → Bool) (g : Group) : Type 0 where
+pub record Ranged (source : List ℕ) (total : ℕ) (after : Side → ℕ → Bool) (g : Group) : Type 0 where
   pub reaching : Reaching total g
   pub place : Boundary source (g .position)
   pub follows : after (g .side) (g .position) ≡ true
@@ -53,44 +55,44 @@ module _ (source : List ℕ) where
   unfolding comment
   comment-codec last =
       codec-of
-      (built-then (below-codec 2) (λ kind. built-then position-codec (λ start. built-require (leb last start) 7 (built-then (end-codec start) (λ end.
+      (built-free (numbered-codec kind-numbers) (λ kind. built-then position-codec (λ start. built-require (leb last start) 7 (built-then (end-codec start) (λ end.
       built-require (marked kind (slice source (record { start = start; end = end }))) 7
       (built-return (record { kind = kind; span = record { start = start; end = end } })))))))
       (λ c v.
       let w = v .placed in
       let start : At source (c .span .start) = record { boundary = w .start; small = v .small .0 } in
       let end : At source (c .span .end) = record { boundary = w .end; small = v .small .1 } in
-      ((c .kind, (c .span .start, (c .span .end, tt))), refl, (w .kind, (start, (le-leb last (c .span .start) (v .behind), ((end, w .order), (marked-iff source c (w .order) (w .end .0) .1 (w .marks), tt)))))))
+      ((c .kind, (c .span .start, (c .span .end, tt))), refl, (start, (le-leb last (c .span .start) (v .behind), ((end, w .order), (marked-iff source c (w .order) (w .end .0) .1 (w .marks), tt))))))
       (λ p v.
-      let (kind, (start, (behind, ((end, order), (marks, z))))) = v in (
+      let (start, (behind, ((end, order), (marks, z)))) = v in (
         rw (append-nil (encodeNumber (p .1 .1 .0))),
         record {
-          placed = record { kind = kind; start = start .boundary; end = end .boundary; order = order; marks = marked-iff source _ order (end .boundary .0) .0 marks };
+          placed = record { start = start .boundary; end = end .boundary; order = order; marks = marked-iff source _ order (end .boundary .0) .0 marks };
           behind = leb-true last (p .1 .0) behind;
           small = (start .small, end .small);
         },
       ))
 
-  pub group-codec : (total : ℕ) (after : ℕ → ℕ → Bool) → Codec (group source total after) encodeGroup (Ranged source total after)
+  pub group-codec : (total : ℕ) (after : Side → ℕ → Bool) → Codec (group source total after) encodeGroup (Ranged source total after)
   unfolding group
   group-codec total after =
       codec-of
-      (built-then (below-codec 2) (λ side. built-then position-codec (λ p. built-require (after side p) 7 (built-then number-codec (λ first. built-then number-codec (λ n.
+      (built-free (numbered-codec side-numbers) (λ side. built-then position-codec (λ p. built-require (after side p) 7 (built-then number-codec (λ first. built-then number-codec (λ n.
       built-require (ltb 0 n && leb (first + n) total) 7
       (built-return (record { side = side; position = p; first = first; count = n }))))))))
       (λ g v.
       let w = v .reaching in
       let (position, first, n) = v .small in
       let reach = and-eq-true-iff (ltb 0 (g .count)) (leb (g .first + g .count) total) .1 (lt-ltb 0 (g .count) (w .some), le-leb (g .first + g .count) total (w .reach)) in
-      ((g .side, (g .position, (g .first, (g .count, tt)))), refl, (w .side, (record { boundary = v .place; small = position }, (v .follows, (first, (n, (reach, tt))))))))
+      ((g .side, (g .position, (g .first, (g .count, tt)))), refl, (record { boundary = v .place; small = position }, (v .follows, (first, (n, (reach, tt)))))))
       (λ p v.
-      let (side, (at, (follows, (small, (small′, (reach, z)))))) = v in
+      let (at, (follows, (small, (small′, (reach, z))))) = v in
       let first = p .1 .1 .0 in
       let n = p .1 .1 .1 .0 in
       let (some, all) = and-eq-true-iff (ltb 0 n) (leb (first + n) total) .0 reach in (
         rw (append-nil (encodeNumber n)),
         record {
-          reaching = record { side = side; some = ltb-true 0 n some; reach = leb-true (first + n) total all };
+          reaching = record { some = ltb-true 0 n some; reach = leb-true (first + n) total all };
           place = at .boundary;
           follows = follows;
           small = (at .small, small, small′);

@@ -8,11 +8,13 @@ use Rattle.laws.proofs.Kept.{Kept, done, next, test, either, at-index}
 use Rattle.text.specs.declared.utf8.Encoding.the-variants.{Utf8, Wtf8}
 use Rattle.text.specs.Position.{isBoundary}
 use Rattle.wire.specs.Number.{number}
-use Rattle.wire.proofs.Kept.{OfFields, two, three, four, six, seven, below-kept, flag-kept, optional-kept, number-kept, count-kept, text-kept}
+use Rattle.wire.proofs.Kept.{OfFields, two, three, four, six, seven, below-kept, numbered-kept, flag-kept, optional-kept, number-kept, count-kept, text-kept}
 use Rattle.sheet.specs.Limits.{sourceLimit, textLimit, commentLimit, groupLimit, depthLimit, propertyLimit}
 use Rattle.sheet.specs.declared.fields.Span.{Span}
 use Rattle.sheet.specs.declared.comments.Comment.{Comment}
 use Rattle.sheet.specs.declared.groups.Group.{Group}
+use Rattle.sheet.specs.declared.names.Side.{Side}
+use Rattle.sheet.specs.Names.{mediaTypes, commentKinds, sides, importPhases}
 use Rattle.sheet.specs.Tree.{Quoted, Pieces, Node, Nodes, Arguments, Properties, Attributes}
 use Rattle.sheet.specs.Fields.{position, endFrom, span}
 use Rattle.sheet.specs.Comments.{slice, marked, chained, comment, group, anywhere, covered}
@@ -48,13 +50,13 @@ module _ {P : (A : Type 0) → Decoder A → Type 0} (h : OfFields P) where
     comment-kept : (last : ℕ) → P Comment (comment source last)
     unfolding comment
     comment-kept last =
-        then (below-kept h 2) (λ kind. then position-kept (λ start. test kept (leb last start) seven (then (end-kept start) (λ p.
+        then (numbered-kept h commentKinds) (λ kind. then position-kept (λ start. test kept (leb last start) seven (then (end-kept start) (λ p.
         test kept (marked kind (slice source (record { start = start; end = p }))) seven (ends _)))))
 
-    group-kept : (total : ℕ) (after : ℕ → ℕ → Bool) → P Group (group source total after)
+    group-kept : (total : ℕ) (after : Side → ℕ → Bool) → P Group (group source total after)
     unfolding group
     group-kept total after =
-        then (below-kept h 2) (λ side. then position-kept (λ p. test kept (after side p) seven (then a-number (λ first. then a-number (λ n.
+        then (numbered-kept h sides) (λ side. then position-kept (λ p. test kept (after side p) seven (then a-number (λ first. then a-number (λ n.
         test kept (ltb 0 n && leb (first + n) total) seven (ends _))))))
 
     program-kept : P Program (program source)
@@ -130,7 +132,7 @@ module _ {P : (A : Type 0) → Decoder A → Type 0} (h : OfFields P) where
         (next (then flag-first (λ plus. then p (λ l. then p (λ r. ends _))))
         (next (then (count-kept h propertyLimit) (λ n. then (properties-kept p n) (λ ps. ends _)))
         (next (then (below-kept h 4) (λ callee. either kept (ltb callee 3) (rest-kept _) (then p (λ e. rest-kept _))))
-        (next (then flag-first (λ typeOnly. then (below-kept h 3) (λ phase. then flag-first (λ sideEffect. then x (λ x. attributed _)))))
+        (next (then flag-first (λ typeOnly. then (numbered-kept h importPhases) (λ phase. then flag-first (λ sideEffect. then x (λ x. attributed _)))))
         (next (then flag-first (λ typeOnly. then flag-first (λ there. either kept there (then x (λ x. attributed _)) (ends _))))
         (next (then flag-first (λ typeOnly. then x (λ x. attributed _)))
         (next (then x (λ x. then a-number (λ n. then (nodes-kept p n) (λ ns. attributed _))))
@@ -155,7 +157,7 @@ module _ {P : (A : Type 0) → Decoder A → Type 0} (h : OfFields P) where
   pub sheet-kept : P Sheet sheet
   unfolding sheet
   sheet-kept =
-      then (below-kept h 11) (λ media. then (text-kept h Utf8 sourceLimit) (λ source.
+      then (numbered-kept h mediaTypes) (λ media. then (text-kept h Utf8 sourceLimit) (λ source.
       then (count-kept h commentLimit) (λ n. then (chained-kept _ (comment-kept source) 0 n) (λ cs.
       then (count-kept h groupLimit) (λ m. then (chained-kept _ (group-kept source n) anywhere m) (λ gs.
       test kept (covered gs n) seven (then (program-kept source) (λ p. then (node-kept source depthLimit) (λ root. ends _)))))))))

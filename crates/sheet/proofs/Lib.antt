@@ -1,3 +1,4 @@
+pub mod Numbered
 pub mod Places
 pub mod Rows
 pub mod Stores

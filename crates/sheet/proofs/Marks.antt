@@ -13,6 +13,8 @@ use Rattle.laws.proofs.Lists.{part-part}
 use Rattle.text.specs.Bytes.{begins}
 use Rattle.text.proofs.Words.{begins-sound, begins-complete}
 use Rattle.sheet.specs.declared.comments.Comment.{Comment}
+use Rattle.sheet.specs.declared.names.CommentKind.{CommentKind}
+use Rattle.sheet.specs.declared.names.CommentKind.the-variants.{Line, Block}
 use Rattle.sheet.specs.Comments.{Marks, marksOf, opening, closing, slice, enclosed, marked}
 use Rattle.sheet.specs.Fit.{Placed}
 use Rattle.sheet.specs.Lookups.{HoldsMarks, bodySpan, body}
@@ -23,14 +25,9 @@ pub record Fenced (m : Marks) : Type 0 where
   pub last : getD (m .opening) (length (m .opening) - 1) 0 < 0x80
   pub first : getD (m .closing) 0 0 < 0x80
 
-pub fenced : (kind : ℕ) → Fenced (marksOf kind)
-fenced zero = record { some = omega arith; last = omega arith; first = omega arith }
-fenced (suc kind) = record { some = omega arith; last = omega arith; first = omega arith }
-
--- the row of every kind but 0
-pub other-kind : (kind : ℕ) → (kind ≡ 0 → ⊥) → marksOf kind ≡ marksOf 1
-other-kind zero h = absurd (h refl)
-other-kind (suc kind) h = refl
+pub fenced : (kind : CommentKind) → Fenced (marksOf kind)
+fenced Line = record { some = omega arith; last = omega arith; first = omega arith }
+fenced Block = record { some = omega arith; last = omega arith; first = omega arith }
 
 -- a text is enclosed by two marks just where it is something between them
 module _ (front back c : List ℕ) where

@@ -11,7 +11,9 @@ use Rattle.sheet.specs.declared.groups.Group.{Group}
 use Rattle.sheet.specs.Program.{Program}
 use Rattle.sheet.specs.Tables.{rows, commentIn, commentsIn}
 use Rattle.sheet.specs.Fit.{Placed, Fit, Reaching, groupOf, Grouped}
-use Rattle.sheet.specs.Lookups.{leading, trailing, standsAt, groupAt, headBy, headGroup, commentsOf, lastCommentOf}
+use Rattle.sheet.specs.declared.names.Side.{Side}
+use Rattle.sheet.specs.declared.names.Side.the-variants.{Leading, Trailing}
+use Rattle.sheet.specs.Lookups.{standsAt, groupAt, headBy, headGroup, commentsOf, lastCommentOf}
 use Rattle.sheet.proofs.Rows.{rows-length, rows-part, rows-last, comment-row}
 
 -- a comment does not reach past the source
@@ -31,7 +33,7 @@ module _ (table : List ℕ) (n : ℕ) (g : Group) (r : Reaching n g) where
   group-last = rw group-comments (rows-last (commentIn table) (g .first) (g .count) (r .some))
 
 -- what holds of each group holds of the one that is found
-found-each : (Q : Group → Type 0) (gs : List Group) (side position : ℕ) → ((k : ℕ) → k < length gs → Q (groupOf gs k)) → {g : Group}
+found-each : (Q : Group → Type 0) (gs : List Group) (side : Side) (position : ℕ) → ((k : ℕ) → k < length gs → Q (groupOf gs k)) → {g : Group}
     → groupAt gs side position ≡ Option.some g → Q g
 unfolding groupAt
 found-each Q [] side position q {g} e = absurd (Option·none-ne-some g e)
@@ -42,17 +44,17 @@ found-each Q (h ∷ gs) side position q {g} e = go (standsAt h side position) e 
     go false e more = more e
 
 module _ {total : ℕ} {gs : List Group} (h : Grouped total gs) where
-  pub found-reaching : (side position : ℕ) {g : Group} → groupAt gs side position ≡ Option.some g → Reaching total g
+  pub found-reaching : (side : Side) (position : ℕ) {g : Group} → groupAt gs side position ≡ Option.some g → Reaching total g
   found-reaching side position = found-each (Reaching total) gs side position (h .each)
 
   pub head-reaching : (p : Program) {g : Group} → headGroup p gs ≡ Option.some g → Reaching total g
   unfolding headGroup
   head-reaching p {g} e = by-item (p .first) e
     where
-      by-shebang : (b : Bool) → cond b (groupAt gs trailing (p .span .end)) (groupAt gs leading (p .span .start)) ≡ Option.some g → Reaching total g
-      by-shebang true e = found-reaching trailing (p .span .end) e
-      by-shebang false e = found-reaching leading (p .span .start) e
+      by-shebang : (b : Bool) → cond b (groupAt gs Trailing (p .span .end)) (groupAt gs Leading (p .span .start)) ≡ Option.some g → Reaching total g
+      by-shebang true e = found-reaching Trailing (p .span .end) e
+      by-shebang false e = found-reaching Leading (p .span .start) e
 
       by-item : (first : Option ℕ) → headBy p gs first ≡ Option.some g → Reaching total g
-      by-item (Option.some at) e = found-reaching leading at e
+      by-item (Option.some at) e = found-reaching Leading at e
       by-item Option.none e = by-shebang (p .shebang) e

@@ -9,19 +9,23 @@ use native.Mathlib.Nat.{add-zero, add-suc, suc-add, zero-add, not-suc-le-zero, l
 use native.Mathlib.Omega.{arith}
 use lib.Dec.{eqb, ltb}
 use borrow.Author.Tests.{ltb-true, ltb-false, eqb-true}
+use Rattle.wire.proofs.Numbered.{one-number}
 use Rattle.sheet.specs.declared.groups.Group.{Group}
+use Rattle.sheet.specs.declared.names.Side.{Side}
+use Rattle.sheet.specs.Names.{sideNumber}
 use Rattle.sheet.specs.Comments.{precedes, mayFollow}
 use Rattle.sheet.specs.Tables.{rows, groupIn, groupsIn}
 use Rattle.sheet.specs.Fit.{Ascending}
 use Rattle.sheet.specs.Lookups.{standsAt, groupAt}
+use Rattle.sheet.proofs.Numbered.{side-numbers}
 use Rattle.sheet.proofs.Rows.{rows-length, group-row}
 use Rattle.sheet.proofs.Order.{in-order, irreflexive, precedes-trans, otherwise}
 
-module _ (g : Group) (side position : ℕ) where
+module _ (g : Group) (side : Side) (position : ℕ) where
   stands : standsAt g side position ≡ true → (g .side ≡ side) × (g .position ≡ position)
   stands e =
-      let (s, p) = and-eq-true-iff (eqb (g .side) side) (eqb (g .position) position) .0 e in
-      (eqb-true (g .side) side s, eqb-true (g .position) position p)
+      let (s, p) = and-eq-true-iff (eqb (sideNumber (g .side)) (sideNumber side)) (eqb (g .position) position) .0 e in
+      (one-number side-numbers (eqb-true (sideNumber (g .side)) (sideNumber side) s), eqb-true (g .position) position p)
 
   elsewhere : ((g .side ≡ side) × (g .position ≡ position) → ⊥) → standsAt g side position ≡ false
   elsewhere h = go (standsAt g side position) refl
@@ -38,7 +42,7 @@ module _ (g : Group) (side position : ℕ) where
   behind-other e = elsewhere (λ h. irreflexive side position (rw (h .0, h .1) at e))
 
 -- among rows none of which stands there no group is found; else the first that does
-module _ (row : ℕ → Group) (side position : ℕ) where
+module _ (row : ℕ → Group) (side : Side) (position : ℕ) where
   none-there : (k n : ℕ) → ((i : ℕ) → i < n → standsAt (row (k + i)) side position ≡ false) → groupAt (rows row k n) side position ≡ Option.none
   unfolding rows groupAt
   none-there k zero h = refl
@@ -56,16 +60,16 @@ module _ (row : ℕ → Group) (side position : ℕ) where
       rw (first, add-suc, ← suc-add) (first-there (suc k) n i (le-of-suc-le-suc l) (λ j m. rw (add-suc, ← suc-add) at (h (suc j) (suc-le-suc m))) (rw (add-suc, ← suc-add) at e))
 
 -- the rows before lo come before the place sought, and those from hi on behind it
-pub record Searched (table : List ℕ) (m side position lo hi : ℕ) : Type 0 where
+pub record Searched (table : List ℕ) (m : ℕ) (side : Side) (position lo hi : ℕ) : Type 0 where
   pub order : lo ≤ hi
   pub most : hi ≤ m
   pub below : (k : ℕ) → k < lo → mayFollow (groupIn table k) side position ≡ true
   pub above : (k : ℕ) → hi ≤ k → k < m → precedes side position (groupIn table k .side) (groupIn table k .position) ≡ true
 
-pub search-all : (table : List ℕ) (m side position : ℕ) → Searched table m side position 0 m
+pub search-all : (table : List ℕ) (m : ℕ) (side : Side) (position : ℕ) → Searched table m side position 0 m
 search-all table m side position = record { order = zero-le; most = omega arith; below = λ k l. absurd (not-suc-le-zero l); above = λ k h l. absurd (omega arith) }
 
-module _ {table : List ℕ} {m side position lo hi : ℕ} (s : Searched table m side position lo hi) where
+module _ {table : List ℕ} {m : ℕ} {side : Side} {position lo hi : ℕ} (s : Searched table m side position lo hi) where
   -- nothing is left to search
   pub search-none : hi ≤ lo → groupAt (groupsIn table m) side position ≡ Option.none
   search-none h = none-there (groupIn table) side position 0 m (λ i l. rw zero-add (go i l (ltb i lo) refl))

@@ -7,6 +7,7 @@ use native.Mathlib.Omega.{arith}
 use lib.ListN.{length, getD, set, length-set}
 use lib.Seq.{sets, getD-set-same, getD-set-other}
 use Rattle.sheet.specs.Tables.{rows, commentRow, commentIn, groupRow, groupIn}
+use Rattle.sheet.proofs.Numbered.{kind-numbers, side-numbers}
 use Rattle.sheet.proofs.Rows.{rows-same, rows-more}
 
 -- a run of numbers stored from i on: what is outside it stays
@@ -34,7 +35,7 @@ comment-table =
     record {
       same = λ t k c h.
           let v = in-sets t (3 * k) (commentRow c) h in
-          simp (v 0 (3 * k) (omega arith) (omega arith), v 1 (3 * k + 1) (omega arith) (omega arith), v 2 (3 * k + 2) (omega arith) (omega arith));
+          simp (v 0 (3 * k) (omega arith) (omega arith), v 1 (3 * k + 1) (omega arith) (omega arith), v 2 (3 * k + 2) (omega arith) (omega arith), kind-numbers .back (c .kind));
       other = λ t k c j h.
           let v = outside-sets t (3 * k) (commentRow c) in
           simp (v (3 * j) (λ l. omega arith), v (3 * j + 1) (λ l. omega arith), v (3 * j + 2) (λ l. omega arith));
@@ -51,6 +52,7 @@ group-table =
             v 1 (4 * k + 1) (omega arith) (omega arith),
             v 2 (4 * k + 2) (omega arith) (omega arith),
             v 3 (4 * k + 3) (omega arith) (omega arith),
+            side-numbers .back (g .side),
           );
       other = λ t k g j h.
           let v = outside-sets t (4 * k) (groupRow g) in

@@ -7,11 +7,15 @@ use lib.ListN.{length, drop}
 use Rattle.laws.specs.Decoded.{Decoder, onOk, _>>=_, _>>_, return, require}
 use Rattle.laws.specs.Quoted.{ascii}
 use Rattle.text.specs.Bytes.{part, begins}
-use Rattle.wire.specs.Fields.{below}
+use Rattle.wire.specs.Fields.{numbered}
 use Rattle.wire.specs.Number.{number, encodeNumber}
 use Rattle.sheet.specs.declared.fields.Span.{Span}
 use Rattle.sheet.specs.declared.comments.Comment.{Comment}
 use Rattle.sheet.specs.declared.groups.Group.{Group}
+use Rattle.sheet.specs.declared.names.CommentKind.{CommentKind}
+use Rattle.sheet.specs.declared.names.CommentKind.the-variants.{Line, Block}
+use Rattle.sheet.specs.declared.names.Side.{Side}
+use Rattle.sheet.specs.Names.{kindNumber, commentKinds, sideNumber, sides}
 use Rattle.sheet.specs.Fields.{position, endFrom, encodeSpan}
 
 -- the bytes of the source in a span
@@ -23,15 +27,15 @@ pub record Marks : Type 0 where
   pub opening : List ℕ
   pub closing : List ℕ
 
--- by its kind: 0 line, 1 block
-abbrev pub marksOf : ℕ → Marks
-marksOf zero = record { opening = ascii "//"; closing = [] }
-marksOf (suc kind) = record { opening = ascii "/*"; closing = ascii "*/" }
+-- by its kind
+abbrev pub marksOf : CommentKind → Marks
+marksOf Line = record { opening = ascii "//"; closing = [] }
+marksOf Block = record { opening = ascii "/*"; closing = ascii "*/" }
 
-abbrev pub opening : ℕ → List ℕ
+abbrev pub opening : CommentKind → List ℕ
 opening kind = marksOf kind .opening
 
-abbrev pub closing : ℕ → List ℕ
+abbrev pub closing : CommentKind → List ℕ
 closing kind = marksOf kind .closing
 
 -- the text begins with one mark, ends with the other, and is no shorter than the two
@@ -39,7 +43,7 @@ unfoldable pub enclosed : List ℕ → List ℕ → List ℕ → Bool
 enclosed front back c = leb (length front + length back) (length c) && begins front c && begins back (drop (length c - length back) c)
 
 -- the text has the marks of its kind
-unfoldable pub marked : ℕ → List ℕ → Bool
+unfoldable pub marked : CommentKind → List ℕ → Bool
 marked kind c = enclosed (opening kind) (closing kind) c
 
 -- so many items, each where the one before ends, and judged by what that one leaves
@@ -52,7 +56,7 @@ chained item leaves s (suc k) = do
 -- a comment that starts no earlier than `last`, the end of the one before; refusal 7 at its start and at its end
 unfoldable pub comment : List ℕ → ℕ → Decoder Comment
 comment source last = do
-  kind ← below 2
+  kind ← numbered commentKinds
   start ← position source
   require (leb last start) 7
   end ← endFrom source start
@@ -61,7 +65,7 @@ comment source last = do
 
 -- kind byte, start, end
 abbrev pub encodeComment : Comment → List ℕ
-encodeComment c = c .kind ∷ encodeSpan (c .span)
+encodeComment c = kindNumber (c .kind) ∷ encodeSpan (c .span)
 
 abbrev pub endOf : Comment → ℕ
 endOf c = c .span .end
@@ -70,17 +74,18 @@ abbrev pub comments : List ℕ → ℕ → ℕ → Decoder (List Comment)
 comments source = chained (comment source) endOf
 
 -- one group comes before another: by side, then by position
-abbrev pub precedes : ℕ → ℕ → ℕ → ℕ → Bool
-precedes side position side′ position′ = ltb side side′ || (eqb side side′ && ltb position position′)
+abbrev pub precedes : Side → ℕ → Side → ℕ → Bool
+precedes side position side′ position′ =
+    ltb (sideNumber side) (sideNumber side′) || (eqb (sideNumber side) (sideNumber side′) && ltb position position′)
 
 -- no group comes before the first one
-abbrev pub anywhere : ℕ → ℕ → Bool
+abbrev pub anywhere : Side → ℕ → Bool
 anywhere side position = true
 
 -- the order is judged at the position, the reach at the count; `after` says whether a side and a position may follow the last group
-unfoldable pub group : List ℕ → ℕ → (ℕ → ℕ → Bool) → Decoder Group
+unfoldable pub group : List ℕ → ℕ → (Side → ℕ → Bool) → Decoder Group
 group source total after = do
-  side ← below 2
+  side ← numbered sides
   p ← position source
   require (after side p) 7
   first ← number
@@ -90,13 +95,13 @@ group source total after = do
 
 -- side byte, position, index of its first comment, count
 abbrev pub encodeGroup : Group → List ℕ
-encodeGroup g = g .side ∷ (encodeNumber (g .position) ++ (encodeNumber (g .first) ++ encodeNumber (g .count)))
+encodeGroup g = sideNumber (g .side) ∷ (encodeNumber (g .position) ++ (encodeNumber (g .first) ++ encodeNumber (g .count)))
 
 -- whether a side and a position may follow a group
-abbrev pub mayFollow : Group → ℕ → ℕ → Bool
+abbrev pub mayFollow : Group → Side → ℕ → Bool
 mayFollow g = precedes (g .side) (g .position)
 
-abbrev pub groups : List ℕ → ℕ → (ℕ → ℕ → Bool) → ℕ → Decoder (List Group)
+abbrev pub groups : List ℕ → ℕ → (Side → ℕ → Bool) → ℕ → Decoder (List Group)
 groups source total = chained (group source total) mayFollow
 
 -- the comment of an index is in the group

@@ -7,12 +7,14 @@ use lib.ListN.{length, getD}
 use Rattle.text.specs.Position.{Boundary}
 use Rattle.sheet.specs.declared.comments.Comment.{Comment}
 use Rattle.sheet.specs.declared.groups.Group.{Group}
+use Rattle.sheet.specs.declared.names.CommentKind.the-variants.{Line}
+use Rattle.sheet.specs.declared.names.Side.the-variants.{Leading}
+use Rattle.sheet.specs.Names.{sideNumber}
 use Rattle.sheet.specs.Comments.{opening, closing, slice}
 use Rattle.sheet.specs.Lookups.{body}
 
 -- a comment of the source: from one boundary to another; it is a body with the marks of its kind around it
 pub record Placed (source : List ℕ) (c : Comment) : Type 0 where
-  pub kind : c .kind < 2
   pub start : Boundary source (c .span .start)
   pub end : Boundary source (c .span .end)
   pub order : c .span .start ≤ c .span .end
@@ -20,7 +22,7 @@ pub record Placed (source : List ℕ) (c : Comment) : Type 0 where
 
 -- the comment of an index; past the last, an empty one
 abbrev pub noComment : Comment
-noComment = record { kind = 0; span = record { start = 0; end = 0 } }
+noComment = record { kind = Line; span = record { start = 0; end = 0 } }
 
 abbrev pub commentOf : List Comment → ℕ → Comment
 commentOf cs k = getD cs k noComment
@@ -32,20 +34,19 @@ pub record Fit (source : List ℕ) (cs : List Comment) : Type 0 where
 
 -- a group of at least one of so many comments
 pub record Reaching (total : ℕ) (g : Group) : Type 0 where
-  pub side : g .side < 2
   pub some : 0 < g .count
   pub reach : g .first + g .count ≤ total
 
 -- the group of an index; past the last, one of no comment
 abbrev pub noGroup : Group
-noGroup = record { side = 0; position = 0; first = 0; count = 0 }
+noGroup = record { side = Leading; position = 0; first = 0; count = 0 }
 
 abbrev pub groupOf : List Group → ℕ → Group
 groupOf gs k = getD gs k noGroup
 
 -- a group comes before another: it is on an earlier side, or on the same side at an earlier position
 abbrev pub Precedes : Group → Group → Type 0
-Precedes g h = (g .side < h .side) ⊎ ((g .side ≡ h .side) × (g .position < h .position))
+Precedes g h = (sideNumber (g .side) < sideNumber (h .side)) ⊎ ((g .side ≡ h .side) × (g .position < h .position))
 
 -- each group comes before those after it
 pub record Ascending (gs : List Group) : Type 0 where

@@ -1,4 +1,5 @@
 pub mod Limits
+pub mod Names
 pub mod Media
 pub mod Tree
 pub mod Fields

@@ -8,31 +8,28 @@ use lib.ListN.{length, take, drop}
 use Rattle.sheet.specs.declared.fields.Span.{Span}
 use Rattle.sheet.specs.declared.comments.Comment.{Comment}
 use Rattle.sheet.specs.declared.groups.Group.{Group}
+use Rattle.sheet.specs.declared.names.Side.{Side}
+use Rattle.sheet.specs.declared.names.Side.the-variants.{Leading, Trailing}
+use Rattle.sheet.specs.Names.{sideNumber}
 use Rattle.sheet.specs.Comments.{slice, opening, closing}
 use Rattle.sheet.specs.Program.{Program}
 
-abbrev pub leading : ℕ
-leading = 0
-
-abbrev pub trailing : ℕ
-trailing = 1
-
-abbrev pub standsAt : Group → ℕ → ℕ → Bool
-standsAt g side position = eqb (g .side) side && eqb (g .position) position
+abbrev pub standsAt : Group → Side → ℕ → Bool
+standsAt g side position = eqb (sideNumber (g .side)) (sideNumber side) && eqb (g .position) position
 
 -- the group of a side at a position
-unfoldable pub groupAt : List Group → ℕ → ℕ → Option Group
+unfoldable pub groupAt : List Group → Side → ℕ → Option Group
 groupAt [] side position = Option.none
 groupAt (g ∷ gs) side position = cond (standsAt g side position) (Option.some g) (groupAt gs side position)
 
 -- the trailing group at the program's end
 abbrev pub endGroup : Program → List Group → Option Group
-endGroup p gs = groupAt gs trailing (p .span .end)
+endGroup p gs = groupAt gs Trailing (p .span .end)
 
 -- by the first item's start, if there is one
 abbrev pub headBy : Program → List Group → Option ℕ → Option Group
-headBy p gs (Option.some item) = groupAt gs leading item
-headBy p gs Option.none = cond (p .shebang) (endGroup p gs) (groupAt gs leading (p .span .start))
+headBy p gs (Option.some item) = groupAt gs Leading item
+headBy p gs Option.none = cond (p .shebang) (endGroup p gs) (groupAt gs Leading (p .span .start))
 
 -- the head group: the leading group at the first item; with no item, the trailing group at the program's end if there is a shebang, else the leading
 -- group at its start

@@ -6,12 +6,13 @@ use lib.Dec.{eqb, ltb}
 use lib.ListN.{getD}
 use Rattle.laws.specs.Decoded.{Decoder, onOk, _>>=_, _>>_, return, refuse, require}
 use Rattle.text.specs.declared.utf8.Encoding.the-variants.{Utf8, Wtf8}
-use Rattle.wire.specs.Fields.{byte, below, flag}
+use Rattle.wire.specs.Fields.{byte, below, valueOf, numbered, flag}
 use Rattle.wire.specs.Number.{number}
 use Rattle.wire.specs.Text.{count, text}
 use Rattle.wire.specs.Optional.{optional}
 use Rattle.sheet.specs.Limits.{textLimit, propertyLimit}
 use Rattle.sheet.specs.declared.fields.Span.{Span}
+use Rattle.sheet.specs.Names.{importPhases}
 use Rattle.sheet.specs.Tree.{Quoted, Pieces, Node, other, string, name, template, binary, object, importCall, call, importDecl, namedExport, exportFrom, exportAll, importType, importEquals, importRequire, moduleDecl, Nodes, none, more, Arguments, noArguments, argument, Properties, noProperties, spread, otherProperty, childKey, stringKey, nameKey, Attributes, without, withObject}
 use Rattle.sheet.specs.Fields.{span}
 
@@ -146,13 +147,13 @@ module _ (source : List ℕ) (levels : ℕ) (node : Decoder Node) (object′ : D
   callFields = do
     callee ← below 4
     cond (ltb callee 3)
-        (callRest (importCall sp callee))
+        (callRest (importCall sp (valueOf importPhases callee)))
         (node >>= λ e. callRest (call sp e))
 
   unfoldable pub importFields : Decoder Node
   importFields = do
     typeOnly ← flag
-    phase ← below 3
+    phase ← numbered importPhases
     sideEffect ← flag
     x ← quoted source levels
     a ← attributes object′

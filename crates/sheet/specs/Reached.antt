@@ -5,7 +5,8 @@ use mathlib.Core.List.{List, [], _∷_, _++_, List·Memᴰ}
 use mathlib.Core.Option.{Option}
 use Rattle.laws.specs.Quoted.{ascii}
 use Rattle.sheet.specs.declared.fields.Span.{Span}
-use Rattle.sheet.specs.Tree.{Pieces, Phase, Node, other, string, name, template, binary, object, importCall, call, importDecl, namedExport, exportFrom, exportAll, importType, importEquals, importRequire, moduleDecl, Nodes, none, more, Arguments, noArguments, argument, Properties, noProperties, spread, otherProperty, childKey, stringKey, nameKey, Attributes, without, withObject}
+use Rattle.sheet.specs.declared.names.ImportPhase.{ImportPhase}
+use Rattle.sheet.specs.Tree.{Pieces, Node, other, string, name, template, binary, object, importCall, call, importDecl, namedExport, exportFrom, exportAll, importType, importEquals, importRequire, moduleDecl, Nodes, none, more, Arguments, noArguments, argument, Properties, noProperties, spread, otherProperty, childKey, stringKey, nameKey, Attributes, without, withObject}
 use Rattle.sheet.specs.Shape.{shape, named, pieces}
 use Rattle.sheet.specs.Walk.{Visit, called, importing, expression, imported, exported, typed, required, declared}
 
@@ -91,5 +92,5 @@ pub data UncookedFirst : Arguments → Type 0 where
 
 -- a call meets refusal 9: an import of any phase, or one whose expression is the Name `require`
 pub data MeetsNine : Node → Type 0 where
-  ofImport : {sp : Span} {phase : Phase} {xs : Arguments} {ns : Nodes} → UncookedFirst xs → MeetsNine (importCall sp phase xs ns)
+  ofImport : {sp : Span} {phase : ImportPhase} {xs : Arguments} {ns : Nodes} → UncookedFirst xs → MeetsNine (importCall sp phase xs ns)
   ofRequire : {sp : Span} {e : Node} {xs : Arguments} {ns : Nodes} → shape e ≡ named (ascii "require") → UncookedFirst xs → MeetsNine (call sp e xs ns)

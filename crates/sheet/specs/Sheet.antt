@@ -6,9 +6,11 @@ use lib.Dec.{leb, ltb}
 use lib.ListN.{length}
 use Rattle.laws.specs.Decoded.{ok, no, Decoder, _>>=_, _>>_, return, require}
 use Rattle.text.specs.declared.utf8.Encoding.the-variants.{Utf8}
-use Rattle.wire.specs.Fields.{below}
+use Rattle.wire.specs.Fields.{numbered}
 use Rattle.wire.specs.Text.{count, text}
 use Rattle.sheet.specs.Limits.{sheetLimit, sourceLimit, commentLimit, groupLimit, depthLimit}
+use Rattle.sheet.specs.declared.names.MediaType.{MediaType}
+use Rattle.sheet.specs.Names.{mediaTypes}
 use Rattle.sheet.specs.Tree.{Node}
 use Rattle.sheet.specs.declared.comments.Comment.{Comment}
 use Rattle.sheet.specs.declared.groups.Group.{Group}
@@ -19,7 +21,7 @@ use Rattle.sheet.specs.Walked.{uncooked}
 
 -- document 01's sheet: what a parser hands over
 pub record Sheet : Type 0 where
-  pub media : ℕ
+  pub media : MediaType
   pub source : List ℕ
   pub comments : List Comment
   pub groups : List Group
@@ -29,7 +31,7 @@ pub record Sheet : Type 0 where
 -- the fields, refusals 2 to 7
 unfoldable pub sheet : Decoder Sheet
 sheet = do
-  media ← below 11
+  media ← numbered mediaTypes
   source ← text Utf8 sourceLimit
   n ← count commentLimit
   cs ← comments source 0 n

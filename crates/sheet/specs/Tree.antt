@@ -4,6 +4,7 @@ use mathlib.Core.List.{List}
 use mathlib.Core.Option.{Option}
 use Prim.Native.Nat.{ℕ}
 use Rattle.sheet.specs.declared.fields.Span.{Span}
+use Rattle.sheet.specs.declared.names.ImportPhase.{ImportPhase}
 
 -- a String node that another node holds: its span, marks included, and its text
 pub record Quoted : Type 0 where
@@ -14,10 +15,6 @@ pub record Quoted : Type 0 where
 abbrev pub Pieces : Type 0
 Pieces = List (Option (List ℕ))
 
--- the phase of an import: 0 evaluation, 1 source, 2 defer
-abbrev pub Phase : Type 0
-Phase = ℕ
-
 mutual
   -- the nodes by their thirteen tags; 6, 8 and 11 have two forms
   pub data Node : Type 0 where
@@ -27,9 +24,9 @@ mutual
     template : Span → Pieces → Nodes → Node  -- 3
     binary : Span → Bool → Node → Node → Node  -- 4: is it a plus?
     object : Span → Properties → Node  -- 5
-    importCall : Span → Phase → Arguments → Nodes → Node  -- 6, of an import: arguments, further children
+    importCall : Span → ImportPhase → Arguments → Nodes → Node  -- 6, of an import: arguments, further children
     call : Span → Node → Arguments → Nodes → Node  -- 6, of an expression
-    importDecl : Span → Bool → Phase → Bool → Quoted → Attributes → Node  -- 7: type-only, phase, side effect
+    importDecl : Span → Bool → ImportPhase → Bool → Quoted → Attributes → Node  -- 7: type-only, phase, side effect
     namedExport : Span → Bool → Node  -- 8, without a String: type-only
     exportFrom : Span → Bool → Quoted → Attributes → Node  -- 8, with a String
     exportAll : Span → Bool → Quoted → Attributes → Node  -- 9: type-only

@@ -27,6 +27,7 @@ use Rattle.sheet.specs.declared.program.ProgramRead.{ProgramRead}
 use Rattle.sheet.specs.declared.program.ProgramRead.the-variants as programRead
 use Rattle.sheet.specs.declared.lookups.GroupFound.{GroupFound}
 use Rattle.sheet.specs.declared.lookups.GroupFound.the-variants as groupFound
+use Rattle.sheet.specs.declared.names.Side.{Side}
 use Rattle.sheet.specs.Comments.{precedes, anywhere}
 use Rattle.sheet.specs.Program.{Program}
 use Rattle.sheet.specs.Tables.{commentsIn, groupsIn}
@@ -59,7 +60,7 @@ groupAs s (groupRead.Is g next) = ok g (drop (next .at) s)
 groupAs s (groupRead.Refused r) = no r
 
 -- whether a side and a position may come next
-abbrev pub afterAs : Before → ℕ → ℕ → Bool
+abbrev pub afterAs : Before → Side → ℕ → Bool
 afterAs before.Nothing = anywhere
 afterAs (before.At side position) = precedes side position
 

@@ -5,17 +5,18 @@ use mathlib.Core.List.{List, [], _∷_, _++_}
 use mathlib.Core.Option.{Option}
 use Prim.Native.Nat.{ℕ}
 use Rattle.sheet.specs.declared.fields.Span.{Span}
-use Rattle.sheet.specs.Tree.{Quoted, Phase, Node, other, string, name, template, binary, object, importCall, call, importDecl, namedExport, exportFrom, exportAll, importType, importEquals, importRequire, moduleDecl, Nodes, none, more, Arguments, noArguments, argument, Properties, noProperties, spread, otherProperty, childKey, stringKey, nameKey, Attributes, without, withObject}
+use Rattle.sheet.specs.declared.names.ImportPhase.{ImportPhase}
+use Rattle.sheet.specs.Tree.{Quoted, Node, other, string, name, template, binary, object, importCall, call, importDecl, namedExport, exportFrom, exportAll, importType, importEquals, importRequire, moduleDecl, Nodes, none, more, Arguments, noArguments, argument, Properties, noProperties, spread, otherProperty, childKey, stringKey, nameKey, Attributes, without, withObject}
 
 -- what a call calls
 pub data Callee : Type 0 where
-  importing : Phase → Callee
+  importing : ImportPhase → Callee
   expression : Node → Callee
 
 -- what a node that is visited has of its own; each begins with the node's span
 pub data Visit : Type 0 where
   called : Span → Callee → Arguments → Visit
-  imported : Span → Bool → Phase → Bool → Quoted → Attributes → Visit
+  imported : Span → Bool → ImportPhase → Bool → Quoted → Attributes → Visit
   exported : Span → Bool → Quoted → Attributes → Visit
   typed : Span → Quoted → Attributes → Visit
   required : Span → Bool → Bool → Quoted → Visit

@@ -2,6 +2,9 @@
 use super::fields::Span;
 use super::fields::read_end;
 use super::fields::read_position;
+use super::names::CommentKind;
+use super::names::comment_kind;
+use super::names::kind_number;
 use wire::Cursor;
 use wire::Read;
 ghost use mathlib.Core.Path.{_≡_};
@@ -13,9 +16,9 @@ ghost use Rattle.sheet.specs.Comments.{enclosed, marked, comment, commen
 ghost use Rattle.sheet.specs.Tables.{commentRow, commentIn};
 ghost use Rattle.sheet.specs.Views.{commentAs, commentsAs};
 
-// A comment: its kind (0 line, 1 block), and its span with the marks.
+// A comment: its kind, and its span with the marks.
 pub struct Comment {
-    pub kind: usize,
+    pub kind: CommentKind,
     pub span: Span,
 }
 
@@ -45,12 +48,12 @@ fn is_enclosed(text: &[u8], front: &[u8], back: &[u8]) -> bool
 }
 
 // Has the text the marks of its kind?
-fn is_marked(text: &[u8], kind: usize) -> bool
+fn is_marked(text: &[u8], kind: CommentKind) -> bool
     ensures { λ r. ⌜ r ≡ marked kind (now (text .entry)) ⌝ }
 {
     match kind {
-        0 => is_enclosed(text, b"//", b""),
-        _ => is_enclosed(text, b"/*", b"*/"),
+        CommentKind::Line => is_enclosed(text, b"//", b""),
+        CommentKind::Block => is_enclosed(text, b"/*", b"*/"),
     }
 }
 
@@ -69,6 +72,7 @@ fn read_comment(sheet: &[u8], source: &[u8], c: Cursor, last: usize) -> CommentR
                 match read_end(sheet, source, next, start) {
                     Read::Refused(r) => CommentRead::Refused(r),
                     Read::Value(end, next) => {
+                        let kind = comment_kind(kind);
                         if is_marked(&source[start..end], kind) {
                             let span = Span { start, end };
                             CommentRead::Is(Comment { kind, span }, next)
@@ -85,11 +89,12 @@ fn read_comment(sheet: &[u8], source: &[u8], c: Cursor, last: usize) -> CommentR
 // Stores a comment in the kth row of a table.
 fn put_comment(table: &mut [u32], k: usize, c: Comment)
     requires { ⌜ 3 * k + 2 < length (now table) ⌝ }
-    requires { ⌜ (c .kind < 4294967296) × (c .span .start < 4294967296) × (c .span .end < 4294967296) ⌝ }
+    requires { ⌜ (c .span .start < 4294967296) × (c .span .end < 4294967296) ⌝ }
     ensures { λ _. ⌜ now (table .exit) ≡ sets (now (table .entry)) (3 * k) (commentRow c) ⌝ }
 {
     let at = 3 * k;
-    table[at] = c.kind as u32;
+    let kind = c.kind;
+    table[at] = kind_number(kind);
     table[at + 1] = c.span.start as u32;
     table[at + 2] = c.span.end as u32;
 }
@@ -100,7 +105,7 @@ pub fn comment_at(table: &[u32], k: usize) -> Comment
     ensures { λ r. ⌜ r ≡ commentIn (now (table .entry)) k ⌝ }
 {
     let at = 3 * k;
-    let kind = table[at] as usize;
+    let kind = comment_kind(table[at] as usize);
     let start = table[at + 1] as usize;
     let end = table[at + 2] as usize;
     let span = Span { start, end };

@@ -1,6 +1,9 @@
 // Groups of comments, read into a table of four numbers a row.
 use super::comments::Filled;
 use super::fields::read_position;
+use super::names::Side;
+use super::names::side_number;
+use super::names::side_of;
 use wire::Cursor;
 use wire::Read;
 ghost use mathlib.Core.Path.{_≡_};
@@ -14,9 +17,9 @@ ghost use Rattle.sheet.specs.Comments.{precedes, anywhere, group, groups
 ghost use Rattle.sheet.specs.Tables.{groupRow, groupIn};
 ghost use Rattle.sheet.specs.Views.{afterAs, groupAs, groupsAs};
 
-// A group of comments: leading (side 0) or trailing (side 1) at a position; the index of its first comment, and their number.
+// A group of comments on a side of a position; the index of its first comment, and their number.
 pub struct Group {
-    pub side: usize,
+    pub side: Side,
     pub position: usize,
     pub first: usize,
     pub count: usize,
@@ -30,25 +33,27 @@ pub enum GroupRead {
 
 // The side and the position of the group before, if there is one.
 pub enum Before {
-    At(usize, usize),
+    At(Side, usize),
     Nothing,
 }
 
 // Does one side and position come before another: by side, then by position?
-pub fn precedes(side: usize, position: usize, side2: usize, position2: usize) -> bool
+pub fn precedes(side: Side, position: usize, side2: Side, position2: usize) -> bool
     ensures { λ r. ⌜ r ≡ precedes side position side2 position2 ⌝ }
 {
-    if side < side2 {
+    let a = side_number(side);
+    let b = side_number(side2);
+    if a < b {
         return true;
     }
-    if side == side2 {
+    if a == b {
         return position < position2;
     }
     false
 }
 
 // May a group of this side and position come next?
-fn may_follow(before: Before, side: usize, position: usize) -> bool
+fn may_follow(before: Before, side: Side, position: usize) -> bool
     ensures { λ r. ⌜ r ≡ afterAs before side position ⌝ }
 {
     match before {
@@ -74,6 +79,7 @@ fn read_group(sheet: &[u8], source: &[u8], c: Cursor, total: usize, before: Befo
         Read::Value(side, next) => match read_position(sheet, source, next) {
             Read::Refused(r) => GroupRead::Refused(r),
             Read::Value(position, next) => {
+                let side = side_of(side);
                 if may_follow(before, side, position) {
                     match next.number(sheet) {
                         Read::Refused(r) => GroupRead::Refused(r),
@@ -107,11 +113,12 @@ fn read_group(sheet: &[u8], source: &[u8], c: Cursor, total: usize, before: Befo
 // Stores a group in the kth row of a table.
 fn put_group(table: &mut [u32], k: usize, g: Group)
     requires { ⌜ 4 * k + 3 < length (now table) ⌝ }
-    requires { ⌜ (g .side < 4294967296) × (g .position < 4294967296) × (g .first < 4294967296) × (g .count < 4294967296) ⌝ }
+    requires { ⌜ (g .position < 4294967296) × (g .first < 4294967296) × (g .count < 4294967296) ⌝ }
     ensures { λ _. ⌜ now (table .exit) ≡ sets (now (table .entry)) (4 * k) (groupRow g) ⌝ }
 {
     let at = 4 * k;
-    table[at] = g.side as u32;
+    let side = g.side;
+    table[at] = side_number(side);
     table[at + 1] = g.position as u32;
     table[at + 2] = g.first as u32;
     table[at + 3] = g.count as u32;
@@ -123,7 +130,7 @@ pub fn group_at(table: &[u32], k: usize) -> Group
     ensures { λ r. ⌜ r ≡ groupIn (now (table .entry)) k ⌝ }
 {
     let at = 4 * k;
-    let side = table[at] as usize;
+    let side = side_of(table[at] as usize);
     let position = table[at + 1] as usize;
     let first = table[at + 2] as usize;
     let count = table[at + 3] as usize;
@@ -159,7 +166,8 @@ pub fn read_groups(
             }
             GroupRead::Is(g, after) => {
                 put_group(table, k, g);
-                before = Before::At(g.side, g.position);
+                let side = g.side;
+                before = Before::At(side, g.position);
                 next = after;
                 k += 1;
             }

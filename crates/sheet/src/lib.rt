@@ -5,4 +5,5 @@ pub mod fields;
 pub mod groups;
 pub mod limits;
 pub mod lookups;
+pub mod names;
 pub mod program;

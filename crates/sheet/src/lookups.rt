@@ -4,6 +4,9 @@ use super::fields::Span;
 use super::groups::Group;
 use super::groups::group_at;
 use super::groups::precedes;
+use super::names::CommentKind;
+use super::names::Side;
+use super::names::side_number;
 use super::program::FirstItem;
 use super::program::Program;
 ghost use mathlib.Core.Path.{_≡_};
@@ -20,14 +23,17 @@ pub enum GroupFound {
     Nothing,
 }
 
-fn stands_at(g: Group, side: usize, position: usize) -> bool
+fn stands_at(g: Group, side: Side, position: usize) -> bool
     ensures { λ r. ⌜ r ≡ standsAt g side position ⌝ }
 {
-    g.side == side && g.position == position
+    let own = g.side;
+    let a = side_number(own);
+    let b = side_number(side);
+    a == b && g.position == position
 }
 
 // The group of a side at a position, among the m groups of a table.
-pub fn find_group(table: &[u32], m: usize, side: usize, position: usize) -> GroupFound
+pub fn find_group(table: &[u32], m: usize, side: Side, position: usize) -> GroupFound
     requires { ⌜ 4 * m ≤ length (now table) ⌝ }
     requires { ⌜ Ascending (groupsIn (now table) m) ⌝ }
     ensures { λ r. ⌜ foundAs r ≡ groupAt (groupsIn (now (table .entry)) m) side position ⌝ }
@@ -40,7 +46,8 @@ pub fn find_group(table: &[u32], m: usize, side: usize, position: usize) -> Grou
         if stands_at(g, side, position) {
             return GroupFound::At(g);
         }
-        if precedes(g.side, g.position, side, position) {
+        let own = g.side;
+        if precedes(own, g.position, side, position) {
             lo = mid + 1;
         } else {
             hi = mid;
@@ -55,7 +62,7 @@ pub fn end_group(table: &[u32], m: usize, program: Program) -> GroupFound
     requires { ⌜ Ascending (groupsIn (now table) m) ⌝ }
     ensures { λ r. ⌜ foundAs r ≡ endGroup (programOf program) (groupsIn (now (table .entry)) m) ⌝ }
 {
-    find_group(table, m, 1, program.span.end)
+    find_group(table, m, Side::Trailing, program.span.end)
 }
 
 // The head group.
@@ -66,33 +73,33 @@ pub fn head_group(table: &[u32], m: usize, program: Program) -> GroupFound
 {
     let first = program.first;
     match first {
-        FirstItem::At(item) => find_group(table, m, 0, item),
+        FirstItem::At(item) => find_group(table, m, Side::Leading, item),
         FirstItem::Nothing => {
             if program.shebang {
                 end_group(table, m, program)
             } else {
-                find_group(table, m, 0, program.span.start)
+                find_group(table, m, Side::Leading, program.span.start)
             }
         }
     }
 }
 
 // The lengths of the marks of a kind.
-fn opening_length(kind: usize) -> usize
+fn opening_length(kind: CommentKind) -> usize
     ensures { λ r. ⌜ r ≡ length (opening kind) ⌝ }
 {
     match kind {
-        0 => 2,
-        _ => 2,
+        CommentKind::Line => 2,
+        CommentKind::Block => 2,
     }
 }
 
-fn closing_length(kind: usize) -> usize
+fn closing_length(kind: CommentKind) -> usize
     ensures { λ r. ⌜ r ≡ length (closing kind) ⌝ }
 {
     match kind {
-        0 => 0,
-        _ => 2,
+        CommentKind::Line => 0,
+        CommentKind::Block => 2,
     }
 }
 
@@ -101,8 +108,9 @@ pub fn body_span(c: Comment) -> Span
     requires { ⌜ HoldsMarks c ⌝ }
     ensures { λ r. ⌜ r ≡ bodySpan c ⌝ }
 {
-    let start = c.span.start + opening_length(c.kind);
-    let end = c.span.end - closing_length(c.kind);
+    let kind = c.kind;
+    let start = c.span.start + opening_length(kind);
+    let end = c.span.end - closing_length(kind);
     Span { start, end }
 }
 

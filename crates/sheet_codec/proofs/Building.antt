@@ -7,43 +7,55 @@ use Prim.Native.Nat.{ℕ, zero, suc, _+_, _≤_, _<_}
 use native.Mathlib.Nat.{zero-add, add-zero}
 use native.Mathlib.Omega.{arith}
 use lib.Dec.{ltb}
-use lib.ListN.{getD}
+use lib.ListN.{length, getD}
 use borrow.Author.Tests.{ltb-true, ltb-false, lt-ltb, le-ltb}
 use Rattle.laws.specs.Decoded.{ok, Decoder, _>>=_, _>>_, return, refuse}
 use Rattle.laws.specs.Codec.{Codec}
 use Rattle.laws.proofs.Decoding.{then-ok, then-then}
 use Rattle.laws.proofs.Codecs.{Built, built-then, codec-as, built-end}
-use Rattle.wire.specs.Fields.{below}
+use Rattle.wire.specs.Fields.{below, Values, valueOf}
 use Rattle.wire.specs.Number.{largest, encodeNumber}
 use Rattle.wire.specs.Text.{count}
+use Rattle.wire.proofs.Numbered.{Numbers}
 use Rattle.wire.proofs.TextCodec.{below-codec, count-codec}
 
--- a byte below a limit, or the limit itself, and what follows each
-module _ {A A′ B : Type 0} (limit : ℕ) {e : ℕ → Decoder B} {e′ : Decoder B} {build : ℕ → A → B} {build′ : A′ → B}
+-- a value by its number, or the number behind the last, and what follows each
+module _ {E A A′ B : Type 0} {number : E → ℕ} {values : Values E} {e : E → Decoder B} {e′ : Decoder B} {build : E → A → B} {build′ : A′ → B}
     {encode : A → List ℕ} {encode′ : A′ → List ℕ} {Valid : A → Type 0} {Valid′ : A′ → Type 0}
-    (k : (b : ℕ) → Built (e b) (build b) encode Valid) (k′ : Built e′ build′ encode′ Valid′) where
-  pub built-below : Built (below (suc limit) >>= λ b. cond (ltb b limit) (e b) e′)
-      (⊎-elim (λ (p : ℕ × A). build (p .0) (p .1)) build′)
-      (⊎-elim (λ p. p .0 ∷ encode (p .1)) (λ a. limit ∷ encode′ a))
-      (⊎-elim (λ p. (p .0 < limit) × Valid (p .1)) Valid′)
+    (n : Numbers number values) (k : (v : E) → Built (e v) (build v) encode Valid) (k′ : Built e′ build′ encode′ Valid′) where
+  abbrev limit : ℕ
+  limit = suc (length (values .front))
+
+  pub built-below : Built (below (suc limit) >>= λ b. cond (ltb b limit) (e (valueOf values b)) e′)
+      (⊎-elim (λ (p : E × A). build (p .0) (p .1)) build′)
+      (⊎-elim (λ p. number (p .0) ∷ encode (p .1)) (λ a. limit ∷ encode′ a))
+      (⊎-elim (λ p. Valid (p .1)) Valid′)
   built-below =
       record {
         complete = elim [
-          | inl p ↦ λ v t. rw (below-codec (suc limit) .complete (p .0) (omega (arith, v .0)) (encode (p .1) ++ t), lt-ltb (p .0) limit (v .0)) (k (p .0) .complete (p .1) (v .1) t)
+          | inl p ↦ λ v t.
+              rw (
+                below-codec (suc limit) .complete (number (p .0)) (omega (arith, n .few (p .0))) (encode (p .1) ++ t),
+                lt-ltb (number (p .0)) limit (n .few (p .0)),
+                n .back (p .0),
+              )
+              (k (p .0) .complete (p .1) v t)
           | inr a ↦ λ v t. rw (below-codec (suc limit) .complete limit (omega arith) (encode′ a ++ t), le-ltb limit limit (omega arith)) (k′ .complete a v t)
         ];
         sound = λ s c t q.
-            let (b, u, x, y) = then-ok (below (suc limit) s) (λ b. cond (ltb b limit) (e b) e′) q in
+            let (b, u, x, y) = then-ok (below (suc limit) s) (λ b. cond (ltb b limit) (e (valueOf values b)) e′) q in
             let (i, h) = below-codec (suc limit) .sound s b u x in
             rw i (behind b h u c t (ltb b limit) refl y);
       }
     where
-      behind : (b : ℕ) → b < suc limit → (u : List ℕ) (c : B) (t : List ℕ) (small : Bool) → ltb b limit ≡ small → cond small (e b) e′ u ≡ ok c t
-          → (p : (ℕ × A) ⊎ A′)
-          × (⊎-elim (λ (p : ℕ × A). build (p .0) (p .1)) build′ p ≡ c)
-          × (b ∷ u ≡ ⊎-elim (λ (p : ℕ × A). p .0 ∷ encode (p .1)) (λ a. limit ∷ encode′ a) p ++ t)
-          × ⊎-elim (λ (p : ℕ × A). (p .0 < limit) × Valid (p .1)) Valid′ p
-      behind b h u c t true l y = let (a, p, j, v) = k b .sound u c t y in (inl (b, a), p, ap (b ∷_) j, (ltb-true b limit l, v))
+      behind : (b : ℕ) → b < suc limit → (u : List ℕ) (c : B) (t : List ℕ) (small : Bool) → ltb b limit ≡ small → cond small (e (valueOf values b)) e′ u ≡ ok c t
+          → (p : (E × A) ⊎ A′)
+          × (⊎-elim (λ (p : E × A). build (p .0) (p .1)) build′ p ≡ c)
+          × (b ∷ u ≡ ⊎-elim (λ (p : E × A). number (p .0) ∷ encode (p .1)) (λ a. limit ∷ encode′ a) p ++ t)
+          × ⊎-elim (λ (p : E × A). Valid (p .1)) Valid′ p
+      behind b h u c t true l y =
+          let (a, p, j, v) = k (valueOf values b) .sound u c t y in
+          (inl (valueOf values b, a), p, rw (n .there b (ltb-true b limit l)) (ap (b ∷_) j), v)
       behind b h u c t false l y =
           let (a, p, j, v) = k′ .sound u c t y in
           let same : b ≡ limit = omega (arith, ltb-false b limit l) in

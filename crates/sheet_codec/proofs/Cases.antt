@@ -7,7 +7,7 @@ use Rattle.laws.specs.Quoted.{ascii}
 use Rattle.text.specs.Bytes.{begins}
 use Rattle.text.specs.Utf8.{admits, lengthBy, charLength, formed}
 use Rattle.text.specs.Position.{isBoundary}
-use Rattle.wire.specs.Fields.{byte, below, flag, bytes}
+use Rattle.wire.specs.Fields.{byte, below, numbered, flag, bytes}
 use Rattle.wire.specs.Number.{lastGroup, groups, number, encodeGroups, encodeNumber}
 use Rattle.wire.specs.Text.{count, text, encodeText}
 use Rattle.wire.specs.Optional.{optional, encodeOptional}
@@ -28,5 +28,5 @@ example =
     ++ (0 ∷ 0 ∷ 27 ∷ 0 ∷ []))))
 
 itself : onOk encodeSheet (decodeSheet example) ≡ ok example []
-unfolding begins admits lengthBy charLength formed byte below flag bytes lastGroup groups number encodeGroups encodeNumber count text encodeText isBoundary position endFrom span enclosed marked chained comment group covered flatMap optional encodeOptional program many tag nodes otherFields fields node sheet decodeSheet encodeNode encodeNodes encodeSheet
+unfolding begins admits lengthBy charLength formed byte below numbered flag bytes lastGroup groups number encodeGroups encodeNumber count text encodeText isBoundary position endFrom span enclosed marked chained comment group covered flatMap optional encodeOptional program many tag nodes otherFields fields node sheet decodeSheet encodeNode encodeNodes encodeSheet
 itself = refl

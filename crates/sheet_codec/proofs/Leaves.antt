@@ -16,6 +16,7 @@ use Rattle.text.specs.Utf8.{wellFormed}
 use Rattle.text.proofs.WellFormed.{well-formed-iff}
 use Rattle.wire.specs.Fields as wire
 use Rattle.wire.specs.Fields.{below}
+use Rattle.wire.proofs.Numbered.{Numbers}
 use Rattle.wire.proofs.TextCodec.{below-codec, bytes-codec}
 use Rattle.sheet.specs.declared.groups.Group.{Group}
 use Rattle.sheet.specs.Comments.{inSome, covered}
@@ -62,6 +63,13 @@ byte-field b = field (byte b) (λ x. x ∷ []) 0 (some-value b) passes refuses
     refuses : (s : List ℕ) (r : ℕ) → below (values b) s ≡ no r → Breaks (byte b) s r × ((q : ℕ) → q < r → Breaks (byte b) s q → ⊥)
     refuses [] r e = let two : r ≡ 2 = cc in rw two (noByte, none-first)
     refuses (x ∷ u) r e = judged x u r (ltb x (values b)) refl e
+
+-- a value by its number
+pub numbered-field : (b : Byte) {A : Type 0} {number : A → ℕ} {named : wire.Values A} → Numbers number named → values b ≡ suc (length (named .front))
+    → FieldsOf (wire.numbered named) Any (λ a. aByte b (number a) ∷ [])
+unfolding wire.numbered
+numbered-field b {named = named} k e =
+    rw (← e) (last (wire.valueOf named) (byte-field b) (λ n l. (tt, ap (λ m. aByte b m ∷ []) (sym (k .there n (rw e at l))))))
 
 pub flag-field : FieldsOf wire.flag Any (λ b. aFlag b ∷ [])
 unfolding wire.flag

@@ -20,6 +20,8 @@ use Rattle.wire.specs.Text.{count}
 use Rattle.wire.proofs.Kept.{number-kept}
 use Rattle.wire.proofs.NumberCodec.{number-codec}
 use Rattle.sheet.specs.declared.groups.Group.{Group}
+use Rattle.sheet.specs.declared.names.CommentKind.{CommentKind}
+use Rattle.sheet.specs.declared.names.Side.{Side}
 use Rattle.sheet.specs.Fields as sheet
 use Rattle.sheet.specs.Fields.{endFrom}
 use Rattle.sheet.specs.Comments.{opening, closing, slice, marked, anywhere, mayFollow}
@@ -98,7 +100,7 @@ module _ {d : Decoder ℕ} {W W′ : ℕ → ℕ → Type 0} (k : Reads d W) (te
           inr (n, record { rest = u; small = small; bytes = front }, to n q (inr (same, is)), λ p l v. ⊎-elim (none p) (λ f. omega (arith, f .0)) (from n p v))
 
 -- what the tests at a position besides its being a boundary say
-abbrev pub after : Option Group → ℕ → ℕ → Bool
+abbrev pub after : Option Group → Side → ℕ → Bool
 after Option.none = anywhere
 after (Option.some g) = mayFollow g
 
@@ -117,12 +119,12 @@ Failing (position source at) n q = Fails 6 (isBoundary source) n q ⊎ Besides s
 Failing (groupCount total first) n q = Fails 7 (λ n. ltb 0 n && leb (first + n) total) n q
 
 -- no body stands between the marks
-lacks-marks : (source : List ℕ) (kind from n : ℕ) → marked kind (slice source (record { start = from; end = n })) ≡ false
+lacks-marks : (source : List ℕ) (kind : CommentKind) (from n : ℕ) → marked kind (slice source (record { start = from; end = n })) ≡ false
     → (body : List ℕ) → slice source (record { start = from; end = n }) ≡ opening kind ++ (body ++ closing kind) → ⊥
 unfolding marked
 lacks-marks source kind from n is body e = true≢false (sym (enclosed-complete (opening kind) (closing kind) _ body e) ∙ is)
 
-no-marks : (source : List ℕ) (kind from n : ℕ) → ((body : List ℕ) → slice source (record { start = from; end = n }) ≡ opening kind ++ (body ++ closing kind) → ⊥)
+no-marks : (source : List ℕ) (kind : CommentKind) (from n : ℕ) → ((body : List ℕ) → slice source (record { start = from; end = n }) ≡ opening kind ++ (body ++ closing kind) → ⊥)
     → marked kind (slice source (record { start = from; end = n })) ≡ false
 unfolding marked
 no-marks source kind from n h = is-false _ (λ m. let (body, e) = enclosed-sound (opening kind) (closing kind) _ m in h body e)
@@ -222,7 +224,7 @@ module _ (source : List ℕ) where
   comment-start last =
       number-field (position source (commentStart last)) (reads-test reads-position (leb last) 7 (λ n q w. omega (arith, w .0)) (λ n q w. w) (λ n q w. w))
 
-  pub comment-end : (kind from : ℕ)
+  pub comment-end : (kind : CommentKind) (from : ℕ)
       → FieldsOf (endFrom source from >>= λ n. require (marked kind (slice source (record { start = from; end = n }))) 7 >> return n) Any
       (λ n. aNumber (position source (commentEnd kind from)) n ∷ [])
   comment-end kind from =
@@ -232,7 +234,7 @@ module _ (source : List ℕ) where
       (λ n q w. ⊎-elim (λ v. ⊎-elim (λ z. inl z) (λ z. inr (inl z)) v) (λ v. inr (inr v)) w)
       (λ n q w. ⊎-elim (λ v. inl (inl v)) (λ v. ⊎-elim (λ z. inl (inr z)) (λ z. inr z) v) w))
 
-  pub group-position : (last : Option Group) (side : ℕ)
+  pub group-position : (last : Option Group) (side : Side)
       → FieldsOf (sheet.position source >>= λ n. require (after last side n) 7 >> return n) Any (λ n. aNumber (position source (groupPosition last side)) n ∷ [])
   group-position last side =
       number-field (position source (groupPosition last side)) (reads-test reads-position (after last side) 7 (λ n q w. omega (arith, w .0)) (λ n q w. w) (λ n q w. w))

@@ -16,11 +16,12 @@ use Rattle.sheet.specs.Fields as sheet
 use Rattle.sheet.specs.Comments.{slice, marked, chained, comment, comments, endOf, group, groups, anywhere, mayFollow}
 use Rattle.sheet.specs.Program.{program}
 use Rattle.sheet.specs.Nodes.{many}
+use Rattle.sheet.proofs.Numbered.{kind-numbers, side-numbers}
 use Rattle.sheet_codec.specs.Field as field
 use Rattle.sheet_codec.specs.Field.{Count, limit, Entry}
 use Rattle.sheet_codec.specs.FieldsOf.{aFlag, textFields, optionalFields, chainFields, spanFields, commentFields, groupFields, programFields}
 use Rattle.sheet_codec.proofs.Fields.{Judges, FieldsOf, Any, ends, has, with, map, then, last, then-tested}
-use Rattle.sheet_codec.proofs.Leaves.{byte-field, flag-field, bytes-field}
+use Rattle.sheet_codec.proofs.Leaves.{numbered-field, flag-field, bytes-field}
 use Rattle.sheet_codec.proofs.Numbers.{free-field, count-field, group-count-field, start-field, end-field, comment-start, comment-end, group-position, after}
 
 -- a text
@@ -58,7 +59,7 @@ module _ (source : List ℕ) where
   comment-fields : (last : ℕ) → FieldsOf (comment source last) Any (commentFields source last)
   unfolding comment
   comment-fields last =
-      then (byte-field field.kind) (λ kind l.
+      then (numbered-field field.kind kind-numbers refl) (λ kind l.
       then-tested (sheet.position source) (leb last) 7 (comment-start source last) (λ start u.
       then-tested (sheet.endFrom source start) (λ end. marked kind (slice source (record { start = start; end = end }))) 7 (comment-end source kind start) (λ end v. ends _ (tt, refl))))
 
@@ -68,7 +69,7 @@ module _ (source : List ℕ) where
   group-fields : (total : ℕ) (last : Option Group) → FieldsOf (group source total (after last)) Any (groupFields source total last)
   unfolding group
   group-fields total last =
-      then (byte-field field.side) (λ side l.
+      then (numbered-field field.side side-numbers refl) (λ side l.
       then-tested (sheet.position source) (after last side) 7 (group-position source last side) (λ p u.
       then free-field (λ first v.
       then-tested number (λ n. ltb 0 n && leb (first + n) total) 7 (group-count-field total first) (λ n w. ends _ (tt, refl)))))

@@ -1,11 +1,13 @@
 -- A refusal 2 to 7 is met at a field of some sheet.
+use mathlib.Core.Path.{refl}
 use Rattle.text.specs.declared.utf8.Encoding.the-variants.{Utf8}
 use Rattle.sheet.specs.Limits.{depthLimit}
 use Rattle.sheet.specs.Sheet.{sheet}
+use Rattle.sheet.proofs.Numbered.{media-numbers}
 use Rattle.sheet_codec.specs.Field.{media, sourceLength, comments, groups}
 use Rattle.sheet_codec.specs.FieldsOf.{fieldsOf}
 use Rattle.sheet_codec.proofs.Fields.{FieldsOf, Any, then, last}
-use Rattle.sheet_codec.proofs.Leaves.{byte-field, every-comment}
+use Rattle.sheet_codec.proofs.Leaves.{numbered-field, every-comment}
 use Rattle.sheet_codec.proofs.Numbers.{count-field}
 use Rattle.sheet_codec.proofs.Sequences.{text-fields, comments-fields, groups-fields, program-fields}
 use Rattle.sheet_codec.proofs.TreeFields.{node-fields}
@@ -13,7 +15,7 @@ use Rattle.sheet_codec.proofs.TreeFields.{node-fields}
 pub sheet-fields : FieldsOf sheet Any fieldsOf
 unfolding sheet fieldsOf
 sheet-fields =
-    then (byte-field media) (λ media a. then (text-fields sourceLength Utf8) (λ source b.
+    then (numbered-field media media-numbers refl) (λ media a. then (text-fields sourceLength Utf8) (λ source b.
     then (count-field comments) (λ n c. then (comments-fields source n) (λ cs long.
     then (count-field groups) (λ m d. then (groups-fields source n m) (λ gs long′.
     then (every-comment gs n) (λ u e. then (program-fields source) (λ p f.

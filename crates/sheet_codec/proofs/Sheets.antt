@@ -12,14 +12,16 @@ use borrow.Author.Tests.{leb-true, lt-ltb, le-leb}
 use Rattle.laws.specs.Decoded.{ok, _>>_, return}
 use Rattle.laws.specs.Codec.{Codec}
 use Rattle.laws.proofs.Decoding.{refused, value, then-ok, require-ok}
-use Rattle.laws.proofs.Codecs.{built-given, built-then, built-require, codec-of, built-end}
+use Rattle.laws.proofs.Codecs.{built-given, built-then, built-require, codec-of, built-end, built-free}
 use Rattle.text.specs.declared.utf8.Encoding.the-variants.{Utf8}
 use Rattle.wire.specs.Number.{largest}
-use Rattle.wire.proofs.TextCodec.{below-codec, text-codec}
+use Rattle.wire.proofs.Numbered.{numbered-codec}
+use Rattle.wire.proofs.TextCodec.{text-codec}
 use Rattle.sheet.specs.Limits.{sheetLimit, sourceLimit, commentLimit, groupLimit, depthLimit}
 use Rattle.sheet.specs.Comments.{covered}
 use Rattle.sheet.specs.Sheet.{Sheet, sheet, ending, decodeSheet, accept}
 use Rattle.sheet.specs.Walked.{uncooked}
+use Rattle.sheet.proofs.Numbered.{media-numbers}
 use Rattle.sheet.proofs.Coverings.{covered-iff}
 use Rattle.sheet.proofs.Decodes.{comments-codec, groups-codec}
 use Rattle.sheet.proofs.Reaches.{nine-exactly}
@@ -35,7 +37,7 @@ pub sheet-codec : Codec sheet encodeSheet FieldsFit
 unfolding sheet encodeSheet
 sheet-codec =
     codec-of
-    (built-then (below-codec 11) (λ media. built-given (text-codec Utf8 sourceLimit (omega arith)) (λ source fit.
+    (built-free (numbered-codec media-numbers) (λ media. built-given (text-codec Utf8 sourceLimit (omega arith)) (λ source fit.
     let small : length source ≤ largest = omega (arith, fit .0) in
     built-given (limit-codec commentLimit (omega arith)) (λ n few. built-then (comments-codec source small n) (λ cs.
     built-then (limit-codec groupLimit (omega arith)) (λ m. built-then (groups-codec source n small (omega arith) m) (λ gs.
@@ -44,13 +46,12 @@ sheet-codec =
     (λ t v. (
       (t .media, (t .source, (length (t .comments), (t .comments, (length (t .groups), (t .groups, (t .program, t .root))))))),
       refl,
-      (v .media, (v .source, (v .comments .0, ((refl, v .comments .1), (v .groups .0, ((refl, (v .groups .1, v .places)), (covered-iff (t .groups) (length (t .comments)) .1 (v .grouped), (v .program, v .root)))))))),
+      (v .source, (v .comments .0, ((refl, v .comments .1), (v .groups .0, ((refl, (v .groups .1, v .places)), (covered-iff (t .groups) (length (t .comments)) .1 (v .grouped), (v .program, v .root))))))),
     ))
     (λ a v.
-    let (media, (source, (few, ((long, comments), (few′, ((long′, (groups, places)), (all, (p, root)))))))) = v in (
+    let (source, (few, ((long, comments), (few′, ((long′, (groups, places)), (all, (p, root))))))) = v in (
       rw (long, long′),
       record {
-        media = media;
         source = source;
         comments = (rw long few, comments);
         groups = (rw long′ few′, rw long groups);

@@ -17,13 +17,16 @@ use Rattle.wire.specs.Number.{largest, encodeNumber}
 use Rattle.wire.specs.Text.{encodeText}
 use Rattle.wire.specs.Optional.{encodeOptional}
 use Rattle.wire.proofs.NumberCodec.{number-codec}
-use Rattle.wire.proofs.TextCodec.{below-codec, flag-codec}
+use Rattle.wire.proofs.Numbered.{numbered-codec}
+use Rattle.wire.proofs.TextCodec.{flag-codec}
 use Rattle.wire.proofs.OptionalCodec.{optional-codec}
 use Rattle.sheet.specs.Limits.{textLimit, propertyLimit}
 use Rattle.sheet.specs.declared.fields.Span.{Span}
-use Rattle.sheet.specs.Tree.{Quoted, Pieces, Phase, Node, other, string, name, template, binary, object, importCall, call, importDecl, namedExport, exportFrom, exportAll, importType, importEquals, importRequire, moduleDecl, Nodes, Arguments, Properties, Attributes, without, withObject}
+use Rattle.sheet.specs.declared.names.ImportPhase.{ImportPhase}
+use Rattle.sheet.specs.Tree.{Quoted, Pieces, Node, other, string, name, template, binary, object, importCall, call, importDecl, namedExport, exportFrom, exportAll, importType, importEquals, importRequire, moduleDecl, Nodes, Arguments, Properties, Attributes, without, withObject}
 use Rattle.sheet.specs.Nodes.{attributes, otherFields, stringFields, nameFields, templateFields, binaryFields, objectFields, callRest, callFields, importFields, namedExportFields, exportAllFields, importTypeFields, importEqualsFields, moduleFields, fields}
 use Rattle.sheet.specs.Fields.{encodeSpan}
+use Rattle.sheet.proofs.Numbered.{phase-numbers}
 use Rattle.sheet_codec.specs.Encode.{nodesIn, argumentsIn, propertiesIn, encodeNode, encodeNodes, encodeArguments, encodeProperties, encodeAttributes}
 use Rattle.sheet_codec.specs.Limits.{TextFits, SpanFits, PlaceFits, NodeFits, NodesFit, ArgumentsFit, AttributesFit}
 use Rattle.sheet_codec.proofs.Building.{built-below, limit-codec, built-counted, built-counted-end, done, next, at-index}
@@ -124,18 +127,18 @@ module _ (source : List ℕ) (small : length source ≤ largest) (d : ℕ) (node
           built-counted number-codec (arguments-codec source small d node node-codec) (λ xs. built-counted-end number-codec (nodes-codec source small d node node-codec) (of xs))
 
       call-fields : Fields 6 (callFields source d node object′ sp)
-          (⊎-elim (λ (p : Phase × (Arguments × Nodes)). importCall sp (p .0) (p .1 .0) (p .1 .1)) (λ (p : Node × (Arguments × Nodes)). call sp (p .0) (p .1 .0) (p .1 .1)))
+          (⊎-elim (λ (p : ImportPhase × (Arguments × Nodes)). importCall sp (p .0) (p .1 .0) (p .1 .1)) (λ (p : Node × (Arguments × Nodes)). call sp (p .0) (p .1 .0) (p .1 .1)))
       unfolding callFields encodeNode NodeFits
       call-fields =
-          tagged 6 (built-below 3 (λ phase. call-rest (importCall sp phase)) (built-then node-codec (λ e. call-rest (call sp e))))
+          tagged 6 (built-below phase-numbers (λ phase. call-rest (importCall sp phase)) (built-then node-codec (λ e. call-rest (call sp e))))
           (elim [ inl p ↦ (refl, λ v. v, λ v. v) | inr p ↦ (refl, λ v. v, λ v. v) ])
 
       import-fields : Fields 7 (importFields source d node object′ sp)
-          (λ (p : Bool × (Phase × (Bool × (Quoted × Attributes)))). importDecl sp (p .0) (p .1 .0) (p .1 .1 .0) (p .1 .1 .1 .0) (p .1 .1 .1 .1))
+          (λ (p : Bool × (ImportPhase × (Bool × (Quoted × Attributes)))). importDecl sp (p .0) (p .1 .0) (p .1 .1 .0) (p .1 .1 .1 .0) (p .1 .1 .1 .1))
       unfolding importFields encodeNode NodeFits
       import-fields =
           tagged 7
-          (built-free flag-codec (λ typeOnly. built-then (below-codec 3) (λ phase. built-free flag-codec (λ sideEffect. built-then (quoted-codec source small d) (λ x.
+          (built-free flag-codec (λ typeOnly. built-free (numbered-codec phase-numbers) (λ phase. built-free flag-codec (λ sideEffect. built-then (quoted-codec source small d) (λ x.
           built-end attributes-codec (importDecl sp typeOnly phase sideEffect x))))))
           (λ a. (refl, λ v. v, λ v. v))
 

@@ -8,21 +8,23 @@ use native.Mathlib.Nat.{zero-add, add-zero, not-suc-le-zero, le-of-suc-le-suc}
 use native.Mathlib.Omega.{arith}
 use lib.Dec.{eqb, ltb}
 use lib.ListN.{length, getD, List·getD-eq-default}
-use borrow.Author.Tests.{ltb-false}
+use borrow.Author.Tests.{ltb-true, ltb-false}
 use Rattle.laws.specs.Decoded.{Decoder, _>>=_, _>>_, return, refuse, require}
 use Rattle.laws.proofs.Decoding.{refused, then-ok, then-refused}
 use Rattle.text.specs.declared.utf8.Encoding.the-variants.{Utf8, Wtf8}
-use Rattle.wire.specs.Fields.{byte, below, flag}
+use Rattle.wire.specs.Fields.{byte, below, valueOf, numbered, flag}
 use Rattle.sheet.specs.declared.fields.Span.{Span}
+use Rattle.sheet.specs.Names.{importPhases}
 use Rattle.sheet.specs.Tree.{Node, other, string, name, template, binary, object, importCall, call, importDecl, namedExport, exportFrom, exportAll, importType, importEquals, importRequire, moduleDecl, Nodes, none, more, Arguments, argument, Properties, noProperties, spread, otherProperty, childKey, stringKey, nameKey, Attributes, without, withObject}
 use Rattle.sheet.specs.Nodes.{many, tag, stringText, quoted, piece, nodes, argumentItem, arguments, keyedItem, propertyItem, properties, attributes, otherFields, stringFields, nameFields, templateFields, binaryFields, objectFields, callRest, callFields, importFields, namedExportFields, exportAllFields, importTypeFields, importEqualsFields, moduleFields, fields, node, attributesObject}
+use Rattle.sheet.proofs.Numbered.{phase-numbers}
 use Rattle.sheet_codec.specs.Encode.{nodesIn, argumentsIn, propertiesIn}
 use Rattle.sheet_codec.specs.Field as field
 use Rattle.sheet_codec.specs.Field.{Byte, values, textLength, anyNode, anObject, Entry}
 use Rattle.sheet_codec.specs.FieldsOf.{aByte, aFlag, aNumber, aTag, shortText, optionalFields, spanFields, quotedFields, nodeFields, nodesFields, argumentsFields, propertiesFields, attributesFields}
 use Rattle.sheet_codec.proofs.Building.{Each, done, next}
 use Rattle.sheet_codec.proofs.Fields.{Judges, FieldsOf, Any, ends, same, has, map, then, last, meets-here}
-use Rattle.sheet_codec.proofs.Leaves.{byte-field, flag-field, no-level, any-tag-refuses, object-tag-refuses, any-tag, string-tag, object-tag}
+use Rattle.sheet_codec.proofs.Leaves.{byte-field, numbered-field, flag-field, no-level, any-tag-refuses, object-tag-refuses, any-tag, string-tag, object-tag}
 use Rattle.sheet_codec.proofs.Numbers.{free-field, count-field}
 use Rattle.sheet_codec.proofs.Sequences.{text-fields, optional-fields, span-fields, Adds, many-fields}
 
@@ -134,8 +136,8 @@ module _ (source : List ℕ) where
       call-fields = then (byte-field field.callee) (λ callee l. by callee l (ltb callee 3) refl)
         where
           by : (callee : ℕ) → callee < 4 → (b : Bool) → ltb callee 3 ≡ b
-              → Behind 6 (aByte field.callee callee ∷ []) (cond b (callRest source d inner inner′ sp (importCall sp callee)) (inner >>= λ e. callRest source d inner inner′ sp (call sp e)))
-          by callee l true i = rest-fields (importCall sp callee) (λ xs ns. (tt, refl))
+              → Behind 6 (aByte field.callee callee ∷ []) (cond b (callRest source d inner inner′ sp (importCall sp (valueOf importPhases callee))) (inner >>= λ e. callRest source d inner inner′ sp (call sp e)))
+          by callee l true i = rest-fields (importCall sp (valueOf importPhases callee)) (λ xs ns. (tt, rw (phase-numbers .there callee (ltb-true callee 3 i))))
           by callee l false i =
               let three : callee ≡ 3 = omega (arith, ltb-false callee 3 i) in
               then k (λ e a. rest-fields (call sp e) (λ xs ns. (tt, rw three)))
@@ -170,7 +172,7 @@ module _ (source : List ℕ) where
           (next (then flag-field (λ plus a. then k (λ l b. last (λ r. binary sp plus l r) k (λ r c. (tt, refl)))))
           (next (then (count-field field.properties) (λ n a. last (λ ps. object sp ps) (properties-fields n) (λ ps e. (tt, rw e))))
           (next call-fields
-          (next (then flag-field (λ typeOnly a. then (byte-field field.phase) (λ phase b. then flag-field (λ sideEffect c. then (quoted-fields d) (λ x e.
+          (next (then flag-field (λ typeOnly a. then (numbered-field field.phase phase-numbers refl) (λ phase b. then flag-field (λ sideEffect c. then (quoted-fields d) (λ x e.
           last (λ a. importDecl sp typeOnly phase sideEffect x a) attributes-fields (λ a f. (tt, refl)))))))
           (next export-fields
           (next (then flag-field (λ typeOnly a. then (quoted-fields d) (λ x b. last (λ a. exportAll sp typeOnly x a) attributes-fields (λ a c. (tt, refl)))))

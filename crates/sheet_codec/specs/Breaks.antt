@@ -11,6 +11,9 @@ use Rattle.text.specs.WellFormed.{WellFormed}
 use Rattle.text.specs.Position.{Boundary}
 use Rattle.wire.specs.Number.{largest, encodeNumber}
 use Rattle.sheet.specs.declared.groups.Group.{Group}
+use Rattle.sheet.specs.declared.names.CommentKind.{CommentKind}
+use Rattle.sheet.specs.declared.names.Side.{Side}
+use Rattle.sheet.specs.Names.{sideNumber}
 use Rattle.sheet.specs.Comments.{opening, closing, slice}
 use Rattle.sheet.specs.Fit.{HeldBySome}
 use Rattle.sheet_codec.specs.Field.{Byte, values, Count, limit, Position, end, commentStart, commentEnd, groupPosition, Number, limited, position, groupCount, Place, anyNode, aString, anObject, Field, byte, tag, number, text, everyComment, Entry}
@@ -35,14 +38,14 @@ pub data Wrong : Number → ℕ → ℕ → Type 0 where
   outside : {source : List ℕ} {at : Position} {n : ℕ} → (Boundary source n → ⊥) → Wrong (position source at) n 6
   -- or an end precedes its start
   reversed : {source : List ℕ} {start n : ℕ} → n < start → Wrong (position source (end start)) n 6
-  commentReversed : {source : List ℕ} {kind start n : ℕ} → n < start → Wrong (position source (commentEnd kind start)) n 6
+  commentReversed : {source : List ℕ} {kind : CommentKind} {start n : ℕ} → n < start → Wrong (position source (commentEnd kind start)) n 6
   -- 7. A comment starts before the last one's end
   early : {source : List ℕ} {last n : ℕ} → n < last → Wrong (position source (commentStart last)) n 7
   -- lacks its marks, or is shorter than them
-  unmarked : {source : List ℕ} {kind start n : ℕ} → ((body : List ℕ) → slice source (record { start = start; end = n }) ≡ opening kind ++ (body ++ closing kind) → ⊥)
+  unmarked : {source : List ℕ} {kind : CommentKind} {start n : ℕ} → ((body : List ℕ) → slice source (record { start = start; end = n }) ≡ opening kind ++ (body ++ closing kind) → ⊥)
       → Wrong (position source (commentEnd kind start)) n 7
   -- or a group is out of order
-  disordered : {source : List ℕ} {g : Group} {side n : ℕ} → ((g .side < side) ⊎ ((g .side ≡ side) × (g .position < n)) → ⊥)
+  disordered : {source : List ℕ} {g : Group} {side : Side} {n : ℕ} → ((sideNumber (g .side) < sideNumber side) ⊎ ((g .side ≡ side) × (g .position < n)) → ⊥)
       → Wrong (position source (groupPosition (Option.some g) side)) n 7
   -- has count 0, or reaches past the comments
   empty : {total first n : ℕ} → n ≡ 0 → Wrong (groupCount total first) n 7

@@ -7,6 +7,7 @@ use Rattle.wire.specs.Fields.{encodeFlag}
 use Rattle.wire.specs.Number.{encodeNumber}
 use Rattle.wire.specs.Text.{encodeText}
 use Rattle.wire.specs.Optional.{encodeOptional}
+use Rattle.sheet.specs.Names.{mediaNumber, phaseNumber}
 use Rattle.sheet.specs.Fields.{encodeSpan}
 use Rattle.sheet.specs.Comments.{encodeComment, encodeGroup}
 use Rattle.sheet.specs.Program.{Program}
@@ -48,11 +49,11 @@ unfoldable mutual
   encodeNode (binary sp plus l r) = 4 ∷ (encodeSpan sp ++ (encodeFlag plus ++ (encodeNode l ++ encodeNode r)))
   encodeNode (object sp ps) = 5 ∷ (encodeSpan sp ++ (encodeNumber (propertiesIn ps) ++ encodeProperties ps))
   encodeNode (importCall sp phase xs ns) =
-      6 ∷ (encodeSpan sp ++ (phase ∷ ((encodeNumber (argumentsIn xs) ++ encodeArguments xs) ++ (encodeNumber (nodesIn ns) ++ encodeNodes ns))))
+      6 ∷ (encodeSpan sp ++ (phaseNumber phase ∷ ((encodeNumber (argumentsIn xs) ++ encodeArguments xs) ++ (encodeNumber (nodesIn ns) ++ encodeNodes ns))))
   encodeNode (call sp e xs ns) =
       6 ∷ (encodeSpan sp ++ (3 ∷ (encodeNode e ++ ((encodeNumber (argumentsIn xs) ++ encodeArguments xs) ++ (encodeNumber (nodesIn ns) ++ encodeNodes ns)))))
   encodeNode (importDecl sp typeOnly phase sideEffect x a) =
-      7 ∷ (encodeSpan sp ++ (encodeFlag typeOnly ++ (phase ∷ (encodeFlag sideEffect ++ (encodeQuoted x ++ encodeAttributes a)))))
+      7 ∷ (encodeSpan sp ++ (encodeFlag typeOnly ++ (phaseNumber phase ∷ (encodeFlag sideEffect ++ (encodeQuoted x ++ encodeAttributes a)))))
   encodeNode (namedExport sp typeOnly) = 8 ∷ (encodeSpan sp ++ (encodeFlag typeOnly ++ encodeFlag false))
   encodeNode (exportFrom sp typeOnly x a) =
       8 ∷ (encodeSpan sp ++ (encodeFlag typeOnly ++ (encodeFlag true ++ (encodeQuoted x ++ encodeAttributes a))))
@@ -89,7 +90,7 @@ unfoldable mutual
 -- media byte, source text, comment count and comments, group count and groups, program, root
 unfoldable pub encodeSheet : Sheet → List ℕ
 encodeSheet t =
-    t .media
+    mediaNumber (t .media)
     ∷ (encodeText (t .source)
     ++ (encodeNumber (length (t .comments)) ++ (flatMap encodeComment (t .comments)
     ++ (encodeNumber (length (t .groups)) ++ (flatMap encodeGroup (t .groups)

@@ -5,6 +5,8 @@ use Prim.Native.Nat.{ℕ}
 use Rattle.text.specs.declared.utf8.Encoding.{Encoding}
 use Rattle.sheet.specs.Limits.{sourceLimit, textLimit, commentLimit, groupLimit, propertyLimit}
 use Rattle.sheet.specs.declared.groups.Group.{Group}
+use Rattle.sheet.specs.declared.names.CommentKind.{CommentKind}
+use Rattle.sheet.specs.declared.names.Side.{Side}
 
 -- bytes and flags
 pub data Byte : Type 0 where
@@ -37,8 +39,8 @@ pub data Position : Type 0 where
   start : Position  -- of a node, an argument, the program or its first item
   end : ℕ → Position  -- with the start
   commentStart : ℕ → Position  -- with the end of the comment before, 0 for the first
-  commentEnd : ℕ → ℕ → Position  -- with its kind and its start
-  groupPosition : Option Group → ℕ → Position  -- with the group before, if there is one, and its side
+  commentEnd : CommentKind → ℕ → Position  -- with its kind and its start
+  groupPosition : Option Group → Side → Position  -- with the group before, if there is one, and its side
 
 -- numbers
 pub data Number : Type 0 where

@@ -12,6 +12,7 @@ use Rattle.sheet.specs.Limits.{depthLimit}
 use Rattle.sheet.specs.declared.fields.Span.{Span}
 use Rattle.sheet.specs.declared.comments.Comment.{Comment}
 use Rattle.sheet.specs.declared.groups.Group.{Group}
+use Rattle.sheet.specs.Names.{mediaNumber, kindNumber, sideNumber, phaseNumber}
 use Rattle.sheet.specs.Comments.{endOf}
 use Rattle.sheet.specs.Program.{Program}
 use Rattle.sheet.specs.Tree.{Quoted, Node, other, string, name, template, binary, object, importCall, call, importDecl, namedExport, exportFrom, exportAll, importType, importEquals, importRequire, moduleDecl, Nodes, none, more, Arguments, noArguments, argument, Properties, noProperties, spread, otherProperty, childKey, stringKey, nameKey, Attributes, without, withObject}
@@ -59,7 +60,7 @@ module _ (source : List ℕ) where
   -- kind byte, start, end, behind a comment that ends at `last`
   abbrev pub commentFields : ℕ → Comment → List Entry
   commentFields last c =
-      aByte kind (c .kind)
+      aByte kind (kindNumber (c .kind))
       ∷ aNumber (position source (commentStart last)) (c .span .start)
       ∷ aNumber (position source (commentEnd (c .kind) (c .span .start))) (c .span .end)
       ∷ []
@@ -67,7 +68,7 @@ module _ (source : List ℕ) where
   -- side byte, position, index of its first comment, count, behind another group if there is one
   abbrev pub groupFields : ℕ → Option Group → Group → List Entry
   groupFields total last g =
-      aByte side (g .side)
+      aByte side (sideNumber (g .side))
       ∷ aNumber (position source (groupPosition last (g .side))) (g .position)
       ∷ aNumber free (g .first)
       ∷ aNumber (groupCount total (g .first)) (g .count)
@@ -101,7 +102,7 @@ module _ (source : List ℕ) where
     nodeFields (importCall sp phase′ xs ns) levels =
         aTag anyNode levels 6
         ∷ (spanFields sp
-        ++ (aByte callee phase′
+        ++ (aByte callee (phaseNumber phase′)
         ∷ (aNumber free (argumentsIn xs) ∷ (argumentsFields xs (under levels) ++ (aNumber free (nodesIn ns) ∷ nodesFields ns (under levels))))))
     nodeFields (call sp e xs ns) levels =
         aTag anyNode levels 6
@@ -112,7 +113,7 @@ module _ (source : List ℕ) where
     nodeFields (importDecl sp typeOnly phase′ sideEffect x a) levels =
         aTag anyNode levels 7
         ∷ (spanFields sp
-        ++ (aFlag typeOnly ∷ aByte phase phase′ ∷ aFlag sideEffect ∷ (quotedFields (under levels) x ++ attributesFields a (under levels))))
+        ++ (aFlag typeOnly ∷ aByte phase (phaseNumber phase′) ∷ aFlag sideEffect ∷ (quotedFields (under levels) x ++ attributesFields a (under levels))))
     nodeFields (namedExport sp typeOnly) levels = aTag anyNode levels 8 ∷ (spanFields sp ++ (aFlag typeOnly ∷ aFlag false ∷ []))
     nodeFields (exportFrom sp typeOnly x a) levels =
         aTag anyNode levels 8 ∷ (spanFields sp ++ (aFlag typeOnly ∷ aFlag true ∷ (quotedFields (under levels) x ++ attributesFields a (under levels))))
@@ -157,7 +158,7 @@ module _ (source : List ℕ) where
 -- media byte, source text, comment count and comments, group count and groups, program, root; nodes nest at most 64 deep, the root is 1
 unfoldable pub fieldsOf : Sheet → List Entry
 fieldsOf t =
-    aByte media (t .media)
+    aByte media (mediaNumber (t .media))
     ∷ (textFields sourceLength Utf8 (t .source)
     ++ (aNumber (limited comments) (length (t .comments)) ∷ (chainFields (commentFields (t .source)) endOf 0 (t .comments)
     ++ (aNumber (limited groups) (length (t .groups)) ∷ (chainFields (groupFields (t .source) (length (t .comments))) (λ g. Option.some g) Option.none (t .groups)

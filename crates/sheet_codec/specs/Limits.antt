@@ -51,7 +51,7 @@ pub record StringFits (source : List ℕ) (levels : ℕ) (sp : Span) (x : List �
 abbrev pub QuotedFits : List ℕ → ℕ → Quoted → Type 0
 QuotedFits source levels q = StringFits source levels (q .span) (q .text)
 
--- a node with so many levels left, its own among them; each count is at most 4,294,967,295, a phase below 3
+-- a node with so many levels left, its own among them; each count is at most 4,294,967,295
 unfoldable mutual
   pub NodeFits : List ℕ → Node → ℕ → Type 0
   NodeFits source (other sp ns) levels = PlaceFits source levels sp × ((nodesIn ns ≤ largest) × NodesFit source ns (under levels))
@@ -65,16 +65,15 @@ unfoldable mutual
   NodeFits source (object sp ps) levels = PlaceFits source levels sp × ((propertiesIn ps ≤ propertyLimit) × PropertiesFit source ps (under levels))
   NodeFits source (importCall sp phase xs ns) levels =
       PlaceFits source levels sp
-      × ((phase < 3)
       × (((argumentsIn xs ≤ largest) × ArgumentsFit source xs (under levels))
-      × ((nodesIn ns ≤ largest) × NodesFit source ns (under levels))))
+      × ((nodesIn ns ≤ largest) × NodesFit source ns (under levels)))
   NodeFits source (call sp e xs ns) levels =
       PlaceFits source levels sp
       × (NodeFits source e (under levels)
       × (((argumentsIn xs ≤ largest) × ArgumentsFit source xs (under levels))
       × ((nodesIn ns ≤ largest) × NodesFit source ns (under levels))))
   NodeFits source (importDecl sp typeOnly phase sideEffect x a) levels =
-      PlaceFits source levels sp × ((phase < 3) × (QuotedFits source (under levels) x × AttributesFit source a (under levels)))
+      PlaceFits source levels sp × (QuotedFits source (under levels) x × AttributesFit source a (under levels))
   NodeFits source (namedExport sp typeOnly) levels = PlaceFits source levels sp × Unit {0}
   NodeFits source (exportFrom sp typeOnly x a) levels =
       PlaceFits source levels sp × (QuotedFits source (under levels) x × AttributesFit source a (under levels))
@@ -114,7 +113,6 @@ unfoldable mutual
 
 -- the fields of a sheet
 pub record FieldsFit (t : Sheet) : Type 0 where
-  pub media : t .media < 11
   pub source : TextFits Utf8 sourceLimit (t .source)
   pub comments : (length (t .comments) ≤ commentLimit) × Fit (t .source) (t .comments)
   pub groups : (length (t .groups) ≤ groupLimit) × Grouped (length (t .comments)) (t .groups)

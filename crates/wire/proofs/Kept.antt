@@ -9,7 +9,7 @@ use Rattle.laws.specs.Decoded.{Decoder}
 use Rattle.laws.proofs.Kept.{Kept, test, either}
 use Rattle.text.specs.declared.utf8.Encoding.{Encoding}
 use Rattle.text.specs.Utf8.{wellFormed}
-use Rattle.wire.specs.Fields.{byte, below, flag, bytes}
+use Rattle.wire.specs.Fields.{byte, below, Values, numbered, flag, bytes}
 use Rattle.wire.specs.Number.{largest, lastGroup, groups, number}
 use Rattle.wire.specs.Text.{count, text}
 use Rattle.wire.specs.Optional.{optional}
@@ -64,6 +64,10 @@ module _ {P : (A : Type 0) → Decoder A → Type 0} (h : OfFields P) where
   pub below-kept : (limit : ℕ) → P ℕ (below limit)
   unfolding below
   below-kept limit = then a-byte (λ b. test kept (ltb b limit) three (ends b))
+
+  pub numbered-kept : {A : Type 0} (values : Values A) → P A (numbered values)
+  unfolding numbered
+  numbered-kept values = then (below-kept _) (λ b. ends _)
 
   pub flag-kept : P Bool flag
   unfolding flag

@@ -1,9 +1,9 @@
 -- The fields that a sheet is made of, each with the refusals that are judged at it.
 use mathlib.Core.Bool.{Bool, cond}
 use mathlib.Core.List.{List, [], _∷_}
-use Prim.Native.Nat.{ℕ}
+use Prim.Native.Nat.{ℕ, suc}
 use lib.Dec.{eqb, leb, ltb}
-use lib.ListN.{length, take, drop}
+use lib.ListN.{length, getD, take, drop}
 use Rattle.laws.specs.Decoded.{ok, no, Decoder, _>>=_, _>>_, return, require}
 
 -- a byte; refusal 2 where the bytes end
@@ -17,6 +17,21 @@ below limit = do
   b ← byte
   require (ltb b limit) 3
   return b
+
+-- the values of an enum in the order of their numbers, which begin at 0; the last one by itself
+pub record Values (A : Type 0) : Type 0 where
+  pub front : List A
+  pub last : A
+
+-- the value of a number; of any greater one, the last
+abbrev pub valueOf : {A : Type 0} → Values A → ℕ → A
+valueOf values n = getD (values .front) n (values .last)
+
+-- a value by its number, a byte; refusal 3 for any other byte
+unfoldable pub numbered : {A : Type 0} → Values A → Decoder A
+numbered values = do
+  b ← below (suc (length (values .front)))
+  return (valueOf values b)
 
 -- a byte, 0 or 1
 unfoldable pub flag : Decoder Bool

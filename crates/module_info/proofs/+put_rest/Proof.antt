@@ -5,6 +5,7 @@ use borrow.Fn.Kinds.{In}
 use borrow.Fn.PlainCycle.{Measures, is, falls, and}
 use lib.ListN.{length}
 use denote.Ref.{now}
+use Rattle.sheet.specs.Limits.{sourceLimit}
 use Rattle.sheet.specs.Views.{programOf}
 use Rattle.sheet.proofs.lookups.end_group.Reads as end-group
 use Rattle.listing.proofs.imports.analyze_jsdoc_imports.Reads as analyze-jsdoc-imports
@@ -20,7 +21,7 @@ use Rattle.module_info.proofs.+put_rest.Tie.{close}
 
 -- how many marks are lacking for the longest source
 abbrev μ-put-rest : Measures 6 put-rest-kinds.ps ℕ
-μ-put-rest κs a = 32768 - length (now (a .1 .1 .1 .1 .1 .0))
+μ-put-rest κs a = sourceLimit - length (now (a .1 .1 .1 .1 .1 .0))
 
 abbrev put-rest-at : ℕ → In 6 put-rest-kinds.ps
 put-rest-at t = and 6 put-rest-kinds.ps (is 6 put-rest-kinds.ps μ-put-rest t) put-rest.Pre

@@ -4,7 +4,7 @@ use denote.Ref.{now}
 use Rattle.laws.proofs.Steps.{seen}
 use Rattle.wire.specs.Optional.{encodeOptional}
 use Rattle.sheet.specs.Views.{foundAs}
-use Rattle.sheet.specs.Lookups.{leading}
+use Rattle.sheet.specs.declared.names.Side.the-variants.{Leading}
 use Rattle.sheet.proofs.Members.{row-placed, group-last, found-reaching}
 use Rattle.pragmas.specs.Pragmas.{typesIn}
 use Rattle.pragmas.proofs.analyze_ts_or_deno_types.Statement.{statement}
@@ -12,32 +12,35 @@ use Rattle.pragmas.proofs.analyze_ts_or_deno_types.Tie as tie
 
 sub-comment-at : tie.Need-sub-comment-at
 sub-comment-at c =
-    let r = found-reaching (c .before .before .before .before .before .before .before .before .before .before .pre .1 .grouped) leading (c .before .before .before .before .before .before .before .before .before .before .args .start) (seen foundAs (c .before .before .before .before .find-group .ensures) (c .before .before .g .given .1)) in
+    let r = found-reaching (c .before .before .before .before .before .before .before .before .before .before .pre .1 .grouped) Leading (c .before .before .before .before .before .before .before .before .before .before .args .start) (seen foundAs (c .before .before .before .before .find-group .ensures) (c .before .before .g .given .1)) in
     omega arith
 
 add-comment-at : tie.Need-add-comment-at
 add-comment-at c =
-    let r = found-reaching (c .before .before .before .before .before .before .before .before .before .before .before .pre .1 .grouped) leading (c .before .before .before .before .before .before .before .before .before .before .before .args .start) (seen foundAs (c .before .before .before .before .before .find-group .ensures) (c .before .before .before .g .given .1)) in
+    let r = found-reaching (c .before .before .before .before .before .before .before .before .before .before .before .pre .1 .grouped) Leading (c .before .before .before .before .before .before .before .before .before .before .before .args .start) (seen foundAs (c .before .before .before .before .before .find-group .ensures) (c .before .before .before .g .given .1)) in
     search needs
 
 comment-at-requires : tie.Need-comment-at-requires
 comment-at-requires c κs =
-    let r = found-reaching (c .before .before .before .before .before .before .before .before .before .before .before .pre .1 .grouped) leading (c .before .before .before .before .before .before .before .before .before .before .before .args .start) (seen foundAs (c .before .before .before .before .before .find-group .ensures) (c .before .before .before .g .given .1)) in
+    let r = found-reaching (c .before .before .before .before .before .before .before .before .before .before .before .pre .1 .grouped) Leading (c .before .before .before .before .before .before .before .before .before .before .before .args .start) (seen foundAs (c .before .before .before .before .before .find-group .ensures) (c .before .before .before .g .given .1)) in
     let room = c .before .before .before .before .before .before .before .before .before .before .before .pre .0 .room in
     omega arith
 
 read-types-requires : tie.Need-read-types-requires
 read-types-requires c κs =
     let a = c .before .before .before .before .before .before .before .before .before .before .before .before .args in
-    let r = found-reaching (c .before .before .before .before .before .before .before .before .before .before .before .before .pre .1 .grouped) leading (a .start) (seen foundAs (c .before .before .before .before .before .before .find-group .ensures) (c .before .before .before .before .g .given .1)) in
+    let r = found-reaching (c .before .before .before .before .before .before .before .before .before .before .before .before .pre .1 .grouped) Leading (a .start) (seen foundAs (c .before .before .before .before .before .before .find-group .ensures) (c .before .before .before .before .g .given .1)) in
     rw (c .comment-at .ensures) (row-placed (now (a .comments)) (a .n) (c .before .before .before .before .before .before .before .before .before .before .before .before .pre .0 .fit) _ (omega arith))
+
+put-reading-requires : tie.Need-put-reading-requires
+put-reading-requires c κs = (c .before .before .before .before .before .before .before .before .before .before .before .before .before .before .pre .0 .indexed, c .before .read-types .ensures .1)
 
 returns : tie.Need-returns
 unfolding typesIn
 returns c =
     let a = c .before .before .before .before .before .before .before .before .before .before .before .before .before .before .before .before .before .args in
     let found = seen foundAs (c .before .before .before .before .before .before .before .before .before .before .before .find-group .ensures) (c .before .before .before .before .before .before .before .before .before .g .given .1) in
-    let r = found-reaching (c .before .before .before .before .before .before .before .before .before .before .before .before .before .before .before .before .before .pre .1 .grouped) leading (a .start) found in
+    let r = found-reaching (c .before .before .before .before .before .before .before .before .before .before .before .before .before .before .before .before .before .pre .1 .grouped) Leading (a .start) found in
     let read = rw (c .before .before .before .before .before .comment-at .ensures) at (c .before .before .before .before .read-types .ensures .0) in
     rw (found, group-last (now (a .comments)) (a .n) (c .before .before .before .before .before .before .before .before .before .g .given .0 .0) r) (rw read at (c .before .before .put-reading .ensures))
 
@@ -55,7 +58,7 @@ analyze-ts-or-deno-types-spec =
     add-comment-at
     comment-at-requires
     read-types-requires
-    (λ c κs. search needs)
+    put-reading-requires
     (λ c. search needs)
     (λ c κs. search needs)
     (λ c. search needs)

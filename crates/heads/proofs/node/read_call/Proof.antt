@@ -16,9 +16,9 @@ returns c =
 returns-2 : tie.Need-returns-2
 unfolding callStart
 returns-2 c =
-    let s = now (c .before .before .before .before .before .before .args .sheet) in
-    let p1 = rw (c .before .before .callee .given .1) at (c .before .before .before .before .below .ensures .1) in
-    (rw (seen (readAs s) (c .before .before .before .before .below .ensures .0) (c .before .before .callee .given .1), lt-ltb _ _ (c .if1 .taken)), search needs)
+    let s = now (c .before .before .before .before .before .before .before .args .sheet) in
+    let p1 = rw (c .before .before .before .callee .given .1) at (c .before .before .before .before .before .below .ensures .1) in
+    (rw (seen (readAs s) (c .before .before .before .before .before .below .ensures .0) (c .before .before .before .callee .given .1), lt-ltb _ _ (c .before .if1 .taken), c .import-phase .ensures), search needs)
 
 returns-3 : tie.Need-returns-3
 unfolding callStart
@@ -29,4 +29,4 @@ returns-3 c =
 
 pub read-call-spec : {M : Type 1} → statement M
 read-call-spec =
-    tie.close (tie.spec (λ c κs. search needs) (λ c. search needs) (λ c. search needs) returns returns-2 returns-3)
+    tie.close (tie.spec (λ c κs. search needs) (λ c. search needs) (λ c. search needs) (λ c κs. search needs) returns returns-2 returns-3)

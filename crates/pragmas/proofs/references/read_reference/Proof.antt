@@ -1,5 +1,4 @@
 use borrow.Author.Needs.{needs}
-use borrow.Author.Tests.{eq-eqb, ne-eqb}
 use Rattle.laws.proofs.Steps.{known}
 use Rattle.sheet.proofs.Members.{placed-within}
 use Rattle.sheet.proofs.Marks.{holds-marks}
@@ -9,7 +8,7 @@ use Rattle.pragmas.proofs.references.read_reference.Tie as tie
 
 returns : tie.Need-returns
 unfolding reference
-returns c = (rw (ne-eqb _ _ (c .if1 .taken)), tt)
+returns c = (rw (known (c .before .is-block .ensures) (c .if1 .taken)), tt)
 
 body-requires : tie.Need-body-requires
 body-requires c κs = let placed = c .before .before .before .pre in (holds-marks _ _ placed, placed-within _ _ placed)
@@ -18,7 +17,7 @@ returns-2 : tie.Need-returns-2
 unfolding reference
 returns-2 c = (
   rw (
-    eq-eqb _ _ (c .before .before .before .before .before .before .before .if1 .left),
+    known (c .before .before .before .before .before .before .before .before .is-block .ensures) (c .before .before .before .before .before .before .before .if1 .left),
     ← c .before .before .before .before .before .before .body .ensures,
     known (c .before .before .before .before .before .is-comment-triple-slash-reference .ensures) (c .before .before .before .before .if2 .taken),
     known (c .before .before .before .find-path-reference .ensures .0) (c .before .k .given .1),
@@ -30,7 +29,7 @@ returns-3 : tie.Need-returns-3
 unfolding modeIn reference
 returns-3 c = (
   rw (
-    eq-eqb _ _ (c .before .before .before .before .before .before .before .before .before .before .before .if1 .left),
+    known (c .before .before .before .before .before .before .before .before .before .before .before .before .is-block .ensures) (c .before .before .before .before .before .before .before .before .before .before .before .if1 .left),
     ← c .before .before .before .before .before .before .before .before .before .before .body .ensures,
     known (c .before .before .before .before .before .before .before .before .before .is-comment-triple-slash-reference .ensures) (c .before .before .before .before .before .before .before .before .if2 .taken),
     known (c .before .before .before .before .before .before .before .find-path-reference .ensures .0) (c .before .before .before .before .before .enum-told .given .1),
@@ -45,7 +44,7 @@ returns-4 : tie.Need-returns-4
 unfolding reference
 returns-4 c = (
   rw (
-    eq-eqb _ _ (c .before .before .before .before .before .before .before .before .before .if1 .left),
+    known (c .before .before .before .before .before .before .before .before .before .before .is-block .ensures) (c .before .before .before .before .before .before .before .before .before .if1 .left),
     ← c .before .before .before .before .before .before .before .before .body .ensures,
     known (c .before .before .before .before .before .before .before .is-comment-triple-slash-reference .ensures) (c .before .before .before .before .before .before .if2 .taken),
     known (c .before .before .before .before .before .find-path-reference .ensures .0) (c .before .before .before .enum-told .given .1),
@@ -58,7 +57,7 @@ returns-5 : tie.Need-returns-5
 unfolding reference
 returns-5 c = (
   rw (
-    eq-eqb _ _ (c .before .before .before .if1 .left),
+    known (c .before .before .before .before .is-block .ensures) (c .before .before .before .if1 .left),
     ← c .before .before .body .ensures,
     known (c .before .is-comment-triple-slash-reference .ensures) (c .if2 .left),
   ),
@@ -69,6 +68,7 @@ pub read-reference-spec : {M : Type 1} → statement M
 read-reference-spec =
     tie.close
     (tie.spec
+    (λ c κs. search needs)
     returns
     body-requires
     (λ c κs. search needs)

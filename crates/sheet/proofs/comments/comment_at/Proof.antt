@@ -4,14 +4,17 @@ use native.Mathlib.Omega.{arith}
 use Rattle.sheet.proofs.comments.comment_at.Statement.{statement}
 use Rattle.sheet.proofs.comments.comment_at.Tie as tie
 
-cast-kind : tie.Need-cast-kind
-cast-kind c = omega (arith, c .shared-slice-known .given (3 * c .before .args .k))
+cast-comment-kind : tie.Need-cast-comment-kind
+cast-comment-kind c = omega (arith, c .shared-slice-known2 .given (3 * c .before .before .args .k))
 
 cast-start : tie.Need-cast-start
-cast-start c = omega (arith, c .shared-slice-known2 .given (3 * c .before .before .args .k + 1))
+cast-start c = omega (arith, c .shared-slice-known3 .given (3 * c .before .before .before .before .args .k + 1))
 
 cast-end : tie.Need-cast-end
-cast-end c = omega (arith, c .shared-slice-known3 .given (3 * c .before .before .before .args .k + 2))
+cast-end c = omega (arith, c .shared-slice-known4 .given (3 * c .before .before .before .before .before .args .k + 2))
+
+returns : tie.Need-returns
+returns c = rw (c .before .before .comment-kind .ensures)
 
 pub comment-at-spec : {M : Type 1} → statement M
 comment-at-spec =
@@ -20,7 +23,8 @@ comment-at-spec =
     (λ c. search needs)
     (λ c. search needs)
     (λ c. search needs)
-    cast-kind
+    cast-comment-kind
+    (λ c κs. search needs)
     (λ c. search needs)
     (λ c. search needs)
     (λ c. search needs)
@@ -29,4 +33,4 @@ comment-at-spec =
     (λ c. search needs)
     (λ c. search needs)
     cast-end
-    (λ c. search needs))
+    returns)

@@ -1,16 +1,15 @@
 use borrow.Author.Needs.{needs}
 use Rattle.sheet.specs.Comments.{marked}
-use Rattle.sheet.proofs.Marks.{other-kind}
 use Rattle.sheet.proofs.comments.is_marked.Statement.{statement}
 use Rattle.sheet.proofs.comments.is_marked.Tie as tie
 
 returns : tie.Need-returns
 unfolding marked
-returns c = rw (c .before .before .before .match .keys1) (c .is-enclosed .ensures)
+returns c = rw (c .before .before .before .enum-told .given .1) (c .is-enclosed .ensures)
 
 returns-2 : tie.Need-returns-2
 unfolding marked
-returns-2 c = rw (other-kind _ (c .before .before .before .match .rest .1)) (c .is-enclosed2 .ensures)
+returns-2 c = rw (c .before .before .before .enum-told2 .given .1) (c .is-enclosed2 .ensures)
 
 pub is-marked-spec : {M : Type 1} → statement M
 is-marked-spec =
@@ -18,7 +17,9 @@ is-marked-spec =
     (tie.spec
     (λ c. search needs)
     (λ c. search needs)
+    (λ c. search needs)
     (λ c κs. search needs)
+    (λ c. search needs)
     (λ c. search needs)
     (λ c. search needs)
     (λ c κs. search needs)

@@ -34,8 +34,7 @@ put-comment-requires : tie.Need-put-comment-requires Inv-loop μ-loop
 put-comment-requires c κs =
     let a = c .before .before .before .before .before .before .before .before .before .before .args in
     let judged = comment-codec (now (a .source)) _ .sound _ _ _ (seen (commentAs (now (a .sheet))) (c .before .before .before .before .read-comment .ensures) (c .before .before .found .given .1)) .1 in
-    let kind = judged .placed .kind in
-    (omega (arith, c .before .before .before .before .before .before .before .before .before .before .pre, c .before .before .before .before .before .before .loop .inv .kept .0), (omega arith, omega (arith, judged .small .0), omega (arith, judged .small .1)))
+    (omega (arith, c .before .before .before .before .before .before .before .before .before .before .pre, c .before .before .before .before .before .before .loop .inv .kept .0), (omega (arith, judged .small .0), omega (arith, judged .small .1)))
 
 loop-again : tie.Need-loop-again Inv-loop μ-loop
 loop-again c =

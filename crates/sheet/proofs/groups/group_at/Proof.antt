@@ -4,17 +4,20 @@ use native.Mathlib.Omega.{arith}
 use Rattle.sheet.proofs.groups.group_at.Statement.{statement}
 use Rattle.sheet.proofs.groups.group_at.Tie as tie
 
-cast-side : tie.Need-cast-side
-cast-side c = omega (arith, c .shared-slice-known .given (4 * c .before .args .k))
+cast-side-of : tie.Need-cast-side-of
+cast-side-of c = omega (arith, c .shared-slice-known2 .given (4 * c .before .before .args .k))
 
 cast-position : tie.Need-cast-position
-cast-position c = omega (arith, c .shared-slice-known2 .given (4 * c .before .before .args .k + 1))
+cast-position c = omega (arith, c .shared-slice-known3 .given (4 * c .before .before .before .before .args .k + 1))
 
 cast-first : tie.Need-cast-first
-cast-first c = omega (arith, c .shared-slice-known3 .given (4 * c .before .before .before .args .k + 2))
+cast-first c = omega (arith, c .shared-slice-known4 .given (4 * c .before .before .before .before .before .args .k + 2))
 
 cast-count : tie.Need-cast-count
-cast-count c = omega (arith, c .shared-slice-known4 .given (4 * c .before .before .before .before .args .k + 3))
+cast-count c = omega (arith, c .shared-slice-known5 .given (4 * c .before .before .before .before .before .before .args .k + 3))
+
+returns : tie.Need-returns
+returns c = rw (c .before .before .before .side-of .ensures)
 
 pub group-at-spec : {M : Type 1} → statement M
 group-at-spec =
@@ -23,7 +26,8 @@ group-at-spec =
     (λ c. search needs)
     (λ c. search needs)
     (λ c. search needs)
-    cast-side
+    cast-side-of
+    (λ c κs. search needs)
     (λ c. search needs)
     (λ c. search needs)
     (λ c. search needs)
@@ -36,4 +40,4 @@ group-at-spec =
     (λ c. search needs)
     (λ c. search needs)
     cast-count
-    (λ c. search needs))
+    returns)

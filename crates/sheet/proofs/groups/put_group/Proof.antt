@@ -12,14 +12,14 @@ slice-write-table-3 : tie.Need-slice-write-table-3
 slice-write-table-3 c = simp length-set (omega arith)
 
 returns : tie.Need-returns
-returns c = rw (add-one, add-two, add-three)
+returns c = rw (add-one, add-two, add-three, c .before .before .before .side-number .ensures)
 
 pub put-group-spec : {M : Type 1} → statement M
 put-group-spec =
     tie.close
     (tie.spec
     (λ c. search needs)
-    (λ c. search needs)
+    (λ c κs. search needs)
     (λ c. search needs)
     (λ c. search needs)
     (λ c. search needs)

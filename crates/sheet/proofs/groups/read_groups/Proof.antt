@@ -34,8 +34,7 @@ put-group-requires : tie.Need-put-group-requires Inv-loop μ-loop
 put-group-requires c κs =
     let a = c .before .before .before .before .before .before .before .before .before .before .args in
     let ranged = group-codec (now (a .source)) _ _ .sound _ _ _ (seen (groupAs (now (a .sheet))) (c .before .before .before .before .read-group .ensures) (c .before .before .g .given .1)) .1 in
-    let side = ranged .reaching .side in
-    (omega (arith, c .before .before .before .before .before .before .before .before .before .before .pre, c .before .before .before .before .before .before .loop .inv .kept .0), (omega arith, omega (arith, ranged .small .0), omega (arith, ranged .small .1), omega (arith, ranged .small .2)))
+    (omega (arith, c .before .before .before .before .before .before .before .before .before .before .pre, c .before .before .before .before .before .before .loop .inv .kept .0), (omega (arith, ranged .small .0), omega (arith, ranged .small .1), omega (arith, ranged .small .2)))
 
 loop-again : tie.Need-loop-again Inv-loop μ-loop
 loop-again c =

@@ -1,0 +1,12 @@
+use borrow.Author.Needs.{needs}
+use Rattle.pragmas.proofs.readings.is_block.Statement.{statement}
+use Rattle.pragmas.proofs.readings.is_block.Tie as tie
+
+returns : tie.Need-returns
+returns c = rw (c .enum-told .given .1)
+
+returns-2 : tie.Need-returns-2
+returns-2 c = rw (c .enum-told2 .given .1)
+
+pub is-block-spec : {M : Type 1} → statement M
+is-block-spec = tie.close (tie.spec (λ c. search needs) (λ c. search needs) returns returns-2)

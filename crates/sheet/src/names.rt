@@ -1,0 +1,99 @@
+// The enums of a sheet, and the value of each number.
+ghost use mathlib.Core.Path.{_≡_};
+ghost use Rattle.wire.specs.Fields.{valueOf};
+ghost use Rattle.sheet.specs.Names.{mediaTypes, kindNumber, commentKinds, sideNumber, sides, importPhases};
+
+pub enum MediaType {
+    JavaScript,
+    Jsx,
+    Mjs,
+    Cjs,
+    TypeScript,
+    Mts,
+    Cts,
+    Dts,
+    Dmts,
+    Dcts,
+    Tsx,
+}
+
+pub fn media_type(n: usize) -> MediaType
+    ensures { λ r. ⌜ r ≡ valueOf mediaTypes n ⌝ }
+{
+    match n {
+        0 => MediaType::JavaScript,
+        1 => MediaType::Jsx,
+        2 => MediaType::Mjs,
+        3 => MediaType::Cjs,
+        4 => MediaType::TypeScript,
+        5 => MediaType::Mts,
+        6 => MediaType::Cts,
+        7 => MediaType::Dts,
+        8 => MediaType::Dmts,
+        9 => MediaType::Dcts,
+        _ => MediaType::Tsx,
+    }
+}
+
+pub enum CommentKind {
+    Line,
+    Block,
+}
+
+pub fn comment_kind(n: usize) -> CommentKind
+    ensures { λ r. ⌜ r ≡ valueOf commentKinds n ⌝ }
+{
+    match n {
+        0 => CommentKind::Line,
+        _ => CommentKind::Block,
+    }
+}
+
+pub fn kind_number(kind: CommentKind) -> u32
+    ensures { λ r. ⌜ r ≡ kindNumber kind ⌝ }
+{
+    match kind {
+        CommentKind::Line => 0,
+        CommentKind::Block => 1,
+    }
+}
+
+// The side of a group at its position.
+pub enum Side {
+    Leading,
+    Trailing,
+}
+
+pub fn side_of(n: usize) -> Side
+    ensures { λ r. ⌜ r ≡ valueOf sides n ⌝ }
+{
+    match n {
+        0 => Side::Leading,
+        _ => Side::Trailing,
+    }
+}
+
+pub fn side_number(side: Side) -> u32
+    ensures { λ r. ⌜ r ≡ sideNumber side ⌝ }
+{
+    match side {
+        Side::Leading => 0,
+        Side::Trailing => 1,
+    }
+}
+
+pub enum ImportPhase {
+    Evaluation,
+    Source,
+    Defer,
+}
+
+pub fn import_phase(n: usize) -> ImportPhase
+    ensures { λ r. ⌜ r ≡ valueOf importPhases n ⌝ }
+{
+    match n {
+        0 => ImportPhase::Evaluation,
+        1 => ImportPhase::Source,
+        _ => ImportPhase::Defer,
+    }
+}

@@ -12,7 +12,7 @@ use Rattle.sheet.specs.Comments.{comments}
 use Rattle.sheet.specs.Program.{Program}
 use Rattle.sheet.specs.Tree.{Node}
 use Rattle.sheet.specs.Sheet.{Sheet, sheet, sized, decodeSheet, accept}
-use Rattle.accept.specs.Pieces.{sourceFields, commentFields, groupFields, Front, front, tree}
+use Rattle.accept.specs.code.Pieces.{sourceFields, commentFields, groupFields, Front, front, tree}
 
 -- the sheet of these pieces
 abbrev pub whole : Front → Program × Node → Sheet

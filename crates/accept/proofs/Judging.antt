@@ -8,13 +8,13 @@ use borrow.Author.Tests.{lt-ltb, le-leb, lt-leb}
 use Rattle.laws.specs.Decoded.{ok, no}
 use Rattle.text.specs.Bytes.{part}
 use Rattle.sheet.specs.Limits.{sheetLimit}
-use Rattle.sheet.specs.Views.{programOf}
+use Rattle.sheet.specs.code.Views.{programOf}
 use Rattle.sheet.specs.Sheet.{sized, accept}
 use Rattle.accept.specs.declared.front.Front as declared
 use Rattle.accept.specs.declared.tree.Tree.{Tree}
-use Rattle.accept.specs.Pieces.{front, tree}
-use Rattle.accept.specs.Views.{frontOf, Stands}
-use Rattle.accept.specs.Accepts.{Accepts}
+use Rattle.accept.specs.code.Pieces.{front, tree}
+use Rattle.accept.specs.code.Views.{frontOf, Stands}
+use Rattle.accept.specs.code.Accepts.{Accepts}
 use Rattle.accept.proofs.ByPieces.{whole, accept-by-pieces}
 
 pub no-bytes : (s : List ℕ) → length s ≡ 0 → accept s ≡ no 1

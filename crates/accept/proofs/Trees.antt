@@ -9,12 +9,12 @@ use Rattle.laws.proofs.Decoding.{onOk-ok, onOk-no}
 use Rattle.sheet.specs.Limits.{depthLimit}
 use Rattle.sheet.specs.Program.{Program, program}
 use Rattle.sheet.specs.Nodes.{node}
-use Rattle.sheet.specs.Views.{programOf}
+use Rattle.sheet.specs.code.Views.{programOf}
 use Rattle.nodes.specs.declared.tally.Judged.{Judged}
-use Rattle.nodes.specs.Judged.{judged}
+use Rattle.nodes.specs.code.Judged.{judged}
 use Rattle.accept.specs.declared.tree.Tree.{Tree}
-use Rattle.accept.specs.Pieces.{tree}
-use Rattle.accept.specs.Views.{Stands}
+use Rattle.accept.specs.code.Pieces.{tree}
+use Rattle.accept.specs.code.Views.{Stands}
 
 module _ (source s : List ℕ) {p : Program} {t : List ℕ} (before : program source s ≡ ok p t) where
   pub root-refused : {r : ℕ} → onOk judged (node source depthLimit t) ≡ no r → tree source s ≡ no r

@@ -1,3 +1,1 @@
-pub mod Pieces
-pub mod Accepts
-pub mod Views
+pub mod code

@@ -9,8 +9,8 @@ use sheet::limits::GROUP_NUMBERS;
 use sheet::limits::SHEET_LIMIT;
 use sheet::names::MediaType;
 use sheet::program::Program;
-ghost use Rattle.laws.specs.Left.{Free};
-ghost use Rattle.accept.specs.Accepts.{Judges};
+ghost use Rattle.laws.specs.code.Left.{Free};
+ghost use Rattle.accept.specs.code.Accepts.{Judges};
 
 // What the report is made from: places in the sheet, and how many rows its tables have.
 pub struct Parts {

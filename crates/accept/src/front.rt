@@ -15,10 +15,10 @@ use wire::Text;
 ghost use mathlib.Core.Path.{_≡_};
 ghost use Prim.Native.Nat.{_≤_};
 ghost use lib.ListN.{length, drop};
-ghost use Rattle.laws.specs.Left.{Free};
+ghost use Rattle.laws.specs.code.Left.{Free};
 ghost use Rattle.sheet.specs.Limits.{commentLimit, commentNumbers, groupNumbers};
-ghost use Rattle.accept.specs.Pieces.{sourceFields, commentFields, groupFields, front};
-ghost use Rattle.accept.specs.Views.{sourceAs, commentTableAs, groupTableAs, frontAs, WithinSource, WithinFront};
+ghost use Rattle.accept.specs.code.Pieces.{sourceFields, commentFields, groupFields, front};
+ghost use Rattle.accept.specs.code.Views.{sourceAs, commentTableAs, groupTableAs, frontAs, WithinSource, WithinFront};
 
 // The media byte and where the source starts, with the cursor at its end, or a refusal's number.
 pub enum SourceRead {

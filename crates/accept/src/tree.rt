@@ -6,7 +6,7 @@ use sheet::program::Program;
 use sheet::program::ProgramRead;
 use sheet::program::read_program;
 use wire::Cursor;
-ghost use Rattle.accept.specs.Views.{TreeFound};
+ghost use Rattle.accept.specs.code.Views.{TreeFound};
 
 // The program, where the root stands in the sheet, and how many dependencies it gives.
 pub struct Tree {

@@ -19,7 +19,7 @@ use Rattle.text.proofs.Within.{within-iff}
 use Rattle.analysis.specs.declared.Capture.{Capture}
 use Rattle.analysis.specs.Letters.{foldCase, letterAt, wordAt}
 use Rattle.analysis.specs.Row.{Row, word, one, longest, from, either, all}
-use Rattle.analysis.specs.Matcher.{BeginsWithAtSign}
+use Rattle.analysis.specs.code.Matcher.{BeginsWithAtSign}
 use Rattle.analysis.proofs.Ends.{only-longest}
 
 -- the row matches nowhere before a character of the class

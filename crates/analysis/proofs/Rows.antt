@@ -17,7 +17,7 @@ use Rattle.analysis.specs.declared.Capture.{Capture}
 use Rattle.analysis.specs.declared.Found.the-variants as found
 use Rattle.analysis.specs.Letters.{foldCase, onMatch, wordAt}
 use Rattle.analysis.specs.Row.{Row, _▸_, oneAt, done, start, word, one, longest, to, either, all, noCapture, first, matchAt, find}
-use Rattle.analysis.specs.Matcher.{assignedAt, BeginsWithAtSign}
+use Rattle.analysis.specs.code.Matcher.{assignedAt, BeginsWithAtSign}
 use Rattle.analysis.specs.Patterns.{equals, quoted, quotedSome, bare, referenceEnd, tripleSlashRow, attributeRow, jsxRow, sourceMappingUrlRow, pragmaRow, denoTypesRow}
 use Rattle.analysis.proofs.Ends.{ends-begin, ends-stop, ends-go-on, longest-last}
 use Rattle.analysis.proofs.Apart.{Apart, past-run, white-apart, quote-apart, word-apart, at-apart, either-apart, from-apart, to-apart}

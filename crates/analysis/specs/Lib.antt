@@ -1,8 +1,8 @@
 pub mod Mode
 pub mod Letters
 pub mod Row
-pub mod Matcher
 pub mod Patterns
 pub mod Place
 pub mod Matches
 pub mod Prefers
+pub mod code

@@ -11,7 +11,7 @@ ghost use Prim.Native.Nat.{_+_, _≤_};
 ghost use lib.ListN.{length, drop};
 ghost use Rattle.analysis.specs.Letters.{foldCase, letterAt, wordAt};
 ghost use Rattle.analysis.specs.Row.{matchAt, find, isFound};
-ghost use Rattle.analysis.specs.Matcher.{assignedAt, EndsBy, BeginsWithAtSign};
+ghost use Rattle.analysis.specs.code.Matcher.{assignedAt, EndsBy, BeginsWithAtSign};
 ghost use Rattle.analysis.specs.Place.{Within};
 ghost use Rattle.analysis.specs.Patterns.{quoted, quotedSome, bare, referenceEnd, attributeRow, jsxRow, pragmaRow};
 

@@ -9,7 +9,7 @@ use Rattle.wire.specs.declared.Cursor.{Cursor}
 use Rattle.sheet.specs.Tree.{Node}
 use Rattle.report.specs.ModuleInfo as info
 use Rattle.arguments.specs.Argument.{ofPieces, chain, ofChain, argumentOf}
-use Rattle.arguments.specs.Views.{IsString, IsTemplate, IsPlus}
+use Rattle.arguments.specs.code.Views.{IsString, IsTemplate, IsPlus}
 
 pub string-argument : {s : List ℕ} {from to : ℕ} {next : Cursor} {n : Node} {t : List ℕ} → IsString s from to next n t → argumentOf n ≡ info.string (lossy (part s from to))
 unfolding argumentOf

@@ -16,13 +16,13 @@ use Rattle.wire.specs.Optional.{encodeOptional}
 use Rattle.sheet.specs.Tree.{Node}
 use Rattle.sheet.specs.Shape.{shape}
 use Rattle.nodes.specs.declared.tally.Judged.{Judged}
-use Rattle.nodes.specs.Judged.{judged}
+use Rattle.nodes.specs.code.Judged.{judged}
 use Rattle.report.specs.ModuleInfo.{DynamicTemplatePart}
 use Rattle.report.specs.Buffer.{Buffer, wrote}
 use Rattle.report.proofs.Buffers.{wrote-append}
 use Rattle.arguments.specs.declared.bin.Parts.the-variants as parts
 use Rattle.arguments.specs.Argument.{operand, appended, chain}
-use Rattle.arguments.specs.Views.{encodeParts, IsString, IsTemplate, IsPlus, Counted, count, unknown, partsAs, counted}
+use Rattle.arguments.specs.code.Views.{encodeParts, IsString, IsTemplate, IsPlus, Counted, count, unknown, partsAs, counted}
 
 -- parts one behind the other
 pub wrote-parts : (w : Buffer) (l m : List DynamicTemplatePart) → wrote w (encodeParts (l ++ m)) ≡ wrote (wrote w (encodeParts l)) (encodeParts m)

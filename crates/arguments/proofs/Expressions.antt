@@ -20,15 +20,15 @@ use Rattle.heads.specs.declared.node.Head.{Head}
 use Rattle.heads.specs.declared.node.Head.the-variants as head
 use Rattle.heads.specs.declared.node.HeadRead.{HeadRead}
 use Rattle.heads.specs.declared.node.HeadRead.the-variants as headRead
-use Rattle.heads.specs.Head as heads
-use Rattle.heads.specs.Rest.{rest}
-use Rattle.heads.specs.Views.{headOf, headAs}
+use Rattle.heads.specs.code.Head as heads
+use Rattle.heads.specs.code.Rest.{rest}
+use Rattle.heads.specs.code.Views.{headOf, headAs}
 use Rattle.heads.proofs.ByHead.{behind-head}
 use Rattle.heads.proofs.Shapes.{shape-by-head}
 use Rattle.heads.proofs.node.Head.{the-type}
 use Rattle.arguments.specs.declared.expression.Expression.the-variants as expression
 use Rattle.arguments.specs.Argument.{chain, argumentOf}
-use Rattle.arguments.specs.Views.{Unknown, Reads}
+use Rattle.arguments.specs.code.Views.{Unknown, Reads}
 
 -- the variants besides String, Template and Binary
 abbrev others : List ℕ

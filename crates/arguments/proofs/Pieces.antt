@@ -21,7 +21,7 @@ use Rattle.sheet.specs.Nodes.{many, piece}
 use Rattle.sheet.specs.Walked.{one}
 use Rattle.heads.proofs.Many.{many-first, many-next, many-end}
 use Rattle.report.specs.ModuleInfo as info
-use Rattle.arguments.specs.Views.{holeParts}
+use Rattle.arguments.specs.code.Views.{holeParts}
 use Rattle.arguments.specs.Argument.{pieceParts, templateParts, ofPieces}
 
 -- a piece is added in front

@@ -1,2 +1,2 @@
 pub mod Argument
-pub mod Views
+pub mod code

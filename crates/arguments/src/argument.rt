@@ -15,7 +15,7 @@ ghost use mathlib.Core.List.{List, []};
 ghost use Prim.Native.Nat.{ℕ, _+_, _≤_};
 ghost use lib.ListN.{length, drop};
 ghost use Rattle.laws.specs.Decoded.{ok};
-ghost use Rattle.laws.specs.Left.{Free};
+ghost use Rattle.laws.specs.code.Left.{Free};
 ghost use Rattle.wire.specs.Number.{largest};
 ghost use Rattle.sheet.specs.Tree.{Node, Pieces};
 ghost use Rattle.sheet.specs.Nodes.{node, many, piece};
@@ -23,7 +23,7 @@ ghost use Rattle.report.specs.ModuleInfo as info;
 ghost use Rattle.report.specs.Encode.{encodeArgument};
 ghost use Rattle.report.specs.Buffer.{wrote, bufferAs};
 ghost use Rattle.arguments.specs.Argument.{ofPieces, argumentOf};
-ghost use Rattle.arguments.specs.Views.{Stands, ArgumentWithin};
+ghost use Rattle.arguments.specs.code.Views.{Stands, ArgumentWithin};
 
 // Offsets into the sheet stand for the Rust's `Vec` of parts.
 pub enum DynamicArgument {

@@ -13,7 +13,7 @@ ghost use mathlib.Core.Option.{Option};
 ghost use Prim.Native.Nat.{ℕ};
 ghost use lib.ListN.{drop};
 ghost use Rattle.laws.specs.Decoded.{ok};
-ghost use Rattle.laws.specs.Left.{Free};
+ghost use Rattle.laws.specs.code.Left.{Free};
 ghost use Rattle.wire.specs.Optional.{encodeOptional};
 ghost use Rattle.wire.specs.Text.{encodeText};
 ghost use Rattle.sheet.specs.Tree.{Node};
@@ -22,7 +22,7 @@ ghost use Rattle.sheet.specs.Shape.{shape};
 ghost use Rattle.report.specs.ModuleInfo.{DynamicTemplatePart};
 ghost use Rattle.report.specs.Buffer.{wrote, bufferAs};
 ghost use Rattle.arguments.specs.Argument.{operand, chain};
-ghost use Rattle.arguments.specs.Views.{encodeParts, partsAs, counted, PartsWithin};
+ghost use Rattle.arguments.specs.code.Views.{encodeParts, partsAs, counted, PartsWithin};
 
 // How many parts a chain has, with the cursor past it; or it is none.
 pub enum Parts {

@@ -10,7 +10,7 @@ ghost use lib.ListN.{length, drop};
 ghost use Rattle.laws.specs.Decoded.{ok};
 ghost use Rattle.sheet.specs.Tree.{Node};
 ghost use Rattle.sheet.specs.Nodes.{node};
-ghost use Rattle.arguments.specs.Views.{Reads, ExpressionWithin};
+ghost use Rattle.arguments.specs.code.Views.{Reads, ExpressionWithin};
 
 // A String with its text in the sheet, a Template with its holes, or a Binary that is a plus, with the cursor past the head.
 pub enum Expression {

@@ -7,7 +7,7 @@ ghost use Rattle.text.specs.Lossy.{lossy};
 ghost use Rattle.text.specs.Bytes.{part};
 ghost use Rattle.wire.specs.Text.{encodeText};
 ghost use Rattle.wire.specs.Optional.{encodeOptional};
-ghost use Rattle.heads.specs.Views.{Part};
+ghost use Rattle.heads.specs.code.Views.{Part};
 ghost use Rattle.report.specs.Buffer.{wrote, bufferAs};
 
 // Writes a part that is a text of the sheet.

@@ -12,15 +12,15 @@ ghost use mathlib.Core.Option.{Option};
 ghost use Prim.Native.Nat.{ℕ, _+_, _≤_};
 ghost use lib.ListN.{length, drop};
 ghost use Rattle.laws.specs.Decoded.{ok};
-ghost use Rattle.laws.specs.Left.{Free};
+ghost use Rattle.laws.specs.code.Left.{Free};
 ghost use Rattle.text.specs.Bytes.{part};
 ghost use Rattle.wire.specs.Number.{largest};
 ghost use Rattle.sheet.specs.Tree.{Pieces};
 ghost use Rattle.sheet.specs.Nodes.{many, piece};
-ghost use Rattle.heads.specs.Views.{Part};
+ghost use Rattle.heads.specs.code.Views.{Part};
 ghost use Rattle.report.specs.Buffer.{wrote, bufferAs};
 ghost use Rattle.arguments.specs.Argument.{pieceParts, templateParts};
-ghost use Rattle.arguments.specs.Views.{encodeParts, holeParts};
+ghost use Rattle.arguments.specs.code.Views.{encodeParts, holeParts};
 
 // How many parts a cooked piece gives: one if it has text.
 fn count_piece(from: usize, to: usize) -> usize

@@ -6,11 +6,11 @@ use native.Mathlib.Nat.{sub-zero}
 use native.Mathlib.Omega.{arith}
 use Rattle.text.specs.declared.bytes.Order.the-variants.{Less, Equal, Greater}
 use Rattle.text.specs.Bytes.{order}
-use Rattle.sheet.specs.Tables.{rows}
+use Rattle.sheet.specs.code.Tables.{rows}
 use Rattle.sheet.proofs.Rows.{rows-first, rows-end}
 use Rattle.report.specs.ModuleInfo.{KeyValue}
 use Rattle.attributes.specs.Attributes.{insert}
-use Rattle.attributes.specs.Views.{pairIn, pairsFrom, pairsIn, opened, replaced}
+use Rattle.attributes.specs.code.Views.{pairIn, pairsFrom, pairsIn, opened, replaced}
 
 module _ (s table : List ℕ) (n : ℕ) (a : KeyValue) where
   -- the first i rows stay before the pair

@@ -8,7 +8,7 @@ use Rattle.sheet.specs.Tree.{Node, Properties, noProperties}
 use Rattle.sheet.specs.Nodes.{many, propertyItem, properties}
 use Rattle.heads.proofs.Many.{many-next, found, found-step, found-stop, found-end}
 use Rattle.attributes.specs.Attributes.{Prop, props}
-use Rattle.attributes.specs.Views.{Reads}
+use Rattle.attributes.specs.code.Views.{Reads}
 
 -- `after w es` is the answer, where w was found before the properties es
 module _ {W R : Type 0} (after : W → List Prop → R) (inner : Decoder Node) where

@@ -9,7 +9,7 @@ use Rattle.sheet.specs.declared.fields.Span.{Span}
 use Rattle.sheet.specs.Tree.{Node, Arguments, Properties, Attributes, withObject}
 use Rattle.sheet.specs.Nodes.{arguments, properties, node, attributesObject}
 use Rattle.sheet.specs.Shape.{shape}
-use Rattle.heads.specs.Parts.{argumentHead, attributesHead}
+use Rattle.heads.specs.code.Parts.{argumentHead, attributesHead}
 use Rattle.heads.proofs.ByHead.{attributes-by-head}
 use Rattle.heads.proofs.FirstArgument.{first}
 use Rattle.report.specs.ModuleInfo.{none, unknown}

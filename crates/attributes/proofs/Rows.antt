@@ -8,11 +8,11 @@ use lib.Dec.{eqb}
 use lib.ListN.{length}
 use lib.Seq.{sets}
 use borrow.Author.Tests.{eqb-true, eqb-false}
-use Rattle.sheet.specs.Tables.{rows}
+use Rattle.sheet.specs.code.Tables.{rows}
 use Rattle.sheet.proofs.Rows.{rows-same, rows-first, rows-end, rows-two}
 use Rattle.sheet.proofs.Stores.{outside-sets, in-sets, Table}
 use Rattle.attributes.specs.declared.pairs.Pair.{Pair}
-use Rattle.attributes.specs.Views.{pairRow, rowIn, pairAs, pairIn, pairsFrom, pairsIn, opened, replaced, PairWithin}
+use Rattle.attributes.specs.code.Views.{pairRow, rowIn, pairAs, pairIn, pairsFrom, pairsIn, opened, replaced, PairWithin}
 
 flag : (b : Bool) → eqb (cond b 1 0) 1 ≡ b
 flag true = refl

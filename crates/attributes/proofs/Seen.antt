@@ -13,12 +13,12 @@ use Rattle.sheet.specs.Tree.{Node, Properties, spread, otherProperty, childKey,
 use Rattle.sheet.specs.Nodes.{propertyItem}
 use Rattle.heads.specs.declared.parts.Property.{Property}
 use Rattle.heads.specs.declared.parts.Property.the-variants as property
-use Rattle.heads.specs.Parts.{propertyHead}
-use Rattle.heads.specs.Views.{propertyOf, WithinProperty}
+use Rattle.heads.specs.code.Parts.{propertyHead}
+use Rattle.heads.specs.code.Views.{propertyOf, WithinProperty}
 use Rattle.heads.proofs.ByHead.{property-by-head, propertyRest}
 use Rattle.attributes.specs.declared.props.PropRead.the-variants as propRead
 use Rattle.attributes.specs.Attributes.{Prop, props}
-use Rattle.attributes.specs.Views.{propIn, Reads, PropIs, PropWithin}
+use Rattle.attributes.specs.code.Views.{propIn, Reads, PropIs, PropWithin}
 
 module _ (inner : Decoder Node) (u : List ℕ) {w : List ℕ} {add : Properties → Properties} (item : propertyItem inner u ≡ ok add w) where
   seen-as : {e : Prop} (build : Properties → Properties) → build ≡ add → ((ps : Properties) → props (build ps) ≡ e ∷ props ps) → Reads inner u w e

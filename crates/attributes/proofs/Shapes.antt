@@ -21,16 +21,16 @@ use Rattle.heads.specs.declared.node.Head.{Head}
 use Rattle.heads.specs.declared.node.Head.the-variants as head
 use Rattle.heads.specs.declared.node.HeadRead.{HeadRead}
 use Rattle.heads.specs.declared.node.HeadRead.the-variants as headRead
-use Rattle.heads.specs.Head as heads
-use Rattle.heads.specs.Rest.{rest}
-use Rattle.heads.specs.Views.{headOf, headAs}
+use Rattle.heads.specs.code.Head as heads
+use Rattle.heads.specs.code.Rest.{rest}
+use Rattle.heads.specs.code.Views.{headOf, headAs}
 use Rattle.heads.proofs.ByHead.{behind-head}
 use Rattle.heads.proofs.Shapes.{shape-by-head}
 use Rattle.heads.proofs.node.Head.{the-type}
 use Rattle.report.specs.ModuleInfo.{ImportAttributes, unknown}
 use Rattle.attributes.specs.declared.props.Value.the-variants as value
 use Rattle.attributes.specs.Attributes.{Prop, valueOf, ofObject}
-use Rattle.attributes.specs.Views.{isOther, ValueIs}
+use Rattle.attributes.specs.code.Views.{isOther, ValueIs}
 
 -- the variants besides String and Object
 abbrev others : List ℕ

@@ -1,3 +1,3 @@
 pub mod Attributes
 pub mod Right
-pub mod Views
+pub mod code

@@ -7,10 +7,10 @@ ghost use mathlib.Core.List.{List};
 ghost use Prim.Native.Nat.{ℕ, _+_, _*_, _≤_, _<_};
 ghost use lib.ListN.{length};
 ghost use lib.Seq.{sets};
-ghost use Rattle.laws.specs.Left.{Free};
+ghost use Rattle.laws.specs.code.Left.{Free};
 ghost use Rattle.sheet.specs.Limits.{propertyLimit, pairNumbers};
 ghost use Rattle.attributes.specs.Attributes.{insert, insertKnown};
-ghost use Rattle.attributes.specs.Views.{pairRow, rowIn, pairAs, pairsIn, PairWithin, Pairs, opened, slotAs, SlotWithin};
+ghost use Rattle.attributes.specs.code.Views.{pairRow, rowIn, pairAs, pairsIn, PairWithin, Pairs, opened, slotAs, SlotWithin};
 
 // Where a key stands in the sheet, and, if it is known, its value.
 pub struct Pair {

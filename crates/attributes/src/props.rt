@@ -19,9 +19,9 @@ ghost use Rattle.text.specs.Bytes.{part};
 ghost use Rattle.sheet.specs.Tree.{Node};
 ghost use Rattle.sheet.specs.Nodes.{node};
 ghost use Rattle.sheet.specs.Shape.{shape};
-ghost use Rattle.heads.specs.Views.{Part, WithinProperty};
+ghost use Rattle.heads.specs.code.Views.{Part, WithinProperty};
 ghost use Rattle.attributes.specs.Attributes.{valueOf};
-ghost use Rattle.attributes.specs.Views.{pairAs, PairWithin, ValueIs, ValueWithin, propIn, PropIs, PropWithin};
+ghost use Rattle.attributes.specs.code.Views.{pairAs, PairWithin, ValueIs, ValueWithin, propIn, PropIs, PropWithin};
 
 // What a node is to an attribute: a text of the sheet; an Object, with the number of its properties and the cursor at them; or anything else.
 pub enum Value {

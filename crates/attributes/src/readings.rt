@@ -24,12 +24,12 @@ ghost use Rattle.sheet.specs.Limits.{propertyLimit, pairNumbers};
 ghost use Rattle.sheet.specs.Tree.{Node, Arguments, Properties, Attributes};
 ghost use Rattle.sheet.specs.Nodes.{node, properties, arguments, attributesObject};
 ghost use Rattle.sheet.specs.Shape.{shape};
-ghost use Rattle.heads.specs.Rest.{behind};
-ghost use Rattle.heads.specs.Views.{Part};
+ghost use Rattle.heads.specs.code.Rest.{behind};
+ghost use Rattle.heads.specs.code.Views.{Part};
 ghost use Rattle.report.specs.ModuleInfo.{none};
-ghost use Rattle.laws.specs.Left.{Free};
+ghost use Rattle.laws.specs.code.Left.{Free};
 ghost use Rattle.attributes.specs.Attributes.{props, staticPairs, staticAttributes, objectAttributes, typeAttributes, ofObject, argumentProperties, dynamicAttributes, isAttributesKey};
-ghost use Rattle.attributes.specs.Views.{pairsIn, attributesAs, Pairs, AttributesWithin};
+ghost use Rattle.attributes.specs.code.Views.{pairsIn, attributesAs, Pairs, AttributesWithin};
 
 pub enum ImportAttributes {
     None,

@@ -8,7 +8,7 @@ ghost use lib.ListN.{length};
 ghost use mathlib.Core.List.{flatMap};
 ghost use Rattle.report.specs.Encode.{encodeKeyValue, encodeAttributes};
 ghost use Rattle.report.specs.Buffer.{wrote, bufferAs};
-ghost use Rattle.attributes.specs.Views.{pairAs, pairsIn, attributesAs, PairWithin, Pairs, AttributesWithin};
+ghost use Rattle.attributes.specs.code.Views.{pairAs, pairsIn, attributesAs, PairWithin, Pairs, AttributesWithin};
 
 // Writes a pair.
 fn put_pair(sheet: &[u8], p: Pair, out: &mut [u8], place: Place) -> Place

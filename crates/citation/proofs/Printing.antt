@@ -6,7 +6,7 @@ use lib.ListN.{length-append}
 use Rattle.laws.proofs.Lists.{flatMap-append}
 use Rattle.report.specs.Buffer.{Buffer}
 use Rattle.report.proofs.Buffers.{wrote-append}
-use Rattle.citation.specs.Cites.{Printed}
+use Rattle.citation.specs.code.Cites.{Printed}
 use Rattle.citation.specs.Citation.{Line, printed}
 
 -- some lines, and then others

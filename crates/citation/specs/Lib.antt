@@ -1,3 +1,2 @@
 pub mod Citation
-pub mod Cites
-pub mod Items
+pub mod code

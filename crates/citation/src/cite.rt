@@ -12,7 +12,7 @@ ghost use mathlib.Core.Path.{_≡_};
 ghost use mathlib.Core.List.{[], _∷_, flatMap};
 ghost use Prim.Native.Nat.{_+_, _*_, _≤_};
 ghost use lib.ListN.{length, take};
-ghost use Rattle.laws.specs.Left.{Free};
+ghost use Rattle.laws.specs.code.Left.{Free};
 ghost use Rattle.laws.specs.Codec.{IfThere, All};
 ghost use Rattle.wire.specs.Number.{largest};
 ghost use Rattle.wire.specs.Optional.{encodeOptional};
@@ -21,8 +21,8 @@ ghost use Rattle.report.specs.Encode.{encodeList, encodeRange, encodeSpecifier,
 ghost use Rattle.report.specs.Valid.{Short, ValidRange, ValidSpecifier, ValidReference, ValidJsDoc, ValidDependency, Valid};
 ghost use Rattle.report.specs.Buffer.{bufferAs};
 ghost use Rattle.citation.specs.Citation.{citeSpecifier, citeOptional, citeArgument, citeReference, citeJsDoc, citeDependency, lines, citation, refusal};
-ghost use Rattle.citation.specs.Cites.{Cites};
-ghost use Rattle.citation.specs.Items.{encodeRanged, ValidRanged, encodeItem, ValidItem, citeItem};
+ghost use Rattle.citation.specs.code.Cites.{Cites};
+ghost use Rattle.citation.specs.code.Items.{encodeRanged, ValidRanged, encodeItem, ValidItem, citeItem};
 
 // Where the next byte goes in the buffer, how many lines were written, and the place behind what was read of the report.
 pub struct Cited {

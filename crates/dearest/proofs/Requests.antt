@@ -11,7 +11,7 @@ use Rattle.laws.specs.Quoted.{ascii}
 use Rattle.dearest.specs.declared.Request.{Request}
 use Rattle.dearest.specs.declared.Request.the-variants as request
 use Rattle.dearest.specs.Input.{Digits, Asks}
-use Rattle.dearest.specs.Answers.{Settles}
+use Rattle.dearest.specs.code.Answers.{Settles}
 use Rattle.dearest.proofs.Numerals.{facts, five}
 
 -- an answer to one question answers another that holds of the same numbers

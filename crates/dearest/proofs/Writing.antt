@@ -9,7 +9,7 @@ use Rattle.scan.proofs.Bounds.{star-and-braces}
 use Rattle.dearest.specs.declared.Request.the-variants as request
 use Rattle.dearest.specs.Input.{Asks, ReadOf}
 use Rattle.dearest.specs.Output.{Written}
-use Rattle.dearest.specs.Answers.{Settles}
+use Rattle.dearest.specs.code.Answers.{Settles}
 use Rattle.dearest.proofs.Numerals.{facts}
 use Rattle.dearest.proofs.Requests.{asks-short}
 

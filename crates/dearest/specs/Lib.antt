@@ -1,3 +1,3 @@
 pub mod Input
 pub mod Output
-pub mod Answers
+pub mod code

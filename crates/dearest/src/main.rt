@@ -13,7 +13,7 @@ ghost use Rattle.io.specs.Counts.{Counts};
 ghost use Rattle.scan.specs.Dearest.{starAndBraces};
 ghost use Rattle.dearest.specs.Input.{Digits, Asks, ReadOf};
 ghost use Rattle.dearest.specs.Output.{Written};
-ghost use Rattle.dearest.specs.Answers.{Settles};
+ghost use Rattle.dearest.specs.code.Answers.{Settles};
 
 // How many bytes are asked for.
 pub enum Request {

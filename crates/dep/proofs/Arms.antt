@@ -23,14 +23,14 @@ use Rattle.heads.specs.declared.node.Head.{Head}
 use Rattle.heads.specs.declared.node.Head.the-variants as head
 use Rattle.heads.specs.declared.parts.Property.{Property}
 use Rattle.heads.specs.declared.parts.Property.the-variants as property
-use Rattle.heads.specs.Rest.{behind, rest}
+use Rattle.heads.specs.code.Rest.{behind, rest}
 use Rattle.heads.specs.declared.quoted.Quoted as heads
-use Rattle.heads.specs.Views.{quotedOf, headOf, propertyOf}
+use Rattle.heads.specs.code.Views.{quotedOf, headOf, propertyOf}
 use Rattle.heads.proofs.node.Head.{the-type, enum}
 use Rattle.heads.proofs.ByHead.{propertyRest}
 use Rattle.nodes.specs.declared.tally.Tally.{Tally}
-use Rattle.nodes.specs.Judged.{tallyAll, tallyWith, callParts, typedParts}
-use Rattle.nodes.specs.Answers.{nodesOf}
+use Rattle.nodes.specs.code.Judged.{tallyAll, tallyWith, callParts, typedParts}
+use Rattle.nodes.specs.code.Answers.{nodesOf}
 use Rattle.nodes.proofs.Arms.{alike, alike-two, nodes-one, nodes-two, pair, call-parted, typed-parted}
 use Rattle.report.specs.ModuleInfo.{SpecifierWithRange, DependencyDescriptor}
 use Rattle.report.specs.Buffer.{Buffer}
@@ -38,7 +38,7 @@ use Rattle.attributes.specs.Attributes.{staticAttributes, typeAttributes}
 use Rattle.dep.specs.declared.entries.CallHead.{CallHead}
 use Rattle.dep.specs.declared.entries.StaticDependencyDescriptor.{StaticDependencyDescriptor}
 use Rattle.dep.specs.Collect.{exportKind, dynamicKind, moduleEntry, collector, collect, collectAll, collectOf, collectWith}
-use Rattle.dep.specs.Walk.{Quotes, PastHead, Calls, Begins, calleesOf, wroteEntries, staticOf, entryOfCall, afterNode, afterNodes, afterArgument, afterArguments, afterProperty, afterWith, afterImport, afterCall, afterTyped}
+use Rattle.dep.specs.code.Walk.{Quotes, PastHead, Calls, Begins, calleesOf, wroteEntries, staticOf, entryOfCall, afterNode, afterNodes, afterArgument, afterArguments, afterProperty, afterWith, afterImport, afterCall, afterTyped}
 use Rattle.dep.proofs.Wrote.{entries-append}
 
 -- an export with a String, of either form

@@ -1,5 +1,5 @@
 -- Whether a callee is the Name `require`, by its head.
-use mathlib.Core.Path.{_≡_, refl, sym}
+use mathlib.Core.Path.{_≡_, refl}
 use mathlib.Core.Bool.{false}
 use mathlib.Core.List.{List, [], _∷_}
 use Prim.Native.Nat.{ℕ, _-_}
@@ -19,9 +19,9 @@ use Rattle.heads.specs.declared.node.Head.{Head}
 use Rattle.heads.specs.declared.node.Head.the-variants as head
 use Rattle.heads.specs.declared.node.HeadRead.{HeadRead}
 use Rattle.heads.specs.declared.node.HeadRead.the-variants as headRead
-use Rattle.heads.specs.Head as heads
-use Rattle.heads.specs.Rest.{rest}
-use Rattle.heads.specs.Views.{headOf, headAs}
+use Rattle.heads.specs.code.Head as heads
+use Rattle.heads.specs.code.Rest.{rest}
+use Rattle.heads.specs.code.Views.{headOf, headAs}
 use Rattle.heads.proofs.ByHead.{behind-head}
 use Rattle.heads.proofs.Shapes.{shape-by-head}
 use Rattle.heads.proofs.node.Head.{the-type}

@@ -18,7 +18,7 @@ use Rattle.report.specs.ModuleInfo as info
 use Rattle.report.specs.Encode.{encodeList, encodeDependency}
 use Rattle.report.specs.Buffer.{Buffer, wrote}
 use Rattle.report.proofs.Buffers.{wrote-append}
-use Rattle.dep.specs.Walk.{wroteEntries, afterNode}
+use Rattle.dep.specs.code.Walk.{wroteEntries, afterNode}
 use Rattle.dep.specs.Collect.{dynamicKind, staticEntry, callEntry, moduleEntry, entryOf, collector, collect}
 
 module _ (source : List ℕ) (types : ℕ → Option SpecifierWithRange) where

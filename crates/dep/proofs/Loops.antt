@@ -8,7 +8,7 @@ use Rattle.laws.proofs.Decoding.{onOk-ok, onOk-no}
 use Rattle.laws.proofs.Answers.{Reads, ends, behind, changed, anything}
 use Rattle.sheet.specs.Tree.{Node, none, more, noArguments, noProperties}
 use Rattle.sheet.specs.Nodes.{nodes, argumentItem, arguments, propertyItem, properties}
-use Rattle.heads.specs.Parts.{PropertyHead, spreadHead, otherPropertyHead, childKeyHead, stringKeyHead, nameKeyHead, propertyHead, argumentHead}
+use Rattle.heads.specs.code.Parts.{PropertyHead, spreadHead, otherPropertyHead, childKeyHead, stringKeyHead, nameKeyHead, propertyHead, argumentHead}
 use Rattle.heads.proofs.ByHead.{argument-by-head, property-by-head, argumentRest, propertyRest}
 use Rattle.heads.proofs.Many.{found, found-step, found-stop, found-end}
 use Rattle.nodes.proofs.Loops.{nodeItem}
@@ -16,7 +16,7 @@ use Rattle.report.specs.declared.writer.Place.{Place}
 use Rattle.report.specs.ModuleInfo.{SpecifierWithRange, DependencyDescriptor}
 use Rattle.report.specs.Buffer.{Buffer, bufferAs}
 use Rattle.dep.specs.Collect.{collector, collect, collectAll, collectOf, collectIn}
-use Rattle.dep.specs.Walk.{wroteEntries, afterNode, afterNodes, afterArgument, afterArguments, afterProperty, afterProperties}
+use Rattle.dep.specs.code.Walk.{wroteEntries, afterNode, afterNodes, afterArgument, afterArguments, afterProperty, afterProperties}
 use Rattle.dep.proofs.Wrote.{entries-append, entries-nil}
 
 -- items whose entries are gathered, from an empty list of them

@@ -21,10 +21,10 @@ use Rattle.sheet.specs.Tree.{Quoted}
 use Rattle.sheet.specs.Fields.{position, endFrom, span}
 use Rattle.sheet.specs.Nodes.{tag, stringText, quoted}
 use Rattle.sheet.proofs.Judged.{end-codec}
-use Rattle.heads.specs.Head.{Head, otherHead, stringHead, nameHead, templateHead, binaryHead, objectHead, moduleHead, callStart, origin, importStart, namedExportStart, exportAllStart, importTypeStart, importRequireStart, importEqualsStart, moduleStart, start, head}
-use Rattle.heads.specs.Parts.{argumentHead}
+use Rattle.heads.specs.code.Head.{Head, otherHead, stringHead, nameHead, templateHead, binaryHead, objectHead, moduleHead, callStart, origin, importStart, namedExportStart, exportAllStart, importTypeStart, importRequireStart, importEqualsStart, moduleStart, start, head}
+use Rattle.heads.specs.code.Parts.{argumentHead}
 use Rattle.report.specs.Range.{InSource}
-use Rattle.dep.specs.Walk.{Spanned}
+use Rattle.dep.specs.code.Walk.{Spanned}
 
 module _ (source : List ℕ) where
   abbrev Within : Quoted → Type 0

@@ -8,7 +8,7 @@ use Rattle.report.specs.ModuleInfo.{DependencyDescriptor}
 use Rattle.report.specs.Encode.{encodeDependency}
 use Rattle.report.specs.Buffer.{Buffer, wrote, bufferAs}
 use Rattle.report.proofs.Buffers.{wrote-append, wrote-nil}
-use Rattle.dep.specs.Walk.{wroteEntries}
+use Rattle.dep.specs.code.Walk.{wroteEntries}
 
 pub entries-append : (w : Buffer) (l m : List DependencyDescriptor) → wroteEntries w (l ++ m) ≡ wroteEntries (wroteEntries w l) m
 entries-append w l m = ap (wrote w) (flatMap-append encodeDependency l m) ∙ wrote-append w (flatMap encodeDependency l) (flatMap encodeDependency m)

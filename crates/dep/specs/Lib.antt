@@ -1,3 +1,3 @@
 pub mod Collect
-pub mod Walk
 pub mod InTurn
+pub mod code

@@ -30,20 +30,20 @@ ghost use mathlib.Core.Option.{Option};
 ghost use Prim.Native.Nat.{ℕ};
 ghost use lib.ListN.{length, drop};
 ghost use Rattle.laws.specs.Decoded.{ok};
-ghost use Rattle.laws.specs.Left.{Free};
+ghost use Rattle.laws.specs.code.Left.{Free};
 ghost use Rattle.sheet.specs.Tree.{Node, Attributes, Arguments, argument};
 ghost use Rattle.sheet.specs.Nodes.{node, arguments, attributesObject};
-ghost use Rattle.heads.specs.Rest.{behind};
-ghost use Rattle.heads.specs.Views.{quotedOf};
+ghost use Rattle.heads.specs.code.Rest.{behind};
+ghost use Rattle.heads.specs.code.Views.{quotedOf};
 ghost use Rattle.report.specs.ModuleInfo as info;
 ghost use Rattle.report.specs.Range.{InSource};
 ghost use Rattle.report.specs.Buffer.{bufferAs};
 ghost use Rattle.attributes.specs.Attributes.{typeAttributes, staticAttributes, dynamicAttributes};
-ghost use Rattle.attributes.specs.Views.{attributesAs, AttributesWithin};
-ghost use Rattle.arguments.specs.Views.{Stands, ArgumentWithin};
-ghost use Rattle.pragmas.specs.Held.{Held};
+ghost use Rattle.attributes.specs.code.Views.{attributesAs, AttributesWithin};
+ghost use Rattle.arguments.specs.code.Views.{Stands, ArgumentWithin};
+ghost use Rattle.pragmas.specs.code.Held.{Held};
 ghost use Rattle.dep.specs.Collect.{importKind, exportKind, equalsKind, dynamicKind, callEntry, moduleEntry};
-ghost use Rattle.dep.specs.Walk.{typesFrom, Quotes, wroteEntries, staticOf, dynamicOf, entryOfCall};
+ghost use Rattle.dep.specs.code.Walk.{typesFrom, Quotes, wroteEntries, staticOf, dynamicOf, entryOfCall};
 
 // How many comments and groups the tables hold.
 pub struct Counts {

@@ -42,20 +42,20 @@ ghost use mathlib.Core.List.{List};
 ghost use Prim.Native.Nat.{ℕ, _≤_};
 ghost use lib.ListN.{length, drop};
 ghost use Rattle.laws.specs.Decoded.{ok, onOk};
-ghost use Rattle.laws.specs.Left.{Free};
+ghost use Rattle.laws.specs.code.Left.{Free};
 ghost use Rattle.sheet.specs.Limits.{depthLimit};
 ghost use Rattle.sheet.specs.Tree.{Node};
 ghost use Rattle.sheet.specs.Nodes.{node, nodes, argumentItem, arguments, propertyItem, properties, attributesObject};
 ghost use Rattle.sheet.specs.Shape.{shape, isRequire};
 ghost use Rattle.sheet.specs.Walked.{entries};
-ghost use Rattle.heads.specs.Rest.{behind, rest};
-ghost use Rattle.heads.specs.Views.{headOf};
-ghost use Rattle.nodes.specs.Judged.{callParts, typedParts};
+ghost use Rattle.heads.specs.code.Rest.{behind, rest};
+ghost use Rattle.heads.specs.code.Views.{headOf};
+ghost use Rattle.nodes.specs.code.Judged.{callParts, typedParts};
 ghost use Rattle.report.specs.Encode.{encodeList, encodeDependency};
 ghost use Rattle.report.specs.Buffer.{wrote, bufferAs};
-ghost use Rattle.pragmas.specs.Held.{Held};
+ghost use Rattle.pragmas.specs.code.Held.{Held};
 ghost use Rattle.dep.specs.Collect.{collect};
-ghost use Rattle.dep.specs.Walk.{typesFrom, Quotes, PastHead, Calls, Begins, calleesOf, walkedAs, PastWalked, afterNode, afterNodes, afterArgument, afterArguments, afterProperties, afterProperty, afterWith, afterImport, afterCall, afterTyped};
+ghost use Rattle.dep.specs.code.Walk.{typesFrom, Quotes, PastHead, Calls, Begins, calleesOf, walkedAs, PastWalked, afterNode, afterNodes, afterArgument, afterArguments, afterProperties, afterProperty, afterWith, afterImport, afterCall, afterTyped};
 
 // The next place in the buffer, with the cursor past what was walked, or a refusal's number.
 pub enum Walked {

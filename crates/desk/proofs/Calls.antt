@@ -7,7 +7,7 @@ use Prim.Native.Nat.{ℕ, _≤_, _<_}
 use native.Mathlib.Omega.{arith}
 use borrow.Author.Tests.{lt-ltb, le-ltb, le-leb, lt-leb}
 use lib.ListN.{length, getD}
-use Rattle.desk.specs.Desk.{Desk, Call, handIn, turn, Event, accepted, refused, served, idle, changes, Done, queue, withSheet, withoutFront, handedIn, lookedAt, firstWaiting, serve, turned, step}
+use Rattle.desk.specs.Desk.{Call, handIn, turn, Event, accepted, refused, served, idle, changes, Done, queue, withSheet, withoutFront, handedIn, firstWaiting, serve, turned, step}
 use Rattle.desk.specs.Block.{countIn, deskAs, Does}
 use Rattle.desk.proofs.Rings.{length-queue-of}
 use Rattle.desk.proofs.Outcomes.{outcome, served-one}

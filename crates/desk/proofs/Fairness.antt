@@ -1,14 +1,13 @@
 -- What holds over any calls from a fresh desk.
 use mathlib.Core.Path.{_≡_, refl, sym, _∙_, ap}
-use mathlib.Core.Bool.{false}
 use mathlib.Core.Logic.{_↔_}
 use mathlib.Core.List.{List, [], _∷_, _++_, append-nil, nil≢cons}
-use Prim.Native.Nat.{ℕ, suc, _+_, _-_, _%_, _≤_, _<_}
+use Prim.Native.Nat.{ℕ, suc, _+_, _-_, _%_, _<_}
 use native.Mathlib.Omega.{arith}
 use native.Mathlib.Decide.{decLe}
 use borrow.Author.Tests.{eq-eqb}
 use lib.ListN.{length, List·getD-eq-default}
-use Rattle.desk.specs.Desk.{Desk, Call, handIn, turn, Event, accepted, served, idle, changes, Done, fresh, queue, lookedAt, step}
+use Rattle.desk.specs.Desk.{Desk, Call, handIn, turn, Event, served, idle, Done, fresh, queue, lookedAt, step}
 use Rattle.desk.specs.History.{History, events, after, happened, happensNext, waitingOf, turnsIn}
 use Rattle.desk.specs.Fair.{HandInAnswer, TurnAnswer, Within, Freed, Fair}
 use Rattle.desk.proofs.Outcomes.{Outcome, outcome, desk-left, accepted-there}

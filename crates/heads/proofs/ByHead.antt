@@ -19,9 +19,9 @@ use Rattle.sheet.specs.declared.fields.Span.{Span}
 use Rattle.sheet.specs.Tree.{Quoted, Node, importDecl, exportFrom, exportAll, Arguments, argument, Properties, spread, otherProperty, childKey, stringKey, nameKey, Attributes, withObject}
 use Rattle.sheet.specs.Fields.{span}
 use Rattle.sheet.specs.Nodes.{tag, stringText, quoted, properties, attributes, otherFields, stringFields, nameFields, templateFields, binaryFields, objectFields, callFields, importFields, namedExportFields, exportAllFields, importTypeFields, importEqualsFields, moduleFields, fields, argumentItem, keyedItem, propertyItem, node, attributesObject}
-use Rattle.heads.specs.Head.{Head, otherHead, stringHead, nameHead, templateHead, binaryHead, objectHead, importHead, exportFromHead, exportAllHead, callStart, origin, importStart, namedExportStart, exportAllStart, importTypeStart, importRequireStart, importEqualsStart, moduleStart, start, head}
-use Rattle.heads.specs.Parts.{PropertyHead, spreadHead, otherPropertyHead, childKeyHead, stringKeyHead, nameKeyHead, keyHead, propertyHead, argumentHead, attributesHead}
-use Rattle.heads.specs.Rest.{behind, restOf, rest}
+use Rattle.heads.specs.code.Head.{Head, otherHead, stringHead, nameHead, templateHead, binaryHead, objectHead, importHead, exportFromHead, exportAllHead, callStart, origin, importStart, namedExportStart, exportAllStart, importTypeStart, importRequireStart, importEqualsStart, moduleStart, start, head}
+use Rattle.heads.specs.code.Parts.{PropertyHead, spreadHead, otherPropertyHead, childKeyHead, stringKeyHead, nameKeyHead, keyHead, propertyHead, argumentHead, attributesHead}
+use Rattle.heads.specs.code.Rest.{behind, restOf, rest}
 
 -- what follows the head of an Object that holds attributes, where so many levels are left below it, of an argument and of a property
 abbrev pub attributesRest : List ℕ → ℕ → Span × ℕ → Decoder Attributes

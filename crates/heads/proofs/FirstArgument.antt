@@ -8,7 +8,7 @@ use Rattle.laws.proofs.Decoding.{then-ok}
 use Rattle.sheet.specs.declared.fields.Span.{Span}
 use Rattle.sheet.specs.Tree.{Node, Arguments, noArguments, argument}
 use Rattle.sheet.specs.Nodes.{argumentItem, arguments}
-use Rattle.heads.specs.Parts.{argumentHead}
+use Rattle.heads.specs.code.Parts.{argumentHead}
 use Rattle.heads.proofs.ByHead.{argumentRest, argument-by-head}
 use Rattle.heads.proofs.Many.{many-first, many-refused, many-end}
 

@@ -7,8 +7,8 @@ use Rattle.laws.specs.Decoded.{ok, no, refuse}
 use Rattle.wire.specs.Fields.{byte}
 use Rattle.wire.proofs.Numbered.{NoneOf, beyond}
 use Rattle.sheet.specs.declared.fields.Span.{Span}
-use Rattle.heads.specs.Head.{start}
-use Rattle.heads.specs.Parts.{keyHead, propertyHead}
+use Rattle.heads.specs.code.Head.{start}
+use Rattle.heads.specs.code.Parts.{keyHead, propertyHead}
 
 pub no-start : (source : List ℕ) (levels : ℕ) (sp : Span) (t : ℕ) (s : List ℕ) → NoneOf t 13 → start source levels sp t s ≡ no 3
 unfolding start

@@ -5,7 +5,7 @@ use Rattle.heads.specs.declared.node.FieldsRead.{FieldsRead}
 use Rattle.heads.specs.declared.node.FieldsRead.the-variants as fieldsRead
 use Rattle.heads.specs.declared.parts.PropertyRead.{PropertyRead}
 use Rattle.heads.specs.declared.parts.PropertyRead.the-variants as propertyRead
-use Rattle.heads.specs.Views.{PastFields, PastProperty}
+use Rattle.heads.specs.code.Views.{PastFields, PastProperty}
 
 module _ (at from n : ℕ) where
   pub fields-from : (r : FieldsRead) → at ≤ from → PastFields from n r → PastFields at n r

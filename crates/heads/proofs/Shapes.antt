@@ -15,8 +15,8 @@ use Rattle.sheet.specs.Nodes.{many, piece, nodes, arguments, properties, attrib
 use Rattle.sheet.specs.Shape.{anything, shape}
 use Rattle.heads.specs.declared.node.Head.{Head}
 use Rattle.heads.specs.declared.node.Head.the-variants as head
-use Rattle.heads.specs.Rest.{behind as object-behind, rest}
-use Rattle.heads.specs.Views.{headOf}
+use Rattle.heads.specs.code.Rest.{behind as object-behind, rest}
+use Rattle.heads.specs.code.Views.{headOf}
 use Rattle.heads.proofs.node.Head.{the-type}
 
 -- the variants in question, by their numbers, and what holds of a node of each of them

@@ -1,4 +1,1 @@
-pub mod Head
-pub mod Parts
-pub mod Rest
-pub mod Views
+pub mod code

@@ -25,8 +25,8 @@ ghost use Rattle.wire.specs.Number.{number};
 ghost use Rattle.wire.specs.Text.{count, text};
 ghost use Rattle.sheet.specs.Limits.{textLimit, propertyLimit};
 ghost use Rattle.sheet.specs.Nodes.{stringText};
-ghost use Rattle.heads.specs.Head.{otherHead, stringHead, nameHead, templateHead, binaryHead, objectHead, callStart, origin, importStart, namedExportStart, exportAllStart, importTypeStart, importRequireStart, importEqualsStart, moduleStart, start, head};
-ghost use Rattle.heads.specs.Views.{originAs, fieldsAs, headAs, PastOrigin, PastFields, PastHead};
+ghost use Rattle.heads.specs.code.Head.{otherHead, stringHead, nameHead, templateHead, binaryHead, objectHead, callStart, origin, importStart, namedExportStart, exportAllStart, importTypeStart, importRequireStart, importEqualsStart, moduleStart, start, head};
+ghost use Rattle.heads.specs.code.Views.{originAs, fieldsAs, headAs, PastOrigin, PastFields, PastHead};
 
 // What stands before a node's first child. A text is from a place of the sheet to another.
 pub enum Head {

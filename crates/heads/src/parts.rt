@@ -15,11 +15,11 @@ ghost use mathlib.Core.List.{[]};
 ghost use Prim.Native.Nat.{_≤_};
 ghost use lib.ListN.{length, drop};
 ghost use Rattle.laws.specs.Decoded.{onOk};
-ghost use Rattle.wire.specs.Views.{flagAs};
+ghost use Rattle.wire.specs.code.Views.{flagAs};
 ghost use Rattle.sheet.specs.Nodes.{many, piece};
 ghost use Rattle.sheet.specs.Shape.{anyUncooked};
-ghost use Rattle.heads.specs.Parts.{argumentHead, keyHead, propertyHead, attributesHead};
-ghost use Rattle.heads.specs.Views.{pieceAs, argumentAs, propertyAs, attributesAs, PastPiece, PastPieces, PastArgument, PastProperty, PastAttributes};
+ghost use Rattle.heads.specs.code.Parts.{argumentHead, keyHead, propertyHead, attributesHead};
+ghost use Rattle.heads.specs.code.Views.{pieceAs, argumentAs, propertyAs, attributesAs, PastPiece, PastPieces, PastArgument, PastProperty, PastAttributes};
 
 // A piece with the cursor past it, or a refusal's number. A cooked piece's text stands from a place up to that cursor.
 pub enum PieceRead {

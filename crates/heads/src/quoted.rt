@@ -12,10 +12,10 @@ ghost use mathlib.Core.List.{List};
 ghost use Prim.Native.Nat.{ℕ, _≤_, _<_};
 ghost use lib.Dec.{eqb, ltb};
 ghost use lib.ListN.{length, drop};
-ghost use Rattle.wire.specs.Views.{readAs, textAs, PastText};
+ghost use Rattle.wire.specs.code.Views.{readAs, textAs, PastText};
 ghost use Rattle.sheet.specs.Nodes.{tag, stringText, quoted};
-ghost use Rattle.heads.specs.Head.{judgeTag};
-ghost use Rattle.heads.specs.Views.{quotedAs, PastTag, PastQuoted};
+ghost use Rattle.heads.specs.code.Head.{judgeTag};
+ghost use Rattle.heads.specs.code.Views.{quotedAs, PastTag, PastQuoted};
 
 // A String: its span in the source, and where its text stands in the sheet.
 pub struct Quoted {

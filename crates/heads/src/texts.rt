@@ -7,7 +7,7 @@ ghost use lib.ListN.{length};
 ghost use Rattle.laws.specs.Quoted.{ascii};
 ghost use Rattle.text.specs.Bytes.{same, part};
 ghost use Rattle.sheet.specs.Shape.{isAugmentation, hasStar};
-ghost use Rattle.heads.specs.Views.{QuotedPart};
+ghost use Rattle.heads.specs.code.Views.{QuotedPart};
 
 // The Name `require`.
 pub fn is_require(name: &[u8]) -> bool

@@ -1,5 +1,5 @@
 // An input read to its end, where a read that fails is not taken for the end.
-ghost use Rattle.input.specs.Within.{Within};
+ghost use Rattle.input.specs.code.Within.{Within};
 
 // What came of reading.
 pub enum Input {

@@ -10,7 +10,7 @@ use lib.Seq.{drop-append-seam}
 use Rattle.jsdoc.specs.Grammar.{Bytes, Brace, Declaration, Reading, From, Listed}
 use Rattle.jsdoc.specs.Parsed.{Parser, value}
 use Rattle.jsdoc.specs.Reader.{Hit, hit, parseJsdocDynamicImport, parseJsdocImportDecl}
-use Rattle.jsdoc.specs.Answers.{Imports}
+use Rattle.jsdoc.specs.code.Answers.{Imports}
 use Rattle.jsdoc.specs.Marks.{Marks}
 use Rattle.jsdoc.specs.Listing.{answer, listingBy, listing}
 use Rattle.jsdoc.proofs.Ends.{Ends, ends-trans}

@@ -12,7 +12,7 @@ use lib.Seq.{drop-drop}
 use Rattle.jsdoc.specs.Grammar.{Bytes, Brace, Declaration, Reading, From, ListedBy, Listed}
 use Rattle.jsdoc.specs.Parsed.{Parser, value}
 use Rattle.jsdoc.specs.Reader.{Hit, parseJsdocDynamicImport, parseJsdocImportDecl}
-use Rattle.jsdoc.specs.Answers.{Imports, Scans}
+use Rattle.jsdoc.specs.code.Answers.{Imports, Scans}
 use Rattle.jsdoc.specs.Marks.{Marks, marked, Room}
 use Rattle.jsdoc.specs.declared.answers.JsDocImport.{JsDocImport}
 use Rattle.jsdoc.specs.declared.answers.JsDocImport.the-variants as jsDocImport

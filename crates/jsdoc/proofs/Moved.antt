@@ -7,7 +7,7 @@ use lib.Seq.{take-all, drop-drop}
 use Rattle.text.specs.Bytes.{part}
 use Rattle.jsdoc.specs.Grammar.{Bytes}
 use Rattle.jsdoc.specs.Parsed.{Parsed, ok}
-use Rattle.jsdoc.specs.Answers.{Spells, Gives, moved, Movable}
+use Rattle.jsdoc.specs.code.Answers.{Spells, Gives, moved, Movable}
 use Rattle.jsdoc.specs.declared.answers.Text.{Text}
 use Rattle.jsdoc.specs.declared.answers.Text.the-variants as text
 use Rattle.jsdoc.specs.declared.answers.ModeRead.the-variants as modeRead

@@ -15,7 +15,7 @@ use Rattle.text.specs.Bytes.{begins}
 use Rattle.jsdoc.specs.Grammar.{Bytes}
 use Rattle.jsdoc.specs.Parsed.{ok, backtrace, value}
 use Rattle.jsdoc.specs.Reader.{tag, word, seek, sought, parseCall, parseJsdocDynamicImport}
-use Rattle.jsdoc.specs.Answers.{Imports, Scans}
+use Rattle.jsdoc.specs.code.Answers.{Imports, Scans}
 use Rattle.jsdoc.specs.declared.answers.JsDocImport.{JsDocImport}
 use Rattle.jsdoc.specs.declared.answers.JsDocImport.the-variants as jsDocImport
 use Rattle.jsdoc.specs.declared.answers.Searched.{Searched}

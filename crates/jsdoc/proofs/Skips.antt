@@ -1,8 +1,7 @@
 -- Places at which no reading can begin are passed without a look.
 use mathlib.Core.Path.{_≡_}
-use mathlib.Core.Bool.{false}
 use mathlib.Core.List.{List}
-use Prim.Native.Nat.{ℕ, _+_, _≤_, _<_}
+use Prim.Native.Nat.{ℕ, _≤_, _<_}
 use Prim.Native.Char.{code}
 use native.Mathlib.Omega.{arith}
 use lib.ListN.{length, drop, getD}
@@ -12,7 +11,7 @@ use Rattle.laws.proofs.Onward.{carried-to}
 use Rattle.jsdoc.specs.Grammar.{Bytes, Brace}
 use Rattle.jsdoc.specs.Parsed.{value}
 use Rattle.jsdoc.specs.Reader.{tag, parseJsdocImportDecl}
-use Rattle.jsdoc.specs.Answers.{Imports}
+use Rattle.jsdoc.specs.code.Answers.{Imports}
 use Rattle.jsdoc.specs.Marks.{Marks}
 use Rattle.jsdoc.specs.declared.answers.JsDocImport.the-variants as jsDocImport
 use Rattle.jsdoc.proofs.Marking.{Before, Besides, no-brace-turn, declaration-turn}

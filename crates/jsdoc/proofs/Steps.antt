@@ -16,7 +16,7 @@ use Rattle.text.proofs.Words.{begins-sound}
 use Rattle.jsdoc.specs.Grammar.{Bytes}
 use Rattle.jsdoc.specs.Parsed.{ok, backtrace, onParsed}
 use Rattle.jsdoc.specs.Reader.{skip, skipWhitespace, whitespace, tag, upTo, before, isMark, parseQuote, pastIdent, parseIdent}
-use Rattle.jsdoc.specs.Answers.{Finds, Spells, quoteMark, nameMark}
+use Rattle.jsdoc.specs.code.Answers.{Finds, Spells, quoteMark, nameMark}
 use Rattle.jsdoc.specs.declared.answers.Skipped.the-variants as skipped
 use Rattle.jsdoc.specs.declared.answers.Text.the-variants as text
 use Rattle.jsdoc.proofs.Texts.{upTo-sound}

@@ -1,6 +1,6 @@
 pub mod Grammar
 pub mod Parsed
 pub mod Reader
-pub mod Answers
 pub mod Marks
 pub mod Listing
+pub mod code

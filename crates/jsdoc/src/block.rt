@@ -13,7 +13,7 @@ ghost use mathlib.Core.Path.{_≡_};
 ghost use Prim.Native.Nat.{_≤_};
 ghost use lib.ListN.{length, drop};
 ghost use Rattle.jsdoc.specs.Reader.{attributeMode, parseAttribute, firstMode, comma, separatedList, parseImportAttributeBlockForResolutionMode};
-ghost use Rattle.jsdoc.specs.Answers.{Finds, Gives};
+ghost use Rattle.jsdoc.specs.code.Answers.{Finds, Gives};
 
 // The mode of an attribute by its key and its value; 3 where its key is not the one.
 fn attribute_mode(key: &[u8], value: &[u8]) -> u8

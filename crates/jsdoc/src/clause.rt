@@ -9,7 +9,7 @@ use super::quote::ident_at;
 ghost use Prim.Native.Nat.{_≤_};
 ghost use lib.ListN.{length, drop};
 ghost use Rattle.jsdoc.specs.Reader.{skipNamedImports, skipDefaultImport, skipNamespaceImport, skipClause};
-ghost use Rattle.jsdoc.specs.Answers.{Finds};
+ghost use Rattle.jsdoc.specs.code.Answers.{Finds};
 
 fn skip_named_imports(s: &[u8], at: usize) -> Skipped
     requires { ⌜ at ≤ length (now s) ⌝ }

@@ -15,7 +15,7 @@ ghost use Prim.Native.Nat.{_≤_};
 ghost use lib.ListN.{length, drop};
 ghost use Rattle.jsdoc.specs.Parsed.{value};
 ghost use Rattle.jsdoc.specs.Reader.{secondParamStart, parseSecondParamObjWithLeadingComma, closeCall, parseTail, parseCall};
-ghost use Rattle.jsdoc.specs.Answers.{Finds, Gives, Imports, Scans};
+ghost use Rattle.jsdoc.specs.code.Answers.{Finds, Gives, Imports, Scans};
 
 // Past `, {with:` at `at`.
 fn second_param_start(s: &[u8], at: usize) -> Skipped

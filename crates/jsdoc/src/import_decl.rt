@@ -14,7 +14,7 @@ ghost use Prim.Native.Nat.{_≤_};
 ghost use lib.ListN.{length, drop};
 ghost use Rattle.jsdoc.specs.Parsed.{value};
 ghost use Rattle.jsdoc.specs.Reader.{parseAttributes, parseFrom, parseJsdocImportDecl};
-ghost use Rattle.jsdoc.specs.Answers.{Gives, Imports};
+ghost use Rattle.jsdoc.specs.code.Answers.{Gives, Imports};
 
 // `with {..}` at `at`, with the white space before it.
 fn parse_attributes(s: &[u8], at: usize) -> ModeRead

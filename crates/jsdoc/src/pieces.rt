@@ -9,7 +9,7 @@ ghost use Prim.Native.Nat.{_≤_};
 ghost use lib.ListN.{length, drop};
 ghost use Rattle.jsdoc.specs.Parsed.{ok};
 ghost use Rattle.jsdoc.specs.Reader.{skipWhitespace, whitespace, tag as tagOf, word as wordOf, upTo};
-ghost use Rattle.jsdoc.specs.Answers.{Finds};
+ghost use Rattle.jsdoc.specs.code.Answers.{Finds};
 
 // Past the white space at `at`.
 pub fn skip_whitespace(s: &[u8], at: usize) -> usize

@@ -9,7 +9,7 @@ ghost use mathlib.Core.Path.{_≡_};
 ghost use Prim.Native.Nat.{_≤_};
 ghost use lib.ListN.{length, drop};
 ghost use Rattle.jsdoc.specs.Reader.{isMark, parseQuote, parseIdent, parseKey};
-ghost use Rattle.jsdoc.specs.Answers.{Spells, quoteMark, nameMark, keyMark, moved, Movable};
+ghost use Rattle.jsdoc.specs.code.Answers.{Spells, quoteMark, nameMark, keyMark, moved, Movable};
 
 fn is_mark(b: u8) -> bool
     ensures { λ r. ⌜ r ≡ isMark b ⌝ }

@@ -2,4 +2,4 @@ pub mod Codec
 pub mod Decoded
 pub mod Quoted
 pub mod Ordered
-pub mod Left
+pub mod code

@@ -15,7 +15,7 @@ use Rattle.jsdoc.specs.Listing.{listing}
 use Rattle.jsdoc.proofs.Marked.{marks-iff, marks-unique, marks-nothing}
 use Rattle.jsdoc.proofs.Listing.{listing-marks}
 use Rattle.sheet.specs.declared.comments.Comment.{Comment}
-use Rattle.sheet.specs.Tables.{rows}
+use Rattle.sheet.specs.code.Tables.{rows}
 use Rattle.sheet.specs.Fit.{commentOf, Fit}
 use Rattle.sheet.specs.Lookups.{bodySpan, body}
 use Rattle.sheet.proofs.Bodies.{Within, placed-body}

@@ -20,7 +20,7 @@ use Rattle.sheet.specs.declared.names.MediaType.{MediaType}
 use Rattle.sheet.specs.Media.{isJavaScript}
 use Rattle.report.specs.Encode.{encodeList, encodeSpecifier, encodeJsDoc}
 use Rattle.report.specs.Range.{rangeOf}
-use Rattle.pragmas.specs.Views.{encodeAny}
+use Rattle.pragmas.specs.code.Views.{encodeAny}
 use Rattle.pragmas.proofs.Between.{listed-each}
 use Rattle.listing.specs.Imports.{marksOf, countOf, importAt, importsFrom, jsdocImports}
 use Rattle.listing.proofs.Entries.{count-all}

@@ -15,14 +15,14 @@ ghost use mathlib.Core.Path.{_≡_};
 ghost use mathlib.Core.List.{flatMap};
 ghost use Prim.Native.Nat.{_*_, _≤_};
 ghost use lib.ListN.{length, replicate};
-ghost use Rattle.sheet.specs.Tables.{commentsIn};
+ghost use Rattle.sheet.specs.code.Tables.{commentsIn};
 ghost use Rattle.sheet.specs.Fit.{Fit};
 ghost use Rattle.sheet.specs.Lookups.{HoldsMarks};
 ghost use Rattle.report.specs.Encode.{encodeJsDoc, encodeList};
 ghost use Rattle.report.specs.Range.{IndexOf};
 ghost use Rattle.report.specs.Buffer.{wrote, bufferAs};
-ghost use Rattle.pragmas.specs.Held.{Commented};
-ghost use Rattle.pragmas.specs.Views.{encodeAny};
+ghost use Rattle.pragmas.specs.code.Held.{Commented};
+ghost use Rattle.pragmas.specs.code.Views.{encodeAny};
 ghost use Rattle.listing.specs.Imports.{isStarOpened, markedBy, marksOf, marksIn, countOf, importAt, importsFrom, jsdocImports};
 
 // Is it a block comment whose body begins with `*`?

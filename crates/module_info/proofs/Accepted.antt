@@ -26,7 +26,7 @@ use Rattle.sheet_codec.specs.SheetOf.{SheetOf}
 use Rattle.sheet_codec.proofs.Sheets.{accepts-exactly}
 use Rattle.sheet_codec.proofs.Refusals.{Decision, decided}
 use Rattle.accept.specs.declared.check.Parts.{Parts}
-use Rattle.accept.specs.Accepts.{Accepts}
+use Rattle.accept.specs.code.Accepts.{Accepts}
 use Rattle.report.specs.declared.writer.Outcome.{Outcome}
 use Rattle.report.specs.Answer.{outcomeAs, refusedWith, fitted}
 use Rattle.report.specs.ModuleInfo.{DependencyDescriptor}
@@ -34,7 +34,7 @@ use Rattle.report.specs.Encode.{encode}
 use Rattle.pragmas.specs.Pragmas.{typesAt}
 use Rattle.pragmas.specs.Present.{Present}
 use Rattle.pragmas.specs.Texts.{TypesShown, typesOf, Texts}
-use Rattle.pragmas.specs.Held.{Held}
+use Rattle.pragmas.specs.code.Held.{Held}
 use Rattle.pragmas.proofs.Present.{present, types-present}
 use Rattle.pragmas.proofs.Texts.{types-shown, texts}
 use Rattle.listing.specs.Demand.{OnlyRight}
@@ -44,7 +44,7 @@ use Rattle.dep.specs.InTurn.{InTurn, Worded, EntryOf}
 use Rattle.dep.proofs.Turns.{turn-member, turns-with, collect-turns}
 use Rattle.dep.proofs.Right.{attributes-right}
 use Rattle.module_info.specs.Information.{moduleInfo, answerOf}
-use Rattle.module_info.specs.Pieces.{PartsOf, RootOf}
+use Rattle.module_info.specs.code.Pieces.{PartsOf, RootOf}
 use Rattle.module_info.specs.Demands.{OfAccepted, Demands}
 use Rattle.module_info.proofs.Numbers.{number-right}
 use Rattle.module_info.proofs.Fine.{Fine}

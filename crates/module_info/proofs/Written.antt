@@ -13,8 +13,8 @@ use Rattle.sheet.specs.Tree.{Node}
 use Rattle.sheet.specs.Nodes.{node}
 use Rattle.sheet.specs.Walked.{entries}
 use Rattle.sheet.specs.Sheet.{Sheet}
-use Rattle.sheet.specs.Tables.{commentsIn, groupsIn}
-use Rattle.sheet.specs.Views.{programOf}
+use Rattle.sheet.specs.code.Tables.{commentsIn, groupsIn}
+use Rattle.sheet.specs.code.Views.{programOf}
 use Rattle.sheet.specs.Lookups.{headGroup, endGroup}
 use Rattle.accept.specs.declared.check.Parts.{Parts}
 use Rattle.report.specs.Encode.{encodeList, encodeSpecifier, encodeReference, encodeJsDoc, encodeDependency, encode}
@@ -24,7 +24,7 @@ use Rattle.pragmas.specs.Pragmas.{inGroup, headComments, endComments, reference
 use Rattle.listing.specs.Imports.{jsdocImports}
 use Rattle.dep.specs.Collect.{collect}
 use Rattle.module_info.specs.Information.{moduleInfo}
-use Rattle.module_info.specs.Pieces.{dependencyBytes, headBytes, restBytes, PartsOf, RootOf}
+use Rattle.module_info.specs.code.Pieces.{dependencyBytes, headBytes, restBytes, PartsOf, RootOf}
 
 module _ {t : Sheet} {source comments groups : List ℕ} {p : Parts} (o : PartsOf t source comments groups p) where
   pub dependencies-written : {s : List ℕ} (r : RootOf t s p) (u : Buffer) {v w : Buffer} → v ≡ wrote u (encodeFlag (p .program .script))

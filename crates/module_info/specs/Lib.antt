@@ -1,5 +1,5 @@
 pub mod Information
 pub mod Numbers
-pub mod Pieces
 pub mod Report
 pub mod Demands
+pub mod code

@@ -29,14 +29,14 @@ ghost use Prim.Native.Nat.{ℕ, _≤_};
 ghost use lib.ListN.{length, replicate};
 ghost use Rattle.laws.specs.Decoded.{ok};
 ghost use Rattle.sheet.specs.Sheet.{Sheet, accept};
-ghost use Rattle.accept.specs.Accepts.{Accepts, Judges};
+ghost use Rattle.accept.specs.code.Accepts.{Accepts, Judges};
 ghost use Rattle.report.specs.declared.writer.Outcome.{Outcome};
 ghost use Rattle.report.specs.Buffer.{wrote, bufferAs};
 ghost use Rattle.report.specs.Encode.{encode};
 ghost use Rattle.report.specs.Answer.{outcomeAs, fitted};
-ghost use Rattle.pragmas.specs.Held.{Held};
+ghost use Rattle.pragmas.specs.code.Held.{Held};
 ghost use Rattle.module_info.specs.Information.{moduleInfo, packed};
-ghost use Rattle.module_info.specs.Pieces.{dependencyBytes, headBytes, restBytes, PartsOf, RootOf};
+ghost use Rattle.module_info.specs.code.Pieces.{dependencyBytes, headBytes, restBytes, PartsOf, RootOf};
 ghost use Rattle.module_info.specs.Demands.{Demands};
 
 // The script flag and the dependencies.

@@ -12,7 +12,7 @@ use Rattle.sheet.specs.Walked.{one, counting, entries, judging, uncooked}
 use Rattle.nodes.specs.declared.tally.Tally.{Tally}
 use Rattle.nodes.specs.declared.tally.Judged.{Judged}
 use Rattle.nodes.specs.declared.tally.Passed.{Passed}
-use Rattle.nodes.specs.Judged.{judged, plus, withArgument, passed}
+use Rattle.nodes.specs.code.Judged.{judged, plus, withArgument, passed}
 
 pub one-small : (b : Bool) → one b ≤ 1
 one-small true = omega arith

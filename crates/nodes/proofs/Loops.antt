@@ -9,13 +9,13 @@ use Rattle.laws.proofs.Answers.{Reads, ends, behind}
 use Rattle.sheet.specs.declared.fields.Span.{Span}
 use Rattle.sheet.specs.Tree.{Node, Nodes, none, more, noArguments, argument, Properties, noProperties}
 use Rattle.sheet.specs.Nodes.{many, nodes, argumentItem, arguments, propertyItem, properties}
-use Rattle.heads.specs.Parts.{PropertyHead, spreadHead, otherPropertyHead, childKeyHead, stringKeyHead, nameKeyHead, propertyHead, argumentHead}
+use Rattle.heads.specs.code.Parts.{PropertyHead, spreadHead, otherPropertyHead, childKeyHead, stringKeyHead, nameKeyHead, propertyHead, argumentHead}
 use Rattle.heads.proofs.ByHead.{argument-by-head, property-by-head, propertyRest}
 use Rattle.heads.proofs.Many.{found, found-step, found-stop, found-end}
 use Rattle.nodes.specs.declared.tally.Tally.{Tally}
 use Rattle.nodes.specs.declared.tally.Judged.{Judged}
 use Rattle.nodes.specs.declared.tally.Passed.{Passed}
-use Rattle.nodes.specs.Judged.{judged, tallyAll, tallyIn, gain, plus, withArgument, passed}
+use Rattle.nodes.specs.code.Judged.{judged, tallyAll, tallyIn, gain, plus, withArgument, passed}
 use Rattle.nodes.proofs.Adds.{nothing, tallyOf, plus-assoc, nothing-plus, plus-nothing, noPassed, behindPassed, one-more, all-passed, none-more}
 
 -- a property adds what it would be by itself

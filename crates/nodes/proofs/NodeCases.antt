@@ -16,7 +16,7 @@ use Rattle.wire.specs.Optional.{optional}
 use Rattle.sheet.specs.Fields.{position, endFrom, span}
 use Rattle.sheet.specs.Nodes.{many, tag, stringText, quoted, piece, nodes, argumentItem, arguments, keyedItem, propertyItem, properties, attributes, otherFields, stringFields, nameFields, templateFields, binaryFields, objectFields, callRest, callFields, importFields, namedExportFields, exportAllFields, importTypeFields, importEqualsFields, moduleFields, fields, node, attributesObject}
 use Rattle.nodes.specs.declared.tally.Judged.{Judged}
-use Rattle.nodes.specs.Judged.{judged}
+use Rattle.nodes.specs.code.Judged.{judged}
 
 -- a tag with an empty span, and the fields
 abbrev at : ℕ → List ℕ → List ℕ

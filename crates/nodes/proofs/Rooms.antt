@@ -13,7 +13,7 @@ use Rattle.nodes.specs.declared.tally.Tallied.{Tallied}
 use Rattle.nodes.specs.declared.tally.Tallied.the-variants as tallied
 use Rattle.nodes.specs.declared.tally.PassedRead.{PassedRead}
 use Rattle.nodes.specs.declared.tally.PassedRead.the-variants as passedRead
-use Rattle.nodes.specs.Answers.{leafOf, withOwn, onlyEntry, joined, withNodes, calledBy, Room, RoomPassed, PastChecked, PastRest, PastTally, PastPassed}
+use Rattle.nodes.specs.code.Answers.{leafOf, withOwn, onlyEntry, joined, withNodes, calledBy, Room, RoomPassed, PastChecked, PastRest, PastTally, PastPassed}
 use Rattle.nodes.proofs.Adds.{one-small}
 
 module _ (at n : ℕ) where

@@ -35,10 +35,10 @@ ghost use lib.ListN.{length, drop};
 ghost use Rattle.laws.specs.Decoded.{onOk};
 ghost use Rattle.sheet.specs.Nodes.{node, nodes, arguments, propertyItem, properties, attributesObject};
 ghost use Rattle.sheet.specs.declared.fields.Span.{Span};
-ghost use Rattle.heads.specs.Rest.{behind, rest};
-ghost use Rattle.heads.specs.Views.{headOf};
-ghost use Rattle.nodes.specs.Judged.{judged, tallyAll, tallyIn, tallyWith, gain, passed, callParts, passedAll, typedParts, tallyTyped};
-ghost use Rattle.nodes.specs.Answers.{checkedAs, talliedAs, passedAs, Begun, PastChecked, PastRest, PastTally, PastPassed};
+ghost use Rattle.heads.specs.code.Rest.{behind, rest};
+ghost use Rattle.heads.specs.code.Views.{headOf};
+ghost use Rattle.nodes.specs.code.Judged.{judged, tallyAll, tallyIn, tallyWith, gain, passed, callParts, passedAll, typedParts, tallyTyped};
+ghost use Rattle.nodes.specs.code.Answers.{checkedAs, talliedAs, passedAs, Begun, PastChecked, PastRest, PastTally, PastPassed};
 
 // The node at a cursor, with so many levels left, its own among them.
 pub fn check_node(sheet: &[u8], source: &[u8], c: Cursor, levels: usize) -> Checked

@@ -5,8 +5,8 @@ ghost use mathlib.Core.Path.{_≡_};
 ghost use mathlib.Core.Bool.{_&&_, _||_};
 ghost use Prim.Native.Nat.{_+_, _^_, _<_};
 ghost use Rattle.sheet.specs.Walked.{one};
-ghost use Rattle.nodes.specs.Judged.{plus, withArgument, importCallee};
-ghost use Rattle.nodes.specs.Answers.{nodesOf, leafOf, withOwn, onlyEntry, joined, withNodes, calledBy, Room, RoomPassed};
+ghost use Rattle.nodes.specs.code.Judged.{plus, withArgument, importCallee};
+ghost use Rattle.nodes.specs.code.Answers.{nodesOf, leafOf, withOwn, onlyEntry, joined, withNodes, calledBy, Room, RoomPassed};
 
 // Of nodes: how many dependencies they give, and whether a call in them has an uncooked template for its first argument.
 pub struct Tally {

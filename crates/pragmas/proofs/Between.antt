@@ -9,7 +9,7 @@ use native.Mathlib.Omega.{arith}
 use lib.ListN.{length}
 use Rattle.sheet.specs.declared.comments.Comment.{Comment}
 use Rattle.sheet.specs.declared.groups.Group.{Group}
-use Rattle.sheet.specs.Tables.{rows, commentIn, commentsIn}
+use Rattle.sheet.specs.code.Tables.{rows, commentIn, commentsIn}
 use Rattle.sheet.specs.Fit.{Reaching}
 use Rattle.sheet.specs.Lookups.{commentsOf}
 use Rattle.sheet.proofs.Rows.{rows-more}
@@ -18,7 +18,7 @@ use Rattle.report.specs.ModuleInfo.{TypeScriptReference}
 use Rattle.pragmas.specs.declared.references.Reference.{Reference}
 use Rattle.pragmas.specs.declared.references.Reference.the-variants as reference
 use Rattle.pragmas.specs.Readings.{orElse, firstOf, lastOf, listed, allOf}
-use Rattle.pragmas.specs.Views.{commentsFrom, referenceAs, amount, encodeAny}
+use Rattle.pragmas.specs.code.Views.{commentsFrom, referenceAs, amount, encodeAny}
 
 module _ (table : List ℕ) (start end : ℕ) where
   from-next : start < end → commentsFrom table start end ≡ commentIn table start ∷ commentsFrom table (start + 1) end

@@ -8,7 +8,7 @@ use Rattle.sheet.specs.declared.comments.Comment.{Comment}
 use Rattle.sheet.proofs.Bodies.{placed-body}
 use Rattle.report.specs.Range.{InSource}
 use Rattle.pragmas.specs.Readings.{placeIn}
-use Rattle.pragmas.specs.Views.{CaptureIn}
+use Rattle.pragmas.specs.code.Views.{CaptureIn}
 
 -- the places of the body are places of the source
 pub capture-within : (source : List ℕ) (c : Comment) (k : Capture) → CaptureIn source c k → InSource source (placeIn c k)

@@ -9,7 +9,7 @@ use Rattle.sheet.specs.Fit.{Grouped}
 use Rattle.sheet.specs.declared.names.Side.the-variants.{Trailing}
 use Rattle.sheet.specs.Lookups.{headGroup, endGroup}
 use Rattle.sheet.proofs.Members.{found-reaching, head-reaching}
-use Rattle.pragmas.specs.Held.{Reached}
+use Rattle.pragmas.specs.code.Held.{Reached}
 
 module _ {n : ℕ} {gs : List Group} (h : Grouped n gs) (p : Program) where
   pub head-reached : (o : Option Group) → o ≡ headGroup p gs → Reached n o

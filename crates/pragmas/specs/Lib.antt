@@ -1,6 +1,5 @@
 pub mod Readings
 pub mod Pragmas
-pub mod Held
-pub mod Views
 pub mod Present
 pub mod Texts
+pub mod code

@@ -17,15 +17,15 @@ use sheet::names::MediaType;
 use sheet::names::Side;
 ghost use mathlib.Core.Path.{_≡_};
 ghost use Rattle.wire.specs.Optional.{encodeOptional};
-ghost use Rattle.sheet.specs.Tables.{commentsIn, groupsIn};
+ghost use Rattle.sheet.specs.code.Tables.{commentsIn, groupsIn};
 ghost use Rattle.sheet.specs.Fit.{Placed};
-ghost use Rattle.sheet.specs.Views.{foundAs};
+ghost use Rattle.sheet.specs.code.Views.{foundAs};
 ghost use Rattle.sheet.specs.Media.{isJavaScript, isJsx};
 ghost use Rattle.report.specs.Encode.{encodeSpecifier};
 ghost use Rattle.report.specs.Buffer.{wrote, bufferAs};
-ghost use Rattle.pragmas.specs.Held.{Commented, GroupedIn, Reached};
+ghost use Rattle.pragmas.specs.code.Held.{Commented, GroupedIn, Reached};
 ghost use Rattle.pragmas.specs.Pragmas.{inGroup, selfTypesIn, jsxImportSourceIn, jsxImportSourceTypesIn, sourceMapUrlIn, tsOrDenoTypes, typesIn};
-ghost use Rattle.pragmas.specs.Views.{readAs, ReadIn};
+ghost use Rattle.pragmas.specs.code.Views.{readAs, ReadIn};
 
 // The opposite of the Rust's `is_typed`.
 pub fn is_javascript(media: MediaType) -> bool

@@ -26,17 +26,17 @@ ghost use Rattle.analysis.specs.Row.{find};
 ghost use Rattle.analysis.specs.Place.{Inside, Within};
 ghost use Rattle.sheet.specs.declared.names.CommentKind.the-variants.{Block};
 ghost use Rattle.sheet.specs.Names.{kindNumber};
-ghost use Rattle.sheet.specs.Tables.{commentsIn};
+ghost use Rattle.sheet.specs.code.Tables.{commentsIn};
 ghost use Rattle.sheet.specs.Fit.{Placed, Fit};
 ghost use Rattle.sheet.specs.Lookups.{HoldsMarks, bodySpan};
-ghost use Rattle.sheet.specs.Views.{foundAs};
+ghost use Rattle.sheet.specs.code.Views.{foundAs};
 ghost use Rattle.report.specs.Encode.{encodeSpecifier};
 ghost use Rattle.report.specs.Range.{IndexOf};
 ghost use Rattle.report.specs.Buffer.{wrote, bufferAs};
-ghost use Rattle.pragmas.specs.Held.{Reached};
+ghost use Rattle.pragmas.specs.code.Held.{Reached};
 ghost use Rattle.pragmas.specs.Readings.{placeIn, specifierIn, firstOf, lastOf};
 ghost use Rattle.pragmas.specs.Pragmas.{inGroup};
-ghost use Rattle.pragmas.specs.Views.{rowOf, takes, readRule, readAs, ReadIn, CaptureIn, commentsFrom};
+ghost use Rattle.pragmas.specs.code.Views.{rowOf, takes, readRule, readAs, ReadIn, CaptureIn, commentsFrom};
 
 // The rules that give one specifier.
 pub enum Rule {

@@ -20,16 +20,16 @@ ghost use lib.ListN.{length};
 ghost use mathlib.Core.List.{flatMap};
 ghost use Rattle.analysis.specs.Row.{find};
 ghost use Rattle.analysis.specs.Patterns.{resolutionModeRow};
-ghost use Rattle.sheet.specs.Tables.{commentsIn};
+ghost use Rattle.sheet.specs.code.Tables.{commentsIn};
 ghost use Rattle.sheet.specs.Fit.{Placed, Fit};
-ghost use Rattle.sheet.specs.Views.{foundAs};
+ghost use Rattle.sheet.specs.code.Views.{foundAs};
 ghost use Rattle.report.specs.Encode.{encodeList, encodeReference};
 ghost use Rattle.report.specs.Range.{IndexOf};
 ghost use Rattle.report.specs.Buffer.{wrote, bufferAs};
-ghost use Rattle.pragmas.specs.Held.{Commented, Reached};
+ghost use Rattle.pragmas.specs.code.Held.{Commented, Reached};
 ghost use Rattle.pragmas.specs.Readings.{allOf};
 ghost use Rattle.pragmas.specs.Pragmas.{inGroup, modeBy, reference, referencesIn};
-ghost use Rattle.pragmas.specs.Views.{commentsFrom, referenceAs, ReferenceIn, amount, encodeAny};
+ghost use Rattle.pragmas.specs.code.Views.{commentsFrom, referenceAs, ReferenceIn, amount, encodeAny};
 
 // A reference of a comment: what is captured there, and of a types reference the mode.
 pub enum Reference {

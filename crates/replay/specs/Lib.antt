@@ -1,4 +1,3 @@
-pub mod Bounds
 pub mod Stored
 pub mod Compared
-pub mod Views
+pub mod code

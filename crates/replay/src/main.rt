@@ -17,8 +17,8 @@ ghost use Rattle.sheet.specs.Walked.{one};
 ghost use Rattle.report.specs.Answer.{outcomeAs};
 ghost use Rattle.replay.specs.Stored.{fourBytes, piece, row, storedRows};
 ghost use Rattle.replay.specs.Compared.{padded, storedAnswer, sameAnswer, ranOf, counted, tallyOf};
-ghost use Rattle.replay.specs.Views.{partAs, stepAs};
-ghost use Rattle.replay.specs.Bounds.{Within, NextWithin, Room, Printable};
+ghost use Rattle.replay.specs.code.Views.{partAs, stepAs};
+ghost use Rattle.replay.specs.code.Bounds.{Within, NextWithin, Room, Printable};
 
 // The bytes that are read at most.
 const SPACE: usize = 131072;

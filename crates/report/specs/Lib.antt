@@ -8,4 +8,4 @@ pub mod Texts
 pub mod Range
 pub mod Stands
 pub mod Answer
-pub mod Lent
+pub mod code

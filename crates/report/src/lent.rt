@@ -5,7 +5,7 @@ ghost use mathlib.Core.Path.{_≡_};
 ghost use lib.ListN.{length};
 ghost use Rattle.report.specs.Buffer.{bufferAs};
 ghost use Rattle.report.specs.Answer.{answered, outcomeAs};
-ghost use Rattle.report.specs.Lent.{begun};
+ghost use Rattle.report.specs.code.Lent.{begun};
 
 // The lent buffer, and the place in it.
 pub struct Writer<'a> {

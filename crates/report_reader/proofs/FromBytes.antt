@@ -20,7 +20,7 @@ use Rattle.wire.proofs.NumberCodec.{number-codec}
 use Rattle.report.specs.ModuleInfo.{DynamicArgument, expr, string, template}
 use Rattle.report.specs.Encode.{encodeList, encodeArgument}
 use Rattle.report.specs.Valid.{Short}
-use Rattle.report_reader.specs.Reads.{Reads, Number}
+use Rattle.report_reader.specs.code.Reads.{Reads, Number}
 
 -- a number, as the cursor answers it
 module _ (s : List ℕ) (at value next : ℕ) where

@@ -11,8 +11,8 @@ ghost use Rattle.wire.specs.Text.{encodeText};
 ghost use Rattle.wire.specs.Optional.{encodeOptional};
 ghost use Rattle.report.specs.Encode.{encodeList, encodeRange, encodeSpecifier, encodeAttributes};
 ghost use Rattle.report.specs.Valid.{Short, ValidPosition, ValidRange, ValidSpecifier, ValidAttributes};
-ghost use Rattle.report_reader.specs.Reads.{Reads, Skips, Number, Inside};
-ghost use Rattle.report_reader.specs.Parts.{encodePart, ValidPart};
+ghost use Rattle.report_reader.specs.code.Reads.{Reads, Skips, Number, Inside};
+ghost use Rattle.report_reader.specs.code.Parts.{encodePart, ValidPart};
 
 // A number, and the place behind it.
 pub struct NumberRead {

@@ -14,8 +14,8 @@ use borrow.Author.Tests.{leb-true, le-leb, ltb-true, ltb-false, eqb-true, eqb-fa
 use Rattle.sheet.specs.declared.groups.Group.{Group}
 use Rattle.sheet.specs.Comments.{holds, inSome, covered}
 use Rattle.sheet.specs.Fit.{Holds, HeldBySome}
-use Rattle.sheet.specs.Tables.{rows, groupIn, groupsIn}
-use Rattle.sheet.specs.Covering.{longestAt}
+use Rattle.sheet.specs.code.Tables.{rows, groupIn, groupsIn}
+use Rattle.sheet.specs.code.Covering.{longestAt}
 
 -- a number is below the larger of two just where it is below one of them
 below-max : (j a b : ℕ) → ltb j (max a b) ≡ (ltb j a || ltb j b)

@@ -8,11 +8,11 @@ use native.Mathlib.Omega.{arith}
 use lib.ListN.{length}
 use lib.Seq.{sets, length-sets}
 use Rattle.laws.specs.Decoded.{Decoded, ok, no, onOk, Decoder}
-use Rattle.laws.specs.Left.{KeptFrom}
+use Rattle.laws.specs.code.Left.{KeptFrom}
 use Rattle.laws.proofs.Decoding.{map-map}
 use Rattle.laws.proofs.Lists.{drop-sets}
 use Rattle.sheet.specs.Comments.{chained}
-use Rattle.sheet.specs.Tables.{rows}
+use Rattle.sheet.specs.code.Tables.{rows}
 use Rattle.sheet.proofs.Stores.{Table, rows-stored}
 
 -- no change

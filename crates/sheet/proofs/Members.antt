@@ -9,7 +9,7 @@ use lib.ListN.{length}
 use Rattle.sheet.specs.declared.comments.Comment.{Comment}
 use Rattle.sheet.specs.declared.groups.Group.{Group}
 use Rattle.sheet.specs.Program.{Program}
-use Rattle.sheet.specs.Tables.{rows, commentIn, commentsIn}
+use Rattle.sheet.specs.code.Tables.{rows, commentIn, commentsIn}
 use Rattle.sheet.specs.Fit.{Placed, Fit, Reaching, groupOf, Grouped}
 use Rattle.sheet.specs.declared.names.Side.{Side}
 use Rattle.sheet.specs.declared.names.Side.the-variants.{Leading, Trailing}

@@ -7,7 +7,7 @@ use native.Mathlib.Nat.{add-zero, zero-add, add-suc, suc-add, not-suc-le-zero, l
 use native.Mathlib.Numerals.{add-one}
 use native.Mathlib.Omega.{arith}
 use lib.ListN.{length, getD, take, drop}
-use Rattle.sheet.specs.Tables.{rows, commentIn, commentsIn, groupIn, groupsIn}
+use Rattle.sheet.specs.code.Tables.{rows, commentIn, commentsIn, groupIn, groupsIn}
 use Rattle.sheet.specs.Fit.{noComment, commentOf, noGroup, groupOf}
 
 module _ {A : Type 0} where

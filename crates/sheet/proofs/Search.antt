@@ -14,7 +14,7 @@ use Rattle.sheet.specs.declared.groups.Group.{Group}
 use Rattle.sheet.specs.declared.names.Side.{Side}
 use Rattle.sheet.specs.Names.{sideNumber}
 use Rattle.sheet.specs.Comments.{precedes, mayFollow}
-use Rattle.sheet.specs.Tables.{rows, groupIn, groupsIn}
+use Rattle.sheet.specs.code.Tables.{rows, groupIn, groupsIn}
 use Rattle.sheet.specs.Fit.{Ascending}
 use Rattle.sheet.specs.Lookups.{standsAt, groupAt}
 use Rattle.sheet.proofs.Numbered.{side-numbers}

@@ -6,7 +6,7 @@ use native.Mathlib.Nat.{zero-add, not-suc-le-zero}
 use native.Mathlib.Omega.{arith}
 use lib.ListN.{length, getD, set, length-set}
 use lib.Seq.{sets, getD-set-same, getD-set-other}
-use Rattle.sheet.specs.Tables.{rows, commentRow, commentIn, groupRow, groupIn}
+use Rattle.sheet.specs.code.Tables.{rows, commentRow, commentIn, groupRow, groupIn}
 use Rattle.sheet.proofs.Numbered.{kind-numbers, side-numbers}
 use Rattle.sheet.proofs.Rows.{rows-same, rows-more}
 

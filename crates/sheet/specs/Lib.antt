@@ -5,8 +5,6 @@ pub mod Tree
 pub mod Fields
 pub mod Comments
 pub mod Program
-pub mod Tables
-pub mod Covering
 pub mod Fit
 pub mod Lookups
 pub mod Nodes
@@ -16,4 +14,4 @@ pub mod Walked
 pub mod Reached
 pub mod WalkRight
 pub mod Sheet
-pub mod Views
+pub mod code

@@ -11,10 +11,10 @@ ghost use mathlib.Core.Path.{_≡_};
 ghost use Prim.Native.Nat.{_+_, _*_, _≤_, _<_};
 ghost use lib.ListN.{length, drop};
 ghost use lib.Seq.{sets};
-ghost use Rattle.laws.specs.Left.{KeptFrom};
+ghost use Rattle.laws.specs.code.Left.{KeptFrom};
 ghost use Rattle.sheet.specs.Comments.{enclosed, marked, comment, comments};
-ghost use Rattle.sheet.specs.Tables.{commentRow, commentIn};
-ghost use Rattle.sheet.specs.Views.{commentAs, commentsAs};
+ghost use Rattle.sheet.specs.code.Tables.{commentRow, commentIn};
+ghost use Rattle.sheet.specs.code.Views.{commentAs, commentsAs};
 
 // A comment: its kind, and its span with the marks.
 pub struct Comment {

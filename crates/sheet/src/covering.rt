@@ -5,10 +5,10 @@ ghost use mathlib.Core.List.{_++_};
 ghost use Prim.Native.Nat.{ℕ, _*_, _≤_, _<_, max};
 ghost use lib.Dec.{eqb};
 ghost use lib.ListN.{length, getD, drop, replicate};
-ghost use Rattle.laws.specs.Left.{Free};
+ghost use Rattle.laws.specs.code.Left.{Free};
 ghost use Rattle.sheet.specs.Comments.{covered};
-ghost use Rattle.sheet.specs.Tables.{groupsIn};
-ghost use Rattle.sheet.specs.Covering.{longestAt};
+ghost use Rattle.sheet.specs.code.Tables.{groupsIn};
+ghost use Rattle.sheet.specs.code.Covering.{longestAt};
 
 // Sets the first n numbers to 0.
 fn clear(longest: &mut [u32], n: usize)

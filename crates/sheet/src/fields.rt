@@ -4,9 +4,9 @@ use wire::Read;
 ghost use mathlib.Core.Path.{_≡_};
 ghost use lib.ListN.{length, drop};
 ghost use Rattle.text.specs.Position.{isBoundary};
-ghost use Rattle.wire.specs.Views.{readAs, Past};
+ghost use Rattle.wire.specs.code.Views.{readAs, Past};
 ghost use Rattle.sheet.specs.Fields.{position, endFrom, span};
-ghost use Rattle.sheet.specs.Views.{spanAs, PastSpan};
+ghost use Rattle.sheet.specs.code.Views.{spanAs, PastSpan};
 
 // Where something stands in the source: from the start up to the end.
 pub struct Span {

@@ -12,10 +12,10 @@ ghost use Prim.Native.Nat.{_+_, _*_, _≤_, _<_};
 ghost use lib.Dec.{leb, ltb};
 ghost use lib.ListN.{length, drop};
 ghost use lib.Seq.{sets};
-ghost use Rattle.laws.specs.Left.{KeptFrom};
+ghost use Rattle.laws.specs.code.Left.{KeptFrom};
 ghost use Rattle.sheet.specs.Comments.{precedes, anywhere, group, groups};
-ghost use Rattle.sheet.specs.Tables.{groupRow, groupIn};
-ghost use Rattle.sheet.specs.Views.{afterAs, groupAs, groupsAs};
+ghost use Rattle.sheet.specs.code.Tables.{groupRow, groupIn};
+ghost use Rattle.sheet.specs.code.Views.{afterAs, groupAs, groupsAs};
 
 // A group of comments on a side of a position; the index of its first comment, and their number.
 pub struct Group {

@@ -13,10 +13,10 @@ ghost use mathlib.Core.Path.{_≡_};
 ghost use Prim.Native.Nat.{_*_, _≤_};
 ghost use lib.ListN.{length};
 ghost use Rattle.sheet.specs.Comments.{opening, closing};
-ghost use Rattle.sheet.specs.Tables.{groupsIn};
+ghost use Rattle.sheet.specs.code.Tables.{groupsIn};
 ghost use Rattle.sheet.specs.Fit.{Ascending};
 ghost use Rattle.sheet.specs.Lookups.{standsAt, groupAt, endGroup, headGroup, HoldsMarks, bodySpan, body};
-ghost use Rattle.sheet.specs.Views.{foundAs, programOf};
+ghost use Rattle.sheet.specs.code.Views.{foundAs, programOf};
 
 pub enum GroupFound {
     At(Group),

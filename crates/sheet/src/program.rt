@@ -11,7 +11,7 @@ ghost use lib.ListN.{drop};
 ghost use Rattle.wire.specs.Optional.{optional};
 ghost use Rattle.sheet.specs.Fields.{position};
 ghost use Rattle.sheet.specs.Program.{program};
-ghost use Rattle.sheet.specs.Views.{firstAs, programAs};
+ghost use Rattle.sheet.specs.code.Views.{firstAs, programAs};
 
 // Where the first item starts, if there is one.
 pub enum FirstItem {

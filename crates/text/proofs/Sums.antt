@@ -1,10 +1,10 @@
 -- What the bytes of a text add up to, byte by byte; and the position past them by it.
-use mathlib.Core.Path.{_≡_, refl, sym, ap, _∙_}
+use mathlib.Core.Path.{_≡_, refl, ap, _∙_}
 use mathlib.Core.Bool.{Bool, true, false, cond}
 use mathlib.Core.List.{List, [], _∷_, _++_}
-use Prim.Native.Nat.{ℕ, zero, suc, _+_, _-_, _≤_, _<_}
+use Prim.Native.Nat.{ℕ, suc, _+_, _-_, _≤_, _<_}
 use native.Mathlib.Omega.{arith}
-use native.Mathlib.Nat.{add-zero, eq-or-lt-of-le}
+use native.Mathlib.Nat.{eq-or-lt-of-le}
 use mathlib.Core.Logic.{⊎-elim}
 use native.Mathlib.Numerals.{add-one}
 use lib.Dec.{eqb}
@@ -16,7 +16,7 @@ use Rattle.text.specs.Ranges.{within}
 use Rattle.text.specs.Utf8.{continuation}
 use Rattle.text.specs.Position.{characters, step, walk}
 use Rattle.text.proofs.Positions.{walk-append}
-use Rattle.text.specs.Totals.{total, endsLine, beginsOne}
+use Rattle.text.specs.code.Totals.{total, endsLine, beginsOne}
 
 pub total-append : (f : ℕ → ℕ) (u v : List ℕ) → total f (u ++ v) ≡ total f u + total f v
 unfolding total

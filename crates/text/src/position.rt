@@ -2,10 +2,10 @@
 ghost use mathlib.Core.Path.{_≡_};
 ghost use Prim.Native.Nat.{ℕ, _+_, _-_, _*_, _/_, _≤_, _<_};
 ghost use lib.ListN.{length, getD, take, drop};
-ghost use Rattle.laws.specs.Left.{KeptFrom};
+ghost use Rattle.laws.specs.code.Left.{KeptFrom};
 ghost use Rattle.text.specs.Ranges.{within};
 ghost use Rattle.text.specs.Utf8.{continuation};
-ghost use Rattle.text.specs.Totals.{total, endsLine, beginsOne};
+ghost use Rattle.text.specs.code.Totals.{total, endsLine, beginsOne};
 ghost use Rattle.text.specs.Position.{characters, step, walk, stored, kept, Indexed, indexedPosition};
 
 pub struct Position {

@@ -2,4 +2,4 @@ pub mod Fields
 pub mod Number
 pub mod Text
 pub mod Optional
-pub mod Views
+pub mod code

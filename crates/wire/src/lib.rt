@@ -7,7 +7,7 @@ ghost use lib.ListN.{length, drop};
 ghost use Rattle.wire.specs.Fields.{byte, below, flag};
 ghost use Rattle.wire.specs.Number.{number};
 ghost use Rattle.wire.specs.Text.{count, text};
-ghost use Rattle.wire.specs.Views.{readAs, flagAs, textAs, Past, PastFlag, PastText};
+ghost use Rattle.wire.specs.code.Views.{readAs, flagAs, textAs, Past, PastFlag, PastText};
 
 // A place in a sheet: what is read next.
 pub struct Cursor {

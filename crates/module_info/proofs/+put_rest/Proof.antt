@@ -6,7 +6,7 @@ use borrow.Fn.PlainCycle.{Measures, is, falls, and}
 use lib.ListN.{length}
 use denote.Ref.{now}
 use Rattle.sheet.specs.Limits.{sourceLimit}
-use Rattle.sheet.specs.Views.{programOf}
+use Rattle.sheet.specs.code.Views.{programOf}
 use Rattle.sheet.proofs.lookups.end_group.Reads as end-group
 use Rattle.listing.proofs.imports.analyze_jsdoc_imports.Reads as analyze-jsdoc-imports
 use Rattle.pragmas.proofs.Reached.{end-reached}

@@ -47,7 +47,7 @@ use Rattle.laws.specs.Decoded.{ok}
 use Rattle.sheet.specs.Limits.{commentNumbers, groupNumbers}
 use Rattle.sheet.specs.Sheet.{Sheet, accept}
 use Rattle.accept.specs.declared.check.Parts.{Parts}
-use Rattle.accept.specs.Accepts.{Accepts}
+use Rattle.accept.specs.code.Accepts.{Accepts}
 use Rattle.accept.proofs.check.Parts as N
 use Rattle.accept.proofs.check.Parts.Laws as N′
 use Rattle.report.specs.declared.lent.Writer.{Writer}
@@ -55,7 +55,7 @@ use Rattle.report.specs.declared.writer.Place.{Place}
 use Rattle.report.specs.declared.writer.Outcome.{Outcome}
 use Rattle.report.specs.Buffer.{wrote, bufferAs}
 use Rattle.report.specs.Answer.{answered, outcomeAs}
-use Rattle.report.specs.Lent.{begun}
+use Rattle.report.specs.code.Lent.{begun}
 use Rattle.report.specs.Encode.{encode}
 use Rattle.report.proofs.Again.{LentAgain, lends-again, comes-back}
 use Rattle.report.proofs.Answers.{answered-fitted}

@@ -3,7 +3,7 @@ use native.Mathlib.Omega.{arith}
 use denote.Ref.{now}
 use Rattle.laws.proofs.Steps.{seen}
 use Rattle.wire.specs.Optional.{encodeOptional}
-use Rattle.sheet.specs.Views.{foundAs}
+use Rattle.sheet.specs.code.Views.{foundAs}
 use Rattle.sheet.specs.declared.names.Side.the-variants.{Leading}
 use Rattle.sheet.proofs.Members.{row-placed, group-last, found-reaching}
 use Rattle.pragmas.specs.Pragmas.{typesIn}

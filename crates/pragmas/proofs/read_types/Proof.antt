@@ -2,7 +2,7 @@ use borrow.Author.Needs.{needs}
 use denote.Ref.{now}
 use Rattle.laws.proofs.Steps.{seen}
 use Rattle.pragmas.specs.Pragmas.{tsOrDenoTypes}
-use Rattle.pragmas.specs.Views.{readAs}
+use Rattle.pragmas.specs.code.Views.{readAs}
 use Rattle.pragmas.proofs.read_types.Statement.{statement}
 use Rattle.pragmas.proofs.read_types.Tie as tie
 

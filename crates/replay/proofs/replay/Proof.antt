@@ -7,8 +7,8 @@ use lib.ListN.{length, drop}
 use denote.Ref.{now}
 use Rattle.laws.proofs.Steps.{seen}
 use Rattle.replay.specs.Stored.{rows}
-use Rattle.replay.specs.Views.{stepAs}
-use Rattle.replay.specs.Bounds.{Room}
+use Rattle.replay.specs.code.Views.{stepAs}
+use Rattle.replay.specs.code.Bounds.{Room}
 use Rattle.replay.proofs.Rows.{onward, tally-rows, tally-short, row-counted, row-missing, rows-done, bytes-left}
 use Rattle.replay.proofs.replay.Statement.{statement}
 use Rattle.replay.proofs.replay.Tie as tie

@@ -3,7 +3,7 @@ use denote.Ref.{now}
 use Rattle.laws.proofs.Steps.{seen}
 use Rattle.wire.proofs.Places.{byte-past, byte-at}
 use Rattle.replay.specs.Stored.{row}
-use Rattle.replay.specs.Views.{partAs}
+use Rattle.replay.specs.code.Views.{partAs}
 use Rattle.replay.proofs.replay_one.Statement.{statement}
 use Rattle.replay.proofs.replay_one.Tie as tie
 

@@ -2,10 +2,10 @@ use borrow.Author.Needs.{needs}
 use native.Mathlib.Omega.{arith}
 use denote.Ref.{now}
 use Rattle.laws.proofs.Steps.{seen}
-use Rattle.wire.specs.Views.{readAs}
+use Rattle.wire.specs.code.Views.{readAs}
 use Rattle.wire.proofs.TextCodec.{count-codec}
 use Rattle.sheet.specs.Limits.{commentLimit}
-use Rattle.accept.specs.Pieces.{commentFields}
+use Rattle.accept.specs.code.Pieces.{commentFields}
 use Rattle.accept.proofs.front.read_comment_table.Statement.{statement}
 use Rattle.accept.proofs.front.read_comment_table.Tie as tie
 

@@ -3,8 +3,8 @@ use native.Mathlib.Omega.{arith}
 use mathlib.Core.Path.{sym}
 use denote.Ref.{now}
 use Rattle.laws.proofs.Steps.{seen}
-use Rattle.accept.specs.Pieces.{front}
-use Rattle.accept.specs.Views.{sourceAs}
+use Rattle.accept.specs.code.Pieces.{front}
+use Rattle.accept.specs.code.Views.{sourceAs}
 use Rattle.accept.proofs.ByPieces.{few-comments}
 use Rattle.accept.proofs.front.read_front.Statement.{statement}
 use Rattle.accept.proofs.front.read_front.Tie as tie

@@ -2,10 +2,10 @@ use borrow.Author.Needs.{needs}
 use native.Mathlib.Omega.{arith}
 use denote.Ref.{now}
 use Rattle.laws.proofs.Steps.{known, seen}
-use Rattle.wire.specs.Views.{readAs}
+use Rattle.wire.specs.code.Views.{readAs}
 use Rattle.wire.proofs.TextCodec.{count-codec}
 use Rattle.sheet.specs.Limits.{groupLimit}
-use Rattle.accept.specs.Pieces.{groupFields}
+use Rattle.accept.specs.code.Pieces.{groupFields}
 use Rattle.accept.proofs.front.read_group_table.Statement.{statement}
 use Rattle.accept.proofs.front.read_group_table.Tie as tie
 

@@ -2,8 +2,8 @@ use borrow.Author.Needs.{needs}
 use denote.Ref.{now}
 use Rattle.laws.proofs.Steps.{seen}
 use Rattle.wire.specs.Fields.{numbered}
-use Rattle.wire.specs.Views.{readAs, textAs}
-use Rattle.accept.specs.Pieces.{sourceFields}
+use Rattle.wire.specs.code.Views.{readAs, textAs}
+use Rattle.accept.specs.code.Pieces.{sourceFields}
 use Rattle.accept.proofs.front.read_source.Statement.{statement}
 use Rattle.accept.proofs.front.read_source.Tie as tie
 

@@ -4,9 +4,9 @@ use lib.ListN.{drop-of-length-le}
 use lib.Seq.{drop-cons}
 use denote.Ref.{now}
 use Rattle.laws.proofs.Steps.{seen}
-use Rattle.sheet.specs.Views.{programAs}
-use Rattle.nodes.specs.Answers.{checkedAs}
-use Rattle.accept.specs.Pieces.{tree}
+use Rattle.sheet.specs.code.Views.{programAs}
+use Rattle.nodes.specs.code.Answers.{checkedAs}
+use Rattle.accept.specs.code.Pieces.{tree}
 use Rattle.accept.proofs.Trees.{root-refused, bytes-follow, root-uncooked, tree-stands}
 use Rattle.accept.proofs.tree.check_tree.Statement.{statement}
 use Rattle.accept.proofs.tree.check_tree.Tie as tie

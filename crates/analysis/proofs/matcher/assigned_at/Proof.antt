@@ -1,6 +1,6 @@
 use borrow.Author.Needs.{needs}
 use Rattle.laws.proofs.Steps.{known}
-use Rattle.analysis.specs.Matcher.{assignedAt}
+use Rattle.analysis.specs.code.Matcher.{assignedAt}
 use Rattle.analysis.proofs.matcher.assigned_at.Statement.{statement}
 use Rattle.analysis.proofs.matcher.assigned_at.Tie as tie
 

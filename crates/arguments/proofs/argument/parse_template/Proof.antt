@@ -6,7 +6,7 @@ use lib.ListN.{drop}
 use denote.Ref.{now}
 use Rattle.laws.proofs.Steps.{seen}
 use Rattle.sheet.specs.Nodes.{piece}
-use Rattle.heads.specs.Views.{pieceAs}
+use Rattle.heads.specs.code.Views.{pieceAs}
 use Rattle.heads.proofs.Many.{many-refused}
 use Rattle.arguments.proofs.Pieces.{one-only, of-parts}
 use Rattle.arguments.proofs.argument.parse_template.Statement.{statement}

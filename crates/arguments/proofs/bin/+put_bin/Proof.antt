@@ -8,8 +8,8 @@ use denote.Ref.{now}
 use Rattle.laws.proofs.Steps.{seen}
 use Rattle.laws.proofs.Decoding.{same-rest}
 use Rattle.sheet.specs.Nodes.{node}
-use Rattle.nodes.specs.Judged.{judged}
-use Rattle.nodes.specs.Answers.{checkedAs}
+use Rattle.nodes.specs.code.Judged.{judged}
+use Rattle.nodes.specs.code.Answers.{checkedAs}
 use Rattle.nodes.proofs.check.check_node.Reads as check-node
 use Rattle.arguments.proofs.Chains.{wrote-parts, encode-one, only-part, no-parts, checked-refused, string-chain, template-chain, plus-parts}
 use Rattle.arguments.proofs.bin.put_bin.Reads as put-bin

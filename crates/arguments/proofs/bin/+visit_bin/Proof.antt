@@ -5,7 +5,7 @@ use borrow.Fn.Kinds.{In}
 use borrow.Fn.PlainCycle.{Measures, is, falls, and}
 use denote.Ref.{now}
 use Rattle.laws.proofs.Steps.{seen}
-use Rattle.nodes.specs.Answers.{checkedAs}
+use Rattle.nodes.specs.code.Answers.{checkedAs}
 use Rattle.nodes.proofs.check.check_node.Reads as check-node
 use Rattle.arguments.proofs.Chains.{checked-refused, string-counted, template-chain, plus-unknown, at-right, plus-counted}
 use Rattle.arguments.proofs.bin.visit_bin.Reads as visit-bin

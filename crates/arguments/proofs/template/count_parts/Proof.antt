@@ -11,7 +11,7 @@ use Rattle.laws.proofs.Steps.{seen}
 use Rattle.wire.specs.Number.{largest}
 use Rattle.sheet.specs.Tree.{Pieces}
 use Rattle.sheet.specs.Nodes.{many, piece}
-use Rattle.heads.specs.Views.{pieceAs}
+use Rattle.heads.specs.code.Views.{pieceAs}
 use Rattle.heads.proofs.Many.{many-refused, many-end}
 use Rattle.arguments.specs.Argument.{templateParts}
 use Rattle.arguments.proofs.Pieces.{piece-next, hole-count, one-most}

@@ -10,12 +10,12 @@ use Rattle.laws.specs.Decoded.{ok}
 use Rattle.laws.proofs.Steps.{seen}
 use Rattle.sheet.specs.Tree.{Pieces}
 use Rattle.sheet.specs.Nodes.{many, piece}
-use Rattle.heads.specs.Views.{pieceAs}
+use Rattle.heads.specs.code.Views.{pieceAs}
 use Rattle.heads.proofs.Many.{many-refused, many-end}
 use Rattle.report.specs.Buffer.{wrote, bufferAs}
 use Rattle.report.proofs.Buffers.{wrote-nil}
 use Rattle.arguments.specs.Argument.{templateParts}
-use Rattle.arguments.specs.Views.{encodeParts, holeParts}
+use Rattle.arguments.specs.code.Views.{encodeParts, holeParts}
 use Rattle.arguments.proofs.Chains.{wrote-parts}
 use Rattle.arguments.proofs.Pieces.{piece-next}
 use Rattle.arguments.proofs.template.put_parts.Statement.{statement}

@@ -5,7 +5,7 @@ use denote.Ref.{now}
 use Rattle.laws.proofs.Steps.{known}
 use Rattle.text.specs.Bytes.{part}
 use Rattle.report.specs.ModuleInfo.{ImportAttribute}
-use Rattle.attributes.specs.Views.{pairAs}
+use Rattle.attributes.specs.code.Views.{pairAs}
 use Rattle.attributes.proofs.Insertion.{Sought, sought-none, sought-greater, sought-less, sought-equal, sought-all}
 use Rattle.attributes.proofs.pairs.find.Statement.{statement}
 use Rattle.attributes.proofs.pairs.find.Tie as tie

@@ -5,10 +5,10 @@ use denote.Ref.{now}
 use Rattle.laws.proofs.Decoding.{onOk-ok, onOk-no}
 use Rattle.laws.proofs.Steps.{seen}
 use Rattle.sheet.specs.Nodes.{node, propertyItem}
-use Rattle.heads.specs.Views.{propertyAs}
+use Rattle.heads.specs.code.Views.{propertyAs}
 use Rattle.heads.proofs.ByHead.{property-by-head}
-use Rattle.nodes.specs.Answers.{talliedAs}
-use Rattle.nodes.specs.Judged.{gain}
+use Rattle.nodes.specs.code.Answers.{talliedAs}
+use Rattle.nodes.specs.code.Judged.{gain}
 use Rattle.attributes.proofs.Seen.{prop-is, prop-within}
 use Rattle.attributes.proofs.props.read_prop.Statement.{statement}
 use Rattle.attributes.proofs.props.read_prop.Tie as tie

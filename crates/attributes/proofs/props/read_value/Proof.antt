@@ -1,7 +1,7 @@
 use borrow.Author.Needs.{needs}
 use denote.Ref.{now}
 use Rattle.laws.proofs.Steps.{seen}
-use Rattle.heads.specs.Views.{headAs}
+use Rattle.heads.specs.code.Views.{headAs}
 use Rattle.heads.proofs.ByHead.{no-head}
 use Rattle.attributes.proofs.Shapes.{text-is, object-is, other-is}
 use Rattle.attributes.proofs.props.read_value.Statement.{statement}

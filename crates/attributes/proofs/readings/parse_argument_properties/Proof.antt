@@ -11,7 +11,7 @@ use Rattle.sheet.specs.Nodes.{node}
 use Rattle.sheet.specs.Shape.{shape}
 use Rattle.report.specs.ModuleInfo.{ImportAttributes, none, unknown}
 use Rattle.attributes.specs.Attributes.{Prop, argumentProperties}
-use Rattle.attributes.specs.Views.{attributesAs, AttributesWithin}
+use Rattle.attributes.specs.code.Views.{attributesAs, AttributesWithin}
 use Rattle.attributes.proofs.Loops.{Going, begins, goes-on, stops, ends, settles}
 use Rattle.attributes.proofs.Keys.{attributes-key, other-key}
 use Rattle.attributes.proofs.readings.parse_argument_properties.Statement.{statement}

@@ -6,7 +6,7 @@ use denote.Ref.{now}
 use Rattle.laws.proofs.Steps.{seen}
 use Rattle.sheet.specs.Nodes.{node}
 use Rattle.sheet.specs.Shape.{shape}
-use Rattle.heads.specs.Views.{argumentAs}
+use Rattle.heads.specs.code.Views.{argumentAs}
 use Rattle.heads.proofs.FirstArgument.{no-first, no-arguments}
 use Rattle.report.specs.ModuleInfo.{none, unknown}
 use Rattle.attributes.specs.Attributes.{ofObject, argumentProperties, dynamicAttributes}

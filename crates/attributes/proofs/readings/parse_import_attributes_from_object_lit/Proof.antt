@@ -6,11 +6,11 @@ use native.Mathlib.Omega.{arith}
 use lib.ListN.{length, drop}
 use denote.Ref.{now}
 use Rattle.sheet.specs.Limits.{propertyLimit}
-use Rattle.sheet.specs.Tables.{rows}
+use Rattle.sheet.specs.code.Tables.{rows}
 use Rattle.sheet.specs.Nodes.{node}
 use Rattle.report.specs.ModuleInfo.{unknown}
 use Rattle.attributes.specs.Attributes.{insert, objectAttributes}
-use Rattle.attributes.specs.Views.{pairsIn, Pairs}
+use Rattle.attributes.specs.code.Views.{pairsIn, Pairs}
 use Rattle.attributes.proofs.Loops.{Going, begins, goes-on, stops, ends, settles}
 use Rattle.attributes.proofs.readings.parse_import_attributes_from_object_lit.Statement.{statement}
 use Rattle.attributes.proofs.readings.parse_import_attributes_from_object_lit.Tie as tie

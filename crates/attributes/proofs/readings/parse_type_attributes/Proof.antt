@@ -4,7 +4,7 @@ use native.Mathlib.Omega.{arith}
 use denote.Ref.{now}
 use Rattle.laws.proofs.Steps.{seen}
 use Rattle.sheet.specs.Tree.{without}
-use Rattle.heads.specs.Views.{attributesAs}
+use Rattle.heads.specs.code.Views.{attributesAs}
 use Rattle.attributes.specs.Attributes.{typeAttributes}
 use Rattle.attributes.proofs.Objects.{behind-attributes, no-attributes}
 use Rattle.attributes.proofs.readings.parse_type_attributes.Statement.{statement}

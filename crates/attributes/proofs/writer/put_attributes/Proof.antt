@@ -3,7 +3,7 @@ use denote.Ref.{now}
 use Rattle.sheet.proofs.Rows.{rows-length}
 use Rattle.report.specs.Encode.{encodeList, encodeAttributes}
 use Rattle.report.proofs.Buffers.{wrote-append, wrote-cons}
-use Rattle.attributes.specs.Views.{pairIn}
+use Rattle.attributes.specs.code.Views.{pairIn}
 use Rattle.attributes.proofs.writer.put_attributes.Statement.{statement}
 use Rattle.attributes.proofs.writer.put_attributes.Tie as tie
 

@@ -6,12 +6,12 @@ use native.Mathlib.Omega.{arith}
 use lib.ListN.{length}
 use denote.Ref.{now}
 use mathlib.Core.List.{flatMap}
-use Rattle.sheet.specs.Tables.{rows}
+use Rattle.sheet.specs.code.Tables.{rows}
 use Rattle.sheet.proofs.Rows.{rows-first}
 use Rattle.report.specs.Encode.{encodeKeyValue}
 use Rattle.report.specs.Buffer.{wrote, bufferAs}
 use Rattle.report.proofs.Buffers.{wrote-append, wrote-nil}
-use Rattle.attributes.specs.Views.{pairIn, pairsFrom, pairsIn}
+use Rattle.attributes.specs.code.Views.{pairIn, pairsFrom, pairsIn}
 use Rattle.attributes.proofs.writer.put_pairs.Statement.{statement}
 use Rattle.attributes.proofs.writer.put_pairs.Tie as tie
 

@@ -9,8 +9,8 @@ use Rattle.laws.specs.Codec.{All}
 use Rattle.report.specs.Buffer.{bufferAs}
 use Rattle.report.proofs.Buffers.{wrote-nil}
 use Rattle.citation.specs.Citation.{Line}
-use Rattle.citation.specs.Cites.{Printed}
-use Rattle.citation.specs.Items.{Item, encodeItem, ValidItem, citeItem}
+use Rattle.citation.specs.code.Cites.{Printed}
+use Rattle.citation.specs.code.Items.{Item, encodeItem, ValidItem, citeItem}
 use Rattle.report_reader.proofs.Lists.{Stand, next-item, no-item}
 use Rattle.citation.proofs.Printing.{both, cite-next}
 use Rattle.citation.proofs.cite.cite_items.Statement.{statement}

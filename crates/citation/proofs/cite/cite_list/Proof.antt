@@ -5,7 +5,7 @@ use native.Mathlib.Omega.{arith}
 use lib.ListN.{length}
 use Rattle.wire.specs.Number.{encodeNumber}
 use Rattle.report.specs.Encode.{encodeList}
-use Rattle.citation.specs.Items.{encodeItem}
+use Rattle.citation.specs.code.Items.{encodeItem}
 use Rattle.citation.proofs.cite.cite_list.Statement.{statement}
 use Rattle.citation.proofs.cite.cite_list.Tie as tie
 

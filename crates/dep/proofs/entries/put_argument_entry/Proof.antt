@@ -11,8 +11,8 @@ use Rattle.laws.proofs.Decoding.{refused, onOk-no, same-rest}
 use Rattle.laws.proofs.Steps.{seen}
 use Rattle.sheet.specs.Tree.{Node, Arguments, noArguments}
 use Rattle.sheet.specs.Nodes.{many, node, arguments}
-use Rattle.nodes.specs.Judged.{judged}
-use Rattle.nodes.specs.Answers.{checkedAs}
+use Rattle.nodes.specs.code.Judged.{judged}
+use Rattle.nodes.specs.code.Answers.{checkedAs}
 use Rattle.arguments.specs.Argument.{argumentOf}
 use Rattle.dep.specs.Collect.{callEntry}
 use Rattle.dep.proofs.entries.put_argument_entry.Statement.{statement}

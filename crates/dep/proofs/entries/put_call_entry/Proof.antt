@@ -5,11 +5,11 @@ use lib.ListN.{drop}
 use denote.Ref.{now}
 use Rattle.laws.proofs.Steps.{seen}
 use Rattle.sheet.specs.Nodes.{node}
-use Rattle.heads.specs.Views.{argumentAs}
+use Rattle.heads.specs.code.Views.{argumentAs}
 use Rattle.heads.proofs.FirstArgument.{first, no-first, no-arguments}
 use Rattle.report.specs.Buffer.{bufferAs}
 use Rattle.dep.specs.Collect.{callEntry}
-use Rattle.dep.specs.Walk.{typesFrom, wroteEntries}
+use Rattle.dep.specs.code.Walk.{typesFrom, wroteEntries}
 use Rattle.dep.proofs.Wrote.{entries-nil}
 use Rattle.dep.proofs.Spans.{argument-spanned}
 use Rattle.dep.proofs.entries.put_call_entry.Statement.{statement}

@@ -7,7 +7,7 @@ use Rattle.report.specs.ModuleInfo as info
 use Rattle.report.specs.Range.{rangeOf}
 use Rattle.report.specs.Buffer.{bufferAs}
 use Rattle.attributes.specs.Attributes.{dynamicAttributes}
-use Rattle.dep.specs.Walk.{typesFrom}
+use Rattle.dep.specs.code.Walk.{typesFrom}
 use Rattle.dep.proofs.Fields.{dynamic-written}
 use Rattle.dep.proofs.entries.put_dynamic_entry.Statement.{statement}
 use Rattle.dep.proofs.entries.put_dynamic_entry.Tie as tie

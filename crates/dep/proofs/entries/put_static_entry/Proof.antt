@@ -6,9 +6,9 @@ use Rattle.text.specs.Bytes.{part}
 use Rattle.report.specs.ModuleInfo as info
 use Rattle.report.specs.Range.{rangeOf}
 use Rattle.report.specs.Buffer.{bufferAs}
-use Rattle.attributes.specs.Views.{attributesAs}
+use Rattle.attributes.specs.code.Views.{attributesAs}
 use Rattle.dep.specs.Collect.{staticEntry}
-use Rattle.dep.specs.Walk.{typesFrom}
+use Rattle.dep.specs.code.Walk.{typesFrom}
 use Rattle.dep.proofs.Fields.{static-written}
 use Rattle.dep.proofs.entries.put_static_entry.Statement.{statement}
 use Rattle.dep.proofs.entries.put_static_entry.Tie as tie

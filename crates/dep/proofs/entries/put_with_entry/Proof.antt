@@ -3,7 +3,7 @@ use borrow.Author.Needs.{needs}
 use mathlib.Core.Path.{ap, _∙_}
 use denote.Ref.{now}
 use Rattle.report.specs.Buffer.{bufferAs}
-use Rattle.dep.specs.Walk.{typesFrom, wroteEntries, staticOf}
+use Rattle.dep.specs.code.Walk.{typesFrom, wroteEntries, staticOf}
 use Rattle.dep.proofs.entries.put_with_entry.Statement.{statement}
 use Rattle.dep.proofs.entries.put_with_entry.Tie as tie
 

@@ -8,7 +8,7 @@ use Rattle.laws.proofs.Steps.{seen}
 use Rattle.sheet.specs.Limits.{depthLimit}
 use Rattle.sheet.specs.Nodes.{node}
 use Rattle.report.specs.Buffer.{bufferAs}
-use Rattle.dep.specs.Walk.{typesFrom, walkedAs, afterNode}
+use Rattle.dep.specs.code.Walk.{typesFrom, walkedAs, afterNode}
 use Rattle.dep.proofs.Counted.{program-written}
 use Rattle.dep.proofs.walk.analyze_program_dependencies.Statement.{statement}
 use Rattle.dep.proofs.walk.analyze_program_dependencies.Tie as tie

@@ -7,12 +7,12 @@ use Rattle.laws.specs.Decoded.{ok}
 use Rattle.laws.proofs.Decoding.{onOk-no}
 use Rattle.laws.proofs.Steps.{seen}
 use Rattle.sheet.specs.Nodes.{attributesObject}
-use Rattle.heads.specs.Rest.{behind}
-use Rattle.nodes.specs.Judged.{tallyWith}
-use Rattle.nodes.specs.Answers.{talliedAs}
+use Rattle.heads.specs.code.Rest.{behind}
+use Rattle.nodes.specs.code.Judged.{tallyWith}
+use Rattle.nodes.specs.code.Answers.{talliedAs}
 use Rattle.report.specs.Buffer.{bufferAs}
 use Rattle.attributes.specs.Attributes.{staticAttributes}
-use Rattle.dep.specs.Walk.{typesFrom}
+use Rattle.dep.specs.code.Walk.{typesFrom}
 use Rattle.dep.proofs.Arms.{import-written}
 use Rattle.dep.proofs.walk.walk_import.Statement.{statement}
 use Rattle.dep.proofs.walk.walk_import.Tie as tie

@@ -1,7 +1,7 @@
 use borrow.Author.Needs.{needs}
 use denote.Ref.{now}
 use Rattle.laws.proofs.Steps.{seen}
-use Rattle.wire.specs.Views.{flagAs}
+use Rattle.wire.specs.code.Views.{flagAs}
 use Rattle.heads.proofs.node.read_binary.Statement.{statement}
 use Rattle.heads.proofs.node.read_binary.Tie as tie
 

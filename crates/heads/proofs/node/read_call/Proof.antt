@@ -2,8 +2,8 @@ use borrow.Author.Needs.{needs}
 use borrow.Author.Tests.{lt-ltb, le-ltb}
 use denote.Ref.{now}
 use Rattle.laws.proofs.Steps.{seen}
-use Rattle.wire.specs.Views.{readAs}
-use Rattle.heads.specs.Head.{callStart}
+use Rattle.wire.specs.code.Views.{readAs}
+use Rattle.heads.specs.code.Head.{callStart}
 use Rattle.heads.proofs.node.read_call.Statement.{statement}
 use Rattle.heads.proofs.node.read_call.Tie as tie
 

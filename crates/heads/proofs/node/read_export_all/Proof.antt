@@ -1,9 +1,9 @@
 use borrow.Author.Needs.{needs}
 use denote.Ref.{now}
 use Rattle.laws.proofs.Steps.{seen}
-use Rattle.wire.specs.Views.{flagAs}
-use Rattle.heads.specs.Views.{originAs}
-use Rattle.heads.specs.Head.{exportAllStart}
+use Rattle.wire.specs.code.Views.{flagAs}
+use Rattle.heads.specs.code.Views.{originAs}
+use Rattle.heads.specs.code.Head.{exportAllStart}
 use Rattle.heads.proofs.node.read_export_all.Statement.{statement}
 use Rattle.heads.proofs.node.read_export_all.Tie as tie
 

@@ -1,5 +1,5 @@
 use borrow.Author.Needs.{needs}
-use Rattle.heads.specs.Head.{start}
+use Rattle.heads.specs.code.Head.{start}
 use mathlib.Core.Path.{sym}
 use lib.ListN.{drop}
 use denote.Ref.{now}

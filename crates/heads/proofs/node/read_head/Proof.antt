@@ -1,10 +1,10 @@
 use borrow.Author.Needs.{needs}
 use denote.Ref.{now}
 use Rattle.laws.proofs.Steps.{seen}
-use Rattle.wire.specs.Views.{readAs}
-use Rattle.sheet.specs.Views.{spanAs}
-use Rattle.heads.specs.Views.{fieldsAs}
-use Rattle.heads.specs.Head.{head}
+use Rattle.wire.specs.code.Views.{readAs}
+use Rattle.sheet.specs.code.Views.{spanAs}
+use Rattle.heads.specs.code.Views.{fieldsAs}
+use Rattle.heads.specs.code.Head.{head}
 use Rattle.heads.proofs.node.read_head.Statement.{statement}
 use Rattle.heads.proofs.node.read_head.Tie as tie
 

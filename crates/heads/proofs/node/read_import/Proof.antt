@@ -2,9 +2,9 @@ use borrow.Author.Needs.{needs}
 use denote.Ref.{now}
 use Rattle.laws.proofs.Steps.{seen}
 use Rattle.wire.specs.Fields.{numbered}
-use Rattle.wire.specs.Views.{flagAs, readAs}
-use Rattle.heads.specs.Views.{originAs}
-use Rattle.heads.specs.Head.{importStart}
+use Rattle.wire.specs.code.Views.{flagAs, readAs}
+use Rattle.heads.specs.code.Views.{originAs}
+use Rattle.heads.specs.code.Head.{importStart}
 use Rattle.heads.proofs.node.read_import.Statement.{statement}
 use Rattle.heads.proofs.node.read_import.Tie as tie
 

@@ -1,8 +1,8 @@
 use borrow.Author.Needs.{needs}
 use denote.Ref.{now}
 use Rattle.laws.proofs.Steps.{seen}
-use Rattle.wire.specs.Views.{flagAs}
-use Rattle.heads.specs.Head.{importEqualsStart}
+use Rattle.wire.specs.code.Views.{flagAs}
+use Rattle.heads.specs.code.Head.{importEqualsStart}
 use Rattle.heads.proofs.Past.{fields-from}
 use native.Mathlib.Omega.{arith}
 use Rattle.heads.proofs.node.read_import_equals.Statement.{statement}

@@ -1,9 +1,9 @@
 use borrow.Author.Needs.{needs}
 use denote.Ref.{now}
 use Rattle.laws.proofs.Steps.{seen}
-use Rattle.wire.specs.Views.{flagAs}
-use Rattle.heads.specs.Views.{quotedAs}
-use Rattle.heads.specs.Head.{importRequireStart}
+use Rattle.wire.specs.code.Views.{flagAs}
+use Rattle.heads.specs.code.Views.{quotedAs}
+use Rattle.heads.specs.code.Head.{importRequireStart}
 use Rattle.heads.proofs.node.read_import_require.Statement.{statement}
 use Rattle.heads.proofs.node.read_import_require.Tie as tie
 

@@ -1,9 +1,9 @@
 use borrow.Author.Needs.{needs}
 use denote.Ref.{now}
 use Rattle.laws.proofs.Steps.{seen}
-use Rattle.wire.specs.Views.{readAs}
-use Rattle.heads.specs.Views.{quotedAs}
-use Rattle.heads.specs.Head.{importTypeStart}
+use Rattle.wire.specs.code.Views.{readAs}
+use Rattle.heads.specs.code.Views.{quotedAs}
+use Rattle.heads.specs.code.Head.{importTypeStart}
 use Rattle.heads.proofs.node.read_import_type.Statement.{statement}
 use Rattle.heads.proofs.node.read_import_type.Tie as tie
 

@@ -1,10 +1,10 @@
 use borrow.Author.Needs.{needs}
 use denote.Ref.{now}
 use Rattle.laws.proofs.Steps.{seen}
-use Rattle.wire.specs.Views.{flagAs, readAs}
+use Rattle.wire.specs.code.Views.{flagAs, readAs}
 use Rattle.wire.specs.Optional.{optional}
-use Rattle.heads.specs.Views.{quotedAs}
-use Rattle.heads.specs.Head.{moduleStart}
+use Rattle.heads.specs.code.Views.{quotedAs}
+use Rattle.heads.specs.code.Head.{moduleStart}
 use Rattle.heads.proofs.node.read_module.Statement.{statement}
 use Rattle.heads.proofs.node.read_module.Tie as tie
 

@@ -1,7 +1,7 @@
 use borrow.Author.Needs.{needs}
 use denote.Ref.{now}
 use Rattle.laws.proofs.Steps.{seen}
-use Rattle.wire.specs.Views.{textAs}
+use Rattle.wire.specs.code.Views.{textAs}
 use Rattle.heads.proofs.node.read_name.Statement.{statement}
 use Rattle.heads.proofs.node.read_name.Tie as tie
 

@@ -1,9 +1,9 @@
 use borrow.Author.Needs.{needs}
 use denote.Ref.{now}
 use Rattle.laws.proofs.Steps.{seen}
-use Rattle.wire.specs.Views.{flagAs}
-use Rattle.heads.specs.Views.{quotedAs}
-use Rattle.heads.specs.Head.{origin}
+use Rattle.wire.specs.code.Views.{flagAs}
+use Rattle.heads.specs.code.Views.{quotedAs}
+use Rattle.heads.specs.code.Head.{origin}
 use Rattle.heads.proofs.node.read_origin.Statement.{statement}
 use Rattle.heads.proofs.node.read_origin.Tie as tie
 

@@ -1,9 +1,9 @@
 use borrow.Author.Needs.{needs}
 use denote.Ref.{now}
 use Rattle.laws.proofs.Steps.{seen}
-use Rattle.wire.specs.Views.{flagAs}
-use Rattle.sheet.specs.Views.{spanAs}
-use Rattle.heads.specs.Parts.{argumentHead}
+use Rattle.wire.specs.code.Views.{flagAs}
+use Rattle.sheet.specs.code.Views.{spanAs}
+use Rattle.heads.specs.code.Parts.{argumentHead}
 use Rattle.heads.proofs.parts.read_argument.Statement.{statement}
 use Rattle.heads.proofs.parts.read_argument.Tie as tie
 

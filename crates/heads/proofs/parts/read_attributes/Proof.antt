@@ -1,11 +1,11 @@
 use borrow.Author.Needs.{needs}
 use denote.Ref.{now}
 use Rattle.laws.proofs.Steps.{seen}
-use Rattle.wire.specs.Views.{readAs}
+use Rattle.wire.specs.code.Views.{readAs}
 use Rattle.wire.proofs.TextCodec.{count-codec}
 use Rattle.sheet.specs.Limits.{propertyLimit}
-use Rattle.sheet.specs.Views.{spanAs}
-use Rattle.heads.specs.Parts.{attributesHead}
+use Rattle.sheet.specs.code.Views.{spanAs}
+use Rattle.heads.specs.code.Parts.{attributesHead}
 use Rattle.heads.proofs.parts.read_attributes.Statement.{statement}
 use Rattle.heads.proofs.parts.read_attributes.Tie as tie
 

@@ -1,6 +1,6 @@
 use borrow.Author.Needs.{needs}
-use Rattle.heads.specs.Parts.{keyHead}
-use Rattle.wire.specs.Views.{textAs}
+use Rattle.heads.specs.code.Parts.{keyHead}
+use Rattle.wire.specs.code.Views.{textAs}
 use denote.Ref.{now}
 use Rattle.laws.proofs.Steps.{seen}
 use mathlib.Core.Path.{sym}

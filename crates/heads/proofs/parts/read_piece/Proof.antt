@@ -1,7 +1,7 @@
 use borrow.Author.Needs.{needs}
 use denote.Ref.{now}
 use Rattle.laws.proofs.Steps.{seen}
-use Rattle.wire.specs.Views.{flagAs, textAs}
+use Rattle.wire.specs.code.Views.{flagAs, textAs}
 use Rattle.wire.specs.Optional.{optional}
 use Rattle.sheet.specs.Nodes.{piece}
 use Rattle.heads.proofs.parts.read_piece.Statement.{statement}

@@ -11,7 +11,7 @@ use Rattle.laws.proofs.Steps.{seen}
 use Rattle.sheet.specs.Tree.{Pieces}
 use Rattle.sheet.specs.Nodes.{piece}
 use Rattle.sheet.specs.Shape.{anyUncooked}
-use Rattle.heads.specs.Views.{pieceAs}
+use Rattle.heads.specs.code.Views.{pieceAs}
 use Rattle.heads.proofs.Many.{found, found-step, found-stop, found-end}
 use Rattle.heads.proofs.parts.read_pieces.Statement.{statement}
 use Rattle.heads.proofs.parts.read_pieces.Tie as tie

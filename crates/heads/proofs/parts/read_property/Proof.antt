@@ -1,6 +1,6 @@
 use borrow.Author.Needs.{needs}
-use Rattle.heads.specs.Parts.{propertyHead}
-use Rattle.wire.specs.Views.{readAs}
+use Rattle.heads.specs.code.Parts.{propertyHead}
+use Rattle.wire.specs.code.Views.{readAs}
 use denote.Ref.{now}
 use Rattle.laws.proofs.Steps.{seen}
 use mathlib.Core.Path.{sym}

@@ -1,5 +1,5 @@
 use borrow.Author.Tests.{lt-ltb, le-ltb}
-use Rattle.heads.specs.Head.{judgeTag}
+use Rattle.heads.specs.code.Head.{judgeTag}
 use Rattle.heads.proofs.quoted.judge_tag.Statement.{statement}
 use Rattle.heads.proofs.quoted.judge_tag.Tie as tie
 

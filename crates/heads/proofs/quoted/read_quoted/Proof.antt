@@ -1,8 +1,8 @@
 use borrow.Author.Needs.{needs}
 use denote.Ref.{now}
 use Rattle.laws.proofs.Steps.{seen}
-use Rattle.wire.specs.Views.{readAs, textAs}
-use Rattle.sheet.specs.Views.{spanAs}
+use Rattle.wire.specs.code.Views.{readAs, textAs}
+use Rattle.sheet.specs.code.Views.{spanAs}
 use Rattle.sheet.specs.Nodes.{quoted}
 use Rattle.heads.proofs.quoted.read_quoted.Statement.{statement}
 use Rattle.heads.proofs.quoted.read_quoted.Tie as tie

@@ -1,6 +1,6 @@
 use borrow.Author.Needs.{needs}
 use Rattle.jsdoc.specs.Reader.{parseKey}
-use Rattle.jsdoc.specs.Answers.{keyMark}
+use Rattle.jsdoc.specs.code.Answers.{keyMark}
 use Rattle.jsdoc.proofs.Answered.{read, inside}
 use Rattle.jsdoc.proofs.quote.parse_key.Statement.{statement}
 use Rattle.jsdoc.proofs.quote.parse_key.Tie as tie

@@ -5,7 +5,7 @@ use native.Mathlib.Nat.{sub-zero, sub-eq-zero-of-le}
 use native.Mathlib.Omega.{arith}
 use lib.ListN.{length, length-replicate}
 use denote.Ref.{now}
-use Rattle.sheet.specs.Tables.{rows, commentIn, commentsIn}
+use Rattle.sheet.specs.code.Tables.{rows, commentIn, commentsIn}
 use Rattle.sheet.proofs.Marks.{holds-marks}
 use Rattle.sheet.proofs.Members.{placed-within, row-placed}
 use Rattle.listing.specs.Imports.{markedByAll, marksOf}

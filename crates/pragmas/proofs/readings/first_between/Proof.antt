@@ -6,7 +6,7 @@ use denote.Ref.{now}
 use Rattle.laws.proofs.Steps.{seen}
 use Rattle.sheet.proofs.Members.{row-placed}
 use Rattle.pragmas.specs.Readings.{firstOf}
-use Rattle.pragmas.specs.Views.{readRule, readAs, commentsFrom}
+use Rattle.pragmas.specs.code.Views.{readRule, readAs, commentsFrom}
 use Rattle.pragmas.proofs.Between.{first-next, first-none}
 use Rattle.pragmas.proofs.readings.first_between.Statement.{statement}
 use Rattle.pragmas.proofs.readings.first_between.Tie as tie

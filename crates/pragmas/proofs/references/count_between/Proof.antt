@@ -8,7 +8,7 @@ use denote.Ref.{now}
 use Rattle.sheet.proofs.Members.{row-placed}
 use Rattle.pragmas.specs.Readings.{allOf}
 use Rattle.pragmas.specs.Pragmas.{reference}
-use Rattle.pragmas.specs.Views.{commentsFrom}
+use Rattle.pragmas.specs.code.Views.{commentsFrom}
 use Rattle.pragmas.proofs.Between.{all-next, all-none, listed-length}
 use Rattle.pragmas.proofs.references.count_between.Statement.{statement}
 use Rattle.pragmas.proofs.references.count_between.Tie as tie

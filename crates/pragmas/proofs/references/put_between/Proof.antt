@@ -11,7 +11,7 @@ use Rattle.report.specs.Buffer.{wrote, bufferAs}
 use Rattle.report.proofs.Buffers.{wrote-append, wrote-nil}
 use Rattle.pragmas.specs.Readings.{allOf}
 use Rattle.pragmas.specs.Pragmas.{reference}
-use Rattle.pragmas.specs.Views.{commentsFrom}
+use Rattle.pragmas.specs.code.Views.{commentsFrom}
 use Rattle.pragmas.proofs.Between.{all-next, all-none, listed-each}
 use Rattle.pragmas.proofs.references.put_between.Statement.{statement}
 use Rattle.pragmas.proofs.references.put_between.Tie as tie

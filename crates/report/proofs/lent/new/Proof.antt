@@ -36,7 +36,7 @@ use denote.Triple.Table.{entered}
 use denote.Triple.Walked.{says, Stays, stay-dropped, walkOf, goes-spent-slice, Walks, ends-at, walked, walk-meets}
 use denote.Exit.{no}
 use Rattle.report.specs.declared.writer.Place.{Place}
-use Rattle.report.specs.Lent.{begun}
+use Rattle.report.specs.code.Lent.{begun}
 use Rattle.report.proofs.lent.Writer as T
 use Rattle.report.proofs.lent.Writer.Laws as T′
 use Rattle.report.proofs.writer.Place as P

@@ -3,7 +3,7 @@ use native.Mathlib.Omega.{arith}
 use lib.ListN.{length}
 use denote.Ref.{now}
 use Rattle.laws.proofs.Steps.{seen}
-use Rattle.wire.specs.Views.{readAs}
+use Rattle.wire.specs.code.Views.{readAs}
 use Rattle.wire.proofs.NumberCodec.{number-codec}
 use Rattle.report_reader.proofs.FromBytes.{number-read, number-refused}
 use Rattle.report_reader.proofs.fields.read_number.Statement.{statement}

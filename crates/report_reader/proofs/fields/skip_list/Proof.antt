@@ -4,7 +4,7 @@ use mathlib.Core.List.{append-assoc, flatMap}
 use lib.ListN.{length}
 use Rattle.wire.specs.Number.{encodeNumber}
 use Rattle.report.specs.Encode.{encodeList}
-use Rattle.report_reader.specs.Parts.{encodePart}
+use Rattle.report_reader.specs.code.Parts.{encodePart}
 use Rattle.report_reader.proofs.fields.skip_list.Statement.{statement}
 use Rattle.report_reader.proofs.fields.skip_list.Tie as tie
 

@@ -5,7 +5,7 @@ use Prim.Native.Nat.{ℕ}
 use lib.ListN.{length, drop}
 use denote.Ref.{now}
 use Rattle.laws.specs.Codec.{All}
-use Rattle.report_reader.specs.Parts.{Part, encodePart, ValidPart}
+use Rattle.report_reader.specs.code.Parts.{Part, encodePart, ValidPart}
 use Rattle.report_reader.proofs.Lists.{Stand, next-item, no-item}
 use Rattle.report_reader.proofs.fields.skip_parts.Statement.{statement}
 use Rattle.report_reader.proofs.fields.skip_parts.Tie as tie

@@ -3,7 +3,7 @@ use borrow.Author.Tests.{le-leb, lt-leb}
 use denote.Ref.{now}
 use Rattle.laws.proofs.Steps.{known, seen}
 use Rattle.wire.specs.Fields.{numbered}
-use Rattle.wire.specs.Views.{readAs}
+use Rattle.wire.specs.code.Views.{readAs}
 use Rattle.sheet.specs.Comments.{comment}
 use Rattle.sheet.proofs.Judged.{end-codec}
 use Rattle.sheet.proofs.comments.read_comment.Statement.{statement}

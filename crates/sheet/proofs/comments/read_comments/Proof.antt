@@ -6,8 +6,8 @@ use lib.ListN.{drop}
 use denote.Ref.{now}
 use Rattle.laws.proofs.Steps.{seen}
 use Rattle.sheet.specs.Comments.{comment, endOf}
-use Rattle.sheet.specs.Tables.{commentIn}
-use Rattle.sheet.specs.Views.{commentAs}
+use Rattle.sheet.specs.code.Tables.{commentIn}
+use Rattle.sheet.specs.code.Views.{commentAs}
 use Rattle.sheet.proofs.Stores.{comment-table}
 use Rattle.sheet.proofs.Filling.{Filling, fill-none, fill-stop, fill-more, fill-all}
 use Rattle.sheet.proofs.Judged.{comment-codec}

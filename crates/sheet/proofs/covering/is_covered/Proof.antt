@@ -3,8 +3,8 @@ use native.Mathlib.Omega.{arith}
 use mathlib.Core.Path.{_≡_, sym}
 use Prim.Native.Nat.{ℕ, _-_, _≤_, _<_}
 use lib.ListN.{getD}
-use Rattle.sheet.specs.Tables.{groupsIn}
-use Rattle.sheet.specs.Covering.{longestAt}
+use Rattle.sheet.specs.code.Tables.{groupsIn}
+use Rattle.sheet.specs.code.Covering.{longestAt}
 use Rattle.sheet.proofs.Coverings.{Passed, pass-none, pass-more, pass-stop, keep-zeros}
 use Rattle.sheet.proofs.covering.is_covered.Statement.{statement}
 use Rattle.sheet.proofs.covering.is_covered.Tie as tie

@@ -2,7 +2,7 @@ use borrow.Author.Needs.{needs}
 use borrow.Author.Tests.{le-leb, lt-leb}
 use denote.Ref.{now}
 use Rattle.laws.proofs.Steps.{seen}
-use Rattle.wire.specs.Views.{readAs}
+use Rattle.wire.specs.code.Views.{readAs}
 use Rattle.sheet.specs.Fields.{endFrom}
 use Rattle.sheet.proofs.fields.read_end.Statement.{statement}
 use Rattle.sheet.proofs.fields.read_end.Tie as tie

@@ -1,7 +1,7 @@
 use borrow.Author.Needs.{needs}
 use denote.Ref.{now}
 use Rattle.laws.proofs.Steps.{known, seen}
-use Rattle.wire.specs.Views.{readAs}
+use Rattle.wire.specs.code.Views.{readAs}
 use Rattle.sheet.specs.Fields.{position}
 use Rattle.sheet.proofs.fields.read_position.Statement.{statement}
 use Rattle.sheet.proofs.fields.read_position.Tie as tie

@@ -2,7 +2,7 @@ use borrow.Author.Needs.{needs}
 use native.Mathlib.Omega.{arith}
 use denote.Ref.{now}
 use Rattle.laws.proofs.Steps.{seen}
-use Rattle.wire.specs.Views.{readAs}
+use Rattle.wire.specs.code.Views.{readAs}
 use Rattle.sheet.specs.Fields.{span}
 use Rattle.sheet.proofs.fields.read_span.Statement.{statement}
 use Rattle.sheet.proofs.fields.read_span.Tie as tie

@@ -3,7 +3,7 @@ use denote.Ref.{now}
 use native.Mathlib.Omega.{arith}
 use Rattle.laws.proofs.Steps.{known, seen}
 use Rattle.wire.specs.Fields.{numbered}
-use Rattle.wire.specs.Views.{readAs}
+use Rattle.wire.specs.code.Views.{readAs}
 use Rattle.wire.proofs.NumberCodec.{number-codec}
 use Rattle.sheet.specs.Comments.{group}
 use Rattle.sheet.proofs.groups.read_group.Statement.{statement}

@@ -6,8 +6,8 @@ use lib.ListN.{drop}
 use denote.Ref.{now}
 use Rattle.laws.proofs.Steps.{seen}
 use Rattle.sheet.specs.Comments.{anywhere, group, mayFollow}
-use Rattle.sheet.specs.Tables.{groupIn}
-use Rattle.sheet.specs.Views.{afterAs, groupAs}
+use Rattle.sheet.specs.code.Tables.{groupIn}
+use Rattle.sheet.specs.code.Views.{afterAs, groupAs}
 use Rattle.sheet.proofs.Stores.{group-table}
 use Rattle.sheet.proofs.Filling.{Filling, fill-none, fill-stop, fill-more, fill-all}
 use Rattle.sheet.proofs.Judged.{group-codec}

@@ -1,7 +1,7 @@
 use borrow.Author.Needs.{needs}
 use denote.Ref.{now}
 use Rattle.laws.proofs.Steps.{seen}
-use Rattle.wire.specs.Views.{readAs, flagAs}
+use Rattle.wire.specs.code.Views.{readAs, flagAs}
 use Rattle.wire.specs.Optional.{optional}
 use Rattle.sheet.proofs.program.read_first_item.Statement.{statement}
 use Rattle.sheet.proofs.program.read_first_item.Tie as tie

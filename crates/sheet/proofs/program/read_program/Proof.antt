@@ -1,9 +1,9 @@
 use borrow.Author.Needs.{needs}
 use denote.Ref.{now}
 use Rattle.laws.proofs.Steps.{seen}
-use Rattle.wire.specs.Views.{flagAs}
+use Rattle.wire.specs.code.Views.{flagAs}
 use Rattle.sheet.specs.Program.{program}
-use Rattle.sheet.specs.Views.{spanAs, firstAs}
+use Rattle.sheet.specs.code.Views.{spanAs, firstAs}
 use Rattle.sheet.proofs.program.read_program.Statement.{statement}
 use Rattle.sheet.proofs.program.read_program.Tie as tie
 

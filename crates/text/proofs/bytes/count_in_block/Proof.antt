@@ -4,7 +4,7 @@ use mathlib.Core.Path.{_≡_}
 use mathlib.Core.Logic.{⊎-elim}
 use borrow.Author.Count.{below-more}
 use borrow.Author.Needs.{needs}
-use lib.ListN.{length, getD}
+use lib.ListN.{getD}
 use denote.Ref.{now}
 use Rattle.text.proofs.bytes.count_in_block.Statement.{statement}
 use Rattle.text.proofs.bytes.count_in_block.Tie as tie

@@ -1,8 +1,6 @@
 use borrow.Author.Needs.{needs}
 use native.Mathlib.Omega.{arith}
-use mathlib.Core.Path.{_≡_}
 use denote.Ref.{now}
-use Rattle.laws.proofs.Steps.{known}
 use Rattle.text.proofs.Ascii.{ascii-class}
 use Rattle.text.proofs.class.class_at.Statement.{statement}
 use Rattle.text.proofs.class.class_at.Tie as tie

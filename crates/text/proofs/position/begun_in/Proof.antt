@@ -1,12 +1,12 @@
-use Prim.Native.Nat.{ℕ, _+_, _-_, _≤_, _<_}
+use Prim.Native.Nat.{_+_, _-_, _≤_, _<_}
 use native.Mathlib.Omega.{arith}
-use mathlib.Core.Path.{_≡_, refl, sym, _∙_}
+use mathlib.Core.Path.{_≡_, sym, _∙_}
 use mathlib.Core.Logic.{⊎-elim}
 use borrow.Author.Needs.{needs}
 use borrow.Author.Tests.{not-true, not-false}
-use lib.ListN.{length, getD, take, drop}
+use lib.ListN.{getD}
 use denote.Ref.{now}
-use Rattle.text.specs.Totals.{total, beginsOne}
+use Rattle.text.specs.code.Totals.{beginsOne}
 use Rattle.text.proofs.Sums.{Begun, begun-none, begun-more, begins, begins-not}
 use Rattle.text.proofs.position.begun_in.Statement.{statement}
 use Rattle.text.proofs.position.begun_in.Tie as tie

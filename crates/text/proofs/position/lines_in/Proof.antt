@@ -1,11 +1,11 @@
-use Prim.Native.Nat.{ℕ, _+_, _-_, _≤_, _<_}
+use Prim.Native.Nat.{_+_, _-_, _≤_}
 use native.Mathlib.Omega.{arith}
 use mathlib.Core.Path.{_≡_, refl}
 use mathlib.Core.Logic.{⊎-elim}
 use borrow.Author.Needs.{needs}
-use lib.ListN.{length, getD, take, drop}
+use lib.ListN.{getD, take, drop}
 use denote.Ref.{now}
-use Rattle.text.specs.Totals.{total, endsLine}
+use Rattle.text.specs.code.Totals.{total, endsLine}
 use Rattle.text.proofs.Sums.{total-suc, ends, ends-not}
 use Rattle.text.proofs.position.lines_in.Statement.{statement}
 use Rattle.text.proofs.position.lines_in.Tie as tie

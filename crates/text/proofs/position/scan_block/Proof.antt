@@ -1,7 +1,5 @@
 use borrow.Author.Needs.{needs}
 use native.Mathlib.Omega.{arith}
-use mathlib.Core.Path.{_≡_, sym, _∙_}
-use Prim.Native.Nat.{_+_}
 use lib.ListN.{take, drop}
 use denote.Ref.{now}
 use Rattle.text.specs.Position.{characters, walk}

@@ -3,7 +3,7 @@ use borrow.Author.Tests.{lt-ltb, le-ltb}
 use denote.Ref.{now}
 use Rattle.laws.proofs.Steps.{seen}
 use Rattle.wire.specs.Fields.{below}
-use Rattle.wire.specs.Views.{readAs}
+use Rattle.wire.specs.code.Views.{readAs}
 use Rattle.wire.proofs.Cursor.below.Statement.{statement}
 use Rattle.wire.proofs.Cursor.below.Tie as tie
 

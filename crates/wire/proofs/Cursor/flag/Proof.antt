@@ -2,7 +2,7 @@ use borrow.Author.Needs.{needs}
 use denote.Ref.{now}
 use Rattle.laws.proofs.Steps.{seen}
 use Rattle.wire.specs.Fields.{flag}
-use Rattle.wire.specs.Views.{readAs}
+use Rattle.wire.specs.code.Views.{readAs}
 use Rattle.wire.proofs.Cursor.flag.Statement.{statement}
 use Rattle.wire.proofs.Cursor.flag.Tie as tie
 

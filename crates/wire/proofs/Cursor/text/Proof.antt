@@ -3,7 +3,7 @@ use native.Mathlib.Omega.{arith}
 use denote.Ref.{now}
 use Rattle.laws.proofs.Steps.{seen, known}
 use Rattle.wire.specs.Text.{text}
-use Rattle.wire.specs.Views.{readAs}
+use Rattle.wire.specs.code.Views.{readAs}
 use Rattle.wire.proofs.Places.{bytes-past, bytes-at}
 use Rattle.wire.proofs.Cursor.text.Statement.{statement}
 use Rattle.wire.proofs.Cursor.text.Tie as tie

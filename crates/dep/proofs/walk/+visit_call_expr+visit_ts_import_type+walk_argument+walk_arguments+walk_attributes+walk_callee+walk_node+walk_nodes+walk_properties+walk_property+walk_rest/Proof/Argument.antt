@@ -5,10 +5,10 @@ use lib.ListN.{drop}
 use denote.Ref.{now}
 use Rattle.laws.proofs.Steps.{seen}
 use Rattle.sheet.specs.Nodes.{node}
-use Rattle.heads.specs.Views.{argumentAs}
+use Rattle.heads.specs.code.Views.{argumentAs}
 use Rattle.heads.proofs.ByHead.{argument-by-head}
 use Rattle.report.specs.Buffer.{bufferAs}
-use Rattle.dep.specs.Walk.{typesFrom}
+use Rattle.dep.specs.code.Walk.{typesFrom}
 use Rattle.dep.proofs.Arms.{argument-holds}
 use Rattle.dep.proofs.walk.walk_argument.Reads as walk-argument
 use Rattle.dep.proofs.walk.+visit_call_expr+visit_ts_import_type+walk_argument+walk_arguments+walk_attributes+walk_callee+walk_node+walk_nodes+walk_properties+walk_property+walk_rest.Lts-walk_argument as walk-argument-lts

@@ -9,11 +9,11 @@ use Rattle.laws.proofs.Steps.{seen}
 use Rattle.laws.proofs.Decoding.{built}
 use Rattle.sheet.specs.Tree.{withObject}
 use Rattle.sheet.specs.Nodes.{node, properties}
-use Rattle.heads.specs.Views.{attributesAs}
+use Rattle.heads.specs.code.Views.{attributesAs}
 use Rattle.heads.proofs.ByHead.{attributes-by-head}
 use Rattle.report.specs.Buffer.{bufferAs}
 use Rattle.dep.specs.Collect.{collector}
-use Rattle.dep.specs.Walk.{typesFrom, afterProperties, afterWith}
+use Rattle.dep.specs.code.Walk.{typesFrom, afterProperties, afterWith}
 use Rattle.dep.proofs.Wrote.{entries-nil}
 use Rattle.dep.proofs.walk.walk_attributes.Reads as walk-attributes
 use Rattle.dep.proofs.walk.+visit_call_expr+visit_ts_import_type+walk_argument+walk_arguments+walk_attributes+walk_callee+walk_node+walk_nodes+walk_properties+walk_property+walk_rest.Lts-walk_attributes as walk-attributes-lts

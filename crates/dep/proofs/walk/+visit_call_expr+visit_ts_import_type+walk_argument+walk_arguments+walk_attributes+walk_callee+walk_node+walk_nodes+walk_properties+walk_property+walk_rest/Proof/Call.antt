@@ -8,12 +8,12 @@ use Rattle.laws.specs.Decoded.{onOk, _>>=_}
 use Rattle.laws.proofs.Decoding.{onOk-no, then-no}
 use Rattle.laws.proofs.Steps.{seen}
 use Rattle.wire.specs.Number.{number}
-use Rattle.wire.specs.Views.{readAs}
+use Rattle.wire.specs.code.Views.{readAs}
 use Rattle.sheet.specs.Nodes.{node, nodes, arguments}
-use Rattle.nodes.specs.Judged.{callParts}
+use Rattle.nodes.specs.code.Judged.{callParts}
 use Rattle.nodes.proofs.Arms.{pair}
 use Rattle.report.specs.Buffer.{bufferAs}
-use Rattle.dep.specs.Walk.{typesFrom, walkedAs, afterNodes, afterArguments, afterCall}
+use Rattle.dep.specs.code.Walk.{typesFrom, walkedAs, afterNodes, afterArguments, afterCall}
 use Rattle.dep.proofs.Arms.{call-walked}
 use Rattle.dep.proofs.walk.visit_call_expr.Reads as visit-call-expr
 use Rattle.dep.proofs.walk.+visit_call_expr+visit_ts_import_type+walk_argument+walk_arguments+walk_attributes+walk_callee+walk_node+walk_nodes+walk_properties+walk_property+walk_rest.Lts-visit_call_expr as visit-call-expr-lts

@@ -4,7 +4,7 @@ use Prim.Native.Nat.{ℕ}
 use native.Mathlib.Omega.{arith}
 use denote.Ref.{now}
 use Rattle.laws.proofs.Steps.{seen}
-use Rattle.dep.specs.Walk.{typesFrom, walkedAs}
+use Rattle.dep.specs.code.Walk.{typesFrom, walkedAs}
 use Rattle.dep.proofs.Wrote.{entries-nil}
 use Rattle.dep.proofs.Arms.{called-refused, called-holds}
 use Rattle.dep.proofs.walk.walk_callee.Reads as walk-callee

@@ -7,13 +7,13 @@ use denote.Ref.{now}
 use Rattle.laws.specs.Decoded.{onOk, _>>=_}
 use Rattle.laws.proofs.Decoding.{onOk-no, then-no}
 use Rattle.laws.proofs.Steps.{seen}
-use Rattle.wire.specs.Views.{flagAs}
+use Rattle.wire.specs.code.Views.{flagAs}
 use Rattle.sheet.specs.Nodes.{node, nodes, attributes, attributesObject}
-use Rattle.nodes.specs.Judged.{tallyAll, typedParts}
-use Rattle.nodes.specs.Answers.{talliedAs}
+use Rattle.nodes.specs.code.Judged.{tallyAll, typedParts}
+use Rattle.nodes.specs.code.Answers.{talliedAs}
 use Rattle.nodes.proofs.Arms.{pair}
 use Rattle.report.specs.Buffer.{bufferAs}
-use Rattle.dep.specs.Walk.{typesFrom, walkedAs, afterNodes, afterTyped}
+use Rattle.dep.specs.code.Walk.{typesFrom, walkedAs, afterNodes, afterTyped}
 use Rattle.dep.proofs.Arms.{typed-walked}
 use Rattle.dep.proofs.walk.visit_ts_import_type.Reads as visit-ts-import-type
 use Rattle.dep.proofs.walk.+visit_call_expr+visit_ts_import_type+walk_argument+walk_arguments+walk_attributes+walk_callee+walk_node+walk_nodes+walk_properties+walk_property+walk_rest.Lts-visit_ts_import_type as visit-ts-import-type-lts

@@ -4,7 +4,7 @@ use native.Mathlib.Omega.{arith}
 use lib.ListN.{drop}
 use denote.Ref.{now}
 use Rattle.laws.proofs.Steps.{seen}
-use Rattle.heads.specs.Views.{headAs}
+use Rattle.heads.specs.code.Views.{headAs}
 use Rattle.heads.proofs.ByHead.{node-by-head}
 use Rattle.dep.proofs.Spans.{head-spanned}
 use Rattle.dep.proofs.walk.walk_node.Reads as walk-node

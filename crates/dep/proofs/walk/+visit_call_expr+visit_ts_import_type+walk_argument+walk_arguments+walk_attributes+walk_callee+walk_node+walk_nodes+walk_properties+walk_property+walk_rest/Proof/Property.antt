@@ -7,10 +7,10 @@ use denote.Ref.{now}
 use Rattle.laws.specs.Decoded.{onOk}
 use Rattle.laws.proofs.Steps.{seen}
 use Rattle.sheet.specs.Nodes.{node, nodes}
-use Rattle.heads.specs.Views.{propertyAs}
+use Rattle.heads.specs.code.Views.{propertyAs}
 use Rattle.heads.proofs.ByHead.{property-by-head}
 use Rattle.report.specs.Buffer.{bufferAs}
-use Rattle.dep.specs.Walk.{typesFrom, afterNodes}
+use Rattle.dep.specs.code.Walk.{typesFrom, afterNodes}
 use Rattle.dep.proofs.Arms.{property-holds}
 use Rattle.dep.proofs.walk.walk_property.Reads as walk-property
 use Rattle.dep.proofs.walk.+visit_call_expr+visit_ts_import_type+walk_argument+walk_arguments+walk_attributes+walk_callee+walk_node+walk_nodes+walk_properties+walk_property+walk_rest.Lts-walk_property as walk-property-lts

@@ -9,17 +9,17 @@ use lib.ListN.{drop}
 use denote.Ref.{now}
 use Rattle.laws.proofs.Decoding.{onOk-no, built}
 use Rattle.laws.proofs.Steps.{seen}
-use Rattle.wire.specs.Views.{flagAs}
+use Rattle.wire.specs.code.Views.{flagAs}
 use Rattle.sheet.specs.Tree.{other, object, importDecl}
 use Rattle.sheet.specs.Shape.{anyUncooked}
 use Rattle.sheet.specs.Nodes.{many, piece, node, nodes, properties, attributesObject}
-use Rattle.heads.specs.Rest.{behind}
-use Rattle.heads.specs.Views.{quotedOf}
+use Rattle.heads.specs.code.Rest.{behind}
+use Rattle.heads.specs.code.Views.{quotedOf}
 use Rattle.report.specs.Buffer.{bufferAs}
 use Rattle.attributes.specs.Attributes.{staticAttributes}
 use Rattle.dep.specs.declared.entries.StaticDependencyDescriptor.{StaticDependencyDescriptor}
 use Rattle.dep.specs.Collect.{moduleEntry, collector}
-use Rattle.dep.specs.Walk.{typesFrom, afterNode, afterNodes, afterProperties, afterImport}
+use Rattle.dep.specs.code.Walk.{typesFrom, afterNode, afterNodes, afterProperties, afterImport}
 use Rattle.dep.proofs.Wrote.{entries-nil}
 use Rattle.dep.proofs.Arms.{leaf-holds, template-holds, binary-holds, module-holds, calls, typed-holds, ExportHead, export-quotes, export-holds}
 use Rattle.dep.proofs.walk.walk_rest.Reads as walk-rest

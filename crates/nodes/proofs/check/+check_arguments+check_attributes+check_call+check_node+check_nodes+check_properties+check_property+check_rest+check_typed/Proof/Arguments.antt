@@ -6,8 +6,8 @@ use lib.ListN.{length, drop}
 use denote.Ref.{now}
 use Rattle.laws.proofs.Steps.{seen}
 use Rattle.sheet.specs.Nodes.{node}
-use Rattle.heads.specs.Views.{argumentAs}
-use Rattle.nodes.specs.Answers.{checkedAs}
+use Rattle.heads.specs.code.Views.{argumentAs}
+use Rattle.nodes.specs.code.Answers.{checkedAs}
 use Rattle.nodes.proofs.Loops.{argumentsFrom, arguments-all, arguments-step, arguments-stop, arguments-cut, arguments-end}
 use Rattle.nodes.proofs.check.check_arguments.Reads as check-arguments
 use Rattle.nodes.proofs.check.+check_arguments+check_attributes+check_call+check_node+check_nodes+check_properties+check_property+check_rest+check_typed.Lts-check_arguments as check-arguments-lts

@@ -7,7 +7,7 @@ use lib.ListN.{length, drop}
 use denote.Ref.{now}
 use Rattle.laws.proofs.Steps.{seen}
 use Rattle.sheet.specs.Nodes.{node, properties}
-use Rattle.heads.specs.Views.{attributesAs}
+use Rattle.heads.specs.code.Views.{attributesAs}
 use Rattle.heads.proofs.ByHead.{attributes-by-head}
 use Rattle.nodes.proofs.Arms.{object-holds}
 use Rattle.nodes.proofs.Rooms.{tally-past}

@@ -8,10 +8,10 @@ use Rattle.laws.specs.Decoded.{onOk, _>>=_}
 use Rattle.laws.proofs.Decoding.{onOk-no, then-no}
 use Rattle.laws.proofs.Steps.{seen}
 use Rattle.wire.specs.Number.{number}
-use Rattle.wire.specs.Views.{readAs}
+use Rattle.wire.specs.code.Views.{readAs}
 use Rattle.sheet.specs.Nodes.{node, nodes, arguments}
-use Rattle.nodes.specs.Judged.{passed, passedAll, callParts}
-use Rattle.nodes.specs.Answers.{passedAs}
+use Rattle.nodes.specs.code.Judged.{passed, passedAll, callParts}
+use Rattle.nodes.specs.code.Answers.{passedAs}
 use Rattle.nodes.proofs.Arms.{pair, arguments-nodes}
 use Rattle.nodes.proofs.Rooms.{room, nodes-past}
 use Rattle.nodes.proofs.check.check_call.Reads as check-call

@@ -4,7 +4,7 @@ use native.Mathlib.Omega.{arith}
 use lib.ListN.{length, drop}
 use denote.Ref.{now}
 use Rattle.laws.proofs.Steps.{seen}
-use Rattle.heads.specs.Views.{headAs}
+use Rattle.heads.specs.code.Views.{headAs}
 use Rattle.heads.proofs.ByHead.{node-by-head}
 use Rattle.nodes.proofs.Rooms.{whole-past}
 use Rattle.nodes.proofs.check.check_node.Reads as check-node

@@ -6,7 +6,7 @@ use lib.ListN.{length, drop}
 use denote.Ref.{now}
 use Rattle.laws.proofs.Steps.{seen}
 use Rattle.sheet.specs.Nodes.{node}
-use Rattle.nodes.specs.Answers.{checkedAs}
+use Rattle.nodes.specs.code.Answers.{checkedAs}
 use Rattle.nodes.proofs.Loops.{nodesFrom, nodes-all, nodes-step, nodes-stop, nodes-end}
 use Rattle.nodes.proofs.check.check_nodes.Reads as check-nodes
 use Rattle.nodes.proofs.check.+check_arguments+check_attributes+check_call+check_node+check_nodes+check_properties+check_property+check_rest+check_typed.Lts-check_nodes as check-nodes-lts

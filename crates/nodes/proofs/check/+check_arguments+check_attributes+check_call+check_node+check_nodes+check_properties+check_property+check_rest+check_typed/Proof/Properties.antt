@@ -6,7 +6,7 @@ use lib.ListN.{length, drop}
 use denote.Ref.{now}
 use Rattle.laws.proofs.Steps.{seen}
 use Rattle.sheet.specs.Nodes.{node}
-use Rattle.nodes.specs.Answers.{talliedAs}
+use Rattle.nodes.specs.code.Answers.{talliedAs}
 use Rattle.nodes.proofs.Loops.{propertiesFrom, properties-all, properties-step, properties-stop, properties-end}
 use Rattle.nodes.proofs.check.check_properties.Reads as check-properties
 use Rattle.nodes.proofs.check.+check_arguments+check_attributes+check_call+check_node+check_nodes+check_properties+check_property+check_rest+check_typed.Lts-check_properties as check-properties-lts

@@ -7,9 +7,9 @@ use denote.Ref.{now}
 use Rattle.laws.specs.Decoded.{onOk}
 use Rattle.laws.proofs.Steps.{seen}
 use Rattle.sheet.specs.Nodes.{node, nodes}
-use Rattle.heads.specs.Views.{propertyAs}
+use Rattle.heads.specs.code.Views.{propertyAs}
 use Rattle.heads.proofs.ByHead.{property-by-head}
-use Rattle.nodes.specs.Judged.{tallyAll}
+use Rattle.nodes.specs.code.Judged.{tallyAll}
 use Rattle.nodes.proofs.Arms.{property-holds}
 use Rattle.nodes.proofs.Rooms.{tally-past}
 use Rattle.nodes.proofs.check.check_property.Reads as check-property

@@ -9,14 +9,14 @@ use lib.ListN.{length, drop}
 use denote.Ref.{now}
 use Rattle.laws.proofs.Decoding.{onOk-no}
 use Rattle.laws.proofs.Steps.{seen}
-use Rattle.wire.specs.Views.{flagAs}
+use Rattle.wire.specs.code.Views.{flagAs}
 use Rattle.sheet.specs.Tree.{other, object, importDecl, exportFrom, exportAll, moduleDecl}
 use Rattle.sheet.specs.Shape.{anyUncooked}
 use Rattle.sheet.specs.Nodes.{many, piece, node, nodes, properties, attributesObject}
-use Rattle.heads.specs.Rest.{behind}
-use Rattle.heads.specs.Views.{quotedOf}
-use Rattle.nodes.specs.Judged.{judged, tallyAll, tallyIn, tallyWith, importCallee}
-use Rattle.nodes.specs.Answers.{checkedAs}
+use Rattle.heads.specs.code.Rest.{behind}
+use Rattle.heads.specs.code.Views.{quotedOf}
+use Rattle.nodes.specs.code.Judged.{judged, tallyAll, tallyIn, tallyWith, importCallee}
+use Rattle.nodes.specs.code.Answers.{checkedAs}
 use Rattle.nodes.proofs.Arms.{holds, holds-plain, template-holds, binary-holds, is-entry, import-call-holds, call-of-holds, typed-holds}
 use Rattle.nodes.proofs.Rooms.{room, room-passed, leaf-past, entry-past, holding-past, called-past}
 use Rattle.nodes.proofs.check.check_rest.Reads as check-rest

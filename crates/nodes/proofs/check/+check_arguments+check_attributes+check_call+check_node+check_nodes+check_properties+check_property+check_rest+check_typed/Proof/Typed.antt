@@ -7,10 +7,10 @@ use denote.Ref.{now}
 use Rattle.laws.specs.Decoded.{onOk, _>>=_}
 use Rattle.laws.proofs.Decoding.{onOk-no, then-no}
 use Rattle.laws.proofs.Steps.{seen}
-use Rattle.wire.specs.Views.{flagAs}
+use Rattle.wire.specs.code.Views.{flagAs}
 use Rattle.sheet.specs.Nodes.{node, nodes, attributes, attributesObject}
-use Rattle.nodes.specs.Judged.{tallyAll, tallyTyped, typedParts}
-use Rattle.nodes.specs.Answers.{talliedAs}
+use Rattle.nodes.specs.code.Judged.{tallyAll, tallyTyped, typedParts}
+use Rattle.nodes.specs.code.Answers.{talliedAs}
 use Rattle.nodes.proofs.Arms.{pair, nodes-attributes}
 use Rattle.nodes.proofs.Rooms.{room, joined-past}
 use Rattle.nodes.proofs.check.check_typed.Reads as check-typed

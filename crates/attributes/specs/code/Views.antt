@@ -12,13 +12,13 @@ use Rattle.text.specs.Bytes.{part}
 use Rattle.wire.specs.declared.Cursor.{Cursor}
 use Rattle.sheet.specs.Limits.{propertyLimit, pairNumbers}
 use Rattle.sheet.specs.Tree.{Node, Properties}
-use Rattle.sheet.specs.Tables.{rows}
+use Rattle.sheet.specs.code.Tables.{rows}
 use Rattle.sheet.specs.Nodes.{node, propertyItem}
 use Rattle.sheet.specs.Nodes as nodes
 use Rattle.sheet.specs.Shape.{Shape, text, named, pieces, operation, properties, anything, shape}
 use Rattle.heads.specs.declared.parts.Property.{Property}
 use Rattle.heads.specs.declared.parts.Property.the-variants as property
-use Rattle.heads.specs.Views.{Part}
+use Rattle.heads.specs.code.Views.{Part}
 use Rattle.report.specs.ModuleInfo.{KeyValue, none, unknown, known}
 use Rattle.report.specs.ModuleInfo as info
 use Rattle.attributes.specs.declared.pairs.Pair.{Pair}

@@ -13,7 +13,7 @@ use Rattle.sheet.specs.declared.names.CommentKind.{CommentKind}
 use Rattle.sheet.specs.declared.names.CommentKind.the-variants.{Block}
 use Rattle.sheet.specs.Names.{kindNumber}
 use Rattle.sheet.specs.declared.comments.Comment.{Comment}
-use Rattle.sheet.specs.Tables.{rows, commentIn}
+use Rattle.sheet.specs.code.Tables.{rows, commentIn}
 use Rattle.sheet.specs.Fit.{Placed}
 use Rattle.sheet.specs.Lookups.{body}
 use Rattle.report.specs.ModuleInfo.{SpecifierWithRange, TypeScriptReference, path, types}

@@ -9,7 +9,7 @@ use Rattle.text.specs.declared.utf8.Encoding.the-variants.{Utf8}
 use Rattle.text.specs.Utf8.{formed}
 use Rattle.sheet.specs.Limits.{sourceLimit}
 use Rattle.sheet.specs.declared.groups.Group.{Group}
-use Rattle.sheet.specs.Tables.{commentsIn, groupsIn}
+use Rattle.sheet.specs.code.Tables.{commentsIn, groupsIn}
 use Rattle.sheet.specs.Fit.{Fit, Reaching, Grouped}
 use Rattle.report.specs.Range.{IndexOf}
 

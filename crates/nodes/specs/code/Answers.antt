@@ -9,7 +9,7 @@ use Rattle.sheet.specs.Walked.{one}
 use Rattle.heads.specs.declared.node.Head.{Head}
 use Rattle.heads.specs.declared.parts.Property.{Property}
 use Rattle.heads.specs.declared.parts.Property.the-variants as property
-use Rattle.heads.specs.Views.{Within}
+use Rattle.heads.specs.code.Views.{Within}
 use Rattle.nodes.specs.declared.tally.Tally.{Tally}
 use Rattle.nodes.specs.declared.tally.Judged.{Judged}
 use Rattle.nodes.specs.declared.tally.Passed.{Passed}
@@ -19,7 +19,7 @@ use Rattle.nodes.specs.declared.tally.Tallied.{Tallied}
 use Rattle.nodes.specs.declared.tally.Tallied.the-variants as tallied
 use Rattle.nodes.specs.declared.tally.PassedRead.{PassedRead}
 use Rattle.nodes.specs.declared.tally.PassedRead.the-variants as passedRead
-use Rattle.nodes.specs.Judged.{plus}
+use Rattle.nodes.specs.code.Judged.{plus}
 
 abbrev pub checkedAs : List ℕ → Checked → Decoded Judged
 checkedAs s (checked.Is j next) = ok j (drop (next .at) s)

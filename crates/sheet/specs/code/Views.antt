@@ -30,7 +30,7 @@ use Rattle.sheet.specs.declared.lookups.GroupFound.the-variants as group
 use Rattle.sheet.specs.declared.names.Side.{Side}
 use Rattle.sheet.specs.Comments.{precedes, anywhere}
 use Rattle.sheet.specs.Program.{Program}
-use Rattle.sheet.specs.Tables.{commentsIn, groupsIn}
+use Rattle.sheet.specs.code.Tables.{commentsIn, groupsIn}
 
 abbrev pub spanAs : List ℕ → SpanRead → Decoded Span
 spanAs s (spanRead.Is sp next) = ok sp (drop (next .at) s)

@@ -13,12 +13,12 @@ use Rattle.sheet.specs.declared.fields.Span.{Span}
 use Rattle.sheet.specs.Tree.{Quoted, Node, Nodes, Arguments, noArguments, Properties, noProperties, Attributes}
 use Rattle.sheet.specs.Nodes.{node}
 use Rattle.sheet.specs.Shape.{shape, isRequire}
-use Rattle.sheet.specs.Tables.{commentsIn, groupsIn}
+use Rattle.sheet.specs.code.Tables.{commentsIn, groupsIn}
 use Rattle.heads.specs.declared.quoted.Quoted as q
 use Rattle.heads.specs.declared.node.Head as h
 use Rattle.heads.specs.declared.node.Head.the-variants as head
-use Rattle.heads.specs.Head.{Head, otherHead, stringHead, nameHead, templateHead, binaryHead, objectHead, importCallHead, callHead, importHead, namedExportHead, exportFromHead, exportAllHead, importTypeHead, importEqualsHead, importRequireHead, moduleHead}
-use Rattle.heads.specs.Views.{quotedOf, QuotedPart, headOf, Within}
+use Rattle.heads.specs.code.Head.{Head, otherHead, stringHead, nameHead, templateHead, binaryHead, objectHead, importCallHead, callHead, importHead, namedExportHead, exportFromHead, exportAllHead, importTypeHead, importEqualsHead, importRequireHead, moduleHead}
+use Rattle.heads.specs.code.Views.{quotedOf, QuotedPart, headOf, Within}
 use Rattle.report.specs.ModuleInfo.{SpecifierWithRange, ImportAttributes, DynamicArgument, DependencyDescriptor, dynamic}
 use Rattle.report.specs.Encode.{encodeDependency}
 use Rattle.report.specs.Range.{rangeOf, InSource}

@@ -6,7 +6,7 @@ use Rattle.laws.specs.Decoded.{Decoder, _>>=_, return}
 use Rattle.sheet.specs.declared.fields.Span.{Span}
 use Rattle.sheet.specs.Tree.{Node, other, string, name, template, binary, object, importCall, call, importDecl, namedExport, exportFrom, exportAll, importType, importEquals, importRequire, moduleDecl, Attributes, without}
 use Rattle.sheet.specs.Nodes.{many, piece, nodes, properties, attributes, callRest, node, attributesObject}
-use Rattle.heads.specs.Head.{Head, otherHead, stringHead, nameHead, templateHead, binaryHead, objectHead, importCallHead, callHead, importHead, namedExportHead, exportFromHead, exportAllHead, importTypeHead, importEqualsHead, importRequireHead, moduleHead}
+use Rattle.heads.specs.code.Head.{Head, otherHead, stringHead, nameHead, templateHead, binaryHead, objectHead, importCallHead, callHead, importHead, namedExportHead, exportFromHead, exportAllHead, importTypeHead, importEqualsHead, importRequireHead, moduleHead}
 
 -- an Object where the flag is 1
 abbrev pub behind : Bool → Decoder Attributes → Decoder Attributes

@@ -11,11 +11,11 @@ use Rattle.sheet.specs.declared.comments.Comment.{Comment}
 use Rattle.sheet.specs.declared.groups.Group.{Group}
 use Rattle.sheet.specs.declared.names.MediaType.{MediaType}
 use Rattle.sheet.specs.Tree.{Node}
-use Rattle.sheet.specs.Tables.{commentsIn, groupsIn}
+use Rattle.sheet.specs.code.Tables.{commentsIn, groupsIn}
 use Rattle.sheet.specs.Program.{program}
 use Rattle.sheet.specs.Nodes.{node}
 use Rattle.sheet.specs.Walked.{entries, uncooked}
-use Rattle.sheet.specs.Views.{programOf}
+use Rattle.sheet.specs.code.Views.{programOf}
 use Rattle.accept.specs.declared.front.SourceRead.{SourceRead}
 use Rattle.accept.specs.declared.front.SourceRead.the-variants as sourceRead
 use Rattle.accept.specs.declared.front.Counted.{Counted}
@@ -26,7 +26,7 @@ use Rattle.accept.specs.declared.front.FrontRead.the-variants as frontRe
 use Rattle.accept.specs.declared.tree.Tree.{Tree}
 use Rattle.accept.specs.declared.tree.TreeRead.{TreeRead}
 use Rattle.accept.specs.declared.tree.TreeRead.the-variants as treeRead
-use Rattle.accept.specs.Pieces.{Front, tree}
+use Rattle.accept.specs.code.Pieces.{Front, tree}
 
 abbrev pub sourceAs : List ℕ → SourceRead → Decoded (MediaType × List ℕ)
 sourceAs s (sourceRead.Is media start next) = ok (media, part s start (next .at)) (drop (next .at) s)

@@ -16,7 +16,7 @@ use Rattle.sheet.specs.declared.fields.Span.{Span}
 use Rattle.sheet.specs.Tree.{Pieces, Node, Nodes, string, template, binary}
 use Rattle.sheet.specs.Nodes.{many, piece, node}
 use Rattle.sheet.specs.Shape.{shape}
-use Rattle.heads.specs.Views.{Part}
+use Rattle.heads.specs.code.Views.{Part}
 use Rattle.report.specs.ModuleInfo.{DynamicTemplatePart}
 use Rattle.report.specs.ModuleInfo as info
 use Rattle.arguments.specs.Argument.{templateParts, operand, chain, argumentOf}

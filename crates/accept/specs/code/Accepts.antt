@@ -6,10 +6,10 @@ use lib.ListN.{length, drop}
 use Rattle.laws.specs.Decoded.{ok, no}
 use Rattle.text.specs.Bytes.{part}
 use Rattle.sheet.specs.Limits.{depthLimit}
-use Rattle.sheet.specs.Tables.{commentsIn, groupsIn}
+use Rattle.sheet.specs.code.Tables.{commentsIn, groupsIn}
 use Rattle.sheet.specs.Nodes.{node}
 use Rattle.sheet.specs.Walked.{entries}
-use Rattle.sheet.specs.Views.{programOf}
+use Rattle.sheet.specs.code.Views.{programOf}
 use Rattle.sheet.specs.Sheet.{Sheet, accept}
 use Rattle.accept.specs.declared.check.Parts.{Parts}
 use Rattle.accept.specs.declared.check.SheetChecked.{SheetChecked}

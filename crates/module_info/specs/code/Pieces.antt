@@ -10,8 +10,8 @@ use Rattle.sheet.specs.Limits.{depthLimit}
 use Rattle.sheet.specs.Nodes.{node}
 use Rattle.sheet.specs.Walked.{entries}
 use Rattle.sheet.specs.Sheet.{Sheet}
-use Rattle.sheet.specs.Tables.{commentsIn, groupsIn}
-use Rattle.sheet.specs.Views.{programOf}
+use Rattle.sheet.specs.code.Tables.{commentsIn, groupsIn}
+use Rattle.sheet.specs.code.Views.{programOf}
 use Rattle.accept.specs.declared.check.Parts.{Parts}
 use Rattle.report.specs.Encode.{encodeList, encodeSpecifier, encodeReference, encodeJsDoc, encodeDependency}
 use Rattle.pragmas.specs.Pragmas.{tsReferences, selfTypesSpecifier, jsxImportSource, jsxImportSourceTypes, sourceMapUrl, typesAt}

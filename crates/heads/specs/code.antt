@@ -1,0 +1,5 @@
+-- What the values of the code stand for. No promise leads here: these definitions are checked, not believed.
+pub mod Head
+pub mod Parts
+pub mod Rest
+pub mod Views

@@ -8,3 +8,4 @@ pub mod Callee
 pub mod EntryKinds
 pub mod Turns
 pub mod Right
+mod Cases

@@ -1,0 +1,113 @@
+-- The entries of small trees in an empty source, as the definitions compute: which nodes give one, its kind by 01's number and its text, and their order.
+use mathlib.Core.Path.{_≡_, refl}
+use mathlib.Core.Bool.{true, false}
+use mathlib.Core.List.{List, [], _∷_, map}
+use mathlib.Core.Option.{Option}
+use Prim.Native.Nat.{ℕ}
+use Rattle.laws.specs.Quoted.{ascii}
+use Rattle.text.specs.Bytes.{begins, same}
+use Rattle.text.specs.Utf8.{admits}
+use Rattle.text.specs.Lossy.{replacing}
+use Rattle.sheet.specs.declared.fields.Span.{Span}
+use Rattle.sheet.specs.declared.names.ImportPhase.{ImportPhase}
+use Rattle.sheet.specs.declared.names.ImportPhase.the-variants.{Evaluation, Source, Defer}
+use Rattle.sheet.specs.Tree.{Quoted, Node, other, string, name, object, importCall, call, importDecl, namedExport, exportFrom, exportAll, importType, importEquals, importRequire, moduleDecl, Nodes, none, more, Arguments, noArguments, argument, noProperties, childKey, nameKey, without, withObject}
+use Rattle.report.specs.ModuleInfo.{DynamicArgument, DependencyDescriptor, static, dynamic}
+use Rattle.report.specs.ModuleInfo as info
+use Rattle.arguments.specs.Argument.{chain, argumentOf}
+use Rattle.dep.specs.Collect.{staticEntry, callEntry, moduleEntry, collector, collect}
+
+abbrev at : Span
+at = record { start = 0; end = 0 }
+
+abbrev quoted : List ℕ → Quoted
+quoted x = record { span = at; text = x }
+
+-- one argument; an import call of a String; what is called with a String
+abbrev of : Node → Arguments
+of n = argument false at n noArguments
+
+abbrev importing : List ℕ → Node
+importing x = importCall at Evaluation (of (string at x)) none
+
+abbrev calling : List ℕ → List ℕ → Node
+calling f x = call at (name at f) (of (string at x)) none
+
+abbrev one : Node → Nodes
+one n = more n none
+
+abbrev declaring : List ℕ → Node
+declaring x = moduleDecl at (Option.some (quoted x)) none
+
+-- kind and text of an entry; an argument that is no single text shows as `?`
+abbrev shown : DynamicArgument → List ℕ
+shown info.expr = ascii "?"
+shown (info.string x) = x
+shown (info.template l) = ascii "?"
+
+abbrev entry : DependencyDescriptor → ℕ × List ℕ
+entry (static d) = (d .kind, d .specifier .text)
+entry (dynamic d) = (d .kind, shown (d .argument))
+
+abbrev a : List ℕ
+a = ascii "a"
+
+abbrev b : List ℕ
+b = ascii "b"
+
+abbrev c : List ℕ
+c = ascii "c"
+
+-- nodes that give no entry, and kinds
+abbrev kinds : List (Node × List (ℕ × List ℕ))
+kinds =
+    (importDecl at false Evaluation false (quoted a) without, (0, a) ∷ [])
+    ∷ (importDecl at false Defer false (quoted a) without, (1, a) ∷ [])
+    ∷ (importDecl at false Source false (quoted a) without, (2, a) ∷ [])
+    ∷ (importDecl at true Source false (quoted a) without, (3, a) ∷ [])
+    ∷ (importType at (quoted a) none without, (3, a) ∷ [])
+    ∷ (importRequire at true true (quoted a), (3, a) ∷ [])
+    ∷ (importRequire at false false (quoted a), (4, a) ∷ [])
+    ∷ (exportFrom at false (quoted a) without, (5, a) ∷ [])
+    ∷ (exportAll at false (quoted a) without, (5, a) ∷ [])
+    ∷ (exportFrom at true (quoted a) without, (6, a) ∷ [])
+    ∷ (exportAll at true (quoted a) without, (6, a) ∷ [])
+    ∷ (importRequire at false true (quoted a), (7, a) ∷ [])
+    ∷ (declaring a, (8, a) ∷ [])
+    ∷ (importing a, (9, a) ∷ [])
+    ∷ (importCall at Defer (of (string at a)) none, (10, a) ∷ [])
+    ∷ (importCall at Source (of (name at a)) none, (11, ascii "?") ∷ [])
+    ∷ (calling (ascii "require") a, (12, a) ∷ [])
+    ∷ (calling (ascii "required") a, [])
+    ∷ (importCall at Evaluation noArguments none, [])
+    ∷ (namedExport at false, [])
+    ∷ (importEquals at, [])
+    ∷ (moduleDecl at Option.none none, [])
+    ∷ (declaring (ascii "*.css"), [])
+    ∷ (declaring (ascii "../*"), (8, ascii "../*") ∷ [])
+    ∷ []
+
+-- a call stands behind all that is in it: its callee, its arguments, its further children; an import type and a module declaration before
+abbrev orders : List (Node × List (ℕ × List ℕ))
+orders =
+    (importCall at Evaluation (of (importing a)) none, (9, a) ∷ (9, ascii "?") ∷ [])
+    ∷ (importCall at Evaluation (argument false at (string at c) (of (importing a))) (one (importing b)), (9, a) ∷ (9, b) ∷ (9, c) ∷ [])
+    ∷ (call at (importing a) (of (importing b)) (one (importing c)), (9, a) ∷ (9, b) ∷ (9, c) ∷ [])
+    ∷ (call at (name at (ascii "require")) (of (calling (ascii "require") a)) none, (12, a) ∷ (12, ascii "?") ∷ [])
+    ∷ (importType at (quoted a) (one (importing b)) (withObject at (nameKey a (importing c) noProperties)), (3, a) ∷ (9, b) ∷ (9, c) ∷ [])
+    ∷ (moduleDecl at (Option.some (quoted a)) (one (importing b)), (8, a) ∷ (9, b) ∷ [])
+    ∷ (moduleDecl at (Option.some (quoted (ascii "*"))) (one (importing b)), (9, b) ∷ [])
+    ∷ (object at (childKey (importing a) (importing b) noProperties), (9, a) ∷ (9, b) ∷ [])
+    ∷ (other at (more (importing a) (one (importing b))), (9, a) ∷ (9, b) ∷ [])
+    ∷ []
+
+abbrev computed : Node × List (ℕ × List ℕ) → Node × List (ℕ × List ℕ)
+computed (n, l) = (n, map entry (collect [] (λ start. Option.none) n))
+
+kinds-as-stated : map computed kinds ≡ kinds
+unfolding begins same admits replacing chain argumentOf staticEntry callEntry moduleEntry collector
+kinds-as-stated = refl
+
+orders-as-stated : map computed orders ≡ orders
+unfolding begins same admits replacing chain argumentOf staticEntry callEntry moduleEntry collector
+orders-as-stated = refl

@@ -8,11 +8,12 @@ use native.Mathlib.Omega.{arith}
 use lib.ListN.{length, drop, length-append}
 use lib.Seq.{drop-length, drop-at, drop-drop}
 use borrow.Author.Tests.{lt-ltb, le-ltb}
+use Rattle.laws.specs.Codec.{All}
 use Rattle.text.specs.declared.utf8.Encoding.{Encoding}
 use Rattle.text.specs.declared.utf8.Encoding.the-variants.{Utf8, Wtf8}
 use Rattle.text.specs.Ranges.{Range, _to_, within}
 use Rattle.text.specs.Utf8.{admits, continuation, surrogate, leadSurrogate, trailSurrogate, rows, besides}
-use Rattle.text.specs.Encode.{encode, Exact, AllExact}
+use Rattle.text.specs.Encode.{encode, Exact, RowExact}
 use Rattle.text.proofs.Within.{within-iff}
 use Rattle.text.proofs.Rows.{admits-append}
 
@@ -115,7 +116,7 @@ a then b = (a, b)
 pub surrogates : Exact 0xD800 0xDFFF surrogate
 surrogates = three (more (next (lead 0xE0 0xD 0xD) 0x20 0x3F (omega arith))) (omega arith)
 
-pub exact : (e : Encoding) → AllExact (rows e)
+pub exact : (e : Encoding) → All RowExact (rows e)
 exact e =
     one (lead 0x00 0x00 0x7F) (omega arith)
     then two (more (lead 0xC0 0x02 0x1F)) (omega arith)
@@ -128,9 +129,9 @@ exact e =
     then four (more (more (next (lead 0xF0 0x4 0x4) 0x00 0x0F (omega arith)))) (omega arith)
     then also e
   where
-    also : (e : Encoding) → AllExact (besides e)
+    also : (e : Encoding) → All RowExact (besides e)
     also Utf8 = tt
-    also Wtf8 = surrogates then tt
+    also Wtf8 = tt then surrogates then tt
 
 -- so are the two halves of the surrogates' row
 pub leads : Exact 0xD800 0xDBFF leadSurrogate

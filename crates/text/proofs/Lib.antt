@@ -1,6 +1,7 @@
 pub mod Ascii
 pub mod Boundary
 pub mod Bounds
+pub mod ByRows
 pub mod Cases
 pub mod Characters
 pub mod ClassCases

@@ -9,12 +9,13 @@ use lib.Dec.{leb, ltb}
 use lib.ListN.{length, getD, take, drop, take-append-drop}
 use lib.Seq.{length-take-le, take-at, drop-at}
 use borrow.Author.Tests.{leb-true, leb-false, lt-leb, ltb-true, lt-ltb, le-ltb}
+use Rattle.laws.specs.Codec.{All}
 use Rattle.text.specs.declared.utf8.Char.{Char}
 use Rattle.text.specs.declared.utf8.Encoding.{Encoding}
 use Rattle.text.specs.declared.utf8.Encoding.the-variants.{Utf8, Wtf8}
 use Rattle.text.specs.Ranges.{Range, _to_, within, inRanges}
 use Rattle.text.specs.Utf8.{admits, Row, char, never, leadSurrogate, trailSurrogate, pair, rows, besides, lengthBy, charLength, codeBy, charAt}
-use Rattle.text.specs.Encode.{encode, codePoints, Lead, Trail, Exact, AllExact}
+use Rattle.text.specs.Encode.{encode, codePoints, Lead, Trail, Paired, Exact, RowExact}
 use Rattle.text.proofs.CodePoint.{by-length, nonempty, round}
 use Rattle.text.proofs.Exact.{exact, leads, trails}
 use Rattle.text.proofs.Formed.{admitted, everyRow, picked}
@@ -22,13 +23,13 @@ use Rattle.text.proofs.Rows.{admits-append}
 use Rattle.text.proofs.Within.{within-iff, merged, swapped}
 
 -- the code points of a table
-abbrev spans : List Row → List Range
+abbrev pub spans : List Row → List Range
 spans [] = []
 spans (char first last rs ∷ more) = (first to last) ∷ spans more
 spans (never rs ∷ more) = spans more
 
 -- those of an encoding's table are those of the encoding
-covered : (e : Encoding) (p : ℕ) → inRanges (spans (rows e)) p ≡ inRanges (codePoints e) p
+pub covered : (e : Encoding) (p : ℕ) → inRanges (spans (rows e)) p ≡ inRanges (codePoints e) p
 covered e p =
     merged [] 0x0000 0x007F 0x07FF _ p (omega arith)
     ∙ merged [] 0x0000 0x07FF 0x0FFF _ p (omega arith)
@@ -104,14 +105,14 @@ pub record Character (e : Encoding) (s : List ℕ) (p : ℕ) : Type 0 where
 abbrev Stands : List Row → List ℕ → ℕ → Type 0
 Stands table s n = (n ≡ 0 → ⊥) → (p : ℕ) × (inRanges (spans table) p ≡ true) × (n ≡ length (encode p)) × (s ≡ encode p ++ drop n s)
 
-stands : (table : List Row) → AllExact table → (s : List ℕ) → Stands table s (lengthBy table s)
+stands : (table : List Row) → All RowExact table → (s : List ℕ) → Stands table s (lengthBy table s)
 unfolding lengthBy inRanges
 stands [] x s = λ z. absurd (z refl)
 stands (char first last rs ∷ more) x s =
     picked (Stands (char first last rs ∷ more) s) (admits rs s)
     (λ h z. let (p, l, u, n, e) = text-only (x .0) s h in (p, rw (within-iff first last p .1 (l, u)), n, e))
     (λ h z. let (p, i, n, e) = stands more (x .1) s z in (p, rw (i, or-true), n, e))
-stands (never rs ∷ more) x s = picked (Stands more s) (admits rs s) (λ h z. absurd (z refl)) (λ h. stands more x s)
+stands (never rs ∷ more) x s = picked (Stands more s) (admits rs s) (λ h z. absurd (z refl)) (λ h. stands more (x .1) s)
 
 -- where the reader answers a length, the text begins with the character that it answers
 pub reader-sound : (e : Encoding) (s : List ℕ) → (charLength e s ≡ 0 → ⊥) → (p : ℕ) × Character e s p
@@ -136,12 +137,12 @@ Free [] s = Unit {0}
 Free (char first last rs ∷ more) s = Free more s
 Free (never rs ∷ more) s = (admits rs s ≡ false) × Free more s
 
-otherwise : (a b : Bool) → a || b ≡ true → (a ≡ true → ⊥) → b ≡ true
+pub otherwise : (a b : Bool) → a || b ≡ true → (a ≡ true → ⊥) → b ≡ true
 otherwise true b t f = absurd (f refl)
 otherwise false b t f = t
 
 -- then a table has a length for it where it begins with one of the table's code points
-some-length : (table : List Row) → everyRow isSome table ≡ true → AllExact table → (p : ℕ) (t : List ℕ) → Free table (encode p ++ t)
+some-length : (table : List Row) → everyRow isSome table ≡ true → All RowExact table → (p : ℕ) (t : List ℕ) → Free table (encode p ++ t)
     → inRanges (spans table) p ≡ true → lengthBy table (encode p ++ t) ≡ 0 → ⊥
 unfolding lengthBy inRanges
 some-length [] k x p t f i = absurd (false≢true i)
@@ -151,7 +152,7 @@ some-length (char first last rs ∷ more) k x p t f i =
     some-length more k (x .1) p t f
     (otherwise (within (first to last) p) (inRanges (spans more) p) i λ w.
     let (l, u) = within-iff first last p .0 w in false≢true (sym h ∙ text-all (x .0) p l u t))
-some-length (never rs ∷ more) k x p t f i = rw (f .0) (some-length more k x p t (f .1) i)
+some-length (never rs ∷ more) k x p t f i = rw (f .0) (some-length more k (x .1) p t (f .1) i)
 
 -- and rows that have none are passed over
 passed-over : (front more : List Row) (s : List ℕ) → everyRow isSome front ≡ true → Free front s → lengthBy front s ≡ 0
@@ -183,10 +184,6 @@ unfolding charLength
 reader-complete p t i = answers Utf8 p t i (some-length (rows Utf8) refl (exact Utf8) p t tt (covered Utf8 p ∙ i))
 
 -- ---- surrogates
-
--- p is a lead surrogate, and a trail one stands right behind it
-abbrev pub Paired : ℕ → List ℕ → Type 0
-Paired p t = Lead p × (q : ℕ) × Trail q × (u : List ℕ) × (t ≡ encode q ++ u)
 
 -- the sequences of a pair are the encodings of a lead surrogate and a trail one
 pair-only : (p : ℕ) (t : List ℕ) → p ≤ 0x10FFFF → admits pair (encode p ++ t) ≡ true → Paired p t

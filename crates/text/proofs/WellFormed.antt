@@ -15,11 +15,11 @@ use Rattle.text.specs.declared.utf8.Encoding.{Encoding}
 use Rattle.text.specs.declared.utf8.Encoding.the-variants.{Utf8}
 use Rattle.text.specs.Ranges.{inRanges}
 use Rattle.text.specs.Utf8.{charLength, charAt, past, formed, wellFormed}
-use Rattle.text.specs.Encode.{encode, codePoints, Lead, Trail}
+use Rattle.text.specs.Encode.{encode, codePoints, Lead, Trail, Paired}
 use Rattle.text.specs.WellFormed.{Unpaired, WellFormed, Judges}
 use Rattle.text.proofs.CodePoint.{nonempty}
 use Rattle.text.proofs.Formed.{passed}
-use Rattle.text.proofs.Reader.{Paired, unique, bounded, reader-sound, reads, no-scalar, pair-unread}
+use Rattle.text.proofs.Reader.{unique, bounded, reader-sound, reads, no-scalar, pair-unread}
 
 -- a code point more in front of a row without pairs
 unpaired-more : (p : ℕ) (ps : List ℕ) → Unpaired ps → ((q : ℕ) (back : List ℕ) → ps ≡ q ∷ back → Lead p → Trail q → ⊥) → Unpaired (p ∷ ps)

@@ -1,7 +1,7 @@
 -- The bytes of a code point, and what it is for a row to admit those of a range of code points and nothing else.
 use mathlib.Core.Path.{_≡_}
 use mathlib.Core.Bool.{cond, true}
-use mathlib.Core.List.{List, [], _∷_}
+use mathlib.Core.List.{List, [], _∷_, _++_}
 use Prim.Native.Nat.{ℕ, _+_, _/_, _%_, _≤_}
 use lib.Dec.{ltb}
 use lib.ListN.{length}
@@ -38,13 +38,16 @@ Lead p = (0xD800 ≤ p) × (p ≤ 0xDBFF)
 abbrev pub Trail : ℕ → Type 0
 Trail p = (0xDC00 ≤ p) × (p ≤ 0xDFFF)
 
+-- p is a lead surrogate, and t begins with a trail one
+abbrev pub Paired : ℕ → List ℕ → Type 0
+Paired p t = Lead p × (q : ℕ) × Trail q × (u : List ℕ) × (t ≡ encode q ++ u)
+
 -- the bytes that a row admits are the encodings of the code points from the first to the last, and no others
 pub record Exact (first last : ℕ) (rs : List Range) : Type 0 where
   pub only : (bs : List ℕ) → length bs ≡ length rs → admits rs bs ≡ true → (p : ℕ) × (first ≤ p) × (p ≤ last) × (bs ≡ encode p)
   pub all : (p : ℕ) → first ≤ p → p ≤ last → (admits rs (encode p) ≡ true) × (length (encode p) ≡ length rs)
 
--- so it is for each row of a table
-abbrev pub AllExact : List Row → Type 0
-AllExact [] = Unit {0}
-AllExact (char first last rs ∷ more) = Exact first last rs × AllExact more
-AllExact (never rs ∷ more) = AllExact more
+-- so it is for a row of the table; sequences that no text has are of no code point
+abbrev pub RowExact : Row → Type 0
+RowExact (char first last rs) = Exact first last rs
+RowExact (never rs) = Unit {0}

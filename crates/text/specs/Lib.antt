@@ -1,4 +1,5 @@
 pub mod Alphabetic
+pub mod ByRows
 pub mod Bytes
 pub mod Characters
 pub mod Class

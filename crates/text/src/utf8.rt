@@ -8,6 +8,7 @@ ghost use Prim.Native.Nat.{ℕ, _≤_, _<_, _+_};
 ghost use lib.ListN.{length, getD, drop};
 ghost use Rattle.text.specs.Ranges.{_to_};
 ghost use Rattle.text.specs.Utf8.{admits, continuation, pair, surrogate, besides, rows, lengthBy, charLength, codeBy, charAt, formed, wellFormed};
+ghost use Rattle.text.specs.ByRows.{ByRows};
 ghost use Rattle.text.specs.WellFormed.{Judges};
 
 // UTF-8, or WTF-8, in which a surrogate stands by itself too.
@@ -163,6 +164,7 @@ fn length_from_two(s: &[u8], at: usize, encoding: Encoding) -> usize
 pub fn char_length(s: &[u8], at: usize, encoding: Encoding) -> usize
     requires { ⌜ at ≤ length (now s) ⌝ }
     ensures { λ r. ⌜ r ≡ charLength encoding (drop at (now (s .entry))) ⌝ }
+    ensures { λ r. ⌜ ByRows encoding (drop at (now (s .entry))) r ⌝ }
 {
     if inside(s, at, 0x00, 0x7F) {
         return 1;

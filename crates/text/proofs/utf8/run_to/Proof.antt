@@ -22,20 +22,20 @@ returns : tie.Need-returns Inv-loop μ-loop
 returns c =
     let a = c .before .before .before .before .before .args in
     let l = c .before .before .before .loop in
-    (l .inv .1, omega arith, λ h. stuck (a .encoding) (now (a .s)) (l .i) (omega arith) (c .before .char-length .ensures) (c .if1 .taken))
+    (l .inv .1, omega arith, λ h. stuck (a .encoding) (now (a .s)) (l .i) (omega arith) (c .before .char-length .ensures .0) (c .if1 .taken))
 
 add-i : tie.Need-add-i Inv-loop μ-loop
 add-i c =
     let a = c .before .before .before .before .before .args in
     let l = c .before .before .before .loop in
-    omega (arith, fits (a .encoding) (drop (l .i) (now (a .s))), length-drop (l .i) (now (a .s)), c .before .char-length .ensures)
+    omega (arith, fits (a .encoding) (drop (l .i) (now (a .s))), length-drop (l .i) (now (a .s)), c .before .char-length .ensures .0)
 
 loop-again : tie.Need-loop-again Inv-loop μ-loop
 loop-again c =
     let a = c .before .before .before .before .before .args in
     let l = c .before .before .before .loop in (
-      omega (arith, fits (a .encoding) (drop (l .i) (now (a .s))), length-drop (l .i) (now (a .s)), c .before .char-length .ensures),
-      l .inv .1 ∙ passed (a .encoding) (now (a .s)) (l .i) (omega arith) _ (c .before .char-length .ensures) (c .if1 .left),
+      omega (arith, fits (a .encoding) (drop (l .i) (now (a .s))), length-drop (l .i) (now (a .s)), c .before .char-length .ensures .0),
+      l .inv .1 ∙ passed (a .encoding) (now (a .s)) (l .i) (omega arith) _ (c .before .char-length .ensures .0) (c .if1 .left),
     )
 
 returns-2 : tie.Need-returns-2 Inv-loop μ-loop

@@ -66,7 +66,7 @@ module _ (c : Class) (s : List ℕ) where
           step zero e f = stop at e
           step (suc n) e f = let z : classAt c (drop at s) ≡ 0 → ⊥ = λ y. omega arith in go at z (f (classAt c (drop at s)) z)
 
-  end-behind : (at : ℕ) → (classAt c (drop at s) ≡ 0 → ⊥) → runEnd c s (at + classAt c (drop at s)) ≡ runEnd c s at
+  pub end-behind : (at : ℕ) → (classAt c (drop at s) ≡ 0 → ⊥) → runEnd c s (at + classAt c (drop at s)) ≡ runEnd c s at
   end-behind at z = let e = rw drop-drop at (run-goes-on c (drop at s) refl z) in omega arith
 
   -- the longest run's end is the last

@@ -1,5 +1,5 @@
 // The patterns of src/analysis.rs: references, pragmas and source map comments in the body of a comment.
-mod matcher;
+pub mod matcher;
 pub mod mode;
 
 use self::matcher::Matched;

@@ -1,0 +1,5 @@
+pub mod Decoding
+pub mod Written
+pub mod Bytes
+pub mod Running
+pub mod Tables

@@ -15,7 +15,7 @@ use Rattle.wire.specs.Optional.{optional}
 use Rattle.sheet.specs.Fields.{position, endFrom, span}
 use Rattle.sheet.specs.Comments.{enclosed, marked, comment, group, covered, chained}
 use Rattle.sheet.specs.Program.{program}
-use Rattle.sheet.specs.Nodes.{many, tag, stringText, quoted, piece, nodes, argumentItem, arguments, keyedItem, propertyItem, properties, attributes, otherFields, stringFields, nameFields, templateFields, binaryFields, objectFields, callRest, callFields, importFields, namedExportFields, exportAllFields, importTypeFields, importEqualsFields, moduleFields, fields, node, attributesObject}
+use Rattle.sheet.specs.Nodes.{many, tag, stringText, quoted, piece, nodes, argumentItem, arguments, keyedItem, propertyItem, properties, attributes, otherFields, stringFields, nameFields, templateFields, binaryFields, objectFields, callRest, callFields, importFields, namedExportFields, exportAllFields, importTypeFields, typeRest, importEqualsFields, moduleFields, fields, node, attributesObject}
 use Rattle.sheet.specs.Sheet.{sheet, decodeSheet, accept}
 
 -- document 01's example: JavaScript, one comment, which is all of the source
@@ -60,5 +60,5 @@ cases =
     ∷ []
 
 as-stated : map (λ c. refusal (accept (c .0))) cases ≡ map (λ c. c .1) cases
-unfolding byte below numbered flag bytes lastGroup Rattle.wire.specs.Number.groups number count text admits lengthBy charLength formed begins same isBoundary position endFrom span enclosed marked comment group covered chained program many tag stringText quoted optional piece nodes argumentItem arguments keyedItem propertyItem properties attributes otherFields stringFields nameFields templateFields binaryFields objectFields callRest callFields importFields namedExportFields exportAllFields importTypeFields importEqualsFields moduleFields fields node attributesObject sheet decodeSheet accept
+unfolding byte below numbered flag bytes lastGroup Rattle.wire.specs.Number.groups number count text admits lengthBy charLength formed begins same isBoundary position endFrom span enclosed marked comment group covered chained program many tag stringText quoted optional piece nodes argumentItem arguments keyedItem propertyItem properties attributes otherFields stringFields nameFields templateFields binaryFields objectFields callRest callFields importFields namedExportFields exportAllFields importTypeFields typeRest importEqualsFields moduleFields fields node attributesObject sheet decodeSheet accept
 as-stated = refl

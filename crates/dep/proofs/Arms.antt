@@ -29,9 +29,9 @@ use Rattle.heads.specs.code.Views.{quotedOf, headOf, propertyOf}
 use Rattle.heads.proofs.node.Head.{the-type, enum}
 use Rattle.heads.proofs.ByHead.{propertyRest}
 use Rattle.nodes.specs.declared.tally.Tally.{Tally}
-use Rattle.nodes.specs.code.Judged.{tallyAll, tallyWith, callParts, typedParts}
+use Rattle.nodes.specs.code.Judged.{tallyAll, tallyWith}
 use Rattle.nodes.specs.code.Answers.{nodesOf}
-use Rattle.nodes.proofs.Arms.{alike, alike-two, nodes-one, nodes-two, pair, call-parted, typed-parted}
+use Rattle.nodes.proofs.Arms.{alike, alike-two, nodes-one, nodes-two, pair}
 use Rattle.report.specs.ModuleInfo.{SpecifierWithRange, DependencyDescriptor}
 use Rattle.report.specs.Buffer.{Buffer}
 use Rattle.attributes.specs.Attributes.{staticAttributes, typeAttributes}
@@ -116,34 +116,27 @@ module _ (source : List ℕ) (types : ℕ → Option SpecifierWithRange) where
       (λ ns. sym (entries-append w (moduleEntry source types sp q) (collectAll source types ns))))
 
   -- what follows the callee of a call
-  module _ (levels : ℕ) (inner : Decoder Node) (object′ : Decoder Attributes) (sp : Span) where
-    call-holds : (d : CallHead) (v w : Buffer) (build : Arguments → Nodes → Node)
-        → ((p : Arguments × Nodes) → afterCall source types d v p ≡ afterNode source types w (build (p .0) (p .1)))
-        → (u : List ℕ) → onOk (afterCall source types d v) (callParts source inner u) ≡ onOk (afterNode source types w) (callRest source levels inner object′ sp build u)
-    call-holds d v w build e u =
-        rw (call-parted source levels inner object′ sp build u)
-        (built (afterCall source types d v) (afterNode source types w) (λ p. build (p .0) (p .1)) e (callParts source inner u))
-
-    import-call-holds : (w : Buffer) (phase : ImportPhase) {kind : ℕ} → kind ≡ dynamicKind phase → (u : List ℕ)
-        → onOk (afterCall source types (record { kind = kind; span = sp; listed = true }) w) (callParts source inner u)
-        ≡ onOk (afterNode source types w) (callRest source levels inner object′ sp (importCall sp phase) u)
+  module _ (inner : Decoder Node) (sp : Span) where
+    import-call-holds : (w : Buffer) (phase : ImportPhase) {kind : ℕ} → kind ≡ dynamicKind phase → (x : Decoded (Arguments × Nodes))
+        → onOk (afterCall source types (record { kind = kind; span = sp; listed = true }) w) x
+        ≡ onOk (afterNode source types w) (andThen x (λ p. return (importCall sp phase (p .0) (p .1))))
     unfolding collector
-    import-call-holds w phase e u = rw e (call-holds (record { kind = dynamicKind phase; span = sp; listed = true }) w w (importCall sp phase) (λ p. refl) u)
+    import-call-holds w phase e = rw e (built _ (afterNode source types w) (λ p. importCall sp phase (p .0) (p .1)) (λ p. refl))
 
     -- and the callee, an expression
     call-of-holds : (w : Buffer) (x : Decoded Node) {v : Buffer} {t : List ℕ} → onOk (afterNode source types w) x ≡ ok v t
         → {b : Bool} → ((n : Node) (u : List ℕ) → x ≡ ok n u → b ≡ isRequire (shape n))
-        → onOk (afterCall source types (record { kind = 12; span = sp; listed = b }) v) (callParts source inner t)
-        ≡ onOk (afterNode source types w) (andThen x (λ e. callRest source levels inner object′ sp (call sp e)))
+        → onOk (afterCall source types (record { kind = 12; span = sp; listed = b }) v) (callRest inner source t)
+        ≡ onOk (afterNode source types w) (andThen x (λ e. callRest inner source >>= λ p. return (call sp e (p .0) (p .1))))
     unfolding collector
     call-of-holds w (ok n u) {v} {t} e {b} f =
         let gives : v ≡ afterNode source types w n = cc in
         let left : t ≡ u = cc in
         let d : CallHead = record { kind = 12; span = sp; listed = isRequire (shape n) } in
         rw (gives, left, f n u refl)
-        (call-holds d (afterNode source types w n) w (call sp n)
+        (built (afterCall source types d (afterNode source types w n)) (afterNode source types w) (λ p. call sp n (p .0) (p .1))
         (λ p. sym (entries-append w (collect source types n) (collectOf source types (p .0) ++ (collectAll source types (p .1) ++ entryOfCall source types d (p .0)))))
-        u)
+        (callRest inner source u))
     call-of-holds w (no r) e f = absurd (refused e)
 
   -- a call, its callee walked
@@ -165,15 +158,15 @@ module _ (source : List ℕ) (types : ℕ → Option SpecifierWithRange) where
     called-refused (inr e) f = rw (e, onOk-no (afterNode source types w) (node source levels u) (sym (one e) ∙ f))
 
     pub called-holds : Calls x → {v : Buffer} {t : List ℕ} → onOk (afterNodes source types w) (nodes (node source levels) (calleesOf (d .kind)) u) ≡ ok v t
-        → onOk (afterCall source types d v) (callParts source (node source levels) t) ≡ onOk (afterNode source types w) (rest source levels (sp, headOf s x) u)
+        → onOk (afterCall source types d v) (callRest (node source levels) source t) ≡ onOk (afterNode source types w) (rest source levels (sp, headOf s x) u)
     called-holds (inl (phase, e)) {v} {t} f =
         let is = sym f ∙ alone phase e in
         let gives : v ≡ w = cc in
         let left : t ≡ u = cc in
-        rw (gives, left, e, begins .import-is phase e) (import-call-holds levels (node source levels) (attributesObject source levels) sp w phase refl u)
+        rw (gives, left, e, begins .import-is phase e) (import-call-holds (node source levels) sp w phase refl (callRest (node source levels) source u))
     called-holds (inr e) {v} {t} f =
-        ap (λ d. onOk (afterCall source types d v) (callParts source (node source levels) t)) (begins .call-is e)
-        ∙ rw e (call-of-holds levels (node source levels) (attributesObject source levels) sp w (node source levels u) (sym (one e) ∙ f) (begins .listed-is e))
+        ap (λ d. onOk (afterCall source types d v) (callRest (node source levels) source t)) (begins .call-is e)
+        ∙ rw e (call-of-holds (node source levels) sp w (node source levels u) (sym (one e) ∙ f) (begins .listed-is e))
 
   -- three lists of entries, one after the other
   in-turn : (w : Buffer) (a b c : List DependencyDescriptor) → wroteEntries (wroteEntries (wroteEntries w a) b) c ≡ wroteEntries w (a ++ (b ++ c))
@@ -215,13 +208,11 @@ module _ (source : List ℕ) (types : ℕ → Option SpecifierWithRange) where
       go gives (no r) e = refl
   typed-walked w s d object′ (no r) e1 e2 f e3 = absurd (refused e1)
 
-  pub typed-holds : (w : Buffer) (s : List ℕ) (sp : Span) (q : heads.Quoted) (inner : Decoder Node) (object′ : Decoder Attributes) (n : ℕ) (u : List ℕ)
-      → onOk (afterTyped source types s (record { kind = 3; span = sp; specifier = q; «is_side_effect» = false }) w) (typedParts inner object′ n u)
-      ≡ onOk (afterNode source types w) ((nodes inner n >>= λ ns. attributes object′ >>= λ a. return (importType sp (quotedOf s q) ns a)) u)
+  pub typed-holds : (w : Buffer) (s : List ℕ) (sp : Span) (q : heads.Quoted) (x : Decoded (Nodes × Attributes))
+      → onOk (afterTyped source types s (record { kind = 3; span = sp; specifier = q; «is_side_effect» = false }) w) x
+      ≡ onOk (afterNode source types w) (andThen x (λ p. return (importType sp (quotedOf s q) (p .0) (p .1))))
   unfolding collector
-  typed-holds w s sp q inner object′ n u =
-      rw (typed-parted sp (quotedOf s q) inner object′ n u)
-      (built (afterTyped source types s (record { kind = 3; span = sp; specifier = q; «is_side_effect» = false }) w) (afterNode source types w) (λ p. importType sp (quotedOf s q) (p .0) (p .1)) (λ p. refl) (typedParts inner object′ n u))
+  typed-holds w s sp q = built _ (afterNode source types w) (λ p. importType sp (quotedOf s q) (p .0) (p .1)) (λ p. refl)
 
   -- the entry of an import, its attributes read
   pub import-written : (w : Buffer) (s : List ℕ) (d : StaticDependencyDescriptor) (x : Decoded Attributes) {t : Tally} {u : List ℕ} → onOk tallyWith x ≡ ok t u

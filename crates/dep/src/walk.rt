@@ -45,12 +45,11 @@ ghost use Rattle.laws.specs.Decoded.{ok, onOk};
 ghost use Rattle.laws.specs.code.Left.{Free};
 ghost use Rattle.sheet.specs.Limits.{depthLimit};
 ghost use Rattle.sheet.specs.Tree.{Node};
-ghost use Rattle.sheet.specs.Nodes.{node, nodes, argumentItem, arguments, propertyItem, properties, attributesObject};
+ghost use Rattle.sheet.specs.Nodes.{node, nodes, argumentItem, arguments, propertyItem, properties, callRest, typeRest, attributesObject};
 ghost use Rattle.sheet.specs.Shape.{shape, isRequire};
 ghost use Rattle.sheet.specs.Walked.{entries};
 ghost use Rattle.heads.specs.code.Rest.{behind, rest};
 ghost use Rattle.heads.specs.code.Views.{headOf};
-ghost use Rattle.nodes.specs.code.Judged.{callParts, typedParts};
 ghost use Rattle.report.specs.Encode.{encodeList, encodeDependency};
 ghost use Rattle.report.specs.Buffer.{wrote, bufferAs};
 ghost use Rattle.pragmas.specs.code.Held.{Held};
@@ -421,7 +420,7 @@ fn visit_call_expr(
     requires { ⌜ Held (now source) (now cs) (k .comments) (now gs) (k .groups) (now index) ⌝ }
     ensures { λ r. ⌜ walkedAs (now (sheet .entry)) (now (out .exit)) r
         ≡ onOk (afterCall (now (source .entry)) (typesFrom (now (source .entry)) (now (cs .entry)) (now (gs .entry)) k) d (bufferAs (now (out .entry)) p))
-        (callParts (now (source .entry)) (node (now (source .entry)) levels) (drop (c .at) (now (sheet .entry)))) ⌝ }
+        (callRest (node (now (source .entry)) levels) (now (source .entry)) (drop (c .at) (now (sheet .entry)))) ⌝ }
     ensures { λ r. ⌜ PastWalked (length (now (sheet .entry))) r ⌝ }
 {
     match c.number(sheet) {
@@ -580,7 +579,7 @@ fn visit_ts_import_type(
         ≡ onOk (afterTyped (now (source .entry))
         (typesFrom (now (source .entry)) (now (cs .entry)) (now (gs .entry)) k)
         (now (sheet .entry)) d (bufferAs (now (out .entry)) p))
-        (typedParts (node (now (source .entry)) levels) (attributesObject (now (source .entry)) levels) count (drop (c .at) (now (sheet .entry)))) ⌝ }
+        (typeRest (node (now (source .entry)) levels) (attributesObject (now (source .entry)) levels) count (drop (c .at) (now (sheet .entry)))) ⌝ }
     ensures { λ r. ⌜ PastWalked (length (now (sheet .entry))) r ⌝ }
 {
     match check_nodes(sheet, source, c, count, levels) {

@@ -8,10 +8,9 @@ use denote.Enum.Declared.{tagOf}
 use Rattle.laws.specs.Decoded.{Decoder}
 use Rattle.laws.proofs.Answers.{Reads, ends, behind}
 use Rattle.text.specs.Bytes.{part}
-use Rattle.wire.specs.Number.{number}
 use Rattle.sheet.specs.declared.fields.Span.{Span}
-use Rattle.sheet.specs.Tree.{Pieces, Node, string, name, template, binary, object, importCall, call, Nodes, Arguments, Properties, Attributes}
-use Rattle.sheet.specs.Nodes.{many, piece, nodes, arguments, properties, attributes, callRest, node, attributesObject}
+use Rattle.sheet.specs.Tree.{Pieces, Node, string, name, template, binary, object, Nodes, Properties, Attributes}
+use Rattle.sheet.specs.Nodes.{many, piece, nodes, properties, callRest, typeRest, node, attributesObject}
 use Rattle.sheet.specs.Shape.{anything, shape}
 use Rattle.heads.specs.declared.node.Head.{Head}
 use Rattle.heads.specs.declared.node.Head.the-variants as head
@@ -33,10 +32,6 @@ module _ (s source : List ℕ) (levels : ℕ) (sp : Span) (P : Node → Type 0) 
   abbrev object′ : Decoder Attributes
   object′ = attributesObject source levels
 
-  calls : (build : Arguments → Nodes → Node) → ((xs : Arguments) (ns : Nodes) → shape (build xs ns) ≡ anything) → Reads P (callRest source levels inner object′ sp build)
-  unfolding callRest
-  calls build f = behind number λ n. behind (arguments inner source n) λ xs. behind number λ m. behind (nodes inner m) λ ns. ends (others (build xs ns) (f xs ns))
-
   pub shape-by-head : (x : Head) → OneOf variants (tagOf the-type x) → Reads P (rest source levels (sp, headOf s x))
   shape-by-head (head.Other n) k = behind (nodes inner n) λ ns. ends (others _ refl)
   shape-by-head (head.String from to) k = ends (strings k (part s from to))
@@ -44,13 +39,13 @@ module _ (s source : List ℕ) (levels : ℕ) (sp : Span) (P : Node → Type 0) 
   shape-by-head (head.Template holes) k = behind (many [] piece (holes + 1)) λ ps. behind (nodes inner holes) λ ns. ends (templates k ps ns)
   shape-by-head (head.Binary plus) k = behind inner λ l. behind inner λ r. ends (operations k plus l r)
   shape-by-head (head.Object n) k = behind (properties inner n) λ ps. ends (objects k ps)
-  shape-by-head (head.ImportCall phase) k = calls (importCall sp phase) (λ xs ns. refl)
-  shape-by-head head.Call k = behind inner λ e. calls (call sp e) (λ xs ns. refl)
+  shape-by-head (head.ImportCall phase) k = behind (callRest inner source) λ p. ends (others _ refl)
+  shape-by-head head.Call k = behind inner λ e. behind (callRest inner source) λ p. ends (others _ refl)
   shape-by-head (head.Import typeOnly phase sideEffect x there) k = behind (object-behind there object′) λ a. ends (others _ refl)
   shape-by-head (head.NamedExport typeOnly) k = ends (others _ refl)
   shape-by-head (head.ExportFrom typeOnly x there) k = behind (object-behind there object′) λ a. ends (others _ refl)
   shape-by-head (head.ExportAll typeOnly x there) k = behind (object-behind there object′) λ a. ends (others _ refl)
-  shape-by-head (head.ImportType x n) k = behind (nodes inner n) λ ns. behind (attributes object′) λ a. ends (others _ refl)
+  shape-by-head (head.ImportType x n) k = behind (typeRest inner object′ n) λ p. ends (others _ refl)
   shape-by-head head.ImportEquals k = ends (others _ refl)
   shape-by-head (head.ImportRequire typeOnly export x) k = ends (others _ refl)
   shape-by-head (head.Module n) k = behind (nodes inner n) λ ns. ends (others _ refl)

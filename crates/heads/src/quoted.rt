@@ -13,8 +13,7 @@ ghost use Prim.Native.Nat.{ℕ, _≤_, _<_};
 ghost use lib.Dec.{eqb, ltb};
 ghost use lib.ListN.{length, drop};
 ghost use Rattle.wire.specs.code.Views.{readAs, textAs, PastText};
-ghost use Rattle.sheet.specs.Nodes.{tag, stringText, quoted};
-ghost use Rattle.heads.specs.code.Head.{judgeTag};
+ghost use Rattle.sheet.specs.Nodes.{judgeTag, tag, stringText, quoted};
 ghost use Rattle.heads.specs.code.Views.{quotedAs, PastTag, PastQuoted};
 
 // A String: its span in the source, and where its text stands in the sheet.

@@ -1,19 +1,18 @@
 -- What is found in a node, from what is found in the nodes that it holds.
-use mathlib.Core.Path.{_≡_, refl, sym, ap, _∙_}
+use mathlib.Core.Path.{_≡_, refl, ap, _∙_}
 use mathlib.Core.Bool.{Bool, true, false, or-false, or-assoc}
 use mathlib.Core.List.{List}
 use Prim.Native.Nat.{ℕ}
 use native.Mathlib.Nat.{add-assoc, add-zero, zero-add}
 use Rattle.laws.specs.Decoded.{Decoded, ok, no, andThen, onOk, Decoder, _>>=_, return}
 use Rattle.laws.proofs.Decoding.{refused, map-map, built}
-use Rattle.laws.proofs.Splits.{Splits, ends, first}
 use Rattle.text.specs.Bytes.{part}
 use Rattle.wire.specs.Fields.{flag}
 use Rattle.wire.specs.Number.{number}
 use Rattle.sheet.specs.declared.names.ImportPhase.{ImportPhase}
 use Rattle.sheet.specs.declared.fields.Span.{Span}
 use Rattle.sheet.specs.Tree.{Quoted, Pieces, Node, template, binary, importCall, call, importType, Nodes, none, more, spread, otherProperty, childKey, stringKey, nameKey, Arguments, Properties, Attributes, withObject}
-use Rattle.sheet.specs.Nodes.{many, nodes, arguments, attributes, callRest}
+use Rattle.sheet.specs.Nodes.{many, nodes, callRest, attributes, typeRest}
 use Rattle.sheet.specs.Shape.{anyUncooked}
 use Rattle.sheet.specs.Walked.{uncooked}
 use Rattle.heads.specs.declared.parts.Property.{Property}
@@ -28,7 +27,7 @@ use Rattle.nodes.specs.declared.tally.Tallied.{Tallied}
 use Rattle.nodes.specs.declared.tally.Tallied.the-variants as tallied
 use Rattle.nodes.specs.declared.tally.PassedRead.{PassedRead}
 use Rattle.nodes.specs.declared.tally.PassedRead.the-variants as passedRead
-use Rattle.nodes.specs.code.Judged.{judged, tallyAll, tallyIn, tallyWith, passed, gain, plus, importCallee, callParts, passedAll, typedParts, tallyTyped}
+use Rattle.nodes.specs.code.Judged.{judged, tallyAll, tallyIn, tallyWith, passed, gain, plus, importCallee, passedAll, tallyTyped}
 use Rattle.nodes.specs.code.Answers.{checkedAs, talliedAs, passedAs, nodesOf, holdingOf, withOwn, onlyEntry, joined, plusNodes, withNodes, callOf, calledBy}
 
 -- a node without an entry of its own, and one with nothing else
@@ -89,27 +88,6 @@ module _ (inner : Decoder Node) where
 abbrev pub pair : {A B : Type 0} → A → B → Decoder (A × B)
 pair a b = return (a, b)
 
-abbrev pub from-parts : (Arguments → Nodes → Node) → Arguments × Nodes → Decoder Node
-from-parts build p = return (build (p .0) (p .1))
-
--- what follows the callee of a call, in parts
-module _ (source : List ℕ) (levels : ℕ) (inner : Decoder Node) (object′ : Decoder Attributes) (sp : Span) where
-  pub call-parted : (build : Arguments → Nodes → Node) (u : List ℕ) → callRest source levels inner object′ sp build u ≡ andThen (callParts source inner u) (from-parts build)
-  unfolding callRest callParts
-  call-parted build u = parted .at u
-    where
-      parted : Splits (from-parts build) (callRest source levels inner object′ sp build) (callParts source inner)
-      parted = first number λ n. first (arguments inner source n) λ xs. first number λ m. first (nodes inner m) λ ns. ends λ s. refl
-
--- and what follows the head of an import type
-pub typed-parted : (sp : Span) (q : Quoted) (inner : Decoder Node) (object′ : Decoder Attributes) (n : ℕ) (u : List ℕ)
-    → (nodes inner n >>= λ ns. attributes object′ >>= λ a. return (importType sp q ns a)) u ≡ andThen (typedParts inner object′ n u) (λ p. return (importType sp q (p .0) (p .1)))
-unfolding typedParts
-typed-parted sp q inner object′ n u = parted .at u
-  where
-    parted : Splits (λ (p : Nodes × Attributes). return (importType sp q (p .0) (p .1))) (nodes inner n >>= λ ns. attributes object′ >>= λ a. return (importType sp q ns a)) (typedParts inner object′ n)
-    parted = first (nodes inner n) λ ns. first (attributes object′) λ a. ends λ s. refl
-
 module _ (s : List ℕ) where
   -- an answer that is made from another stands for what its value is made into
   with-own-as : (own raw : Bool) (y : Tallied) → checkedAs s (withOwn own raw y) ≡ onOk (holdingOf own raw) (talliedAs s y)
@@ -168,38 +146,33 @@ module _ (s : List ℕ) where
       ∙ alike-two inner (λ ns. holdingOf false false (tallyAll ns)) judged (λ m n. more m (more n none)) (binary sp plus) (λ m n. rw (zero-add, add-zero, or-false (uncooked n))) (inner u)
 
   -- what follows the callee of a call
-  module _ (source : List ℕ) (levels : ℕ) (inner : Decoder Node) (object′ : Decoder Attributes) (sp : Span) where
-    call-holds : (e : Judged) (build : Arguments → Nodes → Node) → ((p : Arguments × Nodes) → callOf e (passedAll p) ≡ judged (build (p .0) (p .1)))
-        → (u : List ℕ) (y : PassedRead) → passedAs s y ≡ onOk passedAll (callParts source inner u)
-        → checkedAs s (calledBy e y) ≡ onOk judged (callRest source levels inner object′ sp build u)
+  module _ (source : List ℕ) (inner : Decoder Node) (sp : Span) where
+    call-holds : (e : Judged) (build : Arguments × Nodes → Node) → ((p : Arguments × Nodes) → callOf e (passedAll p) ≡ judged (build p))
+        → (u : List ℕ) (y : PassedRead) → passedAs s y ≡ onOk passedAll (callRest inner source u)
+        → checkedAs s (calledBy e y) ≡ onOk judged (andThen (callRest inner source u) (λ p. return (build p)))
     call-holds e build h u y f =
-        called-by-as e y
-        ∙ ap (onOk (callOf e)) f
-        ∙ found-built (callOf e) passedAll judged (λ p. build (p .0) (p .1)) h (callParts source inner u)
-        ∙ sym (ap (onOk judged) (call-parted source levels inner object′ sp build u))
+        called-by-as e y ∙ ap (onOk (callOf e)) f ∙ found-built (callOf e) passedAll judged build h (callRest inner source u)
 
-    pub import-call-holds : (phase : ImportPhase) (u : List ℕ) (y : PassedRead) → passedAs s y ≡ onOk passedAll (callParts source inner u)
-        → checkedAs s (calledBy importCallee y) ≡ onOk judged (callRest source levels inner object′ sp (importCall sp phase) u)
-    import-call-holds phase = call-holds importCallee (importCall sp phase) (λ p. simp (zero-add, add-assoc, or-assoc))
+    pub import-call-holds : (phase : ImportPhase) (u : List ℕ) (y : PassedRead) → passedAs s y ≡ onOk passedAll (callRest inner source u)
+        → checkedAs s (calledBy importCallee y) ≡ onOk judged (andThen (callRest inner source u) (λ p. return (importCall sp phase (p .0) (p .1))))
+    import-call-holds phase = call-holds importCallee (λ p. importCall sp phase (p .0) (p .1)) (λ p. simp (zero-add, add-assoc, or-assoc))
 
     -- and the callee, an expression
     pub call-of-holds : (x : Decoded Node) {e : Judged} {v : List ℕ} → onOk judged x ≡ ok e v
-        → (y : PassedRead) → passedAs s y ≡ onOk passedAll (callParts source inner v)
-        → checkedAs s (calledBy e y) ≡ onOk judged (andThen x (λ n. callRest source levels inner object′ sp (call sp n)))
+        → (y : PassedRead) → passedAs s y ≡ onOk passedAll (callRest inner source v)
+        → checkedAs s (calledBy e y) ≡ onOk judged (andThen x (λ n. callRest inner source >>= λ p. return (call sp n (p .0) (p .1))))
     call-of-holds (ok n t) {e} {v} g y f =
         let h : e ≡ judged n = cc in
         let w : v ≡ t = cc in
         rw h
-        (call-holds (judged n) (call sp n) (λ p. simp (add-assoc, or-assoc)) t y (f ∙ ap (λ t. onOk passedAll (callParts source inner t)) w))
+        (call-holds (judged n) (λ p. call sp n (p .0) (p .1)) (λ p. simp (add-assoc, or-assoc)) t y (f ∙ ap (λ t. onOk passedAll (callRest inner source t)) w))
     call-of-holds (no r) g y f = absurd (refused g)
 
   -- what follows the head of an import type
   pub typed-holds : (sp : Span) (q : Quoted) (inner : Decoder Node) (object′ : Decoder Attributes) (n : ℕ) (u : List ℕ)
-      (y : Tallied) → talliedAs s y ≡ onOk tallyTyped (typedParts inner object′ n u)
-      → checkedAs s (withOwn true false y) ≡ onOk judged ((nodes inner n >>= λ ns. attributes object′ >>= λ a. return (importType sp q ns a)) u)
-  typed-holds sp q inner object′ n u y f =
-      holds tallyTyped (λ p. importType sp q (p .0) (p .1)) (typedParts inner object′ n u) y f true false (λ p. refl)
-      ∙ sym (ap (onOk judged) (typed-parted sp q inner object′ n u))
+      (y : Tallied) → talliedAs s y ≡ onOk tallyTyped (typeRest inner object′ n u)
+      → checkedAs s (withOwn true false y) ≡ onOk judged (andThen (typeRest inner object′ n u) (λ p. return (importType sp q (p .0) (p .1))))
+  typed-holds sp q inner object′ n u y f = holds tallyTyped (λ p. importType sp q (p .0) (p .1)) (typeRest inner object′ n u) y f true false (λ p. refl)
 
   -- nodes behind arguments
   pub arguments-nodes : (inner : Decoder Node) (x : Decoded Arguments) {p : Passed} {w : List ℕ} → onOk passed x ≡ ok p w

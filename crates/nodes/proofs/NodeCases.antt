@@ -14,7 +14,7 @@ use Rattle.wire.specs.Number.{lastGroup, groups, number}
 use Rattle.wire.specs.Text.{count, text}
 use Rattle.wire.specs.Optional.{optional}
 use Rattle.sheet.specs.Fields.{position, endFrom, span}
-use Rattle.sheet.specs.Nodes.{many, tag, stringText, quoted, piece, nodes, argumentItem, arguments, keyedItem, propertyItem, properties, attributes, otherFields, stringFields, nameFields, templateFields, binaryFields, objectFields, callRest, callFields, importFields, namedExportFields, exportAllFields, importTypeFields, importEqualsFields, moduleFields, fields, node, attributesObject}
+use Rattle.sheet.specs.Nodes.{many, tag, stringText, quoted, piece, nodes, argumentItem, arguments, keyedItem, propertyItem, properties, attributes, otherFields, stringFields, nameFields, templateFields, binaryFields, objectFields, callRest, callFields, importFields, namedExportFields, exportAllFields, importTypeFields, typeRest, importEqualsFields, moduleFields, fields, node, attributesObject}
 use Rattle.nodes.specs.declared.tally.Judged.{Judged}
 use Rattle.nodes.specs.code.Judged.{judged}
 
@@ -98,5 +98,5 @@ abbrev computed : Case → Case
 computed (levels, s, r) = (levels, s, onOk judged (node [] levels s))
 
 as-stated : map computed cases ≡ cases
-unfolding byte below numbered flag bytes lastGroup groups number count text admits lengthBy charLength formed same isBoundary position endFrom span many tag stringText quoted optional piece nodes argumentItem arguments keyedItem propertyItem properties attributes otherFields stringFields nameFields templateFields binaryFields objectFields callRest callFields importFields namedExportFields exportAllFields importTypeFields importEqualsFields moduleFields fields node attributesObject
+unfolding byte below numbered flag bytes lastGroup groups number count text admits lengthBy charLength formed same isBoundary position endFrom span many tag stringText quoted optional piece nodes argumentItem arguments keyedItem propertyItem properties attributes otherFields stringFields nameFields templateFields binaryFields objectFields callRest callFields importFields namedExportFields exportAllFields importTypeFields typeRest importEqualsFields moduleFields fields node attributesObject
 as-stated = refl

@@ -33,11 +33,11 @@ ghost use mathlib.Core.Path.{_≡_};
 ghost use Prim.Native.Nat.{_≤_};
 ghost use lib.ListN.{length, drop};
 ghost use Rattle.laws.specs.Decoded.{onOk};
-ghost use Rattle.sheet.specs.Nodes.{node, nodes, arguments, propertyItem, properties, attributesObject};
+ghost use Rattle.sheet.specs.Nodes.{node, nodes, arguments, propertyItem, properties, callRest, typeRest, attributesObject};
 ghost use Rattle.sheet.specs.declared.fields.Span.{Span};
 ghost use Rattle.heads.specs.code.Rest.{behind, rest};
 ghost use Rattle.heads.specs.code.Views.{headOf};
-ghost use Rattle.nodes.specs.code.Judged.{judged, tallyAll, tallyIn, tallyWith, gain, passed, callParts, passedAll, typedParts, tallyTyped};
+ghost use Rattle.nodes.specs.code.Judged.{judged, tallyAll, tallyIn, tallyWith, gain, passed, passedAll, tallyTyped};
 ghost use Rattle.nodes.specs.code.Answers.{checkedAs, talliedAs, passedAs, Begun, PastChecked, PastRest, PastTally, PastPassed};
 
 // The node at a cursor, with so many levels left, its own among them.
@@ -165,7 +165,7 @@ fn check_arguments(
 // What follows the callee of a call: arguments and further children.
 fn check_call(sheet: &[u8], source: &[u8], c: Cursor, levels: usize) -> PassedRead
     ensures { λ r. ⌜ passedAs (now (sheet .entry)) r
-        ≡ onOk passedAll (callParts (now (source .entry)) (node (now (source .entry)) levels) (drop (c .at) (now (sheet .entry)))) ⌝ }
+        ≡ onOk passedAll (callRest (node (now (source .entry)) levels) (now (source .entry)) (drop (c .at) (now (sheet .entry)))) ⌝ }
     ensures { λ r. ⌜ PastPassed (c .at) (length (now (sheet .entry))) r ⌝ }
 {
     match c.number(sheet) {
@@ -255,7 +255,7 @@ pub fn check_attributes(
 fn check_typed(sheet: &[u8], source: &[u8], c: Cursor, count: usize, levels: usize) -> Tallied
     requires { ⌜ c .at ≤ length (now sheet) ⌝ }
     ensures { λ r. ⌜ talliedAs (now (sheet .entry)) r
-        ≡ onOk tallyTyped (typedParts (node (now (source .entry)) levels) (attributesObject (now (source .entry)) levels) count (drop (c .at) (now (sheet .entry)))) ⌝ }
+        ≡ onOk tallyTyped (typeRest (node (now (source .entry)) levels) (attributesObject (now (source .entry)) levels) count (drop (c .at) (now (sheet .entry)))) ⌝ }
     ensures { λ r. ⌜ PastTally (c .at) (length (now (sheet .entry))) r ⌝ }
 {
     match check_nodes(sheet, source, c, count, levels) {

@@ -19,7 +19,7 @@ use Rattle.sheet.specs.Tree.{Quoted, Pieces, Node, Nodes, Arguments, Pro
 use Rattle.sheet.specs.Fields.{position, endFrom, span}
 use Rattle.sheet.specs.Comments.{slice, marked, chained, comment, group, anywhere, covered}
 use Rattle.sheet.specs.Program.{Program, program}
-use Rattle.sheet.specs.Nodes.{many, tag, stringText, quoted, piece, nodes, argumentItem, arguments, keyedItem, propertyItem, properties, attributes, otherFields, stringFields, nameFields, templateFields, binaryFields, objectFields, callRest, callFields, importFields, namedExportFields, exportAllFields, importTypeFields, importEqualsFields, moduleFields, fields, node, attributesObject}
+use Rattle.sheet.specs.Nodes.{many, tag, stringText, quoted, piece, nodes, argumentItem, arguments, keyedItem, propertyItem, properties, callRest, attributes, typeRest, otherFields, stringFields, nameFields, templateFields, binaryFields, objectFields, callFields, importFields, namedExportFields, exportAllFields, importTypeFields, importEqualsFields, moduleFields, fields, node, attributesObject}
 use Rattle.sheet.specs.Sheet.{Sheet, sheet}
 
 module _ {P : (A : Type 0) → Decoder A → Type 0} (h : OfFields P) where
@@ -111,16 +111,16 @@ module _ {P : (A : Type 0) → Decoder A → Type 0} (h : OfFields P) where
 
   -- what follows a tag and a span
   module _ (source : List ℕ) (levels : ℕ) {inner : Decoder Node} {object : Decoder Attributes} (p : P Node inner) (q : P Attributes object) (sp : Span) where
-    rest-kept : (of : Arguments → Nodes → Node) → P Node (callRest source levels inner object sp of)
+    rest-kept : (build : Arguments × Nodes → Node) → P Node (callRest inner source >>= λ p. return (build p))
     unfolding callRest
-    rest-kept of = then a-number (λ n. then (arguments-kept p source n) (λ xs. then a-number (λ m. then (nodes-kept p m) (λ ns. ends _))))
+    rest-kept build = then (then a-number (λ n. then (arguments-kept p source n) (λ xs. then a-number (λ m. then (nodes-kept p m) (λ ns. ends _))))) (λ p. ends _)
 
-    attributed : (f : Attributes → Node) → P Node (attributes object >>= λ a. return (f a))
+    attributed : {A : Type 0} (f : Attributes → A) → P A (attributes object >>= λ a. return (f a))
     unfolding attributes
     attributed f = then (then (flag-kept h) (λ there. either kept there q (ends _))) (λ a. ends (f a))
 
     fields-kept : (t : ℕ) → P Node (fields source levels inner object sp t)
-    unfolding fields otherFields stringFields nameFields templateFields binaryFields objectFields callFields importFields namedExportFields exportAllFields importTypeFields importEqualsFields moduleFields
+    unfolding fields otherFields stringFields nameFields templateFields binaryFields objectFields callFields importFields namedExportFields exportAllFields importTypeFields typeRest importEqualsFields moduleFields
     fields-kept t =
         let x = quoted-kept source levels in
         let flag-first = flag-kept h in
@@ -135,7 +135,7 @@ module _ {P : (A : Type 0) → Decoder A → Type 0} (h : OfFields P) where
         (next (then flag-first (λ typeOnly. then (numbered-kept h importPhases) (λ phase. then flag-first (λ sideEffect. then x (λ x. attributed _)))))
         (next (then flag-first (λ typeOnly. then flag-first (λ there. either kept there (then x (λ x. attributed _)) (ends _))))
         (next (then flag-first (λ typeOnly. then x (λ x. attributed _)))
-        (next (then x (λ x. then a-number (λ n. then (nodes-kept p n) (λ ns. attributed _))))
+        (next (then x (λ x. then a-number (λ n. then (then (nodes-kept p n) (λ ns. attributed _)) (λ p. ends _))))
         (next (then flag-first (λ external. either kept external (then flag-first (λ typeOnly. then flag-first (λ export. then x (λ x. ends _)))) (ends _)))
         (next (then (optional-kept h (quoted-kept source levels)) (λ x. then a-number (λ n. then (nodes-kept p n) (λ ns. ends _))))
         done)))))))))))))

@@ -21,13 +21,15 @@ unfoldable pub many : {L : Type 0} → L → Decoder (L → L) → ℕ → Decod
 many end item zero = return end
 many end item (suc k) = item >>= λ add s. onOk add (many end item k s)
 
--- a tag that its place allows; then, with no level left, refusal 4
-unfoldable pub tag : (ℕ → Bool) → ℕ → Decoder ℕ
-tag allowed levels = do
-  t ← byte
-  require (allowed t) 3
+-- what is judged at a tag, once it is read: its place allows it; then, with no level left, refusal 4
+abbrev pub judgeTag : Bool → ℕ → ℕ → Decoder ℕ
+judgeTag allowed levels t = do
+  require allowed 3
   require (ltb 0 levels) 4
   return t
+
+unfoldable pub tag : (ℕ → Bool) → ℕ → Decoder ℕ
+tag allowed levels = byte >>= λ t. judgeTag (allowed t) levels t
 
 -- the text of a String whose span is read
 unfoldable pub stringText : List ℕ → Span → Decoder (List ℕ)
@@ -89,11 +91,27 @@ module _ (node : Decoder Node) where
   unfoldable pub properties : ℕ → Decoder Properties
   properties = many noProperties propertyItem
 
+  -- what follows the callee of a call: arguments and further children
+  unfoldable pub callRest : List ℕ → Decoder (Arguments × Nodes)
+  callRest source = do
+    n ← number
+    xs ← arguments source n
+    m ← number
+    ns ← nodes m
+    return (xs, ns)
+
 -- a flag, and an Object if it is 1
 unfoldable pub attributes : Decoder Attributes → Decoder Attributes
 attributes inner = do
   there ← flag
   cond there inner (return without)
+
+-- what follows the count of an import type's children: these and the attributes
+unfoldable pub typeRest : Decoder Node → Decoder Attributes → ℕ → Decoder (Nodes × Attributes)
+typeRest node object′ n = do
+  ns ← nodes node n
+  a ← attributes object′
+  return (ns, a)
 
 -- what follows the tag and the span of a node, by its tag: from decoders of a node and of an Object one level down, where so many levels are left
 module _ (source : List ℕ) (levels : ℕ) (node : Decoder Node) (object′ : Decoder Attributes) (sp : Span) where
@@ -134,21 +152,12 @@ module _ (source : List ℕ) (levels : ℕ) (node : Decoder Node) (object′ : D
     ps ← properties node n
     return (object sp ps)
 
-  -- what follows the callee of a call
-  unfoldable pub callRest : (Arguments → Nodes → Node) → Decoder Node
-  callRest of = do
-    n ← number
-    xs ← arguments node source n
-    m ← number
-    ns ← nodes node m
-    return (of xs ns)
-
   unfoldable pub callFields : Decoder Node
   callFields = do
     callee ← below 4
     cond (ltb callee 3)
-        (callRest (importCall sp (valueOf importPhases callee)))
-        (node >>= λ e. callRest (call sp e))
+        (callRest node source >>= λ p. return (importCall sp (valueOf importPhases callee) (p .0) (p .1)))
+        (node >>= λ e. callRest node source >>= λ p. return (call sp e (p .0) (p .1)))
 
   unfoldable pub importFields : Decoder Node
   importFields = do
@@ -180,9 +189,8 @@ module _ (source : List ℕ) (levels : ℕ) (node : Decoder Node) (object′ : D
   importTypeFields = do
     x ← quoted source levels
     n ← number
-    ns ← nodes node n
-    a ← attributes object′
-    return (importType sp x ns a)
+    p ← typeRest node object′ n
+    return (importType sp x (p .0) (p .1))
 
   unfoldable pub importEqualsFields : Decoder Node
   importEqualsFields = do

@@ -24,7 +24,7 @@ use Rattle.sheet.specs.Limits.{textLimit, propertyLimit}
 use Rattle.sheet.specs.declared.fields.Span.{Span}
 use Rattle.sheet.specs.declared.names.ImportPhase.{ImportPhase}
 use Rattle.sheet.specs.Tree.{Quoted, Pieces, Node, other, string, name, template, binary, object, importCall, call, importDecl, namedExport, exportFrom, exportAll, importType, importEquals, importRequire, moduleDecl, Nodes, Arguments, Properties, Attributes, without, withObject}
-use Rattle.sheet.specs.Nodes.{attributes, otherFields, stringFields, nameFields, templateFields, binaryFields, objectFields, callRest, callFields, importFields, namedExportFields, exportAllFields, importTypeFields, importEqualsFields, moduleFields, fields}
+use Rattle.sheet.specs.Nodes.{callRest, attributes, typeRest, otherFields, stringFields, nameFields, templateFields, binaryFields, objectFields, callFields, importFields, namedExportFields, exportAllFields, importTypeFields, importEqualsFields, moduleFields, fields}
 use Rattle.sheet.specs.Fields.{encodeSpan}
 use Rattle.sheet.proofs.Numbered.{phase-numbers}
 use Rattle.sheet_codec.specs.Encode.{nodesIn, argumentsIn, propertiesIn, encodeNode, encodeNodes, encodeArguments, encodeProperties, encodeAttributes}
@@ -118,19 +118,21 @@ module _ (source : List ℕ) (small : length source ≤ largest) (d : ℕ) (node
       object-fields =
           tagged 5 (built-counted-end (limit-codec propertyLimit (omega arith)) (properties-codec source small d node node-codec) (object sp)) (λ a. (refl, λ v. v, λ v. v))
 
-      call-rest : (of : Arguments → Nodes → Node) → Built (callRest source d node object′ sp of)
-          (λ (p : Arguments × Nodes). of (p .0) (p .1))
+      call-rest : Codec (callRest node source)
           (λ p. (encodeNumber (argumentsIn (p .0)) ++ encodeArguments (p .0)) ++ (encodeNumber (nodesIn (p .1)) ++ encodeNodes (p .1)))
           (λ p. ((argumentsIn (p .0) ≤ largest) × ArgumentsFit source (p .0) d) × ((nodesIn (p .1) ≤ largest) × NodesFit source (p .1) d))
       unfolding callRest
-      call-rest of =
-          built-counted number-codec (arguments-codec source small d node node-codec) (λ xs. built-counted-end number-codec (nodes-codec source small d node node-codec) (of xs))
+      call-rest =
+          codec-of
+          (built-counted number-codec (arguments-codec source small d node node-codec) (λ xs. built-counted-end number-codec (nodes-codec source small d node node-codec) (λ ns. (xs, ns))))
+          (λ p v. (p, refl, v))
+          (λ p v. (refl, v))
 
       call-fields : Fields 6 (callFields source d node object′ sp)
           (⊎-elim (λ (p : ImportPhase × (Arguments × Nodes)). importCall sp (p .0) (p .1 .0) (p .1 .1)) (λ (p : Node × (Arguments × Nodes)). call sp (p .0) (p .1 .0) (p .1 .1)))
       unfolding callFields encodeNode NodeFits
       call-fields =
-          tagged 6 (built-below phase-numbers (λ phase. call-rest (importCall sp phase)) (built-then node-codec (λ e. call-rest (call sp e))))
+          tagged 6 (built-below phase-numbers (λ phase. built-end call-rest (λ p. importCall sp phase (p .0) (p .1))) (built-then node-codec (λ e. built-end call-rest (λ p. call sp e (p .0) (p .1)))))
           (elim [ inl p ↦ (refl, λ v. v, λ v. v) | inr p ↦ (refl, λ v. v, λ v. v) ])
 
       import-fields : Fields 7 (importFields source d node object′ sp)
@@ -158,11 +160,21 @@ module _ (source : List ℕ) (small : length source ≤ largest) (d : ℕ) (node
           tagged 9 (built-free flag-codec (λ typeOnly. built-then (quoted-codec source small d) (λ x. built-end attributes-codec (exportAll sp typeOnly x))))
           (λ a. (refl, λ v. v, λ v. v))
 
+      type-rest : (n : ℕ) → Codec (typeRest node object′ n)
+          (λ p. encodeNodes (p .0) ++ encodeAttributes (p .1))
+          (λ p. (nodesIn (p .0) ≡ n) × (NodesFit source (p .0) d × AttributesFit source (p .1) d))
+      unfolding typeRest
+      type-rest n =
+          codec-of
+          (built-then (nodes-codec source small d node node-codec n) (λ ns. built-end attributes-codec (λ a. (ns, a))))
+          (λ p v. (p, refl, ((v .0, v .1 .0), v .1 .1)))
+          (λ p v. (refl, (v .0 .0, (v .0 .1, v .1))))
+
       import-type-fields : Fields 10 (importTypeFields source d node object′ sp) (λ (p : Quoted × (Nodes × Attributes)). importType sp (p .0) (p .1 .0) (p .1 .1))
       unfolding importTypeFields encodeNode NodeFits
       import-type-fields =
           tagged 10
-          (built-then (quoted-codec source small d) (λ x. built-counted number-codec (nodes-codec source small d node node-codec) (λ ns. built-end attributes-codec (importType sp x ns))))
+          (built-then (quoted-codec source small d) (λ x. built-counted-end number-codec type-rest (λ p. importType sp x (p .0) (p .1))))
           (λ a. (refl, λ v. v, λ v. v))
 
       import-equals-fields : Fields 11 (importEqualsFields source d node object′ sp)

@@ -15,8 +15,8 @@ use Rattle.text.specs.declared.utf8.Encoding.the-variants.{Utf8, Wtf8}
 use Rattle.wire.specs.Fields.{byte, below, valueOf, flag}
 use Rattle.sheet.specs.declared.fields.Span.{Span}
 use Rattle.sheet.specs.Names.{importPhases}
-use Rattle.sheet.specs.Tree.{Node, other, string, name, template, binary, object, importCall, call, importDecl, namedExport, exportFrom, exportAll, importType, importEquals, importRequire, moduleDecl, Nodes, none, more, Arguments, argument, Properties, noProperties, spread, otherProperty, childKey, stringKey, nameKey, Attributes, without, withObject}
-use Rattle.sheet.specs.Nodes.{many, tag, stringText, quoted, piece, nodes, argumentItem, arguments, keyedItem, propertyItem, properties, attributes, otherFields, stringFields, nameFields, templateFields, binaryFields, objectFields, callRest, callFields, importFields, namedExportFields, exportAllFields, importTypeFields, importEqualsFields, moduleFields, fields, node, attributesObject}
+use Rattle.sheet.specs.Tree.{Node, other, string, name, template, binary, object, importCall, call, importDecl, namedExport, exportFrom, exportAll, importType, importEquals, importRequire, moduleDecl, none, more, argument, Properties, noProperties, spread, otherProperty, childKey, stringKey, nameKey, Attributes, without, withObject}
+use Rattle.sheet.specs.Nodes.{many, tag, stringText, quoted, piece, nodes, argumentItem, arguments, keyedItem, propertyItem, properties, callRest, attributes, typeRest, otherFields, stringFields, nameFields, templateFields, binaryFields, objectFields, callFields, importFields, namedExportFields, exportAllFields, importTypeFields, importEqualsFields, moduleFields, fields, node, attributesObject}
 use Rattle.sheet.proofs.Numbered.{phase-numbers}
 use Rattle.sheet_codec.specs.Encode.{nodesIn, argumentsIn, propertiesIn}
 use Rattle.sheet_codec.specs.Field as field
@@ -120,27 +120,33 @@ module _ (source : List ℕ) where
           by true = has k′ (λ a l h. (tt, h))
           by false = ends without (tt, refl)
 
+      type-fields : (n : ℕ) → FieldsOf (typeRest inner inner′ n) (λ p. nodesIn (p .0) ≡ n) (λ p. nodesFields source (p .0) d ++ attributesFields source (p .1) d)
+      unfolding typeRest
+      type-fields n = then (nodes-fields n) (λ ns e. last (λ a. (ns, a)) attributes-fields (λ a c. (e, refl)))
+
       -- the fields of a node behind its tag, its span and others
       abbrev Behind : ℕ → List Entry → Decoder Node → Type 0
       Behind t front f = Judges f (λ n l. Unit {0} × (aTag anyNode (suc d) t ∷ (spanFields source sp ++ (front ++ l)) ≡ nodeFields source n (suc d)))
 
-      rest-fields : {Has : Node → List Entry → Type 0} (of : Arguments → Nodes → Node)
-          → ((xs : Arguments) (ns : Nodes) → Has (of xs ns) (aNumber field.free (argumentsIn xs) ∷ (argumentsFields source xs d ++ (aNumber field.free (nodesIn ns) ∷ nodesFields source ns d))))
-          → Judges (callRest source d inner inner′ sp of) Has
+      rest-fields : FieldsOf (callRest inner source) Any
+          (λ p. aNumber field.free (argumentsIn (p .0)) ∷ (argumentsFields source (p .0) d ++ (aNumber field.free (nodesIn (p .1)) ∷ nodesFields source (p .1) d)))
       unfolding callRest
-      rest-fields of h =
-          then free-field (λ n a. then (arguments-fields n) (λ xs e. then free-field (λ m b. last (λ ns. of xs ns) (nodes-fields m) (λ ns f. rw (← e, ← f) (h xs ns)))))
+      rest-fields =
+          then free-field (λ n a. then (arguments-fields n) (λ xs e. then free-field (λ m b. last (λ ns. (xs, ns)) (nodes-fields m) (λ ns f. (tt, rw (e, f))))))
 
       call-fields : Behind 6 [] (callFields source d inner inner′ sp)
       unfolding callFields nodeFields
       call-fields = then (byte-field field.callee) (λ callee l. by callee l (ltb callee 3) refl)
         where
           by : (callee : ℕ) → callee < 4 → (b : Bool) → ltb callee 3 ≡ b
-              → Behind 6 (aByte field.callee callee ∷ []) (cond b (callRest source d inner inner′ sp (importCall sp (valueOf importPhases callee))) (inner >>= λ e. callRest source d inner inner′ sp (call sp e)))
-          by callee l true i = rest-fields (importCall sp (valueOf importPhases callee)) (λ xs ns. (tt, rw (phase-numbers .there callee (ltb-true callee 3 i))))
+              → Behind 6 (aByte field.callee callee ∷ []) (cond b
+              (callRest inner source >>= λ p. return (importCall sp (valueOf importPhases callee) (p .0) (p .1)))
+              (inner >>= λ e. callRest inner source >>= λ p. return (call sp e (p .0) (p .1))))
+          by callee l true i =
+              last (λ p. importCall sp (valueOf importPhases callee) (p .0) (p .1)) rest-fields (λ p a. (tt, rw (phase-numbers .there callee (ltb-true callee 3 i))))
           by callee l false i =
               let three : callee ≡ 3 = omega (arith, ltb-false callee 3 i) in
-              then k (λ e a. rest-fields (call sp e) (λ xs ns. (tt, rw three)))
+              then k (λ e a. last (λ p. call sp e (p .0) (p .1)) rest-fields (λ p b. (tt, rw three)))
 
       export-fields : Behind 8 [] (namedExportFields source d inner inner′ sp)
       unfolding namedExportFields nodeFields
@@ -176,7 +182,7 @@ module _ (source : List ℕ) where
           last (λ a. importDecl sp typeOnly phase sideEffect x a) attributes-fields (λ a f. (tt, refl)))))))
           (next export-fields
           (next (then flag-field (λ typeOnly a. then (quoted-fields d) (λ x b. last (λ a. exportAll sp typeOnly x a) attributes-fields (λ a c. (tt, refl)))))
-          (next (then (quoted-fields d) (λ x a. then free-field (λ n b. then (nodes-fields n) (λ ns e. last (λ a. importType sp x ns a) attributes-fields (λ a c. (tt, rw e))))))
+          (next (then (quoted-fields d) (λ x a. then free-field (λ n b. last (λ p. importType sp x (p .0) (p .1)) (type-fields n) (λ p e. (tt, rw e)))))
           (next equals-fields
           (next (then (optional-fields (quoted-fields d)) (λ x a. then free-field (λ n b. last (λ ns. moduleDecl sp x ns) (nodes-fields n) (λ ns e. (tt, rw e)))))
           done)))))))))))))

@@ -58,7 +58,7 @@ unfoldable mutual
   encodeNode (exportFrom sp typeOnly x a) =
       8 ∷ (encodeSpan sp ++ (encodeFlag typeOnly ++ (encodeFlag true ++ (encodeQuoted x ++ encodeAttributes a))))
   encodeNode (exportAll sp typeOnly x a) = 9 ∷ (encodeSpan sp ++ (encodeFlag typeOnly ++ (encodeQuoted x ++ encodeAttributes a)))
-  encodeNode (importType sp x ns a) = 10 ∷ (encodeSpan sp ++ (encodeQuoted x ++ ((encodeNumber (nodesIn ns) ++ encodeNodes ns) ++ encodeAttributes a)))
+  encodeNode (importType sp x ns a) = 10 ∷ (encodeSpan sp ++ (encodeQuoted x ++ (encodeNumber (nodesIn ns) ++ (encodeNodes ns ++ encodeAttributes a))))
   encodeNode (importEquals sp) = 11 ∷ (encodeSpan sp ++ encodeFlag false)
   encodeNode (importRequire sp typeOnly export x) =
       11 ∷ (encodeSpan sp ++ (encodeFlag true ++ (encodeFlag typeOnly ++ (encodeFlag export ++ encodeQuoted x))))

@@ -82,8 +82,7 @@ unfoldable mutual
   NodeFits source (importType sp x ns a) levels =
       PlaceFits source levels sp
       × (QuotedFits source (under levels) x
-      × (((nodesIn ns ≤ largest) × NodesFit source ns (under levels))
-      × AttributesFit source a (under levels)))
+      × ((nodesIn ns ≤ largest) × (NodesFit source ns (under levels) × AttributesFit source a (under levels))))
   NodeFits source (importEquals sp) levels = PlaceFits source levels sp × Unit {0}
   NodeFits source (importRequire sp typeOnly export x) levels = PlaceFits source levels sp × QuotedFits source (under levels) x
   NodeFits source (moduleDecl sp x ns) levels =

@@ -6,7 +6,7 @@ use mathlib.Core.Option.{Option}
 use Prim.Native.Nat.{ℕ, _-_}
 use lib.Dec.{ltb}
 use lib.ListN.{getD}
-use Rattle.laws.specs.Decoded.{Decoder, onOk, _>>=_, _>>_, return, refuse, require}
+use Rattle.laws.specs.Decoded.{Decoder, onOk, _>>=_, return, refuse}
 use Rattle.text.specs.declared.utf8.Encoding.the-variants.{Utf8}
 use Rattle.wire.specs.Fields.{below, valueOf, numbered, flag}
 use Rattle.wire.specs.Number.{number}
@@ -38,13 +38,6 @@ pub data Head : Type 0 where
   importEqualsHead : Head  -- 11, not external
   importRequireHead : Bool → Bool → Quoted → Head  -- 11, external: type-only, export
   moduleHead : Option Quoted → ℕ → Head  -- 12: children
-
--- what is judged at a tag, once it is read
-unfoldable pub judgeTag : Bool → ℕ → ℕ → Decoder ℕ
-judgeTag allowed levels t = do
-  require allowed 3
-  require (ltb 0 levels) 4
-  return t
 
 unfoldable pub callStart : Decoder Head
 callStart = do

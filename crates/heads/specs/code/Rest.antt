@@ -5,7 +5,7 @@ use Prim.Native.Nat.{ℕ, _+_}
 use Rattle.laws.specs.Decoded.{Decoder, _>>=_, return}
 use Rattle.sheet.specs.declared.fields.Span.{Span}
 use Rattle.sheet.specs.Tree.{Node, other, string, name, template, binary, object, importCall, call, importDecl, namedExport, exportFrom, exportAll, importType, importEquals, importRequire, moduleDecl, Attributes, without}
-use Rattle.sheet.specs.Nodes.{many, piece, nodes, properties, attributes, callRest, node, attributesObject}
+use Rattle.sheet.specs.Nodes.{many, piece, nodes, properties, callRest, typeRest, node, attributesObject}
 use Rattle.heads.specs.code.Head.{Head, otherHead, stringHead, nameHead, templateHead, binaryHead, objectHead, importCallHead, callHead, importHead, namedExportHead, exportFromHead, exportAllHead, importTypeHead, importEqualsHead, importRequireHead, moduleHead}
 
 -- an Object where the flag is 1
@@ -21,13 +21,13 @@ module _ (source : List ℕ) (levels : ℕ) (inner : Decoder Node) (object′ : 
   restOf (templateHead n) = many [] piece (n + 1) >>= λ ps. nodes inner n >>= λ ns. return (template sp ps ns)
   restOf (binaryHead plus) = inner >>= λ l. inner >>= λ r. return (binary sp plus l r)
   restOf (objectHead n) = properties inner n >>= λ ps. return (object sp ps)
-  restOf (importCallHead phase) = callRest source levels inner object′ sp (importCall sp phase)
-  restOf callHead = inner >>= λ e. callRest source levels inner object′ sp (call sp e)
+  restOf (importCallHead phase) = callRest inner source >>= λ p. return (importCall sp phase (p .0) (p .1))
+  restOf callHead = inner >>= λ e. callRest inner source >>= λ p. return (call sp e (p .0) (p .1))
   restOf (importHead typeOnly phase sideEffect x there) = behind there object′ >>= λ a. return (importDecl sp typeOnly phase sideEffect x a)
   restOf (namedExportHead typeOnly) = return (namedExport sp typeOnly)
   restOf (exportFromHead typeOnly x there) = behind there object′ >>= λ a. return (exportFrom sp typeOnly x a)
   restOf (exportAllHead typeOnly x there) = behind there object′ >>= λ a. return (exportAll sp typeOnly x a)
-  restOf (importTypeHead x n) = nodes inner n >>= λ ns. attributes object′ >>= λ a. return (importType sp x ns a)
+  restOf (importTypeHead x n) = typeRest inner object′ n >>= λ p. return (importType sp x (p .0) (p .1))
   restOf importEqualsHead = return (importEquals sp)
   restOf (importRequireHead typeOnly export x) = return (importRequire sp typeOnly export x)
   restOf (moduleHead x n) = nodes inner n >>= λ ns. return (moduleDecl sp x ns)

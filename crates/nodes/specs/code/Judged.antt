@@ -1,11 +1,7 @@
 -- What the check of a node finds: for the report, and for the node that holds it.
 use mathlib.Core.Bool.{true, false, not, _&&_, _||_}
-use mathlib.Core.List.{List}
-use Prim.Native.Nat.{ℕ, _+_}
-use Rattle.laws.specs.Decoded.{Decoder, _>>=_, return}
-use Rattle.wire.specs.Number.{number}
+use Prim.Native.Nat.{_+_}
 use Rattle.sheet.specs.Tree.{Node, Nodes, Arguments, Properties, noProperties, Attributes}
-use Rattle.sheet.specs.Nodes.{nodes, arguments, attributes}
 use Rattle.sheet.specs.Shape.{shape, isRequire, isUncooked}
 use Rattle.sheet.specs.Walk.{walkAll, walkOf, walkIn, walkWith}
 use Rattle.sheet.specs.Walked.{anyArgument, firstUncooked, counting, entries, judging, uncooked}
@@ -53,15 +49,7 @@ withArgument p j =
 abbrev pub importCallee : Judged
 importCallee = record { entries = 0; uncooked = false; require = true; template = false }
 
--- what follows the callee of a call: arguments and further children
-unfoldable pub callParts : List ℕ → Decoder Node → Decoder (Arguments × Nodes)
-callParts source inner = do
-  n ← number
-  xs ← arguments inner source n
-  m ← number
-  ns ← nodes inner m
-  return (xs, ns)
-
+-- in what follows the callee of a call
 abbrev pub passedAll : Arguments × Nodes → Passed
 passedAll p =
     record {
@@ -71,12 +59,6 @@ passedAll p =
       template = firstUncooked (p .0);
     }
 
--- what follows the head of an import type: children and attributes
-unfoldable pub typedParts : Decoder Node → Decoder Attributes → ℕ → Decoder (Nodes × Attributes)
-typedParts inner object′ n = do
-  ns ← nodes inner n
-  a ← attributes object′
-  return (ns, a)
-
+-- in what follows the head of an import type
 abbrev pub tallyTyped : Nodes × Attributes → Tally
 tallyTyped p = plus (tallyAll (p .0)) (tallyWith (p .1))

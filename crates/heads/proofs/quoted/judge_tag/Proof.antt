@@ -1,18 +1,14 @@
 use borrow.Author.Tests.{lt-ltb, le-ltb}
-use Rattle.heads.specs.code.Head.{judgeTag}
 use Rattle.heads.proofs.quoted.judge_tag.Statement.{statement}
 use Rattle.heads.proofs.quoted.judge_tag.Tie as tie
 
 returns : tie.Need-returns
-unfolding judgeTag
 returns c = (λ s. rw (c .before .if1 .taken, lt-ltb _ _ (c .if2 .taken)), λ at n h l. (c .if2 .taken, h, l))
 
 returns-2 : tie.Need-returns-2
-unfolding judgeTag
 returns-2 c = (λ s. rw (c .before .if1 .taken, le-ltb _ _ (c .if2 .left)), λ at n h l. tt)
 
 returns-3 : tie.Need-returns-3
-unfolding judgeTag
 returns-3 c = (λ s. rw (c .if1 .left), λ at n h l. tt)
 
 pub judge-tag-spec : {M : Type 1} → statement M

@@ -3,7 +3,6 @@ use denote.Ref.{now}
 use Rattle.laws.proofs.Steps.{seen}
 use Rattle.wire.specs.code.Views.{readAs}
 use Rattle.sheet.specs.Nodes.{tag}
-use Rattle.heads.specs.code.Head.{judgeTag}
 use Rattle.heads.proofs.quoted.read_tag.Statement.{statement}
 use Rattle.heads.proofs.quoted.read_tag.Tie as tie
 
@@ -14,7 +13,7 @@ returns c =
     (rw (seen (readAs s) (c .before .before .before .byte .ensures .0) (c .before .r .given .1)), tt)
 
 returns-2 : tie.Need-returns-2
-unfolding tag judgeTag
+unfolding tag
 returns-2 c =
     let s = now (c .before .before .before .before .before .before .args .sheet) in
     let past = rw (c .before .before .t .given .1) at (c .before .before .before .before .byte .ensures .1) in

@@ -9,8 +9,7 @@ use Rattle.laws.proofs.Decoding.{onOk-no, then-no}
 use Rattle.laws.proofs.Steps.{seen}
 use Rattle.wire.specs.Number.{number}
 use Rattle.wire.specs.code.Views.{readAs}
-use Rattle.sheet.specs.Nodes.{node, nodes, arguments}
-use Rattle.nodes.specs.code.Judged.{callParts}
+use Rattle.sheet.specs.Nodes.{node, nodes, arguments, callRest}
 use Rattle.nodes.proofs.Arms.{pair}
 use Rattle.report.specs.Buffer.{bufferAs}
 use Rattle.dep.specs.code.Walk.{typesFrom, walkedAs, afterNodes, afterArguments, afterCall}
@@ -35,14 +34,14 @@ pub put-call-entry-requires : (t : ℕ) → visit-call-expr-lts.Need-put-call-en
 put-call-entry-requires t c κs = c .before .before .before .before .before .before .before .before .before .before .before .before .before .before .before .before .before .before .before .before .before .before .before .before .before .before .pre .1
 
 pub returns : (t : ℕ) → visit-call-expr-lts.Need-returns (visit-call-expr-calls t) (visit-call-expr-at t) visit-call-expr.Post
-unfolding callParts
+unfolding callRest
 returns t c =
     let a = c .before .before .before .before .before .before .before .args in
     let s = now (a .sheet) in
     (rw (seen (readAs s) (c .before .before .before .number .ensures .0) (c .before .r .given .1)), tt)
 
 pub returns-2 : (t : ℕ) → visit-call-expr-lts.Need-returns-2 (visit-call-expr-calls t) (visit-call-expr-at t) visit-call-expr.Post
-unfolding callParts
+unfolding callRest
 returns-2 t c =
     let a = c .before .before .before .before .before .before .before .before .before .before .before .before .before .before .args in
     let s = now (a .sheet) in
@@ -55,7 +54,7 @@ returns-2 t c =
     (rw (seen (readAs s) (c .before .before .before .before .before .before .before .before .before .before .number .ensures .0) (c .before .before .before .before .before .before .before .before .n .given .1), onOk-no (afterArguments source types w) xs (seen (walkedAs s (c .before .before .before .before .before .walk-arguments .last .1 .1 .1 .1 .1 .1 .1 .1 .1 .0)) (c .before .before .before .before .before .walk-arguments .ensures .0) (c .before .r2 .given .1))), tt)
 
 pub returns-3 : (t : ℕ) → visit-call-expr-lts.Need-returns-3 (visit-call-expr-calls t) (visit-call-expr-at t) visit-call-expr.Post
-unfolding callParts
+unfolding callRest
 returns-3 t c =
     let a = c .before .before .before .before .before .before .before .before .before .before .before .before .before .before .before .before .before .before .args in
     let s = now (a .sheet) in
@@ -70,7 +69,7 @@ returns-3 t c =
     (rw (seen (readAs s) (c .before .before .before .before .before .before .before .before .before .before .before .before .before .before .number .ensures .0) (c .before .before .before .before .before .before .before .before .before .before .before .before .n .given .1)) (sym (ap (onOk (afterCall source types (a .d) w)) none)), tt)
 
 pub returns-4 : (t : ℕ) → visit-call-expr-lts.Need-returns-4 (visit-call-expr-calls t) (visit-call-expr-at t) visit-call-expr.Post
-unfolding callParts
+unfolding callRest
 returns-4 t c =
     let a = c .before .before .before .before .before .before .before .before .before .before .before .before .before .before .before .before .before .before .before .before .before .before .before .before .before .args in
     let s = now (a .sheet) in
@@ -90,7 +89,7 @@ pub same-length-4 : (t : ℕ) → visit-call-expr-lts.Need-same-length-4 (visit-
 same-length-4 t c = c .before .before .put-call-entry .kept .1 .1 .1 .1 .1 .1 .1 .1 .1 .1 .0 ∙ (c .before .before .before .before .before .before .before .before .before .walk-nodes .kept .1 .1 .1 .1 .1 .1 .1 .1 .1 .0 ∙ c .before .before .before .before .before .before .before .before .before .before .before .before .before .before .before .before .before .before .before .before .walk-arguments .kept .1 .1 .1 .1 .1 .1 .1 .1 .1 .0)
 
 pub returns-5 : (t : ℕ) → visit-call-expr-lts.Need-returns-5 (visit-call-expr-calls t) (visit-call-expr-at t) visit-call-expr.Post
-unfolding callParts
+unfolding callRest
 returns-5 t c =
     let a = c .before .before .before .before .before .before .before .before .before .before .before .before .before .before .before .before .before .before .before .before .before .before .before .before .before .before .before .before .before .args in
     let s = now (a .sheet) in

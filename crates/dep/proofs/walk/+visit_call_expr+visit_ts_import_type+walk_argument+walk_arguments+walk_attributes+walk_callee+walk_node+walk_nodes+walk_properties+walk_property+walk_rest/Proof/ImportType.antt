@@ -8,8 +8,8 @@ use Rattle.laws.specs.Decoded.{onOk, _>>=_}
 use Rattle.laws.proofs.Decoding.{onOk-no, then-no}
 use Rattle.laws.proofs.Steps.{seen}
 use Rattle.wire.specs.code.Views.{flagAs}
-use Rattle.sheet.specs.Nodes.{node, nodes, attributes, attributesObject}
-use Rattle.nodes.specs.code.Judged.{tallyAll, typedParts}
+use Rattle.sheet.specs.Nodes.{node, nodes, attributes, attributesObject, typeRest}
+use Rattle.nodes.specs.code.Judged.{tallyAll}
 use Rattle.nodes.specs.code.Answers.{talliedAs}
 use Rattle.nodes.proofs.Arms.{pair}
 use Rattle.report.specs.Buffer.{bufferAs}
@@ -36,7 +36,7 @@ walk-attributes-requires t c κs =
     (less, (c .before .before .before .before .before .before .before .before .before .before .before .before .before .before .before .before .before .before .before .before .before .before .before .pre .1 .0, past .1))
 
 pub returns : (t : ℕ) → visit-ts-import-type-lts.Need-returns (visit-ts-import-type-calls t) (visit-ts-import-type-at t) visit-ts-import-type.Post
-unfolding typedParts
+unfolding typeRest
 returns t c =
     let a = c .before .before .before .before .before .before .before .args in
     let s = now (a .sheet) in
@@ -46,7 +46,7 @@ returns t c =
     (rw (onOk-no tallyAll ns (seen (talliedAs s) (c .before .before .before .check-nodes .ensures .0) (c .before .r .given .1))), tt)
 
 pub returns-2 : (t : ℕ) → visit-ts-import-type-lts.Need-returns-2 (visit-ts-import-type-calls t) (visit-ts-import-type-at t) visit-ts-import-type.Post
-unfolding typedParts attributes
+unfolding typeRest attributes
 returns-2 t c =
     let a = c .before .before .before .before .before .before .before .before .before .before .before .args in
     let s = now (a .sheet) in
@@ -61,7 +61,7 @@ returns-2 t c =
     (sym (ap (onOk (afterTyped source types s (a .d) w)) none), tt)
 
 pub returns-3 : (t : ℕ) → visit-ts-import-type-lts.Need-returns-3 (visit-ts-import-type-calls t) (visit-ts-import-type-at t) visit-ts-import-type.Post
-unfolding typedParts
+unfolding typeRest
 returns-3 t c =
     let a = c .before .before .before .before .before .before .before .before .before .before .before .before .before .before .before .before .before .before .before .before .before .before .args in
     let s = now (a .sheet) in
@@ -76,7 +76,7 @@ pub same-length-2 : (t : ℕ) → visit-ts-import-type-lts.Need-same-length-2 (v
 same-length-2 t c = c .before .before .walk-attributes .kept .1 .1 .1 .1 .1 .1 .1 .1 .1 .0 ∙ (c .before .before .before .before .before .before .before .before .before .walk-nodes .kept .1 .1 .1 .1 .1 .1 .1 .1 .1 .0 ∙ c .before .before .before .before .before .before .before .before .before .before .before .before .before .put-with-entry .kept .1 .1 .1 .1 .1 .1 .1 .1 .1 .1 .0)
 
 pub returns-4 : (t : ℕ) → visit-ts-import-type-lts.Need-returns-4 (visit-ts-import-type-calls t) (visit-ts-import-type-at t) visit-ts-import-type.Post
-unfolding typedParts
+unfolding typeRest
 returns-4 t c =
     let a = c .before .before .before .before .before .before .before .before .before .before .before .before .before .before .before .before .before .before .before .before .before .before .before .before .before .before .args in
     let s = now (a .sheet) in

@@ -12,7 +12,7 @@ use Rattle.laws.proofs.Steps.{seen}
 use Rattle.wire.specs.code.Views.{flagAs}
 use Rattle.sheet.specs.Tree.{other, object, importDecl}
 use Rattle.sheet.specs.Shape.{anyUncooked}
-use Rattle.sheet.specs.Nodes.{many, piece, node, nodes, properties, attributesObject}
+use Rattle.sheet.specs.Nodes.{many, piece, node, nodes, properties, typeRest, attributesObject}
 use Rattle.heads.specs.code.Rest.{behind}
 use Rattle.heads.specs.code.Views.{quotedOf}
 use Rattle.report.specs.Buffer.{bufferAs}
@@ -159,7 +159,7 @@ returns-9 t c =
     let inner = node source (a .levels) in
     let u = drop (a .c .at) s in
     let h = c .before .before .before .before .before .before .head7 .given .0 in
-    (rw (c .before .before .before .before .before .before .head7 .given .1) (c .before .before .visit-ts-import-type .ensures .0 ∙ rw (c .before .before .before .before .static-dependency2 .ensures) (typed-holds source types w s (a .span) (h .0) inner (attributesObject source (a .levels)) (h .1 .0) u)), c .before .before .visit-ts-import-type .ensures .1)
+    (rw (c .before .before .before .before .before .before .head7 .given .1) (c .before .before .visit-ts-import-type .ensures .0 ∙ rw (c .before .before .before .before .static-dependency2 .ensures) (typed-holds source types w s (a .span) (h .0) (typeRest inner (attributesObject source (a .levels)) (h .1 .0) u))), c .before .before .visit-ts-import-type .ensures .1)
 
 pub returns-10 : (t : ℕ) → walk-rest-lts.Need-returns-10 (walk-rest-calls t) (walk-rest-at t) walk-rest.Post
 unfolding staticAttributes collector

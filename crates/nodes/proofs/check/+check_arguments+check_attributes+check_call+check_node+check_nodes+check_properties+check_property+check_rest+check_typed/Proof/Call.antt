@@ -9,8 +9,8 @@ use Rattle.laws.proofs.Decoding.{onOk-no, then-no}
 use Rattle.laws.proofs.Steps.{seen}
 use Rattle.wire.specs.Number.{number}
 use Rattle.wire.specs.code.Views.{readAs}
-use Rattle.sheet.specs.Nodes.{node, nodes, arguments}
-use Rattle.nodes.specs.code.Judged.{passed, passedAll, callParts}
+use Rattle.sheet.specs.Nodes.{node, nodes, arguments, callRest}
+use Rattle.nodes.specs.code.Judged.{passed, passedAll}
 use Rattle.nodes.specs.code.Answers.{passedAs}
 use Rattle.nodes.proofs.Arms.{pair, arguments-nodes}
 use Rattle.nodes.proofs.Rooms.{room, nodes-past}
@@ -35,13 +35,13 @@ join-passed-requires t c κs =
     room _ _ _ (c .check-nodes .result) (omega arith) (c .check-nodes .ensures .1)
 
 pub returns : (t : ℕ) → check-call-lts.Need-returns (check-call-calls t) (check-call-at t) check-call.Post
-unfolding callParts
+unfolding callRest
 returns t c =
     let s = now (c .before .before .before .before .before .before .args .sheet) in
     (rw (seen (readAs s) (c .before .before .before .number .ensures .0) (c .before .r .given .1)), tt)
 
 pub returns-2 : (t : ℕ) → check-call-lts.Need-returns-2 (check-call-calls t) (check-call-at t) check-call.Post
-unfolding callParts
+unfolding callRest
 returns-2 t c =
     let a = c .before .before .before .before .before .before .before .before .before .before .args in
     let s = now (a .sheet) in
@@ -50,7 +50,7 @@ returns-2 t c =
     (rw (seen (readAs s) (c .before .before .before .before .before .before .before .number .ensures .0) (c .before .before .before .before .before .n .given .1), onOk-no passed xs (seen (passedAs s) (c .before .before .before .check-arguments .ensures .0) (c .before .r2 .given .1))), tt)
 
 pub returns-3 : (t : ℕ) → check-call-lts.Need-returns-3 (check-call-calls t) (check-call-at t) check-call.Post
-unfolding callParts
+unfolding callRest
 returns-3 t c =
     let a = c .before .before .before .before .before .before .before .before .before .before .before .before .before .before .args in
     let s = now (a .sheet) in
@@ -62,7 +62,7 @@ returns-3 t c =
     (rw (seen (readAs s) (c .before .before .before .before .before .before .before .before .before .before .before .number .ensures .0) (c .before .before .before .before .before .before .before .before .before .n .given .1)) (sym (ap (onOk passedAll) none)), tt)
 
 pub returns-4 : (t : ℕ) → check-call-lts.Need-returns-4 (check-call-calls t) (check-call-at t) check-call.Post
-unfolding callParts
+unfolding callRest
 returns-4 t c =
     let a = c .before .before .before .before .before .before .before .before .before .before .before .before .before .before .before .before .args in
     let s = now (a .sheet) in

@@ -146,7 +146,7 @@ returns-8 t c =
     let s = now (a .sheet) in
     let source = now (a .source) in
     let y = c .before .check-call .result in
-    (λ sp. rw (c .before .before .before .enum-told3 .given .1, c .called .ensures, c .before .before .import-callee .ensures) (import-call-holds s source (a .levels) (node source (a .levels)) (attributesObject source (a .levels)) sp (c .before .before .before .enum-told3 .given .0 .0) (drop (a .c .at) s) y (c .before .check-call .ensures .0)), rw (c .called .ensures, c .before .before .import-callee .ensures) (called-past (a .c .at) (length s) (a .c .at) importCallee y (omega arith) (c .before .check-call .ensures .1)))
+    (λ sp. rw (c .before .before .before .enum-told3 .given .1, c .called .ensures, c .before .before .import-callee .ensures) (import-call-holds s source (node source (a .levels)) sp (c .before .before .before .enum-told3 .given .0 .0) (drop (a .c .at) s) y (c .before .check-call .ensures .0)), rw (c .called .ensures, c .before .before .import-callee .ensures) (called-past (a .c .at) (length s) (a .c .at) importCallee y (omega arith) (c .before .check-call .ensures .1)))
 
 pub returns-9 : (t : ℕ) → check-rest-lts.Need-returns-9 (check-rest-calls t) (check-rest-at t) check-rest.Post
 returns-9 t c =
@@ -163,7 +163,7 @@ returns-10 t c =
     let inner = node source (a .levels) in
     let past = rw (c .before .before .before .callee .given .1) at (c .before .before .before .before .before .check-node .ensures .1) in
     let y = c .before .check-call2 .result in
-    (λ sp. rw (c .before .before .before .before .before .before .enum-told4 .given .1, c .called2 .ensures) (call-of-holds s source (a .levels) inner (attributesObject source (a .levels)) sp (inner (drop (a .c .at) s)) (seen (checkedAs s) (c .before .before .before .before .before .check-node .ensures .0) (c .before .before .before .callee .given .1)) y (c .before .check-call2 .ensures .0)), rw (c .called2 .ensures) (called-past (a .c .at) (length s) _ (c .before .before .before .callee .given .0 .0) y (omega arith) (c .before .check-call2 .ensures .1)))
+    (λ sp. rw (c .before .before .before .before .before .before .enum-told4 .given .1, c .called2 .ensures) (call-of-holds s source inner sp (inner (drop (a .c .at) s)) (seen (checkedAs s) (c .before .before .before .before .before .check-node .ensures .0) (c .before .before .before .callee .given .1)) y (c .before .check-call2 .ensures .0)), rw (c .called2 .ensures) (called-past (a .c .at) (length s) _ (c .before .before .before .callee .given .0 .0) y (omega arith) (c .before .check-call2 .ensures .1)))
 
 pub returns-11 : (t : ℕ) → check-rest-lts.Need-returns-11 (check-rest-calls t) (check-rest-at t) check-rest.Post
 returns-11 t c =

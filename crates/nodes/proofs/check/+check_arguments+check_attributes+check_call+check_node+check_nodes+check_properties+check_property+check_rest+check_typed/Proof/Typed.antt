@@ -8,8 +8,8 @@ use Rattle.laws.specs.Decoded.{onOk, _>>=_}
 use Rattle.laws.proofs.Decoding.{onOk-no, then-no}
 use Rattle.laws.proofs.Steps.{seen}
 use Rattle.wire.specs.code.Views.{flagAs}
-use Rattle.sheet.specs.Nodes.{node, nodes, attributes, attributesObject}
-use Rattle.nodes.specs.code.Judged.{tallyAll, tallyTyped, typedParts}
+use Rattle.sheet.specs.Nodes.{node, nodes, attributes, typeRest, attributesObject}
+use Rattle.nodes.specs.code.Judged.{tallyAll, tallyTyped}
 use Rattle.nodes.specs.code.Answers.{talliedAs}
 use Rattle.nodes.proofs.Arms.{pair, nodes-attributes}
 use Rattle.nodes.proofs.Rooms.{room, joined-past}
@@ -29,7 +29,7 @@ join-requires t c κs =
     room _ _ _ (c .check-attributes .result) (omega arith) (c .check-attributes .ensures .1)
 
 pub returns : (t : ℕ) → check-typed-lts.Need-returns (check-typed-calls t) (check-typed-at t) check-typed.Post
-unfolding typedParts
+unfolding typeRest
 returns t c =
     let a = c .before .before .before .before .before .before .args in
     let s = now (a .sheet) in
@@ -37,7 +37,7 @@ returns t c =
     (rw (onOk-no tallyAll ns (seen (talliedAs s) (c .before .before .before .check-nodes .ensures .0) (c .before .r .given .1))), tt)
 
 pub returns-2 : (t : ℕ) → check-typed-lts.Need-returns-2 (check-typed-calls t) (check-typed-at t) check-typed.Post
-unfolding typedParts attributes
+unfolding typeRest attributes
 returns-2 t c =
     let a = c .before .before .before .before .before .before .before .before .before .before .args in
     let s = now (a .sheet) in
@@ -47,7 +47,7 @@ returns-2 t c =
     (sym (ap (onOk tallyTyped) none), tt)
 
 pub returns-3 : (t : ℕ) → check-typed-lts.Need-returns-3 (check-typed-calls t) (check-typed-at t) check-typed.Post
-unfolding typedParts
+unfolding typeRest
 returns-3 t c =
     let a = c .before .before .before .before .before .before .before .before .before .before .before .before .args in
     let s = now (a .sheet) in

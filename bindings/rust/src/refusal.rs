@@ -30,7 +30,7 @@ impl Refusal {
         Refusal::Buffer,
     ];
 
-    /// The refusal of a number from 1 to 10.
+    /// The refusal of a number.
     ///
     /// ```
     /// use module_info::Refusal;
@@ -39,10 +39,10 @@ impl Refusal {
     /// assert_eq!(Refusal::from_number(0), None);
     /// ```
     pub fn from_number(number: u8) -> Option<Refusal> {
-        Refusal::ALL.get(usize::from(number).checked_sub(1)?).copied()
+        Refusal::ALL.into_iter().find(|r| r.number() == number)
     }
 
-    /// Document 01's number, 1 to 10.
+    /// Document 01's number.
     pub fn number(self) -> u8 {
         self as u8
     }

@@ -9,6 +9,7 @@ use sheet::limits::GROUP_NUMBERS;
 use sheet::limits::SHEET_LIMIT;
 use sheet::names::MediaType;
 use sheet::program::Program;
+use wire::refusals;
 ghost use Rattle.laws.specs.code.Left.{Free};
 ghost use Rattle.accept.specs.code.Accepts.{Judges};
 
@@ -44,10 +45,10 @@ pub fn check_sheet(
         × Free (now (longest .entry)) (now (longest .exit)) ⌝ }
 {
     if sheet.len() == 0 {
-        return SheetChecked::Refused(1);
+        return SheetChecked::Refused(refusals::SHEET_LENGTH);
     }
     if SHEET_LIMIT < sheet.len() {
-        return SheetChecked::Refused(1);
+        return SheetChecked::Refused(refusals::SHEET_LENGTH);
     }
     match read_front(sheet, comments, groups, longest) {
         FrontRead::Refused(r) => SheetChecked::Refused(r),

@@ -12,6 +12,7 @@ use text::utf8::Encoding;
 use wire::Cursor;
 use wire::Read;
 use wire::Text;
+use wire::refusals;
 ghost use mathlib.Core.Path.{_≡_};
 ghost use Prim.Native.Nat.{_≤_};
 ghost use lib.ListN.{length, drop};
@@ -99,7 +100,7 @@ fn read_group_table(
                 if is_covered(table, m, n, longest) {
                     Counted::Is(m, next)
                 } else {
-                    Counted::Refused(7)
+                    Counted::Refused(refusals::COMMENTS)
                 }
             }
         },

@@ -6,6 +6,7 @@ use sheet::program::Program;
 use sheet::program::ProgramRead;
 use sheet::program::read_program;
 use wire::Cursor;
+use wire::refusals;
 ghost use Rattle.accept.specs.code.Views.{TreeFound};
 
 // The program, where the root stands in the sheet, and how many dependencies it gives.
@@ -32,10 +33,10 @@ pub fn check_tree(sheet: &[u8], source: &[u8], c: Cursor) -> TreeRead
             Checked::Is(found, after) => {
                 let end = after.at;
                 if end < sheet.len() {
-                    return TreeRead::Refused(8);
+                    return TreeRead::Refused(refusals::TRAILING);
                 }
                 if found.uncooked {
-                    return TreeRead::Refused(9);
+                    return TreeRead::Refused(refusals::UNCOOKED);
                 }
                 TreeRead::Is(Tree {
                     program,

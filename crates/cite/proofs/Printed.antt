@@ -10,9 +10,11 @@ use lib.Seq.{take-append-seam}
 use borrow.Author.Tests.{leb-true}
 use Rattle.laws.specs.Decoded.{ok}
 use Rattle.laws.proofs.Decoding.{refused}
+use Rattle.wire.specs.Refusals.{ofSheets, oneOf}
+use Rattle.wire.specs.Refusals as refusals
 use Rattle.sheet.specs.Sheet.{Sheet, accept}
 use Rattle.sheet_codec.proofs.Sheets.{accepts-exactly}
-use Rattle.sheet_codec.proofs.Refusals.{Decision, decided}
+use Rattle.sheet_codec.proofs.Refusals.{apart, Decision, decided}
 use Rattle.report.specs.ModuleInfo.{ModuleInfo}
 use Rattle.report.specs.Encode.{encode}
 use Rattle.report.specs.Valid.{Valid}
@@ -39,7 +41,7 @@ pub record Reported (s : List ℕ) (n : ℕ) (buffer : List ℕ) : Type 0 where
 
 module _ {s buffer : List ℕ} where
   pub reported : {n : ℕ} → Demands s reportRoom (Accepted n) buffer → Reported s n buffer
-  unfolding answerOf fitted cited
+  unfolding oneOf answerOf fitted cited
   reported {n} d = by-sheet (decided s)
     where
       by-room : (t : Sheet) → accept s ≡ ok t [] → (b : Bool) → leb (length (encode (moduleInfo t))) reportRoom ≡ b → Reported s n buffer
@@ -58,14 +60,14 @@ module _ {s buffer : List ℕ} where
             lines = rw (e, h);
           }
       by-room t e false h =
-          let none : _≡_ {A = ℕ} 0 10 = ap (λ (a : Answer). a .number) (rw (e, h) at (d .answer)) in
+          let none : _≡_ {A = ℕ} 0 refusals.buffer = ap (λ (a : Answer). a .number) (rw (e, h) at (d .answer)) in
           absurd (omega arith)
 
       by-sheet : Decision s → Reported s n buffer
       by-sheet (Decision.accepted t e) = by-room t e (leb (length (encode (moduleInfo t))) reportRoom) refl
-      by-sheet (Decision.refused r a b e) =
+      by-sheet (Decision.refused r among e) =
           let none : 0 ≡ r = ap (λ (a : Answer). a .number) (rw e at (d .answer)) in
-          absurd (omega arith)
+          absurd (apart ofSheets among (sym none) refl)
 
   -- a refusal that was answered
   pub refused-lines : {r : ℕ} → Demands s reportRoom (Refused r) buffer → cited s ≡ refusal r
@@ -77,11 +79,11 @@ module _ {s buffer : List ℕ} where
           let none : 0 ≡ length (encode (moduleInfo t)) = ap (λ (a : Answer). a .length) (rw (e, h) at (d .answer)) in
           absurd (some-bytes (moduleInfo t) none)
       by-room t e false h =
-          let ten : r ≡ 10 = ap (λ (a : Answer). a .number) (rw (e, h) at (d .answer)) in
+          let ten : r ≡ refusals.buffer = ap (λ (a : Answer). a .number) (rw (e, h) at (d .answer)) in
           rw (e, h, ten)
 
       by-sheet : Decision s → cited s ≡ refusal r
       by-sheet (Decision.accepted t e) = by-room t e (leb (length (encode (moduleInfo t))) reportRoom) refl
-      by-sheet (Decision.refused q a b e) =
+      by-sheet (Decision.refused q among e) =
           let same : r ≡ q = ap (λ (a : Answer). a .number) (rw e at (d .answer)) in
           rw (e, same)

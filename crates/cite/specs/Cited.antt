@@ -5,6 +5,7 @@ use Prim.Native.Nat.{ℕ, _*_}
 use lib.Dec.{leb}
 use lib.ListN.{length}
 use Rattle.laws.specs.Decoded.{Decoded, ok, no}
+use Rattle.wire.specs.Refusals as refusals
 use Rattle.sheet.specs.Sheet.{Sheet, accept}
 use Rattle.report.specs.ModuleInfo.{ModuleInfo}
 use Rattle.report.specs.Encode.{encode}
@@ -21,7 +22,7 @@ lineRoom = 4 * reportRoom
 
 -- the citation, if the report is no longer than its buffer
 abbrev pub citedIn : ModuleInfo → List ℕ
-citedIn m = cond (leb (length (encode m)) reportRoom) (citation m) (refusal 10)
+citedIn m = cond (leb (length (encode m)) reportRoom) (citation m) (refusal refusals.buffer)
 
 abbrev pub citedBy : Decoded Sheet → List ℕ
 citedBy (ok t s) = citedIn (moduleInfo t)

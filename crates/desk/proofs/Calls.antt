@@ -7,7 +7,7 @@ use Prim.Native.Nat.{ℕ, _≤_, _<_}
 use native.Mathlib.Omega.{arith}
 use borrow.Author.Tests.{lt-ltb, le-ltb, le-leb, lt-leb}
 use lib.ListN.{length, getD}
-use Rattle.desk.specs.Desk.{Call, handIn, turn, Event, accepted, refused, served, idle, changes, Done, queue, withSheet, withoutFront, handedIn, firstWaiting, serve, turned, step}
+use Rattle.desk.specs.Desk.{Call, handIn, turn, Event, accepted, refused, served, idle, changes, Done, queue, withSheet, withoutFront, noDepositor, eightWaiting, handedIn, firstWaiting, serve, turned, step}
 use Rattle.desk.specs.Block.{countIn, deskAs, Does}
 use Rattle.desk.proofs.Rings.{length-queue-of}
 use Rattle.desk.proofs.Outcomes.{outcome, served-one}
@@ -25,7 +25,7 @@ does c block e behind steps left = record {
 }
 
 module _ (block : List ℕ) (d s : ℕ) where
-  pub refuses-over : 15 < d → Does (handIn d s) block (refused d s 14) block
+  pub refuses-over : 15 < d → Does (handIn d s) block (refused d s noDepositor) block
   unfolding handedIn
   refuses-over h = does _ _ _ _ (rw (lt-ltb 15 d h) refl) (λ e. refl)
 
@@ -33,7 +33,7 @@ module _ (block : List ℕ) (d s : ℕ) where
     waits : length (queue (deskAs block) d) ≡ countIn block d
     waits = length-queue-of block d (omega arith)
 
-    pub refuses-full : 8 ≤ countIn block d → Does (handIn d s) block (refused d s 15) block
+    pub refuses-full : 8 ≤ countIn block d → Does (handIn d s) block (refused d s eightWaiting) block
     unfolding handedIn
     refuses-full h = does _ _ _ _ (rw (le-ltb 15 d here, waits, le-leb 8 (countIn block d) h) refl) (λ e. refl)
 

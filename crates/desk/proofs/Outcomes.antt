@@ -8,11 +8,11 @@ use native.Mathlib.Decide.{decLe}
 use borrow.Author.Count.{below-none, below-more}
 use borrow.Author.Tests.{lt-ltb, le-ltb, le-leb, lt-leb}
 use lib.ListN.{length}
-use Rattle.desk.specs.Desk.{Desk, Call, handIn, turn, Done, accepted, refused, served, idle, changes, queue, withSheet, withoutFront, handedIn, turned, lookedAt, firstWaiting, serve, step}
+use Rattle.desk.specs.Desk.{Desk, Call, handIn, turn, Done, accepted, refused, served, idle, changes, queue, withSheet, withoutFront, noDepositor, eightWaiting, handedIn, turned, lookedAt, firstWaiting, serve, step}
 
 pub data Outcome (desk : Desk) : Call → Done → Type 0 where
-  over : {d s : ℕ} → 15 < d → Outcome desk (handIn d s) (record { desk = desk; event = refused d s 14 })
-  full : {d s : ℕ} → d ≤ 15 → 8 ≤ length (queue desk d) → Outcome desk (handIn d s) (record { desk = desk; event = refused d s 15 })
+  over : {d s : ℕ} → 15 < d → Outcome desk (handIn d s) (record { desk = desk; event = refused d s noDepositor })
+  full : {d s : ℕ} → d ≤ 15 → 8 ≤ length (queue desk d) → Outcome desk (handIn d s) (record { desk = desk; event = refused d s eightWaiting })
   room : {d s : ℕ} → d ≤ 15 → length (queue desk d) < 8 → Outcome desk (handIn d s) (record { desk = withSheet desk d s; event = accepted d s })
   front : {s : ℕ} {rest : List ℕ} (passed : ℕ) → passed < 16 → ((k : ℕ) → k < passed → queue desk (lookedAt desk k) ≡ [])
       → queue desk (lookedAt desk passed) ≡ s ∷ rest → Outcome desk turn (record { desk = withoutFront desk (lookedAt desk passed); event = served (lookedAt desk passed) s })

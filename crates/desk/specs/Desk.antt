@@ -45,11 +45,18 @@ pub record Done : Type 0 where
 unfoldable pub withSheet : Desk → ℕ → ℕ → Desk
 withSheet desk d s = record { queues = set (desk .queues) d (queue desk d ++ s ∷ []); next = desk .next }
 
--- 14 for a depositor over 15, then 15 for one with 8 waiting
+-- the numbers of the refusals: a depositor over 15; one with 8 waiting
+abbrev pub noDepositor : ℕ
+noDepositor = 14
+
+abbrev pub eightWaiting : ℕ
+eightWaiting = 15
+
+-- these in turn, or the sheet waits
 unfoldable pub handedIn : Desk → ℕ → ℕ → Done
 handedIn desk d s =
-    cond (ltb 15 d) (record { desk = desk; event = refused d s 14 })
-    (cond (leb 8 (length (queue desk d))) (record { desk = desk; event = refused d s 15 }) (record { desk = withSheet desk d s; event = accepted d s }))
+    cond (ltb 15 d) (record { desk = desk; event = refused d s noDepositor })
+    (cond (leb 8 (length (queue desk d))) (record { desk = desk; event = refused d s eightWaiting }) (record { desk = withSheet desk d s; event = accepted d s }))
 
 -- the depositor whom a turn looks at once it has passed so many; after 15 comes 0
 abbrev pub lookedAt : Desk → ℕ → ℕ

@@ -5,13 +5,13 @@ use mathlib.Core.Logic.{_↔_}
 use mathlib.Core.List.{List, [], _∷_, _++_}
 use Prim.Native.Nat.{ℕ, _+_, _%_, _≤_, _<_}
 use lib.ListN.{length}
-use Rattle.desk.specs.Desk.{Call, handIn, turn, Event, accepted, refused, served, idle, changes}
+use Rattle.desk.specs.Desk.{Call, handIn, turn, Event, accepted, refused, served, idle, changes, noDepositor, eightWaiting}
 use Rattle.desk.specs.History.{History, happened, happensNext, happensThen, acceptedOf, servedOf, waitingOf, turnsIn, nextOf}
 
 -- what a hand-in of sheet s by depositor d is answered once h has happened
 pub data HandInAnswer (h : History) (d s : ℕ) : Event → Type 0 where
-  over : 15 < d → HandInAnswer h d s (refused d s 14)
-  full : d ≤ 15 → length (waitingOf d h) ≡ 8 → HandInAnswer h d s (refused d s 15)
+  over : 15 < d → HandInAnswer h d s (refused d s noDepositor)
+  full : d ≤ 15 → length (waitingOf d h) ≡ 8 → HandInAnswer h d s (refused d s eightWaiting)
   room : d ≤ 15 → length (waitingOf d h) < 8 → HandInAnswer h d s (accepted d s)
 
 -- d is the next depositor, after the one last served, who has a sheet waiting: those who were passed have none

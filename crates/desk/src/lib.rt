@@ -28,6 +28,12 @@ const NEXT: usize = 160;
 // The numbers of a desk.
 pub const NUMBERS: usize = 161;
 
+// Refusal of a depositor over 15.
+const NO_DEPOSITOR: u32 = 14;
+
+// Of one with eight sheets waiting.
+const EIGHT_WAITING: u32 = 15;
+
 // What a hand-in is answered.
 pub enum HandedIn {
     Accepted,
@@ -112,10 +118,10 @@ pub fn hand_in(block: &mut [u32; NUMBERS], depositor: u32, sheet: u32) -> Handed
     ensures { λ r. ⌜ Does (handIn depositor sheet) (now (block .entry)) (handedInAs depositor sheet r) (now (block .exit)) ⌝ }
 {
     if DEPOSITORS <= depositor {
-        return HandedIn::Refused(14);
+        return HandedIn::Refused(NO_DEPOSITOR);
     }
     if waiting(block, depositor) == PLACES {
-        return HandedIn::Refused(15);
+        return HandedIn::Refused(EIGHT_WAITING);
     }
     append(block, depositor, sheet);
     HandedIn::Accepted

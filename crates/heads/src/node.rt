@@ -16,6 +16,7 @@ use wire::Cursor;
 use wire::Flag;
 use wire::Read;
 use wire::Text;
+use wire::refusals;
 ghost use mathlib.Core.Path.{_≡_};
 ghost use lib.ListN.{length, drop};
 ghost use Rattle.laws.specs.Decoded.{onOk};
@@ -326,7 +327,7 @@ fn read_fields(
         10 => read_import_type(sheet, source, c, levels),
         11 => read_import_equals(sheet, source, c, levels),
         12 => read_module(sheet, source, c, levels),
-        _ => FieldsRead::Refused(3),
+        _ => FieldsRead::Refused(refusals::BYTE),
     }
 }
 

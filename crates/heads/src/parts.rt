@@ -10,6 +10,7 @@ use wire::Cursor;
 use wire::Flag;
 use wire::Read;
 use wire::Text;
+use wire::refusals;
 ghost use mathlib.Core.Path.{_≡_};
 ghost use mathlib.Core.List.{[]};
 ghost use Prim.Native.Nat.{_≤_};
@@ -132,7 +133,7 @@ fn read_key(sheet: &[u8], c: Cursor, kind: usize) -> PropertyRead
             Text::Refused(r) => PropertyRead::Refused(r),
             Text::From(start, next) => PropertyRead::Is(Property::NameKey(start, next.at), next),
         },
-        _ => PropertyRead::Refused(3),
+        _ => PropertyRead::Refused(refusals::BYTE),
     }
 }
 
@@ -150,7 +151,7 @@ pub fn read_property(sheet: &[u8], c: Cursor) -> PropertyRead
                 Read::Refused(r) => PropertyRead::Refused(r),
                 Read::Value(key, next) => read_key(sheet, next, key),
             },
-            _ => PropertyRead::Refused(3),
+            _ => PropertyRead::Refused(refusals::BYTE),
         },
     }
 }

@@ -7,6 +7,7 @@ use text::utf8::Encoding;
 use wire::Cursor;
 use wire::Read;
 use wire::Text;
+use wire::refusals;
 ghost use mathlib.Core.Path.{_≡_};
 ghost use mathlib.Core.List.{List};
 ghost use Prim.Native.Nat.{ℕ, _≤_, _<_};
@@ -38,9 +39,9 @@ fn judge_tag(t: usize, next: Cursor, allowed: bool, levels: usize) -> Read
         if 0 < levels {
             return Read::Value(t, next);
         }
-        return Read::Refused(4);
+        return Read::Refused(refusals::LIMIT);
     }
-    Read::Refused(3)
+    Read::Refused(refusals::BYTE)
 }
 
 // The tag of any node.

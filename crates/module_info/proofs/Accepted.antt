@@ -2,9 +2,11 @@
 use mathlib.Core.Path.{_≡_, refl, sym, _∙_}
 use mathlib.Core.Bool.{true}
 use mathlib.Core.List.{List, [], _∷_}
-use Prim.Native.Nat.{ℕ, _+_, _/_, _≤_}
+use Prim.Native.Nat.{ℕ, _+_, _/_, _≤_, _<_}
 use native.Mathlib.Omega.{arith}
+use lib.Dec.{ltb}
 use lib.ListN.{length}
+use borrow.Author.Tests.{ltb-true}
 use Rattle.laws.specs.Decoded.{Decoded, ok, no}
 use Rattle.laws.specs.Codec.{All, IfThere}
 use Rattle.laws.proofs.Decoding.{refused}
@@ -15,6 +17,7 @@ use Rattle.text.specs.Position.{characters, Indexed}
 use Rattle.text.specs.Bytes.{part}
 use Rattle.text.proofs.Columns.{counted}
 use Rattle.text.proofs.WellFormed.{well-formed-iff}
+use Rattle.wire.specs.Refusals.{ofSheets, oneOf}
 use Rattle.sheet.specs.Limits.{sourceLimit, commentLimit, groupLimit, commentNumbers, groupNumbers, indexNumbers}
 use Rattle.sheet.specs.Fit.{Fit}
 use Rattle.sheet.specs.Walk.{Visit, startOf, visits}
@@ -24,7 +27,7 @@ use Rattle.sheet.proofs.Reaches.{walk-right}
 use Rattle.sheet_codec.specs.Limits.{FieldsFit}
 use Rattle.sheet_codec.specs.SheetOf.{SheetOf}
 use Rattle.sheet_codec.proofs.Sheets.{accepts-exactly}
-use Rattle.sheet_codec.proofs.Refusals.{Decision, decided}
+use Rattle.sheet_codec.proofs.Refusals.{passes, Decision, decided}
 use Rattle.accept.specs.declared.check.Parts.{Parts}
 use Rattle.accept.specs.code.Accepts.{Accepts}
 use Rattle.report.specs.declared.writer.Outcome.{Outcome}
@@ -159,16 +162,17 @@ module _ {s comments groups : List ℕ} {p : Parts} (a : Accepts s comments grou
       shown : (P : Sheet → Type 0) → P (a .sheet) → OfAccepted s P
       shown P h t e = rw (same-sheet (accepts-exactly s t .1 e) (a .accepted)) h
 
--- a refusal is at most 9, and so fits a byte
-pub refusal-small : (s : List ℕ) {r : ℕ} → accept s ≡ no r → r ≤ 9
+-- a refusal fits a byte
+pub refusal-small : (s : List ℕ) {r : ℕ} → accept s ≡ no r → r < 256
+unfolding oneOf
 refusal-small s {r} e = by (decided s)
   where
-    by : Decision s → r ≤ 9
+    by : Decision s → r < 256
     by (Decision.accepted t f) = absurd (refused (sym e ∙ f))
-    by (Decision.refused q low high f) =
+    by (Decision.refused q among f) =
         let g : no q ≡ no r = sym f ∙ e in
         let same : q ≡ r = cc in
-        rw (← same) high
+        rw (← same) (ltb-true q 256 (passes (λ n. ltb n 256) ofSheets refl q among))
 
 -- a refused sheet: its answer and its number, and nothing is asked of it beyond
 pub refusal-demanded : (s : List ℕ) {size r : ℕ} {outcome : Outcome} {buffer : List ℕ} → accept s ≡ no r → outcomeAs outcome buffer ≡ refusedWith r size

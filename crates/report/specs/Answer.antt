@@ -4,6 +4,7 @@ use mathlib.Core.List.{List, _++_}
 use Prim.Native.Nat.{ℕ, _-_}
 use lib.Dec.{leb}
 use lib.ListN.{length, take, replicate}
+use Rattle.wire.specs.Refusals as refusals
 use Rattle.report.specs.declared.writer.Outcome.{Outcome}
 use Rattle.report.specs.declared.writer.Outcome.the-variants as outcome
 use Rattle.report.specs.Buffer.{Buffer, holds, full}
@@ -30,12 +31,12 @@ accepted size bytes = record { number = 0; length = length bytes; buffer = bytes
 
 -- a report in a buffer of so many bytes; refusal 10 where it is longer
 unfoldable pub fitted : ℕ → List ℕ → Answer
-fitted size bytes = cond (leb (length bytes) size) (accepted size bytes) (refusedWith 10 size)
+fitted size bytes = cond (leb (length bytes) size) (accepted size bytes) (refusedWith refusals.buffer size)
 
 -- the answer once all is written
 abbrev pub answered : ℕ → Buffer → Answer
 answered size (holds n bytes) = accepted size bytes
-answered size (full n) = refusedWith 10 size
+answered size (full n) = refusedWith refusals.buffer size
 
 -- what the code's answer stands for, with what the buffer has then
 abbrev pub outcomeAs : Outcome → List ℕ → Answer

@@ -7,6 +7,7 @@ use lib.Dec.{ltb}
 use lib.ListN.{getD}
 use Rattle.laws.specs.Decoded.{Decoder, onOk, _>>=_, _>>_, return, refuse, require}
 use Rattle.text.specs.declared.position.Position.{Position}
+use Rattle.wire.specs.Refusals as refusals
 use Rattle.wire.specs.Fields.{byte, below, flag, bytes}
 use Rattle.wire.specs.Number.{number}
 use Rattle.wire.specs.Optional.{optional}
@@ -49,7 +50,7 @@ reference = do
 unfoldable pub jsDoc : Decoder JsDocImportInfo
 jsDoc = do
   kind ← flag
-  require kind 3
+  require kind refusals.byte
   s ← specifier
   mode ← below 3
   return (record { specifier = s; mode = mode })
@@ -63,12 +64,12 @@ keyValue = do
 unfoldable pub attributes : Decoder ImportAttributes
 attributes = do
   kind ← byte
-  getD (return none ∷ return unknown ∷ (list keyValue >>= λ l. return (known l)) ∷ []) kind (refuse 3)
+  getD (return none ∷ return unknown ∷ (list keyValue >>= λ l. return (known l)) ∷ []) kind (refuse refusals.byte)
 
 unfoldable pub argument : Decoder DynamicArgument
 argument = do
   kind ← byte
-  getD (return expr ∷ (text >>= λ x. return (string x)) ∷ (list (optional text) >>= λ l. return (template l)) ∷ []) kind (refuse 3)
+  getD (return expr ∷ (text >>= λ x. return (string x)) ∷ (list (optional text) >>= λ l. return (template l)) ∷ []) kind (refuse refusals.byte)
 
 -- what follows the kind and the types of a static dependency, and of a dynamic one
 unfoldable pub staticRest : ℕ → Option SpecifierWithRange → Decoder DependencyDescriptor

@@ -1,6 +1,7 @@
 // The writer into a lent buffer: it fills the buffer from the front, and once a byte finds no room nothing more is written.
 use sheet::fields::Span;
 use text::position::Position;
+use wire::refusals;
 ghost use mathlib.Core.Path.{_≡_};
 ghost use mathlib.Core.List.{[], _∷_};
 ghost use lib.ListN.{length};
@@ -217,7 +218,7 @@ pub fn finish(out: &mut [u8], place: Place) -> Outcome
 {
     let at = place.at;
     if at == FULL {
-        return refuse_all(out, 10);
+        return refuse_all(out, refusals::BUFFER);
     }
     if at < out.len() {
         clear_from(out, at);

@@ -7,6 +7,7 @@ use lib.ListN.{length, drop}
 use Rattle.laws.specs.Decoded.{Decoder, onOk, _>>=_, _>>_, return, require}
 use Rattle.laws.specs.Quoted.{ascii}
 use Rattle.text.specs.Bytes.{part, begins}
+use Rattle.wire.specs.Refusals as refusals
 use Rattle.wire.specs.Fields.{numbered}
 use Rattle.wire.specs.Number.{number, encodeNumber}
 use Rattle.sheet.specs.declared.fields.Span.{Span}
@@ -58,9 +59,9 @@ unfoldable pub comment : List ℕ → ℕ → Decoder Comment
 comment source last = do
   kind ← numbered commentKinds
   start ← position source
-  require (leb last start) 7
+  require (leb last start) refusals.comments
   end ← endFrom source start
-  require (marked kind (slice source (record { start = start; end = end }))) 7
+  require (marked kind (slice source (record { start = start; end = end }))) refusals.comments
   return (record { kind = kind; span = record { start = start; end = end } })
 
 -- kind byte, start, end
@@ -87,10 +88,10 @@ unfoldable pub group : List ℕ → ℕ → (Side → ℕ → Bool) → Decoder 
 group source total after = do
   side ← numbered sides
   p ← position source
-  require (after side p) 7
+  require (after side p) refusals.comments
   first ← number
   n ← number
-  require (ltb 0 n && leb (first + n) total) 7
+  require (ltb 0 n && leb (first + n) total) refusals.comments
   return (record { side = side; position = p; first = first; count = n })
 
 -- side byte, position, index of its first comment, count

@@ -4,6 +4,7 @@ use Prim.Native.Nat.{ℕ}
 use lib.Dec.{leb}
 use Rattle.laws.specs.Decoded.{Decoder, _>>=_, _>>_, return, require}
 use Rattle.text.specs.Position.{isBoundary}
+use Rattle.wire.specs.Refusals as refusals
 use Rattle.wire.specs.Number.{number, encodeNumber}
 use Rattle.sheet.specs.declared.fields.Span.{Span}
 
@@ -11,14 +12,14 @@ use Rattle.sheet.specs.declared.fields.Span.{Span}
 unfoldable pub position : List ℕ → Decoder ℕ
 position source = do
   p ← number
-  require (isBoundary source p) 6
+  require (isBoundary source p) refusals.position
   return p
 
 -- an end that does not precede its start
 unfoldable pub endFrom : List ℕ → ℕ → Decoder ℕ
 endFrom source start = do
   end ← position source
-  require (leb start end) 6
+  require (leb start end) refusals.position
   return end
 
 -- a start and an end

@@ -6,6 +6,7 @@ use lib.Dec.{eqb, ltb}
 use lib.ListN.{getD}
 use Rattle.laws.specs.Decoded.{Decoder, onOk, _>>=_, _>>_, return, refuse, require}
 use Rattle.text.specs.declared.utf8.Encoding.the-variants.{Utf8, Wtf8}
+use Rattle.wire.specs.Refusals as refusals
 use Rattle.wire.specs.Fields.{byte, below, valueOf, numbered, flag}
 use Rattle.wire.specs.Number.{number}
 use Rattle.wire.specs.Text.{count, text}
@@ -24,8 +25,8 @@ many end item (suc k) = item >>= λ add s. onOk add (many end item k s)
 -- what is judged at a tag, once it is read: its place allows it; then, with no level left, refusal 4
 abbrev pub judgeTag : Bool → ℕ → ℕ → Decoder ℕ
 judgeTag allowed levels t = do
-  require allowed 3
-  require (ltb 0 levels) 4
+  require allowed refusals.byte
+  require (ltb 0 levels) refusals.limit
   return t
 
 unfoldable pub tag : (ℕ → Bool) → ℕ → Decoder ℕ
@@ -74,7 +75,7 @@ module _ (node : Decoder Node) where
       ∷ (text Utf8 textLimit >>= λ k. node >>= λ v. return (nameKey k v))
       ∷ [])
       kind
-      (refuse 3)
+      (refuse refusals.byte)
 
   -- a property, by its byte: 0 spread, 1 other, 2 with a key
   unfoldable pub propertyItem : Decoder (Properties → Properties)
@@ -86,7 +87,7 @@ module _ (node : Decoder Node) where
         ∷ (byte >>= keyedItem)
         ∷ [])
         kind
-        (refuse 3)
+        (refuse refusals.byte)
 
   unfoldable pub properties : ℕ → Decoder Properties
   properties = many noProperties propertyItem
@@ -215,12 +216,12 @@ module _ (source : List ℕ) (levels : ℕ) (node : Decoder Node) (object′ : D
       (otherFields ∷ stringFields ∷ nameFields ∷ templateFields ∷ binaryFields ∷ objectFields ∷ callFields ∷ importFields
       ∷ namedExportFields ∷ exportAllFields ∷ importTypeFields ∷ importEqualsFields ∷ moduleFields ∷ [])
       t
-      (refuse 3)
+      (refuse refusals.byte)
 
 unfoldable mutual
   -- a node with so many levels left, its own among them
   pub node : List ℕ → ℕ → Decoder Node
-  node source zero = tag (λ t. ltb t 13) 0 >> refuse 4
+  node source zero = tag (λ t. ltb t 13) 0 >> refuse refusals.limit
   node source (suc d) = do
     t ← tag (λ t. ltb t 13) (suc d)
     sp ← span source
@@ -228,7 +229,7 @@ unfoldable mutual
 
   -- an Object that holds attributes
   pub attributesObject : List ℕ → ℕ → Decoder Attributes
-  attributesObject source zero = tag (eqb 5) 0 >> refuse 4
+  attributesObject source zero = tag (eqb 5) 0 >> refuse refusals.limit
   attributesObject source (suc d) = do
     tag (eqb 5) (suc d)
     sp ← span source

@@ -6,6 +6,7 @@ use lib.Dec.{leb, ltb}
 use lib.ListN.{length}
 use Rattle.laws.specs.Decoded.{ok, no, Decoder, _>>=_, _>>_, return, require}
 use Rattle.text.specs.declared.utf8.Encoding.the-variants.{Utf8}
+use Rattle.wire.specs.Refusals as refusals
 use Rattle.wire.specs.Fields.{numbered}
 use Rattle.wire.specs.Text.{count, text}
 use Rattle.sheet.specs.Limits.{sheetLimit, sourceLimit, commentLimit, groupLimit, depthLimit}
@@ -37,19 +38,19 @@ sheet = do
   cs ← comments source 0 n
   m ← count groupLimit
   gs ← groups source n anywhere m
-  require (covered gs n) 7
+  require (covered gs n) refusals.comments
   p ← program source
   root ← node source depthLimit
   return (record { media = media; source = source; comments = cs; groups = gs; program = p; root = root })
 
 -- refusal 1 of no byte or too many
 abbrev pub sized : Decoder (Unit {0})
-sized s = require (ltb 0 (length s) && leb (length s) sheetLimit) 1 s
+sized s = require (ltb 0 (length s) && leb (length s) sheetLimit) refusals.sheetLength s
 
 -- refusal 8 where bytes are left
 abbrev pub ending : Decoder (Unit {0})
 ending [] = ok tt []
-ending (b ∷ s) = no 8
+ending (b ∷ s) = no refusals.trailing
 
 -- refusal 1 in front of the fields, 8 behind them
 unfoldable pub decodeSheet : Decoder Sheet
@@ -63,5 +64,5 @@ decodeSheet = do
 unfoldable pub accept : Decoder Sheet
 accept = do
   t ← decodeSheet
-  require (not (uncooked (t .root))) 9
+  require (not (uncooked (t .root))) refusals.uncooked
   return t

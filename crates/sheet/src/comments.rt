@@ -7,6 +7,7 @@ use super::names::comment_kind;
 use super::names::kind_number;
 use wire::Cursor;
 use wire::Read;
+use wire::refusals;
 ghost use mathlib.Core.Path.{_≡_};
 ghost use Prim.Native.Nat.{_+_, _*_, _≤_, _<_};
 ghost use lib.ListN.{length, drop};
@@ -67,7 +68,7 @@ fn read_comment(sheet: &[u8], source: &[u8], c: Cursor, last: usize) -> CommentR
             Read::Refused(r) => CommentRead::Refused(r),
             Read::Value(start, next) => {
                 if start < last {
-                    return CommentRead::Refused(7);
+                    return CommentRead::Refused(refusals::COMMENTS);
                 }
                 match read_end(sheet, source, next, start) {
                     Read::Refused(r) => CommentRead::Refused(r),
@@ -77,7 +78,7 @@ fn read_comment(sheet: &[u8], source: &[u8], c: Cursor, last: usize) -> CommentR
                             let span = Span { start, end };
                             CommentRead::Is(Comment { kind, span }, next)
                         } else {
-                            CommentRead::Refused(7)
+                            CommentRead::Refused(refusals::COMMENTS)
                         }
                     }
                 }

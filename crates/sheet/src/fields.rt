@@ -1,6 +1,7 @@
 // Positions and spans in the source.
 use wire::Cursor;
 use wire::Read;
+use wire::refusals;
 ghost use mathlib.Core.Path.{_≡_};
 ghost use lib.ListN.{length, drop};
 ghost use Rattle.text.specs.Position.{isBoundary};
@@ -47,7 +48,7 @@ pub fn read_position(sheet: &[u8], source: &[u8], c: Cursor) -> Read
             if is_boundary(source, p) {
                 Read::Value(p, next)
             } else {
-                Read::Refused(6)
+                Read::Refused(refusals::POSITION)
             }
         }
     }
@@ -64,7 +65,7 @@ pub fn read_end(sheet: &[u8], source: &[u8], c: Cursor, start: usize) -> Read
             if start <= end {
                 Read::Value(end, next)
             } else {
-                Read::Refused(6)
+                Read::Refused(refusals::POSITION)
             }
         }
     }

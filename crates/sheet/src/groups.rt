@@ -6,6 +6,7 @@ use super::names::side_number;
 use super::names::side_of;
 use wire::Cursor;
 use wire::Read;
+use wire::refusals;
 ghost use mathlib.Core.Path.{_≡_};
 ghost use mathlib.Core.Bool.{_&&_};
 ghost use Prim.Native.Nat.{_+_, _*_, _≤_, _<_};
@@ -97,13 +98,13 @@ fn read_group(sheet: &[u8], source: &[u8], c: Cursor, total: usize, before: Befo
                                         next,
                                     )
                                 } else {
-                                    GroupRead::Refused(7)
+                                    GroupRead::Refused(refusals::COMMENTS)
                                 }
                             }
                         },
                     }
                 } else {
-                    GroupRead::Refused(7)
+                    GroupRead::Refused(refusals::COMMENTS)
                 }
             }
         },

@@ -1,14 +1,16 @@
 -- What holds of bytes, and is kept however decoders are put together, holds of all fields that a sheet is made of.
-use mathlib.Core.Bool.{Bool, _||_}
+use mathlib.Core.Path.{_≡_, refl}
+use mathlib.Core.Bool.{Bool, true, _||_}
 use mathlib.Core.List.{List}
 use mathlib.Core.Option.{Option}
-use Prim.Native.Nat.{ℕ, zero, suc, _+_, _-_, _*_, _≤_}
-use native.Mathlib.Omega.{arith}
+use Prim.Native.Nat.{ℕ, zero, suc, _+_, _-_, _*_}
 use lib.Dec.{eqb, leb, ltb}
 use Rattle.laws.specs.Decoded.{Decoder}
 use Rattle.laws.proofs.Kept.{Kept, test, either}
 use Rattle.text.specs.declared.utf8.Encoding.{Encoding}
 use Rattle.text.specs.Utf8.{wellFormed}
+use Rattle.wire.specs.Refusals.{atFields, oneOf}
+use Rattle.wire.specs.Refusals as refusals
 use Rattle.wire.specs.Fields.{byte, below, Values, numbered, flag, bytes}
 use Rattle.wire.specs.Number.{largest, lastGroup, groups, number}
 use Rattle.wire.specs.Text.{count, text}
@@ -16,33 +18,39 @@ use Rattle.wire.specs.Optional.{optional}
 
 -- a refusal that is judged at a field
 abbrev pub AtField : ℕ → Type 0
-AtField r = (2 ≤ r) × (r ≤ 7)
+AtField r = oneOf atFields r ≡ true
 
 pub record OfFields (P : (A : Type 0) → Decoder A → Type 0) : Type 1 where
   pub kept : Kept P AtField
   pub a-byte : P ℕ byte
   pub some-bytes : (n : ℕ) → P (List ℕ) (bytes n)
 
-pub two : AtField 2
-two = (omega arith, omega arith)
+pub two : AtField refusals.cutOff
+unfolding oneOf
+two = refl
 
-pub three : AtField 3
-three = (omega arith, omega arith)
+pub three : AtField refusals.byte
+unfolding oneOf
+three = refl
 
-pub four : AtField 4
-four = (omega arith, omega arith)
+pub four : AtField refusals.limit
+unfolding oneOf
+four = refl
 
-pub five : AtField 5
-five = (omega arith, omega arith)
+pub five : AtField refusals.text
+unfolding oneOf
+five = refl
 
-pub six : AtField 6
-six = (omega arith, omega arith)
+pub six : AtField refusals.position
+unfolding oneOf
+six = refl
 
-pub seven : AtField 7
-seven = (omega arith, omega arith)
+pub seven : AtField refusals.comments
+unfolding oneOf
+seven = refl
 
 -- a number refuses by 2 alone
-module _ {P : (A : Type 0) → Decoder A → Type 0} {N : ℕ → Type 0} (kept : Kept P N) (two : N 2) (a-byte : P ℕ byte) where
+module _ {P : (A : Type 0) → Decoder A → Type 0} {N : ℕ → Type 0} (kept : Kept P N) (two : N refusals.cutOff) (a-byte : P ℕ byte) where
   last-kept : (scale low b : ℕ) → P ℕ (lastGroup scale low b)
   unfolding lastGroup
   last-kept scale low b = test kept (leb scale 1 || ltb 0 b) two (test kept (leb (low + scale * b) largest) two (kept .ends (low + scale * b)))

@@ -5,17 +5,18 @@ use Prim.Native.Nat.{ℕ, suc}
 use lib.Dec.{eqb, leb, ltb}
 use lib.ListN.{length, getD, take, drop}
 use Rattle.laws.specs.Decoded.{ok, no, Decoder, _>>=_, _>>_, return, require}
+use Rattle.wire.specs.Refusals as refusals
 
 -- a byte; refusal 2 where the bytes end
 unfoldable pub byte : Decoder ℕ
-byte [] = no 2
+byte [] = no refusals.cutOff
 byte (b ∷ s) = ok b s
 
 -- a byte below a limit; refusal 3 for any other
 unfoldable pub below : ℕ → Decoder ℕ
 below limit = do
   b ← byte
-  require (ltb b limit) 3
+  require (ltb b limit) refusals.byte
   return b
 
 -- the values of an enum in the order of their numbers, which begin at 0; the last one by itself
@@ -44,4 +45,4 @@ encodeFlag b = cond b 1 0 ∷ []
 
 -- so many bytes; refusal 2 where there are fewer
 unfoldable pub bytes : ℕ → Decoder (List ℕ)
-bytes n s = cond (leb n (length s)) (ok (take n s) (drop n s)) (no 2)
+bytes n s = cond (leb n (length s)) (ok (take n s) (drop n s)) (no refusals.cutOff)

@@ -1,3 +1,4 @@
+pub mod Refusals
 pub mod Fields
 pub mod Number
 pub mod Text

@@ -1,4 +1,6 @@
 // Numbers, flags and texts as sheets and reports hold them, read by a cursor.
+pub mod refusals;
+
 use text::utf8::Encoding;
 ghost use mathlib.Core.Path.{_≡_};
 ghost use mathlib.Core.Bool.{_||_};
@@ -52,7 +54,7 @@ impl Cursor {
         if at < sheet.len() {
             Read::Value(sheet[at] as usize, Cursor { at: at + 1 })
         } else {
-            Read::Refused(2)
+            Read::Refused(refusals::CUT_OFF)
         }
     }
 
@@ -66,7 +68,7 @@ impl Cursor {
                 if b < limit {
                     Read::Value(b, next)
                 } else {
-                    Read::Refused(3)
+                    Read::Refused(refusals::BYTE)
                 }
             }
             Read::Refused(r) => Read::Refused(r),
@@ -95,7 +97,7 @@ impl Cursor {
         let mut low: usize = 0;
         while 0 < left {
             if sheet.len() <= at {
-                return Read::Refused(2);
+                return Read::Refused(refusals::CUT_OFF);
             }
             let b = sheet[at] as usize;
             at += 1;
@@ -106,13 +108,13 @@ impl Cursor {
                         return Read::Value(n, Cursor { at });
                     }
                 }
-                return Read::Refused(2);
+                return Read::Refused(refusals::CUT_OFF);
             }
             low += scale * (b - 128);
             scale *= 128;
             left -= 1;
         }
-        Read::Refused(2)
+        Read::Refused(refusals::CUT_OFF)
     }
 
     // A number up to a limit: a count, or a length.
@@ -125,7 +127,7 @@ impl Cursor {
                 if n <= limit {
                     Read::Value(n, next)
                 } else {
-                    Read::Refused(4)
+                    Read::Refused(refusals::LIMIT)
                 }
             }
             Read::Refused(r) => Read::Refused(r),
@@ -141,13 +143,13 @@ impl Cursor {
             Read::Value(n, next) => {
                 let start = next.at;
                 if sheet.len() - start < n {
-                    return Text::Refused(2);
+                    return Text::Refused(refusals::CUT_OFF);
                 }
                 let end = start + n;
                 if text::utf8::well_formed(&sheet[start..end], encoding) {
                     Text::From(start, Cursor { at: end })
                 } else {
-                    Text::Refused(5)
+                    Text::Refused(refusals::TEXT)
                 }
             }
             Read::Refused(r) => Text::Refused(r),

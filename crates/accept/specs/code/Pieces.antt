@@ -4,6 +4,7 @@ use mathlib.Core.List.{List}
 use Prim.Native.Nat.{ℕ}
 use Rattle.laws.specs.Decoded.{Decoder, _>>=_, _>>_, return, require}
 use Rattle.text.specs.declared.utf8.Encoding.the-variants.{Utf8}
+use Rattle.wire.specs.Refusals as refusals
 use Rattle.wire.specs.Fields.{numbered}
 use Rattle.wire.specs.Text.{count, text}
 use Rattle.sheet.specs.Limits.{sourceLimit, commentLimit, groupLimit, depthLimit}
@@ -37,7 +38,7 @@ unfoldable pub groupFields : List ℕ → ℕ → Decoder (List Group)
 groupFields source n = do
   m ← count groupLimit
   gs ← groups source n anywhere m
-  require (covered gs n) 7
+  require (covered gs n) refusals.comments
   return gs
 
 -- what stands in front of the program
@@ -60,5 +61,5 @@ tree source = do
   p ← program source
   root ← node source depthLimit
   ending
-  require (not (uncooked root)) 9
+  require (not (uncooked root)) refusals.uncooked
   return (p, root)

@@ -8,6 +8,7 @@ use lib.Dec.{ltb}
 use lib.ListN.{getD}
 use Rattle.laws.specs.Decoded.{Decoder, onOk, _>>=_, return, refuse}
 use Rattle.text.specs.declared.utf8.Encoding.the-variants.{Utf8}
+use Rattle.wire.specs.Refusals as refusals
 use Rattle.wire.specs.Fields.{below, valueOf, numbered, flag}
 use Rattle.wire.specs.Number.{number}
 use Rattle.wire.specs.Text.{count, text}
@@ -111,7 +112,7 @@ module _ (source : List ℕ) (levels : ℕ) where
       ∷ (λ s. onOk objectHead (count propertyLimit s))
       ∷ callStart ∷ importStart ∷ namedExportStart ∷ exportAllStart ∷ importTypeStart ∷ importEqualsStart ∷ moduleStart ∷ [])
       t
-      (refuse 3)
+      (refuse refusals.byte)
 
 -- the head of a node with so many levels left, its own among them
 unfoldable pub head : List ℕ → ℕ → Decoder (Span × Head)

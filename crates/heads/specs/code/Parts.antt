@@ -6,6 +6,7 @@ use lib.Dec.{eqb}
 use lib.ListN.{getD}
 use Rattle.laws.specs.Decoded.{Decoder, onOk, _>>=_, _>>_, return, refuse}
 use Rattle.text.specs.declared.utf8.Encoding.the-variants.{Utf8, Wtf8}
+use Rattle.wire.specs.Refusals as refusals
 use Rattle.wire.specs.Fields.{byte, flag}
 use Rattle.wire.specs.Text.{count, text}
 use Rattle.sheet.specs.Limits.{textLimit, propertyLimit}
@@ -30,7 +31,7 @@ keyHead kind =
     ∷ (λ s. onOk nameKeyHead (text Utf8 textLimit s))
     ∷ [])
     kind
-    (refuse 3)
+    (refuse refusals.byte)
 
 unfoldable pub propertyHead : Decoder PropertyHead
 propertyHead = do
@@ -41,7 +42,7 @@ propertyHead = do
       ∷ (byte >>= keyHead)
       ∷ [])
       kind
-      (refuse 3)
+      (refuse refusals.byte)
 
 -- an argument up to its node: is it spread, and its span
 unfoldable pub argumentHead : List ℕ → Decoder (Bool × Span)

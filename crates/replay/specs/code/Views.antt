@@ -4,6 +4,7 @@ use Prim.Native.Nat.{ℕ}
 use lib.ListN.{drop}
 use Rattle.laws.specs.Decoded.{Decoded, ok, no}
 use Rattle.text.specs.Bytes.{part}
+use Rattle.wire.specs.Refusals as refusals
 use Rattle.replay.specs.declared.Part.{Part}
 use Rattle.replay.specs.declared.Part.the-variants as part
 use Rattle.replay.specs.declared.Ran.{Ran}
@@ -12,8 +13,8 @@ use Rattle.replay.specs.declared.Step.the-variants as step
 
 abbrev pub partAs : List ℕ → Part → Decoded (List ℕ)
 partAs s (part.Bytes start end) = ok (part s start end) (drop end s)
-partAs s part.Missing = no 2
+partAs s part.Missing = no refusals.cutOff
 
 abbrev pub stepAs : List ℕ → Step → Decoded Ran
 stepAs s (step.Next ran next) = ok ran (drop next s)
-stepAs s step.Short = no 2
+stepAs s step.Short = no refusals.cutOff

@@ -23,7 +23,11 @@ ghost use Rattle.accept.specs.code.Views.{sourceAs, commentTableAs, grou
 
 // The media byte and where the source starts, with the cursor at its end, or a refusal's number.
 pub enum SourceRead {
-    Is(MediaType, usize, Cursor),
+    Is {
+        media: MediaType,
+        source_start: usize,
+        next: Cursor,
+    },
     Refused(usize),
 }
 
@@ -58,7 +62,11 @@ fn read_source(sheet: &[u8]) -> SourceRead
         Read::Refused(r) => SourceRead::Refused(r),
         Read::Value(media, next) => match next.text(sheet, Encoding::Utf8, SOURCE_LIMIT) {
             Text::Refused(r) => SourceRead::Refused(r),
-            Text::From(start, next) => SourceRead::Is(media_type(media), start, next),
+            Text::From(source_start, next) => SourceRead::Is {
+                media: media_type(media),
+                source_start,
+                next,
+            },
         },
     }
 }
@@ -125,7 +133,11 @@ pub fn read_front(
 {
     match read_source(sheet) {
         SourceRead::Refused(r) => FrontRead::Refused(r),
-        SourceRead::Is(media, source_start, next) => {
+        SourceRead::Is {
+            media,
+            source_start,
+            next,
+        } => {
             let source_end = next.at;
             let source = &sheet[source_start..source_end];
             match read_comment_table(sheet, source, next, comments) {

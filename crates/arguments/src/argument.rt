@@ -30,8 +30,12 @@ pub enum DynamicArgument {
     Expr,
     // A text.
     String(usize, usize),
-    // The number of parts, of holes, and the place of the pieces.
-    Template(usize, usize, usize),
+    // The place is that of the pieces.
+    Template {
+        parts: usize,
+        holes: usize,
+        at: usize,
+    },
     // The number of parts, and the place of the node.
     Chain(usize, usize),
 }
@@ -50,7 +54,11 @@ fn parse_template(sheet: &[u8], c: Cursor, holes: usize) -> DynamicArgument
             PieceRead::Refused(_) => DynamicArgument::Expr,
         };
     }
-    DynamicArgument::Template(count_parts(sheet, c, holes), holes, c.at)
+    DynamicArgument::Template {
+        parts: count_parts(sheet, c, holes),
+        holes,
+        at: c.at,
+    }
 }
 
 // The argument whose node is at a cursor, with so many levels left, its own among them.
@@ -60,7 +68,7 @@ pub fn parse_argument(sheet: &[u8], source: &[u8], c: Cursor, levels: usize) -> 
     ensures { λ r. ⌜ ArgumentWithin (length (now (sheet .entry))) r ⌝ }
 {
     match read_expression(sheet, source, c, levels) {
-        Expression::String(from, to, _) => DynamicArgument::String(from, to),
+        Expression::String { from, to, .. } => DynamicArgument::String(from, to),
         Expression::Template(holes, next) => parse_template(sheet, next, holes),
         Expression::Plus(_) => match visit_bin(sheet, source, c, levels) {
             Parts::Are(n, _) => DynamicArgument::Chain(n, c.at),
@@ -90,9 +98,9 @@ pub fn put_argument(
             let p = place.put(out, 1);
             p.put_lossy_text(out, &sheet[from..to])
         }
-        DynamicArgument::Template(n, holes, at) => {
+        DynamicArgument::Template { parts, holes, at } => {
             let p = place.put(out, 2);
-            let p = p.put_number(out, n);
+            let p = p.put_number(out, parts);
             put_parts(sheet, Cursor { at }, holes, out, p)
         }
         DynamicArgument::Chain(n, at) => {

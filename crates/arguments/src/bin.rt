@@ -43,7 +43,7 @@ pub fn visit_bin(sheet: &[u8], source: &[u8], c: Cursor, levels: usize) -> Parts
     ensures { λ r. ⌜ PartsWithin levels r ⌝ }
 {
     match read_expression(sheet, source, c, levels) {
-        Expression::String(_, _, next) => Parts::Are(1, next),
+        Expression::String { next, .. } => Parts::Are(1, next),
         Expression::Template(_, _) => Parts::Unknown,
         Expression::Plus(next) => match visit_bin(sheet, source, next, levels - 1) {
             Parts::Unknown => Parts::Unknown,
@@ -69,7 +69,7 @@ fn put_operand(
         → bufferAs (now (out .exit)) r ≡ wrote (bufferAs (now (out .entry)) place) (encodeOptional encodeText (operand (shape n)))) ⌝ }
 {
     match read_expression(sheet, source, c, levels) {
-        Expression::String(from, to, _) => put_string(sheet, from, to, out, place),
+        Expression::String { from, to, .. } => put_string(sheet, from, to, out, place),
         Expression::Template(_, _) => put_expr(out, place),
         Expression::Plus(_) => put_expr(out, place),
         Expression::Other => put_expr(out, place),
@@ -92,7 +92,7 @@ pub fn put_bin(
     ensures { λ _. ⌜ Free (now (out .entry)) (now (out .exit)) ⌝ }
 {
     match read_expression(sheet, source, c, levels) {
-        Expression::String(from, to, next) => {
+        Expression::String { from, to, next } => {
             let p = put_string(sheet, from, to, out, place);
             Written { place: p, next }
         }

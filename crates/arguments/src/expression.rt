@@ -14,7 +14,11 @@ ghost use Rattle.arguments.specs.code.Views.{Reads, ExpressionWithin};
 
 // A String with its text in the sheet, a Template with its holes, or a Binary that is a plus, with the cursor past the head.
 pub enum Expression {
-    String(usize, usize, Cursor),
+    String {
+        from: usize,
+        to: usize,
+        next: Cursor,
+    },
     Template(usize, Cursor),
     Plus(Cursor),
     Other,
@@ -28,8 +32,8 @@ pub fn read_expression(sheet: &[u8], source: &[u8], c: Cursor, levels: usize) ->
 {
     match read_head(sheet, source, c, levels) {
         HeadRead::Refused(_) => Expression::Other,
-        HeadRead::Is(_, head, next) => match head {
-            Head::String(from, to) => Expression::String(from, to, next),
+        HeadRead::Is { head, next, .. } => match head {
+            Head::String(from, to) => Expression::String { from, to, next },
             Head::Template(holes) => Expression::Template(holes, next),
             Head::Binary(plus) => {
                 if plus {

@@ -33,7 +33,12 @@ pub enum Value {
 // A property with the cursor past it: without a key that can be read, or with a key's text and the cursor at its value; or a refusal's number.
 pub enum PropRead {
     Keyless(Cursor),
-    Keyed(usize, usize, Cursor, Cursor),
+    Keyed {
+        start: usize,
+        end: usize,
+        value: Cursor,
+        next: Cursor,
+    },
     Refused(usize),
 }
 
@@ -45,7 +50,7 @@ pub fn read_value(sheet: &[u8], source: &[u8], c: Cursor, levels: usize) -> Valu
 {
     match read_head(sheet, source, c, levels) {
         HeadRead::Refused(_) => Value::Other,
-        HeadRead::Is(_, head, next) => match head {
+        HeadRead::Is { head, next, .. } => match head {
             Head::String(from, to) => Value::Text(from, to),
             Head::Object(n) => Value::Object(n, next),
             _ => Value::Other,
@@ -103,11 +108,21 @@ fn prop_of(sheet: &[u8], p: Property, value: Cursor, next: Cursor) -> PropRead
         Property::ChildKey => PropRead::Keyless(next),
         Property::StringKey(start, end) => {
             if is_exact(&sheet[start..end]) {
-                return PropRead::Keyed(start, end, value, next);
+                return PropRead::Keyed {
+                    start,
+                    end,
+                    value,
+                    next,
+                };
             }
             PropRead::Keyless(next)
         }
-        Property::NameKey(start, end) => PropRead::Keyed(start, end, value, next),
+        Property::NameKey(start, end) => PropRead::Keyed {
+            start,
+            end,
+            value,
+            next,
+        },
     }
 }
 

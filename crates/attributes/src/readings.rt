@@ -64,7 +64,12 @@ fn parse_known(
                 at = next;
                 left -= 1;
             }
-            PropRead::Keyed(start, end, value, next) => {
+            PropRead::Keyed {
+                start,
+                end,
+                value,
+                next,
+            } => {
                 let p = read_pair(sheet, source, start, end, value, levels);
                 n = insert_known(sheet, pairs, n, p);
                 at = next;
@@ -94,7 +99,7 @@ pub fn parse_import_attributes(
     if there {
         return match read_attributes(sheet, source, c, levels) {
             AttributesRead::Refused(_) => ImportAttributes::Unknown,
-            AttributesRead::Is(_, count, next) => {
+            AttributesRead::Is { count, next, .. } => {
                 ImportAttributes::Known(parse_known(sheet, source, next, count, levels - 1, pairs))
             }
         };
@@ -127,7 +132,12 @@ fn parse_import_attributes_from_object_lit(
             PropRead::Keyless(_) => {
                 return ImportAttributes::Unknown;
             }
-            PropRead::Keyed(start, end, value, next) => {
+            PropRead::Keyed {
+                start,
+                end,
+                value,
+                next,
+            } => {
                 let p = read_pair(sheet, source, start, end, value, levels);
                 n = insert(sheet, pairs, n, p);
                 at = next;
@@ -156,7 +166,7 @@ pub fn parse_type_attributes(
     if there {
         return match read_attributes(sheet, source, c, levels) {
             AttributesRead::Refused(_) => ImportAttributes::Unknown,
-            AttributesRead::Is(_, count, next) => {
+            AttributesRead::Is { count, next, .. } => {
                 parse_import_attributes_from_object_lit(
                     sheet,
                     source,
@@ -240,7 +250,12 @@ fn parse_argument_properties(
             PropRead::Keyless(_) => {
                 return ImportAttributes::Unknown;
             }
-            PropRead::Keyed(start, end, value, next) => {
+            PropRead::Keyed {
+                start,
+                end,
+                value,
+                next,
+            } => {
                 if is_attributes_key(sheet, start, end, had_with) {
                     match parse_nested(sheet, source, value, levels, pairs) {
                         ImportAttributes::None => {
@@ -285,7 +300,11 @@ pub fn parse_dynamic_import_attributes(
     if 0 < count {
         return match read_argument(sheet, source, c) {
             ArgumentRead::Refused(_) => ImportAttributes::Unknown,
-            ArgumentRead::Is(spread, _, value) => {
+            ArgumentRead::Is {
+                spread,
+                next: value,
+                ..
+            } => {
                 if spread {
                     return ImportAttributes::Unknown;
                 }

@@ -380,7 +380,11 @@ pub fn put_call_entry(
         if 0 < count {
             return match read_argument(sheet, source, c) {
                 ArgumentRead::Refused(_) => p,
-                ArgumentRead::Is(_, range, at) => {
+                ArgumentRead::Is {
+                    span: range,
+                    next: at,
+                    ..
+                } => {
                     put_argument_entry(
                         sheet,
                         source,

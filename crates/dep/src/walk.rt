@@ -68,7 +68,7 @@ fn is_require(sheet: &[u8], source: &[u8], c: Cursor, levels: usize) -> bool
 {
     match read_head(sheet, source, c, levels) {
         HeadRead::Refused(_) => false,
-        HeadRead::Is(_, head, _) => match head {
+        HeadRead::Is { head, .. } => match head {
             Head::Name(start, end) => heads::texts::is_require(&sheet[start..end]),
             _ => false,
         },
@@ -176,7 +176,7 @@ fn walk_node(
 {
     match read_head(sheet, source, c, levels) {
         HeadRead::Refused(r) => Walked::Refused(r),
-        HeadRead::Is(span, head, next) => {
+        HeadRead::Is { span, head, next } => {
             walk_rest(
                 sheet,
                 source,
@@ -244,11 +244,26 @@ fn walk_rest(
                 p,
             )
         }
-        Head::Import(type_only, phase, side_effect, x, there) => {
+        Head::Import {
+            type_only,
+            phase,
+            side_effect,
+            specifier: x,
+            has_object: there,
+        } => {
             let d = static_dependency(import_kind(type_only, phase), span, x, side_effect);
             walk_import(sheet, source, c, there, levels, d, cs, gs, k, index, out, p)
         }
-        Head::ExportFrom(type_only, x, there) | Head::ExportAll(type_only, x, there) => {
+        Head::ExportFrom {
+            type_only,
+            specifier: x,
+            has_object: there,
+        }
+        | Head::ExportAll {
+            type_only,
+            specifier: x,
+            has_object: there,
+        } => {
             let d = static_dependency(export_kind(type_only), span, x, false);
             walk_import(sheet, source, c, there, levels, d, cs, gs, k, index, out, p)
         }
@@ -256,7 +271,11 @@ fn walk_rest(
             let d = static_dependency(3, span, x, false);
             visit_ts_import_type(sheet, source, c, n, levels, d, cs, gs, k, index, out, p)
         }
-        Head::ImportRequire(type_only, export, x) => {
+        Head::ImportRequire {
+            type_only,
+            export,
+            specifier: x,
+        } => {
             let d = static_dependency(equals_kind(type_only, export), span, x, false);
             walk_import(sheet, source, c, false, levels, d, cs, gs, k, index, out, p)
         }
@@ -327,7 +346,7 @@ fn walk_argument(
 {
     match read_argument(sheet, source, c) {
         ArgumentRead::Refused(r) => Walked::Refused(r),
-        ArgumentRead::Is(_, _, next) => {
+        ArgumentRead::Is { next, .. } => {
             walk_node(sheet, source, next, levels, cs, gs, k, index, out, p)
         }
     }
@@ -549,7 +568,7 @@ fn walk_attributes(
     if there {
         return match read_attributes(sheet, source, c, levels) {
             AttributesRead::Refused(r) => Walked::Refused(r),
-            AttributesRead::Is(_, n, next) => {
+            AttributesRead::Is { count: n, next, .. } => {
                 walk_properties(sheet, source, next, n, levels - 1, cs, gs, k, index, out, p)
             }
         };

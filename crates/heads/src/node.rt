@@ -43,19 +43,36 @@ pub enum Head {
     Object(usize),
     ImportCall(ImportPhase),
     Call,
-    // Type-only, phase, side effect, String; does an Object follow?
-    Import(bool, ImportPhase, bool, Quoted, bool),
+    Import {
+        type_only: bool,
+        phase: ImportPhase,
+        side_effect: bool,
+        specifier: Quoted,
+        has_object: bool,
+    },
     // Without a String: type-only.
     NamedExport(bool),
-    // With a String: type-only; does an Object follow?
-    ExportFrom(bool, Quoted, bool),
-    ExportAll(bool, Quoted, bool),
+    // With a String.
+    ExportFrom {
+        type_only: bool,
+        specifier: Quoted,
+        has_object: bool,
+    },
+    ExportAll {
+        type_only: bool,
+        specifier: Quoted,
+        has_object: bool,
+    },
     // The number of children.
     ImportType(Quoted, usize),
     // Not external.
     ImportEquals,
-    // External: type-only, export.
-    ImportRequire(bool, bool, Quoted),
+    // External.
+    ImportRequire {
+        type_only: bool,
+        export: bool,
+        specifier: Quoted,
+    },
     // The number of children, without and with a String.
     Module(usize),
     NamedModule(Quoted, usize),
@@ -69,13 +86,21 @@ pub enum FieldsRead {
 
 // A String and whether an Object follows, with the cursor past them, or a refusal's number.
 pub enum OriginRead {
-    Is(Quoted, bool, Cursor),
+    Is {
+        specifier: Quoted,
+        has_object: bool,
+        next: Cursor,
+    },
     Refused(usize),
 }
 
 // A node's span and its head with the cursor past it, or a refusal's number.
 pub enum HeadRead {
-    Is(Span, Head, Cursor),
+    Is {
+        span: Span,
+        head: Head,
+        next: Cursor,
+    },
     Refused(usize),
 }
 
@@ -162,9 +187,13 @@ fn read_origin(sheet: &[u8], source: &[u8], c: Cursor, levels: usize) -> OriginR
 {
     match read_quoted(sheet, source, c, levels) {
         QuotedRead::Refused(r) => OriginRead::Refused(r),
-        QuotedRead::Is(x, next) => match next.flag(sheet) {
+        QuotedRead::Is(specifier, next) => match next.flag(sheet) {
             Flag::Refused(r) => OriginRead::Refused(r),
-            Flag::Is(there, next) => OriginRead::Is(x, there, next),
+            Flag::Is(has_object, next) => OriginRead::Is {
+                specifier,
+                has_object,
+                next,
+            },
         },
     }
 }
@@ -179,14 +208,22 @@ fn read_import(sheet: &[u8], source: &[u8], c: Cursor, levels: usize) -> FieldsR
             Read::Refused(r) => FieldsRead::Refused(r),
             Read::Value(phase, next) => match next.flag(sheet) {
                 Flag::Refused(r) => FieldsRead::Refused(r),
-                Flag::Is(side, next) => match read_origin(sheet, source, next, levels) {
+                Flag::Is(side_effect, next) => match read_origin(sheet, source, next, levels) {
                     OriginRead::Refused(r) => FieldsRead::Refused(r),
-                    OriginRead::Is(x, there, next) => {
-                        FieldsRead::Is(
-                            Head::Import(type_only, import_phase(phase), side, x, there),
-                            next,
-                        )
-                    }
+                    OriginRead::Is {
+                        specifier,
+                        has_object,
+                        next,
+                    } => FieldsRead::Is(
+                        Head::Import {
+                            type_only,
+                            phase: import_phase(phase),
+                            side_effect,
+                            specifier,
+                            has_object,
+                        },
+                        next,
+                    ),
                 },
             },
         },
@@ -205,9 +242,18 @@ fn read_named_export(sheet: &[u8], source: &[u8], c: Cursor, levels: usize) -> F
                 if named {
                     return match read_origin(sheet, source, next, levels) {
                         OriginRead::Refused(r) => FieldsRead::Refused(r),
-                        OriginRead::Is(x, there, next) => {
-                            FieldsRead::Is(Head::ExportFrom(type_only, x, there), next)
-                        }
+                        OriginRead::Is {
+                            specifier,
+                            has_object,
+                            next,
+                        } => FieldsRead::Is(
+                            Head::ExportFrom {
+                                type_only,
+                                specifier,
+                                has_object,
+                            },
+                            next,
+                        ),
                     };
                 }
                 FieldsRead::Is(Head::NamedExport(type_only), next)
@@ -224,9 +270,18 @@ fn read_export_all(sheet: &[u8], source: &[u8], c: Cursor, levels: usize) -> Fie
         Flag::Refused(r) => FieldsRead::Refused(r),
         Flag::Is(type_only, next) => match read_origin(sheet, source, next, levels) {
             OriginRead::Refused(r) => FieldsRead::Refused(r),
-            OriginRead::Is(x, there, next) => {
-                FieldsRead::Is(Head::ExportAll(type_only, x, there), next)
-            }
+            OriginRead::Is {
+                specifier,
+                has_object,
+                next,
+            } => FieldsRead::Is(
+                Head::ExportAll {
+                    type_only,
+                    specifier,
+                    has_object,
+                },
+                next,
+            ),
         },
     }
 }
@@ -269,9 +324,14 @@ fn read_import_require(sheet: &[u8], source: &[u8], c: Cursor, levels: usize) ->
             Flag::Refused(r) => FieldsRead::Refused(r),
             Flag::Is(export, next) => match read_quoted(sheet, source, next, levels) {
                 QuotedRead::Refused(r) => FieldsRead::Refused(r),
-                QuotedRead::Is(x, next) => {
-                    FieldsRead::Is(Head::ImportRequire(type_only, export, x), next)
-                }
+                QuotedRead::Is(specifier, next) => FieldsRead::Is(
+                    Head::ImportRequire {
+                        type_only,
+                        export,
+                        specifier,
+                    },
+                    next,
+                ),
             },
         },
     }
@@ -343,7 +403,7 @@ pub fn read_head(sheet: &[u8], source: &[u8], c: Cursor, levels: usize) -> HeadR
             SpanRead::Is(span, next) => {
                 match read_fields(sheet, source, next, levels - 1, span, tag) {
                     FieldsRead::Refused(r) => HeadRead::Refused(r),
-                    FieldsRead::Is(fields, next) => HeadRead::Is(span, fields, next),
+                    FieldsRead::Is(head, next) => HeadRead::Is { span, head, next },
                 }
             }
         },

@@ -31,7 +31,11 @@ pub enum PieceRead {
 
 // Is an argument spread, and its span, with the cursor past them, or a refusal's number.
 pub enum ArgumentRead {
-    Is(bool, Span, Cursor),
+    Is {
+        spread: bool,
+        span: Span,
+        next: Cursor,
+    },
     Refused(usize),
 }
 
@@ -52,7 +56,11 @@ pub enum PropertyRead {
 
 // The span of an Object that holds attributes and the number of its properties, with the cursor past them, or a refusal's number.
 pub enum AttributesRead {
-    Is(Span, usize, Cursor),
+    Is {
+        span: Span,
+        count: usize,
+        next: Cursor,
+    },
     Refused(usize),
 }
 
@@ -112,7 +120,7 @@ pub fn read_argument(sheet: &[u8], source: &[u8], c: Cursor) -> ArgumentRead
         Flag::Refused(r) => ArgumentRead::Refused(r),
         Flag::Is(spread, next) => match read_span(sheet, source, next) {
             SpanRead::Refused(r) => ArgumentRead::Refused(r),
-            SpanRead::Is(span, next) => ArgumentRead::Is(spread, span, next),
+            SpanRead::Is(span, next) => ArgumentRead::Is { spread, span, next },
         },
     }
 }
@@ -167,7 +175,7 @@ pub fn read_attributes(sheet: &[u8], source: &[u8], c: Cursor, levels: usize) ->
             SpanRead::Refused(r) => AttributesRead::Refused(r),
             SpanRead::Is(span, next) => match next.count(sheet, PROPERTY_LIMIT) {
                 Read::Refused(r) => AttributesRead::Refused(r),
-                Read::Value(n, next) => AttributesRead::Is(span, n, next),
+                Read::Value(count, next) => AttributesRead::Is { span, count, next },
             },
         },
     }

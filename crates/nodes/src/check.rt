@@ -47,7 +47,7 @@ pub fn check_node(sheet: &[u8], source: &[u8], c: Cursor, levels: usize) -> Chec
 {
     match read_head(sheet, source, c, levels) {
         HeadRead::Refused(r) => Checked::Refused(r),
-        HeadRead::Is(_, head, next) => check_rest(sheet, source, next, levels - 1, head),
+        HeadRead::Is { head, next, .. } => { check_rest(sheet, source, next, levels - 1, head) }
     }
 }
 
@@ -73,13 +73,19 @@ fn check_rest(sheet: &[u8], source: &[u8], c: Cursor, levels: usize, head: Head)
             Checked::Refused(r) => Checked::Refused(r),
             Checked::Is(callee, c) => called(callee, check_call(sheet, source, c, levels)),
         },
-        Head::Import(_, _, _, _, b) => entry_only(check_attributes(sheet, source, c, b, levels)),
+        Head::Import { has_object, .. } => {
+            entry_only(check_attributes(sheet, source, c, has_object, levels))
+        }
         Head::NamedExport(_) => leaf(false, false, c),
-        Head::ExportFrom(_, _, b) => entry_only(check_attributes(sheet, source, c, b, levels)),
-        Head::ExportAll(_, _, b) => entry_only(check_attributes(sheet, source, c, b, levels)),
+        Head::ExportFrom { has_object, .. } => {
+            entry_only(check_attributes(sheet, source, c, has_object, levels))
+        }
+        Head::ExportAll { has_object, .. } => {
+            entry_only(check_attributes(sheet, source, c, has_object, levels))
+        }
         Head::ImportType(_, n) => holding(true, false, check_typed(sheet, source, c, n, levels)),
         Head::ImportEquals => leaf(false, false, c),
-        Head::ImportRequire(_, _, _) => leaf(true, false, c),
+        Head::ImportRequire { .. } => leaf(true, false, c),
         Head::Module(n) => holding(false, false, check_nodes(sheet, source, c, n, levels)),
         Head::NamedModule(x, n) => {
             let own = declares(sheet, x);
@@ -147,7 +153,7 @@ fn check_arguments(
             ArgumentRead::Refused(r) => {
                 return PassedRead::Refused(r);
             }
-            ArgumentRead::Is(_, _, next) => match check_node(sheet, source, next, levels) {
+            ArgumentRead::Is { next, .. } => match check_node(sheet, source, next, levels) {
                 Checked::Refused(r) => {
                     return PassedRead::Refused(r);
                 }
@@ -237,7 +243,7 @@ pub fn check_attributes(
     if there {
         return match read_attributes(sheet, source, c, levels) {
             AttributesRead::Refused(r) => Tallied::Refused(r),
-            AttributesRead::Is(_, n, next) => {
+            AttributesRead::Is { count: n, next, .. } => {
                 check_properties(sheet, source, next, n, levels - 1)
             }
         };

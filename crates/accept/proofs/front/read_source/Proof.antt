@@ -23,8 +23,8 @@ returns-3 : tie.Need-returns-3
 unfolding sourceFields numbered
 returns-3 c =
     let s = now (c .before .before .before .before .before .before .before .before .before .before .args .sheet) in
-    let past = rw (c .before .before .start .given .1) at (c .before .before .before .before .text .ensures .1) in
-    (rw (c .media-type .ensures, seen (readAs s) (c .before .before .before .before .before .before .before .before .below .ensures .0) (c .before .before .before .before .before .before .media .given .1), seen (textAs s) (c .before .before .before .before .text .ensures .0) (c .before .before .start .given .1)), (past .1, past .2))
+    let past = rw (c .before .before .source-start .given .1) at (c .before .before .before .before .text .ensures .1) in
+    (rw (c .media-type .ensures, seen (readAs s) (c .before .before .before .before .before .before .before .before .below .ensures .0) (c .before .before .before .before .before .before .media .given .1), seen (textAs s) (c .before .before .before .before .text .ensures .0) (c .before .before .source-start .given .1)), (past .1, past .2))
 
 pub read-source-spec : {M : Type 1} → statement M
 read-source-spec =

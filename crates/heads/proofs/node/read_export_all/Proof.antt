@@ -24,8 +24,8 @@ unfolding exportAllStart
 returns-3 c =
     let s = now (c .before .before .before .before .before .before .before .before .before .before .args .sheet) in
     let p1 = rw (c .before .before .before .before .before .type-only .given .1) at (c .before .before .before .before .before .before .before .flag .ensures .1) in
-    let p2 = rw (c .before .x .given .1) at (c .before .before .before .read-origin .ensures .1) in
-    (rw (seen (flagAs s) (c .before .before .before .before .before .before .before .flag .ensures .0) (c .before .before .before .before .before .type-only .given .1), seen (originAs s) (c .before .before .before .read-origin .ensures .0) (c .before .x .given .1)), search needs)
+    let p2 = rw (c .before .specifier .given .1) at (c .before .before .before .read-origin .ensures .1) in
+    (rw (seen (flagAs s) (c .before .before .before .before .before .before .before .flag .ensures .0) (c .before .before .before .before .before .type-only .given .1), seen (originAs s) (c .before .before .before .read-origin .ensures .0) (c .before .specifier .given .1)), search needs)
 
 pub read-export-all-spec : {M : Type 1} → statement M
 read-export-all-spec =

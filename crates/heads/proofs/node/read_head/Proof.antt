@@ -37,8 +37,8 @@ returns-4 c =
     let s = now (c .before .before .before .before .before .before .before .before .before .before .before .before .before .before .args .sheet) in
     let p1 = rw (c .before .before .before .before .before .before .before .before .before .tag .given .1) at (c .before .before .before .before .before .before .before .before .before .before .before .read-tag .ensures .1) in
     let p2 = rw (c .before .before .before .before .before .span .given .1) at (c .before .before .before .before .before .before .before .read-span .ensures .1) in
-    let p3 = rw (c .before .fields .given .1) at (c .before .before .before .read-fields .ensures .1) in
-    (rw (seen (readAs s) (c .before .before .before .before .before .before .before .before .before .before .before .read-tag .ensures .0) (c .before .before .before .before .before .before .before .before .before .tag .given .1), seen (spanAs s) (c .before .before .before .before .before .before .before .read-span .ensures .0) (c .before .before .before .before .before .span .given .1), seen (fieldsAs s) (c .before .before .before .read-fields .ensures .0) (c .before .fields .given .1)), search needs)
+    let p3 = rw (c .before .head .given .1) at (c .before .before .before .read-fields .ensures .1) in
+    (rw (seen (readAs s) (c .before .before .before .before .before .before .before .before .before .before .before .read-tag .ensures .0) (c .before .before .before .before .before .before .before .before .before .tag .given .1), seen (spanAs s) (c .before .before .before .before .before .before .before .read-span .ensures .0) (c .before .before .before .before .before .span .given .1), seen (fieldsAs s) (c .before .before .before .read-fields .ensures .0) (c .before .head .given .1)), search needs)
 
 pub read-head-spec : {M : Type 1} → statement M
 read-head-spec =

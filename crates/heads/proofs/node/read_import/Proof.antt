@@ -30,7 +30,7 @@ returns-4 : tie.Need-returns-4
 unfolding importStart numbered
 returns-4 c =
     let s = now (c .before .before .before .before .before .before .before .before .before .before .before .before .before .before .before .before .before .before .args .sheet) in
-    (rw (seen (flagAs s) (c .before .before .before .before .before .before .before .before .before .before .before .before .before .before .before .flag .ensures .0) (c .before .before .before .before .before .before .before .before .before .before .before .before .before .type-only .given .1), seen (readAs s) (c .before .before .before .before .before .before .before .before .before .before .before .below .ensures .0) (c .before .before .before .before .before .before .before .before .before .phase .given .1), seen (flagAs s) (c .before .before .before .before .before .before .before .flag2 .ensures .0) (c .before .before .before .before .before .side .given .1), seen (originAs s) (c .before .before .before .read-origin .ensures .0) (c .before .r4 .given .1)), tt)
+    (rw (seen (flagAs s) (c .before .before .before .before .before .before .before .before .before .before .before .before .before .before .before .flag .ensures .0) (c .before .before .before .before .before .before .before .before .before .before .before .before .before .type-only .given .1), seen (readAs s) (c .before .before .before .before .before .before .before .before .before .before .before .below .ensures .0) (c .before .before .before .before .before .before .before .before .before .phase .given .1), seen (flagAs s) (c .before .before .before .before .before .before .before .flag2 .ensures .0) (c .before .before .before .before .before .side-effect .given .1), seen (originAs s) (c .before .before .before .read-origin .ensures .0) (c .before .r4 .given .1)), tt)
 
 returns-5 : tie.Need-returns-5
 unfolding importStart numbered
@@ -38,9 +38,9 @@ returns-5 c =
     let s = now (c .before .before .before .before .before .before .before .before .before .before .before .before .before .before .before .before .before .before .before .args .sheet) in
     let p1 = rw (c .before .before .before .before .before .before .before .before .before .before .before .before .before .before .type-only .given .1) at (c .before .before .before .before .before .before .before .before .before .before .before .before .before .before .before .before .flag .ensures .1) in
     let p2 = rw (c .before .before .before .before .before .before .before .before .before .before .phase .given .1) at (c .before .before .before .before .before .before .before .before .before .before .before .before .below .ensures .1) in
-    let p3 = rw (c .before .before .before .before .before .before .side .given .1) at (c .before .before .before .before .before .before .before .before .flag2 .ensures .1) in
-    let p4 = rw (c .before .before .x .given .1) at (c .before .before .before .before .read-origin .ensures .1) in
-    (rw (seen (flagAs s) (c .before .before .before .before .before .before .before .before .before .before .before .before .before .before .before .before .flag .ensures .0) (c .before .before .before .before .before .before .before .before .before .before .before .before .before .before .type-only .given .1), seen (readAs s) (c .before .before .before .before .before .before .before .before .before .before .before .before .below .ensures .0) (c .before .before .before .before .before .before .before .before .before .before .phase .given .1), seen (flagAs s) (c .before .before .before .before .before .before .before .before .flag2 .ensures .0) (c .before .before .before .before .before .before .side .given .1), seen (originAs s) (c .before .before .before .before .read-origin .ensures .0) (c .before .before .x .given .1), c .import-phase .ensures), search needs)
+    let p3 = rw (c .before .before .before .before .before .before .side-effect .given .1) at (c .before .before .before .before .before .before .before .before .flag2 .ensures .1) in
+    let p4 = rw (c .before .before .specifier .given .1) at (c .before .before .before .before .read-origin .ensures .1) in
+    (rw (seen (flagAs s) (c .before .before .before .before .before .before .before .before .before .before .before .before .before .before .before .before .flag .ensures .0) (c .before .before .before .before .before .before .before .before .before .before .before .before .before .before .type-only .given .1), seen (readAs s) (c .before .before .before .before .before .before .before .before .before .before .before .before .below .ensures .0) (c .before .before .before .before .before .before .before .before .before .before .phase .given .1), seen (flagAs s) (c .before .before .before .before .before .before .before .before .flag2 .ensures .0) (c .before .before .before .before .before .before .side-effect .given .1), seen (originAs s) (c .before .before .before .before .read-origin .ensures .0) (c .before .before .specifier .given .1), c .import-phase .ensures), search needs)
 
 pub read-import-spec : {M : Type 1} → statement M
 read-import-spec =

@@ -31,8 +31,8 @@ returns-4 c =
     let s = now (c .before .before .before .before .before .before .before .before .before .before .before .before .before .before .args .sheet) in
     let p1 = rw (c .before .before .before .before .before .before .before .before .before .type-only .given .1) at (c .before .before .before .before .before .before .before .before .before .before .before .flag .ensures .1) in
     let p2 = rw (c .before .before .before .before .before .export .given .1) at (c .before .before .before .before .before .before .before .flag2 .ensures .1) in
-    let p3 = rw (c .before .x .given .1) at (c .before .before .before .read-quoted .ensures .1) in
-    (rw (seen (flagAs s) (c .before .before .before .before .before .before .before .before .before .before .before .flag .ensures .0) (c .before .before .before .before .before .before .before .before .before .type-only .given .1), seen (flagAs s) (c .before .before .before .before .before .before .before .flag2 .ensures .0) (c .before .before .before .before .before .export .given .1), seen (quotedAs s) (c .before .before .before .read-quoted .ensures .0) (c .before .x .given .1)), search needs)
+    let p3 = rw (c .before .specifier .given .1) at (c .before .before .before .read-quoted .ensures .1) in
+    (rw (seen (flagAs s) (c .before .before .before .before .before .before .before .before .before .before .before .flag .ensures .0) (c .before .before .before .before .before .before .before .before .before .type-only .given .1), seen (flagAs s) (c .before .before .before .before .before .before .before .flag2 .ensures .0) (c .before .before .before .before .before .export .given .1), seen (quotedAs s) (c .before .before .before .read-quoted .ensures .0) (c .before .specifier .given .1)), search needs)
 
 pub read-import-require-spec : {M : Type 1} → statement M
 read-import-require-spec =

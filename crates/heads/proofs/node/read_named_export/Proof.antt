@@ -19,8 +19,8 @@ returns-2 c =
     let s = now (c .before .before .before .before .before .before .before .before .before .before .before .before .before .before .before .args .sheet) in
     let p1 = rw (c .before .before .before .before .before .before .before .before .before .before .type-only .given .1) at (c .before .before .before .before .before .before .before .before .before .before .before .before .flag .ensures .1) in
     let p2 = rw (c .before .before .before .before .before .before .named .given .1) at (c .before .before .before .before .before .before .before .before .flag2 .ensures .1) in
-    let p3 = rw (c .before .x .given .1) at (c .before .before .before .read-origin .ensures .1) in
-    (rw (seen (flagAs s) (c .before .before .before .before .before .before .before .before .before .before .before .before .flag .ensures .0) (c .before .before .before .before .before .before .before .before .before .before .type-only .given .1), seen (flagAs s) (c .before .before .before .before .before .before .before .before .flag2 .ensures .0) (c .before .before .before .before .before .before .named .given .1), c .before .before .before .before .if1 .taken, seen (originAs s) (c .before .before .before .read-origin .ensures .0) (c .before .x .given .1)), search needs)
+    let p3 = rw (c .before .specifier .given .1) at (c .before .before .before .read-origin .ensures .1) in
+    (rw (seen (flagAs s) (c .before .before .before .before .before .before .before .before .before .before .before .before .flag .ensures .0) (c .before .before .before .before .before .before .before .before .before .before .type-only .given .1), seen (flagAs s) (c .before .before .before .before .before .before .before .before .flag2 .ensures .0) (c .before .before .before .before .before .before .named .given .1), c .before .before .before .before .if1 .taken, seen (originAs s) (c .before .before .before .read-origin .ensures .0) (c .before .specifier .given .1)), search needs)
 
 returns-3 : tie.Need-returns-3
 unfolding namedExportStart

@@ -17,15 +17,15 @@ returns-2 : tie.Need-returns-2
 unfolding origin
 returns-2 c =
     let s = now (c .before .before .before .before .before .before .before .before .before .before .args .sheet) in
-    (rw (seen (quotedAs s) (c .before .before .before .before .before .before .before .read-quoted .ensures .0) (c .before .before .before .before .before .x .given .1), seen (flagAs s) (c .before .before .before .flag .ensures .0) (c .before .r2 .given .1)), tt)
+    (rw (seen (quotedAs s) (c .before .before .before .before .before .before .before .read-quoted .ensures .0) (c .before .before .before .before .before .specifier .given .1), seen (flagAs s) (c .before .before .before .flag .ensures .0) (c .before .r2 .given .1)), tt)
 
 returns-3 : tie.Need-returns-3
 unfolding origin
 returns-3 c =
     let s = now (c .before .before .before .before .before .before .before .before .before .before .args .sheet) in
-    let p1 = rw (c .before .before .before .before .before .x .given .1) at (c .before .before .before .before .before .before .before .read-quoted .ensures .1) in
-    let p2 = rw (c .before .there .given .1) at (c .before .before .before .flag .ensures .1) in
-    (rw (seen (quotedAs s) (c .before .before .before .before .before .before .before .read-quoted .ensures .0) (c .before .before .before .before .before .x .given .1), seen (flagAs s) (c .before .before .before .flag .ensures .0) (c .before .there .given .1)), search needs)
+    let p1 = rw (c .before .before .before .before .before .specifier .given .1) at (c .before .before .before .before .before .before .before .read-quoted .ensures .1) in
+    let p2 = rw (c .before .has-object .given .1) at (c .before .before .before .flag .ensures .1) in
+    (rw (seen (quotedAs s) (c .before .before .before .before .before .before .before .read-quoted .ensures .0) (c .before .before .before .before .before .specifier .given .1), seen (flagAs s) (c .before .before .before .flag .ensures .0) (c .before .has-object .given .1)), search needs)
 
 pub read-origin-spec : {M : Type 1} → statement M
 read-origin-spec =

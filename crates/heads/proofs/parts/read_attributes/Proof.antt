@@ -33,8 +33,8 @@ returns-4 c =
     let s = now (c .before .before .before .before .before .before .before .before .before .before .before .before .before .before .args .sheet) in
     let p1 = rw (c .before .before .before .before .before .before .before .before .before .next .given .1) at (c .before .before .before .before .before .before .before .before .before .before .before .read-tag-of .ensures .1) in
     let p2 = rw (c .before .before .before .before .before .span .given .1) at (c .before .before .before .before .before .before .before .read-span .ensures .1) in
-    let p3 = rw (c .before .n .given .1) at (c .before .before .before .count .ensures .1) in
-    let is = seen (readAs s) (c .before .before .before .count .ensures .0) (c .before .n .given .1) in
+    let p3 = rw (c .before .count2 .given .1) at (c .before .before .before .count .ensures .1) in
+    let is = seen (readAs s) (c .before .before .before .count .ensures .0) (c .before .count2 .given .1) in
     let few = count-codec propertyLimit .sound _ _ _ is .1 in
     (rw (seen (readAs s) (c .before .before .before .before .before .before .before .before .before .before .before .read-tag-of .ensures .0) (c .before .before .before .before .before .before .before .before .before .next .given .1), seen (spanAs s) (c .before .before .before .before .before .before .before .read-span .ensures .0) (c .before .before .before .before .before .span .given .1), is), search needs)
 

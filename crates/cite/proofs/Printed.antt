@@ -46,8 +46,8 @@ module _ {s buffer : List ℕ} where
     where
       by-room : (t : Sheet) → accept s ≡ ok t [] → (b : Bool) → leb (length (encode (moduleInfo t))) reportRoom ≡ b → Reported s n buffer
       by-room t e true h =
-          let answer : record { number = 0; length = n; buffer = buffer } ≡ accepted reportRoom (encode (moduleInfo t)) = rw (e, h) at (d .answer) in
-          let long : n ≡ length (encode (moduleInfo t)) = ap (λ (a : Answer). a .length) answer in
+          let answer : record { number = 0; written = n; buffer = buffer } ≡ accepted reportRoom (encode (moduleInfo t)) = rw (e, h) at (d .answer) in
+          let long : n ≡ length (encode (moduleInfo t)) = ap (λ (a : Answer). a .written) answer in
           let held : buffer ≡ encode (moduleInfo t) ++ zeros (reportRoom - length (encode (moduleInfo t))) = ap (λ (a : Answer). a .buffer) answer in
           let begins : encode (moduleInfo t) ≡ take n buffer = rw (long, held) (sym (take-append-seam (encode (moduleInfo t)) _)) in
           let room = leb-true (length (encode (moduleInfo t))) reportRoom h in
@@ -76,7 +76,7 @@ module _ {s buffer : List ℕ} where
     where
       by-room : (t : Sheet) → accept s ≡ ok t [] → (b : Bool) → leb (length (encode (moduleInfo t))) reportRoom ≡ b → cited s ≡ refusal r
       by-room t e true h =
-          let none : 0 ≡ length (encode (moduleInfo t)) = ap (λ (a : Answer). a .length) (rw (e, h) at (d .answer)) in
+          let none : 0 ≡ length (encode (moduleInfo t)) = ap (λ (a : Answer). a .written) (rw (e, h) at (d .answer)) in
           absurd (some-bytes (moduleInfo t) none)
       by-room t e false h =
           let ten : r ≡ refusals.buffer = ap (λ (a : Answer). a .number) (rw (e, h) at (d .answer)) in

@@ -49,6 +49,6 @@ unfolding admits lengthBy charLength codeBy charAt formed inRanges outside range
 computed size = refl
 
 -- in any buffer that can hold it: number 0, the report's length and bytes, and zeros behind them
-as-stated : (size : ℕ) → 21 ≤ size → answerOf example size ≡ record { number = 0; length = 21; buffer = report ++ zeros (size - 21) }
+as-stated : (size : ℕ) → 21 ≤ size → answerOf example size ≡ record { number = 0; written = 21; buffer = report ++ zeros (size - 21) }
 unfolding fitted
 as-stated size h = rw (computed size, le-leb 21 size h)

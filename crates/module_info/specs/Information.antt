@@ -33,4 +33,4 @@ answerOf s size = answerTo size (accept s)
 
 -- number and length in one, for C: number + 256 × length. The length takes 56 bits, which is more than any machine's memory has
 abbrev pub packed : Answer → ℕ
-packed a = a .number + 256 * (a .length % 72057594037927936)
+packed a = a .number + 256 * (a .written % 72057594037927936)

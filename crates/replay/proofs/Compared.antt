@@ -64,15 +64,15 @@ outcome-buffer (Accepted n) buffer = refl
 outcome-buffer (Refused r) buffer = refl
 
 made-of : {n m l k : ℕ} {x y : List ℕ} → n ≡ m → l ≡ k → x ≡ y
-    → _≡_ {A = Answer} (record { number = n; length = l; buffer = x }) (record { number = m; length = k; buffer = y })
+    → _≡_ {A = Answer} (record { number = n; written = l; buffer = x }) (record { number = m; written = k; buffer = y })
 made-of p q r = rw (p, q, r)
 
 -- two answers are the same just where they are equal
 same-answer-iff : (a b : Answer) → (sameAnswer a b ≡ true → a ≡ b) × (a ≡ b → sameAnswer a b ≡ true)
 same-answer-iff a b = (
   λ e.
-      let (n, m) = and-eq-true-iff (eqb (a .number) (b .number)) (eqb (a .length) (b .length) && same (a .buffer) (b .buffer)) .0 e in
-      let (l, s) = and-eq-true-iff (eqb (a .length) (b .length)) (same (a .buffer) (b .buffer)) .0 m in
-      made-of (eqb-true (a .number) (b .number) n) (eqb-true (a .length) (b .length) l) (same-sound (a .buffer) (b .buffer) s),
-  λ e. rw (e, eq-eqb (b .number) (b .number) refl, eq-eqb (b .length) (b .length) refl) (same-refl (b .buffer)),
+      let (n, m) = and-eq-true-iff (eqb (a .number) (b .number)) (eqb (a .written) (b .written) && same (a .buffer) (b .buffer)) .0 e in
+      let (l, s) = and-eq-true-iff (eqb (a .written) (b .written)) (same (a .buffer) (b .buffer)) .0 m in
+      made-of (eqb-true (a .number) (b .number) n) (eqb-true (a .written) (b .written) l) (same-sound (a .buffer) (b .buffer) s),
+  λ e. rw (e, eq-eqb (b .number) (b .number) refl, eq-eqb (b .written) (b .written) refl) (same-refl (b .buffer)),
 )

@@ -21,11 +21,11 @@ padded size report = report ++ zeros (size - length report)
 
 -- the stored answer, in a buffer of so many bytes
 abbrev pub storedAnswer : ℕ → ℕ → List ℕ → Answer
-storedAnswer size number report = record { number = number; length = length report; buffer = padded size report }
+storedAnswer size number report = record { number = number; written = length report; buffer = padded size report }
 
 -- the same number, length and bytes: true just of equal answers (law `same-answer-iff`)
 abbrev pub sameAnswer : Answer → Answer → Bool
-sameAnswer a b = eqb (a .number) (b .number) && (eqb (a .length) (b .length) && same (a .buffer) (b .buffer))
+sameAnswer a b = eqb (a .number) (b .number) && (eqb (a .written) (b .written) && same (a .buffer) (b .buffer))
 
 -- what is told of a row: of the answer to its sheet, whether it accepts, and whether it is the stored one
 abbrev pub ranOf : ℕ → Row → Ran

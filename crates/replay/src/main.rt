@@ -119,7 +119,7 @@ fn number_of(outcome: Outcome) -> u8
 
 // The length of its report.
 fn length_of(outcome: Outcome) -> usize
-    ensures { λ r. ⌜ ((buffer : List ℕ) → r ≡ outcomeAs outcome buffer .length) ⌝ }
+    ensures { λ r. ⌜ ((buffer : List ℕ) → r ≡ outcomeAs outcome buffer .written) ⌝ }
 {
     match outcome {
         Outcome::Accepted(n) => n,

@@ -23,10 +23,10 @@ module _ (out : List ℕ) (at : ℕ) where
   cleared-end h = rw (take-all at out h, sub-eq-zero-of-le h, append-nil)
 
   -- the bytes before the place are the report, the zeros behind it being cleared or being none
-  pub accepted-front : at < length out → record { number = 0; length = at; buffer = clearedFrom at out } ≡ accepted (length out) (take at out)
+  pub accepted-front : at < length out → record { number = 0; written = at; buffer = clearedFrom at out } ≡ accepted (length out) (take at out)
   accepted-front h = rw (length-take-le at out (omega arith))
 
-  pub accepted-whole : length out ≤ at → record { number = 0; length = length out; buffer = out } ≡ accepted (length out) (take at out)
+  pub accepted-whole : length out ≤ at → record { number = 0; written = length out; buffer = out } ≡ accepted (length out) (take at out)
   accepted-whole h = let none : length out - length out ≡ 0 = omega arith in rw (take-all at out h, none, append-nil)
 
 -- what stands in a buffer once all the bytes are written into it from its front on gives their answer

@@ -11,7 +11,7 @@ use Rattle.report.specs.Buffer.{Buffer, holds, full}
 
 pub record Answer : Type 0 where
   pub number : ℕ
-  pub length : ℕ
+  pub written : ℕ
   pub buffer : List ℕ
 
 abbrev pub zeros : ℕ → List ℕ
@@ -23,11 +23,11 @@ clearedFrom at out = take at out ++ zeros (length out - at)
 
 -- a refusal: length 0, and the whole buffer is zero
 abbrev pub refusedWith : ℕ → ℕ → Answer
-refusedWith number size = record { number = number; length = 0; buffer = zeros size }
+refusedWith number size = record { number = number; written = 0; buffer = zeros size }
 
 -- an acceptance: the bytes begin the buffer, and every byte past them is zero
 abbrev pub accepted : ℕ → List ℕ → Answer
-accepted size bytes = record { number = 0; length = length bytes; buffer = bytes ++ zeros (size - length bytes) }
+accepted size bytes = record { number = 0; written = length bytes; buffer = bytes ++ zeros (size - length bytes) }
 
 -- a report in a buffer of so many bytes; refusal 10 where it is longer
 unfoldable pub fitted : ℕ → List ℕ → Answer
@@ -40,5 +40,5 @@ answered size (full n) = refusedWith refusals.buffer size
 
 -- what the code's answer stands for, with what the buffer has then
 abbrev pub outcomeAs : Outcome → List ℕ → Answer
-outcomeAs (outcome.Accepted n) buffer = record { number = 0; length = n; buffer = buffer }
-outcomeAs (outcome.Refused r) buffer = record { number = r; length = 0; buffer = buffer }
+outcomeAs (outcome.Accepted n) buffer = record { number = 0; written = n; buffer = buffer }
+outcomeAs (outcome.Refused r) buffer = record { number = r; written = 0; buffer = buffer }

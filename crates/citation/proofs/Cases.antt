@@ -5,10 +5,10 @@ use Prim.Native.Nat.{ℕ}
 use Prim.Native.String.{String}
 use Rattle.laws.specs.Decoded.{ok, onOk}
 use Rattle.laws.specs.Quoted.{ascii}
-use Rattle.wire.specs.Fields.{byte, below, flag, bytes}
+use Rattle.wire.specs.Fields.{byte, below, numbered, flag, bytes}
 use Rattle.wire.specs.Number.{lastGroup, groups, number}
 use Rattle.wire.specs.Optional.{optional}
-use Rattle.report.specs.Decode.{times, list, text, position, range, specifier, reference, jsDoc, keyValue, attributes, argument, staticRest, dynamicRest, dependency, report}
+use Rattle.report.specs.Decode.{times, list, text, position, range, specifier, reference, jsDoc, keyValue, attributes, argument, rest, dependency, report}
 use Rattle.citation.specs.Citation.{digits, escaped, citePosition, citeRange, printed, lines, title, citation, refusal}
 
 -- lines, each with its end
@@ -51,6 +51,6 @@ cases =
     ∷ []
 
 as-stated : (map (λ c. onOk citation (report (c .0))) cases ≡ map (λ c. ok (rows (c .1)) []) cases) × (refusal 10 ≡ rows ("refused 10" ∷ []))
-unfolding byte below flag bytes lastGroup groups number flatMap optional times list text position range specifier reference jsDoc keyValue attributes argument staticRest
-    dynamicRest dependency report digits escaped citePosition citeRange printed lines title citation refusal
+unfolding byte below numbered flag bytes lastGroup groups number flatMap optional times list text position range specifier reference jsDoc keyValue attributes argument rest
+    dependency report digits escaped citePosition citeRange printed lines title citation refusal
 as-stated = (refl, refl)

@@ -1,6 +1,8 @@
 // The citation of a report, read from its front and written line by line.
 use super::lines::put_line;
 use super::lines::put_title;
+use report::names::DependencyKind;
+use report::names::dependency_kind;
 use report::writer::Place;
 use report_reader::fields::read_number;
 use report_reader::fields::read_range;
@@ -152,24 +154,28 @@ fn cite_dependency(report: &[u8], at: usize, out: &mut [u8], place: Place) -> Ci
     let kind = read_number(report, at);
     let types = kind.next;
     let next = skip_optional_specifier(report, types);
-    if kind.value < 9 {
-        let first = cite_specifier(report, next, b'D', out, place);
-        let second = cite_optional(report, types, b'T', out, first.place);
-        let side_effect = read_number(report, first.next);
-        let place = second.place;
-        return Cited {
-            place,
-            lines: first.lines + second.lines,
-            next: skip_attributes(report, side_effect.next),
-        };
-    }
-    let first = cite_argument(report, next, out, place);
-    let second = cite_optional(report, types, b'T', out, first.place);
-    let place = second.place;
-    Cited {
-        place,
-        lines: first.lines + second.lines,
-        next: skip_attributes(report, first.next),
+    match dependency_kind(kind.value) {
+        DependencyKind::Static(_) => {
+            let first = cite_specifier(report, next, b'D', out, place);
+            let second = cite_optional(report, types, b'T', out, first.place);
+            let side_effect = read_number(report, first.next);
+            let place = second.place;
+            Cited {
+                place,
+                lines: first.lines + second.lines,
+                next: skip_attributes(report, side_effect.next),
+            }
+        }
+        DependencyKind::Dynamic(_) => {
+            let first = cite_argument(report, next, out, place);
+            let second = cite_optional(report, types, b'T', out, first.place);
+            let place = second.place;
+            Cited {
+                place,
+                lines: first.lines + second.lines,
+                next: skip_attributes(report, first.next),
+            }
+        }
     }
 }
 

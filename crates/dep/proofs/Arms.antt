@@ -32,6 +32,9 @@ use Rattle.nodes.specs.declared.tally.Tally.{Tally}
 use Rattle.nodes.specs.code.Judged.{tallyAll, tallyWith}
 use Rattle.nodes.specs.code.Answers.{nodesOf}
 use Rattle.nodes.proofs.Arms.{alike, alike-two, nodes-one, nodes-two, pair}
+use Rattle.report.specs.declared.names.StaticDependencyKind.the-variants as statics
+use Rattle.report.specs.declared.names.DynamicDependencyKind.{DynamicDependencyKind}
+use Rattle.report.specs.declared.names.DynamicDependencyKind.the-variants as dynamics
 use Rattle.report.specs.ModuleInfo.{SpecifierWithRange, DependencyDescriptor}
 use Rattle.report.specs.Buffer.{Buffer}
 use Rattle.attributes.specs.Attributes.{staticAttributes, typeAttributes}
@@ -117,7 +120,7 @@ module _ (source : List ℕ) (types : ℕ → Option SpecifierWithRange) where
 
   -- what follows the callee of a call
   module _ (inner : Decoder Node) (sp : Span) where
-    import-call-holds : (w : Buffer) (phase : ImportPhase) {kind : ℕ} → kind ≡ dynamicKind phase → (x : Decoded (Arguments × Nodes))
+    import-call-holds : (w : Buffer) (phase : ImportPhase) {kind : DynamicDependencyKind} → kind ≡ dynamicKind phase → (x : Decoded (Arguments × Nodes))
         → onOk (afterCall source types (record { kind = kind; span = sp; listed = true }) w) x
         ≡ onOk (afterNode source types w) (andThen x (λ p. return (importCall sp phase (p .0) (p .1))))
     unfolding collector
@@ -126,13 +129,13 @@ module _ (source : List ℕ) (types : ℕ → Option SpecifierWithRange) where
     -- and the callee, an expression
     call-of-holds : (w : Buffer) (x : Decoded Node) {v : Buffer} {t : List ℕ} → onOk (afterNode source types w) x ≡ ok v t
         → {b : Bool} → ((n : Node) (u : List ℕ) → x ≡ ok n u → b ≡ isRequire (shape n))
-        → onOk (afterCall source types (record { kind = 12; span = sp; listed = b }) v) (callRest inner source t)
+        → onOk (afterCall source types (record { kind = dynamics.Require; span = sp; listed = b }) v) (callRest inner source t)
         ≡ onOk (afterNode source types w) (andThen x (λ e. callRest inner source >>= λ p. return (call sp e (p .0) (p .1))))
     unfolding collector
     call-of-holds w (ok n u) {v} {t} e {b} f =
         let gives : v ≡ afterNode source types w n = cc in
         let left : t ≡ u = cc in
-        let d : CallHead = record { kind = 12; span = sp; listed = isRequire (shape n) } in
+        let d : CallHead = record { kind = dynamics.Require; span = sp; listed = isRequire (shape n) } in
         rw (gives, left, f n u refl)
         (built (afterCall source types d (afterNode source types w n)) (afterNode source types w) (λ p. call sp n (p .0) (p .1))
         (λ p. sym (entries-append w (collect source types n) (collectOf source types (p .0) ++ (collectAll source types (p .1) ++ entryOfCall source types d (p .0)))))
@@ -209,7 +212,7 @@ module _ (source : List ℕ) (types : ℕ → Option SpecifierWithRange) where
   typed-walked w s d object′ (no r) e1 e2 f e3 = absurd (refused e1)
 
   pub typed-holds : (w : Buffer) (s : List ℕ) (sp : Span) (q : heads.Quoted) (x : Decoded (Nodes × Attributes))
-      → onOk (afterTyped source types s (record { kind = 3; span = sp; specifier = q; «is_side_effect» = false }) w) x
+      → onOk (afterTyped source types s (record { kind = statics.ImportType; span = sp; specifier = q; «is_side_effect» = false }) w) x
       ≡ onOk (afterNode source types w) (andThen x (λ p. return (importType sp (quotedOf s q) (p .0) (p .1))))
   unfolding collector
   typed-holds w s sp q = built _ (afterNode source types w) (λ p. importType sp (quotedOf s q) (p .0) (p .1)) (λ p. refl)

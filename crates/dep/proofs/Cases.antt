@@ -1,4 +1,4 @@
--- The entries of small trees in an empty source, as the definitions compute: which nodes give one, its kind by 01's number and its text, and their order.
+-- The entries of small trees in an empty source, as the definitions compute: which nodes give one, its kind and its text, and their order.
 use mathlib.Core.Path.{_≡_, refl}
 use mathlib.Core.Bool.{true, false}
 use mathlib.Core.List.{List, [], _∷_, map}
@@ -12,6 +12,10 @@ use Rattle.sheet.specs.declared.fields.Span.{Span}
 use Rattle.sheet.specs.declared.names.ImportPhase.{ImportPhase}
 use Rattle.sheet.specs.declared.names.ImportPhase.the-variants.{Evaluation, Source, Defer}
 use Rattle.sheet.specs.Tree.{Quoted, Node, other, string, name, object, importCall, call, importDecl, namedExport, exportFrom, exportAll, importType, importEquals, importRequire, moduleDecl, Nodes, none, more, Arguments, noArguments, argument, noProperties, childKey, nameKey, without, withObject}
+use Rattle.report.specs.declared.names.StaticDependencyKind.the-variants as statics
+use Rattle.report.specs.declared.names.DynamicDependencyKind.the-variants as dynamics
+use Rattle.report.specs.declared.names.DependencyKind.{DependencyKind}
+use Rattle.report.specs.declared.names.DependencyKind.the-variants.{Static, Dynamic}
 use Rattle.report.specs.ModuleInfo.{DynamicArgument, DependencyDescriptor, static, dynamic}
 use Rattle.report.specs.ModuleInfo as info
 use Rattle.arguments.specs.Argument.{chain, argumentOf}
@@ -45,9 +49,9 @@ shown info.expr = ascii "?"
 shown (info.string x) = x
 shown (info.template l) = ascii "?"
 
-abbrev entry : DependencyDescriptor → ℕ × List ℕ
-entry (static d) = (d .kind, d .specifier .text)
-entry (dynamic d) = (d .kind, shown (d .argument))
+abbrev entry : DependencyDescriptor → DependencyKind × List ℕ
+entry (static d) = (Static (d .kind), d .specifier .text)
+entry (dynamic d) = (Dynamic (d .kind), shown (d .argument))
 
 abbrev a : List ℕ
 a = ascii "a"
@@ -59,49 +63,49 @@ abbrev c : List ℕ
 c = ascii "c"
 
 -- nodes that give no entry, and kinds
-abbrev kinds : List (Node × List (ℕ × List ℕ))
+abbrev kinds : List (Node × List (DependencyKind × List ℕ))
 kinds =
-    (importDecl at false Evaluation false (quoted a) without, (0, a) ∷ [])
-    ∷ (importDecl at false Defer false (quoted a) without, (1, a) ∷ [])
-    ∷ (importDecl at false Source false (quoted a) without, (2, a) ∷ [])
-    ∷ (importDecl at true Source false (quoted a) without, (3, a) ∷ [])
-    ∷ (importType at (quoted a) none without, (3, a) ∷ [])
-    ∷ (importRequire at true true (quoted a), (3, a) ∷ [])
-    ∷ (importRequire at false false (quoted a), (4, a) ∷ [])
-    ∷ (exportFrom at false (quoted a) without, (5, a) ∷ [])
-    ∷ (exportAll at false (quoted a) without, (5, a) ∷ [])
-    ∷ (exportFrom at true (quoted a) without, (6, a) ∷ [])
-    ∷ (exportAll at true (quoted a) without, (6, a) ∷ [])
-    ∷ (importRequire at false true (quoted a), (7, a) ∷ [])
-    ∷ (declaring a, (8, a) ∷ [])
-    ∷ (importing a, (9, a) ∷ [])
-    ∷ (importCall at Defer (of (string at a)) none, (10, a) ∷ [])
-    ∷ (importCall at Source (of (name at a)) none, (11, ascii "?") ∷ [])
-    ∷ (calling (ascii "require") a, (12, a) ∷ [])
+    (importDecl at false Evaluation false (quoted a) without, (Static statics.Import, a) ∷ [])
+    ∷ (importDecl at false Defer false (quoted a) without, (Static statics.ImportDefer, a) ∷ [])
+    ∷ (importDecl at false Source false (quoted a) without, (Static statics.ImportSource, a) ∷ [])
+    ∷ (importDecl at true Source false (quoted a) without, (Static statics.ImportType, a) ∷ [])
+    ∷ (importType at (quoted a) none without, (Static statics.ImportType, a) ∷ [])
+    ∷ (importRequire at true true (quoted a), (Static statics.ImportType, a) ∷ [])
+    ∷ (importRequire at false false (quoted a), (Static statics.ImportEquals, a) ∷ [])
+    ∷ (exportFrom at false (quoted a) without, (Static statics.Export, a) ∷ [])
+    ∷ (exportAll at false (quoted a) without, (Static statics.Export, a) ∷ [])
+    ∷ (exportFrom at true (quoted a) without, (Static statics.ExportType, a) ∷ [])
+    ∷ (exportAll at true (quoted a) without, (Static statics.ExportType, a) ∷ [])
+    ∷ (importRequire at false true (quoted a), (Static statics.ExportEquals, a) ∷ [])
+    ∷ (declaring a, (Static statics.MaybeTsModuleAugmentation, a) ∷ [])
+    ∷ (importing a, (Dynamic dynamics.Import, a) ∷ [])
+    ∷ (importCall at Defer (of (string at a)) none, (Dynamic dynamics.ImportDefer, a) ∷ [])
+    ∷ (importCall at Source (of (name at a)) none, (Dynamic dynamics.ImportSource, ascii "?") ∷ [])
+    ∷ (calling (ascii "require") a, (Dynamic dynamics.Require, a) ∷ [])
     ∷ (calling (ascii "required") a, [])
     ∷ (importCall at Evaluation noArguments none, [])
     ∷ (namedExport at false, [])
     ∷ (importEquals at, [])
     ∷ (moduleDecl at Option.none none, [])
     ∷ (declaring (ascii "*.css"), [])
-    ∷ (declaring (ascii "../*"), (8, ascii "../*") ∷ [])
+    ∷ (declaring (ascii "../*"), (Static statics.MaybeTsModuleAugmentation, ascii "../*") ∷ [])
     ∷ []
 
 -- a call stands behind all that is in it: its callee, its arguments, its further children; an import type and a module declaration before
-abbrev orders : List (Node × List (ℕ × List ℕ))
+abbrev orders : List (Node × List (DependencyKind × List ℕ))
 orders =
-    (importCall at Evaluation (of (importing a)) none, (9, a) ∷ (9, ascii "?") ∷ [])
-    ∷ (importCall at Evaluation (argument false at (string at c) (of (importing a))) (one (importing b)), (9, a) ∷ (9, b) ∷ (9, c) ∷ [])
-    ∷ (call at (importing a) (of (importing b)) (one (importing c)), (9, a) ∷ (9, b) ∷ (9, c) ∷ [])
-    ∷ (call at (name at (ascii "require")) (of (calling (ascii "require") a)) none, (12, a) ∷ (12, ascii "?") ∷ [])
-    ∷ (importType at (quoted a) (one (importing b)) (withObject at (nameKey a (importing c) noProperties)), (3, a) ∷ (9, b) ∷ (9, c) ∷ [])
-    ∷ (moduleDecl at (Option.some (quoted a)) (one (importing b)), (8, a) ∷ (9, b) ∷ [])
-    ∷ (moduleDecl at (Option.some (quoted (ascii "*"))) (one (importing b)), (9, b) ∷ [])
-    ∷ (object at (childKey (importing a) (importing b) noProperties), (9, a) ∷ (9, b) ∷ [])
-    ∷ (other at (more (importing a) (one (importing b))), (9, a) ∷ (9, b) ∷ [])
+    (importCall at Evaluation (of (importing a)) none, (Dynamic dynamics.Import, a) ∷ (Dynamic dynamics.Import, ascii "?") ∷ [])
+    ∷ (importCall at Evaluation (argument false at (string at c) (of (importing a))) (one (importing b)), (Dynamic dynamics.Import, a) ∷ (Dynamic dynamics.Import, b) ∷ (Dynamic dynamics.Import, c) ∷ [])
+    ∷ (call at (importing a) (of (importing b)) (one (importing c)), (Dynamic dynamics.Import, a) ∷ (Dynamic dynamics.Import, b) ∷ (Dynamic dynamics.Import, c) ∷ [])
+    ∷ (call at (name at (ascii "require")) (of (calling (ascii "require") a)) none, (Dynamic dynamics.Require, a) ∷ (Dynamic dynamics.Require, ascii "?") ∷ [])
+    ∷ (importType at (quoted a) (one (importing b)) (withObject at (nameKey a (importing c) noProperties)), (Static statics.ImportType, a) ∷ (Dynamic dynamics.Import, b) ∷ (Dynamic dynamics.Import, c) ∷ [])
+    ∷ (moduleDecl at (Option.some (quoted a)) (one (importing b)), (Static statics.MaybeTsModuleAugmentation, a) ∷ (Dynamic dynamics.Import, b) ∷ [])
+    ∷ (moduleDecl at (Option.some (quoted (ascii "*"))) (one (importing b)), (Dynamic dynamics.Import, b) ∷ [])
+    ∷ (object at (childKey (importing a) (importing b) noProperties), (Dynamic dynamics.Import, a) ∷ (Dynamic dynamics.Import, b) ∷ [])
+    ∷ (other at (more (importing a) (one (importing b))), (Dynamic dynamics.Import, a) ∷ (Dynamic dynamics.Import, b) ∷ [])
     ∷ []
 
-abbrev computed : Node × List (ℕ × List ℕ) → Node × List (ℕ × List ℕ)
+abbrev computed : Node × List (DependencyKind × List ℕ) → Node × List (DependencyKind × List ℕ)
 computed (n, l) = (n, map entry (collect [] (λ start. Option.none) n))
 
 kinds-as-stated : map computed kinds ≡ kinds

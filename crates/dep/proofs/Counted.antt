@@ -13,6 +13,9 @@ use Rattle.sheet.specs.Shape.{shape, isRequire, isAugmentation}
 use Rattle.sheet.specs.Walk.{Visit, called, importing, expression, imported, exported, typed, required, declared}
 use Rattle.sheet.specs.Walked.{declares, gives, one, anyArgument, counting, entries}
 use Rattle.sheet.proofs.Walks.{walks-related}
+use Rattle.report.specs.declared.names.StaticDependencyKind.the-variants as statics
+use Rattle.report.specs.declared.names.DynamicDependencyKind.{DynamicDependencyKind}
+use Rattle.report.specs.declared.names.DynamicDependencyKind.the-variants as dynamics
 use Rattle.report.specs.ModuleInfo.{SpecifierWithRange}
 use Rattle.report.specs.ModuleInfo as info
 use Rattle.report.specs.Encode.{encodeList, encodeDependency}
@@ -22,12 +25,12 @@ use Rattle.dep.specs.code.Walk.{wroteEntries, afterNode}
 use Rattle.dep.specs.Collect.{dynamicKind, staticEntry, callEntry, moduleEntry, entryOf, collector, collect}
 
 module _ (source : List ℕ) (types : ℕ → Option SpecifierWithRange) where
-  call-one : (kind : ℕ) (sp : Span) (xs : Arguments) → length (callEntry source types kind sp xs) ≡ one (anyArgument xs)
+  call-one : (kind : DynamicDependencyKind) (sp : Span) (xs : Arguments) → length (callEntry source types kind sp xs) ≡ one (anyArgument xs)
   unfolding callEntry
   call-one kind sp noArguments = refl
   call-one kind sp (argument dots at n xs) = refl
 
-  listed-one : (b : Bool) (kind : ℕ) (sp : Span) (xs : Arguments) → length (cond b (callEntry source types kind sp xs) []) ≡ one (b && anyArgument xs)
+  listed-one : (b : Bool) (kind : DynamicDependencyKind) (sp : Span) (xs : Arguments) → length (cond b (callEntry source types kind sp xs) []) ≡ one (b && anyArgument xs)
   listed-one true kind sp xs = call-one kind sp xs
   listed-one false kind sp xs = refl
 
@@ -36,13 +39,13 @@ module _ (source : List ℕ) (types : ℕ → Option SpecifierWithRange) where
   module-one sp Option.none = refl
   module-one sp (Option.some x) = go (isAugmentation (x .text))
     where
-      go : (b : Bool) → length (cond b (staticEntry source types 8 sp x false info.none ∷ []) []) ≡ one b
+      go : (b : Bool) → length (cond b (staticEntry source types statics.MaybeTsModuleAugmentation sp x false info.none ∷ []) []) ≡ one b
       go true = refl
       go false = refl
 
   entry-one : (v : Visit) → length (entryOf source types v) ≡ one (gives v)
   entry-one (called sp (importing phase) xs) = call-one (dynamicKind phase) sp xs
-  entry-one (called sp (expression e) xs) = listed-one (isRequire (shape e)) 12 sp xs
+  entry-one (called sp (expression e) xs) = listed-one (isRequire (shape e)) dynamics.Require sp xs
   entry-one (imported sp typeOnly phase sideEffect x a) = refl
   entry-one (exported sp typeOnly x a) = refl
   entry-one (typed sp x a) = refl

@@ -4,6 +4,7 @@ use mathlib.Core.List.{List, [], _∷_, _++_, append-nil, flatMap}
 use Prim.Native.Nat.{ℕ}
 use Rattle.wire.specs.Fields.{encodeFlag}
 use Rattle.wire.specs.Optional.{encodeOptional}
+use Rattle.report.specs.Names.{staticNumber, dynamicNumber}
 use Rattle.report.specs.ModuleInfo.{StaticDependencyDescriptor, DynamicDependencyDescriptor, static, dynamic}
 use Rattle.report.specs.Encode.{encodeSpecifier, encodeRange, encodeArgument, encodeAttributes, encodeStatic, encodeDynamic, encodeDependency}
 use Rattle.report.specs.Buffer.{Buffer, wrote}
@@ -25,18 +26,18 @@ module _ (w : Buffer) (k : ℕ) (a b c d : List ℕ) where
       ∙ wrote-append (wrote (wrote v a) b) c d)
 
 module _ (w : Buffer) {w1 w2 w3 w4 w5 : Buffer} where
-  pub static-written : (d : StaticDependencyDescriptor) → w1 ≡ wrote w (d .kind ∷ []) → w2 ≡ wrote w1 (encodeOptional encodeSpecifier (d .typesSpecifier))
+  pub static-written : (d : StaticDependencyDescriptor) → w1 ≡ wrote w (staticNumber (d .kind) ∷ []) → w2 ≡ wrote w1 (encodeOptional encodeSpecifier (d .typesSpecifier))
       → w3 ≡ wrote w2 (encodeSpecifier (d .specifier)) → w4 ≡ wrote w3 (encodeFlag (d .sideEffect)) → w5 ≡ wrote w4 (encodeAttributes (d .importAttributes))
       → w5 ≡ wroteEntries w (static d ∷ [])
   unfolding flatMap encodeDependency encodeStatic
   static-written d e1 e2 e3 e4 e5 =
-      in-turn w (d .kind) (encodeOptional encodeSpecifier (d .typesSpecifier)) (encodeSpecifier (d .specifier)) (encodeFlag (d .sideEffect)) (encodeAttributes (d .importAttributes)) e1 e2 e3 e4 e5
+      in-turn w (staticNumber (d .kind)) (encodeOptional encodeSpecifier (d .typesSpecifier)) (encodeSpecifier (d .specifier)) (encodeFlag (d .sideEffect)) (encodeAttributes (d .importAttributes)) e1 e2 e3 e4 e5
       ∙ ap (wrote w) (sym (append-nil (encodeStatic d)))
 
-  pub dynamic-written : (d : DynamicDependencyDescriptor) → w1 ≡ wrote w (d .kind ∷ []) → w2 ≡ wrote w1 (encodeOptional encodeSpecifier (d .typesSpecifier))
+  pub dynamic-written : (d : DynamicDependencyDescriptor) → w1 ≡ wrote w (dynamicNumber (d .kind) ∷ []) → w2 ≡ wrote w1 (encodeOptional encodeSpecifier (d .typesSpecifier))
       → w3 ≡ wrote w2 (encodeArgument (d .argument)) → w4 ≡ wrote w3 (encodeRange (d .argumentRange)) → w5 ≡ wrote w4 (encodeAttributes (d .importAttributes))
       → w5 ≡ wroteEntries w (dynamic d ∷ [])
   unfolding flatMap encodeDependency encodeDynamic
   dynamic-written d e1 e2 e3 e4 e5 =
-      in-turn w (d .kind) (encodeOptional encodeSpecifier (d .typesSpecifier)) (encodeArgument (d .argument)) (encodeRange (d .argumentRange)) (encodeAttributes (d .importAttributes)) e1 e2 e3 e4 e5
+      in-turn w (dynamicNumber (d .kind)) (encodeOptional encodeSpecifier (d .typesSpecifier)) (encodeArgument (d .argument)) (encodeRange (d .argumentRange)) (encodeAttributes (d .importAttributes)) e1 e2 e3 e4 e5
       ∙ ap (wrote w) (sym (append-nil (encodeDynamic d)))

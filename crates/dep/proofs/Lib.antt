@@ -5,7 +5,6 @@ pub mod Arms
 pub mod Counted
 pub mod Fields
 pub mod Callee
-pub mod EntryKinds
 pub mod Turns
 pub mod Right
 mod Cases

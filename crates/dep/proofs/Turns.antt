@@ -13,6 +13,8 @@ use Rattle.sheet.specs.Shape.{shape, isRequire, isAugmentation}
 use Rattle.sheet.specs.Walk.{Visit, called, importing, expression, imported, exported, typed, required, declared, startOf, visiting, visits}
 use Rattle.sheet.specs.Walked.{anyArgument}
 use Rattle.sheet.proofs.Walks.{walks-related}
+use Rattle.report.specs.declared.names.StaticDependencyKind.the-variants as statics
+use Rattle.report.specs.declared.names.DynamicDependencyKind.the-variants as dynamics
 use Rattle.report.specs.ModuleInfo.{SpecifierWithRange, DependencyDescriptor}
 use Rattle.report.specs.ModuleInfo as info
 use Rattle.pragmas.specs.Texts.{typesOf}
@@ -47,22 +49,22 @@ turns-with (passed g p) f = passed g (turns-with p (λ w i. f w (List·Memᴰ·t
 module _ (source : List ℕ) (types : ℕ → Option SpecifierWithRange) (P : Visit → DependencyDescriptor → Type 0)
     (holds : (v : Visit) (d : DependencyDescriptor) → entryOf source types v ≡ d ∷ [] → typesOf d ≡ types (startOf v) → P v d) where
   call-turn : (sp : Span) (e : Node) (b : Bool) → isRequire (shape e) ≡ b → (xs : Arguments)
-      → InTurn P (called sp (expression e) xs ∷ []) (cond b (callEntry source types 12 sp xs) [])
+      → InTurn P (called sp (expression e) xs ∷ []) (cond b (callEntry source types dynamics.Require sp xs) [])
   unfolding callEntry
   call-turn sp e true is noArguments = passed (and-false (isRequire (shape e))) nothing
   call-turn sp e true is (argument dots at n xs) =
       let v = called sp (expression e) (argument dots at n xs) in
       let g : isRequire (shape e) && true ≡ true = rw is in
-      let i : entryOf source types v ≡ callEntry source types 12 sp (argument dots at n xs) = rw is in
+      let i : entryOf source types v ≡ callEntry source types dynamics.Require sp (argument dots at n xs) = rw is in
       entry g (holds v _ i refl) nothing
   call-turn sp e false is xs = let g : isRequire (shape e) && anyArgument xs ≡ false = rw is in passed g nothing
 
   module-turn : (sp : Span) (x : Quoted) (b : Bool) → isAugmentation (x .text) ≡ b
-      → InTurn P (declared sp (Option.some x) ∷ []) (cond b (staticEntry source types 8 sp x false info.none ∷ []) [])
+      → InTurn P (declared sp (Option.some x) ∷ []) (cond b (staticEntry source types statics.MaybeTsModuleAugmentation sp x false info.none ∷ []) [])
   unfolding staticEntry moduleEntry
   module-turn sp x true is =
       let v = declared sp (Option.some x) in
-      let i : entryOf source types v ≡ staticEntry source types 8 sp x false info.none ∷ [] = rw is in
+      let i : entryOf source types v ≡ staticEntry source types statics.MaybeTsModuleAugmentation sp x false info.none ∷ [] = rw is in
       entry is (holds v _ i refl) nothing
   module-turn sp x false is = passed is nothing
 

@@ -15,6 +15,10 @@ use heads::texts::declares;
 use nodes::check::check_node;
 use nodes::tally::Checked;
 use pragmas::analyze_ts_or_deno_types;
+use report::names::DynamicDependencyKind;
+use report::names::StaticDependencyKind;
+use report::names::dynamic_number;
+use report::names::static_number;
 use report::writer::Place;
 use sheet::fields::Span;
 use sheet::limits::COMMENT_NUMBERS;
@@ -51,9 +55,9 @@ pub struct Counts {
     pub groups: usize,
 }
 
-// A static dependency without its attributes: its kind by its number in the report, and the span of its node. Is it for side effects only?
+// A static dependency without its attributes: its kind, and the span of its node. Is it for side effects only?
 pub struct StaticDependencyDescriptor {
-    pub kind: u8,
+    pub kind: StaticDependencyKind,
     pub span: Span,
     pub specifier: Quoted,
     pub is_side_effect: bool,
@@ -61,7 +65,7 @@ pub struct StaticDependencyDescriptor {
 
 // A dynamic dependency: where its node starts, and offsets into the sheet for its argument.
 pub struct DynamicDependencyDescriptor {
-    pub kind: u8,
+    pub kind: DynamicDependencyKind,
     pub start: usize,
     pub argument: DynamicArgument,
     pub argument_range: Span,
@@ -69,56 +73,59 @@ pub struct DynamicDependencyDescriptor {
 
 // A call up to its arguments: its kind, and the span of its node. Is it an import or a require?
 pub struct CallHead {
-    pub kind: u8,
+    pub kind: DynamicDependencyKind,
     pub span: Span,
     pub listed: bool,
 }
 
-// The kinds by their numbers in the report.
-pub fn import_kind(typed: bool, phase: ImportPhase) -> u8
+// The kinds by what the nodes say.
+pub fn import_kind(typed: bool, phase: ImportPhase) -> StaticDependencyKind
     ensures { λ r. ⌜ r ≡ importKind typed phase ⌝ }
 {
+    if typed {
+        return StaticDependencyKind::ImportType;
+    }
     match phase {
-        ImportPhase::Evaluation => if typed { 3 } else { 0 },
-        ImportPhase::Source => if typed { 3 } else { 2 },
-        ImportPhase::Defer => if typed { 3 } else { 1 },
+        ImportPhase::Evaluation => StaticDependencyKind::Import,
+        ImportPhase::Source => StaticDependencyKind::ImportSource,
+        ImportPhase::Defer => StaticDependencyKind::ImportDefer,
     }
 }
 
-pub fn export_kind(typed: bool) -> u8
+pub fn export_kind(typed: bool) -> StaticDependencyKind
     ensures { λ r. ⌜ r ≡ exportKind typed ⌝ }
 {
     if typed {
-        return 6;
+        return StaticDependencyKind::ExportType;
     }
-    5
+    StaticDependencyKind::Export
 }
 
-pub fn equals_kind(typed: bool, export: bool) -> u8
+pub fn equals_kind(typed: bool, export: bool) -> StaticDependencyKind
     ensures { λ r. ⌜ r ≡ equalsKind typed export ⌝ }
 {
     if typed {
-        return 3;
+        return StaticDependencyKind::ImportType;
     }
     if export {
-        return 7;
+        return StaticDependencyKind::ExportEquals;
     }
-    4
+    StaticDependencyKind::ImportEquals
 }
 
-pub fn dynamic_kind(phase: ImportPhase) -> u8
+pub fn dynamic_kind(phase: ImportPhase) -> DynamicDependencyKind
     ensures { λ r. ⌜ r ≡ dynamicKind phase ⌝ }
 {
     match phase {
-        ImportPhase::Evaluation => 9,
-        ImportPhase::Source => 11,
-        ImportPhase::Defer => 10,
+        ImportPhase::Evaluation => DynamicDependencyKind::Import,
+        ImportPhase::Source => DynamicDependencyKind::ImportSource,
+        ImportPhase::Defer => DynamicDependencyKind::ImportDefer,
     }
 }
 
 // A static dependency of the node with that span.
 pub fn static_dependency(
-    kind: u8,
+    kind: StaticDependencyKind,
     span: Span,
     specifier: Quoted,
     is_side_effect: bool,
@@ -134,7 +141,7 @@ pub fn static_dependency(
 }
 
 // A call at the node with that span.
-pub fn call_head(kind: u8, span: Span, listed: bool) -> CallHead
+pub fn call_head(kind: DynamicDependencyKind, span: Span, listed: bool) -> CallHead
     ensures { λ r. ⌜ r ≡ record { kind = kind; span = span; listed = listed } ⌝ }
 {
     CallHead { kind, span, listed }
@@ -167,7 +174,9 @@ fn put_static_entry(
     let specifier = d.specifier;
     let from = specifier.start;
     let to = specifier.end;
-    let p = p.put(out, d.kind);
+    let kind = d.kind;
+    let number = static_number(kind);
+    let p = p.put(out, number);
     let p = analyze_ts_or_deno_types(source, cs, k.comments, gs, k.groups, index, start, out, p);
     let p = p.put_lossy_specifier(out, &sheet[from..to], source, index, specifier.span);
     let p = p.put_flag(out, d.is_side_effect);
@@ -252,7 +261,8 @@ pub fn put_module_entry(
         span (Option.some (quotedOf (now (sheet .entry)) specifier))) ⌝ }
 {
     if declares(sheet, specifier) {
-        let d = static_dependency(8, span, specifier, false);
+        let kind = StaticDependencyKind::MaybeTsModuleAugmentation;
+        let d = static_dependency(kind, span, specifier, false);
         return put_plain_entry(sheet, source, d, cs, gs, k, index, out, p);
     }
     p
@@ -285,10 +295,12 @@ fn put_dynamic_entry(
         (typesFrom (now (source .entry)) (now (cs .entry)) (now (gs .entry)) k)
         d v (dynamicAttributes xs))) ⌝ }
 {
+    let kind = d.kind;
+    let number = dynamic_number(kind);
+    let p = p.put(out, number);
     let mut pairs: [usize; PAIR_NUMBERS] = [0; PAIR_NUMBERS];
     let attributes = parse_dynamic_import_attributes(sheet, source, c, more, levels, &mut pairs);
     let argument = d.argument;
-    let p = p.put(out, d.kind);
     let p = analyze_ts_or_deno_types(source, cs, k.comments, gs, k.groups, index, d.start, out, p);
     let p = put_argument(sheet, source, levels, argument, out, p);
     let p = p.put_span(out, source, index, d.argument_range);
@@ -321,9 +333,10 @@ fn put_argument_entry(
         (typesFrom (now (source .entry)) (now (cs .entry)) (now (gs .entry)) k)
         (d .kind) (d .span) (argument dots range n xs))) ⌝ }
 {
+    let kind = d.kind;
     let argument = parse_argument(sheet, source, c, levels);
     let e = DynamicDependencyDescriptor {
-        kind: d.kind,
+        kind,
         start: d.span.start,
         argument,
         argument_range: range,

@@ -28,6 +28,8 @@ use nodes::check::check_attributes;
 use nodes::check::check_nodes;
 use nodes::tally::Tallied;
 use nodes::tally::nodes_of;
+use report::names::DynamicDependencyKind;
+use report::names::StaticDependencyKind;
 use report::writer::Place;
 use sheet::fields::Span;
 use sheet::limits::COMMENT_NUMBERS;
@@ -88,18 +90,23 @@ fn call_of(
 {
     match head {
         Head::ImportCall(phase) => call_head(dynamic_kind(phase), span, true),
-        _ => call_head(12, span, is_require(sheet, source, c, levels)),
+        _ => {
+            let listed = is_require(sheet, source, c, levels);
+            call_head(DynamicDependencyKind::Require, span, listed)
+        }
     }
 }
 
 // How many nodes stand for the callee of a call of that kind: none for an import.
-fn callees(kind: u8) -> usize
+fn callees(kind: DynamicDependencyKind) -> usize
     ensures { λ r. ⌜ r ≡ calleesOf kind ⌝ }
 {
-    if kind == 12 {
-        return 1;
+    match kind {
+        DynamicDependencyKind::Import => 0,
+        DynamicDependencyKind::ImportDefer => 0,
+        DynamicDependencyKind::ImportSource => 0,
+        DynamicDependencyKind::Require => 1,
     }
-    0
 }
 
 // `visit_import_decl`, `visit_named_export`, `visit_export_all` and `visit_ts_import_equals_decl`: the entry of an import or an export,
@@ -268,7 +275,7 @@ fn walk_rest(
             walk_import(sheet, source, c, there, levels, d, cs, gs, k, index, out, p)
         }
         Head::ImportType(x, n) => {
-            let d = static_dependency(3, span, x, false);
+            let d = static_dependency(StaticDependencyKind::ImportType, span, x, false);
             visit_ts_import_type(sheet, source, c, n, levels, d, cs, gs, k, index, out, p)
         }
         Head::ImportRequire {
@@ -413,7 +420,8 @@ fn walk_callee(
     ensures { λ r. ⌜ PastWalked (length (now (sheet .entry))) r ⌝ }
 {
     let d = call_of(sheet, source, c, levels, span, head);
-    let n = callees(d.kind);
+    let kind = d.kind;
+    let n = callees(kind);
     match walk_nodes(sheet, source, c, n, levels, cs, gs, k, index, out, p) {
         Walked::Refused(r) => Walked::Refused(r),
         Walked::Is(p, next) => {

@@ -22,6 +22,10 @@ use Rattle.sheet.specs.Walk.{Visit, Callee, called, importing, expression}
 use Rattle.sheet.specs.Reached.{Walked, ownVisit}
 use Rattle.sheet_codec.specs.Encode.{propertiesIn, encodeNode, encodeArguments}
 use Rattle.sheet_codec.specs.Limits.{TextFits, QuotedFits, under, NodeFits, ArgumentsFit, PropertiesFit, AttributesFit}
+use Rattle.report.specs.declared.names.StaticDependencyKind.{StaticDependencyKind}
+use Rattle.report.specs.declared.names.StaticDependencyKind.the-variants as statics
+use Rattle.report.specs.declared.names.DynamicDependencyKind.{DynamicDependencyKind}
+use Rattle.report.specs.declared.names.DynamicDependencyKind.the-variants as dynamics
 use Rattle.report.specs.ModuleInfo.{SpecifierWithRange, ImportAttribute, KeyValue, ImportAttributes, none, unknown, known, DynamicTemplatePart, DynamicArgument, DependencyDescriptor}
 use Rattle.report.specs.ModuleInfo as info
 use Rattle.report.specs.Texts.{Reports, PairTexts, AttributeTexts, ArgumentTexts, DependencyTexts, SpecifierText}
@@ -34,7 +38,6 @@ use Rattle.attributes.proofs.Right.{last-among, pairs-few, static-right, type-r
 use Rattle.arguments.specs.Argument.{pieceParts, templateParts, ofPieces, operand, appended, chain, ofChain, ofShape, argumentOf}
 use Rattle.dep.specs.Collect.{importKind, exportKind, equalsKind, dynamicKind, staticEntry, callEntry, moduleEntry, entryOf}
 use Rattle.dep.specs.InTurn.{Specifies, Argues, Worded}
-use Rattle.dep.proofs.EntryKinds.{import-kind, export-kind, equals-kind, dynamic-kind}
 use Rattle.dep.proofs.Right.{all-if}
 use Rattle.module_info.proofs.Inside.{walked-fits, walked-bytes}
 
@@ -306,12 +309,11 @@ module _ (source : List ℕ) where
   argues anything f parts = tt
 
   module _ (short : length source ≤ sourceLimit) (types : ℕ → Option SpecifierWithRange) (typed : (start : ℕ) → IfThere Good (types start)) where
-    static-entry : (kind : ℕ) → kind ≤ 8 → (sp : Span) (k : ℕ) {x : Quoted} → QuotedFits source k x → (sideEffect : Bool) {a : ImportAttributes} → FineAttributes a
+    static-entry : (kind : StaticDependencyKind) (sp : Span) (k : ℕ) {x : Quoted} → QuotedFits source k x → (sideEffect : Bool) {a : ImportAttributes} → FineAttributes a
         → Fine (Specifies x) (staticEntry source types kind sp x sideEffect a)
     unfolding staticEntry
-    static-entry kind small sp k {x} q sideEffect a = record {
+    static-entry kind sp k {x} q sideEffect a = record {
       valid = record {
-        kind = small;
         typesSpecifier = good-valid (types (sp .start)) (typed (sp .start));
         specifier = record { text = short-text (lossy-text (q .text)); range = range-valid source (x .span) (omega arith) };
         importAttributes = a .valid;
@@ -320,17 +322,16 @@ module _ (source : List ℕ) where
       worded = reports (q .text);
     }
 
-    call-entry : (kind : ℕ) → (9 ≤ kind) × (kind ≤ 12) → (sp : Span) (e : Callee) (xs : Arguments) (k : ℕ) → ArgumentsFit source xs k → length (encodeArguments xs) ≤ sheetLimit
+    call-entry : (kind : DynamicDependencyKind) (sp : Span) (e : Callee) (xs : Arguments) (k : ℕ) → ArgumentsFit source xs k → length (encodeArguments xs) ≤ sheetLimit
         → All (Fine (Worded (called sp e xs))) (callEntry source types kind sp xs)
     unfolding callEntry ArgumentsFit encodeArguments argumentOf
-    call-entry kind small sp e noArguments k f h = tt
-    call-entry kind small sp e (argument dots at n xs) k f h =
+    call-entry kind sp e noArguments k f h = tt
+    call-entry kind sp e (argument dots at n xs) k f h =
         let g = simp length-append at h in
         let x = argument-fine k n (f .0 .1) (omega arith) in
         let a = dynamic-fine k (f .1) (dynamic-right xs) in (
           record {
             valid = record {
-              kind = small;
               typesSpecifier = good-valid (types (sp .start)) (typed (sp .start));
               argument = x .valid;
               argumentRange = range-valid source at (omega arith);
@@ -356,19 +357,19 @@ module _ (source : List ℕ) where
     own-fine k (binary sp plus l r) f h = tt
     own-fine k (object sp ps) f h = tt
     own-fine k (importCall sp phase xs ns) f h =
-        let g = simp length-append at h in call-entry (dynamicKind phase) (dynamic-kind phase) sp (importing phase) xs (under k) (f .1 .0 .1) (omega arith)
+        let g = simp length-append at h in call-entry (dynamicKind phase) sp (importing phase) xs (under k) (f .1 .0 .1) (omega arith)
     own-fine k (call sp e xs ns) f h =
-        let g = simp length-append at h in all-if _ (isRequire (shape e)) (callEntry source types 12 sp xs) (call-entry 12 (omega arith) sp (expression e) xs (under k) (f .1 .1 .0 .1) (omega arith))
+        let g = simp length-append at h in all-if _ (isRequire (shape e)) (callEntry source types dynamics.Require sp xs) (call-entry dynamics.Require sp (expression e) xs (under k) (f .1 .1 .0 .1) (omega arith))
     own-fine k (importDecl sp typeOnly phase sideEffect x a) f h =
-        (static-entry (importKind typeOnly phase) (import-kind typeOnly phase) sp (under k) (f .1 .0) sideEffect (static-fine (under k) (f .1 .1) (static-right a)), tt)
+        (static-entry (importKind typeOnly phase) sp (under k) (f .1 .0) sideEffect (static-fine (under k) (f .1 .1) (static-right a)), tt)
     own-fine k (namedExport sp typeOnly) f h = tt
-    own-fine k (exportFrom sp typeOnly x a) f h = (static-entry (exportKind typeOnly) (export-kind typeOnly) sp (under k) (f .1 .0) false (static-fine (under k) (f .1 .1) (static-right a)), tt)
-    own-fine k (exportAll sp typeOnly x a) f h = (static-entry (exportKind typeOnly) (export-kind typeOnly) sp (under k) (f .1 .0) false (static-fine (under k) (f .1 .1) (static-right a)), tt)
-    own-fine k (importType sp x ns a) f h = (static-entry 3 (omega arith) sp (under k) (f .1 .0) false (type-fine (under k) (f .1 .1 .1) (type-right a)), tt)
+    own-fine k (exportFrom sp typeOnly x a) f h = (static-entry (exportKind typeOnly) sp (under k) (f .1 .0) false (static-fine (under k) (f .1 .1) (static-right a)), tt)
+    own-fine k (exportAll sp typeOnly x a) f h = (static-entry (exportKind typeOnly) sp (under k) (f .1 .0) false (static-fine (under k) (f .1 .1) (static-right a)), tt)
+    own-fine k (importType sp x ns a) f h = (static-entry statics.ImportType sp (under k) (f .1 .0) false (type-fine (under k) (f .1 .1 .1) (type-right a)), tt)
     own-fine k (importEquals sp) f h = tt
-    own-fine k (importRequire sp typeOnly export x) f h = (static-entry (equalsKind typeOnly export) (equals-kind typeOnly export) sp (under k) (f .1) false fine-none, tt)
+    own-fine k (importRequire sp typeOnly export x) f h = (static-entry (equalsKind typeOnly export) sp (under k) (f .1) false fine-none, tt)
     own-fine k (moduleDecl sp Option.none ns) f h = tt
-    own-fine k (moduleDecl sp (Option.some x) ns) f h = all-if _ (isAugmentation (x .text)) (staticEntry source types 8 sp x false none ∷ []) (static-entry 8 (omega arith) sp (under k) (f .1 .0) false fine-none, tt)
+    own-fine k (moduleDecl sp (Option.some x) ns) f h = all-if _ (isAugmentation (x .text)) (staticEntry source types statics.MaybeTsModuleAugmentation sp x false none ∷ []) (static-entry statics.MaybeTsModuleAugmentation sp (under k) (f .1 .0) false fine-none, tt)
 
     -- the entry of a walked node's visit
     pub walked-fine : {root n : Node} {v : Visit} {d : DependencyDescriptor} → Walked root n → ownVisit n ≡ Option.some v → NodeFits source root depthLimit → length (encodeNode root) ≤ sheetLimit

@@ -6,13 +6,15 @@ use mathlib.Core.Option.{Option}
 use Prim.Native.Nat.{ℕ}
 use Rattle.laws.specs.Decoded.{ok}
 use Rattle.laws.specs.Quoted.{ascii}
-use Rattle.wire.specs.Fields.{byte, below, flag, bytes}
+use Rattle.wire.specs.Fields.{byte, below, numbered, flag, bytes}
 use Rattle.wire.specs.Number.{lastGroup, groups, number, encodeGroups, encodeNumber}
 use Rattle.wire.specs.Text.{encodeText}
 use Rattle.wire.specs.Optional.{encodeOptional, optional}
+use Rattle.report.specs.declared.names.StaticDependencyKind.the-variants as statics
+use Rattle.report.specs.declared.names.DynamicDependencyKind.the-variants as dynamics
 use Rattle.report.specs.ModuleInfo.{PositionRange, SpecifierWithRange, path, types, none, unknown, known, expr, string, template, static, dynamic, ModuleInfo}
 use Rattle.report.specs.Encode.{encodeList, encodePosition, encodeRange, encodeSpecifier, encodeReference, encodeJsDoc, encodeKeyValue, encodeAttributes, encodeArgument, encodeStatic, encodeDynamic, encodeDependency, encode}
-use Rattle.report.specs.Decode.{times, list, text, position, range, specifier, reference, jsDoc, keyValue, attributes, argument, staticRest, dynamicRest, dependency, report}
+use Rattle.report.specs.Decode.{times, list, text, position, range, specifier, reference, jsDoc, keyValue, attributes, argument, rest, dependency, report}
 
 -- the range from one column of a line to another, and a text there
 abbrev within : ℕ → ℕ → ℕ → PositionRange
@@ -52,21 +54,21 @@ everything = record {
   isScript = true;
   dependencies =
       static (record {
-        kind = 0;
+        kind = statics.Import;
         typesSpecifier = Option.some (placed (ascii "t") 0 1 4);
         specifier = placed (ascii "a") 1 7 10;
         sideEffect = true;
         importAttributes = known (record { key = ascii "k"; value = Option.none } ∷ record { key = ascii "type"; value = Option.some (ascii "json") } ∷ []);
       })
       ∷ dynamic (record {
-        kind = 12;
+        kind = dynamics.Require;
         typesSpecifier = Option.none;
         argument = template (Option.some (ascii "./") ∷ Option.none ∷ []);
         argumentRange = within 2 8 200;
         importAttributes = unknown;
       })
-      ∷ dynamic (record { kind = 9; typesSpecifier = Option.none; argument = string (ascii "b"); argumentRange = within 3 7 10; importAttributes = none })
-      ∷ dynamic (record { kind = 10; typesSpecifier = Option.none; argument = expr; argumentRange = within 4 13 14; importAttributes = none })
+      ∷ dynamic (record { kind = dynamics.Import; typesSpecifier = Option.none; argument = string (ascii "b"); argumentRange = within 3 7 10; importAttributes = none })
+      ∷ dynamic (record { kind = dynamics.ImportDefer; typesSpecifier = Option.none; argument = expr; argumentRange = within 4 13 14; importAttributes = none })
       ∷ [];
   tsReferences = path (placed (ascii "c") 5 21 24) ∷ types (placed (ascii "d") 6 22 25) 2 ∷ [];
   selfTypesSpecifier = Option.some (placed (ascii "e") 7 17 20);
@@ -121,7 +123,7 @@ cases =
     ∷ []
 
 as-stated : (map (λ c. (c .0, encode (c .0))) cases ≡ cases) × (map (λ c. report (c .1)) cases ≡ map (λ c. ok (c .0) []) cases)
-unfolding byte below flag bytes lastGroup groups number encodeGroups encodeNumber encodeText flatMap encodeOptional encodeList encodePosition encodeRange encodeSpecifier
+unfolding byte below numbered flag bytes lastGroup groups number encodeGroups encodeNumber encodeText flatMap encodeOptional encodeList encodePosition encodeRange encodeSpecifier
     encodeReference encodeJsDoc encodeKeyValue encodeAttributes encodeArgument encodeStatic encodeDynamic encodeDependency encode optional times list text position range
-    specifier reference jsDoc keyValue attributes argument staticRest dynamicRest dependency report
+    specifier reference jsDoc keyValue attributes argument rest dependency report
 as-stated = (refl, refl)

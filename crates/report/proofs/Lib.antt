@@ -1,3 +1,4 @@
+pub mod Numbered
 pub mod ReadBack
 pub mod Buffers
 pub mod Answers

@@ -6,7 +6,6 @@ use mathlib.Core.Option.{Option}
 use Prim.Native.Nat.{ℕ}
 use native.Mathlib.Omega.{arith}
 use lib.ListN.{length}
-use borrow.Author.Tests.{lt-ltb, le-ltb}
 use Rattle.laws.specs.Decoded.{ok, Decoder}
 use Rattle.laws.specs.Codec.{IfThere, All}
 use Rattle.wire.specs.Fields.{byte}
@@ -14,10 +13,13 @@ use Rattle.wire.specs.Text.{encodeText}
 use Rattle.wire.specs.Optional.{encodeOptional, optional}
 use Rattle.wire.proofs.NumberCodec.{number-codec}
 use Rattle.wire.proofs.TextCodec.{below-codec, flag-codec, bytes-codec}
+use Rattle.wire.proofs.Numbered.{numbered-codec}
+use Rattle.report.specs.declared.names.DependencyKind.the-variants.{Static, Dynamic}
 use Rattle.report.specs.ModuleInfo.{path, types, none, unknown, known, expr, string, template, StaticDependencyDescriptor, DynamicDependencyDescriptor, static, dynamic, ModuleInfo}
 use Rattle.report.specs.Encode.{encodeList, encodePosition, encodeRange, encodeSpecifier, encodeReference, encodeJsDoc, encodeKeyValue, encodeAttributes, encodeArgument, encodeStatic, encodeDynamic, encodeDependency, encode}
-use Rattle.report.specs.Decode.{times, list, text, position, range, specifier, reference, jsDoc, keyValue, attributes, argument, staticRest, dynamicRest, dependency, report}
+use Rattle.report.specs.Decode.{times, list, text, position, range, specifier, reference, jsDoc, keyValue, attributes, argument, rest, dependency, report}
 use Rattle.report.specs.Valid.{Short, ValidPosition, ValidRange, ValidSpecifier, ValidReference, ValidJsDoc, ValidKeyValue, ValidAttributes, ValidArgument, ValidStatic, ValidDynamic, ValidDependency, Valid}
+use Rattle.report.proofs.Numbered.{dependency-numbers}
 
 -- each valid value is decoded from its bytes, whatever follows them
 pub record ReadBack {A : Type 0} (decode : Decoder A) (encode : A → List ℕ) (Valid : A → Type 0) : Type 0 where
@@ -94,26 +96,24 @@ argument-back = record {
 }
 
 static-back : (d : StaticDependencyDescriptor) → ValidStatic d → (t : List ℕ) → dependency (encodeStatic d ++ t) ≡ ok (static d) t
-unfolding dependency staticRest encodeStatic
+unfolding dependency rest encodeStatic
 static-back d v t =
     simp append-assoc
     (rw (
-      below-codec 13 .complete (d .kind) (omega arith),
+      numbered-codec dependency-numbers .complete (Static (d .kind)) tt,
       optional-back specifier-back .back (d .typesSpecifier) (v .typesSpecifier),
-      lt-ltb (d .kind) 9 (omega arith),
       specifier-back .back (d .specifier) (v .specifier),
       flag-codec .complete (d .sideEffect) tt,
       attributes-back .back (d .importAttributes) (v .importAttributes),
     ))
 
 dynamic-back : (d : DynamicDependencyDescriptor) → ValidDynamic d → (t : List ℕ) → dependency (encodeDynamic d ++ t) ≡ ok (dynamic d) t
-unfolding dependency dynamicRest encodeDynamic
+unfolding dependency rest encodeDynamic
 dynamic-back d v t =
     simp append-assoc
     (rw (
-      below-codec 13 .complete (d .kind) (omega arith),
+      numbered-codec dependency-numbers .complete (Dynamic (d .kind)) tt,
       optional-back specifier-back .back (d .typesSpecifier) (v .typesSpecifier),
-      le-ltb (d .kind) 9 (omega arith),
       argument-back .back (d .argument) (v .argument),
       range-back .back (d .argumentRange) (v .argumentRange),
       attributes-back .back (d .importAttributes) (v .importAttributes),

@@ -3,14 +3,16 @@ use mathlib.Core.Bool.{cond}
 use mathlib.Core.List.{List, [], _∷_}
 use mathlib.Core.Option.{Option}
 use Prim.Native.Nat.{ℕ, zero, suc}
-use lib.Dec.{ltb}
 use lib.ListN.{getD}
 use Rattle.laws.specs.Decoded.{Decoder, onOk, _>>=_, _>>_, return, refuse, require}
 use Rattle.text.specs.declared.position.Position.{Position}
 use Rattle.wire.specs.Refusals as refusals
-use Rattle.wire.specs.Fields.{byte, below, flag, bytes}
+use Rattle.wire.specs.Fields.{byte, below, numbered, flag, bytes}
 use Rattle.wire.specs.Number.{number}
 use Rattle.wire.specs.Optional.{optional}
+use Rattle.report.specs.declared.names.DependencyKind.{DependencyKind}
+use Rattle.report.specs.declared.names.DependencyKind.the-variants.{Static, Dynamic}
+use Rattle.report.specs.Names.{dependencyKinds}
 use Rattle.report.specs.ModuleInfo.{PositionRange, SpecifierWithRange, TypeScriptReference, path, types, JsDocImportInfo, KeyValue, ImportAttributes, none, unknown, known, DynamicArgument, expr, string, template, DependencyDescriptor, static, dynamic, ModuleInfo}
 
 unfoldable pub times : {A : Type 0} → Decoder A → ℕ → Decoder (List A)
@@ -71,16 +73,14 @@ argument = do
   kind ← byte
   getD (return expr ∷ (text >>= λ x. return (string x)) ∷ (list (optional text) >>= λ l. return (template l)) ∷ []) kind (refuse refusals.byte)
 
--- what follows the kind and the types of a static dependency, and of a dynamic one
-unfoldable pub staticRest : ℕ → Option SpecifierWithRange → Decoder DependencyDescriptor
-staticRest kind t = do
+-- what follows the kind and the types
+unfoldable pub rest : DependencyKind → Option SpecifierWithRange → Decoder DependencyDescriptor
+rest (Static kind) t = do
   s ← specifier
   sideEffect ← flag
   a ← attributes
   return (static (record { kind = kind; typesSpecifier = t; specifier = s; sideEffect = sideEffect; importAttributes = a }))
-
-unfoldable pub dynamicRest : ℕ → Option SpecifierWithRange → Decoder DependencyDescriptor
-dynamicRest kind t = do
+rest (Dynamic kind) t = do
   x ← argument
   r ← range
   a ← attributes
@@ -88,9 +88,9 @@ dynamicRest kind t = do
 
 unfoldable pub dependency : Decoder DependencyDescriptor
 dependency = do
-  kind ← below 13
+  kind ← numbered dependencyKinds
   t ← optional specifier
-  cond (ltb kind 9) (staticRest kind t) (dynamicRest kind t)
+  rest kind t
 
 unfoldable pub report : Decoder ModuleInfo
 report = do

@@ -7,6 +7,7 @@ use Rattle.wire.specs.Fields.{encodeFlag}
 use Rattle.wire.specs.Number.{encodeNumber}
 use Rattle.wire.specs.Text.{encodeText}
 use Rattle.wire.specs.Optional.{encodeOptional}
+use Rattle.report.specs.Names.{staticNumber, dynamicNumber}
 use Rattle.report.specs.ModuleInfo.{PositionRange, SpecifierWithRange, TypeScriptReference, path, types, JsDocImportInfo, KeyValue, ImportAttributes, none, unknown, known, DynamicArgument, expr, string, template, StaticDependencyDescriptor, DynamicDependencyDescriptor, DependencyDescriptor, static, dynamic, ModuleInfo}
 
 -- a count, then each
@@ -51,7 +52,7 @@ encodeArgument (template l) = 2 ∷ encodeList (encodeOptional encodeText) l
 -- kind byte, optional types specifier, specifier, side effect flag, attributes
 unfoldable pub encodeStatic : StaticDependencyDescriptor → List ℕ
 encodeStatic d =
-    d .kind
+    staticNumber (d .kind)
     ∷ (encodeOptional encodeSpecifier (d .typesSpecifier)
     ++ (encodeSpecifier (d .specifier)
     ++ (encodeFlag (d .sideEffect)
@@ -60,7 +61,7 @@ encodeStatic d =
 -- kind byte, optional types specifier, argument, its range, attributes
 unfoldable pub encodeDynamic : DynamicDependencyDescriptor → List ℕ
 encodeDynamic d =
-    d .kind
+    dynamicNumber (d .kind)
     ∷ (encodeOptional encodeSpecifier (d .typesSpecifier)
     ++ (encodeArgument (d .argument)
     ++ (encodeRange (d .argumentRange)

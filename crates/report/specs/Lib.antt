@@ -1,3 +1,4 @@
+pub mod Names
 pub mod ModuleInfo
 pub mod Ascending
 pub mod Encode

@@ -4,6 +4,8 @@ use mathlib.Core.List.{List}
 use mathlib.Core.Option.{Option}
 use Prim.Native.Nat.{ℕ}
 use Rattle.text.specs.declared.position.Position.{Position}
+use Rattle.report.specs.declared.names.StaticDependencyKind.{StaticDependencyKind}
+use Rattle.report.specs.declared.names.DynamicDependencyKind.{DynamicDependencyKind}
 
 pub record PositionRange : Type 0 where
   pub start : Position
@@ -47,18 +49,15 @@ pub data DynamicArgument : Type 0 where
   string : List ℕ → DynamicArgument
   template : List DynamicTemplatePart → DynamicArgument
 
--- kinds by their numbers: 0 Import, 1 ImportDefer, 2 ImportSource, 3 ImportType, 4 ImportEquals, 5 Export, 6 ExportType, 7 ExportEquals,
--- 8 MaybeTsModuleAugmentation
 pub record StaticDependencyDescriptor : Type 0 where
-  pub kind : ℕ
+  pub kind : StaticDependencyKind
   pub typesSpecifier : Option SpecifierWithRange
   pub specifier : SpecifierWithRange
   pub sideEffect : Bool
   pub importAttributes : ImportAttributes
 
--- kinds by their numbers: 9 Import, 10 ImportDefer, 11 ImportSource, 12 Require
 pub record DynamicDependencyDescriptor : Type 0 where
-  pub kind : ℕ
+  pub kind : DynamicDependencyKind
   pub typesSpecifier : Option SpecifierWithRange
   pub argument : DynamicArgument
   pub argumentRange : PositionRange

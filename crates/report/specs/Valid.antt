@@ -46,13 +46,11 @@ ValidArgument (string x) = Short x
 ValidArgument (template l) = Short l × All (IfThere Short) l
 
 pub record ValidStatic (d : StaticDependencyDescriptor) : Type 0 where
-  pub kind : d .kind ≤ 8
   pub typesSpecifier : IfThere ValidSpecifier (d .typesSpecifier)
   pub specifier : ValidSpecifier (d .specifier)
   pub importAttributes : ValidAttributes (d .importAttributes)
 
 pub record ValidDynamic (d : DynamicDependencyDescriptor) : Type 0 where
-  pub kind : (9 ≤ d .kind) × (d .kind ≤ 12)
   pub typesSpecifier : IfThere ValidSpecifier (d .typesSpecifier)
   pub argument : ValidArgument (d .argument)
   pub argumentRange : ValidRange (d .argumentRange)

@@ -1,3 +1,4 @@
 // The report: its values, their encoding, and the writer into a lent buffer.
 pub mod lent;
+pub mod names;
 pub mod writer;

@@ -5,7 +5,6 @@ use mathlib.Core.List.{List, [], _∷_, _++_, flatMap}
 use mathlib.Core.Logic.{_⊎_}
 use mathlib.Core.Option.{Option}
 use Prim.Native.Nat.{ℕ, _≤_}
-use lib.Dec.{eqb}
 use lib.ListN.{length, drop}
 use Rattle.laws.specs.Decoded.{Decoded, ok, no}
 use Rattle.sheet.specs.declared.names.ImportPhase.{ImportPhase}
@@ -19,6 +18,8 @@ use Rattle.heads.specs.declared.node.Head as h
 use Rattle.heads.specs.declared.node.Head.the-variants as head
 use Rattle.heads.specs.code.Head.{Head, otherHead, stringHead, nameHead, templateHead, binaryHead, objectHead, importCallHead, callHead, importHead, namedExportHead, exportFromHead, exportAllHead, importTypeHead, importEqualsHead, importRequireHead, moduleHead}
 use Rattle.heads.specs.code.Views.{quotedOf, QuotedPart, headOf, Within}
+use Rattle.report.specs.declared.names.DynamicDependencyKind.{DynamicDependencyKind}
+use Rattle.report.specs.declared.names.DynamicDependencyKind.the-variants as dynamics
 use Rattle.report.specs.ModuleInfo.{SpecifierWithRange, ImportAttributes, DynamicArgument, DependencyDescriptor, dynamic}
 use Rattle.report.specs.Encode.{encodeDependency}
 use Rattle.report.specs.Range.{rangeOf, InSource}
@@ -72,12 +73,15 @@ Calls x = ((phase : ImportPhase) × (x ≡ head.ImportCall phase)) ⊎ (x ≡ he
 -- how a call begins, by its head: that of an expression, which follows, has to name `require` to be listed
 pub record Begins (source : List ℕ) (levels : ℕ) (sp : Span) (u : List ℕ) (x : h.Head) (d : CallHead) : Type 0 where
   pub import-is : (phase : ImportPhase) → x ≡ head.ImportCall phase → d ≡ record { kind = dynamicKind phase; span = sp; listed = true }
-  pub call-is : x ≡ head.Call → d ≡ record { kind = 12; span = sp; listed = d .listed }
+  pub call-is : x ≡ head.Call → d ≡ record { kind = dynamics.Require; span = sp; listed = d .listed }
   pub listed-is : x ≡ head.Call → (n : Node) (t : List ℕ) → node source levels u ≡ ok n t → d .listed ≡ isRequire (shape n)
 
 -- how many nodes stand for the callee of a call of that kind
-abbrev pub calleesOf : ℕ → ℕ
-calleesOf kind = cond (eqb kind 12) 1 0
+abbrev pub calleesOf : DynamicDependencyKind → ℕ
+calleesOf dynamics.Import = 0
+calleesOf dynamics.ImportDefer = 0
+calleesOf dynamics.ImportSource = 0
+calleesOf dynamics.Require = 1
 
 abbrev pub walkedAs : List ℕ → List ℕ → Walked → Decoded Buffer
 walkedAs s out (walked.Is p next) = ok (bufferAs out p) (drop (next .at) s)

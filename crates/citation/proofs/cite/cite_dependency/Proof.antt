@@ -1,28 +1,50 @@
 use borrow.Author.Needs.{needs}
+use mathlib.Core.Path.{_≡_, sym, ap, _∙_}
 use mathlib.Core.List.{_++_, append-assoc}
+use Prim.Native.Nat.{ℕ, _<_}
 use native.Mathlib.Omega.{arith}
+use Rattle.wire.specs.Fields.{valueOf}
+use Rattle.report.specs.declared.names.StaticDependencyKind.{StaticDependencyKind}
+use Rattle.report.specs.declared.names.DynamicDependencyKind.{DynamicDependencyKind}
+use Rattle.report.specs.declared.names.DependencyKind.{DependencyKind}
+use Rattle.report.specs.declared.names.DependencyKind.the-variants.{Static, Dynamic}
+use Rattle.report.specs.Names.{dependencyNumber, dependencyKinds}
 use Rattle.report.specs.ModuleInfo.{static, dynamic}
 use Rattle.report.specs.Encode.{encodeAttributes, encodeStatic, encodeDynamic, encodeDependency}
+use Rattle.report.proofs.Numbered.{dependency-numbers}
 use Rattle.report_reader.proofs.FromBytes.{byte-read, flag-read}
 use Rattle.citation.proofs.Printing.{both}
 use Rattle.citation.proofs.cite.cite_dependency.Statement.{statement}
 use Rattle.citation.proofs.cite.cite_dependency.Tie as tie
 
+small : (kind : DependencyKind) → dependencyNumber kind < 128
+small kind = omega (arith, dependency-numbers .few kind)
+
+-- the kind that a number gives is the one that has it
+told : {n : ℕ} {given : DependencyKind} → given ≡ valueOf dependencyKinds n → (kind : DependencyKind) → n ≡ dependencyNumber kind → given ≡ kind
+told e kind is = e ∙ ap (valueOf dependencyKinds) is ∙ dependency-numbers .back kind
+
+-- no kind is both static and dynamic
+apart : {a : StaticDependencyKind} {b : DynamicDependencyKind} → Static a ≡ Dynamic b → ⊥
+apart e = let z : _≡_ {A = ℕ} 0 1 = cc in omega arith
+
 returns : tie.Need-returns
 unfolding encodeDependency encodeStatic encodeDynamic
 returns c =
-    let kind = c .before .before .before .before .before .before .before .before .before .before .before .before .before .before .before .before .read-number in
+    let number = c .before .before .before .before .before .before .before .before .before .before .before .before .before .before .before .before .before .read-number in
+    let kind = c .before .before .before .before .before .before .before .before .before .before .before .before .before .before .before .dependency-kind in
     let first = c .before .before .before .before .before .before .before .before .before .before .before .cite-specifier in
     let flag = c .before .before .before .before .read-number2 in
-    let byte = byte-read (kind .ensures) in (
+    let byte = byte-read (number .ensures) in (
       elim [
         | static d ↦ λ v t e.
-            let types = simp append-assoc at (byte (d .kind) (omega arith) _ e .1) in
-            let (p, e) = first .ensures .0 (d .specifier) (v .specifier) _ (c .before .before .before .before .before .before .before .before .before .before .before .before .before .before .before .skip-optional-specifier .ensures (d .typesSpecifier) (v .typesSpecifier) _ types) in
+            let types = simp append-assoc at (byte _ (small (Static (d .kind))) _ e .1) in
+            let (p, e) = first .ensures .0 (d .specifier) (v .specifier) _ (c .before .before .before .before .before .before .before .before .before .before .before .before .before .before .before .before .skip-optional-specifier .ensures (d .typesSpecifier) (v .typesSpecifier) _ types) in
             let (q, _) = c .before .before .before .before .before .before .before .cite-optional .ensures .0 (d .typesSpecifier) (v .typesSpecifier) _ types in
             let e = flag-read (flag .ensures) (d .sideEffect) _ e in
             (both p q, c .skip-attributes .ensures (d .importAttributes) (v .importAttributes) t e)
-        | dynamic d ↦ λ v t e. absurd (omega (arith, byte (d .kind) (omega (arith, v .kind .1)) _ e .0, v .kind .0, c .before .before .before .before .before .before .before .before .before .before .before .before .before .if1 .taken))
+        | dynamic d ↦ λ v t e.
+            absurd (apart (sym (c .before .before .before .before .before .before .before .before .before .before .before .before .before .enum-told .given .1) ∙ told (kind .ensures) (Dynamic (d .kind)) (byte _ (small (Dynamic (d .kind))) _ e .0)))
       ],
       omega (arith, first .ensures .1, c .before .before .before .before .before .before .before .cite-optional .ensures .1),
     )
@@ -30,14 +52,16 @@ returns c =
 returns-2 : tie.Need-returns-2
 unfolding encodeDependency encodeStatic encodeDynamic
 returns-2 c =
-    let kind = c .before .before .before .before .before .before .before .before .before .before .before .before .before .before .before .read-number in
+    let number = c .before .before .before .before .before .before .before .before .before .before .before .before .before .before .before .before .read-number in
+    let kind = c .before .before .before .before .before .before .before .before .before .before .before .before .before .before .dependency-kind in
     let first = c .before .before .before .before .before .before .before .before .before .before .cite-argument in
-    let byte = byte-read (kind .ensures) in (
+    let byte = byte-read (number .ensures) in (
       elim [
-        | static d ↦ λ v t e. absurd (omega (arith, byte (d .kind) (omega arith) _ e .0, c .before .before .before .before .before .before .before .before .before .before .before .before .if1 .left))
+        | static d ↦ λ v t e.
+            absurd (apart (sym (told (kind .ensures) (Static (d .kind)) (byte _ (small (Static (d .kind))) _ e .0)) ∙ c .before .before .before .before .before .before .before .before .before .before .before .before .enum-told2 .given .1))
         | dynamic d ↦ λ v t e.
-            let types = simp append-assoc at (byte (d .kind) (omega (arith, v .kind .1)) _ e .1) in
-            let (p, e) = first .ensures .0 (d .argument, d .argumentRange) (v .argument, v .argumentRange) (encodeAttributes (d .importAttributes) ++ t) (rw append-assoc (c .before .before .before .before .before .before .before .before .before .before .before .before .before .before .skip-optional-specifier .ensures (d .typesSpecifier) (v .typesSpecifier) _ types)) in
+            let types = simp append-assoc at (byte _ (small (Dynamic (d .kind))) _ e .1) in
+            let (p, e) = first .ensures .0 (d .argument, d .argumentRange) (v .argument, v .argumentRange) (encodeAttributes (d .importAttributes) ++ t) (rw append-assoc (c .before .before .before .before .before .before .before .before .before .before .before .before .before .before .before .skip-optional-specifier .ensures (d .typesSpecifier) (v .typesSpecifier) _ types)) in
             let (q, _) = c .before .before .before .before .before .before .cite-optional2 .ensures .0 (d .typesSpecifier) (v .typesSpecifier) _ types in
             (both p q, c .skip-attributes2 .ensures (d .importAttributes) (v .importAttributes) t e)
       ],
@@ -51,15 +75,18 @@ cite-dependency-spec =
     (λ c κs. search needs)
     (λ c κs. search needs)
     (λ c κs. search needs)
+    (λ c. search needs)
+    (λ c κs. search needs)
+    (λ c κs. search needs)
+    (λ c κs. search needs)
+    (λ c. search needs)
+    (λ c κs. search needs)
+    (λ c. search needs)
     (λ c κs. search needs)
     (λ c κs. search needs)
     (λ c. search needs)
     (λ c κs. search needs)
     (λ c. search needs)
     returns
-    (λ c κs. search needs)
-    (λ c κs. search needs)
-    (λ c. search needs)
-    (λ c κs. search needs)
     (λ c. search needs)
     returns-2)

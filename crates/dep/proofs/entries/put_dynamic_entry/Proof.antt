@@ -13,17 +13,17 @@ use Rattle.dep.proofs.entries.put_dynamic_entry.Statement.{statement}
 use Rattle.dep.proofs.entries.put_dynamic_entry.Tie as tie
 
 put-span-requires : tie.Need-put-span-requires
-put-span-requires c κs = (c .before .before .before .before .before .before .before .before .before .before .before .before .before .before .before .before .before .before .before .before .before .before .before .pre .0 .0 .indexed, c .before .before .before .before .before .before .before .before .before .before .before .before .before .before .before .before .before .before .before .before .before .before .before .pre .1)
+put-span-requires c κs = (c .before .before .before .before .before .before .before .before .before .before .before .before .before .before .before .before .before .before .before .before .before .before .before .before .pre .0 .0 .indexed, c .before .before .before .before .before .before .before .before .before .before .before .before .before .before .before .before .before .before .before .before .before .before .before .before .pre .1)
 
 put-attributes-requires : tie.Need-put-attributes-requires
-put-attributes-requires c κs = c .before .before .before .before .before .before .before .before .before .before .before .before .before .before .before .before .before .before .before .before .before .before .before .parse-dynamic-import-attributes .ensures .1 .0
+put-attributes-requires c κs = c .before .before .before .before .before .before .before .before .before .before .before .before .before .before .before .before .before .before .before .parse-dynamic-import-attributes .ensures .1 .0
 
 same-length : tie.Need-same-length
-same-length c = c .before .before .put-attributes .kept .1 .1 .1 .0 ∙ (c .before .before .before .before .before .before .before .put-span .kept .1 .0 ∙ (c .before .before .before .before .before .before .before .before .before .before .before .before .put-argument .kept .1 .1 .1 .1 .0 ∙ (c .before .before .before .before .before .before .before .before .before .before .before .before .before .before .before .before .analyze-ts-or-deno-types .kept .1 .1 .1 .1 .1 .1 .1 .0 ∙ (c .before .before .before .before .before .before .before .before .before .before .before .before .before .before .before .before .before .before .before .before .before .before .before .put .kept .1 .0))))
+same-length c = c .before .before .put-attributes .kept .1 .1 .1 .0 ∙ (c .before .before .before .before .before .before .before .put-span .kept .1 .0 ∙ (c .before .before .before .before .before .before .before .before .before .before .before .before .put-argument .kept .1 .1 .1 .1 .0 ∙ (c .before .before .before .before .before .before .before .before .before .before .before .before .before .before .before .before .analyze-ts-or-deno-types .kept .1 .1 .1 .1 .1 .1 .1 .0 ∙ (c .before .before .before .before .before .before .before .before .before .before .before .before .before .before .before .before .before .before .before .before .before .before .before .before .before .before .put .kept .1 .0))))
 
 returns : tie.Need-returns
 returns c =
-    let a = c .before .before .before .before .before .before .before .before .before .before .before .before .before .before .before .before .before .before .before .before .before .before .before .before .before .before .before .before .before .before .before .args in
+    let a = c .before .before .before .before .before .before .before .before .before .before .before .before .before .before .before .before .before .before .before .before .before .before .before .before .before .before .before .before .before .before .before .before .args in
     let source = now (a .source) in
     let types = typesFrom source (now (a .cs)) (now (a .gs)) (a .k) in
     let w = bufferAs (now (a .out)) (a .p) in
@@ -35,14 +35,15 @@ returns c =
       argumentRange = rangeOf source (a .d .«argument_range»);
       importAttributes = dynamicAttributes xs;
     } in
-    λ v xs t stands are. dynamic-written w (entry v xs) (c .before .before .before .before .before .before .before .before .before .before .before .before .before .before .before .before .before .before .before .before .before .before .before .put .ensures) (c .before .before .before .before .before .before .before .before .before .before .before .before .before .before .before .before .analyze-ts-or-deno-types .ensures) (c .before .before .before .before .before .before .before .before .before .before .before .before .put-argument .ensures .0 v stands) (c .before .before .before .before .before .before .before .put-span .ensures) (rw (c .before .before .before .before .before .before .before .before .before .before .before .before .before .before .before .before .before .before .before .before .before .before .before .before .before .before .parse-dynamic-import-attributes .ensures .0 xs t are) at (c .before .before .put-attributes .ensures))
+    λ v xs t stands are. dynamic-written w (entry v xs) (rw (c .before .before .before .before .before .before .before .before .before .before .before .before .before .before .before .before .before .before .before .before .before .before .before .before .before .before .before .before .dynamic-number .ensures) at (c .before .before .before .before .before .before .before .before .before .before .before .before .before .before .before .before .before .before .before .before .before .before .before .before .before .before .put .ensures)) (c .before .before .before .before .before .before .before .before .before .before .before .before .before .before .before .before .analyze-ts-or-deno-types .ensures) (c .before .before .before .before .before .before .before .before .before .before .before .before .put-argument .ensures .0 v stands) (c .before .before .before .before .before .before .before .put-span .ensures) (rw (c .before .before .before .before .before .before .before .before .before .before .before .before .before .before .before .before .before .before .before .before .before .before .parse-dynamic-import-attributes .ensures .0 xs t are) at (c .before .before .put-attributes .ensures))
 
 pub put-dynamic-entry-spec : {M : Type 1} → statement M
 put-dynamic-entry-spec =
     tie.close
     (tie.spec
-    (λ c. search needs)
     (λ c κs. search needs)
+    (λ c κs. search needs)
+    (λ c. search needs)
     (λ c κs. search needs)
     (λ c κs. search needs)
     (λ c κs. search needs)

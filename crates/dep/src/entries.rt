@@ -57,10 +57,10 @@ pub struct Counts {
 
 // A static dependency without its attributes: its kind, and the span of its node. Is it for side effects only?
 pub struct StaticDependencyDescriptor {
-    pub kind: StaticDependencyKind,
     pub span: Span,
     pub specifier: Quoted,
     pub is_side_effect: bool,
+    pub kind: StaticDependencyKind,
 }
 
 // A dynamic dependency: where its node starts, and offsets into the sheet for its argument.

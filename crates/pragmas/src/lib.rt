@@ -82,11 +82,9 @@ pub fn analyze_jsx_import_source(
         (encodeOptional encodeSpecifier
         (jsxImportSourceIn media (now (source .entry)) (inGroup (commentsIn (now (comments .entry)) n) (foundAs found)))) ⌝ }
 {
-    if is_jsx(media) {
-        let reading = first_reading(source, comments, n, found, Rule::JsxImportSource);
-        return put_reading(source, index, reading, out, place);
-    }
-    place.put(out, 0)
+    let jsx = is_jsx(media);
+    let reading = first_reading(jsx, source, comments, n, found, Rule::JsxImportSource);
+    put_reading(source, index, reading, out, place)
 }
 
 // The JSX source of types: the first block comment that reads, for Jsx and Tsx.
@@ -107,11 +105,9 @@ pub fn analyze_jsx_import_source_types(
         (encodeOptional encodeSpecifier
         (jsxImportSourceTypesIn media (now (source .entry)) (inGroup (commentsIn (now (comments .entry)) n) (foundAs found)))) ⌝ }
 {
-    if is_jsx(media) {
-        let reading = first_reading(source, comments, n, found, Rule::JsxImportSourceTypes);
-        return put_reading(source, index, reading, out, place);
-    }
-    place.put(out, 0)
+    let jsx = is_jsx(media);
+    let reading = first_reading(jsx, source, comments, n, found, Rule::JsxImportSourceTypes);
+    put_reading(source, index, reading, out, place)
 }
 
 // The self types: the first comment that reads, for JavaScript.
@@ -132,11 +128,9 @@ pub fn analyze_ts_self_types(
         (encodeOptional encodeSpecifier
         (selfTypesIn media (now (source .entry)) (inGroup (commentsIn (now (comments .entry)) n) (foundAs found)))) ⌝ }
 {
-    if is_javascript(media) {
-        let reading = first_reading(source, comments, n, found, Rule::TsSelfTypes);
-        return put_reading(source, index, reading, out, place);
-    }
-    place.put(out, 0)
+    let javascript = is_javascript(media);
+    let reading = first_reading(javascript, source, comments, n, found, Rule::TsSelfTypes);
+    put_reading(source, index, reading, out, place)
 }
 
 // The source map: the last comment that reads.

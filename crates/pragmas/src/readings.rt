@@ -35,7 +35,7 @@ ghost use Rattle.report.specs.Range.{IndexOf};
 ghost use Rattle.report.specs.Buffer.{wrote, bufferAs};
 ghost use Rattle.pragmas.specs.code.Held.{Reached};
 ghost use Rattle.pragmas.specs.Readings.{placeIn, specifierIn, firstOf, lastOf};
-ghost use Rattle.pragmas.specs.Pragmas.{inGroup};
+ghost use Rattle.pragmas.specs.Pragmas.{inGroup, givenIf};
 ghost use Rattle.pragmas.specs.code.Views.{rowOf, takes, readRule, readAs, ReadIn, CaptureIn, commentsFrom};
 
 // The rules that give one specifier.
@@ -158,8 +158,9 @@ fn last_between(
     Reading::Nothing
 }
 
-// The first comment of a group that the rule reads.
+// The first comment of a group that the rule reads, where the group is given to it.
 pub fn first_reading(
+    given: bool,
     source: &[u8],
     comments: &[u32],
     n: usize,
@@ -170,11 +171,16 @@ pub fn first_reading(
     requires { ⌜ Fit (now source) (commentsIn (now comments) n) ⌝ }
     requires { ⌜ Reached n (foundAs found) ⌝ }
     ensures { λ r. ⌜ readAs (now (source .entry)) r
-        ≡ firstOf (readRule rule (now (source .entry))) (inGroup (commentsIn (now (comments .entry)) n) (foundAs found)) ⌝ }
+        ≡ firstOf (readRule rule (now (source .entry))) (givenIf given (inGroup (commentsIn (now (comments .entry)) n) (foundAs found))) ⌝ }
     ensures { λ r. ⌜ ReadIn (now (source .entry)) r ⌝ }
 {
     match found {
-        GroupFound::At(g) => first_between(source, comments, n, g.first, g.first + g.count, rule),
+        GroupFound::At(g) => {
+            if given {
+                return first_between(source, comments, n, g.first, g.first + g.count, rule);
+            }
+            Reading::Nothing
+        }
         GroupFound::Nothing => Reading::Nothing,
     }
 }

@@ -1,17 +1,19 @@
--- The mode that a text names is 0, 1 or 2.
-use mathlib.Core.Bool.{Bool, true, false, cond}
-use mathlib.Core.List.{List}
-use Prim.Native.Nat.{ℕ, _≤_}
+-- The number of a mode is 0, 1 or 2, and the code has a value for each mode.
+use mathlib.Core.Path.{_≡_, refl}
+use mathlib.Core.Option.{none, some}
+use Prim.Native.Nat.{_≤_}
 use native.Mathlib.Omega.{arith}
-use Rattle.laws.specs.Quoted.{ascii}
-use Rattle.text.specs.Bytes.{same}
-use Rattle.analysis.specs.Mode.{modeOf}
+use Rattle.analysis.specs.declared.mode.ModeFound.{ModeFound}
+use Rattle.analysis.specs.declared.mode.ModeFound.the-variants.{Nothing, Import, Require}
+use Rattle.analysis.specs.Mode.{import, require, Mode, modeNumber}
+use Rattle.analysis.specs.code.Mode.{modeAs}
 
-pub named-small : (x : List ℕ) → modeOf x ≤ 2
-unfolding modeOf
-named-small x = go (same x (ascii "import")) (same x (ascii "require"))
-  where
-    go : (a b : Bool) → cond a 1 (cond b 2 0) ≤ 2
-    go true b = omega arith
-    go false true = omega arith
-    go false false = omega arith
+pub number-small : (m : Mode) → modeNumber m ≤ 2
+number-small none = omega arith
+number-small (some import) = omega arith
+number-small (some require) = omega arith
+
+pub found-of : (m : Mode) → (found : ModeFound) × (modeAs found ≡ m)
+found-of none = (Nothing, refl)
+found-of (some import) = (Import, refl)
+found-of (some require) = (Require, refl)

@@ -1,9 +1,24 @@
--- Mode of document 01: 1 for `import`, 2 for `require`, else 0, none.
+-- Mode of document 01.
 use mathlib.Core.Bool.{cond}
 use mathlib.Core.List.{List}
+use mathlib.Core.Option.{Option, none, some}
 use Prim.Native.Nat.{ℕ}
 use Rattle.laws.specs.Quoted.{ascii}
 use Rattle.text.specs.Bytes.{same}
 
-unfoldable pub modeOf : List ℕ → ℕ
-modeOf x = cond (same x (ascii "import")) 1 (cond (same x (ascii "require")) 2 0)
+pub data TypeScriptTypesResolutionMode : Type 0 where
+  import : TypeScriptTypesResolutionMode
+  require : TypeScriptTypesResolutionMode
+
+abbrev pub Mode : Type 0
+Mode = Option TypeScriptTypesResolutionMode
+
+-- document 01's number of a mode
+abbrev pub modeNumber : Mode → ℕ
+modeNumber none = 0
+modeNumber (some import) = 1
+modeNumber (some require) = 2
+
+-- the mode that a text names
+unfoldable pub modeOf : List ℕ → Mode
+modeOf x = cond (same x (ascii "import")) (some import) (cond (same x (ascii "require")) (some require) none)

@@ -1,17 +1,35 @@
-// `TypeScriptTypesResolutionMode`, by document 01's numbers.
+// `Option<TypeScriptTypesResolutionMode>`, and document 01's number of each.
 use text::bytes::equal;
 ghost use mathlib.Core.Path.{_≡_};
-ghost use Rattle.analysis.specs.Mode.{modeOf};
+ghost use Rattle.analysis.specs.Mode.{modeNumber, modeOf};
+ghost use Rattle.analysis.specs.code.Mode.{modeAs};
 
-// The mode that a text names: 1 for `import`, 2 for `require`, else 0, none.
-pub fn from_str(text: &[u8]) -> u8
-    ensures { λ r. ⌜ r ≡ modeOf (now (text .entry)) ⌝ }
+// A mode, or none.
+pub enum ModeFound {
+    Nothing,
+    Import,
+    Require,
+}
+
+// The mode that a text names.
+pub fn from_str(text: &[u8]) -> ModeFound
+    ensures { λ r. ⌜ modeAs r ≡ modeOf (now (text .entry)) ⌝ }
 {
     if equal(text, b"import") {
-        return 1;
+        return ModeFound::Import;
     }
     if equal(text, b"require") {
-        return 2;
+        return ModeFound::Require;
     }
-    0
+    ModeFound::Nothing
+}
+
+pub fn mode_number(found: ModeFound) -> u8
+    ensures { λ r. ⌜ r ≡ modeNumber (modeAs found) ⌝ }
+{
+    match found {
+        ModeFound::Nothing => 0,
+        ModeFound::Import => 1,
+        ModeFound::Require => 2,
+    }
 }

@@ -149,11 +149,11 @@ list-short {A} f encode P h l v = rw length-append (omega (arith, items l v, num
 reference-short : (x : TypeScriptReference) → ValidReference x → Short (citeReference x) (encodeReference x)
 unfolding encodeReference
 reference-short (path s) v = omega (arith, specifier-short (code "R") s v)
-reference-short (types s mode) v = simp length-append (omega (arith, specifier-short (code "R") s (v .0)))
+reference-short (types s mode) v = simp length-append (omega (arith, specifier-short (code "R") s v))
 
 jsdoc-short : (i : JsDocImportInfo) → ValidJsDoc i → Short (citeJsDoc i) (encodeJsDoc i)
 unfolding encodeJsDoc
-jsdoc-short i v = simp length-append (omega (arith, specifier-short (code "J") (i .specifier) (v .specifier)))
+jsdoc-short i v = simp length-append (omega (arith, specifier-short (code "J") (i .specifier) v))
 
 argument-short : (x : DynamicArgument) (r : PositionRange) → ValidRange r
     → length (flatMap printed (citeArgument x r)) ≤ 4 * (length (encodeArgument x) + length (encodeRange r) + 1)

@@ -4,6 +4,7 @@ use mathlib.Core.Logic.{_↔_}
 use mathlib.Core.Option.{some}
 use Prim.Native.Nat.{ℕ}
 use native.Mathlib.Omega.{arith}
+use Rattle.analysis.specs.Mode.{Mode}
 use Rattle.jsdoc.specs.Grammar.{Bytes, Brace, Declaration}
 use Rattle.jsdoc.specs.Parsed.{Parsed, ok, backtrace, Parser, value}
 use Rattle.jsdoc.specs.Reader.{Hit, hit, parseJsdocDynamicImport, parseJsdocImportDecl}
@@ -14,8 +15,8 @@ value-some : {A : Type 0} {a : A} (o : Parsed A) → value o ≡ some a → (t :
 value-some (ok b t) e = (t, (cc))
 value-some backtrace e = let z : _≡_ {A = ℕ} 0 1 = cc in absurd (omega arith)
 
-abbrev pub Agrees : (Bytes → Bytes → Bytes → ℕ → Type 0) → Parser Hit → Type 0
-Agrees R p = (s q e : Bytes) (m : ℕ) → R s q e m ↔ (value (p s) ≡ some (hit q e m))
+abbrev pub Agrees : (Bytes → Bytes → Bytes → Mode → Type 0) → Parser Hit → Type 0
+Agrees R p = (s q e : Bytes) (m : Mode) → R s q e m ↔ (value (p s) ≡ some (hit q e m))
 
 pub brace-agrees : Agrees Brace parseJsdocDynamicImport
 brace-agrees s q e m = (λ r. rw (brace-complete r), λ h. let (t, i) = value-some (parseJsdocDynamicImport s) h in brace-sound s q e m t i)

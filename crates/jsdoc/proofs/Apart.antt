@@ -13,6 +13,7 @@ use Rattle.laws.specs.Quoted.{ascii}
 use Rattle.text.specs.declared.class.Class.the-variants.{White}
 use Rattle.text.specs.Ranges.{inRanges}
 use Rattle.text.specs.Class.{outside, ranges, member}
+use Rattle.analysis.specs.Mode.{Mode}
 use Rattle.jsdoc.specs.Grammar.{Bytes, Without, Quote, Brace, Declaration, From}
 use Rattle.jsdoc.proofs.Ends.{ends-trans, ends-drop}
 use Rattle.jsdoc.proofs.Characters.{run-ends, run-free}
@@ -61,7 +62,7 @@ stands x y b p w q l e f = record { at = length p; before = omega (arith, place)
 quote-there : {k s t : Bytes} → Quote k s t → 0 < length s
 quote-there r = omega (arith, quote-shorter r)
 
-module _ {b : Bytes} {k q m : ℕ} where
+module _ {b : Bytes} {k q : ℕ} {m : Mode} where
   brace-stands : From Brace b k q m → Stands (code "(") (code "m") b q
   unfolding member outside ranges inRanges
   brace-stands f =
@@ -82,5 +83,5 @@ module _ {b : Bytes} {k q m : ℕ} where
       (e ∙ ap (λ (l : Bytes). p ++ l) (i ∙ ap (λ (l : Bytes). ascii "from" ++ l) (run-ends White w .1)) ∙ sym (append-assoc p (ascii "fro") (code "m" ∷ (run-ends White w .0 ++ drop q b))))
       (run-free White (code "(") (omega arith) refl w)
 
-pub never-both : {b : Bytes} {k j q m n : ℕ} → From Brace b k q m → From Declaration b j q n → ⊥
+pub never-both : {b : Bytes} {k j q : ℕ} {m n : Mode} → From Brace b k q m → From Declaration b j q n → ⊥
 never-both f g = apart (λ e. omega arith) (brace-stands f) (decl-stands g)

@@ -1,9 +1,10 @@
 -- Brace readings: the grammar and the functions agree.
 use mathlib.Core.Path.{_≡_, refl, sym, ap, _∙_}
 use mathlib.Core.Bool.{Bool, true, false, cond, false≢true, not-eq-not}
-use mathlib.Core.Logic.{_⊎_, ⊎-elim, inl, inr}
+use mathlib.Core.Logic.{_⊎_, inl, inr}
 use mathlib.Core.List.{[], _∷_, _++_}
-use Prim.Native.Nat.{ℕ, zero, suc, _≤_, _<_}
+use mathlib.Core.Option.{Option}
+use Prim.Native.Nat.{ℕ, zero, suc, _<_}
 use Prim.Native.Char.{code}
 use native.Mathlib.Omega.{arith}
 use lib.ListN.{length, drop}
@@ -13,13 +14,14 @@ use Rattle.laws.specs.Quoted.{ascii}
 use Rattle.text.specs.declared.class.Class.the-variants.{White}
 use Rattle.text.specs.Bytes.{begins}
 use Rattle.text.proofs.Words.{begins-sound, begins-complete}
+use Rattle.analysis.specs.Mode.{Mode}
 use Rattle.jsdoc.specs.Grammar.{Bytes, Word, Without, Quote, ToImport, Part, Tail, Brace}
 use Rattle.jsdoc.specs.Parsed.{Parsed, ok, backtrace, onParsed}
 use Rattle.jsdoc.specs.Reader.{skip, skipWhitespace, tag, word, upTo, parseImportAttributeBlockForResolutionMode, secondParamStart, parseSecondParamObjWithLeadingComma, closeCall, parseTail, hit, seek, parseCall, parseJsdocDynamicImport}
 use Rattle.jsdoc.proofs.Chains.{then-ok}
 use Rattle.jsdoc.proofs.Characters.{run-sound, white-complete}
 use Rattle.jsdoc.proofs.Texts.{tag-sound, tag-complete, tag-other, word-sound, word-complete, upTo-sound, upTo-complete, quote-complete, specifier-sound}
-use Rattle.jsdoc.proofs.Blocks.{block-sound, block-complete, block-small}
+use Rattle.jsdoc.proofs.Blocks.{block-sound, block-complete}
 
 -- ---- the second parameter
 
@@ -35,7 +37,7 @@ start-sound s t e =
     let (z3, c, ec, e3) = then-ok (word (ascii "with") b) _ e2 in
     (a, b, c, word-sound (ascii ",") s a ea, word-sound (ascii "{") a b eb, word-sound (ascii "with") b c ec, word-sound (ascii ":") c t e3)
 
-pub part-sound : (m : ℕ) (s t : Bytes) → parseSecondParamObjWithLeadingComma s ≡ ok m t → Part m s t
+pub part-sound : (m : Mode) (s t : Bytes) → parseSecondParamObjWithLeadingComma s ≡ ok m t → Part m s t
 unfolding parseSecondParamObjWithLeadingComma skipWhitespace
 part-sound m s t e =
     let (z1, d, ed, e1) = then-ok (secondParamStart s) _ e in
@@ -60,7 +62,7 @@ part-sound m s t e =
       end = word-sound (ascii "}") (skip White x) t et;
     }
 
-pub part-complete : {m : ℕ} {s t : Bytes} → Part m s t → parseSecondParamObjWithLeadingComma s ≡ ok m t
+pub part-complete : {m : Mode} {s t : Bytes} → Part m s t → parseSecondParamObjWithLeadingComma s ≡ ok m t
 unfolding parseSecondParamObjWithLeadingComma secondParamStart
 part-complete r =
     rw (
@@ -80,11 +82,11 @@ part-none : {s t : Bytes} → s ≡ ascii ")" ++ t → parseSecondParamObjWithLe
 unfolding parseSecondParamObjWithLeadingComma secondParamStart word
 part-none e = rw (tag-other (code ",") [] (code ")") e (λ h. omega arith))
 
-pub tail-sound : (m : ℕ) (s t : Bytes) → parseTail s ≡ ok m t → Tail m s t
+pub tail-sound : (m : Mode) (s t : Bytes) → parseTail s ≡ ok m t → Tail m s t
 unfolding parseTail closeCall skipWhitespace
 tail-sound m s t = go (parseSecondParamObjWithLeadingComma (skip White s)) refl
   where
-    end : (n : ℕ) (u : Bytes) → Part n (skip White s) u ⊎ ((n ≡ 0) × (skip White s ≡ u)) → closeCall n u ≡ ok m t → Tail m s t
+    end : (n : Mode) (u : Bytes) → Part n (skip White s) u ⊎ ((n ≡ Option.none) × (skip White s ≡ u)) → closeCall n u ≡ ok m t → Tail m s t
     end n u p e =
         let (z1, a, ea, e1) = then-ok (tag (ascii ")") u) _ e in
         let (z2, b, eb, e2) = then-ok (upTo (code "}") a) _ e1 in
@@ -102,22 +104,19 @@ tail-sound m s t = go (parseSecondParamObjWithLeadingComma (skip White s)) refl
           rest = r;
         }
 
-    go : (o : Parsed ℕ) → parseSecondParamObjWithLeadingComma (skip White s) ≡ o
-        → onParsed (onParsed o ok (ok 0 (skip White s))) closeCall backtrace ≡ ok m t → Tail m s t
+    go : (o : Parsed Mode) → parseSecondParamObjWithLeadingComma (skip White s) ≡ o
+        → onParsed (onParsed o ok (ok Option.none (skip White s))) closeCall backtrace ≡ ok m t → Tail m s t
     go (ok n u) h e = end n u (inl (part-sound n (skip White s) u h)) e
-    go backtrace h e = end 0 (skip White s) (inr (refl, refl)) e
+    go backtrace h e = end Option.none (skip White s) (inr (refl, refl)) e
 
-pub tail-complete : {m : ℕ} {s t : Bytes} → Tail m s t → parseTail s ≡ ok m t
+pub tail-complete : {m : Mode} {s t : Bytes} → Tail m s t → parseTail s ≡ ok m t
 unfolding parseTail closeCall
 tail-complete {m} r =
     rw (white-complete (r .white), taken (r .part), tag-complete (ascii ")") (r .paren), upTo-complete (code "}") (r .run) (r .rest))
   where
-    taken : Part m (r .r1) (r .r2) ⊎ ((m ≡ 0) × (r .r1 ≡ r .r2)) → onParsed (parseSecondParamObjWithLeadingComma (r .r1)) ok (ok 0 (r .r1)) ≡ ok m (r .r2)
+    taken : Part m (r .r1) (r .r2) ⊎ ((m ≡ Option.none) × (r .r1 ≡ r .r2)) → onParsed (parseSecondParamObjWithLeadingComma (r .r1)) ok (ok Option.none (r .r1)) ≡ ok m (r .r2)
     taken (inl p) = rw (part-complete p)
     taken (inr (z, e)) = rw (part-none (e ∙ r .paren)) (cc)
-
-pub tail-small : {m : ℕ} {s t : Bytes} → Tail m s t → m ≤ 2
-tail-small r = ⊎-elim (λ p. block-small (p .block)) (λ p. omega (arith, p .0)) (r .part)
 
 -- ---- the search for `import`
 
@@ -165,7 +164,7 @@ search-complete {s} {t} r b = rw (r .all) (search-passes (r .run) t (r .free) (r
 
 -- ---- the whole
 
-call-sound : (s q e : Bytes) (m : ℕ) (t : Bytes) → parseCall s ≡ ok (hit q e m) t
+call-sound : (s q e : Bytes) (m : Mode) (t : Bytes) → parseCall s ≡ ok (hit q e m) t
     → (a : Bytes) × (k : Bytes) × Word (ascii "import") s a × Word (ascii "(") a q × Quote k q e × Tail m e t
 unfolding parseCall
 call-sound s q e m t h =
@@ -175,7 +174,7 @@ call-sound s q e m t h =
     let eq : word (ascii "(") a ≡ ok z2 q = cc in
     (a, k, word-sound (ascii "import") s a ea, word-sound (ascii "(") a q eq, r, tail-sound m e t j)
 
-pub brace-sound : (s q e : Bytes) (m : ℕ) (t : Bytes) → parseJsdocDynamicImport s ≡ ok (hit q e m) t → Brace s q e m
+pub brace-sound : (s q e : Bytes) (m : Mode) (t : Bytes) → parseJsdocDynamicImport s ≡ ok (hit q e m) t → Brace s q e m
 unfolding parseJsdocDynamicImport
 brace-sound s q e m t h =
     let (z, a, ea, h1) = then-ok (tag (ascii "{") s) _ h in
@@ -194,7 +193,7 @@ brace-sound s q e m t h =
       tail = l;
     }
 
-pub brace-complete : {s q e : Bytes} {m : ℕ} (r : Brace s q e m) → parseJsdocDynamicImport s ≡ ok (hit q e m) (r .end)
+pub brace-complete : {s q e : Bytes} {m : Mode} (r : Brace s q e m) → parseJsdocDynamicImport s ≡ ok (hit q e m) (r .end)
 unfolding parseJsdocDynamicImport parseCall
 brace-complete r =
     let b : begins (ascii "import") (r .r2) ≡ true = rw (r .word .1) (begins-complete (ascii "import") (r .word .0)) in

@@ -1,6 +1,7 @@
 -- Worked bodies beside 01's, which stand in module_info: just these imports are listed for each, by the place and the mode.
 use mathlib.Core.Path.{_≡_, refl}
 use mathlib.Core.List.{List, [], _∷_, map, flatMap}
+use mathlib.Core.Option.{none, some}
 use Prim.Native.Nat.{ℕ, _+_}
 use Prim.Native.String.{String}
 use lib.ListN.{length, set, replicate}
@@ -12,16 +13,16 @@ use Rattle.text.specs.Encode.{encode}
 use Rattle.text.specs.Alphabetic.{alphabetic}
 use Rattle.text.specs.Class.{outside, ranges, member, classAt, run}
 use Rattle.text.specs.Bytes.{begins, same}
-use Rattle.analysis.specs.Mode.{modeOf}
+use Rattle.analysis.specs.Mode.{import, require, Mode, modeNumber, modeOf}
 use Rattle.jsdoc.specs.Grammar.{Bytes, Listed}
-use Rattle.jsdoc.specs.Marks.{Marks}
+use Rattle.jsdoc.specs.code.Marks.{Marks}
 use Rattle.jsdoc.specs.Listing.{listing}
 use Rattle.jsdoc.specs.Reader.{skip, skipWhitespace, whitespace, tag, word, upTo, isMark, parseQuote, pastIdent, parseIdent, parseKey, attributeMode, parseAttribute, firstMode, comma, separatedListBy, separatedList, parseImportAttributeBlockForResolutionMode, secondParamStart, parseSecondParamObjWithLeadingComma, closeCall, parseTail, seek, parseCall, parseJsdocDynamicImport, skipNamedImports, skipDefaultImport, skipNamespaceImport, skipClause, parseAttributes, parseFrom, parseJsdocImportDecl}
 use Rattle.jsdoc.proofs.Listing.{listing-marks}
 
 -- an import by the place of its quote and its mode
 data Entry : Type 0 where
-  entry : ℕ → ℕ → Entry
+  entry : ℕ → Mode → Entry
 
 -- a body, and its imports
 data Case : Type 0 where
@@ -32,7 +33,7 @@ body (row s l) = flatMap encode (ascii s)
 
 abbrev marksAt : ℕ → List Entry → List ℕ
 marksAt n [] = replicate n 0
-marksAt n (entry q m ∷ l) = set (marksAt n l) q (m + 1)
+marksAt n (entry q m ∷ l) = set (marksAt n l) q (modeNumber m + 1)
 
 abbrev marks : Case → List ℕ
 marks (row s l) = marksAt (length (flatMap encode (ascii s))) l
@@ -40,31 +41,31 @@ marks (row s l) = marksAt (length (flatMap encode (ascii s))) l
 table : List Case
 table =
     -- one reading inside another, each with its own mode
-    row "{import(\"{import('a')}\")}" (entry 8 0 ∷ entry 17 0 ∷ [])
-    ∷ row "{import(\"{import('a',{with:{'resolution-mode':'import'}})}\")}" (entry 8 0 ∷ entry 17 1 ∷ [])
-    ∷ row "@import {@import A from 'b' }from\"a\"" (entry 24 0 ∷ entry 33 0 ∷ [])
+    row "{import(\"{import('a')}\")}" (entry 8 none ∷ entry 17 none ∷ [])
+    ∷ row "{import(\"{import('a',{with:{'resolution-mode':'import'}})}\")}" (entry 8 none ∷ entry 17 (some import) ∷ [])
+    ∷ row "@import {@import A from 'b' }from\"a\"" (entry 24 none ∷ entry 33 none ∷ [])
     -- the first `import` of a brace, which fails; a later brace; no `}`
     ∷ row "{ {import x import('a')}" []
-    ∷ row "{import x {import('a')}" (entry 18 0 ∷ [])
+    ∷ row "{import x {import('a')}" (entry 18 none ∷ [])
     ∷ row "{ } import('a')}" []
     ∷ row "{import('a')" []
     -- a last comma; no attribute; a comma alone; two keys
-    ∷ row "{import('a',{with:{a:'b','resolution-mode':'require',}})}" (entry 8 2 ∷ [])
-    ∷ row "{import('a',{with:{}})}" (entry 8 0 ∷ [])
+    ∷ row "{import('a',{with:{a:'b','resolution-mode':'require',}})}" (entry 8 (some require) ∷ [])
+    ∷ row "{import('a',{with:{}})}" (entry 8 none ∷ [])
     ∷ row "{import('a',{with:{,}})}" []
-    ∷ row "{import('a',{with:{'resolution-mode':'x','resolution-mode':'import'}})}" (entry 8 0 ∷ [])
-    ∷ row "{import('a',{with:{'resolution-mode':'require','resolution-mode':'import'}})}" (entry 8 2 ∷ [])
+    ∷ row "{import('a',{with:{'resolution-mode':'x','resolution-mode':'import'}})}" (entry 8 none ∷ [])
+    ∷ row "{import('a',{with:{'resolution-mode':'require','resolution-mode':'import'}})}" (entry 8 (some require) ∷ [])
     -- declarations: a block that reads, and one that does not
-    ∷ row "@import * as N from 'a' with {'resolution-mode': 'require'}" (entry 20 2 ∷ [])
-    ∷ row "@import A from 'a' with {x}" (entry 15 0 ∷ [])
+    ∷ row "@import * as N from 'a' with {'resolution-mode': 'require'}" (entry 20 (some require) ∷ [])
+    ∷ row "@import A from 'a' with {x}" (entry 15 none ∷ [])
     -- names that begin outside ASCII; U+FEFF is in a name, and begins none
-    ∷ row "@import é from \"a\"" (entry 16 0 ∷ [])
-    ∷ row "@import 中\u{feff} from \"a\"" (entry 20 0 ∷ [])
+    ∷ row "@import é from \"a\"" (entry 16 none ∷ [])
+    ∷ row "@import 中\u{feff} from \"a\"" (entry 20 none ∷ [])
     ∷ row "@import \u{feff}A from \"a\"" []
     -- U+0085 and U+3000 are white space, and U+FEFF is none
-    ∷ row "{import\u{85}(\u{3000}\"a\"\u{85})}" (entry 13 0 ∷ [])
+    ∷ row "{import\u{85}(\u{3000}\"a\"\u{85})}" (entry 13 none ∷ [])
     ∷ row "{import\u{feff}(\"a\")}" []
-    ∷ row "@import\u{85}A\u{3000}from\u{85}\"a\"" (entry 19 0 ∷ [])
+    ∷ row "@import\u{85}A\u{3000}from\u{85}\"a\"" (entry 19 none ∷ [])
     ∷ []
 
 computed : map (λ c. listing (body c)) table ≡ map marks table

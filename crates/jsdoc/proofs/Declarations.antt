@@ -1,7 +1,7 @@
 -- Declarations: the grammar and the functions agree.
 use mathlib.Core.Path.{_≡_, refl, sym, _∙_}
 use mathlib.Core.Logic.{_⊎_, inl, inr}
-use Prim.Native.Nat.{ℕ, _≤_}
+use mathlib.Core.Option.{Option}
 use Prim.Native.Char.{code}
 use native.Mathlib.Omega.{arith}
 use Rattle.laws.specs.Quoted.{ascii}
@@ -9,13 +9,14 @@ use Rattle.text.specs.declared.class.Class.the-variants.{White}
 use Rattle.text.specs.Ranges.{inRanges}
 use Rattle.text.specs.Alphabetic.{alphabetic}
 use Rattle.text.specs.Class.{outside, ranges, member}
+use Rattle.analysis.specs.Mode.{Mode}
 use Rattle.jsdoc.specs.Grammar.{Bytes, W*, Word, Quote, Named, Starred, Braced, Clause, With, Declaration}
 use Rattle.jsdoc.specs.Parsed.{Parsed, ok, backtrace, onParsed, or, return}
 use Rattle.jsdoc.specs.Reader.{skip, skipWhitespace, whitespace, tag, word, parseIdent, hit, skipNamedImports, skipDefaultImport, skipNamespaceImport, skipClause, parseAttributes, parseFrom, parseJsdocImportDecl}
 use Rattle.jsdoc.proofs.Chains.{never, no-reading, then-ok}
 use Rattle.jsdoc.proofs.Characters.{run-sound, white-complete, white1-sound, white1-complete}
 use Rattle.jsdoc.proofs.Texts.{tag-sound, tag-complete, word-sound, word-complete, upTo-sound, upTo-complete, quote-complete, specifier-sound, ident-sound, ident-complete, name-not}
-use Rattle.jsdoc.proofs.Blocks.{block-sound, block-complete, block-small}
+use Rattle.jsdoc.proofs.Blocks.{block-sound, block-complete}
 
 -- ---- the three clauses
 
@@ -97,7 +98,7 @@ clause-complete {s} (inr (inr r)) =
 
 -- ---- the mode after the quote
 
-with-sound : (m : ℕ) (s t : Bytes) → parseAttributes s ≡ ok m t → With m s t
+with-sound : (m : Mode) (s t : Bytes) → parseAttributes s ≡ ok m t → With m s t
 unfolding parseAttributes skipWhitespace
 with-sound m s t e =
     let (z, a, ea, e1) = then-ok (word (ascii "with") (skip White s)) _ e in
@@ -109,41 +110,37 @@ with-sound m s t e =
       block = block-sound m a t e1;
     }
 
-with-complete : {m : ℕ} {s t : Bytes} → With m s t → parseAttributes s ≡ ok m t
+with-complete : {m : Mode} {s t : Bytes} → With m s t → parseAttributes s ≡ ok m t
 unfolding parseAttributes
 with-complete r = rw (white-complete (r .white), word-complete (ascii "with") (r .word)) (block-complete (r .block))
 
 -- the mode m of the block behind s, if that reads, and else none
-abbrev pub After : ℕ → Bytes → Type 0
-After m s = ((t : Bytes) × With m s t) ⊎ (((n : ℕ) (t : Bytes) → With n s t → ⊥) × (m ≡ 0))
+abbrev pub After : Mode → Bytes → Type 0
+After m s = ((t : Bytes) × With m s t) ⊎ (((n : Mode) (t : Bytes) → With n s t → ⊥) × (m ≡ Option.none))
 
-after-sound : (m : ℕ) (s t : Bytes) → or parseAttributes (return 0) s ≡ ok m t → After m s
+after-sound : (m : Mode) (s t : Bytes) → or parseAttributes (return Option.none) s ≡ ok m t → After m s
 after-sound m s t = go (parseAttributes s) refl
   where
-    go : (o : Parsed ℕ) → parseAttributes s ≡ o → onParsed o ok (ok 0 s) ≡ ok m t → After m s
+    go : (o : Parsed Mode) → parseAttributes s ≡ o → onParsed o ok (ok Option.none s) ≡ ok m t → After m s
     go (ok n u) h e = inl (t, with-sound m s t (h ∙ e))
     go backtrace h e = inr (λ n u r. never (sym h ∙ with-complete r), (cc))
 
-pub after-complete : (m : ℕ) (s : Bytes) → After m s → (t : Bytes) × (or parseAttributes (return 0) s ≡ ok m t)
+pub after-complete : (m : Mode) (s : Bytes) → After m s → (t : Bytes) × (or parseAttributes (return Option.none) s ≡ ok m t)
 after-complete m s (inl (t, r)) = (t, rw (with-complete r))
 after-complete m s (inr (f, z)) = (s, rw (no-reading (parseAttributes s) (λ n t e. f n t (with-sound n s t e)), z))
 
-pub after-small : {m : ℕ} {s : Bytes} → After m s → m ≤ 2
-after-small (inl (t, r)) = block-small (r .block)
-after-small (inr (f, z)) = omega arith
-
 -- ---- the whole
 
-from-sound : (s q e : Bytes) (m : ℕ) (t : Bytes) → parseFrom s ≡ ok (hit q e m) t
+from-sound : (s q e : Bytes) (m : Mode) (t : Bytes) → parseFrom s ≡ ok (hit q e m) t
     → (a : Bytes) × (k : Bytes) × W* s a × Word (ascii "from") a q × Quote k q e × After m e
 unfolding parseFrom skipWhitespace
 from-sound s q e m t h =
     let (z, b, eb, h1) = then-ok (word (ascii "from") (skip White s)) _ h in
-    let (i, (k, r), j) = specifier-sound (or parseAttributes (return 0)) b q e t m h1 in
+    let (i, (k, r), j) = specifier-sound (or parseAttributes (return Option.none)) b q e t m h1 in
     let eq : word (ascii "from") (skip White s) ≡ ok z q = cc in
     (skip White s, k, run-sound White s, word-sound (ascii "from") (skip White s) q eq, r, after-sound m e t j)
 
-pub decl-sound : (s q e : Bytes) (m : ℕ) (t : Bytes) → parseJsdocImportDecl s ≡ ok (hit q e m) t → Declaration s q e m
+pub decl-sound : (s q e : Bytes) (m : Mode) (t : Bytes) → parseJsdocImportDecl s ≡ ok (hit q e m) t → Declaration s q e m
 unfolding parseJsdocImportDecl
 decl-sound s q e m t h =
     let (z1, a, ea, h1) = then-ok (tag (ascii "@import") s) _ h in
@@ -165,7 +162,7 @@ decl-sound s q e m t h =
       after = l;
     }
 
-pub decl-complete : {s q e : Bytes} {m : ℕ} → Declaration s q e m → (t : Bytes) × (parseJsdocImportDecl s ≡ ok (hit q e m) t)
+pub decl-complete : {s q e : Bytes} {m : Mode} → Declaration s q e m → (t : Bytes) × (parseJsdocImportDecl s ≡ ok (hit q e m) t)
 unfolding parseJsdocImportDecl parseFrom
 decl-complete {e} {m} r =
     let (t, h) = after-complete m e (r .after) in (

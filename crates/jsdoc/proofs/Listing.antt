@@ -1,18 +1,23 @@
 -- The marks that the parsers give at each place of a body are those of the readings that are listed.
 use mathlib.Core.Path.{_≡_, refl, ap}
 use mathlib.Core.Logic.{_⊎_, ⊎-elim, inl, inr}
+use mathlib.Core.List.{List}
 use mathlib.Core.Option.{Option, none, some}
-use Prim.Native.Nat.{ℕ, zero, suc, _-_, _≤_}
+use Prim.Native.Nat.{ℕ, zero, suc, _-_, _≤_, _<_}
 use native.Mathlib.Omega.{arith}
 use native.Mathlib.Decide.{ℕ-discrete}
 use lib.ListN.{length, drop, length-append}
 use lib.Seq.{drop-append-seam}
+use Rattle.analysis.specs.Mode.{Mode}
+use Rattle.analysis.proofs.Modes.{found-of}
 use Rattle.jsdoc.specs.Grammar.{Bytes, Brace, Declaration, Reading, From, Listed}
 use Rattle.jsdoc.specs.Parsed.{Parser, value}
-use Rattle.jsdoc.specs.Reader.{Hit, hit, parseJsdocDynamicImport, parseJsdocImportDecl}
-use Rattle.jsdoc.specs.code.Answers.{Imports}
-use Rattle.jsdoc.specs.Marks.{Marks}
-use Rattle.jsdoc.specs.Listing.{answer, listingBy, listing}
+use Rattle.jsdoc.specs.Reader.{Hit, hit}
+use Rattle.jsdoc.specs.code.Answers.{Imports, marked}
+use Rattle.jsdoc.specs.declared.answers.JsDocImport.{JsDocImport}
+use Rattle.jsdoc.specs.declared.answers.JsDocImport.the-variants as jsDocImport
+use Rattle.jsdoc.specs.code.Marks.{Marks}
+use Rattle.jsdoc.specs.Listing.{markAt, listingBy, listing}
 use Rattle.jsdoc.proofs.Ends.{Ends, ends-trans}
 use Rattle.jsdoc.proofs.Suffixes.{reading-ends}
 use Rattle.jsdoc.proofs.Places.{with-kind}
@@ -24,22 +29,39 @@ ends-at {s} {t} (p, e) =
     let n : length s - length t ≡ length p = omega (arith, ap length e, length-append p t) in
     rw n (rw e (drop-append-seam p t))
 
-answered : {R : Bytes → Bytes → Bytes → ℕ → Type 0} {p : Parser Hit} → Kind R p → (s : Bytes) → Imports s (value (p s)) (answer s (value (p s)))
+-- an answer of the code that stands for what the parser reads of s, and has its mark
+record Answer (s : Bytes) (o : Option Hit) : Type 0 where
+  import : JsDocImport
+  is : Imports s o import
+  mark : (i : ℕ) (l : List ℕ) → marked i import l ≡ markAt i s o l
+
+answered : {R : Bytes → Bytes → Bytes → Mode → Type 0} {p : Parser Hit} → Kind R p → (s : Bytes) → Answer s (value (p s))
 answered {p} K s = go (value (p s)) refl
   where
-    go : (o : Option Hit) → value (p s) ≡ o → Imports s o (answer s o)
+    go : (o : Option Hit) → value (p s) ≡ o → Answer s o
     go (some (hit q e m)) h =
         let (a, b) = reading-ends (K .reading (K .agrees s q e m .1 h)) in
-        record { is = rw (ends-at a, ends-at (ends-trans a b)); ordered = omega arith }
-    go none h = record { is = refl; ordered = tt }
+        let (mode, same) = found-of m in
+        record {
+          import = jsDocImport.Import (length s - length q) (length s - length e) mode;
+          is = record { is = rw (ends-at a, ends-at (ends-trans a b), same); ordered = omega arith };
+          mark = λ i l. rw same;
+        }
+    go none h = record { import = jsDocImport.Backtrace; is = record { is = refl; ordered = tt }; mark = λ i l. refl }
+
+-- so one turn marks what the parser reads
+turned : {R : Bytes → Bytes → Bytes → Mode → Type 0} {p : Parser Hit} → Kind R p → (b : Bytes) (n : ℕ) → n < length b → {P : ℕ → Mode → Type 0} {l : List ℕ}
+    → Marks P (length b) l → ((q : ℕ) (m : Mode) → P q m → Listed b q m)
+    → Marks (λ q m. P q m ⊎ From R b n q m) (length b) (markAt n (drop n b) (value (p (drop n b))) l)
+turned K b n h {l = l} k listed = let a = answered K (drop n b) in rw (a .mark n l) at (marks-turn K b n h k listed (a .import) (a .is))
 
 module _ (b : Bytes) where
-  on : (n q m : ℕ) → (Before Reading b n q m ⊎ From Brace b n q m) ⊎ From Declaration b n q m → Before Reading b (suc n) q m
+  on : (n q : ℕ) (m : Mode) → (Before Reading b n q m ⊎ From Brace b n q m) ⊎ From Declaration b n q m → Before Reading b (suc n) q m
   on n q m (inl (inl (k, h, f))) = (k, omega arith, f)
   on n q m (inl (inr f)) = (n, omega arith, with-kind f (inl (f .reads)))
   on n q m (inr f) = (n, omega arith, with-kind f (inr (f .reads)))
 
-  back : (n q m : ℕ) → Before Reading b (suc n) q m → (Before Reading b n q m ⊎ From Brace b n q m) ⊎ From Declaration b n q m
+  back : (n q : ℕ) (m : Mode) → Before Reading b (suc n) q m → (Before Reading b n q m ⊎ From Brace b n q m) ⊎ From Declaration b n q m
   back n q m (k, h, f) = go (ℕ-discrete k n)
     where
       kind : {j : ℕ} (f : From Reading b j q m) → Reading (drop j b) (drop q b) (drop (f .end) b) m → From Brace b j q m ⊎ From Declaration b j q m
@@ -54,10 +76,7 @@ module _ (b : Bytes) where
   listing-by zero h = marks-none b
   listing-by (suc n) h =
       marks-iff (on n) (back n)
-      (marks-turn declarations b n h
-      (marks-turn braces b n h (listing-by n (omega arith)) (λ q m f. (f .0, f .2)) (answer (drop n b) (value (parseJsdocDynamicImport (drop n b)))) (answered braces (drop n b)))
-      (λ q m f. let g = on n q m (inl f) in (g .0, g .2))
-      (answer (drop n b) (value (parseJsdocImportDecl (drop n b)))) (answered declarations (drop n b)))
+      (turned declarations b n h (turned braces b n h (listing-by n (omega arith)) (λ q m f. (f .0, f .2))) (λ q m f. let g = on n q m (inl f) in (g .0, g .2)))
 
   pub listing-marks : Marks (Listed b) (length b) (listing b)
   unfolding listing

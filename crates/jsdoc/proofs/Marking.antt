@@ -9,18 +9,20 @@ use native.Mathlib.Omega.{arith}
 use native.Mathlib.Decide.{ℕ-discrete, decLt}
 use lib.ListN.{length, drop, getD, replicate, length-drop}
 use lib.Seq.{drop-drop}
+use Rattle.analysis.specs.declared.mode.ModeFound.{ModeFound}
+use Rattle.analysis.specs.Mode.{Mode}
+use Rattle.analysis.specs.code.Mode.{modeAs}
 use Rattle.jsdoc.specs.Grammar.{Bytes, Brace, Declaration, Reading, From, ListedBy, Listed}
 use Rattle.jsdoc.specs.Parsed.{Parser, value}
 use Rattle.jsdoc.specs.Reader.{Hit, parseJsdocDynamicImport, parseJsdocImportDecl}
-use Rattle.jsdoc.specs.code.Answers.{Imports, Scans}
-use Rattle.jsdoc.specs.Marks.{Marks, marked, Room}
+use Rattle.jsdoc.specs.code.Answers.{Imports, marked, Room, Scans}
+use Rattle.jsdoc.specs.code.Marks.{Marks}
 use Rattle.jsdoc.specs.declared.answers.JsDocImport.{JsDocImport}
 use Rattle.jsdoc.specs.declared.answers.JsDocImport.the-variants as jsDocImport
 use Rattle.jsdoc.specs.declared.answers.Searched.{Searched}
 use Rattle.jsdoc.proofs.Texts.{quote-shorter}
 use Rattle.jsdoc.proofs.Agrees.{Agrees, brace-agrees, declaration-agrees}
-use Rattle.jsdoc.proofs.Braces.{brace-sound, brace-complete, tail-small}
-use Rattle.jsdoc.proofs.Declarations.{after-small}
+use Rattle.jsdoc.proofs.Braces.{brace-sound, brace-complete}
 use Rattle.jsdoc.proofs.Ends.{ends-shorter}
 use Rattle.jsdoc.proofs.Suffixes.{reading-ends}
 use Rattle.jsdoc.proofs.Places.{with-kind, one-place, place-quote}
@@ -29,9 +31,9 @@ use Rattle.jsdoc.proofs.Searches.{search-goes-on, same-reading}
 use Rattle.jsdoc.proofs.Steps.{cons-at}
 
 -- a kind of readings, and the parser that reads them
-pub record Kind (R : Bytes → Bytes → Bytes → ℕ → Type 0) (p : Parser Hit) : Type 0 where
+pub record Kind (R : Bytes → Bytes → Bytes → Mode → Type 0) (p : Parser Hit) : Type 0 where
   pub agrees : Agrees R p
-  pub reading : {s q e : Bytes} {m : ℕ} → R s q e m → Reading s q e m
+  pub reading : {s q e : Bytes} {m : Mode} → R s q e m → Reading s q e m
 
 pub braces : Kind Brace parseJsdocDynamicImport
 braces = record { agrees = brace-agrees; reading = inl }
@@ -39,30 +41,26 @@ braces = record { agrees = brace-agrees; reading = inl }
 pub declarations : Kind Declaration parseJsdocImportDecl
 declarations = record { agrees = declaration-agrees; reading = inr }
 
-pub mode-small : {s q e : Bytes} {m : ℕ} → Reading s q e m → m ≤ 2
-mode-small (inl r) = tail-small (r .tail)
-mode-small (inr r) = after-small (r .after)
-
-place-below : {b : Bytes} {k q m : ℕ} → From Reading b k q m → q < length b
+place-below : {b : Bytes} {k q : ℕ} {m : Mode} → From Reading b k q m → q < length b
 place-below {b} {q} r = let (t, i) = place-quote (r .reads) in omega (arith, quote-shorter i, length-drop q b)
 
-module _ {R : Bytes → Bytes → Bytes → ℕ → Type 0} {p : Parser Hit} (K : Kind R p) (b : Bytes) (i : ℕ) (h : i < length b) where
-  found : (a e m : ℕ) → Imports (drop i b) (value (p (drop i b))) (jsDocImport.Import a e m) → From R b i (i + a) m
+module _ {R : Bytes → Bytes → Bytes → Mode → Type 0} {p : Parser Hit} (K : Kind R p) (b : Bytes) (i : ℕ) (h : i < length b) where
+  found : (a e : ℕ) (m : ModeFound) → Imports (drop i b) (value (p (drop i b))) (jsDocImport.Import a e m) → From R b i (i + a) (modeAs m)
   found a e m r = record {
     end = i + e;
     inside = omega (arith, r .ordered, length-drop i b);
-    reads = rw (drop-drop a i b, drop-drop e i b) at (K .agrees (drop i b) (drop a (drop i b)) (drop e (drop i b)) m .1 (sym (r .is)));
+    reads = rw (drop-drop a i b, drop-drop e i b) at (K .agrees (drop i b) (drop a (drop i b)) (drop e (drop i b)) (modeAs m) .1 (sym (r .is)));
   }
 
   pub room : (r : JsDocImport) → Imports (drop i b) (value (p (drop i b))) r → Room (length b) i r
   room (jsDocImport.Import a e m) r =
       let f = found a e m r in
-      (place-below (with-kind f (K .reading (f .reads))), mode-small (K .reading (f .reads)))
+      place-below (with-kind f (K .reading (f .reads)))
   room jsDocImport.Backtrace r = tt
 
   -- from one place there is one reading
-  module _ {a e m q n : ℕ} (r : Imports (drop i b) (value (p (drop i b))) (jsDocImport.Import a e m)) (g : From R b i q n) where
-    only-one : (q ≡ i + a) × (n ≡ m)
+  module _ {a e q : ℕ} {m : ModeFound} {n : Mode} (r : Imports (drop i b) (value (p (drop i b))) (jsDocImport.Import a e m)) (g : From R b i q n) where
+    only-one : (q ≡ i + a) × (n ≡ modeAs m)
     only-one =
         let f = found a e m r in
         let u = K .agrees _ _ _ _ .0 (g .reads) in
@@ -73,12 +71,12 @@ module _ {R : Bytes → Bytes → Bytes → ℕ → Type 0} {p : Parser Hit} (K 
         (omega (arith, ap length s, length-drop q b, length-drop (i + a) b), (cc))
 
   -- one turn: the reading from place i, if there is one, is marked
-  pub marks-turn : {P : ℕ → ℕ → Type 0} {l : List ℕ} → Marks P (length b) l → ((q m : ℕ) → P q m → Listed b q m)
+  pub marks-turn : {P : ℕ → Mode → Type 0} {l : List ℕ} → Marks P (length b) l → ((q : ℕ) (m : Mode) → P q m → Listed b q m)
       → (r : JsDocImport) → Imports (drop i b) (value (p (drop i b))) r → Marks (λ q m. P q m ⊎ From R b i q m) (length b) (marked i r l)
   marks-turn {P} k listed (jsDocImport.Import a e m) r =
       let f = found a e m r in
       let w = with-kind f (K .reading (f .reads)) in
-      marks-set (i + a) m (place-below w) k
+      marks-set (i + a) (modeAs m) (place-below w) k
       (λ x y t. inl t)
       (inr f)
       (λ x y t. ⊎-elim inl (λ g. inr (only-one r g)) t)
@@ -87,24 +85,24 @@ module _ {R : Bytes → Bytes → Bytes → ℕ → Type 0} {p : Parser Hit} (K 
       marks-iff (λ q m t. inl t) (λ q m t. ⊎-elim (λ x. x) (λ g. absurd (Option·none-ne-some _ (r .is ∙ K .agrees _ _ _ _ .0 (g .reads)))) t) k
 
 -- a reading begins inside the body
-pub from-below : {b : Bytes} {k q m : ℕ} → From Reading b k q m → k < length b
+pub from-below : {b : Bytes} {k q : ℕ} {m : Mode} → From Reading b k q m → k < length b
 from-below {b} {k} {q} f = omega (arith, place-below f, ends-shorter (reading-ends (f .reads) .0), length-drop k b, length-drop q b)
 
 -- ---- the braces
 
 -- the readings from the places before i
-abbrev pub Before : (Bytes → Bytes → Bytes → ℕ → Type 0) → Bytes → ℕ → ℕ → ℕ → Type 0
+abbrev pub Before : (Bytes → Bytes → Bytes → Mode → Type 0) → Bytes → ℕ → ℕ → Mode → Type 0
 Before R b i q m = (k : ℕ) × (k < i) × From R b k q m
 
 -- a reading from i or before it is one from before a later place
-later : {R : Bytes → Bytes → Bytes → ℕ → Type 0} {b : Bytes} {i j : ℕ} → i < j → (q m : ℕ) → Before R b i q m ⊎ From R b i q m → Before R b j q m
+later : {R : Bytes → Bytes → Bytes → Mode → Type 0} {b : Bytes} {i j : ℕ} → i < j → (q : ℕ) (m : Mode) → Before R b i q m ⊎ From R b i q m → Before R b j q m
 later h q m (inl (k, l, f)) = (k, omega arith, f)
 later {i} h q m (inr f) = (i, h, f)
 
-listed-brace : {b : Bytes} {q m : ℕ} → ListedBy Brace b q m → Listed b q m
+listed-brace : {b : Bytes} {q : ℕ} {m : Mode} → ListedBy Brace b q m → Listed b q m
 listed-brace (k, f) = (k, with-kind f (inl (f .reads)))
 
-pub marks-none : {R : Bytes → Bytes → Bytes → ℕ → Type 0} (b : Bytes) → Marks (Before R b 0) (length b) (replicate (length b) 0)
+pub marks-none : {R : Bytes → Bytes → Bytes → Mode → Type 0} (b : Bytes) → Marks (Before R b 0) (length b) (replicate (length b) 0)
 marks-none b = marks-nothing (λ q m r. omega (arith, r .1)) (length b)
 
 module _ (b : Bytes) (i : ℕ) {l : Bytes} (k : Marks (Before Brace b i) (length b) l) where
@@ -115,7 +113,7 @@ module _ (b : Bytes) (i : ℕ) {l : Bytes} (k : Marks (Before Brace b i) (length
     pub no-brace-turn : (getD b i 0 ≡ code "{" → ⊥) → Marks (Before Brace b (i + 1)) (length b) l
     no-brace-turn n = marks-iff (λ q m r. later (omega arith) q m (inl r)) (λ q m r. go q m r (ℕ-discrete (r .0) i)) k
       where
-        go : (q m : ℕ) (r : Before Brace b (i + 1) q m) → Dec (r .0 ≡ i) → Before Brace b i q m
+        go : (q : ℕ) (m : Mode) (r : Before Brace b (i + 1) q m) → Dec (r .0 ≡ i) → Before Brace b i q m
         go q m r (yes p) = absurd (n (cc (cons-at b i h, (rw p at (r .2)) .reads .brace)))
         go q m r (no p) = (r .0, omega (arith, r .1), r .2)
 
@@ -124,7 +122,7 @@ module _ (b : Bytes) (i : ℕ) {l : Bytes} (k : Marks (Before Brace b i) (length
         marks-iff (later (omega (arith, search-goes-on b i h o r t))) (λ q m f. back q m f (ℕ-discrete (f .0) i) (decLt (f .0) i))
         (marks-turn braces b i h k (λ q m f. listed-brace (f .0, f .2)) (r .found) (t .import))
       where
-        back : (q m : ℕ) (f : Before Brace b (i + r .end) q m) → Dec (f .0 ≡ i) → Dec (f .0 < i) → Before Brace b i q m ⊎ From Brace b i q m
+        back : (q : ℕ) (m : Mode) (f : Before Brace b (i + r .end) q m) → Dec (f .0 ≡ i) → Dec (f .0 < i) → Before Brace b i q m ⊎ From Brace b i q m
         back q m f (yes p) d = inr (rw p at (f .2))
         back q m f (no p) (yes d) = inl (f .0, d, f .2)
         back q m (j, g, f) (no p) (no d) =
@@ -134,10 +132,10 @@ module _ (b : Bytes) (i : ℕ) {l : Bytes} (k : Marks (Before Brace b i) (length
 -- ---- the declarations
 
 -- all Brace readings, and the Declarations from the places before i
-abbrev pub Besides : Bytes → ℕ → ℕ → ℕ → Type 0
+abbrev pub Besides : Bytes → ℕ → ℕ → Mode → Type 0
 Besides b i q m = ListedBy Brace b q m ⊎ Before Declaration b i q m
 
-besides-listed : {b : Bytes} {i : ℕ} (q m : ℕ) → Besides b i q m → Listed b q m
+besides-listed : {b : Bytes} {i : ℕ} (q : ℕ) (m : Mode) → Besides b i q m → Listed b q m
 besides-listed q m (inl r) = listed-brace r
 besides-listed q m (inr (k, h, f)) = (k, with-kind f (inr (f .reads)))
 
@@ -148,7 +146,7 @@ module _ (b : Bytes) (i : ℕ) {l : Bytes} (k : Marks (Besides b i) (length b) l
   pub listed-all : length b ≤ i → Marks (Listed b) (length b) l
   listed-all h = marks-iff besides-listed (λ q m r. back (r .1) (r .1 .reads)) k
     where
-      back : {j q m : ℕ} (f : From Reading b j q m) → Reading (drop j b) (drop q b) (drop (f .end) b) m → Besides b i q m
+      back : {j q : ℕ} {m : Mode} (f : From Reading b j q m) → Reading (drop j b) (drop q b) (drop (f .end) b) m → Besides b i q m
       back {j} f (inl r) = inl (j, with-kind f r)
       back {j} f (inr r) = inr (j, omega (arith, from-below f), with-kind f r)
 
@@ -160,6 +158,6 @@ module _ (b : Bytes) (i : ℕ) {l : Bytes} (k : Marks (Besides b i) (length b) l
       (λ q m x. ⊎-elim (λ y. inl (inl y)) (λ f. back q m f (ℕ-discrete (f .0) i)) x)
       (marks-turn declarations b i h k besides-listed r t)
     where
-      back : (q m : ℕ) (f : Before Declaration b (i + 1) q m) → Dec (f .0 ≡ i) → Besides b i q m ⊎ From Declaration b i q m
+      back : (q : ℕ) (m : Mode) (f : Before Declaration b (i + 1) q m) → Dec (f .0 ≡ i) → Besides b i q m ⊎ From Declaration b i q m
       back q m f (yes p) = inr (rw p at (f .2))
       back q m f (no p) = inl (inr (f .0, omega (arith, f .1), f .2))

@@ -5,6 +5,9 @@ use native.Mathlib.Omega.{arith}
 use lib.ListN.{length, take, drop, length-drop}
 use lib.Seq.{take-all, drop-drop}
 use Rattle.text.specs.Bytes.{part}
+use Rattle.analysis.specs.declared.mode.ModeFound.{ModeFound}
+use Rattle.analysis.specs.Mode.{Mode}
+use Rattle.analysis.specs.code.Mode.{modeAs}
 use Rattle.jsdoc.specs.Grammar.{Bytes}
 use Rattle.jsdoc.specs.Parsed.{Parsed, ok}
 use Rattle.jsdoc.specs.code.Answers.{Spells, Gives, moved, Movable}
@@ -31,5 +34,5 @@ module _ (s : Bytes) (i : ℕ) where
         record { is = rw (← part-moved a b, ← drop-drop j i s) (t .is); ordered = (omega arith, omega arith, omega (arith, length-drop i s), omega arith, omega arith) }
     moved-text mark o text.Backtrace t = record { is = t .is; ordered = tt }
 
-    pub moved-mode : {o : Parsed ℕ} {m j : ℕ} → o ≡ ok m (drop j (drop i s)) → j ≤ length (drop i s) → Gives s o (modeRead.Past m (i + j))
+    pub moved-mode : {o : Parsed Mode} {m : ModeFound} {j : ℕ} → o ≡ ok (modeAs m) (drop j (drop i s)) → j ≤ length (drop i s) → Gives s o (modeRead.Past m (i + j))
     moved-mode {m} {j} e l = record { is = rw (← drop-drop j i s) (sym e); ordered = omega (arith, length-drop i s) }

@@ -13,6 +13,7 @@ use Rattle.text.specs.Utf8.{formed}
 use Rattle.text.specs.Position.{Boundary}
 use Rattle.text.specs.Bytes.{Mark}
 use Rattle.text.proofs.Cuts.{ascii-between}
+use Rattle.analysis.specs.Mode.{Mode}
 use Rattle.jsdoc.specs.Grammar.{Bytes, Quote, Brace, Declaration, Reading, From}
 use Rattle.jsdoc.proofs.Texts.{quote-complete, mark-small}
 use Rattle.jsdoc.proofs.Braces.{tail-complete}
@@ -22,7 +23,7 @@ use Rattle.jsdoc.proofs.Apart.{never-both}
 one-end : {k l q e d : Bytes} → Quote k q e → Quote l q d → e ≡ d
 one-end r t = cc (quote-complete r, quote-complete t)
 
-module _ {s t q e d : Bytes} {m n : ℕ} where
+module _ {s t q e d : Bytes} {m n : Mode} where
   one-brace : Brace s q e m → Brace t q d n → (e ≡ d) × (m ≡ n)
   one-brace r b =
       let i = one-end (r .quote) (b .quote) in
@@ -34,11 +35,11 @@ module _ {s t q e d : Bytes} {m n : ℕ} where
       (i, cc (after-complete m e (r .after) .1, after-complete n d (b .after) .1))
 
 -- a reading at the same places, of another kind
-pub with-kind : {R S : Bytes → Bytes → Bytes → ℕ → Type 0} {b : Bytes} {k q m : ℕ} (r : From R b k q m) → S (drop k b) (drop q b) (drop (r .end) b) m → From S b k q m
+pub with-kind : {R S : Bytes → Bytes → Bytes → Mode → Type 0} {b : Bytes} {k q : ℕ} {m : Mode} (r : From R b k q m) → S (drop k b) (drop q b) (drop (r .end) b) m → From S b k q m
 with-kind r x = record { end = r .end; inside = r .inside; reads = x }
 
 -- readings with one place have one end and one mode
-module _ {b : Bytes} {k j q m n : ℕ} where
+module _ {b : Bytes} {k j q : ℕ} {m n : Mode} where
   same-end : (r : From Reading b k q m) (t : From Reading b j q n) → (drop (r .end) b ≡ drop (t .end) b) × (m ≡ n) → (r .end ≡ t .end) × (m ≡ n)
   same-end r t (e, i) = (omega (arith, ap length e, length-drop (r .end) b, length-drop (t .end) b, r .inside, t .inside), i)
 
@@ -52,7 +53,7 @@ module _ {b : Bytes} {k j q m n : ℕ} where
       go (inr x) (inl y) = absurd (never-both (with-kind t y) (with-kind r x))
 
 -- the place is a quote
-pub place-quote : {s q e : Bytes} {m : ℕ} → Reading s q e m → (k : Bytes) × Quote k q e
+pub place-quote : {s q e : Bytes} {m : Mode} → Reading s q e m → (k : Bytes) × Quote k q e
 place-quote (inl r) = (r .text, r .quote)
 place-quote (inr r) = (r .text, r .quote)
 

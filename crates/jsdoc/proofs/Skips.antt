@@ -12,7 +12,7 @@ use Rattle.jsdoc.specs.Grammar.{Bytes, Brace}
 use Rattle.jsdoc.specs.Parsed.{value}
 use Rattle.jsdoc.specs.Reader.{tag, parseJsdocImportDecl}
 use Rattle.jsdoc.specs.code.Answers.{Imports}
-use Rattle.jsdoc.specs.Marks.{Marks}
+use Rattle.jsdoc.specs.code.Marks.{Marks}
 use Rattle.jsdoc.specs.declared.answers.JsDocImport.the-variants as jsDocImport
 use Rattle.jsdoc.proofs.Marking.{Before, Besides, no-brace-turn, declaration-turn}
 use Rattle.jsdoc.proofs.Steps.{cons-at}

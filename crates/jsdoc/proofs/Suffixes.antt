@@ -7,6 +7,7 @@ use Prim.Native.Char.{code}
 use Rattle.laws.specs.Quoted.{ascii}
 use Rattle.text.specs.declared.class.Class.the-variants.{White}
 use Rattle.text.specs.Encode.{encode}
+use Rattle.analysis.specs.Mode.{Mode}
 use Rattle.jsdoc.specs.Grammar.{Bytes, W+, Word, Upto, Quote, Named, Clause, Brace, Declaration, Reading}
 use Rattle.jsdoc.proofs.Ends.{Ends, ends-trans}
 use Rattle.jsdoc.proofs.Characters.{run-ends}
@@ -32,7 +33,7 @@ clause-ends (inr (inl r)) =
     ends-trans (word-ends (ascii "*") (r .star)) (ends-trans (ascii "as", r .word) (ends-trans (white1-ends (r .white)) (named-ends (r .name))))
 clause-ends (inr (inr r)) = named-ends r
 
-module _ {s q e : Bytes} {m : ℕ} where
+module _ {s q e : Bytes} {m : Mode} where
   -- up to the paren
   pub brace-ends : (r : Brace s q e m) → Ends s (r .r3)
   brace-ends r = ends-trans (ascii "{", r .brace) (ends-trans (r .run .run, r .run .all) (word-ends (ascii "import") (r .word)))

@@ -18,6 +18,7 @@ use Rattle.text.specs.Alphabetic.{alphabetic}
 use Rattle.text.specs.Class.{outside, ranges, member, classAt}
 use Rattle.text.proofs.Characters.{with-shorter, one-sound, one-complete}
 use Rattle.text.proofs.Words.{begins-sound, begins-complete}
+use Rattle.analysis.specs.Mode.{Mode}
 use Rattle.jsdoc.specs.Grammar.{Bytes, Word, Without, Upto, Quote, Name}
 use Rattle.jsdoc.specs.Parsed.{Parsed, ok, backtrace, Parser, onParsed}
 use Rattle.jsdoc.specs.Reader.{skip, tag, word, upTo, before, isMark, parseQuote, specifier, hit, pastIdent, parseIdent, parseKey}
@@ -112,7 +113,7 @@ quote-complete {k} {s} {t} r =
     (ap (λ (l : Bytes). ok l t) (before-is k (r .mark ∷ t) (r .rest .1)))
 
 -- a quote, and then a mode
-pub specifier-sound : (p : Parser ℕ) (s q e t : Bytes) (m : ℕ) → specifier p s ≡ ok (hit q e m) t → (s ≡ q) × ((k : Bytes) × Quote k q e) × (p e ≡ ok m t)
+pub specifier-sound : (p : Parser Mode) (s q e t : Bytes) (m : Mode) → specifier p s ≡ ok (hit q e m) t → (s ≡ q) × ((k : Bytes) × Quote k q e) × (p e ≡ ok m t)
 specifier-sound p s q e t m h =
     let (k, a, ea, h1) = then-ok (parseQuote s) _ h in
     let (n, b, eb, h2) = then-ok (p a) _ h1 in

@@ -4,6 +4,7 @@ use mathlib.Core.Path.{_≡_}
 use mathlib.Core.Bool.{cond}
 use mathlib.Core.Logic.{_⊎_}
 use mathlib.Core.List.{List, [], _∷_, _++_}
+use mathlib.Core.Option.{Option}
 use Prim.Native.Nat.{ℕ, _≤_, _<_}
 use Prim.Native.Char.{code}
 use lib.ListN.{length, drop}
@@ -12,7 +13,7 @@ use Rattle.text.specs.declared.class.Class.{Class}
 use Rattle.text.specs.declared.class.Class.the-variants.{White, Alphabetic, NameRest}
 use Rattle.text.specs.Characters.{OneOf}
 use Rattle.text.specs.Bytes.{Mark, same}
-use Rattle.analysis.specs.Mode.{modeOf}
+use Rattle.analysis.specs.Mode.{Mode, modeOf}
 
 abbrev pub Bytes : Type 0
 Bytes = List ℕ
@@ -77,13 +78,13 @@ pub data Attributes : List Pair → Bytes → Bytes → Type 0 where
   next : {k v s r1 r2 r3 t : Bytes} {l : List Pair} → Attribute k v s r1 → W* r1 r2 → Word (ascii ",") r2 r3 → Attributes l r3 t
       → Attributes (pair k v ∷ l) s t
 
--- Mode: that of the first attribute `resolution-mode`; 0, none, where there is no such one
-unfoldable pub modeIn : List Pair → ℕ
-modeIn [] = 0
+-- Mode: that of the first attribute `resolution-mode`; none where there is no such one
+unfoldable pub modeIn : List Pair → Mode
+modeIn [] = Option.none
 modeIn (pair k v ∷ l) = cond (same k (ascii "resolution-mode")) (modeOf v) (modeIn l)
 
 -- `{` W*, attributes, W* `}`
-pub record Block (mode : ℕ) (s t : Bytes) : Type 0 where
+pub record Block (mode : Mode) (s t : Bytes) : Type 0 where
   pub r1 : Bytes
   pub r2 : Bytes
   pub r3 : Bytes
@@ -102,7 +103,7 @@ pub record ToImport (s t : Bytes) : Type 0 where
   pub first : (k : ℕ) → k < length run → (r : Bytes) → drop k s ≡ ascii "import" ++ r → ⊥
 
 -- `,` W* `{` W* `with` W* `:` W* Block W* `}` W*
-pub record Part (mode : ℕ) (s t : Bytes) : Type 0 where
+pub record Part (mode : Mode) (s t : Bytes) : Type 0 where
   pub r1 : Bytes
   pub r2 : Bytes
   pub r3 : Bytes
@@ -118,18 +119,18 @@ pub record Part (mode : ℕ) (s t : Bytes) : Type 0 where
   pub end : Word (ascii "}") r6 t
 
 -- W*, optionally the part with the Block, then `)`, a run without `}`, `}`
-pub record Tail (mode : ℕ) (s t : Bytes) : Type 0 where
+pub record Tail (mode : Mode) (s t : Bytes) : Type 0 where
   pub r1 : Bytes
   pub r2 : Bytes
   pub r3 : Bytes
   pub run : Bytes
   pub white : W* s r1
-  pub part : Part mode r1 r2 ⊎ ((mode ≡ 0) × (r1 ≡ r2))
+  pub part : Part mode r1 r2 ⊎ ((mode ≡ Option.none) × (r1 ≡ r2))
   pub paren : r2 ≡ ascii ")" ++ r3
   pub rest : Upto (code "}") run r3 t
 
 -- a Brace reading that begins s; its place is the Quote, which begins where q is left and ends where e is left
-pub record Brace (s q e : Bytes) (mode : ℕ) : Type 0 where
+pub record Brace (s q e : Bytes) (mode : Mode) : Type 0 where
   pub r1 : Bytes
   pub r2 : Bytes
   pub r3 : Bytes
@@ -164,7 +165,7 @@ abbrev pub Clause : Bytes → Bytes → Type 0
 Clause s t = Braced s t ⊎ (Starred s t ⊎ Named s t)
 
 -- W* `with` W* Block
-pub record With (mode : ℕ) (s t : Bytes) : Type 0 where
+pub record With (mode : Mode) (s t : Bytes) : Type 0 where
   pub r1 : Bytes
   pub r2 : Bytes
   pub white : W* s r1
@@ -172,7 +173,7 @@ pub record With (mode : ℕ) (s t : Bytes) : Type 0 where
   pub block : Block mode r2 t
 
 -- a Declaration that begins s; its place is the Quote, which begins where q is left and ends where e is left
-pub record Declaration (s q e : Bytes) (mode : ℕ) : Type 0 where
+pub record Declaration (s q e : Bytes) (mode : Mode) : Type 0 where
   pub r1 : Bytes
   pub r2 : Bytes
   pub r3 : Bytes
@@ -184,21 +185,21 @@ pub record Declaration (s q e : Bytes) (mode : ℕ) : Type 0 where
   pub white2 : W* r3 r4
   pub word2 : Word (ascii "from") r4 q
   pub quote : Quote text q e
-  pub after : ((t : Bytes) × With mode e t) ⊎ (((m : ℕ) (t : Bytes) → With m e t → ⊥) × (mode ≡ 0))
+  pub after : ((t : Bytes) × With mode e t) ⊎ (((m : Mode) (t : Bytes) → With m e t → ⊥) × (mode ≡ Option.none))
 
-abbrev pub Reading : Bytes → Bytes → Bytes → ℕ → Type 0
+abbrev pub Reading : Bytes → Bytes → Bytes → Mode → Type 0
 Reading s q e mode = Brace s q e mode ⊎ Declaration s q e mode
 
 -- a reading from place k of a body whose place, from q to `end`, is inside the body
-pub record From (R : Bytes → Bytes → Bytes → ℕ → Type 0) (body : Bytes) (k q mode : ℕ) : Type 0 where
+pub record From (R : Bytes → Bytes → Bytes → Mode → Type 0) (body : Bytes) (k q : ℕ) (mode : Mode) : Type 0 where
   pub end : ℕ
   pub inside : end ≤ length body
   pub reads : R (drop k body) (drop q body) (drop end body) mode
 
 -- from some place of the body there is such a reading whose place begins at q
-abbrev pub ListedBy : (Bytes → Bytes → Bytes → ℕ → Type 0) → Bytes → ℕ → ℕ → Type 0
+abbrev pub ListedBy : (Bytes → Bytes → Bytes → Mode → Type 0) → Bytes → ℕ → Mode → Type 0
 ListedBy R body q mode = (k : ℕ) × From R body k q mode
 
 -- some `{` or `@import` of the body has a reading whose place begins at q
-abbrev pub Listed : Bytes → ℕ → ℕ → Type 0
+abbrev pub Listed : Bytes → ℕ → Mode → Type 0
 Listed body q mode = ListedBy Reading body q mode

@@ -1,6 +1,5 @@
 pub mod Grammar
 pub mod Parsed
 pub mod Reader
-pub mod Marks
 pub mod Listing
 pub mod code

@@ -1,7 +1,8 @@
 -- The readers as functions; where src/ast/mod.rs or monch has a counterpart, named after it.
 -- Grammar is the file to be believed: these give the value that the report computes, and the laws `brace-agrees` and `declaration-agrees` tie them to it.
-use mathlib.Core.Bool.{Bool, cond, _||_}
+use mathlib.Core.Bool.{Bool, true, false, cond, _||_}
 use mathlib.Core.List.{[], _∷_}
+use mathlib.Core.Option.{none}
 use Prim.Native.Nat.{ℕ, zero, suc, _-_}
 use Prim.Native.Char.{code}
 use lib.ListN.{length, take, drop}
@@ -11,7 +12,7 @@ use Rattle.text.specs.declared.class.Class.{Class}
 use Rattle.text.specs.declared.class.Class.the-variants.{White, Alphabetic, NameRest}
 use Rattle.text.specs.Bytes.{begins, same}
 use Rattle.text.specs.Class.{classAt, runLength}
-use Rattle.analysis.specs.Mode.{modeOf}
+use Rattle.analysis.specs.Mode.{Mode, modeOf}
 use Rattle.jsdoc.specs.Grammar.{Bytes}
 use Rattle.jsdoc.specs.Parsed.{ok, backtrace, Parser, onParsed, _>>=_, _>>_, return, here, or}
 
@@ -60,11 +61,19 @@ parseIdent s = cond (eqb (classAt Alphabetic s) 0) backtrace (ok (before s (past
 unfoldable pub parseKey : Parser Bytes
 parseKey = or parseQuote parseIdent
 
--- the mode of an attribute, 3 where its key is not the one
-unfoldable pub attributeMode : Bytes → Bytes → ℕ
-attributeMode k v = cond (same k (ascii "resolution-mode")) (modeOf v) 3
+-- is there an attribute `resolution-mode`, and the mode of the first such one
+pub record ModeNamed : Type 0 where
+  pub named : Bool
+  pub mode : Mode
 
-unfoldable pub parseAttribute : Parser ℕ
+abbrev pub unnamed : ModeNamed
+unnamed = record { named = false; mode = none }
+
+-- of one attribute
+unfoldable pub attributeMode : Bytes → Bytes → ModeNamed
+attributeMode k v = cond (same k (ascii "resolution-mode")) (record { named = true; mode = modeOf v }) unnamed
+
+unfoldable pub parseAttribute : Parser ModeNamed
 parseAttribute = do
   k ← parseKey
   skipWhitespace
@@ -72,30 +81,30 @@ parseAttribute = do
   v ← parseQuote
   return (attributeMode k v)
 
--- the first mode that is not 3
-unfoldable pub firstMode : ℕ → ℕ → ℕ
-firstMode m n = cond (eqb m 3) n m
+-- the first that is named
+unfoldable pub firstMode : ModeNamed → ModeNamed → ModeNamed
+firstMode m n = cond (m .named) m n
 
 -- W* `,` W*
 unfoldable pub comma : Parser (Unit {0})
 comma = skipWhitespace >> word (ascii ",")
 
--- at most n attributes, where m is the first mode so far
-unfoldable pub separatedListBy : ℕ → ℕ → Parser ℕ
+-- at most n attributes, where m is the first so far
+unfoldable pub separatedListBy : ℕ → ModeNamed → Parser ModeNamed
 separatedListBy zero m s = ok m s
 separatedListBy (suc n) m s =
     onParsed (parseAttribute s) (λ a t. onParsed (comma t) (λ z. separatedListBy n (firstMode m a)) (ok (firstMode m a) t)) (ok m s)
 
-unfoldable pub separatedList : ℕ → Parser ℕ
+unfoldable pub separatedList : ModeNamed → Parser ModeNamed
 separatedList m s = separatedListBy (length s) m s
 
-unfoldable pub parseImportAttributeBlockForResolutionMode : Parser ℕ
+unfoldable pub parseImportAttributeBlockForResolutionMode : Parser Mode
 parseImportAttributeBlockForResolutionMode = do
   word (ascii "{")
-  m ← separatedList 3
+  m ← separatedList unnamed
   skipWhitespace
   tag (ascii "}")
-  return (cond (eqb m 3) 0 m)
+  return (m .mode)
 
 -- `, {with:`
 unfoldable pub secondParamStart : Parser (Unit {0})
@@ -106,7 +115,7 @@ secondParamStart = do
   word (ascii ":")
 
 -- `, {with: {..}}`
-unfoldable pub parseSecondParamObjWithLeadingComma : Parser ℕ
+unfoldable pub parseSecondParamObjWithLeadingComma : Parser Mode
 parseSecondParamObjWithLeadingComma = do
   secondParamStart
   m ← parseImportAttributeBlockForResolutionMode
@@ -115,25 +124,25 @@ parseSecondParamObjWithLeadingComma = do
   return m
 
 -- `)`, and then a closing brace
-unfoldable pub closeCall : ℕ → Parser ℕ
+unfoldable pub closeCall : Mode → Parser Mode
 closeCall m = do
   tag (ascii ")")
   upTo (code "}")
   return m
 
 -- what follows the quote of a Brace reading
-unfoldable pub parseTail : Parser ℕ
+unfoldable pub parseTail : Parser Mode
 parseTail = do
   skipWhitespace
-  m ← or parseSecondParamObjWithLeadingComma (return 0)
+  m ← or parseSecondParamObjWithLeadingComma (return none)
   closeCall m
 
 -- where the quote begins, where it ends, and the mode
 pub data Hit : Type 0 where
-  hit : Bytes → Bytes → ℕ → Hit
+  hit : Bytes → Bytes → Mode → Hit
 
 -- the quote, and then the mode
-abbrev pub specifier : Parser ℕ → Parser Hit
+abbrev pub specifier : Parser Mode → Parser Hit
 specifier p = do
   q ← here
   parseQuote
@@ -180,7 +189,7 @@ unfoldable pub skipClause : Parser (Unit {0})
 skipClause = or skipNamedImports (or skipNamespaceImport skipDefaultImport)
 
 -- `with {..}`
-unfoldable pub parseAttributes : Parser ℕ
+unfoldable pub parseAttributes : Parser Mode
 parseAttributes = do
   skipWhitespace
   word (ascii "with")
@@ -191,7 +200,7 @@ unfoldable pub parseFrom : Parser Hit
 parseFrom = do
   skipWhitespace
   word (ascii "from")
-  specifier (or parseAttributes (return 0))
+  specifier (or parseAttributes (return none))
 
 unfoldable pub parseJsdocImportDecl : Parser Hit
 parseJsdocImportDecl = do

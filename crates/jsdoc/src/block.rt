@@ -1,4 +1,6 @@
 // Attributes, and blocks of them.
+use super::answers::AttributeMode;
+use super::answers::AttributesRead;
 use super::answers::ModeRead;
 use super::answers::Skipped;
 use super::answers::Text;
@@ -7,27 +9,34 @@ use super::pieces::tag;
 use super::pieces::word;
 use super::quote::parse_key;
 use super::quote::quote_at;
+use analysis::mode::ModeFound;
 use analysis::mode::from_str;
 use text::bytes::equal;
 ghost use mathlib.Core.Path.{_≡_};
 ghost use Prim.Native.Nat.{_≤_};
 ghost use lib.ListN.{length, drop};
-ghost use Rattle.jsdoc.specs.Reader.{attributeMode, parseAttribute, firstMode, comma, separatedList, parseImportAttributeBlockForResolutionMode};
-ghost use Rattle.jsdoc.specs.code.Answers.{Finds, Gives};
+ghost use Rattle.jsdoc.specs.Reader.{unnamed, attributeMode, parseAttribute, firstMode, comma, separatedList, parseImportAttributeBlockForResolutionMode};
+ghost use Rattle.jsdoc.specs.code.Answers.{attributeModeAs, Finds, Holds, Gives};
 
-// The mode of an attribute by its key and its value; 3 where its key is not the one.
-fn attribute_mode(key: &[u8], value: &[u8]) -> u8
-    ensures { λ r. ⌜ r ≡ attributeMode (now (key .entry)) (now (value .entry)) ⌝ }
+// The mode of an attribute by its key and its value.
+fn attribute_mode(key: &[u8], value: &[u8]) -> AttributeMode
+    ensures { λ r. ⌜ attributeModeAs r ≡ attributeMode (now (key .entry)) (now (value .entry)) ⌝ }
 {
     if equal(key, b"resolution-mode") {
-        return from_str(value);
+        return AttributeMode {
+            named: true,
+            mode: from_str(value),
+        };
     }
-    3
+    AttributeMode {
+        named: false,
+        mode: ModeFound::Nothing,
+    }
 }
 
-fn parse_attribute(s: &[u8], at: usize) -> ModeRead
+fn parse_attribute(s: &[u8], at: usize) -> AttributesRead
     requires { ⌜ at ≤ length (now s) ⌝ }
-    ensures { λ r. ⌜ Gives (now (s .entry)) (parseAttribute (drop at (now (s .entry)))) r ⌝ }
+    ensures { λ r. ⌜ Holds (now (s .entry)) (parseAttribute (drop at (now (s .entry)))) r ⌝ }
 {
     let Text::Part {
         from: key,
@@ -35,11 +44,11 @@ fn parse_attribute(s: &[u8], at: usize) -> ModeRead
         past,
     } = parse_key(s, at)
     else {
-        return ModeRead::Backtrace;
+        return AttributesRead::Backtrace;
     };
     let colon = skip_whitespace(s, past);
     let Skipped::At(quote) = word(s, colon, b":") else {
-        return ModeRead::Backtrace;
+        return AttributesRead::Backtrace;
     };
     let Text::Part {
         from,
@@ -47,17 +56,17 @@ fn parse_attribute(s: &[u8], at: usize) -> ModeRead
         past: end,
     } = quote_at(s, quote)
     else {
-        return ModeRead::Backtrace;
+        return AttributesRead::Backtrace;
     };
     let mode = attribute_mode(&s[key..key_end], &s[from..to]);
-    ModeRead::Past { mode, past: end }
+    AttributesRead::Past { mode, past: end }
 }
 
-// The first of two modes that is not 3.
-fn first_mode(m: u8, n: u8) -> u8
-    ensures { λ r. ⌜ r ≡ firstMode m n ⌝ }
+// The first of two that is named.
+fn first_mode(first: AttributeMode, second: AttributeMode) -> AttributeMode
+    ensures { λ r. ⌜ attributeModeAs r ≡ firstMode (attributeModeAs first) (attributeModeAs second) ⌝ }
 {
-    if m == 3 { n } else { m }
+    if first.named { first } else { second }
 }
 
 // Past the comma at `at` and the white space around it.
@@ -69,20 +78,23 @@ fn comma(s: &[u8], at: usize) -> Skipped
     word(s, past, b",")
 }
 
-// The attributes from `at` on, parted by commas: the first mode among them that is not 3, and the place past them.
-fn separated_list(s: &[u8], at: usize) -> ModeRead
+// The attributes from `at` on, parted by commas: the first mode among them, and the place past them.
+fn separated_list(s: &[u8], at: usize) -> AttributesRead
     requires { ⌜ at ≤ length (now s) ⌝ }
-    ensures { λ r. ⌜ Gives (now (s .entry)) (separatedList 3 (drop at (now (s .entry)))) r ⌝ }
+    ensures { λ r. ⌜ Holds (now (s .entry)) (separatedList unnamed (drop at (now (s .entry)))) r ⌝ }
 {
     let mut i = at;
-    let mut mode = 3;
+    let mut mode = AttributeMode {
+        named: false,
+        mode: ModeFound::Nothing,
+    };
     loop {
-        let ModeRead::Past { mode: n, past } = parse_attribute(s, i) else {
-            return ModeRead::Past { mode, past: i };
+        let AttributesRead::Past { mode: n, past } = parse_attribute(s, i) else {
+            return AttributesRead::Past { mode, past: i };
         };
         mode = first_mode(mode, n);
         let Skipped::At(next) = comma(s, past) else {
-            return ModeRead::Past { mode, past };
+            return AttributesRead::Past { mode, past };
         };
         i = next;
     }
@@ -95,16 +107,14 @@ pub fn parse_import_attribute_block_for_resolution_mode(rest: &[u8]) -> ModeRead
     let Skipped::At(first) = word(rest, 0, b"{") else {
         return ModeRead::Backtrace;
     };
-    let ModeRead::Past { mode, past } = separated_list(rest, first) else {
+    let AttributesRead::Past { mode, past } = separated_list(rest, first) else {
         return ModeRead::Backtrace;
     };
     let close = skip_whitespace(rest, past);
     let Skipped::At(end) = tag(rest, close, b"}") else {
         return ModeRead::Backtrace;
     };
-    if mode == 3 {
-        return ModeRead::Past { mode: 0, past: end };
-    }
+    let mode = mode.mode;
     ModeRead::Past { mode, past: end }
 }
 

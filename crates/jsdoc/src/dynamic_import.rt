@@ -10,9 +10,11 @@ use super::pieces::tag;
 use super::pieces::up_to;
 use super::pieces::word;
 use super::quote::quote_at;
+use analysis::mode::ModeFound;
 use text::bytes::starts_with;
 ghost use Prim.Native.Nat.{_≤_};
 ghost use lib.ListN.{length, drop};
+ghost use Rattle.analysis.specs.code.Mode.{modeAs};
 ghost use Rattle.jsdoc.specs.Parsed.{value};
 ghost use Rattle.jsdoc.specs.Reader.{secondParamStart, parseSecondParamObjWithLeadingComma, closeCall, parseTail, parseCall};
 ghost use Rattle.jsdoc.specs.code.Answers.{Finds, Gives, Imports, Scans};
@@ -53,9 +55,9 @@ fn parse_second_param_obj_with_leading_comma(s: &[u8], at: usize) -> ModeRead
 }
 
 // `)` at `at`, and then a closing brace.
-fn close_call(s: &[u8], at: usize, mode: u8) -> ModeRead
+fn close_call(s: &[u8], at: usize, mode: ModeFound) -> ModeRead
     requires { ⌜ at ≤ length (now s) ⌝ }
-    ensures { λ r. ⌜ Gives (now (s .entry)) (closeCall mode (drop at (now (s .entry)))) r ⌝ }
+    ensures { λ r. ⌜ Gives (now (s .entry)) (closeCall (modeAs mode) (drop at (now (s .entry)))) r ⌝ }
 {
     let Skipped::At(run) = tag(s, at, b")") else {
         return ModeRead::Backtrace;
@@ -74,7 +76,7 @@ fn parse_tail(s: &[u8], at: usize) -> ModeRead
     let param = skip_whitespace(s, at);
     match parse_second_param_obj_with_leading_comma(s, param) {
         ModeRead::Past { mode, past } => close_call(s, past, mode),
-        ModeRead::Backtrace => close_call(s, param, 0),
+        ModeRead::Backtrace => close_call(s, param, ModeFound::Nothing),
     }
 }
 

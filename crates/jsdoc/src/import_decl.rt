@@ -10,6 +10,7 @@ use super::pieces::tag;
 use super::pieces::whitespace;
 use super::pieces::word;
 use super::quote::quote_at;
+use analysis::mode::ModeFound;
 ghost use Prim.Native.Nat.{_≤_};
 ghost use lib.ListN.{length, drop};
 ghost use Rattle.jsdoc.specs.Parsed.{value};
@@ -50,7 +51,7 @@ fn parse_from(s: &[u8], at: usize) -> JsDocImport
         ModeRead::Backtrace => JsDocImport::Import {
             start,
             end,
-            mode: 0,
+            mode: ModeFound::Nothing,
         },
     }
 }

@@ -2,11 +2,13 @@
 use super::answers::JsDocImport;
 use super::dynamic_import::parse_jsdoc_dynamic_import;
 use super::import_decl::parse_jsdoc_import_decl;
+use analysis::mode::mode_number;
 use text::bytes::next_of;
 ghost use mathlib.Core.Path.{_≡_};
 ghost use lib.ListN.{length, replicate};
 ghost use Rattle.jsdoc.specs.Grammar.{Brace, ListedBy, Listed};
-ghost use Rattle.jsdoc.specs.Marks.{Marks, Room, marked};
+ghost use Rattle.jsdoc.specs.code.Marks.{Marks};
+ghost use Rattle.jsdoc.specs.code.Answers.{Room, marked};
 
 // Clears the marks.
 pub fn clear(marks: &mut [u8])
@@ -30,7 +32,7 @@ fn mark(marks: &mut [u8], base: usize, found: JsDocImport)
             end: _,
             mode,
         } => {
-            marks[base + start] = mode + 1;
+            marks[base + start] = mode_number(mode) + 1;
         }
         JsDocImport::Backtrace => {}
     }
@@ -66,7 +68,7 @@ fn mark_declarations(body: &[u8], marks: &mut [u8])
     }
 }
 
-// Marks each place of `body` at which the place of a reading begins with 1 + its mode, and each other with 0.
+// Marks each place of `body` at which the place of a reading begins with 1 + the number of its mode, and each other with 0.
 pub fn mark_imports(body: &[u8], marks: &mut [u8])
     requires { ⌜ length (now marks) ≡ length (now body) ⌝ }
     ensures { λ r. ⌜ Marks (Listed (now (body .entry))) (length (now (body .entry))) (now (marks .exit)) ⌝ }

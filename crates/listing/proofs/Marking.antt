@@ -9,8 +9,10 @@ use native.Mathlib.Omega.{arith}
 use native.Mathlib.Decide.{decLt}
 use lib.ListN.{length, take, drop, getD, length-append, length-drop, List·getD-append, List·getD-eq-default}
 use lib.Seq.{drop-drop, length-take-le, getD-append-add, getD-take, getD-drop}
+use Rattle.analysis.specs.Mode.{Mode, modeNumber}
+use Rattle.analysis.proofs.Modes.{number-small}
 use Rattle.jsdoc.specs.Grammar.{Listed}
-use Rattle.jsdoc.specs.Marks.{Marks}
+use Rattle.jsdoc.specs.code.Marks.{Marks}
 use Rattle.jsdoc.specs.Listing.{listing}
 use Rattle.jsdoc.proofs.Marked.{marks-iff, marks-unique, marks-nothing}
 use Rattle.jsdoc.proofs.Listing.{listing-marks}
@@ -24,11 +26,11 @@ use Rattle.listing.specs.Demand.{StarOpened}
 use Rattle.listing.proofs.StarOpened.{opened-sound, opened-complete}
 
 -- a star-opened comment lists a place that begins at q of the source
-abbrev pub ReadBy : List ℕ → Comment → ℕ → ℕ → Type 0
+abbrev pub ReadBy : List ℕ → Comment → ℕ → Mode → Type 0
 ReadBy source c q m = StarOpened source c × (j : ℕ) × (q ≡ bodySpan c .start + j) × Listed (body source c) j m
 
 -- some comment does
-abbrev pub ReadIn : List ℕ → List Comment → ℕ → ℕ → Type 0
+abbrev pub ReadIn : List ℕ → List Comment → ℕ → Mode → Type 0
 ReadIn source cs q m = (k : ℕ) × (k < length cs) × ReadBy source (commentOf cs k) q m
 
 -- a list with another in place of its part from a to b
@@ -56,7 +58,7 @@ module _ (a b : ℕ) (l p : List ℕ) (h : a ≤ b) (e : b ≤ length l) (s : le
       ∙ getD-drop b l (q - b) 0 ∙ ap (λ (n : ℕ). getD l n 0) m
 
 -- what is marked is inside the table
-marks-below : {P : ℕ → ℕ → Type 0} {n : ℕ} {l : List ℕ} → Marks P n l → (q m : ℕ) → P q m → q < n
+marks-below : {P : ℕ → Mode → Type 0} {n : ℕ} {l : List ℕ} → Marks P n l → (q : ℕ) (m : Mode) → P q m → q < n
 marks-below {n} {l} k q m r = go (decLt q n)
   where
     go : Dec (q < n) → q < n
@@ -64,22 +66,24 @@ marks-below {n} {l} k q m r = go (decLt q n)
     go (no h) = absurd (omega (arith, k .complete q m r, List·getD-eq-default l 0 {n = q} (omega (arith, k .same))))
 
 -- marks in place of a part of others that reach up to it
-module _ {P R : ℕ → ℕ → Type 0} {n : ℕ} {l p : List ℕ} (a b : ℕ) (h : a ≤ b) (g : b ≤ n) (k : Marks P n l) (t : Marks R (b - a) p) where
-  marks-pasted : ((q m : ℕ) → P q m → q < a) → Marks (λ q m. P q m ⊎ ((j : ℕ) × (q ≡ a + j) × R j m)) n (take a l ++ (p ++ drop b l))
-  marks-pasted before = record { same = pasted-length a b l p h end (t .same) ∙ k .same; sound = λ q m e. sound q m e (decLt q a) (decLt q b); complete = complete }
+module _ {P R : ℕ → Mode → Type 0} {n : ℕ} {l p : List ℕ} (a b : ℕ) (h : a ≤ b) (g : b ≤ n) (k : Marks P n l) (t : Marks R (b - a) p) where
+  marks-pasted : ((q : ℕ) (m : Mode) → P q m → q < a) → Marks (λ q m. P q m ⊎ ((j : ℕ) × (q ≡ a + j) × R j m)) n (take a l ++ (p ++ drop b l))
+  marks-pasted before = record { same = pasted-length a b l p h end (t .same) ∙ k .same; sound = λ q i e. sound q i e (decLt q a) (decLt q b); complete = complete }
     where
       end : b ≤ length l
       end = rw (k .same) g
 
-      sound : (q m : ℕ) → getD (take a l ++ (p ++ drop b l)) q 0 ≡ m + 1 → Dec (q < a) → Dec (q < b) → P q m ⊎ ((j : ℕ) × (q ≡ a + j) × R j m)
-      sound q m e (yes i) d = inl (k .sound q m (sym (pasted-front a b l p h end (t .same) q i) ∙ e))
-      sound q m e (no i) (yes d) =
+      sound : (q v : ℕ) → getD (take a l ++ (p ++ drop b l)) q 0 ≡ v + 1 → Dec (q < a) → Dec (q < b)
+          → (m : Mode) × (modeNumber m ≡ v) × (P q m ⊎ ((j : ℕ) × (q ≡ a + j) × R j m))
+      sound q v e (yes i) d = let (m, n, r) = k .sound q v (sym (pasted-front a b l p h end (t .same) q i) ∙ e) in (m, n, inl r)
+      sound q v e (no i) (yes d) =
           let s : q ≡ a + (q - a) = omega arith in
           let f = pasted-part a b l p h end (t .same) (q - a) (omega (arith, t .same)) in
-          inr (q - a, s, t .sound (q - a) m (sym f ∙ ap (λ (n : ℕ). getD (take a l ++ (p ++ drop b l)) n 0) (sym s) ∙ e))
-      sound q m e (no i) (no d) = inl (k .sound q m (sym (pasted-past a b l p h end (t .same) q (omega arith)) ∙ e))
+          let (m, n, r) = t .sound (q - a) v (sym f ∙ ap (λ (n : ℕ). getD (take a l ++ (p ++ drop b l)) n 0) (sym s) ∙ e) in
+          (m, n, inr (q - a, s, r))
+      sound q v e (no i) (no d) = let (m, n, r) = k .sound q v (sym (pasted-past a b l p h end (t .same) q (omega arith)) ∙ e) in (m, n, inl r)
 
-      complete : (q m : ℕ) → P q m ⊎ ((j : ℕ) × (q ≡ a + j) × R j m) → getD (take a l ++ (p ++ drop b l)) q 0 ≡ m + 1
+      complete : (q : ℕ) (m : Mode) → P q m ⊎ ((j : ℕ) × (q ≡ a + j) × R j m) → getD (take a l ++ (p ++ drop b l)) q 0 ≡ modeNumber m + 1
       complete q m (inl r) = pasted-front a b l p h end (t .same) q (before q m r) ∙ k .complete q m r
       complete q m (inr (j, e, r)) = rw e (pasted-part a b l p h end (t .same) j (rw (t .same) (marks-below t j m r)) ∙ t .complete j m r)
 
@@ -88,11 +92,11 @@ module _ {source : List ℕ} (c : Comment) (w : Within source c) where
   body-marks = rw (w .long) at (listing-marks (body source c))
 
   -- a place that a comment lists is in its body
-  pub read-below : {q m : ℕ} → ReadBy source c q m → (bodySpan c .start ≤ q) × (q < bodySpan c .end)
+  pub read-below : {q : ℕ} {m : Mode} → ReadBy source c q m → (bodySpan c .start ≤ q) × (q < bodySpan c .end)
   read-below {m} (o, j, e, r) = let below = marks-below body-marks j m r in (omega arith, omega (arith, w .order))
 
   -- the marks of one comment more, behind all places that are marked
-  marks-by : {P : ℕ → ℕ → Type 0} {l : List ℕ} → Marks P (length source) l → ((q m : ℕ) → P q m → q < bodySpan c .start)
+  marks-by : {P : ℕ → Mode → Type 0} {l : List ℕ} → Marks P (length source) l → ((q : ℕ) (m : Mode) → P q m → q < bodySpan c .start)
       → Marks (λ q m. P q m ⊎ ReadBy source c q m) (length source) (markedBy source c l)
   unfolding markedBy
   marks-by {P} {l} k before = go (isStarOpened source c) refl
@@ -107,8 +111,8 @@ module _ {source : List ℕ} (c : Comment) (w : Within source c) where
 fit-tail : {source : List ℕ} {c : Comment} {cs : List Comment} → Fit source (c ∷ cs) → Fit source cs
 fit-tail f = record { each = λ k l. f .each (suc k) (suc-le-suc l); apart = λ j k i l. f .apart (suc j) (suc k) (suc-le-suc i) (suc-le-suc l) }
 
-marks-by-all : {source : List ℕ} (cs : List Comment) → Fit source cs → {P : ℕ → ℕ → Type 0} {l : List ℕ} → Marks P (length source) l
-    → ((k q m : ℕ) → k < length cs → P q m → q < bodySpan (commentOf cs k) .start)
+marks-by-all : {source : List ℕ} (cs : List Comment) → Fit source cs → {P : ℕ → Mode → Type 0} {l : List ℕ} → Marks P (length source) l
+    → ((k q : ℕ) (m : Mode) → k < length cs → P q m → q < bodySpan (commentOf cs k) .start)
     → Marks (λ q m. P q m ⊎ ReadIn source cs q m) (length source) (markedByAll source cs l)
 unfolding markedByAll
 marks-by-all [] f k before = marks-iff (λ q m r. inl r) (λ q m r. ⊎-elim (λ x. x) (λ x. absurd (omega (arith, x .1))) r) k
@@ -118,18 +122,18 @@ marks-by-all {source} (c ∷ cs) f {P} k before =
     w : Within source c
     w = placed-body source c (f .each 0 (suc-le-suc zero-le))
 
-    later : (k q m : ℕ) → k < length cs → P q m ⊎ ReadBy source c q m → q < bodySpan (commentOf cs k) .start
+    later : (k q : ℕ) (m : Mode) → k < length cs → P q m ⊎ ReadBy source c q m → q < bodySpan (commentOf cs k) .start
     later k q m h (inl r) = before (suc k) q m (suc-le-suc h) r
     later k q m h (inr r) =
         let v = placed-body source (commentOf cs k) (f .each (suc k) (suc-le-suc h)) in
         omega (arith, read-below c w r .1, w .end, f .apart 0 (suc k) (suc-le-suc zero-le) (suc-le-suc h), v .start)
 
-    on : (q m : ℕ) → (P q m ⊎ ReadBy source c q m) ⊎ ReadIn source cs q m → P q m ⊎ ReadIn source (c ∷ cs) q m
+    on : (q : ℕ) (m : Mode) → (P q m ⊎ ReadBy source c q m) ⊎ ReadIn source cs q m → P q m ⊎ ReadIn source (c ∷ cs) q m
     on q m (inl (inl r)) = inl r
     on q m (inl (inr r)) = inr (0, suc-le-suc zero-le, r)
     on q m (inr (k, h, r)) = inr (suc k, suc-le-suc h, r)
 
-    back : (q m : ℕ) → P q m ⊎ ReadIn source (c ∷ cs) q m → (P q m ⊎ ReadBy source c q m) ⊎ ReadIn source cs q m
+    back : (q : ℕ) (m : Mode) → P q m ⊎ ReadIn source (c ∷ cs) q m → (P q m ⊎ ReadBy source c q m) ⊎ ReadIn source cs q m
     back q m (inl r) = inl (inl r)
     back q m (inr (zero, h, r)) = inl (inr r)
     back q m (inr (suc k, h, r)) = inr (k, omega arith, r)
@@ -138,6 +142,14 @@ pub marks-of : {source : List ℕ} (cs : List Comment) → Fit source cs → Mar
 marks-of {source} cs f =
     marks-iff (λ q m r. ⊎-elim (λ x. absurd x) (λ x. x) r) (λ q m r. inr r)
     (marks-by-all cs f (marks-nothing (λ q m r. r) (length source)) (λ k q m h r. absurd r))
+
+-- no mark is more than 3
+pub marks-small : {source : List ℕ} {cs : List Comment} → Fit source cs → (q : ℕ) → getD (marksOf source cs) q 0 ≤ 3
+marks-small {source} {cs} fit q = go (getD (marksOf source cs) q 0) refl
+  where
+    go : (v : ℕ) → getD (marksOf source cs) q 0 ≡ v → v ≤ 3
+    go zero e = omega arith
+    go (suc v) e = let (m, n, r) = marks-of cs fit .sound q v (omega arith) in omega (arith, n, number-small m)
 
 -- ---- the turns of the code
 

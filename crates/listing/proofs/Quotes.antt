@@ -9,6 +9,7 @@ use lib.ListN.{length, take, drop, length-append, length-drop}
 use lib.Seq.{take-at, append-snoc}
 use Rattle.text.specs.declared.utf8.Encoding.the-variants.{Utf8}
 use Rattle.text.specs.Utf8.{formed}
+use Rattle.analysis.specs.Mode.{Mode}
 use Rattle.jsdoc.specs.Grammar.{Quote, Reading, From}
 use Rattle.jsdoc.proofs.Texts.{quote-complete, quote-shorter}
 use Rattle.jsdoc.proofs.Places.{place-quote, quote-boundaries}
@@ -40,14 +41,14 @@ quote-alone {k} {s} {t} n e r =
     record { mark = r .mark; r1 = k ++ (r .mark ∷ []); is-mark = r .is-mark; first = rw whole (take-at quote t n size); rest = (r .rest .0, refl) }
 
 -- an import is reported from q on, and stands from there to e
-pub record Standing (source : List ℕ) (q e mode : ℕ) : Type 0 where
+pub record Standing (source : List ℕ) (q e : ℕ) (mode : Mode) : Type 0 where
   pub import : JsDocImportInfo
   pub is : importAt source q mode ≡ Option.some import
   pub stands : ImportAt source import (record { start = q; end = e })
   pub mode-is : import .mode ≡ mode
 
 module _ {source : List ℕ} (f : formed Utf8 0 source ≡ true) where
-  quote-stands : (q e mode : ℕ) {k : List ℕ} → e ≤ length source → Quote k (drop q source) (drop e source) → Standing source q e mode
+  quote-stands : (q e : ℕ) (mode : Mode) {k : List ℕ} → e ≤ length source → Quote k (drop q source) (drop e source) → Standing source q e mode
   unfolding importAt
   quote-stands q e mode {k} l r =
       let bounds = quote-boundaries source f q e l r in
@@ -61,7 +62,7 @@ module _ {source : List ℕ} (f : formed Utf8 0 source ≡ true) where
       }
 
   -- the import of a reading in a comment
-  pub reading-stands : (c : Comment) → Within source c → {k j mode : ℕ} (r : From Reading (body source c) k j mode)
+  pub reading-stands : (c : Comment) → Within source c → {k j : ℕ} {mode : Mode} (r : From Reading (body source c) k j mode)
       → Standing source (bodySpan c .start + j) (bodySpan c .start + r .end) mode
   reading-stands c w {j} {mode} r =
       let (k, t) = place-quote (r .reads) in

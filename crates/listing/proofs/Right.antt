@@ -10,6 +10,8 @@ use native.Mathlib.Decide.{decLt}
 use lib.ListN.{length, getD}
 use Rattle.text.specs.declared.utf8.Encoding.the-variants.{Utf8}
 use Rattle.text.specs.Utf8.{formed}
+use Rattle.wire.specs.Fields.{valueOf}
+use Rattle.analysis.specs.Mode.{Mode, modeNumber}
 use Rattle.jsdoc.specs.Grammar.{Reading, From}
 use Rattle.jsdoc.proofs.Places.{one-place}
 use Rattle.sheet.specs.declared.fields.Span.{Span}
@@ -19,7 +21,9 @@ use Rattle.sheet.specs.Lookups.{bodySpan, body}
 use Rattle.sheet.specs.declared.names.MediaType.{MediaType}
 use Rattle.sheet.specs.Media.{isJavaScript}
 use Rattle.sheet.proofs.Bodies.{Within, placed-body}
-use Rattle.report.specs.ModuleInfo.{Mode, JsDocImportInfo}
+use Rattle.report.specs.ModuleInfo.{JsDocImportInfo}
+use Rattle.report.specs.Decode.{modes}
+use Rattle.report.proofs.Modes.{mode-numbers}
 use Rattle.listing.specs.Imports.{marksOf, importAt, importsFrom, jsdocImports}
 use Rattle.listing.specs.Demand.{ListedIn, ImportAt, Lists, JsDocRight, OnlyRight}
 use Rattle.listing.proofs.Marking.{ReadIn, read-below, marks-of}
@@ -29,15 +33,15 @@ use Rattle.listing.proofs.Only.{one-right}
 
 module _ {source : List ℕ} {cs : List Comment} where
   -- the place of a reading by its start
-  listed-of : {q m : ℕ} → ReadIn source cs q m → (e : ℕ) × ListedIn source cs (record { start = q; end = e }) m
+  listed-of : {q : ℕ} {m : Mode} → ReadIn source cs q m → (e : ℕ) × ListedIn source cs (record { start = q; end = e }) m
   listed-of (k, h, (o, j, s, (i, r))) =
       (bodySpan (commentOf cs k) .start + r .end, record { k = k; there = h; opened = o; from = i; at = j; reading = r; start = s; end = refl })
 
-  read-of : {p : Span} {m : ℕ} → ListedIn source cs p m → ReadIn source cs (p .start) m
+  read-of : {p : Span} {m : Mode} → ListedIn source cs p m → ReadIn source cs (p .start) m
   read-of l = (l .k, l .there, (l .opened, l .at, l .start, (l .from, l .reading)))
 
 -- two readings of one body whose places begin together
-module _ (source : List ℕ) (c : Comment) {i a m : ℕ} (r : From Reading (body source c) i a m) {j n : ℕ} where
+module _ (source : List ℕ) (c : Comment) {i a : ℕ} {m : Mode} (r : From Reading (body source c) i a m) {j : ℕ} {n : Mode} where
   at-one-place : (b : ℕ) → a ≡ b → (t : From Reading (body source c) j b n) → (r .end ≡ t .end) × (m ≡ n)
   at-one-place b e = subst (λ (x : ℕ). (t : From Reading (body source c) j x n) → (r .end ≡ t .end) × (m ≡ n)) e (one-place r)
 
@@ -60,7 +64,7 @@ module _ {source : List ℕ} {cs : List Comment} (fit : Fit source cs) where
       let w = body-within j g in
       omega (arith, v .end, w .start, fit .apart k j l g)
 
-  one-comment : {q p m n : ℕ} (r : ReadIn source cs q m) (t : ReadIn source cs p n) → q ≡ p → r .0 ≡ t .0
+  one-comment : {q p : ℕ} {m n : Mode} (r : ReadIn source cs q m) (t : ReadIn source cs p n) → q ≡ p → r .0 ≡ t .0
   one-comment {q} {p} (k, h, r) (j, g, t) e = go (read-below (commentOf cs k) (body-within k h) r) (read-below (commentOf cs j) (body-within j g) t) (decLt k j) (decLt j k)
     where
       go : (bodySpan (commentOf cs k) .start ≤ q) × (q < bodySpan (commentOf cs k) .end) → (bodySpan (commentOf cs j) .start ≤ p) × (p < bodySpan (commentOf cs j) .end)
@@ -77,11 +81,14 @@ module _ {source : List ℕ} {cs : List Comment} (fit : Fit source cs) where
       (l .end ∙ x ∙ sym (t .end), y)
 
   module _ (f : formed Utf8 0 source ≡ true) where
-    stands : {p : Span} {m : ℕ} → ListedIn source cs p m → Standing source (p .start) (p .end) m
+    stands : {p : Span} {m : Mode} → ListedIn source cs p m → Standing source (p .start) (p .end) m
     stands l = rw (l .start, l .end) (reading-stands f (commentOf cs (l .k)) (body-within (l .k) (l .there)) (l .reading))
 
-    listed-at : (q m : ℕ) → getD (marksOf source cs) q 0 ≡ m + 1 → (e : ℕ) × ListedIn source cs (record { start = q; end = e }) m
-    listed-at q m h = listed-of {source = source} {cs = cs} (marks-of cs fit .sound q m h)
+    listed-at : (q n : ℕ) → getD (marksOf source cs) q 0 ≡ n + 1 → (e : ℕ) × ListedIn source cs (record { start = q; end = e }) (valueOf modes n)
+    listed-at q n h =
+        let (m, is, r) = marks-of cs fit .sound q n h in
+        let same : m ≡ valueOf modes n = sym (mode-numbers .back m) ∙ ap (valueOf modes) is in
+        listed-of {source = source} {cs = cs} (rw same at r)
 
     -- an import stands at each mark
     pub standings : Standings source (marksOf source cs) 0
@@ -93,7 +100,7 @@ module _ {source : List ℕ} {cs : List Comment} (fit : Fit source cs) where
       listed : ListedIn source cs place (i .mode)
       stand : ImportAt source i place
 
-    origin-by : {p : Span} {m : ℕ} (l : ListedIn source cs p m) {i : JsDocImportInfo} → importAt source (p .start) m ≡ Option.some i → Origin i
+    origin-by : {p : Span} {m : Mode} (l : ListedIn source cs p m) {i : JsDocImportInfo} → importAt source (p .start) m ≡ Option.some i → Origin i
     origin-by {p} {m} l {i} is =
         let t = stands l in
         let same : t .import ≡ i = cc (t .is) in
@@ -116,7 +123,7 @@ module _ {source : List ℕ} {cs : List Comment} (fit : Fit source cs) where
         let t = stands l in
         record {
           import = t .import;
-          among = in-list source (marksOf source cs) 0 (p .start) m (marks-of cs fit .complete (p .start) m (read-of l)) (rw zero-add (t .is));
+          among = in-list source (marksOf source cs) 0 (p .start) (modeNumber m) (marks-of cs fit .complete (p .start) m (read-of l)) (rw (zero-add, mode-numbers .back m) (t .is));
           stands = t .stands;
           mode-is = t .mode-is;
         }

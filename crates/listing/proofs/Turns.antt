@@ -11,6 +11,7 @@ use Rattle.text.specs.declared.utf8.Encoding.the-variants.{Utf8}
 use Rattle.text.specs.Utf8.{formed}
 use Rattle.text.specs.Bytes.{part}
 use Rattle.laws.proofs.Onward.{carried-to}
+use Rattle.wire.specs.Fields.{valueOf}
 use Rattle.wire.specs.Number.{encodeNumber}
 use Rattle.jsdoc.specs.Parsed.{ok}
 use Rattle.jsdoc.specs.Reader.{parseQuote}
@@ -19,7 +20,9 @@ use Rattle.sheet.specs.Fit.{Fit}
 use Rattle.sheet.specs.declared.names.MediaType.{MediaType}
 use Rattle.sheet.specs.Media.{isJavaScript}
 use Rattle.report.specs.Encode.{encodeList, encodeSpecifier, encodeJsDoc}
+use Rattle.report.specs.Decode.{modes}
 use Rattle.report.specs.Range.{rangeOf}
+use Rattle.report.proofs.Modes.{mode-numbers}
 use Rattle.pragmas.specs.code.Views.{encodeAny}
 use Rattle.pragmas.proofs.Between.{listed-each}
 use Rattle.listing.specs.Imports.{marksOf, countOf, importAt, importsFrom, jsdocImports}
@@ -40,12 +43,12 @@ module _ (source marks : List ℕ) (q : ℕ) (h : q < length marks) where
 
   pub marked-next : (getD marks q 0 ≡ 0 → ⊥)
       → flatMap encodeJsDoc (importsFrom source q (drop q marks))
-      ≡ encodeAny encodeJsDoc (importAt source q (getD marks q 0 - 1)) ++ flatMap encodeJsDoc (importsFrom source (q + 1) (drop (q + 1) marks))
+      ≡ encodeAny encodeJsDoc (importAt source q (valueOf modes (getD marks q 0 - 1))) ++ flatMap encodeJsDoc (importsFrom source (q + 1) (drop (q + 1) marks))
   unfolding importsFrom
   marked-next e =
       let n : getD marks q 0 ≡ suc (getD marks q 0 - 1) = first-mode (getD marks q 0) e in
       ap (λ (l : List ℕ). flatMap encodeJsDoc (importsFrom source q l)) (first-mark marks q h ∙ ap (_∷ drop (q + 1) marks) n)
-      ∙ rw (← add-one q) (listed-each encodeJsDoc (importAt source q (getD marks q 0 - 1)) (importsFrom source (q + 1) (drop (q + 1) marks)))
+      ∙ rw (← add-one q) (listed-each encodeJsDoc (importAt source q (valueOf modes (getD marks q 0 - 1))) (importsFrom source (q + 1) (drop (q + 1) marks)))
 
 module _ (marks : List ℕ) (q : ℕ) (h : q < length marks) where
   pub count-next : getD marks q 0 ≡ 0 → countOf (drop q marks) ≡ countOf (drop (q + 1) marks)
@@ -69,13 +72,13 @@ module _ (marks : List ℕ) (q r : ℕ) (l : q ≤ r) (h : r ≤ length marks) (
       (λ k g n e. e ∙ unmarked-next source marks k (omega arith) (none k g n))
 
 -- the bytes of an import whose quote was read
-pub encode-import : (source : List ℕ) (at mode from to past : ℕ) → parseQuote (drop at source) ≡ ok (part source from to) (drop past source) → past ≤ length source
-    → encodeAny encodeJsDoc (importAt source at mode)
-    ≡ 1 ∷ (encodeSpecifier (record { text = part source from to; range = rangeOf source (record { start = at; end = past }) }) ++ (mode ∷ []))
+pub encode-import : (source : List ℕ) (at number from to past : ℕ) → number ≤ 2 → parseQuote (drop at source) ≡ ok (part source from to) (drop past source) → past ≤ length source
+    → encodeAny encodeJsDoc (importAt source at (valueOf modes number))
+    ≡ 1 ∷ (encodeSpecifier (record { text = part source from to; range = rangeOf source (record { start = at; end = past }) }) ++ (number ∷ []))
 unfolding importAt encodeJsDoc
-encode-import source at mode from to past e l =
+encode-import source at number from to past small e l =
     let n : length source - length (drop past source) ≡ past = omega (arith, length-drop past source) in
-    rw (e, n)
+    rw (e, n, mode-numbers .there number (omega arith))
 
 -- the bytes of all imports
 module _ (source : List ℕ) (cs : List Comment) (media : MediaType) where

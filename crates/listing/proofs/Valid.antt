@@ -1,5 +1,5 @@
 -- The JSDoc imports of a sheet can be written, and there are no more of them than bytes of its source.
-use mathlib.Core.Path.{refl, ap, _∙_}
+use mathlib.Core.Path.{ap, _∙_}
 use mathlib.Core.Bool.{Bool, true, false, cond}
 use mathlib.Core.List.{List, [], _∷_}
 use mathlib.Core.Option.{Option}
@@ -10,8 +10,8 @@ use Rattle.laws.specs.Codec.{All}
 use Rattle.laws.proofs.Lists.{of-members}
 use Rattle.text.specs.declared.utf8.Encoding.the-variants.{Utf8}
 use Rattle.text.specs.WellFormed.{WellFormed}
+use Rattle.wire.specs.Fields.{valueOf}
 use Rattle.jsdoc.specs.Grammar.{Quote}
-use Rattle.jsdoc.proofs.Marking.{mode-small}
 use Rattle.sheet.specs.Limits.{sourceLimit}
 use Rattle.sheet.specs.declared.names.MediaType.{MediaType}
 use Rattle.sheet.specs.declared.comments.Comment.{Comment}
@@ -19,6 +19,7 @@ use Rattle.sheet.specs.Fit.{Fit}
 use Rattle.sheet.specs.Media.{isJavaScript}
 use Rattle.sheet.specs.Sheet.{Sheet}
 use Rattle.report.specs.ModuleInfo.{JsDocImportInfo}
+use Rattle.report.specs.Decode.{modes}
 use Rattle.report.specs.Stands.{InMarks}
 use Rattle.report.proofs.Stands.{Good, marks-good}
 use Rattle.pragmas.specs.Readings.{listed}
@@ -31,18 +32,17 @@ in-marks : {k s : List ℕ} → Quote k s [] → InMarks k s
 in-marks q = record { opening = q .mark; closing = q .mark; opens = q .is-mark; closes = q .is-mark; all = q .first ∙ ap (λ (r : List ℕ). q .mark ∷ r) (q .rest .1) }
 
 pub imports-good : (t : Sheet) → length (t .source) ≤ sourceLimit → WellFormed Utf8 (t .source) → {l : List JsDocImportInfo} → JsDocRight (t .media) (t .source) (t .comments) l
-    → All (λ i. Good (i .specifier) × (i .mode ≤ 2)) l
+    → All (λ i. Good (i .specifier)) l
 imports-good t short w {l} right =
     of-members _ l λ i m.
     let (place, stands) = right .placed i m in
-    let (js, listed-in) = right .exactly place (i .mode) .0 (record { import = i; among = m; stands = stands; mode-is = refl }) in
-    (marks-good short w (record { range = stands .range; text = in-marks (stands .text) }), mode-small (listed-in .reading .reads))
+    marks-good short w (record { range = stands .range; text = in-marks (stands .text) })
 
 from-few : (source : List ℕ) (q : ℕ) (marks : List ℕ) → length (importsFrom source q marks) ≤ length marks
 unfolding importsFrom
 from-few source q [] = omega arith
 from-few source q (zero ∷ marks) = omega (arith, from-few source (suc q) marks)
-from-few source q (suc mode ∷ marks) = go (importAt source q mode) (from-few source (suc q) marks)
+from-few source q (suc number ∷ marks) = go (importAt source q (valueOf modes number)) (from-few source (suc q) marks)
   where
     go : (o : Option JsDocImportInfo) → length (importsFrom source (suc q) marks) ≤ length marks → length (listed o (importsFrom source (suc q) marks)) ≤ suc (length marks)
     go Option.none h = omega arith

@@ -9,6 +9,7 @@ use Rattle.laws.specs.Quoted.{ascii}
 use Rattle.laws.specs.Ordered.{Ordered}
 use Rattle.text.specs.declared.position.Position.{Position}
 use Rattle.text.specs.Position.{Before}
+use Rattle.analysis.specs.Mode.{Mode}
 use Rattle.jsdoc.specs.Grammar.{Quote, Reading, From}
 use Rattle.sheet.specs.declared.fields.Span.{Span}
 use Rattle.sheet.specs.declared.comments.Comment.{Comment}
@@ -17,7 +18,7 @@ use Rattle.sheet.specs.Lookups.{bodySpan, body}
 use Rattle.sheet.specs.declared.names.CommentKind.the-variants.{Block}
 use Rattle.sheet.specs.declared.names.MediaType.{MediaType}
 use Rattle.sheet.specs.Media.{isJavaScript}
-use Rattle.report.specs.ModuleInfo.{Mode, JsDocImportInfo}
+use Rattle.report.specs.ModuleInfo.{JsDocImportInfo}
 use Rattle.report.specs.Stands.{StandsAt}
 
 -- a block comment whose body begins with `*`

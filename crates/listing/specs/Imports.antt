@@ -6,6 +6,8 @@ use Prim.Native.Nat.{ℕ, zero, suc, _-_}
 use lib.ListN.{length, take, drop, replicate}
 use Rattle.laws.specs.Quoted.{ascii}
 use Rattle.text.specs.Bytes.{begins}
+use Rattle.wire.specs.Fields.{valueOf}
+use Rattle.analysis.specs.Mode.{Mode}
 use Rattle.jsdoc.specs.Parsed.{onParsed}
 use Rattle.jsdoc.specs.Reader.{parseQuote}
 use Rattle.jsdoc.specs.Listing.{listing}
@@ -13,7 +15,8 @@ use Rattle.sheet.specs.declared.comments.Comment.{Comment}
 use Rattle.sheet.specs.Lookups.{bodySpan, body}
 use Rattle.sheet.specs.declared.names.MediaType.{MediaType}
 use Rattle.sheet.specs.Media.{isJavaScript}
-use Rattle.report.specs.ModuleInfo.{Mode, JsDocImportInfo}
+use Rattle.report.specs.ModuleInfo.{JsDocImportInfo}
+use Rattle.report.specs.Decode.{modes}
 use Rattle.report.specs.Range.{rangeOf}
 use Rattle.pragmas.specs.Readings.{listed}
 use Rattle.pragmas.specs.Pragmas.{isBlock}
@@ -34,7 +37,7 @@ unfoldable pub markedByAll : List ℕ → List Comment → List ℕ → List ℕ
 markedByAll source [] marks = marks
 markedByAll source (c ∷ cs) marks = markedByAll source cs (markedBy source c marks)
 
--- a mark here is a number at a place of the source: 0, or 1 + the mode of the import whose quote begins there
+-- a mark here is a number at a place of the source: 0, or 1 + the number of the mode of the import whose quote begins there
 abbrev pub marksOf : List ℕ → List Comment → List ℕ
 marksOf source cs = markedByAll source cs (replicate (length source) 0)
 
@@ -46,7 +49,7 @@ marksIn media source cs = cond (isJavaScript media) (marksOf source cs) (replica
 unfoldable pub countOf : List ℕ → ℕ
 countOf [] = 0
 countOf (zero ∷ marks) = countOf marks
-countOf (suc mode ∷ marks) = suc (countOf marks)
+countOf (suc number ∷ marks) = suc (countOf marks)
 
 -- the import whose quote begins at q: the text between its two quotation marks, and the positions of the whole quote
 unfoldable pub importAt : List ℕ → ℕ → Mode → Option JsDocImportInfo
@@ -58,11 +61,11 @@ importAt source q mode =
     }))
     Option.none
 
--- the imports at the places from q on that are marked with 1 + their mode
+-- the imports at the places from q on that are marked with 1 + the number of their mode
 unfoldable pub importsFrom : List ℕ → ℕ → List ℕ → List JsDocImportInfo
 importsFrom source q [] = []
 importsFrom source q (zero ∷ marks) = importsFrom source (suc q) marks
-importsFrom source q (suc mode ∷ marks) = listed (importAt source q mode) (importsFrom source (suc q) marks)
+importsFrom source q (suc number ∷ marks) = listed (importAt source q (valueOf modes number)) (importsFrom source (suc q) marks)
 
 -- none but in JavaScript
 unfoldable pub jsdocImports : MediaType → List ℕ → List Comment → List JsDocImportInfo

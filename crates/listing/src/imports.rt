@@ -13,12 +13,14 @@ use sheet::names::MediaType;
 use text::bytes::next_nonzero;
 ghost use mathlib.Core.Path.{_≡_};
 ghost use mathlib.Core.List.{flatMap};
-ghost use Prim.Native.Nat.{_*_, _≤_};
-ghost use lib.ListN.{length, replicate};
+ghost use Prim.Native.Nat.{ℕ, _*_, _≤_};
+ghost use lib.ListN.{length, getD, replicate};
+ghost use Rattle.wire.specs.Fields.{valueOf};
 ghost use Rattle.sheet.specs.code.Tables.{commentsIn};
 ghost use Rattle.sheet.specs.Fit.{Fit};
 ghost use Rattle.sheet.specs.Lookups.{HoldsMarks};
 ghost use Rattle.report.specs.Encode.{encodeJsDoc, encodeList};
+ghost use Rattle.report.specs.Decode.{modes};
 ghost use Rattle.report.specs.Range.{IndexOf};
 ghost use Rattle.report.specs.Buffer.{wrote, bufferAs};
 ghost use Rattle.pragmas.specs.code.Held.{Commented};
@@ -53,7 +55,7 @@ fn mark_comment(source: &[u8], c: Comment, marks: &mut [u8])
     }
 }
 
-// Marks each place of the source at which the place of a reading begins with 1 + its mode; each other keeps its 0.
+// Marks each place of the source at which the place of a reading begins with 1 + the number of its mode; each other keeps its 0.
 fn mark_comments(source: &[u8], comments: &[u32], n: usize, marks: &mut [u8])
     requires { ⌜ 3 * n ≤ length (now comments) ⌝ }
     requires { ⌜ Fit (now source) (commentsIn (now comments) n) ⌝ }
@@ -84,19 +86,20 @@ fn count_marks(marks: &[u8]) -> usize
     count
 }
 
-// Writes the import whose quote begins at `at`.
+// Writes the import whose quote begins at `at`, with the mode of that number.
 fn put_import(
     source: &[u8],
     index: &[u32],
     at: usize,
-    mode: u8,
+    number: u8,
     out: &mut [u8],
     place: Place,
 ) -> Place
     requires { ⌜ IndexOf (now source) (now index) ⌝ }
     requires { ⌜ at ≤ length (now source) ⌝ }
+    requires { ⌜ number ≤ 2 ⌝ }
     ensures { λ r. ⌜ bufferAs (now (out .exit)) r
-        ≡ wrote (bufferAs (now (out .entry)) place) (encodeAny encodeJsDoc (importAt (now (source .entry)) at mode)) ⌝ }
+        ≡ wrote (bufferAs (now (out .entry)) place) (encodeAny encodeJsDoc (importAt (now (source .entry)) at (valueOf modes number))) ⌝ }
 {
     let Text::Part { from, to, past } = quote_at(source, at) else {
         return place;
@@ -107,13 +110,14 @@ fn put_import(
     };
     let p = place.put(out, 1);
     let p = p.put_specifier(out, &source[from..to], source, index, span);
-    p.put(out, mode)
+    p.put(out, number)
 }
 
 // Writes the imports at the places that are marked.
 fn put_imports(source: &[u8], index: &[u32], marks: &[u8], out: &mut [u8], place: Place) -> Place
     requires { ⌜ IndexOf (now source) (now index) ⌝ }
     requires { ⌜ length (now marks) ≡ length (now source) ⌝ }
+    requires { ⌜ ((q : ℕ) → getD (now marks) q 0 ≤ 3) ⌝ }
     ensures { λ r. ⌜ bufferAs (now (out .exit)) r
         ≡ wrote (bufferAs (now (out .entry)) place) (flatMap encodeJsDoc (importsFrom (now (source .entry)) 0 (now (marks .entry)))) ⌝ }
 {

@@ -13,7 +13,7 @@ use Rattle.text.specs.Alphabetic.{alphabetic}
 use Rattle.text.specs.Class.{outside, ranges, member, classAt, run}
 use Rattle.text.specs.Bytes.{begins, same}
 use Rattle.text.specs.Position.{step, walk, positionOf}
-use Rattle.analysis.specs.Mode.{modeOf}
+use Rattle.analysis.specs.Mode.{TypeScriptTypesResolutionMode, Mode, modeOf}
 use Rattle.analysis.specs.Letters.{foldCase, letterAt, wordAt}
 use Rattle.analysis.specs.Row.{ends, all, first, places, find}
 use Rattle.analysis.specs.Place.{placeOf}
@@ -30,7 +30,7 @@ use Rattle.sheet.specs.Comments.{opening, closing}
 use Rattle.sheet.specs.Lookups.{groupAt, headGroup, bodySpan}
 use Rattle.sheet.specs.Tree.{other, none}
 use Rattle.sheet.specs.Sheet.{Sheet}
-use Rattle.report.specs.ModuleInfo.{SpecifierWithRange, Mode, TypeScriptReference, path, JsDocImportInfo}
+use Rattle.report.specs.ModuleInfo.{SpecifierWithRange, TypeScriptReference, path, JsDocImportInfo}
 use Rattle.pragmas.specs.Readings.{placeIn, specifierIn, readBy, lastOf, allOf}
 use Rattle.pragmas.specs.Pragmas.{headComments, endComments, reference, referencesIn, sourceMapUrlIn, tsOrDenoTypes, typesIn, typesAt}
 use Rattle.listing.specs.Imports.{markedBy, markedByAll, importAt, importsFrom, jsdocImports}
@@ -52,14 +52,14 @@ data Case : Type 0 where
 
 table : List Case
 table =
-    jsdoc "* {import(\"\")}" (import "" 12 14 0 ∷ [])
+    jsdoc "* {import(\"\")}" (import "" 12 14 Option.none ∷ [])
     ∷ jsdoc "* {important import(\"a\")}" []
-    ∷ jsdoc "* {{import('a')}}" (import "a" 13 16 0 ∷ [])
-    ∷ jsdoc "* {import(\"a\", {with: {\"resolution-mode\": \"import\"}})}" (import "a" 12 15 1 ∷ [])
+    ∷ jsdoc "* {{import('a')}}" (import "a" 13 16 Option.none ∷ [])
+    ∷ jsdoc "* {import(\"a\", {with: {\"resolution-mode\": \"import\"}})}" (import "a" 12 15 (Option.some TypeScriptTypesResolutionMode.import) ∷ [])
     ∷ jsdoc "* {import(\"a\", {with: {resolution-mode: \"import\"}})}" []
     ∷ jsdoc "* @import A, {B} from \"a\"" []
-    ∷ jsdoc "* @import {A}from\"a\"" (import "a" 19 22 0 ∷ [])
-    ∷ jsdoc "* @import A from \"a\" with {" (import "a" 19 22 0 ∷ [])
+    ∷ jsdoc "* @import {A}from\"a\"" (import "a" 19 22 Option.none ∷ [])
+    ∷ jsdoc "* @import A from \"a\" with {" (import "a" 19 22 Option.none ∷ [])
     ∷ types "@deno-types=\"a" (Option.some (specifier "\"a" 14 16))
     ∷ types "@ts-types=\"\"" Option.none
     ∷ references "/<reference path=\"a\">" []

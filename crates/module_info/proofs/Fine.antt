@@ -365,7 +365,7 @@ module _ (source : List ℕ) where
     own-fine k (namedExport sp typeOnly) f h = tt
     own-fine k (exportFrom sp typeOnly x a) f h = (static-entry (exportKind typeOnly) sp (under k) (f .1 .0) false (static-fine (under k) (f .1 .1) (static-right a)), tt)
     own-fine k (exportAll sp typeOnly x a) f h = (static-entry (exportKind typeOnly) sp (under k) (f .1 .0) false (static-fine (under k) (f .1 .1) (static-right a)), tt)
-    own-fine k (importType sp x ns a) f h = (static-entry statics.ImportType sp (under k) (f .1 .0) false (type-fine (under k) (f .1 .1 .1) (type-right a)), tt)
+    own-fine k (importType sp x ns a) f h = (static-entry statics.ImportType sp (under k) (f .1 .0) false (type-fine (under k) (f .1 .1 .1 .1) (type-right a)), tt)
     own-fine k (importEquals sp) f h = tt
     own-fine k (importRequire sp typeOnly export x) f h = (static-entry (equalsKind typeOnly export) sp (under k) (f .1) false fine-none, tt)
     own-fine k (moduleDecl sp Option.none ns) f h = tt

@@ -62,7 +62,7 @@ module _ (source : List ℕ) where
   children-fit k (namedExport sp typeOnly) f = tt
   children-fit k (exportFrom sp typeOnly x a) f = tt
   children-fit k (exportAll sp typeOnly x a) f = tt
-  children-fit k (importType sp x ns a) f = all-append _ (nodesIn ns) (objectIn a) (nodes-fit (under k) ns (f .1 .1 .0 .1)) (object-fits (under k) a (f .1 .1 .1))
+  children-fit k (importType sp x ns a) f = all-append _ (nodesIn ns) (objectIn a) (nodes-fit (under k) ns (f .1 .1 .1 .0)) (object-fits (under k) a (f .1 .1 .1 .1))
   children-fit k (importEquals sp) f = tt
   children-fit k (importRequire sp typeOnly export x) f = tt
   children-fit k (moduleDecl sp x ns) f = nodes-fit (under k) ns (f .1 .1 .1)

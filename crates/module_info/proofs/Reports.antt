@@ -75,18 +75,18 @@ module _ (t : Sheet) (h : WithinLimits t) (typed : (start : ℕ) → IfThere (Ty
     source-map = bare sourceMappingUrlRow (m .sourceMapUrl) (texts .source-map-url)
 
     references : All GoodReference (m .tsReferences)
-    references = references-good t (h .fields .source .0) (h .fields .source .1) (present .references (m .tsReferences) .0 refl) (texts .references)
+    references = references-good t (h .fields .source .0) (h .fields .source .1) (m .tsReferences) (texts .references)
 
-    imports : All (λ i. Good (i .specifier) × (i .mode ≤ 2)) (m .jsdocImports)
+    imports : All (λ i. Good (i .specifier)) (m .jsdocImports)
     imports = imports-good t (h .fields .source .0) (h .fields .source .1) right
 
     valid-reference : (a : TypeScriptReference) → GoodReference a → ValidReference a
     valid-reference (path x) g = g .valid
-    valid-reference (types x mode) g = (g .0 .valid, g .1)
+    valid-reference (types x mode) g = g .valid
 
     reference-text : (a : TypeScriptReference) → GoodReference a → ReferenceText Text a
     reference-text (path x) g = g .text
-    reference-text (types x mode) g = g .0 .text
+    reference-text (types x mode) g = g .text
 
     fits : Valid m
     unfolding moduleInfo
@@ -104,7 +104,7 @@ module _ (t : Sheet) (h : WithinLimits t) (typed : (start : ℕ) → IfThere (Ty
       jsxImportSourceTypes = good-valid (m .jsxImportSourceTypes) jsx-types;
       jsdocImports = (
         omega (arith, imports-few (t .media) (h .fields .comments .1), h .fields .source .0),
-        of-members _ (m .jsdocImports) (λ i j. let (g, k) = all-member _ (m .jsdocImports) imports j in record { specifier = g .valid; mode = k }),
+        of-members _ (m .jsdocImports) (λ i j. all-member _ (m .jsdocImports) imports j .valid),
       );
       sourceMapUrl = good-valid (m .sourceMapUrl) source-map;
     }
@@ -116,7 +116,7 @@ module _ (t : Sheet) (h : WithinLimits t) (typed : (start : ℕ) → IfThere (Ty
       selfTypesSpecifier = good-text (m .selfTypesSpecifier) self-types;
       jsxImportSource = good-text (m .jsxImportSource) jsx;
       jsxImportSourceTypes = good-text (m .jsxImportSourceTypes) jsx-types;
-      jsdocImports = of-members _ (m .jsdocImports) (λ i j. all-member _ (m .jsdocImports) imports j .0 .text);
+      jsdocImports = of-members _ (m .jsdocImports) (λ i j. all-member _ (m .jsdocImports) imports j .text);
       sourceMapUrl = good-text (m .sourceMapUrl) source-map;
     }
 

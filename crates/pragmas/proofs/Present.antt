@@ -12,6 +12,7 @@ use Rattle.analysis.specs.declared.Capture.{Capture}
 use Rattle.analysis.specs.declared.Found.{Found}
 use Rattle.analysis.specs.declared.Found.the-variants.{At, Nothing}
 use Rattle.analysis.specs.Row.{Row, find, isFound}
+use Rattle.analysis.specs.Mode.{Mode}
 use Rattle.analysis.specs.Patterns.{tripleSlashRow, pathRow, typesRow, resolutionModeRow, jsxImportSourceRow, jsxImportSourceTypesRow, sourceMappingUrlRow, tsSelfTypesRow, tsTypesRow, denoTypesRow}
 use Rattle.analysis.proofs.Preference.{preferred-reads, finds}
 use Rattle.wire.proofs.Numbered.{one-number}
@@ -23,7 +24,7 @@ use Rattle.sheet.specs.Names.{kindNumber}
 use Rattle.sheet.specs.Lookups.{groupAt, body}
 use Rattle.sheet.specs.Sheet.{Sheet}
 use Rattle.sheet.specs.Media.{isJavaScript, isJsx}
-use Rattle.report.specs.ModuleInfo.{SpecifierWithRange, Mode, path, types, ModuleInfo}
+use Rattle.report.specs.ModuleInfo.{SpecifierWithRange, path, types, ModuleInfo}
 use Rattle.sheet.proofs.Numbered.{kind-numbers}
 use Rattle.pragmas.specs.Readings.{specifierIn, onFound, readBy, orElse, firstOf, lastOf, listed, allOf}
 use Rattle.pragmas.specs.Pragmas.{headComments, endComments, givenIf, isLine, isBlock, modeIn, modeBy, referenceBy, reference, referencesIn, selfTypesIn, jsxImportSourceIn, jsxImportSourceTypesIn, sourceMapUrlIn, tsReferences, selfTypesSpecifier, jsxImportSource, jsxImportSourceTypes, sourceMapUrl, tsOrDenoTypes, typesBy, lastIn, typesIn, typesAt}

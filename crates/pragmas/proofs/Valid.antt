@@ -1,34 +1,31 @@
 -- What the rules read in the comments of a well-formed source can be written.
-use mathlib.Core.Path.{_≡_}
 use mathlib.Core.Bool.{Bool, true, false}
-use mathlib.Core.Logic.{inl, inr, ⊎-elim}
-use mathlib.Core.List.{List}
+use mathlib.Core.Logic.{⊎-elim}
+use mathlib.Core.List.{List, [], _∷_}
 use mathlib.Core.Option.{Option}
-use Prim.Native.Nat.{ℕ, _≤_}
+use Prim.Native.Nat.{_≤_}
 use native.Mathlib.Omega.{arith}
 use lib.ListN.{length, length-take, length-drop}
 use Rattle.laws.specs.Codec.{All}
 use Rattle.text.specs.declared.utf8.Encoding.the-variants.{Utf8}
 use Rattle.text.specs.WellFormed.{WellFormed}
 use Rattle.analysis.specs.Row.{Row}
-use Rattle.analysis.specs.Place.{textOf}
-use Rattle.analysis.proofs.Modes.{named-small}
 use Rattle.sheet.specs.Limits.{sourceLimit}
 use Rattle.sheet.specs.declared.fields.Span.{Span}
 use Rattle.sheet.specs.declared.comments.Comment.{Comment}
 use Rattle.sheet.specs.declared.groups.Group.{Group}
-use Rattle.sheet.specs.Lookups.{headGroup, body}
+use Rattle.sheet.specs.Lookups.{headGroup}
 use Rattle.sheet.specs.Sheet.{Sheet}
-use Rattle.report.specs.ModuleInfo.{SpecifierWithRange, Mode, TypeScriptReference, path, types}
+use Rattle.report.specs.ModuleInfo.{SpecifierWithRange, TypeScriptReference, path, types}
 use Rattle.report.specs.Stands.{StandsAt}
 use Rattle.report.proofs.Stands.{Good, bare-good, marks-good}
 use Rattle.pragmas.specs.Pragmas.{inGroup, headComments}
-use Rattle.pragmas.specs.Present.{Reader, ModeRead, referenceRule, InOrder}
+use Rattle.pragmas.specs.Present.{Reader, referenceRule, InOrder}
 use Rattle.pragmas.specs.Texts.{writtenIf, ShownInMarks, ShownBare, ShownEither, ReferenceShown, TypesShown}
 
 abbrev pub GoodReference : TypeScriptReference → Type 0
 GoodReference (path x) = Good x
-GoodReference (types x mode) = Good x × (mode ≤ 2)
+GoodReference (types x mode) = Good x
 
 module _ (t : Sheet) (short : length (t .source) ≤ sourceLimit) (w : WellFormed Utf8 (t .source)) where
   pub marks-shown : {row : Row} {x : SpecifierWithRange} → ShownInMarks row t x → Good x
@@ -49,19 +46,13 @@ module _ (t : Sheet) (short : length (t .source) ≤ sourceLimit) (w : WellForme
 
   -- ---- references
 
-  mode-small : {c : Comment} {m : Mode} → ModeRead (t .source) c m → m ≤ 2
-  mode-small {c} (ModeRead.named {k = k} p) = named-small (textOf (body (t .source) c) k)
-  mode-small (ModeRead.none n) = omega arith
+  reference-good : (a : TypeScriptReference) → ReferenceShown t a → GoodReference a
+  reference-good (path x) s = marks-shown s
+  reference-good (types x mode) s = marks-shown s
 
-  reference-good : (c : Comment) (a : TypeScriptReference) → referenceRule (t .source) .Gives c a → ReferenceShown t a → GoodReference a
-  reference-good c (path x) g s = marks-shown s
-  reference-good c (types x m) (p, inl (y, r, e)) s = let z : _≡_ {A = ℕ} 0 1 = cc in absurd (omega arith)
-  reference-good c (types x m) (p, inr (n, (y, k, r, read, e))) s = let same : m ≡ k = cc in (marks-shown s, rw same (mode-small read))
-
-  pub references-good : {cs : List Comment} {l : List TypeScriptReference} → InOrder (referenceRule (t .source)) cs l → All (ReferenceShown t) l → All GoodReference l
-  references-good InOrder.none s = tt
-  references-good (InOrder.reads {c = c} {a = a} g o) s = (reference-good c a g (s .0), references-good o (s .1))
-  references-good (InOrder.passes n o) s = references-good o s
+  pub references-good : (l : List TypeScriptReference) → All (ReferenceShown t) l → All GoodReference l
+  references-good [] s = tt
+  references-good (a ∷ l) s = (reference-good a (s .0), references-good l (s .1))
 
 -- there are no more than comments
 in-order-few : {A : Type 0} {r : Reader A} {cs : List Comment} {l : List A} → InOrder r cs l → length l ≤ length cs

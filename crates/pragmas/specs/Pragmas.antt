@@ -6,7 +6,7 @@ use Prim.Native.Nat.{ℕ}
 use lib.Dec.{eqb}
 use Rattle.analysis.specs.declared.Found.{Found}
 use Rattle.analysis.specs.declared.Found.the-variants.{At, Nothing}
-use Rattle.analysis.specs.Mode.{modeOf}
+use Rattle.analysis.specs.Mode.{Mode, modeOf}
 use Rattle.analysis.specs.Row.{find, isFound}
 use Rattle.analysis.specs.Place.{textOf}
 use Rattle.analysis.specs.Patterns.{tripleSlashRow, pathRow, typesRow, resolutionModeRow, jsxImportSourceRow, jsxImportSourceTypesRow, sourceMappingUrlRow, tsSelfTypesRow, tsTypesRow, denoTypesRow}
@@ -19,7 +19,7 @@ use Rattle.sheet.specs.declared.names.CommentKind.the-variants.{Block}
 use Rattle.sheet.specs.declared.names.Side.the-variants.{Leading}
 use Rattle.sheet.specs.Names.{kindNumber}
 use Rattle.sheet.specs.Media.{isJavaScript, isJsx}
-use Rattle.report.specs.ModuleInfo.{SpecifierWithRange, Mode, TypeScriptReference, path, types}
+use Rattle.report.specs.ModuleInfo.{SpecifierWithRange, TypeScriptReference, path, types}
 use Rattle.pragmas.specs.Readings.{specifierIn, readBy, orElse, firstOf, lastOf, allOf}
 
 -- the comments of a group, none if there is no such group
@@ -44,7 +44,7 @@ isLine c = not (isBlock c)
 -- the mode that a comment names for a types reference
 abbrev pub modeBy : List ℕ → Found → Mode
 modeBy b (At k) = modeOf (textOf b k)
-modeBy b Nothing = 0
+modeBy b Nothing = Option.none
 
 unfoldable pub modeIn : List ℕ → Comment → Mode
 modeIn source c = modeBy (body source c) (find resolutionModeRow (body source c))

@@ -5,7 +5,7 @@ use mathlib.Core.List.{List, [], _∷_, _++_, List·Memᴰ}
 use mathlib.Core.Option.{Option}
 use Prim.Native.Nat.{ℕ}
 use Rattle.analysis.specs.declared.Capture.{Capture}
-use Rattle.analysis.specs.Mode.{modeOf}
+use Rattle.analysis.specs.Mode.{Mode, modeOf}
 use Rattle.analysis.specs.Row.{Row}
 use Rattle.analysis.specs.Place.{textOf}
 use Rattle.analysis.specs.Matches.{Reading}
@@ -17,7 +17,7 @@ use Rattle.sheet.specs.Sheet.{Sheet}
 use Rattle.sheet.specs.declared.names.CommentKind.the-variants.{Line, Block}
 use Rattle.sheet.specs.declared.names.Side.the-variants.{Leading}
 use Rattle.sheet.specs.Media.{isJavaScript, isJsx}
-use Rattle.report.specs.ModuleInfo.{SpecifierWithRange, Mode, TypeScriptReference, path, types, ModuleInfo}
+use Rattle.report.specs.ModuleInfo.{SpecifierWithRange, TypeScriptReference, path, types, ModuleInfo}
 use Rattle.report.specs.Range.{rangeOf}
 use Rattle.pragmas.specs.Readings.{placeIn}
 use Rattle.pragmas.specs.Pragmas.{headComments, endComments, givenIf, lastIn}
@@ -53,7 +53,7 @@ orElseBy r s = record { Reads = λ c. r .Reads c ⊎ s .Reads c; Gives = λ c a.
 -- the mode of a types reference: that of the text that the resolution-mode pattern reads; none where it reads nothing
 pub data ModeRead (source : List ℕ) (c : Comment) : Mode → Type 0 where
   named : {k : Capture} → Preferred resolutionModeRow (body source c) k → ModeRead source c (modeOf (textOf (body source c) k))
-  none : (Matched resolutionModeRow source c → ⊥) → ModeRead source c 0
+  none : (Matched resolutionModeRow source c → ⊥) → ModeRead source c Option.none
 
 -- the two kinds of references
 abbrev pub pathRule : List ℕ → Reader TypeScriptReference

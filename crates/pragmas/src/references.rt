@@ -7,7 +7,9 @@ use analysis::find_path_reference;
 use analysis::find_resolution_mode;
 use analysis::find_types_reference;
 use analysis::is_comment_triple_slash_reference;
+use analysis::mode::ModeFound;
 use analysis::mode::from_str;
+use analysis::mode::mode_number;
 use analysis::specifier;
 use report::writer::Place;
 use sheet::comments::Comment;
@@ -20,6 +22,7 @@ ghost use lib.ListN.{length};
 ghost use mathlib.Core.List.{flatMap};
 ghost use Rattle.analysis.specs.Row.{find};
 ghost use Rattle.analysis.specs.Patterns.{resolutionModeRow};
+ghost use Rattle.analysis.specs.code.Mode.{modeAs};
 ghost use Rattle.sheet.specs.code.Tables.{commentsIn};
 ghost use Rattle.sheet.specs.Fit.{Placed, Fit};
 ghost use Rattle.sheet.specs.code.Views.{foundAs};
@@ -34,16 +37,16 @@ ghost use Rattle.pragmas.specs.code.Views.{commentsFrom, referenceAs, Re
 // A reference of a comment: what is captured there, and of a types reference the mode.
 pub enum Reference {
     Path(Capture),
-    Types(Capture, u8),
+    Types(Capture, ModeFound),
     Nothing,
 }
 
 // The mode that a comment names for a types reference.
-fn resolution_mode(body: &[u8]) -> u8
-    ensures { λ r. ⌜ r ≡ modeBy (now (body .entry)) (find resolutionModeRow (now (body .entry))) ⌝ }
+fn resolution_mode(body: &[u8]) -> ModeFound
+    ensures { λ r. ⌜ modeAs r ≡ modeBy (now (body .entry)) (find resolutionModeRow (now (body .entry))) ⌝ }
 {
     let Found::At(k) = find_resolution_mode(body) else {
-        return 0;
+        return ModeFound::Nothing;
     };
     from_str(specifier(body, k))
 }
@@ -102,7 +105,7 @@ fn put_reference(
         Reference::Types(k, mode) => {
             let p = place.put(out, 1);
             let p = put_capture(source, index, c, k, out, p);
-            p.put(out, mode)
+            p.put(out, mode_number(mode))
         }
         Reference::Nothing => place,
     }

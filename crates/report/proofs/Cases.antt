@@ -10,6 +10,7 @@ use Rattle.wire.specs.Fields.{byte, below, numbered, flag, bytes}
 use Rattle.wire.specs.Number.{lastGroup, groups, number, encodeGroups, encodeNumber}
 use Rattle.wire.specs.Text.{encodeText}
 use Rattle.wire.specs.Optional.{encodeOptional, optional}
+use Rattle.analysis.specs.Mode.{import, require}
 use Rattle.report.specs.declared.names.StaticDependencyKind.the-variants as statics
 use Rattle.report.specs.declared.names.DynamicDependencyKind.the-variants as dynamics
 use Rattle.report.specs.ModuleInfo.{PositionRange, SpecifierWithRange, path, types, none, unknown, known, expr, string, template, static, dynamic, ModuleInfo}
@@ -44,7 +45,7 @@ example = record {
   selfTypesSpecifier = Option.none;
   jsxImportSource = Option.none;
   jsxImportSourceTypes = Option.none;
-  jsdocImports = record { specifier = placed (ascii "./a.ts") 0 12 20; mode = 0 } ∷ [];
+  jsdocImports = record { specifier = placed (ascii "./a.ts") 0 12 20; mode = Option.none } ∷ [];
   sourceMapUrl = Option.none;
 }
 
@@ -70,11 +71,11 @@ everything = record {
       ∷ dynamic (record { kind = dynamics.Import; typesSpecifier = Option.none; argument = string (ascii "b"); argumentRange = within 3 7 10; importAttributes = none })
       ∷ dynamic (record { kind = dynamics.ImportDefer; typesSpecifier = Option.none; argument = expr; argumentRange = within 4 13 14; importAttributes = none })
       ∷ [];
-  tsReferences = path (placed (ascii "c") 5 21 24) ∷ types (placed (ascii "d") 6 22 25) 2 ∷ [];
+  tsReferences = path (placed (ascii "c") 5 21 24) ∷ types (placed (ascii "d") 6 22 25) (Option.some require) ∷ [];
   selfTypesSpecifier = Option.some (placed (ascii "e") 7 17 20);
   jsxImportSource = Option.some (placed (ascii "f") 8 20 21);
   jsxImportSourceTypes = Option.some (placed (ascii "g") 9 25 26);
-  jsdocImports = record { specifier = placed (ascii "h") 10 12 15; mode = 1 } ∷ [];
+  jsdocImports = record { specifier = placed (ascii "h") 10 12 15; mode = Option.some import } ∷ [];
   sourceMapUrl = Option.some (placed (ascii "i") 11 21 22);
 }
 

@@ -20,6 +20,7 @@ use Rattle.report.specs.Encode.{encodeList, encodePosition, encodeRange,
 use Rattle.report.specs.Decode.{times, list, text, position, range, specifier, reference, jsDoc, keyValue, attributes, argument, rest, dependency, report}
 use Rattle.report.specs.Valid.{Short, ValidPosition, ValidRange, ValidSpecifier, ValidReference, ValidJsDoc, ValidKeyValue, ValidAttributes, ValidArgument, ValidStatic, ValidDynamic, ValidDependency, Valid}
 use Rattle.report.proofs.Numbered.{dependency-numbers}
+use Rattle.report.proofs.Modes.{mode-numbers}
 
 -- each valid value is decoded from its bytes, whatever follows them
 pub record ReadBack {A : Type 0} (decode : Decoder A) (encode : A → List ℕ) (Valid : A → Type 0) : Type 0 where
@@ -65,14 +66,14 @@ unfolding reference encodeReference
 reference-back = record {
   back = elim [
     | path s ↦ λ v t. rw (flag-codec .complete false tt, specifier-back .back s v)
-    | types s mode ↦ λ v t. rw (append-assoc, flag-codec .complete true tt, specifier-back .back s (v .0), below-codec 3 .complete mode (omega (arith, v .1)))
+    | types s mode ↦ λ v t. rw (append-assoc, flag-codec .complete true tt, specifier-back .back s v, numbered-codec mode-numbers .complete mode tt)
   ];
 }
 
 jsDoc-back : ReadBack jsDoc encodeJsDoc ValidJsDoc
 unfolding jsDoc encodeJsDoc
 jsDoc-back = record {
-  back = λ i v t. rw (append-assoc, flag-codec .complete true tt, specifier-back .back (i .specifier) (v .specifier), below-codec 3 .complete (i .mode) (omega arith));
+  back = λ i v t. rw (append-assoc, flag-codec .complete true tt, specifier-back .back (i .specifier) v, numbered-codec mode-numbers .complete (i .mode) tt);
 }
 
 keyValue-back : ReadBack keyValue encodeKeyValue ValidKeyValue

@@ -7,9 +7,10 @@ use lib.ListN.{getD}
 use Rattle.laws.specs.Decoded.{Decoder, onOk, _>>=_, _>>_, return, refuse, require}
 use Rattle.text.specs.declared.position.Position.{Position}
 use Rattle.wire.specs.Refusals as refusals
-use Rattle.wire.specs.Fields.{byte, below, numbered, flag, bytes}
+use Rattle.wire.specs.Fields.{byte, below, Values, numbered, flag, bytes}
 use Rattle.wire.specs.Number.{number}
 use Rattle.wire.specs.Optional.{optional}
+use Rattle.analysis.specs.Mode.{TypeScriptTypesResolutionMode, Mode}
 use Rattle.report.specs.declared.names.DependencyKind.{DependencyKind}
 use Rattle.report.specs.declared.names.DependencyKind.the-variants.{Static, Dynamic}
 use Rattle.report.specs.Names.{dependencyKinds}
@@ -43,18 +44,22 @@ specifier = do
   r ← range
   return (record { text = x; range = r })
 
+-- the modes in the order of their numbers
+abbrev pub modes : Values Mode
+modes = record { front = Option.none ∷ Option.some TypeScriptTypesResolutionMode.import ∷ []; last = Option.some TypeScriptTypesResolutionMode.require }
+
 unfoldable pub reference : Decoder TypeScriptReference
 reference = do
   kind ← flag
   s ← specifier
-  cond kind (below 3 >>= λ mode. return (types s mode)) (return (path s))
+  cond kind (numbered modes >>= λ mode. return (types s mode)) (return (path s))
 
 unfoldable pub jsDoc : Decoder JsDocImportInfo
 jsDoc = do
   kind ← flag
   require kind refusals.byte
   s ← specifier
-  mode ← below 3
+  mode ← numbered modes
   return (record { specifier = s; mode = mode })
 
 unfoldable pub keyValue : Decoder KeyValue

@@ -7,6 +7,7 @@ use Rattle.wire.specs.Fields.{encodeFlag}
 use Rattle.wire.specs.Number.{encodeNumber}
 use Rattle.wire.specs.Text.{encodeText}
 use Rattle.wire.specs.Optional.{encodeOptional}
+use Rattle.analysis.specs.Mode.{modeNumber}
 use Rattle.report.specs.Names.{staticNumber, dynamicNumber}
 use Rattle.report.specs.ModuleInfo.{PositionRange, SpecifierWithRange, TypeScriptReference, path, types, JsDocImportInfo, KeyValue, ImportAttributes, none, unknown, known, DynamicArgument, expr, string, template, StaticDependencyDescriptor, DynamicDependencyDescriptor, DependencyDescriptor, static, dynamic, ModuleInfo}
 
@@ -27,11 +28,11 @@ encodeSpecifier s = encodeText (s .text) ++ encodeRange (s .range)
 -- byte 0 path, 1 types; of types the mode
 unfoldable pub encodeReference : TypeScriptReference → List ℕ
 encodeReference (path s) = 0 ∷ encodeSpecifier s
-encodeReference (types s mode) = 1 ∷ (encodeSpecifier s ++ (mode ∷ []))
+encodeReference (types s mode) = 1 ∷ (encodeSpecifier s ++ (modeNumber mode ∷ []))
 
 -- byte 1, specifier, mode
 unfoldable pub encodeJsDoc : JsDocImportInfo → List ℕ
-encodeJsDoc i = 1 ∷ (encodeSpecifier (i .specifier) ++ (i .mode ∷ []))
+encodeJsDoc i = 1 ∷ (encodeSpecifier (i .specifier) ++ (modeNumber (i .mode) ∷ []))
 
 -- key, 0 unknown or 1 text
 unfoldable pub encodeKeyValue : KeyValue → List ℕ

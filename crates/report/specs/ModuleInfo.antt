@@ -4,6 +4,7 @@ use mathlib.Core.List.{List}
 use mathlib.Core.Option.{Option}
 use Prim.Native.Nat.{ℕ}
 use Rattle.text.specs.declared.position.Position.{Position}
+use Rattle.analysis.specs.Mode.{Mode}
 use Rattle.report.specs.declared.names.StaticDependencyKind.{StaticDependencyKind}
 use Rattle.report.specs.declared.names.DynamicDependencyKind.{DynamicDependencyKind}
 
@@ -14,10 +15,6 @@ pub record PositionRange : Type 0 where
 pub record SpecifierWithRange : Type 0 where
   pub text : List ℕ
   pub range : PositionRange
-
--- a resolution mode by its number: 0 none, 1 import, 2 require
-abbrev pub Mode : Type 0
-Mode = ℕ
 
 pub data TypeScriptReference : Type 0 where
   path : SpecifierWithRange → TypeScriptReference

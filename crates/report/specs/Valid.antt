@@ -25,11 +25,10 @@ pub record ValidSpecifier (s : SpecifierWithRange) : Type 0 where
 
 abbrev pub ValidReference : TypeScriptReference → Type 0
 ValidReference (path s) = ValidSpecifier s
-ValidReference (types s mode) = ValidSpecifier s × (mode ≤ 2)
+ValidReference (types s mode) = ValidSpecifier s
 
-pub record ValidJsDoc (i : JsDocImportInfo) : Type 0 where
-  pub specifier : ValidSpecifier (i .specifier)
-  pub mode : i .mode ≤ 2
+abbrev pub ValidJsDoc : JsDocImportInfo → Type 0
+ValidJsDoc i = ValidSpecifier (i .specifier)
 
 pub record ValidKeyValue (a : KeyValue) : Type 0 where
   pub key : Short (a .key)

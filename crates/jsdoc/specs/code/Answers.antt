@@ -1,21 +1,30 @@
 -- What the answers of the code say of the bytes that they were read from.
 use mathlib.Core.Path.{_≡_}
+use mathlib.Core.List.{List}
 use mathlib.Core.Option.{Option, none, some}
 use Prim.Native.Nat.{ℕ, _+_, _^_, _≤_, _<_}
-use lib.ListN.{length, drop}
+use lib.ListN.{length, drop, set}
 use Rattle.text.specs.Bytes.{part}
+use Rattle.analysis.specs.Mode.{Mode, modeNumber}
+use Rattle.analysis.specs.code.Mode.{modeAs}
 use Rattle.jsdoc.specs.Grammar.{Bytes}
 use Rattle.jsdoc.specs.Parsed.{Parsed, ok, backtrace, onParsed, value}
-use Rattle.jsdoc.specs.Reader.{Hit, hit, parseQuote, sought, parseJsdocDynamicImport}
+use Rattle.jsdoc.specs.Reader.{ModeNamed, Hit, hit, parseQuote, sought, parseJsdocDynamicImport}
 use Rattle.jsdoc.specs.declared.answers.Skipped.{Skipped}
 use Rattle.jsdoc.specs.declared.answers.Skipped.the-variants as skipped
 use Rattle.jsdoc.specs.declared.answers.Text.{Text}
 use Rattle.jsdoc.specs.declared.answers.Text.the-variants as text
+use Rattle.jsdoc.specs.declared.answers.AttributeMode.{AttributeMode}
+use Rattle.jsdoc.specs.declared.answers.AttributesRead.{AttributesRead}
+use Rattle.jsdoc.specs.declared.answers.AttributesRead.the-variants as attributesRead
 use Rattle.jsdoc.specs.declared.answers.ModeRead.{ModeRead}
 use Rattle.jsdoc.specs.declared.answers.ModeRead.the-variants as modeRead
 use Rattle.jsdoc.specs.declared.answers.JsDocImport.{JsDocImport}
 use Rattle.jsdoc.specs.declared.answers.JsDocImport.the-variants as jsDocImport
 use Rattle.jsdoc.specs.declared.answers.Searched.{Searched}
+
+abbrev pub attributeModeAs : AttributeMode → ModeNamed
+attributeModeAs m = record { named = m .named; mode = modeAs (m .mode) }
 
 -- the answer r stands for o, and its places are in order
 pub record Reads {A R : Type 0} (view : R → A) (Ordered : R → Type 0) (o : A) (r : R) : Type 0 where
@@ -41,8 +50,16 @@ module _ (s : Bytes) where
   textIn at mark (text.Part a b j) = (a ≤ b) × (b ≤ j) × (j ≤ length s) × (a ≡ at + mark) × (b + mark ≡ j)
   textIn at mark text.Backtrace = Unit {0}
 
-  abbrev modeReadAs : ModeRead → Parsed ℕ
-  modeReadAs (modeRead.Past m j) = ok m (drop j s)
+  abbrev attributesAs : AttributesRead → Parsed ModeNamed
+  attributesAs (attributesRead.Past m j) = ok (attributeModeAs m) (drop j s)
+  attributesAs attributesRead.Backtrace = backtrace
+
+  abbrev attributesIn : AttributesRead → Type 0
+  attributesIn (attributesRead.Past m j) = j ≤ length s
+  attributesIn attributesRead.Backtrace = Unit {0}
+
+  abbrev modeReadAs : ModeRead → Parsed Mode
+  modeReadAs (modeRead.Past m j) = ok (modeAs m) (drop j s)
   modeReadAs modeRead.Backtrace = backtrace
 
   abbrev modeReadIn : ModeRead → Type 0
@@ -50,7 +67,7 @@ module _ (s : Bytes) where
   modeReadIn modeRead.Backtrace = Unit {0}
 
   abbrev importAs : JsDocImport → Option Hit
-  importAs (jsDocImport.Import a b m) = some (hit (drop a s) (drop b s) m)
+  importAs (jsDocImport.Import a b m) = some (hit (drop a s) (drop b s) (modeAs m))
   importAs jsDocImport.Backtrace = none
 
   abbrev importIn : JsDocImport → Type 0
@@ -65,7 +82,10 @@ module _ (s : Bytes) where
   abbrev pub Spells : ℕ → ℕ → Parsed Bytes → Text → Type 0
   Spells at mark = Reads textAs (textIn at mark)
 
-  abbrev pub Gives : Parsed ℕ → ModeRead → Type 0
+  abbrev pub Holds : Parsed ModeNamed → AttributesRead → Type 0
+  Holds = Reads attributesAs attributesIn
+
+  abbrev pub Gives : Parsed Mode → ModeRead → Type 0
   Gives = Reads modeReadAs modeReadIn
 
   abbrev pub Imports : Option Hit → JsDocImport → Type 0
@@ -89,6 +109,16 @@ moved i text.Backtrace = text.Backtrace
 abbrev pub Movable : ℕ → Text → Type 0
 Movable i (text.Part a b j) = (a ≤ b) × (b ≤ j) × (i + j < 2 ^ 64)
 Movable i text.Backtrace = Unit {0}
+
+-- the mark of an import found from place i on
+abbrev pub marked : ℕ → JsDocImport → List ℕ → List ℕ
+marked i (jsDocImport.Import a b m) l = set l (i + a) (modeNumber (modeAs m) + 1)
+marked i jsDocImport.Backtrace l = l
+
+-- its place is below n
+abbrev pub Room : ℕ → ℕ → JsDocImport → Type 0
+Room n i (jsDocImport.Import a b m) = i + a < n
+Room n i jsDocImport.Backtrace = Unit {0}
 
 -- the reading of a brace, and where the search for its `import` ended
 pub record Scans (s : Bytes) (r : Searched) : Type 0 where

@@ -9,6 +9,7 @@ use Rattle.analysis.specs.declared.Capture.{Capture}
 use Rattle.analysis.specs.Row.{Row}
 use Rattle.analysis.specs.Place.{Inside}
 use Rattle.analysis.specs.Patterns.{jsxImportSourceRow, jsxImportSourceTypesRow, sourceMappingUrlRow, tsSelfTypesRow, tsTypesRow, denoTypesRow}
+use Rattle.analysis.specs.code.Mode.{modeAs}
 use Rattle.sheet.specs.declared.names.CommentKind.{CommentKind}
 use Rattle.sheet.specs.declared.names.CommentKind.the-variants.{Block}
 use Rattle.sheet.specs.Names.{kindNumber}
@@ -66,7 +67,7 @@ commentsFrom table start end = rows (commentIn table) start (end - start)
 
 abbrev pub referenceAs : List ℕ → Comment → Reference → Option TypeScriptReference
 referenceAs source c (reference.Path k) = Option.some (path (specifierIn source c k))
-referenceAs source c (reference.Types k mode) = Option.some (types (specifierIn source c k) mode)
+referenceAs source c (reference.Types k mode) = Option.some (types (specifierIn source c k) (modeAs mode))
 referenceAs source c reference.Nothing = Option.none
 
 abbrev pub ReferenceIn : List ℕ → Comment → Reference → Type 0

@@ -2,6 +2,8 @@ use borrow.Author.Needs.{needs}
 use mathlib.Core.Path.{_∙_}
 use mathlib.Core.List.{[], _∷_, append-assoc}
 use native.Mathlib.Omega.{arith}
+use Rattle.analysis.specs.Mode.{modeNumber}
+use Rattle.analysis.proofs.Modes.{number-small}
 use Rattle.report.specs.Encode.{encodeSpecifier, encodeJsDoc}
 use Rattle.report_reader.proofs.FromBytes.{byte-read}
 use Rattle.citation.proofs.cite.cite_jsdoc.Statement.{statement}
@@ -15,8 +17,8 @@ returns c =
     let mode = c .before .read-number2 in (
       λ i v t e.
           let (_, e) = byte-read (kind .ensures) 1 (omega arith) _ e in
-          let (p, e) = line .ensures .0 (i .specifier) (v .specifier) _ (e ∙ append-assoc (encodeSpecifier (i .specifier)) (i .mode ∷ []) t) in
-          (p, byte-read (mode .ensures) (i .mode) (omega arith) t e .1),
+          let (p, e) = line .ensures .0 (i .specifier) v _ (e ∙ append-assoc (encodeSpecifier (i .specifier)) (modeNumber (i .mode) ∷ []) t) in
+          (p, byte-read (mode .ensures) (modeNumber (i .mode)) (omega (arith, number-small (i .mode))) t e .1),
       line .ensures .1,
     )
 

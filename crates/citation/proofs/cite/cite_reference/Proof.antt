@@ -2,6 +2,8 @@ use borrow.Author.Needs.{needs}
 use mathlib.Core.Path.{_∙_}
 use mathlib.Core.List.{[], _∷_, append-assoc}
 use native.Mathlib.Omega.{arith}
+use Rattle.analysis.specs.Mode.{modeNumber}
+use Rattle.analysis.proofs.Modes.{number-small}
 use Rattle.report.specs.ModuleInfo.{path, types}
 use Rattle.report.specs.Encode.{encodeSpecifier, encodeReference}
 use Rattle.report_reader.proofs.FromBytes.{byte-read}
@@ -30,8 +32,8 @@ returns-2 c =
       elim [
         | path s ↦ λ v t e. absurd (c .before .before .if1 .left (byte 0 (omega arith) _ e .0))
         | types s mode ↦ λ v t e.
-            let (p, e) = line .ensures .0 s (v .0) _ (byte 1 (omega arith) _ e .1 ∙ append-assoc (encodeSpecifier s) (mode ∷ []) t) in
-            (p, byte-read (read .ensures) mode (omega (arith, v .1)) t e .1)
+            let (p, e) = line .ensures .0 s v _ (byte 1 (omega arith) _ e .1 ∙ append-assoc (encodeSpecifier s) (modeNumber mode ∷ []) t) in
+            (p, byte-read (read .ensures) (modeNumber mode) (omega (arith, number-small mode)) t e .1)
       ],
       line .ensures .1,
     )

@@ -6,7 +6,7 @@ use Rattle.jsdoc.proofs.block.attribute_mode.Tie as tie
 
 returns : tie.Need-returns
 unfolding attributeMode
-returns c = rw (known (c .before .before .equal .ensures) (c .before .if1 .taken)) (c .from-str .ensures)
+returns c = rw (known (c .before .before .equal .ensures) (c .before .if1 .taken), c .from-str .ensures)
 
 returns-2 : tie.Need-returns-2
 unfolding attributeMode

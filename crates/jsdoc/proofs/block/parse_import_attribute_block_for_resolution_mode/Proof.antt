@@ -1,5 +1,4 @@
 use borrow.Author.Needs.{needs}
-use borrow.Author.Tests.{eq-eqb, ne-eqb}
 use Rattle.jsdoc.specs.Reader.{parseImportAttributeBlockForResolutionMode}
 use Rattle.jsdoc.proofs.Answered.{read, inside}
 use Rattle.jsdoc.proofs.block.parse_import_attribute_block_for_resolution_mode.Statement.{statement}
@@ -40,28 +39,12 @@ returns-4 c =
     record {
       is =
           rw (
-            read (c .before .before .before .before .before .before .before .before .before .before .before .before .before .before .word .ensures) (c .before .before .before .before .before .before .before .before .before .before .before .before .first .given .1),
-            read (c .before .before .before .before .before .before .before .before .before .before .separated-list .ensures) (c .before .before .before .before .before .before .before .before .mode .given .1),
-            ← c .before .before .before .before .before .before .skip-whitespace .ensures .0,
-            read (c .before .before .before .before .tag .ensures) (c .before .before .end .given .1),
-            eq-eqb _ _ (c .if1 .taken),
+            read (c .before .before .before .before .before .before .before .before .before .before .before .before .before .word .ensures) (c .before .before .before .before .before .before .before .before .before .before .before .first .given .1),
+            read (c .before .before .before .before .before .before .before .before .before .separated-list .ensures) (c .before .before .before .before .before .before .before .mode .given .1),
+            ← c .before .before .before .before .before .skip-whitespace .ensures .0,
+            read (c .before .before .before .tag .ensures) (c .before .end .given .1),
           );
-      ordered = inside (c .before .before .before .before .tag .ensures) (c .before .before .end .given .1);
-    }
-
-returns-5 : tie.Need-returns-5
-unfolding parseImportAttributeBlockForResolutionMode
-returns-5 c =
-    record {
-      is =
-          rw (
-            read (c .before .before .before .before .before .before .before .before .before .before .before .before .before .before .word .ensures) (c .before .before .before .before .before .before .before .before .before .before .before .before .first .given .1),
-            read (c .before .before .before .before .before .before .before .before .before .before .separated-list .ensures) (c .before .before .before .before .before .before .before .before .mode .given .1),
-            ← c .before .before .before .before .before .before .skip-whitespace .ensures .0,
-            read (c .before .before .before .before .tag .ensures) (c .before .before .end .given .1),
-            ne-eqb _ _ (c .if1 .left),
-          );
-      ordered = inside (c .before .before .before .before .tag .ensures) (c .before .before .end .given .1);
+      ordered = inside (c .before .before .before .tag .ensures) (c .before .end .given .1);
     }
 
 pub parse-import-attribute-block-for-resolution-mode-spec : {M : Type 1} → statement M
@@ -83,5 +66,4 @@ parse-import-attribute-block-for-resolution-mode-spec =
     (λ c. search needs)
     (λ c. search needs)
     returns-3
-    returns-4
-    returns-5)
+    returns-4)

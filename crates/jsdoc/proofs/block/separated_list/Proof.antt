@@ -4,14 +4,15 @@ use mathlib.Core.Path.{_≡_, refl, sym, _∙_}
 use Prim.Native.Nat.{_≤_, _-_}
 use lib.ListN.{length, drop, length-drop}
 use denote.Ref.{now}
-use Rattle.jsdoc.specs.Reader.{separatedList}
+use Rattle.jsdoc.specs.Reader.{unnamed, separatedList}
+use Rattle.jsdoc.specs.code.Answers.{attributeModeAs}
 use Rattle.jsdoc.proofs.Answered.{read, inside}
 use Rattle.jsdoc.proofs.Blocks.{attributes-none, attributes-last, attributes-shorter, attributes-next}
 use Rattle.jsdoc.proofs.block.separated_list.Statement.{statement}
 use Rattle.jsdoc.proofs.block.separated_list.Tie as tie
 
 abbrev Inv-loop : tie.InvT-loop
-Inv-loop s at i₀ mode₀ i mode = (i ≤ length s) × (separatedList 3 (drop at s) ≡ separatedList mode (drop i s))
+Inv-loop s at i₀ mode₀ i mode = (i ≤ length s) × (separatedList unnamed (drop at s) ≡ separatedList (attributeModeAs mode) (drop i s))
 
 abbrev μ-loop : tie.MeasureT-loop
 μ-loop s at i₀ mode₀ i mode = length s - i
@@ -41,7 +42,7 @@ loop-less c =
     let j = c .before .next .given .0 .0 in
     omega (
       arith,
-      attributes-shorter 3 (drop i s) (read (c .before .before .before .before .before .before .before .before .parse-attribute .ensures) (c .before .before .before .before .before .before .n .given .1)) (read (c .before .before .before .comma .ensures) (c .before .next .given .1)),
+      attributes-shorter unnamed (drop i s) (read (c .before .before .before .before .before .before .before .before .parse-attribute .ensures) (c .before .before .before .before .before .before .n .given .1)) (read (c .before .before .before .comma .ensures) (c .before .next .given .1)),
       inside (c .before .before .before .comma .ensures) (c .before .next .given .1),
       length-drop i s,
       length-drop j s,

@@ -5,7 +5,7 @@ use Prim.Native.Nat.{_+_, _≤_, _-_}
 use lib.ListN.{length, length-drop, length-replicate}
 use denote.Ref.{now}
 use Rattle.jsdoc.specs.Grammar.{Brace}
-use Rattle.jsdoc.specs.Marks.{Marks}
+use Rattle.jsdoc.specs.code.Marks.{Marks}
 use Rattle.jsdoc.proofs.Moved.{part-to-end}
 use Rattle.jsdoc.proofs.Searches.{search-goes-on}
 use Rattle.jsdoc.proofs.Marking.{Before, braces, room, marks-none, braces-all, no-brace-turn, brace-turn}

@@ -3,7 +3,7 @@ use native.Mathlib.Omega.{arith}
 use Prim.Native.Nat.{_+_, _≤_, _-_}
 use lib.ListN.{length}
 use denote.Ref.{now}
-use Rattle.jsdoc.specs.Marks.{Marks}
+use Rattle.jsdoc.specs.code.Marks.{Marks}
 use Rattle.jsdoc.proofs.Moved.{part-to-end}
 use Rattle.jsdoc.proofs.Marking.{Besides, declarations, room, besides-none, listed-all, declaration-turn}
 use Rattle.jsdoc.proofs.Skips.{declarations-skip}

@@ -5,12 +5,16 @@ use lib.ListN.{length, length-replicate}
 use Rattle.laws.proofs.Steps.{known}
 use Rattle.sheet.specs.Media.{isJavaScript}
 use Rattle.report.proofs.Buffers.{wrote-append}
+use Rattle.listing.proofs.Marking.{marks-small}
 use Rattle.listing.proofs.Turns.{encode-none, encode-all}
 use Rattle.listing.proofs.imports.analyze_jsdoc_imports.Statement.{statement}
 use Rattle.listing.proofs.imports.analyze_jsdoc_imports.Tie as tie
 
 put-imports-requires : tie.Need-put-imports-requires
-put-imports-requires c κs = (c .before .before .before .before .before .before .before .before .before .before .before .before .before .before .before .before .before .before .before .pre .0 .indexed, c .before .before .before .before .before .before .before .before .before .before .mark-comments .kept .1 .1 .1 .0 ∙ (ap length (c .before .before .before .before .before .before .before .before .before .before .before .before .before .before .before .before .before .before .before .pre .1) ∙ length-replicate _ 0))
+put-imports-requires c κs =
+    let start = c .before .before .before .before .before .before .before .before .before .before .before .before .before .before .before .before .before .before .before in
+    let marks = c .before .before .before .before .before .before .before .before .before .before .mark-comments in
+    (start .pre .0 .indexed, (marks .kept .1 .1 .1 .0 ∙ (ap length (start .pre .1) ∙ length-replicate _ 0), rw (marks .ensures) (marks-small (start .pre .0 .fit))))
 
 returns : tie.Need-returns
 returns c =

@@ -32,7 +32,7 @@ returns-2 c =
     let text = c .before .before .before .before .before .before .before .before .before .before .before .before .before .before .before .before .quote-at .ensures in
     let found = c .before .before .before .before .before .before .before .before .before .before .before .before .before .before .from .given .0 in
     let part = c .before .before .before .before .before .before .before .before .before .before .before .before .before .before .from .given .1 in
-    rw (encode-import _ _ _ (found .0) (found .1 .0) (found .1 .1 .0) (read text part) (inside text part .2), wrote-cons, wrote-append, ← c .before .before .before .before .before .before .before .before .before .before .before .put .ensures, ← c .before .before .before .before .before .before .put-specifier .ensures) (c .before .before .put2 .ensures)
+    rw (encode-import _ _ _ (found .0) (found .1 .0) (found .1 .1 .0) (c .before .before .before .before .before .before .before .before .before .before .before .before .before .before .before .before .before .before .before .before .pre .1 .1) (read text part) (inside text part .2), wrote-cons, wrote-append, ← c .before .before .before .before .before .before .before .before .before .before .before .put .ensures, ← c .before .before .before .before .before .before .put-specifier .ensures) (c .before .before .put2 .ensures)
 
 pub put-import-spec : {M : Type 1} → statement M
 put-import-spec =

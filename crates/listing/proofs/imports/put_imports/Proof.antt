@@ -30,7 +30,10 @@ loop-again c =
     )
 
 put-import-requires : tie.Need-put-import-requires Inv-loop μ-loop
-put-import-requires c κs = (c .before .before .before .before .before .before .before .before .before .pre .0, omega (arith, c .before .before .before .before .before .before .before .before .before .pre .1, c .before .before .before .loop-test .taken))
+put-import-requires c κs =
+    let start = c .before .before .before .before .before .before .before .before .before in
+    let small = start .pre .1 .1 (c .before .before .before .before .loop .q) in
+    (start .pre .0, (omega (arith, start .pre .1 .0, c .before .before .before .loop-test .taken), omega (arith, small)))
 
 loop-again-2 : tie.Need-loop-again-2 Inv-loop μ-loop
 loop-again-2 c =

@@ -19,7 +19,7 @@ returns c = rw (c .before .before .before .before .before .before .before .befor
 returns-2 : tie.Need-returns-2
 unfolding encodeReference
 returns-2 c =
-    rw (c .before .before .before .before .before .before .before .before .before .before .before .before .before .reference2 .given .1, wrote-cons, ← c .before .before .before .before .before .before .before .before .before .before .put2 .ensures, wrote-append, ← c .before .before .before .before .before .before .put-capture2 .ensures)
+    rw (c .before .before .before .before .before .before .before .before .before .before .before .before .before .before .reference2 .given .1, wrote-cons, ← c .before .before .before .before .before .before .before .before .before .before .before .put2 .ensures, wrote-append, ← c .before .before .before .before .before .before .before .put-capture2 .ensures, ← c .before .before .before .mode-number .ensures)
     (c .before .before .put3 .ensures)
 
 returns-3 : tie.Need-returns-3
@@ -35,6 +35,7 @@ put-reference-spec =
     (λ c. search needs)
     (λ c κs. search needs)
     put-capture-requires-2
+    (λ c κs. search needs)
     (λ c κs. search needs)
     (λ c. search needs)
     (λ c. search needs)

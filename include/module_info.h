@@ -16,7 +16,7 @@ extern "C" {
 /* An answer's number: MODULE_INFO_ACCEPTED, or the first refusal in checking order. */
 enum module_info_number {
     MODULE_INFO_ACCEPTED = 0,
-    /* The sheet has 0 bytes or more than 65,536. */
+    /* The sheet has more than 65,536 bytes. */
     MODULE_INFO_SHEET_LENGTH = 1,
     /* A field is cut off, or a number is not shortest or too large. */
     MODULE_INFO_CUT_OFF = 2,
@@ -44,6 +44,7 @@ enum module_info_number {
 
 /* Answers the n bytes of a sheet with its report, in a buffer of m bytes: number + 256 * length.
  * Accepted: the report begins the buffer, and every byte behind it is 0. Refused: the whole buffer is 0.
+ * No bytes (n is 0) are no sheet: their report is that of the default module information, eight zero bytes.
  * What the buffer held before does not matter. The sheet is not changed, nothing is kept, and no memory is allocated.
  * A pointer whose length is 0 may be null: nothing is read or written through it. Sheet and buffer do not overlap: a store to the buffer would
  * change a sheet that is still being read, and the proof takes the two for apart.

@@ -2,8 +2,8 @@
 //! generate kinds
 //! Writes COUNT sheets, from number FIRST on, as a batch (each: length as u32 little-endian, bytes) to the file SHEETS, and a line with
 //! the kind of each to the file KINDS. The sheet of a number depends on SEED and that number only. `kinds` prints the well-formed kinds.
-//! Kinds: `small`, `rich`, `comments`, `jsdoc`, `near`, `tree`, `letters` and `long` (a long report) are well-formed; `uncooked` has uncooked
-//! pieces (refusal 9); `text` has a text at the border of UTF-8 or WTF-8; `order` meets two refusals; `limit` hits a limit of document 01,
+//! Kinds: `small`, `rich`, `comments`, `jsdoc`, `near`, `tree`, `letters` and `long` (a long report) are well-formed; `empty` has no bytes, which
+//! the report of the default information answers; `uncooked` has uncooked pieces (refusal 9); `text` has a text at the border of UTF-8 or WTF-8; `order` meets two refusals; `limit` hits a limit of document 01,
 //! `over` exceeds one by one; `flip`, `cut`, `insert`, `delete`, `splice` and `number` are damaged copies; `noise` is bytes at random.
 //! The span of a String, if nothing damaged it, is a quoted place of the source: it begins and ends with the same mark, `"` or `'`.
 
@@ -1151,12 +1151,12 @@ fn well_formed(r: &mut Rng, kind: &str) -> Vec<u8> {
 }
 
 /// The kinds whose sheets meet none of refusals 1 to 9.
-const WELL_FORMED: [&str; 8] = ["small", "rich", "comments", "jsdoc", "near", "tree", "letters", "long"];
+const WELL_FORMED: [&str; 9] = ["small", "empty", "rich", "comments", "jsdoc", "near", "tree", "letters", "long"];
 
 /// How many sheets are of each kind, among as many as the numbers make together.
 #[rustfmt::skip]
-const KINDS: [(&str, usize); 19] = [
-    ("small", 150), ("text", 20), ("order", 10), ("rich", 200), ("comments", 130), ("jsdoc", 180), ("near", 130), ("tree", 120), ("letters", 20), ("uncooked", 20), ("long", 2),
+const KINDS: [(&str, usize); 20] = [
+    ("small", 145), ("empty", 5), ("text", 20), ("order", 10), ("rich", 200), ("comments", 130), ("jsdoc", 180), ("near", 130), ("tree", 120), ("letters", 20), ("uncooked", 20), ("long", 2),
     ("flip", 40), ("cut", 30), ("insert", 30), ("delete", 30), ("splice", 30), ("number", 20), ("noise", 8), ("limit", 10),
 ];
 
@@ -1176,6 +1176,7 @@ fn make(seed: u64, index: u64) -> (&'static str, Vec<u8>) {
     match kind {
         "limit" if r.percent(50) => ("over", limit(r, 1)),
         "limit" => ("limit", limit(r, 0)),
+        "empty" => (kind, Vec::new()),
         "text" => (kind, texts(r)),
         "order" => (kind, order(r)),
         "noise" => {

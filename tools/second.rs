@@ -328,7 +328,7 @@ fn is_quoted(place: &[u8]) -> bool {
 }
 
 fn decode(bytes: &[u8], quoted: bool) -> Read<Sheet> {
-    if bytes.is_empty() || bytes.len() > 65_536 {
+    if bytes.len() > 65_536 {
         return Err(1);
     }
     let mut c = Cursor { rest: bytes, source: &[], quoted };
@@ -1014,8 +1014,11 @@ fn call_attributes(argument: Option<&(bool, Span, Node)>) -> Attributes {
     found
 }
 
-/// The report of a sheet, however long, or its refusal (1 to 9).
+/// The report of a sheet, however long, or its refusal (1 to 9); of no bytes eight zero bytes.
 pub fn answer(sheet: &[u8]) -> Read<Vec<u8>> {
+    if sheet.is_empty() {
+        return Ok(vec![0; 8]);
+    }
     decode(sheet, false)?.report()
 }
 

@@ -90,6 +90,9 @@ static const uint8_t example_report[] = "\0\0\0\0\0\0"
                                         "\1\1\6./a.ts\0\14\0\24\0"
                                         "\0";
 
+/* That of the default module information. */
+static const uint8_t default_report[8];
+
 /* Changes the byte at a place of the example. */
 static void changed(size_t at, int byte, int number) {
     uint8_t sheet[EXAMPLE];
@@ -104,11 +107,12 @@ static void examples(void) {
     size_t n;
 
     all_sizes("the example", 1, example, EXAMPLE, MODULE_INFO_ACCEPTED, example_report, sizeof example_report - 1);
-    all_sizes("no sheet", 0, example, 0, MODULE_INFO_SHEET_LENGTH, example_report, 0);
+    all_sizes("no bytes", 0, example, 0, MODULE_INFO_ACCEPTED, default_report, sizeof default_report);
+    all_sizes("no bytes, a null pointer", 0, NULL, 0, MODULE_INFO_ACCEPTED, default_report, sizeof default_report);
+    all_sizes("the smallest sheet", 1, long_sheet, 13, MODULE_INFO_ACCEPTED, default_report, sizeof default_report);
     /* zeros are a sheet of 13 bytes */
     all_sizes("the longest sheet", 1, long_sheet, MODULE_INFO_MAX_SHEET, MODULE_INFO_TRAILING, example_report, 0);
     all_sizes("a longer sheet", 1, long_sheet, MODULE_INFO_MAX_SHEET + 1, MODULE_INFO_SHEET_LENGTH, example_report, 0);
-    all_sizes("no sheet, a null pointer", 0, NULL, 0, MODULE_INFO_SHEET_LENGTH, example_report, 0);
     for (n = 1; n < EXAMPLE; n++) all_sizes("the example, cut off at", (unsigned long)n, example, n, MODULE_INFO_CUT_OFF, example_report, 0);
     changed(0, 11, MODULE_INFO_BYTE);      /* the media */
     changed(2, 0xFF, MODULE_INFO_TEXT);    /* the source */

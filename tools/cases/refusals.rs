@@ -6,6 +6,7 @@ use crate::sheets::*;
 use crate::tree::{PASSED_OVER, WALKED};
 
 pub fn all(c: &mut Cases) {
+    c.add(0, "no bytes", vec![]);
     numbers(c);
     texts(c);
     comments(c);
@@ -15,7 +16,6 @@ pub fn all(c: &mut Cases) {
 }
 
 fn numbers(c: &mut Cases) {
-    c.add(1, "no sheet", vec![]);
     let groups: [(&str, &[u8]); 7] = [
         ("six groups", &[0x80, 0x80, 0x80, 0x80, 0x80, 1]),
         ("six groups, the last 0", &[0x80, 0x80, 0x80, 0x80, 0x80, 0]),

@@ -1,7 +1,7 @@
 """Document 01's refusals."""
 
 MEANINGS = {
-    1: "the sheet has 0 bytes or more than 65,536",
+    1: "the sheet has more than 65,536 bytes",
     2: "a field is cut off, or a number is not shortest or too large",
     3: "a byte or flag is outside its stated values, or a node has a tag its place doesn't allow",
     4: "a count, length or depth is over its limit",

@@ -74,6 +74,16 @@ class Answers(unittest.TestCase):
                 self.assertEqual(citation(info), sheet.with_suffix(".citation").read_text("utf-8"))
                 self.assertEqual(to_json(info) + "\n", sheet.with_suffix(".json").read_text("utf-8"))
 
+    def test_no_bytes(self):
+        """The default information, in eight zero bytes."""
+        info = module_info(b"")
+        self.assertEqual(report(b""), bytes(8))
+        self.assertEqual((info, citation(info), to_json(info)), (decode(bytes(8)), "module 0\n", "{}"))
+        for size in 0, 7:
+            with self.assertRaises(Refused) as refused:
+                report(b"", size)
+            self.assertEqual(refused.exception.number, 10)
+
     def test_words(self):
         os.chdir(ROOT)
         self.assertEqual(doctest.testmod(package).failed, 0)
@@ -90,6 +100,11 @@ class CommandLine(unittest.TestCase):
         self.assertEqual((done.returncode, done.stdout), (1, b"refused 3\n"))
         self.assertIn(b"-: refused 3: a byte or flag is outside its stated values", done.stderr)
         self.assertEqual(run("json", "-", input=b"x", stdout=subprocess.PIPE).stdout, b"")
+
+    def test_no_bytes(self):
+        for command, expected in ("cite", b"module 0\n"), ("json", b"{}\n"):
+            done = run(command, "-", input=b"", stdout=subprocess.PIPE)
+            self.assertEqual((done.returncode, done.stdout, done.stderr), (0, expected, b""))
 
     def test_failures(self):
         self.assertEqual(run().returncode, 2)

@@ -60,13 +60,17 @@ unsafe extern "C" {
 /// A refusal is the first that document 01's order names, and then the whole buffer is 0.
 /// The call runs on a thread with 128 KiB of stack: measured on the deepest sheets of every form, not proved.
 ///
-/// What the buffer held before does not matter.
+/// What the buffer held before does not matter. No bytes are no sheet: their report is that of the default information, eight zero bytes.
 ///
 /// ```
-/// use module_info::{Refusal, module_info};
+/// use module_info::{ModuleInfo, Refusal, module_info};
 ///
-/// assert_eq!(module_info(b"", &mut []), Err(Refusal::SheetLength));
-/// assert_eq!(module_info(&[11], &mut [0; 8]), Err(Refusal::Byte)); // no such media
+/// let mut buffer = [1; 9];
+/// assert_eq!(module_info(b"", &mut buffer), Ok(8));
+/// assert_eq!(buffer, [0; 9]);
+/// assert_eq!(ModuleInfo::decode(&buffer[..8]), Ok(ModuleInfo::default()));
+/// assert_eq!(module_info(b"", &mut buffer[..7]), Err(Refusal::Buffer));
+/// assert_eq!(module_info(&[11], &mut buffer), Err(Refusal::Byte)); // no such media
 /// ```
 pub fn module_info(sheet: &[u8], buffer: &mut [u8]) -> Result<usize, Refusal> {
     // SAFETY: both slices are valid for their lengths and do not overlap, and the function keeps neither.

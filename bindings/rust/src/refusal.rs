@@ -50,7 +50,7 @@ impl Refusal {
     /// Document 01's words.
     pub fn message(self) -> &'static str {
         match self {
-            Refusal::SheetLength => "the sheet has 0 bytes or more than 65,536",
+            Refusal::SheetLength => "the sheet has more than 65,536 bytes",
             Refusal::CutOff => "a field is cut off, or a number is not shortest or too large",
             Refusal::Byte => "a byte or flag is outside its stated values, or a node has a tag its place doesn't allow",
             Refusal::Limit => "a count, length or depth is over its limit",

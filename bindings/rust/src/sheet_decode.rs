@@ -5,8 +5,12 @@ use crate::refusal::Refusal;
 use crate::sheet::*;
 
 impl Sheet {
-    /// The sheet that has these bytes, or the refusal (1 to 9) that the library gives to them.
+    /// The sheet that has these bytes, or the refusal (1 to 9) that the library gives to them. No bytes, which the library answers with the
+    /// default information, are no sheet: here they are cut off.
     pub fn decode(bytes: &[u8]) -> Result<Sheet, Refusal> {
+        if bytes.is_empty() {
+            return Err(Refusal::CutOff);
+        }
         match module_info(bytes, &mut []) {
             Ok(_) | Err(Refusal::Buffer) => Ok(Reader(bytes).sheet()),
             Err(refusal) => Err(refusal),

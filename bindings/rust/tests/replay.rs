@@ -41,10 +41,18 @@ fn reports() {
     }
 }
 
+/// No bytes are in the list, and get the default information.
+#[test]
+fn no_bytes() {
+    let items: Vec<Item> = stored().into_iter().filter(|i| i.sheet.is_empty()).collect();
+    assert_eq!(items.len(), 1);
+    assert_eq!((items[0].number, ModuleInfo::decode(&items[0].report)), (0, Ok(ModuleInfo::default())));
+}
+
 /// The source at each place has the text, and the JSDoc imports ascend.
 #[test]
 fn places() {
-    for Item { name, sheet, report, .. } in stored().into_iter().filter(|i| i.number == 0) {
+    for Item { name, sheet, report, .. } in stored().into_iter().filter(|i| i.number == 0 && !i.sheet.is_empty()) {
         let info = ModuleInfo::decode(&report).expect("a report");
         let source = source(&sheet);
         let place = |r: &PositionRange| &source[offset(source, r.start)..offset(source, r.end)];

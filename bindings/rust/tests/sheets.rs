@@ -14,6 +14,7 @@ fn round_trips() {
                 assert_eq!(number, 0, "{name}");
                 assert_eq!(decoded.encode().as_ref(), Ok(&sheet), "{name}");
             }
+            Err(refusal) if sheet.is_empty() => assert_eq!((refusal, number), (Refusal::CutOff, 0), "{name}"),
             Err(refusal) => assert_eq!(refusal.number(), number, "{name}"),
         }
     }
@@ -32,7 +33,7 @@ fn shifted() {
         }
     };
     let (mut written, mut refused) = (0, 0);
-    for Item { name, sheet, .. } in stored().into_iter().filter(|i| i.number == 0) {
+    for Item { name, sheet, .. } in stored().into_iter().filter(|i| i.number == 0 && !i.sheet.is_empty()) {
         let mut decoded = Sheet::decode(&sheet).expect("a sheet");
         let Comments { leading, trailing } = &mut decoded.comments;
         let comments = leading.values_mut().chain(trailing.values_mut()).flatten();

@@ -2,9 +2,8 @@
 use mathlib.Core.Path.{_≡_, refl}
 use mathlib.Core.List.{List}
 use Prim.Native.Nat.{ℕ, _≤_, _<_}
-use native.Mathlib.Omega.{arith}
 use lib.ListN.{length, drop}
-use borrow.Author.Tests.{lt-ltb, le-leb, lt-leb}
+use borrow.Author.Tests.{le-leb, lt-leb}
 use Rattle.laws.specs.Decoded.{ok, no}
 use Rattle.text.specs.Bytes.{part}
 use Rattle.sheet.specs.Limits.{sheetLimit}
@@ -17,15 +16,12 @@ use Rattle.accept.specs.code.Views.{frontOf, Stands}
 use Rattle.accept.specs.code.Accepts.{Accepts}
 use Rattle.accept.proofs.ByPieces.{whole, accept-by-pieces}
 
-pub no-bytes : (s : List ℕ) → length s ≡ 0 → accept s ≡ no 1
-no-bytes s h = rw (accept-by-pieces s, h)
-
 pub too-many : (s : List ℕ) → sheetLimit < length s → accept s ≡ no 1
-too-many s h = rw (accept-by-pieces s, lt-ltb 0 (length s) (omega arith), lt-leb (length s) sheetLimit h)
+too-many s h = rw (accept-by-pieces s, lt-leb (length s) sheetLimit h)
 
-module _ (s : List ℕ) (some : 0 < length s) (few : length s ≤ sheetLimit) where
+module _ (s : List ℕ) (few : length s ≤ sheetLimit) where
   fits : sized s ≡ ok tt s
-  fits = rw (lt-ltb 0 (length s) some, le-leb (length s) sheetLimit few)
+  fits = rw (le-leb (length s) sheetLimit few)
 
   pub refused-front : {r : ℕ} → front s ≡ no r → accept s ≡ no r
   refused-front e = rw (accept-by-pieces s, fits, e)

@@ -47,7 +47,7 @@ sheetOf root = front ++ leading ++ program-to 27 ++ root
 abbrev cases : List (List ℕ × ℕ)
 cases =
     (sheetOf empty, 0)
-    ∷ ([], 1)
+    ∷ ([], 2)
     ∷ (0 ∷ [], 2)
     ∷ (11 ∷ [], 3)  -- an unknown media byte, though the sheet is cut off behind it
     ∷ (0 ∷ 0x81 ∷ 0x80 ∷ 0x02 ∷ [], 4)  -- a source of 32,769 bytes, though they are cut off

@@ -44,9 +44,6 @@ pub fn check_sheet(
         × Free (now (groups .entry)) (now (groups .exit))
         × Free (now (longest .entry)) (now (longest .exit)) ⌝ }
 {
-    if sheet.len() == 0 {
-        return SheetChecked::Refused(refusals::SHEET_LENGTH);
-    }
     if SHEET_LIMIT < sheet.len() {
         return SheetChecked::Refused(refusals::SHEET_LENGTH);
     }

@@ -1,29 +1,28 @@
 -- What the report function answers is what the citation asks for.
-use mathlib.Core.Path.{_≡_, refl, sym, ap}
+use mathlib.Core.Path.{_≡_, refl, sym, ap, _∙_}
 use mathlib.Core.Bool.{Bool, true, false}
-use mathlib.Core.List.{List, [], _++_}
+use mathlib.Core.List.{List, _++_}
 use Prim.Native.Nat.{ℕ, _-_, _*_, _≤_}
 use native.Mathlib.Omega.{arith}
 use lib.Dec.{leb}
 use lib.ListN.{length, take, length-append}
 use lib.Seq.{take-append-seam}
 use borrow.Author.Tests.{leb-true}
-use Rattle.laws.specs.Decoded.{ok}
-use Rattle.laws.proofs.Decoding.{refused}
 use Rattle.wire.specs.Refusals.{ofSheets, oneOf}
 use Rattle.wire.specs.Refusals as refusals
-use Rattle.sheet.specs.Sheet.{Sheet, accept}
+use Rattle.sheet.specs.Judge.{judge}
 use Rattle.sheet_codec.proofs.Sheets.{accepts-exactly}
-use Rattle.sheet_codec.proofs.Refusals.{apart, Decision, decided}
+use Rattle.sheet_codec.proofs.Refusals.{apart, Decision, decided, judged-sheet, judged-refusal}
 use Rattle.report.specs.ModuleInfo.{ModuleInfo}
 use Rattle.report.specs.Encode.{encode}
 use Rattle.report.specs.Valid.{Valid}
-use Rattle.report.specs.Answer.{Answer, zeros, accepted, fitted}
+use Rattle.report.specs.Answer.{Answer, zeros, accepted, refusedWith, fitted}
+use Rattle.report.specs.declared.writer.Outcome.{Outcome}
 use Rattle.report.specs.declared.writer.Outcome.the-variants.{Accepted, Refused}
-use Rattle.module_info.specs.Information.{moduleInfo, answerOf}
+use Rattle.module_info.specs.Information.{moduleInfo, defaultInfo, answerOf}
 use Rattle.module_info.specs.Demands.{Demands}
 use Rattle.citation.specs.Citation.{citation, refusal}
-use Rattle.cite.specs.Cited.{reportRoom, lineRoom, cited}
+use Rattle.cite.specs.Cited.{reportRoom, lineRoom, citedIn, cited}
 
 -- a report has bytes
 some-bytes : (m : ModuleInfo) → 0 ≡ length (encode m) → ⊥
@@ -39,51 +38,74 @@ pub record Reported (s : List ℕ) (n : ℕ) (buffer : List ℕ) : Type 0 where
   pub bytes : encode info ≡ take n buffer
   pub lines : cited s ≡ citation info
 
+-- information of which the report is answered and cited
+record Asked (s : List ℕ) : Type 0 where
+  info : ModuleInfo
+  answer : answerOf s reportRoom ≡ fitted reportRoom (encode info)
+  lines : cited s ≡ citedIn info
+  valid : Valid info
+
+-- there is such information, or there is a refusal of a sheet
+data Question (s : List ℕ) : Type 0 where
+  asked : Asked s → Question s
+  refused : (r : ℕ) → oneOf ofSheets r ≡ true → answerOf s reportRoom ≡ refusedWith r reportRoom → cited s ≡ refusal r → Question s
+
 module _ {s buffer : List ℕ} where
-  pub reported : {n : ℕ} → Demands s reportRoom (Accepted n) buffer → Reported s n buffer
-  unfolding oneOf answerOf fitted cited
-  reported {n} d = by-sheet (decided s)
+  question : {outcome : Outcome} → Demands s reportRoom outcome buffer → Question s
+  unfolding answerOf cited judge
+  question {outcome} d = by (decided s)
     where
-      by-room : (t : Sheet) → accept s ≡ ok t [] → (b : Bool) → leb (length (encode (moduleInfo t))) reportRoom ≡ b → Reported s n buffer
-      by-room t e true h =
-          let answer : record { number = 0; written = n; buffer = buffer } ≡ accepted reportRoom (encode (moduleInfo t)) = rw (e, h) at (d .answer) in
-          let long : n ≡ length (encode (moduleInfo t)) = ap (λ (a : Answer). a .written) answer in
-          let held : buffer ≡ encode (moduleInfo t) ++ zeros (reportRoom - length (encode (moduleInfo t))) = ap (λ (a : Answer). a .buffer) answer in
-          let begins : encode (moduleInfo t) ≡ take n buffer = rw (long, held) (sym (take-append-seam (encode (moduleInfo t)) _)) in
-          let room = leb-true (length (encode (moduleInfo t))) reportRoom h in
+      by : Decision s → Question s
+      by (Decision.empty e) = asked (record { info = defaultInfo; answer = rw e; lines = rw e; valid = d .empty e .report .fits })
+      by (Decision.accepted t e) =
+          asked (record { info = moduleInfo t; answer = rw (judged-sheet s e); lines = rw (judged-sheet s e); valid = d .report t (accepts-exactly s t .0 e) .fits })
+      by (Decision.refused r among some e) = refused r among (rw (judged-refusal s some e)) (rw (judged-refusal s some e))
+
+  pub reported : {n : ℕ} → Demands s reportRoom (Accepted n) buffer → Reported s n buffer
+  unfolding oneOf fitted
+  reported {n} d = by (question d)
+    where
+      by-room : (a : Asked s) (b : Bool) → leb (length (encode (a .info))) reportRoom ≡ b → Reported s n buffer
+      by-room a true h =
+          let bytes = encode (a .info) in
+          let answer : record { number = 0; written = n; buffer = buffer } ≡ accepted reportRoom bytes = rw h at (d .answer ∙ a .answer) in
+          let long : n ≡ length bytes = ap (λ (x : Answer). x .written) answer in
+          let held : buffer ≡ bytes ++ zeros (reportRoom - length bytes) = ap (λ (x : Answer). x .buffer) answer in
+          let begins : bytes ≡ take n buffer = rw (long, held) (sym (take-append-seam bytes _)) in
+          let room = leb-true (length bytes) reportRoom h in
           record {
-            info = moduleInfo t;
-            within = omega (arith, ap length held, length-append (encode (moduleInfo t)) (zeros (reportRoom - length (encode (moduleInfo t)))));
+            info = a .info;
+            within = omega (arith, ap length held, length-append bytes (zeros (reportRoom - length bytes)));
             room = rw (← begins) (omega arith);
-            valid = d .report t (accepts-exactly s t .0 e) .fits;
+            valid = a .valid;
             bytes = begins;
-            lines = rw (e, h);
+            lines = rw (a .lines, h);
           }
-      by-room t e false h =
-          let none : _≡_ {A = ℕ} 0 refusals.buffer = ap (λ (a : Answer). a .number) (rw (e, h) at (d .answer)) in
+      by-room a false h =
+          let none : _≡_ {A = ℕ} 0 refusals.buffer = ap (λ (x : Answer). x .number) (rw h at (d .answer ∙ a .answer)) in
           absurd (omega arith)
 
-      by-sheet : Decision s → Reported s n buffer
-      by-sheet (Decision.accepted t e) = by-room t e (leb (length (encode (moduleInfo t))) reportRoom) refl
-      by-sheet (Decision.refused r among e) =
-          let none : 0 ≡ r = ap (λ (a : Answer). a .number) (rw e at (d .answer)) in
+      by : Question s → Reported s n buffer
+      by (asked a) = by-room a (leb (length (encode (a .info))) reportRoom) refl
+      by (refused r among e lines) =
+          let none : 0 ≡ r = ap (λ (x : Answer). x .number) (d .answer ∙ e) in
           absurd (apart ofSheets among (sym none) refl)
 
   -- a refusal that was answered
   pub refused-lines : {r : ℕ} → Demands s reportRoom (Refused r) buffer → cited s ≡ refusal r
-  unfolding answerOf fitted cited
-  refused-lines {r} d = by-sheet (decided s)
+  unfolding fitted
+  refused-lines {r} d = by (question d)
     where
-      by-room : (t : Sheet) → accept s ≡ ok t [] → (b : Bool) → leb (length (encode (moduleInfo t))) reportRoom ≡ b → cited s ≡ refusal r
-      by-room t e true h =
-          let none : 0 ≡ length (encode (moduleInfo t)) = ap (λ (a : Answer). a .written) (rw (e, h) at (d .answer)) in
-          absurd (some-bytes (moduleInfo t) none)
-      by-room t e false h =
-          let ten : r ≡ refusals.buffer = ap (λ (a : Answer). a .number) (rw (e, h) at (d .answer)) in
-          rw (e, h, ten)
+      by-room : (a : Asked s) (b : Bool) → leb (length (encode (a .info))) reportRoom ≡ b → cited s ≡ refusal r
+      by-room a true h =
+          let none : 0 ≡ length (encode (a .info)) = ap (λ (x : Answer). x .written) (rw h at (d .answer ∙ a .answer)) in
+          absurd (some-bytes (a .info) none)
+      by-room a false h =
+          let ten : r ≡ refusals.buffer = ap (λ (x : Answer). x .number) (rw h at (d .answer ∙ a .answer)) in
+          rw (a .lines, h, ten)
 
-      by-sheet : Decision s → cited s ≡ refusal r
-      by-sheet (Decision.accepted t e) = by-room t e (leb (length (encode (moduleInfo t))) reportRoom) refl
-      by-sheet (Decision.refused q among e) =
-          let same : r ≡ q = ap (λ (a : Answer). a .number) (rw e at (d .answer)) in
-          rw (e, same)
+      by : Question s → cited s ≡ refusal r
+      by (asked a) = by-room a (leb (length (encode (a .info))) reportRoom) refl
+      by (refused q among e lines) =
+          let same : r ≡ q = ap (λ (x : Answer). x .number) (d .answer ∙ e) in
+          rw (lines, same)

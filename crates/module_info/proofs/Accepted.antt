@@ -1,5 +1,5 @@
 -- What the judge says of an accepted sheet is what the writers ask, and what demand 3 is shown from.
-use mathlib.Core.Path.{_≡_, refl, sym, _∙_}
+use mathlib.Core.Path.{_≡_, refl, sym, ap, _∙_}
 use mathlib.Core.Bool.{true}
 use mathlib.Core.List.{List, [], _∷_}
 use Prim.Native.Nat.{ℕ, _+_, _/_, _≤_, _<_}
@@ -22,12 +22,13 @@ use Rattle.sheet.specs.Limits.{sourceLimit, commentLimit, groupLimit, commentNu
 use Rattle.sheet.specs.Fit.{Fit}
 use Rattle.sheet.specs.Walk.{Visit, startOf, visits}
 use Rattle.sheet.specs.Sheet.{Sheet, accept}
+use Rattle.sheet.specs.Judge.{judge}
 use Rattle.sheet.proofs.Rows.{rows-length}
 use Rattle.sheet.proofs.Reaches.{walk-right}
 use Rattle.sheet_codec.specs.Limits.{FieldsFit}
 use Rattle.sheet_codec.specs.SheetOf.{SheetOf}
 use Rattle.sheet_codec.proofs.Sheets.{accepts-exactly}
-use Rattle.sheet_codec.proofs.Refusals.{passes, Decision, decided}
+use Rattle.sheet_codec.proofs.Refusals.{passes, Decision, decided, cut-off, judged-sheet, judged-refusal}
 use Rattle.accept.specs.declared.check.Parts.{Parts}
 use Rattle.accept.specs.code.Accepts.{Accepts}
 use Rattle.report.specs.declared.writer.Outcome.{Outcome}
@@ -46,10 +47,12 @@ use Rattle.dep.specs.Collect.{entryOf}
 use Rattle.dep.specs.InTurn.{InTurn, Worded, EntryOf}
 use Rattle.dep.proofs.Turns.{turn-member, turns-with, collect-turns}
 use Rattle.dep.proofs.Right.{attributes-right}
-use Rattle.module_info.specs.Information.{moduleInfo, answerOf}
+use Rattle.module_info.specs.Information.{moduleInfo, defaultInfo, answerOf}
 use Rattle.module_info.specs.code.Pieces.{PartsOf, RootOf}
+use Rattle.module_info.specs.Empty.{EmptyRight}
 use Rattle.module_info.specs.Demands.{OfAccepted, Demands}
 use Rattle.module_info.proofs.Numbers.{number-right}
+use Rattle.module_info.proofs.Empty.{empty-right}
 use Rattle.module_info.proofs.Fine.{Fine}
 use Rattle.module_info.proofs.Reports.{entries-fine, report-right}
 
@@ -116,6 +119,7 @@ module _ {s comments groups : List ℕ} {p : Parts} (a : Accepts s comments grou
   demanded {size} {outcome} {buffer} report = record {
     answer = answer;
     complete = λ t h. report t (accepts-exactly s t .1 h);
+    empty = λ e. absurd (refused (sym cut-off ∙ (rw e at (a .accepted))));
     number = rw answer (number-right s size);
     dependencies = shown (λ t. _) in-turn;
     walk = λ t h. walk-right (t .root);
@@ -127,7 +131,7 @@ module _ {s comments groups : List ℕ} {p : Parts} (a : Accepts s comments grou
   }
     where
       answer : outcomeAs outcome buffer ≡ answerOf s size
-      answer = rw (a .accepted) (report (a .sheet) (a .accepted))
+      answer = rw (judged-sheet s (a .accepted)) (report (a .sheet) (a .accepted))
 
       t : Sheet
       t = a .sheet
@@ -163,36 +167,45 @@ module _ {s comments groups : List ℕ} {p : Parts} (a : Accepts s comments grou
       shown P h t e = rw (same-sheet (accepts-exactly s t .1 e) (a .accepted)) h
 
 -- a refusal fits a byte
-pub refusal-small : (s : List ℕ) {r : ℕ} → accept s ≡ no r → r < 256
+pub refusal-small : (s : List ℕ) {r : ℕ} → 0 < length s → accept s ≡ no r → r < 256
 unfolding oneOf
-refusal-small s {r} e = by (decided s)
+refusal-small s {r} some e = by (decided s)
   where
     by : Decision s → r < 256
+    by (Decision.empty f) = absurd (omega (arith, some, ap length f))
     by (Decision.accepted t f) = absurd (refused (sym e ∙ f))
-    by (Decision.refused q among f) =
+    by (Decision.refused q among _ f) =
         let g : no q ≡ no r = sym f ∙ e in
         let same : q ≡ r = cc in
         rw (← same) (ltb-true q 256 (passes (λ n. ltb n 256) ofSheets refl q among))
 
--- a refused sheet: its answer and its number, and nothing is asked of it beyond
-pub refusal-demanded : (s : List ℕ) {size r : ℕ} {outcome : Outcome} {buffer : List ℕ} → accept s ≡ no r → outcomeAs outcome buffer ≡ refusedWith r size
-    → Demands s size outcome buffer
-unfolding answerOf
-refusal-demanded s {size} {outcome = outcome} {buffer = buffer} e refusal = record {
-  answer = answer;
-  complete = λ t h. never t h;
-  number = rw answer (number-right s size);
-  dependencies = λ t h. never t h;
-  walk = λ t h. never t h;
-  jsdoc = λ t h. never t h;
-  pragmas = λ t h. never t h;
-  texts = λ t h. never t h;
-  columns = λ t h. never t h;
-  report = λ t h. never t h;
-}
-  where
-    answer : outcomeAs outcome buffer ≡ answerOf s size
-    answer = rw e refusal
+-- bytes that are no sheet: their answer and its number, and nothing is asked of them beyond
+module _ (s : List ℕ) {size : ℕ} {outcome : Outcome} {buffer : List ℕ} where
+  no-sheet : ((t : Sheet) → SheetOf s t → ⊥) → outcomeAs outcome buffer ≡ answerOf s size → (s ≡ [] → EmptyRight size (outcomeAs outcome buffer))
+      → Demands s size outcome buffer
+  no-sheet none answer empty = record {
+    answer = answer;
+    complete = λ t h. never t h;
+    empty = empty;
+    number = rw answer (number-right s size);
+    dependencies = λ t h. never t h;
+    walk = λ t h. never t h;
+    jsdoc = λ t h. never t h;
+    pragmas = λ t h. never t h;
+    texts = λ t h. never t h;
+    columns = λ t h. never t h;
+    report = λ t h. never t h;
+  }
+    where
+      never : {P : Type 0} (t : Sheet) → SheetOf s t → P
+      never t h = absurd (none t h)
 
-    never : {P : Type 0} (t : Sheet) → SheetOf s t → P
-    never t h = absurd (refused (sym e ∙ accepts-exactly s t .1 h))
+  pub refusal-demanded : {r : ℕ} → 0 < length s → accept s ≡ no r → outcomeAs outcome buffer ≡ refusedWith r size → Demands s size outcome buffer
+  unfolding answerOf
+  refusal-demanded some e refusal =
+      no-sheet (λ t h. refused (sym e ∙ accepts-exactly s t .1 h)) (rw (judged-refusal s some e) refusal) (λ f. absurd (omega (arith, some, ap length f)))
+
+  pub empty-demanded : s ≡ [] → outcomeAs outcome buffer ≡ fitted size (encode defaultInfo) → Demands s size outcome buffer
+  unfolding answerOf judge
+  empty-demanded e default =
+      no-sheet (λ t h. refused (sym cut-off ∙ (rw e at (accepts-exactly s t .1 h)))) (rw e default) (λ f. empty-right default)

@@ -3,6 +3,7 @@ pub mod Numbers
 pub mod Inside
 pub mod Fine
 pub mod Reports
+pub mod Empty
 pub mod Accepted
 pub mod Cleared
 pub mod Cases

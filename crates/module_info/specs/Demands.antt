@@ -1,6 +1,6 @@
 -- The user's three demands of one call of the report function (docs/DEMANDS.md).
 use mathlib.Core.Path.{_≡_}
-use mathlib.Core.List.{List}
+use mathlib.Core.List.{List, []}
 use Prim.Native.Nat.{ℕ}
 use Rattle.text.specs.Position.{characters, Counted}
 use Rattle.sheet.specs.Walk.{visits}
@@ -17,19 +17,22 @@ use Rattle.dep.specs.InTurn.{InTurn, EntryOf}
 use Rattle.module_info.specs.Information.{moduleInfo, answerOf}
 use Rattle.module_info.specs.Numbers.{NumberRight}
 use Rattle.module_info.specs.Report.{ReportRight}
+use Rattle.module_info.specs.Empty.{EmptyRight}
 
 -- what holds of the sheet that the bytes s are, if they meet none of refusals 1 to 9
 abbrev pub OfAccepted : List ℕ → (Sheet → Type 0) → Type 0
 OfAccepted s P = (t : Sheet) → SheetOf s t → P t
 
--- the bytes s of a sheet, the size of the lent buffer, the outcome, and what the buffer holds then
+-- the bytes s of a sheet or none, the size of the lent buffer, the outcome, and what the buffer holds then
 pub record Demands (s : List ℕ) (size : ℕ) (outcome : Outcome) (buffer : List ℕ) : Type 0 where
-  -- 1: a sheet that meets none of refusals 1 to 9 yields its complete report if the buffer can hold it; every other call gets the first refusal that
-  -- 01's order names, and a buffer of zeros. Nothing is asked of the caller, and old contents do not matter.
+  -- 1: a sheet that meets none of refusals 1 to 9 yields its complete report if the buffer can hold it, and no bytes the default one; every other call
+  -- gets the first refusal that 01's order names, and a buffer of zeros. Nothing is asked of the caller, and old contents do not matter.
   -- 2: the report has the values of 01's rules, `moduleInfo`
   pub answer : outcomeAs outcome buffer ≡ answerOf s size
   -- and both without the decoder: the encoding of a sheet within 01's limits, in which no walked call has an uncooked template, gets its report, or 10
   pub complete : OfAccepted s (λ t. outcomeAs outcome buffer ≡ fitted size (encode (moduleInfo t)))
+  -- no bytes get the report of the default information, or 10
+  pub empty : s ≡ [] → EmptyRight size (outcomeAs outcome buffer)
   -- and what each number means
   pub number : NumberRight s (outcomeAs outcome buffer .number)
   -- 2: dependencies and the visits that give one stand one to one, in order: each dependency is the entry of its visit, with the types that the comments

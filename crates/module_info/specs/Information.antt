@@ -1,8 +1,10 @@
 -- The module information of a sheet, and the answer to a call: `module_info_from_swc` of src/ast/mod.rs, behind the sheet reader.
-use mathlib.Core.List.{List}
+use mathlib.Core.Bool.{false}
+use mathlib.Core.List.{List, []}
+use mathlib.Core.Option.{Option}
 use Prim.Native.Nat.{ℕ, _+_, _*_, _%_}
-use Rattle.laws.specs.Decoded.{Decoded, ok, no}
-use Rattle.sheet.specs.Sheet.{Sheet, accept}
+use Rattle.sheet.specs.Sheet.{Sheet}
+use Rattle.sheet.specs.Judge.{Judged, empty, sheet, refusal, judge}
 use Rattle.report.specs.ModuleInfo.{ModuleInfo}
 use Rattle.report.specs.Encode.{encode}
 use Rattle.report.specs.Answer.{Answer, refusedWith, fitted}
@@ -22,14 +24,28 @@ moduleInfo t = record {
   sourceMapUrl = sourceMapUrl t;
 }
 
--- an accepted sheet gets its report if the buffer can hold it; any other the first refusal that it meets
-abbrev pub answerTo : ℕ → Decoded Sheet → Answer
-answerTo size (ok t s) = fitted size (encode (moduleInfo t))
-answerTo size (no r) = refusedWith r size
+-- `ModuleInfo::default()` of src/analysis.rs: the information of no bytes
+abbrev pub defaultInfo : ModuleInfo
+defaultInfo = record {
+  isScript = false;
+  dependencies = [];
+  tsReferences = [];
+  selfTypesSpecifier = Option.none;
+  jsxImportSource = Option.none;
+  jsxImportSourceTypes = Option.none;
+  jsdocImports = [];
+  sourceMapUrl = Option.none;
+}
 
--- the answer to the bytes of a sheet and a buffer of so many bytes
+-- no bytes get the default report, an accepted sheet its own, if the buffer can hold it; any other the first refusal that it meets
+abbrev pub answerTo : ℕ → Judged → Answer
+answerTo size empty = fitted size (encode defaultInfo)
+answerTo size (sheet t) = fitted size (encode (moduleInfo t))
+answerTo size (refusal r) = refusedWith r size
+
+-- the answer to bytes and a buffer of so many bytes
 unfoldable pub answerOf : List ℕ → ℕ → Answer
-answerOf s size = answerTo size (accept s)
+answerOf s size = answerTo size (judge s)
 
 -- number and length in one, for C: number + 256 × length. The length takes 56 bits, which is more than any machine's memory has
 abbrev pub packed : Answer → ℕ

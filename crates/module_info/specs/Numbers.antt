@@ -1,8 +1,8 @@
--- What the number of an answer says of the bytes s of a sheet, without a decoder.
+-- What the number of an answer says of the bytes s, without a decoder.
 use mathlib.Core.Path.{_≡_}
 use mathlib.Core.Logic.{_⊎_, _↔_}
 use mathlib.Core.Bool.{true}
-use mathlib.Core.List.{List, _++_}
+use mathlib.Core.List.{List, [], _++_}
 use Prim.Native.Nat.{ℕ, _≤_}
 use lib.ListN.{length}
 use Rattle.wire.specs.Refusals.{atFields, ofSheets, oneOf}
@@ -10,16 +10,16 @@ use Rattle.wire.specs.Refusals as refusals
 use Rattle.sheet.specs.Limits.{sheetLimit}
 use Rattle.sheet.specs.Sheet.{Sheet}
 use Rattle.sheet_codec.specs.SheetOf.{Encodes, Uncooked, SheetOf}
-use Rattle.sheet_codec.specs.Refused.{Missized, MetAtField, BytesFollow}
+use Rattle.sheet_codec.specs.Refused.{TooLong, MetAtField, BytesFollow}
 use Rattle.module_info.specs.Information.{answerOf}
 
 pub record NumberRight (s : List ℕ) (number : ℕ) : Type 0 where
   -- 0, one of a sheet, or 10
   pub known : (number ≡ 0) ⊎ ((oneOf ofSheets number ≡ true) ⊎ (number ≡ refusals.buffer))
-  -- 0 and 10: s is the encoding of a sheet within 01's limits, and no walked call has an uncooked template
-  pub accepted : (number ≡ 0) ⊎ (number ≡ refusals.buffer) → (t : Sheet) × SheetOf s t
-  -- 1: s has 0 bytes or more than 65,536
-  pub one : (number ≡ refusals.sheetLength) ↔ Missized s
+  -- 0 and 10: s has no bytes, or is the encoding of a sheet within 01's limits, and no walked call has an uncooked template
+  pub accepted : ((number ≡ 0) ⊎ (number ≡ refusals.buffer)) ↔ ((s ≡ []) ⊎ ((t : Sheet) × SheetOf s t))
+  -- 1: s has more than 65,536 bytes
+  pub one : (number ≡ refusals.sheetLength) ↔ TooLong s
   -- those at fields: at some field, all before which are unbroken, s breaks what 01 asks, and nothing of a lower number
   pub at-field : oneOf atFields number ≡ true → MetAtField s number
   -- all of these but 2 are judged from the front: they stay the answer to every longer sheet that begins with s, up to the limit of 1

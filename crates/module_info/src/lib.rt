@@ -13,6 +13,7 @@ use pragmas::references::analyze_ts_references;
 use report::lent::Writer;
 use report::writer::Outcome;
 use report::writer::Place;
+use report::writer::finish;
 use report::writer::refuse_all;
 use sheet::limits::COMMENT_LIMIT;
 use sheet::limits::COMMENT_NUMBERS;
@@ -35,7 +36,7 @@ ghost use Rattle.report.specs.Buffer.{wrote, bufferAs};
 ghost use Rattle.report.specs.Encode.{encode};
 ghost use Rattle.report.specs.Answer.{outcomeAs, fitted};
 ghost use Rattle.pragmas.specs.code.Held.{Held};
-ghost use Rattle.module_info.specs.Information.{moduleInfo, packed};
+ghost use Rattle.module_info.specs.Information.{moduleInfo, defaultInfo, packed};
 ghost use Rattle.module_info.specs.code.Pieces.{dependencyBytes, headBytes, restBytes, PartsOf, RootOf};
 ghost use Rattle.module_info.specs.Demands.{Demands};
 
@@ -200,8 +201,8 @@ fn write_report(
     w.finish()
 }
 
-// Judges a sheet. The table that only the judge works in is here, so that its room on the stack is free again for what follows.
-fn judge(
+// Checks a sheet. The table that only the check works in is here, so that its room on the stack is free again for what follows.
+fn check(
     sheet: &[u8],
     comments: &mut [u32; COMMENT_NUMBERS],
     groups: &mut [u32; GROUP_NUMBERS],
@@ -212,13 +213,26 @@ fn judge(
     check_sheet(sheet, comments, groups, &mut longest)
 }
 
-// The report of a sheet, or the first refusal that it meets.
+// The report of the default information: eight zero bytes.
+fn write_default(buffer: &mut [u8]) -> Outcome
+    ensures { λ r. ⌜ outcomeAs r (now (buffer .exit)) ≡ fitted (length (now (buffer .entry))) (encode defaultInfo) ⌝ }
+{
+    let bytes = [0u8; 8];
+    let start = Place { at: 0 };
+    let place = start.put_bytes(buffer, &bytes);
+    finish(buffer, place)
+}
+
+// The report of a sheet, or the first refusal that it meets; of no bytes the default report.
 pub fn module_info(sheet: &[u8], buffer: &mut [u8]) -> Outcome
     ensures { λ r. ⌜ Demands (now (sheet .entry)) (length (now (buffer .entry))) r (now (buffer .exit)) ⌝ }
 {
     let mut comments = [0u32; COMMENT_NUMBERS];
     let mut groups = [0u32; GROUP_NUMBERS];
-    match judge(sheet, &mut comments, &mut groups) {
+    if sheet.len() == 0 {
+        return write_default(buffer);
+    }
+    match check(sheet, &mut comments, &mut groups) {
         SheetChecked::Refused(r) => refuse_all(buffer, r as u8),
         SheetChecked::Accepted(parts) => write_report(sheet, parts, &comments, &groups, buffer),
     }

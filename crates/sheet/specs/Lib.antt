@@ -14,4 +14,5 @@ pub mod Walked
 pub mod Reached
 pub mod WalkRight
 pub mod Sheet
+pub mod Judge
 pub mod code

@@ -1,8 +1,8 @@
 -- The sheet: its fields in document 01's order, so that the first refusal in checking order is what the decoder answers.
-use mathlib.Core.Bool.{not, _&&_}
+use mathlib.Core.Bool.{not}
 use mathlib.Core.List.{List, [], _∷_}
 use Prim.Native.Nat.{ℕ}
-use lib.Dec.{leb, ltb}
+use lib.Dec.{leb}
 use lib.ListN.{length}
 use Rattle.laws.specs.Decoded.{ok, no, Decoder, _>>=_, _>>_, return, require}
 use Rattle.text.specs.declared.utf8.Encoding.the-variants.{Utf8}
@@ -43,9 +43,9 @@ sheet = do
   root ← node source depthLimit
   return (record { media = media; source = source; comments = cs; groups = gs; program = p; root = root })
 
--- refusal 1 of no byte or too many
+-- refusal 1 of too many bytes
 abbrev pub sized : Decoder (Unit {0})
-sized s = require (ltb 0 (length s) && leb (length s) sheetLimit) refusals.sheetLength s
+sized s = require (leb (length s) sheetLimit) refusals.sheetLength s
 
 -- refusal 8 where bytes are left
 abbrev pub ending : Decoder (Unit {0})

@@ -1,30 +1,31 @@
 -- Where a sheet is refused, what each refusal says, and that those at fields are judged from the front.
 use mathlib.Core.Path.{_≡_, refl, sym, ap, _∙_}
-use mathlib.Core.Bool.{Bool, true, false, true≢false, cond, not, _&&_, _||_, and-false}
+use mathlib.Core.Bool.{Bool, true, false, true≢false, cond, not, _&&_, _||_}
 use mathlib.Core.List.{List, [], _∷_, _++_}
 use mathlib.Core.Logic.{inl, inr, _↔_}
 use Prim.Native.Nat.{ℕ, _+_, _≤_, _<_}
 use native.Mathlib.Omega.{arith}
-use lib.Dec.{eqb, leb, ltb}
+use lib.Dec.{eqb, leb}
 use lib.ListN.{length, take, drop, length-append}
 use lib.Seq.{take-append-le, drop-append-le}
-use borrow.Author.Tests.{eqb-true, ltb-true, ltb-false, leb-true, leb-false, lt-ltb, le-ltb, le-leb, lt-leb}
+use borrow.Author.Tests.{eqb-true, leb-true, leb-false, le-leb, lt-leb}
 use Rattle.laws.specs.Decoded.{Decoded, ok, no, andThen, _>>=_, _>>_, return, require}
+use Rattle.laws.proofs.Decoding.{refused as not-ok}
 use Rattle.laws.proofs.Answers.{Answer, Answers, answers-kept}
 use Rattle.laws.proofs.Steady.{Followed, Steady, steady-kept}
 use Rattle.wire.specs.Refusals.{atFields, ofSheets, oneOf}
 use Rattle.wire.specs.Refusals as refusals
-use Rattle.wire.specs.Fields.{byte, bytes}
+use Rattle.wire.specs.Fields.{byte, below, numbered, bytes}
 use Rattle.wire.proofs.Kept.{AtField, OfFields, two}
 use Rattle.sheet.specs.Limits.{sheetLimit}
 use Rattle.sheet.specs.Walked.{uncooked}
 use Rattle.sheet.specs.Sheet.{Sheet, sheet, ending, decodeSheet, accept}
+use Rattle.sheet.specs.Judge.{Judged, judge}
 use Rattle.sheet.proofs.Kept.{sheet-kept}
 use Rattle.sheet.proofs.Reaches.{nine-exactly}
-use Rattle.sheet_codec.specs.Encode.{encodeSheet}
 use Rattle.sheet_codec.specs.SheetOf.{Encodes, Uncooked}
-use Rattle.sheet_codec.specs.Refused.{Missized, MetAtField, BytesFollow}
-use Rattle.sheet_codec.proofs.Sheets.{sheet-codec, encoded, some, decoded}
+use Rattle.sheet_codec.specs.Refused.{TooLong, MetAtField, BytesFollow}
+use Rattle.sheet_codec.proofs.Sheets.{sheet-codec, encoded, decoded}
 use Rattle.sheet_codec.proofs.FieldBytes.{fields-bytes}
 use Rattle.sheet_codec.proofs.SheetFields.{sheet-fields}
 
@@ -89,15 +90,15 @@ fields-steady =
 
 -- where a sheet is refused, or that it is not
 data Stage (s : List ℕ) : Decoded Sheet → Type 0 where
-  size : Missized s → Stage s (no refusals.sheetLength)
-  field : {r : ℕ} → AtField r → 0 < length s → sheet s ≡ no r → Stage s (no r)
+  size : TooLong s → Stage s (no refusals.sheetLength)
+  field : {r : ℕ} → AtField r → sheet s ≡ no r → Stage s (no r)
   bytesFollow : (t : Sheet) (b : ℕ) (u : List ℕ) → sheet s ≡ ok t (b ∷ u) → length s ≤ sheetLimit → Stage s (no refusals.trailing)
   call : (t : Sheet) → decodeSheet s ≡ ok t [] → uncooked (t .root) ≡ true → Stage s (no refusals.uncooked)
   nowhere : (t : Sheet) → accept s ≡ ok t [] → Stage s (ok t [])
 
 stage : (s : List ℕ) → Stage s (accept s)
 unfolding accept decodeSheet
-stage s = by-size (ltb 0 (length s)) refl (leb (length s) sheetLimit) refl
+stage s = by-size (leb (length s) sheetLimit) refl
   where
     by-calls : (t : Sheet) → decodeSheet s ≡ ok t [] → (b : Bool) → uncooked (t .root) ≡ b → Stage s ((require (not b) refusals.uncooked >> return t) [])
     by-calls t e true is = call t e is
@@ -108,48 +109,67 @@ stage s = by-size (ltb 0 (length s)) refl (leb (length s) sheetLimit) refl
     by-end few t [] x e = by-calls t e (uncooked (t .root)) refl
     by-end few t (b ∷ u) x e = bytesFollow t b u x few
 
-    by-fields : 0 < length s → length s ≤ sheetLimit → (x : Decoded Sheet) → sheet s ≡ x → Answer (λ t. Unit {0}) AtField x
+    by-fields : length s ≤ sheetLimit → (x : Decoded Sheet) → sheet s ≡ x → Answer (λ t. Unit {0}) AtField x
         → Stage s (andThen (andThen x (λ t. ending >> return t)) (λ t. require (not (uncooked (t .root))) refusals.uncooked >> return t))
-    by-fields some few (ok t u) e h = by-end few t u e (rw (lt-ltb 0 (length s) some, le-leb (length s) sheetLimit few, e))
-    by-fields some few (no r) e h = field h some e
+    by-fields few (ok t u) e h = by-end few t u e (rw (le-leb (length s) sheetLimit few, e))
+    by-fields few (no r) e h = field h e
 
-    by-size : (b : Bool) → ltb 0 (length s) ≡ b → (c : Bool) → leb (length s) sheetLimit ≡ c
-        → Stage s ((require (b && c) refusals.sheetLength >> (sheet >>= λ t. ending >> return t) >>= λ t. require (not (uncooked (t .root))) refusals.uncooked >> return t) s)
-    by-size true i true j = by-fields (ltb-true 0 (length s) i) (leb-true (length s) sheetLimit j) (sheet s) refl (sheet-kept fields-numbered .at s)
-    by-size true i false j = size (inr (leb-false (length s) sheetLimit j))
-    by-size false i c j = let none : length s ≡ 0 = omega (arith, ltb-false 0 (length s) i) in size (inl none)
+    by-size : (b : Bool) → leb (length s) sheetLimit ≡ b
+        → Stage s ((require b refusals.sheetLength >> (sheet >>= λ t. ending >> return t) >>= λ t. require (not (uncooked (t .root))) refusals.uncooked >> return t) s)
+    by-size true i = by-fields (leb-true (length s) sheetLimit i) (sheet s) refl (sheet-kept fields-numbered .at s)
+    by-size false i = size (leb-false (length s) sheetLimit i)
 
--- a sheet is accepted, or refused with one of its numbers
+-- there are no bytes, or a sheet is accepted, or refused with one of its numbers
 pub data Decision (s : List ℕ) : Type 0 where
+  empty : s ≡ [] → Decision s
   accepted : (t : Sheet) → accept s ≡ ok t [] → Decision s
-  refused : (r : ℕ) → oneOf ofSheets r ≡ true → accept s ≡ no r → Decision s
+  refused : (r : ℕ) → oneOf ofSheets r ≡ true → 0 < length s → accept s ≡ no r → Decision s
 
 pub decided : (s : List ℕ) → Decision s
 unfolding oneOf
-decided s = by (accept s) refl (stage s)
+decided [] = empty refl
+decided (b ∷ s) = by (accept (b ∷ s)) refl (stage (b ∷ s))
   where
-    by : (x : Decoded Sheet) → accept s ≡ x → Stage s x → Decision s
-    by x e (size h) = refused refusals.sheetLength refl e
-    by x e (field {r = r} n some h) = refused r (passes (oneOf ofSheets) atFields refl r n) e
-    by x e (bytesFollow t b u i few) = refused refusals.trailing refl e
-    by x e (call t d h) = refused refusals.uncooked refl e
+    some : 0 < length (b ∷ s)
+    some = omega arith
+
+    by : (x : Decoded Sheet) → accept (b ∷ s) ≡ x → Stage (b ∷ s) x → Decision (b ∷ s)
+    by x e (size h) = refused refusals.sheetLength refl some e
+    by x e (field {r = r} n h) = refused r (passes (oneOf ofSheets) atFields refl r n) some e
+    by x e (bytesFollow t b u i few) = refused refusals.trailing refl some e
+    by x e (call t d h) = refused refusals.uncooked refl some e
     by x e (nowhere t h) = accepted t e
+
+-- of no bytes the first field is cut off
+pub cut-off : accept [] ≡ no refusals.cutOff
+unfolding byte below numbered sheet decodeSheet accept
+cut-off = refl
+
+-- where there are bytes, `judge` says what `accept` says
+pub judged-sheet : (s : List ℕ) {t : Sheet} → accept s ≡ ok t [] → judge s ≡ Judged.sheet t
+unfolding judge
+judged-sheet [] e = absurd (not-ok (sym cut-off ∙ e))
+judged-sheet (b ∷ s) e = rw e
+
+pub judged-refusal : (s : List ℕ) {r : ℕ} → 0 < length s → accept s ≡ no r → judge s ≡ Judged.refusal r
+unfolding judge
+judged-refusal [] some e = absurd (omega (arith, some))
+judged-refusal (b ∷ s) some e = rw e
 
 -- what each refusal says
 module _ (s : List ℕ) where
-  pub one : (accept s ≡ no refusals.sheetLength) ↔ Missized s
+  pub one : (accept s ≡ no refusals.sheetLength) ↔ TooLong s
   unfolding oneOf accept decodeSheet
   one = (λ e. there refusals.sheetLength refl (rw e at (stage s)), back)
     where
-      there : (r : ℕ) → r ≡ refusals.sheetLength → Stage s (no r) → Missized s
+      there : (r : ℕ) → r ≡ refusals.sheetLength → Stage s (no r) → TooLong s
       there r i (size h) = h
-      there r i (field n some h) = absurd (apart atFields n i refl)
+      there r i (field n h) = absurd (apart atFields n i refl)
       there r i (bytesFollow t b u h few) = absurd (omega arith)
       there r i (call t d h) = absurd (omega arith)
 
-      back : Missized s → accept s ≡ no refusals.sheetLength
-      back (inl e) = rw (le-ltb 0 (length s) (omega arith))
-      back (inr l) = rw (lt-leb (length s) sheetLimit l, and-false (ltb 0 (length s)))
+      back : TooLong s → accept s ≡ no refusals.sheetLength
+      back l = rw (lt-leb (length s) sheetLimit l)
 
   pub at-field : {r : ℕ} → AtField r → accept s ≡ no r → MetAtField s r
   unfolding oneOf
@@ -157,7 +177,7 @@ module _ (s : List ℕ) where
     where
       by : (q : ℕ) → q ≡ r → Stage s (no q) → MetAtField s r
       by q i (size h) = absurd (apart atFields among (sym i) refl)
-      by q i (field n some h) =
+      by q i (field n h) =
           let (t, l, is, meets) = sheet-fields .refuses s r (rw i at h) in
           record { sheet = t; its-bytes = fields-bytes t; meets = rw (is .1) at meets }
       by q i (bytesFollow t b u h few) = absurd (apart atFields among (sym i) refl)
@@ -169,7 +189,7 @@ module _ (s : List ℕ) where
     where
       there : (r : ℕ) → r ≡ refusals.trailing → Stage s (no r) → BytesFollow s
       there r i (size h) = absurd (omega arith)
-      there r i (field n some h) = absurd (apart atFields n i refl)
+      there r i (field n h) = absurd (apart atFields n i refl)
       there r i (bytesFollow t b u h few) =
           let (bytes, fit) = sheet-codec .sound s t (b ∷ u) h in
           record { sheet = t; fit = fit; next = b; behind = u; bytes = bytes; few = few }
@@ -178,9 +198,7 @@ module _ (s : List ℕ) where
       back : BytesFollow s → accept s ≡ no refusals.trailing
       back h =
           let read : sheet s ≡ ok (h .sheet) (h .next ∷ h .behind) = rw (h .bytes) (sheet-codec .complete (h .sheet) (h .fit) (h .next ∷ h .behind)) in
-          let long = length-append (encodeSheet (h .sheet)) (h .next ∷ h .behind) in
-          let first : 0 < length s = omega (arith, some (h .sheet), ap length (h .bytes)) in
-          rw (lt-ltb 0 (length s) first, le-leb (length s) sheetLimit (h .few), read)
+          rw (le-leb (length s) sheetLimit (h .few), read)
 
   -- the bytes are those of a sheet within the limits, and a walked call of it meets 9
   pub nine : (accept s ≡ no refusals.uncooked) ↔ ((t : Sheet) × Encodes s t × Uncooked t)
@@ -189,7 +207,7 @@ module _ (s : List ℕ) where
     where
       there : (r : ℕ) → r ≡ refusals.uncooked → Stage s (no r) → (t : Sheet) × Encodes s t × Uncooked t
       there r i (size h) = absurd (omega arith)
-      there r i (field n some h) = absurd (apart atFields n i refl)
+      there r i (field n h) = absurd (apart atFields n i refl)
       there r i (bytesFollow t b u h few) = absurd (omega arith)
       there r i (call t d h) = (t, encoded d, nine-exactly (t .root) .0 h)
 
@@ -201,13 +219,12 @@ pub stays : (s u : List ℕ) {r : ℕ} → AtField r → (r ≡ refusals.cutOff 
 unfolding oneOf accept decodeSheet
 stays s u {r} among not-cut e fits = by r refl (rw e at (stage s))
   where
-    followed : (q : ℕ) → q ≡ r → 0 < length s → Followed u (no q) (sheet (s ++ u)) → accept (s ++ u) ≡ no r
-    followed q i some (inl cut) = absurd (not-cut (sym i ∙ cut))
-    followed q i some (inr e) =
-        rw (lt-ltb 0 (length (s ++ u)) (rw length-append (omega arith)), le-leb (length (s ++ u)) sheetLimit fits, e, i)
+    followed : (q : ℕ) → q ≡ r → Followed u (no q) (sheet (s ++ u)) → accept (s ++ u) ≡ no r
+    followed q i (inl cut) = absurd (not-cut (sym i ∙ cut))
+    followed q i (inr e) = rw (le-leb (length (s ++ u)) sheetLimit fits, e, i)
 
     by : (q : ℕ) → q ≡ r → Stage s (no q) → accept (s ++ u) ≡ no r
     by q i (size h) = absurd (apart atFields among (sym i) refl)
-    by q i (field n some h) = followed q i some (rw h at (sheet-kept fields-steady .followed s u))
+    by q i (field n h) = followed q i (rw h at (sheet-kept fields-steady .followed s u))
     by q i (bytesFollow t b v h few) = absurd (apart atFields among (sym i) refl)
     by q i (call t d h) = absurd (apart atFields among (sym i) refl)

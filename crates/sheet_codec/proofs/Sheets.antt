@@ -1,14 +1,14 @@
 -- Decoding and encoding sheets undo each other: what is decoded is within document 01's limits and stood there as its bytes, and each sheet within these
 -- limits is decoded from its bytes.
 use mathlib.Core.Path.{_≡_, refl, sym, _∙_}
-use mathlib.Core.Bool.{Bool, true, false, not, _&&_, and-eq-true-iff, true≢false}
+use mathlib.Core.Bool.{Bool, true, false, not, true≢false}
 use mathlib.Core.List.{List, [], _∷_, append-nil}
 use mathlib.Core.Logic.{_↔_}
-use Prim.Native.Nat.{ℕ, _≤_, _<_}
+use Prim.Native.Nat.{ℕ, _≤_}
 use native.Mathlib.Omega.{arith}
-use lib.Dec.{leb, ltb}
+use lib.Dec.{leb}
 use lib.ListN.{length}
-use borrow.Author.Tests.{leb-true, lt-ltb, le-leb}
+use borrow.Author.Tests.{leb-true, le-leb}
 use Rattle.laws.specs.Decoded.{ok, _>>_, return}
 use Rattle.laws.specs.Codec.{Codec}
 use Rattle.laws.proofs.Decoding.{refused, value, then-ok, require-ok}
@@ -66,21 +66,16 @@ sheet-codec =
 pub encoded : {s : List ℕ} {t : Sheet} → decodeSheet s ≡ ok t [] → Encodes s t
 unfolding decodeSheet
 encoded {s} {t} e =
-    let (size, e) = require-ok (ltb 0 (length s) && leb (length s) sheetLimit) 1 s _ e in
+    let (size, e) = require-ok (leb (length s) sheetLimit) 1 s _ e in
     let (r, u, x, e) = then-ok (sheet s) _ e in
     let (i, fit) = sheet-codec .sound s t [] (x ∙ all r u e) in
     let same : encodeSheet t ≡ s = sym (i ∙ append-nil (encodeSheet t)) in
-    let few = leb-true (length s) sheetLimit (and-eq-true-iff (ltb 0 (length s)) (leb (length s) sheetLimit) .0 size .1) in
+    let few = leb-true (length s) sheetLimit size in
     record { bytes = same; within = record { fields = fit; bytes = rw same few } }
   where
     all : (r : Sheet) (u : List ℕ) → (ending >> return r) u ≡ ok t [] → ok r u ≡ ok t []
     all r [] e = e
     all r (b ∷ u) e = absurd (refused e)
-
--- a sheet has the media byte
-pub some : (t : Sheet) → 0 < length (encodeSheet t)
-unfolding encodeSheet
-some t = omega arith
 
 -- each sheet within the limits is decoded from its bytes
 pub decoded : {s : List ℕ} {t : Sheet} → Encodes s t → decodeSheet s ≡ ok t []
@@ -89,7 +84,6 @@ decoded {s} {t} h =
     let bytes = encodeSheet t in
     rw (
       ← h .bytes,
-      lt-ltb 0 (length bytes) (some t),
       le-leb (length bytes) sheetLimit (h .within .bytes),
       rw append-nil at (sheet-codec .complete t (h .within .fields) []),
     )

@@ -1,6 +1,5 @@
 -- What a refusal says of the bytes s, without a decoder: 1 by their number, 2 to 7 at a field, 8 behind a sheet. Refusal 9 is `Uncooked` (SheetOf).
 use mathlib.Core.Path.{_≡_}
-use mathlib.Core.Logic.{_⊎_}
 use mathlib.Core.List.{List, _∷_, _++_, flatMap}
 use Prim.Native.Nat.{ℕ, _≤_, _<_}
 use lib.ListN.{length}
@@ -11,9 +10,9 @@ use Rattle.sheet_codec.specs.Limits.{FieldsFit}
 use Rattle.sheet_codec.specs.Breaks.{bytesOf, Meets}
 use Rattle.sheet_codec.specs.FieldsOf.{fieldsOf}
 
--- 1. The sheet has 0 bytes or more than 65,536
-abbrev pub Missized : List ℕ → Type 0
-Missized s = (length s ≡ 0) ⊎ (sheetLimit < length s)
+-- 1. The sheet has more than 65,536 bytes
+abbrev pub TooLong : List ℕ → Type 0
+TooLong s = sheetLimit < length s
 
 -- 2 to 7. The refusal is met at a field of some sheet, which goes on from the fields before it in any way
 pub record MetAtField (s : List ℕ) (r : ℕ) : Type 0 where

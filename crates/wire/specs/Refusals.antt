@@ -4,7 +4,7 @@ use mathlib.Core.List.{List, [], _∷_, _++_}
 use Prim.Native.Nat.{ℕ}
 use lib.Dec.{eqb}
 
--- the sheet has 0 bytes or more than 65,536
+-- the sheet has more than 65,536 bytes
 abbrev pub sheetLength : ℕ
 sheetLength = 1
 

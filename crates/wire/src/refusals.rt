@@ -1,6 +1,6 @@
 // Document 01's refusals by name: their numbers.
 
-// The sheet has 0 bytes or more than 65,536.
+// The sheet has more than 65,536 bytes.
 pub const SHEET_LENGTH: usize = 1;
 
 // A field is cut off, or a number is not shortest or too large.

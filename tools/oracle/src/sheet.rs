@@ -30,7 +30,7 @@ fn require(holds: bool, refusal: Refusal) -> Read<()> {
 }
 
 pub fn decode(bytes: &[u8]) -> Read<Sheet> {
-    require(!bytes.is_empty() && bytes.len() <= MAX_SHEET, 1)?;
+    require(bytes.len() <= MAX_SHEET, 1)?;
     let mut r = Reader { bytes, at: 0, source: String::new() };
     let sheet = r.sheet()?;
     require(r.at == bytes.len(), 8)?;

@@ -1,0 +1,92 @@
+-- What no bytes get, and the information of the smallest sheet.
+use mathlib.Core.Path.{_≡_, refl}
+use mathlib.Core.Bool.{false}
+use mathlib.Core.List.{[], flatMap}
+use mathlib.Core.Option.{Option}
+use Prim.Native.Nat.{ℕ}
+use native.Mathlib.Omega.{arith}
+use Rattle.laws.specs.Decoded.{ok}
+use Rattle.text.specs.Utf8.{formed}
+use Rattle.text.specs.Position.{isBoundary}
+use Rattle.wire.specs.Fields.{byte, below, numbered, flag, bytes, encodeFlag}
+use Rattle.wire.specs.Number.{lastGroup, number, encodeGroups, encodeNumber}
+use Rattle.wire.specs.Text.{count, text}
+use Rattle.wire.specs.Optional.{encodeOptional, optional}
+use Rattle.sheet.specs.declared.fields.Span.{Span}
+use Rattle.sheet.specs.declared.names.MediaType.the-variants.{JavaScript}
+use Rattle.sheet.specs.Fields.{position, endFrom, span}
+use Rattle.sheet.specs.Comments.{covered, chained}
+use Rattle.sheet.specs.Program.{program}
+use Rattle.sheet.specs.Tree.{other, none}
+use Rattle.sheet.specs.Nodes.{many, nodes, otherFields, fields, node}
+use Rattle.sheet.specs.Lookups.{groupAt, headGroup}
+use Rattle.sheet.specs.Sheet.{Sheet, sheet, decodeSheet, accept}
+use Rattle.sheet_codec.proofs.Sheets.{accepts-exactly}
+use Rattle.report.specs.Encode.{encodeList, encode}
+use Rattle.report.specs.Answer.{Answer, zeros, fitted}
+use Rattle.report.specs.Valid.{Valid}
+use Rattle.report.proofs.ReadBack.{report-back}
+use Rattle.pragmas.specs.Readings.{firstOf, lastOf, allOf}
+use Rattle.pragmas.specs.Pragmas.{headComments, endComments, referencesIn, selfTypesIn, jsxImportSourceIn, jsxImportSourceTypesIn, sourceMapUrlIn}
+use Rattle.listing.specs.Imports.{markedByAll, importsFrom, jsdocImports}
+use Rattle.dep.specs.Collect.{collector}
+use Rattle.module_info.specs.Information.{moduleInfo, defaultInfo}
+use Rattle.module_info.specs.Report.{ReportRight}
+use Rattle.module_info.specs.Empty.{EmptyRight}
+
+-- the sheet of thirteen zero bytes
+abbrev smallest : Sheet
+smallest =
+    let start : Span = record { start = 0; end = 0 } in
+    record {
+      media = JavaScript;
+      source = [];
+      comments = [];
+      groups = [];
+      program = record { script = false; span = start; shebang = false; first = Option.none };
+      root = other start none;
+    }
+
+accepted : accept (zeros 13) ≡ ok smallest []
+unfolding formed byte below numbered flag bytes lastGroup Rattle.wire.specs.Number.groups number count text isBoundary position endFrom span covered chained optional program many Rattle.sheet.specs.Nodes.tag nodes otherFields fields node sheet decodeSheet accept
+accepted = refl
+
+its-information : moduleInfo smallest ≡ defaultInfo
+unfolding groupAt headGroup flatMap firstOf lastOf allOf headComments endComments referencesIn selfTypesIn jsxImportSourceIn jsxImportSourceTypesIn sourceMapUrlIn markedByAll importsFrom jsdocImports collector moduleInfo
+its-information = refl
+
+-- flag, count, count, flag, flag, flag, count, flag
+pub default-bytes : encode defaultInfo ≡ zeros 8
+unfolding flatMap encodeGroups encodeNumber encodeOptional encodeList encode
+default-bytes = refl
+
+fits : Valid defaultInfo
+fits = record {
+  dependencies = (omega arith, tt);
+  tsReferences = (omega arith, tt);
+  selfTypesSpecifier = tt;
+  jsxImportSource = tt;
+  jsxImportSourceTypes = tt;
+  jsdocImports = (omega arith, tt);
+  sourceMapUrl = tt;
+}
+
+pub empty-right : {size : ℕ} {answer : Answer} → answer ≡ fitted size (encode defaultInfo) → EmptyRight size answer
+empty-right e = record {
+  answered = rw default-bytes at e;
+  bytes = default-bytes;
+  report = record {
+    fits = fits;
+    back = report-back .back defaultInfo fits;
+    texts = record {
+      dependencies = tt;
+      tsReferences = tt;
+      selfTypesSpecifier = tt;
+      jsxImportSource = tt;
+      jsxImportSourceTypes = tt;
+      jsdocImports = tt;
+      sourceMapUrl = tt;
+    };
+  };
+  smallest = (smallest, accepts-exactly (zeros 13) smallest .0 accepted, its-information);
+}

@@ -7,7 +7,7 @@ use Prim.Native.Nat.{ℕ, _-_}
 use native.Mathlib.Omega.{arith}
 use lib.Dec.{eqb, ltb}
 use Rattle.laws.specs.Codec.{IfThere}
-use Rattle.laws.specs.Decoded.{Decoded, ok, no, andThen, _>>=_, return}
+use Rattle.laws.specs.Decoded.{Decoded, ok, no}
 use Rattle.laws.proofs.Answers.{Answer, Reads, done, next, ends, behind, with, changed, either, at-index, anything}
 use Rattle.text.specs.declared.utf8.Encoding.the-variants.{Utf8}
 use Rattle.wire.specs.Fields.{below, numbered, flag}
@@ -18,9 +18,9 @@ use Rattle.sheet.specs.Limits.{textLimit, propertyLimit}
 use Rattle.sheet.specs.Names.{importPhases}
 use Rattle.sheet.specs.declared.fields.Span.{Span}
 use Rattle.sheet.specs.Tree.{Quoted}
-use Rattle.sheet.specs.Fields.{position, endFrom, span}
+use Rattle.sheet.specs.Fields.{span}
 use Rattle.sheet.specs.Nodes.{tag, stringText, quoted}
-use Rattle.sheet.proofs.Judged.{end-codec}
+use Rattle.sheet.proofs.Judged.{span-part}
 use Rattle.heads.specs.code.Head.{Head, otherHead, stringHead, nameHead, templateHead, binaryHead, objectHead, moduleHead, callStart, origin, importStart, namedExportStart, exportAllStart, importTypeStart, importRequireStart, importEqualsStart, moduleStart, start, head}
 use Rattle.heads.specs.code.Parts.{argumentHead}
 use Rattle.report.specs.Range.{InSource}
@@ -35,18 +35,11 @@ module _ (source : List ℕ) where
   optional-spanned (Option.some x) n h = h
 
   span-within : Reads (InSource source) (span source)
-  unfolding span
-  span-within = record { at = λ u. go (position source u) }
+  span-within = record { at = λ u. go u (span source u) refl }
     where
-      ends-within : (start : ℕ) (t : List ℕ) (x : Decoded ℕ) → endFrom source start t ≡ x → Answer (InSource source) (λ r. Unit {0}) (andThen x (λ end. return (record { start = start; end = end })))
-      ends-within start t (ok end v) e =
-          let (at, order) = end-codec source start .sound t end v e .1 in
-          record { start = omega (arith, at .boundary .0); end = at .boundary .0 }
-      ends-within start t (no r) e = tt
-
-      go : (x : Decoded ℕ) → Answer (InSource source) (λ r. Unit {0}) (andThen x (λ start. endFrom source start >>= λ end. return (record { start = start; end = end })))
-      go (ok start t) = ends-within start t (endFrom source start t) refl
-      go (no r) = tt
+      go : (u : List ℕ) (x : Decoded Span) → span source u ≡ x → Answer (InSource source) (λ r. Unit {0}) x
+      go u (ok sp t) e = let (order, end) = span-part source u e in record { start = omega arith; end = end }
+      go u (no r) e = tt
 
   module _ (levels : ℕ) where
     quoted-within : Reads Within (quoted source levels)

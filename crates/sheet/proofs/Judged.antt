@@ -4,18 +4,22 @@ use mathlib.Core.Bool.{Bool, true, _&&_, and-eq-true-iff}
 use mathlib.Core.List.{List, append-nil}
 use Prim.Native.Nat.{ℕ, _+_, _≤_}
 use lib.Dec.{leb, ltb}
+use lib.ListN.{length}
 use borrow.Author.Tests.{ltb-true, leb-true, lt-ltb, le-leb}
+use Rattle.laws.specs.Decoded.{ok}
 use Rattle.laws.specs.Codec.{Codec}
+use Rattle.laws.proofs.Decoding.{value, then-ok}
 use Rattle.laws.proofs.Codecs.{built-return, built-then, built-require, codec-of, codec-as, tested, built-free}
 use Rattle.text.specs.Position.{Boundary, isBoundary}
 use Rattle.text.proofs.Boundary.{is-boundary-iff}
 use Rattle.wire.specs.Number.{largest, encodeNumber}
 use Rattle.wire.proofs.NumberCodec.{number-codec}
 use Rattle.wire.proofs.Numbered.{numbered-codec}
+use Rattle.sheet.specs.declared.fields.Span.{Span}
 use Rattle.sheet.specs.declared.comments.Comment.{Comment}
 use Rattle.sheet.specs.declared.groups.Group.{Group}
 use Rattle.sheet.specs.declared.names.Side.{Side}
-use Rattle.sheet.specs.Fields.{position, endFrom}
+use Rattle.sheet.specs.Fields.{position, endFrom, span}
 use Rattle.sheet.specs.Comments.{slice, marked, comment, encodeComment, group, encodeGroup}
 use Rattle.sheet.specs.Fit.{Placed, Reaching}
 use Rattle.sheet.proofs.Numbered.{kind-numbers, side-numbers}
@@ -50,6 +54,15 @@ module _ (source : List ℕ) where
   pub end-codec : (start : ℕ) → Codec (endFrom source start) encodeNumber (λ p. At source p × (start ≤ p))
   unfolding endFrom
   end-codec start = codec-as (tested position-codec (leb start) 6) (λ p v. (v .0, le-leb start p (v .1))) (λ p v. (v .0, leb-true start p (v .1)))
+
+  -- a span is a part of the source
+  pub span-part : (s : List ℕ) {sp : Span} {t : List ℕ} → span source s ≡ ok sp t → (sp .start ≤ sp .end) × (sp .end ≤ length source)
+  unfolding span
+  span-part s e =
+      let (start, u, x, e) = then-ok (position source s) _ e in
+      let (end, v, y, e) = then-ok (endFrom source start u) _ e in
+      let (at, order) = end-codec start .sound u end v y .1 in
+      rw (← value e) (order, at .boundary .0)
 
   pub comment-codec : (last : ℕ) → Codec (comment source last) encodeComment (Judged source last)
   unfolding comment

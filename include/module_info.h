@@ -35,7 +35,9 @@ enum module_info_number {
     /* The first argument of a walked import or `require` is a template with an uncooked piece. */
     MODULE_INFO_UNCOOKED = 9,
     /* The report is longer than the buffer. */
-    MODULE_INFO_BUFFER = 10
+    MODULE_INFO_BUFFER = 10,
+    /* A String's span has fewer than two bytes, or does not begin and end with the same mark, `"` or `'`. */
+    MODULE_INFO_STRING = 13
 };
 
 /* The two parts of an answer. The length is 0 after a refusal. */

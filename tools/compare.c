@@ -3,8 +3,7 @@
  * tools/oracle: the library with lent buffers of several sizes, by number, length and every byte of the buffer. Where the oracle leaves a
  * sheet out, the library is compared with second. Prints by kind how many sheets were accepted, refused with each number and left out, and
  * the shortest sheet that differs, which is also written to FILE.
- * `unquoted` counts sheets that request #108 will refuse, since the span of a String is no quoted place of the source.
- * The status is 1 if a sheet differs, or if one of the kinds named has no accepted sheet or an unquoted one.
+ * The status is 1 if a sheet differs, or if one of the kinds named has no accepted sheet or one with a String that is not quoted.
  * The buffer is full of other bytes before each call; sheet and buffer each end at a page that must not be touched.
  * Without LIBRARY defined there is no library: second is compared with the oracle.
  */
@@ -22,7 +21,6 @@
 uint64_t module_info_answer(const uint8_t *sheet, size_t n, uint8_t *buffer, size_t m);
 #endif
 uint64_t second_answer(const uint8_t *sheet, size_t n, uint8_t *buffer, size_t m);
-bool second_unquoted(const uint8_t *sheet, size_t n);
 
 #define ROOM ((size_t)1 << 20)
 #define LARGE 65536
@@ -30,6 +28,7 @@ bool second_unquoted(const uint8_t *sheet, size_t n);
 /* an answer's number is a byte; the oracle's last one says that the sheet is left out */
 #define NUMBERS 256
 #define BUFFER_REFUSAL 10
+#define STRING_REFUSAL 13
 #define LEFT_OUT 255
 
 struct file {
@@ -132,7 +131,7 @@ static const char *library_differs(const uint8_t *sheet, size_t n, struct answer
 
 struct kind {
     const char *name;
-    unsigned long sheets, numbers[NUMBERS], unquoted;
+    unsigned long sheets, numbers[NUMBERS];
 };
 
 static struct kind kinds[MAX_KINDS];
@@ -153,12 +152,12 @@ static void print_kinds(void) {
     printf("%-10s %8s %8s", "kind", "sheets", "accepted");
     for (unsigned r = 1; r < LEFT_OUT; r++)
         if (occurs[r]) printf(" %6s%2u", "refus.", r);
-    printf(" %8s %8s\n", "left out", "unquoted");
+    printf(" %8s\n", "left out");
     for (size_t k = 0; k < n_kinds; k++) {
         printf("%-10s %8lu", kinds[k].name, kinds[k].sheets);
         for (unsigned r = 0; r < LEFT_OUT; r++)
             if (occurs[r]) printf(" %8lu", kinds[k].numbers[r]);
-        printf(" %8lu %8lu\n", kinds[k].numbers[LEFT_OUT], kinds[k].unquoted);
+        printf(" %8lu\n", kinds[k].numbers[LEFT_OUT]);
     }
 }
 
@@ -239,8 +238,8 @@ static bool kinds_are_there(char **names, int count) {
             printf("of kind %s no sheet is accepted\n", names[i]);
             all = false;
         }
-        if (k->unquoted) {
-            printf("of kind %s %lu sheets have a String that is not quoted\n", names[i], k->unquoted);
+        if (k->numbers[STRING_REFUSAL]) {
+            printf("of kind %s %lu sheets have a String that is not quoted\n", names[i], k->numbers[STRING_REFUSAL]);
             all = false;
         }
     }
@@ -275,7 +274,6 @@ int main(int argc, char **argv) {
         struct kind *k = kind_of(name);
         k->sheets++;
         k->numbers[oracle.number]++;
-        k->unquoted += second_unquoted(sheet, n);
         struct answer second = answer_of_second(sheet, n, oracle.length);
         const char *message = compared(sheet, n, oracle, second);
         if (message && (!differ++ || n < shortest.size)) {

@@ -3,7 +3,8 @@
 //! Writes COUNT sheets, from number FIRST on, as a batch (each: length as u32 little-endian, bytes) to the file SHEETS, and a line with
 //! the kind of each to the file KINDS. The sheet of a number depends on SEED and that number only. `kinds` prints the well-formed kinds.
 //! Kinds: `small`, `rich`, `comments`, `jsdoc`, `near`, `tree`, `letters` and `long` (a long report) are well-formed; `empty` has no bytes, which
-//! the report of the default information answers; `uncooked` has uncooked pieces (refusal 9); `text` has a text at the border of UTF-8 or WTF-8; `order` meets two refusals; `limit` hits a limit of document 01,
+//! the report of the default information answers; `uncooked` has uncooked pieces (refusal 9); `text` has a text at the border of UTF-8 or WTF-8;
+//! `string` has a String whose place in the source is quoted or nearly so (refusal 13); `order` meets two refusals; `limit` hits a limit of document 01,
 //! `over` exceeds one by one; `flip`, `cut`, `insert`, `delete`, `splice` and `number` are damaged copies; `noise` is bytes at random.
 //! The span of a String, if nothing damaged it, is a quoted place of the source: it begins and ends with the same mark, `"` or `'`.
 
@@ -1058,6 +1059,51 @@ fn limit(r: &mut Rng, over: usize) -> Vec<u8> {
     }
 }
 
+/// A sheet with one String, a node of its own or held by another, at a place that is quoted or misses that nearly; what follows the place may be
+/// wrong too.
+fn strings(r: &mut Rng) -> Vec<u8> {
+    let source = "\"a\" 'b' `c` \"d' 'e\" \"é\" \"\" ''";
+    let (start, end) = match r.below(8) {
+        // quoted
+        0 => r.pick(&[(0, 3), (4, 7), (0, 19), (20, 24), (25, 27), (28, 30), (4, 15)]),
+        // one byte
+        1 => r.pick(&[(0, 1), (2, 3), (4, 5), (28, 29)]),
+        // unlike marks
+        2 => r.pick(&[(12, 15), (16, 19), (0, 5), (4, 19)]),
+        // a backtick, or other bytes
+        3 => r.pick(&[(8, 11), (1, 2), (3, 4), (0, 9), (8, 13)]),
+        // empty
+        4 => r.pick(&[(0, 0), (3, 3), (30, 30)]),
+        // from or up to the inside of a character
+        5 => r.pick(&[(20, 22), (22, 24), (22, 23)]),
+        // shifted by a byte
+        6 => r.pick(&[(1, 4), (0, 2), (1, 3), (0, 4), (26, 28)]),
+        // past the source, or an end before its start
+        _ => r.pick(&[(28, 31), (3, 0), (30, 28)]),
+    };
+    let mut string = vec![1];
+    number(&mut string, start);
+    number(&mut string, end);
+    string.extend(match r.below(8) {
+        0 => vec![0x80],
+        1 => vec![0x81, 0x20],
+        2 => vec![2, b'a', 0xFF],
+        3 => vec![3, b'a'],
+        _ => vec![1, b'a'],
+    });
+    let (front, back): (&[u8], &[u8]) = match r.below(8) {
+        0 => (&[], &[]),
+        1 => (&[7, 0, 0, 0, 0, 0], &[0]),
+        2 => (&[8, 0, 0, 0, 1], &[0]),
+        3 => (&[9, 0, 0, 0], &[0]),
+        4 => (&[10, 0, 0], &[0, 0]),
+        5 => (&[11, 0, 0, 1, 0, 0], &[]),
+        6 => (&[12, 0, 0, 1], &[0]),
+        _ => (&[9, 0, 0, 0, 1, 0, 3, 0, 1, 5, 0, 0, 1, 2, 2, 1, b'k'], &[]),
+    };
+    plain(4, source, &[], &[], &[front, &string, back].concat())
+}
+
 /// A sheet that meets two refusals, at one field or at two that are close: the first in checking order counts.
 fn order(r: &mut Rng) -> Vec<u8> {
     let empty: &[u8] = &[0, 0, 0, 0];
@@ -1150,13 +1196,13 @@ fn well_formed(r: &mut Rng, kind: &str) -> Vec<u8> {
     }
 }
 
-/// The kinds whose sheets meet none of refusals 1 to 9.
+/// The kinds whose sheets meet none of refusals 1 to 9 and 13.
 const WELL_FORMED: [&str; 9] = ["small", "empty", "rich", "comments", "jsdoc", "near", "tree", "letters", "long"];
 
 /// How many sheets are of each kind, among as many as the numbers make together.
 #[rustfmt::skip]
-const KINDS: [(&str, usize); 20] = [
-    ("small", 145), ("empty", 5), ("text", 20), ("order", 10), ("rich", 200), ("comments", 130), ("jsdoc", 180), ("near", 130), ("tree", 120), ("letters", 20), ("uncooked", 20), ("long", 2),
+const KINDS: [(&str, usize); 21] = [
+    ("small", 145), ("empty", 5), ("text", 20), ("string", 20), ("order", 10), ("rich", 200), ("comments", 130), ("jsdoc", 180), ("near", 130), ("tree", 120), ("letters", 20), ("uncooked", 20), ("long", 2),
     ("flip", 40), ("cut", 30), ("insert", 30), ("delete", 30), ("splice", 30), ("number", 20), ("noise", 8), ("limit", 10),
 ];
 
@@ -1178,6 +1224,7 @@ fn make(seed: u64, index: u64) -> (&'static str, Vec<u8>) {
         "limit" => ("limit", limit(r, 0)),
         "empty" => (kind, Vec::new()),
         "text" => (kind, texts(r)),
+        "string" => (kind, strings(r)),
         "order" => (kind, order(r)),
         "noise" => {
             let n = r.few(60);

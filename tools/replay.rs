@@ -3,8 +3,7 @@
 //! are in order of their length, as many as the program crates/replay can read. Numbers in FILE are u32 little-endian:
 //!   the number of sheets; for each: length and bytes of the sheet; number (a byte); length and bytes of the report.
 //! FILE.names gets a line for each sheet, the number of its answer and its name; FILE.counts the lines that the program prints if no answer
-//! differs. The status is 1, and nothing is written, if an answer is not the one that a case is made for, if tools/second.rs differs, or if an
-//! accepted sheet has a String whose span is no quoted place, which request #108 will refuse.
+//! differs. The status is 1, and nothing is written, if an answer is not the one that a case is made for, or if tools/second.rs differs.
 
 #[path = "second.rs"]
 #[allow(dead_code)]
@@ -48,9 +47,6 @@ fn main() {
     let wrong = items.iter().filter(|item| differs(item)).count();
     if wrong > 0 {
         fail(1, &format!("{wrong} answers of second differ from the oracle's"));
-    }
-    if let Some(item) = items.iter().find(|item| item.number == 0 && second::unquoted(item.sheet)) {
-        fail(1, &format!("a String is not quoted: {}", item.name));
     }
     write_list(file, &items);
 }

@@ -154,8 +154,6 @@ struct Sheet {
 struct Cursor<'a> {
     rest: &'a [u8],
     source: &'a [u8],
-    /// Whether a String must look like one: request #108, which has not landed.
-    quoted: bool,
 }
 
 impl<'a> Cursor<'a> {
@@ -251,7 +249,7 @@ impl<'a> Cursor<'a> {
             return Err(4);
         }
         let mut n = Node { tag, span: self.span()?, ..Node::default() };
-        if self.quoted && tag == 1 && !is_quoted(&self.source[n.span.0..n.span.1]) {
+        if tag == 1 && !is_quoted(&self.source[n.span.0..n.span.1]) {
             return Err(13);
         }
         let below = depth + 1;
@@ -327,11 +325,11 @@ fn is_quoted(place: &[u8]) -> bool {
     matches!(place, [first @ (b'"' | b'\''), .., last] if first == last)
 }
 
-fn decode(bytes: &[u8], quoted: bool) -> Read<Sheet> {
+fn decode(bytes: &[u8]) -> Read<Sheet> {
     if bytes.len() > 65_536 {
         return Err(1);
     }
-    let mut c = Cursor { rest: bytes, source: &[], quoted };
+    let mut c = Cursor { rest: bytes, source: &[] };
     let media = c.among(11)?;
     let source = c.text(32_768, false)?;
     c.source = source;
@@ -1014,12 +1012,12 @@ fn call_attributes(argument: Option<&(bool, Span, Node)>) -> Attributes {
     found
 }
 
-/// The report of a sheet, however long, or its refusal (1 to 9); of no bytes eight zero bytes.
+/// The report of a sheet, however long, or its refusal (1 to 9, or 13); of no bytes eight zero bytes.
 pub fn answer(sheet: &[u8]) -> Read<Vec<u8>> {
     if sheet.is_empty() {
         return Ok(vec![0; 8]);
     }
-    decode(sheet, false)?.report()
+    decode(sheet)?.report()
 }
 
 /// # Safety
@@ -1037,16 +1035,4 @@ pub unsafe extern "C" fn second_answer(sheet: *const u8, n: usize, buffer: *mut 
             256 * report.len() as u64
         }
     }
-}
-
-/// Whether a String of the sheet does not look like one: then request #108 will refuse it (13).
-pub fn unquoted(sheet: &[u8]) -> bool {
-    matches!(decode(sheet, true), Err(13))
-}
-
-/// # Safety
-/// `sheet` has `n` bytes to read.
-#[unsafe(no_mangle)]
-pub unsafe extern "C" fn second_unquoted(sheet: *const u8, n: usize) -> bool {
-    unquoted(if n == 0 { &[] } else { unsafe { std::slice::from_raw_parts(sheet, n) } })
 }

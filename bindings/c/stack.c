@@ -14,6 +14,9 @@
 
 #define LEVELS 64
 #define SOURCE 5000
+/* where './j.ts' begins and ends in the source */
+#define QUOTED 19
+#define QUOTED_END 27
 
 /* What holds the node one level down. */
 enum form {
@@ -60,7 +63,7 @@ static enum form forms[LEVELS + 1];
 static uint8_t sheet[MODULE_INFO_MAX_SHEET];
 static size_t length, entries;
 
-/* ---- a sheet, written front to back; each node is at 0 ---- */
+/* ---- a sheet, written front to back; each node is at 0, but for Strings ---- */
 
 static void byte(int b) { sheet[length++] = (uint8_t)b; }
 
@@ -84,8 +87,11 @@ static void head(int tag) {
     number(0);
 }
 
+/* A String at the quoted place of the first comment. */
 static void string(const char *t) {
-    head(1);
+    byte(1);
+    number(QUOTED);
+    number(QUOTED_END);
     text(t);
 }
 

@@ -23,9 +23,10 @@ enum Sort {
     /// The bytes of a text, behind its length: UTF-8 or WTF-8.
     Utf8,
     Wtf8,
-    /// A position, and one that may not precede that in front of it.
+    /// A position, and one that may not precede that in front of it; that of a String, which also asks for the marks.
     Position,
     End,
+    StringEnd,
 }
 
 struct Field {
@@ -97,7 +98,8 @@ impl Fields {
     fn string(&mut self, name: &'static str, sort: Sort) {
         self.inside(name, |f| {
             f.put("tag", sort, vec![1]);
-            f.span(0, 4);
+            f.position("start", 0);
+            f.put("end", Sort::StringEnd, number(4));
             f.text(4096, Sort::Wtf8, "s");
         });
     }
@@ -331,16 +333,19 @@ fn ways(field: &Field, source: &str) -> Vec<Way> {
             let next = if field.name.ends_with("length") { 2 } else { 3 };
             all.push(Way { behind: Behind::These(vec![255]), ..way(next, "at the limit, and 255", &number(limit)) });
         }
-        Sort::Position | Sort::End => {
+        Sort::Position | Sort::End | Sort::StringEnd => {
             all.push(way(2, "too large", &TOO_LARGE));
             all.push(way(6, "past the source", &number(last + 1)));
             all.push(way(6, "inside a character", &number(source.find('é').expect("there is one") + 1)));
-            if field.sort == Sort::End {
+            if field.sort != Sort::Position {
                 all.push(Way { back: 1, ..way(6, "before its start", &[last as u8, last as u8 - 1]) });
+            }
+            if field.sort == Sort::StringEnd {
+                all.push(way(13, "a byte early", &number(last - 1)));
             }
         }
     }
-    if matches!(field.sort, Sort::Number | Sort::Limited(_) | Sort::Position | Sort::End) {
+    if matches!(field.sort, Sort::Number | Sort::Limited(_) | Sort::Position | Sort::End | Sort::StringEnd) {
         all.push(way(2, "cut off inside", &[0x80]));
         all.push(Way { behind: Behind::Rest, ..way(2, "not shortest", &[field.bytes[0] | 0x80, 0]) });
     }

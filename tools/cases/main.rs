@@ -1,6 +1,6 @@
 //! cases SHEETS NAMES
 //! The cases of the stored list (crates/replay/data), as a batch (each: length as u32 little-endian, bytes) in the file SHEETS. The file NAMES
-//! gets a line for each: the number that the case is made for (0 accepted, 1 to 9 refused), a space, its name. tools/replay asks the oracle.
+//! gets a line for each: the number that the case is made for (0 accepted, 1 to 9 and 13 refused), a space, its name. tools/replay asks the oracle.
 //!
 //! First each field of each form of document 01 is made wrong in every way that can be judged there (`ways`), as the root and one node below;
 //! then each clause of the walk, the attributes, the arguments, the ten patterns and the grammar is met and just missed.

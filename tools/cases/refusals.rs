@@ -9,6 +9,7 @@ pub fn all(c: &mut Cases) {
     c.add(0, "no bytes", vec![]);
     numbers(c);
     texts(c);
+    strings(c);
     comments(c);
     groups(c);
     depths(c);
@@ -71,6 +72,26 @@ fn texts(c: &mut Cases) {
     for (what, root) in [("ExportAll", [vec![9, 0, 0, 0], string(pair)].concat()), ("Module", [vec![12, 0, 0, 1], string(pair)].concat())] {
         c.add(5, format!("{what}.String, a surrogate pair"), bare(root));
     }
+}
+
+/// The place of a String, a node of its own or one that another holds.
+fn strings(c: &mut Cases) {
+    let mut case = |number, what: &str, source: &str, start: u8, end: u8| {
+        for (name, front, back) in [("String", &[][..], &[][..]), ("ExportAll.String", &[9, 0, 0, 0], &[0])] {
+            let root = [front, &[1, start, end, 0], back].concat();
+            c.add(number, format!("{name}, {what}"), Doc { source, root, ..Doc::default() }.bytes());
+        }
+    };
+    case(0, "two bytes", "\"\"", 0, 2);
+    case(0, "single marks", "''", 0, 2);
+    case(0, "marks inside", "'\"''", 0, 4);
+    case(13, "no bytes", "''", 0, 0);
+    case(13, "one byte", "''", 0, 1);
+    case(13, "one byte, the source", "\"", 0, 1);
+    case(13, "unlike marks", "\"'", 0, 2);
+    case(13, "unlike marks, the other way", "'\"", 0, 2);
+    case(13, "backticks", "``", 0, 2);
+    case(13, "a byte late", "'' ", 1, 3);
 }
 
 fn comments(c: &mut Cases) {

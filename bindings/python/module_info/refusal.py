@@ -13,6 +13,7 @@ MEANINGS = {
     9: "the first argument of a walked call, an import of any phase or one whose expression is the Name `require`, "
     "is a template with an uncooked piece",
     10: "the report is longer than the buffer",
+    13: "a String's span has fewer than two bytes, or does not begin and end with the same mark",
 }
 
 

@@ -1,6 +1,6 @@
 use std::fmt;
 
-/// Document 01's refusals, in checking order.
+/// Document 01's refusals by their numbers; 13 is judged among 2 to 7.
 #[derive(Debug, Clone, Copy, PartialEq, Eq, PartialOrd, Ord, Hash)]
 #[repr(u8)]
 pub enum Refusal {
@@ -14,10 +14,11 @@ pub enum Refusal {
     Trailing = 8,
     Uncooked = 9,
     Buffer = 10,
+    String = 13,
 }
 
 impl Refusal {
-    pub const ALL: [Refusal; 10] = [
+    pub const ALL: [Refusal; 11] = [
         Refusal::SheetLength,
         Refusal::CutOff,
         Refusal::Byte,
@@ -28,6 +29,7 @@ impl Refusal {
         Refusal::Trailing,
         Refusal::Uncooked,
         Refusal::Buffer,
+        Refusal::String,
     ];
 
     /// The refusal of a number.
@@ -37,6 +39,7 @@ impl Refusal {
     ///
     /// assert!(Refusal::ALL.iter().all(|r| Refusal::from_number(r.number()) == Some(*r)));
     /// assert_eq!(Refusal::from_number(0), None);
+    /// assert_eq!(Refusal::from_number(11), None);
     /// ```
     pub fn from_number(number: u8) -> Option<Refusal> {
         Refusal::ALL.into_iter().find(|r| r.number() == number)
@@ -66,6 +69,7 @@ impl Refusal {
                  is a template with an uncooked piece"
             }
             Refusal::Buffer => "the report is longer than the buffer",
+            Refusal::String => "a String's span has fewer than two bytes, or does not begin and end with the same mark",
         }
     }
 }

@@ -21,6 +21,8 @@ pub enum OutOfForm {
     Overlap(Span),
     /// The comments of the group at a position are not some that follow each other in the source.
     Group(usize),
+    /// A String does not begin and end with the same mark, `"` or `'`.
+    Quotes(Span),
     /// The library refuses the sheet, as where an import asks for a template with an uncooked piece.
     Refused(Refusal),
 }
@@ -33,6 +35,7 @@ impl OutOfForm {
             OutOfForm::Limit { .. } => Refusal::Limit,
             OutOfForm::Position(_) | OutOfForm::Span(_) => Refusal::Position,
             OutOfForm::Marks(_) | OutOfForm::Overlap(_) | OutOfForm::Group(_) => Refusal::Comments,
+            OutOfForm::Quotes(_) => Refusal::String,
             OutOfForm::Refused(refusal) => refusal,
         }
     }
@@ -47,6 +50,7 @@ impl fmt::Display for OutOfForm {
             OutOfForm::Marks(s) => write!(f, "the comment {}..{} lacks its marks", s.start, s.end),
             OutOfForm::Overlap(s) => write!(f, "the comment {}..{} starts before the end of the one before it", s.start, s.end),
             OutOfForm::Group(p) => write!(f, "the comments of the group at {p} do not follow each other"),
+            OutOfForm::Quotes(s) => write!(f, "the String {}..{} does not begin and end with the same mark", s.start, s.end),
             OutOfForm::Refused(refusal) => refusal.fmt(f),
         }
     }
@@ -201,6 +205,11 @@ impl Writer<'_> {
 
     fn string(&mut self, string: &Str, depth: usize) -> Written {
         self.head(1, string.span, depth)?;
+        let place = &self.source[string.span.start..string.span.end];
+        let is_quoted = ['"', '\''].iter().any(|mark| place.strip_prefix(*mark).is_some_and(|rest| rest.ends_with(*mark)));
+        if !is_quoted {
+            return Err(OutOfForm::Quotes(string.span));
+        }
         self.wtf8(&string.text)
     }
 

@@ -235,6 +235,16 @@ fn positions() {
 }
 
 #[test]
+fn strings() {
+    let string = |start, end| changed(|s| s.root = Node::String(Str { span: Span::new(start, end), text: "a".into() }));
+    assert!(string(13, 16).is_ok());
+    for (start, end) in [(13, 13), (13, 14), (13, 15), (14, 16), (12, 16), (13, 17)] {
+        assert_eq!(out(string(start, end)), OutOfForm::Quotes(Span::new(start, end)));
+        assert_eq!(out(string(start, end)).refusal(), Refusal::String);
+    }
+}
+
+#[test]
 fn comments() {
     let first = |s: &mut Sheet, change: fn(&mut Comment)| s.comments.leading.values_mut().take(1).flatten().for_each(change);
     let marks = |start, end| OutOfForm::Marks(Span::new(start, end));
@@ -271,7 +281,7 @@ fn limits() {
     });
     limit("source", 32_768, |s, n| s.source += &" ".repeat(n - s.source.len()));
     limit("comments", 1_024, |s, n| {
-        s.source = "//\n".repeat(n + 10);
+        (s.source, s.root) = ("//\n".repeat(n + 10), deep(1));
         let comment = |i| Comment { kind: CommentKind::Line, span: Span::new(3 * i, 3 * i + 2) };
         s.comments = Comments { leading: [(3 * n, (0..n).map(comment).collect())].into(), trailing: Default::default() };
     });

@@ -14,6 +14,7 @@ use Rattle.wire.specs.Text.{count, text}
 use Rattle.wire.specs.Optional.{optional}
 use Rattle.sheet.specs.Fields.{position, endFrom, span}
 use Rattle.sheet.specs.Comments.{enclosed, marked, comment, group, covered, chained}
+use Rattle.sheet.specs.Quotation.{looksQuoted}
 use Rattle.sheet.specs.Program.{program}
 use Rattle.sheet.specs.Nodes.{many, tag, stringText, quoted, piece, nodes, argumentItem, arguments, keyedItem, propertyItem, properties, attributes, otherFields, stringFields, nameFields, templateFields, binaryFields, objectFields, callRest, callFields, importFields, namedExportFields, exportAllFields, importTypeFields, typeRest, importEqualsFields, moduleFields, fields, node, attributesObject}
 use Rattle.sheet.specs.Sheet.{sheet, decodeSheet, accept}
@@ -56,9 +57,11 @@ cases =
     ∷ (front ++ (0 ∷ []), 7)  -- a comment in no group, though the sheet is cut off behind it
     ∷ (sheetOf (empty ++ (0 ∷ [])), 8)
     ∷ (sheetOf uncooked, 9)
+    ∷ (sheetOf (1 ∷ 12 ∷ 20 ∷ 0 ∷ []), 0)  -- a String at the quotation of the source
+    ∷ (sheetOf (1 ∷ 13 ∷ 21 ∷ []), 13)  -- one byte further, though the sheet is cut off behind it
     ∷ (sheetOf (uncooked ++ (0 ∷ [])), 8)  -- bytes behind the root, and an uncooked template in it
     ∷ []
 
 as-stated : map (λ c. refusal (accept (c .0))) cases ≡ map (λ c. c .1) cases
-unfolding byte below numbered flag bytes lastGroup Rattle.wire.specs.Number.groups number count text admits lengthBy charLength formed begins same isBoundary position endFrom span enclosed marked comment group covered chained program many tag stringText quoted optional piece nodes argumentItem arguments keyedItem propertyItem properties attributes otherFields stringFields nameFields templateFields binaryFields objectFields callRest callFields importFields namedExportFields exportAllFields importTypeFields typeRest importEqualsFields moduleFields fields node attributesObject sheet decodeSheet accept
+unfolding byte below numbered flag bytes lastGroup Rattle.wire.specs.Number.groups number count text admits lengthBy charLength formed begins same isBoundary position endFrom span enclosed looksQuoted marked comment group covered chained program many tag stringText quoted optional piece nodes argumentItem arguments keyedItem propertyItem properties attributes otherFields stringFields nameFields templateFields binaryFields objectFields callRest callFields importFields namedExportFields exportAllFields importTypeFields typeRest importEqualsFields moduleFields fields node attributesObject sheet decodeSheet accept
 as-stated = refl

@@ -1,4 +1,4 @@
--- Arguments in an empty source, as the definitions compute.
+-- Arguments in a source that is an empty string, as the definitions compute.
 use mathlib.Core.Path.{_≡_, refl}
 use mathlib.Core.List.{List, [], _∷_, _++_, map}
 use mathlib.Core.Option.{Option}
@@ -6,6 +6,7 @@ use Prim.Native.Nat.{ℕ}
 use lib.ListN.{length}
 use Rattle.laws.specs.Decoded.{Decoded, ok, onOk}
 use Rattle.laws.specs.Quoted.{ascii}
+use Rattle.text.specs.Bytes.{begins}
 use Rattle.text.specs.Utf8.{admits, lengthBy, charLength, formed}
 use Rattle.text.specs.Lossy.{replacing}
 use Rattle.text.specs.Position.{isBoundary}
@@ -15,6 +16,8 @@ use Rattle.wire.specs.Text.{count, text}
 use Rattle.wire.specs.Optional.{optional}
 use Rattle.sheet.specs.Limits.{depthLimit}
 use Rattle.sheet.specs.Fields.{position, endFrom, span}
+use Rattle.sheet.specs.Comments.{enclosed}
+use Rattle.sheet.specs.Quotation.{looksQuoted}
 use Rattle.sheet.specs.Nodes.{many, tag, piece, nodes, stringText, stringFields, nameFields, templateFields, binaryFields, fields, node}
 use Rattle.report.specs.ModuleInfo.{DynamicArgument, expr, string, template}
 use Rattle.arguments.specs.Argument.{chain, argumentOf}
@@ -27,15 +30,19 @@ at t fields = t ∷ 0 ∷ 0 ∷ fields
 abbrev long : List ℕ → List ℕ
 long x = length x ∷ x
 
+-- a String at the one quotation of the source
+abbrev quoted : List ℕ → List ℕ
+quoted x = 1 ∷ 0 ∷ 2 ∷ long x
+
 -- the Strings "a" and "c", and the Name b
 abbrev a : List ℕ
-a = at 1 (long (ascii "a"))
+a = quoted (ascii "a")
 
 abbrev b : List ℕ
 b = at 2 (long (ascii "b"))
 
 abbrev c : List ℕ
-c = at 1 (long (ascii "c"))
+c = quoted (ascii "c")
 
 -- a plus, and a minus
 abbrev plus : List ℕ → List ℕ → List ℕ
@@ -63,7 +70,7 @@ cases =
     ∷ (minus (plus a b) c, ok expr [])
     ∷ []
 
-as-stated : map (λ x. (x .0, onOk argumentOf (node [] depthLimit (x .0)))) cases ≡ cases
-unfolding byte below flag bytes lastGroup groups number count text admits lengthBy charLength formed replacing isBoundary position endFrom span many tag optional piece nodes stringText stringFields
+as-stated : map (λ x. (x .0, onOk argumentOf (node (ascii "\"\"") depthLimit (x .0)))) cases ≡ cases
+unfolding byte below flag bytes lastGroup groups number count text admits lengthBy charLength formed replacing begins enclosed looksQuoted isBoundary position endFrom span many tag optional piece nodes stringText stringFields
     nameFields templateFields binaryFields fields node chain argumentOf
 as-stated = refl

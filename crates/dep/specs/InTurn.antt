@@ -9,8 +9,9 @@ use Rattle.sheet.specs.Shape.{Shape, text, named, pieces, operation, properties
 use Rattle.sheet.specs.Walk.{Visit, called, imported, exported, typed, required, declared, startOf}
 use Rattle.sheet.specs.Walked.{gives}
 use Rattle.sheet.specs.Sheet.{Sheet}
-use Rattle.report.specs.ModuleInfo.{ImportAttributes, none, DynamicArgument, string, DependencyDescriptor, static, dynamic}
+use Rattle.report.specs.ModuleInfo.{SpecifierWithRange, ImportAttributes, none, DynamicArgument, string, DependencyDescriptor, static, dynamic}
 use Rattle.report.specs.Texts.{Reports}
+use Rattle.report.specs.Stands.{InQuotation, StandsAt}
 use Rattle.attributes.specs.Right.{StaticOf, TypeOf, DynamicOf}
 use Rattle.pragmas.specs.Pragmas.{typesAt}
 use Rattle.pragmas.specs.Present.{TypesPresent}
@@ -37,11 +38,16 @@ Attributed (typed sp x o) = TypeOf o
 Attributed (required sp typeOnly export x) = λ a. a ≡ none
 Attributed (declared sp x) = λ a. a ≡ none
 
--- the text of an entry, by its node's String or a String that is its call's first argument
-abbrev pub Specifies : Quoted → DependencyDescriptor → Type 0
-Specifies x (static d) = Reports (x .text) (d .specifier .text)
-Specifies x (dynamic d) = ⊥
+-- a static entry, by its node's String: the text, and the source at the range is that String, a quotation
+pub record SpecifierOf (source : List ℕ) (x : Quoted) (specifier : SpecifierWithRange) : Type 0 where
+  pub text : Reports (x .text) (specifier .text)
+  pub stands : StandsAt InQuotation source specifier (x .span)
 
+abbrev pub Specifies : List ℕ → Quoted → DependencyDescriptor → Type 0
+Specifies source x (static d) = SpecifierOf source x (d .specifier)
+Specifies source x (dynamic d) = ⊥
+
+-- the text of a dynamic entry, by a String that is its call's first argument
 abbrev pub Argues : Shape → DynamicArgument → Type 0
 Argues (text x) a = (y : List ℕ) × (a ≡ string y) × Reports x y
 Argues (named x) a = Unit {0}
@@ -54,19 +60,20 @@ abbrev pub ArguedBy : Shape → DependencyDescriptor → Type 0
 ArguedBy v (static d) = ⊥
 ArguedBy v (dynamic d) = Argues v (d .argument)
 
-abbrev pub Worded : Visit → DependencyDescriptor → Type 0
-Worded (called sp e noArguments) = λ d. Unit {0}
-Worded (called sp e (argument dots at n xs)) = ArguedBy (shape n)
-Worded (imported sp typeOnly phase sideEffect x o) = Specifies x
-Worded (exported sp typeOnly x o) = Specifies x
-Worded (typed sp x o) = Specifies x
-Worded (required sp typeOnly export x) = Specifies x
-Worded (declared sp Option.none) = λ d. Unit {0}
-Worded (declared sp (Option.some x)) = Specifies x
+-- the text of an entry, over a source
+abbrev pub Worded : List ℕ → Visit → DependencyDescriptor → Type 0
+Worded source (called sp e noArguments) = λ d. Unit {0}
+Worded source (called sp e (argument dots at n xs)) = ArguedBy (shape n)
+Worded source (imported sp typeOnly phase sideEffect x o) = Specifies source x
+Worded source (exported sp typeOnly x o) = Specifies source x
+Worded source (typed sp x o) = Specifies source x
+Worded source (required sp typeOnly export x) = Specifies source x
+Worded source (declared sp Option.none) = λ d. Unit {0}
+Worded source (declared sp (Option.some x)) = Specifies source x
 
--- a dependency is the entry of a visit, with the types that the comments before its node give, its attributes and its text
+-- a dependency is the entry of a visit, with the types that the comments before its node give, its attributes, its text and a static one's place
 pub record EntryOf (t : Sheet) (v : Visit) (d : DependencyDescriptor) : Type 0 where
   pub entry : entryOf (t .source) (typesAt t) v ≡ d ∷ []
   pub types : TypesPresent t (startOf v) (typesOf d)
   pub attributes : Attributed v (attributesOf d)
-  pub worded : Worded v d
+  pub worded : Worded (t .source) v d

@@ -27,7 +27,7 @@ ghost use Rattle.wire.specs.Text.{count, text};
 ghost use Rattle.sheet.specs.Limits.{textLimit, propertyLimit};
 ghost use Rattle.sheet.specs.Nodes.{stringText};
 ghost use Rattle.heads.specs.code.Head.{otherHead, stringHead, nameHead, templateHead, binaryHead, objectHead, callStart, origin, importStart, namedExportStart, exportAllStart, importTypeStart, importRequireStart, importEqualsStart, moduleStart, start, head};
-ghost use Rattle.heads.specs.code.Views.{originAs, fieldsAs, headAs, PastOrigin, PastFields, PastHead};
+ghost use Rattle.heads.specs.code.Views.{originAs, fieldsAs, headAs, Part, PastOrigin, PastFields, PastHead};
 
 // What stands before a node's first child. A text is from a place of the sheet to another.
 pub enum Head {
@@ -115,6 +115,7 @@ fn read_other(sheet: &[u8], c: Cursor) -> FieldsRead
 }
 
 fn read_string(sheet: &[u8], source: &[u8], c: Cursor, span: Span) -> FieldsRead
+    requires { ⌜ Part (length (now source)) (span .start) (span .end) ⌝ }
     ensures { λ r. ⌜ fieldsAs (now (sheet .entry)) r ≡ onOk stringHead (stringText (now (source .entry)) span (drop (c .at) (now (sheet .entry)))) ⌝ }
     ensures { λ r. ⌜ PastFields (c .at) (length (now (sheet .entry))) r ⌝ }
 {
@@ -370,6 +371,7 @@ fn read_fields(
     span: Span,
     tag: usize,
 ) -> FieldsRead
+    requires { ⌜ Part (length (now source)) (span .start) (span .end) ⌝ }
     ensures { λ r. ⌜ fieldsAs (now (sheet .entry)) r ≡ start (now (source .entry)) levels span tag (drop (c .at) (now (sheet .entry))) ⌝ }
     ensures { λ r. ⌜ PastFields (c .at) (length (now (sheet .entry))) r ⌝ }
 {

@@ -14,8 +14,9 @@ ghost use Prim.Native.Nat.{ℕ, _≤_, _<_};
 ghost use lib.Dec.{eqb, ltb};
 ghost use lib.ListN.{length, drop};
 ghost use Rattle.wire.specs.code.Views.{readAs, textAs, PastText};
+ghost use Rattle.sheet.specs.Quotation.{looksQuoted};
 ghost use Rattle.sheet.specs.Nodes.{judgeTag, tag, stringText, quoted};
-ghost use Rattle.heads.specs.code.Views.{quotedAs, PastTag, PastQuoted};
+ghost use Rattle.heads.specs.code.Views.{quotedAs, Part, PastTag, PastQuoted};
 
 // A String: its span in the source, and where its text stands in the sheet.
 pub struct Quoted {
@@ -66,12 +67,36 @@ pub fn read_tag_of(sheet: &[u8], c: Cursor, wanted: usize, levels: usize) -> Rea
     }
 }
 
-// The text of a String whose span was read.
+// Has the text at least two bytes, and does it begin and end with the same mark?
+fn looks_quoted(text: &[u8]) -> bool
+    ensures { λ r. ⌜ r ≡ looksQuoted (now (text .entry)) ⌝ }
+{
+    if text.len() < 2 {
+        return false;
+    }
+    let mark = text[0];
+    let last = text[text.len() - 1];
+    if mark == b'"' {
+        return last == b'"';
+    }
+    if mark == b'\'' {
+        return last == b'\'';
+    }
+    false
+}
+
+// The text of a String whose span was read; before it, the source there must look like one.
 pub fn read_string_text(sheet: &[u8], source: &[u8], c: Cursor, span: Span) -> Text
+    requires { ⌜ Part (length (now source)) (span .start) (span .end) ⌝ }
     ensures { λ r. ⌜ textAs (now (sheet .entry)) r ≡ stringText (now (source .entry)) span (drop (c .at) (now (sheet .entry))) ⌝ }
     ensures { λ r. ⌜ PastText (c .at) (length (now (sheet .entry))) r ⌝ }
 {
-    c.text(sheet, Encoding::Wtf8, TEXT_LIMIT)
+    let start = span.start;
+    let end = span.end;
+    if looks_quoted(&source[start..end]) {
+        return c.text(sheet, Encoding::Wtf8, TEXT_LIMIT);
+    }
+    Text::Refused(refusals::QUOTATION)
 }
 
 // A String, with so many levels left, its own among them.

@@ -1,6 +1,7 @@
 -- What the judge says of an accepted sheet is what the writers ask, and what demand 3 is shown from.
 use mathlib.Core.Path.{_≡_, refl, sym, ap, _∙_}
 use mathlib.Core.Bool.{true}
+use mathlib.Core.Logic.{⊎-elim}
 use mathlib.Core.List.{List, [], _∷_}
 use Prim.Native.Nat.{ℕ, _+_, _/_, _≤_, _<_}
 use native.Mathlib.Omega.{arith}
@@ -18,7 +19,7 @@ use Rattle.text.specs.Bytes.{part}
 use Rattle.text.proofs.Columns.{counted}
 use Rattle.text.proofs.WellFormed.{well-formed-iff}
 use Rattle.wire.specs.Refusals.{ofSheets, oneOf}
-use Rattle.sheet.specs.Limits.{sourceLimit, commentLimit, groupLimit, commentNumbers, groupNumbers, indexNumbers}
+use Rattle.sheet.specs.Limits.{sourceLimit, commentLimit, groupLimit, depthLimit, commentNumbers, groupNumbers, indexNumbers}
 use Rattle.sheet.specs.Fit.{Fit}
 use Rattle.sheet.specs.Walk.{Visit, startOf, visits}
 use Rattle.sheet.specs.Sheet.{Sheet, accept}
@@ -28,6 +29,7 @@ use Rattle.sheet.proofs.Reaches.{walk-right}
 use Rattle.sheet_codec.specs.Limits.{FieldsFit}
 use Rattle.sheet_codec.specs.SheetOf.{SheetOf}
 use Rattle.sheet_codec.proofs.Sheets.{accepts-exactly}
+use Rattle.sheet_codec.proofs.Quotations.{strings-quoted}
 use Rattle.sheet_codec.proofs.Refusals.{passes, Decision, decided, cut-off, judged-sheet, judged-refusal}
 use Rattle.accept.specs.declared.check.Parts.{Parts}
 use Rattle.accept.specs.code.Accepts.{Accepts}
@@ -123,6 +125,7 @@ module _ {s comments groups : List ℕ} {p : Parts} (a : Accepts s comments grou
     number = rw answer (number-right s size);
     dependencies = shown (λ t. _) in-turn;
     walk = λ t h. walk-right (t .root);
+    strings = shown (λ t. _) (strings-quoted (a .sheet .source) depthLimit (a .sheet .root) (within .root));
     jsdoc = shown (λ t. _) jsdoc-right;
     pragmas = shown (λ t. _) (pragmas-present (a .sheet));
     texts = shown (λ t. _) sheet-texts;
@@ -140,10 +143,10 @@ module _ {s comments groups : List ℕ} {p : Parts} (a : Accepts s comments grou
       types-there = types-shown t formed-source fit
 
       -- each entry with what the limits say of it
-      known-turns : InTurn (λ v d. Known t v d × Fine (Worded v) d) (visits (t .root)) (moduleInfo t .dependencies)
+      known-turns : InTurn (λ v d. Known t v d × Fine (Worded (t .source) v) d) (visits (t .root)) (moduleInfo t .dependencies)
       known-turns = entries-fine t (meets .encodes .within) types-there (λ v d k. k .entry) (collect-turns (t .source) (typesAt t) (Known t) (λ v d e i. record { entry = e; types = i }) (t .root))
 
-      fine : InTurn (λ v d. Fine (Worded v) d) (visits (t .root)) (moduleInfo t .dependencies)
+      fine : InTurn (λ v d. Fine (Worded (t .source) v) d) (visits (t .root)) (moduleInfo t .dependencies)
       fine = turns-with known-turns (λ v i d p. p .1)
 
       in-turn : InTurn (EntryOf t) (visits (t .root)) (moduleInfo t .dependencies)
@@ -190,6 +193,7 @@ module _ (s : List ℕ) {size : ℕ} {outcome : Outcome} {buffer : List ℕ} whe
     number = rw answer (number-right s size);
     dependencies = λ t h. never t h;
     walk = λ t h. never t h;
+    strings = λ t h. never t h;
     jsdoc = λ t h. never t h;
     pragmas = λ t h. never t h;
     texts = λ t h. never t h;

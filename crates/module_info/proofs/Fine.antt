@@ -31,6 +31,7 @@ use Rattle.report.specs.ModuleInfo as info
 use Rattle.report.specs.Texts.{Reports, PairTexts, AttributeTexts, ArgumentTexts, DependencyTexts, SpecifierText}
 use Rattle.report.specs.Valid.{Short, ValidSpecifier, ValidAttributes, ValidArgument, ValidDependency}
 use Rattle.report.proofs.Ranges.{range-valid}
+use Rattle.report.proofs.Places.{range-at}
 use Rattle.report.proofs.Stands.{Good}
 use Rattle.attributes.specs.Attributes.{Prop, keyless, keyed, props}
 use Rattle.attributes.specs.Right.{Value, PairsOf, StaticOf, ObjectOf, TypeOf, Holds, SecondOf, DynamicOf}
@@ -310,7 +311,7 @@ module _ (source : List ℕ) where
 
   module _ (short : length source ≤ sourceLimit) (types : ℕ → Option SpecifierWithRange) (typed : (start : ℕ) → IfThere Good (types start)) where
     static-entry : (kind : StaticDependencyKind) (sp : Span) (k : ℕ) {x : Quoted} → QuotedFits source k x → (sideEffect : Bool) {a : ImportAttributes} → FineAttributes a
-        → Fine (Specifies x) (staticEntry source types kind sp x sideEffect a)
+        → Fine (Specifies source x) (staticEntry source types kind sp x sideEffect a)
     unfolding staticEntry
     static-entry kind sp k {x} q sideEffect a = record {
       valid = record {
@@ -319,11 +320,11 @@ module _ (source : List ℕ) where
         importAttributes = a .valid;
       };
       texts = (good-text (types (sp .start)) (typed (sp .start)), (lossy-text (q .text), a .texts));
-      worded = reports (q .text);
+      worded = record { text = reports (q .text); stands = record { range = range-at (q .place .span .start) (q .place .span .end) refl; text = q .quotation } };
     }
 
     call-entry : (kind : DynamicDependencyKind) (sp : Span) (e : Callee) (xs : Arguments) (k : ℕ) → ArgumentsFit source xs k → length (encodeArguments xs) ≤ sheetLimit
-        → All (Fine (Worded (called sp e xs))) (callEntry source types kind sp xs)
+        → All (Fine (Worded source (called sp e xs))) (callEntry source types kind sp xs)
     unfolding callEntry ArgumentsFit encodeArguments argumentOf
     call-entry kind sp e noArguments k f h = tt
     call-entry kind sp e (argument dots at n xs) k f h =
@@ -346,7 +347,7 @@ module _ (source : List ℕ) where
     -- the entries of a node's own visit
     abbrev OwnFine : Option Visit → Type 0
     OwnFine Option.none = Unit {0}
-    OwnFine (Option.some v) = All (Fine (Worded v)) (entryOf source types v)
+    OwnFine (Option.some v) = All (Fine (Worded source v)) (entryOf source types v)
 
     own-fine : (k : ℕ) (n : Node) → NodeFits source n k → length (encodeNode n) ≤ sheetLimit → OwnFine (ownVisit n)
     unfolding NodeFits encodeNode moduleEntry
@@ -373,9 +374,9 @@ module _ (source : List ℕ) where
 
     -- the entry of a walked node's visit
     pub walked-fine : {root n : Node} {v : Visit} {d : DependencyDescriptor} → Walked root n → ownVisit n ≡ Option.some v → NodeFits source root depthLimit → length (encodeNode root) ≤ sheetLimit
-        → entryOf source types v ≡ d ∷ [] → Fine (Worded v) d
+        → entryOf source types v ≡ d ∷ [] → Fine (Worded source v) d
     walked-fine {n = n} {v = v} {d = d} w o f h e =
         let (k, g) = walked-fits source w 64 f in
         let own : OwnFine (Option.some v) = rw o at (own-fine k n g (omega (arith, walked-bytes w))) in
-        let one : All (Fine (Worded v)) (d ∷ []) = rw e at own in
+        let one : All (Fine (Worded source v)) (d ∷ []) = rw e at own in
         one .0

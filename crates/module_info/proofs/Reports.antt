@@ -43,7 +43,7 @@ if-good P f Option.none p = tt
 if-good P f (Option.some x) p = f x p
 
 module _ (t : Sheet) (h : WithinLimits t) (typed : (start : ℕ) → IfThere (TypesShown t) (typesAt t start)) where
-  entry-fine : (v : Visit) → List·Memᴰ v (visits (t .root)) → (d : DependencyDescriptor) → entryOf (t .source) (typesAt t) v ≡ d ∷ [] → Fine (Worded v) d
+  entry-fine : (v : Visit) → List·Memᴰ v (visits (t .root)) → (d : DependencyDescriptor) → entryOf (t .source) (typesAt t) v ≡ d ∷ [] → Fine (Worded (t .source) v) d
   entry-fine v i d e =
       let (n, w, o) = walk-right (t .root) .of-walked v i in
       walked-fine (t .source) (h .fields .source .0) (typesAt t) (λ start. if-good (TypesShown t) (λ x s. types-shown-good t (h .fields .source .0) (h .fields .source .1) s) (typesAt t start) (typed start))
@@ -51,10 +51,10 @@ module _ (t : Sheet) (h : WithinLimits t) (typed : (start : ℕ) → IfThere (Ty
 
   -- each entry of the visits, in turn
   pub entries-fine : {P : Visit → DependencyDescriptor → Type 0} → ((v : Visit) (d : DependencyDescriptor) → P v d → entryOf (t .source) (typesAt t) v ≡ d ∷ [])
-      → InTurn P (visits (t .root)) (moduleInfo t .dependencies) → InTurn (λ v d. P v d × Fine (Worded v) d) (visits (t .root)) (moduleInfo t .dependencies)
+      → InTurn P (visits (t .root)) (moduleInfo t .dependencies) → InTurn (λ v d. P v d × Fine (Worded (t .source) v) d) (visits (t .root)) (moduleInfo t .dependencies)
   entries-fine is turns = turns-with turns (λ v i d p. (p, entry-fine v i d (is v d p)))
 
-  module _ (turns : InTurn (λ v d. Fine (Worded v) d) (visits (t .root)) (moduleInfo t .dependencies))
+  module _ (turns : InTurn (λ v d. Fine (Worded (t .source) v) d) (visits (t .root)) (moduleInfo t .dependencies))
       (present : Present t (moduleInfo t)) (texts : Texts t (moduleInfo t)) (right : JsDocRight (t .media) (t .source) (t .comments) (moduleInfo t .jsdocImports)) where
     abbrev m : ModuleInfo
     m = moduleInfo t

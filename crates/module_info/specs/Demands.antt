@@ -2,7 +2,11 @@
 use mathlib.Core.Path.{_≡_}
 use mathlib.Core.List.{List, []}
 use Prim.Native.Nat.{ℕ}
+use Rattle.laws.specs.Codec.{All}
 use Rattle.text.specs.Position.{characters, Counted}
+use Rattle.sheet.specs.Comments.{slice}
+use Rattle.sheet.specs.Quotation.{Quotation}
+use Rattle.sheet.specs.Strings.{strings}
 use Rattle.sheet.specs.Walk.{visits}
 use Rattle.sheet.specs.WalkRight.{WalkRight}
 use Rattle.sheet.specs.Sheet.{Sheet}
@@ -19,14 +23,14 @@ use Rattle.module_info.specs.Numbers.{NumberRight}
 use Rattle.module_info.specs.Report.{ReportRight}
 use Rattle.module_info.specs.Empty.{EmptyRight}
 
--- what holds of the sheet that the bytes s are, if they meet none of refusals 1 to 9
+-- what holds of the sheet that the bytes s are, if they meet none of refusals 1 to 9 and 13
 abbrev pub OfAccepted : List ℕ → (Sheet → Type 0) → Type 0
 OfAccepted s P = (t : Sheet) → SheetOf s t → P t
 
 -- the bytes s of a sheet or none, the size of the lent buffer, the outcome, and what the buffer holds then
 pub record Demands (s : List ℕ) (size : ℕ) (outcome : Outcome) (buffer : List ℕ) : Type 0 where
-  -- 1: a sheet that meets none of refusals 1 to 9 yields its complete report if the buffer can hold it, and no bytes the default one; every other call
-  -- gets the first refusal that 01's order names, and a buffer of zeros. Nothing is asked of the caller, and old contents do not matter.
+  -- 1: a sheet that meets none of refusals 1 to 9 and 13 yields its complete report if the buffer can hold it, and no bytes the default one; every other
+  -- call gets the first refusal that 01's order names, and a buffer of zeros. Nothing is asked of the caller, and old contents do not matter.
   -- 2: the report has the values of 01's rules, `moduleInfo`
   pub answer : outcomeAs outcome buffer ≡ answerOf s size
   -- and both without the decoder: the encoding of a sheet within 01's limits, in which no walked call has an uncooked template, gets its report, or 10
@@ -36,10 +40,12 @@ pub record Demands (s : List ℕ) (size : ℕ) (outcome : Outcome) (buffer : Lis
   -- and what each number means
   pub number : NumberRight s (outcomeAs outcome buffer .number)
   -- 2: dependencies and the visits that give one stand one to one, in order: each dependency is the entry of its visit, with the types that the comments
-  -- before its node give, the attributes of its Object and the text of its String
+  -- before its node give, the attributes of its Object and the text of its String; the source at a static specifier's range is that String, in two like marks
   pub dependencies : OfAccepted s (λ t. InTurn (EntryOf t) (visits (t .root)) (moduleInfo t .dependencies))
   -- and these are the visits of the walked nodes: children in sheet order, a call behind all nodes inside it, any other node before them
   pub walk : OfAccepted s (λ t. WalkRight (t .root) (visits (t .root)))
+  -- every String, one that a node of tags 7 to 12 holds too, begins and ends in the source with the same mark
+  pub strings : OfAccepted s (λ t. All (λ sp. Quotation (slice (t .source) sp)) (strings (t .root)))
   -- 3: a JSDoc import is listed exactly when the sheet is JavaScript and some star-opened block comment has a reading of it: each once, strictly
   -- ascending by the start of its place, with the one mode that all its readings give; the source there, less the two marks, is its text. No other list
   -- is so

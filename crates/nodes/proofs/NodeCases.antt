@@ -1,4 +1,4 @@
--- Nodes of an empty source with what is found in them, or the number of their refusal, as the definitions compute.
+-- Nodes of a source that is an empty string with what is found in them, or the number of their refusal, as the definitions compute.
 use mathlib.Core.Path.{_≡_, refl}
 use mathlib.Core.Bool.{Bool, true, false}
 use mathlib.Core.List.{List, [], _∷_, _++_, map}
@@ -6,7 +6,7 @@ use Prim.Native.Nat.{ℕ}
 use lib.ListN.{length}
 use Rattle.laws.specs.Decoded.{Decoded, ok, no, onOk}
 use Rattle.laws.specs.Quoted.{ascii}
-use Rattle.text.specs.Bytes.{same}
+use Rattle.text.specs.Bytes.{begins, same}
 use Rattle.text.specs.Utf8.{admits, lengthBy, charLength, formed}
 use Rattle.text.specs.Position.{isBoundary}
 use Rattle.wire.specs.Fields.{byte, below, numbered, flag, bytes}
@@ -14,9 +14,15 @@ use Rattle.wire.specs.Number.{lastGroup, groups, number}
 use Rattle.wire.specs.Text.{count, text}
 use Rattle.wire.specs.Optional.{optional}
 use Rattle.sheet.specs.Fields.{position, endFrom, span}
+use Rattle.sheet.specs.Comments.{enclosed}
+use Rattle.sheet.specs.Quotation.{looksQuoted}
 use Rattle.sheet.specs.Nodes.{many, tag, stringText, quoted, piece, nodes, argumentItem, arguments, keyedItem, propertyItem, properties, attributes, otherFields, stringFields, nameFields, templateFields, binaryFields, objectFields, callRest, callFields, importFields, namedExportFields, exportAllFields, importTypeFields, typeRest, importEqualsFields, moduleFields, fields, node, attributesObject}
 use Rattle.nodes.specs.declared.tally.Judged.{Judged}
 use Rattle.nodes.specs.code.Judged.{judged}
+
+-- the one quotation of the source is all of it
+abbrev source : List ℕ
+source = ascii "\"\""
 
 -- a tag with an empty span, and the fields
 abbrev at : ℕ → List ℕ → List ℕ
@@ -26,7 +32,7 @@ abbrev other : List ℕ
 other = at 0 (0 ∷ [])
 
 abbrev string : List ℕ
-string = at 1 (0 ∷ [])
+string = 1 ∷ 0 ∷ 2 ∷ 0 ∷ []
 
 -- an Other with one child
 abbrev holding : List ℕ → List ℕ
@@ -79,6 +85,10 @@ refusals =
     ∷ (2, at 7 (0 ∷ 0 ∷ 0 ∷ string ++ (1 ∷ other)), no 3)  -- an Other where an Object is asked for
     ∷ (64, at 5 (65 ∷ []), no 4)
     ∷ (64, at 5 (64 ∷ []), no 2)
+    ∷ (1, at 1 [], no 13)  -- no mark, though the String is cut off behind its end
+    ∷ (1, 1 ∷ 0 ∷ 1 ∷ [], no 13)  -- one mark
+    ∷ (1, 1 ∷ 0 ∷ 3 ∷ [], no 6)
+    ∷ (2, at 9 (0 ∷ 1 ∷ 0 ∷ 1 ∷ []), no 13)  -- one that another node holds
     ∷ []
 
 -- a template with an uncooked piece for the first argument
@@ -95,8 +105,8 @@ abbrev cases : List Case
 cases = smallest ++ refusals ++ templates
 
 abbrev computed : Case → Case
-computed (levels, s, r) = (levels, s, onOk judged (node [] levels s))
+computed (levels, s, r) = (levels, s, onOk judged (node source levels s))
 
 as-stated : map computed cases ≡ cases
-unfolding byte below numbered flag bytes lastGroup groups number count text admits lengthBy charLength formed same isBoundary position endFrom span many tag stringText quoted optional piece nodes argumentItem arguments keyedItem propertyItem properties attributes otherFields stringFields nameFields templateFields binaryFields objectFields callRest callFields importFields namedExportFields exportAllFields importTypeFields typeRest importEqualsFields moduleFields fields node attributesObject
+unfolding byte below numbered flag bytes lastGroup groups number count text admits lengthBy charLength formed begins enclosed looksQuoted same isBoundary position endFrom span many tag stringText quoted optional piece nodes argumentItem arguments keyedItem propertyItem properties attributes otherFields stringFields nameFields templateFields binaryFields objectFields callRest callFields importFields namedExportFields exportAllFields importTypeFields typeRest importEqualsFields moduleFields fields node attributesObject
 as-stated = refl

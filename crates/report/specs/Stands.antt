@@ -5,6 +5,7 @@ use Prim.Native.Nat.{ℕ}
 use Rattle.text.specs.Bytes.{Mark}
 use Rattle.sheet.specs.declared.fields.Span.{Span}
 use Rattle.sheet.specs.Comments.{slice}
+use Rattle.sheet.specs.Quotation.{Quotation}
 use Rattle.report.specs.ModuleInfo.{SpecifierWithRange}
 use Rattle.report.specs.Range.{RangeAt}
 
@@ -19,6 +20,10 @@ pub record InMarks (text bytes : List ℕ) : Type 0 where
   pub opens : Mark opening
   pub closes : Mark closing
   pub all : bytes ≡ opening ∷ (text ++ (closing ∷ []))
+
+-- the bytes are a quotation, whatever the text: a String may be written with escapes
+abbrev pub InQuotation : List ℕ → List ℕ → Type 0
+InQuotation text bytes = Quotation bytes
 
 -- the specifier stands at this place: its two positions are those of this place only, and the bytes there are its text, so written
 pub record StandsAt (Written : List ℕ → List ℕ → Type 0) (source : List ℕ) (x : SpecifierWithRange) (place : Span) : Type 0 where

@@ -8,7 +8,7 @@ use Rattle.laws.proofs.Kept.{Kept, done, next, test, either, at-index}
 use Rattle.text.specs.declared.utf8.Encoding.the-variants.{Utf8, Wtf8}
 use Rattle.text.specs.Position.{isBoundary}
 use Rattle.wire.specs.Number.{number}
-use Rattle.wire.proofs.Kept.{OfFields, two, three, four, six, seven, below-kept, numbered-kept, flag-kept, optional-kept, number-kept, count-kept, text-kept}
+use Rattle.wire.proofs.Kept.{OfFields, two, three, four, six, seven, thirteen, below-kept, numbered-kept, flag-kept, optional-kept, number-kept, count-kept, text-kept}
 use Rattle.sheet.specs.Limits.{sourceLimit, textLimit, commentLimit, groupLimit, depthLimit, propertyLimit}
 use Rattle.sheet.specs.declared.fields.Span.{Span}
 use Rattle.sheet.specs.declared.comments.Comment.{Comment}
@@ -18,6 +18,7 @@ use Rattle.sheet.specs.Names.{mediaTypes, commentKinds, sides, importPha
 use Rattle.sheet.specs.Tree.{Quoted, Pieces, Node, Nodes, Arguments, Properties, Attributes}
 use Rattle.sheet.specs.Fields.{position, endFrom, span}
 use Rattle.sheet.specs.Comments.{slice, marked, chained, comment, group, anywhere, covered}
+use Rattle.sheet.specs.Quotation.{looksQuoted}
 use Rattle.sheet.specs.Program.{Program, program}
 use Rattle.sheet.specs.Nodes.{many, tag, stringText, quoted, piece, nodes, argumentItem, arguments, keyedItem, propertyItem, properties, callRest, attributes, typeRest, otherFields, stringFields, nameFields, templateFields, binaryFields, objectFields, callFields, importFields, namedExportFields, exportAllFields, importTypeFields, importEqualsFields, moduleFields, fields, node, attributesObject}
 use Rattle.sheet.specs.Sheet.{Sheet, sheet}
@@ -74,7 +75,7 @@ module _ {P : (A : Type 0) → Decoder A → Type 0} (h : OfFields P) where
 
   string-text-kept : (source : List ℕ) (sp : Span) → P (List ℕ) (stringText source sp)
   unfolding stringText
-  string-text-kept source sp = text-kept h Wtf8 textLimit
+  string-text-kept source sp = test kept (looksQuoted (slice source sp)) thirteen (text-kept h Wtf8 textLimit)
 
   quoted-kept : (source : List ℕ) (levels : ℕ) → P Quoted (quoted source levels)
   unfolding quoted

@@ -8,6 +8,7 @@ pub mod Judged
 pub mod Order
 pub mod Decodes
 pub mod Marks
+pub mod Quotations
 pub mod Search
 pub mod Coverings
 pub mod Members

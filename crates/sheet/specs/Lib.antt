@@ -4,6 +4,8 @@ pub mod Media
 pub mod Tree
 pub mod Fields
 pub mod Comments
+pub mod Quotation
+pub mod Strings
 pub mod Program
 pub mod Fit
 pub mod Lookups

@@ -16,6 +16,8 @@ use Rattle.sheet.specs.declared.fields.Span.{Span}
 use Rattle.sheet.specs.Names.{importPhases}
 use Rattle.sheet.specs.Tree.{Quoted, Pieces, Node, other, string, name, template, binary, object, importCall, call, importDecl, namedExport, exportFrom, exportAll, importType, importEquals, importRequire, moduleDecl, Nodes, none, more, Arguments, noArguments, argument, Properties, noProperties, spread, otherProperty, childKey, stringKey, nameKey, Attributes, without, withObject}
 use Rattle.sheet.specs.Fields.{span}
+use Rattle.sheet.specs.Comments.{slice}
+use Rattle.sheet.specs.Quotation.{looksQuoted}
 
 -- so many items, each where the one before ends; an item is what it adds to the list of those behind it
 unfoldable pub many : {L : Type 0} → L → Decoder (L → L) → ℕ → Decoder L
@@ -32,9 +34,11 @@ judgeTag allowed levels t = do
 unfoldable pub tag : (ℕ → Bool) → ℕ → Decoder ℕ
 tag allowed levels = byte >>= λ t. judgeTag (allowed t) levels t
 
--- the text of a String whose span is read
+-- the text of a String whose span is read; before it, refusal 13 where the source there is no quotation
 unfoldable pub stringText : List ℕ → Span → Decoder (List ℕ)
-stringText source sp = text Wtf8 textLimit
+stringText source sp = do
+  require (looksQuoted (slice source sp)) refusals.quotation
+  text Wtf8 textLimit
 
 -- a String, with so many levels left, its own among them
 unfoldable pub quoted : List ℕ → ℕ → Decoder Quoted

@@ -82,10 +82,10 @@ module _ (source : List ℕ) where
     node-bytes (importCall sp phase xs ns) levels = simp (append-assoc, flatMap-append, arguments-bytes xs (under levels), nodes-bytes ns (under levels))
     node-bytes (call sp e xs ns) levels =
         simp (append-assoc, flatMap-append, node-bytes e (under levels), arguments-bytes xs (under levels), nodes-bytes ns (under levels))
-    node-bytes (importDecl sp typeOnly phase sideEffect x a) levels = simp (append-assoc, flatMap-append, attributes-bytes a (under levels))
+    node-bytes (importDecl sp typeOnly phase sideEffect x a) levels = simp (append-assoc, attributes-bytes a (under levels))
     node-bytes (namedExport sp typeOnly) levels = simp append-assoc
-    node-bytes (exportFrom sp typeOnly x a) levels = simp (append-assoc, flatMap-append, attributes-bytes a (under levels))
-    node-bytes (exportAll sp typeOnly x a) levels = simp (append-assoc, flatMap-append, attributes-bytes a (under levels))
+    node-bytes (exportFrom sp typeOnly x a) levels = simp (append-assoc, attributes-bytes a (under levels))
+    node-bytes (exportAll sp typeOnly x a) levels = simp (append-assoc, attributes-bytes a (under levels))
     node-bytes (importType sp x ns a) levels = simp (append-assoc, flatMap-append, nodes-bytes ns (under levels), attributes-bytes a (under levels))
     node-bytes (importEquals sp) levels = simp append-assoc
     node-bytes (importRequire sp typeOnly export x) levels = simp (append-assoc, append-nil)

@@ -25,10 +25,12 @@ use Rattle.sheet.specs.declared.names.Side.{Side}
 use Rattle.sheet.specs.Fields as sheet
 use Rattle.sheet.specs.Fields.{endFrom}
 use Rattle.sheet.specs.Comments.{opening, closing, slice, marked, anywhere, mayFollow}
+use Rattle.sheet.specs.Quotation.{looksQuoted}
 use Rattle.sheet.proofs.Marks.{enclosed-sound, enclosed-complete}
+use Rattle.sheet.proofs.Quotations.{looks-quoted-iff}
 use Rattle.sheet.proofs.Order.{by-order, in-order}
-use Rattle.sheet_codec.specs.Field.{Count, limit, Position, start, end, commentStart, commentEnd, groupPosition, Number, limited, free, position, groupCount, number}
-use Rattle.sheet_codec.specs.Breaks.{Shows, Wrong, over, outside, reversed, commentReversed, early, unmarked, disordered, empty, beyond, Breaks, noNumber, wrong}
+use Rattle.sheet_codec.specs.Field.{Count, limit, Position, start, end, stringEnd, commentStart, commentEnd, groupPosition, Number, limited, free, position, groupCount, number}
+use Rattle.sheet_codec.specs.Breaks.{Shows, Wrong, over, outside, reversed, stringReversed, commentReversed, early, unmarked, disordered, empty, beyond, unquoted, Breaks, noNumber, wrong}
 use Rattle.sheet_codec.specs.FieldsOf.{aNumber}
 use Rattle.sheet_codec.proofs.Fields.{FieldsOf, Any, field}
 
@@ -107,6 +109,7 @@ after (Option.some g) = mayFollow g
 abbrev Besides : List ℕ → Position → ℕ → ℕ → Type 0
 Besides source start n q = ⊥
 Besides source (end from) n q = Fails 6 (leb from) n q
+Besides source (stringEnd from) n q = Fails 6 (leb from) n q ⊎ Fails 13 (λ n. looksQuoted (slice source (record { start = from; end = n }))) n q
 Besides source (commentStart last) n q = Fails 7 (leb last) n q
 Besides source (commentEnd kind from) n q = Fails 6 (leb from) n q ⊎ Fails 7 (λ n. marked kind (slice source (record { start = from; end = n }))) n q
 Besides source (groupPosition last side) n q = Fails 7 (after last side) n q
@@ -136,6 +139,8 @@ failing-wrong free n q w = absurd w
 failing-wrong (position source at) n q (inl (e, i)) = rw e (outside (λ b. true≢false (sym (is-boundary-iff source n .1 b) ∙ i)))
 failing-wrong (position source start) n q (inr w) = absurd w
 failing-wrong (position source (end from)) n q (inr (e, i)) = rw e (reversed (leb-false from n i))
+failing-wrong (position source (stringEnd from)) n q (inr (inl (e, i))) = rw e (stringReversed (leb-false from n i))
+failing-wrong (position source (stringEnd from)) n q (inr (inr (e, i))) = rw e (unquoted (λ h. true≢false (sym (looks-quoted-iff _ .1 h) ∙ i)))
 failing-wrong (position source (commentStart last)) n q (inr (e, i)) = rw e (early (leb-false last n i))
 failing-wrong (position source (commentEnd kind from)) n q (inr (inl (e, i))) = rw e (commentReversed (leb-false from n i))
 failing-wrong (position source (commentEnd kind from)) n q (inr (inr (e, i))) = rw e (unmarked (lacks-marks source kind from n i))
@@ -154,9 +159,11 @@ wrong-failing : {f : Number} {n q : ℕ} → Wrong f n q → Failing f n q
 wrong-failing (over {c = c} {n = n} h) = (refl, lt-leb n (limit c) h)
 wrong-failing (outside {source = source} {n = n} h) = inl (refl, is-false (isBoundary source n) (λ i. h (is-boundary-iff source n .0 i)))
 wrong-failing (reversed {start = from} {n = n} h) = inr (refl, lt-leb from n h)
+wrong-failing (stringReversed {start = from} {n = n} h) = inr (inl (refl, lt-leb from n h))
 wrong-failing (commentReversed {start = from} {n = n} h) = inr (inl (refl, lt-leb from n h))
 wrong-failing (early {last = last} {n = n} h) = inr (refl, lt-leb last n h)
 wrong-failing (unmarked {source = source} {kind = kind} {start = from} {n = n} h) = inr (inr (refl, no-marks source kind from n h))
+wrong-failing (unquoted {source = source} {start = from} {n = n} h) = inr (inr (refl, is-false _ (λ i. h (looks-quoted-iff (slice source (record { start = from; end = n })) .0 i))))
 wrong-failing (disordered {g = g} {side = side} {n = n} h) =
     inr (refl, is-false (mayFollow g side n) (λ i. h (by-order (g .side) (g .position) side n i)))
 wrong-failing (empty {total = total} {first = first} {n = n} e) = (refl, rw e)
@@ -224,15 +231,24 @@ module _ (source : List ℕ) where
   comment-start last =
       number-field (position source (commentStart last)) (reads-test reads-position (leb last) 7 (λ n q w. omega (arith, w .0)) (λ n q w. w) (λ n q w. w))
 
+  -- an end with a test more, whose number is not lower
+  reads-end-test : (from : ℕ) (test : ℕ → Bool) (r : ℕ) → 6 ≤ r
+      → Reads (endFrom source from >>= λ n. require (test n) r >> return n) (λ n q. Fails 6 (isBoundary source) n q ⊎ (Fails 6 (leb from) n q ⊎ Fails r test n q))
+  reads-end-test from test r high =
+      reads-test (reads-end from) test r
+      (λ n q w. ⊎-elim (λ v. omega (arith, v .0)) (λ v. omega (arith, v .0)) w)
+      (λ n q w. ⊎-elim (λ v. ⊎-elim (λ z. inl z) (λ z. inr (inl z)) v) (λ v. inr (inr v)) w)
+      (λ n q w. ⊎-elim (λ v. inl (inl v)) (λ v. ⊎-elim (λ z. inl (inr z)) (λ z. inr z) v) w)
+
+  pub string-end : (from : ℕ)
+      → FieldsOf (endFrom source from >>= λ n. require (looksQuoted (slice source (record { start = from; end = n }))) 13 >> return n) Any
+      (λ n. aNumber (position source (stringEnd from)) n ∷ [])
+  string-end from = number-field (position source (stringEnd from)) (reads-end-test from (λ n. looksQuoted (slice source (record { start = from; end = n }))) 13 (omega arith))
+
   pub comment-end : (kind : CommentKind) (from : ℕ)
       → FieldsOf (endFrom source from >>= λ n. require (marked kind (slice source (record { start = from; end = n }))) 7 >> return n) Any
       (λ n. aNumber (position source (commentEnd kind from)) n ∷ [])
-  comment-end kind from =
-      number-field (position source (commentEnd kind from))
-      (reads-test (reads-end from) (λ n. marked kind (slice source (record { start = from; end = n }))) 7
-      (λ n q w. ⊎-elim (λ v. omega (arith, v .0)) (λ v. omega (arith, v .0)) w)
-      (λ n q w. ⊎-elim (λ v. ⊎-elim (λ z. inl z) (λ z. inr (inl z)) v) (λ v. inr (inr v)) w)
-      (λ n q w. ⊎-elim (λ v. inl (inl v)) (λ v. ⊎-elim (λ z. inl (inr z)) (λ z. inr z) v) w))
+  comment-end kind from = number-field (position source (commentEnd kind from)) (reads-end-test from (λ n. marked kind (slice source (record { start = from; end = n }))) 7 (omega arith))
 
   pub group-position : (last : Option Group) (side : Side)
       → FieldsOf (sheet.position source >>= λ n. require (after last side n) 7 >> return n) Any (λ n. aNumber (position source (groupPosition last side)) n ∷ [])

@@ -6,23 +6,27 @@ use mathlib.Core.Option.{Option}
 use Prim.Native.Nat.{ℕ, zero, suc, _+_}
 use lib.Dec.{leb, ltb}
 use lib.ListN.{length}
-use Rattle.laws.specs.Decoded.{Decoder, onOk, return}
+use Rattle.laws.specs.Decoded.{Decoder, onOk, _>>=_, return}
+use Rattle.laws.proofs.Decoding.{then-then}
 use Rattle.text.specs.declared.utf8.Encoding.{Encoding}
+use Rattle.text.specs.declared.utf8.Encoding.the-variants.{Wtf8}
 use Rattle.wire.specs.Number.{number}
 use Rattle.wire.specs.Text as wire
 use Rattle.wire.specs.Optional.{optional}
+use Rattle.sheet.specs.declared.fields.Span.{Span}
 use Rattle.sheet.specs.declared.groups.Group.{Group}
 use Rattle.sheet.specs.Fields as sheet
 use Rattle.sheet.specs.Comments.{slice, marked, chained, comment, comments, endOf, group, groups, anywhere, mayFollow}
+use Rattle.sheet.specs.Quotation.{looksQuoted}
 use Rattle.sheet.specs.Program.{program}
-use Rattle.sheet.specs.Nodes.{many}
+use Rattle.sheet.specs.Nodes.{many, stringText}
 use Rattle.sheet.proofs.Numbered.{kind-numbers, side-numbers}
 use Rattle.sheet_codec.specs.Field as field
 use Rattle.sheet_codec.specs.Field.{Count, limit, Entry}
-use Rattle.sheet_codec.specs.FieldsOf.{aFlag, textFields, optionalFields, chainFields, spanFields, commentFields, groupFields, programFields}
-use Rattle.sheet_codec.proofs.Fields.{Judges, FieldsOf, Any, ends, has, with, map, then, last, then-tested}
+use Rattle.sheet_codec.specs.FieldsOf.{aFlag, textFields, optionalFields, chainFields, spanFields, commentFields, groupFields, programFields, stringFields}
+use Rattle.sheet_codec.proofs.Fields.{Judges, FieldsOf, Any, ends, same, has, with, map, then, last, then-tested}
 use Rattle.sheet_codec.proofs.Leaves.{numbered-field, flag-field, bytes-field}
-use Rattle.sheet_codec.proofs.Numbers.{free-field, count-field, group-count-field, start-field, end-field, comment-start, comment-end, group-position, after}
+use Rattle.sheet_codec.proofs.Numbers.{free-field, count-field, group-count-field, start-field, end-field, string-end, comment-start, comment-end, group-position, after}
 
 -- a text
 pub text-fields : (c : Count) (e : Encoding) → FieldsOf (wire.text e (limit c)) Any (textFields c e)
@@ -55,6 +59,16 @@ module _ (source : List ℕ) where
   pub span-fields : FieldsOf (sheet.span source) Any (spanFields source)
   unfolding sheet.span
   span-fields = then (start-field source) (λ start u. last (λ end. record { start = start; end = end }) (end-field source start) (λ end v. (tt, refl)))
+
+  -- a String behind its tag, and what is made of its span and its text
+  pub string-fields : {B : Type 0} {Has : B → List Entry → Type 0} (of : Span → List ℕ → B) → ((sp : Span) (x : List ℕ) → Has (of sp x) (stringFields source sp x))
+      → Judges (sheet.span source >>= λ sp. stringText source sp >>= λ x. return (of sp x)) Has
+  unfolding sheet.span stringText
+  string-fields of h =
+      same (λ s. simp then-then)
+      (then (start-field source) (λ start u.
+      then-tested (sheet.endFrom source start) (λ end. looksQuoted (slice source (record { start = start; end = end }))) 13 (string-end source start) (λ end v.
+      last (of (record { start = start; end = end })) (text-fields field.textLength Wtf8) (λ x w. h (record { start = start; end = end }) x))))
 
   comment-fields : (last : ℕ) → FieldsOf (comment source last) Any (commentFields source last)
   unfolding comment

@@ -9,7 +9,7 @@ use lib.ListN.{length}
 use borrow.Author.Tests.{ltb-true, lt-ltb, eqb-true, eq-eqb}
 use Rattle.laws.specs.Decoded.{Decoder, _>>_}
 use Rattle.laws.specs.Codec.{Codec}
-use Rattle.laws.proofs.Decoding.{then-ok}
+use Rattle.laws.proofs.Decoding.{then-ok, require-ok}
 use Rattle.laws.proofs.Codecs.{Built, built-return, built-then, built-require, codec-of, built-end}
 use Rattle.text.specs.declared.utf8.Encoding.{Encoding}
 use Rattle.text.specs.declared.utf8.Encoding.the-variants.{Wtf8}
@@ -18,7 +18,10 @@ use Rattle.wire.specs.Text.{text, encodeText}
 use Rattle.wire.proofs.TextCodec.{byte-codec, text-codec}
 use Rattle.sheet.specs.Limits.{textLimit}
 use Rattle.sheet.specs.declared.fields.Span.{Span}
+use Rattle.sheet.specs.Comments.{slice}
+use Rattle.sheet.specs.Quotation.{Quotation, looksQuoted}
 use Rattle.sheet.specs.Nodes.{tag, stringText, quoted}
+use Rattle.sheet.proofs.Quotations.{looks-quoted-iff}
 use Rattle.sheet_codec.specs.Encode.{encodeQuoted}
 use Rattle.sheet_codec.specs.Limits.{TextFits, QuotedFits}
 use Rattle.sheet_codec.proofs.Parts.{span-codec}
@@ -48,14 +51,21 @@ pub short-text : (e : Encoding) → Codec (text e textLimit) encodeText (TextFit
 short-text e = text-codec e textLimit (omega arith)
 
 -- of a String
-pub string-text : (source : List ℕ) (sp : Span) → Codec (stringText source sp) encodeText (TextFits Wtf8 textLimit)
+pub string-text : (source : List ℕ) (sp : Span) → Codec (stringText source sp) encodeText (λ x. Quotation (slice source sp) × TextFits Wtf8 textLimit x)
 unfolding stringText
-string-text source sp = short-text Wtf8
+string-text source sp =
+    record {
+      complete = λ x v t. rw (looks-quoted-iff (slice source sp) .1 (v .0)) (short-text Wtf8 .complete x (v .1) t);
+      sound = λ s x t e.
+          let (h, e) = require-ok (looksQuoted (slice source sp)) 13 s _ e in
+          let (i, v) = short-text Wtf8 .sound s x t e in
+          (i, (looks-quoted-iff (slice source sp) .0 h, v));
+    }
 
 module _ (source : List ℕ) (small : length source ≤ largest) (levels : ℕ) where
   pub quoted-codec : Codec (quoted source levels) encodeQuoted (QuotedFits source levels)
   unfolding quoted
   quoted-codec =
       codec-of (built-tag 1 levels (built-then (span-codec source small) (λ sp. built-end (string-text source sp) (λ x. record { span = sp; text = x }))))
-      (λ q v. ((q .span, q .text), refl, (v .place .deep, (v .place .span, v .text))))
-      (λ p v. (refl, record { place = record { deep = v .0; span = v .1 .0 }; text = v .1 .1 }))
+      (λ q v. ((q .span, q .text), refl, (v .place .deep, (v .place .span, (v .quotation, v .text)))))
+      (λ p v. (refl, record { place = record { deep = v .0; span = v .1 .0 }; quotation = v .1 .1 .0; text = v .1 .1 .1 }))

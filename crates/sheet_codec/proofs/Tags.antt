@@ -84,7 +84,7 @@ module _ (source : List ℕ) (small : length source ≤ largest) (d : ℕ) (node
 
       string-fields : Fields 1 (stringFields source d node object′ sp) (string sp)
       unfolding stringFields encodeNode NodeFits
-      string-fields = tagged 1 (built-end (string-text source sp) (string sp)) (λ a. (refl, λ v. (v .place, v .text), λ v. record { place = v .0; text = v .1 }))
+      string-fields = tagged 1 (built-end (string-text source sp) (string sp)) (λ a. (refl, λ v. (v .place, (v .quotation, v .text)), λ v. record { place = v .0; quotation = v .1 .0; text = v .1 .1 }))
 
       name-fields : Fields 2 (nameFields source d node object′ sp) (name sp)
       unfolding nameFields encodeNode NodeFits

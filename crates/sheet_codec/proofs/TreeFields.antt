@@ -15,8 +15,9 @@ use Rattle.text.specs.declared.utf8.Encoding.the-variants.{Utf8, Wtf8}
 use Rattle.wire.specs.Fields.{byte, below, valueOf, flag}
 use Rattle.sheet.specs.declared.fields.Span.{Span}
 use Rattle.sheet.specs.Names.{importPhases}
+use Rattle.sheet.specs.Fields.{span}
 use Rattle.sheet.specs.Tree.{Node, other, string, name, template, binary, object, importCall, call, importDecl, namedExport, exportFrom, exportAll, importType, importEquals, importRequire, moduleDecl, none, more, argument, Properties, noProperties, spread, otherProperty, childKey, stringKey, nameKey, Attributes, without, withObject}
-use Rattle.sheet.specs.Nodes.{many, tag, stringText, quoted, piece, nodes, argumentItem, arguments, keyedItem, propertyItem, properties, callRest, attributes, typeRest, otherFields, stringFields, nameFields, templateFields, binaryFields, objectFields, callFields, importFields, namedExportFields, exportAllFields, importTypeFields, importEqualsFields, moduleFields, fields, node, attributesObject}
+use Rattle.sheet.specs.Nodes.{many, tag, quoted, piece, nodes, argumentItem, arguments, keyedItem, propertyItem, properties, callRest, attributes, typeRest, otherFields, stringFields, nameFields, templateFields, binaryFields, objectFields, callFields, importFields, namedExportFields, exportAllFields, importTypeFields, importEqualsFields, moduleFields, fields, node, attributesObject}
 use Rattle.sheet.proofs.Numbered.{phase-numbers}
 use Rattle.sheet_codec.specs.Encode.{nodesIn, argumentsIn, propertiesIn}
 use Rattle.sheet_codec.specs.Field as field
@@ -26,7 +27,7 @@ use Rattle.sheet_codec.proofs.Building.{Each, done, next}
 use Rattle.sheet_codec.proofs.Fields.{Judges, FieldsOf, Any, ends, same, has, map, then, last, meets-here}
 use Rattle.sheet_codec.proofs.Leaves.{byte-field, numbered-field, flag-field, no-level, any-tag-refuses, object-tag-refuses, any-tag, string-tag, object-tag}
 use Rattle.sheet_codec.proofs.Numbers.{free-field, count-field}
-use Rattle.sheet_codec.proofs.Sequences.{text-fields, optional-fields, span-fields, Adds, many-fields}
+use Rattle.sheet_codec.proofs.Sequences.{text-fields, optional-fields, span-fields, string-fields, Adds, many-fields}
 
 -- one of a list of decoders, by an index below its length
 module _ {A : Type 0} (P : ℕ → Decoder A → Type 0) (d : Decoder A) where
@@ -55,14 +56,9 @@ chosen {Has = Has} {ds = ds} b each long =
     same (by-byte ds (values b) long) (then (byte-field b) (λ i l. at-index (λ i d. Judges d (λ x m. Has x (aByte b i ∷ m))) (refuse 3) each i (rw long l)))
 
 module _ (source : List ℕ) where
-  string-text-fields : (sp : Span) → FieldsOf (stringText source sp) Any (shortText Wtf8)
-  unfolding stringText
-  string-text-fields sp = text-fields textLength Wtf8
-
   quoted-fields : (levels : ℕ) → FieldsOf (quoted source levels) Any (quotedFields source levels)
   unfolding quoted
-  quoted-fields levels =
-      then (string-tag levels) (λ t e. then (span-fields source) (λ sp a. last (λ x. record { span = sp; text = x }) (string-text-fields sp) (λ x b. (tt, rw e))))
+  quoted-fields levels = then (string-tag levels) (λ t e. string-fields source (λ sp x. record { span = sp; text = x }) (λ sp x. (tt, rw e)))
 
   pieces-fields : (n : ℕ) → FieldsOf (many [] piece n) (λ ps. length ps ≡ n) (flatMap (optionalFields (shortText Wtf8)))
   unfolding piece flatMap
@@ -168,11 +164,14 @@ module _ (source : List ℕ) where
           by true = then flag-field (λ typeOnly a. then flag-field (λ export b. last (λ x. importRequire sp typeOnly export x) (quoted-fields d) (λ x c. (tt, refl))))
           by false = ends (importEquals sp) (tt, refl)
 
-      tag-fields : (t : ℕ) → t < 13 → Behind t [] (fields source d inner inner′ sp t)
-      unfolding fields otherFields stringFields nameFields templateFields binaryFields objectFields importFields exportAllFields importTypeFields moduleFields nodeFields
-      tag-fields = at-index (λ t. Behind t []) (refuse 3)
-          (next (then free-field (λ n a. last (λ ns. other sp ns) (nodes-fields n) (λ ns e. (tt, rw e))))
-          (next (last (λ x. string sp x) (string-text-fields sp) (λ x a. (tt, refl)))
+      -- where it is no String
+      tag-fields : (t : ℕ) → t < 13 → (t ≡ 1 → ⊥) → Behind t [] (fields source d inner inner′ sp t)
+      unfolding fields otherFields nameFields templateFields binaryFields objectFields importFields exportAllFields importTypeFields moduleFields nodeFields
+      tag-fields zero l h = then free-field (λ n a. last (λ ns. other sp ns) (nodes-fields n) (λ ns e. (tt, rw e)))
+      tag-fields (suc zero) l h = absurd (h refl)
+      tag-fields (suc (suc t)) l h =
+          let back : t + 2 ≡ suc (suc t) = omega arith in
+          rw back at (from-index (λ t. Behind t []) (refuse 3) {k = 2}
           (next (last (λ x. name sp x) (text-fields textLength Utf8) (λ x a. (tt, refl)))
           (next (then free-field (λ n a. then (pieces-fields (n + 1)) (λ ps b. last (λ ns. template sp ps ns) (nodes-fields n) (λ ns e. (tt, rw e)))))
           (next (then flag-field (λ plus a. then k (λ l b. last (λ r. binary sp plus l r) k (λ r c. (tt, refl)))))
@@ -185,7 +184,16 @@ module _ (source : List ℕ) where
           (next (then (quoted-fields d) (λ x a. then free-field (λ n b. last (λ p. importType sp x (p .0) (p .1)) (type-fields n) (λ p e. (tt, rw e)))))
           (next equals-fields
           (next (then (optional-fields (quoted-fields d)) (λ x a. then free-field (λ n b. last (λ ns. moduleDecl sp x ns) (nodes-fields n) (λ ns e. (tt, rw e)))))
-          done)))))))))))))
+          done)))))))))))
+          t (omega arith))
+
+    -- what follows a tag
+    any-fields : {inner′ : Decoder Attributes} → Judges inner′ (λ a l. aFlag true ∷ l ≡ attributesFields source a d) → (t : ℕ) → t < 13
+        → Judges (span source >>= λ sp. fields source d inner inner′ sp t) (λ n l. Unit {0} × (aTag anyNode (suc d) t ∷ l ≡ nodeFields source n (suc d)))
+    unfolding fields stringFields nodeFields
+    any-fields k′ zero l = then (span-fields source) (λ sp a. tag-fields k′ sp zero l (λ e. omega arith))
+    any-fields k′ (suc zero) l = string-fields source string (λ sp x. (tt, refl))
+    any-fields k′ (suc (suc t)) l = then (span-fields source) (λ sp a. tag-fields k′ sp (suc (suc t)) l (λ e. omega arith))
 
   -- where no level is left: refused at the tag
   nowhere : Span
@@ -218,7 +226,7 @@ module _ (source : List ℕ) where
 
     pub node-fields : (levels : ℕ) → FieldsOf (node source levels) Any (λ n. nodeFields source n levels)
     node-fields zero = no-node
-    node-fields (suc d) = then (any-tag (suc d)) (λ t l. then (span-fields source) (λ sp a. tag-fields d (node-fields d) (object-fields d) sp t l))
+    node-fields (suc d) = then (any-tag (suc d)) (λ t l. any-fields d (node-fields d) (object-fields d) t l)
 
     object-fields : (levels : ℕ) → Judges (attributesObject source levels) (λ a l. aFlag true ∷ l ≡ attributesFields source a levels)
     object-fields zero = no-object

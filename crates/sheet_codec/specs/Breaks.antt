@@ -1,4 +1,4 @@
--- Refusals 2 to 7 as document 01 states them, each of the bytes from a field on; and how they are judged, at each field from the front.
+-- Refusals 2 to 7 and 13 as document 01 states them, each of the bytes from a field on; and how they are judged, at each field from the front.
 use mathlib.Core.Path.{_≡_}
 use mathlib.Core.Logic.{_⊎_}
 use mathlib.Core.List.{List, [], _∷_, _++_, flatMap}
@@ -16,8 +16,9 @@ use Rattle.sheet.specs.declared.names.CommentKind.{CommentKind}
 use Rattle.sheet.specs.declared.names.Side.{Side}
 use Rattle.sheet.specs.Names.{sideNumber}
 use Rattle.sheet.specs.Comments.{opening, closing, slice}
+use Rattle.sheet.specs.Quotation.{Quotation}
 use Rattle.sheet.specs.Fit.{HeldBySome}
-use Rattle.sheet_codec.specs.Field.{Byte, values, Count, limit, Position, end, commentStart, commentEnd, groupPosition, Number, limited, position, groupCount, Place, anyNode, aString, anObject, Field, byte, tag, number, text, everyComment, Entry}
+use Rattle.sheet_codec.specs.Field.{Byte, values, Count, limit, Position, end, stringEnd, commentStart, commentEnd, groupPosition, Number, limited, position, groupCount, Place, anyNode, aString, anObject, Field, byte, tag, number, text, everyComment, Entry}
 
 -- a number that is not too large stands in front, in its shortest form
 pub record Shows (u : List ℕ) (n : ℕ) : Type 0 where
@@ -39,6 +40,7 @@ pub data Wrong : Number → ℕ → ℕ → Type 0 where
   outside : {source : List ℕ} {at : Position} {n : ℕ} → (Boundary source n → ⊥) → Wrong (position source at) n refusals.position
   -- or an end precedes its start
   reversed : {source : List ℕ} {start n : ℕ} → n < start → Wrong (position source (end start)) n refusals.position
+  stringReversed : {source : List ℕ} {start n : ℕ} → n < start → Wrong (position source (stringEnd start)) n refusals.position
   commentReversed : {source : List ℕ} {kind : CommentKind} {start n : ℕ} → n < start → Wrong (position source (commentEnd kind start)) n refusals.position
   -- 7. A comment starts before the last one's end
   early : {source : List ℕ} {last n : ℕ} → n < last → Wrong (position source (commentStart last)) n refusals.comments
@@ -51,6 +53,8 @@ pub data Wrong : Number → ℕ → ℕ → Type 0 where
   -- has count 0, or reaches past the comments
   empty : {total first n : ℕ} → n ≡ 0 → Wrong (groupCount total first) n refusals.comments
   beyond : {total first n : ℕ} → total < first + n → Wrong (groupCount total first) n refusals.comments
+  -- 13. A String does not begin and end with the same mark
+  unquoted : {source : List ℕ} {start n : ℕ} → (Quotation (slice source (record { start = start; end = n })) → ⊥) → Wrong (position source (stringEnd start)) n refusals.quotation
 
 -- the bytes u from a field on are refused at it
 pub data Breaks : Field → List ℕ → ℕ → Type 0 where
@@ -66,7 +70,7 @@ pub data Breaks : Field → List ℕ → ℕ → Type 0 where
   tooDeep : {place : Place} {levels : ℕ} {u : List ℕ} → levels ≡ 0 → Breaks (tag place levels) u refusals.limit
   -- 5. A text is not well-formed
   illFormed : {e : Encoding} {n : ℕ} {u : List ℕ} (x rest : List ℕ) → u ≡ x ++ rest → length x ≡ n → (WellFormed e x → ⊥) → Breaks (text e n) u refusals.text
-  -- 4, 6 and 7 of a number
+  -- 4, 6, 7 and 13 of a number
   wrong : {f : Number} {u : List ℕ} {n r : ℕ} → Shows u n → Wrong f n r → Breaks (number f) u r
   -- 7. A comment is in no group
   alone : {gs : List Group} {n : ℕ} {u : List ℕ} (i : ℕ) → i < n → (HeldBySome gs i → ⊥) → Breaks (everyComment gs n) u refusals.comments

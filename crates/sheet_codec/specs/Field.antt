@@ -38,6 +38,7 @@ limit properties = propertyLimit
 pub data Position : Type 0 where
   start : Position  -- of a node, an argument, the program or its first item
   end : ℕ → Position  -- with the start
+  stringEnd : ℕ → Position  -- of a String, with its start
   commentStart : ℕ → Position  -- with the end of the comment before, 0 for the first
   commentEnd : CommentKind → ℕ → Position  -- with its kind and its start
   groupPosition : Option Group → Side → Position  -- with the group before, if there is one, and its side

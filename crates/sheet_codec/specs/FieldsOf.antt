@@ -19,7 +19,7 @@ use Rattle.sheet.specs.Tree.{Quoted, Node, other, string, name, template, binar
 use Rattle.sheet.specs.Sheet.{Sheet}
 use Rattle.sheet_codec.specs.Encode.{nodesIn, argumentsIn, propertiesIn}
 use Rattle.sheet_codec.specs.Limits.{under}
-use Rattle.sheet_codec.specs.Field.{Byte, media, kind, side, flag, phase, callee, property, key, Count, sourceLength, textLength, comments, groups, properties, start, end, commentStart, commentEnd, groupPosition, Number, limited, free, position, groupCount, Place, anyNode, aString, anObject, byte, tag, number, text, everyComment, Entry}
+use Rattle.sheet_codec.specs.Field.{Byte, media, kind, side, flag, phase, callee, property, key, Count, sourceLength, textLength, comments, groups, properties, start, end, stringEnd, commentStart, commentEnd, groupPosition, Number, limited, free, position, groupCount, Place, anyNode, aString, anObject, byte, tag, number, text, everyComment, Entry}
 
 abbrev pub aByte : Byte → ℕ → Entry
 aByte b x = record { field = byte b; bytes = x ∷ [] }
@@ -81,7 +81,7 @@ module _ (source : List ℕ) where
 
   -- a String behind its tag: start, end, text
   abbrev pub stringFields : Span → List ℕ → List Entry
-  stringFields sp x = spanFields sp ++ shortText Wtf8 x
+  stringFields sp x = aNumber (position source start) (sp .start) ∷ aNumber (position source (stringEnd (sp .start))) (sp .end) ∷ shortText Wtf8 x
 
   -- one that another node holds, where so many levels are left
   abbrev pub quotedFields : ℕ → Quoted → List Entry

@@ -11,6 +11,8 @@ use Rattle.text.specs.Position.{Boundary}
 use Rattle.wire.specs.Number.{largest}
 use Rattle.sheet.specs.Limits.{sheetLimit, sourceLimit, textLimit, commentLimit, groupLimit, depthLimit, propertyLimit}
 use Rattle.sheet.specs.declared.fields.Span.{Span}
+use Rattle.sheet.specs.Comments.{slice}
+use Rattle.sheet.specs.Quotation.{Quotation}
 use Rattle.sheet.specs.Fit.{Fit, Grouped, groupOf, HeldBySome}
 use Rattle.sheet.specs.Program.{Program}
 use Rattle.sheet.specs.Tree.{Quoted, Node, other, string, name, template, binary, object, importCall, call, importDecl, namedExport, exportFrom, exportAll, importType, importEquals, importRequire, moduleDecl, Nodes, none, more, Arguments, noArguments, argument, Properties, noProperties, spread, otherProperty, childKey, stringKey, nameKey, Attributes, without, withObject}
@@ -42,9 +44,10 @@ abbrev pub under : ℕ → ℕ
 under zero = zero
 under (suc d) = d
 
--- a String: WTF-8 of at most 4,096 bytes
+-- a String: at least two bytes of the source, which begin and end with the same mark, and WTF-8 of at most 4,096 bytes
 pub record StringFits (source : List ℕ) (levels : ℕ) (sp : Span) (x : List ℕ) : Type 0 where
   pub place : PlaceFits source levels sp
+  pub quotation : Quotation (slice source sp)
   pub text : TextFits Wtf8 textLimit x
 
 -- one that another node holds

@@ -1,4 +1,4 @@
--- What a refusal says of the bytes s, without a decoder: 1 by their number, 2 to 7 at a field, 8 behind a sheet. Refusal 9 is `Uncooked` (SheetOf).
+-- What a refusal says of the bytes s, without a decoder: 1 by their number, 2 to 7 and 13 at a field, 8 behind a sheet. Refusal 9 is `Uncooked` (SheetOf).
 use mathlib.Core.Path.{_≡_}
 use mathlib.Core.List.{List, _∷_, _++_, flatMap}
 use Prim.Native.Nat.{ℕ, _≤_, _<_}
@@ -14,7 +14,7 @@ use Rattle.sheet_codec.specs.FieldsOf.{fieldsOf}
 abbrev pub TooLong : List ℕ → Type 0
 TooLong s = sheetLimit < length s
 
--- 2 to 7. The refusal is met at a field of some sheet, which goes on from the fields before it in any way
+-- 2 to 7, and 13. The refusal is met at a field of some sheet, which goes on from the fields before it in any way
 pub record MetAtField (s : List ℕ) (r : ℕ) : Type 0 where
   pub sheet : Sheet
   pub its-bytes : flatMap bytesOf (fieldsOf sheet) ≡ encodeSheet sheet

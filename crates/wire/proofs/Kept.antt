@@ -49,6 +49,10 @@ pub seven : AtField refusals.comments
 unfolding oneOf
 seven = refl
 
+pub thirteen : AtField refusals.quotation
+unfolding oneOf
+thirteen = refl
+
 -- a number refuses by 2 alone
 module _ {P : (A : Type 0) → Decoder A → Type 0} {N : ℕ → Type 0} (kept : Kept P N) (two : N refusals.cutOff) (a-byte : P ℕ byte) where
   last-kept : (scale low b : ℕ) → P ℕ (lastGroup scale low b)

@@ -44,9 +44,13 @@ uncooked = 9
 abbrev pub buffer : ℕ
 buffer = 10
 
+-- a String's span has fewer than two bytes, or does not begin and end with the same mark, `"` or `'`
+abbrev pub quotation : ℕ
+quotation = 13
+
 -- those that are judged at a field
 abbrev pub atFields : List ℕ
-atFields = cutOff ∷ byte ∷ limit ∷ text ∷ position ∷ comments ∷ []
+atFields = cutOff ∷ byte ∷ limit ∷ text ∷ position ∷ comments ∷ quotation ∷ []
 
 -- those of a sheet
 abbrev pub ofSheets : List ℕ

@@ -29,3 +29,6 @@ pub const UNCOOKED: usize = 9;
 
 // The report is longer than the buffer. No reader refuses so: a byte, as an outcome holds it.
 pub const BUFFER: u8 = 10;
+
+// A String's span has fewer than two bytes, or does not begin and end with the same mark, `"` or `'`.
+pub const QUOTATION: usize = 13;

@@ -13,7 +13,7 @@ use deno_graph::ast::ParserModuleAnalyzer;
 /// In place of a refusal's number: the sheet is left out, since the crate's answer cannot be compared. No sheet is left out today.
 pub const LEFT_OUT: u8 = 255;
 
-/// The module's information, or the refusal (1 to 9), or `LEFT_OUT`. Of no bytes it is the crate's own default.
+/// The module's information, or the refusal (1 to 9, or 13), or `LEFT_OUT`. Of no bytes it is the crate's own default.
 pub fn module_info(bytes: &[u8]) -> Result<ModuleInfo, u8> {
     if bytes.is_empty() {
         return Ok(ModuleInfo::default());

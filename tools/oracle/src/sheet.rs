@@ -1,4 +1,4 @@
-//! A decoder of sheets, written from document 01: refusals 1 to 8 in checking order, the stand-in tree, and refusal 9 over it.
+//! A decoder of sheets, written from document 01: refusals 1 to 8 and 13 in checking order, the stand-in tree, and refusal 9 over it.
 
 use deno_ast::swc::ast::*;
 use deno_ast::swc::atoms::{Atom, Wtf8Atom};
@@ -187,7 +187,7 @@ impl<'a> Reader<'a> {
         let inner = depth + 1;
         Ok(match tag {
             0 => Expr::Other(self.nodes(inner)?),
-            1 => Expr::Lit(Lit::Str(Str { span, value: self.wtf8()? })),
+            1 => Expr::Lit(Lit::Str(self.quoted(span)?)),
             2 => Expr::Ident(Ident { sym: Atom(self.utf8(MAX_TEXT)?) }),
             3 => {
                 let holes = self.number()?;
@@ -295,6 +295,14 @@ impl<'a> Reader<'a> {
 
     fn string(&mut self, depth: usize) -> Read<Str> {
         let span = self.only(1, depth)?;
+        self.quoted(span)
+    }
+
+    /// What follows the span of a String, which is at least two bytes of the source and begins and ends with the same mark.
+    fn quoted(&mut self, span: SourceRange) -> Read<Str> {
+        let place = &self.source.as_bytes()[span.start.0..span.end.0];
+        let mark = place.first().copied();
+        require(place.len() >= 2 && matches!(mark, Some(b'"' | b'\'')) && mark == place.last().copied(), 13)?;
         Ok(Str { span, value: self.wtf8()? })
     }
 

@@ -5,6 +5,7 @@ use Rattle.wire.specs.code.Views.{readAs}
 use Rattle.sheet.specs.code.Views.{spanAs}
 use Rattle.heads.specs.code.Views.{fieldsAs}
 use Rattle.heads.specs.code.Head.{head}
+use Rattle.sheet.proofs.Judged.{span-part}
 use Rattle.heads.proofs.node.read_head.Statement.{statement}
 use Rattle.heads.proofs.node.read_head.Tie as tie
 
@@ -12,6 +13,11 @@ sub-read-fields : tie.Need-sub-read-fields
 sub-read-fields c =
     let p1 = rw (c .before .before .before .before .before .tag .given .1) at (c .before .before .before .before .before .before .before .read-tag .ensures .1) in
     p1 .0
+
+read-fields-requires : tie.Need-read-fields-requires
+read-fields-requires c κs =
+    let s = now (c .before .before .before .before .before .before .before .before .before .before .args .sheet) in
+    span-part _ _ (seen (spanAs s) (c .before .before .before .read-span .ensures .0) (c .before .span .given .1))
 
 returns : tie.Need-returns
 unfolding head
@@ -51,7 +57,7 @@ read-head-spec =
     (λ c. search needs)
     (λ c. search needs)
     sub-read-fields
-    (λ c κs. search needs)
+    read-fields-requires
     (λ c. search needs)
     (λ c. search needs)
     returns

@@ -4,8 +4,14 @@ use Rattle.laws.proofs.Steps.{seen}
 use Rattle.wire.specs.code.Views.{readAs, textAs}
 use Rattle.sheet.specs.code.Views.{spanAs}
 use Rattle.sheet.specs.Nodes.{quoted}
+use Rattle.sheet.proofs.Judged.{span-part}
 use Rattle.heads.proofs.quoted.read_quoted.Statement.{statement}
 use Rattle.heads.proofs.quoted.read_quoted.Tie as tie
+
+read-string-text-requires : tie.Need-read-string-text-requires
+read-string-text-requires c κs =
+    let s = now (c .before .before .before .before .before .before .before .before .before .before .args .sheet) in
+    span-part _ _ (seen (spanAs s) (c .before .before .before .read-span .ensures .0) (c .before .span .given .1))
 
 returns : tie.Need-returns
 unfolding quoted
@@ -44,7 +50,7 @@ read-quoted-spec =
     (λ c κs. search needs)
     (λ c. search needs)
     (λ c. search needs)
-    (λ c κs. search needs)
+    read-string-text-requires
     (λ c. search needs)
     (λ c. search needs)
     returns

@@ -1,11 +1,18 @@
 use borrow.Author.Needs.{needs}
+use Rattle.laws.proofs.Steps.{known}
 use Rattle.sheet.specs.Nodes.{stringText}
 use Rattle.heads.proofs.quoted.read_string_text.Statement.{statement}
 use Rattle.heads.proofs.quoted.read_string_text.Tie as tie
 
 returns : tie.Need-returns
 unfolding stringText
-returns c = (c .text .ensures .0, c .text .ensures .1)
+returns c = (rw (known (c .before .before .looks-quoted .ensures) (c .before .if1 .taken)) (c .text .ensures .0), c .text .ensures .1)
+
+returns-2 : tie.Need-returns-2
+unfolding stringText
+returns-2 c = (rw (known (c .before .looks-quoted .ensures) (c .if1 .left)), tt)
 
 pub read-string-text-spec : {M : Type 1} → statement M
-read-string-text-spec = tie.close (tie.spec (λ c κs. search needs) returns)
+read-string-text-spec =
+    tie.close
+    (tie.spec (λ c. search needs) (λ c. search needs) (λ c. search needs) (λ c κs. search needs) (λ c κs. search needs) returns returns-2)

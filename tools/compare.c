@@ -1,7 +1,7 @@
 /* compare SHEETS ANSWERS KINDS FILE [KIND]...
  * Runs the linked library and tools/second.rs on every sheet of a batch and compares them with each other and with ANSWERS, those of
  * tools/oracle: the library with lent buffers of several sizes, by number, length and every byte of the buffer. Where the oracle leaves a
- * sheet out, the library is compared with second. Prints by kind how many sheets were accepted, refused with each number and left out, and
+ * sheet out, the library is compared with second, and each text that second has from a comment must stand between its positions. Prints by kind how many sheets were accepted, refused with each number and left out, and
  * the shortest sheet that differs, which is also written to FILE.
  * The status is 1 if a sheet differs, or if one of the kinds named has no accepted sheet or one with a String that is not quoted.
  * The buffer is full of other bytes before each call; sheet and buffer each end at a page that must not be touched.
@@ -21,6 +21,7 @@
 uint64_t module_info_answer(const uint8_t *sheet, size_t n, uint8_t *buffer, size_t m);
 #endif
 uint64_t second_answer(const uint8_t *sheet, size_t n, uint8_t *buffer, size_t m);
+bool second_shows(const uint8_t *sheet, size_t n, const uint8_t *report, size_t m);
 
 #define ROOM ((size_t)1 << 20)
 #define LARGE 65536
@@ -196,7 +197,7 @@ static void print_shortest(const char *file) {
 
 /* ---- the batch ---- */
 
-static unsigned long differ, second_and_oracle, library_and_oracle, library_and_second;
+static unsigned long differ, not_shown, second_and_oracle, library_and_oracle, library_and_second;
 
 /* What differs among the three answers to a sheet, or NULL. */
 static const char *compared(const uint8_t *sheet, size_t n, struct answer oracle, struct answer second) {
@@ -206,6 +207,10 @@ static const char *compared(const uint8_t *sheet, size_t n, struct answer oracle
     if (!left_out && !same(oracle, second)) {
         second_and_oracle++;
         found = "second and the oracle differ";
+    }
+    if (left_out && !second_shows(sheet, n, second.report, second.length)) {
+        not_shown++;
+        found = "a text does not stand between its positions";
     }
 #ifdef LIBRARY
     const char *of_library = left_out ? NULL : library_differs(sheet, n, oracle);
@@ -234,7 +239,7 @@ static bool kinds_are_there(char **names, int count) {
     bool all = true;
     for (int i = 0; i < count; i++) {
         struct kind *k = kind_of(names[i]);
-        if (!k->numbers[0]) {
+        if (!k->numbers[0] && !k->numbers[LEFT_OUT]) {
             printf("of kind %s no sheet is accepted\n", names[i]);
             all = false;
         }
@@ -291,6 +296,7 @@ int main(int argc, char **argv) {
     print_kinds();
     if (differ) print_shortest(argv[4]);
     printf("second and oracle: %lu sheets differ\n", second_and_oracle);
+    printf("left out, with a text that does not stand between its positions: %lu sheets\n", not_shown);
 #ifdef LIBRARY
     printf("library and oracle: %lu sheets differ\nlibrary and second: %lu sheets differ\n", library_and_oracle, library_and_second);
     printf("%lu sheets, %lu calls, %lu sheets differ\n", total, calls, differ);

@@ -12,6 +12,8 @@
 //   token behind it. Behind the last token they trail it. With no token and no shebang they lead the end of the source, which is then the program.
 // - The tree is flattened: of what is no dependency only the dependencies inside it are left, as children of the next node above. Arguments
 //   of calls stand in full.
+// - HTML-like comments of a script (`<!--` anywhere, `-->` where only white space and comments stand before it on its line) are kept; the parser reads
+//   them as operators, so they are blanked and it parses again. A module has none: there they stay operators.
 // - `with` attributes and the phases of imports are newer than the parser: the exporter reads them itself, blanks them and parses again.
 'use strict';
 const fs = require('fs');
@@ -95,15 +97,47 @@ function byteOffsets(text) {
 
 const blank = (text, from, to) => text.slice(0, from) + text.slice(from, to).replace(/[^\r\n\u2028\u2029]/g, ' ') + text.slice(to);
 
-// The source file, and what was read beside it: the object behind `with` by the end of the text in front of it, the phase by the start of `import`.
+// The source file, and what was read beside it: the object behind `with` by the end of the text in front of it, the phase by the start of `import`,
+// the HTML-like comments by their start. A script may have these: what is a module without them is parsed as one.
 function parse(name, text) {
+  let script;
+  try {
+    script = parseAs(name, text, true);
+  } catch (e) {
+    if (!(e instanceof Refused)) throw e;
+  }
+  return script && (script.html.size === 0 || isScript(script.file)) ? script : parseAs(name, text, false);
+}
+
+// the first HTML-like comment that a token of the parse begins
+function htmlComment(file, text) {
+  for (const { start } of tokensOf(file)) {
+    const opens = text.startsWith('<!--', start);
+    if (!opens && !text.startsWith('-->', start)) continue;
+    const front = text.slice(0, start).replace(/\/\*[^]*?\*\//g, (c) => c.replace(/[^\r\n\u2028\u2029]/g, ' '));
+    if (!opens && !/(^|[\r\n\u2028\u2029])\s*$/.test(front)) continue;
+    let end = start;
+    while (end < text.length && !isBreak(text[end])) end++;
+    return { kind: opens ? 2 : 3, start, end };
+  }
+  return undefined;
+}
+
+function parseAs(name, text, asScript) {
   const script = /\.[cm]?ts$/.test(name) ? ts.ScriptKind.TS : name.endsWith('.tsx') ? ts.ScriptKind.TSX : ts.ScriptKind.JSX;
   const objects = new Map();
   const phases = new Map();
+  const html = new Map();
   let masked = text;
   for (;;) {
     const file = ts.createSourceFile(name, masked, ts.ScriptTarget.Latest, true, script);
-    if (file.parseDiagnostics.length === 0) return { file, objects, phases };
+    const comment = asScript && htmlComment(file, masked);
+    if (comment) {
+      html.set(comment.start, comment);
+      masked = blank(masked, comment.start, comment.end);
+      continue;
+    }
+    if (file.parseDiagnostics.length === 0) return { file, objects, phases, html };
     const next = mask(file, masked, text, objects, phases);
     if (next === masked) {
       const d = file.parseDiagnostics[0];
@@ -193,12 +227,15 @@ function tokensOf(file) {
 const isBreak = (c) => c === '\n' || c === '\r' || c === '\u2028' || c === '\u2029';
 
 // the comments of a part of the source between two tokens
-function commentsIn(text, from, to) {
+function commentsIn(text, from, to, html) {
   const found = [];
   let newline = false;
   for (let i = from; i < to; ) {
     const line = text.startsWith('//', i);
-    if (line || text.startsWith('/*', i)) {
+    if (html.has(i)) {
+      found.push({ ...html.get(i), newline });
+      i = html.get(i).end;
+    } else if (line || text.startsWith('/*', i)) {
       let end = i;
       if (line) while (end < text.length && !isBreak(text[end])) end++;
       else end = text.indexOf('*/', i + 2) + 2;
@@ -226,18 +263,18 @@ const TRAILED = new Set([
 ]);
 
 // comments with the side and the position of their group
-function readComments(text, file, shebangEnd) {
+function readComments(text, file, shebangEnd, html) {
   const tokens = tokensOf(file);
   const comments = [];
   let last = shebangEnd > 0 ? { kind: K.ShebangTrivia, start: 0, end: shebangEnd } : undefined;
   for (let i = 0; i <= tokens.length; i++) {
     const next = tokens[i];
     const to = next ? next.start : text.length;
-    for (const c of commentsIn(text, last ? last.end : 0, to)) {
+    for (const c of commentsIn(text, last ? last.end : 0, to, html)) {
       let trails = false;
       if (last && last.kind !== K.ShebangTrivia) {
-        trails = !c.newline && (c.kind === 0 ? !BINARY.has(last.kind) : TRAILED.has(last.kind));
-        if (c.kind === 1 && next && next.kind === K.SemicolonToken && commentsIn(text, c.end, to).length === 0) trails = true;
+        trails = !c.newline && (c.kind === 1 ? TRAILED.has(last.kind) : !BINARY.has(last.kind));
+        if (c.kind === 1 && next && next.kind === K.SemicolonToken && commentsIn(text, c.end, to, html).length === 0) trails = true;
       }
       if (!next && last) trails = true;
       comments.push({ ...c, side: trails ? 1 : 0, position: trails ? last.end : to });
@@ -558,9 +595,9 @@ function sheetOf(name) {
   }
   const offsets = byteOffsets(text);
   if (offsets[text.length] > LIMITS.source) refuse(`the source has ${offsets[text.length]} bytes, more than ${LIMITS.source}`);
-  const { file, objects, phases } = parse(name, text);
+  const { file, objects, phases, html } = parse(name, text);
   const shebang = ts.getShebang(text) || '';
-  const { comments, tokens, last } = readComments(text, file, shebang.length);
+  const { comments, tokens, last } = readComments(text, file, shebang.length, html);
   if (comments.length > LIMITS.comments) refuse(`more than ${LIMITS.comments} comments`);
 
   const w = new SheetWriter(text, offsets);

@@ -330,6 +330,8 @@ struct Style {
     nodes: usize,
     javascript: bool,
     jsdoc: bool,
+    /// Line comments are often HTML-like ones.
+    html: bool,
     /// Percentages: a mutated body, an uncooked piece.
     near: usize,
     uncooked: usize,
@@ -413,10 +415,16 @@ impl Maker<'_> {
             }
             let b = body(self.r, style.jsdoc, style.near);
             let start = self.source.len();
-            let line = !style.jsdoc && (b.starts_with('/') || self.r.percent(30));
-            self.source += &if line { format!("//{b}") } else { format!("/*{b}*/") };
+            let line = !style.jsdoc && (b.starts_with('/') || self.r.percent(if style.html { 70 } else { 30 }));
+            let kind = match (line, style.html) {
+                (true, true) => self.r.pick(&[0, 2, 3]),
+                (true, false) => 0,
+                (false, _) => 1,
+            };
+            let (opening, closing) = [("//", ""), ("/*", "*/"), ("<!--", ""), ("-->", "")][usize::from(kind)];
+            self.source += &format!("{opening}{b}{closing}");
             let end = self.source.len();
-            comments.push((u8::from(!line), start, end));
+            comments.push((kind, start, end));
             self.places.push(start);
             self.places.push(end);
             if line || self.r.percent(30) {
@@ -1176,11 +1184,12 @@ fn damaged(r: &mut Rng, kind: &str, mut s: Vec<u8>, other: &[u8]) -> Vec<u8> {
 }
 
 fn well_formed(r: &mut Rng, kind: &str) -> Vec<u8> {
-    let mut style = Style { comments: 8, nodes: 80, javascript: false, jsdoc: false, near: 15, uncooked: 0 };
+    let mut style = Style { comments: 8, nodes: 80, javascript: false, jsdoc: false, html: false, near: 15, uncooked: 0 };
     match kind {
         "small" => (style.comments, style.nodes) = (1, 4),
         "comments" => (style.comments, style.nodes) = (16, 8),
         "jsdoc" => (style.comments, style.nodes, style.javascript, style.jsdoc) = (5, 3, true, true),
+        "html" => (style.comments, style.nodes, style.html, style.near) = (8, 30, true, 30),
         "near" => (style.comments, style.nodes, style.near) = (8, 8, 100),
         "tree" => (style.comments, style.nodes) = (3, 300),
         "uncooked" => (style.comments, style.nodes, style.uncooked) = (2, 60, 40),
@@ -1197,12 +1206,12 @@ fn well_formed(r: &mut Rng, kind: &str) -> Vec<u8> {
 }
 
 /// The kinds whose sheets meet none of refusals 1 to 9 and 13.
-const WELL_FORMED: [&str; 9] = ["small", "empty", "rich", "comments", "jsdoc", "near", "tree", "letters", "long"];
+const WELL_FORMED: [&str; 10] = ["small", "empty", "rich", "comments", "html", "jsdoc", "near", "tree", "letters", "long"];
 
 /// How many sheets are of each kind, among as many as the numbers make together.
 #[rustfmt::skip]
-const KINDS: [(&str, usize); 21] = [
-    ("small", 145), ("empty", 5), ("text", 20), ("string", 20), ("order", 10), ("rich", 200), ("comments", 130), ("jsdoc", 180), ("near", 130), ("tree", 120), ("letters", 20), ("uncooked", 20), ("long", 2),
+const KINDS: [(&str, usize); 22] = [
+    ("small", 145), ("empty", 5), ("text", 20), ("string", 20), ("order", 10), ("rich", 200), ("comments", 130), ("html", 80), ("jsdoc", 180), ("near", 130), ("tree", 120), ("letters", 20), ("uncooked", 20), ("long", 2),
     ("flip", 40), ("cut", 30), ("insert", 30), ("delete", 30), ("splice", 30), ("number", 20), ("noise", 8), ("limit", 10),
 ];
 
@@ -1232,7 +1241,7 @@ fn make(seed: u64, index: u64) -> (&'static str, Vec<u8>) {
             (kind, (0..n).map(|_| if small { r.below(14) as u8 } else { r.next() as u8 }).collect())
         }
         "flip" | "cut" | "insert" | "delete" | "splice" | "number" => {
-            let from = r.pick(&["rich", "comments", "tree", "jsdoc", "uncooked"]);
+            let from = r.pick(&["rich", "comments", "html", "tree", "jsdoc", "uncooked"]);
             let s = well_formed(r, from);
             let other = well_formed(r, "rich");
             (kind, damaged(r, kind, s, &other))

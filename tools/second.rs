@@ -136,6 +136,7 @@ enum Property {
 struct Comment {
     block: bool,
     span: Span,
+    body: Span,
 }
 
 struct Sheet {
@@ -335,7 +336,12 @@ fn decode(bytes: &[u8]) -> Read<Sheet> {
     c.source = source;
     let mut comments: Vec<Comment> = Vec::new();
     for _ in 0..c.up_to(1024)? {
-        let block = c.among(2)? == 1;
+        let (opening, closing): (&[u8], &[u8]) = match c.among(4)? {
+            0 => (b"//", b""),
+            1 => (b"/*", b"*/"),
+            2 => (b"<!--", b""),
+            _ => (b"-->", b""),
+        };
         let start = c.position()?;
         if comments.last().is_some_and(|last| start < last.span.1) {
             return Err(7);
@@ -345,11 +351,11 @@ fn decode(bytes: &[u8]) -> Read<Sheet> {
             return Err(6);
         }
         let whole = &source[start..end];
-        let right = if block { whole.len() >= 4 && whole.starts_with(b"/*") && whole.ends_with(b"*/") } else { whole.starts_with(b"//") };
-        if !right {
+        if whole.len() < opening.len() + closing.len() || !whole.starts_with(opening) || !whole.ends_with(closing) {
             return Err(7);
         }
-        comments.push(Comment { block, span: (start, end) });
+        let body = (start + opening.len(), end - closing.len());
+        comments.push(Comment { block: !closing.is_empty(), span: (start, end), body });
     }
     let mut groups = BTreeMap::new();
     for _ in 0..c.up_to(1024)? {
@@ -698,10 +704,6 @@ impl Writer<'_> {
 }
 
 impl Sheet {
-    fn body(&self, c: &Comment) -> Span {
-        (c.span.0 + 2, c.span.1 - if c.block { 2 } else { 0 })
-    }
-
     fn group(&self, side: u8, position: usize) -> &[Comment] {
         self.groups.get(&(side, position)).map_or(&[], |g| &self.comments[g.0..g.1])
     }
@@ -716,7 +718,7 @@ impl Sheet {
 
     /// What a pattern captures in a comment; its first group may stand between marks, which then belong to the place.
     fn captured(&self, c: &Comment, steps: &[Step], anchored: bool, marks: bool) -> Option<Specifier> {
-        let (from, to) = self.body(c);
+        let (from, to) = c.body;
         let b = &self.source[from..to];
         let groups = reads(b, steps, anchored)?;
         let (range, around) = match groups[1] {
@@ -734,7 +736,7 @@ impl Sheet {
     fn references(&self, p: &Patterns, w: &mut Writer) {
         let mut found: Vec<(Specifier, Option<u8>)> = Vec::new();
         for c in self.head().iter().filter(|c| !c.block) {
-            let (from, to) = self.body(c);
+            let (from, to) = c.body;
             if reads(&self.source[from..to], &p.triple_slash, true).is_none() {
                 continue;
             }
@@ -756,7 +758,7 @@ impl Sheet {
     fn jsdoc(&self, w: &mut Writer) {
         let mut found: BTreeMap<usize, (Specifier, u8)> = BTreeMap::new();
         for c in self.comments.iter().filter(|c| c.block && self.media < 4) {
-            let (from, to) = self.body(c);
+            let (from, to) = c.body;
             let b = &self.source[from..to];
             if b.first() != Some(&b'*') {
                 continue;
@@ -1035,4 +1037,124 @@ pub unsafe extern "C" fn second_answer(sheet: *const u8, n: usize, buffer: *mut 
             256 * report.len() as u64
         }
     }
+}
+
+// ---- a report beside its source ----
+
+/// The rest of a report, and the source that its positions are in.
+struct Beside<'a> {
+    rest: &'a [u8],
+    source: &'a str,
+}
+
+impl Beside<'_> {
+    fn byte(&mut self) -> u8 {
+        let byte = self.rest[0];
+        self.rest = &self.rest[1..];
+        byte
+    }
+
+    fn number(&mut self) -> usize {
+        let byte = usize::from(self.byte());
+        if byte < 128 { byte } else { byte - 128 + 128 * self.number() }
+    }
+
+    fn text(&mut self) -> Vec<u8> {
+        let n = self.number();
+        let (text, rest) = self.rest.split_at(n);
+        self.rest = rest;
+        text.to_vec()
+    }
+
+    /// The byte at a line and a column, if the line is that long.
+    fn position(&mut self) -> Option<usize> {
+        let (line, column) = (self.number(), self.number());
+        let start: usize = self.source.split_inclusive('\n').take(line).map(str::len).sum();
+        let (at, _) = self.source[start..].char_indices().chain([(self.source.len() - start, '\n')]).nth(column)?;
+        Some(start + at)
+    }
+
+    /// A specifier; is its text what stands between its positions, alone or between two marks?
+    fn specifier(&mut self) -> bool {
+        let text = self.text();
+        let (Some(start), Some(end)) = (self.position(), self.position()) else { return false };
+        let place = &self.source.as_bytes()[start..end];
+        place == text || matches!(place, [b'"' | b'\'', inner @ .., b'"' | b'\''] if inner == text)
+    }
+
+    fn optional(&mut self) -> bool {
+        self.byte() == 0 || self.specifier()
+    }
+
+    fn attributes(&mut self) {
+        if self.byte() == 2 {
+            for _ in 0..self.number() {
+                self.text();
+                if self.byte() == 1 {
+                    self.text();
+                }
+            }
+        }
+    }
+
+    fn dependency(&mut self) -> bool {
+        let kind = self.byte();
+        let shown = self.optional();
+        if kind < 9 {
+            self.specifier();
+            self.byte();
+        } else {
+            match self.byte() {
+                0 => {}
+                1 => {
+                    self.text();
+                }
+                _ => {
+                    for _ in 0..self.number() {
+                        if self.byte() == 1 {
+                            self.text();
+                        }
+                    }
+                }
+            }
+            self.position();
+            self.position();
+        }
+        self.attributes();
+        shown
+    }
+
+    fn reference(&mut self) -> bool {
+        let types = self.byte() == 1;
+        let shown = self.specifier();
+        if types {
+            self.byte();
+        }
+        shown
+    }
+
+    fn all(&mut self, item: fn(&mut Self) -> bool) -> bool {
+        (0..self.number()).fold(true, |shown, _| item(self) && shown)
+    }
+
+    fn report(&mut self) -> bool {
+        self.byte();
+        let dependencies = self.all(Self::dependency);
+        let references = self.all(Self::reference);
+        let pragmas = (0..3).fold(true, |shown, _| self.optional() && shown);
+        let jsdoc = self.all(Self::reference);
+        dependencies && references && pragmas && jsdoc && self.optional() && self.rest.is_empty()
+    }
+}
+
+/// Whether each text that a report has from a comment stands in the source of its sheet between its positions.
+pub fn shows(sheet: &[u8], report: &[u8]) -> bool {
+    decode(sheet).is_ok_and(|sheet| Beside { rest: report, source: str::from_utf8(&sheet.source).expect("UTF-8") }.report())
+}
+
+/// # Safety
+/// `sheet` has `n` bytes to read, and `report` `m`.
+#[unsafe(no_mangle)]
+pub unsafe extern "C" fn second_shows(sheet: *const u8, n: usize, report: *const u8, m: usize) -> bool {
+    unsafe { shows(std::slice::from_raw_parts(sheet, n), std::slice::from_raw_parts(report, m)) }
 }

@@ -154,7 +154,7 @@ fn header(with_comments: bool) -> Fields {
     f.put("comment count", Sort::Limited(1024), vec![2]);
     for (name, kind, start, end) in [("comment 1", 0, 0, 4), ("comment 2", 1, 4, 8)] {
         f.inside(name, |f| {
-            f.flag("kind", kind);
+            f.byte("kind", 4, kind);
             f.span(start, end);
         });
     }

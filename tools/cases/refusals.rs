@@ -127,6 +127,15 @@ fn comments(c: &mut Cases) {
     case(7, "block, ends a byte early", "/*x*/", &[(1, 0, 4)]);
     case(7, "block, ends a byte late", "/**/x", &[(1, 0, 5)]);
     case(7, "block, a line's marks", "//*/", &[(1, 0, 4)]);
+    case(7, "HTML opening, no bytes", "<!--", &[(2, 0, 0)]);
+    case(7, "HTML opening, three bytes", "<!--", &[(2, 0, 3)]);
+    case(7, "HTML opening, its last byte", "<!-x", &[(2, 0, 4)]);
+    case(7, "HTML opening, the closing's marks", "-->x", &[(2, 0, 4)]);
+    case(7, "HTML opening, a line's marks", "//--", &[(2, 0, 4)]);
+    case(7, "HTML closing, two bytes", "-->", &[(3, 0, 2)]);
+    case(7, "HTML closing, its last byte", "--x", &[(3, 0, 3)]);
+    case(7, "HTML closing, the opening's marks", "<!--", &[(3, 0, 4)]);
+    case(7, "line, an HTML opening's marks", "<!--", &[(0, 0, 4)]);
     case(6, "end before its start, no marks", "xxxx", &[(0, 3, 1)]);
     case(6, "end past the source, no marks", "xx", &[(0, 0, 3)]);
     case(6, "end inside a character, no marks", "xé", &[(0, 0, 2)]);

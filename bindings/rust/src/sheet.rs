@@ -104,6 +104,10 @@ pub struct Comment {
 pub enum CommentKind {
     Line,
     Block,
+    /// From `<!--` to the end of its line: an HTML-like comment of ECMAScript's Annex B. It acts as a line comment.
+    HtmlOpen,
+    /// From `-->` to the end of its line, likewise.
+    HtmlClose,
 }
 
 #[derive(Debug, Clone, Copy, PartialEq, Eq)]

@@ -87,7 +87,12 @@ impl Reader<'_> {
 
     fn comments(&mut self) -> Comments {
         let all = self.list(|r| {
-            let kind = if r.flag() { CommentKind::Block } else { CommentKind::Line };
+            let kind = match r.byte() {
+                0 => CommentKind::Line,
+                1 => CommentKind::Block,
+                2 => CommentKind::HtmlOpen,
+                _ => CommentKind::HtmlClose,
+            };
             Comment { span: r.span(), kind }
         });
         let mut comments = Comments::default();

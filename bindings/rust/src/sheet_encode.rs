@@ -186,6 +186,8 @@ impl Writer<'_> {
         let is_marked = match comment.kind {
             CommentKind::Line => whole.starts_with("//"),
             CommentKind::Block => whole.strip_prefix("/*").is_some_and(|rest| rest.ends_with("*/")),
+            CommentKind::HtmlOpen => whole.starts_with("<!--"),
+            CommentKind::HtmlClose => whole.starts_with("-->"),
         };
         if is_marked { Ok(()) } else { Err(OutOfForm::Marks(comment.span)) }
     }

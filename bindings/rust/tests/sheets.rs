@@ -202,6 +202,29 @@ fn every_node() {
     assert_eq!(info.source_map_url.map(|s| s.text).as_deref(), Some("all.ts.map"));
 }
 
+/// HTML-like comments act as line comments, and positions in them are the source's.
+#[test]
+fn html_comments() {
+    let source = "<!--@ts-self-types='a'\n--># sourceMappingURL=b".to_string();
+    let end = source.len();
+    let span = Span::new(end, end);
+    let mut sheet = Sheet {
+        media: Media::JavaScript,
+        source,
+        comments: Comments::default(),
+        program: Program { is_script: true, span, has_shebang: false, first_item: None },
+        root: Node::Other { span, children: vec![] },
+    };
+    let open = Comment { kind: CommentKind::HtmlOpen, span: Span::new(0, 22) };
+    let close = Comment { kind: CommentKind::HtmlClose, span: Span::new(23, end) };
+    sheet.comments.leading.insert(end, vec![open]);
+    sheet.comments.trailing.insert(end, vec![close]);
+    let info = report(&sheet);
+    let at = |line, start, end| PositionRange { start: Position { line, character: start }, end: Position { line, character: end } };
+    assert_eq!(info.self_types_specifier, Some(SpecifierWithRange { text: "a".into(), range: at(0, 19, 22) }));
+    assert_eq!(info.source_map_url, Some(SpecifierWithRange { text: "b".into(), range: at(1, 22, 23) }));
+}
+
 /// A small sheet with a change.
 fn changed(change: impl FnOnce(&mut Sheet)) -> Result<Vec<u8>, OutOfForm> {
     let source = "/*é*/ f(/**/'a')//".to_string();
@@ -249,7 +272,9 @@ fn comments() {
     let first = |s: &mut Sheet, change: fn(&mut Comment)| s.comments.leading.values_mut().take(1).flatten().for_each(change);
     let marks = |start, end| OutOfForm::Marks(Span::new(start, end));
     assert_eq!(out(changed(|s| first(s, |c| c.span.start = 1))), marks(1, 6));
-    assert_eq!(out(changed(|s| first(s, |c| c.kind = CommentKind::Line))), marks(0, 6));
+    for kind in [CommentKind::Line, CommentKind::HtmlOpen, CommentKind::HtmlClose] {
+        assert_eq!(out(changed(|s| drop(s.comments.leading.insert(7, vec![Comment { kind, span: Span::new(0, 6) }])))), marks(0, 6));
+    }
     assert_eq!(out(changed(|s| first(s, |c| c.span = Span::new(9, 12)))), marks(9, 12)); // shorter than its marks
     assert_eq!(out(changed(|s| first(s, |c| c.span.end = 13))), OutOfForm::Overlap(Span::new(9, 13)));
     // the first and the last, without the one between them

@@ -3,7 +3,7 @@ use mathlib.Core.Path.{_≡_, refl}
 use mathlib.Core.Bool.{false}
 use mathlib.Core.List.{List, [], _∷_, _++_, map, flatMap}
 use mathlib.Core.Option.{Option}
-use Prim.Native.Nat.{ℕ}
+use Prim.Native.Nat.{ℕ, _+_}
 use Prim.Native.String.{String}
 use lib.ListN.{length}
 use Rattle.laws.specs.Quoted.{ascii}
@@ -22,8 +22,8 @@ use Rattle.jsdoc.specs.Listing.{listing}
 use Rattle.sheet.specs.declared.fields.Span.{Span}
 use Rattle.sheet.specs.declared.groups.Group.{Group}
 use Rattle.sheet.specs.declared.names.CommentKind.{CommentKind}
-use Rattle.sheet.specs.declared.names.CommentKind.the-variants.{Line, Block}
-use Rattle.sheet.specs.declared.names.MediaType.the-variants.{JavaScript}
+use Rattle.sheet.specs.declared.names.CommentKind.the-variants.{Line, Block, HtmlOpen, HtmlClose}
+use Rattle.sheet.specs.declared.names.MediaType.the-variants.{Jsx}
 use Rattle.sheet.specs.declared.names.Side.{Side}
 use Rattle.sheet.specs.declared.names.Side.the-variants.{Leading, Trailing}
 use Rattle.sheet.specs.Comments.{opening, closing}
@@ -31,8 +31,8 @@ use Rattle.sheet.specs.Lookups.{groupAt, headGroup, bodySpan}
 use Rattle.sheet.specs.Tree.{other, none}
 use Rattle.sheet.specs.Sheet.{Sheet}
 use Rattle.report.specs.ModuleInfo.{SpecifierWithRange, TypeScriptReference, path, JsDocImportInfo}
-use Rattle.pragmas.specs.Readings.{placeIn, specifierIn, readBy, lastOf, allOf}
-use Rattle.pragmas.specs.Pragmas.{headComments, endComments, reference, referencesIn, sourceMapUrlIn, tsOrDenoTypes, typesIn, typesAt}
+use Rattle.pragmas.specs.Readings.{placeIn, specifierIn, readBy, firstOf, lastOf, allOf}
+use Rattle.pragmas.specs.Pragmas.{headComments, endComments, reference, referencesIn, selfTypesIn, jsxImportSourceIn, sourceMapUrlIn, tsOrDenoTypes, typesIn, typesAt}
 use Rattle.listing.specs.Imports.{markedBy, markedByAll, importAt, importsFrom, jsdocImports}
 use Rattle.module_info.specs.Information.{moduleInfo}
 
@@ -43,11 +43,14 @@ specifier text from to = record { text = ascii text; range = record { start = re
 abbrev import : String → ℕ → ℕ → Mode → JsDocImportInfo
 import text from to mode = record { specifier = specifier text from to; mode = mode }
 
--- a body, and what it gives to the JSDoc imports, to the types of an entry behind it, to the references, to the source map
+-- a body, and what it gives to the JSDoc imports, to the types of an entry behind it, to the references, to the self types, to the JSX source, to the
+-- source map
 data Case : Type 0 where
   jsdoc : String → List JsDocImportInfo → Case
   types : String → Option SpecifierWithRange → Case
   references : String → List TypeScriptReference → Case
+  selfTypes : String → Option SpecifierWithRange → Case
+  jsxSource : String → Option SpecifierWithRange → Case
   sourceMap : String → Option SpecifierWithRange → Case
 
 table : List Case
@@ -66,19 +69,31 @@ table =
     ∷ sourceMap "# sourcemappingurl = a b" (Option.some (specifier "a" 23 24))
     -- beside these, a reference that is read
     ∷ references "/ <reference path=\"a\" />" (path (specifier "a" 20 23) ∷ [])
+    ∷ jsxSource "* @jsxImportSource a" (Option.some (specifier "a" 21 22))
+    ∷ []
+
+-- in an HTML-like comment whose body starts at that column: what a line comment gives is given, a JSX source and a JSDoc import stay unlisted
+html : ℕ → List Case
+html n =
+    references "/ <reference path=\"a\" />" (path (specifier "a" (n + 18) (n + 21)) ∷ [])
+    ∷ selfTypes "@ts-self-types=\"a\"" (Option.some (specifier "a" (n + 15) (n + 18)))
+    ∷ types "@ts-types=\"a\"" (Option.some (specifier "a" (n + 10) (n + 13)))
+    ∷ sourceMap "# sourceMappingURL=a" (Option.some (specifier "a" (n + 19) (n + 20)))
+    ∷ jsxSource "* @jsxImportSource a" Option.none
+    ∷ jsdoc "* {import(\"a\")}" []
     ∷ []
 
 abbrev group : Side → ℕ → Group
 group side at = record { side = side; position = at; first = 0; count = 1 }
 
--- JavaScript whose source is one comment with that body, in the leading group at the program's start and in both groups at its end; no item, an empty
+-- JSX whose source is one comment with that body, in the leading group at the program's start and in both groups at its end; no item, an empty
 -- Other as root
 sheetOf : CommentKind → String → Sheet
 sheetOf kind body =
     let source : List ℕ = opening kind ++ (ascii body ++ closing kind) in
     let span : Span = record { start = 0; end = length source } in
     record {
-      media = JavaScript;
+      media = Jsx;
       source = source;
       comments = record { kind = kind; span = span } ∷ [];
       groups = group Leading 0 ∷ group Leading (length source) ∷ group Trailing (length source) ∷ [];
@@ -86,13 +101,28 @@ sheetOf kind body =
       root = other span none;
     }
 
--- the case of a body by the information of its sheet: JSDoc in a block comment, the others in a line comment
+-- the case of a body by the information of its sheet, where the comment is of that kind
+abbrev computedIn : CommentKind → Case → Case
+computedIn kind (jsdoc body l) = jsdoc body (moduleInfo (sheetOf kind body) .jsdocImports)
+computedIn kind (types body x) = types body (typesAt (sheetOf kind body) (length (sheetOf kind body .source)))
+computedIn kind (references body l) = references body (moduleInfo (sheetOf kind body) .tsReferences)
+computedIn kind (selfTypes body x) = selfTypes body (moduleInfo (sheetOf kind body) .selfTypesSpecifier)
+computedIn kind (jsxSource body x) = jsxSource body (moduleInfo (sheetOf kind body) .jsxImportSource)
+computedIn kind (sourceMap body x) = sourceMap body (moduleInfo (sheetOf kind body) .sourceMapUrl)
+
+-- JSDoc and the JSX source in a block comment, the others in a line comment
 abbrev computed : Case → Case
-computed (jsdoc body l) = jsdoc body (moduleInfo (sheetOf Block body) .jsdocImports)
-computed (types body x) = types body (typesAt (sheetOf Line body) (length (sheetOf Line body .source)))
-computed (references body l) = references body (moduleInfo (sheetOf Line body) .tsReferences)
-computed (sourceMap body x) = sourceMap body (moduleInfo (sheetOf Line body) .sourceMapUrl)
+computed (jsdoc body l) = computedIn Block (jsdoc body l)
+computed (types body x) = computedIn Line (types body x)
+computed (references body l) = computedIn Line (references body l)
+computed (selfTypes body x) = computedIn Line (selfTypes body x)
+computed (jsxSource body x) = computedIn Block (jsxSource body x)
+computed (sourceMap body x) = computedIn Line (sourceMap body x)
 
 as-stated : map computed table ≡ table
-unfolding table sheetOf flatMap inRanges admits lengthBy charLength codeBy charAt alphabetic outside ranges member classAt run begins same step walk positionOf modeOf foldCase letterAt wordAt ends all first places find placeOf skip skipWhitespace whitespace tag word upTo isMark parseQuote pastIdent parseIdent parseKey attributeMode parseAttribute firstMode comma separatedListBy separatedList parseImportAttributeBlockForResolutionMode secondParamStart parseSecondParamObjWithLeadingComma closeCall parseTail seek parseCall parseJsdocDynamicImport skipNamedImports skipDefaultImport skipNamespaceImport skipClause parseAttributes parseFrom parseJsdocImportDecl listing groupAt headGroup bodySpan placeIn specifierIn readBy lastOf allOf headComments endComments reference referencesIn sourceMapUrlIn tsOrDenoTypes typesIn markedBy markedByAll importAt importsFrom jsdocImports moduleInfo
+unfolding table sheetOf flatMap inRanges admits lengthBy charLength codeBy charAt alphabetic outside ranges member classAt run begins same step walk positionOf modeOf foldCase letterAt wordAt ends all first places find placeOf skip skipWhitespace whitespace tag word upTo isMark parseQuote pastIdent parseIdent parseKey attributeMode parseAttribute firstMode comma separatedListBy separatedList parseImportAttributeBlockForResolutionMode secondParamStart parseSecondParamObjWithLeadingComma closeCall parseTail seek parseCall parseJsdocDynamicImport skipNamedImports skipDefaultImport skipNamespaceImport skipClause parseAttributes parseFrom parseJsdocImportDecl listing groupAt headGroup bodySpan placeIn specifierIn readBy firstOf lastOf allOf headComments endComments reference referencesIn selfTypesIn jsxImportSourceIn sourceMapUrlIn tsOrDenoTypes typesIn markedBy markedByAll importAt importsFrom jsdocImports moduleInfo
 as-stated = refl
+
+html-as-stated : (map (computedIn HtmlOpen) (html 4) ≡ html 4) × (map (computedIn HtmlClose) (html 3) ≡ html 3)
+unfolding html sheetOf flatMap inRanges admits lengthBy charLength codeBy charAt alphabetic outside ranges member classAt run begins same step walk positionOf modeOf foldCase letterAt wordAt ends all first places find placeOf skip skipWhitespace whitespace tag word upTo isMark parseQuote pastIdent parseIdent parseKey attributeMode parseAttribute firstMode comma separatedListBy separatedList parseImportAttributeBlockForResolutionMode secondParamStart parseSecondParamObjWithLeadingComma closeCall parseTail seek parseCall parseJsdocDynamicImport skipNamedImports skipDefaultImport skipNamespaceImport skipClause parseAttributes parseFrom parseJsdocImportDecl listing groupAt headGroup bodySpan placeIn specifierIn readBy firstOf lastOf allOf headComments endComments reference referencesIn selfTypesIn jsxImportSourceIn sourceMapUrlIn tsOrDenoTypes typesIn markedBy markedByAll importAt importsFrom jsdocImports moduleInfo
+html-as-stated = (refl, refl)

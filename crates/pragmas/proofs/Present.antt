@@ -18,9 +18,10 @@ use Rattle.analysis.proofs.Preference.{preferred-reads, finds}
 use Rattle.wire.proofs.Numbered.{one-number}
 use Rattle.sheet.specs.declared.comments.Comment.{Comment}
 use Rattle.sheet.specs.declared.names.CommentKind.{CommentKind}
-use Rattle.sheet.specs.declared.names.CommentKind.the-variants.{Line, Block}
+use Rattle.sheet.specs.declared.names.CommentKind.the-variants.{Line, Block, HtmlOpen, HtmlClose}
 use Rattle.sheet.specs.declared.names.Side.the-variants.{Leading}
 use Rattle.sheet.specs.Names.{kindNumber}
+use Rattle.sheet.specs.Comments.{actsAs}
 use Rattle.sheet.specs.Lookups.{groupAt, body}
 use Rattle.sheet.specs.Sheet.{Sheet}
 use Rattle.sheet.specs.Media.{isJavaScript, isJsx}
@@ -154,11 +155,13 @@ module _ (source : List ℕ) where
       back m (At k) e = refl
       back m Nothing e = absurd (unmatched tripleSlashRow source c e m)
 
-  is-line : (kind : CommentKind) → (not (eqb (kindNumber kind) (kindNumber Block)) ≡ true) ↔ (kind ≡ Line)
+  is-line : (kind : CommentKind) → (not (eqb (kindNumber kind) (kindNumber Block)) ≡ true) ↔ (actsAs kind ≡ Line)
   is-line Line = (λ e. refl, λ e. refl)
   is-line Block = (λ e. absurd (false≢true e), λ e. let z : _≡_ {A = ℕ} 1 0 = ap kindNumber e in absurd (omega arith))
+  is-line HtmlOpen = (λ e. refl, λ e. refl)
+  is-line HtmlClose = (λ e. refl, λ e. refl)
 
-  is-reference : (c : Comment) → (isLine c && isFound (find tripleSlashRow (body source c)) ≡ true) ↔ ((c .kind ≡ Line) × Matched tripleSlashRow source c)
+  is-reference : (c : Comment) → (isLine c && isFound (find tripleSlashRow (body source c)) ≡ true) ↔ ((actsAs (c .kind) ≡ Line) × Matched tripleSlashRow source c)
   is-reference c = (
     λ t. let (l, m) = and-eq-true-iff (isLine c) (isFound (find tripleSlashRow (body source c))) .0 t in (is-line (c .kind) .0 l, is-found c .0 m),
     λ (l, m). rw (is-line (c .kind) .1 l) (is-found c .1 m),

@@ -12,6 +12,7 @@ use Rattle.analysis.specs.Matches.{Reading}
 use Rattle.analysis.specs.Prefers.{Preferred}
 use Rattle.analysis.specs.Patterns.{tripleSlashRow, pathRow, typesRow, resolutionModeRow, jsxImportSourceRow, jsxImportSourceTypesRow, sourceMappingUrlRow, tsSelfTypesRow, tsTypesRow, denoTypesRow}
 use Rattle.sheet.specs.declared.comments.Comment.{Comment}
+use Rattle.sheet.specs.Comments.{actsAs}
 use Rattle.sheet.specs.Lookups.{groupAt, body}
 use Rattle.sheet.specs.Sheet.{Sheet}
 use Rattle.sheet.specs.declared.names.CommentKind.the-variants.{Line, Block}
@@ -67,7 +68,7 @@ typesRule source = record {
 
 -- the rules of document 01's "Readings"
 abbrev pub referenceRule : List ℕ → Reader TypeScriptReference
-referenceRule source = only (λ c. (c .kind ≡ Line) × Matched tripleSlashRow source c) (orElseBy (pathRule source) (typesRule source))
+referenceRule source = only (λ c. (actsAs (c .kind) ≡ Line) × Matched tripleSlashRow source c) (orElseBy (pathRule source) (typesRule source))
 
 abbrev pub selfTypesRule : List ℕ → Reader SpecifierWithRange
 selfTypesRule = byPattern tsSelfTypesRow

@@ -75,6 +75,8 @@ pub fn is_block(kind: CommentKind) -> bool
     match kind {
         CommentKind::Line => false,
         CommentKind::Block => true,
+        CommentKind::HtmlOpen => false,
+        CommentKind::HtmlClose => false,
     }
 }
 

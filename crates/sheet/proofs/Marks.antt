@@ -14,7 +14,7 @@ use Rattle.text.specs.Bytes.{begins}
 use Rattle.text.proofs.Words.{begins-sound, begins-complete}
 use Rattle.sheet.specs.declared.comments.Comment.{Comment}
 use Rattle.sheet.specs.declared.names.CommentKind.{CommentKind}
-use Rattle.sheet.specs.declared.names.CommentKind.the-variants.{Line, Block}
+use Rattle.sheet.specs.declared.names.CommentKind.the-variants.{Line, Block, HtmlOpen, HtmlClose}
 use Rattle.sheet.specs.Comments.{Marks, marksOf, opening, closing, slice, enclosed, marked}
 use Rattle.sheet.specs.Fit.{Placed}
 use Rattle.sheet.specs.Lookups.{HoldsMarks, bodySpan, body}
@@ -28,6 +28,8 @@ pub record Fenced (m : Marks) : Type 0 where
 pub fenced : (kind : CommentKind) → Fenced (marksOf kind)
 fenced Line = record { some = omega arith; last = omega arith; first = omega arith }
 fenced Block = record { some = omega arith; last = omega arith; first = omega arith }
+fenced HtmlOpen = record { some = omega arith; last = omega arith; first = omega arith }
+fenced HtmlClose = record { some = omega arith; last = omega arith; first = omega arith }
 
 -- a text is enclosed by two marks just where it is something between them
 module _ (front back c : List ℕ) where

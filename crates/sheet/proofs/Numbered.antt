@@ -2,7 +2,7 @@
 use mathlib.Core.Path.{refl}
 use Rattle.wire.proofs.Numbered.{Numbers, numbers}
 use Rattle.sheet.specs.declared.names.MediaType.the-variants.{JavaScript, Jsx, Mjs, Cjs, TypeScript, Mts, Cts, Dts, Dmts, Dcts, Tsx}
-use Rattle.sheet.specs.declared.names.CommentKind.the-variants.{Line, Block}
+use Rattle.sheet.specs.declared.names.CommentKind.the-variants.{Line, Block, HtmlOpen, HtmlClose}
 use Rattle.sheet.specs.declared.names.Side.the-variants.{Leading, Trailing}
 use Rattle.sheet.specs.declared.names.ImportPhase.the-variants.{Evaluation, Source, Defer}
 use Rattle.sheet.specs.Names.{mediaNumber, mediaTypes, kindNumber, commentKinds, sideNumber, sides, phaseNumber, importPhases}
@@ -14,7 +14,7 @@ media-numbers =
     refl
 
 pub kind-numbers : Numbers kindNumber commentKinds
-kind-numbers = numbers kindNumber commentKinds (elim [ Line ↦ refl | Block ↦ refl ]) refl
+kind-numbers = numbers kindNumber commentKinds (elim [ Line ↦ refl | Block ↦ refl | HtmlOpen ↦ refl | HtmlClose ↦ refl ]) refl
 
 pub side-numbers : Numbers sideNumber sides
 side-numbers = numbers sideNumber sides (elim [ Leading ↦ refl | Trailing ↦ refl ]) refl

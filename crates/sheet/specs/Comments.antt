@@ -14,7 +14,7 @@ use Rattle.sheet.specs.declared.fields.Span.{Span}
 use Rattle.sheet.specs.declared.comments.Comment.{Comment}
 use Rattle.sheet.specs.declared.groups.Group.{Group}
 use Rattle.sheet.specs.declared.names.CommentKind.{CommentKind}
-use Rattle.sheet.specs.declared.names.CommentKind.the-variants.{Line, Block}
+use Rattle.sheet.specs.declared.names.CommentKind.the-variants.{Line, Block, HtmlOpen, HtmlClose}
 use Rattle.sheet.specs.declared.names.Side.{Side}
 use Rattle.sheet.specs.Names.{kindNumber, commentKinds, sideNumber, sides}
 use Rattle.sheet.specs.Fields.{position, endFrom, encodeSpan}
@@ -32,6 +32,15 @@ pub record Marks : Type 0 where
 abbrev pub marksOf : CommentKind → Marks
 marksOf Line = record { opening = ascii "//"; closing = [] }
 marksOf Block = record { opening = ascii "/*"; closing = ascii "*/" }
+marksOf HtmlOpen = record { opening = ascii "<!--"; closing = [] }
+marksOf HtmlClose = record { opening = ascii "-->"; closing = [] }
+
+-- the kind as which the readings take a comment: an HTML-like one acts as a line comment
+abbrev pub actsAs : CommentKind → CommentKind
+actsAs Line = Line
+actsAs Block = Block
+actsAs HtmlOpen = Line
+actsAs HtmlClose = Line
 
 abbrev pub opening : CommentKind → List ℕ
 opening kind = marksOf kind .opening

@@ -5,7 +5,7 @@ use Rattle.wire.specs.Fields.{Values}
 use Rattle.sheet.specs.declared.names.MediaType.{MediaType}
 use Rattle.sheet.specs.declared.names.MediaType.the-variants.{JavaScript, Jsx, Mjs, Cjs, TypeScript, Mts, Cts, Dts, Dmts, Dcts, Tsx}
 use Rattle.sheet.specs.declared.names.CommentKind.{CommentKind}
-use Rattle.sheet.specs.declared.names.CommentKind.the-variants.{Line, Block}
+use Rattle.sheet.specs.declared.names.CommentKind.the-variants.{Line, Block, HtmlOpen, HtmlClose}
 use Rattle.sheet.specs.declared.names.Side.{Side}
 use Rattle.sheet.specs.declared.names.Side.the-variants.{Leading, Trailing}
 use Rattle.sheet.specs.declared.names.ImportPhase.{ImportPhase}
@@ -30,9 +30,11 @@ mediaTypes = record { front = JavaScript ∷ Jsx ∷ Mjs ∷ Cjs ∷ TypeScript 
 abbrev pub kindNumber : CommentKind → ℕ
 kindNumber Line = 0
 kindNumber Block = 1
+kindNumber HtmlOpen = 2
+kindNumber HtmlClose = 3
 
 abbrev pub commentKinds : Values CommentKind
-commentKinds = record { front = Line ∷ []; last = Block }
+commentKinds = record { front = Line ∷ Block ∷ HtmlOpen ∷ []; last = HtmlClose }
 
 abbrev pub sideNumber : Side → ℕ
 sideNumber Leading = 0

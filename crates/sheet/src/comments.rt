@@ -55,6 +55,8 @@ fn is_marked(text: &[u8], kind: CommentKind) -> bool
     match kind {
         CommentKind::Line => is_enclosed(text, b"//", b""),
         CommentKind::Block => is_enclosed(text, b"/*", b"*/"),
+        CommentKind::HtmlOpen => is_enclosed(text, b"<!--", b""),
+        CommentKind::HtmlClose => is_enclosed(text, b"-->", b""),
     }
 }
 
@@ -62,7 +64,7 @@ fn is_marked(text: &[u8], kind: CommentKind) -> bool
 fn read_comment(sheet: &[u8], source: &[u8], c: Cursor, last: usize) -> CommentRead
     ensures { λ r. ⌜ commentAs (now (sheet .entry)) r ≡ comment (now (source .entry)) last (drop (c .at) (now (sheet .entry))) ⌝ }
 {
-    match c.below(sheet, 2) {
+    match c.below(sheet, 4) {
         Read::Refused(r) => CommentRead::Refused(r),
         Read::Value(kind, next) => match read_position(sheet, source, next) {
             Read::Refused(r) => CommentRead::Refused(r),

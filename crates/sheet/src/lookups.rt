@@ -91,6 +91,8 @@ fn opening_length(kind: CommentKind) -> usize
     match kind {
         CommentKind::Line => 2,
         CommentKind::Block => 2,
+        CommentKind::HtmlOpen => 4,
+        CommentKind::HtmlClose => 3,
     }
 }
 
@@ -100,6 +102,8 @@ fn closing_length(kind: CommentKind) -> usize
     match kind {
         CommentKind::Line => 0,
         CommentKind::Block => 2,
+        CommentKind::HtmlOpen => 0,
+        CommentKind::HtmlClose => 0,
     }
 }
 

@@ -35,9 +35,12 @@ pub fn media_type(n: usize) -> MediaType
     }
 }
 
+// The last two are the HTML-like comments of ECMAScript's Annex B.
 pub enum CommentKind {
     Line,
     Block,
+    HtmlOpen,
+    HtmlClose,
 }
 
 pub fn comment_kind(n: usize) -> CommentKind
@@ -45,7 +48,9 @@ pub fn comment_kind(n: usize) -> CommentKind
 {
     match n {
         0 => CommentKind::Line,
-        _ => CommentKind::Block,
+        1 => CommentKind::Block,
+        2 => CommentKind::HtmlOpen,
+        _ => CommentKind::HtmlClose,
     }
 }
 
@@ -55,6 +60,8 @@ pub fn kind_number(kind: CommentKind) -> u32
     match kind {
         CommentKind::Line => 0,
         CommentKind::Block => 1,
+        CommentKind::HtmlOpen => 2,
+        CommentKind::HtmlClose => 3,
     }
 }
 

@@ -15,7 +15,7 @@ pub data Byte : Type 0 where
 -- their stated values are those below
 abbrev pub values : Byte → ℕ
 values media = 11  -- JavaScript to Tsx
-values kind = 2  -- line, block
+values kind = 4  -- line, block, and the HTML-like ones
 values side = 2  -- leading, trailing
 values flag = 2
 values phase = 3  -- evaluation, source, defer

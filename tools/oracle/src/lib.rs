@@ -10,7 +10,8 @@ use deno_ast::{MediaType, MultiThreadedComments, ProgramRef, SourceTextInfo};
 use deno_graph::analysis::ModuleInfo;
 use deno_graph::ast::ParserModuleAnalyzer;
 
-/// In place of a refusal's number: the sheet is left out, since the crate's answer cannot be compared. No sheet is left out today.
+/// In place of a refusal's number: the sheet is left out, since the crate's answer cannot be compared. It has an HTML-like comment, whose body the
+/// crate would take to start two bytes in.
 pub const LEFT_OUT: u8 = 255;
 
 /// The module's information, or the refusal (1 to 9, or 13), or `LEFT_OUT`. Of no bytes it is the crate's own default.
@@ -19,6 +20,7 @@ pub fn module_info(bytes: &[u8]) -> Result<ModuleInfo, u8> {
         return Ok(ModuleInfo::default());
     }
     let sheet = sheet::decode(bytes)?;
+    let has_html = sheet.has_html;
     if sheet.is_uncooked() {
         // the crate's `unwrap` fails there, and only there
         let hook = panic::take_hook();
@@ -27,6 +29,9 @@ pub fn module_info(bytes: &[u8]) -> Result<ModuleInfo, u8> {
         panic::set_hook(hook);
         assert!(!answered, "the crate answers a sheet that meets refusal 9");
         return Err(9);
+    }
+    if has_html {
+        return Err(LEFT_OUT);
     }
     Ok(Parsed::new(sheet).module_info())
 }

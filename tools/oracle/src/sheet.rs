@@ -19,6 +19,8 @@ pub struct Sheet {
     pub comments: MultiThreadedComments,
     pub is_script: bool,
     pub program: Program,
+    /// Whether a comment is an HTML-like one, which the crate does not know.
+    pub has_html: bool,
 }
 
 /// A refusal's number.
@@ -123,7 +125,7 @@ impl<'a> Reader<'a> {
     fn sheet(&mut self) -> Read<Sheet> {
         let media = MediaType::ALL[usize::from(self.byte_up_to(10)?)];
         self.source = self.utf8(MAX_SOURCE)?;
-        let comments = self.comments()?;
+        let (comments, has_html) = self.comments()?;
         let comments = self.groups(&comments)?;
         let is_script = self.flag()?;
         let span = self.span()?;
@@ -131,29 +133,32 @@ impl<'a> Reader<'a> {
         let first_item = if self.flag()? { Some(FirstItem(self.position()?)) } else { None };
         let root = self.node(1)?;
         let program = Program { span, shebang, first_item, body: vec![root] };
-        Ok(Sheet { media, source: std::mem::take(&mut self.source), comments, is_script, program })
+        Ok(Sheet { media, source: std::mem::take(&mut self.source), comments, is_script, program, has_html })
     }
 
-    fn comments(&mut self) -> Read<Vec<Comment>> {
+    fn comments(&mut self) -> Read<(Vec<Comment>, bool)> {
         let n = self.count(MAX_COMMENTS)?;
         let mut comments = Vec::new();
+        let mut has_html = false;
         let mut last_end = SourcePos(0);
         for _ in 0..n {
-            let kind = self.byte_up_to(1)?;
+            let kind = self.byte_up_to(3)?;
+            has_html |= kind > 1;
             let start = self.position()?;
             require(last_end <= start, 7)?;
             let end = self.end_from(start)?;
             last_end = end;
             let whole = &self.source[start.0..end.0];
-            let (kind, body) = if kind == 0 {
-                (CommentKind::Line, whole.strip_prefix("//"))
-            } else {
-                (CommentKind::Block, whole.strip_prefix("/*").and_then(|rest| rest.strip_suffix("*/")))
+            let (kind, body) = match kind {
+                0 => (CommentKind::Line, whole.strip_prefix("//")),
+                1 => (CommentKind::Block, whole.strip_prefix("/*").and_then(|rest| rest.strip_suffix("*/"))),
+                2 => (CommentKind::Line, whole.strip_prefix("<!--")),
+                _ => (CommentKind::Line, whole.strip_prefix("-->")),
             };
             let text = Atom(body.ok_or(7)?.to_string());
             comments.push(Comment { kind, span: SourceRange { start, end }, text });
         }
-        Ok(comments)
+        Ok((comments, has_html))
     }
 
     fn groups(&mut self, comments: &[Comment]) -> Read<MultiThreadedComments> {

@@ -1,9 +1,11 @@
-/* compare SHEETS ANSWERS KINDS FILE [KIND]...
+/* compare [--before ANSWERS] SHEETS ANSWERS KINDS FILE [KIND]...
  * Runs the linked library and tools/second.rs on every sheet of a batch and compares them with each other and with ANSWERS, those of
  * tools/oracle: the library with lent buffers of several sizes, by number, length and every byte of the buffer. Where the oracle leaves a
  * sheet out, the library is compared with second, and each text that second has from a comment must stand between its positions. Prints by kind how many sheets were accepted, refused with each number and left out, and
  * the shortest sheet that differs, which is also written to FILE.
  * The status is 1 if a sheet differs, or if one of the kinds named has no accepted sheet or one with a String that is not quoted.
+ * With --before, ANSWERS are those of an oracle without the patch of request #104: they must differ from the others on just the sheets in which
+ * a reference comment has both a path and types.
  * The buffer is full of other bytes before each call; sheet and buffer each end at a page that must not be touched.
  * Without LIBRARY defined there is no library: second is compared with the oracle.
  */
@@ -21,6 +23,7 @@
 uint64_t module_info_answer(const uint8_t *sheet, size_t n, uint8_t *buffer, size_t m);
 #endif
 uint64_t second_answer(const uint8_t *sheet, size_t n, uint8_t *buffer, size_t m);
+bool second_both(const uint8_t *sheet, size_t n);
 bool second_shows(const uint8_t *sheet, size_t n, const uint8_t *report, size_t m);
 
 #define ROOM ((size_t)1 << 20)
@@ -197,7 +200,7 @@ static void print_shortest(const char *file) {
 
 /* ---- the batch ---- */
 
-static unsigned long differ, not_shown, second_and_oracle, library_and_oracle, library_and_second;
+static unsigned long differ, by_patch, not_by_patch, not_shown, second_and_oracle, library_and_oracle, library_and_second;
 
 /* What differs among the three answers to a sheet, or NULL. */
 static const char *compared(const uint8_t *sheet, size_t n, struct answer oracle, struct answer second) {
@@ -234,6 +237,24 @@ static const char *compared(const uint8_t *sheet, size_t n, struct answer oracle
     return found;
 }
 
+/* The answer before the patch differs from the one behind it just where a comment has both a path and types. */
+static const char *compared_before(const uint8_t *sheet, size_t n, struct answer before, struct answer oracle) {
+    bool changed = !same(before, oracle);
+    bool both = oracle.number == 0 && second_both(sheet, n);
+    by_patch += changed;
+    if (changed == both) return NULL;
+    not_by_patch++;
+    return "the answers before and behind the patch";
+}
+
+/* The answer at a place of a file of answers; the place goes past it. */
+static struct answer next_answer(struct file answers, size_t *at, const char *name) {
+    if (answers.size - *at < 5 || answers.size - *at - 5 < u32(answers.bytes + *at + 1)) fail(name, "is cut off");
+    struct answer a = {answers.bytes[*at], answers.bytes + *at + 5, u32(answers.bytes + *at + 1)};
+    *at += 5 + a.length;
+    return a;
+}
+
 /* Each kind named has an accepted sheet, and all Strings of its sheets are quoted. */
 static bool kinds_are_there(char **names, int count) {
     bool all = true;
@@ -252,10 +273,18 @@ static bool kinds_are_there(char **names, int count) {
 }
 
 int main(int argc, char **argv) {
+    const char *before_name = NULL;
+    if (argc > 2 && !strcmp(argv[1], "--before")) {
+        before_name = argv[2];
+        argv += 2;
+        argc -= 2;
+    }
     if (argc < 5) {
-        fprintf(stderr, "usage: compare SHEETS ANSWERS KINDS FILE [KIND]...\n");
+        fprintf(stderr, "usage: compare [--before ANSWERS] SHEETS ANSWERS KINDS FILE [KIND]...\n");
         return 2;
     }
+    struct file befores = {NULL, 0};
+    if (before_name) befores = read_file(before_name);
     struct file sheets = read_file(argv[1]), answers = read_file(argv[2]), names = read_file(argv[3]);
     names.bytes[names.size] = 0;
 #ifdef LIBRARY
@@ -263,17 +292,15 @@ int main(int argc, char **argv) {
     buffer_end = guarded_end();
 #endif
     unsigned long total = 0;
-    size_t at = 0, answer_at = 0;
+    size_t at = 0, answer_at = 0, before_at = 0;
     char *name = strtok((char *)names.bytes, "\n");
     for (; at < sheets.size; total++, name = strtok(NULL, "\n")) {
         if (!name) fail(argv[3], "has too few lines");
         if (sheets.size - at < 4 || sheets.size - at - 4 < u32(sheets.bytes + at)) fail(argv[1], "is cut off");
-        if (answers.size - answer_at < 5 || answers.size - answer_at - 5 < u32(answers.bytes + answer_at + 1)) fail(argv[2], "is cut off");
         size_t n = u32(sheets.bytes + at);
         const uint8_t *sheet = sheets.bytes + at + 4;
-        struct answer oracle = {answers.bytes[answer_at], answers.bytes + answer_at + 5, u32(answers.bytes + answer_at + 1)};
+        struct answer oracle = next_answer(answers, &answer_at, argv[2]);
         at += 4 + n;
-        answer_at += 5 + oracle.length;
         if (n > ROOM || oracle.length > ROOM - 64) fail(argv[1], "has a sheet or a report that is too large to compare");
 
         struct kind *k = kind_of(name);
@@ -281,6 +308,10 @@ int main(int argc, char **argv) {
         k->numbers[oracle.number]++;
         struct answer second = answer_of_second(sheet, n, oracle.length);
         const char *message = compared(sheet, n, oracle, second);
+        if (before_name) {
+            const char *of_before = compared_before(sheet, n, next_answer(befores, &before_at, before_name), oracle);
+            if (!message) message = of_before;
+        }
         if (message && (!differ++ || n < shortest.size)) {
             shortest.index = total;
             shortest.kind = name;
@@ -296,6 +327,7 @@ int main(int argc, char **argv) {
     print_kinds();
     if (differ) print_shortest(argv[4]);
     printf("second and oracle: %lu sheets differ\n", second_and_oracle);
+    if (before_name) printf("before the patch of #104: %lu sheets differ; on %lu sheets this is not where a comment has both a path and types\n", by_patch, not_by_patch);
     printf("left out, with a text that does not stand between its positions: %lu sheets\n", not_shown);
 #ifdef LIBRARY
     printf("library and oracle: %lu sheets differ\nlibrary and second: %lu sheets differ\n", library_and_oracle, library_and_second);

@@ -2,7 +2,7 @@
 //! generate kinds
 //! Writes COUNT sheets, from number FIRST on, as a batch (each: length as u32 little-endian, bytes) to the file SHEETS, and a line with
 //! the kind of each to the file KINDS. The sheet of a number depends on SEED and that number only. `kinds` prints the well-formed kinds.
-//! Kinds: `small`, `rich`, `comments`, `jsdoc`, `near`, `tree`, `letters` and `long` (a long report) are well-formed; `empty` has no bytes, which
+//! Kinds: `small`, `rich`, `comments`, `html` (HTML-like comments), `jsdoc`, `near`, `tree`, `letters` and `long` (a long report) are well-formed; `empty` has no bytes, which
 //! the report of the default information answers; `uncooked` has uncooked pieces (refusal 9); `text` has a text at the border of UTF-8 or WTF-8;
 //! `string` has a String whose place in the source is quoted or nearly so (refusal 13); `order` meets two refusals; `limit` hits a limit of document 01,
 //! `over` exceeds one by one; `flip`, `cut`, `insert`, `delete`, `splice` and `number` are damaged copies; `noise` is bytes at random.
@@ -142,6 +142,13 @@ fn attribute_of(r: &mut Rng, key: &str) -> String {
 
 fn reference(r: &mut Rng) -> String {
     let mut s = format!("/{}<{}{}", whites(r), cased(r, "reference"), white(r));
+    // often both a path and types, in either order
+    if r.percent(25) {
+        let first = r.below(2);
+        for key in [["path", "types"][first], ["types", "path"][first]] {
+            s += &attribute_of(r, key);
+        }
+    }
     for _ in 0..1 + r.few(3) {
         let key = r.pick(&["path", "types", "types", "resolution-mode", "lib", "no-default-lib"]);
         s += &attribute_of(r, key);

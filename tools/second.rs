@@ -740,11 +740,11 @@ impl Sheet {
             if reads(&self.source[from..to], &p.triple_slash, true).is_none() {
                 continue;
             }
-            if let Some(s) = self.captured(c, &p.path, false, true) {
-                found.push((s, None));
-            } else if let Some(s) = self.captured(c, &p.types, false, true) {
+            if let Some(s) = self.captured(c, &p.types, false, true) {
                 let mode = self.captured(c, &p.mode, false, true).map_or(0, |m| mode_of(&m.0));
                 found.push((s, Some(mode)));
+            } else if let Some(s) = self.captured(c, &p.path, false, true) {
+                found.push((s, None));
             }
         }
         w.number(found.len());
@@ -1157,4 +1157,21 @@ pub fn shows(sheet: &[u8], report: &[u8]) -> bool {
 #[unsafe(no_mangle)]
 pub unsafe extern "C" fn second_shows(sheet: *const u8, n: usize, report: *const u8, m: usize) -> bool {
     unsafe { shows(std::slice::from_raw_parts(sheet, n), std::slice::from_raw_parts(report, m)) }
+}
+
+/// Whether a reference comment of the head group has both a path and types: where the rule of the Rust and that of request #104 differ.
+pub fn both(sheet: &[u8]) -> bool {
+    let Ok(sheet) = decode(sheet) else { return false };
+    let p = patterns();
+    sheet.head().iter().any(|c| {
+        let slashes = !c.block && reads(&sheet.source[c.body.0..c.body.1], &p.triple_slash, true).is_some();
+        slashes && sheet.captured(c, &p.path, false, true).is_some() && sheet.captured(c, &p.types, false, true).is_some()
+    })
+}
+
+/// # Safety
+/// `sheet` has `n` bytes to read.
+#[unsafe(no_mangle)]
+pub unsafe extern "C" fn second_both(sheet: *const u8, n: usize) -> bool {
+    both(if n == 0 { &[] } else { unsafe { std::slice::from_raw_parts(sheet, n) } })
 }

@@ -7,4 +7,5 @@ pub mod Empty
 pub mod Accepted
 pub mod Cleared
 pub mod Cases
+pub mod PathFirst
 pub mod Example

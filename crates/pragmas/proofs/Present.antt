@@ -40,13 +40,16 @@ record Agrees {A : Type 0} (f : Comment → Option A) (r : Reader A) : Type 0 wh
 
 module _ (row : Row) (source : List ℕ) (c : Comment) where
   -- a pattern that is not found reads nothing
-  unmatched : find row (body source c) ≡ Nothing → Matched row source c → ⊥
+  pub unmatched : find row (body source c) ≡ Nothing → Matched row source c → ⊥
   unmatched e (k, m) = finds row (body source c) .none .0 e k m
 
   unread-none : (Matched row source c → ⊥) → find row (body source c) ≡ Nothing
   unread-none h = finds row (body source c) .none .1 (λ k m. h (k, m))
 
-  found-read : {k : Capture} → find row (body source c) ≡ At k → Read row source c (specifierIn source c k)
+  pub matched : {k : Capture} → find row (body source c) ≡ At k → Matched row source c
+  matched {k} e = (k, preferred-reads row (body source c) (finds row (body source c) .some k .0 e))
+
+  pub found-read : {k : Capture} → find row (body source c) ≡ At k → Read row source c (specifierIn source c k)
   unfolding specifierIn
   found-read {k} e = record { capture = k; preferred = finds row (body source c) .some k .0 e; text = refl; range = refl }
 
@@ -130,7 +133,7 @@ module _ {A : Type 0} where
 -- ---- references
 
 module _ (source : List ℕ) where
-  mode-read : (c : Comment) → ModeRead source c (modeIn source c)
+  pub mode-read : (c : Comment) → ModeRead source c (modeIn source c)
   unfolding modeIn
   mode-read c = go (find resolutionModeRow (body source c)) refl
     where
@@ -148,7 +151,7 @@ module _ (source : List ℕ) where
   is-found c = (some (find tripleSlashRow (body source c)) refl, λ m. back m (find tripleSlashRow (body source c)) refl)
     where
       some : (f : Found) → find tripleSlashRow (body source c) ≡ f → isFound f ≡ true → Matched tripleSlashRow source c
-      some (At k) e i = (k, preferred-reads tripleSlashRow (body source c) (finds tripleSlashRow (body source c) .some k .0 e))
+      some (At k) e i = matched tripleSlashRow source c e
       some Nothing e i = absurd (false≢true i)
 
       back : Matched tripleSlashRow source c → (f : Found) → find tripleSlashRow (body source c) ≡ f → isFound f ≡ true
@@ -161,15 +164,15 @@ module _ (source : List ℕ) where
   is-line HtmlOpen = (λ e. refl, λ e. refl)
   is-line HtmlClose = (λ e. refl, λ e. refl)
 
-  is-reference : (c : Comment) → (isLine c && isFound (find tripleSlashRow (body source c)) ≡ true) ↔ ((actsAs (c .kind) ≡ Line) × Matched tripleSlashRow source c)
+  pub is-reference : (c : Comment) → (isLine c && isFound (find tripleSlashRow (body source c)) ≡ true) ↔ ((actsAs (c .kind) ≡ Line) × Matched tripleSlashRow source c)
   is-reference c = (
     λ t. let (l, m) = and-eq-true-iff (isLine c) (isFound (find tripleSlashRow (body source c))) .0 t in (is-line (c .kind) .0 l, is-found c .0 m),
     λ (l, m). rw (is-line (c .kind) .1 l) (is-found c .1 m),
   )
 
-  by-either : (c : Comment) (f t : Found)
-      → orElse (onFound (λ k. path (specifierIn source c k)) f) (onFound (λ k. types (specifierIn source c k) (modeIn source c)) t) ≡ referenceBy source c f t
-  by-either c (At k) t = refl
+  by-either : (c : Comment) (t p : Found)
+      → orElse (onFound (λ k. types (specifierIn source c k) (modeIn source c)) t) (onFound (λ k. path (specifierIn source c k)) p) ≡ referenceBy source c t p
+  by-either c (At k) p = refl
   by-either c Nothing (At k) = refl
   by-either c Nothing Nothing = refl
 
@@ -177,10 +180,10 @@ module _ (source : List ℕ) where
   unfolding reference
   referring =
       onlyIf (λ c. isLine c && isFound (find tripleSlashRow (body source c))) is-reference
-      (same (λ c. by-either c (find pathRow (body source c)) (find typesRow (body source c)))
+      (same (λ c. by-either c (find typesRow (body source c)) (find pathRow (body source c)))
       (either
-      (made pathRow source (λ c x. path x) (λ c x r. (x, r, refl)) (λ c a g. g))
-      (made typesRow source (λ c x. types x (modeIn source c)) (λ c x r. (x, modeIn source c, r, mode-read c, refl)) (λ c a (x, m, r, n, e). (x, r, e ∙ ap (types x) (sym (read-mode c n)))))))
+      (made typesRow source (λ c x. types x (modeIn source c)) (λ c x r. (x, modeIn source c, r, mode-read c, refl)) (λ c a (x, m, r, n, e). (x, r, e ∙ ap (types x) (sym (read-mode c n)))))
+      (made pathRow source (λ c x. path x) (λ c x r. (x, r, refl)) (λ c a g. g))))
 
 -- ---- comments one after the other
 

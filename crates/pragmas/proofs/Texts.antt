@@ -143,8 +143,8 @@ module _ (t : Sheet) (f : formed Utf8 0 (t .source) ≡ true) (fit : Fit (t .sou
     either w r = record { comment = c; among = i; read = r; stands = stands w r (r .capture .quoted) refl }
 
     reference-shown : (r : TypeScriptReference) → referenceRule (t .source) .Gives c r → ReferenceShown t r
-    reference-shown r (p, inl (x, g, e)) = rw e (in-marks (each .path) g)
-    reference-shown r (p, inr (n, (x, m, g, q, e))) = rw e (in-marks (each .types) g)
+    reference-shown r (p, inl (x, m, g, q, e)) = rw e (in-marks (each .types) g)
+    reference-shown r (p, inr (n, (x, g, e))) = rw e (in-marks (each .path) g)
 
     types-given : {x : SpecifierWithRange} → tsOrDenoTypesRule (t .source) .Gives c x → TypesShown t x
     types-given (inl g) = inl (in-marks (each .ts-types) g)

@@ -49,17 +49,17 @@ modeBy b Nothing = Option.none
 unfoldable pub modeIn : List ℕ → Comment → Mode
 modeIn source c = modeBy (body source c) (find resolutionModeRow (body source c))
 
--- a reference: by the path pattern, or else by the types one
+-- a reference: by the types pattern, or else by the path one
 abbrev pub referenceBy : List ℕ → Comment → Found → Found → Option TypeScriptReference
-referenceBy source c (At k) t = Option.some (path (specifierIn source c k))
-referenceBy source c Nothing (At k) = Option.some (types (specifierIn source c k) (modeIn source c))
+referenceBy source c (At k) p = Option.some (types (specifierIn source c k) (modeIn source c))
+referenceBy source c Nothing (At k) = Option.some (path (specifierIn source c k))
 referenceBy source c Nothing Nothing = Option.none
 
 -- from a line comment that the triple-slash pattern reads
 unfoldable pub reference : List ℕ → Comment → Option TypeScriptReference
 reference source c =
     cond (isLine c && isFound (find tripleSlashRow (body source c)))
-    (referenceBy source c (find pathRow (body source c)) (find typesRow (body source c)))
+    (referenceBy source c (find typesRow (body source c)) (find pathRow (body source c)))
     Option.none
 
 unfoldable pub referencesIn : List ℕ → List Comment → List TypeScriptReference

@@ -68,7 +68,7 @@ typesRule source = record {
 
 -- the rules of document 01's "Readings"
 abbrev pub referenceRule : List ℕ → Reader TypeScriptReference
-referenceRule source = only (λ c. (actsAs (c .kind) ≡ Line) × Matched tripleSlashRow source c) (orElseBy (pathRule source) (typesRule source))
+referenceRule source = only (λ c. (actsAs (c .kind) ≡ Line) × Matched tripleSlashRow source c) (orElseBy (typesRule source) (pathRule source))
 
 abbrev pub selfTypesRule : List ℕ → Reader SpecifierWithRange
 selfTypesRule = byPattern tsSelfTypesRow

@@ -63,11 +63,11 @@ fn read_reference(source: &[u8], c: Comment) -> Reference
     }
     let text = body(source, c);
     if is_comment_triple_slash_reference(text) {
-        if let Found::At(k) = find_path_reference(text) {
-            return Reference::Path(k);
-        }
         if let Found::At(k) = find_types_reference(text) {
             return Reference::Types(k, resolution_mode(text));
+        }
+        if let Found::At(k) = find_path_reference(text) {
+            return Reference::Path(k);
         }
     }
     Reference::Nothing

@@ -14,30 +14,30 @@ body-requires : tie.Need-body-requires
 body-requires c κs = let placed = c .before .before .before .pre in (holds-marks _ _ placed, placed-within _ _ placed)
 
 returns-2 : tie.Need-returns-2
-unfolding reference
+unfolding modeIn reference
 returns-2 c = (
   rw (
-    known (c .before .before .before .before .before .before .before .before .is-block .ensures) (c .before .before .before .before .before .before .before .if1 .left),
-    ← c .before .before .before .before .before .before .body .ensures,
-    known (c .before .before .before .before .before .is-comment-triple-slash-reference .ensures) (c .before .before .before .before .if2 .taken),
-    known (c .before .before .before .find-path-reference .ensures .0) (c .before .k .given .1),
+    known (c .before .before .before .before .before .before .before .before .before .is-block .ensures) (c .before .before .before .before .before .before .before .before .if1 .left),
+    ← c .before .before .before .before .before .before .before .body .ensures,
+    known (c .before .before .before .before .before .before .is-comment-triple-slash-reference .ensures) (c .before .before .before .before .before .if2 .taken),
+    known (c .before .before .before .before .find-types-reference .ensures .0) (c .before .before .k .given .1),
+    c .resolution-mode .ensures,
+    c .before .before .before .before .before .before .before .body .ensures,
   ),
-  record { placed = c .before .before .before .before .before .before .before .before .before .before .pre; inside = rw (c .before .k .given .1, c .before .before .before .before .before .before .body .ensures) at (c .before .before .before .find-path-reference .ensures .1) },
+  record { placed = c .before .before .before .before .before .before .before .before .before .before .before .pre; inside = rw (c .before .before .k .given .1, c .before .before .before .before .before .before .before .body .ensures) at (c .before .before .before .before .find-types-reference .ensures .1) },
 )
 
 returns-3 : tie.Need-returns-3
-unfolding modeIn reference
+unfolding reference
 returns-3 c = (
   rw (
-    known (c .before .before .before .before .before .before .before .before .before .before .before .before .is-block .ensures) (c .before .before .before .before .before .before .before .before .before .before .before .if1 .left),
-    ← c .before .before .before .before .before .before .before .before .before .before .body .ensures,
-    known (c .before .before .before .before .before .before .before .before .before .is-comment-triple-slash-reference .ensures) (c .before .before .before .before .before .before .before .before .if2 .taken),
-    known (c .before .before .before .before .before .before .before .find-path-reference .ensures .0) (c .before .before .before .before .before .enum-told .given .1),
-    known (c .before .before .before .before .find-types-reference .ensures .0) (c .before .before .k2 .given .1),
-    c .resolution-mode .ensures,
-    c .before .before .before .before .before .before .before .before .before .before .body .ensures,
+    known (c .before .before .before .before .before .before .before .before .before .before .before .is-block .ensures) (c .before .before .before .before .before .before .before .before .before .before .if1 .left),
+    ← c .before .before .before .before .before .before .before .before .before .body .ensures,
+    known (c .before .before .before .before .before .before .before .before .is-comment-triple-slash-reference .ensures) (c .before .before .before .before .before .before .before .if2 .taken),
+    known (c .before .before .before .before .before .before .find-types-reference .ensures .0) (c .before .before .before .before .enum-told .given .1),
+    known (c .before .before .before .find-path-reference .ensures .0) (c .before .k2 .given .1),
   ),
-  record { placed = c .before .before .before .before .before .before .before .before .before .before .before .before .before .before .pre; inside = rw (c .before .before .k2 .given .1, c .before .before .before .before .before .before .before .before .before .before .body .ensures) at (c .before .before .before .before .find-types-reference .ensures .1) },
+  record { placed = c .before .before .before .before .before .before .before .before .before .before .before .before .before .pre; inside = rw (c .before .k2 .given .1, c .before .before .before .before .before .before .before .before .before .body .ensures) at (c .before .before .before .find-path-reference .ensures .1) },
 )
 
 returns-4 : tie.Need-returns-4
@@ -47,8 +47,8 @@ returns-4 c = (
     known (c .before .before .before .before .before .before .before .before .before .before .is-block .ensures) (c .before .before .before .before .before .before .before .before .before .if1 .left),
     ← c .before .before .before .before .before .before .before .before .body .ensures,
     known (c .before .before .before .before .before .before .before .is-comment-triple-slash-reference .ensures) (c .before .before .before .before .before .before .if2 .taken),
-    known (c .before .before .before .before .before .find-path-reference .ensures .0) (c .before .before .before .enum-told .given .1),
-    known (c .before .before .find-types-reference .ensures .0) (c .enum-told2 .given .1),
+    known (c .before .before .before .before .before .find-types-reference .ensures .0) (c .before .before .before .enum-told .given .1),
+    known (c .before .before .find-path-reference .ensures .0) (c .enum-told2 .given .1),
   ),
   tt,
 )
@@ -74,11 +74,11 @@ read-reference-spec =
     (λ c κs. search needs)
     (λ c κs. search needs)
     (λ c. search needs)
+    (λ c κs. search needs)
     returns-2
     (λ c. search needs)
     (λ c κs. search needs)
     (λ c. search needs)
-    (λ c κs. search needs)
     returns-3
     (λ c. search needs)
     returns-4

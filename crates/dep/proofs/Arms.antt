@@ -2,7 +2,7 @@
 use mathlib.Core.Path.{_≡_, refl, sym, ap, _∙_}
 use mathlib.Core.Bool.{Bool, true, false}
 use mathlib.Core.List.{List, [], _∷_, _++_, append-nil}
-use mathlib.Core.Logic.{_⊎_, inl, inr}
+use mathlib.Core.Logic.{inl, inr}
 use mathlib.Core.Option.{Option}
 use Prim.Native.Nat.{ℕ}
 use types.Run.{OneOf}
@@ -16,7 +16,7 @@ use Rattle.wire.specs.Number.{number}
 use Rattle.sheet.specs.declared.names.ImportPhase.{ImportPhase}
 use Rattle.sheet.specs.declared.names.ImportPhase.the-variants.{Evaluation, Source, Defer}
 use Rattle.sheet.specs.declared.fields.Span.{Span}
-use Rattle.sheet.specs.Tree.{Quoted, Pieces, Node, template, binary, importCall, call, exportFrom, exportAll, importType, moduleDecl, Nodes, none, more, spread, otherProperty, childKey, stringKey, nameKey, Arguments, argument, Attributes}
+use Rattle.sheet.specs.Tree.{Quoted, Pieces, Node, template, binary, importCall, call, importType, moduleDecl, Nodes, none, more, spread, otherProperty, childKey, stringKey, nameKey, Arguments, argument, Attributes}
 use Rattle.sheet.specs.Nodes.{many, nodes, attributes, callRest, node, attributesObject}
 use Rattle.sheet.specs.Shape.{shape, isRequire, anyUncooked}
 use Rattle.heads.specs.declared.node.Head.{Head}
@@ -40,18 +40,9 @@ use Rattle.report.specs.Buffer.{Buffer}
 use Rattle.attributes.specs.Attributes.{staticAttributes, typeAttributes}
 use Rattle.dep.specs.declared.entries.CallHead.{CallHead}
 use Rattle.dep.specs.declared.entries.StaticDependencyDescriptor.{StaticDependencyDescriptor}
-use Rattle.dep.specs.Collect.{exportKind, dynamicKind, moduleEntry, collector, collect, collectAll, collectOf, collectWith}
-use Rattle.dep.specs.code.Walk.{Quotes, PastHead, Calls, Begins, calleesOf, wroteEntries, staticOf, entryOfCall, afterNode, afterNodes, afterArgument, afterArguments, afterProperty, afterWith, afterImport, afterCall, afterTyped}
+use Rattle.dep.specs.Collect.{dynamicKind, moduleEntry, collector, collect, collectAll, collectOf, collectWith}
+use Rattle.dep.specs.code.Walk.{Calls, Begins, calleesOf, wroteEntries, staticOf, entryOfCall, afterNode, afterNodes, afterArgument, afterArguments, afterProperty, afterWith, afterImport, afterCall, afterTyped}
 use Rattle.dep.proofs.Wrote.{entries-append}
-
--- an export with a String, of either form
-abbrev pub ExportHead : Head → Bool → heads.Quoted → Bool → Type 0
-ExportHead x typeOnly q there = (x ≡ head.ExportFrom typeOnly q there) ⊎ (x ≡ head.ExportAll typeOnly q there)
-
-pub export-quotes : (s source : List ℕ) (at : ℕ) {x : Head} {typeOnly : Bool} {q : heads.Quoted} {there : Bool} → ExportHead x typeOnly q there
-    → PastHead s source at x → Quotes s source q
-export-quotes s source at (inl e) p = let past = rw e at p in (past .1, past .2)
-export-quotes s source at (inr e) p = let past = rw e at p in (past .1, past .2)
 
 -- the variants of a call's head
 pub calls : (x : Head) → OneOf (6 ∷ 7 ∷ []) (tagOf the-type x) → Calls x
@@ -224,15 +215,3 @@ module _ (source : List ℕ) (types : ℕ → Option SpecifierWithRange) where
   import-written w s d x {t} {u} e f =
       let (a, is, gives) = onOk-ok tallyWith x e in
       rw is (ap (λ w. ok w u) (f a u is))
-
-  -- an export, its attributes read
-  pub export-holds : (w : Buffer) (s : List ℕ) (levels : ℕ) (sp : Span) {x : Head} {typeOnly : Bool} {q : heads.Quoted} {there : Bool}
-      → ExportHead x typeOnly q there → (u : List ℕ)
-      → onOk (afterImport source types s (record { kind = exportKind typeOnly; span = sp; specifier = q; «is_side_effect» = false }) w)
-      (behind there (attributesObject source levels) u)
-      ≡ onOk (afterNode source types w) (rest source levels (sp, headOf s x) u)
-  unfolding collector
-  export-holds w s levels sp {x} {typeOnly} {q} {there} (inl e) u =
-      rw e (built _ (afterNode source types w) (exportFrom sp typeOnly (quotedOf s q)) (λ a. refl) (behind there (attributesObject source levels) u))
-  export-holds w s levels sp {x} {typeOnly} {q} {there} (inr e) u =
-      rw e (built _ (afterNode source types w) (exportAll sp typeOnly (quotedOf s q)) (λ a. refl) (behind there (attributesObject source levels) u))

@@ -1,5 +1,5 @@
-// The entries of dependencies in the report. cs and gs are the tables of comments and groups, k their counts, index that of the source's positions;
-// d is what is known of the dependency, c a cursor in the sheet, and p the place in the buffer.
+// The entries of dependencies in the report. comments, groups and index are the tables of comments, groups and the source's positions,
+// counts how many comments and groups there are, cursor is in the sheet, and place in the buffer.
 use arguments::argument::DynamicArgument;
 use arguments::argument::parse_argument;
 use arguments::argument::put_argument;
@@ -123,23 +123,6 @@ pub fn dynamic_kind(phase: ImportPhase) -> DynamicDependencyKind
     }
 }
 
-// A static dependency of the node with that span.
-pub fn static_dependency(
-    kind: StaticDependencyKind,
-    span: Span,
-    specifier: Quoted,
-    is_side_effect: bool,
-) -> StaticDependencyDescriptor
-    ensures { λ r. ⌜ r ≡ record { kind = kind; span = span; specifier = specifier; «is_side_effect» = «is_side_effect» } ⌝ }
-{
-    StaticDependencyDescriptor {
-        kind,
-        span,
-        specifier,
-        is_side_effect,
-    }
-}
-
 // A call at the node with that span.
 pub fn call_head(kind: DynamicDependencyKind, span: Span, listed: bool) -> CallHead
     ensures { λ r. ⌜ r ≡ record { kind = kind; span = span; listed = listed } ⌝ }
@@ -151,36 +134,46 @@ pub fn call_head(kind: DynamicDependencyKind, span: Span, listed: bool) -> CallH
 fn put_static_entry(
     sheet: &[u8],
     source: &[u8],
-    d: StaticDependencyDescriptor,
+    dependency: StaticDependencyDescriptor,
     pairs: &[usize],
-    a: ImportAttributes,
-    cs: &[u32; COMMENT_NUMBERS],
-    gs: &[u32; GROUP_NUMBERS],
-    k: Counts,
+    attributes: ImportAttributes,
+    comments: &[u32; COMMENT_NUMBERS],
+    groups: &[u32; GROUP_NUMBERS],
+    counts: Counts,
     index: &[u32; INDEX_NUMBERS],
     out: &mut [u8],
-    p: Place,
+    place: Place,
 ) -> Place
-    requires { ⌜ Held (now source) (now cs) (k .comments) (now gs) (k .groups) (now index)
-        × Quotes (now sheet) (now source) (d .specifier)
-        × AttributesWithin (length (now sheet)) (now pairs) a ⌝ }
+    requires { ⌜ Held (now source) (now comments) (counts .comments) (now groups) (counts .groups) (now index)
+        × Quotes (now sheet) (now source) (dependency .specifier)
+        × AttributesWithin (length (now sheet)) (now pairs) attributes ⌝ }
     ensures { λ r. ⌜ bufferAs (now (out .exit)) r
-        ≡ wroteEntries (bufferAs (now (out .entry)) p)
+        ≡ wroteEntries (bufferAs (now (out .entry)) place)
         (staticOf (now (source .entry))
-        (typesFrom (now (source .entry)) (now (cs .entry)) (now (gs .entry)) k)
-        (now (sheet .entry)) d (attributesAs (now (sheet .entry)) (now (pairs .entry)) a)) ⌝ }
+        (typesFrom (now (source .entry)) (now (comments .entry)) (now (groups .entry)) counts)
+        (now (sheet .entry)) dependency (attributesAs (now (sheet .entry)) (now (pairs .entry)) attributes)) ⌝ }
 {
-    let start = d.span.start;
-    let specifier = d.specifier;
+    let start = dependency.span.start;
+    let specifier = dependency.specifier;
     let from = specifier.start;
     let to = specifier.end;
-    let kind = d.kind;
+    let kind = dependency.kind;
     let number = static_number(kind);
-    let p = p.put(out, number);
-    let p = analyze_ts_or_deno_types(source, cs, k.comments, gs, k.groups, index, start, out, p);
-    let p = p.put_lossy_specifier(out, &sheet[from..to], source, index, specifier.span);
-    let p = p.put_flag(out, d.is_side_effect);
-    put_attributes(sheet, pairs, a, out, p)
+    let place = place.put(out, number);
+    let place = analyze_ts_or_deno_types(
+        source,
+        comments,
+        counts.comments,
+        groups,
+        counts.groups,
+        index,
+        start,
+        out,
+        place,
+    );
+    let place = place.put_lossy_specifier(out, &sheet[from..to], source, index, specifier.span);
+    let place = place.put_flag(out, dependency.is_side_effect);
+    put_attributes(sheet, pairs, attributes, out, place)
 }
 
 // The entry of an import type, or of a declaration, with the Object of its attributes at the cursor, if there is one. The table is here, and not in
@@ -189,55 +182,91 @@ fn put_static_entry(
 pub fn put_with_entry(
     sheet: &[u8],
     source: &[u8],
-    c: Cursor,
+    cursor: Cursor,
     there: bool,
     levels: usize,
-    d: StaticDependencyDescriptor,
-    cs: &[u32; COMMENT_NUMBERS],
-    gs: &[u32; GROUP_NUMBERS],
-    k: Counts,
+    dependency: StaticDependencyDescriptor,
+    comments: &[u32; COMMENT_NUMBERS],
+    groups: &[u32; GROUP_NUMBERS],
+    counts: Counts,
     index: &[u32; INDEX_NUMBERS],
     out: &mut [u8],
-    p: Place,
+    place: Place,
     is_type: bool,
 ) -> Place
-    requires { ⌜ Held (now source) (now cs) (k .comments) (now gs) (k .groups) (now index) × Quotes (now sheet) (now source) (d .specifier) ⌝ }
+    requires { ⌜ Held (now source) (now comments) (counts .comments) (now groups) (counts .groups) (now index) × Quotes (now sheet) (now source) (dependency .specifier) ⌝ }
     ensures { λ r. ⌜ ((a : Attributes) (t : List ℕ)
-        → behind there (attributesObject (now (source .entry)) levels) (drop (c .at) (now (sheet .entry))) ≡ ok a t
+        → behind there (attributesObject (now (source .entry)) levels) (drop (cursor .at) (now (sheet .entry))) ≡ ok a t
         → bufferAs (now (out .exit)) r
-        ≡ wroteEntries (bufferAs (now (out .entry)) p)
-        (staticOf (now (source .entry)) (typesFrom (now (source .entry)) (now (cs .entry)) (now (gs .entry)) k) (now (sheet .entry)) d (cond «is_type» (typeAttributes a) (staticAttributes a)))) ⌝ }
+        ≡ wroteEntries (bufferAs (now (out .entry)) place)
+        (staticOf (now (source .entry)) (typesFrom (now (source .entry)) (now (comments .entry)) (now (groups .entry)) counts) (now (sheet .entry)) dependency (cond «is_type» (typeAttributes a) (staticAttributes a)))) ⌝ }
     ensures { λ _. ⌜ Free (now (out .entry)) (now (out .exit)) ⌝ }
 {
     let mut pairs: [usize; PAIR_NUMBERS] = [0; PAIR_NUMBERS];
     if is_type {
-        let a = parse_type_attributes(sheet, source, c, there, levels, &mut pairs);
-        return put_static_entry(sheet, source, d, &pairs, a, cs, gs, k, index, out, p);
+        let attributes = parse_type_attributes(sheet, source, cursor, there, levels, &mut pairs);
+        return put_static_entry(
+            sheet,
+            source,
+            dependency,
+            &pairs,
+            attributes,
+            comments,
+            groups,
+            counts,
+            index,
+            out,
+            place,
+        );
     }
-    let a = parse_import_attributes(sheet, source, c, there, levels, &mut pairs);
-    put_static_entry(sheet, source, d, &pairs, a, cs, gs, k, index, out, p)
+    let attributes = parse_import_attributes(sheet, source, cursor, there, levels, &mut pairs);
+    put_static_entry(
+        sheet,
+        source,
+        dependency,
+        &pairs,
+        attributes,
+        comments,
+        groups,
+        counts,
+        index,
+        out,
+        place,
+    )
 }
 
 // The entry of a static dependency that has no attributes.
 pub fn put_plain_entry(
     sheet: &[u8],
     source: &[u8],
-    d: StaticDependencyDescriptor,
-    cs: &[u32; COMMENT_NUMBERS],
-    gs: &[u32; GROUP_NUMBERS],
-    k: Counts,
+    dependency: StaticDependencyDescriptor,
+    comments: &[u32; COMMENT_NUMBERS],
+    groups: &[u32; GROUP_NUMBERS],
+    counts: Counts,
     index: &[u32; INDEX_NUMBERS],
     out: &mut [u8],
-    p: Place,
+    place: Place,
 ) -> Place
-    requires { ⌜ Held (now source) (now cs) (k .comments) (now gs) (k .groups) (now index) × Quotes (now sheet) (now source) (d .specifier) ⌝ }
+    requires { ⌜ Held (now source) (now comments) (counts .comments) (now groups) (counts .groups) (now index) × Quotes (now sheet) (now source) (dependency .specifier) ⌝ }
     ensures { λ r. ⌜ bufferAs (now (out .exit)) r
-        ≡ wroteEntries (bufferAs (now (out .entry)) p)
-        (staticOf (now (source .entry)) (typesFrom (now (source .entry)) (now (cs .entry)) (now (gs .entry)) k) (now (sheet .entry)) d info.none) ⌝ }
+        ≡ wroteEntries (bufferAs (now (out .entry)) place)
+        (staticOf (now (source .entry)) (typesFrom (now (source .entry)) (now (comments .entry)) (now (groups .entry)) counts) (now (sheet .entry)) dependency info.none) ⌝ }
 {
     let pairs: [usize; 1] = [0; 1];
-    let a = ImportAttributes::None;
-    put_static_entry(sheet, source, d, &pairs, a, cs, gs, k, index, out, p)
+    let attributes = ImportAttributes::None;
+    put_static_entry(
+        sheet,
+        source,
+        dependency,
+        &pairs,
+        attributes,
+        comments,
+        groups,
+        counts,
+        index,
+        out,
+        place,
+    )
 }
 
 // `visit_ts_module_decl`: the entry of a module declaration with a String, if it may be an augmentation.
@@ -246,106 +275,150 @@ pub fn put_module_entry(
     source: &[u8],
     span: Span,
     specifier: Quoted,
-    cs: &[u32; COMMENT_NUMBERS],
-    gs: &[u32; GROUP_NUMBERS],
-    k: Counts,
+    comments: &[u32; COMMENT_NUMBERS],
+    groups: &[u32; GROUP_NUMBERS],
+    counts: Counts,
     index: &[u32; INDEX_NUMBERS],
     out: &mut [u8],
-    p: Place,
+    place: Place,
 ) -> Place
-    requires { ⌜ Held (now source) (now cs) (k .comments) (now gs) (k .groups) (now index) × Quotes (now sheet) (now source) specifier ⌝ }
+    requires { ⌜ Held (now source) (now comments) (counts .comments) (now groups) (counts .groups) (now index) × Quotes (now sheet) (now source) specifier ⌝ }
     ensures { λ r. ⌜ bufferAs (now (out .exit)) r
-        ≡ wroteEntries (bufferAs (now (out .entry)) p)
+        ≡ wroteEntries (bufferAs (now (out .entry)) place)
         (moduleEntry (now (source .entry))
-        (typesFrom (now (source .entry)) (now (cs .entry)) (now (gs .entry)) k)
+        (typesFrom (now (source .entry)) (now (comments .entry)) (now (groups .entry)) counts)
         span (Option.some (quotedOf (now (sheet .entry)) specifier))) ⌝ }
 {
     if declares(sheet, specifier) {
-        let kind = StaticDependencyKind::MaybeTsModuleAugmentation;
-        let d = static_dependency(kind, span, specifier, false);
-        return put_plain_entry(sheet, source, d, cs, gs, k, index, out, p);
+        let dependency = StaticDependencyDescriptor {
+            kind: StaticDependencyKind::MaybeTsModuleAugmentation,
+            span,
+            specifier,
+            is_side_effect: false,
+        };
+        return put_plain_entry(
+            sheet,
+            source,
+            dependency,
+            comments,
+            groups,
+            counts,
+            index,
+            out,
+            place,
+        );
     }
-    p
+    place
 }
 
 // The entry of a dynamic dependency, with so many arguments behind the first at the cursor. The table is here as in `put_with_entry`.
 fn put_dynamic_entry(
     sheet: &[u8],
     source: &[u8],
-    c: Cursor,
+    cursor: Cursor,
     more: usize,
     levels: usize,
-    d: DynamicDependencyDescriptor,
-    cs: &[u32; COMMENT_NUMBERS],
-    gs: &[u32; GROUP_NUMBERS],
-    k: Counts,
+    dependency: DynamicDependencyDescriptor,
+    comments: &[u32; COMMENT_NUMBERS],
+    groups: &[u32; GROUP_NUMBERS],
+    counts: Counts,
     index: &[u32; INDEX_NUMBERS],
     out: &mut [u8],
-    p: Place,
+    place: Place,
 ) -> Place
-    requires { ⌜ Held (now source) (now cs) (k .comments) (now gs) (k .groups) (now index)
-        × InSource (now source) (d .«argument_range»)
-        × ArgumentWithin (length (now sheet)) (d .argument) ⌝ }
+    requires { ⌜ Held (now source) (now comments) (counts .comments) (now groups) (counts .groups) (now index)
+        × InSource (now source) (dependency .«argument_range»)
+        × ArgumentWithin (length (now sheet)) (dependency .argument) ⌝ }
     ensures { λ r. ⌜ ((v : info.DynamicArgument) (xs : Arguments) (t : List ℕ)
-        → Stands (now (sheet .entry)) (now (source .entry)) levels (d .argument) v
-        → arguments (node (now (source .entry)) levels) (now (source .entry)) more (drop (c .at) (now (sheet .entry))) ≡ ok xs t
+        → Stands (now (sheet .entry)) (now (source .entry)) levels (dependency .argument) v
+        → arguments (node (now (source .entry)) levels) (now (source .entry)) more (drop (cursor .at) (now (sheet .entry))) ≡ ok xs t
         → bufferAs (now (out .exit)) r
-        ≡ wroteEntries (bufferAs (now (out .entry)) p)
+        ≡ wroteEntries (bufferAs (now (out .entry)) place)
         (dynamicOf (now (source .entry))
-        (typesFrom (now (source .entry)) (now (cs .entry)) (now (gs .entry)) k)
-        d v (dynamicAttributes xs))) ⌝ }
+        (typesFrom (now (source .entry)) (now (comments .entry)) (now (groups .entry)) counts)
+        dependency v (dynamicAttributes xs))) ⌝ }
 {
-    let kind = d.kind;
+    let kind = dependency.kind;
     let number = dynamic_number(kind);
-    let p = p.put(out, number);
+    let place = place.put(out, number);
     let mut pairs: [usize; PAIR_NUMBERS] = [0; PAIR_NUMBERS];
-    let attributes = parse_dynamic_import_attributes(sheet, source, c, more, levels, &mut pairs);
-    let argument = d.argument;
-    let p = analyze_ts_or_deno_types(source, cs, k.comments, gs, k.groups, index, d.start, out, p);
-    let p = put_argument(sheet, source, levels, argument, out, p);
-    let p = p.put_span(out, source, index, d.argument_range);
-    put_attributes(sheet, &pairs, attributes, out, p)
+    let attributes = parse_dynamic_import_attributes(
+        sheet,
+        source,
+        cursor,
+        more,
+        levels,
+        &mut pairs,
+    );
+    let argument = dependency.argument;
+    let place = analyze_ts_or_deno_types(
+        source,
+        comments,
+        counts.comments,
+        groups,
+        counts.groups,
+        index,
+        dependency.start,
+        out,
+        place,
+    );
+    let place = put_argument(sheet, source, levels, argument, out, place);
+    let place = place.put_span(out, source, index, dependency.argument_range);
+    put_attributes(sheet, &pairs, attributes, out, place)
 }
 
 // The entry of a call by its first argument, whose node is at the cursor, with so many arguments behind it.
 fn put_argument_entry(
     sheet: &[u8],
     source: &[u8],
-    c: Cursor,
+    cursor: Cursor,
     more: usize,
     levels: usize,
-    d: CallHead,
+    call: CallHead,
     range: Span,
-    cs: &[u32; COMMENT_NUMBERS],
-    gs: &[u32; GROUP_NUMBERS],
-    k: Counts,
+    comments: &[u32; COMMENT_NUMBERS],
+    groups: &[u32; GROUP_NUMBERS],
+    counts: Counts,
     index: &[u32; INDEX_NUMBERS],
     out: &mut [u8],
-    p: Place,
+    place: Place,
 ) -> Place
-    requires { ⌜ Held (now source) (now cs) (k .comments) (now gs) (k .groups) (now index) × InSource (now source) range ⌝ }
+    requires { ⌜ Held (now source) (now comments) (counts .comments) (now groups) (counts .groups) (now index) × InSource (now source) range ⌝ }
     ensures { λ r. ⌜ ((dots : Bool) (n : Node) (xs : Arguments) (t u : List ℕ)
-        → node (now (source .entry)) levels (drop (c .at) (now (sheet .entry))) ≡ ok n t
+        → node (now (source .entry)) levels (drop (cursor .at) (now (sheet .entry))) ≡ ok n t
         → arguments (node (now (source .entry)) levels) (now (source .entry)) more t ≡ ok xs u
         → bufferAs (now (out .exit)) r
-        ≡ wroteEntries (bufferAs (now (out .entry)) p)
+        ≡ wroteEntries (bufferAs (now (out .entry)) place)
         (callEntry (now (source .entry))
-        (typesFrom (now (source .entry)) (now (cs .entry)) (now (gs .entry)) k)
-        (d .kind) (d .span) (argument dots range n xs))) ⌝ }
+        (typesFrom (now (source .entry)) (now (comments .entry)) (now (groups .entry)) counts)
+        (call .kind) (call .span) (argument dots range n xs))) ⌝ }
 {
-    let kind = d.kind;
-    let argument = parse_argument(sheet, source, c, levels);
-    let e = DynamicDependencyDescriptor {
+    let kind = call.kind;
+    let argument = parse_argument(sheet, source, cursor, levels);
+    let dependency = DynamicDependencyDescriptor {
         kind,
-        start: d.span.start,
+        start: call.span.start,
         argument,
         argument_range: range,
     };
     if more == 0 {
-        return put_dynamic_entry(sheet, source, c, 0, levels, e, cs, gs, k, index, out, p);
+        return put_dynamic_entry(
+            sheet,
+            source,
+            cursor,
+            0,
+            levels,
+            dependency,
+            comments,
+            groups,
+            counts,
+            index,
+            out,
+            place,
+        );
     }
-    match check_node(sheet, source, c, levels) {
-        Checked::Refused(_) => p,
+    match check_node(sheet, source, cursor, levels) {
+        Checked::Refused(_) => place,
         Checked::Is(_, next) => {
             put_dynamic_entry(
                 sheet,
@@ -353,13 +426,13 @@ fn put_argument_entry(
                 next,
                 more,
                 levels,
-                e,
-                cs,
-                gs,
-                k,
+                dependency,
+                comments,
+                groups,
+                counts,
                 index,
                 out,
-                p,
+                place,
             )
         }
     }
@@ -370,29 +443,29 @@ fn put_argument_entry(
 pub fn put_call_entry(
     sheet: &[u8],
     source: &[u8],
-    c: Cursor,
+    cursor: Cursor,
     count: usize,
     levels: usize,
-    d: CallHead,
-    cs: &[u32; COMMENT_NUMBERS],
-    gs: &[u32; GROUP_NUMBERS],
-    k: Counts,
+    call: CallHead,
+    comments: &[u32; COMMENT_NUMBERS],
+    groups: &[u32; GROUP_NUMBERS],
+    counts: Counts,
     index: &[u32; INDEX_NUMBERS],
     out: &mut [u8],
-    p: Place,
+    place: Place,
 ) -> Place
-    requires { ⌜ Held (now source) (now cs) (k .comments) (now gs) (k .groups) (now index) ⌝ }
+    requires { ⌜ Held (now source) (now comments) (counts .comments) (now groups) (counts .groups) (now index) ⌝ }
     ensures { λ r. ⌜ ((xs : Arguments) (t : List ℕ)
-        → arguments (node (now (source .entry)) levels) (now (source .entry)) count (drop (c .at) (now (sheet .entry))) ≡ ok xs t
+        → arguments (node (now (source .entry)) levels) (now (source .entry)) count (drop (cursor .at) (now (sheet .entry))) ≡ ok xs t
         → bufferAs (now (out .exit)) r
-        ≡ wroteEntries (bufferAs (now (out .entry)) p)
-        (entryOfCall (now (source .entry)) (typesFrom (now (source .entry)) (now (cs .entry)) (now (gs .entry)) k) d xs)) ⌝ }
+        ≡ wroteEntries (bufferAs (now (out .entry)) place)
+        (entryOfCall (now (source .entry)) (typesFrom (now (source .entry)) (now (comments .entry)) (now (groups .entry)) counts) call xs)) ⌝ }
     ensures { λ _. ⌜ Free (now (out .entry)) (now (out .exit)) ⌝ }
 {
-    if d.listed {
+    if call.listed {
         if 0 < count {
-            return match read_argument(sheet, source, c) {
-                ArgumentRead::Refused(_) => p,
+            return match read_argument(sheet, source, cursor) {
+                ArgumentRead::Refused(_) => place,
                 ArgumentRead::Is {
                     span: range,
                     next: at,
@@ -404,18 +477,18 @@ pub fn put_call_entry(
                         at,
                         count - 1,
                         levels,
-                        d,
+                        call,
                         range,
-                        cs,
-                        gs,
-                        k,
+                        comments,
+                        groups,
+                        counts,
                         index,
                         out,
-                        p,
+                        place,
                     )
                 }
             };
         }
     }
-    p
+    place
 }

@@ -20,7 +20,7 @@ put-argument-entry-requires c κs =
     let a = c .before .before .before .before .before .before .before .before .before .before .args in
     let s = now (a .sheet) in
     let source = now (a .source) in
-    (c .before .before .before .before .before .before .before .before .before .before .pre, argument-spanned source (drop (a .c .at) s) (seen (argumentAs s) (c .before .before .before .before .read-argument .ensures .0) (c .before .before .range .given .1)))
+    (c .before .before .before .before .before .before .before .before .before .before .pre, argument-spanned source (drop (a .cursor .at) s) (seen (argumentAs s) (c .before .before .before .before .read-argument .ensures .0) (c .before .before .range .given .1)))
 
 returns : tie.Need-returns
 returns c =
@@ -28,7 +28,7 @@ returns c =
     let s = now (a .sheet) in
     let source = now (a .source) in
     let inner = node source (a .levels) in
-    let u = drop (a .c .at) s in
+    let u = drop (a .cursor .at) s in
     ((λ xs t is. absurd (no-first inner source (a .count) u (c .before .before .before .if2 .taken) is (seen (argumentAs s) (c .before .before .read-argument .ensures .0) (c .enum-told .given .1)))), search needs)
 
 returns-2 : tie.Need-returns-2
@@ -36,15 +36,15 @@ returns-2 c =
     let a = c .before .before .before .before .before .before .before .before .before .before .before .before .before .args in
     let s = now (a .sheet) in
     let source = now (a .source) in
-    let types = typesFrom source (now (a .cs)) (now (a .gs)) (a .k) in
-    let w = bufferAs (now (a .out)) (a .p) in
+    let types = typesFrom source (now (a .comments)) (now (a .groups)) (a .counts) in
+    let w = bufferAs (now (a .out)) (a .place) in
     let inner = node source (a .levels) in
-    let u = drop (a .c .at) s in (
+    let u = drop (a .cursor .at) s in (
       (λ xs t is.
           let f = first inner source (a .count) u (c .before .before .before .before .before .before .before .before .if2 .taken) is (seen (argumentAs s) (c .before .before .before .before .before .before .before .read-argument .ensures .0) (c .before .before .before .before .before .range .given .1)) in
           rw (c .before .before .before .before .before .before .before .before .before .if1 .taken)
           (c .before .before .put-argument-entry .ensures (c .before .before .before .before .before .range .given .0 .0) (f .node) (f .others) (f .between) t (f .read) (f .behind)
-          ∙ ap (λ xs. wroteEntries w (callEntry source types (a .d .kind) (a .d .span) xs)) (sym (f .are)))),
+          ∙ ap (λ xs. wroteEntries w (callEntry source types (a .call .kind) (a .call .span) xs)) (sym (f .are)))),
       search needs,
     )
 
@@ -55,13 +55,13 @@ returns-3 c =
     let s = now (a .sheet) in
     let source = now (a .source) in
     let inner = node source (a .levels) in
-    let u = drop (a .c .at) s in
-    ((λ xs t is. rw (c .before .if1 .taken, no-arguments inner source (a .count) u (c .if2 .left) is) (sym (entries-nil (now (a .out)) (a .p)))), search needs)
+    let u = drop (a .cursor .at) s in
+    ((λ xs t is. rw (c .before .if1 .taken, no-arguments inner source (a .count) u (c .if2 .left) is) (sym (entries-nil (now (a .out)) (a .place)))), search needs)
 
 returns-4 : tie.Need-returns-4
 returns-4 c =
     let a = c .before .before .before .before .args in
-    ((λ xs t is. rw (c .if1 .left) (sym (entries-nil (now (a .out)) (a .p)))), search needs)
+    ((λ xs t is. rw (c .if1 .left) (sym (entries-nil (now (a .out)) (a .place)))), search needs)
 
 pub put-call-entry-spec : {M : Type 1} → statement M
 put-call-entry-spec = tie.close (tie.spec (λ c κs. search needs) (λ c. search needs) (λ c. search needs) (λ c. search needs) put-argument-entry-requires returns (λ c. search needs) returns-2 returns-3 returns-4)

@@ -25,14 +25,14 @@ returns : tie.Need-returns
 returns c =
     let a = c .before .before .before .before .before .before .before .before .before .before .before .before .before .before .before .before .before .before .before .before .before .before .before .before .before .before .before .before .before .before .before .before .args in
     let source = now (a .source) in
-    let types = typesFrom source (now (a .cs)) (now (a .gs)) (a .k) in
-    let w = bufferAs (now (a .out)) (a .p) in
+    let types = typesFrom source (now (a .comments)) (now (a .groups)) (a .counts) in
+    let w = bufferAs (now (a .out)) (a .place) in
     let entry : info.DynamicArgument → Arguments → info.DynamicDependencyDescriptor =
     λ v xs. record {
-      kind = a .d .kind;
-      typesSpecifier = types (a .d .start);
+      kind = a .dependency .kind;
+      typesSpecifier = types (a .dependency .start);
       argument = v;
-      argumentRange = rangeOf source (a .d .«argument_range»);
+      argumentRange = rangeOf source (a .dependency .«argument_range»);
       importAttributes = dynamicAttributes xs;
     } in
     λ v xs t stands are. dynamic-written w (entry v xs) (rw (c .before .before .before .before .before .before .before .before .before .before .before .before .before .before .before .before .before .before .before .before .before .before .before .before .before .before .before .before .dynamic-number .ensures) at (c .before .before .before .before .before .before .before .before .before .before .before .before .before .before .before .before .before .before .before .before .before .before .before .before .before .before .put .ensures)) (c .before .before .before .before .before .before .before .before .before .before .before .before .before .before .before .before .analyze-ts-or-deno-types .ensures) (c .before .before .before .before .before .before .before .before .before .before .before .before .put-argument .ensures .0 v stands) (c .before .before .before .before .before .before .before .put-span .ensures) (rw (c .before .before .before .before .before .before .before .before .before .before .before .before .before .before .before .before .before .before .before .before .before .before .parse-dynamic-import-attributes .ensures .0 xs t are) at (c .before .before .put-attributes .ensures))

@@ -8,16 +8,13 @@ use Rattle.dep.proofs.Wrote.{entries-nil}
 use Rattle.dep.proofs.entries.put_module_entry.Statement.{statement}
 use Rattle.dep.proofs.entries.put_module_entry.Tie as tie
 
-put-plain-entry-requires : tie.Need-put-plain-entry-requires
-put-plain-entry-requires c κs = rw (c .before .static-dependency .ensures) (c .before .before .before .before .before .before .before .pre)
-
 returns : tie.Need-returns
 unfolding moduleEntry
-returns c = rw (known (c .before .before .before .before .before .before .declares .ensures) (c .before .before .before .before .before .if1 .taken)) (rw (c .before .before .before .before .static-dependency .ensures) at (c .before .before .put-plain-entry .ensures))
+returns c = rw (known (c .before .before .before .before .before .declares .ensures) (c .before .before .before .before .if1 .taken)) (c .before .before .put-plain-entry .ensures)
 
 returns-2 : tie.Need-returns-2
 unfolding moduleEntry
-returns-2 c = rw (known (c .before .declares .ensures) (c .if1 .left)) (sym (entries-nil (now (c .before .before .before .before .before .args .out)) (c .before .before .before .before .before .args .p)))
+returns-2 c = rw (known (c .before .declares .ensures) (c .if1 .left)) (sym (entries-nil (now (c .before .before .before .before .before .args .out)) (c .before .before .before .before .before .args .place)))
 
 pub put-module-entry-spec : {M : Type 1} → statement M
-put-module-entry-spec = tie.close (tie.spec (λ c κs. search needs) (λ c κs. search needs) put-plain-entry-requires (λ c. search needs) returns returns-2)
+put-module-entry-spec = tie.close (tie.spec (λ c κs. search needs) (λ c κs. search needs) (λ c. search needs) returns returns-2)

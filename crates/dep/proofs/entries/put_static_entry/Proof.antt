@@ -25,16 +25,16 @@ returns c =
     let a = c .before .before .before .before .before .before .before .before .before .before .before .before .before .before .before .before .before .before .before .before .before .before .before .before .before .before .before .before .before .before .before .args in
     let s = now (a .sheet) in
     let source = now (a .source) in
-    let types = typesFrom source (now (a .cs)) (now (a .gs)) (a .k) in
-    let w = bufferAs (now (a .out)) (a .p) in
-    let x = a .d .specifier in
+    let types = typesFrom source (now (a .comments)) (now (a .groups)) (a .counts) in
+    let w = bufferAs (now (a .out)) (a .place) in
+    let x = a .dependency .specifier in
     let d : info.StaticDependencyDescriptor =
     record {
-      kind = a .d .kind;
-      typesSpecifier = types (a .d .span .start);
+      kind = a .dependency .kind;
+      typesSpecifier = types (a .dependency .span .start);
       specifier = record { text = lossy (part s (x .start) (x .end)); range = rangeOf source (x .span) };
-      sideEffect = a .d .«is_side_effect»;
-      importAttributes = attributesAs s (now (a .pairs)) (a .a);
+      sideEffect = a .dependency .«is_side_effect»;
+      importAttributes = attributesAs s (now (a .pairs)) (a .attributes);
     } in
     static-written w d (rw (c .before .before .before .before .before .before .before .before .before .before .before .before .before .before .before .before .before .before .before .before .before .before .before .before .before .static-number .ensures) at (c .before .before .before .before .before .before .before .before .before .before .before .before .before .before .before .before .before .before .before .before .before .before .before .put .ensures)) (c .before .before .before .before .before .before .before .before .before .before .before .before .before .before .before .before .analyze-ts-or-deno-types .ensures) (c .before .before .before .before .before .before .before .before .before .before .put-lossy-specifier .ensures) (c .before .before .before .before .before .before .put-flag .ensures) (c .before .before .put-attributes .ensures)
 

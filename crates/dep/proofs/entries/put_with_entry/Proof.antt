@@ -12,18 +12,18 @@ returns c =
     let a = c .before .before .before .before .before .before .before .before .before .before .before .before .args in
     let s = now (a .sheet) in
     let source = now (a .source) in
-    let types = typesFrom source (now (a .cs)) (now (a .gs)) (a .k) in
-    let w = bufferAs (now (a .out)) (a .p) in
-    ((λ b t is. c .before .before .put-static-entry .ensures ∙ ap (λ x. wroteEntries w (staticOf source types s (a .d) x)) (rw (c .before .before .before .before .before .before .before .before .if1 .taken) (c .before .before .before .before .before .before .parse-type-attributes .ensures .0 b t is))), search needs)
+    let types = typesFrom source (now (a .comments)) (now (a .groups)) (a .counts) in
+    let w = bufferAs (now (a .out)) (a .place) in
+    ((λ b t is. c .before .before .put-static-entry .ensures ∙ ap (λ x. wroteEntries w (staticOf source types s (a .dependency) x)) (rw (c .before .before .before .before .before .before .before .before .if1 .taken) (c .before .before .before .before .before .before .parse-type-attributes .ensures .0 b t is))), search needs)
 
 returns-2 : tie.Need-returns-2
 returns-2 c =
     let a = c .before .before .before .before .before .before .before .before .before .before .before .before .args in
     let s = now (a .sheet) in
     let source = now (a .source) in
-    let types = typesFrom source (now (a .cs)) (now (a .gs)) (a .k) in
-    let w = bufferAs (now (a .out)) (a .p) in
-    ((λ b t is. c .before .before .put-static-entry2 .ensures ∙ ap (λ x. wroteEntries w (staticOf source types s (a .d) x)) (rw (c .before .before .before .before .before .before .before .before .if1 .left) (c .before .before .before .before .before .before .parse-import-attributes .ensures .0 b t is))), search needs)
+    let types = typesFrom source (now (a .comments)) (now (a .groups)) (a .counts) in
+    let w = bufferAs (now (a .out)) (a .place) in
+    ((λ b t is. c .before .before .put-static-entry2 .ensures ∙ ap (λ x. wroteEntries w (staticOf source types s (a .dependency) x)) (rw (c .before .before .before .before .before .before .before .before .if1 .left) (c .before .before .before .before .before .before .parse-import-attributes .ensures .0 b t is))), search needs)
 
 pub put-with-entry-spec : {M : Type 1} → statement M
 put-with-entry-spec =

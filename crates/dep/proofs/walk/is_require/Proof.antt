@@ -36,12 +36,12 @@ returns c =
 returns-2 : tie.Need-returns-2
 returns-2 c =
     let a = c .before .before .before .before .before .before .before .before .before .before .before .args in
-    λ n t e. c .is-require .ensures ∙ name-is (now (a .sheet)) (now (a .source)) (a .c .at) (a .levels) (c .before .before .before .before .before .before .before .before .read-head .ensures .0) (c .before .before .before .before .before .before .head .given .1) e (c .before .before .before .head2 .given .1)
+    λ n t e. c .is-require .ensures ∙ name-is (now (a .sheet)) (now (a .source)) (a .cursor .at) (a .levels) (c .before .before .before .before .before .before .before .before .read-head .ensures .0) (c .before .before .before .before .before .before .head .given .1) e (c .before .before .before .head2 .given .1)
 
 returns-3 : tie.Need-returns-3
 returns-3 c =
     let a = c .before .before .before .before .before .before .before .args in
-    λ n t e. other-is (now (a .sheet)) (now (a .source)) (a .c .at) (a .levels) (c .before .before .before .before .read-head .ensures .0) (c .before .before .head .given .1) e (c .match2 .keys2)
+    λ n t e. other-is (now (a .sheet)) (now (a .source)) (a .cursor .at) (a .levels) (c .before .before .before .before .read-head .ensures .0) (c .before .before .head .given .1) e (c .match2 .keys2)
 
 pub is-require-spec : {M : Type 1} → statement M
 is-require-spec =

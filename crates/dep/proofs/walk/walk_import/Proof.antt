@@ -22,7 +22,7 @@ returns c =
     let a = c .before .before .before .before .before .before .before .before .args in
     let s = now (a .sheet) in
     let source = now (a .source) in
-    let x = behind (a .there) (attributesObject source (a .levels)) (drop (a .c .at) s) in
+    let x = behind (a .there) (attributesObject source (a .levels)) (drop (a .cursor .at) s) in
     (rw (onOk-no tallyWith x (seen (talliedAs s) (c .before .before .before .check-attributes .ensures .0) (c .before .r .given .1))), tt)
 
 returns-2 : tie.Need-returns-2
@@ -30,17 +30,17 @@ returns-2 c =
     let a = c .before .before .before .before .before .before .before .before .before .before .before .before .args in
     let s = now (a .sheet) in
     let source = now (a .source) in
-    let types = typesFrom source (now (a .cs)) (now (a .gs)) (a .k) in
-    let w = bufferAs (now (a .out)) (a .p) in
-    let x = behind (a .there) (attributesObject source (a .levels)) (drop (a .c .at) s) in
+    let types = typesFrom source (now (a .comments)) (now (a .groups)) (a .counts) in
+    let w = bufferAs (now (a .out)) (a .place) in
+    let x = behind (a .there) (attributesObject source (a .levels)) (drop (a .cursor .at) s) in
     let past = rw (c .before .before .before .before .before .next .given .1) at (c .before .before .before .before .before .before .before .check-attributes .ensures .1) in
-    (import-written source types w s (a .d) x (seen (talliedAs s) (c .before .before .before .before .before .before .before .check-attributes .ensures .0) (c .before .before .before .before .before .next .given .1)) (c .before .before .put-with-entry .ensures .0), past .0)
+    (import-written source types w s (a .dependency) x (seen (talliedAs s) (c .before .before .before .before .before .before .before .check-attributes .ensures .0) (c .before .before .before .before .before .next .given .1)) (c .before .before .put-with-entry .ensures .0), past .0)
 
 returns-3 : tie.Need-returns-3
 unfolding staticAttributes
 returns-3 c =
     let a = c .before .before .before .before .before .before .before .before .args in
-    (rw (c .before .before .before .before .if1 .left) (ap (λ w. ok w (drop (a .c .at) (now (a .sheet)))) (c .before .before .put-plain-entry .ensures)), c .before .before .before .before .before .before .before .before .pre .2)
+    (rw (c .before .before .before .before .if1 .left) (ap (λ w. ok w (drop (a .cursor .at) (now (a .sheet)))) (c .before .before .put-plain-entry .ensures)), c .before .before .before .before .before .before .before .before .pre .2)
 
 pub walk-import-spec : {M : Type 1} → statement M
 walk-import-spec = tie.close (tie.spec (λ c κs. search needs) (λ c. search needs) (λ c. search needs) (λ c κs. search needs) returns (λ c. search needs) returns-2 (λ c κs. search needs) (λ c. search needs) returns-3)

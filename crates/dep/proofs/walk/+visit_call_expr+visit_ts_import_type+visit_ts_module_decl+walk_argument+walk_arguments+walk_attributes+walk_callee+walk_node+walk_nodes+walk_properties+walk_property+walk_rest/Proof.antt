@@ -6,6 +6,7 @@ pub mod Attributes
 pub mod Call
 pub mod Callee
 pub mod ImportType
+pub mod Module
 pub mod Node
 pub mod Nodes
 pub mod Properties
@@ -13,36 +14,39 @@ pub mod Property
 pub mod Rest
 use borrow.Author.Needs.{needs}
 use Rattle.dep.proofs.walk.walk_argument.Reads as walk-argument
-use Rattle.dep.proofs.walk.+visit_call_expr+visit_ts_import_type+walk_argument+walk_arguments+walk_attributes+walk_callee+walk_node+walk_nodes+walk_properties+walk_property+walk_rest.Lts-walk_argument as walk-argument-lts
+use Rattle.dep.proofs.walk.+visit_call_expr+visit_ts_import_type+visit_ts_module_decl+walk_argument+walk_arguments+walk_attributes+walk_callee+walk_node+walk_nodes+walk_properties+walk_property+walk_rest.Lts-walk_argument as walk-argument-lts
 use Rattle.dep.proofs.walk.walk_arguments.Reads as walk-arguments
-use Rattle.dep.proofs.walk.+visit_call_expr+visit_ts_import_type+walk_argument+walk_arguments+walk_attributes+walk_callee+walk_node+walk_nodes+walk_properties+walk_property+walk_rest.Lts-walk_arguments as walk-arguments-lts
+use Rattle.dep.proofs.walk.+visit_call_expr+visit_ts_import_type+visit_ts_module_decl+walk_argument+walk_arguments+walk_attributes+walk_callee+walk_node+walk_nodes+walk_properties+walk_property+walk_rest.Lts-walk_arguments as walk-arguments-lts
 use Rattle.dep.proofs.walk.walk_attributes.Reads as walk-attributes
-use Rattle.dep.proofs.walk.+visit_call_expr+visit_ts_import_type+walk_argument+walk_arguments+walk_attributes+walk_callee+walk_node+walk_nodes+walk_properties+walk_property+walk_rest.Lts-walk_attributes as walk-attributes-lts
+use Rattle.dep.proofs.walk.+visit_call_expr+visit_ts_import_type+visit_ts_module_decl+walk_argument+walk_arguments+walk_attributes+walk_callee+walk_node+walk_nodes+walk_properties+walk_property+walk_rest.Lts-walk_attributes as walk-attributes-lts
 use Rattle.dep.proofs.walk.visit_call_expr.Reads as visit-call-expr
-use Rattle.dep.proofs.walk.+visit_call_expr+visit_ts_import_type+walk_argument+walk_arguments+walk_attributes+walk_callee+walk_node+walk_nodes+walk_properties+walk_property+walk_rest.Lts-visit_call_expr as visit-call-expr-lts
+use Rattle.dep.proofs.walk.+visit_call_expr+visit_ts_import_type+visit_ts_module_decl+walk_argument+walk_arguments+walk_attributes+walk_callee+walk_node+walk_nodes+walk_properties+walk_property+walk_rest.Lts-visit_call_expr as visit-call-expr-lts
 use Rattle.dep.proofs.walk.walk_callee.Reads as walk-callee
-use Rattle.dep.proofs.walk.+visit_call_expr+visit_ts_import_type+walk_argument+walk_arguments+walk_attributes+walk_callee+walk_node+walk_nodes+walk_properties+walk_property+walk_rest.Lts-walk_callee as walk-callee-lts
+use Rattle.dep.proofs.walk.+visit_call_expr+visit_ts_import_type+visit_ts_module_decl+walk_argument+walk_arguments+walk_attributes+walk_callee+walk_node+walk_nodes+walk_properties+walk_property+walk_rest.Lts-walk_callee as walk-callee-lts
 use Rattle.dep.proofs.walk.walk_node.Reads as walk-node
-use Rattle.dep.proofs.walk.+visit_call_expr+visit_ts_import_type+walk_argument+walk_arguments+walk_attributes+walk_callee+walk_node+walk_nodes+walk_properties+walk_property+walk_rest.Lts-walk_node as walk-node-lts
+use Rattle.dep.proofs.walk.+visit_call_expr+visit_ts_import_type+visit_ts_module_decl+walk_argument+walk_arguments+walk_attributes+walk_callee+walk_node+walk_nodes+walk_properties+walk_property+walk_rest.Lts-walk_node as walk-node-lts
 use Rattle.dep.proofs.walk.walk_nodes.Reads as walk-nodes
-use Rattle.dep.proofs.walk.+visit_call_expr+visit_ts_import_type+walk_argument+walk_arguments+walk_attributes+walk_callee+walk_node+walk_nodes+walk_properties+walk_property+walk_rest.Lts-walk_nodes as walk-nodes-lts
+use Rattle.dep.proofs.walk.+visit_call_expr+visit_ts_import_type+visit_ts_module_decl+walk_argument+walk_arguments+walk_attributes+walk_callee+walk_node+walk_nodes+walk_properties+walk_property+walk_rest.Lts-walk_nodes as walk-nodes-lts
 use Rattle.dep.proofs.walk.walk_properties.Reads as walk-properties
-use Rattle.dep.proofs.walk.+visit_call_expr+visit_ts_import_type+walk_argument+walk_arguments+walk_attributes+walk_callee+walk_node+walk_nodes+walk_properties+walk_property+walk_rest.Lts-walk_properties as walk-properties-lts
+use Rattle.dep.proofs.walk.+visit_call_expr+visit_ts_import_type+visit_ts_module_decl+walk_argument+walk_arguments+walk_attributes+walk_callee+walk_node+walk_nodes+walk_properties+walk_property+walk_rest.Lts-walk_properties as walk-properties-lts
 use Rattle.dep.proofs.walk.walk_property.Reads as walk-property
-use Rattle.dep.proofs.walk.+visit_call_expr+visit_ts_import_type+walk_argument+walk_arguments+walk_attributes+walk_callee+walk_node+walk_nodes+walk_properties+walk_property+walk_rest.Lts-walk_property as walk-property-lts
+use Rattle.dep.proofs.walk.+visit_call_expr+visit_ts_import_type+visit_ts_module_decl+walk_argument+walk_arguments+walk_attributes+walk_callee+walk_node+walk_nodes+walk_properties+walk_property+walk_rest.Lts-walk_property as walk-property-lts
 use Rattle.dep.proofs.walk.walk_rest.Reads as walk-rest
-use Rattle.dep.proofs.walk.+visit_call_expr+visit_ts_import_type+walk_argument+walk_arguments+walk_attributes+walk_callee+walk_node+walk_nodes+walk_properties+walk_property+walk_rest.Lts-walk_rest as walk-rest-lts
+use Rattle.dep.proofs.walk.+visit_call_expr+visit_ts_import_type+visit_ts_module_decl+walk_argument+walk_arguments+walk_attributes+walk_callee+walk_node+walk_nodes+walk_properties+walk_property+walk_rest.Lts-walk_rest as walk-rest-lts
 use Rattle.dep.proofs.walk.visit_ts_import_type.Reads as visit-ts-import-type
-use Rattle.dep.proofs.walk.+visit_call_expr+visit_ts_import_type+walk_argument+walk_arguments+walk_attributes+walk_callee+walk_node+walk_nodes+walk_properties+walk_property+walk_rest.Lts-visit_ts_import_type as visit-ts-import-type-lts
-use Rattle.dep.proofs.walk.+visit_call_expr+visit_ts_import_type+walk_argument+walk_arguments+walk_attributes+walk_callee+walk_node+walk_nodes+walk_properties+walk_property+walk_rest.{statement}
-use Rattle.dep.proofs.walk.+visit_call_expr+visit_ts_import_type+walk_argument+walk_arguments+walk_attributes+walk_callee+walk_node+walk_nodes+walk_properties+walk_property+walk_rest.Tie.{close}
-use Rattle.dep.proofs.walk.+visit_call_expr+visit_ts_import_type+walk_argument+walk_arguments+walk_attributes+walk_callee+walk_node+walk_nodes+walk_properties+walk_property+walk_rest.Proof.Calls.{μ-walk-argument, walk-argument-at, walk-argument-calls, μ-walk-arguments, walk-arguments-at, walk-arguments-calls, μ-walk-attributes, walk-attributes-at, walk-attributes-calls, μ-visit-call-expr, visit-call-expr-at, visit-call-expr-calls, μ-walk-callee, walk-callee-at, walk-callee-calls, μ-walk-node, walk-node-at, walk-node-calls, μ-walk-nodes, walk-nodes-at, walk-nodes-calls, μ-walk-properties, walk-properties-at, walk-properties-calls, μ-walk-property, walk-property-at, walk-property-calls, μ-walk-rest, walk-rest-at, walk-rest-calls, μ-visit-ts-import-type, visit-ts-import-type-at, visit-ts-import-type-calls}
+use Rattle.dep.proofs.walk.+visit_call_expr+visit_ts_import_type+visit_ts_module_decl+walk_argument+walk_arguments+walk_attributes+walk_callee+walk_node+walk_nodes+walk_properties+walk_property+walk_rest.Lts-visit_ts_import_type as visit-ts-import-type-lts
+use Rattle.dep.proofs.walk.visit_ts_module_decl.Reads as visit-ts-module-decl
+use Rattle.dep.proofs.walk.+visit_call_expr+visit_ts_import_type+visit_ts_module_decl+walk_argument+walk_arguments+walk_attributes+walk_callee+walk_node+walk_nodes+walk_properties+walk_property+walk_rest.Lts-visit_ts_module_decl as visit-ts-module-decl-lts
+use Rattle.dep.proofs.walk.+visit_call_expr+visit_ts_import_type+visit_ts_module_decl+walk_argument+walk_arguments+walk_attributes+walk_callee+walk_node+walk_nodes+walk_properties+walk_property+walk_rest.{statement}
+use Rattle.dep.proofs.walk.+visit_call_expr+visit_ts_import_type+visit_ts_module_decl+walk_argument+walk_arguments+walk_attributes+walk_callee+walk_node+walk_nodes+walk_properties+walk_property+walk_rest.Tie.{close}
+use Rattle.dep.proofs.walk.+visit_call_expr+visit_ts_import_type+visit_ts_module_decl+walk_argument+walk_arguments+walk_attributes+walk_callee+walk_node+walk_nodes+walk_properties+walk_property+walk_rest.Proof.Calls.{μ-walk-argument, walk-argument-at, walk-argument-calls, μ-walk-arguments, walk-arguments-at, walk-arguments-calls, μ-walk-attributes, walk-attributes-at, walk-attributes-calls, μ-visit-call-expr, visit-call-expr-at, visit-call-expr-calls, μ-walk-callee, walk-callee-at, walk-callee-calls, μ-walk-node, walk-node-at, walk-node-calls, μ-walk-nodes, walk-nodes-at, walk-nodes-calls, μ-walk-properties, walk-properties-at, walk-properties-calls, μ-walk-property, walk-property-at, walk-property-calls, μ-walk-rest, walk-rest-at, walk-rest-calls, μ-visit-ts-import-type, visit-ts-import-type-at, visit-ts-import-type-calls, μ-visit-ts-module-decl, visit-ts-module-decl-at, visit-ts-module-decl-calls}
 
-pub +visit-call-expr+visit-ts-import-type+walk-argument+walk-arguments+walk-attributes+walk-callee+walk-node+walk-nodes+walk-properties+walk-property+walk-rest-spec : {M : Type 1} → statement M
-+visit-call-expr+visit-ts-import-type+walk-argument+walk-arguments+walk-attributes+walk-callee+walk-node+walk-nodes+walk-properties+walk-property+walk-rest-spec =
+pub +visit-call-expr+visit-ts-import-type+visit-ts-module-decl+walk-argument+walk-arguments+walk-attributes+walk-callee+walk-node+walk-nodes+walk-properties+walk-property+walk-rest-spec : {M : Type 1} → statement M
++visit-call-expr+visit-ts-import-type+visit-ts-module-decl+walk-argument+walk-arguments+walk-attributes+walk-callee+walk-node+walk-nodes+walk-properties+walk-property+walk-rest-spec =
     close
     μ-visit-call-expr
     μ-visit-ts-import-type
+    μ-visit-ts-module-decl
     μ-walk-argument
     μ-walk-arguments
     μ-walk-attributes
@@ -93,6 +97,11 @@ pub +visit-call-expr+visit-ts-import-type+walk-argument+walk-arguments+walk-attr
     (ImportType.returns-3 t)
     (ImportType.same-length-2 t)
     (ImportType.returns-4 t))
+    (λ t. visit-ts-module-decl-lts.spec (visit-ts-module-decl-calls t) (visit-ts-module-decl-at t) visit-ts-module-decl.Post
+    (λ c κs. search needs)
+    (λ c κs. search needs)
+    (λ c. search needs)
+    (Module.returns t))
     (λ t. walk-argument-lts.spec (walk-argument-calls t) (walk-argument-at t) walk-argument.Post
     (λ c κs. search needs)
     (λ c. search needs)
@@ -191,26 +200,19 @@ pub +visit-call-expr+visit-ts-import-type+walk-argument+walk-arguments+walk-attr
     (λ c κs. search needs)
     (Rest.walk-callee-requires t)
     (λ c. search needs)
-    (λ c κs. search needs)
-    (λ c κs. search needs)
-    (Rest.walk-import-requires t)
+    (Rest.visit-import-decl-requires t)
     (λ c. search needs)
+    (Rest.visit-named-export-requires t)
     (λ c. search needs)
+    (Rest.visit-export-all-requires t)
     (λ c. search needs)
-    (λ c κs. search needs)
     (Rest.visit-ts-import-type-requires t)
     (λ c. search needs)
-    (λ c κs. search needs)
-    (λ c κs. search needs)
-    (Rest.walk-import-requires-2 t)
+    (Rest.visit-ts-import-equals-decl-requires t)
     (λ c. search needs)
     (λ c κs. search needs)
     (λ c. search needs)
-    (Rest.put-module-entry-requires t)
-    (λ c κs. search needs)
-    (λ c κs. search needs)
-    (λ c κs. search needs)
-    (Rest.walk-import-requires-3 t)
+    (Rest.visit-ts-module-decl-requires t)
     (λ c. search needs)
     (Rest.returns t)
     (Rest.returns-2 t)
@@ -234,4 +236,6 @@ pub +visit-call-expr+visit-ts-import-type+walk-argument+walk-arguments+walk-attr
     (λ c. search needs)
     (Rest.returns-12 t)
     (λ c. search needs)
-    (Rest.returns-13 t))
+    (Rest.returns-13 t)
+    (λ c. search needs)
+    (Rest.returns-14 t))

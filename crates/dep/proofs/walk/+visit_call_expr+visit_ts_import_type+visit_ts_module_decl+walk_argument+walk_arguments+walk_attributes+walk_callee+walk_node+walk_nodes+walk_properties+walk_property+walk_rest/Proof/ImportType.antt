@@ -1,23 +1,28 @@
 -- `visit_ts_import_type`: the entry of an import type, its children, and what its attributes hold.
 use mathlib.Core.Path.{_≡_, sym, ap, _∙_}
+use mathlib.Core.Bool.{false}
 use Prim.Native.Nat.{ℕ, _+_, _*_, _<_}
 use native.Mathlib.Omega.{arith}
 use lib.ListN.{drop}
 use denote.Ref.{now}
-use Rattle.laws.specs.Decoded.{onOk, _>>=_}
+use Rattle.laws.specs.Decoded.{onOk, andThen, _>>=_, return}
 use Rattle.laws.proofs.Decoding.{onOk-no, then-no}
 use Rattle.laws.proofs.Steps.{seen}
 use Rattle.wire.specs.code.Views.{flagAs}
+use Rattle.sheet.specs.Tree.{importType}
 use Rattle.sheet.specs.Nodes.{node, nodes, attributes, attributesObject, typeRest}
+use Rattle.heads.specs.code.Views.{quotedOf}
 use Rattle.nodes.specs.code.Judged.{tallyAll}
 use Rattle.nodes.specs.code.Answers.{talliedAs}
 use Rattle.nodes.proofs.Arms.{pair}
+use Rattle.report.specs.declared.names.StaticDependencyKind.the-variants as statics
 use Rattle.report.specs.Buffer.{bufferAs}
-use Rattle.dep.specs.code.Walk.{typesFrom, walkedAs, afterNodes, afterTyped}
-use Rattle.dep.proofs.Arms.{typed-walked}
+use Rattle.dep.specs.declared.entries.StaticDependencyDescriptor.{StaticDependencyDescriptor}
+use Rattle.dep.specs.code.Walk.{typesFrom, walkedAs, afterNode, afterNodes}
+use Rattle.dep.proofs.Arms.{typed-walked, typed-holds}
 use Rattle.dep.proofs.walk.visit_ts_import_type.Reads as visit-ts-import-type
-use Rattle.dep.proofs.walk.+visit_call_expr+visit_ts_import_type+walk_argument+walk_arguments+walk_attributes+walk_callee+walk_node+walk_nodes+walk_properties+walk_property+walk_rest.Lts-visit_ts_import_type as visit-ts-import-type-lts
-use Rattle.dep.proofs.walk.+visit_call_expr+visit_ts_import_type+walk_argument+walk_arguments+walk_attributes+walk_callee+walk_node+walk_nodes+walk_properties+walk_property+walk_rest.Proof.Calls.{visit-ts-import-type-at, visit-ts-import-type-calls}
+use Rattle.dep.proofs.walk.+visit_call_expr+visit_ts_import_type+visit_ts_module_decl+walk_argument+walk_arguments+walk_attributes+walk_callee+walk_node+walk_nodes+walk_properties+walk_property+walk_rest.Lts-visit_ts_import_type as visit-ts-import-type-lts
+use Rattle.dep.proofs.walk.+visit_call_expr+visit_ts_import_type+visit_ts_module_decl+walk_argument+walk_arguments+walk_attributes+walk_callee+walk_node+walk_nodes+walk_properties+walk_property+walk_rest.Proof.Calls.{visit-ts-import-type-at, visit-ts-import-type-calls}
 
 pub put-with-entry-requires : (t : ℕ) → visit-ts-import-type-lts.Need-put-with-entry-requires (visit-ts-import-type-calls t) (visit-ts-import-type-at t) visit-ts-import-type.Post
 put-with-entry-requires t c κs = (c .before .before .before .before .before .before .before .before .before .before .before .before .pre .1 .0, c .before .before .before .before .before .before .before .before .before .before .before .before .pre .1 .1)
@@ -42,7 +47,7 @@ returns t c =
     let s = now (a .sheet) in
     let source = now (a .source) in
     let inner = node source (a .levels) in
-    let ns = nodes inner (a .count) (drop (a .c .at) s) in
+    let ns = nodes inner (a .count) (drop (a .cursor .at) s) in
     (rw (onOk-no tallyAll ns (seen (talliedAs s) (c .before .before .before .check-nodes .ensures .0) (c .before .r .given .1))), tt)
 
 pub returns-2 : (t : ℕ) → visit-ts-import-type-lts.Need-returns-2 (visit-ts-import-type-calls t) (visit-ts-import-type-at t) visit-ts-import-type.Post
@@ -51,14 +56,14 @@ returns-2 t c =
     let a = c .before .before .before .before .before .before .before .before .before .before .before .args in
     let s = now (a .sheet) in
     let source = now (a .source) in
-    let types = typesFrom source (now (a .cs)) (now (a .gs)) (a .k) in
-    let w = bufferAs (now (a .out)) (a .p) in
+    let types = typesFrom source (now (a .comments)) (now (a .groups)) (a .counts) in
+    let w = bufferAs (now (a .out)) (a .place) in
     let inner = node source (a .levels) in
-    let ns = nodes inner (a .count) (drop (a .c .at) s) in
+    let ns = nodes inner (a .count) (drop (a .cursor .at) s) in
     let object′ = attributesObject source (a .levels) in
     let cut = seen (flagAs s) (c .before .before .before .flag .ensures .0) (c .before .r2 .given .1) in
     let none = then-no tallyAll ns (seen (talliedAs s) (c .before .before .before .before .before .before .before .check-nodes .ensures .0) (c .before .before .before .before .before .next .given .1)) (λ ns. attributes object′ >>= pair ns) (c .before .r2 .given .0 .0) (λ ns. rw cut) in
-    (sym (ap (onOk (afterTyped source types s (a .d) w)) none), tt)
+    (sym (ap (λ x. onOk (afterNode source types w) (andThen x (λ p. return (importType (a .span) (quotedOf s (a .specifier)) (p .0) (p .1))))) none), tt)
 
 pub returns-3 : (t : ℕ) → visit-ts-import-type-lts.Need-returns-3 (visit-ts-import-type-calls t) (visit-ts-import-type-at t) visit-ts-import-type.Post
 unfolding typeRest
@@ -66,9 +71,9 @@ returns-3 t c =
     let a = c .before .before .before .before .before .before .before .before .before .before .before .before .before .before .before .before .before .before .before .before .before .before .args in
     let s = now (a .sheet) in
     let source = now (a .source) in
-    let types = typesFrom source (now (a .cs)) (now (a .gs)) (a .k) in
+    let types = typesFrom source (now (a .comments)) (now (a .groups)) (a .counts) in
     let inner = node source (a .levels) in
-    let ns = nodes inner (a .count) (drop (a .c .at) s) in
+    let ns = nodes inner (a .count) (drop (a .cursor .at) s) in
     let w1 = bufferAs (c .before .before .before .before .before .before .before .before .before .put-with-entry .last .1 .1 .1 .1 .1 .1 .1 .1 .1 .1 .0) (c .before .before .before .before .before .before .before .before .before .put-with-entry .result) in
     (rw (onOk-no (afterNodes source types w1) ns (seen (walkedAs s (c .before .before .before .before .before .walk-nodes .last .1 .1 .1 .1 .1 .1 .1 .1 .1 .0)) (c .before .before .before .before .before .walk-nodes .ensures .0) (c .before .r3 .given .1))), tt)
 
@@ -81,9 +86,10 @@ returns-4 t c =
     let a = c .before .before .before .before .before .before .before .before .before .before .before .before .before .before .before .before .before .before .before .before .before .before .before .before .before .before .args in
     let s = now (a .sheet) in
     let source = now (a .source) in
-    let types = typesFrom source (now (a .cs)) (now (a .gs)) (a .k) in
-    let w = bufferAs (now (a .out)) (a .p) in
+    let types = typesFrom source (now (a .comments)) (now (a .groups)) (a .counts) in
+    let w = bufferAs (now (a .out)) (a .place) in
     let inner = node source (a .levels) in
-    let ns = nodes inner (a .count) (drop (a .c .at) s) in
+    let ns = nodes inner (a .count) (drop (a .cursor .at) s) in
     let object′ = attributesObject source (a .levels) in
-    (c .before .before .walk-attributes .ensures .0 ∙ typed-walked source types w s (a .d) object′ ns (seen (talliedAs s) (c .before .before .before .before .before .before .before .before .before .before .before .before .before .before .before .before .before .before .before .before .before .before .check-nodes .ensures .0) (c .before .before .before .before .before .before .before .before .before .before .before .before .before .before .before .before .before .before .before .before .next .given .1)) (seen (flagAs s) (c .before .before .before .before .before .before .before .before .before .before .before .before .before .before .before .before .before .before .flag .ensures .0) (c .before .before .before .before .before .before .before .before .before .before .before .before .before .before .before .before .there .given .1)) (c .before .before .before .before .before .before .before .before .before .before .before .before .before .put-with-entry .ensures .0) (seen (walkedAs s (c .before .before .before .before .before .before .before .before .before .walk-nodes .last .1 .1 .1 .1 .1 .1 .1 .1 .1 .0)) (c .before .before .before .before .before .before .before .before .before .walk-nodes .ensures .0) (c .before .before .before .before .before .p .given .1)), c .before .before .walk-attributes .ensures .1)
+    let d : StaticDependencyDescriptor = record { kind = statics.ImportType; span = a .span; specifier = a .specifier; «is_side_effect» = false } in
+    (c .before .before .walk-attributes .ensures .0 ∙ typed-walked source types w s d object′ ns (seen (talliedAs s) (c .before .before .before .before .before .before .before .before .before .before .before .before .before .before .before .before .before .before .before .before .before .before .check-nodes .ensures .0) (c .before .before .before .before .before .before .before .before .before .before .before .before .before .before .before .before .before .before .before .before .next .given .1)) (seen (flagAs s) (c .before .before .before .before .before .before .before .before .before .before .before .before .before .before .before .before .before .before .flag .ensures .0) (c .before .before .before .before .before .before .before .before .before .before .before .before .before .before .before .before .there .given .1)) (c .before .before .before .before .before .before .before .before .before .before .before .before .before .put-with-entry .ensures .0) (seen (walkedAs s (c .before .before .before .before .before .before .before .before .before .walk-nodes .last .1 .1 .1 .1 .1 .1 .1 .1 .1 .0)) (c .before .before .before .before .before .before .before .before .before .walk-nodes .ensures .0) (c .before .before .before .before .before .place .given .1)) ∙ typed-holds source types w s (a .span) (a .specifier) (typeRest inner object′ (a .count) (drop (a .cursor .at) s)), c .before .before .walk-attributes .ensures .1)

@@ -6,44 +6,44 @@ use borrow.Fn.Kinds.{PK, In}
 use borrow.Fn.PlainCycle.{Measures}
 use Rattle.dep.proofs.walk.walk_argument.Reads as walk-argument
 use Rattle.dep.proofs.walk.walk_argument.Kinds as walk-argument-kinds
-use Rattle.dep.proofs.walk.+visit_call_expr+visit_ts_import_type+walk_argument+walk_arguments+walk_attributes+walk_callee+walk_node+walk_nodes+walk_properties+walk_property+walk_rest.Lts-walk_argument as walk-argument-lts
+use Rattle.dep.proofs.walk.+visit_call_expr+visit_ts_import_type+visit_ts_module_decl+walk_argument+walk_arguments+walk_attributes+walk_callee+walk_node+walk_nodes+walk_properties+walk_property+walk_rest.Lts-walk_argument as walk-argument-lts
 use Rattle.dep.proofs.walk.walk_arguments.Reads as walk-arguments
 use Rattle.dep.proofs.walk.walk_arguments.Kinds as walk-arguments-kinds
-use Rattle.dep.proofs.walk.+visit_call_expr+visit_ts_import_type+walk_argument+walk_arguments+walk_attributes+walk_callee+walk_node+walk_nodes+walk_properties+walk_property+walk_rest.Lts-walk_arguments as walk-arguments-lts
+use Rattle.dep.proofs.walk.+visit_call_expr+visit_ts_import_type+visit_ts_module_decl+walk_argument+walk_arguments+walk_attributes+walk_callee+walk_node+walk_nodes+walk_properties+walk_property+walk_rest.Lts-walk_arguments as walk-arguments-lts
 use Rattle.dep.proofs.walk.walk_attributes.Reads as walk-attributes
 use Rattle.dep.proofs.walk.walk_attributes.Kinds as walk-attributes-kinds
-use Rattle.dep.proofs.walk.+visit_call_expr+visit_ts_import_type+walk_argument+walk_arguments+walk_attributes+walk_callee+walk_node+walk_nodes+walk_properties+walk_property+walk_rest.Lts-walk_attributes as walk-attributes-lts
+use Rattle.dep.proofs.walk.+visit_call_expr+visit_ts_import_type+visit_ts_module_decl+walk_argument+walk_arguments+walk_attributes+walk_callee+walk_node+walk_nodes+walk_properties+walk_property+walk_rest.Lts-walk_attributes as walk-attributes-lts
 use Rattle.dep.proofs.walk.visit_call_expr.Reads as visit-call-expr
 use Rattle.dep.proofs.walk.visit_call_expr.Kinds as visit-call-expr-kinds
-use Rattle.dep.proofs.walk.+visit_call_expr+visit_ts_import_type+walk_argument+walk_arguments+walk_attributes+walk_callee+walk_node+walk_nodes+walk_properties+walk_property+walk_rest.Lts-visit_call_expr as visit-call-expr-lts
+use Rattle.dep.proofs.walk.+visit_call_expr+visit_ts_import_type+visit_ts_module_decl+walk_argument+walk_arguments+walk_attributes+walk_callee+walk_node+walk_nodes+walk_properties+walk_property+walk_rest.Lts-visit_call_expr as visit-call-expr-lts
 use Rattle.dep.proofs.walk.walk_callee.Reads as walk-callee
 use Rattle.dep.proofs.walk.walk_callee.Kinds as walk-callee-kinds
-use Rattle.dep.proofs.walk.+visit_call_expr+visit_ts_import_type+walk_argument+walk_arguments+walk_attributes+walk_callee+walk_node+walk_nodes+walk_properties+walk_property+walk_rest.Lts-walk_callee as walk-callee-lts
+use Rattle.dep.proofs.walk.+visit_call_expr+visit_ts_import_type+visit_ts_module_decl+walk_argument+walk_arguments+walk_attributes+walk_callee+walk_node+walk_nodes+walk_properties+walk_property+walk_rest.Lts-walk_callee as walk-callee-lts
 use Rattle.dep.proofs.walk.walk_node.Reads as walk-node
 use Rattle.dep.proofs.walk.walk_node.Kinds as walk-node-kinds
-use Rattle.dep.proofs.walk.+visit_call_expr+visit_ts_import_type+walk_argument+walk_arguments+walk_attributes+walk_callee+walk_node+walk_nodes+walk_properties+walk_property+walk_rest.Lts-walk_node as walk-node-lts
+use Rattle.dep.proofs.walk.+visit_call_expr+visit_ts_import_type+visit_ts_module_decl+walk_argument+walk_arguments+walk_attributes+walk_callee+walk_node+walk_nodes+walk_properties+walk_property+walk_rest.Lts-walk_node as walk-node-lts
 use Rattle.dep.proofs.walk.walk_nodes.Reads as walk-nodes
 use Rattle.dep.proofs.walk.walk_nodes.Kinds as walk-nodes-kinds
-use Rattle.dep.proofs.walk.+visit_call_expr+visit_ts_import_type+walk_argument+walk_arguments+walk_attributes+walk_callee+walk_node+walk_nodes+walk_properties+walk_property+walk_rest.Lts-walk_nodes as walk-nodes-lts
+use Rattle.dep.proofs.walk.+visit_call_expr+visit_ts_import_type+visit_ts_module_decl+walk_argument+walk_arguments+walk_attributes+walk_callee+walk_node+walk_nodes+walk_properties+walk_property+walk_rest.Lts-walk_nodes as walk-nodes-lts
 use Rattle.dep.proofs.walk.walk_properties.Reads as walk-properties
 use Rattle.dep.proofs.walk.walk_properties.Kinds as walk-properties-kinds
-use Rattle.dep.proofs.walk.+visit_call_expr+visit_ts_import_type+walk_argument+walk_arguments+walk_attributes+walk_callee+walk_node+walk_nodes+walk_properties+walk_property+walk_rest.Lts-walk_properties as walk-properties-lts
+use Rattle.dep.proofs.walk.+visit_call_expr+visit_ts_import_type+visit_ts_module_decl+walk_argument+walk_arguments+walk_attributes+walk_callee+walk_node+walk_nodes+walk_properties+walk_property+walk_rest.Lts-walk_properties as walk-properties-lts
 use Rattle.dep.proofs.walk.walk_property.Reads as walk-property
 use Rattle.dep.proofs.walk.walk_property.Kinds as walk-property-kinds
-use Rattle.dep.proofs.walk.+visit_call_expr+visit_ts_import_type+walk_argument+walk_arguments+walk_attributes+walk_callee+walk_node+walk_nodes+walk_properties+walk_property+walk_rest.Lts-walk_property as walk-property-lts
+use Rattle.dep.proofs.walk.+visit_call_expr+visit_ts_import_type+visit_ts_module_decl+walk_argument+walk_arguments+walk_attributes+walk_callee+walk_node+walk_nodes+walk_properties+walk_property+walk_rest.Lts-walk_property as walk-property-lts
 use Rattle.dep.proofs.walk.walk_rest.Reads as walk-rest
 use Rattle.dep.proofs.walk.walk_rest.Kinds as walk-rest-kinds
-use Rattle.dep.proofs.walk.+visit_call_expr+visit_ts_import_type+walk_argument+walk_arguments+walk_attributes+walk_callee+walk_node+walk_nodes+walk_properties+walk_property+walk_rest.Lts-walk_rest as walk-rest-lts
+use Rattle.dep.proofs.walk.+visit_call_expr+visit_ts_import_type+visit_ts_module_decl+walk_argument+walk_arguments+walk_attributes+walk_callee+walk_node+walk_nodes+walk_properties+walk_property+walk_rest.Lts-walk_rest as walk-rest-lts
 use Rattle.dep.proofs.walk.visit_ts_import_type.Reads as visit-ts-import-type
 use Rattle.dep.proofs.walk.visit_ts_import_type.Kinds as visit-ts-import-type-kinds
-use Rattle.dep.proofs.walk.+visit_call_expr+visit_ts_import_type+walk_argument+walk_arguments+walk_attributes+walk_callee+walk_node+walk_nodes+walk_properties+walk_property+walk_rest.Lts-visit_ts_import_type as visit-ts-import-type-lts
+use Rattle.dep.proofs.walk.+visit_call_expr+visit_ts_import_type+visit_ts_module_decl+walk_argument+walk_arguments+walk_attributes+walk_callee+walk_node+walk_nodes+walk_properties+walk_property+walk_rest.Lts-visit_ts_import_type as visit-ts-import-type-lts
+use Rattle.dep.proofs.walk.visit_ts_module_decl.Reads as visit-ts-module-decl
+use Rattle.dep.proofs.walk.visit_ts_module_decl.Kinds as visit-ts-module-decl-kinds
+use Rattle.dep.proofs.walk.+visit_call_expr+visit_ts_import_type+visit_ts_module_decl+walk_argument+walk_arguments+walk_attributes+walk_callee+walk_node+walk_nodes+walk_properties+walk_property+walk_rest.Lts-visit_ts_module_decl as visit-ts-module-decl-lts
 use Rattle.dep.proofs.walk.call_of.Reads as call-of
 use Rattle.dep.proofs.walk.callees.Reads as callees
 use Rattle.nodes.proofs.check.check_nodes.Reads as check-nodes
-use Rattle.dep.proofs.entries.equals_kind.Reads as equals-kind
-use Rattle.dep.proofs.entries.export_kind.Reads as export-kind
 use Rattle.wire.proofs.Cursor.flag.Reads as flag
-use Rattle.dep.proofs.entries.import_kind.Reads as import-kind
 use Rattle.nodes.proofs.tally.nodes_of.Reads as nodes-of
 use Rattle.wire.proofs.Cursor.number.Reads as number
 use Rattle.dep.proofs.entries.put_call_entry.Reads as put-call-entry
@@ -54,8 +54,10 @@ use Rattle.heads.proofs.parts.read_attributes.Reads as read-attributes
 use Rattle.heads.proofs.node.read_head.Reads as read-head
 use Rattle.heads.proofs.parts.read_pieces.Reads as read-pieces
 use Rattle.heads.proofs.parts.read_property.Reads as read-property
-use Rattle.dep.proofs.entries.static_dependency.Reads as static-dependency
-use Rattle.dep.proofs.walk.walk_import.Reads as walk-import
+use Rattle.dep.proofs.walk.visit_export_all.Reads as visit-export-all
+use Rattle.dep.proofs.walk.visit_import_decl.Reads as visit-import-decl
+use Rattle.dep.proofs.walk.visit_named_export.Reads as visit-named-export
+use Rattle.dep.proofs.walk.visit_ts_import_equals_decl.Reads as visit-ts-import-equals-decl
 
 -- six for each level that is left; a member that calls another on the same level is above it
 abbrev pub μ-walk-argument : Measures 6 walk-argument-kinds.ps ℕ
@@ -90,6 +92,9 @@ abbrev pub μ-walk-rest : Measures 6 walk-rest-kinds.ps ℕ
 
 abbrev pub μ-visit-ts-import-type : Measures 6 visit-ts-import-type-kinds.ps ℕ
 μ-visit-ts-import-type κs a = 6 * (a .1 .1 .1 .1 .0) + 2
+
+abbrev pub μ-visit-ts-module-decl : Measures 6 visit-ts-module-decl-kinds.ps ℕ
+μ-visit-ts-module-decl κs a = 6 * (a .1 .1 .1 .1 .0) + 2
 
 -- what a member asks, where its measure is t, and where it is below t
 abbrev At : (ps : List (PK 6)) → Measures 6 ps ℕ → In 6 ps → ℕ → In 6 ps
@@ -164,6 +169,12 @@ visit-ts-import-type-at = At visit-ts-import-type-kinds.ps μ-visit-ts-import-ty
 abbrev pub visit-ts-import-type-below : ℕ → In 6 visit-ts-import-type-kinds.ps
 visit-ts-import-type-below = Below visit-ts-import-type-kinds.ps μ-visit-ts-import-type visit-ts-import-type.Pre
 
+abbrev pub visit-ts-module-decl-at : ℕ → In 6 visit-ts-module-decl-kinds.ps
+visit-ts-module-decl-at = At visit-ts-module-decl-kinds.ps μ-visit-ts-module-decl visit-ts-module-decl.Pre
+
+abbrev pub visit-ts-module-decl-below : ℕ → In 6 visit-ts-module-decl-kinds.ps
+visit-ts-module-decl-below = Below visit-ts-module-decl-kinds.ps μ-visit-ts-module-decl visit-ts-module-decl.Pre
+
 -- what the callees of a member ask and give, where its measure is t
 abbrev pub walk-argument-calls : ℕ → walk-argument-lts.Claims
 walk-argument-calls t = (read-argument.Asked, read-argument.Learnt, walk-node-below t, walk-node.Post)
@@ -193,7 +204,10 @@ abbrev pub walk-property-calls : ℕ → walk-property-lts.Claims
 walk-property-calls t = (read-property.Asked, read-property.Learnt, nodes-of.Asked, nodes-of.Learnt, walk-nodes-below t, walk-nodes.Post)
 
 abbrev pub walk-rest-calls : ℕ → walk-rest-lts.Claims
-walk-rest-calls t = (walk-nodes-below t, walk-nodes.Post, read-pieces.Asked, read-pieces.Learnt, walk-properties-below t, walk-properties.Post, walk-callee-below t, walk-callee.Post, import-kind.Asked, import-kind.Learnt, static-dependency.Asked, static-dependency.Learnt, walk-import.Asked, walk-import.Learnt, visit-ts-import-type-below t, visit-ts-import-type.Post, equals-kind.Asked, equals-kind.Learnt, put-module-entry.Asked, put-module-entry.Learnt, export-kind.Asked, export-kind.Learnt)
+walk-rest-calls t = (walk-nodes-below t, walk-nodes.Post, read-pieces.Asked, read-pieces.Learnt, walk-properties-below t, walk-properties.Post, walk-callee-below t, walk-callee.Post, visit-import-decl.Asked, visit-import-decl.Learnt, visit-named-export.Asked, visit-named-export.Learnt, visit-export-all.Asked, visit-export-all.Learnt, visit-ts-import-type-below t, visit-ts-import-type.Post, visit-ts-import-equals-decl.Asked, visit-ts-import-equals-decl.Learnt, visit-ts-module-decl-below t, visit-ts-module-decl.Post)
 
 abbrev pub visit-ts-import-type-calls : ℕ → visit-ts-import-type-lts.Claims
 visit-ts-import-type-calls t = (check-nodes.Asked, check-nodes.Learnt, flag.Asked, flag.Learnt, put-with-entry.Asked, put-with-entry.Learnt, walk-nodes-below t, walk-nodes.Post, walk-attributes-below t, walk-attributes.Post)
+
+abbrev pub visit-ts-module-decl-calls : ℕ → visit-ts-module-decl-lts.Claims
+visit-ts-module-decl-calls t = (put-module-entry.Asked, put-module-entry.Learnt, walk-nodes-below t, walk-nodes.Post)

@@ -8,8 +8,8 @@ use Rattle.dep.specs.code.Walk.{typesFrom, walkedAs}
 use Rattle.dep.proofs.Wrote.{entries-nil}
 use Rattle.dep.proofs.Arms.{called-refused, called-holds}
 use Rattle.dep.proofs.walk.walk_callee.Reads as walk-callee
-use Rattle.dep.proofs.walk.+visit_call_expr+visit_ts_import_type+walk_argument+walk_arguments+walk_attributes+walk_callee+walk_node+walk_nodes+walk_properties+walk_property+walk_rest.Lts-walk_callee as walk-callee-lts
-use Rattle.dep.proofs.walk.+visit_call_expr+visit_ts_import_type+walk_argument+walk_arguments+walk_attributes+walk_callee+walk_node+walk_nodes+walk_properties+walk_property+walk_rest.Proof.Calls.{walk-callee-at, walk-callee-calls}
+use Rattle.dep.proofs.walk.+visit_call_expr+visit_ts_import_type+visit_ts_module_decl+walk_argument+walk_arguments+walk_attributes+walk_callee+walk_node+walk_nodes+walk_properties+walk_property+walk_rest.Lts-walk_callee as walk-callee-lts
+use Rattle.dep.proofs.walk.+visit_call_expr+visit_ts_import_type+visit_ts_module_decl+walk_argument+walk_arguments+walk_attributes+walk_callee+walk_node+walk_nodes+walk_properties+walk_property+walk_rest.Proof.Calls.{walk-callee-at, walk-callee-calls}
 
 pub walk-nodes-requires : (t : ℕ) → walk-callee-lts.Need-walk-nodes-requires (walk-callee-calls t) (walk-callee-at t) walk-callee.Post
 walk-nodes-requires t c κs = let start = c .before .before .before .before .before .before in (omega arith, (start .pre .1 .0, start .pre .1 .1))
@@ -24,7 +24,7 @@ returns t c =
     let s = now (a .sheet) in
     let source = now (a .source) in
     let walked = c .before .before .before .before .before .walk-nodes in
-    (called-refused source (typesFrom source (now (a .cs)) (now (a .gs)) (a .k)) (a .levels) (a .span) s (a .head) (c .before .before .before .before .before .before .before .before .call-of .ensures) (entries-nil (now (a .out)) (a .p)) (start .pre .1 .2) (rw (c .before .before .before .before .before .before .before .callees .ensures) at (seen (walkedAs s (walked .last .1 .1 .1 .1 .1 .1 .1 .1 .1 .0)) (walked .ensures .0) (c .before .r .given .1))), tt)
+    (called-refused source (typesFrom source (now (a .comments)) (now (a .groups)) (a .counts)) (a .levels) (a .span) s (a .head) (c .before .before .before .before .before .before .before .before .call-of .ensures) (entries-nil (now (a .out)) (a .place)) (start .pre .1 .2) (rw (c .before .before .before .before .before .before .before .callees .ensures) at (seen (walkedAs s (walked .last .1 .1 .1 .1 .1 .1 .1 .1 .1 .0)) (walked .ensures .0) (c .before .r .given .1))), tt)
 
 pub returns-2 : (t : ℕ) → walk-callee-lts.Need-returns-2 (walk-callee-calls t) (walk-callee-at t) walk-callee.Post
 returns-2 t c =
@@ -33,4 +33,4 @@ returns-2 t c =
     let s = now (a .sheet) in
     let source = now (a .source) in
     let walked = c .before .before .before .before .before .before .before .before .before .walk-nodes in
-    (c .before .before .visit-call-expr .ensures .0 ∙ called-holds source (typesFrom source (now (a .cs)) (now (a .gs)) (a .k)) (a .levels) (a .span) s (a .head) (c .before .before .before .before .before .before .before .before .before .before .before .before .call-of .ensures) (entries-nil (now (a .out)) (a .p)) (start .pre .1 .2) (rw (c .before .before .before .before .before .before .before .before .before .before .before .callees .ensures) at (seen (walkedAs s (walked .last .1 .1 .1 .1 .1 .1 .1 .1 .1 .0)) (walked .ensures .0) (c .before .before .before .before .before .p .given .1))), c .before .before .visit-call-expr .ensures .1)
+    (c .before .before .visit-call-expr .ensures .0 ∙ called-holds source (typesFrom source (now (a .comments)) (now (a .groups)) (a .counts)) (a .levels) (a .span) s (a .head) (c .before .before .before .before .before .before .before .before .before .before .before .before .call-of .ensures) (entries-nil (now (a .out)) (a .place)) (start .pre .1 .2) (rw (c .before .before .before .before .before .before .before .before .before .before .before .callees .ensures) at (seen (walkedAs s (walked .last .1 .1 .1 .1 .1 .1 .1 .1 .1 .0)) (walked .ensures .0) (c .before .before .before .before .before .place .given .1))), c .before .before .visit-call-expr .ensures .1)

@@ -1,0 +1,30 @@
+-- `visit_import_decl`: the entry by the import's kind.
+use borrow.Author.Needs.{needs}
+use mathlib.Core.Path.{_∙_}
+use lib.ListN.{drop}
+use denote.Ref.{now}
+use Rattle.laws.proofs.Decoding.{built}
+use Rattle.sheet.specs.Tree.{importDecl}
+use Rattle.sheet.specs.Nodes.{attributesObject}
+use Rattle.heads.specs.code.Rest.{behind}
+use Rattle.heads.specs.code.Views.{quotedOf}
+use Rattle.report.specs.Buffer.{bufferAs}
+use Rattle.dep.specs.declared.entries.StaticDependencyDescriptor.{StaticDependencyDescriptor}
+use Rattle.dep.specs.Collect.{collector}
+use Rattle.dep.specs.code.Walk.{typesFrom, afterNode, afterImport}
+use Rattle.dep.proofs.walk.visit_import_decl.Statement.{statement}
+use Rattle.dep.proofs.walk.visit_import_decl.Tie as tie
+
+returns : tie.Need-returns
+unfolding collector
+returns c =
+    let a = c .before .before .before .before .before .before .before .before .args in
+    let s = now (a .sheet) in
+    let source = now (a .source) in
+    let types = typesFrom source (now (a .comments)) (now (a .groups)) (a .counts) in
+    let w = bufferAs (now (a .out)) (a .place) in
+    let d : StaticDependencyDescriptor = record { kind = c .before .before .before .before .import-kind .result; span = a .span; specifier = a .specifier; «is_side_effect» = a .is-side-effect } in
+    (c .before .before .walk-import .ensures .0 ∙ built (afterImport source types s d w) (afterNode source types w) (importDecl (a .span) (a .type-only) (a .phase) (a .is-side-effect) (quotedOf s (a .specifier))) (λ b. rw (c .before .before .before .before .import-kind .ensures)) (behind (a .there) (attributesObject source (a .levels)) (drop (a .cursor .at) s)), c .before .before .walk-import .ensures .1)
+
+pub visit-import-decl-spec : {M : Type 1} → statement M
+visit-import-decl-spec = tie.close (tie.spec (λ c κs. search needs) (λ c κs. search needs) (λ c. search needs) returns)

@@ -4,13 +4,13 @@ use super::front::read_front;
 use super::tree::TreeRead;
 use super::tree::check_tree;
 use sheet::limits::COMMENT_LIMIT;
-use sheet::limits::COMMENT_NUMBERS;
-use sheet::limits::GROUP_NUMBERS;
 use sheet::limits::SHEET_LIMIT;
+use sheet::limits::TABLE_NUMBERS;
 use sheet::names::MediaType;
 use sheet::program::Program;
 use wire::refusals;
 ghost use Rattle.laws.specs.code.Left.{Free};
+ghost use Rattle.sheet.specs.code.Tables.{commentsPart, groupsPart};
 ghost use Rattle.accept.specs.code.Accepts.{Judges};
 
 // What the report is made from: places in the sheet, and how many rows its tables have.
@@ -31,23 +31,21 @@ pub enum SheetChecked {
     Refused(usize),
 }
 
-// Judges a sheet. The tables of its comments and groups are lent, and `longest` to work in. Left free: `longest`, the rows behind those of the
-// sheet, and after a refusal all rows.
+// Judges a sheet. The table for its comments and groups is lent, and `longest` to work in. Left free: `longest`, the rows behind those of the
+// sheet, the index, and after a refusal all rows.
 pub fn check_sheet(
     sheet: &[u8],
-    comments: &mut [u32; COMMENT_NUMBERS],
-    groups: &mut [u32; GROUP_NUMBERS],
+    tables: &mut [u32; TABLE_NUMBERS],
     longest: &mut [u32; COMMENT_LIMIT],
 ) -> SheetChecked
-    ensures { λ r. ⌜ Judges (now (sheet .entry)) (now (comments .exit)) (now (groups .exit)) r ⌝ }
-    ensures { λ _. ⌜ Free (now (comments .entry)) (now (comments .exit))
-        × Free (now (groups .entry)) (now (groups .exit))
+    ensures { λ r. ⌜ Judges (now (sheet .entry)) (commentsPart (now (tables .exit))) (groupsPart (now (tables .exit))) r ⌝ }
+    ensures { λ _. ⌜ Free (now (tables .entry)) (now (tables .exit))
         × Free (now (longest .entry)) (now (longest .exit)) ⌝ }
 {
     if SHEET_LIMIT < sheet.len() {
         return SheetChecked::Refused(refusals::SHEET_LENGTH);
     }
-    match read_front(sheet, comments, groups, longest) {
+    match read_front(sheet, tables, longest) {
         FrontRead::Refused(r) => SheetChecked::Refused(r),
         FrontRead::Is(t, next) => {
             let start = t.source_start;

@@ -5,6 +5,8 @@ use sheet::covering::is_covered;
 use sheet::groups::read_groups;
 use sheet::limits::COMMENT_LIMIT;
 use sheet::limits::GROUP_LIMIT;
+use sheet::limits::GROUPS_START;
+use sheet::limits::INDEX_START;
 use sheet::limits::SOURCE_LIMIT;
 use sheet::names::MediaType;
 use sheet::names::media_type;
@@ -17,7 +19,8 @@ ghost use mathlib.Core.Path.{_≡_};
 ghost use Prim.Native.Nat.{_≤_};
 ghost use lib.ListN.{length, drop};
 ghost use Rattle.laws.specs.code.Left.{Free};
-ghost use Rattle.sheet.specs.Limits.{commentLimit, commentNumbers, groupNumbers};
+ghost use Rattle.sheet.specs.Limits.{commentLimit, commentNumbers, groupNumbers, indexStart};
+ghost use Rattle.sheet.specs.code.Tables.{commentsPart, groupsPart};
 ghost use Rattle.accept.specs.code.Pieces.{sourceFields, commentFields, groupFields, front};
 ghost use Rattle.accept.specs.code.Views.{sourceAs, commentTableAs, groupTableAs, frontAs, WithinSource, WithinFront};
 
@@ -116,19 +119,12 @@ fn read_group_table(
 }
 
 // Reads all that stands in front of the program. Left free: `longest`, the rows behind those that were read, and after a refusal all rows.
-pub fn read_front(
-    sheet: &[u8],
-    comments: &mut [u32],
-    groups: &mut [u32],
-    longest: &mut [u32],
-) -> FrontRead
-    requires { ⌜ commentNumbers ≤ length (now comments) ⌝ }
-    requires { ⌜ groupNumbers ≤ length (now groups) ⌝ }
+pub fn read_front(sheet: &[u8], tables: &mut [u32], longest: &mut [u32]) -> FrontRead
+    requires { ⌜ indexStart ≤ length (now tables) ⌝ }
     requires { ⌜ commentLimit ≤ length (now longest) ⌝ }
-    ensures { λ r. ⌜ frontAs (now (sheet .entry)) (now (comments .exit)) (now (groups .exit)) r ≡ front (now (sheet .entry)) ⌝ }
+    ensures { λ r. ⌜ frontAs (now (sheet .entry)) (commentsPart (now (tables .exit))) (groupsPart (now (tables .exit))) r ≡ front (now (sheet .entry)) ⌝ }
     ensures { λ r. ⌜ WithinFront (length (now (sheet .entry))) r ⌝ }
-    ensures { λ _. ⌜ Free (now (comments .entry)) (now (comments .exit))
-        × Free (now (groups .entry)) (now (groups .exit))
+    ensures { λ _. ⌜ Free (now (tables .entry)) (now (tables .exit))
         × Free (now (longest .entry)) (now (longest .exit)) ⌝ }
 {
     match read_source(sheet) {
@@ -140,10 +136,17 @@ pub fn read_front(
         } => {
             let source_end = next.at;
             let source = &sheet[source_start..source_end];
-            match read_comment_table(sheet, source, next, comments) {
+            match read_comment_table(sheet, source, next, &mut tables[0..GROUPS_START]) {
                 Counted::Refused(r) => FrontRead::Refused(r),
                 Counted::Is(n, next) => {
-                    match read_group_table(sheet, source, next, n, groups, longest) {
+                    match read_group_table(
+                        sheet,
+                        source,
+                        next,
+                        n,
+                        &mut tables[GROUPS_START..INDEX_START],
+                        longest,
+                    ) {
                         Counted::Refused(r) => FrontRead::Refused(r),
                         Counted::Is(m, next) => FrontRead::Is(
                             Front {

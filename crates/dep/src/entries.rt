@@ -1,5 +1,5 @@
-// The entries of dependencies in the report. comments, groups and index are the tables of comments, groups and the source's positions,
-// counts how many comments and groups there are, cursor is in the sheet, and place in the buffer.
+// The entries of dependencies in the report. tables has the comments, the groups and the index of the source's positions, counts
+// how many comments and groups there are, cursor is in the sheet, and place in the buffer.
 use arguments::argument::DynamicArgument;
 use arguments::argument::parse_argument;
 use arguments::argument::put_argument;
@@ -21,10 +21,10 @@ use report::names::dynamic_number;
 use report::names::static_number;
 use report::writer::Place;
 use sheet::fields::Span;
-use sheet::limits::COMMENT_NUMBERS;
-use sheet::limits::GROUP_NUMBERS;
-use sheet::limits::INDEX_NUMBERS;
+use sheet::limits::GROUPS_START;
+use sheet::limits::INDEX_START;
 use sheet::limits::PAIR_NUMBERS;
+use sheet::limits::TABLE_NUMBERS;
 use sheet::names::ImportPhase;
 use wire::Cursor;
 ghost use mathlib.Core.Path.{_≡_};
@@ -35,19 +35,20 @@ ghost use Prim.Native.Nat.{ℕ};
 ghost use lib.ListN.{length, drop};
 ghost use Rattle.laws.specs.Decoded.{ok};
 ghost use Rattle.laws.specs.code.Left.{Free};
+ghost use Rattle.wire.specs.Optional.{encodeOptional};
 ghost use Rattle.sheet.specs.Tree.{Node, Attributes, Arguments, argument};
 ghost use Rattle.sheet.specs.Nodes.{node, arguments, attributesObject};
 ghost use Rattle.heads.specs.code.Rest.{behind};
 ghost use Rattle.heads.specs.code.Views.{quotedOf};
 ghost use Rattle.report.specs.ModuleInfo as info;
+ghost use Rattle.report.specs.Encode.{encodeSpecifier};
 ghost use Rattle.report.specs.Range.{InSource};
-ghost use Rattle.report.specs.Buffer.{bufferAs};
+ghost use Rattle.report.specs.Buffer.{wrote, bufferAs};
 ghost use Rattle.attributes.specs.Attributes.{typeAttributes, staticAttributes, dynamicAttributes};
 ghost use Rattle.attributes.specs.code.Views.{attributesAs, AttributesWithin};
 ghost use Rattle.arguments.specs.code.Views.{Stands, ArgumentWithin};
-ghost use Rattle.pragmas.specs.code.Held.{Held};
 ghost use Rattle.dep.specs.Collect.{importKind, exportKind, equalsKind, dynamicKind, callEntry, moduleEntry};
-ghost use Rattle.dep.specs.code.Walk.{typesFrom, Quotes, wroteEntries, staticOf, dynamicOf, entryOfCall};
+ghost use Rattle.dep.specs.code.Walk.{typesFrom, HeldIn, Quotes, wroteEntries, staticOf, dynamicOf, entryOfCall};
 
 // How many comments and groups the tables hold.
 pub struct Counts {
@@ -130,37 +131,23 @@ pub fn call_head(kind: DynamicDependencyKind, span: Span, listed: bool) -> CallH
     CallHead { kind, span, listed }
 }
 
-// The entry of a static dependency, with its attributes in the table.
-fn put_static_entry(
-    sheet: &[u8],
+// The types that the comments before a node give, by where it starts.
+fn put_types(
     source: &[u8],
-    dependency: StaticDependencyDescriptor,
-    pairs: &[usize],
-    attributes: ImportAttributes,
-    comments: &[u32; COMMENT_NUMBERS],
-    groups: &[u32; GROUP_NUMBERS],
+    tables: &[u32],
     counts: Counts,
-    index: &[u32; INDEX_NUMBERS],
+    start: usize,
     out: &mut [u8],
     place: Place,
 ) -> Place
-    requires { ⌜ Held (now source) (now comments) (counts .comments) (now groups) (counts .groups) (now index)
-        × Quotes (now sheet) (now source) (dependency .specifier)
-        × AttributesWithin (length (now sheet)) (now pairs) attributes ⌝ }
+    requires { ⌜ HeldIn (now source) (now tables) counts ⌝ }
     ensures { λ r. ⌜ bufferAs (now (out .exit)) r
-        ≡ wroteEntries (bufferAs (now (out .entry)) place)
-        (staticOf (now (source .entry))
-        (typesFrom (now (source .entry)) (now (comments .entry)) (now (groups .entry)) counts)
-        (now (sheet .entry)) dependency (attributesAs (now (sheet .entry)) (now (pairs .entry)) attributes)) ⌝ }
+        ≡ wrote (bufferAs (now (out .entry)) place) (encodeOptional encodeSpecifier (typesFrom (now (source .entry)) (now (tables .entry)) counts start)) ⌝ }
 {
-    let start = dependency.span.start;
-    let specifier = dependency.specifier;
-    let from = specifier.start;
-    let to = specifier.end;
-    let kind = dependency.kind;
-    let number = static_number(kind);
-    let place = place.put(out, number);
-    let place = analyze_ts_or_deno_types(
+    let comments = &tables[0..GROUPS_START];
+    let groups = &tables[GROUPS_START..INDEX_START];
+    let index = &tables[INDEX_START..TABLE_NUMBERS];
+    analyze_ts_or_deno_types(
         source,
         comments,
         counts.comments,
@@ -170,7 +157,39 @@ fn put_static_entry(
         start,
         out,
         place,
-    );
+    )
+}
+
+// The entry of a static dependency, with its attributes in the table.
+fn put_static_entry(
+    sheet: &[u8],
+    source: &[u8],
+    dependency: StaticDependencyDescriptor,
+    pairs: &[usize],
+    attributes: ImportAttributes,
+    tables: &[u32],
+    counts: Counts,
+    out: &mut [u8],
+    place: Place,
+) -> Place
+    requires { ⌜ HeldIn (now source) (now tables) counts
+        × Quotes (now sheet) (now source) (dependency .specifier)
+        × AttributesWithin (length (now sheet)) (now pairs) attributes ⌝ }
+    ensures { λ r. ⌜ bufferAs (now (out .exit)) r
+        ≡ wroteEntries (bufferAs (now (out .entry)) place)
+        (staticOf (now (source .entry))
+        (typesFrom (now (source .entry)) (now (tables .entry)) counts)
+        (now (sheet .entry)) dependency (attributesAs (now (sheet .entry)) (now (pairs .entry)) attributes)) ⌝ }
+{
+    let index = &tables[INDEX_START..TABLE_NUMBERS];
+    let start = dependency.span.start;
+    let specifier = dependency.specifier;
+    let from = specifier.start;
+    let to = specifier.end;
+    let kind = dependency.kind;
+    let number = static_number(kind);
+    let place = place.put(out, number);
+    let place = put_types(source, tables, counts, start, out, place);
     let place = place.put_lossy_specifier(out, &sheet[from..to], source, index, specifier.span);
     let place = place.put_flag(out, dependency.is_side_effect);
     put_attributes(sheet, pairs, attributes, out, place)
@@ -186,20 +205,18 @@ pub fn put_with_entry(
     there: bool,
     levels: usize,
     dependency: StaticDependencyDescriptor,
-    comments: &[u32; COMMENT_NUMBERS],
-    groups: &[u32; GROUP_NUMBERS],
+    tables: &[u32; TABLE_NUMBERS],
     counts: Counts,
-    index: &[u32; INDEX_NUMBERS],
     out: &mut [u8],
     place: Place,
     is_type: bool,
 ) -> Place
-    requires { ⌜ Held (now source) (now comments) (counts .comments) (now groups) (counts .groups) (now index) × Quotes (now sheet) (now source) (dependency .specifier) ⌝ }
+    requires { ⌜ HeldIn (now source) (now tables) counts × Quotes (now sheet) (now source) (dependency .specifier) ⌝ }
     ensures { λ r. ⌜ ((a : Attributes) (t : List ℕ)
         → behind there (attributesObject (now (source .entry)) levels) (drop (cursor .at) (now (sheet .entry))) ≡ ok a t
         → bufferAs (now (out .exit)) r
         ≡ wroteEntries (bufferAs (now (out .entry)) place)
-        (staticOf (now (source .entry)) (typesFrom (now (source .entry)) (now (comments .entry)) (now (groups .entry)) counts) (now (sheet .entry)) dependency (cond «is_type» (typeAttributes a) (staticAttributes a)))) ⌝ }
+        (staticOf (now (source .entry)) (typesFrom (now (source .entry)) (now (tables .entry)) counts) (now (sheet .entry)) dependency (cond «is_type» (typeAttributes a) (staticAttributes a)))) ⌝ }
     ensures { λ _. ⌜ Free (now (out .entry)) (now (out .exit)) ⌝ }
 {
     let mut pairs: [usize; PAIR_NUMBERS] = [0; PAIR_NUMBERS];
@@ -211,10 +228,8 @@ pub fn put_with_entry(
             dependency,
             &pairs,
             attributes,
-            comments,
-            groups,
+            tables,
             counts,
-            index,
             out,
             place,
         );
@@ -226,10 +241,8 @@ pub fn put_with_entry(
         dependency,
         &pairs,
         attributes,
-        comments,
-        groups,
+        tables,
         counts,
-        index,
         out,
         place,
     )
@@ -240,17 +253,15 @@ pub fn put_plain_entry(
     sheet: &[u8],
     source: &[u8],
     dependency: StaticDependencyDescriptor,
-    comments: &[u32; COMMENT_NUMBERS],
-    groups: &[u32; GROUP_NUMBERS],
+    tables: &[u32; TABLE_NUMBERS],
     counts: Counts,
-    index: &[u32; INDEX_NUMBERS],
     out: &mut [u8],
     place: Place,
 ) -> Place
-    requires { ⌜ Held (now source) (now comments) (counts .comments) (now groups) (counts .groups) (now index) × Quotes (now sheet) (now source) (dependency .specifier) ⌝ }
+    requires { ⌜ HeldIn (now source) (now tables) counts × Quotes (now sheet) (now source) (dependency .specifier) ⌝ }
     ensures { λ r. ⌜ bufferAs (now (out .exit)) r
         ≡ wroteEntries (bufferAs (now (out .entry)) place)
-        (staticOf (now (source .entry)) (typesFrom (now (source .entry)) (now (comments .entry)) (now (groups .entry)) counts) (now (sheet .entry)) dependency info.none) ⌝ }
+        (staticOf (now (source .entry)) (typesFrom (now (source .entry)) (now (tables .entry)) counts) (now (sheet .entry)) dependency info.none) ⌝ }
 {
     let pairs: [usize; 1] = [0; 1];
     let attributes = ImportAttributes::None;
@@ -260,10 +271,8 @@ pub fn put_plain_entry(
         dependency,
         &pairs,
         attributes,
-        comments,
-        groups,
+        tables,
         counts,
-        index,
         out,
         place,
     )
@@ -275,18 +284,16 @@ pub fn put_module_entry(
     source: &[u8],
     span: Span,
     specifier: Quoted,
-    comments: &[u32; COMMENT_NUMBERS],
-    groups: &[u32; GROUP_NUMBERS],
+    tables: &[u32; TABLE_NUMBERS],
     counts: Counts,
-    index: &[u32; INDEX_NUMBERS],
     out: &mut [u8],
     place: Place,
 ) -> Place
-    requires { ⌜ Held (now source) (now comments) (counts .comments) (now groups) (counts .groups) (now index) × Quotes (now sheet) (now source) specifier ⌝ }
+    requires { ⌜ HeldIn (now source) (now tables) counts × Quotes (now sheet) (now source) specifier ⌝ }
     ensures { λ r. ⌜ bufferAs (now (out .exit)) r
         ≡ wroteEntries (bufferAs (now (out .entry)) place)
         (moduleEntry (now (source .entry))
-        (typesFrom (now (source .entry)) (now (comments .entry)) (now (groups .entry)) counts)
+        (typesFrom (now (source .entry)) (now (tables .entry)) counts)
         span (Option.some (quotedOf (now (sheet .entry)) specifier))) ⌝ }
 {
     if declares(sheet, specifier) {
@@ -296,17 +303,7 @@ pub fn put_module_entry(
             specifier,
             is_side_effect: false,
         };
-        return put_plain_entry(
-            sheet,
-            source,
-            dependency,
-            comments,
-            groups,
-            counts,
-            index,
-            out,
-            place,
-        );
+        return put_plain_entry(sheet, source, dependency, tables, counts, out, place);
     }
     place
 }
@@ -319,14 +316,12 @@ fn put_dynamic_entry(
     more: usize,
     levels: usize,
     dependency: DynamicDependencyDescriptor,
-    comments: &[u32; COMMENT_NUMBERS],
-    groups: &[u32; GROUP_NUMBERS],
+    tables: &[u32],
     counts: Counts,
-    index: &[u32; INDEX_NUMBERS],
     out: &mut [u8],
     place: Place,
 ) -> Place
-    requires { ⌜ Held (now source) (now comments) (counts .comments) (now groups) (counts .groups) (now index)
+    requires { ⌜ HeldIn (now source) (now tables) counts
         × InSource (now source) (dependency .«argument_range»)
         × ArgumentWithin (length (now sheet)) (dependency .argument) ⌝ }
     ensures { λ r. ⌜ ((v : info.DynamicArgument) (xs : Arguments) (t : List ℕ)
@@ -335,7 +330,7 @@ fn put_dynamic_entry(
         → bufferAs (now (out .exit)) r
         ≡ wroteEntries (bufferAs (now (out .entry)) place)
         (dynamicOf (now (source .entry))
-        (typesFrom (now (source .entry)) (now (comments .entry)) (now (groups .entry)) counts)
+        (typesFrom (now (source .entry)) (now (tables .entry)) counts)
         dependency v (dynamicAttributes xs))) ⌝ }
 {
     let kind = dependency.kind;
@@ -350,18 +345,9 @@ fn put_dynamic_entry(
         levels,
         &mut pairs,
     );
+    let index = &tables[INDEX_START..TABLE_NUMBERS];
     let argument = dependency.argument;
-    let place = analyze_ts_or_deno_types(
-        source,
-        comments,
-        counts.comments,
-        groups,
-        counts.groups,
-        index,
-        dependency.start,
-        out,
-        place,
-    );
+    let place = put_types(source, tables, counts, dependency.start, out, place);
     let place = put_argument(sheet, source, levels, argument, out, place);
     let place = place.put_span(out, source, index, dependency.argument_range);
     put_attributes(sheet, &pairs, attributes, out, place)
@@ -376,21 +362,19 @@ fn put_argument_entry(
     levels: usize,
     call: CallHead,
     range: Span,
-    comments: &[u32; COMMENT_NUMBERS],
-    groups: &[u32; GROUP_NUMBERS],
+    tables: &[u32; TABLE_NUMBERS],
     counts: Counts,
-    index: &[u32; INDEX_NUMBERS],
     out: &mut [u8],
     place: Place,
 ) -> Place
-    requires { ⌜ Held (now source) (now comments) (counts .comments) (now groups) (counts .groups) (now index) × InSource (now source) range ⌝ }
+    requires { ⌜ HeldIn (now source) (now tables) counts × InSource (now source) range ⌝ }
     ensures { λ r. ⌜ ((dots : Bool) (n : Node) (xs : Arguments) (t u : List ℕ)
         → node (now (source .entry)) levels (drop (cursor .at) (now (sheet .entry))) ≡ ok n t
         → arguments (node (now (source .entry)) levels) (now (source .entry)) more t ≡ ok xs u
         → bufferAs (now (out .exit)) r
         ≡ wroteEntries (bufferAs (now (out .entry)) place)
         (callEntry (now (source .entry))
-        (typesFrom (now (source .entry)) (now (comments .entry)) (now (groups .entry)) counts)
+        (typesFrom (now (source .entry)) (now (tables .entry)) counts)
         (call .kind) (call .span) (argument dots range n xs))) ⌝ }
 {
     let kind = call.kind;
@@ -409,10 +393,8 @@ fn put_argument_entry(
             0,
             levels,
             dependency,
-            comments,
-            groups,
+            tables,
             counts,
-            index,
             out,
             place,
         );
@@ -427,10 +409,8 @@ fn put_argument_entry(
                 more,
                 levels,
                 dependency,
-                comments,
-                groups,
+                tables,
                 counts,
-                index,
                 out,
                 place,
             )
@@ -447,19 +427,17 @@ pub fn put_call_entry(
     count: usize,
     levels: usize,
     call: CallHead,
-    comments: &[u32; COMMENT_NUMBERS],
-    groups: &[u32; GROUP_NUMBERS],
+    tables: &[u32; TABLE_NUMBERS],
     counts: Counts,
-    index: &[u32; INDEX_NUMBERS],
     out: &mut [u8],
     place: Place,
 ) -> Place
-    requires { ⌜ Held (now source) (now comments) (counts .comments) (now groups) (counts .groups) (now index) ⌝ }
+    requires { ⌜ HeldIn (now source) (now tables) counts ⌝ }
     ensures { λ r. ⌜ ((xs : Arguments) (t : List ℕ)
         → arguments (node (now (source .entry)) levels) (now (source .entry)) count (drop (cursor .at) (now (sheet .entry))) ≡ ok xs t
         → bufferAs (now (out .exit)) r
         ≡ wroteEntries (bufferAs (now (out .entry)) place)
-        (entryOfCall (now (source .entry)) (typesFrom (now (source .entry)) (now (comments .entry)) (now (groups .entry)) counts) call xs)) ⌝ }
+        (entryOfCall (now (source .entry)) (typesFrom (now (source .entry)) (now (tables .entry)) counts) call xs)) ⌝ }
     ensures { λ _. ⌜ Free (now (out .entry)) (now (out .exit)) ⌝ }
 {
     if call.listed {
@@ -479,10 +457,8 @@ pub fn put_call_entry(
                         levels,
                         call,
                         range,
-                        comments,
-                        groups,
+                        tables,
                         counts,
-                        index,
                         out,
                         place,
                     )

@@ -1,6 +1,6 @@
 // `DependencyCollector`: the walk over a tree, by recursion in which the levels left fall. It writes the entries of what a node holds, in the order
-// of the sheet, and the node's own. comments, groups and index are the tables of comments, groups and the source's positions,
-// counts how many comments and groups there are, cursor is in the sheet, and place in the buffer.
+// of the sheet, and the node's own. tables has the comments, the groups and the index of the source's positions, counts
+// how many comments and groups there are, cursor is in the sheet, and place in the buffer.
 use super::entries::CallHead;
 use super::entries::Counts;
 use super::entries::StaticDependencyDescriptor;
@@ -32,10 +32,8 @@ use report::names::DynamicDependencyKind;
 use report::names::StaticDependencyKind;
 use report::writer::Place;
 use sheet::fields::Span;
-use sheet::limits::COMMENT_NUMBERS;
 use sheet::limits::DEPTH_LIMIT;
-use sheet::limits::GROUP_NUMBERS;
-use sheet::limits::INDEX_NUMBERS;
+use sheet::limits::TABLE_NUMBERS;
 use sheet::names::ImportPhase;
 use wire::Cursor;
 use wire::Flag;
@@ -57,9 +55,8 @@ ghost use Rattle.heads.specs.code.Head.{importHead, exportFromHead, exportAllHe
 ghost use Rattle.heads.specs.code.Views.{quotedOf, headOf};
 ghost use Rattle.report.specs.Encode.{encodeList, encodeDependency};
 ghost use Rattle.report.specs.Buffer.{wrote, bufferAs};
-ghost use Rattle.pragmas.specs.code.Held.{Held};
 ghost use Rattle.dep.specs.Collect.{collect};
-ghost use Rattle.dep.specs.code.Walk.{typesFrom, Quotes, PastHead, Calls, Begins, calleesOf, walkedAs, PastWalked, afterNode, afterNodes, afterArgument, afterArguments, afterProperties, afterProperty, afterWith, afterImport, afterCall};
+ghost use Rattle.dep.specs.code.Walk.{typesFrom, HeldIn, Quotes, PastHead, Calls, Begins, calleesOf, walkedAs, PastWalked, afterNode, afterNodes, afterArgument, afterArguments, afterProperties, afterProperty, afterWith, afterImport, afterCall};
 
 // The next place in the buffer, with the cursor past what was walked, or a refusal's number.
 pub enum Walked {
@@ -74,35 +71,22 @@ pub fn analyze_program_dependencies(
     source: &[u8],
     root: Cursor,
     count: usize,
-    comments: &[u32; COMMENT_NUMBERS],
-    groups: &[u32; GROUP_NUMBERS],
+    tables: &[u32; TABLE_NUMBERS],
     counts: Counts,
-    index: &[u32; INDEX_NUMBERS],
     out: &mut [u8],
     place: Place,
 ) -> Place
-    requires { ⌜ Held (now source) (now comments) (counts .comments) (now groups) (counts .groups) (now index) ⌝ }
+    requires { ⌜ HeldIn (now source) (now tables) counts ⌝ }
     ensures { λ r. ⌜ ((n : Node) (t : List ℕ)
         → node (now (source .entry)) depthLimit (drop (root .at) (now (sheet .entry))) ≡ ok n t
         → count ≡ entries n
         → bufferAs (now (out .exit)) r
         ≡ wrote (bufferAs (now (out .entry)) place)
-        (encodeList encodeDependency (collect (now (source .entry)) (typesFrom (now (source .entry)) (now (comments .entry)) (now (groups .entry)) counts) n))) ⌝ }
+        (encodeList encodeDependency (collect (now (source .entry)) (typesFrom (now (source .entry)) (now (tables .entry)) counts) n))) ⌝ }
     ensures { λ _. ⌜ Free (now (out .entry)) (now (out .exit)) ⌝ }
 {
     let place = place.put_number(out, count);
-    match walk_node(
-        sheet,
-        source,
-        root,
-        DEPTH_LIMIT,
-        comments,
-        groups,
-        counts,
-        index,
-        out,
-        place,
-    ) {
+    match walk_node(sheet, source, root, DEPTH_LIMIT, tables, counts, out, place) {
         Walked::Refused(_) => place,
         Walked::Is(place, _) => place,
     }
@@ -133,16 +117,14 @@ fn visit_import_decl(
     is_side_effect: bool,
     specifier: Quoted,
     there: bool,
-    comments: &[u32; COMMENT_NUMBERS],
-    groups: &[u32; GROUP_NUMBERS],
+    tables: &[u32; TABLE_NUMBERS],
     counts: Counts,
-    index: &[u32; INDEX_NUMBERS],
     out: &mut [u8],
     place: Place,
 ) -> Walked
-    requires { ⌜ Held (now source) (now comments) (counts .comments) (now groups) (counts .groups) (now index) × Quotes (now sheet) (now source) specifier × (cursor .at ≤ length (now sheet)) ⌝ }
+    requires { ⌜ HeldIn (now source) (now tables) counts × Quotes (now sheet) (now source) specifier × (cursor .at ≤ length (now sheet)) ⌝ }
     ensures { λ r. ⌜ walkedAs (now (sheet .entry)) (now (out .exit)) r
-        ≡ onOk (afterNode (now (source .entry)) (typesFrom (now (source .entry)) (now (comments .entry)) (now (groups .entry)) counts) (bufferAs (now (out .entry)) place))
+        ≡ onOk (afterNode (now (source .entry)) (typesFrom (now (source .entry)) (now (tables .entry)) counts) (bufferAs (now (out .entry)) place))
         (rest (now (source .entry)) levels (span, importHead «type_only» phase «is_side_effect» (quotedOf (now (sheet .entry)) specifier) there) (drop (cursor .at) (now (sheet .entry)))) ⌝ }
     ensures { λ r. ⌜ PastWalked (length (now (sheet .entry))) r ⌝ }
 {
@@ -160,10 +142,8 @@ fn visit_import_decl(
         there,
         levels,
         dependency,
-        comments,
-        groups,
+        tables,
         counts,
-        index,
         out,
         place,
     )
@@ -179,16 +159,14 @@ fn visit_named_export(
     type_only: bool,
     specifier: Quoted,
     there: bool,
-    comments: &[u32; COMMENT_NUMBERS],
-    groups: &[u32; GROUP_NUMBERS],
+    tables: &[u32; TABLE_NUMBERS],
     counts: Counts,
-    index: &[u32; INDEX_NUMBERS],
     out: &mut [u8],
     place: Place,
 ) -> Walked
-    requires { ⌜ Held (now source) (now comments) (counts .comments) (now groups) (counts .groups) (now index) × Quotes (now sheet) (now source) specifier × (cursor .at ≤ length (now sheet)) ⌝ }
+    requires { ⌜ HeldIn (now source) (now tables) counts × Quotes (now sheet) (now source) specifier × (cursor .at ≤ length (now sheet)) ⌝ }
     ensures { λ r. ⌜ walkedAs (now (sheet .entry)) (now (out .exit)) r
-        ≡ onOk (afterNode (now (source .entry)) (typesFrom (now (source .entry)) (now (comments .entry)) (now (groups .entry)) counts) (bufferAs (now (out .entry)) place))
+        ≡ onOk (afterNode (now (source .entry)) (typesFrom (now (source .entry)) (now (tables .entry)) counts) (bufferAs (now (out .entry)) place))
         (rest (now (source .entry)) levels (span, exportFromHead «type_only» (quotedOf (now (sheet .entry)) specifier) there) (drop (cursor .at) (now (sheet .entry)))) ⌝ }
     ensures { λ r. ⌜ PastWalked (length (now (sheet .entry))) r ⌝ }
 {
@@ -206,10 +184,8 @@ fn visit_named_export(
         there,
         levels,
         dependency,
-        comments,
-        groups,
+        tables,
         counts,
-        index,
         out,
         place,
     )
@@ -225,16 +201,14 @@ fn visit_export_all(
     type_only: bool,
     specifier: Quoted,
     there: bool,
-    comments: &[u32; COMMENT_NUMBERS],
-    groups: &[u32; GROUP_NUMBERS],
+    tables: &[u32; TABLE_NUMBERS],
     counts: Counts,
-    index: &[u32; INDEX_NUMBERS],
     out: &mut [u8],
     place: Place,
 ) -> Walked
-    requires { ⌜ Held (now source) (now comments) (counts .comments) (now groups) (counts .groups) (now index) × Quotes (now sheet) (now source) specifier × (cursor .at ≤ length (now sheet)) ⌝ }
+    requires { ⌜ HeldIn (now source) (now tables) counts × Quotes (now sheet) (now source) specifier × (cursor .at ≤ length (now sheet)) ⌝ }
     ensures { λ r. ⌜ walkedAs (now (sheet .entry)) (now (out .exit)) r
-        ≡ onOk (afterNode (now (source .entry)) (typesFrom (now (source .entry)) (now (comments .entry)) (now (groups .entry)) counts) (bufferAs (now (out .entry)) place))
+        ≡ onOk (afterNode (now (source .entry)) (typesFrom (now (source .entry)) (now (tables .entry)) counts) (bufferAs (now (out .entry)) place))
         (rest (now (source .entry)) levels (span, exportAllHead «type_only» (quotedOf (now (sheet .entry)) specifier) there) (drop (cursor .at) (now (sheet .entry)))) ⌝ }
     ensures { λ r. ⌜ PastWalked (length (now (sheet .entry))) r ⌝ }
 {
@@ -252,10 +226,8 @@ fn visit_export_all(
         there,
         levels,
         dependency,
-        comments,
-        groups,
+        tables,
         counts,
-        index,
         out,
         place,
     )
@@ -270,16 +242,14 @@ fn visit_ts_import_type(
     levels: usize,
     span: Span,
     specifier: Quoted,
-    comments: &[u32; COMMENT_NUMBERS],
-    groups: &[u32; GROUP_NUMBERS],
+    tables: &[u32; TABLE_NUMBERS],
     counts: Counts,
-    index: &[u32; INDEX_NUMBERS],
     out: &mut [u8],
     place: Place,
 ) -> Walked
-    requires { ⌜ Held (now source) (now comments) (counts .comments) (now groups) (counts .groups) (now index) × Quotes (now sheet) (now source) specifier × (cursor .at ≤ length (now sheet)) ⌝ }
+    requires { ⌜ HeldIn (now source) (now tables) counts × Quotes (now sheet) (now source) specifier × (cursor .at ≤ length (now sheet)) ⌝ }
     ensures { λ r. ⌜ walkedAs (now (sheet .entry)) (now (out .exit)) r
-        ≡ onOk (afterNode (now (source .entry)) (typesFrom (now (source .entry)) (now (comments .entry)) (now (groups .entry)) counts) (bufferAs (now (out .entry)) place))
+        ≡ onOk (afterNode (now (source .entry)) (typesFrom (now (source .entry)) (now (tables .entry)) counts) (bufferAs (now (out .entry)) place))
         (rest (now (source .entry)) levels (span, importTypeHead (quotedOf (now (sheet .entry)) specifier) count) (drop (cursor .at) (now (sheet .entry)))) ⌝ }
     ensures { λ r. ⌜ PastWalked (length (now (sheet .entry))) r ⌝ }
 {
@@ -301,10 +271,8 @@ fn visit_ts_import_type(
                     there,
                     levels,
                     dependency,
-                    comments,
-                    groups,
+                    tables,
                     counts,
-                    index,
                     out,
                     place,
                     true,
@@ -315,10 +283,8 @@ fn visit_ts_import_type(
                     cursor,
                     count,
                     levels,
-                    comments,
-                    groups,
+                    tables,
                     counts,
-                    index,
                     out,
                     place,
                 ) {
@@ -330,10 +296,8 @@ fn visit_ts_import_type(
                             at,
                             there,
                             levels,
-                            comments,
-                            groups,
+                            tables,
                             counts,
-                            index,
                             out,
                             place,
                         )
@@ -351,16 +315,14 @@ fn visit_call_expr(
     cursor: Cursor,
     levels: usize,
     call: CallHead,
-    comments: &[u32; COMMENT_NUMBERS],
-    groups: &[u32; GROUP_NUMBERS],
+    tables: &[u32; TABLE_NUMBERS],
     counts: Counts,
-    index: &[u32; INDEX_NUMBERS],
     out: &mut [u8],
     place: Place,
 ) -> Walked
-    requires { ⌜ Held (now source) (now comments) (counts .comments) (now groups) (counts .groups) (now index) ⌝ }
+    requires { ⌜ HeldIn (now source) (now tables) counts ⌝ }
     ensures { λ r. ⌜ walkedAs (now (sheet .entry)) (now (out .exit)) r
-        ≡ onOk (afterCall (now (source .entry)) (typesFrom (now (source .entry)) (now (comments .entry)) (now (groups .entry)) counts) call (bufferAs (now (out .entry)) place))
+        ≡ onOk (afterCall (now (source .entry)) (typesFrom (now (source .entry)) (now (tables .entry)) counts) call (bufferAs (now (out .entry)) place))
         (callRest (node (now (source .entry)) levels) (now (source .entry)) (drop (cursor .at) (now (sheet .entry)))) ⌝ }
     ensures { λ r. ⌜ PastWalked (length (now (sheet .entry))) r ⌝ }
 {
@@ -373,10 +335,8 @@ fn visit_call_expr(
                 args,
                 count,
                 levels,
-                comments,
-                groups,
+                tables,
                 counts,
-                index,
                 out,
                 place,
             );
@@ -391,10 +351,8 @@ fn visit_call_expr(
                             next,
                             more,
                             levels,
-                            comments,
-                            groups,
+                            tables,
                             counts,
-                            index,
                             out,
                             place,
                         );
@@ -408,10 +366,8 @@ fn visit_call_expr(
                                     count,
                                     levels,
                                     call,
-                                    comments,
-                                    groups,
+                                    tables,
                                     counts,
-                                    index,
                                     out,
                                     place,
                                 );
@@ -434,16 +390,14 @@ fn visit_ts_import_equals_decl(
     type_only: bool,
     export: bool,
     specifier: Quoted,
-    comments: &[u32; COMMENT_NUMBERS],
-    groups: &[u32; GROUP_NUMBERS],
+    tables: &[u32; TABLE_NUMBERS],
     counts: Counts,
-    index: &[u32; INDEX_NUMBERS],
     out: &mut [u8],
     place: Place,
 ) -> Walked
-    requires { ⌜ Held (now source) (now comments) (counts .comments) (now groups) (counts .groups) (now index) × Quotes (now sheet) (now source) specifier × (cursor .at ≤ length (now sheet)) ⌝ }
+    requires { ⌜ HeldIn (now source) (now tables) counts × Quotes (now sheet) (now source) specifier × (cursor .at ≤ length (now sheet)) ⌝ }
     ensures { λ r. ⌜ walkedAs (now (sheet .entry)) (now (out .exit)) r
-        ≡ ok (afterNode (now (source .entry)) (typesFrom (now (source .entry)) (now (comments .entry)) (now (groups .entry)) counts) (bufferAs (now (out .entry)) place)
+        ≡ ok (afterNode (now (source .entry)) (typesFrom (now (source .entry)) (now (tables .entry)) counts) (bufferAs (now (out .entry)) place)
         (importRequire span «type_only» export (quotedOf (now (sheet .entry)) specifier)))
         (drop (cursor .at) (now (sheet .entry))) ⌝ }
     ensures { λ r. ⌜ PastWalked (length (now (sheet .entry))) r ⌝ }
@@ -455,17 +409,7 @@ fn visit_ts_import_equals_decl(
         specifier,
         is_side_effect: false,
     };
-    let place = put_plain_entry(
-        sheet,
-        source,
-        dependency,
-        comments,
-        groups,
-        counts,
-        index,
-        out,
-        place,
-    );
+    let place = put_plain_entry(sheet, source, dependency, tables, counts, out, place);
     Walked::Is(place, cursor)
 }
 
@@ -478,41 +422,26 @@ fn visit_ts_module_decl(
     levels: usize,
     span: Span,
     specifier: Quoted,
-    comments: &[u32; COMMENT_NUMBERS],
-    groups: &[u32; GROUP_NUMBERS],
+    tables: &[u32; TABLE_NUMBERS],
     counts: Counts,
-    index: &[u32; INDEX_NUMBERS],
     out: &mut [u8],
     place: Place,
 ) -> Walked
-    requires { ⌜ Held (now source) (now comments) (counts .comments) (now groups) (counts .groups) (now index) × Quotes (now sheet) (now source) specifier × (cursor .at ≤ length (now sheet)) ⌝ }
+    requires { ⌜ HeldIn (now source) (now tables) counts × Quotes (now sheet) (now source) specifier × (cursor .at ≤ length (now sheet)) ⌝ }
     ensures { λ r. ⌜ walkedAs (now (sheet .entry)) (now (out .exit)) r
-        ≡ onOk (afterNode (now (source .entry)) (typesFrom (now (source .entry)) (now (comments .entry)) (now (groups .entry)) counts) (bufferAs (now (out .entry)) place))
+        ≡ onOk (afterNode (now (source .entry)) (typesFrom (now (source .entry)) (now (tables .entry)) counts) (bufferAs (now (out .entry)) place))
         (rest (now (source .entry)) levels (span, moduleHead (Option.some (quotedOf (now (sheet .entry)) specifier)) count) (drop (cursor .at) (now (sheet .entry)))) ⌝ }
     ensures { λ r. ⌜ PastWalked (length (now (sheet .entry))) r ⌝ }
 {
-    let place = put_module_entry(
-        sheet,
-        source,
-        span,
-        specifier,
-        comments,
-        groups,
-        counts,
-        index,
-        out,
-        place,
-    );
+    let place = put_module_entry(sheet, source, span, specifier, tables, counts, out, place);
     walk_nodes(
         sheet,
         source,
         cursor,
         count,
         levels,
-        comments,
-        groups,
+        tables,
         counts,
-        index,
         out,
         place,
     )
@@ -524,16 +453,14 @@ fn walk_node(
     source: &[u8],
     cursor: Cursor,
     levels: usize,
-    comments: &[u32; COMMENT_NUMBERS],
-    groups: &[u32; GROUP_NUMBERS],
+    tables: &[u32; TABLE_NUMBERS],
     counts: Counts,
-    index: &[u32; INDEX_NUMBERS],
     out: &mut [u8],
     place: Place,
 ) -> Walked
-    requires { ⌜ Held (now source) (now comments) (counts .comments) (now groups) (counts .groups) (now index) ⌝ }
+    requires { ⌜ HeldIn (now source) (now tables) counts ⌝ }
     ensures { λ r. ⌜ walkedAs (now (sheet .entry)) (now (out .exit)) r
-        ≡ onOk (afterNode (now (source .entry)) (typesFrom (now (source .entry)) (now (comments .entry)) (now (groups .entry)) counts) (bufferAs (now (out .entry)) place))
+        ≡ onOk (afterNode (now (source .entry)) (typesFrom (now (source .entry)) (now (tables .entry)) counts) (bufferAs (now (out .entry)) place))
         (node (now (source .entry)) levels (drop (cursor .at) (now (sheet .entry)))) ⌝ }
     ensures { λ r. ⌜ PastWalked (length (now (sheet .entry))) r ⌝ }
 {
@@ -547,10 +474,8 @@ fn walk_node(
                 levels - 1,
                 span,
                 head,
-                comments,
-                groups,
+                tables,
                 counts,
-                index,
                 out,
                 place,
             )
@@ -566,16 +491,14 @@ fn walk_rest(
     levels: usize,
     span: Span,
     head: Head,
-    comments: &[u32; COMMENT_NUMBERS],
-    groups: &[u32; GROUP_NUMBERS],
+    tables: &[u32; TABLE_NUMBERS],
     counts: Counts,
-    index: &[u32; INDEX_NUMBERS],
     out: &mut [u8],
     place: Place,
 ) -> Walked
-    requires { ⌜ Held (now source) (now comments) (counts .comments) (now groups) (counts .groups) (now index) × PastHead (now sheet) (now source) (cursor .at) head ⌝ }
+    requires { ⌜ HeldIn (now source) (now tables) counts × PastHead (now sheet) (now source) (cursor .at) head ⌝ }
     ensures { λ r. ⌜ walkedAs (now (sheet .entry)) (now (out .exit)) r
-        ≡ onOk (afterNode (now (source .entry)) (typesFrom (now (source .entry)) (now (comments .entry)) (now (groups .entry)) counts) (bufferAs (now (out .entry)) place))
+        ≡ onOk (afterNode (now (source .entry)) (typesFrom (now (source .entry)) (now (tables .entry)) counts) (bufferAs (now (out .entry)) place))
         (rest (now (source .entry)) levels (span, headOf (now (sheet .entry)) head) (drop (cursor .at) (now (sheet .entry)))) ⌝ }
     ensures { λ r. ⌜ PastWalked (length (now (sheet .entry))) r ⌝ }
 {
@@ -587,10 +510,8 @@ fn walk_rest(
                 cursor,
                 count,
                 levels,
-                comments,
-                groups,
+                tables,
                 counts,
-                index,
                 out,
                 place,
             )
@@ -606,29 +527,15 @@ fn walk_rest(
                     next,
                     count,
                     levels,
-                    comments,
-                    groups,
+                    tables,
                     counts,
-                    index,
                     out,
                     place,
                 )
             }
         },
         Head::Binary(_) => {
-            walk_nodes(
-                sheet,
-                source,
-                cursor,
-                2,
-                levels,
-                comments,
-                groups,
-                counts,
-                index,
-                out,
-                place,
-            )
+            walk_nodes(sheet, source, cursor, 2, levels, tables, counts, out, place)
         }
         Head::Object(count) => {
             walk_properties(
@@ -637,10 +544,8 @@ fn walk_rest(
                 cursor,
                 count,
                 levels,
-                comments,
-                groups,
+                tables,
                 counts,
-                index,
                 out,
                 place,
             )
@@ -653,10 +558,8 @@ fn walk_rest(
                 levels,
                 span,
                 head,
-                comments,
-                groups,
+                tables,
                 counts,
-                index,
                 out,
                 place,
             )
@@ -679,10 +582,8 @@ fn walk_rest(
                 side_effect,
                 specifier,
                 there,
-                comments,
-                groups,
+                tables,
                 counts,
-                index,
                 out,
                 place,
             )
@@ -701,10 +602,8 @@ fn walk_rest(
                 type_only,
                 specifier,
                 there,
-                comments,
-                groups,
+                tables,
                 counts,
-                index,
                 out,
                 place,
             )
@@ -723,10 +622,8 @@ fn walk_rest(
                 type_only,
                 specifier,
                 there,
-                comments,
-                groups,
+                tables,
                 counts,
-                index,
                 out,
                 place,
             )
@@ -740,10 +637,8 @@ fn walk_rest(
                 levels,
                 span,
                 specifier,
-                comments,
-                groups,
+                tables,
                 counts,
-                index,
                 out,
                 place,
             )
@@ -761,10 +656,8 @@ fn walk_rest(
                 type_only,
                 export,
                 specifier,
-                comments,
-                groups,
+                tables,
                 counts,
-                index,
                 out,
                 place,
             )
@@ -776,10 +669,8 @@ fn walk_rest(
                 cursor,
                 count,
                 levels,
-                comments,
-                groups,
+                tables,
                 counts,
-                index,
                 out,
                 place,
             )
@@ -793,10 +684,8 @@ fn walk_rest(
                 levels,
                 span,
                 specifier,
-                comments,
-                groups,
+                tables,
                 counts,
-                index,
                 out,
                 place,
             )
@@ -811,16 +700,14 @@ fn walk_nodes(
     cursor: Cursor,
     count: usize,
     levels: usize,
-    comments: &[u32; COMMENT_NUMBERS],
-    groups: &[u32; GROUP_NUMBERS],
+    tables: &[u32; TABLE_NUMBERS],
     counts: Counts,
-    index: &[u32; INDEX_NUMBERS],
     out: &mut [u8],
     place: Place,
 ) -> Walked
-    requires { ⌜ Held (now source) (now comments) (counts .comments) (now groups) (counts .groups) (now index) × (cursor .at ≤ length (now sheet)) ⌝ }
+    requires { ⌜ HeldIn (now source) (now tables) counts × (cursor .at ≤ length (now sheet)) ⌝ }
     ensures { λ r. ⌜ walkedAs (now (sheet .entry)) (now (out .exit)) r
-        ≡ onOk (afterNodes (now (source .entry)) (typesFrom (now (source .entry)) (now (comments .entry)) (now (groups .entry)) counts) (bufferAs (now (out .entry)) place))
+        ≡ onOk (afterNodes (now (source .entry)) (typesFrom (now (source .entry)) (now (tables .entry)) counts) (bufferAs (now (out .entry)) place))
         (nodes (node (now (source .entry)) levels) count (drop (cursor .at) (now (sheet .entry)))) ⌝ }
     ensures { λ r. ⌜ PastWalked (length (now (sheet .entry))) r ⌝ }
 {
@@ -828,18 +715,7 @@ fn walk_nodes(
     let mut at = cursor;
     let mut place = place;
     while 0 < left {
-        match walk_node(
-            sheet,
-            source,
-            at,
-            levels,
-            comments,
-            groups,
-            counts,
-            index,
-            out,
-            place,
-        ) {
+        match walk_node(sheet, source, at, levels, tables, counts, out, place) {
             Walked::Refused(r) => {
                 return Walked::Refused(r);
             }
@@ -859,34 +735,21 @@ fn walk_argument(
     source: &[u8],
     cursor: Cursor,
     levels: usize,
-    comments: &[u32; COMMENT_NUMBERS],
-    groups: &[u32; GROUP_NUMBERS],
+    tables: &[u32; TABLE_NUMBERS],
     counts: Counts,
-    index: &[u32; INDEX_NUMBERS],
     out: &mut [u8],
     place: Place,
 ) -> Walked
-    requires { ⌜ Held (now source) (now comments) (counts .comments) (now groups) (counts .groups) (now index) ⌝ }
+    requires { ⌜ HeldIn (now source) (now tables) counts ⌝ }
     ensures { λ r. ⌜ walkedAs (now (sheet .entry)) (now (out .exit)) r
-        ≡ onOk (afterArgument (now (source .entry)) (typesFrom (now (source .entry)) (now (comments .entry)) (now (groups .entry)) counts) (bufferAs (now (out .entry)) place))
+        ≡ onOk (afterArgument (now (source .entry)) (typesFrom (now (source .entry)) (now (tables .entry)) counts) (bufferAs (now (out .entry)) place))
         (argumentItem (node (now (source .entry)) levels) (now (source .entry)) (drop (cursor .at) (now (sheet .entry)))) ⌝ }
     ensures { λ r. ⌜ PastWalked (length (now (sheet .entry))) r ⌝ }
 {
     match read_argument(sheet, source, cursor) {
         ArgumentRead::Refused(r) => Walked::Refused(r),
         ArgumentRead::Is { next, .. } => {
-            walk_node(
-                sheet,
-                source,
-                next,
-                levels,
-                comments,
-                groups,
-                counts,
-                index,
-                out,
-                place,
-            )
+            walk_node(sheet, source, next, levels, tables, counts, out, place)
         }
     }
 }
@@ -898,16 +761,14 @@ fn walk_arguments(
     cursor: Cursor,
     count: usize,
     levels: usize,
-    comments: &[u32; COMMENT_NUMBERS],
-    groups: &[u32; GROUP_NUMBERS],
+    tables: &[u32; TABLE_NUMBERS],
     counts: Counts,
-    index: &[u32; INDEX_NUMBERS],
     out: &mut [u8],
     place: Place,
 ) -> Walked
-    requires { ⌜ Held (now source) (now comments) (counts .comments) (now groups) (counts .groups) (now index) × (cursor .at ≤ length (now sheet)) ⌝ }
+    requires { ⌜ HeldIn (now source) (now tables) counts × (cursor .at ≤ length (now sheet)) ⌝ }
     ensures { λ r. ⌜ walkedAs (now (sheet .entry)) (now (out .exit)) r
-        ≡ onOk (afterArguments (now (source .entry)) (typesFrom (now (source .entry)) (now (comments .entry)) (now (groups .entry)) counts) (bufferAs (now (out .entry)) place))
+        ≡ onOk (afterArguments (now (source .entry)) (typesFrom (now (source .entry)) (now (tables .entry)) counts) (bufferAs (now (out .entry)) place))
         (arguments (node (now (source .entry)) levels) (now (source .entry)) count (drop (cursor .at) (now (sheet .entry)))) ⌝ }
     ensures { λ r. ⌜ PastWalked (length (now (sheet .entry))) r ⌝ }
 {
@@ -915,18 +776,7 @@ fn walk_arguments(
     let mut at = cursor;
     let mut place = place;
     while 0 < left {
-        match walk_argument(
-            sheet,
-            source,
-            at,
-            levels,
-            comments,
-            groups,
-            counts,
-            index,
-            out,
-            place,
-        ) {
+        match walk_argument(sheet, source, at, levels, tables, counts, out, place) {
             Walked::Refused(r) => {
                 return Walked::Refused(r);
             }
@@ -946,16 +796,14 @@ fn walk_property(
     source: &[u8],
     cursor: Cursor,
     levels: usize,
-    comments: &[u32; COMMENT_NUMBERS],
-    groups: &[u32; GROUP_NUMBERS],
+    tables: &[u32; TABLE_NUMBERS],
     counts: Counts,
-    index: &[u32; INDEX_NUMBERS],
     out: &mut [u8],
     place: Place,
 ) -> Walked
-    requires { ⌜ Held (now source) (now comments) (counts .comments) (now groups) (counts .groups) (now index) ⌝ }
+    requires { ⌜ HeldIn (now source) (now tables) counts ⌝ }
     ensures { λ r. ⌜ walkedAs (now (sheet .entry)) (now (out .exit)) r
-        ≡ onOk (afterProperty (now (source .entry)) (typesFrom (now (source .entry)) (now (comments .entry)) (now (groups .entry)) counts) (bufferAs (now (out .entry)) place))
+        ≡ onOk (afterProperty (now (source .entry)) (typesFrom (now (source .entry)) (now (tables .entry)) counts) (bufferAs (now (out .entry)) place))
         (propertyItem (node (now (source .entry)) levels) (drop (cursor .at) (now (sheet .entry)))) ⌝ }
     ensures { λ r. ⌜ PastWalked (length (now (sheet .entry))) r ⌝ }
 {
@@ -969,10 +817,8 @@ fn walk_property(
                 next,
                 count,
                 levels,
-                comments,
-                groups,
+                tables,
                 counts,
-                index,
                 out,
                 place,
             )
@@ -987,16 +833,14 @@ fn walk_properties(
     cursor: Cursor,
     count: usize,
     levels: usize,
-    comments: &[u32; COMMENT_NUMBERS],
-    groups: &[u32; GROUP_NUMBERS],
+    tables: &[u32; TABLE_NUMBERS],
     counts: Counts,
-    index: &[u32; INDEX_NUMBERS],
     out: &mut [u8],
     place: Place,
 ) -> Walked
-    requires { ⌜ Held (now source) (now comments) (counts .comments) (now groups) (counts .groups) (now index) × (cursor .at ≤ length (now sheet)) ⌝ }
+    requires { ⌜ HeldIn (now source) (now tables) counts × (cursor .at ≤ length (now sheet)) ⌝ }
     ensures { λ r. ⌜ walkedAs (now (sheet .entry)) (now (out .exit)) r
-        ≡ onOk (afterProperties (now (source .entry)) (typesFrom (now (source .entry)) (now (comments .entry)) (now (groups .entry)) counts) (bufferAs (now (out .entry)) place))
+        ≡ onOk (afterProperties (now (source .entry)) (typesFrom (now (source .entry)) (now (tables .entry)) counts) (bufferAs (now (out .entry)) place))
         (properties (node (now (source .entry)) levels) count (drop (cursor .at) (now (sheet .entry)))) ⌝ }
     ensures { λ r. ⌜ PastWalked (length (now (sheet .entry))) r ⌝ }
 {
@@ -1004,18 +848,7 @@ fn walk_properties(
     let mut at = cursor;
     let mut place = place;
     while 0 < left {
-        match walk_property(
-            sheet,
-            source,
-            at,
-            levels,
-            comments,
-            groups,
-            counts,
-            index,
-            out,
-            place,
-        ) {
+        match walk_property(sheet, source, at, levels, tables, counts, out, place) {
             Walked::Refused(r) => {
                 return Walked::Refused(r);
             }
@@ -1036,16 +869,14 @@ fn walk_attributes(
     cursor: Cursor,
     there: bool,
     levels: usize,
-    comments: &[u32; COMMENT_NUMBERS],
-    groups: &[u32; GROUP_NUMBERS],
+    tables: &[u32; TABLE_NUMBERS],
     counts: Counts,
-    index: &[u32; INDEX_NUMBERS],
     out: &mut [u8],
     place: Place,
 ) -> Walked
-    requires { ⌜ Held (now source) (now comments) (counts .comments) (now groups) (counts .groups) (now index) × (cursor .at ≤ length (now sheet)) ⌝ }
+    requires { ⌜ HeldIn (now source) (now tables) counts × (cursor .at ≤ length (now sheet)) ⌝ }
     ensures { λ r. ⌜ walkedAs (now (sheet .entry)) (now (out .exit)) r
-        ≡ onOk (afterWith (now (source .entry)) (typesFrom (now (source .entry)) (now (comments .entry)) (now (groups .entry)) counts) (bufferAs (now (out .entry)) place))
+        ≡ onOk (afterWith (now (source .entry)) (typesFrom (now (source .entry)) (now (tables .entry)) counts) (bufferAs (now (out .entry)) place))
         (behind there (attributesObject (now (source .entry)) levels) (drop (cursor .at) (now (sheet .entry)))) ⌝ }
     ensures { λ r. ⌜ PastWalked (length (now (sheet .entry))) r ⌝ }
 {
@@ -1059,10 +890,8 @@ fn walk_attributes(
                     next,
                     count,
                     levels - 1,
-                    comments,
-                    groups,
+                    tables,
                     counts,
-                    index,
                     out,
                     place,
                 )
@@ -1080,19 +909,17 @@ fn walk_import(
     there: bool,
     levels: usize,
     dependency: StaticDependencyDescriptor,
-    comments: &[u32; COMMENT_NUMBERS],
-    groups: &[u32; GROUP_NUMBERS],
+    tables: &[u32; TABLE_NUMBERS],
     counts: Counts,
-    index: &[u32; INDEX_NUMBERS],
     out: &mut [u8],
     place: Place,
 ) -> Walked
-    requires { ⌜ Held (now source) (now comments) (counts .comments) (now groups) (counts .groups) (now index)
+    requires { ⌜ HeldIn (now source) (now tables) counts
         × Quotes (now sheet) (now source) (dependency .specifier)
         × (cursor .at ≤ length (now sheet)) ⌝ }
     ensures { λ r. ⌜ walkedAs (now (sheet .entry)) (now (out .exit)) r
         ≡ onOk (afterImport (now (source .entry))
-        (typesFrom (now (source .entry)) (now (comments .entry)) (now (groups .entry)) counts)
+        (typesFrom (now (source .entry)) (now (tables .entry)) counts)
         (now (sheet .entry)) dependency (bufferAs (now (out .entry)) place))
         (behind there (attributesObject (now (source .entry)) levels) (drop (cursor .at) (now (sheet .entry)))) ⌝ }
     ensures { λ r. ⌜ PastWalked (length (now (sheet .entry))) r ⌝ }
@@ -1108,10 +935,8 @@ fn walk_import(
                     there,
                     levels,
                     dependency,
-                    comments,
-                    groups,
+                    tables,
                     counts,
-                    index,
                     out,
                     place,
                     false,
@@ -1120,17 +945,7 @@ fn walk_import(
             }
         };
     }
-    let place = put_plain_entry(
-        sheet,
-        source,
-        dependency,
-        comments,
-        groups,
-        counts,
-        index,
-        out,
-        place,
-    );
+    let place = put_plain_entry(sheet, source, dependency, tables, counts, out, place);
     Walked::Is(place, cursor)
 }
 
@@ -1143,16 +958,14 @@ fn walk_callee(
     levels: usize,
     span: Span,
     head: Head,
-    comments: &[u32; COMMENT_NUMBERS],
-    groups: &[u32; GROUP_NUMBERS],
+    tables: &[u32; TABLE_NUMBERS],
     counts: Counts,
-    index: &[u32; INDEX_NUMBERS],
     out: &mut [u8],
     place: Place,
 ) -> Walked
-    requires { ⌜ Held (now source) (now comments) (counts .comments) (now groups) (counts .groups) (now index) × (cursor .at ≤ length (now sheet)) × Calls head ⌝ }
+    requires { ⌜ HeldIn (now source) (now tables) counts × (cursor .at ≤ length (now sheet)) × Calls head ⌝ }
     ensures { λ r. ⌜ walkedAs (now (sheet .entry)) (now (out .exit)) r
-        ≡ onOk (afterNode (now (source .entry)) (typesFrom (now (source .entry)) (now (comments .entry)) (now (groups .entry)) counts) (bufferAs (now (out .entry)) place))
+        ≡ onOk (afterNode (now (source .entry)) (typesFrom (now (source .entry)) (now (tables .entry)) counts) (bufferAs (now (out .entry)) place))
         (rest (now (source .entry)) levels (span, headOf (now (sheet .entry)) head) (drop (cursor .at) (now (sheet .entry)))) ⌝ }
     ensures { λ r. ⌜ PastWalked (length (now (sheet .entry))) r ⌝ }
 {
@@ -1165,10 +978,8 @@ fn walk_callee(
         cursor,
         count,
         levels,
-        comments,
-        groups,
+        tables,
         counts,
-        index,
         out,
         place,
     ) {
@@ -1180,10 +991,8 @@ fn walk_callee(
                 next,
                 levels,
                 call,
-                comments,
-                groups,
+                tables,
                 counts,
-                index,
                 out,
                 place,
             )

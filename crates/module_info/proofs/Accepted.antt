@@ -19,7 +19,8 @@ use Rattle.text.specs.Bytes.{part}
 use Rattle.text.proofs.Columns.{counted}
 use Rattle.text.proofs.WellFormed.{well-formed-iff}
 use Rattle.wire.specs.Refusals.{ofSheets, oneOf}
-use Rattle.sheet.specs.Limits.{sourceLimit, commentLimit, groupLimit, depthLimit, commentNumbers, groupNumbers, indexNumbers}
+use Rattle.sheet.specs.Limits.{sourceLimit, commentLimit, groupLimit, depthLimit, commentNumbers, groupNumbers, groupsStart, indexStart, tableNumbers}
+use Rattle.sheet.specs.code.Tables.{commentsPart, groupsPart, indexPart}
 use Rattle.sheet.specs.Fit.{Fit}
 use Rattle.sheet.specs.Walk.{Visit, startOf, visits}
 use Rattle.sheet.specs.Sheet.{Sheet, accept}
@@ -33,7 +34,9 @@ use Rattle.sheet_codec.proofs.Quotations.{strings-quoted}
 use Rattle.sheet_codec.proofs.Refusals.{passes, Decision, decided, cut-off, judged-sheet, judged-refusal}
 use Rattle.accept.specs.declared.check.Parts.{Parts}
 use Rattle.accept.specs.code.Accepts.{Accepts}
+use Rattle.accept.proofs.Lent.{part-length, renewed, part-renewed, front-kept, length-kept}
 use Rattle.report.specs.declared.writer.Outcome.{Outcome}
+use Rattle.report.specs.Range.{IndexOf}
 use Rattle.report.specs.Answer.{outcomeAs, refusedWith, fitted}
 use Rattle.report.specs.ModuleInfo.{DependencyDescriptor}
 use Rattle.report.specs.Encode.{encode}
@@ -50,7 +53,7 @@ use Rattle.dep.specs.InTurn.{InTurn, Worded, EntryOf}
 use Rattle.dep.proofs.Turns.{turn-member, turns-with, collect-turns}
 use Rattle.dep.proofs.Right.{attributes-right}
 use Rattle.module_info.specs.Information.{moduleInfo, defaultInfo, answerOf}
-use Rattle.module_info.specs.code.Pieces.{PartsOf, RootOf}
+use Rattle.module_info.specs.code.Pieces.{PartsOf, RootOf, HeldBy, AcceptsIn}
 use Rattle.module_info.specs.Empty.{EmptyRight}
 use Rattle.module_info.specs.Demands.{OfAccepted, Demands}
 use Rattle.module_info.proofs.Numbers.{number-right}
@@ -87,20 +90,12 @@ module _ {s comments groups : List ℕ} {p : Parts} (a : Accepts s comments grou
   pub source-short : length (part s (p .«source_start») (p .«source_end»)) ≤ sourceLimit
   source-short = rw (a .source) (within .source .0)
 
-  pub lent : commentNumbers ≤ length comments → groupNumbers ≤ length groups → {index : List ℕ} → indexNumbers ≤ length index
-      → Indexed characters (part s (p .«source_start») (p .«source_end»)) index (length (part s (p .«source_start») (p .«source_end»)) / 64 + 1)
+  lent : commentNumbers ≤ length comments → groupNumbers ≤ length groups → {index : List ℕ} → IndexOf (part s (p .«source_start») (p .«source_end»)) index
       → Held (part s (p .«source_start») (p .«source_end»)) comments (p .comments) groups (p .groups) index
-  lent c g {index} i positions =
-      let short = source-short in
+  lent c g {index} indexed =
       let n : p .comments ≤ commentLimit = rw (← a .comments, rows-length) at (within .comments .0) in
       let m : p .groups ≤ groupLimit = rw (← a .groups, rows-length) at (within .groups .0) in (
-        record {
-          utf8 = rw (a .source) formed-source;
-          short = short;
-          room = omega arith;
-          fit = rw (a .source, a .comments) fit;
-          indexed = record { long = omega arith; positions = positions };
-        },
+        record { utf8 = rw (a .source) formed-source; short = source-short; room = omega arith; fit = rw (a .source, a .comments) fit; indexed = indexed },
         record { room = omega arith; grouped = rw (a .groups) (rw (← a .comments, rows-length) at (within .groups .1)) },
       )
 
@@ -168,6 +163,29 @@ module _ {s comments groups : List ℕ} {p : Parts} (a : Accepts s comments grou
 
       shown : (P : Sheet → Type 0) → P (a .sheet) → OfAccepted s P
       shown P h t e = rw (same-sheet (accepts-exactly s t .1 e) (a .accepted)) h
+
+-- the index is written into the table, behind its comments and groups
+module _ {s : List ℕ} (table : List ℕ) {p : Parts} (room : tableNumbers ≤ length table) (a : Accepts s (commentsPart table) (groupsPart table) p) (index : List ℕ) (kept : length index ≡ length (indexPart table)) where
+  pub indexed-in : Indexed characters (part s (p .«source_start») (p .«source_end»)) index (length (part s (p .«source_start») (p .«source_end»)) / 64 + 1)
+      → AcceptsIn s (renewed table indexStart tableNumbers index) p
+  indexed-in positions =
+      let short = source-short a in
+      record {
+        room = omega (arith, length-kept table indexStart tableNumbers (omega arith) room index kept);
+        accepts =
+            rw (front-kept table indexStart tableNumbers (omega arith) room index kept 0 groupsStart (omega arith) (omega arith), front-kept table indexStart tableNumbers (omega arith) room index kept groupsStart indexStart (omega arith) (omega arith)) a;
+        indexed =
+            rw (part-renewed table indexStart tableNumbers (omega arith) room index kept)
+            (record { long = omega (arith, kept, part-length table indexStart tableNumbers (omega arith) room); positions = positions });
+      }
+
+-- what is lent to the writers of its report
+pub held : {s tables : List ℕ} {p : Parts} → AcceptsIn s tables p → HeldBy (part s (p .«source_start») (p .«source_end»)) tables p
+held {tables = tables} a =
+    let room = a .room in (
+      room,
+      lent (a .accepts) (omega (arith, part-length tables 0 groupsStart (omega arith) (omega arith))) (omega (arith, part-length tables groupsStart indexStart (omega arith) (omega arith))) (a .indexed),
+    )
 
 -- a refusal fits a byte
 pub refusal-small : (s : List ℕ) {r : ℕ} → 0 < length s → accept s ≡ no r → r < 256

@@ -16,28 +16,29 @@ use report::writer::Place;
 use report::writer::finish;
 use report::writer::refuse_all;
 use sheet::limits::COMMENT_LIMIT;
-use sheet::limits::COMMENT_NUMBERS;
-use sheet::limits::GROUP_NUMBERS;
-use sheet::limits::INDEX_NUMBERS;
+use sheet::limits::GROUPS_START;
+use sheet::limits::INDEX_START;
 use sheet::limits::SOURCE_LIMIT;
+use sheet::limits::TABLE_NUMBERS;
 use sheet::lookups::end_group;
 use sheet::lookups::head_group;
 use text::position::build_index;
 use wire::Cursor;
 ghost use mathlib.Core.Path.{_≡_};
 ghost use mathlib.Core.List.{List, []};
-ghost use Prim.Native.Nat.{ℕ, _≤_};
+ghost use Prim.Native.Nat.{ℕ};
 ghost use lib.ListN.{length, replicate};
 ghost use Rattle.laws.specs.Decoded.{ok};
+ghost use Rattle.laws.specs.code.Left.{Free};
+ghost use Rattle.sheet.specs.code.Tables.{commentsPart, groupsPart};
 ghost use Rattle.sheet.specs.Sheet.{Sheet, accept};
-ghost use Rattle.accept.specs.code.Accepts.{Accepts, Judges};
+ghost use Rattle.accept.specs.code.Accepts.{Judges};
 ghost use Rattle.report.specs.declared.writer.Outcome.{Outcome};
 ghost use Rattle.report.specs.Buffer.{wrote, bufferAs};
 ghost use Rattle.report.specs.Encode.{encode};
 ghost use Rattle.report.specs.Answer.{outcomeAs, fitted};
-ghost use Rattle.pragmas.specs.code.Held.{Held};
 ghost use Rattle.module_info.specs.Information.{moduleInfo, defaultInfo, packed};
-ghost use Rattle.module_info.specs.code.Pieces.{dependencyBytes, headBytes, restBytes, PartsOf, RootOf};
+ghost use Rattle.module_info.specs.code.Pieces.{dependencyBytes, headBytes, restBytes, PartsIn, RootOf, HeldBy, AcceptsIn};
 ghost use Rattle.module_info.specs.Demands.{Demands};
 
 // The script flag and the dependencies.
@@ -45,51 +46,33 @@ fn put_dependencies(
     sheet: &[u8],
     source: &[u8],
     parts: Parts,
-    comments: &[u32; COMMENT_NUMBERS],
-    groups: &[u32; GROUP_NUMBERS],
-    index: &[u32; INDEX_NUMBERS],
+    tables: &[u32; TABLE_NUMBERS],
     out: &mut [u8],
     place: Place,
 ) -> Place
-    requires { ⌜ Held (now source) (now comments) (parts .comments) (now groups) (parts .groups) (now index) ⌝ }
-    ensures { λ r. ⌜ ((t : Sheet) → PartsOf t (now (source .entry)) (now (comments .entry)) (now (groups .entry)) parts → RootOf t (now (sheet .entry)) parts
+    requires { ⌜ HeldBy (now source) (now tables) parts ⌝ }
+    ensures { λ r. ⌜ ((t : Sheet) → PartsIn t (now (source .entry)) (now (tables .entry)) parts → RootOf t (now (sheet .entry)) parts
         → bufferAs (now (out .exit)) r ≡ wrote (bufferAs (now (out .entry)) place) (dependencyBytes t)) ⌝ }
 {
-    let k = Counts {
+    let counts = Counts {
         comments: parts.comments,
         groups: parts.groups,
     };
     let root = Cursor { at: parts.root };
     let program = parts.program;
     let p = place.put_flag(out, program.script);
-    analyze_program_dependencies(
-        sheet,
-        source,
-        root,
-        parts.entries,
-        comments,
-        groups,
-        k,
-        index,
-        out,
-        p,
-    )
+    analyze_program_dependencies(sheet, source, root, parts.entries, tables, counts, out, p)
 }
 
 // What the head group gives: references, self types and both JSX sources.
-fn put_head(
-    source: &[u8],
-    parts: Parts,
-    comments: &[u32],
-    groups: &[u32],
-    index: &[u32],
-    out: &mut [u8],
-    place: Place,
-) -> Place
-    requires { ⌜ Held (now source) (now comments) (parts .comments) (now groups) (parts .groups) (now index) ⌝ }
-    ensures { λ r. ⌜ ((t : Sheet) → PartsOf t (now (source .entry)) (now (comments .entry)) (now (groups .entry)) parts
+fn put_head(source: &[u8], parts: Parts, tables: &[u32], out: &mut [u8], place: Place) -> Place
+    requires { ⌜ HeldBy (now source) (now tables) parts ⌝ }
+    ensures { λ r. ⌜ ((t : Sheet) → PartsIn t (now (source .entry)) (now (tables .entry)) parts
         → bufferAs (now (out .exit)) r ≡ wrote (bufferAs (now (out .entry)) place) (headBytes t)) ⌝ }
 {
+    let comments = &tables[0..GROUPS_START];
+    let groups = &tables[GROUPS_START..INDEX_START];
+    let index = &tables[INDEX_START..TABLE_NUMBERS];
     let n = parts.comments;
     let media = parts.media;
     let head = head_group(groups, parts.groups, parts.program);
@@ -105,16 +88,14 @@ fn put_head(
 fn put_rest(
     source: &[u8],
     parts: Parts,
-    comments: &[u32],
-    groups: &[u32],
-    index: &[u32],
+    tables: &[u32],
     marks: &mut [u8],
     out: &mut [u8],
     place: Place,
 ) -> Place
     requires { ⌜ now marks ≡ replicate (length (now marks)) 0 ⌝ }
-    requires { ⌜ Held (now source) (now comments) (parts .comments) (now groups) (parts .groups) (now index) ⌝ }
-    ensures { λ r. ⌜ ((t : Sheet) → PartsOf t (now (source .entry)) (now (comments .entry)) (now (groups .entry)) parts
+    requires { ⌜ HeldBy (now source) (now tables) parts ⌝ }
+    ensures { λ r. ⌜ ((t : Sheet) → PartsIn t (now (source .entry)) (now (tables .entry)) parts
         → bufferAs (now (out .exit)) r ≡ wrote (bufferAs (now (out .entry)) place) (restBytes t)) ⌝ }
 {
     let n = parts.comments;
@@ -122,17 +103,11 @@ fn put_rest(
     let long = source.len();
     if marks.len() < long {
         let mut more = [0u8; SOURCE_LIMIT];
-        return put_rest(
-            source,
-            parts,
-            comments,
-            groups,
-            index,
-            &mut more,
-            out,
-            place,
-        );
+        return put_rest(source, parts, tables, &mut more, out, place);
     }
+    let comments = &tables[0..GROUPS_START];
+    let groups = &tables[GROUPS_START..INDEX_START];
+    let index = &tables[INDEX_START..TABLE_NUMBERS];
     let p = analyze_jsdoc_imports(
         media,
         source,
@@ -147,53 +122,45 @@ fn put_rest(
     analyze_source_map_url(source, comments, n, index, end, out, p)
 }
 
-// Does nothing: where an array is lent as a slice, its length is known to the proof.
-fn show_lengths(_comments: &[u32], _groups: &[u32]) {}
-
 // The parts of the report of an accepted sheet, one after the other.
 fn put_report(
     sheet: &[u8],
     parts: Parts,
-    comments: &[u32; COMMENT_NUMBERS],
-    groups: &[u32; GROUP_NUMBERS],
+    tables: &[u32; TABLE_NUMBERS],
     out: &mut [u8],
     place: Place,
 ) -> Place
-    requires { ⌜ Accepts (now sheet) (now comments) (now groups) parts ⌝ }
+    requires { ⌜ AcceptsIn (now sheet) (now tables) parts ⌝ }
     ensures { λ r. ⌜ ((t : Sheet) → accept (now (sheet .entry)) ≡ ok t []
         → bufferAs (now (out .exit)) r ≡ wrote (bufferAs (now (out .entry)) place) (encode (moduleInfo t))) ⌝ }
 {
     let start = parts.source_start;
     let end = parts.source_end;
     let source = &sheet[start..end];
-    let mut index = [0u32; INDEX_NUMBERS];
-    build_index(source, &mut index);
-    show_lengths(comments, groups);
-    let p = put_dependencies(sheet, source, parts, comments, groups, &index, out, place);
-    let p = put_head(source, parts, comments, groups, &index, out, p);
+    let p = put_dependencies(sheet, source, parts, tables, out, place);
+    let p = put_head(source, parts, tables, out, p);
     if source.len() <= 4096 {
         let mut marks = [0u8; 4096];
-        return put_rest(source, parts, comments, groups, &index, &mut marks, out, p);
+        return put_rest(source, parts, tables, &mut marks, out, p);
     }
     // more are made there
     let mut few = [0u8; 1];
-    put_rest(source, parts, comments, groups, &index, &mut few, out, p)
+    put_rest(source, parts, tables, &mut few, out, p)
 }
 
 // The report of an accepted sheet: the buffer goes into a writer, and is held there to the end.
 fn write_report(
     sheet: &[u8],
     parts: Parts,
-    comments: &[u32; COMMENT_NUMBERS],
-    groups: &[u32; GROUP_NUMBERS],
+    tables: &[u32; TABLE_NUMBERS],
     buffer: &mut [u8],
 ) -> Outcome
-    requires { ⌜ Accepts (now sheet) (now comments) (now groups) parts ⌝ }
+    requires { ⌜ AcceptsIn (now sheet) (now tables) parts ⌝ }
     ensures { λ r. ⌜ ((t : Sheet) → accept (now (sheet .entry)) ≡ ok t []
         → outcomeAs r (now (buffer .exit)) ≡ fitted (length (now (buffer .entry))) (encode (moduleInfo t))) ⌝ }
 {
     let w = report::lent::new(buffer);
-    let place = put_report(sheet, parts, comments, groups, &mut *w.out, w.place);
+    let place = put_report(sheet, parts, tables, &mut *w.out, w.place);
     let w = Writer {
         out: w.out,
         place: place,
@@ -202,15 +169,12 @@ fn write_report(
 }
 
 // Checks a sheet. The table that only the check works in is here, so that its room on the stack is free again for what follows.
-fn check(
-    sheet: &[u8],
-    comments: &mut [u32; COMMENT_NUMBERS],
-    groups: &mut [u32; GROUP_NUMBERS],
-) -> SheetChecked
-    ensures { λ r. ⌜ Judges (now (sheet .entry)) (now (comments .exit)) (now (groups .exit)) r ⌝ }
+fn check(sheet: &[u8], tables: &mut [u32; TABLE_NUMBERS]) -> SheetChecked
+    ensures { λ r. ⌜ Judges (now (sheet .entry)) (commentsPart (now (tables .exit))) (groupsPart (now (tables .exit))) r ⌝ }
+    ensures { λ _. ⌜ Free (now (tables .entry)) (now (tables .exit)) ⌝ }
 {
     let mut longest = [0u32; COMMENT_LIMIT];
-    check_sheet(sheet, comments, groups, &mut longest)
+    check_sheet(sheet, tables, &mut longest)
 }
 
 // The report of the default information: eight zero bytes.
@@ -227,14 +191,18 @@ fn write_default(buffer: &mut [u8]) -> Outcome
 pub fn module_info(sheet: &[u8], buffer: &mut [u8]) -> Outcome
     ensures { λ r. ⌜ Demands (now (sheet .entry)) (length (now (buffer .entry))) r (now (buffer .exit)) ⌝ }
 {
-    let mut comments = [0u32; COMMENT_NUMBERS];
-    let mut groups = [0u32; GROUP_NUMBERS];
+    let mut tables = [0u32; TABLE_NUMBERS];
     if sheet.len() == 0 {
         return write_default(buffer);
     }
-    match check(sheet, &mut comments, &mut groups) {
+    match check(sheet, &mut tables) {
         SheetChecked::Refused(r) => refuse_all(buffer, r as u8),
-        SheetChecked::Accepted(parts) => write_report(sheet, parts, &comments, &groups, buffer),
+        SheetChecked::Accepted(parts) => {
+            let start = parts.source_start;
+            let end = parts.source_end;
+            build_index(&sheet[start..end], &mut tables[INDEX_START..TABLE_NUMBERS]);
+            write_report(sheet, parts, &tables, buffer)
+        }
     }
 }
 

@@ -44,3 +44,15 @@ pairNumbers = 5 * propertyLimit
 -- in the index of the source, two for each 64 bytes and two for what is left
 abbrev pub indexNumbers : ℕ
 indexNumbers = 2 * (sourceLimit / 64 + 1)
+
+-- where the groups' numbers start in the one table that is lent, behind the comments'
+abbrev pub groupsStart : ℕ
+groupsStart = commentNumbers
+
+-- where the index's do
+abbrev pub indexStart : ℕ
+indexStart = groupsStart + groupNumbers
+
+-- in the whole of it
+abbrev pub tableNumbers : ℕ
+tableNumbers = indexStart + indexNumbers

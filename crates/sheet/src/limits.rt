@@ -32,3 +32,12 @@ pub const PAIR_NUMBERS: usize = 5 * PROPERTY_LIMIT;
 
 // In the index of the source, two for each 64 bytes and two for what is left.
 pub const INDEX_NUMBERS: usize = 2 * (SOURCE_LIMIT / 64 + 1);
+
+// In the one table that is lent, which has the comments' numbers, then the groups', then the index's.
+pub const TABLE_NUMBERS: usize = INDEX_START + INDEX_NUMBERS;
+
+// Where the groups' numbers start in it.
+pub const GROUPS_START: usize = COMMENT_NUMBERS;
+
+// Where the index's do.
+pub const INDEX_START: usize = GROUPS_START + GROUP_NUMBERS;

@@ -7,12 +7,13 @@ use mathlib.Core.Option.{Option}
 use Prim.Native.Nat.{ℕ, _≤_}
 use lib.ListN.{length, drop}
 use Rattle.laws.specs.Decoded.{Decoded, ok, no}
+use Rattle.sheet.specs.Limits.{tableNumbers}
 use Rattle.sheet.specs.declared.names.ImportPhase.{ImportPhase}
 use Rattle.sheet.specs.declared.fields.Span.{Span}
 use Rattle.sheet.specs.Tree.{Quoted, Node, Nodes, Arguments, noArguments, Properties, noProperties, Attributes}
 use Rattle.sheet.specs.Nodes.{node}
 use Rattle.sheet.specs.Shape.{shape, isRequire}
-use Rattle.sheet.specs.code.Tables.{commentsIn, groupsIn}
+use Rattle.sheet.specs.code.Tables.{commentsIn, groupsIn, commentsPart, groupsPart, indexPart}
 use Rattle.heads.specs.declared.quoted.Quoted as q
 use Rattle.heads.specs.declared.node.Head as h
 use Rattle.heads.specs.declared.node.Head.the-variants as head
@@ -26,6 +27,7 @@ use Rattle.report.specs.Range.{rangeOf, InSource}
 use Rattle.report.specs.Buffer.{Buffer, wrote, bufferAs}
 use Rattle.attributes.specs.Attributes.{staticAttributes, typeAttributes}
 use Rattle.pragmas.specs.Pragmas.{typesIn}
+use Rattle.pragmas.specs.code.Held.{Held}
 use Rattle.dep.specs.declared.entries.Counts.{Counts}
 use Rattle.dep.specs.declared.entries.CallHead.{CallHead}
 use Rattle.dep.specs.declared.entries.StaticDependencyDescriptor.{StaticDependencyDescriptor}
@@ -34,9 +36,15 @@ use Rattle.dep.specs.declared.walk.Walked.{Walked}
 use Rattle.dep.specs.declared.walk.Walked.the-variants as walked
 use Rattle.dep.specs.Collect.{dynamicKind, staticEntry, callEntry, collect, collectAll, collectOf, collectIn, collectWith}
 
--- the types that the comments and the groups in the tables give
-abbrev pub typesFrom : List ℕ → List ℕ → List ℕ → Counts → ℕ → Option SpecifierWithRange
-typesFrom source comments groups counts = typesIn source (commentsIn comments (counts .comments)) (groupsIn groups (counts .groups))
+-- the types that the comments and the groups in the table give
+abbrev pub typesFrom : List ℕ → List ℕ → Counts → ℕ → Option SpecifierWithRange
+typesFrom source tables counts = typesIn source (commentsIn (commentsPart tables) (counts .comments)) (groupsIn (groupsPart tables) (counts .groups))
+
+-- the comments and the groups of the source, and the index of its positions, in the one table that is lent
+abbrev pub HeldIn : List ℕ → List ℕ → Counts → Type 0
+HeldIn source tables counts =
+    (tableNumbers ≤ length tables)
+    × Held source (commentsPart tables) (counts .comments) (groupsPart tables) (counts .groups) (indexPart tables)
 
 -- a String of the sheet whose span is one of the source
 abbrev pub Quotes : List ℕ → List ℕ → q.Quoted → Type 0

@@ -20,37 +20,46 @@ use Rattle.module_info.proofs.+put_rest.{statement}
 use Rattle.module_info.proofs.+put_rest.Tie.{close}
 
 -- how many marks are lacking for the longest source
-abbrev μ-put-rest : Measures 6 put-rest-kinds.ps ℕ
-μ-put-rest κs a = sourceLimit - length (now (a .1 .1 .1 .1 .1 .0))
+abbrev μ-put-rest : Measures 4 put-rest-kinds.ps ℕ
+μ-put-rest κs a = sourceLimit - length (now (a .1 .1 .1 .0))
 
-abbrev put-rest-at : ℕ → In 6 put-rest-kinds.ps
-put-rest-at t = and 6 put-rest-kinds.ps (is 6 put-rest-kinds.ps μ-put-rest t) put-rest.Pre
+abbrev put-rest-at : ℕ → In 4 put-rest-kinds.ps
+put-rest-at t = and 4 put-rest-kinds.ps (is 4 put-rest-kinds.ps μ-put-rest t) put-rest.Pre
 
-abbrev put-rest-below : ℕ → In 6 put-rest-kinds.ps
-put-rest-below t = and 6 put-rest-kinds.ps (falls 6 put-rest-kinds.ps _<_ μ-put-rest t) put-rest.Pre
+abbrev put-rest-below : ℕ → In 4 put-rest-kinds.ps
+put-rest-below t = and 4 put-rest-kinds.ps (falls 4 put-rest-kinds.ps _<_ μ-put-rest t) put-rest.Pre
 
 abbrev calls : ℕ → put-rest-lts.Claims
 calls t = (put-rest-below t, put-rest.Post, analyze-jsdoc-imports.Asked, analyze-jsdoc-imports.Learnt, end-group.Asked, end-group.Learnt, analyze-source-map-url.Asked, analyze-source-map-url.Learnt)
 
 put-rest-requires : (t : ℕ) → put-rest-lts.Need-put-rest-requires (calls t) (put-rest-at t) put-rest.Post
 put-rest-requires t c κs =
-    let pre = c .before .before .before .before .before .before .before .before .before .pre in
-    let short = pre .1 .1 .0 .short in
+    let pre = c .before .before .before .before .before .before .before .pre in
+    let short = pre .1 .1 .1 .0 .short in
     (omega arith, (search needs, pre .1 .1))
 
 returns : (t : ℕ) → put-rest-lts.Need-returns (calls t) (put-rest-at t) put-rest.Post
 returns t c = c .before .before .before .put-rest .ensures
 
+part-comments-end : (t : ℕ) → put-rest-lts.Need-part-comments-end (calls t) (put-rest-at t) put-rest.Post
+part-comments-end t c = let room = c .before .before .before .before .before .pre .1 .1 .0 in omega arith
+
+part-groups-end : (t : ℕ) → put-rest-lts.Need-part-groups-end (calls t) (put-rest-at t) put-rest.Post
+part-groups-end t c = let room = c .before .before .before .before .before .before .pre .1 .1 .0 in omega arith
+
+part-index-end : (t : ℕ) → put-rest-lts.Need-part-index-end (calls t) (put-rest-at t) put-rest.Post
+part-index-end t c = c .before .before .before .before .before .before .before .pre .1 .1 .0
+
 analyze-jsdoc-imports-requires : (t : ℕ) → put-rest-lts.Need-analyze-jsdoc-imports-requires (calls t) (put-rest-at t) put-rest.Post
 analyze-jsdoc-imports-requires t c κs =
-    let a = c .before .before .before .before .before .before .before .before .before .args in
-    let pre = c .before .before .before .before .before .before .before .before .before .pre .1 in
-    (pre .1 .0, front-cleared (now (a .marks)) (length (now (a .source))) (pre .0) (c .before .before .if1 .left))
+    let a = c .before .before .before .before .before .before .before .before .before .before .args in
+    let pre = c .before .before .before .before .before .before .before .before .before .before .pre .1 in
+    (pre .1 .1 .0, front-cleared (now (a .marks)) (length (now (a .source))) (pre .0) (c .before .before .before .before .before .if1 .left))
 
 analyze-source-map-url-requires : (t : ℕ) → put-rest-lts.Need-analyze-source-map-url-requires (calls t) (put-rest-at t) put-rest.Post
 analyze-source-map-url-requires t c κs =
-    let start = c .before .before .before .before .before .before .before .before .before .before .before .before .before .before .before .before in
-    (start .pre .1 .1 .0, end-reached (start .pre .1 .1 .1 .grouped) (programOf (start .args .parts .program)) _ (c .before .end-group .ensures))
+    let start = c .before .before .before .before .before .before .before .before .before .before .before .before .before .before .before .before .before in
+    (start .pre .1 .1 .1 .0, end-reached (start .pre .1 .1 .1 .1 .grouped) (programOf (start .args .parts .program)) _ (c .before .end-group .ensures))
 
 returns-2 : (t : ℕ) → put-rest-lts.Need-returns-2 (calls t) (put-rest-at t) put-rest.Post
 returns-2 t c = λ t o. rest-written o _ (c .before .before .before .before .end-group .ensures) (c .before .before .before .before .before .before .before .before .before .analyze-jsdoc-imports .ensures .0) (c .before .before .analyze-source-map-url .ensures)
@@ -64,6 +73,15 @@ pub +put-rest-spec : {M : Type 1} → statement M
     (put-rest-requires t)
     (λ c. search needs)
     (returns t)
+    (λ c. search needs)
+    (λ c. search needs)
+    (part-comments-end t)
+    (λ c. search needs)
+    (λ c. search needs)
+    (part-groups-end t)
+    (λ c. search needs)
+    (λ c. search needs)
+    (part-index-end t)
     (λ c. search needs)
     (λ c. search needs)
     (λ c. search needs)

@@ -1,20 +1,30 @@
 use borrow.Author.Needs.{needs}
+use native.Mathlib.Omega.{arith}
 use Rattle.pragmas.proofs.Reached.{head-reached}
 use Rattle.module_info.proofs.Written.{head-written}
 use Rattle.module_info.proofs.put_head.Statement.{statement}
 use Rattle.module_info.proofs.put_head.Tie as tie
 
+part-comments-end : tie.Need-part-comments-end
+part-comments-end c = let room = c .before .before .before .pre .0 in omega arith
+
+part-groups-end : tie.Need-part-groups-end
+part-groups-end c = let room = c .before .before .before .before .pre .0 in omega arith
+
+part-index-end : tie.Need-part-index-end
+part-index-end c = c .before .before .before .before .before .pre .0
+
 analyze-ts-references-requires : tie.Need-analyze-ts-references-requires
-analyze-ts-references-requires c κs = (c .before .before .before .before .before .before .before .pre .0, head-reached (c .before .before .before .before .before .before .before .pre .1 .grouped) _ _ (c .before .head-group .ensures))
+analyze-ts-references-requires c κs = (c .before .before .before .before .before .before .before .before .pre .1 .0, head-reached (c .before .before .before .before .before .before .before .before .pre .1 .1 .grouped) _ _ (c .before .head-group .ensures))
 
 analyze-ts-self-types-requires : tie.Need-analyze-ts-self-types-requires
-analyze-ts-self-types-requires c κs = (c .before .before .before .before .before .before .before .before .before .before .before .pre .0, head-reached (c .before .before .before .before .before .before .before .before .before .before .before .pre .1 .grouped) _ _ (c .before .before .before .before .before .head-group .ensures))
+analyze-ts-self-types-requires c κs = (c .before .before .before .before .before .before .before .before .before .before .before .before .pre .1 .0, head-reached (c .before .before .before .before .before .before .before .before .before .before .before .before .pre .1 .1 .grouped) _ _ (c .before .before .before .before .before .head-group .ensures))
 
 analyze-jsx-import-source-requires : tie.Need-analyze-jsx-import-source-requires
-analyze-jsx-import-source-requires c κs = (c .before .before .before .before .before .before .before .before .before .before .before .before .before .before .before .pre .0, head-reached (c .before .before .before .before .before .before .before .before .before .before .before .before .before .before .before .pre .1 .grouped) _ _ (c .before .before .before .before .before .before .before .before .before .head-group .ensures))
+analyze-jsx-import-source-requires c κs = (c .before .before .before .before .before .before .before .before .before .before .before .before .before .before .before .before .pre .1 .0, head-reached (c .before .before .before .before .before .before .before .before .before .before .before .before .before .before .before .before .pre .1 .1 .grouped) _ _ (c .before .before .before .before .before .before .before .before .before .head-group .ensures))
 
 analyze-jsx-import-source-types-requires : tie.Need-analyze-jsx-import-source-types-requires
-analyze-jsx-import-source-types-requires c κs = (c .before .before .before .before .before .before .before .before .before .before .before .before .before .before .before .before .before .before .before .pre .0, head-reached (c .before .before .before .before .before .before .before .before .before .before .before .before .before .before .before .before .before .before .before .pre .1 .grouped) _ _ (c .before .before .before .before .before .before .before .before .before .before .before .before .before .head-group .ensures))
+analyze-jsx-import-source-types-requires c κs = (c .before .before .before .before .before .before .before .before .before .before .before .before .before .before .before .before .before .before .before .before .pre .1 .0, head-reached (c .before .before .before .before .before .before .before .before .before .before .before .before .before .before .before .before .before .before .before .before .pre .1 .1 .grouped) _ _ (c .before .before .before .before .before .before .before .before .before .before .before .before .before .head-group .ensures))
 
 returns : tie.Need-returns
 returns c =
@@ -24,6 +34,15 @@ pub put-head-spec : {M : Type 1} → statement M
 put-head-spec =
     tie.close
     (tie.spec
+    (λ c. search needs)
+    (λ c. search needs)
+    part-comments-end
+    (λ c. search needs)
+    (λ c. search needs)
+    part-groups-end
+    (λ c. search needs)
+    (λ c. search needs)
+    part-index-end
     (λ c κs. search needs)
     analyze-ts-references-requires
     analyze-ts-self-types-requires

@@ -1,22 +1,26 @@
 -- The report in the pieces that functions write, and what is lent to these.
 use mathlib.Core.Path.{_≡_}
 use mathlib.Core.List.{List, [], _++_}
-use Prim.Native.Nat.{ℕ}
-use lib.ListN.{drop}
+use Prim.Native.Nat.{ℕ, _≤_}
+use lib.ListN.{length, drop}
 use Rattle.laws.specs.Decoded.{ok}
+use Rattle.text.specs.Bytes.{part}
 use Rattle.wire.specs.Fields.{encodeFlag}
 use Rattle.wire.specs.Optional.{encodeOptional}
-use Rattle.sheet.specs.Limits.{depthLimit}
+use Rattle.sheet.specs.Limits.{depthLimit, tableNumbers}
 use Rattle.sheet.specs.Nodes.{node}
 use Rattle.sheet.specs.Walked.{entries}
 use Rattle.sheet.specs.Sheet.{Sheet}
-use Rattle.sheet.specs.code.Tables.{commentsIn, groupsIn}
+use Rattle.sheet.specs.code.Tables.{commentsIn, groupsIn, commentsPart, groupsPart, indexPart}
 use Rattle.sheet.specs.code.Views.{programOf}
 use Rattle.accept.specs.declared.check.Parts.{Parts}
+use Rattle.accept.specs.code.Accepts.{Accepts}
+use Rattle.report.specs.Range.{IndexOf}
 use Rattle.report.specs.Encode.{encodeList, encodeSpecifier, encodeReference, encodeJsDoc, encodeDependency}
 use Rattle.pragmas.specs.Pragmas.{tsReferences, selfTypesSpecifier, jsxImportSource, jsxImportSourceTypes, sourceMapUrl, typesAt}
 use Rattle.listing.specs.Imports.{jsdocImports}
 use Rattle.dep.specs.Collect.{collect}
+use Rattle.dep.specs.code.Walk.{HeldIn}
 
 -- the script flag and the dependencies
 unfoldable pub dependencyBytes : Sheet → List ℕ
@@ -41,7 +45,21 @@ pub record PartsOf (t : Sheet) (source comments groups : List ℕ) (p : Parts) :
   pub groups-are : groupsIn groups (p .groups) ≡ t .groups
   pub program : programOf (p .program) ≡ t .program
 
+-- and as they are in the one table
+abbrev pub PartsIn : Sheet → List ℕ → List ℕ → Parts → Type 0
+PartsIn t source tables = PartsOf t source (commentsPart tables) (groupsPart tables)
+
 -- its tree in its bytes s
 pub record RootOf (t : Sheet) (s : List ℕ) (p : Parts) : Type 0 where
   pub root : node (t .source) depthLimit (drop (p .root) s) ≡ ok (t .root) []
   pub count : entries (t .root) ≡ p .entries
+
+-- what is lent to the writers of a report with these parts
+abbrev pub HeldBy : List ℕ → List ℕ → Parts → Type 0
+HeldBy source tables p = HeldIn source tables (record { comments = p .comments; groups = p .groups })
+
+-- a sheet s is accepted, and its comments and groups are in the table, with the index of its source's positions
+pub record AcceptsIn (s tables : List ℕ) (p : Parts) : Type 0 where
+  pub room : tableNumbers ≤ length tables
+  pub accepts : Accepts s (commentsPart tables) (groupsPart tables) p
+  pub indexed : IndexOf (part s (p .«source_start») (p .«source_end»)) (indexPart tables)

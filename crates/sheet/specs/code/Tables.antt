@@ -2,7 +2,9 @@
 use mathlib.Core.List.{List, [], _∷_}
 use Prim.Native.Nat.{ℕ, zero, suc, _+_, _*_}
 use lib.ListN.{getD}
+use Rattle.text.specs.Bytes.{part}
 use Rattle.wire.specs.Fields.{valueOf}
+use Rattle.sheet.specs.Limits.{groupsStart, indexStart, tableNumbers}
 use Rattle.sheet.specs.declared.comments.Comment.{Comment}
 use Rattle.sheet.specs.declared.groups.Group.{Group}
 use Rattle.sheet.specs.Names.{kindNumber, commentKinds, sideNumber, sides}
@@ -35,3 +37,13 @@ groupIn table k =
 
 abbrev pub groupsIn : List ℕ → ℕ → List Group
 groupsIn table n = rows (groupIn table) 0 n
+
+-- the parts of the one table that is lent
+abbrev pub commentsPart : List ℕ → List ℕ
+commentsPart tables = part tables 0 groupsStart
+
+abbrev pub groupsPart : List ℕ → List ℕ
+groupsPart tables = part tables groupsStart indexStart
+
+abbrev pub indexPart : List ℕ → List ℕ
+indexPart tables = part tables indexStart tableNumbers

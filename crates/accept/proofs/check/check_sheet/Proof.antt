@@ -2,6 +2,7 @@ use borrow.Author.Needs.{needs}
 use native.Mathlib.Omega.{arith}
 use mathlib.Core.Path.{sym}
 use denote.Ref.{now}
+use Rattle.sheet.specs.code.Tables.{commentsPart, groupsPart}
 use Rattle.accept.proofs.Judging.{too-many, refused-front, refused-tree, accepts}
 use Rattle.accept.proofs.check.check_sheet.Statement.{statement}
 use Rattle.accept.proofs.check.check_sheet.Tie as tie
@@ -20,20 +21,21 @@ part-check-tree-end c = (rw (c .before .t .given .1) at (c .before .before .befo
 
 returns-2 : tie.Need-returns-2
 returns-2 c =
-    let s = now (c .before .before .before .before .before .before .before .before .before .args .sheet) in
-    (refused-front s (omega (arith, c .before .before .before .before .before .before .before .if1 .left)) (sym (rw (c .before .r .given .1) at (c .before .before .before .read-front .ensures .0))), search needs)
+    let s = now (c .before .before .before .before .before .before .before .before .args .sheet) in
+    (refused-front s (omega (arith, c .before .before .before .before .before .before .if1 .left)) (sym (rw (c .before .r .given .1) at (c .before .before .before .read-front .ensures .0))), search needs)
 
 returns-3 : tie.Need-returns-3
 returns-3 c =
-    let s = now (c .before .before .before .before .before .before .before .before .before .before .before .before .before .before .args .sheet) in
+    let s = now (c .before .before .before .before .before .before .before .before .before .before .before .before .before .args .sheet) in
+    let tables = c .before .before .before .before .before .before .before .before .read-front .last .1 .0 in
     let (t, next) = c .before .before .before .before .before .before .t .given .0 in
-    (refused-tree s (omega (arith, c .before .before .before .before .before .before .before .before .before .before .before .before .if1 .left)) (c .before .before .before .before .before .before .before .before .read-front .last .1 .0) (c .before .before .before .before .before .before .before .before .read-front .last .1 .1 .0) t (next .0 .at) (sym (rw (c .before .before .before .before .before .before .t .given .1) at (c .before .before .before .before .before .before .before .before .read-front .ensures .0))) (rw (c .before .r2 .given .1) at (c .before .before .before .check-tree .ensures)), search needs)
+    (refused-tree s (omega (arith, c .before .before .before .before .before .before .before .before .before .before .before .if1 .left)) (commentsPart tables) (groupsPart tables) t (next .0 .at) (sym (rw (c .before .before .before .before .before .before .t .given .1) at (c .before .before .before .before .before .before .before .before .read-front .ensures .0))) (rw (c .before .r2 .given .1) at (c .before .before .before .check-tree .ensures)), search needs)
 
 returns-4 : tie.Need-returns-4
 returns-4 c =
-    let s = now (c .before .before .before .before .before .before .before .before .before .before .before .before .before .before .before .args .sheet) in
+    let s = now (c .before .before .before .before .before .before .before .before .before .before .before .before .before .before .args .sheet) in
     let (t, next) = c .before .before .before .before .before .before .before .t .given .0 in
-    (accepts s (omega (arith, c .before .before .before .before .before .before .before .before .before .before .before .before .before .if1 .left)) _ _ t (next .0 .at) (sym (rw (c .before .before .before .before .before .before .before .t .given .1) at (c .before .before .before .before .before .before .before .before .before .read-front .ensures .0))) (c .before .before .tree .given .0 .0) (rw (c .before .before .before .before .before .before .before .t .given .1) at (c .before .before .before .before .before .before .before .before .before .read-front .ensures .1 .0)) (rw (c .before .before .tree .given .1) at (c .before .before .before .before .check-tree .ensures)), search needs)
+    (accepts s (omega (arith, c .before .before .before .before .before .before .before .before .before .before .before .before .if1 .left)) _ _ t (next .0 .at) (sym (rw (c .before .before .before .before .before .before .before .t .given .1) at (c .before .before .before .before .before .before .before .before .before .read-front .ensures .0))) (c .before .before .tree .given .0 .0) (rw (c .before .before .before .before .before .before .before .t .given .1) at (c .before .before .before .before .before .before .before .before .before .read-front .ensures .1 .0)) (rw (c .before .before .tree .given .1) at (c .before .before .before .before .check-tree .ensures)), search needs)
 
 pub check-sheet-spec : {M : Type 1} → statement M
 check-sheet-spec =

@@ -3,9 +3,11 @@ use native.Mathlib.Omega.{arith}
 use mathlib.Core.Path.{sym}
 use denote.Ref.{now}
 use Rattle.laws.proofs.Steps.{seen}
+use Rattle.sheet.specs.Limits.{groupsStart, indexStart}
 use Rattle.accept.specs.code.Pieces.{front}
 use Rattle.accept.specs.code.Views.{sourceAs}
 use Rattle.accept.proofs.ByPieces.{few-comments}
+use Rattle.accept.proofs.Lent.{part-length, renewed, reaches, comments-are, groups-are, still, still-all}
 use Rattle.accept.proofs.front.read_front.Statement.{statement}
 use Rattle.accept.proofs.front.read_front.Tie as tie
 
@@ -18,35 +20,75 @@ part-source-start c = (rw (c .before .media .given .1) at (c .before .before .be
 part-source-end : tie.Need-part-source-end
 part-source-end c = (rw (c .before .media .given .1) at (c .before .before .before .read-source .ensures .1)) .1
 
+part-read-comment-table-end : tie.Need-part-read-comment-table-end
+part-read-comment-table-end c = let room = c .before .before .before .before .before .before .before .before .pre .0 in omega arith
+
+read-comment-table-requires : tie.Need-read-comment-table-requires
+read-comment-table-requires c κs =
+    let room = c .before .before .before .before .before .before .before .before .before .pre .0 in
+    omega (arith, part-length (now (c .before .before .before .before .before .before .before .before .before .args .tables)) 0 groupsStart (omega arith) (omega arith))
+
+part-read-group-table-end : tie.Need-part-read-group-table-end
+part-read-group-table-end c =
+    reaches (now (c .before .before .before .before .before .before .before .before .before .before .before .before .before .before .before .args .tables)) (c .before .before .before .before .before .before .before .before .before .before .before .before .before .before .before .pre .0) (c .before .before .before .before .before .read-comment-table .last .1 .1 .1 .0) (c .before .before .before .before .before .read-comment-table .kept .1 .1 .1 .0)
+
 read-group-table-requires : tie.Need-read-group-table-requires
 read-group-table-requires c κs =
-    let s = now (c .before .before .before .before .before .before .before .before .before .before .before .before .before .before .before .before .before .before .args .sheet) in
+    let table = now (c .before .before .before .before .before .before .before .before .before .before .before .before .before .before .before .before .before .args .tables) in
+    let comments = c .before .before .before .before .before .before .before .read-comment-table .last .1 .1 .1 .0 in
+    let room = reaches table (c .before .before .before .before .before .before .before .before .before .before .before .before .before .before .before .before .before .pre .0) comments (c .before .before .before .before .before .before .before .read-comment-table .kept .1 .1 .1 .0) in
     let few = few-comments _ _ (sym (rw (c .before .before .before .n .given .1) at (c .before .before .before .before .before .before .before .read-comment-table .ensures))) in
-    (c .before .before .before .before .before .before .before .before .before .before .before .before .before .before .before .before .before .before .pre .1 .0, omega (arith, few, c .before .before .before .before .before .before .before .before .before .before .before .before .before .before .before .before .before .before .pre .1 .1))
+    (omega (arith, part-length (renewed table 0 groupsStart comments) groupsStart indexStart (omega arith) room), omega (arith, few, c .before .before .before .before .before .before .before .before .before .before .before .before .before .before .before .before .before .pre .1))
 
 returns : tie.Need-returns
 unfolding front
 returns c =
-    let s = now (c .before .before .before .before .before .before .before .before .args .sheet) in
+    let s = now (c .before .before .before .before .before .before .before .args .sheet) in
     (rw (seen (sourceAs s) (c .before .before .before .read-source .ensures .0) (c .before .r .given .1)), (tt, search needs))
 
 returns-2 : tie.Need-returns-2
 unfolding front
 returns-2 c =
-    let s = now (c .before .before .before .before .before .before .before .before .before .before .before .before .before .before .before .before .args .sheet) in
-    (rw (seen (sourceAs s) (c .before .before .before .before .before .before .before .before .before .before .before .read-source .ensures .0) (c .before .before .before .before .before .before .before .before .before .media .given .1), ← (rw (c .before .r2 .given .1) at (c .before .before .before .before .before .read-comment-table .ensures))), (tt, search needs))
+    let table = now (c .before .before .before .before .before .before .before .before .before .before .before .before .before .before .before .args .tables) in
+    let comments = c .before .before .before .before .before .read-comment-table .last .1 .1 .1 .0 in
+    let kept = c .before .before .before .before .before .read-comment-table .kept .1 .1 .1 .0 in
+    let s = now (c .before .before .before .before .before .before .before .before .before .before .before .before .before .before .before .args .sheet) in
+    (rw (seen (sourceAs s) (c .before .before .before .before .before .before .before .before .before .before .before .read-source .ensures .0) (c .before .before .before .before .before .before .before .before .before .media .given .1), ← (rw (c .before .r2 .given .1) at (c .before .before .before .before .before .read-comment-table .ensures))), (tt, (still table (c .before .before .before .before .before .before .before .before .before .before .before .before .before .before .before .pre .0) comments kept, search needs)))
 
 returns-3 : tie.Need-returns-3
 unfolding front
 returns-3 c =
-    let s = now (c .before .before .before .before .before .before .before .before .before .before .before .before .before .before .before .before .before .before .before .before .before .before .before .before .before .before .args .sheet) in
-    (rw (seen (sourceAs s) (c .before .before .before .before .before .before .before .before .before .before .before .before .before .before .before .before .before .before .before .before .before .read-source .ensures .0) (c .before .before .before .before .before .before .before .before .before .before .before .before .before .before .before .before .before .before .before .media .given .1), ← (rw (c .before .before .before .before .before .before .before .before .before .before .before .n .given .1) at (c .before .before .before .before .before .before .before .before .before .before .before .before .before .before .before .read-comment-table .ensures)), ← (rw (c .before .r3 .given .1) at (c .before .before .before .before .before .before .before .read-group-table .ensures))), (tt, search needs))
+    let table = now (c .before .before .before .before .before .before .before .before .before .before .before .before .before .before .before .before .before .before .before .before .before .before .before .before .before .args .tables) in
+    let comments = c .before .before .before .before .before .before .before .before .before .before .before .before .before .before .before .read-comment-table .last .1 .1 .1 .0 in
+    let kept = c .before .before .before .before .before .before .before .before .before .before .before .before .before .before .before .read-comment-table .kept .1 .1 .1 .0 in
+    let groups = c .before .before .before .before .before .before .before .read-group-table .last .1 .1 .1 .1 .0 in
+    let as-long = c .before .before .before .before .before .before .before .read-group-table .kept .1 .1 .1 .1 .0 in
+    let s = now (c .before .before .before .before .before .before .before .before .before .before .before .before .before .before .before .before .before .before .before .before .before .before .before .before .before .args .sheet) in
+    (rw (seen (sourceAs s) (c .before .before .before .before .before .before .before .before .before .before .before .before .before .before .before .before .before .before .before .before .before .read-source .ensures .0) (c .before .before .before .before .before .before .before .before .before .before .before .before .before .before .before .before .before .before .before .media .given .1), ← (rw (c .before .before .before .before .before .before .before .before .before .before .before .n .given .1) at (c .before .before .before .before .before .before .before .before .before .before .before .before .before .before .before .read-comment-table .ensures)), ← (rw (c .before .r3 .given .1) at (c .before .before .before .before .before .before .before .read-group-table .ensures))), (tt, (still-all table (c .before .before .before .before .before .before .before .before .before .before .before .before .before .before .before .before .before .before .before .before .before .before .before .before .before .pre .0) comments kept groups as-long, search needs)))
 
 returns-4 : tie.Need-returns-4
 unfolding front
 returns-4 c =
-    let s = now (c .before .before .before .before .before .before .before .before .before .before .before .before .before .before .before .before .before .before .before .before .before .before .before .before .before .before .args .sheet) in
-    (rw (seen (sourceAs s) (c .before .before .before .before .before .before .before .before .before .before .before .before .before .before .before .before .before .before .before .before .before .read-source .ensures .0) (c .before .before .before .before .before .before .before .before .before .before .before .before .before .before .before .before .before .before .before .media .given .1), ← (rw (c .before .before .before .before .before .before .before .before .before .before .before .n .given .1) at (c .before .before .before .before .before .before .before .before .before .before .before .before .before .before .before .read-comment-table .ensures)), ← (rw (c .before .m .given .1) at (c .before .before .before .before .before .before .before .read-group-table .ensures))), (rw (c .before .before .before .before .before .before .before .before .before .before .before .before .before .before .before .before .before .before .before .media .given .1) at (c .before .before .before .before .before .before .before .before .before .before .before .before .before .before .before .before .before .before .before .before .before .read-source .ensures .1), search needs))
+    let table = now (c .before .before .before .before .before .before .before .before .before .before .before .before .before .before .before .before .before .before .before .before .before .before .before .before .before .args .tables) in
+    let comments = c .before .before .before .before .before .before .before .before .before .before .before .before .before .before .before .read-comment-table .last .1 .1 .1 .0 in
+    let kept = c .before .before .before .before .before .before .before .before .before .before .before .before .before .before .before .read-comment-table .kept .1 .1 .1 .0 in
+    let groups = c .before .before .before .before .before .before .before .read-group-table .last .1 .1 .1 .1 .0 in
+    let as-long = c .before .before .before .before .before .before .before .read-group-table .kept .1 .1 .1 .1 .0 in
+    let s = now (c .before .before .before .before .before .before .before .before .before .before .before .before .before .before .before .before .before .before .before .before .before .before .before .before .before .args .sheet) in
+    (rw (comments-are table (c .before .before .before .before .before .before .before .before .before .before .before .before .before .before .before .before .before .before .before .before .before .before .before .before .before .pre .0) comments kept groups as-long, groups-are table (c .before .before .before .before .before .before .before .before .before .before .before .before .before .before .before .before .before .before .before .before .before .before .before .before .before .pre .0) comments kept groups as-long, seen (sourceAs s) (c .before .before .before .before .before .before .before .before .before .before .before .before .before .before .before .before .before .before .before .before .before .read-source .ensures .0) (c .before .before .before .before .before .before .before .before .before .before .before .before .before .before .before .before .before .before .before .media .given .1), ← (rw (c .before .before .before .before .before .before .before .before .before .before .before .n .given .1) at (c .before .before .before .before .before .before .before .before .before .before .before .before .before .before .before .read-comment-table .ensures)), ← (rw (c .before .m .given .1) at (c .before .before .before .before .before .before .before .read-group-table .ensures))), (rw (c .before .before .before .before .before .before .before .before .before .before .before .before .before .before .before .before .before .before .before .media .given .1) at (c .before .before .before .before .before .before .before .before .before .before .before .before .before .before .before .before .before .before .before .before .before .read-source .ensures .1), (still-all table (c .before .before .before .before .before .before .before .before .before .before .before .before .before .before .before .before .before .before .before .before .before .before .before .before .before .pre .0) comments kept groups as-long, search needs)))
+
+same-length : tie.Need-same-length
+same-length c = still (now (c .before .before .before .before .before .before .before .before .before .before .before .before .before .before .before .args .tables)) (c .before .before .before .before .before .before .before .before .before .before .before .before .before .before .before .pre .0) (c .before .before .before .before .before .read-comment-table .last .1 .1 .1 .0) (c .before .before .before .before .before .read-comment-table .kept .1 .1 .1 .0)
+
+same-length-2 : tie.Need-same-length-2
+same-length-2 c =
+    still-all (now (c .before .before .before .before .before .before .before .before .before .before .before .before .before .before .before .before .before .before .before .before .before .before .before .before .before .args .tables)) (c .before .before .before .before .before .before .before .before .before .before .before .before .before .before .before .before .before .before .before .before .before .before .before .before .before .pre .0) (c .before .before .before .before .before .before .before .before .before .before .before .before .before .before .before .read-comment-table .last .1 .1 .1 .0) (c .before .before .before .before .before .before .before .before .before .before .before .before .before .before .before .read-comment-table .kept .1 .1 .1 .0)
+    (c .before .before .before .before .before .before .before .read-group-table .last .1 .1 .1 .1 .0) (c .before .before .before .before .before .before .before .read-group-table .kept .1 .1 .1 .1 .0)
+
+same-length-4 : tie.Need-same-length-4
+same-length-4 c =
+    still-all (now (c .before .before .before .before .before .before .before .before .before .before .before .before .before .before .before .before .before .before .before .before .before .before .before .before .before .args .tables)) (c .before .before .before .before .before .before .before .before .before .before .before .before .before .before .before .before .before .before .before .before .before .before .before .before .before .pre .0) (c .before .before .before .before .before .before .before .before .before .before .before .before .before .before .before .read-comment-table .last .1 .1 .1 .0) (c .before .before .before .before .before .before .before .before .before .before .before .before .before .before .before .read-comment-table .kept .1 .1 .1 .0)
+    (c .before .before .before .before .before .before .before .read-group-table .last .1 .1 .1 .1 .0) (c .before .before .before .before .before .before .before .read-group-table .kept .1 .1 .1 .1 .0)
 
 pub read-front-spec : {M : Type 1} → statement M
 read-front-spec =
@@ -58,20 +100,24 @@ read-front-spec =
     sub-source
     part-source-start
     part-source-end
-    (λ c κs. search needs)
     (λ c. search needs)
     (λ c. search needs)
+    part-read-comment-table-end
+    read-comment-table-requires
+    (λ c. search needs)
+    (λ c. search needs)
+    (λ c. search needs)
+    (λ c. search needs)
+    part-read-group-table-end
     read-group-table-requires
     (λ c. search needs)
     (λ c. search needs)
     returns
-    (λ c. search needs)
+    same-length
     returns-2
-    (λ c. search needs)
-    (λ c. search needs)
+    same-length-2
     (λ c. search needs)
     returns-3
-    (λ c. search needs)
-    (λ c. search needs)
+    same-length-4
     (λ c. search needs)
     returns-4)

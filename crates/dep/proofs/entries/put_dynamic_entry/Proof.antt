@@ -12,20 +12,23 @@ use Rattle.dep.proofs.Fields.{dynamic-written}
 use Rattle.dep.proofs.entries.put_dynamic_entry.Statement.{statement}
 use Rattle.dep.proofs.entries.put_dynamic_entry.Tie as tie
 
+part-index-end : tie.Need-part-index-end
+part-index-end c = c .before .before .before .before .before .before .before .before .before .before .before .before .pre .0 .0
+
 put-span-requires : tie.Need-put-span-requires
-put-span-requires c κs = (c .before .before .before .before .before .before .before .before .before .before .before .before .before .before .before .before .before .before .before .before .before .before .before .before .pre .0 .0 .indexed, c .before .before .before .before .before .before .before .before .before .before .before .before .before .before .before .before .before .before .before .before .before .before .before .before .pre .1)
+put-span-requires c κs = (c .before .before .before .before .before .before .before .before .before .before .before .before .before .before .before .before .before .before .before .before .before .before .pre .0 .1 .0 .indexed, c .before .before .before .before .before .before .before .before .before .before .before .before .before .before .before .before .before .before .before .before .before .before .pre .1)
 
 put-attributes-requires : tie.Need-put-attributes-requires
-put-attributes-requires c κs = c .before .before .before .before .before .before .before .before .before .before .before .before .before .before .before .before .before .before .before .parse-dynamic-import-attributes .ensures .1 .0
+put-attributes-requires c κs = c .before .before .before .before .before .before .before .before .before .before .before .before .before .before .before .before .parse-dynamic-import-attributes .ensures .1 .0
 
 same-length : tie.Need-same-length
-same-length c = c .before .before .put-attributes .kept .1 .1 .1 .0 ∙ (c .before .before .before .before .before .before .before .put-span .kept .1 .0 ∙ (c .before .before .before .before .before .before .before .before .before .before .before .before .put-argument .kept .1 .1 .1 .1 .0 ∙ (c .before .before .before .before .before .before .before .before .before .before .before .before .before .before .before .before .analyze-ts-or-deno-types .kept .1 .1 .1 .1 .1 .1 .1 .0 ∙ (c .before .before .before .before .before .before .before .before .before .before .before .before .before .before .before .before .before .before .before .before .before .before .before .before .before .before .put .kept .1 .0))))
+same-length c = c .before .before .put-attributes .kept .1 .1 .1 .0 ∙ (c .before .before .before .before .before .before .before .put-span .kept .1 .0 ∙ (c .before .before .before .before .before .before .before .before .before .before .before .put-argument .kept .1 .1 .1 .1 .0 ∙ (c .before .before .before .before .before .before .before .before .before .before .before .before .before .before .before .put-types .kept .1 .1 .1 .1 .0 ∙ (c .before .before .before .before .before .before .before .before .before .before .before .before .before .before .before .before .before .before .before .before .before .before .before .put .kept .1 .0))))
 
 returns : tie.Need-returns
 returns c =
-    let a = c .before .before .before .before .before .before .before .before .before .before .before .before .before .before .before .before .before .before .before .before .before .before .before .before .before .before .before .before .before .before .before .before .args in
+    let a = c .before .before .before .before .before .before .before .before .before .before .before .before .before .before .before .before .before .before .before .before .before .before .before .before .before .before .before .before .before .before .args in
     let source = now (a .source) in
-    let types = typesFrom source (now (a .comments)) (now (a .groups)) (a .counts) in
+    let types = typesFrom source (now (a .tables)) (a .counts) in
     let w = bufferAs (now (a .out)) (a .place) in
     let entry : info.DynamicArgument → Arguments → info.DynamicDependencyDescriptor =
     λ v xs. record {
@@ -35,7 +38,7 @@ returns c =
       argumentRange = rangeOf source (a .dependency .«argument_range»);
       importAttributes = dynamicAttributes xs;
     } in
-    λ v xs t stands are. dynamic-written w (entry v xs) (rw (c .before .before .before .before .before .before .before .before .before .before .before .before .before .before .before .before .before .before .before .before .before .before .before .before .before .before .before .before .dynamic-number .ensures) at (c .before .before .before .before .before .before .before .before .before .before .before .before .before .before .before .before .before .before .before .before .before .before .before .before .before .before .put .ensures)) (c .before .before .before .before .before .before .before .before .before .before .before .before .before .before .before .before .analyze-ts-or-deno-types .ensures) (c .before .before .before .before .before .before .before .before .before .before .before .before .put-argument .ensures .0 v stands) (c .before .before .before .before .before .before .before .put-span .ensures) (rw (c .before .before .before .before .before .before .before .before .before .before .before .before .before .before .before .before .before .before .before .before .before .before .parse-dynamic-import-attributes .ensures .0 xs t are) at (c .before .before .put-attributes .ensures))
+    λ v xs t stands are. dynamic-written w (entry v xs) (rw (c .before .before .before .before .before .before .before .before .before .before .before .before .before .before .before .before .before .before .before .before .before .before .before .before .before .dynamic-number .ensures) at (c .before .before .before .before .before .before .before .before .before .before .before .before .before .before .before .before .before .before .before .before .before .before .before .put .ensures)) (c .before .before .before .before .before .before .before .before .before .before .before .before .before .before .before .put-types .ensures) (c .before .before .before .before .before .before .before .before .before .before .before .put-argument .ensures .0 v stands) (c .before .before .before .before .before .before .before .put-span .ensures) (rw (c .before .before .before .before .before .before .before .before .before .before .before .before .before .before .before .before .before .before .before .parse-dynamic-import-attributes .ensures .0 xs t are) at (c .before .before .put-attributes .ensures))
 
 pub put-dynamic-entry-spec : {M : Type 1} → statement M
 put-dynamic-entry-spec =
@@ -45,6 +48,9 @@ put-dynamic-entry-spec =
     (λ c κs. search needs)
     (λ c. search needs)
     (λ c κs. search needs)
+    (λ c. search needs)
+    (λ c. search needs)
+    part-index-end
     (λ c κs. search needs)
     (λ c κs. search needs)
     put-span-requires

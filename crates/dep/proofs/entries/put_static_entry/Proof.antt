@@ -13,19 +13,22 @@ use Rattle.dep.proofs.Fields.{static-written}
 use Rattle.dep.proofs.entries.put_static_entry.Statement.{statement}
 use Rattle.dep.proofs.entries.put_static_entry.Tie as tie
 
+part-index-end : tie.Need-part-index-end
+part-index-end c = c .before .before .before .before .before .pre .0 .0
+
 put-lossy-specifier-requires : tie.Need-put-lossy-specifier-requires
-put-lossy-specifier-requires c κs = (c .before .before .before .before .before .before .before .before .before .before .before .before .before .before .before .before .before .before .before .before .pre .0 .0 .indexed, c .before .before .before .before .before .before .before .before .before .before .before .before .before .before .before .before .before .before .before .before .pre .1 .1)
+put-lossy-specifier-requires c κs = (c .before .before .before .before .before .before .before .before .before .before .before .before .before .before .before .before .before .before .pre .0 .1 .0 .indexed, c .before .before .before .before .before .before .before .before .before .before .before .before .before .before .before .before .before .before .pre .1 .1)
 
 put-attributes-requires : tie.Need-put-attributes-requires
-put-attributes-requires c κs = c .before .before .before .before .before .before .before .before .before .before .before .before .before .before .before .before .before .before .before .before .before .before .before .before .before .before .before .before .pre .2
+put-attributes-requires c κs = c .before .before .before .before .before .before .before .before .before .before .before .before .before .before .before .before .before .before .before .before .before .before .before .before .before .before .pre .2
 
 returns : tie.Need-returns
 unfolding staticEntry
 returns c =
-    let a = c .before .before .before .before .before .before .before .before .before .before .before .before .before .before .before .before .before .before .before .before .before .before .before .before .before .before .before .before .before .before .before .args in
+    let a = c .before .before .before .before .before .before .before .before .before .before .before .before .before .before .before .before .before .before .before .before .before .before .before .before .before .before .before .before .before .args in
     let s = now (a .sheet) in
     let source = now (a .source) in
-    let types = typesFrom source (now (a .comments)) (now (a .groups)) (a .counts) in
+    let types = typesFrom source (now (a .tables)) (a .counts) in
     let w = bufferAs (now (a .out)) (a .place) in
     let x = a .dependency .specifier in
     let d : info.StaticDependencyDescriptor =
@@ -36,7 +39,23 @@ returns c =
       sideEffect = a .dependency .«is_side_effect»;
       importAttributes = attributesAs s (now (a .pairs)) (a .attributes);
     } in
-    static-written w d (rw (c .before .before .before .before .before .before .before .before .before .before .before .before .before .before .before .before .before .before .before .before .before .before .before .before .before .static-number .ensures) at (c .before .before .before .before .before .before .before .before .before .before .before .before .before .before .before .before .before .before .before .before .before .before .before .put .ensures)) (c .before .before .before .before .before .before .before .before .before .before .before .before .before .before .before .before .analyze-ts-or-deno-types .ensures) (c .before .before .before .before .before .before .before .before .before .before .put-lossy-specifier .ensures) (c .before .before .before .before .before .before .put-flag .ensures) (c .before .before .put-attributes .ensures)
+    static-written w d (rw (c .before .before .before .before .before .before .before .before .before .before .before .before .before .before .before .before .before .before .before .before .before .static-number .ensures) at (c .before .before .before .before .before .before .before .before .before .before .before .before .before .before .before .before .before .before .before .put .ensures)) (c .before .before .before .before .before .before .before .before .before .before .before .before .before .before .before .put-types .ensures) (c .before .before .before .before .before .before .before .before .before .before .put-lossy-specifier .ensures) (c .before .before .before .before .before .before .put-flag .ensures) (c .before .before .put-attributes .ensures)
 
 pub put-static-entry-spec : {M : Type 1} → statement M
-put-static-entry-spec = tie.close (tie.spec (λ c κs. search needs) (λ c κs. search needs) (λ c κs. search needs) (λ c. search needs) (λ c. search needs) (λ c. search needs) put-lossy-specifier-requires (λ c κs. search needs) put-attributes-requires (λ c. search needs) returns)
+put-static-entry-spec =
+    tie.close
+    (tie.spec
+    (λ c. search needs)
+    (λ c. search needs)
+    part-index-end
+    (λ c κs. search needs)
+    (λ c κs. search needs)
+    (λ c κs. search needs)
+    (λ c. search needs)
+    (λ c. search needs)
+    (λ c. search needs)
+    put-lossy-specifier-requires
+    (λ c κs. search needs)
+    put-attributes-requires
+    (λ c. search needs)
+    returns)

@@ -21,7 +21,7 @@ returns c =
     let a = c .before .before .before .before .before .before .before .before .args in
     let s = now (a .sheet) in
     let source = now (a .source) in
-    let types = typesFrom source (now (a .comments)) (now (a .groups)) (a .counts) in
+    let types = typesFrom source (now (a .tables)) (a .counts) in
     let w = bufferAs (now (a .out)) (a .place) in
     let d : StaticDependencyDescriptor = record { kind = c .before .before .before .before .import-kind .result; span = a .span; specifier = a .specifier; «is_side_effect» = a .is-side-effect } in
     (c .before .before .walk-import .ensures .0 ∙ built (afterImport source types s d w) (afterNode source types w) (importDecl (a .span) (a .type-only) (a .phase) (a .is-side-effect) (quotedOf s (a .specifier))) (λ b. rw (c .before .before .before .before .import-kind .ensures)) (behind (a .there) (attributesObject source (a .levels)) (drop (a .cursor .at) s)), c .before .before .walk-import .ensures .1)

@@ -40,7 +40,7 @@ returns-2 t c =
     let a = c .before .before .before .before .before .before .before .before .before .before .before .before .args in
     let s = now (a .sheet) in
     let source = now (a .source) in
-    let types = typesFrom source (now (a .comments)) (now (a .groups)) (a .counts) in
+    let types = typesFrom source (now (a .tables)) (a .counts) in
     let w = bufferAs (now (a .out)) (a .place) in
     let h = c .before .before .before .before .before .count .given .0 in
     (rw (c .before .before .before .before .before .before .before .before .if1 .taken, attributes-by-head source (a .levels) (drop (a .cursor .at) s), seen (attributesAs s) (c .before .before .before .before .before .before .before .read-attributes .ensures .0) (c .before .before .before .before .before .count .given .1)) (c .before .before .walk-properties .ensures .0 ∙ built (afterProperties source types w) (afterWith source types w) (withObject (h .0)) (λ ps. refl) (properties (node source (a .levels - 1)) (h .1 .0) (drop (h .1 .1 .0 .at) s))), c .before .before .walk-properties .ensures .1)

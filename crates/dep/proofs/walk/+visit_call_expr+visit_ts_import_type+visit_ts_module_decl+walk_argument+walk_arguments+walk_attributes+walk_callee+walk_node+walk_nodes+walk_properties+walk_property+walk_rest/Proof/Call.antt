@@ -46,12 +46,12 @@ returns-2 t c =
     let a = c .before .before .before .before .before .before .before .before .before .before .before .before .before .before .args in
     let s = now (a .sheet) in
     let source = now (a .source) in
-    let types = typesFrom source (now (a .comments)) (now (a .groups)) (a .counts) in
+    let types = typesFrom source (now (a .tables)) (a .counts) in
     let w = bufferAs (now (a .out)) (a .place) in
     let inner = node source (a .levels) in
     let (n, next) = c .before .before .before .before .before .before .before .before .count .given .0 in
     let xs = arguments inner source n (drop (next .0 .at) s) in
-    (rw (seen (readAs s) (c .before .before .before .before .before .before .before .before .before .before .number .ensures .0) (c .before .before .before .before .before .before .before .before .count .given .1), onOk-no (afterArguments source types w) xs (seen (walkedAs s (c .before .before .before .before .before .walk-arguments .last .1 .1 .1 .1 .1 .1 .1 .1 .1 .0)) (c .before .before .before .before .before .walk-arguments .ensures .0) (c .before .r2 .given .1))), tt)
+    (rw (seen (readAs s) (c .before .before .before .before .before .before .before .before .before .before .number .ensures .0) (c .before .before .before .before .before .before .before .before .count .given .1), onOk-no (afterArguments source types w) xs (seen (walkedAs s (c .before .before .before .before .before .walk-arguments .last .1 .1 .1 .1 .1 .1 .1 .0)) (c .before .before .before .before .before .walk-arguments .ensures .0) (c .before .r2 .given .1))), tt)
 
 pub returns-3 : (t : ℕ) → visit-call-expr-lts.Need-returns-3 (visit-call-expr-calls t) (visit-call-expr-at t) visit-call-expr.Post
 unfolding callRest
@@ -59,13 +59,13 @@ returns-3 t c =
     let a = c .before .before .before .before .before .before .before .before .before .before .before .before .before .before .before .before .before .before .args in
     let s = now (a .sheet) in
     let source = now (a .source) in
-    let types = typesFrom source (now (a .comments)) (now (a .groups)) (a .counts) in
+    let types = typesFrom source (now (a .tables)) (a .counts) in
     let w = bufferAs (now (a .out)) (a .place) in
     let inner = node source (a .levels) in
     let (n, next) = c .before .before .before .before .before .before .before .before .before .before .before .before .count .given .0 in
     let xs = arguments inner source n (drop (next .0 .at) s) in
     let cut = seen (readAs s) (c .before .before .before .number2 .ensures .0) (c .before .r4 .given .1) in
-    let none = then-no (afterArguments source types w) xs (seen (walkedAs s (c .before .before .before .before .before .before .before .before .before .walk-arguments .last .1 .1 .1 .1 .1 .1 .1 .1 .1 .0)) (c .before .before .before .before .before .before .before .before .before .walk-arguments .ensures .0) (c .before .before .before .before .before .r3 .given .1)) (λ xs. number >>= λ m. nodes inner m >>= pair xs) (c .before .r4 .given .0 .0) (λ xs. rw cut) in
+    let none = then-no (afterArguments source types w) xs (seen (walkedAs s (c .before .before .before .before .before .before .before .before .before .walk-arguments .last .1 .1 .1 .1 .1 .1 .1 .0)) (c .before .before .before .before .before .before .before .before .before .walk-arguments .ensures .0) (c .before .before .before .before .before .r3 .given .1)) (λ xs. number >>= λ m. nodes inner m >>= pair xs) (c .before .r4 .given .0 .0) (λ xs. rw cut) in
     (rw (seen (readAs s) (c .before .before .before .before .before .before .before .before .before .before .before .before .before .before .number .ensures .0) (c .before .before .before .before .before .before .before .before .before .before .before .before .count .given .1)) (sym (ap (onOk (afterCall source types (a .call) w)) none)), tt)
 
 pub returns-4 : (t : ℕ) → visit-call-expr-lts.Need-returns-4 (visit-call-expr-calls t) (visit-call-expr-at t) visit-call-expr.Post
@@ -74,19 +74,19 @@ returns-4 t c =
     let a = c .before .before .before .before .before .before .before .before .before .before .before .before .before .before .before .before .before .before .before .before .before .before .before .before .before .args in
     let s = now (a .sheet) in
     let source = now (a .source) in
-    let types = typesFrom source (now (a .comments)) (now (a .groups)) (a .counts) in
+    let types = typesFrom source (now (a .tables)) (a .counts) in
     let w = bufferAs (now (a .out)) (a .place) in
     let inner = node source (a .levels) in
     let (n, next) = c .before .before .before .before .before .before .before .before .before .before .before .before .before .before .before .before .before .before .before .count .given .0 in
     let xs = arguments inner source n (drop (next .0 .at) s) in
     let (m, after) = c .before .before .before .before .before .before .before .before .more .given .0 in
-    let w1 = bufferAs (c .before .before .before .before .before .before .before .before .before .before .before .before .before .before .before .before .walk-arguments .last .1 .1 .1 .1 .1 .1 .1 .1 .1 .0) (c .before .before .before .before .before .before .before .before .before .before .before .before .r3 .given .0 .0) in
-    let cut = onOk-no (afterNodes source types w1) (nodes inner m (drop (after .0 .at) s)) (seen (walkedAs s (c .before .before .before .before .before .walk-nodes .last .1 .1 .1 .1 .1 .1 .1 .1 .1 .0)) (c .before .before .before .before .before .walk-nodes .ensures .0) (c .before .r5 .given .1)) in
-    let none = then-no (afterArguments source types w) xs (seen (walkedAs s (c .before .before .before .before .before .before .before .before .before .before .before .before .before .before .before .before .walk-arguments .last .1 .1 .1 .1 .1 .1 .1 .1 .1 .0)) (c .before .before .before .before .before .before .before .before .before .before .before .before .before .before .before .before .walk-arguments .ensures .0) (c .before .before .before .before .before .before .before .before .before .before .before .before .r3 .given .1)) (λ xs. number >>= λ m. nodes inner m >>= pair xs) (c .before .r5 .given .0 .0) (λ xs. rw (seen (readAs s) (c .before .before .before .before .before .before .before .before .before .before .number2 .ensures .0) (c .before .before .before .before .before .before .before .before .more .given .1), cut)) in
+    let w1 = bufferAs (c .before .before .before .before .before .before .before .before .before .before .before .before .before .before .before .before .walk-arguments .last .1 .1 .1 .1 .1 .1 .1 .0) (c .before .before .before .before .before .before .before .before .before .before .before .before .r3 .given .0 .0) in
+    let cut = onOk-no (afterNodes source types w1) (nodes inner m (drop (after .0 .at) s)) (seen (walkedAs s (c .before .before .before .before .before .walk-nodes .last .1 .1 .1 .1 .1 .1 .1 .0)) (c .before .before .before .before .before .walk-nodes .ensures .0) (c .before .r5 .given .1)) in
+    let none = then-no (afterArguments source types w) xs (seen (walkedAs s (c .before .before .before .before .before .before .before .before .before .before .before .before .before .before .before .before .walk-arguments .last .1 .1 .1 .1 .1 .1 .1 .0)) (c .before .before .before .before .before .before .before .before .before .before .before .before .before .before .before .before .walk-arguments .ensures .0) (c .before .before .before .before .before .before .before .before .before .before .before .before .r3 .given .1)) (λ xs. number >>= λ m. nodes inner m >>= pair xs) (c .before .r5 .given .0 .0) (λ xs. rw (seen (readAs s) (c .before .before .before .before .before .before .before .before .before .before .number2 .ensures .0) (c .before .before .before .before .before .before .before .before .more .given .1), cut)) in
     (rw (seen (readAs s) (c .before .before .before .before .before .before .before .before .before .before .before .before .before .before .before .before .before .before .before .before .before .number .ensures .0) (c .before .before .before .before .before .before .before .before .before .before .before .before .before .before .before .before .before .before .before .count .given .1)) (sym (ap (onOk (afterCall source types (a .call) w)) none)), tt)
 
 pub same-length-4 : (t : ℕ) → visit-call-expr-lts.Need-same-length-4 (visit-call-expr-calls t) (visit-call-expr-at t) visit-call-expr.Post
-same-length-4 t c = c .before .before .put-call-entry .kept .1 .1 .1 .1 .1 .1 .1 .1 .1 .1 .0 ∙ (c .before .before .before .before .before .before .before .before .before .walk-nodes .kept .1 .1 .1 .1 .1 .1 .1 .1 .1 .0 ∙ c .before .before .before .before .before .before .before .before .before .before .before .before .before .before .before .before .before .before .before .before .walk-arguments .kept .1 .1 .1 .1 .1 .1 .1 .1 .1 .0)
+same-length-4 t c = c .before .before .put-call-entry .kept .1 .1 .1 .1 .1 .1 .1 .1 .0 ∙ (c .before .before .before .before .before .before .before .before .before .walk-nodes .kept .1 .1 .1 .1 .1 .1 .1 .0 ∙ c .before .before .before .before .before .before .before .before .before .before .before .before .before .before .before .before .before .before .before .before .walk-arguments .kept .1 .1 .1 .1 .1 .1 .1 .0)
 
 pub returns-5 : (t : ℕ) → visit-call-expr-lts.Need-returns-5 (visit-call-expr-calls t) (visit-call-expr-at t) visit-call-expr.Post
 unfolding callRest
@@ -94,10 +94,10 @@ returns-5 t c =
     let a = c .before .before .before .before .before .before .before .before .before .before .before .before .before .before .before .before .before .before .before .before .before .before .before .before .before .before .before .before .before .args in
     let s = now (a .sheet) in
     let source = now (a .source) in
-    let types = typesFrom source (now (a .comments)) (now (a .groups)) (a .counts) in
+    let types = typesFrom source (now (a .tables)) (a .counts) in
     let w = bufferAs (now (a .out)) (a .place) in
     let inner = node source (a .levels) in
     let (n, next) = c .before .before .before .before .before .before .before .before .before .before .before .before .before .before .before .before .before .before .before .before .before .before .before .count .given .0 in
     let xs = arguments inner source n (drop (next .0 .at) s) in
     let past = rw (c .before .before .before .before .before .r6 .given .1) at (c .before .before .before .before .before .before .before .before .before .walk-nodes .ensures .1) in
-    (rw (seen (readAs s) (c .before .before .before .before .before .before .before .before .before .before .before .before .before .before .before .before .before .before .before .before .before .before .before .before .before .number .ensures .0) (c .before .before .before .before .before .before .before .before .before .before .before .before .before .before .before .before .before .before .before .before .before .before .before .count .given .1)) (call-walked source types w (a .call) inner xs (seen (walkedAs s (c .before .before .before .before .before .before .before .before .before .before .before .before .before .before .before .before .before .before .before .before .walk-arguments .last .1 .1 .1 .1 .1 .1 .1 .1 .1 .0)) (c .before .before .before .before .before .before .before .before .before .before .before .before .before .before .before .before .before .before .before .before .walk-arguments .ensures .0) (c .before .before .before .before .before .before .before .before .before .before .before .before .before .before .before .before .r3 .given .1)) (seen (readAs s) (c .before .before .before .before .before .before .before .before .before .before .before .before .before .before .number2 .ensures .0) (c .before .before .before .before .before .before .before .before .before .before .before .before .more .given .1)) (seen (walkedAs s (c .before .before .before .before .before .before .before .before .before .walk-nodes .last .1 .1 .1 .1 .1 .1 .1 .1 .1 .0)) (c .before .before .before .before .before .before .before .before .before .walk-nodes .ensures .0) (c .before .before .before .before .before .r6 .given .1)) (c .before .before .put-call-entry .ensures .0)), past)
+    (rw (seen (readAs s) (c .before .before .before .before .before .before .before .before .before .before .before .before .before .before .before .before .before .before .before .before .before .before .before .before .before .number .ensures .0) (c .before .before .before .before .before .before .before .before .before .before .before .before .before .before .before .before .before .before .before .before .before .before .before .count .given .1)) (call-walked source types w (a .call) inner xs (seen (walkedAs s (c .before .before .before .before .before .before .before .before .before .before .before .before .before .before .before .before .before .before .before .before .walk-arguments .last .1 .1 .1 .1 .1 .1 .1 .0)) (c .before .before .before .before .before .before .before .before .before .before .before .before .before .before .before .before .before .before .before .before .walk-arguments .ensures .0) (c .before .before .before .before .before .before .before .before .before .before .before .before .before .before .before .before .r3 .given .1)) (seen (readAs s) (c .before .before .before .before .before .before .before .before .before .before .before .before .before .before .number2 .ensures .0) (c .before .before .before .before .before .before .before .before .before .before .before .before .more .given .1)) (seen (walkedAs s (c .before .before .before .before .before .before .before .before .before .walk-nodes .last .1 .1 .1 .1 .1 .1 .1 .0)) (c .before .before .before .before .before .before .before .before .before .walk-nodes .ensures .0) (c .before .before .before .before .before .r6 .given .1)) (c .before .before .put-call-entry .ensures .0)), past)

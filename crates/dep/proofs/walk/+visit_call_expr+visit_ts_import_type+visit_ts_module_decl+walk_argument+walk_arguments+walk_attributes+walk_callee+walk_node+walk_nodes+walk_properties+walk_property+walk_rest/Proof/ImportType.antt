@@ -56,7 +56,7 @@ returns-2 t c =
     let a = c .before .before .before .before .before .before .before .before .before .before .before .args in
     let s = now (a .sheet) in
     let source = now (a .source) in
-    let types = typesFrom source (now (a .comments)) (now (a .groups)) (a .counts) in
+    let types = typesFrom source (now (a .tables)) (a .counts) in
     let w = bufferAs (now (a .out)) (a .place) in
     let inner = node source (a .levels) in
     let ns = nodes inner (a .count) (drop (a .cursor .at) s) in
@@ -71,14 +71,14 @@ returns-3 t c =
     let a = c .before .before .before .before .before .before .before .before .before .before .before .before .before .before .before .before .before .before .before .before .before .before .args in
     let s = now (a .sheet) in
     let source = now (a .source) in
-    let types = typesFrom source (now (a .comments)) (now (a .groups)) (a .counts) in
+    let types = typesFrom source (now (a .tables)) (a .counts) in
     let inner = node source (a .levels) in
     let ns = nodes inner (a .count) (drop (a .cursor .at) s) in
-    let w1 = bufferAs (c .before .before .before .before .before .before .before .before .before .put-with-entry .last .1 .1 .1 .1 .1 .1 .1 .1 .1 .1 .0) (c .before .before .before .before .before .before .before .before .before .put-with-entry .result) in
-    (rw (onOk-no (afterNodes source types w1) ns (seen (walkedAs s (c .before .before .before .before .before .walk-nodes .last .1 .1 .1 .1 .1 .1 .1 .1 .1 .0)) (c .before .before .before .before .before .walk-nodes .ensures .0) (c .before .r3 .given .1))), tt)
+    let w1 = bufferAs (c .before .before .before .before .before .before .before .before .before .put-with-entry .last .1 .1 .1 .1 .1 .1 .1 .1 .0) (c .before .before .before .before .before .before .before .before .before .put-with-entry .result) in
+    (rw (onOk-no (afterNodes source types w1) ns (seen (walkedAs s (c .before .before .before .before .before .walk-nodes .last .1 .1 .1 .1 .1 .1 .1 .0)) (c .before .before .before .before .before .walk-nodes .ensures .0) (c .before .r3 .given .1))), tt)
 
 pub same-length-2 : (t : ℕ) → visit-ts-import-type-lts.Need-same-length-2 (visit-ts-import-type-calls t) (visit-ts-import-type-at t) visit-ts-import-type.Post
-same-length-2 t c = c .before .before .walk-attributes .kept .1 .1 .1 .1 .1 .1 .1 .1 .1 .0 ∙ (c .before .before .before .before .before .before .before .before .before .walk-nodes .kept .1 .1 .1 .1 .1 .1 .1 .1 .1 .0 ∙ c .before .before .before .before .before .before .before .before .before .before .before .before .before .put-with-entry .kept .1 .1 .1 .1 .1 .1 .1 .1 .1 .1 .0)
+same-length-2 t c = c .before .before .walk-attributes .kept .1 .1 .1 .1 .1 .1 .1 .0 ∙ (c .before .before .before .before .before .before .before .before .before .walk-nodes .kept .1 .1 .1 .1 .1 .1 .1 .0 ∙ c .before .before .before .before .before .before .before .before .before .before .before .before .before .put-with-entry .kept .1 .1 .1 .1 .1 .1 .1 .1 .0)
 
 pub returns-4 : (t : ℕ) → visit-ts-import-type-lts.Need-returns-4 (visit-ts-import-type-calls t) (visit-ts-import-type-at t) visit-ts-import-type.Post
 unfolding typeRest
@@ -86,10 +86,10 @@ returns-4 t c =
     let a = c .before .before .before .before .before .before .before .before .before .before .before .before .before .before .before .before .before .before .before .before .before .before .before .before .before .before .args in
     let s = now (a .sheet) in
     let source = now (a .source) in
-    let types = typesFrom source (now (a .comments)) (now (a .groups)) (a .counts) in
+    let types = typesFrom source (now (a .tables)) (a .counts) in
     let w = bufferAs (now (a .out)) (a .place) in
     let inner = node source (a .levels) in
     let ns = nodes inner (a .count) (drop (a .cursor .at) s) in
     let object′ = attributesObject source (a .levels) in
     let d : StaticDependencyDescriptor = record { kind = statics.ImportType; span = a .span; specifier = a .specifier; «is_side_effect» = false } in
-    (c .before .before .walk-attributes .ensures .0 ∙ typed-walked source types w s d object′ ns (seen (talliedAs s) (c .before .before .before .before .before .before .before .before .before .before .before .before .before .before .before .before .before .before .before .before .before .before .check-nodes .ensures .0) (c .before .before .before .before .before .before .before .before .before .before .before .before .before .before .before .before .before .before .before .before .next .given .1)) (seen (flagAs s) (c .before .before .before .before .before .before .before .before .before .before .before .before .before .before .before .before .before .before .flag .ensures .0) (c .before .before .before .before .before .before .before .before .before .before .before .before .before .before .before .before .there .given .1)) (c .before .before .before .before .before .before .before .before .before .before .before .before .before .put-with-entry .ensures .0) (seen (walkedAs s (c .before .before .before .before .before .before .before .before .before .walk-nodes .last .1 .1 .1 .1 .1 .1 .1 .1 .1 .0)) (c .before .before .before .before .before .before .before .before .before .walk-nodes .ensures .0) (c .before .before .before .before .before .place .given .1)) ∙ typed-holds source types w s (a .span) (a .specifier) (typeRest inner object′ (a .count) (drop (a .cursor .at) s)), c .before .before .walk-attributes .ensures .1)
+    (c .before .before .walk-attributes .ensures .0 ∙ typed-walked source types w s d object′ ns (seen (talliedAs s) (c .before .before .before .before .before .before .before .before .before .before .before .before .before .before .before .before .before .before .before .before .before .before .check-nodes .ensures .0) (c .before .before .before .before .before .before .before .before .before .before .before .before .before .before .before .before .before .before .before .before .next .given .1)) (seen (flagAs s) (c .before .before .before .before .before .before .before .before .before .before .before .before .before .before .before .before .before .before .flag .ensures .0) (c .before .before .before .before .before .before .before .before .before .before .before .before .before .before .before .before .there .given .1)) (c .before .before .before .before .before .before .before .before .before .before .before .before .before .put-with-entry .ensures .0) (seen (walkedAs s (c .before .before .before .before .before .before .before .before .before .walk-nodes .last .1 .1 .1 .1 .1 .1 .1 .0)) (c .before .before .before .before .before .before .before .before .before .walk-nodes .ensures .0) (c .before .before .before .before .before .place .given .1)) ∙ typed-holds source types w s (a .span) (a .specifier) (typeRest inner object′ (a .count) (drop (a .cursor .at) s)), c .before .before .walk-attributes .ensures .1)

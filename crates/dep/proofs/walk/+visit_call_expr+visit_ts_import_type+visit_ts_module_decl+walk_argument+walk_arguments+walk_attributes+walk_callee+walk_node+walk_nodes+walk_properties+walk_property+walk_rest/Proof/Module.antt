@@ -18,7 +18,7 @@ returns t c =
     let a = c .before .before .before .before .before .before .before .before .before .before .before .args in
     let s = now (a .sheet) in
     let source = now (a .source) in
-    let types = typesFrom source (now (a .comments)) (now (a .groups)) (a .counts) in
+    let types = typesFrom source (now (a .tables)) (a .counts) in
     let w = bufferAs (now (a .out)) (a .place) in
     let x = nodes (node source (a .levels)) (a .count) (drop (a .cursor .at) s) in
     (c .before .before .walk-nodes .ensures .0 ∙ module-holds source types w (a .span) (Option.some (quotedOf s (a .specifier))) (c .before .before .before .before .before .before .put-module-entry .ensures) x, c .before .before .walk-nodes .ensures .1)

@@ -1,4 +1,4 @@
-/* Which modules a JavaScript or TypeScript module asks for, in code and in comments: the proved library's one function.
+/* Which modules a JavaScript or TypeScript module asks for, in code and in comments, and its source map: the proved library's two functions.
  * docs/01-scope.md defines sheets, refusals and reports. Link libmodule_info.a, which `rt staticlib module_info` writes to target/staticlib. */
 #ifndef MODULE_INFO_H
 #define MODULE_INFO_H
@@ -53,6 +53,29 @@ enum module_info_number {
  * The call needs at most some 116 KiB of stack, its tables included: a thread of 128 KiB is enough for every sheet that was constructed. That is
  * measured on x86-64 (bindings/c/stack.c), not proved. Nothing else is asked of the caller. */
 uint64_t module_info_answer(const uint8_t *sheet, size_t n, uint8_t *buffer, size_t m);
+
+/* The answers of module_info_source_map besides the refusals. */
+#define MODULE_INFO_NO_MAP 0
+#define MODULE_INFO_MAP 256
+
+/* The places that it writes: the text of the specifier is bytes MODULE_INFO_FROM up to, and without, MODULE_INFO_TO of the sheet; line and column
+ * of its start and of its end in the source, from 0: a line ends at LF, a column counts characters. */
+enum module_info_place {
+    MODULE_INFO_FROM,
+    MODULE_INFO_TO,
+    MODULE_INFO_START_LINE,
+    MODULE_INFO_START_COLUMN,
+    MODULE_INFO_END_LINE,
+    MODULE_INFO_END_COLUMN,
+    MODULE_INFO_PLACES
+};
+
+/* The source map of a sheet as ECMA-426 names it, which is not that of the report (docs/DIFFERENCES.md): MODULE_INFO_MAP, where a specifier is
+ * found, which may be empty; MODULE_INFO_NO_MAP, where no comment of the trailing group at the program's end reads, and for no bytes; or the
+ * refusal that module_info_answer gives the sheet, MODULE_INFO_BUFFER never. Writes MODULE_INFO_PLACES numbers, zeros where none is found. What is
+ * asked of the caller is as above: a pointer to n bytes, and one to so many numbers, which is not null; they do not overlap. It runs on a thread
+ * of 128 KiB too. */
+uint64_t module_info_source_map(const uint8_t *sheet, size_t n, uint64_t *places);
 
 #ifdef __cplusplus
 }

@@ -3,6 +3,7 @@
  * tools/oracle: the library with lent buffers of several sizes, by number, length and every byte of the buffer. Where the oracle leaves a
  * sheet out, the library is compared with second, and each text that second has from a comment must stand between its positions. Prints by kind how many sheets were accepted, refused with each number and left out, and
  * the shortest sheet that differs, which is also written to FILE.
+ * The library and second are also asked for the source map by ECMA-426 (request #105).
  * The status is 1 if a sheet differs, or if one of the kinds named has no accepted sheet or one with a String that is not quoted.
  * With --before, ANSWERS are those of an oracle without the patch of request #104: they must differ from the others on just the sheets in which
  * a reference comment has both a path and types.
@@ -21,8 +22,10 @@
 
 #ifdef LIBRARY
 uint64_t module_info_answer(const uint8_t *sheet, size_t n, uint8_t *buffer, size_t m);
+uint64_t module_info_source_map(const uint8_t *sheet, size_t n, uint64_t *places);
 #endif
 uint64_t second_answer(const uint8_t *sheet, size_t n, uint8_t *buffer, size_t m);
+uint64_t second_source_map(const uint8_t *sheet, size_t n, uint64_t *places);
 bool second_both(const uint8_t *sheet, size_t n);
 bool second_shows(const uint8_t *sheet, size_t n, const uint8_t *report, size_t m);
 
@@ -129,6 +132,27 @@ static const char *library_differs(const uint8_t *sheet, size_t n, struct answer
     for (size_t i = 0; i < sizeof sizes / sizeof *sizes && !message; i++) message = difference(sheet, n, expected, sizes[i]);
     return message;
 }
+
+static unsigned long maps, no_maps, refused_maps, maps_differ;
+
+/* What differs between the library and second in the source map by ECMA-426, or NULL. */
+static const char *map_differs(const uint8_t *sheet, size_t n) {
+    static char message[200];
+    uint64_t expected[6], *places = (uint64_t *)(buffer_end - sizeof expected);
+    uint64_t number = second_source_map(sheet, n, expected);
+    uint8_t *copy = sheet_end - n;
+    memcpy(copy, sheet, n);
+    memset(places, 0xA5, sizeof expected);
+    uint64_t got = module_info_source_map(copy, n, places);
+    calls++;
+    number == 256 ? maps++ : number ? refused_maps++ : no_maps++;
+    if (got == number && !memcmp(places, expected, sizeof expected) && !memcmp(copy, sheet, n)) return NULL;
+    maps_differ++;
+    snprintf(message, sizeof message, "the source map by ECMA-426: %llu from %llu to %llu is expected, got %llu from %llu to %llu",
+             (unsigned long long)number, (unsigned long long)expected[0], (unsigned long long)expected[1], (unsigned long long)got,
+             (unsigned long long)places[0], (unsigned long long)places[1]);
+    return message;
+}
 #endif
 
 /* ---- what is printed ---- */
@@ -231,6 +255,8 @@ static const char *compared(const uint8_t *sheet, size_t n, struct answer oracle
         }
     } else if (of_library)
         library_and_second++;
+    of_library = map_differs(sheet, n);
+    if (of_library) found = of_library;
 #else
     (void)sheet, (void)n, (void)message;
 #endif
@@ -331,6 +357,7 @@ int main(int argc, char **argv) {
     printf("left out, with a text that does not stand between its positions: %lu sheets\n", not_shown);
 #ifdef LIBRARY
     printf("library and oracle: %lu sheets differ\nlibrary and second: %lu sheets differ\n", library_and_oracle, library_and_second);
+    printf("source map by ECMA-426: %lu found, %lu none, %lu refused; library and second: %lu sheets differ\n", maps, no_maps, refused_maps, maps_differ);
     printf("%lu sheets, %lu calls, %lu sheets differ\n", total, calls, differ);
 #else
     printf("%lu sheets, %lu sheets differ\n", total, differ);

@@ -183,6 +183,27 @@ fn source_map(r: &mut Rng) -> String {
     format!("{sign}{a}{}{b}={c}{}{}", cased(r, "sourceMappingURL"), specifier(r), words(r))
 }
 
+/// Whitespace of White_Space, of ECMAScript and of neither, or none.
+fn spaces(r: &mut Rng) -> String {
+    if r.percent(40) {
+        return String::new();
+    }
+    (0..=r.few(3)).map(|_| if r.percent(25) { r.pick(&["\u{FEFF}", "\u{85}"]).into() } else { white(r) }).collect()
+}
+
+/// A map comment near ECMA-426's: the word as it stands there or nearly so, an empty run among others, whitespace or something else behind it.
+fn standard_map(r: &mut Rng) -> String {
+    let sign = r.pick(&["#", "@", "#", "@", "#", "##", " #", "", "/"]);
+    let word = if r.percent(85) { "sourceMappingURL".into() } else { cased(r, "sourceMappingURL") };
+    let equals = r.pick(&["=", "=", "=", "=", "=", "=", " =", "= ", "\u{FEFF}=", "=\u{85}", "==", ""]);
+    let run = match r.below(4) {
+        0 => specifier(r),
+        _ => r.pick(&["", "a", "a.js.map", "é", "\u{85}", "a\u{85}b", "data:,{}", "𝒜.map"]).into(),
+    };
+    let (a, b) = (spaces(r), if r.percent(70) { spaces(r) } else { words(r) });
+    format!("{sign}{a}{word}{equals}{run}{b}")
+}
+
 fn name(r: &mut Rng) -> String {
     let mut s = match r.below(8) {
         0 => any_char(r).to_string(),
@@ -308,7 +329,8 @@ fn body(r: &mut Rng, jsdoc_only: bool, near: usize) -> String {
         0 | 1 => reference(r),
         2..=4 => pragma(r),
         5 | 6 => jsx(r),
-        7 | 8 => source_map(r),
+        7 => source_map(r),
+        8 => standard_map(r),
         9 => words(r),
         _ => jsdoc(r),
     };
@@ -339,6 +361,8 @@ struct Style {
     jsdoc: bool,
     /// Line comments are often HTML-like ones.
     html: bool,
+    /// Comments are map comments, mostly in the trailing group at the program's end.
+    maps: bool,
     /// Percentages: a mutated body, an uncooked piece.
     near: usize,
     uncooked: usize,
@@ -392,7 +416,7 @@ fn sheet(r: &mut Rng, style: &Style) -> Vec<u8> {
     let end = m.place();
     let item = m.place();
     let head = m.program(end, item);
-    m.groups(&comments, end, head);
+    m.groups(&comments, end, if style.maps { (1, end) } else { head });
     let program = std::mem::take(&mut m.late);
     m.out.extend(program);
     let depth = if m.r.percent(3) { 63 } else { 7 };
@@ -420,7 +444,11 @@ impl Maker<'_> {
                 self.source += &words(self.r);
                 self.places.push(self.source.len());
             }
-            let b = body(self.r, style.jsdoc, style.near);
+            let b = match (style.maps, self.r.below(4)) {
+                (true, 0) => source_map(self.r),
+                (true, _) => standard_map(self.r),
+                (false, _) => body(self.r, style.jsdoc, style.near),
+            };
             let start = self.source.len();
             let line = !style.jsdoc && (b.starts_with('/') || self.r.percent(if style.html { 70 } else { 30 }));
             let kind = match (line, style.html) {
@@ -1191,12 +1219,13 @@ fn damaged(r: &mut Rng, kind: &str, mut s: Vec<u8>, other: &[u8]) -> Vec<u8> {
 }
 
 fn well_formed(r: &mut Rng, kind: &str) -> Vec<u8> {
-    let mut style = Style { comments: 8, nodes: 80, javascript: false, jsdoc: false, html: false, near: 15, uncooked: 0 };
+    let mut style = Style { comments: 8, nodes: 80, javascript: false, jsdoc: false, html: false, maps: false, near: 15, uncooked: 0 };
     match kind {
         "small" => (style.comments, style.nodes) = (1, 4),
         "comments" => (style.comments, style.nodes) = (16, 8),
         "jsdoc" => (style.comments, style.nodes, style.javascript, style.jsdoc) = (5, 3, true, true),
         "html" => (style.comments, style.nodes, style.html, style.near) = (8, 30, true, 30),
+        "maps" => (style.comments, style.nodes, style.maps) = (4, 3, true),
         "near" => (style.comments, style.nodes, style.near) = (8, 8, 100),
         "tree" => (style.comments, style.nodes) = (3, 300),
         "uncooked" => (style.comments, style.nodes, style.uncooked) = (2, 60, 40),
@@ -1213,12 +1242,12 @@ fn well_formed(r: &mut Rng, kind: &str) -> Vec<u8> {
 }
 
 /// The kinds whose sheets meet none of refusals 1 to 9 and 13.
-const WELL_FORMED: [&str; 10] = ["small", "empty", "rich", "comments", "html", "jsdoc", "near", "tree", "letters", "long"];
+const WELL_FORMED: [&str; 11] = ["small", "empty", "rich", "comments", "html", "maps", "jsdoc", "near", "tree", "letters", "long"];
 
 /// How many sheets are of each kind, among as many as the numbers make together.
 #[rustfmt::skip]
-const KINDS: [(&str, usize); 22] = [
-    ("small", 145), ("empty", 5), ("text", 20), ("string", 20), ("order", 10), ("rich", 200), ("comments", 130), ("html", 80), ("jsdoc", 180), ("near", 130), ("tree", 120), ("letters", 20), ("uncooked", 20), ("long", 2),
+const KINDS: [(&str, usize); 23] = [
+    ("small", 145), ("empty", 5), ("text", 20), ("string", 20), ("order", 10), ("rich", 200), ("comments", 130), ("html", 80), ("maps", 100), ("jsdoc", 180), ("near", 130), ("tree", 120), ("letters", 20), ("uncooked", 20), ("long", 2),
     ("flip", 40), ("cut", 30), ("insert", 30), ("delete", 30), ("splice", 30), ("number", 20), ("noise", 8), ("limit", 10),
 ];
 

@@ -545,6 +545,20 @@ fn patterns() -> Patterns {
     }
 }
 
+/// ECMAScript's WhiteSpace and LineTerminator.
+fn is_space(c: char) -> bool {
+    let zs = matches!(c, ' ' | '\u{A0}' | '\u{1680}' | '\u{2000}'..='\u{200A}' | '\u{202F}' | '\u{205F}' | '\u{3000}');
+    zs || matches!(c, '\t' | '\u{B}' | '\u{C}' | '\u{FEFF}' | '\n' | '\r' | '\u{2028}' | '\u{2029}')
+}
+
+/// ECMA-426's comment, from request #105: the place of the run.
+fn standard_run(body: &str) -> Option<Span> {
+    let behind = body.strip_prefix(['#', '@'])?.trim_start_matches(is_space).strip_prefix("sourceMappingURL=")?;
+    let run = behind.trim_end_matches(is_space);
+    let start = body.len() - behind.len();
+    (!run.contains(is_space)).then_some((start, start + run.len()))
+}
+
 // ---- JSDoc imports: places in a body ----
 
 struct Quote {
@@ -663,10 +677,7 @@ impl Writer<'_> {
 
     fn range(&mut self, span: Span) {
         for p in [span.0, span.1] {
-            let front = &self.sheet.source[..p];
-            let line_start = front.iter().rposition(|b| *b == b'\n').map_or(0, |i| i + 1);
-            let line = front.iter().filter(|b| **b == b'\n').count();
-            let column = front[line_start..].iter().filter(|b| **b & 0xC0 != 0x80).count();
+            let (line, column) = self.sheet.position(p);
             self.number(line);
             self.number(column);
         }
@@ -704,6 +715,14 @@ impl Writer<'_> {
 }
 
 impl Sheet {
+    /// The line and the column of a place.
+    fn position(&self, p: usize) -> (usize, usize) {
+        let front = &self.source[..p];
+        let line_start = front.iter().rposition(|b| *b == b'\n').map_or(0, |i| i + 1);
+        let line = front.iter().filter(|b| **b == b'\n').count();
+        (line, front[line_start..].iter().filter(|b| **b & 0xC0 != 0x80).count())
+    }
+
     fn group(&self, side: u8, position: usize) -> &[Comment] {
         self.groups.get(&(side, position)).map_or(&[], |g| &self.comments[g.0..g.1])
     }
@@ -726,6 +745,15 @@ impl Sheet {
             None => (groups[2]?, 0),
         };
         Some((b[range.0..range.1].to_vec(), (from + range.0 - around, from + range.1 + around)))
+    }
+
+    /// The source map by ECMA-426: the place of the run, in the last comment that reads.
+    fn standard_map(&self) -> Option<Span> {
+        self.group(1, self.span.1).iter().rev().find_map(|c| {
+            let (from, to) = c.body;
+            let (start, end) = standard_run(str::from_utf8(&self.source[from..to]).expect("UTF-8"))?;
+            Some((from + start, from + end))
+        })
     }
 
     fn types_at(&self, p: &Patterns, start: usize) -> Option<Specifier> {
@@ -1037,6 +1065,30 @@ pub unsafe extern "C" fn second_answer(sheet: *const u8, n: usize, buffer: *mut 
             256 * report.len() as u64
         }
     }
+}
+
+/// The second question: where the run stands in the sheet, and its two positions; none; or the refusal.
+pub fn source_map(bytes: &[u8]) -> Read<Option<[u64; 6]>> {
+    if bytes.is_empty() {
+        return Ok(None);
+    }
+    let sheet = decode(bytes)?;
+    sheet.report()?;
+    // the media byte, the groups of the source's length, the source
+    let base = 2 + bytes[1..].iter().take_while(|b| **b >= 128).count();
+    Ok(sheet.standard_map().map(|(from, to)| {
+        let (start, end) = (sheet.position(from), sheet.position(to));
+        [base + from, base + to, start.0, start.1, end.0, end.1].map(|n| n as u64)
+    }))
+}
+
+/// # Safety
+/// `sheet` has `n` bytes to read, and `places` six numbers to write.
+#[unsafe(no_mangle)]
+pub unsafe extern "C" fn second_source_map(sheet: *const u8, n: usize, places: *mut [u64; 6]) -> u64 {
+    let answer = source_map(if n == 0 { &[] } else { unsafe { std::slice::from_raw_parts(sheet, n) } });
+    unsafe { *places = answer.ok().flatten().unwrap_or_default() };
+    answer.map_or_else(u64::from, |found| if found.is_some() { 256 } else { 0 })
 }
 
 // ---- a report beside its source ----

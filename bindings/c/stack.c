@@ -1,7 +1,7 @@
 /* stack [KIB]
  * Runs the deepest sheets of every form on a thread with a stack of KIB KiB (128): 64 levels of nodes, each with an entry where its form has one,
  * behind comments that are read with the largest tables. Each answer must be that of a call on the caller's own stack, and have the right number
- * and the right count of dependencies. A stack that is too small ends the program by a fault.
+ * and the right count of dependencies; the source map by ECMA-426, which is absent, is asked for too. A stack that is too small ends the program by a fault.
  * The status is 1 if an answer differs, 2 if no thread can be made. */
 #define _POSIX_C_SOURCE 200112L
 
@@ -283,10 +283,11 @@ static void make(void) {
 /* ---- the calls ---- */
 
 static uint8_t expected[65536], report[65536];
-static uint64_t answer;
+static uint64_t answer, map, places[MODULE_INFO_PLACES];
 
 static void *run(void *unused) {
     answer = module_info_answer(sheet, length, report, sizeof report);
+    map = module_info_source_map(sheet, length, places);
     return unused;
 }
 
@@ -305,7 +306,7 @@ static void compare(const char *name, pthread_attr_t *small) {
         exit(2);
     }
     calls++;
-    if (MODULE_INFO_NUMBER(here) != MODULE_INFO_ACCEPTED || expected[1] != entries || answer != here
+    if (MODULE_INFO_NUMBER(here) != MODULE_INFO_ACCEPTED || expected[1] != entries || answer != here || map != MODULE_INFO_NO_MAP
         || memcmp(report, expected, sizeof report)) {
         failures++;
         printf("%s: number %d and %lu dependencies are expected, got %d and %d, and on the thread %d and %d\n", name, MODULE_INFO_ACCEPTED,

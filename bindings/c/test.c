@@ -1,6 +1,6 @@
 /* test FILE NAMES [LARGEST]
- * Tries the library through its C interface: document 01's example, some refusals, null pointers, and the stored list of sheets FILE with a
- * line of NAMES for each; the formats stand at the head of tools/replay.rs. LARGEST is the size of the largest buffer (65,536).
+ * Tries the library through its C interface: document 01's example, some refusals, null pointers, the source map by ECMA-426, and the stored list
+ * of sheets FILE with a line of NAMES for each; the formats stand at the head of tools/replay.rs. LARGEST is the size of the largest buffer (65,536).
  * The status is 1 if an answer differs, 2 if a file cannot be read. */
 #include <stdio.h>
 #include <stdlib.h>
@@ -123,6 +123,44 @@ static void examples(void) {
     all_sizes("the example and a byte", 1, example, EXAMPLE + 1, MODULE_INFO_TRAILING, example_report, 0);
 }
 
+/* ---- the source map by ECMA-426 ---- */
+
+/* TypeScript, three lines: `x`, and two comments in the trailing group at the program's end, of which only the first reads as ECMA-426 has it:
+ * it has a character of two bytes in front of it, and a blank behind its run. */
+static const uint8_t map_sheet[] = "\4\66x\n\303\251/*# sourceMappingURL=a */\n//# sourceMappingURL=b c"
+                                   "\2\1\4\35\0\36\66"
+                                   "\1\1\66\0\2"
+                                   "\0\0\66\0\0"
+                                   "\0\0\66\0";
+#define MAP_SHEET (sizeof map_sheet - 1)
+
+static void source_map(const char *name, const uint8_t *sheet, size_t n, uint64_t number, const uint64_t *places) {
+    uint64_t got[MODULE_INFO_PLACES + 2];
+    uint64_t answer;
+
+    memset(got, FILL, sizeof got);
+    answer = module_info_source_map(sheet, n, got + 1);
+    calls++;
+    if ((answer != number || memcmp(got + 1, places, MODULE_INFO_PLACES * sizeof *got) || memcmp(got, got + MODULE_INFO_PLACES + 1, sizeof *got)) &&
+        ++failures <= SHOWN)
+        printf("the source map of %s: %lu is expected, got %lu, from %lu to %lu\n", name, (unsigned long)number, (unsigned long)answer,
+               (unsigned long)got[1], (unsigned long)got[2]);
+}
+
+static void source_maps(void) {
+    static const uint64_t none[MODULE_INFO_PLACES], there[MODULE_INFO_PLACES] = {27, 28, 1, 22, 1, 23};
+    static const uint8_t long_sheet[MODULE_INFO_MAX_SHEET + 1];
+    size_t n;
+
+    source_map("a sheet with two comments", map_sheet, MAP_SHEET, MODULE_INFO_MAP, there);
+    if (map_sheet[27] != 'a') printf("the source map's text is expected at byte 27\n"), failures++;
+    source_map("document 01's example", example, EXAMPLE, MODULE_INFO_NO_MAP, none);
+    source_map("no bytes", example, 0, MODULE_INFO_NO_MAP, none);
+    source_map("no bytes, a null pointer", NULL, 0, MODULE_INFO_NO_MAP, none);
+    source_map("a sheet that is too long", long_sheet, sizeof long_sheet, MODULE_INFO_SHEET_LENGTH, none);
+    for (n = 1; n < MAP_SHEET; n++) source_map("a sheet that is cut off", map_sheet, n, MODULE_INFO_CUT_OFF, none);
+}
+
 /* ---- the stored list ---- */
 
 static const uint8_t *list;
@@ -201,6 +239,7 @@ int main(int argc, char **argv) {
     list = read_file(argv[1], &list_size);
     names = (char *)read_file(argv[2], &names_size);
     examples();
+    source_maps();
     count = replay();
     printf("C: %lu stored sheets, %lu calls, %lu differ\n", count, calls, failures);
     return failures != 0;

@@ -37,7 +37,7 @@ from .analysis import (
 from .citation import Line, citation, lines
 from .decode import decode
 from .json_form import to_json
-from .library import module_info
+from .library import module_info, source_map
 from .refusal import MEANINGS, Refused
 
 __all__ = [
@@ -64,5 +64,6 @@ __all__ = [
     "decode",
     "lines",
     "module_info",
+    "source_map",
     "to_json",
 ]

@@ -5,7 +5,7 @@ import os
 from pathlib import Path
 from typing import Optional
 
-from .analysis import ModuleInfo
+from .analysis import ModuleInfo, Position, PositionRange, SpecifierWithRange
 from .decode import decode
 from .refusal import Refused
 
@@ -26,6 +26,8 @@ def _load() -> ctypes.CDLL:
             raise OSError(f"the library cannot be loaded: {e} (bindings/python/build links it, MODULE_INFO_SO names another)")
         library.module_info_answer.argtypes = [ctypes.c_char_p, ctypes.c_size_t, ctypes.c_char_p, ctypes.c_size_t]
         library.module_info_answer.restype = ctypes.c_uint64
+        library.module_info_source_map.argtypes = [ctypes.c_char_p, ctypes.c_size_t, ctypes.POINTER(ctypes.c_uint64)]
+        library.module_info_source_map.restype = ctypes.c_uint64
         _library = library
     return _library
 
@@ -43,3 +45,17 @@ def report(sheet: bytes, size: int = BUFFER) -> bytes:
 def module_info(sheet: bytes, size: int = BUFFER) -> ModuleInfo:
     """What the module of a sheet asks for. Raises `Refused`."""
     return decode(report(sheet, size))
+
+
+def source_map(sheet: bytes) -> Optional[SpecifierWithRange]:
+    """The source map as ECMA-426 names it, which is not that of the report (docs/DIFFERENCES.md). Raises `Refused`."""
+    sheet = bytes(sheet)
+    places = (ctypes.c_uint64 * 6)()
+    answer = _load().module_info_source_map(sheet, len(sheet), places)
+    if answer % 256 != 0:
+        raise Refused(answer)
+    if answer == 0:
+        return None
+    start, end, *positions = places
+    first, last = (Position(*positions[i : i + 2]) for i in (0, 2))
+    return SpecifierWithRange(sheet[start:end].decode(), PositionRange(first, last))

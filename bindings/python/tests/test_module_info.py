@@ -13,7 +13,7 @@ import unittest
 from pathlib import Path
 
 import module_info as package
-from module_info import ModuleInfo, Refused, citation, decode, module_info, to_json
+from module_info import ModuleInfo, Position, Refused, citation, decode, module_info, source_map, to_json
 from module_info.library import report
 
 ROOT = Path(__file__).resolve().parents[3]
@@ -83,6 +83,26 @@ class Answers(unittest.TestCase):
             with self.assertRaises(Refused) as refused:
                 report(b"", size)
             self.assertEqual(refused.exception.number, 10)
+
+    def test_source_map(self):
+        """By ECMA-426: an empty run is found, which the report's pattern does not read; refusals are the report's."""
+        for run, expected in (b"", ""), (b"a.map ", "a.map"), (b"a b", None):
+            source = b"/*# sourceMappingURL=" + run + b"*/"
+            end = len(source)
+            sheet = bytes([4, end]) + source + bytes([1, 1, 0, end, 1, 1, end, 0, 1, 0, 0, end, 0, 0, 0, 0, end, 0])
+            found = source_map(sheet)
+            self.assertEqual(found and found.text, expected)
+            if found:
+                self.assertEqual((found.range.start, found.range.end), (Position(0, 21), Position(0, 21 + len(expected))))
+        self.assertIsNone(source_map(b""))
+        for index, sheet, number, _ in stored():
+            with self.subTest(sheet=index):
+                try:
+                    source_map(sheet)
+                    refused = 0
+                except Refused as refusal:
+                    refused = refusal.number
+                self.assertEqual(refused, number)
 
     def test_words(self):
         os.chdir(ROOT)

@@ -54,6 +54,9 @@ pub const MAX_SHEET: usize = 65_536;
 unsafe extern "C" {
     /// The number (0, or that of the refusal) and 256 times the report's length. Writes every byte of the buffer.
     fn module_info_answer(sheet: *const u8, n: usize, buffer: *mut u8, m: usize) -> u64;
+
+    /// That of the refusal; else 256 where there is a source map, and 0 where there is none. Writes the six places.
+    fn module_info_source_map(sheet: *const u8, n: usize, places: *mut [u64; 6]) -> u64;
 }
 
 /// Writes the report of a sheet into `buffer` and answers its length; every byte behind the report becomes 0.
@@ -83,4 +86,48 @@ pub fn module_info(sheet: &[u8], buffer: &mut [u8]) -> Result<usize, Refusal> {
             Ok(length)
         }
     }
+}
+
+/// The source map of a sheet as ECMA-426 names it: the last comment that reads in the trailing group at the program's end. That of the report,
+/// `ModuleInfo::source_map_url`, goes by the Rust's pattern; docs/DIFFERENCES.md has the ways in which the two differ.
+/// A refusal is the report's, and never [`Refusal::Buffer`]. No bytes have none.
+///
+/// ```
+/// use module_info::{Position, Refusal, source_map};
+///
+/// let source = "/*# sourceMappingURL=a.map */";
+/// let end = source.len() as u8;
+/// let mut sheet = vec![4, end]; // TypeScript
+/// sheet.extend(source.as_bytes());
+/// sheet.extend([1, 1, 0, end]); // one comment: a block
+/// sheet.extend([1, 1, end, 0, 1]); // one group: it trails the end
+/// sheet.extend([0, 0, end, 0, 0, 0, 0, end, 0]); // the program and its root
+///
+/// let map = source_map(&sheet)?.expect("a source map");
+/// assert_eq!(map.text, "a.map");
+/// assert_eq!((map.range.start, map.range.end), (Position { line: 0, character: 21 }, Position { line: 0, character: 26 }));
+///
+/// sheet[2 + 21 - 1] = b' '; // no `=` behind the word
+/// assert_eq!(source_map(&sheet), Ok(None));
+/// assert_eq!(source_map(b""), Ok(None));
+/// assert_eq!(source_map(&sheet[..9]), Err(Refusal::CutOff));
+/// # Ok::<(), Refusal>(())
+/// ```
+pub fn source_map(sheet: &[u8]) -> Result<Option<SpecifierWithRange>, Refusal> {
+    let mut places = [0; 6];
+    // SAFETY: the slice is valid for its length and does not overlap the places, and the function keeps neither.
+    let answer = unsafe { module_info_source_map(sheet.as_ptr(), sheet.len(), &mut places) };
+    if let Some(refusal) = u8::try_from(answer).ok().and_then(Refusal::from_number) {
+        return Err(refusal);
+    }
+    let [from, to, start_line, start_column, end_line, end_column] = places.map(|n| n as usize);
+    let text = match answer {
+        0 => return Ok(None),
+        256 => sheet.get(from..to).and_then(|text| std::str::from_utf8(text).ok()),
+        _ => None,
+    };
+    let start = Position { line: start_line, character: start_column };
+    let end = Position { line: end_line, character: end_column };
+    let text = text.expect("the linked library does not answer as its promise says").to_string();
+    Ok(Some(SpecifierWithRange { text, range: PositionRange { start, end } }))
 }

@@ -49,6 +49,23 @@ fn no_bytes() {
     assert_eq!((items[0].number, ModuleInfo::decode(&items[0].report)), (0, Ok(ModuleInfo::default())));
 }
 
+/// The source map by ECMA-426 is refused as the report is; one that is found stands at its place.
+#[test]
+fn source_maps() {
+    let mut found = 0;
+    for Item { name, sheet, number, .. } in stored() {
+        let answer = source_map(&sheet);
+        assert_eq!(answer.as_ref().err().copied(), Refusal::from_number(number), "{name}");
+        if let Ok(Some(map)) = answer {
+            let source = source(&sheet);
+            assert_eq!(map.text, source[offset(source, map.range.start)..offset(source, map.range.end)], "{name}");
+            assert!(source[..offset(source, map.range.start)].ends_with("sourceMappingURL="), "{name}");
+            found += 1;
+        }
+    }
+    assert!(found > 0, "the list has source maps");
+}
+
 /// The source at each place has the text, and the JSDoc imports ascend.
 #[test]
 fn places() {

@@ -7,5 +7,7 @@ pub mod Empty
 pub mod Accepted
 pub mod Cleared
 pub mod Cases
+pub mod MapCases
 pub mod PathFirst
 pub mod Example
+pub mod SourceMap

@@ -40,12 +40,12 @@ unfolding answerOf
 accepted-number s size {t} e = rw (judged-sheet s e) (report-number size (encode (moduleInfo t)))
 
 -- the number of a refusal
-refusal-number : (s : List ℕ) (size : ℕ) {r : ℕ} → 0 < length s → accept s ≡ no r → answerOf s size .number ≡ r
+pub refusal-number : (s : List ℕ) (size : ℕ) {r : ℕ} → 0 < length s → accept s ≡ no r → answerOf s size .number ≡ r
 unfolding answerOf
 refusal-number s size some e = rw (judged-refusal s some e)
 
 -- a number of a sheet's refusals is that of its refusal, and there are bytes
-number-refusal : (s : List ℕ) (size : ℕ) → oneOf ofSheets (answerOf s size .number) ≡ true → (0 < length s) × (accept s ≡ no (answerOf s size .number))
+pub number-refusal : (s : List ℕ) (size : ℕ) → oneOf ofSheets (answerOf s size .number) ≡ true → (0 < length s) × (accept s ≡ no (answerOf s size .number))
 unfolding oneOf
 number-refusal s size among = by (decided s)
   where

@@ -3,4 +3,5 @@ pub mod Numbers
 pub mod Report
 pub mod Empty
 pub mod Demands
+pub mod SourceMap
 pub mod code

@@ -1,4 +1,6 @@
 // The module information of a sheet, as a report in a lent buffer.
+pub mod source_map;
+
 use accept::check::Parts;
 use accept::check::SheetChecked;
 use accept::check::check_sheet;

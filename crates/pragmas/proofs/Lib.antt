@@ -4,5 +4,6 @@ pub mod Reached
 pub mod Present
 pub mod PathFirst
 pub mod Texts
+pub mod SourceMap
 pub mod Cases
 pub mod Valid

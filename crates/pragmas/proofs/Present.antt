@@ -32,9 +32,9 @@ use Rattle.pragmas.specs.Pragmas.{headComments, endComments, givenIf, is
 use Rattle.pragmas.specs.Present.{Matched, Read, Reader, byPattern, only, orElseBy, ModeRead, referenceRule, tsOrDenoTypesRule, NoReading, FirstReading, LastReading, InOrder, Exactly, ExactlyFirst, ExactlyLast, Present, TypesPresent}
 
 -- what a function answers of a comment is what a rule gives
-record Agrees {A : Type 0} (f : Comment → Option A) (r : Reader A) : Type 0 where
-  gives : (c : Comment) (a : A) → (f c ≡ Option.some a) ↔ r .Gives c a
-  unread : (c : Comment) → (f c ≡ Option.none) ↔ (r .Reads c → ⊥)
+pub record Agrees {A : Type 0} (f : Comment → Option A) (r : Reader A) : Type 0 where
+  pub gives : (c : Comment) (a : A) → (f c ≡ Option.some a) ↔ r .Gives c a
+  pub unread : (c : Comment) → (f c ≡ Option.none) ↔ (r .Reads c → ⊥)
 
 -- ---- a pattern
 
@@ -58,27 +58,34 @@ module _ (row : Row) (source : List ℕ) (c : Comment) where
   unfolding specifierIn
   read-found {x} r = (r .capture, finds row (body source c) .some (r .capture) .1 (r .preferred), sym (rw (← r .text, ← r .range)))
 
+-- what is made of what a finder captures
+pub by-finder : {A : Type 0} (found : Comment → Found) (make : Comment → Capture → A) {r : Reader A}
+    → ((c : Comment) (k : Capture) → found c ≡ At k → r .Gives c (make c k))
+    → ((c : Comment) (a : A) → r .Gives c a → (k : Capture) × (found c ≡ At k) × (make c k ≡ a))
+    → ((c : Comment) → (found c ≡ Nothing) ↔ (r .Reads c → ⊥))
+    → Agrees (λ c. onFound (make c) (found c)) r
+by-finder {A} found make {r} gives reading nothing = record {
+  gives = λ c a. (some c a (found c) refl, λ g. let (k, e, i) = reading c a g in rw (e, i));
+  unread = λ c. (λ e. nothing c .0 (none c (found c) e), λ n. rw (nothing c .1 n));
+}
+  where
+    some : (c : Comment) (a : A) (f : Found) → found c ≡ f → onFound (make c) f ≡ Option.some a → r .Gives c a
+    some c a (At k) e i = let same : make c k ≡ a = cc in rw (← same) (gives c k e)
+    some c a Nothing e i = absurd (Option·none-ne-some _ i)
+
+    none : (c : Comment) (f : Found) → onFound (make c) f ≡ Option.none → f ≡ Nothing
+    none c (At k) i = absurd (Option·none-ne-some _ (sym i))
+    none c Nothing i = refl
+
 -- what is made of a pattern's reading
-module _ (row : Row) (source : List ℕ) {A : Type 0} (make : Comment → SpecifierWithRange → A) {Gives : Comment → A → Type 0} where
-  made : ((c : Comment) (x : SpecifierWithRange) → Read row source c x → Gives c (make c x))
-      → ((c : Comment) (a : A) → Gives c a → (x : SpecifierWithRange) × Read row source c x × (a ≡ make c x))
-      → Agrees (λ c. onFound (λ k. make c (specifierIn source c k)) (find row (body source c))) (record { Reads = Matched row source; Gives = Gives })
-  made gives reading = record {
-    gives = λ c a. (some c a (find row (body source c)) refl, λ g. let (x, r, i) = reading c a g in back c a x r i);
-    unread = λ c. (none c (find row (body source c)) refl, λ n. rw (unread-none row source c n));
-  }
-    where
-      some : (c : Comment) (a : A) (f : Found) → find row (body source c) ≡ f → onFound (λ k. make c (specifierIn source c k)) f ≡ Option.some a → Gives c a
-      some c a (At k) e i = let same : make c (specifierIn source c k) ≡ a = cc in rw (← same) (gives c (specifierIn source c k) (found-read row source c e))
-      some c a Nothing e i = absurd (Option·none-ne-some _ i)
-
-      back : (c : Comment) (a : A) (x : SpecifierWithRange) → Read row source c x → a ≡ make c x
-          → onFound (λ k. make c (specifierIn source c k)) (find row (body source c)) ≡ Option.some a
-      back c a x r i = let (k, e, j) = read-found row source c r in rw (e, i) (ap (λ y. Option.some (make c y)) j)
-
-      none : (c : Comment) (f : Found) → find row (body source c) ≡ f → onFound (λ k. make c (specifierIn source c k)) f ≡ Option.none → Matched row source c → ⊥
-      none c (At k) e i = absurd (Option·none-ne-some _ (sym i))
-      none c Nothing e i = unmatched row source c e
+made : (row : Row) (source : List ℕ) {A : Type 0} (make : Comment → SpecifierWithRange → A) {Gives : Comment → A → Type 0}
+    → ((c : Comment) (x : SpecifierWithRange) → Read row source c x → Gives c (make c x))
+    → ((c : Comment) (a : A) → Gives c a → (x : SpecifierWithRange) × Read row source c x × (a ≡ make c x))
+    → Agrees (λ c. onFound (λ k. make c (specifierIn source c k)) (find row (body source c))) (record { Reads = Matched row source; Gives = Gives })
+made row source make gives reading =
+    by-finder (λ c. find row (body source c)) (λ c k. make c (specifierIn source c k)) (λ c k e. gives c _ (found-read row source c e))
+    (λ c a g. let (x, r, i) = reading c a g in let (k, e, j) = read-found row source c r in (k, e, ap (make c) j ∙ sym i))
+    (λ c. (unmatched row source c, unread-none row source c))
 
 pattern : (row : Row) (source : List ℕ) → Agrees (readBy row source) (byPattern row source)
 unfolding readBy
@@ -261,7 +268,7 @@ module _ {A : Type 0} {f : Comment → Option A} {r : Reader A} (h : Agrees f r)
   last-is [] c behind {a} n g = rw (last-none behind n) (h .gives c a .1 g)
   last-is (d ∷ before) c behind n g = rw (last-is before c behind n g)
 
-  lastly : (cs : List Comment) → ExactlyLast r cs (lastOf f cs)
+  pub lastly : (cs : List Comment) → ExactlyLast r cs (lastOf f cs)
   lastly cs = record {
     some = λ a. (last-some cs a, λ t. rw (t .among) (last-is (t .before) (t .comment) (t .behind) (t .unread) (t .gives)));
     none = (last-unread cs, last-none cs);

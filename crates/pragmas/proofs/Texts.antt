@@ -74,7 +74,7 @@ module _ (source : List ℕ) (f : formed Utf8 0 source ≡ true) (c : Comment) (
         let none : markWidth k ≡ 0 = rw e in
         place-bytes ∙ rw (none, sub-zero, add-zero)
 
-    capture-stands : (x : SpecifierWithRange) → x .text ≡ textOf (body source c) k → x .range ≡ rangeOf source (placeIn c k) → (q : Bool) → k .quoted ≡ q
+    pub capture-stands : (x : SpecifierWithRange) → x .text ≡ textOf (body source c) k → x .range ≡ rangeOf source (placeIn c k) → (q : Bool) → k .quoted ≡ q
         → StandsAt (writtenIf q) source x (placeIn c k)
     unfolding placeIn placeOf
     capture-stands x t r q e =
@@ -90,7 +90,7 @@ comment-index [] m = absurd (List·Memᴰ·not-nil m)
 comment-index (d ∷ cs) m =
     ⊎-elim (λ e. (0, omega arith, sym e)) (λ i. let (k, l, e) = comment-index cs i in (suc k, omega arith, e)) (List·Memᴰ·cases-cons m)
 
-fit-placed : {source : List ℕ} {cs : List Comment} → Fit source cs → {c : Comment} → List·Memᴰ c cs → Placed source c
+pub fit-placed : {source : List ℕ} {cs : List Comment} → Fit source cs → {c : Comment} → List·Memᴰ c cs → Placed source c
 fit-placed {cs = cs} f m = let (k, l, e) = comment-index cs m in rw (← e) (f .each k l)
 
 group-member : (cs : List Comment) (o : Option Group) {c : Comment} → List·Memᴰ c (inGroup cs o) → List·Memᴰ c cs
@@ -159,7 +159,7 @@ module _ (t : Sheet) (f : formed Utf8 0 (t .source) ≡ true) (fit : Fit (t .sou
   unfolding headComments
   in-head = group-member (t .comments) (headGroup (t .program) (t .groups))
 
-  in-end : {c : Comment} → List·Memᴰ c (endComments t) → List·Memᴰ c (t .comments)
+  pub in-end : {c : Comment} → List·Memᴰ c (endComments t) → List·Memᴰ c (t .comments)
   unfolding endComments
   in-end = group-member (t .comments) (endGroup (t .program) (t .groups))
 

@@ -2,4 +2,5 @@ pub mod Readings
 pub mod Pragmas
 pub mod Present
 pub mod Texts
+pub mod SourceMap
 pub mod code

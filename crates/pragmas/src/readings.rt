@@ -9,6 +9,7 @@ use analysis::find_ts_self_types;
 use analysis::find_ts_types;
 use analysis::place_of;
 use analysis::specifier;
+use ecma426::find_source_map;
 use report::writer::Place;
 use sheet::comments::Comment;
 use sheet::comments::comment_at;
@@ -22,7 +23,6 @@ ghost use Prim.Native.Nat.{_-_, _*_, _≤_};
 ghost use lib.Dec.{eqb};
 ghost use lib.ListN.{length};
 ghost use Rattle.wire.specs.Optional.{encodeOptional};
-ghost use Rattle.analysis.specs.Row.{find};
 ghost use Rattle.analysis.specs.Place.{Inside, Within};
 ghost use Rattle.sheet.specs.declared.names.CommentKind.the-variants.{Block};
 ghost use Rattle.sheet.specs.Names.{kindNumber};
@@ -36,7 +36,7 @@ ghost use Rattle.report.specs.Buffer.{wrote, bufferAs};
 ghost use Rattle.pragmas.specs.code.Held.{Reached};
 ghost use Rattle.pragmas.specs.Readings.{placeIn, specifierIn, firstOf, lastOf};
 ghost use Rattle.pragmas.specs.Pragmas.{inGroup, givenIf};
-ghost use Rattle.pragmas.specs.code.Views.{rowOf, takes, readRule, readAs, ReadIn, CaptureIn, commentsFrom};
+ghost use Rattle.pragmas.specs.code.Views.{findRule, takes, readRule, readAs, ReadIn, CaptureIn, commentsFrom};
 
 // The rules that give one specifier.
 pub enum Rule {
@@ -44,6 +44,7 @@ pub enum Rule {
     JsxImportSource,
     JsxImportSourceTypes,
     SourceMapUrl,
+    StandardSourceMap,
     TsTypes,
     DenoTypes,
 }
@@ -56,7 +57,7 @@ pub enum Reading {
 
 // The finder of a rule.
 fn find_by(body: &[u8], rule: Rule) -> Found
-    ensures { λ r. ⌜ r ≡ find (rowOf rule) (now (body .entry)) ⌝ }
+    ensures { λ r. ⌜ r ≡ findRule rule (now (body .entry)) ⌝ }
     ensures { λ r. ⌜ Within r (length (now (body .entry))) ⌝ }
 {
     match rule {
@@ -64,6 +65,7 @@ fn find_by(body: &[u8], rule: Rule) -> Found
         Rule::JsxImportSource => find_jsx_import_source(body),
         Rule::JsxImportSourceTypes => find_jsx_import_source_types(body),
         Rule::SourceMapUrl => find_source_mapping_url(body),
+        Rule::StandardSourceMap => find_source_map(body),
         Rule::TsTypes => find_ts_types(body),
         Rule::DenoTypes => find_deno_types(body),
     }
@@ -89,6 +91,7 @@ fn takes(rule: Rule, kind: CommentKind) -> bool
         Rule::JsxImportSourceTypes => is_block(kind),
         Rule::TsSelfTypes => true,
         Rule::SourceMapUrl => true,
+        Rule::StandardSourceMap => true,
         Rule::TsTypes => true,
         Rule::DenoTypes => true,
     }
@@ -209,7 +212,7 @@ pub fn last_reading(
 }
 
 // Where a capture in a comment stands in the source, with its marks.
-fn comment_source_to_span(c: Comment, found: Capture) -> Span
+pub fn comment_source_to_span(c: Comment, found: Capture) -> Span
     requires { ⌜ HoldsMarks c × Inside found (bodySpan c .end - bodySpan c .start) ⌝ }
     ensures { λ r. ⌜ r ≡ placeIn c found ⌝ }
 {

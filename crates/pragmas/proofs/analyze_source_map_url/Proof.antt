@@ -1,10 +1,11 @@
 use borrow.Author.Needs.{needs}
+use Rattle.pragmas.specs.Readings.{readBy}
 use Rattle.pragmas.specs.Pragmas.{sourceMapUrlIn}
 use Rattle.pragmas.proofs.analyze_source_map_url.Statement.{statement}
 use Rattle.pragmas.proofs.analyze_source_map_url.Tie as tie
 
 returns : tie.Need-returns
-unfolding sourceMapUrlIn
+unfolding readBy sourceMapUrlIn
 returns c = rw (← c .before .before .before .before .last-reading .ensures .0) (c .before .before .put-reading .ensures)
 
 pub analyze-source-map-url-spec : {M : Type 1} → statement M

@@ -6,10 +6,12 @@ use Prim.Native.Nat.{ℕ, _-_}
 use lib.Dec.{eqb}
 use lib.ListN.{length}
 use Rattle.analysis.specs.declared.Capture.{Capture}
-use Rattle.analysis.specs.Row.{Row}
+use Rattle.analysis.specs.declared.Found.{Found}
+use Rattle.analysis.specs.Row.{find}
 use Rattle.analysis.specs.Place.{Inside}
 use Rattle.analysis.specs.Patterns.{jsxImportSourceRow, jsxImportSourceTypesRow, sourceMappingUrlRow, tsSelfTypesRow, tsTypesRow, denoTypesRow}
 use Rattle.analysis.specs.code.Mode.{modeAs}
+use Rattle.ecma426.specs.Reader.{findSourceMap}
 use Rattle.sheet.specs.declared.names.CommentKind.{CommentKind}
 use Rattle.sheet.specs.declared.names.CommentKind.the-variants.{Block}
 use Rattle.sheet.specs.Names.{kindNumber}
@@ -19,21 +21,22 @@ use Rattle.sheet.specs.Fit.{Placed}
 use Rattle.sheet.specs.Lookups.{body}
 use Rattle.report.specs.ModuleInfo.{SpecifierWithRange, TypeScriptReference, path, types}
 use Rattle.pragmas.specs.declared.readings.Rule.{Rule}
-use Rattle.pragmas.specs.declared.readings.Rule.the-variants.{TsSelfTypes, JsxImportSource, JsxImportSourceTypes, SourceMapUrl, TsTypes, DenoTypes}
+use Rattle.pragmas.specs.declared.readings.Rule.the-variants.{TsSelfTypes, JsxImportSource, JsxImportSourceTypes, SourceMapUrl, StandardSourceMap, TsTypes, DenoTypes}
 use Rattle.pragmas.specs.declared.readings.Reading.{Reading}
 use Rattle.pragmas.specs.declared.readings.Reading.the-variants as reading
 use Rattle.pragmas.specs.declared.references.Reference.{Reference}
 use Rattle.pragmas.specs.declared.references.Reference.the-variants as reference
-use Rattle.pragmas.specs.Readings.{specifierIn, readBy}
+use Rattle.pragmas.specs.Readings.{specifierIn, onFound}
 
--- the pattern of a rule
-abbrev pub rowOf : Rule → Row
-rowOf TsSelfTypes = tsSelfTypesRow
-rowOf JsxImportSource = jsxImportSourceRow
-rowOf JsxImportSourceTypes = jsxImportSourceTypesRow
-rowOf SourceMapUrl = sourceMappingUrlRow
-rowOf TsTypes = tsTypesRow
-rowOf DenoTypes = denoTypesRow
+-- what a rule finds in a body
+abbrev pub findRule : Rule → List ℕ → Found
+findRule TsSelfTypes = find tsSelfTypesRow
+findRule JsxImportSource = find jsxImportSourceRow
+findRule JsxImportSourceTypes = find jsxImportSourceTypesRow
+findRule SourceMapUrl = find sourceMappingUrlRow
+findRule StandardSourceMap = findSourceMap
+findRule TsTypes = find tsTypesRow
+findRule DenoTypes = find denoTypesRow
 
 -- whether it takes comments of a kind
 abbrev pub takes : Rule → CommentKind → Bool
@@ -41,12 +44,13 @@ takes TsSelfTypes kind = true
 takes JsxImportSource kind = eqb (kindNumber kind) (kindNumber Block)
 takes JsxImportSourceTypes kind = eqb (kindNumber kind) (kindNumber Block)
 takes SourceMapUrl kind = true
+takes StandardSourceMap kind = true
 takes TsTypes kind = true
 takes DenoTypes kind = true
 
 -- the specifier that it reads in a comment
 abbrev pub readRule : Rule → List ℕ → Comment → Option SpecifierWithRange
-readRule rule source c = cond (takes rule (c .kind)) (readBy (rowOf rule) source c) Option.none
+readRule rule source c = cond (takes rule (c .kind)) (onFound (specifierIn source c) (findRule rule (body source c))) Option.none
 
 -- the capture and its marks lie in the body of a comment of the source
 pub record CaptureIn (source : List ℕ) (c : Comment) (k : Capture) : Type 0 where

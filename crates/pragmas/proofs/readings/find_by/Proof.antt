@@ -15,10 +15,13 @@ returns-4 : tie.Need-returns-4
 returns-4 c = rw (c .before .enum-told4 .given .1) (c .find-source-mapping-url .ensures)
 
 returns-5 : tie.Need-returns-5
-returns-5 c = rw (c .before .enum-told5 .given .1) (c .find-ts-types .ensures)
+returns-5 c = let found = c .find-source-map .ensures in rw (c .before .enum-told5 .given .1) (found .0, found .1 .1)
 
 returns-6 : tie.Need-returns-6
-returns-6 c = rw (c .before .enum-told6 .given .1) (c .find-deno-types .ensures)
+returns-6 c = rw (c .before .enum-told6 .given .1) (c .find-ts-types .ensures)
+
+returns-7 : tie.Need-returns-7
+returns-7 c = rw (c .before .enum-told7 .given .1) (c .find-deno-types .ensures)
 
 pub find-by-spec : {M : Type 1} → statement M
 find-by-spec =
@@ -36,9 +39,12 @@ find-by-spec =
     (λ c κs. search needs)
     (λ c. search needs)
     (λ c κs. search needs)
+    (λ c. search needs)
+    (λ c κs. search needs)
     returns
     returns-2
     returns-3
     returns-4
     returns-5
-    returns-6)
+    returns-6
+    returns-7)

@@ -2,7 +2,6 @@ use borrow.Author.Needs.{needs}
 use Rattle.laws.proofs.Steps.{known}
 use Rattle.sheet.proofs.Members.{placed-within}
 use Rattle.sheet.proofs.Marks.{holds-marks}
-use Rattle.pragmas.specs.Readings.{readBy}
 use Rattle.pragmas.proofs.readings.read.Statement.{statement}
 use Rattle.pragmas.proofs.readings.read.Tie as tie
 
@@ -10,7 +9,6 @@ body-requires : tie.Need-body-requires
 body-requires c κs = let placed = c .before .before .before .pre in (holds-marks _ _ placed, placed-within _ _ placed)
 
 returns : tie.Need-returns
-unfolding readBy
 returns c = (
   rw (
     known (c .before .before .before .before .before .before .takes .ensures) (c .before .before .before .before .before .if1 .taken),
@@ -21,7 +19,6 @@ returns c = (
 )
 
 returns-2 : tie.Need-returns-2
-unfolding readBy
 returns-2 c = (
   rw (
     known (c .before .before .before .before .before .takes .ensures) (c .before .before .before .before .if1 .taken),

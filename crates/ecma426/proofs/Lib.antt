@@ -1,0 +1,4 @@
+pub mod Agrees
+pub mod Boundaries
+pub mod Rows
+pub mod WhiteSpace

@@ -1,0 +1,23 @@
+use borrow.Author.Needs.{needs}
+use mathlib.Core.Path.{refl, sym, _∙_}
+use mathlib.Core.Bool.{false≢true}
+use mathlib.Core.Logic.{inl, inr, ⊎-elim}
+use native.Mathlib.Omega.{arith}
+use Rattle.ecma426.proofs.WhiteSpace.{answers}
+use Rattle.ecma426.proofs.is_space.Statement.{statement}
+use Rattle.ecma426.proofs.is_space.Tie as tie
+
+returns : tie.Need-returns
+returns c = answers (λ e. inr (c .if1 .taken)) (λ u. refl)
+
+returns-2 : tie.Need-returns-2
+returns-2 c = answers (λ e. absurd (false≢true e)) (⊎-elim (λ (w, n). absurd (n (c .if2 .taken))) (λ e. absurd (omega (arith, e, c .if2 .taken))))
+
+returns-3 : tie.Need-returns-3
+returns-3 c =
+    answers
+    (λ e. inl (sym (c .is-white-space .ensures) ∙ e, c .before .if2 .left))
+    (⊎-elim (λ (w, n). c .is-white-space .ensures ∙ w) (λ e. absurd (c .before .before .if1 .left e)))
+
+pub is-space-spec : {M : Type 1} → statement M
+is-space-spec = tie.close (tie.spec returns returns-2 (λ c κs. search needs) returns-3)

@@ -1,0 +1,26 @@
+use borrow.Author.Needs.{needs}
+use native.Mathlib.Omega.{arith}
+use mathlib.Core.Path.{_≡_}
+use lib.ListN.{drop, length-drop}
+use denote.Ref.{now}
+use Rattle.laws.proofs.Steps.{known}
+use Rattle.ecma426.specs.Reader.{oneAt}
+use Rattle.ecma426.proofs.Rows.{one-fits}
+use Rattle.ecma426.proofs.one_at.Statement.{statement}
+use Rattle.ecma426.proofs.one_at.Tie as tie
+
+returns : tie.Need-returns
+unfolding oneAt
+returns c =
+    let a = c .before .before .before .before .args in
+    let t = drop (a .at) (now (a .s)) in
+    let e : c .before .before .char-at .result .len ≡ oneAt (a .kind) t =
+    rw (← c .before .before .char-at .ensures, known (c .before .is-of .ensures) (c .if1 .taken)) in
+    (e, omega (arith, one-fits (a .kind) t, length-drop (a .at) (now (a .s))))
+
+returns-2 : tie.Need-returns-2
+unfolding oneAt
+returns-2 c = (rw (← c .before .before .char-at .ensures, known (c .before .is-of .ensures) (c .if1 .left)), omega arith)
+
+pub one-at-spec : {M : Type 1} → statement M
+one-at-spec = tie.close (tie.spec (λ c κs. search needs) (λ c κs. search needs) returns returns-2)

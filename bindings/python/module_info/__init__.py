@@ -35,7 +35,7 @@ from .analysis import (
     TypesReference,
 )
 from .citation import Line, citation, lines
-from .decode import decode
+from .decode import decode, source_of
 from .json_form import to_json
 from .library import module_info, source_map
 from .refusal import MEANINGS, Refused
@@ -65,5 +65,6 @@ __all__ = [
     "lines",
     "module_info",
     "source_map",
+    "source_of",
     "to_json",
 ]

@@ -8,7 +8,7 @@ standard error says; 2 if the use is wrong, or reading or writing failed.
 import sys
 from typing import List
 
-from . import Refused, citation, module_info, to_json
+from . import Refused, citation, module_info, source_of, to_json
 
 LONGEST = 65_537
 
@@ -28,8 +28,9 @@ def main(arguments: List[str]) -> int:
     status = 0
     for name in arguments[1:]:
         try:
-            info = module_info(read(name))
-            out = citation(info) if arguments[0] == "cite" else to_json(info) + "\n"
+            sheet = read(name)
+            info = module_info(sheet)
+            out = citation(info, source_of(sheet)) if arguments[0] == "cite" else to_json(info) + "\n"
         except Refused as refusal:
             print(f"module_info: {name}: {refusal}", file=sys.stderr)
             status = 1

@@ -10,11 +10,14 @@ from .analysis import ModuleInfo, Position, PositionRange, SpecifierWithRange, S
 class Line:
     letter: str
     range: PositionRange
+    """As the report has it: columns count characters."""
     text: Optional[str]
     """None where a dependency has no single text."""
 
-    def __str__(self) -> str:
-        return f"{self.letter} {_place(self.range.start)}-{_place(self.range.end)} {_printed(self.text)}"
+    def printed(self, source: str) -> str:
+        """The line over the source, without its end: columns count UTF-16 code units."""
+        rows = source.split("\n")
+        return f"{self.letter} {_place(self.range.start, rows)}-{_place(self.range.end, rows)} {_printed(self.text)}"
 
 
 def lines(info: ModuleInfo) -> List[Line]:
@@ -42,14 +45,15 @@ def lines(info: ModuleInfo) -> List[Line]:
     return found
 
 
-def citation(info: ModuleInfo) -> str:
-    """What `cite` prints."""
+def citation(info: ModuleInfo, source: str) -> str:
+    """What `cite` prints of a sheet with this source."""
     found = lines(info)
-    return f"module {len(found)}\n" + "".join(f"{line}\n" for line in found)
+    return f"module {len(found)}\n" + "".join(f"{line.printed(source)}\n" for line in found)
 
 
-def _place(p: Position) -> str:
-    return f"{p.line + 1}:{p.character + 1}"
+def _place(p: Position, rows: List[str]) -> str:
+    units = len(rows[p.line][: p.character].encode("utf-16-le")) // 2
+    return f"{p.line + 1}:{units + 1}"
 
 
 def _printed(text: Optional[str]) -> str:

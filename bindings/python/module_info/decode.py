@@ -45,6 +45,15 @@ def decode(report: bytes) -> ModuleInfo:
     return info
 
 
+def source_of(sheet: bytes) -> str:
+    """The source of an accepted sheet, which stands behind its media byte; no bytes have none."""
+    if not sheet:
+        return ""
+    reader = _Reader(sheet)
+    reader.take(1)
+    return reader.text()
+
+
 class _Reader:
     def __init__(self, report: bytes) -> None:
         self.bytes = report

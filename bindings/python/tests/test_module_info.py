@@ -13,7 +13,7 @@ import unittest
 from pathlib import Path
 
 import module_info as package
-from module_info import ModuleInfo, Position, Refused, citation, decode, module_info, source_map, to_json
+from module_info import ModuleInfo, Position, Refused, citation, decode, module_info, source_map, source_of, to_json
 from module_info.library import report
 
 ROOT = Path(__file__).resolve().parents[3]
@@ -71,14 +71,14 @@ class Answers(unittest.TestCase):
         for sheet in EXAMPLES:
             with self.subTest(sheet=sheet.name):
                 info = module_info(sheet.read_bytes())
-                self.assertEqual(citation(info), sheet.with_suffix(".citation").read_text("utf-8"))
+                self.assertEqual(citation(info, source_of(sheet.read_bytes())), sheet.with_suffix(".citation").read_text("utf-8"))
                 self.assertEqual(to_json(info) + "\n", sheet.with_suffix(".json").read_text("utf-8"))
 
     def test_no_bytes(self):
         """The default information, in eight zero bytes."""
         info = module_info(b"")
         self.assertEqual(report(b""), bytes(8))
-        self.assertEqual((info, citation(info), to_json(info)), (decode(bytes(8)), "module 0\n", "{}"))
+        self.assertEqual((info, citation(info, source_of(b"")), to_json(info)), (decode(bytes(8)), "module 0\n", "{}"))
         for size in 0, 7:
             with self.assertRaises(Refused) as refused:
                 report(b"", size)

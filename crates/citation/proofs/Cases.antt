@@ -1,4 +1,4 @@
--- Reports byte by byte, with the lines that are printed for them.
+-- Sources and reports byte by byte, with the lines that are printed for them.
 use mathlib.Core.Path.{_≡_, refl}
 use mathlib.Core.List.{List, [], _∷_, _++_, map, flatMap}
 use Prim.Native.Nat.{ℕ}
@@ -9,20 +9,28 @@ use Rattle.wire.specs.Fields.{byte, below, numbered, flag, bytes}
 use Rattle.wire.specs.Number.{lastGroup, groups, number}
 use Rattle.wire.specs.Optional.{optional}
 use Rattle.report.specs.Decode.{times, list, text, position, range, specifier, reference, jsDoc, keyValue, attributes, argument, rest, dependency, report}
+use Rattle.citation.specs.Columns.{fromLine, foursIn, recounted}
 use Rattle.citation.specs.Citation.{digits, escaped, citePosition, citeRange, printed, lines, title, citation, refusal}
 
 -- lines, each with its end
 abbrev rows : List String → List ℕ
 rows l = flatMap (λ r. ascii r ++ (0x0A ∷ [])) l
 
-abbrev cases : List (List ℕ × List String)
+abbrev cases : List (List ℕ × List ℕ × List String)
 cases =
-    (0 ∷ 0 ∷ 0 ∷ 0 ∷ 0 ∷ 0 ∷ 0 ∷ 0 ∷ [], "module 0" ∷ [])
+    ([], 0 ∷ 0 ∷ 0 ∷ 0 ∷ 0 ∷ 0 ∷ 0 ∷ 0 ∷ [], "module 0" ∷ [])
     ∷ (
+      [],
       0 ∷ 0 ∷ 0 ∷ 0 ∷ 0 ∷ 0 ∷ 1 ∷ 1 ∷ 6 ∷ 0x2E ∷ 0x2F ∷ 0x61 ∷ 0x2E ∷ 0x74 ∷ 0x73 ∷ 0 ∷ 12 ∷ 0 ∷ 20 ∷ 0 ∷ 0 ∷ [],
       "module 1" ∷ "J 1:13-1:21 ./a.ts" ∷ [],
     )
     ∷ (
+      0x0A ∷ 0xC3 ∷ 0xA9 ∷ 0xF0 ∷ 0x9F ∷ 0x98 ∷ 0x80 ∷ 0xE2 ∷ 0x82 ∷ 0xAC ∷ 0x61 ∷ [],  -- a line of four characters, the second of four bytes
+      0 ∷ 0 ∷ 0 ∷ 0 ∷ 0 ∷ 0 ∷ 1 ∷ 1 ∷ 1 ∷ 0x61 ∷ 1 ∷ 1 ∷ 1 ∷ 4 ∷ 0 ∷ 0 ∷ [],
+      "module 1" ∷ "J 2:2-2:6 a" ∷ [],
+    )
+    ∷ (
+      [],
       0 ∷ 3  -- dependencies
           ∷ 0 ∷ 1 ∷ 1 ∷ 0x74 ∷ 0 ∷ 1 ∷ 0 ∷ 4  -- Import, with types
           ∷ 4 ∷ 0x5C ∷ 7 ∷ 127 ∷ 0x65 ∷ 9 ∷ 7 ∷ 9 ∷ 0xC8 ∷ 0x01 ∷ 0 ∷ 0  -- a backslash, 7, 127, `e`
@@ -50,7 +58,7 @@ cases =
     )
     ∷ []
 
-as-stated : (map (λ c. onOk citation (report (c .0))) cases ≡ map (λ c. ok (rows (c .1)) []) cases) × (refusal 10 ≡ rows ("refused 10" ∷ []))
+as-stated : (map (λ c. onOk (citation (c .0)) (report (c .1))) cases ≡ map (λ c. ok (rows (c .2)) []) cases) × (refusal 10 ≡ rows ("refused 10" ∷ []))
 unfolding byte below numbered flag bytes lastGroup groups number flatMap optional times list text position range specifier reference jsDoc keyValue attributes argument rest
-    dependency report digits escaped citePosition citeRange printed lines title citation refusal
+    dependency report fromLine foursIn recounted digits escaped citePosition citeRange printed lines title citation refusal
 as-stated = (refl, refl)

@@ -20,7 +20,9 @@ use Rattle.wire.specs.Optional.{encodeOptional}
 use Rattle.report.specs.ModuleInfo.{PositionRange, SpecifierWithRange, DynamicArgument, expr, string, template, path, types, static, dynamic, TypeScriptReference, JsDocImportInfo, DependencyDescriptor, ModuleInfo}
 use Rattle.report.specs.Encode.{encodeList, encodePosition, encodeRange, encodeSpecifier, encodeReference, encodeJsDoc, encodeArgument, encodeStatic, encodeDynamic, encodeDependency, encode}
 use Rattle.report.specs.Valid.{ValidPosition, ValidRange, ValidSpecifier, ValidReference, ValidJsDoc, ValidDependency, Valid}
+use Rattle.citation.specs.Columns.{fromLine, foursIn, recounted, recountedRange}
 use Rattle.citation.specs.Citation.{digits, decimal, hexDigit, isEscaped, escaped, citePosition, citeRange, Line, printed, citeSpecifier, citeOptional, argumentText, citeArgument, citeReference, citeJsDoc, citeDependency, lines, title, citation, refusal}
+use Rattle.citation.proofs.Fours.{fours-most}
 
 digits-short : (k places n : ℕ) → n < 10 ^ suc k → length (digits places n) ≤ suc k
 unfolding digits
@@ -66,37 +68,29 @@ number-long n = by-size (ltb n 128)
     by-size true = omega arith
     by-size false = omega arith
 
--- a number from 1 has at most three digits for each group
-number-short : (n : ℕ) → n ≤ largest → length (decimal (n + 1)) ≤ 3 * length (encodeNumber n)
+-- up to twice a number, counted from 1, has at most three digits for each of the number's groups
+number-short : (n m : ℕ) → n ≤ largest → m ≤ 2 * n → length (decimal (m + 1)) ≤ 3 * length (encodeNumber n)
 unfolding encodeNumber
-number-short n v = first (ltb n 128) refl
+number-short n m v most = first (ltb n 128) refl
   where
-    within : (j k : ℕ) → j < 5 → 128 ^ j ≤ n → n + 1 < 10 ^ suc k → suc k ≤ 3 * suc j → length (decimal (n + 1)) ≤ 3 * length (encodeGroups 5 n)
-    within j k l h less few = omega (arith, digits-short k 20 (n + 1) less, groups-long 5 j n l h)
+    within : (j k : ℕ) → j < 5 → 128 ^ j ≤ n → m + 1 < 10 ^ suc k → suc k ≤ 3 * suc j → length (decimal (m + 1)) ≤ 3 * length (encodeGroups 5 n)
+    within j k l h less few = omega (arith, digits-short k 20 (m + 1) less, groups-long 5 j n l h)
 
-    fourth : (b : Bool) → ltb n 268435456 ≡ b → 2097152 ≤ n → length (decimal (n + 1)) ≤ 3 * length (encodeGroups 5 n)
+    fourth : (b : Bool) → ltb n 268435456 ≡ b → 2097152 ≤ n → length (decimal (m + 1)) ≤ 3 * length (encodeGroups 5 n)
     fourth true e h = within 3 11 (omega arith) h (omega (arith, ltb-true n 268435456 e)) (omega arith)
     fourth false e h = within 4 14 (omega arith) (ltb-false n 268435456 e) (omega arith) (omega arith)
 
-    third : (b : Bool) → ltb n 2097152 ≡ b → 16384 ≤ n → length (decimal (n + 1)) ≤ 3 * length (encodeGroups 5 n)
+    third : (b : Bool) → ltb n 2097152 ≡ b → 16384 ≤ n → length (decimal (m + 1)) ≤ 3 * length (encodeGroups 5 n)
     third true e h = within 2 8 (omega arith) h (omega (arith, ltb-true n 2097152 e)) (omega arith)
     third false e h = fourth (ltb n 268435456) refl (ltb-false n 2097152 e)
 
-    second : (b : Bool) → ltb n 16384 ≡ b → 128 ≤ n → length (decimal (n + 1)) ≤ 3 * length (encodeGroups 5 n)
+    second : (b : Bool) → ltb n 16384 ≡ b → 128 ≤ n → length (decimal (m + 1)) ≤ 3 * length (encodeGroups 5 n)
     second true e h = within 1 5 (omega arith) h (omega (arith, ltb-true n 16384 e)) (omega arith)
     second false e h = third (ltb n 2097152) refl (ltb-false n 16384 e)
 
-    first : (b : Bool) → ltb n 128 ≡ b → length (decimal (n + 1)) ≤ 3 * length (encodeGroups 5 n)
-    first true e = omega (arith, digits-short 2 20 (n + 1) (omega (arith, ltb-true n 128 e)), number-long n)
+    first : (b : Bool) → ltb n 128 ≡ b → length (decimal (m + 1)) ≤ 3 * length (encodeGroups 5 n)
+    first true e = omega (arith, digits-short 2 20 (m + 1) (omega (arith, ltb-true n 128 e)), number-long n)
     first false e = second (ltb n 16384) refl (ltb-false n 128 e)
-
-position-short : (p : Position) → ValidPosition p → length (citePosition p) ≤ 3 * length (encodePosition p) + 1
-unfolding citePosition encodePosition
-position-short p v = simp length-append (omega (arith, number-short (p .line) (v .line), number-short (p .column) (v .column)))
-
-range-short : (r : PositionRange) → ValidRange r → length (citeRange r) ≤ 3 * length (encodeRange r) + 3
-unfolding citeRange encodeRange
-range-short r v = simp length-append (omega (arith, position-short (r .start) (v .start), position-short (r .end) (v .end)))
 
 range-long : (r : PositionRange) → 4 ≤ length (encodeRange r)
 unfolding encodeRange encodePosition
@@ -115,91 +109,103 @@ unfolding flatMap
 text-short [] = omega arith
 text-short (b ∷ x) = rw length-append (omega (arith, byte-short b, text-short x))
 
--- a line, for the range and the text that it has
-line-short : (l : Line) → ValidRange (l .range) → length (printed l) ≤ 7 + 3 * length (encodeRange (l .range)) + 4 * length (l .text)
-unfolding printed
-line-short l v = simp length-append (omega (arith, range-short (l .range) v, text-short (l .text)))
-
--- lines are at most four times as long as the bytes
-abbrev Short : List Line → List ℕ → Type 0
-Short ls bytes = length (flatMap printed ls) ≤ 4 * length bytes
-
-specifier-short : (letter : ℕ) (s : SpecifierWithRange) → ValidSpecifier s → Short (citeSpecifier letter s) (encodeSpecifier s)
-unfolding flatMap encodeSpecifier encodeText
-specifier-short letter s v =
-    let line = line-short (record { letter = letter; range = s .range; text = s .text }) (v .range) in
-    simp length-append (omega (arith, line, range-long (s .range), number-long (length (s .text))))
-
--- and the byte before an optional thing, or a count, is left over
-optional-short : (letter : ℕ) (o : Option SpecifierWithRange) → IfThere ValidSpecifier o
-    → length (flatMap printed (citeOptional letter o)) + 4 ≤ 4 * length (encodeOptional encodeSpecifier o)
-unfolding flatMap encodeOptional
-optional-short letter Option.none v = omega arith
-optional-short letter (Option.some s) v = omega (arith, specifier-short letter s v)
-
-list-short : {A : Type 0} (f : A → List Line) (encode : A → List ℕ) (P : A → Type 0) → ((a : A) → P a → Short (f a) (encode a))
-    → (l : List A) → All P l → length (flatMap printed (flatMap f l)) + 4 ≤ 4 * length (encodeList encode l)
-unfolding encodeList flatMap
-list-short {A} f encode P h l v = rw length-append (omega (arith, items l v, number-long (length l)))
-  where
-    items : (l : List A) → All P l → Short (flatMap f l) (flatMap encode l)
-    items [] v = omega arith
-    items (a ∷ l) v = simp (flatMap-append, length-append) (omega (arith, h a (v .0), items l (v .1)))
-
-reference-short : (x : TypeScriptReference) → ValidReference x → Short (citeReference x) (encodeReference x)
-unfolding encodeReference
-reference-short (path s) v = omega (arith, specifier-short (code "R") s v)
-reference-short (types s mode) v = simp length-append (omega (arith, specifier-short (code "R") s v))
-
-jsdoc-short : (i : JsDocImportInfo) → ValidJsDoc i → Short (citeJsDoc i) (encodeJsDoc i)
-unfolding encodeJsDoc
-jsdoc-short i v = simp length-append (omega (arith, specifier-short (code "J") (i .specifier) v))
-
-argument-short : (x : DynamicArgument) (r : PositionRange) → ValidRange r
-    → length (flatMap printed (citeArgument x r)) ≤ 4 * (length (encodeArgument x) + length (encodeRange r) + 1)
-unfolding flatMap encodeArgument encodeText
-argument-short x r v = by-kind x (line-short (record { letter = code "D"; range = r; text = argumentText x }) v)
-  where
-    by-kind : (x : DynamicArgument) → length (printed (record { letter = code "D"; range = r; text = argumentText x })) ≤ 7 + 3 * length (encodeRange r) + 4 * length (argumentText x)
-        → length (flatMap printed (citeArgument x r)) ≤ 4 * (length (encodeArgument x) + length (encodeRange r) + 1)
-    by-kind expr h = simp length-append (omega (arith, range-long r))
-    by-kind (string y) h = simp length-append (omega (arith, range-long r))
-    by-kind (template l) h = simp length-append (omega (arith, range-long r))
-
-dependency-short : (d : DependencyDescriptor) → ValidDependency d → Short (citeDependency d) (encodeDependency d)
-unfolding encodeDependency encodeStatic encodeDynamic
-dependency-short (static d) v =
-    rw (flatMap-append printed (citeSpecifier (code "D") (d .specifier)) (citeOptional (code "T") (d .typesSpecifier)))
-    (simp length-append (omega (arith, specifier-short (code "D") (d .specifier) (v .specifier), optional-short (code "T") (d .typesSpecifier) (v .typesSpecifier))))
-dependency-short (dynamic d) v =
-    rw (flatMap-append printed (citeArgument (d .argument) (d .argumentRange)) (citeOptional (code "T") (d .typesSpecifier)))
-    (simp length-append (omega (arith, argument-short (d .argument) (d .argumentRange) (v .argumentRange), optional-short (code "T") (d .typesSpecifier) (v .typesSpecifier))))
-
--- every report has eight bytes, a flag, the counts and what stands before each optional thing
-lines-short : (m : ModuleInfo) → Valid m → length (flatMap printed (lines m)) + 32 ≤ 4 * length (encode m)
-unfolding lines encode
-lines-short m v =
-    simp (flatMap-append, length-append)
-    (omega (
-      arith,
-      list-short citeDependency encodeDependency ValidDependency dependency-short (m .dependencies) (v .dependencies .1),
-      list-short citeReference encodeReference ValidReference reference-short (m .tsReferences) (v .tsReferences .1),
-      optional-short (code "S") (m .selfTypesSpecifier) (v .selfTypesSpecifier),
-      optional-short (code "X") (m .jsxImportSource) (v .jsxImportSource),
-      optional-short (code "Y") (m .jsxImportSourceTypes) (v .jsxImportSourceTypes),
-      list-short citeJsDoc encodeJsDoc ValidJsDoc jsdoc-short (m .jsdocImports) (v .jsdocImports .1),
-      optional-short (code "M") (m .sourceMapUrl) (v .sourceMapUrl),
-    ))
-
 title-short : (word : List ℕ) (n k : ℕ) → length (decimal n) ≤ k → length (title word n) ≤ length word + k + 1
 unfolding title
 title-short word n k h = simp length-append (omega arith)
 
-pub citation-short : (m : ModuleInfo) → Valid m → length (citation m) ≤ 4 * length (encode m)
-unfolding citation
-citation-short m v =
-    rw length-append
-    (omega (arith, lines-short m v, title-short (ascii "module ") (length (lines m)) 20 (digits-most 20 (length (lines m)))))
+-- over a source, by which the positions are recounted
+module _ (source : List ℕ) where
+  position-short : (p : Position) → ValidPosition p → length (citePosition (recounted source p)) ≤ 3 * length (encodePosition p) + 1
+  unfolding citePosition encodePosition recounted
+  position-short p v =
+      let fours = fours-most (p .column) (fromLine (p .line) source) in
+      simp length-append (omega (arith, number-short (p .line) (p .line) (v .line) (omega arith), number-short (p .column) (p .column + foursIn (p .column) (fromLine (p .line) source)) (v .column) (omega arith)))
+
+  range-short : (r : PositionRange) → ValidRange r → length (citeRange (recountedRange source r)) ≤ 3 * length (encodeRange r) + 3
+  unfolding citeRange encodeRange
+  range-short r v = simp length-append (omega (arith, position-short (r .start) (v .start), position-short (r .end) (v .end)))
+
+  -- a line, for the range and the text that it has
+  line-short : (l : Line) → ValidRange (l .range) → length (printed source l) ≤ 7 + 3 * length (encodeRange (l .range)) + 4 * length (l .text)
+  unfolding printed
+  line-short l v = simp length-append (omega (arith, range-short (l .range) v, text-short (l .text)))
+
+  -- lines are at most four times as long as the bytes
+  abbrev Short : List Line → List ℕ → Type 0
+  Short ls bytes = length (flatMap (printed source) ls) ≤ 4 * length bytes
+
+  specifier-short : (letter : ℕ) (s : SpecifierWithRange) → ValidSpecifier s → Short (citeSpecifier letter s) (encodeSpecifier s)
+  unfolding flatMap encodeSpecifier encodeText
+  specifier-short letter s v =
+      let line = line-short (record { letter = letter; range = s .range; text = s .text }) (v .range) in
+      simp length-append (omega (arith, line, range-long (s .range), number-long (length (s .text))))
+
+  -- and the byte before an optional thing, or a count, is left over
+  optional-short : (letter : ℕ) (o : Option SpecifierWithRange) → IfThere ValidSpecifier o
+      → length (flatMap (printed source) (citeOptional letter o)) + 4 ≤ 4 * length (encodeOptional encodeSpecifier o)
+  unfolding flatMap encodeOptional
+  optional-short letter Option.none v = omega arith
+  optional-short letter (Option.some s) v = omega (arith, specifier-short letter s v)
+
+  list-short : {A : Type 0} (f : A → List Line) (encode : A → List ℕ) (P : A → Type 0) → ((a : A) → P a → Short (f a) (encode a))
+      → (l : List A) → All P l → length (flatMap (printed source) (flatMap f l)) + 4 ≤ 4 * length (encodeList encode l)
+  unfolding encodeList flatMap
+  list-short {A} f encode P h l v = rw length-append (omega (arith, items l v, number-long (length l)))
+    where
+      items : (l : List A) → All P l → Short (flatMap f l) (flatMap encode l)
+      items [] v = omega arith
+      items (a ∷ l) v = simp (flatMap-append, length-append) (omega (arith, h a (v .0), items l (v .1)))
+
+  reference-short : (x : TypeScriptReference) → ValidReference x → Short (citeReference x) (encodeReference x)
+  unfolding encodeReference
+  reference-short (path s) v = omega (arith, specifier-short (code "R") s v)
+  reference-short (types s mode) v = simp length-append (omega (arith, specifier-short (code "R") s v))
+
+  jsdoc-short : (i : JsDocImportInfo) → ValidJsDoc i → Short (citeJsDoc i) (encodeJsDoc i)
+  unfolding encodeJsDoc
+  jsdoc-short i v = simp length-append (omega (arith, specifier-short (code "J") (i .specifier) v))
+
+  argument-short : (x : DynamicArgument) (r : PositionRange) → ValidRange r
+      → length (flatMap (printed source) (citeArgument x r)) ≤ 4 * (length (encodeArgument x) + length (encodeRange r) + 1)
+  unfolding flatMap encodeArgument encodeText
+  argument-short x r v = by-kind x (line-short (record { letter = code "D"; range = r; text = argumentText x }) v)
+    where
+      by-kind : (x : DynamicArgument) → length (printed source (record { letter = code "D"; range = r; text = argumentText x })) ≤ 7 + 3 * length (encodeRange r) + 4 * length (argumentText x)
+          → length (flatMap (printed source) (citeArgument x r)) ≤ 4 * (length (encodeArgument x) + length (encodeRange r) + 1)
+      by-kind expr h = simp length-append (omega (arith, range-long r))
+      by-kind (string y) h = simp length-append (omega (arith, range-long r))
+      by-kind (template l) h = simp length-append (omega (arith, range-long r))
+
+  dependency-short : (d : DependencyDescriptor) → ValidDependency d → Short (citeDependency d) (encodeDependency d)
+  unfolding encodeDependency encodeStatic encodeDynamic
+  dependency-short (static d) v =
+      rw (flatMap-append (printed source) (citeSpecifier (code "D") (d .specifier)) (citeOptional (code "T") (d .typesSpecifier)))
+      (simp length-append (omega (arith, specifier-short (code "D") (d .specifier) (v .specifier), optional-short (code "T") (d .typesSpecifier) (v .typesSpecifier))))
+  dependency-short (dynamic d) v =
+      rw (flatMap-append (printed source) (citeArgument (d .argument) (d .argumentRange)) (citeOptional (code "T") (d .typesSpecifier)))
+      (simp length-append (omega (arith, argument-short (d .argument) (d .argumentRange) (v .argumentRange), optional-short (code "T") (d .typesSpecifier) (v .typesSpecifier))))
+
+  -- every report has eight bytes, a flag, the counts and what stands before each optional thing
+  lines-short : (m : ModuleInfo) → Valid m → length (flatMap (printed source) (lines m)) + 32 ≤ 4 * length (encode m)
+  unfolding lines encode
+  lines-short m v =
+      simp (flatMap-append, length-append)
+      (omega (
+        arith,
+        list-short citeDependency encodeDependency ValidDependency dependency-short (m .dependencies) (v .dependencies .1),
+        list-short citeReference encodeReference ValidReference reference-short (m .tsReferences) (v .tsReferences .1),
+        optional-short (code "S") (m .selfTypesSpecifier) (v .selfTypesSpecifier),
+        optional-short (code "X") (m .jsxImportSource) (v .jsxImportSource),
+        optional-short (code "Y") (m .jsxImportSourceTypes) (v .jsxImportSourceTypes),
+        list-short citeJsDoc encodeJsDoc ValidJsDoc jsdoc-short (m .jsdocImports) (v .jsdocImports .1),
+        optional-short (code "M") (m .sourceMapUrl) (v .sourceMapUrl),
+      ))
+
+  pub citation-short : (m : ModuleInfo) → Valid m → length (citation source m) ≤ 4 * length (encode m)
+  unfolding citation
+  citation-short m v =
+      rw length-append
+      (omega (arith, lines-short m v, title-short (ascii "module ") (length (lines m)) 20 (digits-most 20 (length (lines m)))))
 
 pub refusal-short : (n : ℕ) → n < 1000 → length (refusal n) ≤ 12
 unfolding refusal

@@ -1,3 +1,7 @@
+mod Fours
+mod Recounts
+mod Apart
+pub mod Right
 pub mod Lengths
 mod Digits
 mod Printing

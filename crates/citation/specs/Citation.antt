@@ -9,6 +9,7 @@ use lib.ListN.{length}
 use Rattle.laws.specs.Quoted.{ascii}
 use Rattle.text.specs.declared.position.Position.{Position}
 use Rattle.report.specs.ModuleInfo.{PositionRange, SpecifierWithRange, TypeScriptReference, path, types, JsDocImportInfo, DynamicArgument, expr, string, template, DependencyDescriptor, static, dynamic, ModuleInfo}
+use Rattle.citation.specs.Columns.{recountedRange}
 
 -- the decimal digits of a number, of at most so many places
 unfoldable pub digits : ℕ → ℕ → List ℕ
@@ -38,15 +39,15 @@ citePosition p = decimal (p .line + 1) ++ (code ":" ∷ decimal (p .column + 1))
 unfoldable pub citeRange : PositionRange → List ℕ
 citeRange r = citePosition (r .start) ++ (code "-" ∷ citePosition (r .end))
 
--- a line of a citation
+-- a line of a citation, with the report's range
 pub record Line : Type 0 where
   pub letter : ℕ
   pub range : PositionRange
   pub text : List ℕ
 
--- letter, space, range, space, text
-unfoldable pub printed : Line → List ℕ
-printed l = l .letter ∷ code " " ∷ (citeRange (l .range) ++ (code " " ∷ (flatMap escaped (l .text) ++ (0x0A ∷ []))))
+-- letter, space, range, space, text; both columns count UTF-16 code units of the source
+unfoldable pub printed : List ℕ → Line → List ℕ
+printed source l = l .letter ∷ code " " ∷ (citeRange (recountedRange source (l .range)) ++ (code " " ∷ (flatMap escaped (l .text) ++ (0x0A ∷ []))))
 
 abbrev pub citeSpecifier : ℕ → SpecifierWithRange → List Line
 citeSpecifier letter s = record { letter = letter; range = s .range; text = s .text } ∷ []
@@ -94,9 +95,9 @@ lines m =
 unfoldable pub title : List ℕ → ℕ → List ℕ
 title word n = word ++ (decimal n ++ (0x0A ∷ []))
 
--- all that is printed for a report
-unfoldable pub citation : ModuleInfo → List ℕ
-citation m = title (ascii "module ") (length (lines m)) ++ flatMap printed (lines m)
+-- all that is printed for a report, over the source
+unfoldable pub citation : List ℕ → ModuleInfo → List ℕ
+citation source m = title (ascii "module ") (length (lines m)) ++ flatMap (printed source) (lines m)
 
 -- all that is printed for a refusal
 unfoldable pub refusal : ℕ → List ℕ

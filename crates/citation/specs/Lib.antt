@@ -1,2 +1,4 @@
+pub mod Columns
 pub mod Citation
+pub mod Right
 pub mod code

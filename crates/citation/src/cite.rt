@@ -1,4 +1,5 @@
 // The citation of a report, read from its front and written line by line.
+use super::columns::last_four;
 use super::lines::put_line;
 use super::lines::put_title;
 use report::names::DependencyKind;
@@ -43,40 +44,55 @@ pub enum Kind {
 // Cites a text that is given, with the range that is read.
 fn cite_range(
     report: &[u8],
+    source: &[u8],
     at: usize,
     letter: u8,
     text: &[u8],
     out: &mut [u8],
     place: Place,
 ) -> Cited
-    ensures { λ r. ⌜ Cites encodeRange ValidRange (now (report .entry)) at
+    ensures { λ r. ⌜ Cites encodeRange ValidRange (now (report .entry)) (now (source .entry)) at
         (λ range. record { letter = letter; range = range; text = now (text .entry) } ∷ [])
         (bufferAs (now (out .entry)) place) (now (out .exit)) r ⌝ }
     ensures { λ r. ⌜ r .lines ≤ 1 ⌝ }
 {
     let range = read_range(report, at);
     Cited {
-        place: put_line(place, out, letter, range.start, range.end, text),
+        place: put_line(place, out, source, letter, range.start, range.end, text),
         lines: 1,
         next: range.next,
     }
 }
 
 // Cites a text and its range.
-fn cite_specifier(report: &[u8], at: usize, letter: u8, out: &mut [u8], place: Place) -> Cited
-    ensures { λ r. ⌜ Cites encodeSpecifier ValidSpecifier (now (report .entry)) at
+fn cite_specifier(
+    report: &[u8],
+    source: &[u8],
+    at: usize,
+    letter: u8,
+    out: &mut [u8],
+    place: Place,
+) -> Cited
+    ensures { λ r. ⌜ Cites encodeSpecifier ValidSpecifier (now (report .entry)) (now (source .entry)) at
         (citeSpecifier letter) (bufferAs (now (out .entry)) place) (now (out .exit)) r ⌝ }
     ensures { λ r. ⌜ r .lines ≤ 1 ⌝ }
 {
     let text = read_text(report, at);
     let from = text.from;
     let to = text.to;
-    cite_range(report, to, letter, &report[from..to], out, place)
+    cite_range(report, source, to, letter, &report[from..to], out, place)
 }
 
 // Cites a text and its range, if they are there.
-fn cite_optional(report: &[u8], at: usize, letter: u8, out: &mut [u8], place: Place) -> Cited
-    ensures { λ r. ⌜ Cites (encodeOptional encodeSpecifier) (IfThere ValidSpecifier) (now (report .entry)) at
+fn cite_optional(
+    report: &[u8],
+    source: &[u8],
+    at: usize,
+    letter: u8,
+    out: &mut [u8],
+    place: Place,
+) -> Cited
+    ensures { λ r. ⌜ Cites (encodeOptional encodeSpecifier) (IfThere ValidSpecifier) (now (report .entry)) (now (source .entry)) at
         (citeOptional letter) (bufferAs (now (out .entry)) place) (now (out .exit)) r ⌝ }
     ensures { λ r. ⌜ r .lines ≤ 1 ⌝ }
 {
@@ -88,17 +104,17 @@ fn cite_optional(report: &[u8], at: usize, letter: u8, out: &mut [u8], place: Pl
             next: there.next,
         };
     }
-    cite_specifier(report, there.next, letter, out, place)
+    cite_specifier(report, source, there.next, letter, out, place)
 }
 
 // Cites a reference: R.
-fn cite_reference(report: &[u8], at: usize, out: &mut [u8], place: Place) -> Cited
-    ensures { λ r. ⌜ Cites encodeReference ValidReference (now (report .entry)) at
+fn cite_reference(report: &[u8], source: &[u8], at: usize, out: &mut [u8], place: Place) -> Cited
+    ensures { λ r. ⌜ Cites encodeReference ValidReference (now (report .entry)) (now (source .entry)) at
         citeReference (bufferAs (now (out .entry)) place) (now (out .exit)) r ⌝ }
     ensures { λ r. ⌜ r .lines ≤ 1 ⌝ }
 {
     let kind = read_number(report, at);
-    let line = cite_specifier(report, kind.next, b'R', out, place);
+    let line = cite_specifier(report, source, kind.next, b'R', out, place);
     if kind.value == 0 {
         return line;
     }
@@ -112,13 +128,13 @@ fn cite_reference(report: &[u8], at: usize, out: &mut [u8], place: Place) -> Cit
 }
 
 // Cites a JSDoc import: J.
-fn cite_jsdoc(report: &[u8], at: usize, out: &mut [u8], place: Place) -> Cited
-    ensures { λ r. ⌜ Cites encodeJsDoc ValidJsDoc (now (report .entry)) at
+fn cite_jsdoc(report: &[u8], source: &[u8], at: usize, out: &mut [u8], place: Place) -> Cited
+    ensures { λ r. ⌜ Cites encodeJsDoc ValidJsDoc (now (report .entry)) (now (source .entry)) at
         citeJsDoc (bufferAs (now (out .entry)) place) (now (out .exit)) r ⌝ }
     ensures { λ r. ⌜ r .lines ≤ 1 ⌝ }
 {
     let kind = read_number(report, at);
-    let line = cite_specifier(report, kind.next, b'J', out, place);
+    let line = cite_specifier(report, source, kind.next, b'J', out, place);
     let mode = read_number(report, line.next);
     let place = line.place;
     Cited {
@@ -129,25 +145,25 @@ fn cite_jsdoc(report: &[u8], at: usize, out: &mut [u8], place: Place) -> Cited
 }
 
 // Cites a dynamic argument with its range: D, and `?` where it has no single text.
-fn cite_argument(report: &[u8], at: usize, out: &mut [u8], place: Place) -> Cited
-    ensures { λ r. ⌜ Cites encodeRanged ValidRanged (now (report .entry)) at
+fn cite_argument(report: &[u8], source: &[u8], at: usize, out: &mut [u8], place: Place) -> Cited
+    ensures { λ r. ⌜ Cites encodeRanged ValidRanged (now (report .entry)) (now (source .entry)) at
         (λ a. citeArgument (a .0) (a .1)) (bufferAs (now (out .entry)) place) (now (out .exit)) r ⌝ }
     ensures { λ r. ⌜ r .lines ≤ 1 ⌝ }
 {
     let kind = read_number(report, at);
     if kind.value == 1 {
-        return cite_specifier(report, kind.next, b'D', out, place);
+        return cite_specifier(report, source, kind.next, b'D', out, place);
     }
     if kind.value == 2 {
         let next = skip_list(report, kind.next, false);
-        return cite_range(report, next, b'D', b"?", out, place);
+        return cite_range(report, source, next, b'D', b"?", out, place);
     }
-    cite_range(report, kind.next, b'D', b"?", out, place)
+    cite_range(report, source, kind.next, b'D', b"?", out, place)
 }
 
 // Cites a dependency: D, and T for its types, which stand before it in the report and are read again.
-fn cite_dependency(report: &[u8], at: usize, out: &mut [u8], place: Place) -> Cited
-    ensures { λ r. ⌜ Cites encodeDependency ValidDependency (now (report .entry)) at
+fn cite_dependency(report: &[u8], source: &[u8], at: usize, out: &mut [u8], place: Place) -> Cited
+    ensures { λ r. ⌜ Cites encodeDependency ValidDependency (now (report .entry)) (now (source .entry)) at
         citeDependency (bufferAs (now (out .entry)) place) (now (out .exit)) r ⌝ }
     ensures { λ r. ⌜ r .lines ≤ 2 ⌝ }
 {
@@ -156,8 +172,8 @@ fn cite_dependency(report: &[u8], at: usize, out: &mut [u8], place: Place) -> Ci
     let next = skip_optional_specifier(report, types);
     match dependency_kind(kind.value) {
         DependencyKind::Static(_) => {
-            let first = cite_specifier(report, next, b'D', out, place);
-            let second = cite_optional(report, types, b'T', out, first.place);
+            let first = cite_specifier(report, source, next, b'D', out, place);
+            let second = cite_optional(report, source, types, b'T', out, first.place);
             let side_effect = read_number(report, first.next);
             let place = second.place;
             Cited {
@@ -167,8 +183,8 @@ fn cite_dependency(report: &[u8], at: usize, out: &mut [u8], place: Place) -> Ci
             }
         }
         DependencyKind::Dynamic(_) => {
-            let first = cite_argument(report, next, out, place);
-            let second = cite_optional(report, types, b'T', out, first.place);
+            let first = cite_argument(report, source, next, out, place);
+            let second = cite_optional(report, source, types, b'T', out, first.place);
             let place = second.place;
             Cited {
                 place,
@@ -180,21 +196,29 @@ fn cite_dependency(report: &[u8], at: usize, out: &mut [u8], place: Place) -> Ci
 }
 
 // Cites an item of a list.
-fn cite_item(report: &[u8], at: usize, kind: Kind, out: &mut [u8], place: Place) -> Cited
-    ensures { λ r. ⌜ Cites (encodeItem kind) (ValidItem kind) (now (report .entry)) at
+fn cite_item(
+    report: &[u8],
+    source: &[u8],
+    at: usize,
+    kind: Kind,
+    out: &mut [u8],
+    place: Place,
+) -> Cited
+    ensures { λ r. ⌜ Cites (encodeItem kind) (ValidItem kind) (now (report .entry)) (now (source .entry)) at
         (citeItem kind) (bufferAs (now (out .entry)) place) (now (out .exit)) r ⌝ }
     ensures { λ r. ⌜ r .lines ≤ 2 ⌝ }
 {
     match kind {
-        Kind::Dependency => cite_dependency(report, at, out, place),
-        Kind::Reference => cite_reference(report, at, out, place),
-        Kind::JsDoc => cite_jsdoc(report, at, out, place),
+        Kind::Dependency => cite_dependency(report, source, at, out, place),
+        Kind::Reference => cite_reference(report, source, at, out, place),
+        Kind::JsDoc => cite_jsdoc(report, source, at, out, place),
     }
 }
 
 // Cites so many items.
 fn cite_items(
     report: &[u8],
+    source: &[u8],
     at: usize,
     kind: Kind,
     count: usize,
@@ -202,7 +226,7 @@ fn cite_items(
     place: Place,
 ) -> Cited
     requires { ⌜ count ≤ largest ⌝ }
-    ensures { λ r. ⌜ Cites (flatMap (encodeItem kind)) (λ l. (length l ≡ count) × All (ValidItem kind) l) (now (report .entry)) at
+    ensures { λ r. ⌜ Cites (flatMap (encodeItem kind)) (λ l. (length l ≡ count) × All (ValidItem kind) l) (now (report .entry)) (now (source .entry)) at
         (flatMap (citeItem kind)) (bufferAs (now (out .entry)) place) (now (out .exit)) r ⌝ }
     ensures { λ r. ⌜ r .lines ≤ 2 * count ⌝ }
 {
@@ -211,7 +235,7 @@ fn cite_items(
     let mut next = at;
     let mut left = count;
     while 0 < left {
-        let item = cite_item(report, next, kind, out, p);
+        let item = cite_item(report, source, next, kind, out, p);
         p = item.place;
         lines += item.lines;
         next = item.next;
@@ -225,13 +249,20 @@ fn cite_items(
 }
 
 // Cites a list.
-fn cite_list(report: &[u8], at: usize, kind: Kind, out: &mut [u8], place: Place) -> Cited
-    ensures { λ r. ⌜ Cites (encodeList (encodeItem kind)) (λ l. Short l × All (ValidItem kind) l) (now (report .entry)) at
+fn cite_list(
+    report: &[u8],
+    source: &[u8],
+    at: usize,
+    kind: Kind,
+    out: &mut [u8],
+    place: Place,
+) -> Cited
+    ensures { λ r. ⌜ Cites (encodeList (encodeItem kind)) (λ l. Short l × All (ValidItem kind) l) (now (report .entry)) (now (source .entry)) at
         (flatMap (citeItem kind)) (bufferAs (now (out .entry)) place) (now (out .exit)) r ⌝ }
     ensures { λ r. ⌜ r .lines ≤ 2 * largest ⌝ }
 {
     let count = read_number(report, at);
-    cite_items(report, count.next, kind, count.value, out, place)
+    cite_items(report, source, count.next, kind, count.value, out, place)
 }
 
 // The sum of the lines of a report's parts.
@@ -243,17 +274,17 @@ fn total(d: usize, r: usize, s: usize, x: usize, y: usize, j: usize, m: usize) -
 }
 
 // Cites what is in a report: D and T, R, S, X, Y, J, M.
-fn cite_lines(report: &[u8], out: &mut [u8], place: Place) -> Cited
-    ensures { λ r. ⌜ Cites encode Valid (now (report .entry)) 0 lines (bufferAs (now (out .entry)) place) (now (out .exit)) r ⌝ }
+fn cite_lines(report: &[u8], source: &[u8], out: &mut [u8], place: Place) -> Cited
+    ensures { λ r. ⌜ Cites encode Valid (now (report .entry)) (now (source .entry)) 0 lines (bufferAs (now (out .entry)) place) (now (out .exit)) r ⌝ }
 {
     let is_script = read_number(report, 0);
-    let d = cite_list(report, is_script.next, Kind::Dependency, out, place);
-    let r = cite_list(report, d.next, Kind::Reference, out, d.place);
-    let s = cite_optional(report, r.next, b'S', out, r.place);
-    let x = cite_optional(report, s.next, b'X', out, s.place);
-    let y = cite_optional(report, x.next, b'Y', out, x.place);
-    let j = cite_list(report, y.next, Kind::JsDoc, out, y.place);
-    let m = cite_optional(report, j.next, b'M', out, j.place);
+    let d = cite_list(report, source, is_script.next, Kind::Dependency, out, place);
+    let r = cite_list(report, source, d.next, Kind::Reference, out, d.place);
+    let s = cite_optional(report, source, r.next, b'S', out, r.place);
+    let x = cite_optional(report, source, s.next, b'X', out, s.place);
+    let y = cite_optional(report, source, x.next, b'Y', out, x.place);
+    let j = cite_list(report, source, y.next, Kind::JsDoc, out, y.place);
+    let m = cite_optional(report, source, j.next, b'M', out, j.place);
     let place = m.place;
     Cited {
         place,
@@ -280,19 +311,20 @@ fn written(out: &[u8], place: Place) -> usize
     out.len()
 }
 
-// Writes the citation of a report, and answers its length. A first pass counts the lines; what it writes is written over. Behind the citation the
+// Writes the citation of a report over its source, and answers its length. A first pass counts the lines; what it writes is written over. Behind the citation the
 // buffer is left free, and all of it where the bytes are no report.
-pub fn cite_report(report: &[u8], out: &mut [u8]) -> usize
+pub fn cite_report(report: &[u8], source: &[u8], out: &mut [u8]) -> usize
     requires { ⌜ 4 * length (now report) ≤ length (now out) ⌝ }
     ensures { λ r. ⌜ ((m : ModuleInfo) → Valid m → encode m ≡ now (report .entry)
-        → (r ≡ length (citation m)) × (take r (now (out .exit)) ≡ citation m)) ⌝ }
+        → (r ≡ length (citation (now (source .entry)) m)) × (take r (now (out .exit)) ≡ citation (now (source .entry)) m)) ⌝ }
     ensures { λ r. ⌜ r ≤ length (now (out .exit)) ⌝ }
     ensures { λ _. ⌜ Free (now (out .entry)) (now (out .exit)) ⌝ }
 {
+    let wide = &source[..last_four(source)];
     let start = Place { at: 0 };
-    let counted = cite_lines(report, out, start);
+    let counted = cite_lines(report, wide, out, start);
     let p = put_title(start, out, b"module ", counted.lines);
-    let cited = cite_lines(report, out, p);
+    let cited = cite_lines(report, wide, out, p);
     written(out, cited.place)
 }
 

@@ -1,4 +1,5 @@
 // The writing of lines.
+use super::columns::recounted;
 use report::writer::Place;
 use text::position::Position;
 ghost use mathlib.Core.Path.{_≡_};
@@ -6,7 +7,9 @@ ghost use Prim.Native.Nat.{_<_};
 ghost use mathlib.Core.List.{flatMap};
 ghost use Rattle.report.specs.Valid.{ValidPosition};
 ghost use Rattle.report.specs.Buffer.{wrote, bufferAs};
+ghost use Rattle.citation.specs.Columns.{recountedRange};
 ghost use Rattle.citation.specs.Citation.{digits, hexDigit, isEscaped, escaped, citePosition, citeRange, printed, title};
+ghost use Rattle.citation.specs.code.Printable.{Printable};
 
 // Writes a number in decimal, in at most so many places.
 fn put_digits(place: Place, out: &mut [u8], places: usize, n: usize) -> Place
@@ -71,7 +74,7 @@ fn put_text(place: Place, out: &mut [u8], text: &[u8]) -> Place
 
 // Writes line:column, from 1.
 fn put_position(place: Place, out: &mut [u8], position: Position) -> Place
-    requires { ⌜ ValidPosition position ⌝ }
+    requires { ⌜ Printable position ⌝ }
     ensures { λ r. ⌜ bufferAs (now (out .exit)) r ≡ wrote (bufferAs (now (out .entry)) place) (citePosition position) ⌝ }
 {
     let p = put_digits(place, out, 20, position.line + 1);
@@ -79,21 +82,23 @@ fn put_position(place: Place, out: &mut [u8], position: Position) -> Place
     put_digits(p, out, 20, position.column + 1)
 }
 
-// Writes the positions at a range's start and at its end.
-fn put_range(place: Place, out: &mut [u8], start: Position, end: Position) -> Place
+// Writes the positions at a range's start and at its end, recounted in UTF-16 code units.
+fn put_range(place: Place, out: &mut [u8], source: &[u8], start: Position, end: Position) -> Place
     requires { ⌜ ValidPosition start × ValidPosition end ⌝ }
     ensures { λ r. ⌜ bufferAs (now (out .exit)) r
-        ≡ wrote (bufferAs (now (out .entry)) place) (citeRange (record { start = start; end = end })) ⌝ }
+        ≡ wrote (bufferAs (now (out .entry)) place)
+        (citeRange (recountedRange (now (source .entry)) (record { start = start; end = end }))) ⌝ }
 {
-    let p = put_position(place, out, start);
+    let p = put_position(place, out, recounted(source, start));
     let p = p.put(out, b'-');
-    put_position(p, out, end)
+    put_position(p, out, recounted(source, end))
 }
 
 // Writes a line: letter, space, range, space, text.
 pub fn put_line(
     place: Place,
     out: &mut [u8],
+    source: &[u8],
     letter: u8,
     start: Position,
     end: Position,
@@ -102,11 +107,11 @@ pub fn put_line(
     requires { ⌜ ValidPosition start × ValidPosition end ⌝ }
     ensures { λ r. ⌜ bufferAs (now (out .exit)) r
         ≡ wrote (bufferAs (now (out .entry)) place)
-        (printed (record { letter = letter; range = record { start = start; end = end }; text = now (text .entry) })) ⌝ }
+        (printed (now (source .entry)) (record { letter = letter; range = record { start = start; end = end }; text = now (text .entry) })) ⌝ }
 {
     let p = place.put(out, letter);
     let p = p.put(out, b' ');
-    let p = put_range(p, out, start, end);
+    let p = put_range(p, out, source, start, end);
     let p = p.put(out, b' ');
     let p = put_text(p, out, text);
     p.put(out, b'\n')

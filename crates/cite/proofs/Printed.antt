@@ -1,7 +1,7 @@
 -- What the report function answers is what the citation asks for.
 use mathlib.Core.Path.{_≡_, refl, sym, ap, _∙_}
 use mathlib.Core.Bool.{Bool, true, false}
-use mathlib.Core.List.{List, _++_}
+use mathlib.Core.List.{List, _++_, flatMap}
 use Prim.Native.Nat.{ℕ, _-_, _*_, _≤_}
 use native.Mathlib.Omega.{arith}
 use lib.Dec.{leb}
@@ -10,7 +10,9 @@ use lib.Seq.{take-append-seam}
 use borrow.Author.Tests.{leb-true}
 use Rattle.wire.specs.Refusals.{ofSheets, oneOf}
 use Rattle.wire.specs.Refusals as refusals
+use Rattle.sheet.specs.Sheet.{Sheet}
 use Rattle.sheet.specs.Judge.{judge}
+use Rattle.sheet_codec.specs.SheetOf.{SheetOf}
 use Rattle.sheet_codec.proofs.Sheets.{accepts-exactly}
 use Rattle.sheet_codec.proofs.Refusals.{apart, Decision, decided, judged-sheet, judged-refusal}
 use Rattle.report.specs.ModuleInfo.{ModuleInfo}
@@ -21,13 +23,17 @@ use Rattle.report.specs.declared.writer.Outcome.{Outcome}
 use Rattle.report.specs.declared.writer.Outcome.the-variants.{Accepted, Refused}
 use Rattle.module_info.specs.Information.{moduleInfo, defaultInfo, answerOf}
 use Rattle.module_info.specs.Demands.{Demands}
-use Rattle.citation.specs.Citation.{citation, refusal}
+use Rattle.citation.specs.Citation.{lines, citation, refusal}
 use Rattle.cite.specs.Cited.{reportRoom, lineRoom, citedIn, cited}
 
 -- a report has bytes
 some-bytes : (m : ModuleInfo) → 0 ≡ length (encode m) → ⊥
 unfolding encode
 some-bytes m e = absurd (omega arith)
+
+-- the source is that of the sheet that the bytes are, if they are one
+abbrev Holds : List ℕ → List ℕ → Type 0
+Holds s source = (t : Sheet) → SheetOf s t → source ≡ t .source
 
 -- a report that was answered: it is the encoding of information that can be read back, and the lines are those of its citation
 pub record Reported (s : List ℕ) (n : ℕ) (buffer : List ℕ) : Type 0 where
@@ -36,13 +42,13 @@ pub record Reported (s : List ℕ) (n : ℕ) (buffer : List ℕ) : Type 0 where
   pub room : 4 * length (take n buffer) ≤ lineRoom
   pub valid : Valid info
   pub bytes : encode info ≡ take n buffer
-  pub lines : cited s ≡ citation info
+  pub lines : (source : List ℕ) → Holds s source → cited s ≡ citation source info
 
 -- information of which the report is answered and cited
 record Asked (s : List ℕ) : Type 0 where
   info : ModuleInfo
   answer : answerOf s reportRoom ≡ fitted reportRoom (encode info)
-  lines : cited s ≡ citedIn info
+  lines : (source : List ℕ) → Holds s source → cited s ≡ citedIn source info
   valid : Valid info
 
 -- there is such information, or there is a refusal of a sheet
@@ -52,13 +58,14 @@ data Question (s : List ℕ) : Type 0 where
 
 module _ {s buffer : List ℕ} where
   question : {outcome : Outcome} → Demands s reportRoom outcome buffer → Question s
-  unfolding answerOf cited judge
+  unfolding answerOf cited judge citation lines flatMap
   question {outcome} d = by (decided s)
     where
       by : Decision s → Question s
-      by (Decision.empty e) = asked (record { info = defaultInfo; answer = rw e; lines = rw e; valid = d .empty e .report .fits })
+      by (Decision.empty e) = asked (record { info = defaultInfo; answer = rw e; lines = λ source h. rw e; valid = d .empty e .report .fits })
       by (Decision.accepted t e) =
-          asked (record { info = moduleInfo t; answer = rw (judged-sheet s e); lines = rw (judged-sheet s e); valid = d .report t (accepts-exactly s t .0 e) .fits })
+          let of : SheetOf s t = accepts-exactly s t .0 e in
+          asked (record { info = moduleInfo t; answer = rw (judged-sheet s e); lines = λ source h. rw (judged-sheet s e, h t of); valid = d .report t of .fits })
       by (Decision.refused r among some e) = refused r among (rw (judged-refusal s some e)) (rw (judged-refusal s some e))
 
   pub reported : {n : ℕ} → Demands s reportRoom (Accepted n) buffer → Reported s n buffer
@@ -79,7 +86,7 @@ module _ {s buffer : List ℕ} where
             room = rw (← begins) (omega arith);
             valid = a .valid;
             bytes = begins;
-            lines = rw (a .lines, h);
+            lines = λ source o. rw (a .lines source o, h);
           }
       by-room a false h =
           let none : _≡_ {A = ℕ} 0 refusals.buffer = ap (λ (x : Answer). x .number) (rw h at (d .answer ∙ a .answer)) in
@@ -92,9 +99,9 @@ module _ {s buffer : List ℕ} where
           absurd (apart ofSheets among (sym none) refl)
 
   -- a refusal that was answered
-  pub refused-lines : {r : ℕ} → Demands s reportRoom (Refused r) buffer → cited s ≡ refusal r
+  pub refused-lines : {r : ℕ} (source : List ℕ) → Holds s source → Demands s reportRoom (Refused r) buffer → cited s ≡ refusal r
   unfolding fitted
-  refused-lines {r} d = by (question d)
+  refused-lines {r} source o d = by (question d)
     where
       by-room : (a : Asked s) (b : Bool) → leb (length (encode (a .info))) reportRoom ≡ b → cited s ≡ refusal r
       by-room a true h =
@@ -102,7 +109,7 @@ module _ {s buffer : List ℕ} where
           absurd (some-bytes (a .info) none)
       by-room a false h =
           let ten : r ≡ refusals.buffer = ap (λ (x : Answer). x .number) (rw h at (d .answer ∙ a .answer)) in
-          rw (a .lines, h, ten)
+          rw (a .lines source o, h, ten)
 
       by : Question s → cited s ≡ refusal r
       by (asked a) = by-room a (leb (length (encode (a .info))) reportRoom) refl

@@ -1,6 +1,6 @@
 -- What `cite` prints for the bytes of a sheet, or none.
 use mathlib.Core.Bool.{cond}
-use mathlib.Core.List.{List}
+use mathlib.Core.List.{List, []}
 use Prim.Native.Nat.{ℕ, _*_}
 use lib.Dec.{leb}
 use lib.ListN.{length}
@@ -9,7 +9,9 @@ use Rattle.sheet.specs.Judge.{Judged, empty, sheet, judge}
 use Rattle.report.specs.ModuleInfo.{ModuleInfo}
 use Rattle.report.specs.Encode.{encode}
 use Rattle.module_info.specs.Information.{moduleInfo, defaultInfo}
-use Rattle.citation.specs.Citation.{citation, refusal}
+use Rattle.module_info.specs.Demands.{OfAccepted}
+use Rattle.citation.specs.Citation.{lines, citation, refusal}
+use Rattle.citation.specs.Right.{ColumnsRight}
 
 -- bytes of the buffer for the report
 abbrev pub reportRoom : ℕ
@@ -19,15 +21,19 @@ reportRoom = 65536
 abbrev pub lineRoom : ℕ
 lineRoom = 4 * reportRoom
 
--- the citation, if the report is no longer than its buffer
-abbrev pub citedIn : ModuleInfo → List ℕ
-citedIn m = cond (leb (length (encode m)) reportRoom) (citation m) (refusal refusals.buffer)
+-- the citation over a source, if the report is no longer than its buffer
+abbrev pub citedIn : List ℕ → ModuleInfo → List ℕ
+citedIn source m = cond (leb (length (encode m)) reportRoom) (citation source m) (refusal refusals.buffer)
 
--- of no bytes the default information is cited: `module 0`
+-- of no bytes, which have no source, the default information is cited: `module 0`
 abbrev pub citedBy : Judged → List ℕ
-citedBy empty = citedIn defaultInfo
-citedBy (sheet t) = citedIn (moduleInfo t)
+citedBy empty = citedIn [] defaultInfo
+citedBy (sheet t) = citedIn (t .source) (moduleInfo t)
 citedBy (Judged.refusal r) = refusal r
 
 unfoldable pub cited : List ℕ → List ℕ
 cited s = citedBy (judge s)
+
+-- the columns of the lines of an accepted sheet are those of editors
+abbrev pub EditorColumns : List ℕ → Type 0
+EditorColumns s = OfAccepted s (λ t. ColumnsRight (t .source) (lines (moduleInfo t)))

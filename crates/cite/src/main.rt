@@ -8,11 +8,25 @@ use libc::STDIN_FILENO;
 use libc::STDOUT_FILENO;
 use module_info::module_info;
 use report::writer::Outcome;
+use report_reader::fields::TextRead;
+use report_reader::fields::read_text;
 use sheet::limits::SHEET_LIMIT;
 ghost use mathlib.Core.Path.{_≡_};
 ghost use Prim.Native.Nat.{_≤_};
 ghost use lib.ListN.{length, take};
-ghost use Rattle.cite.specs.Cited.{reportRoom, lineRoom, cited};
+ghost use Rattle.text.specs.Bytes.{part};
+ghost use Rattle.sheet.specs.Sheet.{Sheet};
+ghost use Rattle.sheet_codec.specs.SheetOf.{SheetOf};
+ghost use Rattle.report_reader.specs.code.Reads.{Inside};
+ghost use Rattle.cite.specs.Cited.{reportRoom, lineRoom, cited, EditorColumns};
+
+// Where the source of an accepted sheet stands: behind the media byte.
+fn find_source(sheet: &[u8]) -> TextRead
+    ensures { λ r. ⌜ ((t : Sheet) → SheetOf (now (sheet .entry)) t → part (now (sheet .entry)) (r .from) (r .to) ≡ t .source) ⌝ }
+    ensures { λ r. ⌜ Inside (now (sheet .entry)) (r .from) (r .to) ⌝ }
+{
+    read_text(sheet, 1)
+}
 
 // Writes the lines for a sheet, and answers how many bytes they are.
 fn cite(sheet: &[u8], report: &mut [u8], lines: &mut [u8]) -> usize
@@ -20,10 +34,14 @@ fn cite(sheet: &[u8], report: &mut [u8], lines: &mut [u8]) -> usize
     requires { ⌜ lineRoom ≤ length (now lines) ⌝ }
     ensures { λ r. ⌜ (r ≡ length (cited (now (sheet .entry)))) × (take r (now (lines .exit)) ≡ cited (now (sheet .entry))) ⌝ }
     ensures { λ r. ⌜ r ≤ length (now (lines .exit)) ⌝ }
+    ensures { λ _. ⌜ EditorColumns (now (sheet .entry)) ⌝ }
 {
+    let source = find_source(sheet);
+    let from = source.from;
+    let to = source.to;
     match module_info(sheet, report) {
         Outcome::Refused(r) => cite_refusal(r, lines),
-        Outcome::Accepted(n) => cite_report(&report[..n], lines),
+        Outcome::Accepted(n) => cite_report(&report[..n], &sheet[from..to], lines),
     }
 }
 

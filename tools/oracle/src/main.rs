@@ -73,10 +73,15 @@ fn sheets(mut input: &[u8]) -> Vec<&[u8]> {
 
 fn cite(sheet: &[u8]) -> Vec<u8> {
     match oracle::module_info(sheet) {
-        Ok(info) => oracle::report::cite(&info),
+        Ok(info) => oracle::report::cite(&info, &source(sheet)),
         Err(oracle::LEFT_OUT) => b"left out\n".to_vec(),
         Err(refusal) => format!("refused {refusal}\n").into_bytes(),
     }
+}
+
+/// The source of an accepted sheet; no bytes have none.
+fn source(sheet: &[u8]) -> String {
+    oracle::sheet::decode(sheet).map_or(String::new(), |sheet| sheet.source)
 }
 
 fn json(sheet: &[u8]) -> String {

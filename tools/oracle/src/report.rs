@@ -159,8 +159,8 @@ impl Writer {
     }
 }
 
-/// What `cite` prints for a report.
-pub fn cite(m: &ModuleInfo) -> Vec<u8> {
+/// What `cite` prints for a report over its source. The report counts characters, the lines count UTF-16 code units.
+pub fn cite(m: &ModuleInfo, source: &str) -> Vec<u8> {
     let mut lines: Vec<(char, &PositionRange, &str)> = Vec::new();
     for d in &m.dependencies {
         let types = match d {
@@ -189,7 +189,9 @@ pub fn cite(m: &ModuleInfo) -> Vec<u8> {
     lines.extend(m.jsdoc_imports.iter().map(|i| ('J', &i.specifier.range, &*i.specifier.text)));
     lines.extend(m.source_map_url.iter().map(|s| ('M', &s.range, &*s.text)));
 
-    let place = |p: &Position| format!("{}:{}", p.line + 1, p.character + 1);
+    let rows: Vec<&str> = source.split('\n').collect();
+    let units = |p: &Position| rows[p.line].chars().take(p.character).map(char::len_utf16).sum::<usize>();
+    let place = |p: &Position| format!("{}:{}", p.line + 1, units(p) + 1);
     let mut out = format!("module {}\n", lines.len()).into_bytes();
     for (letter, range, text) in lines {
         out.extend(format!("{letter} {}-{} ", place(&range.start), place(&range.end)).bytes());

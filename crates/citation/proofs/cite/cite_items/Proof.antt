@@ -17,30 +17,30 @@ use Rattle.citation.proofs.cite.cite_items.Statement.{statement}
 use Rattle.citation.proofs.cite.cite_items.Tie as tie
 
 abbrev Inv-loop : tie.InvT-loop
-Inv-loop report at kind count out₀ p₀ lines₀ next₀ left₀ out p lines next left =
+Inv-loop report source at kind count out₀ p₀ lines₀ next₀ left₀ out p lines next left =
     (length out ≡ length out₀)
     × (lines + 2 * left ≤ 2 * count)
     × ((l : List (Item kind)) → (length l ≡ count) × All (ValidItem kind) l → (t : List ℕ) → drop at report ≡ flatMap (encodeItem kind) l ++ t
     → (l′ : List (Item kind)) × (done : List Line)
     × Stand (encodeItem kind) (ValidItem kind) report t next left l′
-    × Printed (bufferAs out₀ p₀) done (bufferAs out p) lines
+    × Printed source (bufferAs out₀ p₀) done (bufferAs out p) lines
     × (flatMap (citeItem kind) l ≡ done ++ flatMap (citeItem kind) l′))
 
 abbrev μ-loop : tie.MeasureT-loop
-μ-loop report at kind count out₀ p₀ lines₀ next₀ left₀ out p lines next left = left
+μ-loop report source at kind count out₀ p₀ lines₀ next₀ left₀ out p lines next left = left
 
 loop-holds : tie.Need-loop-holds Inv-loop μ-loop
 unfolding flatMap
 loop-holds c =
-    let a = c .before .before .args in
+    let a = c .before .before .before .args in
     (refl, omega arith, λ l v t e. (l, [], (v .0, v .1, e), record { written = sym (wrote-nil (now (a .out)) (a .place)); counted = refl }, refl))
 
 loop-again : tie.Need-loop-again Inv-loop μ-loop
 loop-again c =
-    let a = c .before .before .before .before .before .before .before .before .before .before .args in
+    let a = c .before .before .before .before .before .before .before .before .before .before .before .args in
     let i = c .before .before .before .before .before .before .before .loop in
     let item = c .before .before .before .before .cite-item in (
-      item .kept .1 .1 .1 .0 ∙ i .inv .0,
+      item .kept .1 .1 .1 .1 .0 ∙ i .inv .0,
       omega (arith, i .inv .1, item .ensures .1, c .before .before .before .before .before .before .loop-test .taken),
       λ l v t e.
           let (l, done, p, q, r) = i .inv .2 l v t e in
@@ -52,7 +52,7 @@ loop-again c =
 returns : tie.Need-returns Inv-loop μ-loop
 unfolding flatMap
 returns c =
-    let a = c .before .before .before .before .args in
+    let a = c .before .before .before .before .before .args in
     let i = c .before .loop in (
       λ l v t e.
           let (l, done, p, q, r) = i .inv .2 l v t e in

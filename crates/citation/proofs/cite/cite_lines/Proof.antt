@@ -21,13 +21,13 @@ total-requires c κs = (
 
 same-length : tie.Need-same-length
 same-length c =
-    c .before .before .before .before .cite-optional4 .kept .1 .1 .1 .0
-    ∙ c .before .before .before .before .before .before .before .before .cite-list3 .kept .1 .1 .1 .0
-    ∙ c .before .before .before .before .before .before .before .before .before .before .before .before .cite-optional3 .kept .1 .1 .1 .0
-    ∙ c .before .before .before .before .before .before .before .before .before .before .before .before .before .before .before .before .cite-optional2 .kept .1 .1 .1 .0
-    ∙ c .before .before .before .before .before .before .before .before .before .before .before .before .before .before .before .before .before .before .before .before .cite-optional .kept .1 .1 .1 .0
-    ∙ c .before .before .before .before .before .before .before .before .before .before .before .before .before .before .before .before .before .before .before .before .before .before .before .before .cite-list2 .kept .1 .1 .1 .0
-    ∙ c .before .before .before .before .before .before .before .before .before .before .before .before .before .before .before .before .before .before .before .before .before .before .before .before .before .before .before .before .cite-list .kept .1 .1 .1 .0
+    c .before .before .before .before .cite-optional4 .kept .1 .1 .1 .1 .0
+    ∙ c .before .before .before .before .before .before .before .before .cite-list3 .kept .1 .1 .1 .1 .0
+    ∙ c .before .before .before .before .before .before .before .before .before .before .before .before .cite-optional3 .kept .1 .1 .1 .1 .0
+    ∙ c .before .before .before .before .before .before .before .before .before .before .before .before .before .before .before .before .cite-optional2 .kept .1 .1 .1 .1 .0
+    ∙ c .before .before .before .before .before .before .before .before .before .before .before .before .before .before .before .before .before .before .before .before .cite-optional .kept .1 .1 .1 .1 .0
+    ∙ c .before .before .before .before .before .before .before .before .before .before .before .before .before .before .before .before .before .before .before .before .before .before .before .before .cite-list2 .kept .1 .1 .1 .1 .0
+    ∙ c .before .before .before .before .before .before .before .before .before .before .before .before .before .before .before .before .before .before .before .before .before .before .before .before .before .before .before .before .cite-list .kept .1 .1 .1 .1 .0
 
 returns : tie.Need-returns
 unfolding encode lines

@@ -13,7 +13,7 @@ returns : tie.Need-returns
 unfolding flatMap
 returns c = (
   λ o v t e.
-      let a = c .before .before .before .before .before .args in
+      let a = c .before .before .before .before .before .before .args in
       let n = c .before .before .read-number in
       let (p, e) = none-there (n .ensures) encodeSpecifier (c .if1 .taken) o t e in
       rw p (record { written = sym (wrote-nil (now (a .out)) (a .place)); counted = refl }, e),

@@ -2,40 +2,52 @@ use borrow.Author.Needs.{needs}
 use mathlib.Core.Path.{sym, ap, _∙_}
 use mathlib.Core.List.{[], append-nil}
 use native.Mathlib.Omega.{arith}
-use lib.ListN.{length, length-take}
+use lib.ListN.{length, take, length-take}
+use lib.Seq.{length-take-le}
+use denote.Ref.{now}
 use Rattle.report.specs.Encode.{encode}
 use Rattle.report.proofs.Buffers.{wrote-append}
 use Rattle.citation.specs.Citation.{citation}
+use Rattle.citation.proofs.Fours.{recounted-front}
+use Rattle.citation.proofs.Printing.{citation-same}
 use Rattle.citation.proofs.Whole.{all-written}
 use Rattle.citation.proofs.Lengths.{citation-short}
 use Rattle.citation.proofs.cite.cite_report.Statement.{statement}
 use Rattle.citation.proofs.cite.cite_report.Tie as tie
+
+slice-aggregate-wide : tie.Need-slice-aggregate-wide
+slice-aggregate-wide c = sym (length-take-le _ _ (c .before .last-four .ensures .0))
 
 returns : tie.Need-returns
 unfolding citation
 returns c =
     let counted = c .before .before .before .before .before .before .before .before .before .before .before .before .before .cite-lines in
     let cited = c .before .before .before .before .cite-lines2 in
+    let start = c .before .before .before .before .before .before .before .before .before .before .before .before .before .before .before .before .before .before .before .before in
+    let last = c .before .before .before .before .before .before .before .before .before .before .before .before .before .before .before .before .last-four in
     let n = c .written in (
       λ m v e.
+          let same = citation-same _ _ (recounted-front (now (start .args .source)) (last .result) (last .ensures .1)) m in
           let (p, _) = counted .ensures m v [] (sym (append-nil (encode m) ∙ e)) in
           let (q, _) = cited .ensures m v [] (sym (append-nil (encode m) ∙ e)) in
-          all-written
-          (cited .last .1 .0)
+          rw same at (all-written
+          (cited .last .1 .1 .0)
           (cited .result .place)
-          (length (counted .last .1 .0))
-          (citation m)
+          (length (counted .last .1 .1 .0))
+          (citation (take (last .result) (now (start .args .source))) m)
           (rw (wrote-append, ← (p .counted), ← (c .before .before .before .before .before .before .before .before .put-title .ensures)) (q .written))
-          (omega (arith, citation-short m v, ap length e, counted .kept .1 .0, c .before .before .before .before .before .before .before .before .before .before .before .before .before .before .before .before .before .pre))
+          (omega (arith, citation-short (take (last .result) (now (start .args .source))) m v, ap length e, counted .kept .1 .1 .0, start .pre))
           (n .result)
-          (n .ensures),
-      (omega (arith, n .ensures, length-take (cited .result .place .at) (cited .last .1 .0)), search needs),
+          (n .ensures)),
+      (omega (arith, n .ensures, length-take (cited .result .place .at) (cited .last .1 .1 .0)), search needs),
     )
 
 pub cite-report-spec : {M : Type 1} → statement M
 cite-report-spec =
     tie.close
     (tie.spec
+    (λ c κs. search needs)
+    slice-aggregate-wide
     (λ c κs. search needs)
     (λ c. search needs)
     (λ c κs. search needs)

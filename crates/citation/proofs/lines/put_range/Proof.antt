@@ -6,12 +6,23 @@ use Rattle.citation.proofs.lines.put_range.Tie as tie
 
 returns : tie.Need-returns
 unfolding citeRange
-returns c = rw (wrote-append, ← (c .before .before .before .before .before .before .before .before .before .before .put-position .ensures), wrote-cons, ← (c .before .before .before .before .before .before .put .ensures)) (c .before .before .put-position2 .ensures)
+returns c =
+    rw (
+      ← (c .before .before .before .before .before .before .before .before .before .before .before .before .recounted .ensures .0),
+      wrote-append,
+      ← (c .before .before .before .before .before .before .before .before .before .before .before .put-position .ensures),
+      wrote-cons,
+      ← (c .before .before .before .before .before .before .before .put .ensures),
+      ← (c .before .before .before .recounted2 .ensures .0),
+    )
+    (c .before .before .put-position2 .ensures)
 
 pub put-range-spec : {M : Type 1} → statement M
 put-range-spec =
     tie.close
     (tie.spec
+    (λ c κs. search needs)
+    (λ c κs. search needs)
     (λ c κs. search needs)
     (λ c κs. search needs)
     (λ c κs. search needs)

@@ -1,0 +1,17 @@
+use borrow.Author.Needs.{needs}
+use mathlib.Core.Path.{sym, ap}
+use native.Mathlib.Omega.{arith}
+use lib.ListN.{drop}
+use Rattle.sheet_codec.specs.Encode.{encodeSheet}
+use Rattle.cite.proofs.find_source.Statement.{statement}
+use Rattle.cite.proofs.find_source.Tie as tie
+
+returns : tie.Need-returns
+unfolding encodeSheet
+returns c = (
+  λ t of. c .read-text .ensures .0 (t .source) (omega (arith, of .encodes .within .fields .source .0)) _ (ap (drop 1) (sym (of .encodes .bytes))) .0,
+  c .read-text .ensures .1,
+)
+
+pub find-source-spec : {M : Type 1} → statement M
+find-source-spec = tie.close (tie.spec (λ c κs. search needs) returns)

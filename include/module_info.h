@@ -1,4 +1,4 @@
-/* Which modules a JavaScript or TypeScript module asks for, in code and in comments, and its source map: the proved library's two functions.
+/* Which modules a JavaScript or TypeScript module asks for, in code and in comments, and its source map: the proved library's three functions.
  * docs/01-scope.md defines sheets, refusals and reports. Link libmodule_info.a, which `rt staticlib module_info` writes to target/staticlib. */
 #ifndef MODULE_INFO_H
 #define MODULE_INFO_H
@@ -50,9 +50,14 @@ enum module_info_number {
  * What the buffer held before does not matter. The sheet is not changed, nothing is kept, and no memory is allocated.
  * A pointer whose length is 0 may be null: nothing is read or written through it. Sheet and buffer do not overlap: a store to the buffer would
  * change a sheet that is still being read, and the proof takes the two for apart.
- * The call needs at most some 116 KiB of stack, its tables included: a thread of 128 KiB is enough for every sheet that was constructed. That is
+ * The call needs at most some 121 KiB of stack, its tables included: a thread of 128 KiB is enough for every sheet that was constructed. That is
  * measured on x86-64 (bindings/c/stack.c), not proved. Nothing else is asked of the caller. */
 uint64_t module_info_answer(const uint8_t *sheet, size_t n, uint8_t *buffer, size_t m);
+
+/* The same report, with how many characters were replaced in the text of each dependency, in k notes: a lone surrogate is reported as U+FFFD.
+ * The first note says how many numbers follow it, one for each dependency in the report's order, as far as there is room; every other note is 0,
+ * and all of them after a refusal. 1 + m / 8 notes hold the numbers of every report that fits the buffer. The notes overlap neither of the others. */
+uint64_t module_info_with_replaced_answer(const uint8_t *sheet, size_t n, uint8_t *buffer, size_t m, size_t *notes, size_t k);
 
 /* The answers of module_info_source_map besides the refusals. */
 #define MODULE_INFO_NO_MAP 0

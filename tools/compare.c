@@ -1,7 +1,8 @@
 /* compare [--before ANSWERS] SHEETS ANSWERS KINDS FILE [KIND]...
  * Runs the linked library and tools/second.rs on every sheet of a batch and compares them with each other and with ANSWERS, those of
  * tools/oracle: the library with lent buffers of several sizes, by number, length and every byte of the buffer. Where the oracle leaves a
- * sheet out, the library is compared with second, and each text that second has from a comment must stand between its positions. Prints by kind how many sheets were accepted, refused with each number and left out, and
+ * sheet out, the library is compared with second, and each text that second has from a comment must stand between its positions. The numbers of
+ * replaced characters, which the oracle does not have, are compared with second's, in notes of several sizes. Prints by kind how many sheets were accepted, refused with each number and left out, and
  * the shortest sheet that differs, which is also written to FILE.
  * The library and second are also asked for the source map by ECMA-426 (request #105).
  * The status is 1 if a sheet differs, or if one of the kinds named has no accepted sheet or one with a String that is not quoted.
@@ -22,15 +23,19 @@
 
 #ifdef LIBRARY
 uint64_t module_info_answer(const uint8_t *sheet, size_t n, uint8_t *buffer, size_t m);
+uint64_t module_info_with_replaced_answer(const uint8_t *sheet, size_t n, uint8_t *buffer, size_t m, size_t *notes, size_t k);
 uint64_t module_info_source_map(const uint8_t *sheet, size_t n, uint64_t *places);
 #endif
 uint64_t second_answer(const uint8_t *sheet, size_t n, uint8_t *buffer, size_t m);
+void second_notes(const uint8_t *sheet, size_t n, size_t room, size_t *notes, size_t m);
 uint64_t second_source_map(const uint8_t *sheet, size_t n, uint64_t *places);
 bool second_both(const uint8_t *sheet, size_t n);
 bool second_shows(const uint8_t *sheet, size_t n, const uint8_t *report, size_t m);
 
 #define ROOM ((size_t)1 << 20)
 #define LARGE 65536
+/* how many dependencies, and a number for each: a report of LARGE bytes has eight for each of them */
+#define NOTES (1 + LARGE / 8)
 #define MAX_KINDS 64
 /* an answer's number is a byte; the oracle's last one says that the sheet is left out */
 #define NUMBERS 256
@@ -95,7 +100,7 @@ static uint8_t *guarded_end(void) {
 
 static uint8_t *sheet_end, *buffer_end;
 static const uint8_t zeros[ROOM];
-static unsigned long calls;
+static unsigned long calls, replaced;
 
 /* What differs in the library's answer with a buffer of m bytes, or NULL. */
 static const char *difference(const uint8_t *sheet, size_t n, struct answer expected, size_t m) {
@@ -124,12 +129,48 @@ static const char *difference(const uint8_t *sheet, size_t n, struct answer expe
     return NULL;
 }
 
+/* What differs in the library's answer and notes, with a buffer of m bytes and k notes, or NULL. */
+static const char *notes_differ(const uint8_t *sheet, size_t n, struct answer expected, size_t m, size_t k) {
+    static char message[200];
+    static size_t notes[NOTES + 1], others[NOTES];
+    if (expected.number == 0 && expected.length > m) expected = (struct answer){BUFFER_REFUSAL, zeros, 0};
+    uint8_t *copy = sheet_end - n, *buffer = buffer_end - m;
+    memcpy(copy, sheet, n);
+    memset(buffer, 0xA5, m);
+    memset(notes, 0xA5, sizeof notes);
+    uint64_t got = module_info_with_replaced_answer(copy, n, buffer, m, notes, k);
+    calls++;
+    second_notes(sheet, n, m, others, k);
+    if (k == NOTES && m == LARGE) {
+        size_t i = 1;
+        while (i <= others[0] && !others[i]) i++;
+        replaced += i <= others[0];
+    }
+    if (got != expected.number + 256 * (uint64_t)expected.length || memcmp(buffer, expected.report, expected.length)
+        || memcmp(buffer + expected.length, zeros, m - expected.length)) {
+        snprintf(message, sizeof message, "buffer %zu, %zu notes: the report", m, k);
+        return message;
+    }
+    for (size_t i = 0; i < k; i++)
+        if (notes[i] != others[i]) {
+            snprintf(message, sizeof message, "buffer %zu, %zu notes: note %zu is %zu, second has %zu", m, k, i, notes[i], others[i]);
+            return message;
+        }
+    for (size_t i = k * sizeof *notes; i < sizeof notes; i++)
+        if (((uint8_t *)notes)[i] != 0xA5) return "bytes behind the notes are changed";
+    return NULL;
+}
+
 /* The same with five sizes: exact, one less and one more for a report; some small size for a refusal. */
 static const char *library_differs(const uint8_t *sheet, size_t n, struct answer expected) {
     size_t length = expected.length;
     size_t sizes[] = {LARGE, 0, length ? length : 7, length ? length - 1 : 1, length + 1};
     const char *message = NULL;
     for (size_t i = 0; i < sizeof sizes / sizeof *sizes && !message; i++) message = difference(sheet, n, expected, sizes[i]);
+    if (!message) message = notes_differ(sheet, n, expected, LARGE, NOTES);
+    if (!message) message = notes_differ(sheet, n, expected, LARGE, 3);
+    if (!message) message = notes_differ(sheet, n, expected, LARGE, 0);
+    if (!message && length) message = notes_differ(sheet, n, expected, length - 1, NOTES);
     return message;
 }
 
@@ -357,6 +398,7 @@ int main(int argc, char **argv) {
     printf("left out, with a text that does not stand between its positions: %lu sheets\n", not_shown);
 #ifdef LIBRARY
     printf("library and oracle: %lu sheets differ\nlibrary and second: %lu sheets differ\n", library_and_oracle, library_and_second);
+    printf("sheets with a replaced character: %lu\n", replaced);
     printf("source map by ECMA-426: %lu found, %lu none, %lu refused; library and second: %lu sheets differ\n", maps, no_maps, refused_maps, maps_differ);
     printf("%lu sheets, %lu calls, %lu sheets differ\n", total, calls, differ);
 #else

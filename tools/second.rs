@@ -96,6 +96,10 @@ fn exact(b: &[u8]) -> bool {
     (0..b.len()).all(|i| !is_surrogate(b, i))
 }
 
+fn surrogates(b: &[u8]) -> usize {
+    (0..b.len()).filter(|i| is_surrogate(b, *i)).count()
+}
+
 fn lossy(b: &[u8]) -> Vec<u8> {
     let mut out = b.to_vec();
     for i in 0..b.len() {
@@ -652,6 +656,8 @@ fn declaration(b: &[u8], i: usize) -> Option<(Quote, u8)> {
 struct Writer<'a> {
     sheet: &'a Sheet,
     out: Vec<u8>,
+    /// For each dependency, how many surrogates its one text has.
+    replaced: Vec<usize>,
 }
 
 enum Attributes {
@@ -899,17 +905,19 @@ impl Sheet {
     fn fixed(&self, p: &Patterns, kind: u8, n: &Node, side_effect: u8, a: Attributes, w: &mut Writer, count: &mut usize) {
         self.start(p, kind, n, w, count);
         let s = n.string.as_ref().expect("a String");
+        w.replaced.push(surrogates(&s.text));
         w.specifier(&(lossy(&s.text), s.span));
         w.out.push(side_effect);
         w.attributes(a);
     }
 
-    fn report(&self) -> Read<Vec<u8>> {
+    /// The report, and the numbers beside its dependencies.
+    fn report(&self) -> Read<(Vec<u8>, Vec<usize>)> {
         let p = patterns();
-        let mut dependencies = Writer { sheet: self, out: Vec::new() };
+        let mut dependencies = Writer { sheet: self, out: Vec::new(), replaced: Vec::new() };
         let mut count = 0;
         self.walk(&p, &self.root, &mut dependencies, &mut count)?;
-        let mut w = Writer { sheet: self, out: vec![u8::from(self.script)] };
+        let mut w = Writer { sheet: self, out: vec![u8::from(self.script)], replaced: dependencies.replaced };
         w.number(count);
         w.out.extend(dependencies.out);
         self.references(&p, &mut w);
@@ -924,7 +932,7 @@ impl Sheet {
         self.jsdoc(&mut w);
         let end = self.group(1, self.span.1);
         w.optional(end.iter().rev().find_map(|c| self.captured(c, &p.source_map, true, false)));
-        Ok(w.out)
+        Ok((w.out, w.replaced))
     }
 }
 
@@ -948,6 +956,7 @@ fn chain(n: &Node) -> Option<Vec<Option<Vec<u8>>>> {
 fn write_argument(w: &mut Writer, n: &Node) -> Read<()> {
     let parts = match n.tag {
         1 => {
+            w.replaced.push(surrogates(&n.text));
             w.out.push(1);
             w.text(&lossy(&n.text));
             return Ok(());
@@ -956,6 +965,7 @@ fn write_argument(w: &mut Writer, n: &Node) -> Read<()> {
             let pieces: Option<Vec<&Vec<u8>>> = n.pieces.iter().map(Option::as_ref).collect();
             let pieces = pieces.ok_or(9)?;
             if let [piece] = pieces[..] {
+                w.replaced.push(surrogates(piece));
                 w.out.push(1);
                 w.text(&lossy(piece));
                 return Ok(());
@@ -974,6 +984,7 @@ fn write_argument(w: &mut Writer, n: &Node) -> Read<()> {
         4 => chain(n),
         _ => None,
     };
+    w.replaced.push(0);
     let Some(parts) = parts else {
         w.out.push(0);
         return Ok(());
@@ -1042,12 +1053,17 @@ fn call_attributes(argument: Option<&(bool, Span, Node)>) -> Attributes {
     found
 }
 
-/// The report of a sheet, however long, or its refusal (1 to 9, or 13); of no bytes eight zero bytes.
-pub fn answer(sheet: &[u8]) -> Read<Vec<u8>> {
+/// The report of a sheet, however long, or its refusal (1 to 9, or 13); of no bytes eight zero bytes. With it the numbers beside its dependencies:
+/// how many surrogates the one text of each has.
+pub fn answer_with_replaced(sheet: &[u8]) -> Read<(Vec<u8>, Vec<usize>)> {
     if sheet.is_empty() {
-        return Ok(vec![0; 8]);
+        return Ok((vec![0; 8], Vec::new()));
     }
     decode(sheet)?.report()
+}
+
+pub fn answer(sheet: &[u8]) -> Read<Vec<u8>> {
+    Ok(answer_with_replaced(sheet)?.0)
 }
 
 /// # Safety
@@ -1063,6 +1079,27 @@ pub unsafe extern "C" fn second_answer(sheet: *const u8, n: usize, buffer: *mut 
         Ok(report) => {
             buffer[..report.len()].copy_from_slice(&report);
             256 * report.len() as u64
+        }
+    }
+}
+
+/// The numbers as the library notes them in m numbers, for a report of at most `room` bytes: how many follow, these as far as they fit, and zeros.
+///
+/// # Safety
+/// `sheet` has `n` bytes to read, and `notes` has `m` numbers to write.
+#[unsafe(no_mangle)]
+pub unsafe extern "C" fn second_notes(sheet: *const u8, n: usize, room: usize, notes: *mut usize, m: usize) {
+    let sheet = if n == 0 { &[] } else { unsafe { std::slice::from_raw_parts(sheet, n) } };
+    let notes = if m == 0 { &mut [] } else { unsafe { std::slice::from_raw_parts_mut(notes, m) } };
+    notes.fill(0);
+    let numbers = match answer_with_replaced(sheet) {
+        Ok((report, numbers)) if report.len() <= room => numbers,
+        _ => Vec::new(),
+    };
+    if let Some((count, rest)) = notes.split_first_mut() {
+        for (place, number) in rest.iter_mut().zip(&numbers) {
+            *place = *number;
+            *count += 1;
         }
     }
 }

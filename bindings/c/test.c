@@ -19,6 +19,20 @@
 static unsigned long calls, failures;
 static size_t largest = LARGE;
 
+/* The answer with notes is the same. The first note says how many numbers follow, the others are 0. */
+static void noted(const char *name, const uint8_t *sheet, size_t n, size_t m, uint64_t expected) {
+    static uint8_t buffer[LARGE];
+    size_t notes[4], i;
+    uint64_t answer;
+
+    memset(notes, FILL, sizeof notes);
+    answer = module_info_with_replaced_answer(sheet, n, buffer, m, notes, 3);
+    calls++;
+    for (i = notes[0] < 3 ? 1 + notes[0] : 0; i < 3 && !notes[i]; i++) continue;
+    if ((answer != expected || i < 3 || (MODULE_INFO_NUMBER(answer) && notes[0]) || notes[3] % 256 != FILL) && ++failures <= SHOWN)
+        printf("%s, notes: number %d and %lu notes\n", name, MODULE_INFO_NUMBER(answer), (unsigned long)notes[0]);
+}
+
 /* Compares the answer with a buffer of m bytes: number, length, every byte of the buffer, and nothing beside it. The sheet has a block of its
  * own, so that valgrind sees what is read beside it. */
 static void answers(const char *name, unsigned long index, const uint8_t *sheet, size_t n, size_t m, int number, const uint8_t *report,
@@ -35,6 +49,7 @@ static void answers(const char *name, unsigned long index, const uint8_t *sheet,
     memset(room, FILL, EDGE + m + EDGE);
     answer = module_info_answer(copy, n, buffer, m);
     calls++;
+    noted(name, copy, n, m, answer);
     free(copy);
     if (MODULE_INFO_NUMBER(answer) != number || MODULE_INFO_LENGTH(answer) != length) problem = "number or length";
     for (i = 0; i < m && !problem; i++)

@@ -37,7 +37,7 @@ from .analysis import (
 from .citation import Line, citation, lines
 from .decode import decode, source_of
 from .json_form import to_json
-from .library import module_info, source_map
+from .library import module_info, module_info_with_replaced, source_map
 from .refusal import MEANINGS, Refused
 
 __all__ = [
@@ -64,6 +64,7 @@ __all__ = [
     "decode",
     "lines",
     "module_info",
+    "module_info_with_replaced",
     "source_map",
     "source_of",
     "to_json",

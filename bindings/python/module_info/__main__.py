@@ -8,7 +8,7 @@ standard error says; 2 if the use is wrong, or reading or writing failed.
 import sys
 from typing import List
 
-from . import Refused, citation, module_info, source_of, to_json
+from . import Refused, citation, module_info_with_replaced, source_of, to_json
 
 LONGEST = 65_537
 
@@ -29,8 +29,8 @@ def main(arguments: List[str]) -> int:
     for name in arguments[1:]:
         try:
             sheet = read(name)
-            info = module_info(sheet)
-            out = citation(info, source_of(sheet)) if arguments[0] == "cite" else to_json(info) + "\n"
+            info, replaced = module_info_with_replaced(sheet)
+            out = citation(info, source_of(sheet), replaced) if arguments[0] == "cite" else to_json(info) + "\n"
         except Refused as refusal:
             print(f"module_info: {name}: {refusal}", file=sys.stderr)
             status = 1

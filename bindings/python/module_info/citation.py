@@ -1,7 +1,7 @@
 """The lines that the program `cite` prints (document 01, "Report"; docs/READING.md)."""
 
 from dataclasses import dataclass
-from typing import List, Optional
+from typing import List, Optional, Sequence
 
 from .analysis import ModuleInfo, Position, PositionRange, SpecifierWithRange, StaticDependencyDescriptor
 
@@ -20,34 +20,35 @@ class Line:
         return f"{self.letter} {_place(self.range.start, rows)}-{_place(self.range.end, rows)} {_printed(self.text)}"
 
 
-def lines(info: ModuleInfo) -> List[Line]:
-    """The entries of a report, in its order, each with its letter."""
+def lines(info: ModuleInfo, replaced: Sequence[int] = ()) -> List[Line]:
+    """The entries of a report, in its order, each with its letter. `replaced` says how many characters were replaced in each dependency's text."""
     found: List[Line] = []
 
     def add(letter: str, specifier: Optional[SpecifierWithRange]) -> None:
         if specifier is not None:
             found.append(Line(letter, specifier.range, specifier.text))
 
-    for d in info.dependencies:
+    for i, d in enumerate(info.dependencies):
+        letter = "d" if any(replaced[i : i + 1]) else "D"
         if isinstance(d, StaticDependencyDescriptor):
-            found.append(Line("D", d.specifier_range, d.specifier))
+            found.append(Line(letter, d.specifier_range, d.specifier))
         else:
-            found.append(Line("D", d.argument_range, d.argument if isinstance(d.argument, str) else None))
+            found.append(Line(letter, d.argument_range, d.argument if isinstance(d.argument, str) else None))
         add("T", d.types_specifier)
     for r in info.ts_references:
         add("R", r.specifier)
     add("S", info.self_types_specifier)
     add("X", info.jsx_import_source)
     add("Y", info.jsx_import_source_types)
-    for i in info.jsdoc_imports:
-        add("J", i.specifier)
+    for j in info.jsdoc_imports:
+        add("J", j.specifier)
     add("M", info.source_map_url)
     return found
 
 
-def citation(info: ModuleInfo, source: str) -> str:
+def citation(info: ModuleInfo, source: str, replaced: Sequence[int] = ()) -> str:
     """What `cite` prints of a sheet with this source."""
-    found = lines(info)
+    found = lines(info, replaced)
     return f"module {len(found)}\n" + "".join(f"{line.printed(source)}\n" for line in found)
 
 

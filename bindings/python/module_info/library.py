@@ -3,7 +3,7 @@
 import ctypes
 import os
 from pathlib import Path
-from typing import Optional
+from typing import List, Optional, Tuple
 
 from .analysis import ModuleInfo, Position, PositionRange, SpecifierWithRange
 from .decode import decode
@@ -28,6 +28,10 @@ def _load() -> ctypes.CDLL:
         library.module_info_answer.restype = ctypes.c_uint64
         library.module_info_source_map.argtypes = [ctypes.c_char_p, ctypes.c_size_t, ctypes.POINTER(ctypes.c_uint64)]
         library.module_info_source_map.restype = ctypes.c_uint64
+        library.module_info_with_replaced_answer.argtypes = [
+            *library.module_info_answer.argtypes, ctypes.POINTER(ctypes.c_size_t), ctypes.c_size_t,
+        ]
+        library.module_info_with_replaced_answer.restype = ctypes.c_uint64
         _library = library
     return _library
 
@@ -45,6 +49,17 @@ def report(sheet: bytes, size: int = BUFFER) -> bytes:
 def module_info(sheet: bytes, size: int = BUFFER) -> ModuleInfo:
     """What the module of a sheet asks for. Raises `Refused`."""
     return decode(report(sheet, size))
+
+
+def module_info_with_replaced(sheet: bytes, size: int = BUFFER) -> Tuple[ModuleInfo, List[int]]:
+    """The same, with how many characters were replaced in the text of each dependency: a lone surrogate is reported as U+FFFD."""
+    buffer = ctypes.create_string_buffer(max(size, 1))
+    notes = (ctypes.c_size_t * (1 + size // 8))()
+    answer = _load().module_info_with_replaced_answer(bytes(sheet), len(sheet), buffer, size, notes, len(notes))
+    number, length = answer % 256, answer // 256
+    if number != 0:
+        raise Refused(number)
+    return decode(buffer.raw[:length]), notes[1 : 1 + notes[0]]
 
 
 def source_map(sheet: bytes) -> Optional[SpecifierWithRange]:

@@ -13,7 +13,7 @@ import unittest
 from pathlib import Path
 
 import module_info as package
-from module_info import ModuleInfo, Position, Refused, citation, decode, module_info, source_map, source_of, to_json
+from module_info import ModuleInfo, Position, Refused, citation, decode, module_info, module_info_with_replaced, source_map, source_of, to_json
 from module_info.library import report
 
 ROOT = Path(__file__).resolve().parents[3]
@@ -70,8 +70,11 @@ class Answers(unittest.TestCase):
     def test_examples(self):
         for sheet in EXAMPLES:
             with self.subTest(sheet=sheet.name):
-                info = module_info(sheet.read_bytes())
-                self.assertEqual(citation(info, source_of(sheet.read_bytes())), sheet.with_suffix(".citation").read_text("utf-8"))
+                info, replaced = module_info_with_replaced(sheet.read_bytes())
+                self.assertEqual(info, module_info(sheet.read_bytes()))
+                self.assertEqual(len(replaced), len(info.dependencies))
+                printed = citation(info, source_of(sheet.read_bytes()), replaced)
+                self.assertEqual(printed, sheet.with_suffix(".citation").read_text("utf-8"))
                 self.assertEqual(to_json(info) + "\n", sheet.with_suffix(".json").read_text("utf-8"))
 
     def test_no_bytes(self):

@@ -54,6 +54,8 @@ pub const MAX_SHEET: usize = 65_536;
 unsafe extern "C" {
     /// The number (0, or that of the refusal) and 256 times the report's length. Writes every byte of the buffer.
     fn module_info_answer(sheet: *const u8, n: usize, buffer: *mut u8, m: usize) -> u64;
+    /// The same. Writes every number of the notes as well.
+    fn module_info_with_replaced_answer(sheet: *const u8, n: usize, buffer: *mut u8, m: usize, notes: *mut usize, k: usize) -> u64;
 
     /// That of the refusal; else 256 where there is a source map, and 0 where there is none. Writes the six places.
     fn module_info_source_map(sheet: *const u8, n: usize, places: *mut [u64; 6]) -> u64;
@@ -78,11 +80,34 @@ unsafe extern "C" {
 pub fn module_info(sheet: &[u8], buffer: &mut [u8]) -> Result<usize, Refusal> {
     // SAFETY: both slices are valid for their lengths and do not overlap, and the function keeps neither.
     let answer = unsafe { module_info_answer(sheet.as_ptr(), sheet.len(), buffer.as_mut_ptr(), buffer.len()) };
+    unpacked(answer, buffer.len())
+}
+
+/// The same, with how many characters were replaced in the text of each dependency: a lone surrogate is reported as U+FFFD. The first of the notes
+/// says how many numbers follow it, one for each dependency in order, as far as there is room; all else is 0, and all of them after a refusal.
+///
+/// ```
+/// use module_info::module_info_with_replaced;
+///
+/// let mut buffer = [1; 9];
+/// let mut notes = [7; 3];
+/// assert_eq!(module_info_with_replaced(b"", &mut buffer, &mut notes), Ok(8));
+/// assert_eq!(notes, [0; 3]);
+/// ```
+pub fn module_info_with_replaced(sheet: &[u8], buffer: &mut [u8], notes: &mut [usize]) -> Result<usize, Refusal> {
+    let (n, m, k) = (sheet.len(), buffer.len(), notes.len());
+    // SAFETY: the slices are valid for their lengths and do not overlap, and the function keeps none.
+    let answer = unsafe { module_info_with_replaced_answer(sheet.as_ptr(), n, buffer.as_mut_ptr(), m, notes.as_mut_ptr(), k) };
+    unpacked(answer, m)
+}
+
+/// Number and length in one, with a buffer of m bytes.
+fn unpacked(answer: u64, m: usize) -> Result<usize, Refusal> {
     let (number, length) = ((answer % 256) as u8, (answer / 256) as usize);
     match Refusal::from_number(number) {
         Some(refusal) => Err(refusal),
         None => {
-            assert!(number == 0 && length <= buffer.len(), "the linked library does not answer as document 01 says");
+            assert!(number == 0 && length <= m, "the linked library does not answer as document 01 says");
             Ok(length)
         }
     }

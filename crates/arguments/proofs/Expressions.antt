@@ -81,17 +81,17 @@ module _ (s source : List ℕ) (at levels : ℕ) {r : HeadRead} {sp : Span} {x :
       let (l, u, left, behind) = then-ok (node source (levels - 1) (drop (next .at) s)) _ (rw (h, off) at follows) in
       let (m, v, right, e) = then-ok (node source (levels - 1) u) _ behind in
       let minus : binary sp false l m ≡ n = cc in
-      rw (← minus) (record { side = refl; parts = refl; whole = refl })
+      rw (← minus) (record { side = refl; parts = refl; whole = refl; single = refl })
 
   pub reads-other : OneOf others (tagOf the-type x) → Unknown n
   unfolding chain argumentOf
   reads-other k =
       rw follows at
       (shape-by-head s source (levels - 1) sp Unknown others
-      (λ n e. record { side = rw e; parts = no-chain n e; whole = rw e })
+      (λ n e. record { side = rw e; parts = no-chain n e; whole = rw e; single = rw e })
       (λ i. absurd (miss others 1 tt i))
-      (λ i x. record { side = refl; parts = refl; whole = refl })
+      (λ i x. record { side = refl; parts = refl; whole = refl; single = refl })
       (λ i. absurd (miss others 3 tt i))
       (λ i. absurd (miss others 4 tt i))
-      (λ i ps. record { side = refl; parts = refl; whole = refl })
+      (λ i ps. record { side = refl; parts = refl; whole = refl; single = refl })
       x k .at (drop (next .at) s))

@@ -22,7 +22,7 @@ use Rattle.sheet.specs.Walked.{one}
 use Rattle.heads.proofs.Many.{many-first, many-next, many-end}
 use Rattle.report.specs.ModuleInfo as info
 use Rattle.arguments.specs.code.Views.{holeParts}
-use Rattle.arguments.specs.Argument.{pieceParts, templateParts, ofPieces}
+use Rattle.arguments.specs.Argument.{pieceParts, templateParts, ofPieces, onePiece}
 
 -- a piece is added in front
 one-piece : (s : List ℕ) {add : Pieces → Pieces} {t : List ℕ} → piece s ≡ ok add t → (p : Option (List ℕ)) × ((ps : Pieces) → add ps ≡ p ∷ ps)
@@ -87,11 +87,11 @@ module _ (holes : ℕ) (s : List ℕ) {ps : Pieces} {u : List ℕ} (read : many 
       let (qs, behind, is) = many-next [] piece (holes + 1) s (omega arith) e read in
       sym is ∙ ap (p ∷_) (many-end [] piece (holes + 1 - 1) t (omega arith) behind)
 
-  pub of-parts : (holes ≡ 0 → ⊥) → ofPieces ps ≡ info.template (templateParts ps)
+  pub of-parts : (holes ≡ 0 → ⊥) → (ofPieces ps ≡ info.template (templateParts ps)) × (onePiece ps ≡ Option.none)
   of-parts some =
       let (p, qs, t, others, is) = some-piece (holes + 1) s (omega arith) read in
       let (q, rs, v, behind, has) = some-piece (holes + 1 - 1) t (omega arith) others in
       by-two p q rs (ap (p ∷_) has ∙ is)
     where
-      by-two : (p q : Option (List ℕ)) (rs : Pieces) → p ∷ q ∷ rs ≡ ps → ofPieces ps ≡ info.template (templateParts ps)
-      by-two p q rs is = rw (← is)
+      by-two : (p q : Option (List ℕ)) (rs : Pieces) → p ∷ q ∷ rs ≡ ps → (ofPieces ps ≡ info.template (templateParts ps)) × (onePiece ps ≡ Option.none)
+      by-two p q rs is = rw (← is) (refl, refl)

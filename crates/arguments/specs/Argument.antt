@@ -3,7 +3,7 @@ use mathlib.Core.Bool.{cond}
 use mathlib.Core.List.{List, [], _∷_, _++_}
 use mathlib.Core.Option.{Option}
 use Prim.Native.Nat.{ℕ}
-use Rattle.text.specs.Lossy.{lossy}
+use Rattle.text.specs.Lossy.{lossy, replaced}
 use Rattle.sheet.specs.Tree.{Pieces, Node, other, string, name, template, binary, object, importCall, call, importDecl, namedExport, exportFrom, exportAll, importType, importEquals, importRequire, moduleDecl}
 use Rattle.sheet.specs.Shape.{Shape, text, named, pieces, operation, properties, anything, shape}
 use Rattle.report.specs.ModuleInfo.{DynamicTemplatePart, DynamicArgument}
@@ -74,3 +74,25 @@ ofShape anything parts = info.expr
 
 unfoldable pub argumentOf : Node → DynamicArgument
 argumentOf n = ofShape (shape n) (chain n)
+
+-- ---- the single text of an argument, of which alone the surrogates are counted
+
+-- the text of a template without holes
+abbrev pub onePiece : Pieces → Option (List ℕ)
+onePiece [] = Option.none
+onePiece (p ∷ []) = p
+onePiece (p ∷ q ∷ ps) = Option.none
+
+-- the text of a String or of a template without holes, in WTF-8; parts are none
+abbrev pub singleText : Shape → Option (List ℕ)
+singleText (text x) = Option.some x
+singleText (named x) = Option.none
+singleText (pieces ps) = onePiece ps
+singleText (operation plus l r) = Option.none
+singleText (properties ps) = Option.none
+singleText anything = Option.none
+
+-- the number of surrogates of such a text, none of what has none
+abbrev pub replacedIn : Option (List ℕ) → ℕ
+replacedIn Option.none = 0
+replacedIn (Option.some x) = replaced x

@@ -8,6 +8,7 @@ use super::template::count_parts;
 use super::template::put_parts;
 use heads::parts::PieceRead;
 use heads::parts::read_piece;
+use report::writer::Lossy;
 use report::writer::Place;
 use wire::Cursor;
 ghost use mathlib.Core.Path.{_≡_};
@@ -19,10 +20,11 @@ ghost use Rattle.laws.specs.code.Left.{Free};
 ghost use Rattle.wire.specs.Number.{largest};
 ghost use Rattle.sheet.specs.Tree.{Node, Pieces};
 ghost use Rattle.sheet.specs.Nodes.{node, many, piece};
+ghost use Rattle.sheet.specs.Shape.{shape};
 ghost use Rattle.report.specs.ModuleInfo as info;
 ghost use Rattle.report.specs.Encode.{encodeArgument};
 ghost use Rattle.report.specs.Buffer.{wrote, bufferAs};
-ghost use Rattle.arguments.specs.Argument.{ofPieces, argumentOf};
+ghost use Rattle.arguments.specs.Argument.{ofPieces, argumentOf, onePiece, singleText, replacedIn};
 ghost use Rattle.arguments.specs.code.Views.{Stands, ArgumentWithin};
 
 // Offsets into the sheet stand for the Rust's `Vec` of parts.
@@ -44,7 +46,7 @@ pub enum DynamicArgument {
 fn parse_template(sheet: &[u8], c: Cursor, holes: usize) -> DynamicArgument
     requires { ⌜ holes ≤ largest ⌝ }
     ensures { λ r. ⌜ ((source : List ℕ) (levels : ℕ) (ps : Pieces) (u : List ℕ) → many [] piece (holes + 1) (drop (c .at) (now (sheet .entry))) ≡ ok ps u
-        → Stands (now (sheet .entry)) source levels r (ofPieces ps)) ⌝ }
+        → Stands (now (sheet .entry)) source levels r (ofPieces ps) (replacedIn (onePiece ps))) ⌝ }
     ensures { λ r. ⌜ ArgumentWithin (length (now (sheet .entry))) r ⌝ }
 {
     if holes == 0 {
@@ -64,7 +66,7 @@ fn parse_template(sheet: &[u8], c: Cursor, holes: usize) -> DynamicArgument
 // The argument whose node is at a cursor, with so many levels left, its own among them.
 pub fn parse_argument(sheet: &[u8], source: &[u8], c: Cursor, levels: usize) -> DynamicArgument
     ensures { λ r. ⌜ ((n : Node) (t : List ℕ) → node (now (source .entry)) levels (drop (c .at) (now (sheet .entry))) ≡ ok n t
-        → Stands (now (sheet .entry)) (now (source .entry)) levels r (argumentOf n)) ⌝ }
+        → Stands (now (sheet .entry)) (now (source .entry)) levels r (argumentOf n) (replacedIn (singleText (shape n)))) ⌝ }
     ensures { λ r. ⌜ ArgumentWithin (length (now (sheet .entry))) r ⌝ }
 {
     match read_expression(sheet, source, c, levels) {
@@ -78,7 +80,8 @@ pub fn parse_argument(sheet: &[u8], source: &[u8], c: Cursor, levels: usize) -> 
     }
 }
 
-// Writes an argument. Where the sheet has no such argument, the buffer is left free.
+// Writes an argument, and counts the surrogates that are replaced in its single text: parts are not counted. Where the sheet has no such argument,
+// the buffer is left free.
 pub fn put_argument(
     sheet: &[u8],
     source: &[u8],
@@ -86,14 +89,19 @@ pub fn put_argument(
     a: DynamicArgument,
     out: &mut [u8],
     place: Place,
-) -> Place
+) -> Lossy
     requires { ⌜ ArgumentWithin (length (now sheet)) a ⌝ }
-    ensures { λ r. ⌜ ((v : info.DynamicArgument) → Stands (now (sheet .entry)) (now (source .entry)) levels a v
-        → bufferAs (now (out .exit)) r ≡ wrote (bufferAs (now (out .entry)) place) (encodeArgument v)) ⌝ }
+    ensures { λ r. ⌜ ((v : info.DynamicArgument) (replacements : ℕ) → Stands (now (sheet .entry)) (now (source .entry)) levels a v replacements
+        → (bufferAs (now (out .exit)) (r .place) ≡ wrote (bufferAs (now (out .entry)) place) (encodeArgument v)) × (r .replaced ≡ replacements)) ⌝ }
     ensures { λ _. ⌜ Free (now (out .entry)) (now (out .exit)) ⌝ }
 {
     match a {
-        DynamicArgument::Expr => place.put(out, 0),
+        DynamicArgument::Expr => {
+            Lossy {
+                place: place.put(out, 0),
+                replaced: 0,
+            }
+        }
         DynamicArgument::String(from, to) => {
             let p = place.put(out, 1);
             p.put_lossy_text(out, &sheet[from..to])
@@ -101,12 +109,17 @@ pub fn put_argument(
         DynamicArgument::Template { parts, holes, at } => {
             let p = place.put(out, 2);
             let p = p.put_number(out, parts);
-            put_parts(sheet, Cursor { at }, holes, out, p)
+            Lossy {
+                place: put_parts(sheet, Cursor { at }, holes, out, p),
+                replaced: 0,
+            }
         }
         DynamicArgument::Chain(n, at) => {
             let p = place.put(out, 2);
             let p = p.put_number(out, n);
-            put_bin(sheet, source, Cursor { at }, levels, out, p).place
+            let written = put_bin(sheet, source, Cursor { at }, levels, out, p);
+            let place = written.place;
+            Lossy { place, replaced: 0 }
         }
     }
 }

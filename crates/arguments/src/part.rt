@@ -17,7 +17,7 @@ pub fn put_string(sheet: &[u8], from: usize, to: usize, out: &mut [u8], place: P
         ≡ wrote (bufferAs (now (out .entry)) place) (encodeOptional encodeText (Option.some (lossy (part (now (sheet .entry)) from to)))) ⌝ }
 {
     let p = place.put(out, 1);
-    p.put_lossy_text(out, &sheet[from..to])
+    p.put_lossy_text(out, &sheet[from..to]).place
 }
 
 // Writes a part that is an expression.

@@ -16,17 +16,20 @@ use Rattle.citation.specs.Citation.{digits, escaped, citePosition, citeR
 abbrev rows : List String → List ℕ
 rows l = flatMap (λ r. ascii r ++ (0x0A ∷ [])) l
 
-abbrev cases : List (List ℕ × List ℕ × List String)
+-- a source, a report, the numbers beside its dependencies, and the lines
+abbrev cases : List (List ℕ × List ℕ × List ℕ × List String)
 cases =
-    ([], 0 ∷ 0 ∷ 0 ∷ 0 ∷ 0 ∷ 0 ∷ 0 ∷ 0 ∷ [], "module 0" ∷ [])
+    ([], 0 ∷ 0 ∷ 0 ∷ 0 ∷ 0 ∷ 0 ∷ 0 ∷ 0 ∷ [], [], "module 0" ∷ [])
     ∷ (
       [],
       0 ∷ 0 ∷ 0 ∷ 0 ∷ 0 ∷ 0 ∷ 1 ∷ 1 ∷ 6 ∷ 0x2E ∷ 0x2F ∷ 0x61 ∷ 0x2E ∷ 0x74 ∷ 0x73 ∷ 0 ∷ 12 ∷ 0 ∷ 20 ∷ 0 ∷ 0 ∷ [],
+      [],
       "module 1" ∷ "J 1:13-1:21 ./a.ts" ∷ [],
     )
     ∷ (
       0x0A ∷ 0xC3 ∷ 0xA9 ∷ 0xF0 ∷ 0x9F ∷ 0x98 ∷ 0x80 ∷ 0xE2 ∷ 0x82 ∷ 0xAC ∷ 0x61 ∷ [],  -- a line of four characters, the second of four bytes
       0 ∷ 0 ∷ 0 ∷ 0 ∷ 0 ∷ 0 ∷ 1 ∷ 1 ∷ 1 ∷ 0x61 ∷ 1 ∷ 1 ∷ 1 ∷ 4 ∷ 0 ∷ 0 ∷ [],
+      [],
       "module 1" ∷ "J 2:2-2:6 a" ∷ [],
     )
     ∷ (
@@ -43,11 +46,12 @@ cases =
           ∷ 1 ∷ 1 ∷ 1 ∷ 0x68 ∷ 10 ∷ 12 ∷ 10 ∷ 15 ∷ 1  -- JSDoc entries
           ∷ 1 ∷ 1 ∷ 0x69 ∷ 11 ∷ 21 ∷ 11 ∷ 22  -- source map
           ∷ [],
+      0 ∷ 0 ∷ 2 ∷ [],
       "module 10"
           ∷ "D 10:8-10:201 \\x5C\\x07\\x7Fe"
           ∷ "T 1:2-1:5 t"
           ∷ "D 3:9-3:13 ?"
-          ∷ "D 4:8-4:11 b"
+          ∷ "d 4:8-4:11 b"
           ∷ "R 7:23-7:26 d"
           ∷ "S 8:18-8:21 e"
           ∷ "X 9:21-9:22 f"
@@ -58,7 +62,7 @@ cases =
     )
     ∷ []
 
-as-stated : (map (λ c. onOk (citation (c .0)) (report (c .1))) cases ≡ map (λ c. ok (rows (c .2)) []) cases) × (refusal 10 ≡ rows ("refused 10" ∷ []))
+as-stated : (map (λ c. onOk (citation (c .0) (c .2)) (report (c .1))) cases ≡ map (λ c. ok (rows (c .3)) []) cases) × (refusal 10 ≡ rows ("refused 10" ∷ []))
 unfolding byte below numbered flag bytes lastGroup groups number flatMap optional times list text position range specifier reference jsDoc keyValue attributes argument rest
     dependency report fromLine foursIn recounted digits escaped citePosition citeRange printed lines title citation refusal
 as-stated = (refl, refl)

@@ -8,7 +8,7 @@ use Prim.Native.Char.{code}
 use native.Mathlib.Nat.{pow-suc, one-le-pow}
 use native.Mathlib.Omega.{arith}
 use lib.Dec.{ltb}
-use lib.ListN.{length, length-append}
+use lib.ListN.{length, getD, drop, length-append}
 use borrow.Author.Tests.{ltb-true, ltb-false}
 use Rattle.laws.specs.Quoted.{ascii}
 use Rattle.laws.specs.Codec.{IfThere, All}
@@ -21,8 +21,9 @@ use Rattle.report.specs.ModuleInfo.{PositionRange, SpecifierWithRange, DynamicA
 use Rattle.report.specs.Encode.{encodeList, encodePosition, encodeRange, encodeSpecifier, encodeReference, encodeJsDoc, encodeArgument, encodeStatic, encodeDynamic, encodeDependency, encode}
 use Rattle.report.specs.Valid.{ValidPosition, ValidRange, ValidSpecifier, ValidReference, ValidJsDoc, ValidDependency, Valid}
 use Rattle.citation.specs.Columns.{fromLine, foursIn, recounted, recountedRange}
-use Rattle.citation.specs.Citation.{digits, decimal, hexDigit, isEscaped, escaped, citePosition, citeRange, Line, printed, citeSpecifier, citeOptional, argumentText, citeArgument, citeReference, citeJsDoc, citeDependency, lines, title, citation, refusal}
+use Rattle.citation.specs.Citation.{digits, decimal, hexDigit, isEscaped, escaped, citePosition, citeRange, Line, printed, citeSpecifier, citeOptional, argumentText, citeArgument, citeReference, citeJsDoc, citeDependency, dependencyLetter, citeNoted, citeEach, lines, title, citation, refusal}
 use Rattle.citation.proofs.Fours.{fours-most}
+use Rattle.citation.proofs.Printing.{each-plain}
 
 digits-short : (k places n : ℕ) → n < 10 ^ suc k → length (digits places n) ≤ suc k
 unfolding digits
@@ -60,7 +61,7 @@ groups-long (suc k) j n l h = by-size (ltb n 128) refl j l h (λ j. groups-long 
     by-size false e zero l h above = rw e (omega arith)
     by-size false e (suc j) l h above = rw e (omega (arith, above j (omega arith) (omega (arith, pow-suc 128 j))))
 
-number-long : (n : ℕ) → 0 < length (encodeNumber n)
+pub number-long : (n : ℕ) → 0 < length (encodeNumber n)
 unfolding encodeNumber encodeGroups
 number-long n = by-size (ltb n 128)
   where
@@ -92,7 +93,7 @@ number-short n m v most = first (ltb n 128) refl
     first true e = omega (arith, digits-short 2 20 (m + 1) (omega (arith, ltb-true n 128 e)), number-long n)
     first false e = second (ltb n 16384) refl (ltb-false n 128 e)
 
-range-long : (r : PositionRange) → 4 ≤ length (encodeRange r)
+pub range-long : (r : PositionRange) → 4 ≤ length (encodeRange r)
 unfolding encodeRange encodePosition
 range-long r = simp length-append (omega (arith, number-long (r .start .line), number-long (r .start .column), number-long (r .end .line), number-long (r .end .column)))
 
@@ -147,14 +148,18 @@ module _ (source : List ℕ) where
   optional-short letter Option.none v = omega arith
   optional-short letter (Option.some s) v = omega (arith, specifier-short letter s v)
 
+  each-short : {A : Type 0} (f : ℕ → A → List Line) (encode : A → List ℕ) (P : A → Type 0) → ((number : ℕ) (a : A) → P a → Short (f number a) (encode a))
+      → (numbers : List ℕ) (l : List A) → All P l → length (flatMap (printed source) (citeEach f numbers l)) + 4 ≤ 4 * length (encodeList encode l)
+  unfolding encodeList flatMap
+  each-short {A} f encode P h numbers l v = rw length-append (omega (arith, items numbers l v, number-long (length l)))
+    where
+      items : (numbers : List ℕ) (l : List A) → All P l → Short (citeEach f numbers l) (flatMap encode l)
+      items numbers [] v = omega arith
+      items numbers (a ∷ l) v = simp (flatMap-append, length-append) (omega (arith, h (getD numbers 0 0) a (v .0), items (drop 1 numbers) l (v .1)))
+
   list-short : {A : Type 0} (f : A → List Line) (encode : A → List ℕ) (P : A → Type 0) → ((a : A) → P a → Short (f a) (encode a))
       → (l : List A) → All P l → length (flatMap (printed source) (flatMap f l)) + 4 ≤ 4 * length (encodeList encode l)
-  unfolding encodeList flatMap
-  list-short {A} f encode P h l v = rw length-append (omega (arith, items l v, number-long (length l)))
-    where
-      items : (l : List A) → All P l → Short (flatMap f l) (flatMap encode l)
-      items [] v = omega arith
-      items (a ∷ l) v = simp (flatMap-append, length-append) (omega (arith, h a (v .0), items l (v .1)))
+  list-short f encode P h l v = rw (← each-plain f [] l) (each-short (λ number. f) encode P (λ number. h) [] l v)
 
   reference-short : (x : TypeScriptReference) → ValidReference x → Short (citeReference x) (encodeReference x)
   unfolding encodeReference
@@ -165,34 +170,34 @@ module _ (source : List ℕ) where
   unfolding encodeJsDoc
   jsdoc-short i v = simp length-append (omega (arith, specifier-short (code "J") (i .specifier) v))
 
-  argument-short : (x : DynamicArgument) (r : PositionRange) → ValidRange r
-      → length (flatMap (printed source) (citeArgument x r)) ≤ 4 * (length (encodeArgument x) + length (encodeRange r) + 1)
+  argument-short : (letter : ℕ) (x : DynamicArgument) (r : PositionRange) → ValidRange r
+      → length (flatMap (printed source) (citeArgument letter x r)) ≤ 4 * (length (encodeArgument x) + length (encodeRange r) + 1)
   unfolding flatMap encodeArgument encodeText
-  argument-short x r v = by-kind x (line-short (record { letter = code "D"; range = r; text = argumentText x }) v)
+  argument-short letter x r v = by-kind x (line-short (record { letter = letter; range = r; text = argumentText x }) v)
     where
-      by-kind : (x : DynamicArgument) → length (printed source (record { letter = code "D"; range = r; text = argumentText x })) ≤ 7 + 3 * length (encodeRange r) + 4 * length (argumentText x)
-          → length (flatMap (printed source) (citeArgument x r)) ≤ 4 * (length (encodeArgument x) + length (encodeRange r) + 1)
+      by-kind : (x : DynamicArgument) → length (printed source (record { letter = letter; range = r; text = argumentText x })) ≤ 7 + 3 * length (encodeRange r) + 4 * length (argumentText x)
+          → length (flatMap (printed source) (citeArgument letter x r)) ≤ 4 * (length (encodeArgument x) + length (encodeRange r) + 1)
       by-kind expr h = simp length-append (omega (arith, range-long r))
       by-kind (string y) h = simp length-append (omega (arith, range-long r))
       by-kind (template l) h = simp length-append (omega (arith, range-long r))
 
-  dependency-short : (d : DependencyDescriptor) → ValidDependency d → Short (citeDependency d) (encodeDependency d)
+  dependency-short : (letter : ℕ) (d : DependencyDescriptor) → ValidDependency d → Short (citeDependency letter d) (encodeDependency d)
   unfolding encodeDependency encodeStatic encodeDynamic
-  dependency-short (static d) v =
-      rw (flatMap-append (printed source) (citeSpecifier (code "D") (d .specifier)) (citeOptional (code "T") (d .typesSpecifier)))
-      (simp length-append (omega (arith, specifier-short (code "D") (d .specifier) (v .specifier), optional-short (code "T") (d .typesSpecifier) (v .typesSpecifier))))
-  dependency-short (dynamic d) v =
-      rw (flatMap-append (printed source) (citeArgument (d .argument) (d .argumentRange)) (citeOptional (code "T") (d .typesSpecifier)))
-      (simp length-append (omega (arith, argument-short (d .argument) (d .argumentRange) (v .argumentRange), optional-short (code "T") (d .typesSpecifier) (v .typesSpecifier))))
+  dependency-short letter (static d) v =
+      rw (flatMap-append (printed source) (citeSpecifier letter (d .specifier)) (citeOptional (code "T") (d .typesSpecifier)))
+      (simp length-append (omega (arith, specifier-short letter (d .specifier) (v .specifier), optional-short (code "T") (d .typesSpecifier) (v .typesSpecifier))))
+  dependency-short letter (dynamic d) v =
+      rw (flatMap-append (printed source) (citeArgument letter (d .argument) (d .argumentRange)) (citeOptional (code "T") (d .typesSpecifier)))
+      (simp length-append (omega (arith, argument-short letter (d .argument) (d .argumentRange) (v .argumentRange), optional-short (code "T") (d .typesSpecifier) (v .typesSpecifier))))
 
   -- every report has eight bytes, a flag, the counts and what stands before each optional thing
-  lines-short : (m : ModuleInfo) → Valid m → length (flatMap (printed source) (lines m)) + 32 ≤ 4 * length (encode m)
+  lines-short : (numbers : List ℕ) (m : ModuleInfo) → Valid m → length (flatMap (printed source) (lines numbers m)) + 32 ≤ 4 * length (encode m)
   unfolding lines encode
-  lines-short m v =
+  lines-short numbers m v =
       simp (flatMap-append, length-append)
       (omega (
         arith,
-        list-short citeDependency encodeDependency ValidDependency dependency-short (m .dependencies) (v .dependencies .1),
+        each-short citeNoted encodeDependency ValidDependency (λ number. dependency-short (dependencyLetter number)) numbers (m .dependencies) (v .dependencies .1),
         list-short citeReference encodeReference ValidReference reference-short (m .tsReferences) (v .tsReferences .1),
         optional-short (code "S") (m .selfTypesSpecifier) (v .selfTypesSpecifier),
         optional-short (code "X") (m .jsxImportSource) (v .jsxImportSource),
@@ -201,11 +206,11 @@ module _ (source : List ℕ) where
         optional-short (code "M") (m .sourceMapUrl) (v .sourceMapUrl),
       ))
 
-  pub citation-short : (m : ModuleInfo) → Valid m → length (citation source m) ≤ 4 * length (encode m)
+  pub citation-short : (numbers : List ℕ) (m : ModuleInfo) → Valid m → length (citation source numbers m) ≤ 4 * length (encode m)
   unfolding citation
-  citation-short m v =
+  citation-short numbers m v =
       rw length-append
-      (omega (arith, lines-short m v, title-short (ascii "module ") (length (lines m)) 20 (digits-most 20 (length (lines m)))))
+      (omega (arith, lines-short numbers m v, title-short (ascii "module ") (length (lines numbers m)) 20 (digits-most 20 (length (lines numbers m)))))
 
 pub refusal-short : (n : ℕ) → n < 1000 → length (refusal n) ≤ 12
 unfolding refusal

@@ -3,7 +3,8 @@ mod Recounts
 mod Apart
 pub mod Right
 pub mod Lengths
+pub mod Few
 mod Digits
-mod Printing
+pub mod Printing
 mod Whole
 mod Cases

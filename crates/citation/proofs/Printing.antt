@@ -1,16 +1,19 @@
 -- Lines written one after the other.
-use mathlib.Core.Path.{_≡_, refl}
+use mathlib.Core.Path.{_≡_, refl, ap}
 use mathlib.Core.List.{List, [], _∷_, _++_, append-assoc, flatMap}
-use Prim.Native.Nat.{ℕ, _+_}
-use lib.ListN.{length-append}
+use Prim.Native.Nat.{ℕ, zero, suc, _+_}
+use native.Mathlib.Nat.{add-zero}
+use lib.ListN.{getD, drop, length-append}
+use lib.Seq.{getD-drop, drop-drop}
 use Rattle.laws.proofs.Lists.{flatMap-append}
 use Rattle.text.specs.declared.position.Position.{Position}
 use Rattle.report.specs.ModuleInfo.{ModuleInfo}
+use Rattle.report.specs.Answer.{zeros}
 use Rattle.report.specs.Buffer.{Buffer}
 use Rattle.report.proofs.Buffers.{wrote-append}
 use Rattle.citation.specs.code.Cites.{Printed}
 use Rattle.citation.specs.Columns.{recounted}
-use Rattle.citation.specs.Citation.{Line, printed, lines, citation}
+use Rattle.citation.specs.Citation.{Line, printed, citeEach, citeNoted, lines, citation}
 
 -- some lines, and then others
 pub both : {source : List ℕ} {a b : List Line} {before between after : Buffer} {m n : ℕ} → Printed source before a between m → Printed source between b after n
@@ -19,9 +22,26 @@ both {source} {a} {b} p q =
     record { written = rw (flatMap-append (printed source) a b, wrote-append, ← (p .written)) (q .written); counted = rw (length-append, p .counted, q .counted) }
 
 -- the lines of one item more
-pub cite-next : {A : Type 0} (f : A → List Line) (done : List Line) {a : A} {l l′ : List A} → l ≡ a ∷ l′ → done ++ flatMap f l ≡ (done ++ f a) ++ flatMap f l′
+pub cite-next : {A : Type 0} (f : ℕ → A → List Line) (numbers : List ℕ) (turn : ℕ) (done : List Line) {a : A} {l l′ : List A} → l ≡ a ∷ l′
+    → done ++ citeEach f (drop turn numbers) l ≡ (done ++ f (getD numbers turn 0) a) ++ citeEach f (drop (turn + 1) numbers) l′
+cite-next f numbers turn done e = rw (e, getD-drop turn numbers 0 0, add-zero turn, drop-drop 1 turn numbers, append-assoc)
+
+-- where numbers do not count
+pub each-plain : {A : Type 0} (f : A → List Line) (numbers : List ℕ) (l : List A) → citeEach (λ number. f) numbers l ≡ flatMap f l
 unfolding flatMap
-cite-next f done e = rw (e, append-assoc)
+each-plain f numbers [] = refl
+each-plain f numbers (a ∷ l) = ap (f a ++_) (each-plain f (drop 1 numbers) l)
+
+-- numbers of 0 behind the others change nothing
+each-padded : {A : Type 0} (f : ℕ → A → List Line) (numbers : List ℕ) (k : ℕ) (l : List A) → citeEach f (numbers ++ zeros k) l ≡ citeEach f numbers l
+each-padded f numbers k [] = refl
+each-padded f (n ∷ numbers) k (a ∷ l) = ap (f n a ++_) (each-padded f numbers k l)
+each-padded f [] zero (a ∷ l) = refl
+each-padded f [] (suc k) (a ∷ l) = ap (f 0 a ++_) (each-padded f [] k l)
+
+pub citation-padded : (source numbers : List ℕ) (k : ℕ) (m : ModuleInfo) → citation source (numbers ++ zeros k) m ≡ citation source numbers m
+unfolding citation lines
+citation-padded source numbers k m = rw (each-padded citeNoted numbers k (m .dependencies))
 
 -- two sources that recount each position alike
 module _ (s t : List ℕ) (same : (p : Position) → recounted s p ≡ recounted t p) where
@@ -30,6 +50,6 @@ module _ (s t : List ℕ) (same : (p : Position) → recounted s p ≡ recounted
   lines-same [] = refl
   lines-same (l ∷ ls) = rw (same (l .range .start), same (l .range .end), lines-same ls)
 
-  pub citation-same : (m : ModuleInfo) → citation s m ≡ citation t m
+  pub citation-same : (numbers : List ℕ) (m : ModuleInfo) → citation s numbers m ≡ citation t numbers m
   unfolding citation
-  citation-same m = rw (lines-same (lines m))
+  citation-same numbers m = rw (lines-same (lines numbers m))

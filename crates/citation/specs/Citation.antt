@@ -5,7 +5,7 @@ use mathlib.Core.Option.{Option}
 use Prim.Native.Nat.{ℕ, zero, suc, _+_, _/_, _%_}
 use Prim.Native.Char.{code}
 use lib.Dec.{eqb, ltb}
-use lib.ListN.{length}
+use lib.ListN.{length, getD, drop}
 use Rattle.laws.specs.Quoted.{ascii}
 use Rattle.text.specs.declared.position.Position.{Position}
 use Rattle.report.specs.ModuleInfo.{PositionRange, SpecifierWithRange, TypeScriptReference, path, types, JsDocImportInfo, DynamicArgument, expr, string, template, DependencyDescriptor, static, dynamic, ModuleInfo}
@@ -63,13 +63,25 @@ argumentText expr = ascii "?"
 argumentText (string x) = x
 argumentText (template l) = ascii "?"
 
-abbrev pub citeArgument : DynamicArgument → PositionRange → List Line
-citeArgument x r = record { letter = code "D"; range = r; text = argumentText x } ∷ []
+abbrev pub citeArgument : ℕ → DynamicArgument → PositionRange → List Line
+citeArgument letter x r = record { letter = letter; range = r; text = argumentText x } ∷ []
 
--- D, and T for its types right after it
-abbrev pub citeDependency : DependencyDescriptor → List Line
-citeDependency (static d) = citeSpecifier (code "D") (d .specifier) ++ citeOptional (code "T") (d .typesSpecifier)
-citeDependency (dynamic d) = citeArgument (d .argument) (d .argumentRange) ++ citeOptional (code "T") (d .typesSpecifier)
+-- its letter, and T for its types right after it
+abbrev pub citeDependency : ℕ → DependencyDescriptor → List Line
+citeDependency letter (static d) = citeSpecifier letter (d .specifier) ++ citeOptional (code "T") (d .typesSpecifier)
+citeDependency letter (dynamic d) = citeArgument letter (d .argument) (d .argumentRange) ++ citeOptional (code "T") (d .typesSpecifier)
+
+-- D, or d where characters were replaced in its text: the number beside it says how many
+abbrev pub dependencyLetter : ℕ → ℕ
+dependencyLetter number = cond (eqb number 0) (code "D") (code "d")
+
+abbrev pub citeNoted : ℕ → DependencyDescriptor → List Line
+citeNoted number = citeDependency (dependencyLetter number)
+
+-- items, each with the number in its turn, or 0
+abbrev pub citeEach : {A : Type 0} → (ℕ → A → List Line) → List ℕ → List A → List Line
+citeEach cite numbers [] = []
+citeEach cite numbers (x ∷ l) = cite (getD numbers 0 0) x ++ citeEach cite (drop 1 numbers) l
 
 -- R
 abbrev pub citeReference : TypeScriptReference → List Line
@@ -80,10 +92,10 @@ citeReference (types s mode) = citeSpecifier (code "R") s
 abbrev pub citeJsDoc : JsDocImportInfo → List Line
 citeJsDoc i = citeSpecifier (code "J") (i .specifier)
 
--- the lines, in report order: D and T, R, S, X, Y, J, M
-unfoldable pub lines : ModuleInfo → List Line
-lines m =
-    flatMap citeDependency (m .dependencies)
+-- the lines, in report order: D or d and T, R, S, X, Y, J, M; with the numbers beside the dependencies
+unfoldable pub lines : List ℕ → ModuleInfo → List Line
+lines numbers m =
+    citeEach citeNoted numbers (m .dependencies)
     ++ (flatMap citeReference (m .tsReferences)
     ++ (citeOptional (code "S") (m .selfTypesSpecifier)
     ++ (citeOptional (code "X") (m .jsxImportSource)
@@ -95,9 +107,9 @@ lines m =
 unfoldable pub title : List ℕ → ℕ → List ℕ
 title word n = word ++ (decimal n ++ (0x0A ∷ []))
 
--- all that is printed for a report, over the source
-unfoldable pub citation : List ℕ → ModuleInfo → List ℕ
-citation source m = title (ascii "module ") (length (lines m)) ++ flatMap (printed source) (lines m)
+-- all that is printed for a report, over the source, with the numbers beside the dependencies
+unfoldable pub citation : List ℕ → List ℕ → ModuleInfo → List ℕ
+citation source numbers m = title (ascii "module ") (length (lines numbers m)) ++ flatMap (printed source) (lines numbers m)
 
 -- all that is printed for a refusal
 unfoldable pub refusal : ℕ → List ℕ

@@ -14,7 +14,7 @@ use report_reader::fields::skip_optional_specifier;
 ghost use mathlib.Core.Path.{_≡_};
 ghost use mathlib.Core.List.{[], _∷_, flatMap};
 ghost use Prim.Native.Nat.{_+_, _*_, _≤_};
-ghost use lib.ListN.{length, take};
+ghost use lib.ListN.{length, getD, take};
 ghost use Rattle.laws.specs.code.Left.{Free};
 ghost use Rattle.laws.specs.Codec.{IfThere, All};
 ghost use Rattle.wire.specs.Number.{largest};
@@ -23,7 +23,7 @@ ghost use Rattle.report.specs.ModuleInfo.{ModuleInfo};
 ghost use Rattle.report.specs.Encode.{encodeList, encodeRange, encodeSpecifier, encodeReference, encodeJsDoc, encodeDependency, encode};
 ghost use Rattle.report.specs.Valid.{Short, ValidRange, ValidSpecifier, ValidReference, ValidJsDoc, ValidDependency, Valid};
 ghost use Rattle.report.specs.Buffer.{bufferAs};
-ghost use Rattle.citation.specs.Citation.{citeSpecifier, citeOptional, citeArgument, citeReference, citeJsDoc, citeDependency, lines, citation, refusal};
+ghost use Rattle.citation.specs.Citation.{citeSpecifier, citeOptional, citeArgument, citeReference, citeJsDoc, citeDependency, dependencyLetter, citeEach, lines, citation, refusal};
 ghost use Rattle.citation.specs.code.Cites.{Cites};
 ghost use Rattle.citation.specs.code.Items.{encodeRanged, ValidRanged, encodeItem, ValidItem, citeItem};
 
@@ -144,27 +144,51 @@ fn cite_jsdoc(report: &[u8], source: &[u8], at: usize, out: &mut [u8], place: Pl
     }
 }
 
-// Cites a dynamic argument with its range: D, and `?` where it has no single text.
-fn cite_argument(report: &[u8], source: &[u8], at: usize, out: &mut [u8], place: Place) -> Cited
+// Cites a dynamic argument with its range, and `?` where it has no single text.
+fn cite_argument(
+    report: &[u8],
+    source: &[u8],
+    at: usize,
+    letter: u8,
+    out: &mut [u8],
+    place: Place,
+) -> Cited
     ensures { λ r. ⌜ Cites encodeRanged ValidRanged (now (report .entry)) (now (source .entry)) at
-        (λ a. citeArgument (a .0) (a .1)) (bufferAs (now (out .entry)) place) (now (out .exit)) r ⌝ }
+        (λ a. citeArgument letter (a .0) (a .1)) (bufferAs (now (out .entry)) place) (now (out .exit)) r ⌝ }
     ensures { λ r. ⌜ r .lines ≤ 1 ⌝ }
 {
     let kind = read_number(report, at);
     if kind.value == 1 {
-        return cite_specifier(report, source, kind.next, b'D', out, place);
+        return cite_specifier(report, source, kind.next, letter, out, place);
     }
     if kind.value == 2 {
         let next = skip_list(report, kind.next, false);
-        return cite_range(report, source, next, b'D', b"?", out, place);
+        return cite_range(report, source, next, letter, b"?", out, place);
     }
-    cite_range(report, source, kind.next, b'D', b"?", out, place)
+    cite_range(report, source, kind.next, letter, b"?", out, place)
 }
 
-// Cites a dependency: D, and T for its types, which stand before it in the report and are read again.
-fn cite_dependency(report: &[u8], source: &[u8], at: usize, out: &mut [u8], place: Place) -> Cited
+// The letter of a dependency, by how many characters were replaced in its text.
+fn dependency_letter(number: usize) -> u8
+    ensures { λ r. ⌜ r ≡ dependencyLetter number ⌝ }
+{
+    if number == 0 {
+        return b'D';
+    }
+    b'd'
+}
+
+// Cites a dependency, and T for its types, which stand before it in the report and are read again.
+fn cite_dependency(
+    report: &[u8],
+    source: &[u8],
+    at: usize,
+    letter: u8,
+    out: &mut [u8],
+    place: Place,
+) -> Cited
     ensures { λ r. ⌜ Cites encodeDependency ValidDependency (now (report .entry)) (now (source .entry)) at
-        citeDependency (bufferAs (now (out .entry)) place) (now (out .exit)) r ⌝ }
+        (citeDependency letter) (bufferAs (now (out .entry)) place) (now (out .exit)) r ⌝ }
     ensures { λ r. ⌜ r .lines ≤ 2 ⌝ }
 {
     let kind = read_number(report, at);
@@ -172,7 +196,7 @@ fn cite_dependency(report: &[u8], source: &[u8], at: usize, out: &mut [u8], plac
     let next = skip_optional_specifier(report, types);
     match dependency_kind(kind.value) {
         DependencyKind::Static(_) => {
-            let first = cite_specifier(report, source, next, b'D', out, place);
+            let first = cite_specifier(report, source, next, letter, out, place);
             let second = cite_optional(report, source, types, b'T', out, first.place);
             let side_effect = read_number(report, first.next);
             let place = second.place;
@@ -183,7 +207,7 @@ fn cite_dependency(report: &[u8], source: &[u8], at: usize, out: &mut [u8], plac
             }
         }
         DependencyKind::Dynamic(_) => {
-            let first = cite_argument(report, source, next, out, place);
+            let first = cite_argument(report, source, next, letter, out, place);
             let second = cite_optional(report, source, types, b'T', out, first.place);
             let place = second.place;
             Cited {
@@ -195,24 +219,42 @@ fn cite_dependency(report: &[u8], source: &[u8], at: usize, out: &mut [u8], plac
     }
 }
 
-// Cites an item of a list.
+// Cites an item of a list, with the number beside it.
 fn cite_item(
     report: &[u8],
     source: &[u8],
     at: usize,
     kind: Kind,
+    number: usize,
     out: &mut [u8],
     place: Place,
 ) -> Cited
     ensures { λ r. ⌜ Cites (encodeItem kind) (ValidItem kind) (now (report .entry)) (now (source .entry)) at
-        (citeItem kind) (bufferAs (now (out .entry)) place) (now (out .exit)) r ⌝ }
+        (citeItem kind number) (bufferAs (now (out .entry)) place) (now (out .exit)) r ⌝ }
     ensures { λ r. ⌜ r .lines ≤ 2 ⌝ }
 {
     match kind {
-        Kind::Dependency => cite_dependency(report, source, at, out, place),
+        Kind::Dependency => cite_dependency(
+            report,
+            source,
+            at,
+            dependency_letter(number),
+            out,
+            place,
+        ),
         Kind::Reference => cite_reference(report, source, at, out, place),
         Kind::JsDoc => cite_jsdoc(report, source, at, out, place),
     }
+}
+
+// The number in its turn, 0 where there is none.
+fn number_at(numbers: &[usize], turn: usize) -> usize
+    ensures { λ r. ⌜ r ≡ getD (now (numbers .entry)) turn 0 ⌝ }
+{
+    if turn < numbers.len() {
+        return numbers[turn];
+    }
+    0
 }
 
 // Cites so many items.
@@ -222,23 +264,26 @@ fn cite_items(
     at: usize,
     kind: Kind,
     count: usize,
+    numbers: &[usize],
     out: &mut [u8],
     place: Place,
 ) -> Cited
     requires { ⌜ count ≤ largest ⌝ }
     ensures { λ r. ⌜ Cites (flatMap (encodeItem kind)) (λ l. (length l ≡ count) × All (ValidItem kind) l) (now (report .entry)) (now (source .entry)) at
-        (flatMap (citeItem kind)) (bufferAs (now (out .entry)) place) (now (out .exit)) r ⌝ }
+        (citeEach (citeItem kind) (now (numbers .entry))) (bufferAs (now (out .entry)) place) (now (out .exit)) r ⌝ }
     ensures { λ r. ⌜ r .lines ≤ 2 * count ⌝ }
 {
     let mut p = place;
     let mut lines: usize = 0;
     let mut next = at;
+    let mut turn: usize = 0;
     let mut left = count;
     while 0 < left {
-        let item = cite_item(report, source, next, kind, out, p);
+        let item = cite_item(report, source, next, kind, number_at(numbers, turn), out, p);
         p = item.place;
         lines += item.lines;
         next = item.next;
+        turn += 1;
         left -= 1;
     }
     Cited {
@@ -254,15 +299,25 @@ fn cite_list(
     source: &[u8],
     at: usize,
     kind: Kind,
+    numbers: &[usize],
     out: &mut [u8],
     place: Place,
 ) -> Cited
     ensures { λ r. ⌜ Cites (encodeList (encodeItem kind)) (λ l. Short l × All (ValidItem kind) l) (now (report .entry)) (now (source .entry)) at
-        (flatMap (citeItem kind)) (bufferAs (now (out .entry)) place) (now (out .exit)) r ⌝ }
+        (citeEach (citeItem kind) (now (numbers .entry))) (bufferAs (now (out .entry)) place) (now (out .exit)) r ⌝ }
     ensures { λ r. ⌜ r .lines ≤ 2 * largest ⌝ }
 {
     let count = read_number(report, at);
-    cite_items(report, source, count.next, kind, count.value, out, place)
+    cite_items(
+        report,
+        source,
+        count.next,
+        kind,
+        count.value,
+        numbers,
+        out,
+        place,
+    )
 }
 
 // The sum of the lines of a report's parts.
@@ -273,17 +328,39 @@ fn total(d: usize, r: usize, s: usize, x: usize, y: usize, j: usize, m: usize) -
     d + r + s + x + y + j + m
 }
 
-// Cites what is in a report: D and T, R, S, X, Y, J, M.
-fn cite_lines(report: &[u8], source: &[u8], out: &mut [u8], place: Place) -> Cited
-    ensures { λ r. ⌜ Cites encode Valid (now (report .entry)) (now (source .entry)) 0 lines (bufferAs (now (out .entry)) place) (now (out .exit)) r ⌝ }
+// Cites what is in a report: D or d and T, R, S, X, Y, J, M. The numbers are those beside the dependencies; other items have none.
+fn cite_lines(
+    report: &[u8],
+    source: &[u8],
+    numbers: &[usize],
+    out: &mut [u8],
+    place: Place,
+) -> Cited
+    ensures { λ r. ⌜ Cites encode Valid (now (report .entry)) (now (source .entry)) 0 (lines (now (numbers .entry))) (bufferAs (now (out .entry)) place) (now (out .exit)) r ⌝ }
 {
     let is_script = read_number(report, 0);
-    let d = cite_list(report, source, is_script.next, Kind::Dependency, out, place);
-    let r = cite_list(report, source, d.next, Kind::Reference, out, d.place);
+    let d = cite_list(
+        report,
+        source,
+        is_script.next,
+        Kind::Dependency,
+        numbers,
+        out,
+        place,
+    );
+    let r = cite_list(
+        report,
+        source,
+        d.next,
+        Kind::Reference,
+        numbers,
+        out,
+        d.place,
+    );
     let s = cite_optional(report, source, r.next, b'S', out, r.place);
     let x = cite_optional(report, source, s.next, b'X', out, s.place);
     let y = cite_optional(report, source, x.next, b'Y', out, x.place);
-    let j = cite_list(report, source, y.next, Kind::JsDoc, out, y.place);
+    let j = cite_list(report, source, y.next, Kind::JsDoc, numbers, out, y.place);
     let m = cite_optional(report, source, j.next, b'M', out, j.place);
     let place = m.place;
     Cited {
@@ -311,20 +388,20 @@ fn written(out: &[u8], place: Place) -> usize
     out.len()
 }
 
-// Writes the citation of a report over its source, and answers its length. A first pass counts the lines; what it writes is written over. Behind the citation the
-// buffer is left free, and all of it where the bytes are no report.
-pub fn cite_report(report: &[u8], source: &[u8], out: &mut [u8]) -> usize
+// Writes the citation of a report over its source, with the numbers beside its dependencies, and answers its length. A first pass counts the lines;
+// what it writes is written over. Behind the citation the buffer is left free, and all of it where the bytes are no report.
+pub fn cite_report(report: &[u8], source: &[u8], numbers: &[usize], out: &mut [u8]) -> usize
     requires { ⌜ 4 * length (now report) ≤ length (now out) ⌝ }
     ensures { λ r. ⌜ ((m : ModuleInfo) → Valid m → encode m ≡ now (report .entry)
-        → (r ≡ length (citation (now (source .entry)) m)) × (take r (now (out .exit)) ≡ citation (now (source .entry)) m)) ⌝ }
+        → (r ≡ length (citation (now (source .entry)) (now (numbers .entry)) m)) × (take r (now (out .exit)) ≡ citation (now (source .entry)) (now (numbers .entry)) m)) ⌝ }
     ensures { λ r. ⌜ r ≤ length (now (out .exit)) ⌝ }
     ensures { λ _. ⌜ Free (now (out .entry)) (now (out .exit)) ⌝ }
 {
     let wide = &source[..last_four(source)];
     let start = Place { at: 0 };
-    let counted = cite_lines(report, wide, out, start);
+    let counted = cite_lines(report, wide, numbers, out, start);
     let p = put_title(start, out, b"module ", counted.lines);
-    let cited = cite_lines(report, wide, out, p);
+    let cited = cite_lines(report, wide, numbers, out, p);
     written(out, cited.place)
 }
 

@@ -6,6 +6,7 @@ use mathlib.Core.List.{List, [], _∷_, _++_, flatMap, List·Memᴰ}
 use mathlib.Core.Option.{Option}
 use Prim.Native.Nat.{ℕ}
 use Prim.Native.Char.{code}
+use lib.ListN.{getD, drop}
 use native.Mathlib.Omega.{arith}
 use Rattle.laws.specs.Codec.{All, IfThere}
 use Rattle.laws.proofs.Lists.{all-append, of-members, all-member}
@@ -30,13 +31,14 @@ use Rattle.report.specs.Range.{RangeAt}
 use Rattle.report.proofs.Places.{range-at}
 use Rattle.pragmas.specs.Pragmas.{typesAt}
 use Rattle.pragmas.specs.Texts.{ShownInMarks, ShownBare, TypesShown, ReferenceShown, typesOf}
-use Rattle.dep.specs.Collect.{importKind, exportKind, equalsKind, dynamicKind, staticEntry, callEntry, moduleEntry, entryOf}
+use Rattle.dep.specs.Collect.{numbersOf, importKind, exportKind, equalsKind, dynamicKind, staticEntry, callEntry, moduleEntry, entryOf}
 use Rattle.dep.proofs.Turns.{turn-member, turns-with}
 use Rattle.dep.proofs.Right.{all-if}
 use Rattle.module_info.specs.Information.{moduleInfo}
+use Rattle.module_info.specs.Replaced.{noted}
 use Rattle.module_info.specs.Demands.{Demands}
 use Rattle.module_info.proofs.Inside.{walked-fits}
-use Rattle.citation.specs.Citation.{Line, citeOptional, citeDependency, citeReference, citeJsDoc, lines}
+use Rattle.citation.specs.Citation.{Line, citeOptional, citeDependency, dependencyLetter, citeNoted, citeEach, citeReference, citeJsDoc, lines}
 use Rattle.citation.proofs.Right.{columns-right}
 use Rattle.cite.specs.Cited.{EditorColumns}
 
@@ -44,6 +46,10 @@ all-flatMap : {A B : Type 0} (P : B → Type 0) (f : A → List B) (l : List A) 
 unfolding flatMap
 all-flatMap P f [] a = tt
 all-flatMap P f (x ∷ l) a = all-append P (f x) (flatMap f l) (a .0) (all-flatMap P f l (a .1))
+
+all-each : {A : Type 0} (P : Line → Type 0) (f : ℕ → A → List Line) (numbers : List ℕ) (l : List A) → All (λ a. (number : ℕ) → All P (f number a)) l → All P (citeEach f numbers l)
+all-each P f numbers [] a = tt
+all-each P f numbers (x ∷ l) a = all-append P (f (getD numbers 0 0) x) (citeEach f (drop 1 numbers) l) (a .0 (getD numbers 0 0)) (all-each P f (drop 1 numbers) l (a .1))
 
 module _ (source : List ℕ) where
   abbrev Placed : PositionRange → Type 0
@@ -126,9 +132,9 @@ module _ {s buffer : List ℕ} {size : ℕ} {outcome : Outcome} (d : Demands s s
   types-placed : (x : SpecifierWithRange) → TypesShown t x → Placed (t .source) (x .range)
   types-placed x = ⊎-elim (λ h. (_, h .stands .range)) (λ h. (_, h .stands .range))
 
-  dependency-placed : (x : DependencyDescriptor) → OwnRange (t .source) x → IfThere (TypesShown t) (typesOf x) → Each (t .source) (citeDependency x)
-  dependency-placed (static x) p h = (p, optional-placed (t .source) (code "T") (TypesShown t) types-placed (x .typesSpecifier) h)
-  dependency-placed (dynamic x) p h = (p, optional-placed (t .source) (code "T") (TypesShown t) types-placed (x .typesSpecifier) h)
+  dependency-placed : (letter : ℕ) (x : DependencyDescriptor) → OwnRange (t .source) x → IfThere (TypesShown t) (typesOf x) → Each (t .source) (citeDependency letter x)
+  dependency-placed letter (static x) p h = (p, optional-placed (t .source) (code "T") (TypesShown t) types-placed (x .typesSpecifier) h)
+  dependency-placed letter (dynamic x) p h = (p, optional-placed (t .source) (code "T") (TypesShown t) types-placed (x .typesSpecifier) h)
 
   reference-placed : (x : TypeScriptReference) → ReferenceShown t x → Each (t .source) (citeReference x)
   reference-placed (path x) h = ((_, h .stands .range), tt)
@@ -137,19 +143,20 @@ module _ {s buffer : List ℕ} {size : ℕ} {outcome : Outcome} (d : Demands s s
   jsdoc-placed : (i : JsDocImportInfo) → List·Memᴰ i (m .jsdocImports) → Each (t .source) (citeJsDoc i)
   jsdoc-placed i among = let (place, h) = d .jsdoc t of .right .placed i among in ((place, h .range), tt)
 
-  lines-placed : Each (t .source) (lines m)
+  lines-placed : Each (t .source) (lines (numbersOf (noted t)) m)
   unfolding lines
   lines-placed =
       let texts = d .texts t of in
       let P : Line → Type 0 = λ l. Placed (t .source) (l .range) in
-      let D = flatMap citeDependency (m .dependencies) in
+      let numbers = numbersOf (noted t) in
+      let D = citeEach citeNoted numbers (m .dependencies) in
       let R = flatMap citeReference (m .tsReferences) in
       let S = citeOptional (code "S") (m .selfTypesSpecifier) in
       let X = citeOptional (code "X") (m .jsxImportSource) in
       let Y = citeOptional (code "Y") (m .jsxImportSourceTypes) in
       let J = flatMap citeJsDoc (m .jsdocImports) in
       let M = citeOptional (code "M") (m .sourceMapUrl) in
-      let dependencies : All P D = all-flatMap P citeDependency (m .dependencies) (of-members (λ x. All P (citeDependency x)) (m .dependencies) (λ x i. dependency-placed x (own x i) (all-member (λ x. IfThere (TypesShown t) (typesOf x)) (m .dependencies) (texts .types) i))) in
+      let dependencies : All P D = all-each P citeNoted numbers (m .dependencies) (of-members (λ x. (number : ℕ) → All P (citeNoted number x)) (m .dependencies) (λ x i number. dependency-placed (dependencyLetter number) x (own x i) (all-member (λ x. IfThere (TypesShown t) (typesOf x)) (m .dependencies) (texts .types) i))) in
       let references : All P R = all-flatMap P citeReference (m .tsReferences) (of-members (λ x. All P (citeReference x)) (m .tsReferences) (λ x i. reference-placed x (all-member (ReferenceShown t) (m .tsReferences) (texts .references) i))) in
       let self : All P S = optional-placed (t .source) (code "S") (ShownInMarks tsSelfTypesRow t) (λ x h. (_, h .stands .range)) (m .selfTypesSpecifier) (texts .self-types) in
       let jsx : All P X = optional-placed (t .source) (code "X") (ShownBare jsxImportSourceRow t) (λ x h. (_, h .stands .range)) (m .jsxImportSource) (texts .jsx-import-source) in

@@ -1,12 +1,12 @@
 -- What the report function answers is what the citation asks for.
 use mathlib.Core.Path.{_≡_, refl, sym, ap, _∙_}
 use mathlib.Core.Bool.{Bool, true, false}
-use mathlib.Core.List.{List, _++_, flatMap}
-use Prim.Native.Nat.{ℕ, _-_, _*_, _≤_}
+use mathlib.Core.List.{List, [], _++_, flatMap}
+use Prim.Native.Nat.{ℕ, _-_, _*_, _/_, _≤_}
 use native.Mathlib.Omega.{arith}
 use lib.Dec.{leb}
-use lib.ListN.{length, take, length-append}
-use lib.Seq.{take-append-seam}
+use lib.ListN.{length, take, drop, length-append, length-drop, length-map}
+use lib.Seq.{take-append-seam, take-all}
 use borrow.Author.Tests.{leb-true}
 use Rattle.wire.specs.Refusals.{ofSheets, oneOf}
 use Rattle.wire.specs.Refusals as refusals
@@ -22,9 +22,14 @@ use Rattle.report.specs.Answer.{Answer, zeros, accepted, refusedWith, fitted}
 use Rattle.report.specs.declared.writer.Outcome.{Outcome}
 use Rattle.report.specs.declared.writer.Outcome.the-variants.{Accepted, Refused}
 use Rattle.module_info.specs.Information.{moduleInfo, defaultInfo, answerOf}
+use Rattle.dep.specs.Collect.{Noted, numbersOf}
+use Rattle.module_info.specs.Replaced.{numbersIn, held, NotesRight}
+use Rattle.module_info.specs.Replaced as Replaced
 use Rattle.module_info.specs.Demands.{Demands}
 use Rattle.citation.specs.Citation.{lines, citation, refusal}
-use Rattle.cite.specs.Cited.{reportRoom, lineRoom, citedIn, cited}
+use Rattle.citation.proofs.Printing.{citation-padded}
+use Rattle.citation.proofs.Few.{few-dependencies}
+use Rattle.cite.specs.Cited.{reportRoom, noteRoom, lineRoom, citedIn, cited}
 
 -- a report has bytes
 some-bytes : (m : ModuleInfo) → 0 ≡ length (encode m) → ⊥
@@ -35,20 +40,24 @@ some-bytes m e = absurd (omega arith)
 abbrev Holds : List ℕ → List ℕ → Type 0
 Holds s source = (t : Sheet) → SheetOf s t → source ≡ t .source
 
--- a report that was answered: it is the encoding of information that can be read back, and the lines are those of its citation
-pub record Reported (s : List ℕ) (n : ℕ) (buffer : List ℕ) : Type 0 where
+-- a report that was answered: it is the encoding of information that can be read back, and the lines are those of its citation, with the numbers
+-- that the notes hold
+pub record Reported (s : List ℕ) (n : ℕ) (buffer notes : List ℕ) : Type 0 where
   pub info : ModuleInfo
   pub within : n ≤ length buffer
   pub room : 4 * length (take n buffer) ≤ lineRoom
   pub valid : Valid info
   pub bytes : encode info ≡ take n buffer
-  pub lines : (source : List ℕ) → Holds s source → cited s ≡ citation source info
+  pub lines : (source : List ℕ) → Holds s source → cited s ≡ citation source (take (length notes - 1) (drop 1 notes)) info
 
 -- information of which the report is answered and cited
 record Asked (s : List ℕ) : Type 0 where
   info : ModuleInfo
+  numbers : List ℕ
+  numbered : numbersIn (judge s) ≡ numbers
+  beside : length numbers ≡ length (info .dependencies)
   answer : answerOf s reportRoom ≡ fitted reportRoom (encode info)
-  lines : (source : List ℕ) → Holds s source → cited s ≡ citedIn source info
+  lines : (source : List ℕ) → Holds s source → cited s ≡ citedIn source numbers info
   valid : Valid info
 
 -- there is such information, or there is a refusal of a sheet
@@ -56,52 +65,70 @@ data Question (s : List ℕ) : Type 0 where
   asked : Asked s → Question s
   refused : (r : ℕ) → oneOf ofSheets r ≡ true → answerOf s reportRoom ≡ refusedWith r reportRoom → cited s ≡ refusal r → Question s
 
-module _ {s buffer : List ℕ} where
-  question : {outcome : Outcome} → Demands s reportRoom outcome buffer → Question s
+-- notes with room for all the numbers hold them, and zeros
+notes-hold : (numbers : List ℕ) → length numbers ≤ reportRoom / 8 → drop 1 (held noteRoom numbers) ≡ numbers ++ zeros (reportRoom / 8 - length numbers)
+unfolding held
+notes-hold numbers h = rw (take-all (reportRoom / 8) numbers h)
+
+module _ {s buffer notes : List ℕ} where
+  question : {outcome : Outcome} {number : ℕ} → Demands s reportRoom outcome buffer → NotesRight s noteRoom number notes → Question s
   unfolding answerOf cited judge citation lines flatMap
-  question {outcome} d = by (decided s)
+  question d noted = by (decided s)
     where
       by : Decision s → Question s
-      by (Decision.empty e) = asked (record { info = defaultInfo; answer = rw e; lines = λ source h. rw e; valid = d .empty e .report .fits })
+      by (Decision.empty e) = asked (record { info = defaultInfo; numbers = []; numbered = rw e; beside = refl; answer = rw e; lines = λ source h. rw e; valid = d .empty e .report .fits })
       by (Decision.accepted t e) =
-          let of : SheetOf s t = accepts-exactly s t .0 e in
-          asked (record { info = moduleInfo t; answer = rw (judged-sheet s e); lines = λ source h. rw (judged-sheet s e, h t of); valid = d .report t of .fits })
+          let is = accepts-exactly s t .0 e in
+          asked (record {
+            info = moduleInfo t;
+            numbers = numbersOf (Replaced.noted t);
+            numbered = ap numbersIn (judged-sheet s e);
+            beside = length-map (Replaced.noted t) (λ (e : Noted). e .1) ∙ sym (length-map (Replaced.noted t) (λ (e : Noted). e .0)) ∙ ap length (noted .beside t is);
+            answer = rw (judged-sheet s e);
+            lines = λ source h. rw (judged-sheet s e, h t is);
+            valid = d .report t is .fits;
+          })
       by (Decision.refused r among some e) = refused r among (rw (judged-refusal s some e)) (rw (judged-refusal s some e))
 
-  pub reported : {n : ℕ} → Demands s reportRoom (Accepted n) buffer → Reported s n buffer
+  pub reported : {n : ℕ} → Demands s reportRoom (Accepted n) buffer → NotesRight s noteRoom 0 notes → Reported s n buffer notes
   unfolding oneOf fitted
-  reported {n} d = by (question d)
+  reported {n} d noted = by (question d noted)
     where
-      by-room : (a : Asked s) (b : Bool) → leb (length (encode (a .info))) reportRoom ≡ b → Reported s n buffer
+      by-room : (a : Asked s) (b : Bool) → leb (length (encode (a .info))) reportRoom ≡ b → Reported s n buffer notes
       by-room a true h =
           let bytes = encode (a .info) in
           let answer : record { number = 0; written = n; buffer = buffer } ≡ accepted reportRoom bytes = rw h at (d .answer ∙ a .answer) in
           let long : n ≡ length bytes = ap (λ (x : Answer). x .written) answer in
-          let held : buffer ≡ bytes ++ zeros (reportRoom - length bytes) = ap (λ (x : Answer). x .buffer) answer in
-          let begins : bytes ≡ take n buffer = rw (long, held) (sym (take-append-seam bytes _)) in
+          let begun : buffer ≡ bytes ++ zeros (reportRoom - length bytes) = ap (λ (x : Answer). x .buffer) answer in
+          let begins : bytes ≡ take n buffer = rw (long, begun) (sym (take-append-seam bytes _)) in
           let room = leb-true (length bytes) reportRoom h in
+          let few : length (a .numbers) ≤ reportRoom / 8 = omega (arith, a .beside, few-dependencies (a .info)) in
+          let hold : take (length notes - 1) (drop 1 notes) ≡ a .numbers ++ zeros (reportRoom / 8 - length (a .numbers)) =
+          take-all (length notes - 1) (drop 1 notes) (omega (arith, length-drop 1 notes))
+          ∙ ap (drop 1) (noted .answer ∙ ap (held noteRoom) (a .numbered))
+          ∙ notes-hold (a .numbers) few in
           record {
             info = a .info;
-            within = omega (arith, ap length held, length-append bytes (zeros (reportRoom - length bytes)));
+            within = omega (arith, ap length begun, length-append bytes (zeros (reportRoom - length bytes)));
             room = rw (← begins) (omega arith);
             valid = a .valid;
             bytes = begins;
-            lines = λ source o. rw (a .lines source o, h);
+            lines = λ source o. rw (a .lines source o, h) (sym (ap (λ l. citation source l (a .info)) hold ∙ citation-padded source (a .numbers) (reportRoom / 8 - length (a .numbers)) (a .info)));
           }
       by-room a false h =
           let none : _≡_ {A = ℕ} 0 refusals.buffer = ap (λ (x : Answer). x .number) (rw h at (d .answer ∙ a .answer)) in
           absurd (omega arith)
 
-      by : Question s → Reported s n buffer
+      by : Question s → Reported s n buffer notes
       by (asked a) = by-room a (leb (length (encode (a .info))) reportRoom) refl
-      by (refused r among e lines) =
+      by (refused r among e same) =
           let none : 0 ≡ r = ap (λ (x : Answer). x .number) (d .answer ∙ e) in
           absurd (apart ofSheets among (sym none) refl)
 
   -- a refusal that was answered
-  pub refused-lines : {r : ℕ} (source : List ℕ) → Holds s source → Demands s reportRoom (Refused r) buffer → cited s ≡ refusal r
+  pub refused-lines : {r number : ℕ} (source : List ℕ) → Holds s source → Demands s reportRoom (Refused r) buffer → NotesRight s noteRoom number notes → cited s ≡ refusal r
   unfolding fitted
-  refused-lines {r} source o d = by (question d)
+  refused-lines {r} source o d noted = by (question d noted)
     where
       by-room : (a : Asked s) (b : Bool) → leb (length (encode (a .info))) reportRoom ≡ b → cited s ≡ refusal r
       by-room a true h =

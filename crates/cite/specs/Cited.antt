@@ -1,15 +1,17 @@
 -- What `cite` prints for the bytes of a sheet, or none.
 use mathlib.Core.Bool.{cond}
 use mathlib.Core.List.{List, []}
-use Prim.Native.Nat.{ℕ, _*_}
+use Prim.Native.Nat.{ℕ, _+_, _*_, _/_}
 use lib.Dec.{leb}
 use lib.ListN.{length}
 use Rattle.wire.specs.Refusals as refusals
 use Rattle.sheet.specs.Judge.{Judged, empty, sheet, judge}
 use Rattle.report.specs.ModuleInfo.{ModuleInfo}
 use Rattle.report.specs.Encode.{encode}
+use Rattle.dep.specs.Collect.{numbersOf}
 use Rattle.module_info.specs.Information.{moduleInfo, defaultInfo}
 use Rattle.module_info.specs.Demands.{OfAccepted}
+use Rattle.module_info.specs.Replaced.{noted}
 use Rattle.citation.specs.Citation.{lines, citation, refusal}
 use Rattle.citation.specs.Right.{ColumnsRight}
 
@@ -17,18 +19,22 @@ use Rattle.citation.specs.Right.{ColumnsRight}
 abbrev pub reportRoom : ℕ
 reportRoom = 65536
 
--- and of that for the lines
+-- numbers of the notes: one for each dependency, which has at least eight bytes, behind how many there are
+abbrev pub noteRoom : ℕ
+noteRoom = 1 + reportRoom / 8
+
+-- bytes of the buffer for the lines
 abbrev pub lineRoom : ℕ
 lineRoom = 4 * reportRoom
 
--- the citation over a source, if the report is no longer than its buffer
-abbrev pub citedIn : List ℕ → ModuleInfo → List ℕ
-citedIn source m = cond (leb (length (encode m)) reportRoom) (citation source m) (refusal refusals.buffer)
+-- the citation over a source, with the numbers beside the dependencies, if the report is no longer than its buffer
+abbrev pub citedIn : List ℕ → List ℕ → ModuleInfo → List ℕ
+citedIn source numbers m = cond (leb (length (encode m)) reportRoom) (citation source numbers m) (refusal refusals.buffer)
 
 -- of no bytes, which have no source, the default information is cited: `module 0`
 abbrev pub citedBy : Judged → List ℕ
-citedBy empty = citedIn [] defaultInfo
-citedBy (sheet t) = citedIn (t .source) (moduleInfo t)
+citedBy empty = citedIn [] [] defaultInfo
+citedBy (sheet t) = citedIn (t .source) (numbersOf (noted t)) (moduleInfo t)
 citedBy (Judged.refusal r) = refusal r
 
 unfoldable pub cited : List ℕ → List ℕ
@@ -36,4 +42,4 @@ cited s = citedBy (judge s)
 
 -- the columns of the lines of an accepted sheet are those of editors
 abbrev pub EditorColumns : List ℕ → Type 0
-EditorColumns s = OfAccepted s (λ t. ColumnsRight (t .source) (lines (moduleInfo t)))
+EditorColumns s = OfAccepted s (λ t. ColumnsRight (t .source) (lines (numbersOf (noted t)) (moduleInfo t)))

@@ -6,7 +6,7 @@ use input::read_input;
 use libc::STDERR_FILENO;
 use libc::STDIN_FILENO;
 use libc::STDOUT_FILENO;
-use module_info::module_info;
+use module_info::module_info_with_replaced;
 use report::writer::Outcome;
 use report_reader::fields::TextRead;
 use report_reader::fields::read_text;
@@ -18,7 +18,7 @@ ghost use Rattle.text.specs.Bytes.{part};
 ghost use Rattle.sheet.specs.Sheet.{Sheet};
 ghost use Rattle.sheet_codec.specs.SheetOf.{SheetOf};
 ghost use Rattle.report_reader.specs.code.Reads.{Inside};
-ghost use Rattle.cite.specs.Cited.{reportRoom, lineRoom, cited, EditorColumns};
+ghost use Rattle.cite.specs.Cited.{reportRoom, noteRoom, lineRoom, cited, EditorColumns};
 
 // Where the source of an accepted sheet stands: behind the media byte.
 fn find_source(sheet: &[u8]) -> TextRead
@@ -29,8 +29,9 @@ fn find_source(sheet: &[u8]) -> TextRead
 }
 
 // Writes the lines for a sheet, and answers how many bytes they are.
-fn cite(sheet: &[u8], report: &mut [u8], lines: &mut [u8]) -> usize
+fn cite(sheet: &[u8], report: &mut [u8], notes: &mut [usize], lines: &mut [u8]) -> usize
     requires { ⌜ length (now report) ≡ reportRoom ⌝ }
+    requires { ⌜ length (now notes) ≡ noteRoom ⌝ }
     requires { ⌜ lineRoom ≤ length (now lines) ⌝ }
     ensures { λ r. ⌜ (r ≡ length (cited (now (sheet .entry)))) × (take r (now (lines .exit)) ≡ cited (now (sheet .entry))) ⌝ }
     ensures { λ r. ⌜ r ≤ length (now (lines .exit)) ⌝ }
@@ -39,10 +40,19 @@ fn cite(sheet: &[u8], report: &mut [u8], lines: &mut [u8]) -> usize
     let source = find_source(sheet);
     let from = source.from;
     let to = source.to;
-    match module_info(sheet, report) {
+    match module_info_with_replaced(sheet, report, notes) {
         Outcome::Refused(r) => cite_refusal(r, lines),
-        Outcome::Accepted(n) => cite_report(&report[..n], &sheet[from..to], lines),
+        Outcome::Accepted(n) => cite_report(&report[..n], &sheet[from..to], &notes[1..], lines),
     }
+}
+
+// Room for a number of each dependency of every report of 65,536 bytes, behind how many there are: a dependency has at least eight bytes.
+const NOTE_ROOM: usize = 1 + 65536 / 8;
+
+fn note_buffer() -> [usize; NOTE_ROOM]
+    ensures { λ r. ⌜ length r ≡ noteRoom ⌝ }
+{
+    [0; NOTE_ROOM]
 }
 
 // Room for the lines of every report of 65,536 bytes.
@@ -66,8 +76,9 @@ fn main() {
         return;
     };
     let mut report = io::large_buffer();
+    let mut notes = note_buffer();
     let mut lines = line_buffer();
-    let length = cite(&sheet[..n], &mut report, &mut lines);
+    let length = cite(&sheet[..n], &mut report, &mut notes, &mut lines);
     if !io::write_all(STDOUT_FILENO, &lines[..length]) {
         io::write_all(
             STDERR_FILENO,

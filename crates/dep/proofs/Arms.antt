@@ -35,13 +35,12 @@ use Rattle.nodes.proofs.Arms.{alike, alike-two, nodes-one, nodes-two, pair}
 use Rattle.report.specs.declared.names.StaticDependencyKind.the-variants as statics
 use Rattle.report.specs.declared.names.DynamicDependencyKind.{DynamicDependencyKind}
 use Rattle.report.specs.declared.names.DynamicDependencyKind.the-variants as dynamics
-use Rattle.report.specs.ModuleInfo.{SpecifierWithRange, DependencyDescriptor}
-use Rattle.report.specs.Buffer.{Buffer}
+use Rattle.report.specs.ModuleInfo.{SpecifierWithRange}
 use Rattle.attributes.specs.Attributes.{staticAttributes, typeAttributes}
 use Rattle.dep.specs.declared.entries.CallHead.{CallHead}
 use Rattle.dep.specs.declared.entries.StaticDependencyDescriptor.{StaticDependencyDescriptor}
-use Rattle.dep.specs.Collect.{dynamicKind, moduleEntry, collector, collect, collectAll, collectOf, collectWith}
-use Rattle.dep.specs.code.Walk.{Calls, Begins, calleesOf, wroteEntries, staticOf, entryOfCall, afterNode, afterNodes, afterArgument, afterArguments, afterProperty, afterWith, afterImport, afterCall, afterTyped}
+use Rattle.dep.specs.Collect.{dynamicKind, Noted, noting, collectNoted}
+use Rattle.dep.specs.code.Walk.{Calls, Begins, calleesOf, Written, wroteEntries, staticOf, moduleOf, entryOfCall, noteAll, noteOf, noteWith, afterNode, afterNodes, afterArgument, afterArguments, afterProperty, afterWith, afterImport, afterCall, afterTyped}
 use Rattle.dep.proofs.Wrote.{entries-append}
 
 -- the variants of a call's head
@@ -61,15 +60,15 @@ no-nodes inner u = refl
 
 module _ (source : List ℕ) (types : ℕ → Option SpecifierWithRange) where
   -- an argument
-  pub argument-holds : (w : Buffer) (dots : Bool) (sp : Span) (x : Decoded Node)
+  pub argument-holds : (w : Written) (dots : Bool) (sp : Span) (x : Decoded Node)
       → onOk (afterNode source types w) x ≡ onOk (afterArgument source types w) (andThen x (λ n. return (argument dots sp n)))
-  unfolding collector
-  argument-holds w dots sp = built (afterNode source types w) (afterArgument source types w) (argument dots sp) (λ n. rw (append-nil (collect source types n)))
+  unfolding noting
+  argument-holds w dots sp = built (afterNode source types w) (afterArgument source types w) (argument dots sp) (λ n. rw (append-nil (collectNoted source types n)))
 
   -- a property: one node, or two with a child for its key
-  pub property-holds : (w : Buffer) (inner : Decoder Node) (s : List ℕ) (p : Property) (u : List ℕ)
+  pub property-holds : (w : Written) (inner : Decoder Node) (s : List ℕ) (p : Property) (u : List ℕ)
       → onOk (afterNodes source types w) (nodes inner (nodesOf p) u) ≡ onOk (afterProperty source types w) (propertyRest inner (propertyOf s p) u)
-  unfolding collector
+  unfolding noting
   property-holds w inner s property.Spread u = rw (nodes-one inner u) (alike inner (afterNodes source types w) (afterProperty source types w) (λ n. more n none) spread (λ n. refl) (inner u))
   property-holds w inner s property.Other u = rw (nodes-one inner u) (alike inner (afterNodes source types w) (afterProperty source types w) (λ n. more n none) otherProperty (λ n. refl) (inner u))
   property-holds w inner s property.ChildKey u = rw (nodes-two inner u) (alike-two inner (afterNodes source types w) (afterProperty source types w) (λ k v. more k (more v none)) childKey (λ k v. refl) (inner u))
@@ -78,80 +77,80 @@ module _ (source : List ℕ) (types : ℕ → Option SpecifierWithRange) where
 
   -- a node that holds nothing and has no entry: a String, a Name, an export or an import-equals that names no module
   pub leaf-holds : (s : List ℕ) (levels : ℕ) (sp : Span) (x : Head) → OneOf (1 ∷ 2 ∷ 9 ∷ 13 ∷ []) (tagOf the-type x)
-      → {w : Buffer} → wroteEntries w [] ≡ w → (u : List ℕ) → ok w u ≡ onOk (afterNode source types w) (rest source levels (sp, headOf s x) u)
-  unfolding collector
+      → {w : Written} → wroteEntries w [] ≡ w → (u : List ℕ) → ok w u ≡ onOk (afterNode source types w) (rest source levels (sp, headOf s x) u)
+  unfolding noting
   leaf-holds s levels sp x (inl k) e u = rw (lives-at enum x 1 k .1, e)
   leaf-holds s levels sp x (inr (inl k)) e u = rw (lives-at enum x 2 k .1, e)
   leaf-holds s levels sp x (inr (inr (inl k))) e u = rw (lives-at enum x 9 k .1, e)
   leaf-holds s levels sp x (inr (inr (inr k))) e u = rw (lives-at enum x 13 k .1, e)
 
   -- a template, its pieces read
-  pub template-holds : (w : Buffer) (sp : Span) (inner : Decoder Node) (n : ℕ) (x : Decoded Pieces) {b : Bool} {v : List ℕ} → onOk anyUncooked x ≡ ok b v
+  pub template-holds : (w : Written) (sp : Span) (inner : Decoder Node) (n : ℕ) (x : Decoded Pieces) {b : Bool} {v : List ℕ} → onOk anyUncooked x ≡ ok b v
       → onOk (afterNodes source types w) (nodes inner n v) ≡ onOk (afterNode source types w) (andThen x (λ ps. nodes inner n >>= λ ns. return (template sp ps ns)))
-  unfolding collector
+  unfolding noting
   template-holds w sp inner n x {b} {v} e =
       let (ps, is, gives) = onOk-ok anyUncooked x e in
       rw is (built (afterNodes source types w) (afterNode source types w) (template sp ps) (λ ns. refl) (nodes inner n v))
 
   -- a binary operation holds two nodes
-  pub binary-holds : (w : Buffer) (sp : Span) (plus : Bool) (inner : Decoder Node) (u : List ℕ)
+  pub binary-holds : (w : Written) (sp : Span) (plus : Bool) (inner : Decoder Node) (u : List ℕ)
       → onOk (afterNodes source types w) (nodes inner 2 u) ≡ onOk (afterNode source types w) ((inner >>= λ l. inner >>= λ r. return (binary sp plus l r)) u)
-  unfolding collector
+  unfolding noting
   binary-holds w sp plus inner u =
       rw (nodes-two inner u)
-      (alike-two inner (afterNodes source types w) (afterNode source types w) (λ m n. more m (more n none)) (binary sp plus) (λ m n. rw (append-nil (collect source types n))) (inner u))
+      (alike-two inner (afterNodes source types w) (afterNode source types w) (λ m n. more m (more n none)) (binary sp plus) (λ m n. rw (append-nil (collectNoted source types n))) (inner u))
 
   -- a module declaration, its entry written
-  pub module-holds : (w : Buffer) {w′ : Buffer} (sp : Span) (q : Option Quoted) → w′ ≡ wroteEntries w (moduleEntry source types sp q) → (x : Decoded Nodes)
+  pub module-holds : (w : Written) {w′ : Written} (sp : Span) (q : Option Quoted) → w′ ≡ wroteEntries w (moduleOf source types sp q) → (x : Decoded Nodes)
       → onOk (afterNodes source types w′) x ≡ onOk (afterNode source types w) (andThen x (λ ns. return (moduleDecl sp q ns)))
-  unfolding collector
+  unfolding noting
   module-holds w sp q e = rw e
-      (built (afterNodes source types (wroteEntries w (moduleEntry source types sp q))) (afterNode source types w) (moduleDecl sp q)
-      (λ ns. sym (entries-append w (moduleEntry source types sp q) (collectAll source types ns))))
+      (built (afterNodes source types (wroteEntries w (moduleOf source types sp q))) (afterNode source types w) (moduleDecl sp q)
+      (λ ns. sym (entries-append w (moduleOf source types sp q) (noteAll source types ns))))
 
   -- what follows the callee of a call
   module _ (inner : Decoder Node) (sp : Span) where
-    import-call-holds : (w : Buffer) (phase : ImportPhase) {kind : DynamicDependencyKind} → kind ≡ dynamicKind phase → (x : Decoded (Arguments × Nodes))
+    import-call-holds : (w : Written) (phase : ImportPhase) {kind : DynamicDependencyKind} → kind ≡ dynamicKind phase → (x : Decoded (Arguments × Nodes))
         → onOk (afterCall source types (record { kind = kind; span = sp; listed = true }) w) x
         ≡ onOk (afterNode source types w) (andThen x (λ p. return (importCall sp phase (p .0) (p .1))))
-    unfolding collector
+    unfolding noting
     import-call-holds w phase e = rw e (built _ (afterNode source types w) (λ p. importCall sp phase (p .0) (p .1)) (λ p. refl))
 
     -- and the callee, an expression
-    call-of-holds : (w : Buffer) (x : Decoded Node) {v : Buffer} {t : List ℕ} → onOk (afterNode source types w) x ≡ ok v t
+    call-of-holds : (w : Written) (x : Decoded Node) {v : Written} {t : List ℕ} → onOk (afterNode source types w) x ≡ ok v t
         → {b : Bool} → ((n : Node) (u : List ℕ) → x ≡ ok n u → b ≡ isRequire (shape n))
         → onOk (afterCall source types (record { kind = dynamics.Require; span = sp; listed = b }) v) (callRest inner source t)
         ≡ onOk (afterNode source types w) (andThen x (λ e. callRest inner source >>= λ p. return (call sp e (p .0) (p .1))))
-    unfolding collector
+    unfolding noting
     call-of-holds w (ok n u) {v} {t} e {b} f =
         let gives : v ≡ afterNode source types w n = cc in
         let left : t ≡ u = cc in
         let d : CallHead = record { kind = dynamics.Require; span = sp; listed = isRequire (shape n) } in
         rw (gives, left, f n u refl)
         (built (afterCall source types d (afterNode source types w n)) (afterNode source types w) (λ p. call sp n (p .0) (p .1))
-        (λ p. sym (entries-append w (collect source types n) (collectOf source types (p .0) ++ (collectAll source types (p .1) ++ entryOfCall source types d (p .0)))))
+        (λ p. sym (entries-append w (collectNoted source types n) (noteOf source types (p .0) ++ (noteAll source types (p .1) ++ entryOfCall source types d (p .0)))))
         (callRest inner source u))
     call-of-holds w (no r) e f = absurd (refused e)
 
   -- a call, its callee walked
-  module _ (levels : ℕ) (sp : Span) (s : List ℕ) (x : Head) {d : CallHead} {u : List ℕ} (begins : Begins source levels sp u x d) {w : Buffer} (same : wroteEntries w [] ≡ w) where
+  module _ (levels : ℕ) (sp : Span) (s : List ℕ) (x : Head) {d : CallHead} {u : List ℕ} (begins : Begins source levels sp u x d) {w : Written} (same : wroteEntries w [] ≡ w) where
     alone : (phase : ImportPhase) → x ≡ head.ImportCall phase → onOk (afterNodes source types w) (nodes (node source levels) (calleesOf (d .kind)) u) ≡ ok w u
-    unfolding collector
+    unfolding noting
     alone phase e = rw (begins .import-is phase e, import-alone phase, no-nodes (node source levels) u, same)
 
     one : x ≡ head.Call → onOk (afterNodes source types w) (nodes (node source levels) (calleesOf (d .kind)) u) ≡ onOk (afterNode source types w) (node source levels u)
-    unfolding collector
+    unfolding noting
     one e =
         ap (λ d. onOk (afterNodes source types w) (nodes (node source levels) (calleesOf (d .kind)) u)) (begins .call-is e)
         ∙ (ap (onOk (afterNodes source types w)) (nodes-one (node source levels) u)
-        ∙ sym (built (afterNode source types w) (afterNodes source types w) (λ n. more n none) (λ n. rw (append-nil (collect source types n))) (node source levels u)))
+        ∙ sym (built (afterNode source types w) (afterNodes source types w) (λ n. more n none) (λ n. rw (append-nil (collectNoted source types n))) (node source levels u)))
 
     pub called-refused : Calls x → {r : ℕ} → onOk (afterNodes source types w) (nodes (node source levels) (calleesOf (d .kind)) u) ≡ no r
         → no r ≡ onOk (afterNode source types w) (rest source levels (sp, headOf s x) u)
     called-refused (inl (phase, e)) f = absurd (refused (sym f ∙ alone phase e))
     called-refused (inr e) f = rw (e, onOk-no (afterNode source types w) (node source levels u) (sym (one e) ∙ f))
 
-    pub called-holds : Calls x → {v : Buffer} {t : List ℕ} → onOk (afterNodes source types w) (nodes (node source levels) (calleesOf (d .kind)) u) ≡ ok v t
+    pub called-holds : Calls x → {v : Written} {t : List ℕ} → onOk (afterNodes source types w) (nodes (node source levels) (calleesOf (d .kind)) u) ≡ ok v t
         → onOk (afterCall source types d v) (callRest (node source levels) source t) ≡ onOk (afterNode source types w) (rest source levels (sp, headOf s x) u)
     called-holds (inl (phase, e)) {v} {t} f =
         let is = sym f ∙ alone phase e in
@@ -163,14 +162,14 @@ module _ (source : List ℕ) (types : ℕ → Option SpecifierWithRange) where
         ∙ rw e (call-of-holds (node source levels) sp w (node source levels u) (sym (one e) ∙ f) (begins .listed-is e))
 
   -- three lists of entries, one after the other
-  in-turn : (w : Buffer) (a b c : List DependencyDescriptor) → wroteEntries (wroteEntries (wroteEntries w a) b) c ≡ wroteEntries w (a ++ (b ++ c))
+  in-turn : (w : Written) (a b c : List Noted) → wroteEntries (wroteEntries (wroteEntries w a) b) c ≡ wroteEntries w (a ++ (b ++ c))
   in-turn w a b c = sym (entries-append w a (b ++ c) ∙ entries-append (wroteEntries w a) b c)
 
   -- the parts of a call, and then its entry
-  pub call-walked : (w : Buffer) (d : CallHead) (inner : Decoder Node) (x : Decoded Arguments) {w1 : Buffer} {t1 : List ℕ} → onOk (afterArguments source types w) x ≡ ok w1 t1
+  pub call-walked : (w : Written) (d : CallHead) (inner : Decoder Node) (x : Decoded Arguments) {w1 : Written} {t1 : List ℕ} → onOk (afterArguments source types w) x ≡ ok w1 t1
       → {m : ℕ} {t2 : List ℕ} → number t1 ≡ ok m t2
-      → {w2 : Buffer} {t3 : List ℕ} → onOk (afterNodes source types w1) (nodes inner m t2) ≡ ok w2 t3
-      → {w3 : Buffer} → ((xs : Arguments) (t : List ℕ) → x ≡ ok xs t → w3 ≡ wroteEntries w2 (entryOfCall source types d xs))
+      → {w2 : Written} {t3 : List ℕ} → onOk (afterNodes source types w1) (nodes inner m t2) ≡ ok w2 t3
+      → {w3 : Written} → ((xs : Arguments) (t : List ℕ) → x ≡ ok xs t → w3 ≡ wroteEntries w2 (entryOfCall source types d xs))
       → ok w3 t3 ≡ onOk (afterCall source types d w) (andThen x (λ xs. number >>= λ m. nodes inner m >>= pair xs))
   call-walked w d inner x {w1} {t1} e1 {m} {t2} e2 {w2} {t3} e3 {w3} f =
       let (xs, is, gives) = onOk-ok (afterArguments source types w) x e1 in
@@ -179,13 +178,13 @@ module _ (source : List ℕ) (types : ℕ → Option SpecifierWithRange) where
       (ap (λ v. ok v t3)
       (f xs t1 is
       ∙ ap (λ v. wroteEntries v (entryOfCall source types d xs)) (sym give ∙ ap (λ v. afterNodes source types v ns) (sym gives))
-      ∙ in-turn w (collectOf source types xs) (collectAll source types ns) (entryOfCall source types d xs)))
+      ∙ in-turn w (noteOf source types xs) (noteAll source types ns) (entryOfCall source types d xs)))
 
   -- the entry of an import type, and then its parts
-  pub typed-walked : (w : Buffer) (s : List ℕ) (d : StaticDependencyDescriptor) (object′ : Decoder Attributes) (x : Decoded Nodes) {t : Tally} {t1 : List ℕ} → onOk tallyAll x ≡ ok t t1
+  pub typed-walked : (w : Written) (s : List ℕ) (d : StaticDependencyDescriptor) (object′ : Decoder Attributes) (x : Decoded Nodes) {t : Tally} {t1 : List ℕ} → onOk tallyAll x ≡ ok t t1
       → {there : Bool} {t2 : List ℕ} → flag t1 ≡ ok there t2
-      → {w1 : Buffer} → ((a : Attributes) (t : List ℕ) → behind there object′ t2 ≡ ok a t → w1 ≡ wroteEntries w (staticOf source types s d (typeAttributes a)))
-      → {w2 : Buffer} {t3 : List ℕ} → onOk (afterNodes source types w1) x ≡ ok w2 t3
+      → {w1 : Written} → ((a : Attributes) (t : List ℕ) → behind there object′ t2 ≡ ok a t → w1 ≡ wroteEntries w (staticOf source types s d (typeAttributes a)))
+      → {w2 : Written} {t3 : List ℕ} → onOk (afterNodes source types w1) x ≡ ok w2 t3
       → onOk (afterWith source types w2) (behind there object′ t2) ≡ onOk (afterTyped source types s d w) (andThen x (λ ns. attributes object′ >>= pair ns))
   unfolding attributes
   typed-walked w s d object′ (ok ns u) e1 {there} {t2} e2 {w1} f {w2} e3 =
@@ -197,20 +196,20 @@ module _ (source : List ℕ) (types : ℕ → Option SpecifierWithRange) where
           → onOk (afterWith source types w2) y ≡ onOk (afterTyped source types s d w) (andThen y (pair ns))
       go gives (ok a v) e =
           ap (λ w. ok w v)
-          (ap (λ w. wroteEntries w (collectWith source types a)) (sym gives ∙ ap (λ w. afterNodes source types w ns) (f a v e))
-          ∙ in-turn w (staticOf source types s d (typeAttributes a)) (collectAll source types ns) (collectWith source types a))
+          (ap (λ w. wroteEntries w (noteWith source types a)) (sym gives ∙ ap (λ w. afterNodes source types w ns) (f a v e))
+          ∙ in-turn w (staticOf source types s d (typeAttributes a)) (noteAll source types ns) (noteWith source types a))
       go gives (no r) e = refl
   typed-walked w s d object′ (no r) e1 e2 f e3 = absurd (refused e1)
 
-  pub typed-holds : (w : Buffer) (s : List ℕ) (sp : Span) (q : heads.Quoted) (x : Decoded (Nodes × Attributes))
+  pub typed-holds : (w : Written) (s : List ℕ) (sp : Span) (q : heads.Quoted) (x : Decoded (Nodes × Attributes))
       → onOk (afterTyped source types s (record { kind = statics.ImportType; span = sp; specifier = q; «is_side_effect» = false }) w) x
       ≡ onOk (afterNode source types w) (andThen x (λ p. return (importType sp (quotedOf s q) (p .0) (p .1))))
-  unfolding collector
+  unfolding noting
   typed-holds w s sp q = built _ (afterNode source types w) (λ p. importType sp (quotedOf s q) (p .0) (p .1)) (λ p. refl)
 
   -- the entry of an import, its attributes read
-  pub import-written : (w : Buffer) (s : List ℕ) (d : StaticDependencyDescriptor) (x : Decoded Attributes) {t : Tally} {u : List ℕ} → onOk tallyWith x ≡ ok t u
-      → {w1 : Buffer} → ((a : Attributes) (t : List ℕ) → x ≡ ok a t → w1 ≡ wroteEntries w (staticOf source types s d (staticAttributes a)))
+  pub import-written : (w : Written) (s : List ℕ) (d : StaticDependencyDescriptor) (x : Decoded Attributes) {t : Tally} {u : List ℕ} → onOk tallyWith x ≡ ok t u
+      → {w1 : Written} → ((a : Attributes) (t : List ℕ) → x ≡ ok a t → w1 ≡ wroteEntries w (staticOf source types s d (staticAttributes a)))
       → ok w1 u ≡ onOk (afterImport source types s d w) x
   import-written w s d x {t} {u} e f =
       let (a, is, gives) = onOk-ok tallyWith x e in

@@ -1,7 +1,7 @@
 -- There are as many dependencies as the check of the tree counts.
 use mathlib.Core.Path.{_≡_, refl, sym, ap, _∙_}
 use mathlib.Core.Bool.{Bool, true, false, cond, _&&_}
-use mathlib.Core.List.{List, [], _∷_, flatMap}
+use mathlib.Core.List.{List, [], _∷_, _++_, map, flatMap, map-append}
 use mathlib.Core.Option.{Option}
 use Prim.Native.Nat.{ℕ}
 use lib.ListN.{length, length-append}
@@ -16,13 +16,15 @@ use Rattle.sheet.proofs.Walks.{walks-related}
 use Rattle.report.specs.declared.names.StaticDependencyKind.the-variants as statics
 use Rattle.report.specs.declared.names.DynamicDependencyKind.{DynamicDependencyKind}
 use Rattle.report.specs.declared.names.DynamicDependencyKind.the-variants as dynamics
-use Rattle.report.specs.ModuleInfo.{SpecifierWithRange}
+use Rattle.report.specs.ModuleInfo.{SpecifierWithRange, DependencyDescriptor}
 use Rattle.report.specs.ModuleInfo as info
 use Rattle.report.specs.Encode.{encodeList, encodeDependency}
 use Rattle.report.specs.Buffer.{Buffer, wrote}
 use Rattle.report.proofs.Buffers.{wrote-append}
+use Rattle.arguments.specs.Argument.{replacedIn}
+use Rattle.dep.specs.code.Notes.{allNoted}
 use Rattle.dep.specs.code.Walk.{wroteEntries, afterNode}
-use Rattle.dep.specs.Collect.{dynamicKind, staticEntry, callEntry, moduleEntry, entryOf, collector, collect}
+use Rattle.dep.specs.Collect.{dynamicKind, staticEntry, callEntry, moduleEntry, entryOf, collector, collect, textOf, Noted, beside, numbersOf, noting, collectNoted}
 
 module _ (source : List ℕ) (types : ℕ → Option SpecifierWithRange) where
   call-one : (kind : DynamicDependencyKind) (sp : Span) (xs : Arguments) → length (callEntry source types kind sp xs) ≡ one (anyArgument xs)
@@ -57,15 +59,32 @@ module _ (source : List ℕ) (types : ℕ → Option SpecifierWithRange) where
   counted = walks-related (λ l n. length l ≡ n) (collector source types) counting
       (record { nothing = refl; both = λ e f. rw (length-append, e, f); own = entry-one })
 
+  -- the numbers stand beside the dependencies
+  beside-first : (number : ℕ) (l : List DependencyDescriptor) → map (λ e. e .0) (beside number l) ≡ l
+  beside-first number [] = refl
+  beside-first number (d ∷ l) = ap (d ∷_) (beside-first number l)
+
+  pub noted-first : (n : Node) → map (λ e. e .0) (collectNoted source types n) ≡ collect source types n
+  unfolding collector noting
+  noted-first = walks-related (λ l m. map (λ e. e .0) l ≡ m) (noting source types) (collector source types)
+      (record { nothing = refl; both = λ {a} {b} e f. rw (map-append (λ (e : Noted). e .0) a b, e, f); own = λ v. beside-first (replacedIn (textOf v)) (entryOf source types v) })
+
+  noted-bytes : (l : List Noted) → flatMap (λ e. encodeDependency (e .0)) l ≡ flatMap encodeDependency (map (λ e. e .0) l)
+  unfolding flatMap
+  noted-bytes [] = refl
+  noted-bytes (e ∷ l) = ap (encodeDependency (e .0) ++_) (noted-bytes l)
+
   -- their number, and then their entries
   pub program-written : (w : Buffer) (x : Decoded Node) {n : Node} {t : List ℕ} → x ≡ ok n t → {count : ℕ} → count ≡ entries n
-      → {w1 : Buffer} → w1 ≡ wrote w (encodeNumber count) → {w2 : Buffer} {v : List ℕ} → onOk (afterNode source types w1) x ≡ ok w2 v
-      → w2 ≡ wrote w (encodeList encodeDependency (collect source types n))
+      → {w1 : Buffer} → w1 ≡ wrote w (encodeNumber count) → (notes : List ℕ) {w2 : Buffer} {notes′ v : List ℕ} → onOk (afterNode source types (w1, notes)) x ≡ ok (w2, notes′) v
+      → (w2 ≡ wrote w (encodeList encodeDependency (collect source types n))) × (notes′ ≡ allNoted notes (numbersOf (collectNoted source types n)))
   unfolding encodeList
-  program-written w x {n} {t} is {count} as-many {w1} number-first {w2} {v} then-entries =
-      let both : ok (afterNode source types w1 n) t ≡ ok w2 v = rw is at then-entries in
-      let entries-last : w2 ≡ wroteEntries w1 (collect source types n) = cc in
-      entries-last
-      ∙ ap (λ w. wroteEntries w (collect source types n)) number-first
-      ∙ ap (λ k. wroteEntries (wrote w (encodeNumber k)) (collect source types n)) (as-many ∙ sym (counted n))
-      ∙ sym (wrote-append w (encodeNumber (length (collect source types n))) (flatMap encodeDependency (collect source types n)))
+  program-written w x {n} {t} is {count} as-many {w1} number-first notes {w2} {notes′} {v} then-entries =
+      let both : ok (afterNode source types (w1, notes) n) t ≡ ok (w2, notes′) v = rw is at then-entries in
+      let last : (w2, notes′) ≡ wroteEntries (w1, notes) (collectNoted source types n) = cc in
+      let bytes = noted-bytes (collectNoted source types n) ∙ ap (flatMap encodeDependency) (noted-first n) in (
+        ap (λ p. p .0) last
+            ∙ ap (λ w. wrote w (flatMap (λ e. encodeDependency (e .0)) (collectNoted source types n))) number-first
+            ∙ rw (bytes, as-many, ← counted n) (sym (wrote-append w (encodeNumber (length (collect source types n))) (flatMap encodeDependency (collect source types n)))),
+        ap (λ p. p .1) last,
+      )

@@ -9,6 +9,7 @@ use Rattle.report.specs.ModuleInfo.{StaticDependencyDescriptor, DynamicDependen
 use Rattle.report.specs.Encode.{encodeSpecifier, encodeRange, encodeArgument, encodeAttributes, encodeStatic, encodeDynamic, encodeDependency}
 use Rattle.report.specs.Buffer.{Buffer, wrote}
 use Rattle.report.proofs.Buffers.{wrote-append, wrote-cons}
+use Rattle.dep.specs.code.Notes.{noted}
 use Rattle.dep.specs.code.Walk.{wroteEntries}
 
 -- five fields
@@ -25,19 +26,23 @@ module _ (w : Buffer) (k : ℕ) (a b c d : List ℕ) where
       ∙ wrote-append (wrote v a) b (c ++ d)
       ∙ wrote-append (wrote (wrote v a) b) c d)
 
-module _ (w : Buffer) {w1 w2 w3 w4 w5 : Buffer} where
+module _ (w : Buffer) (notes : List ℕ) (number : ℕ) {w1 w2 w3 w4 w5 : Buffer} {notes′ : List ℕ} (numbered : notes′ ≡ noted notes number) where
   pub static-written : (d : StaticDependencyDescriptor) → w1 ≡ wrote w (staticNumber (d .kind) ∷ []) → w2 ≡ wrote w1 (encodeOptional encodeSpecifier (d .typesSpecifier))
       → w3 ≡ wrote w2 (encodeSpecifier (d .specifier)) → w4 ≡ wrote w3 (encodeFlag (d .sideEffect)) → w5 ≡ wrote w4 (encodeAttributes (d .importAttributes))
-      → w5 ≡ wroteEntries w (static d ∷ [])
+      → (w5, notes′) ≡ wroteEntries (w, notes) ((static d, number) ∷ [])
   unfolding flatMap encodeDependency encodeStatic
   static-written d e1 e2 e3 e4 e5 =
+      let written =
       in-turn w (staticNumber (d .kind)) (encodeOptional encodeSpecifier (d .typesSpecifier)) (encodeSpecifier (d .specifier)) (encodeFlag (d .sideEffect)) (encodeAttributes (d .importAttributes)) e1 e2 e3 e4 e5
-      ∙ ap (wrote w) (sym (append-nil (encodeStatic d)))
+      ∙ ap (wrote w) (sym (append-nil (encodeStatic d))) in
+      rw (written, numbered)
 
   pub dynamic-written : (d : DynamicDependencyDescriptor) → w1 ≡ wrote w (dynamicNumber (d .kind) ∷ []) → w2 ≡ wrote w1 (encodeOptional encodeSpecifier (d .typesSpecifier))
       → w3 ≡ wrote w2 (encodeArgument (d .argument)) → w4 ≡ wrote w3 (encodeRange (d .argumentRange)) → w5 ≡ wrote w4 (encodeAttributes (d .importAttributes))
-      → w5 ≡ wroteEntries w (dynamic d ∷ [])
+      → (w5, notes′) ≡ wroteEntries (w, notes) ((dynamic d, number) ∷ [])
   unfolding flatMap encodeDependency encodeDynamic
   dynamic-written d e1 e2 e3 e4 e5 =
+      let written =
       in-turn w (dynamicNumber (d .kind)) (encodeOptional encodeSpecifier (d .typesSpecifier)) (encodeArgument (d .argument)) (encodeRange (d .argumentRange)) (encodeAttributes (d .importAttributes)) e1 e2 e3 e4 e5
-      ∙ ap (wrote w) (sym (append-nil (encodeDynamic d)))
+      ∙ ap (wrote w) (sym (append-nil (encodeDynamic d))) in
+      rw (written, numbered)

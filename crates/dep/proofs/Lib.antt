@@ -1,4 +1,5 @@
 pub mod Wrote
+pub mod Noting
 pub mod Spans
 pub mod Loops
 pub mod Arms
@@ -7,4 +8,5 @@ pub mod Fields
 pub mod Callee
 pub mod Turns
 pub mod Right
+pub mod Replaced
 mod Cases

@@ -18,33 +18,40 @@ use Rattle.report.specs.declared.names.DynamicDependencyKind.the-variants as dy
 use Rattle.report.specs.ModuleInfo.{SpecifierWithRange, DependencyDescriptor}
 use Rattle.report.specs.ModuleInfo as info
 use Rattle.pragmas.specs.Texts.{typesOf}
-use Rattle.dep.specs.Collect.{staticEntry, callEntry, moduleEntry, entryOf, collector, collect}
+use Rattle.arguments.specs.Argument.{replacedIn}
+use Rattle.dep.specs.Collect.{textOf, beside, staticEntry, callEntry, moduleEntry, entryOf, collector, collect, noting, collectNoted}
 use Rattle.dep.specs.InTurn.{InTurn, nothing, entry, passed}
 
-turns-append : {P : Visit → DependencyDescriptor → Type 0} {vs ws : List Visit} {l m : List DependencyDescriptor} → InTurn P vs l → InTurn P ws m → InTurn P (vs ++ ws) (l ++ m)
+turns-append : {A : Type 0} {P : Visit → A → Type 0} {vs ws : List Visit} {l m : List A} → InTurn P vs l → InTurn P ws m → InTurn P (vs ++ ws) (l ++ m)
 turns-append nothing q = q
 turns-append (entry g h p) q = entry g h (turns-append p q)
 turns-append (passed g p) q = passed g (turns-append p q)
 
 -- each dependency is that of a visit
-pub turn-member : {P : Visit → DependencyDescriptor → Type 0} {vs : List Visit} {l : List DependencyDescriptor} → InTurn P vs l → {d : DependencyDescriptor} → List·Memᴰ d l
+pub turn-member : {A : Type 0} {P : Visit → A → Type 0} {vs : List Visit} {l : List A} → InTurn P vs l → {d : A} → List·Memᴰ d l
     → (v : Visit) × P v d
 turn-member nothing m = absurd (List·Memᴰ·not-nil m)
 turn-member (entry {v = v} g h p) m = ⊎-elim (λ e. (v, rw e h)) (λ i. turn-member p i) (List·Memᴰ·cases-cons m)
 turn-member (passed g p) m = turn-member p m
 
 -- there are no more of them than visits
-pub turns-few : {P : Visit → DependencyDescriptor → Type 0} {vs : List Visit} {l : List DependencyDescriptor} → InTurn P vs l → length l ≤ length vs
+pub turns-few : {A : Type 0} {P : Visit → A → Type 0} {vs : List Visit} {l : List A} → InTurn P vs l → length l ≤ length vs
 turns-few nothing = omega arith
 turns-few (entry g h p) = omega (arith, turns-few p)
 turns-few (passed g p) = omega (arith, turns-few p)
 
 -- what is known of visits that are made can be used of their entries
-pub turns-with : {P Q : Visit → DependencyDescriptor → Type 0} {vs : List Visit} {l : List DependencyDescriptor} → InTurn P vs l
-    → ((v : Visit) → List·Memᴰ v vs → (d : DependencyDescriptor) → P v d → Q v d) → InTurn Q vs l
+pub turns-with : {A : Type 0} {P Q : Visit → A → Type 0} {vs : List Visit} {l : List A} → InTurn P vs l
+    → ((v : Visit) → List·Memᴰ v vs → (d : A) → P v d → Q v d) → InTurn Q vs l
 turns-with nothing f = nothing
 turns-with (entry {v = v} {d = d} g h p) f = entry g (f v (List·Memᴰ·head refl) d h) (turns-with p (λ w i. f w (List·Memᴰ·tail i)))
 turns-with (passed g p) f = passed g (turns-with p (λ w i. f w (List·Memᴰ·tail i)))
+
+-- an entry with the number of its visit
+beside-turn : {P : Visit → DependencyDescriptor → Type 0} (number : Visit → ℕ) {v : Visit} {l : List DependencyDescriptor} → InTurn P (v ∷ []) l
+    → InTurn (λ v e. P v (e .0) × (e .1 ≡ number v)) (v ∷ []) (beside (number v) l)
+beside-turn number (entry g h nothing) = entry g (h, refl) nothing
+beside-turn number (passed g nothing) = passed g nothing
 
 module _ (source : List ℕ) (types : ℕ → Option SpecifierWithRange) (P : Visit → DependencyDescriptor → Type 0)
     (holds : (v : Visit) (d : DependencyDescriptor) → entryOf source types v ≡ d ∷ [] → typesOf d ≡ types (startOf v) → P v d) where
@@ -83,3 +90,8 @@ module _ (source : List ℕ) (types : ℕ → Option SpecifierWithRange) (P : Vi
   pub collect-turns : (n : Node) → InTurn P (visits n) (collect source types n)
   unfolding collector
   collect-turns = walks-related (λ l vs. InTurn P vs l) (collector source types) visiting (record { nothing = nothing; both = λ p q. turns-append p q; own = own-turn })
+
+  pub noted-turns : (n : Node) → InTurn (λ v e. P v (e .0) × (e .1 ≡ replacedIn (textOf v))) (visits n) (collectNoted source types n)
+  unfolding noting
+  noted-turns = walks-related (λ l vs. InTurn (λ v e. P v (e .0) × (e .1 ≡ replacedIn (textOf v))) vs l) (noting source types) visiting
+      (record { nothing = nothing; both = λ p q. turns-append p q; own = λ v. beside-turn (λ v. replacedIn (textOf v)) (own-turn v) })

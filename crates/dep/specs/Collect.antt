@@ -1,15 +1,15 @@
 -- The dependencies of a tree: `DependencyCollector` of src/ast/dep.rs, entry by entry. Their order is that of the walk.
 use mathlib.Core.Bool.{Bool, true, false, cond}
-use mathlib.Core.List.{List, [], _∷_, _++_}
+use mathlib.Core.List.{List, [], _∷_, _++_, map}
 use mathlib.Core.Option.{Option}
 use Prim.Native.Nat.{ℕ}
 use Rattle.text.specs.Lossy.{lossy}
 use Rattle.sheet.specs.declared.fields.Span.{Span}
 use Rattle.sheet.specs.declared.names.ImportPhase.{ImportPhase}
 use Rattle.sheet.specs.declared.names.ImportPhase.the-variants.{Evaluation, Source, Defer}
-use Rattle.sheet.specs.Tree.{Quoted, Node, Nodes, Arguments, noArguments, argument, Properties, Attributes}
+use Rattle.sheet.specs.Tree.{Quoted, Node, Arguments, noArguments, argument}
 use Rattle.sheet.specs.Shape.{shape, isRequire, isAugmentation}
-use Rattle.sheet.specs.Walk.{Visit, called, importing, expression, imported, exported, typed, required, declared, Collector, walk, walkAll, walkOf, walkIn, walkWith}
+use Rattle.sheet.specs.Walk.{Visit, called, importing, expression, imported, exported, typed, required, declared, Collector, walk}
 use Rattle.report.specs.declared.names.StaticDependencyKind.{StaticDependencyKind}
 use Rattle.report.specs.declared.names.StaticDependencyKind.the-variants as statics
 use Rattle.report.specs.declared.names.DynamicDependencyKind.{DynamicDependencyKind}
@@ -18,7 +18,7 @@ use Rattle.report.specs.ModuleInfo.{SpecifierWithRange, ImportAttributes, Depen
 use Rattle.report.specs.ModuleInfo as info
 use Rattle.report.specs.Range.{rangeOf}
 use Rattle.attributes.specs.Attributes.{staticAttributes, typeAttributes, dynamicAttributes}
-use Rattle.arguments.specs.Argument.{argumentOf}
+use Rattle.arguments.specs.Argument.{argumentOf, singleText, replacedIn}
 
 -- the kind of an import, by its flag type-only and its phase
 abbrev pub importKind : Bool → ImportPhase → StaticDependencyKind
@@ -40,6 +40,38 @@ abbrev pub dynamicKind : ImportPhase → DynamicDependencyKind
 dynamicKind Evaluation = dynamics.Import
 dynamicKind Source = dynamics.ImportSource
 dynamicKind Defer = dynamics.ImportDefer
+
+-- ---- the text of an entry
+
+-- the single text of a call's first argument
+abbrev pub firstText : Arguments → Option (List ℕ)
+firstText noArguments = Option.none
+firstText (argument dots at n xs) = singleText (shape n)
+
+abbrev pub textIn : Option Quoted → Option (List ℕ)
+textIn Option.none = Option.none
+textIn (Option.some x) = Option.some (x .text)
+
+-- the text of a visit's entry as the sheet has it, in WTF-8: that of its String, or the single one of its argument
+abbrev pub textOf : Visit → Option (List ℕ)
+textOf (called sp e xs) = firstText xs
+textOf (imported sp typeOnly phase sideEffect x a) = Option.some (x .text)
+textOf (exported sp typeOnly x a) = Option.some (x .text)
+textOf (typed sp x a) = Option.some (x .text)
+textOf (required sp typeOnly export x) = Option.some (x .text)
+textOf (declared sp x) = textIn x
+
+-- a dependency, with the number of surrogates replaced in its text
+abbrev pub Noted : Type 0
+Noted = DependencyDescriptor × ℕ
+
+-- each with that number
+abbrev pub beside : ℕ → List DependencyDescriptor → List Noted
+beside number [] = []
+beside number (d ∷ l) = (d, number) ∷ beside number l
+
+abbrev pub numbersOf : List Noted → List ℕ
+numbersOf = map (λ e. e .1)
 
 -- over a source, with the types that a comment before a place gives to the node that starts there
 module _ (source : List ℕ) (types : ℕ → Option SpecifierWithRange) where
@@ -88,18 +120,13 @@ module _ (source : List ℕ) (types : ℕ → Option SpecifierWithRange) where
   unfoldable pub collector : Collector (List DependencyDescriptor)
   collector = record { nothing = []; both = _++_; own = entryOf }
 
-  -- the dependencies of a node, and of parts of one
+  -- the dependencies of a node
   abbrev pub collect : Node → List DependencyDescriptor
   collect = walk collector
 
-  abbrev pub collectAll : Nodes → List DependencyDescriptor
-  collectAll = walkAll collector
+  -- the same with the number of surrogates replaced in the text of each
+  unfoldable pub noting : Collector (List Noted)
+  noting = record { nothing = []; both = _++_; own = λ v. beside (replacedIn (textOf v)) (entryOf v) }
 
-  abbrev pub collectOf : Arguments → List DependencyDescriptor
-  collectOf = walkOf collector
-
-  abbrev pub collectIn : Properties → List DependencyDescriptor
-  collectIn = walkIn collector
-
-  abbrev pub collectWith : Attributes → List DependencyDescriptor
-  collectWith = walkWith collector
+  abbrev pub collectNoted : Node → List Noted
+  collectNoted = walk noting

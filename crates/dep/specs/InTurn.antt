@@ -19,10 +19,10 @@ use Rattle.pragmas.specs.Texts.{typesOf}
 use Rattle.dep.specs.Collect.{entryOf}
 
 -- each visit that gives an entry has one, which is so to the visit; no other has one
-pub data InTurn (P : Visit → DependencyDescriptor → Type 0) : List Visit → List DependencyDescriptor → Type 0 where
+pub data InTurn {A : Type 0} (P : Visit → A → Type 0) : List Visit → List A → Type 0 where
   nothing : InTurn P [] []
-  entry : {v : Visit} {vs : List Visit} {d : DependencyDescriptor} {l : List DependencyDescriptor} → gives v ≡ true → P v d → InTurn P vs l → InTurn P (v ∷ vs) (d ∷ l)
-  passed : {v : Visit} {vs : List Visit} {l : List DependencyDescriptor} → gives v ≡ false → InTurn P vs l → InTurn P (v ∷ vs) l
+  entry : {v : Visit} {vs : List Visit} {d : A} {l : List A} → gives v ≡ true → P v d → InTurn P vs l → InTurn P (v ∷ vs) (d ∷ l)
+  passed : {v : Visit} {vs : List Visit} {l : List A} → gives v ≡ false → InTurn P vs l → InTurn P (v ∷ vs) l
 
 abbrev pub attributesOf : DependencyDescriptor → ImportAttributes
 attributesOf (static d) = d .importAttributes

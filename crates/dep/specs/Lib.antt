@@ -1,3 +1,4 @@
 pub mod Collect
 pub mod InTurn
+pub mod Replaced
 pub mod code

@@ -1,5 +1,6 @@
 // The entries of dependencies in the report. tables has the comments, the groups and the index of the source's positions, counts
-// how many comments and groups there are, cursor is in the sheet, and place in the buffer.
+// how many comments and groups there are, cursor is in the sheet, and place in the buffer. notes takes for each entry how many characters
+// were replaced in its text.
 use arguments::argument::DynamicArgument;
 use arguments::argument::parse_argument;
 use arguments::argument::put_argument;
@@ -38,6 +39,7 @@ ghost use Rattle.laws.specs.code.Left.{Free};
 ghost use Rattle.wire.specs.Optional.{encodeOptional};
 ghost use Rattle.sheet.specs.Tree.{Node, Attributes, Arguments, argument};
 ghost use Rattle.sheet.specs.Nodes.{node, arguments, attributesObject};
+ghost use Rattle.sheet.specs.Shape.{shape};
 ghost use Rattle.heads.specs.code.Rest.{behind};
 ghost use Rattle.heads.specs.code.Views.{quotedOf};
 ghost use Rattle.report.specs.ModuleInfo as info;
@@ -46,9 +48,11 @@ ghost use Rattle.report.specs.Range.{InSource};
 ghost use Rattle.report.specs.Buffer.{wrote, bufferAs};
 ghost use Rattle.attributes.specs.Attributes.{typeAttributes, staticAttributes, dynamicAttributes};
 ghost use Rattle.attributes.specs.code.Views.{attributesAs, AttributesWithin};
+ghost use Rattle.arguments.specs.Argument.{singleText, replacedIn};
 ghost use Rattle.arguments.specs.code.Views.{Stands, ArgumentWithin};
-ghost use Rattle.dep.specs.Collect.{importKind, exportKind, equalsKind, dynamicKind, callEntry, moduleEntry};
-ghost use Rattle.dep.specs.code.Walk.{typesFrom, HeldIn, Quotes, wroteEntries, staticOf, dynamicOf, entryOfCall};
+ghost use Rattle.dep.specs.Collect.{importKind, exportKind, equalsKind, dynamicKind, callEntry, beside};
+ghost use Rattle.dep.specs.code.Notes.{noted};
+ghost use Rattle.dep.specs.code.Walk.{typesFrom, HeldIn, Quotes, writtenAs, wroteEntries, staticOf, dynamicOf, moduleOf, entryOfCall};
 
 // How many comments and groups the tables hold.
 pub struct Counts {
@@ -160,6 +164,19 @@ fn put_types(
     )
 }
 
+// Notes a number for the next dependency: the first of the notes says how many there are. Where there is no room, nothing is noted.
+fn note(notes: &mut [usize], number: usize)
+    ensures { λ _. ⌜ now (notes .exit) ≡ noted (now (notes .entry)) number ⌝ }
+{
+    if 0 < notes.len() {
+        let count = notes[0];
+        if count < notes.len() - 1 {
+            notes[count + 1] = number;
+            notes[0] = count + 1;
+        }
+    }
+}
+
 // The entry of a static dependency, with its attributes in the table.
 fn put_static_entry(
     sheet: &[u8],
@@ -170,13 +187,14 @@ fn put_static_entry(
     tables: &[u32],
     counts: Counts,
     out: &mut [u8],
+    notes: &mut [usize],
     place: Place,
 ) -> Place
     requires { ⌜ HeldIn (now source) (now tables) counts
         × Quotes (now sheet) (now source) (dependency .specifier)
         × AttributesWithin (length (now sheet)) (now pairs) attributes ⌝ }
-    ensures { λ r. ⌜ bufferAs (now (out .exit)) r
-        ≡ wroteEntries (bufferAs (now (out .entry)) place)
+    ensures { λ r. ⌜ writtenAs (now (out .exit)) (now (notes .exit)) r
+        ≡ wroteEntries (writtenAs (now (out .entry)) (now (notes .entry)) place)
         (staticOf (now (source .entry))
         (typesFrom (now (source .entry)) (now (tables .entry)) counts)
         (now (sheet .entry)) dependency (attributesAs (now (sheet .entry)) (now (pairs .entry)) attributes)) ⌝ }
@@ -190,14 +208,16 @@ fn put_static_entry(
     let number = static_number(kind);
     let place = place.put(out, number);
     let place = put_types(source, tables, counts, start, out, place);
-    let place = place.put_lossy_specifier(out, &sheet[from..to], source, index, specifier.span);
+    let written = place.put_lossy_specifier(out, &sheet[from..to], source, index, specifier.span);
+    note(notes, written.replaced);
+    let place = written.place;
     let place = place.put_flag(out, dependency.is_side_effect);
     put_attributes(sheet, pairs, attributes, out, place)
 }
 
 // The entry of an import type, or of a declaration, with the Object of its attributes at the cursor, if there is one. The table is here, and not in
 // the walk, so that no level of the walk has one on the stack: the compiler does not inline what is called at two places. Where the bytes are no such Object,
-// the buffer is left free.
+// the buffer and the notes are left free.
 pub fn put_with_entry(
     sheet: &[u8],
     source: &[u8],
@@ -208,16 +228,17 @@ pub fn put_with_entry(
     tables: &[u32; TABLE_NUMBERS],
     counts: Counts,
     out: &mut [u8],
+    notes: &mut [usize],
     place: Place,
     is_type: bool,
 ) -> Place
     requires { ⌜ HeldIn (now source) (now tables) counts × Quotes (now sheet) (now source) (dependency .specifier) ⌝ }
     ensures { λ r. ⌜ ((a : Attributes) (t : List ℕ)
         → behind there (attributesObject (now (source .entry)) levels) (drop (cursor .at) (now (sheet .entry))) ≡ ok a t
-        → bufferAs (now (out .exit)) r
-        ≡ wroteEntries (bufferAs (now (out .entry)) place)
+        → writtenAs (now (out .exit)) (now (notes .exit)) r
+        ≡ wroteEntries (writtenAs (now (out .entry)) (now (notes .entry)) place)
         (staticOf (now (source .entry)) (typesFrom (now (source .entry)) (now (tables .entry)) counts) (now (sheet .entry)) dependency (cond «is_type» (typeAttributes a) (staticAttributes a)))) ⌝ }
-    ensures { λ _. ⌜ Free (now (out .entry)) (now (out .exit)) ⌝ }
+    ensures { λ _. ⌜ Free (now (out .entry)) (now (out .exit)) × Free (now (notes .entry)) (now (notes .exit)) ⌝ }
 {
     let mut pairs: [usize; PAIR_NUMBERS] = [0; PAIR_NUMBERS];
     if is_type {
@@ -231,6 +252,7 @@ pub fn put_with_entry(
             tables,
             counts,
             out,
+            notes,
             place,
         );
     }
@@ -244,6 +266,7 @@ pub fn put_with_entry(
         tables,
         counts,
         out,
+        notes,
         place,
     )
 }
@@ -256,11 +279,12 @@ pub fn put_plain_entry(
     tables: &[u32; TABLE_NUMBERS],
     counts: Counts,
     out: &mut [u8],
+    notes: &mut [usize],
     place: Place,
 ) -> Place
     requires { ⌜ HeldIn (now source) (now tables) counts × Quotes (now sheet) (now source) (dependency .specifier) ⌝ }
-    ensures { λ r. ⌜ bufferAs (now (out .exit)) r
-        ≡ wroteEntries (bufferAs (now (out .entry)) place)
+    ensures { λ r. ⌜ writtenAs (now (out .exit)) (now (notes .exit)) r
+        ≡ wroteEntries (writtenAs (now (out .entry)) (now (notes .entry)) place)
         (staticOf (now (source .entry)) (typesFrom (now (source .entry)) (now (tables .entry)) counts) (now (sheet .entry)) dependency info.none) ⌝ }
 {
     let pairs: [usize; 1] = [0; 1];
@@ -274,6 +298,7 @@ pub fn put_plain_entry(
         tables,
         counts,
         out,
+        notes,
         place,
     )
 }
@@ -287,12 +312,13 @@ pub fn put_module_entry(
     tables: &[u32; TABLE_NUMBERS],
     counts: Counts,
     out: &mut [u8],
+    notes: &mut [usize],
     place: Place,
 ) -> Place
     requires { ⌜ HeldIn (now source) (now tables) counts × Quotes (now sheet) (now source) specifier ⌝ }
-    ensures { λ r. ⌜ bufferAs (now (out .exit)) r
-        ≡ wroteEntries (bufferAs (now (out .entry)) place)
-        (moduleEntry (now (source .entry))
+    ensures { λ r. ⌜ writtenAs (now (out .exit)) (now (notes .exit)) r
+        ≡ wroteEntries (writtenAs (now (out .entry)) (now (notes .entry)) place)
+        (moduleOf (now (source .entry))
         (typesFrom (now (source .entry)) (now (tables .entry)) counts)
         span (Option.some (quotedOf (now (sheet .entry)) specifier))) ⌝ }
 {
@@ -303,7 +329,7 @@ pub fn put_module_entry(
             specifier,
             is_side_effect: false,
         };
-        return put_plain_entry(sheet, source, dependency, tables, counts, out, place);
+        return put_plain_entry(sheet, source, dependency, tables, counts, out, notes, place);
     }
     place
 }
@@ -319,19 +345,20 @@ fn put_dynamic_entry(
     tables: &[u32],
     counts: Counts,
     out: &mut [u8],
+    notes: &mut [usize],
     place: Place,
 ) -> Place
     requires { ⌜ HeldIn (now source) (now tables) counts
         × InSource (now source) (dependency .«argument_range»)
         × ArgumentWithin (length (now sheet)) (dependency .argument) ⌝ }
-    ensures { λ r. ⌜ ((v : info.DynamicArgument) (xs : Arguments) (t : List ℕ)
-        → Stands (now (sheet .entry)) (now (source .entry)) levels (dependency .argument) v
+    ensures { λ r. ⌜ ((v : info.DynamicArgument) (replacements : ℕ) (xs : Arguments) (t : List ℕ)
+        → Stands (now (sheet .entry)) (now (source .entry)) levels (dependency .argument) v replacements
         → arguments (node (now (source .entry)) levels) (now (source .entry)) more (drop (cursor .at) (now (sheet .entry))) ≡ ok xs t
-        → bufferAs (now (out .exit)) r
-        ≡ wroteEntries (bufferAs (now (out .entry)) place)
+        → writtenAs (now (out .exit)) (now (notes .exit)) r
+        ≡ wroteEntries (writtenAs (now (out .entry)) (now (notes .entry)) place)
         (dynamicOf (now (source .entry))
         (typesFrom (now (source .entry)) (now (tables .entry)) counts)
-        dependency v (dynamicAttributes xs))) ⌝ }
+        dependency v (dynamicAttributes xs) replacements)) ⌝ }
 {
     let kind = dependency.kind;
     let number = dynamic_number(kind);
@@ -348,7 +375,9 @@ fn put_dynamic_entry(
     let index = &tables[INDEX_START..TABLE_NUMBERS];
     let argument = dependency.argument;
     let place = put_types(source, tables, counts, dependency.start, out, place);
-    let place = put_argument(sheet, source, levels, argument, out, place);
+    let written = put_argument(sheet, source, levels, argument, out, place);
+    note(notes, written.replaced);
+    let place = written.place;
     let place = place.put_span(out, source, index, dependency.argument_range);
     put_attributes(sheet, &pairs, attributes, out, place)
 }
@@ -365,17 +394,19 @@ fn put_argument_entry(
     tables: &[u32; TABLE_NUMBERS],
     counts: Counts,
     out: &mut [u8],
+    notes: &mut [usize],
     place: Place,
 ) -> Place
     requires { ⌜ HeldIn (now source) (now tables) counts × InSource (now source) range ⌝ }
     ensures { λ r. ⌜ ((dots : Bool) (n : Node) (xs : Arguments) (t u : List ℕ)
         → node (now (source .entry)) levels (drop (cursor .at) (now (sheet .entry))) ≡ ok n t
         → arguments (node (now (source .entry)) levels) (now (source .entry)) more t ≡ ok xs u
-        → bufferAs (now (out .exit)) r
-        ≡ wroteEntries (bufferAs (now (out .entry)) place)
+        → writtenAs (now (out .exit)) (now (notes .exit)) r
+        ≡ wroteEntries (writtenAs (now (out .entry)) (now (notes .entry)) place)
+        (beside (replacedIn (singleText (shape n)))
         (callEntry (now (source .entry))
         (typesFrom (now (source .entry)) (now (tables .entry)) counts)
-        (call .kind) (call .span) (argument dots range n xs))) ⌝ }
+        (call .kind) (call .span) (argument dots range n xs)))) ⌝ }
 {
     let kind = call.kind;
     let argument = parse_argument(sheet, source, cursor, levels);
@@ -396,6 +427,7 @@ fn put_argument_entry(
             tables,
             counts,
             out,
+            notes,
             place,
         );
     }
@@ -412,6 +444,7 @@ fn put_argument_entry(
                 tables,
                 counts,
                 out,
+                notes,
                 place,
             )
         }
@@ -419,7 +452,7 @@ fn put_argument_entry(
 }
 
 // The entry of a call that is listed, with so many arguments at the cursor; none if there is no argument. Where the bytes are no such arguments,
-// the buffer is left free.
+// the buffer and the notes are left free.
 pub fn put_call_entry(
     sheet: &[u8],
     source: &[u8],
@@ -430,15 +463,16 @@ pub fn put_call_entry(
     tables: &[u32; TABLE_NUMBERS],
     counts: Counts,
     out: &mut [u8],
+    notes: &mut [usize],
     place: Place,
 ) -> Place
     requires { ⌜ HeldIn (now source) (now tables) counts ⌝ }
     ensures { λ r. ⌜ ((xs : Arguments) (t : List ℕ)
         → arguments (node (now (source .entry)) levels) (now (source .entry)) count (drop (cursor .at) (now (sheet .entry))) ≡ ok xs t
-        → bufferAs (now (out .exit)) r
-        ≡ wroteEntries (bufferAs (now (out .entry)) place)
+        → writtenAs (now (out .exit)) (now (notes .exit)) r
+        ≡ wroteEntries (writtenAs (now (out .entry)) (now (notes .entry)) place)
         (entryOfCall (now (source .entry)) (typesFrom (now (source .entry)) (now (tables .entry)) counts) call xs)) ⌝ }
-    ensures { λ _. ⌜ Free (now (out .entry)) (now (out .exit)) ⌝ }
+    ensures { λ _. ⌜ Free (now (out .entry)) (now (out .exit)) × Free (now (notes .entry)) (now (notes .exit)) ⌝ }
 {
     if call.listed {
         if 0 < count {
@@ -460,6 +494,7 @@ pub fn put_call_entry(
                         tables,
                         counts,
                         out,
+                        notes,
                         place,
                     )
                 }

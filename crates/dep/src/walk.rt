@@ -1,6 +1,7 @@
 // `DependencyCollector`: the walk over a tree, by recursion in which the levels left fall. It writes the entries of what a node holds, in the order
 // of the sheet, and the node's own. tables has the comments, the groups and the index of the source's positions, counts
-// how many comments and groups there are, cursor is in the sheet, and place in the buffer.
+// how many comments and groups there are, cursor is in the sheet, and place in the buffer. notes takes for each entry how many characters
+// were replaced in its text.
 use super::entries::CallHead;
 use super::entries::Counts;
 use super::entries::StaticDependencyDescriptor;
@@ -55,8 +56,9 @@ ghost use Rattle.heads.specs.code.Head.{importHead, exportFromHead, exportAllHe
 ghost use Rattle.heads.specs.code.Views.{quotedOf, headOf};
 ghost use Rattle.report.specs.Encode.{encodeList, encodeDependency};
 ghost use Rattle.report.specs.Buffer.{wrote, bufferAs};
-ghost use Rattle.dep.specs.Collect.{collect};
-ghost use Rattle.dep.specs.code.Walk.{typesFrom, HeldIn, Quotes, PastHead, Calls, Begins, calleesOf, walkedAs, PastWalked, afterNode, afterNodes, afterArgument, afterArguments, afterProperties, afterProperty, afterWith, afterImport, afterCall};
+ghost use Rattle.dep.specs.Collect.{collect, collectNoted, numbersOf};
+ghost use Rattle.dep.specs.code.Notes.{allNoted};
+ghost use Rattle.dep.specs.code.Walk.{typesFrom, HeldIn, Quotes, PastHead, Calls, Begins, calleesOf, writtenAs, walkedAs, PastWalked, afterNode, afterNodes, afterArgument, afterArguments, afterProperties, afterProperty, afterWith, afterImport, afterCall};
 
 // The next place in the buffer, with the cursor past what was walked, or a refusal's number.
 pub enum Walked {
@@ -65,7 +67,7 @@ pub enum Walked {
 }
 
 // The dependencies of a tree: their number, which the check of the tree counted, and their entries. Where the bytes are no tree with so many,
-// the buffer is left free.
+// the buffer and the notes are left free.
 pub fn analyze_program_dependencies(
     sheet: &[u8],
     source: &[u8],
@@ -74,19 +76,32 @@ pub fn analyze_program_dependencies(
     tables: &[u32; TABLE_NUMBERS],
     counts: Counts,
     out: &mut [u8],
+    notes: &mut [usize],
     place: Place,
 ) -> Place
     requires { ⌜ HeldIn (now source) (now tables) counts ⌝ }
     ensures { λ r. ⌜ ((n : Node) (t : List ℕ)
         → node (now (source .entry)) depthLimit (drop (root .at) (now (sheet .entry))) ≡ ok n t
         → count ≡ entries n
-        → bufferAs (now (out .exit)) r
+        → (bufferAs (now (out .exit)) r
         ≡ wrote (bufferAs (now (out .entry)) place)
-        (encodeList encodeDependency (collect (now (source .entry)) (typesFrom (now (source .entry)) (now (tables .entry)) counts) n))) ⌝ }
-    ensures { λ _. ⌜ Free (now (out .entry)) (now (out .exit)) ⌝ }
+        (encodeList encodeDependency (collect (now (source .entry)) (typesFrom (now (source .entry)) (now (tables .entry)) counts) n)))
+        × (now (notes .exit)
+        ≡ allNoted (now (notes .entry)) (numbersOf (collectNoted (now (source .entry)) (typesFrom (now (source .entry)) (now (tables .entry)) counts) n)))) ⌝ }
+    ensures { λ _. ⌜ Free (now (out .entry)) (now (out .exit)) × Free (now (notes .entry)) (now (notes .exit)) ⌝ }
 {
     let place = place.put_number(out, count);
-    match walk_node(sheet, source, root, DEPTH_LIMIT, tables, counts, out, place) {
+    match walk_node(
+        sheet,
+        source,
+        root,
+        DEPTH_LIMIT,
+        tables,
+        counts,
+        out,
+        notes,
+        place,
+    ) {
         Walked::Refused(_) => place,
         Walked::Is(place, _) => place,
     }
@@ -120,11 +135,12 @@ fn visit_import_decl(
     tables: &[u32; TABLE_NUMBERS],
     counts: Counts,
     out: &mut [u8],
+    notes: &mut [usize],
     place: Place,
 ) -> Walked
     requires { ⌜ HeldIn (now source) (now tables) counts × Quotes (now sheet) (now source) specifier × (cursor .at ≤ length (now sheet)) ⌝ }
-    ensures { λ r. ⌜ walkedAs (now (sheet .entry)) (now (out .exit)) r
-        ≡ onOk (afterNode (now (source .entry)) (typesFrom (now (source .entry)) (now (tables .entry)) counts) (bufferAs (now (out .entry)) place))
+    ensures { λ r. ⌜ walkedAs (now (sheet .entry)) (now (out .exit)) (now (notes .exit)) r
+        ≡ onOk (afterNode (now (source .entry)) (typesFrom (now (source .entry)) (now (tables .entry)) counts) (writtenAs (now (out .entry)) (now (notes .entry)) place))
         (rest (now (source .entry)) levels (span, importHead «type_only» phase «is_side_effect» (quotedOf (now (sheet .entry)) specifier) there) (drop (cursor .at) (now (sheet .entry)))) ⌝ }
     ensures { λ r. ⌜ PastWalked (length (now (sheet .entry))) r ⌝ }
 {
@@ -145,6 +161,7 @@ fn visit_import_decl(
         tables,
         counts,
         out,
+        notes,
         place,
     )
 }
@@ -162,11 +179,12 @@ fn visit_named_export(
     tables: &[u32; TABLE_NUMBERS],
     counts: Counts,
     out: &mut [u8],
+    notes: &mut [usize],
     place: Place,
 ) -> Walked
     requires { ⌜ HeldIn (now source) (now tables) counts × Quotes (now sheet) (now source) specifier × (cursor .at ≤ length (now sheet)) ⌝ }
-    ensures { λ r. ⌜ walkedAs (now (sheet .entry)) (now (out .exit)) r
-        ≡ onOk (afterNode (now (source .entry)) (typesFrom (now (source .entry)) (now (tables .entry)) counts) (bufferAs (now (out .entry)) place))
+    ensures { λ r. ⌜ walkedAs (now (sheet .entry)) (now (out .exit)) (now (notes .exit)) r
+        ≡ onOk (afterNode (now (source .entry)) (typesFrom (now (source .entry)) (now (tables .entry)) counts) (writtenAs (now (out .entry)) (now (notes .entry)) place))
         (rest (now (source .entry)) levels (span, exportFromHead «type_only» (quotedOf (now (sheet .entry)) specifier) there) (drop (cursor .at) (now (sheet .entry)))) ⌝ }
     ensures { λ r. ⌜ PastWalked (length (now (sheet .entry))) r ⌝ }
 {
@@ -187,6 +205,7 @@ fn visit_named_export(
         tables,
         counts,
         out,
+        notes,
         place,
     )
 }
@@ -204,11 +223,12 @@ fn visit_export_all(
     tables: &[u32; TABLE_NUMBERS],
     counts: Counts,
     out: &mut [u8],
+    notes: &mut [usize],
     place: Place,
 ) -> Walked
     requires { ⌜ HeldIn (now source) (now tables) counts × Quotes (now sheet) (now source) specifier × (cursor .at ≤ length (now sheet)) ⌝ }
-    ensures { λ r. ⌜ walkedAs (now (sheet .entry)) (now (out .exit)) r
-        ≡ onOk (afterNode (now (source .entry)) (typesFrom (now (source .entry)) (now (tables .entry)) counts) (bufferAs (now (out .entry)) place))
+    ensures { λ r. ⌜ walkedAs (now (sheet .entry)) (now (out .exit)) (now (notes .exit)) r
+        ≡ onOk (afterNode (now (source .entry)) (typesFrom (now (source .entry)) (now (tables .entry)) counts) (writtenAs (now (out .entry)) (now (notes .entry)) place))
         (rest (now (source .entry)) levels (span, exportAllHead «type_only» (quotedOf (now (sheet .entry)) specifier) there) (drop (cursor .at) (now (sheet .entry)))) ⌝ }
     ensures { λ r. ⌜ PastWalked (length (now (sheet .entry))) r ⌝ }
 {
@@ -229,6 +249,7 @@ fn visit_export_all(
         tables,
         counts,
         out,
+        notes,
         place,
     )
 }
@@ -245,11 +266,12 @@ fn visit_ts_import_type(
     tables: &[u32; TABLE_NUMBERS],
     counts: Counts,
     out: &mut [u8],
+    notes: &mut [usize],
     place: Place,
 ) -> Walked
     requires { ⌜ HeldIn (now source) (now tables) counts × Quotes (now sheet) (now source) specifier × (cursor .at ≤ length (now sheet)) ⌝ }
-    ensures { λ r. ⌜ walkedAs (now (sheet .entry)) (now (out .exit)) r
-        ≡ onOk (afterNode (now (source .entry)) (typesFrom (now (source .entry)) (now (tables .entry)) counts) (bufferAs (now (out .entry)) place))
+    ensures { λ r. ⌜ walkedAs (now (sheet .entry)) (now (out .exit)) (now (notes .exit)) r
+        ≡ onOk (afterNode (now (source .entry)) (typesFrom (now (source .entry)) (now (tables .entry)) counts) (writtenAs (now (out .entry)) (now (notes .entry)) place))
         (rest (now (source .entry)) levels (span, importTypeHead (quotedOf (now (sheet .entry)) specifier) count) (drop (cursor .at) (now (sheet .entry)))) ⌝ }
     ensures { λ r. ⌜ PastWalked (length (now (sheet .entry))) r ⌝ }
 {
@@ -274,6 +296,7 @@ fn visit_ts_import_type(
                     tables,
                     counts,
                     out,
+                    notes,
                     place,
                     true,
                 );
@@ -286,6 +309,7 @@ fn visit_ts_import_type(
                     tables,
                     counts,
                     out,
+                    notes,
                     place,
                 ) {
                     Walked::Refused(r) => Walked::Refused(r),
@@ -299,6 +323,7 @@ fn visit_ts_import_type(
                             tables,
                             counts,
                             out,
+                            notes,
                             place,
                         )
                     }
@@ -318,11 +343,12 @@ fn visit_call_expr(
     tables: &[u32; TABLE_NUMBERS],
     counts: Counts,
     out: &mut [u8],
+    notes: &mut [usize],
     place: Place,
 ) -> Walked
     requires { ⌜ HeldIn (now source) (now tables) counts ⌝ }
-    ensures { λ r. ⌜ walkedAs (now (sheet .entry)) (now (out .exit)) r
-        ≡ onOk (afterCall (now (source .entry)) (typesFrom (now (source .entry)) (now (tables .entry)) counts) call (bufferAs (now (out .entry)) place))
+    ensures { λ r. ⌜ walkedAs (now (sheet .entry)) (now (out .exit)) (now (notes .exit)) r
+        ≡ onOk (afterCall (now (source .entry)) (typesFrom (now (source .entry)) (now (tables .entry)) counts) call (writtenAs (now (out .entry)) (now (notes .entry)) place))
         (callRest (node (now (source .entry)) levels) (now (source .entry)) (drop (cursor .at) (now (sheet .entry)))) ⌝ }
     ensures { λ r. ⌜ PastWalked (length (now (sheet .entry))) r ⌝ }
 {
@@ -338,6 +364,7 @@ fn visit_call_expr(
                 tables,
                 counts,
                 out,
+                notes,
                 place,
             );
             match r {
@@ -354,6 +381,7 @@ fn visit_call_expr(
                             tables,
                             counts,
                             out,
+                            notes,
                             place,
                         );
                         match r {
@@ -369,6 +397,7 @@ fn visit_call_expr(
                                     tables,
                                     counts,
                                     out,
+                                    notes,
                                     place,
                                 );
                                 Walked::Is(place, next)
@@ -393,11 +422,12 @@ fn visit_ts_import_equals_decl(
     tables: &[u32; TABLE_NUMBERS],
     counts: Counts,
     out: &mut [u8],
+    notes: &mut [usize],
     place: Place,
 ) -> Walked
     requires { ⌜ HeldIn (now source) (now tables) counts × Quotes (now sheet) (now source) specifier × (cursor .at ≤ length (now sheet)) ⌝ }
-    ensures { λ r. ⌜ walkedAs (now (sheet .entry)) (now (out .exit)) r
-        ≡ ok (afterNode (now (source .entry)) (typesFrom (now (source .entry)) (now (tables .entry)) counts) (bufferAs (now (out .entry)) place)
+    ensures { λ r. ⌜ walkedAs (now (sheet .entry)) (now (out .exit)) (now (notes .exit)) r
+        ≡ ok (afterNode (now (source .entry)) (typesFrom (now (source .entry)) (now (tables .entry)) counts) (writtenAs (now (out .entry)) (now (notes .entry)) place)
         (importRequire span «type_only» export (quotedOf (now (sheet .entry)) specifier)))
         (drop (cursor .at) (now (sheet .entry))) ⌝ }
     ensures { λ r. ⌜ PastWalked (length (now (sheet .entry))) r ⌝ }
@@ -409,7 +439,7 @@ fn visit_ts_import_equals_decl(
         specifier,
         is_side_effect: false,
     };
-    let place = put_plain_entry(sheet, source, dependency, tables, counts, out, place);
+    let place = put_plain_entry(sheet, source, dependency, tables, counts, out, notes, place);
     Walked::Is(place, cursor)
 }
 
@@ -425,15 +455,26 @@ fn visit_ts_module_decl(
     tables: &[u32; TABLE_NUMBERS],
     counts: Counts,
     out: &mut [u8],
+    notes: &mut [usize],
     place: Place,
 ) -> Walked
     requires { ⌜ HeldIn (now source) (now tables) counts × Quotes (now sheet) (now source) specifier × (cursor .at ≤ length (now sheet)) ⌝ }
-    ensures { λ r. ⌜ walkedAs (now (sheet .entry)) (now (out .exit)) r
-        ≡ onOk (afterNode (now (source .entry)) (typesFrom (now (source .entry)) (now (tables .entry)) counts) (bufferAs (now (out .entry)) place))
+    ensures { λ r. ⌜ walkedAs (now (sheet .entry)) (now (out .exit)) (now (notes .exit)) r
+        ≡ onOk (afterNode (now (source .entry)) (typesFrom (now (source .entry)) (now (tables .entry)) counts) (writtenAs (now (out .entry)) (now (notes .entry)) place))
         (rest (now (source .entry)) levels (span, moduleHead (Option.some (quotedOf (now (sheet .entry)) specifier)) count) (drop (cursor .at) (now (sheet .entry)))) ⌝ }
     ensures { λ r. ⌜ PastWalked (length (now (sheet .entry))) r ⌝ }
 {
-    let place = put_module_entry(sheet, source, span, specifier, tables, counts, out, place);
+    let place = put_module_entry(
+        sheet,
+        source,
+        span,
+        specifier,
+        tables,
+        counts,
+        out,
+        notes,
+        place,
+    );
     walk_nodes(
         sheet,
         source,
@@ -443,6 +484,7 @@ fn visit_ts_module_decl(
         tables,
         counts,
         out,
+        notes,
         place,
     )
 }
@@ -456,11 +498,12 @@ fn walk_node(
     tables: &[u32; TABLE_NUMBERS],
     counts: Counts,
     out: &mut [u8],
+    notes: &mut [usize],
     place: Place,
 ) -> Walked
     requires { ⌜ HeldIn (now source) (now tables) counts ⌝ }
-    ensures { λ r. ⌜ walkedAs (now (sheet .entry)) (now (out .exit)) r
-        ≡ onOk (afterNode (now (source .entry)) (typesFrom (now (source .entry)) (now (tables .entry)) counts) (bufferAs (now (out .entry)) place))
+    ensures { λ r. ⌜ walkedAs (now (sheet .entry)) (now (out .exit)) (now (notes .exit)) r
+        ≡ onOk (afterNode (now (source .entry)) (typesFrom (now (source .entry)) (now (tables .entry)) counts) (writtenAs (now (out .entry)) (now (notes .entry)) place))
         (node (now (source .entry)) levels (drop (cursor .at) (now (sheet .entry)))) ⌝ }
     ensures { λ r. ⌜ PastWalked (length (now (sheet .entry))) r ⌝ }
 {
@@ -477,6 +520,7 @@ fn walk_node(
                 tables,
                 counts,
                 out,
+                notes,
                 place,
             )
         }
@@ -494,11 +538,12 @@ fn walk_rest(
     tables: &[u32; TABLE_NUMBERS],
     counts: Counts,
     out: &mut [u8],
+    notes: &mut [usize],
     place: Place,
 ) -> Walked
     requires { ⌜ HeldIn (now source) (now tables) counts × PastHead (now sheet) (now source) (cursor .at) head ⌝ }
-    ensures { λ r. ⌜ walkedAs (now (sheet .entry)) (now (out .exit)) r
-        ≡ onOk (afterNode (now (source .entry)) (typesFrom (now (source .entry)) (now (tables .entry)) counts) (bufferAs (now (out .entry)) place))
+    ensures { λ r. ⌜ walkedAs (now (sheet .entry)) (now (out .exit)) (now (notes .exit)) r
+        ≡ onOk (afterNode (now (source .entry)) (typesFrom (now (source .entry)) (now (tables .entry)) counts) (writtenAs (now (out .entry)) (now (notes .entry)) place))
         (rest (now (source .entry)) levels (span, headOf (now (sheet .entry)) head) (drop (cursor .at) (now (sheet .entry)))) ⌝ }
     ensures { λ r. ⌜ PastWalked (length (now (sheet .entry))) r ⌝ }
 {
@@ -513,6 +558,7 @@ fn walk_rest(
                 tables,
                 counts,
                 out,
+                notes,
                 place,
             )
         }
@@ -530,12 +576,24 @@ fn walk_rest(
                     tables,
                     counts,
                     out,
+                    notes,
                     place,
                 )
             }
         },
         Head::Binary(_) => {
-            walk_nodes(sheet, source, cursor, 2, levels, tables, counts, out, place)
+            walk_nodes(
+                sheet,
+                source,
+                cursor,
+                2,
+                levels,
+                tables,
+                counts,
+                out,
+                notes,
+                place,
+            )
         }
         Head::Object(count) => {
             walk_properties(
@@ -547,6 +605,7 @@ fn walk_rest(
                 tables,
                 counts,
                 out,
+                notes,
                 place,
             )
         }
@@ -561,6 +620,7 @@ fn walk_rest(
                 tables,
                 counts,
                 out,
+                notes,
                 place,
             )
         }
@@ -585,6 +645,7 @@ fn walk_rest(
                 tables,
                 counts,
                 out,
+                notes,
                 place,
             )
         }
@@ -605,6 +666,7 @@ fn walk_rest(
                 tables,
                 counts,
                 out,
+                notes,
                 place,
             )
         }
@@ -625,6 +687,7 @@ fn walk_rest(
                 tables,
                 counts,
                 out,
+                notes,
                 place,
             )
         }
@@ -640,6 +703,7 @@ fn walk_rest(
                 tables,
                 counts,
                 out,
+                notes,
                 place,
             )
         }
@@ -659,6 +723,7 @@ fn walk_rest(
                 tables,
                 counts,
                 out,
+                notes,
                 place,
             )
         }
@@ -672,6 +737,7 @@ fn walk_rest(
                 tables,
                 counts,
                 out,
+                notes,
                 place,
             )
         }
@@ -687,6 +753,7 @@ fn walk_rest(
                 tables,
                 counts,
                 out,
+                notes,
                 place,
             )
         }
@@ -703,11 +770,12 @@ fn walk_nodes(
     tables: &[u32; TABLE_NUMBERS],
     counts: Counts,
     out: &mut [u8],
+    notes: &mut [usize],
     place: Place,
 ) -> Walked
     requires { ⌜ HeldIn (now source) (now tables) counts × (cursor .at ≤ length (now sheet)) ⌝ }
-    ensures { λ r. ⌜ walkedAs (now (sheet .entry)) (now (out .exit)) r
-        ≡ onOk (afterNodes (now (source .entry)) (typesFrom (now (source .entry)) (now (tables .entry)) counts) (bufferAs (now (out .entry)) place))
+    ensures { λ r. ⌜ walkedAs (now (sheet .entry)) (now (out .exit)) (now (notes .exit)) r
+        ≡ onOk (afterNodes (now (source .entry)) (typesFrom (now (source .entry)) (now (tables .entry)) counts) (writtenAs (now (out .entry)) (now (notes .entry)) place))
         (nodes (node (now (source .entry)) levels) count (drop (cursor .at) (now (sheet .entry)))) ⌝ }
     ensures { λ r. ⌜ PastWalked (length (now (sheet .entry))) r ⌝ }
 {
@@ -715,7 +783,7 @@ fn walk_nodes(
     let mut at = cursor;
     let mut place = place;
     while 0 < left {
-        match walk_node(sheet, source, at, levels, tables, counts, out, place) {
+        match walk_node(sheet, source, at, levels, tables, counts, out, notes, place) {
             Walked::Refused(r) => {
                 return Walked::Refused(r);
             }
@@ -738,18 +806,29 @@ fn walk_argument(
     tables: &[u32; TABLE_NUMBERS],
     counts: Counts,
     out: &mut [u8],
+    notes: &mut [usize],
     place: Place,
 ) -> Walked
     requires { ⌜ HeldIn (now source) (now tables) counts ⌝ }
-    ensures { λ r. ⌜ walkedAs (now (sheet .entry)) (now (out .exit)) r
-        ≡ onOk (afterArgument (now (source .entry)) (typesFrom (now (source .entry)) (now (tables .entry)) counts) (bufferAs (now (out .entry)) place))
+    ensures { λ r. ⌜ walkedAs (now (sheet .entry)) (now (out .exit)) (now (notes .exit)) r
+        ≡ onOk (afterArgument (now (source .entry)) (typesFrom (now (source .entry)) (now (tables .entry)) counts) (writtenAs (now (out .entry)) (now (notes .entry)) place))
         (argumentItem (node (now (source .entry)) levels) (now (source .entry)) (drop (cursor .at) (now (sheet .entry)))) ⌝ }
     ensures { λ r. ⌜ PastWalked (length (now (sheet .entry))) r ⌝ }
 {
     match read_argument(sheet, source, cursor) {
         ArgumentRead::Refused(r) => Walked::Refused(r),
         ArgumentRead::Is { next, .. } => {
-            walk_node(sheet, source, next, levels, tables, counts, out, place)
+            walk_node(
+                sheet,
+                source,
+                next,
+                levels,
+                tables,
+                counts,
+                out,
+                notes,
+                place,
+            )
         }
     }
 }
@@ -764,11 +843,12 @@ fn walk_arguments(
     tables: &[u32; TABLE_NUMBERS],
     counts: Counts,
     out: &mut [u8],
+    notes: &mut [usize],
     place: Place,
 ) -> Walked
     requires { ⌜ HeldIn (now source) (now tables) counts × (cursor .at ≤ length (now sheet)) ⌝ }
-    ensures { λ r. ⌜ walkedAs (now (sheet .entry)) (now (out .exit)) r
-        ≡ onOk (afterArguments (now (source .entry)) (typesFrom (now (source .entry)) (now (tables .entry)) counts) (bufferAs (now (out .entry)) place))
+    ensures { λ r. ⌜ walkedAs (now (sheet .entry)) (now (out .exit)) (now (notes .exit)) r
+        ≡ onOk (afterArguments (now (source .entry)) (typesFrom (now (source .entry)) (now (tables .entry)) counts) (writtenAs (now (out .entry)) (now (notes .entry)) place))
         (arguments (node (now (source .entry)) levels) (now (source .entry)) count (drop (cursor .at) (now (sheet .entry)))) ⌝ }
     ensures { λ r. ⌜ PastWalked (length (now (sheet .entry))) r ⌝ }
 {
@@ -776,7 +856,7 @@ fn walk_arguments(
     let mut at = cursor;
     let mut place = place;
     while 0 < left {
-        match walk_argument(sheet, source, at, levels, tables, counts, out, place) {
+        match walk_argument(sheet, source, at, levels, tables, counts, out, notes, place) {
             Walked::Refused(r) => {
                 return Walked::Refused(r);
             }
@@ -799,11 +879,12 @@ fn walk_property(
     tables: &[u32; TABLE_NUMBERS],
     counts: Counts,
     out: &mut [u8],
+    notes: &mut [usize],
     place: Place,
 ) -> Walked
     requires { ⌜ HeldIn (now source) (now tables) counts ⌝ }
-    ensures { λ r. ⌜ walkedAs (now (sheet .entry)) (now (out .exit)) r
-        ≡ onOk (afterProperty (now (source .entry)) (typesFrom (now (source .entry)) (now (tables .entry)) counts) (bufferAs (now (out .entry)) place))
+    ensures { λ r. ⌜ walkedAs (now (sheet .entry)) (now (out .exit)) (now (notes .exit)) r
+        ≡ onOk (afterProperty (now (source .entry)) (typesFrom (now (source .entry)) (now (tables .entry)) counts) (writtenAs (now (out .entry)) (now (notes .entry)) place))
         (propertyItem (node (now (source .entry)) levels) (drop (cursor .at) (now (sheet .entry)))) ⌝ }
     ensures { λ r. ⌜ PastWalked (length (now (sheet .entry))) r ⌝ }
 {
@@ -820,6 +901,7 @@ fn walk_property(
                 tables,
                 counts,
                 out,
+                notes,
                 place,
             )
         }
@@ -836,11 +918,12 @@ fn walk_properties(
     tables: &[u32; TABLE_NUMBERS],
     counts: Counts,
     out: &mut [u8],
+    notes: &mut [usize],
     place: Place,
 ) -> Walked
     requires { ⌜ HeldIn (now source) (now tables) counts × (cursor .at ≤ length (now sheet)) ⌝ }
-    ensures { λ r. ⌜ walkedAs (now (sheet .entry)) (now (out .exit)) r
-        ≡ onOk (afterProperties (now (source .entry)) (typesFrom (now (source .entry)) (now (tables .entry)) counts) (bufferAs (now (out .entry)) place))
+    ensures { λ r. ⌜ walkedAs (now (sheet .entry)) (now (out .exit)) (now (notes .exit)) r
+        ≡ onOk (afterProperties (now (source .entry)) (typesFrom (now (source .entry)) (now (tables .entry)) counts) (writtenAs (now (out .entry)) (now (notes .entry)) place))
         (properties (node (now (source .entry)) levels) count (drop (cursor .at) (now (sheet .entry)))) ⌝ }
     ensures { λ r. ⌜ PastWalked (length (now (sheet .entry))) r ⌝ }
 {
@@ -848,7 +931,7 @@ fn walk_properties(
     let mut at = cursor;
     let mut place = place;
     while 0 < left {
-        match walk_property(sheet, source, at, levels, tables, counts, out, place) {
+        match walk_property(sheet, source, at, levels, tables, counts, out, notes, place) {
             Walked::Refused(r) => {
                 return Walked::Refused(r);
             }
@@ -872,11 +955,12 @@ fn walk_attributes(
     tables: &[u32; TABLE_NUMBERS],
     counts: Counts,
     out: &mut [u8],
+    notes: &mut [usize],
     place: Place,
 ) -> Walked
     requires { ⌜ HeldIn (now source) (now tables) counts × (cursor .at ≤ length (now sheet)) ⌝ }
-    ensures { λ r. ⌜ walkedAs (now (sheet .entry)) (now (out .exit)) r
-        ≡ onOk (afterWith (now (source .entry)) (typesFrom (now (source .entry)) (now (tables .entry)) counts) (bufferAs (now (out .entry)) place))
+    ensures { λ r. ⌜ walkedAs (now (sheet .entry)) (now (out .exit)) (now (notes .exit)) r
+        ≡ onOk (afterWith (now (source .entry)) (typesFrom (now (source .entry)) (now (tables .entry)) counts) (writtenAs (now (out .entry)) (now (notes .entry)) place))
         (behind there (attributesObject (now (source .entry)) levels) (drop (cursor .at) (now (sheet .entry)))) ⌝ }
     ensures { λ r. ⌜ PastWalked (length (now (sheet .entry))) r ⌝ }
 {
@@ -893,6 +977,7 @@ fn walk_attributes(
                     tables,
                     counts,
                     out,
+                    notes,
                     place,
                 )
             }
@@ -912,15 +997,16 @@ fn walk_import(
     tables: &[u32; TABLE_NUMBERS],
     counts: Counts,
     out: &mut [u8],
+    notes: &mut [usize],
     place: Place,
 ) -> Walked
     requires { ⌜ HeldIn (now source) (now tables) counts
         × Quotes (now sheet) (now source) (dependency .specifier)
         × (cursor .at ≤ length (now sheet)) ⌝ }
-    ensures { λ r. ⌜ walkedAs (now (sheet .entry)) (now (out .exit)) r
+    ensures { λ r. ⌜ walkedAs (now (sheet .entry)) (now (out .exit)) (now (notes .exit)) r
         ≡ onOk (afterImport (now (source .entry))
         (typesFrom (now (source .entry)) (now (tables .entry)) counts)
-        (now (sheet .entry)) dependency (bufferAs (now (out .entry)) place))
+        (now (sheet .entry)) dependency (writtenAs (now (out .entry)) (now (notes .entry)) place))
         (behind there (attributesObject (now (source .entry)) levels) (drop (cursor .at) (now (sheet .entry)))) ⌝ }
     ensures { λ r. ⌜ PastWalked (length (now (sheet .entry))) r ⌝ }
 {
@@ -938,6 +1024,7 @@ fn walk_import(
                     tables,
                     counts,
                     out,
+                    notes,
                     place,
                     false,
                 );
@@ -945,7 +1032,7 @@ fn walk_import(
             }
         };
     }
-    let place = put_plain_entry(sheet, source, dependency, tables, counts, out, place);
+    let place = put_plain_entry(sheet, source, dependency, tables, counts, out, notes, place);
     Walked::Is(place, cursor)
 }
 
@@ -961,11 +1048,12 @@ fn walk_callee(
     tables: &[u32; TABLE_NUMBERS],
     counts: Counts,
     out: &mut [u8],
+    notes: &mut [usize],
     place: Place,
 ) -> Walked
     requires { ⌜ HeldIn (now source) (now tables) counts × (cursor .at ≤ length (now sheet)) × Calls head ⌝ }
-    ensures { λ r. ⌜ walkedAs (now (sheet .entry)) (now (out .exit)) r
-        ≡ onOk (afterNode (now (source .entry)) (typesFrom (now (source .entry)) (now (tables .entry)) counts) (bufferAs (now (out .entry)) place))
+    ensures { λ r. ⌜ walkedAs (now (sheet .entry)) (now (out .exit)) (now (notes .exit)) r
+        ≡ onOk (afterNode (now (source .entry)) (typesFrom (now (source .entry)) (now (tables .entry)) counts) (writtenAs (now (out .entry)) (now (notes .entry)) place))
         (rest (now (source .entry)) levels (span, headOf (now (sheet .entry)) head) (drop (cursor .at) (now (sheet .entry)))) ⌝ }
     ensures { λ r. ⌜ PastWalked (length (now (sheet .entry))) r ⌝ }
 {
@@ -981,6 +1069,7 @@ fn walk_callee(
         tables,
         counts,
         out,
+        notes,
         place,
     ) {
         Walked::Refused(r) => Walked::Refused(r),
@@ -994,6 +1083,7 @@ fn walk_callee(
                 tables,
                 counts,
                 out,
+                notes,
                 place,
             )
         }

@@ -6,6 +6,7 @@ pub mod Reports
 pub mod Empty
 pub mod Accepted
 pub mod Cleared
+pub mod Notes
 pub mod Cases
 pub mod MapCases
 pub mod PathFirst

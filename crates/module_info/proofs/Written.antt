@@ -22,8 +22,10 @@ use Rattle.report.specs.Buffer.{Buffer, wrote}
 use Rattle.report.proofs.Buffers.{wrote-append, wrote-cons}
 use Rattle.pragmas.specs.Pragmas.{inGroup, headComments, endComments, referencesIn, selfTypesIn, jsxImportSourceIn, jsxImportSourceTypesIn, sourceMapUrlIn, typesIn}
 use Rattle.listing.specs.Imports.{jsdocImports}
-use Rattle.dep.specs.Collect.{collect}
+use Rattle.dep.specs.Collect.{numbersOf, collect, collectNoted}
+use Rattle.dep.specs.code.Notes.{allNoted}
 use Rattle.module_info.specs.Information.{moduleInfo}
+use Rattle.module_info.specs.Replaced.{noted}
 use Rattle.module_info.specs.code.Pieces.{dependencyBytes, headBytes, restBytes, PartsOf, RootOf}
 
 module _ {t : Sheet} {source comments groups : List ℕ} {p : Parts} (o : PartsOf t source comments groups p) where
@@ -35,6 +37,13 @@ module _ {t : Sheet} {source comments groups : List ℕ} {p : Parts} (o : PartsO
   dependencies-written r u flagged walked =
       rw (← o .source-is, ← o .comments-are, ← o .groups-are, ← o .program, wrote-cons, ← flagged)
       (walked (t .root) [] (rw (o .source-is) (r .root)) (sym (r .count)))
+
+  pub dependencies-noted : {s : List ℕ} (r : RootOf t s p) (notes : List ℕ) {notes′ : List ℕ}
+      → ((n : Node) (l : List ℕ) → node source depthLimit (drop (p .root) s) ≡ ok n l → p .entries ≡ entries n
+      → notes′ ≡ allNoted notes (numbersOf (collectNoted source (typesIn source (commentsIn comments (p .comments)) (groupsIn groups (p .groups))) n)))
+      → notes′ ≡ allNoted notes (numbersOf (noted t))
+  dependencies-noted r notes walked =
+      rw (← o .source-is, ← o .comments-are, ← o .groups-are) (walked (t .root) [] (rw (o .source-is) (r .root)) (sym (r .count)))
 
   module _ {f : Option Group} where
     pub head-written : (u : Buffer) {v w x y : Buffer} → f ≡ headGroup (programOf (p .program)) (groupsIn groups (p .groups))

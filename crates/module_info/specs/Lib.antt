@@ -1,5 +1,6 @@
 pub mod Information
 pub mod Numbers
+pub mod Replaced
 pub mod Report
 pub mod Empty
 pub mod Demands

@@ -28,33 +28,39 @@ use text::position::build_index;
 use wire::Cursor;
 ghost use mathlib.Core.Path.{_≡_};
 ghost use mathlib.Core.List.{List, []};
-ghost use Prim.Native.Nat.{ℕ};
+ghost use Prim.Native.Nat.{ℕ, _≤_};
 ghost use lib.ListN.{length, replicate};
 ghost use Rattle.laws.specs.Decoded.{ok};
 ghost use Rattle.laws.specs.code.Left.{Free};
+ghost use Rattle.sheet.specs.Limits.{tableNumbers};
 ghost use Rattle.sheet.specs.code.Tables.{commentsPart, groupsPart};
 ghost use Rattle.sheet.specs.Sheet.{Sheet, accept};
-ghost use Rattle.accept.specs.code.Accepts.{Judges};
+ghost use Rattle.accept.specs.code.Accepts.{Accepts, Judges};
 ghost use Rattle.report.specs.declared.writer.Outcome.{Outcome};
 ghost use Rattle.report.specs.Buffer.{wrote, bufferAs};
 ghost use Rattle.report.specs.Encode.{encode};
-ghost use Rattle.report.specs.Answer.{outcomeAs, fitted};
+ghost use Rattle.report.specs.Answer.{zeros, outcomeAs, fitted};
+ghost use Rattle.dep.specs.Collect.{numbersOf};
+ghost use Rattle.dep.specs.code.Notes.{allNoted};
 ghost use Rattle.module_info.specs.Information.{moduleInfo, defaultInfo, packed};
-ghost use Rattle.module_info.specs.code.Pieces.{dependencyBytes, headBytes, restBytes, PartsIn, RootOf, HeldBy, AcceptsIn};
+ghost use Rattle.module_info.specs.Replaced.{noted, notesWith, NotesRight};
+ghost use Rattle.module_info.specs.code.Pieces.{dependencyBytes, headBytes, restBytes, PartsIn, RootOf, HeldBy, AcceptsIn, JudgesIn};
 ghost use Rattle.module_info.specs.Demands.{Demands};
 
-// The script flag and the dependencies.
+// The script flag and the dependencies, with their numbers in the notes.
 fn put_dependencies(
     sheet: &[u8],
     source: &[u8],
     parts: Parts,
     tables: &[u32; TABLE_NUMBERS],
     out: &mut [u8],
+    notes: &mut [usize],
     place: Place,
 ) -> Place
     requires { ⌜ HeldBy (now source) (now tables) parts ⌝ }
     ensures { λ r. ⌜ ((t : Sheet) → PartsIn t (now (source .entry)) (now (tables .entry)) parts → RootOf t (now (sheet .entry)) parts
-        → bufferAs (now (out .exit)) r ≡ wrote (bufferAs (now (out .entry)) place) (dependencyBytes t)) ⌝ }
+        → (bufferAs (now (out .exit)) r ≡ wrote (bufferAs (now (out .entry)) place) (dependencyBytes t))
+        × (now (notes .exit) ≡ allNoted (now (notes .entry)) (numbersOf (noted t)))) ⌝ }
 {
     let counts = Counts {
         comments: parts.comments,
@@ -63,7 +69,17 @@ fn put_dependencies(
     let root = Cursor { at: parts.root };
     let program = parts.program;
     let p = place.put_flag(out, program.script);
-    analyze_program_dependencies(sheet, source, root, parts.entries, tables, counts, out, p)
+    analyze_program_dependencies(
+        sheet,
+        source,
+        root,
+        parts.entries,
+        tables,
+        counts,
+        out,
+        notes,
+        p,
+    )
 }
 
 // What the head group gives: references, self types and both JSX sources.
@@ -124,7 +140,35 @@ fn put_rest(
     analyze_source_map_url(source, comments, n, index, end, out, p)
 }
 
-// The parts of the report of an accepted sheet, one after the other.
+// The parts of the report of an accepted sheet, one after the other. The notes take a number for each dependency.
+fn put_noted_report(
+    sheet: &[u8],
+    parts: Parts,
+    tables: &[u32; TABLE_NUMBERS],
+    out: &mut [u8],
+    notes: &mut [usize],
+    place: Place,
+) -> Place
+    requires { ⌜ AcceptsIn (now sheet) (now tables) parts ⌝ }
+    ensures { λ r. ⌜ ((t : Sheet) → accept (now (sheet .entry)) ≡ ok t []
+        → (bufferAs (now (out .exit)) r ≡ wrote (bufferAs (now (out .entry)) place) (encode (moduleInfo t)))
+        × (now (notes .exit) ≡ allNoted (now (notes .entry)) (numbersOf (noted t)))) ⌝ }
+{
+    let start = parts.source_start;
+    let end = parts.source_end;
+    let source = &sheet[start..end];
+    let p = put_dependencies(sheet, source, parts, tables, out, notes, place);
+    let p = put_head(source, parts, tables, out, p);
+    if source.len() <= 4096 {
+        let mut marks = [0u8; 4096];
+        return put_rest(source, parts, tables, &mut marks, out, p);
+    }
+    // more are made there
+    let mut few = [0u8; 1];
+    put_rest(source, parts, tables, &mut few, out, p)
+}
+
+// The report alone: there is no room for notes.
 fn put_report(
     sheet: &[u8],
     parts: Parts,
@@ -136,18 +180,8 @@ fn put_report(
     ensures { λ r. ⌜ ((t : Sheet) → accept (now (sheet .entry)) ≡ ok t []
         → bufferAs (now (out .exit)) r ≡ wrote (bufferAs (now (out .entry)) place) (encode (moduleInfo t))) ⌝ }
 {
-    let start = parts.source_start;
-    let end = parts.source_end;
-    let source = &sheet[start..end];
-    let p = put_dependencies(sheet, source, parts, tables, out, place);
-    let p = put_head(source, parts, tables, out, p);
-    if source.len() <= 4096 {
-        let mut marks = [0u8; 4096];
-        return put_rest(source, parts, tables, &mut marks, out, p);
-    }
-    // more are made there
-    let mut few = [0u8; 1];
-    put_rest(source, parts, tables, &mut few, out, p)
+    let mut none = [0usize; 1];
+    put_noted_report(sheet, parts, tables, out, &mut none, place)
 }
 
 // The report of an accepted sheet: the buffer goes into a writer, and is held there to the end.
@@ -179,6 +213,67 @@ fn check(sheet: &[u8], tables: &mut [u32; TABLE_NUMBERS]) -> SheetChecked
     check_sheet(sheet, tables, &mut longest)
 }
 
+// Writes the index of the source's positions into the table, behind the comments and groups of a sheet that was accepted.
+fn index_source(sheet: &[u8], parts: Parts, tables: &mut [u32])
+    requires { ⌜ tableNumbers ≤ length (now tables) ⌝ }
+    requires { ⌜ Accepts (now sheet) (commentsPart (now tables)) (groupsPart (now tables)) parts ⌝ }
+    ensures { λ _. ⌜ AcceptsIn (now (sheet .entry)) (now (tables .exit)) parts ⌝ }
+{
+    let start = parts.source_start;
+    let end = parts.source_end;
+    build_index(&sheet[start..end], &mut tables[INDEX_START..TABLE_NUMBERS]);
+}
+
+// Checks a sheet, and indexes the positions of its source.
+fn check_indexed(sheet: &[u8], tables: &mut [u32; TABLE_NUMBERS]) -> SheetChecked
+    ensures { λ r. ⌜ JudgesIn (now (sheet .entry)) (now (tables .exit)) r ⌝ }
+    ensures { λ _. ⌜ Free (now (tables .entry)) (now (tables .exit)) ⌝ }
+{
+    match check(sheet, tables) {
+        SheetChecked::Refused(r) => SheetChecked::Refused(r),
+        SheetChecked::Accepted(parts) => {
+            index_source(sheet, parts, tables);
+            SheetChecked::Accepted(parts)
+        }
+    }
+}
+
+// Zeros.
+fn clear_notes(notes: &mut [usize])
+    ensures { λ _. ⌜ now (notes .exit) ≡ zeros (length (now (notes .entry))) ⌝ }
+{
+    let mut i = 0;
+    while i < notes.len() {
+        notes[i] = 0;
+        i += 1;
+    }
+}
+
+// The report of an accepted sheet with its notes, which come cleared and are cleared where the report is refused.
+fn write_noted_report(
+    sheet: &[u8],
+    parts: Parts,
+    tables: &[u32; TABLE_NUMBERS],
+    buffer: &mut [u8],
+    notes: &mut [usize],
+) -> Outcome
+    requires { ⌜ AcceptsIn (now sheet) (now tables) parts ⌝ }
+    requires { ⌜ now notes ≡ zeros (length (now notes)) ⌝ }
+    ensures { λ r. ⌜ ((t : Sheet) → accept (now (sheet .entry)) ≡ ok t []
+        → (outcomeAs r (now (buffer .exit)) ≡ fitted (length (now (buffer .entry))) (encode (moduleInfo t)))
+        × (now (notes .exit) ≡ notesWith (length (now (notes .entry))) (numbersOf (noted t)) (outcomeAs r (now (buffer .exit)) .number))) ⌝ }
+{
+    let start = Place { at: 0 };
+    let place = put_noted_report(sheet, parts, tables, buffer, notes, start);
+    match finish(buffer, place) {
+        Outcome::Accepted(n) => Outcome::Accepted(n),
+        Outcome::Refused(r) => {
+            clear_notes(notes);
+            Outcome::Refused(r)
+        }
+    }
+}
+
 // The report of the default information: eight zero bytes.
 fn write_default(buffer: &mut [u8]) -> Outcome
     ensures { λ r. ⌜ outcomeAs r (now (buffer .exit)) ≡ fitted (length (now (buffer .entry))) (encode defaultInfo) ⌝ }
@@ -197,13 +292,27 @@ pub fn module_info(sheet: &[u8], buffer: &mut [u8]) -> Outcome
     if sheet.len() == 0 {
         return write_default(buffer);
     }
-    match check(sheet, &mut tables) {
+    match check_indexed(sheet, &mut tables) {
+        SheetChecked::Refused(r) => refuse_all(buffer, r as u8),
+        SheetChecked::Accepted(parts) => write_report(sheet, parts, &tables, buffer),
+    }
+}
+
+// The same report, with how many characters were replaced in the text of each dependency: the first of the notes says how many numbers follow it,
+// one for each dependency in order, as far as there is room. All else is zero, and all of them on a refusal.
+pub fn module_info_with_replaced(sheet: &[u8], buffer: &mut [u8], notes: &mut [usize]) -> Outcome
+    ensures { λ r. ⌜ Demands (now (sheet .entry)) (length (now (buffer .entry))) r (now (buffer .exit)) ⌝ }
+    ensures { λ r. ⌜ NotesRight (now (sheet .entry)) (length (now (notes .entry))) (outcomeAs r (now (buffer .exit)) .number) (now (notes .exit)) ⌝ }
+{
+    let mut tables = [0u32; TABLE_NUMBERS];
+    clear_notes(notes);
+    if sheet.len() == 0 {
+        return write_default(buffer);
+    }
+    match check_indexed(sheet, &mut tables) {
         SheetChecked::Refused(r) => refuse_all(buffer, r as u8),
         SheetChecked::Accepted(parts) => {
-            let start = parts.source_start;
-            let end = parts.source_end;
-            build_index(&sheet[start..end], &mut tables[INDEX_START..TABLE_NUMBERS]);
-            write_report(sheet, parts, &tables, buffer)
+            write_noted_report(sheet, parts, &tables, buffer, notes)
         }
     }
 }
@@ -225,4 +334,18 @@ pub extern "C" fn module_info_answer(sheet: &[u8], buffer: &mut [u8]) -> u64
         × (r ≡ packed (outcomeAs o (now (buffer .exit))))) ⌝ }
 {
     pack(module_info(sheet, buffer))
+}
+
+// The same with the notes, for C.
+#[no_mangle]
+pub extern "C" fn module_info_with_replaced_answer(
+    sheet: &[u8],
+    buffer: &mut [u8],
+    notes: &mut [usize],
+) -> u64
+    ensures { λ r. ⌜ ((o : Outcome) × Demands (now (sheet .entry)) (length (now (buffer .entry))) o (now (buffer .exit))
+        × NotesRight (now (sheet .entry)) (length (now (notes .entry))) (outcomeAs o (now (buffer .exit)) .number) (now (notes .exit))
+        × (r ≡ packed (outcomeAs o (now (buffer .exit))))) ⌝ }
+{
+    pack(module_info_with_replaced(sheet, buffer, notes))
 }

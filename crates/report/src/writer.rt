@@ -5,7 +5,7 @@ use wire::refusals;
 ghost use mathlib.Core.Path.{_≡_};
 ghost use mathlib.Core.List.{[], _∷_};
 ghost use lib.ListN.{length};
-ghost use Rattle.text.specs.Lossy.{lossy};
+ghost use Rattle.text.specs.Lossy.{lossy, replaced};
 ghost use Rattle.wire.specs.Fields.{encodeFlag};
 ghost use Rattle.wire.specs.Number.{encodeNumber};
 ghost use Rattle.wire.specs.Text.{encodeText};
@@ -21,6 +21,12 @@ const FULL: usize = 18446744073709551615;
 // The next place in the buffer, or `FULL` once a byte found no room.
 pub struct Place {
     pub at: usize,
+}
+
+// The next place behind a text in WTF-8, and how many surrogates U+FFFD stands for in it.
+pub struct Lossy {
+    pub place: Place,
+    pub replaced: usize,
 }
 
 // The report's length, or a refusal's number.
@@ -100,27 +106,34 @@ impl Place {
         p.put(out, 0xBD)
     }
 
-    // Writes the bytes of a text in WTF-8, with U+FFFD for each surrogate.
-    fn put_lossy(self, out: &mut [u8], s: &[u8]) -> Place
-        ensures { λ r. ⌜ bufferAs (now (out .exit)) r ≡ wrote (bufferAs (now (out .entry)) self) (lossy (now (s .entry))) ⌝ }
+    // Writes the bytes of a text in WTF-8, with U+FFFD for each surrogate, and counts these.
+    fn put_lossy(self, out: &mut [u8], s: &[u8]) -> Lossy
+        ensures { λ r. ⌜ bufferAs (now (out .exit)) (r .place) ≡ wrote (bufferAs (now (out .entry)) self) (lossy (now (s .entry))) ⌝ }
+        ensures { λ r. ⌜ r .replaced ≡ replaced (now (s .entry)) ⌝ }
     {
         let mut p = self;
         let mut i = 0;
+        let mut count: usize = 0;
         while i < s.len() {
             if text::utf8::surrogate_at(s, i) {
                 p = p.put_replacement(out);
                 i += 3;
+                count += 1;
             } else {
                 p = p.put(out, s[i]);
                 i += 1;
             }
         }
-        p
+        Lossy {
+            place: p,
+            replaced: count,
+        }
     }
 
     // Writes a text in WTF-8, with U+FFFD for each surrogate.
-    pub fn put_lossy_text(self, out: &mut [u8], s: &[u8]) -> Place
-        ensures { λ r. ⌜ bufferAs (now (out .exit)) r ≡ wrote (bufferAs (now (out .entry)) self) (encodeText (lossy (now (s .entry)))) ⌝ }
+    pub fn put_lossy_text(self, out: &mut [u8], s: &[u8]) -> Lossy
+        ensures { λ r. ⌜ bufferAs (now (out .exit)) (r .place) ≡ wrote (bufferAs (now (out .entry)) self) (encodeText (lossy (now (s .entry)))) ⌝ }
+        ensures { λ r. ⌜ r .replaced ≡ replaced (now (s .entry)) ⌝ }
     {
         let p = self.put_number(out, s.len());
         p.put_lossy(out, s)
@@ -182,14 +195,19 @@ impl Place {
         source: &[u8],
         index: &[u32],
         span: Span,
-    ) -> Place
+    ) -> Lossy
         requires { ⌜ IndexOf (now source) (now index) × InSource (now source) span ⌝ }
-        ensures { λ r. ⌜ bufferAs (now (out .exit)) r
+        ensures { λ r. ⌜ bufferAs (now (out .exit)) (r .place)
             ≡ wrote (bufferAs (now (out .entry)) self)
             (encodeSpecifier (record { text = lossy (now (text .entry)); range = rangeOf (now (source .entry)) span })) ⌝ }
+        ensures { λ r. ⌜ r .replaced ≡ replaced (now (text .entry)) ⌝ }
     {
-        let p = self.put_lossy_text(out, text);
-        p.put_span(out, source, index, span)
+        let written = self.put_lossy_text(out, text);
+        let p = written.place;
+        Lossy {
+            place: p.put_span(out, source, index, span),
+            replaced: written.replaced,
+        }
     }
 }
 

@@ -6,7 +6,7 @@ use mathlib.Core.Option.{Option}
 use Prim.Native.Nat.{ℕ, _+_, _≤_, _<_}
 use lib.ListN.{length, drop}
 use Rattle.laws.specs.Decoded.{ok, Decoder}
-use Rattle.text.specs.Lossy.{lossy}
+use Rattle.text.specs.Lossy.{lossy, replaced}
 use Rattle.text.specs.Bytes.{part}
 use Rattle.wire.specs.Number.{largest}
 use Rattle.wire.specs.Text.{encodeText}
@@ -19,7 +19,7 @@ use Rattle.sheet.specs.Shape.{shape}
 use Rattle.heads.specs.code.Views.{Part}
 use Rattle.report.specs.ModuleInfo.{DynamicTemplatePart}
 use Rattle.report.specs.ModuleInfo as info
-use Rattle.arguments.specs.Argument.{templateParts, operand, chain, argumentOf}
+use Rattle.arguments.specs.Argument.{templateParts, operand, chain, argumentOf, singleText}
 use Rattle.arguments.specs.declared.expression.Expression.{Expression}
 use Rattle.arguments.specs.declared.expression.Expression.the-variants as expression
 use Rattle.arguments.specs.declared.bin.Parts.{Parts}
@@ -40,6 +40,7 @@ pub record Unknown (n : Node) : Type 0 where
   pub side : operand (shape n) ≡ Option.none
   pub parts : chain n ≡ Option.none
   pub whole : argumentOf n ≡ info.expr
+  pub single : singleText (shape n) ≡ Option.none
 
 -- the node n, with t behind it, is a String whose text stands from one place to another
 pub record IsString (s : List ℕ) (from to : ℕ) (next : Cursor) (n : Node) (t : List ℕ) : Type 0 where
@@ -97,15 +98,17 @@ abbrev pub PartsWithin : ℕ → Parts → Type 0
 PartsWithin levels (parts.Are n next) = n ≤ levels
 PartsWithin levels parts.Unknown = Unit {0}
 
--- what an argument stands for, in a sheet s with so many levels left
-abbrev pub Stands : List ℕ → List ℕ → ℕ → DynamicArgument → info.DynamicArgument → Type 0
-Stands s source levels argument.Expr v = v ≡ info.expr
-Stands s source levels (argument.String from to) v = v ≡ info.string (lossy (part s from to))
-Stands s source levels (argument.Template k holes at) v =
-    (ps : Pieces) × (u : List ℕ) × (many [] piece (holes + 1) (drop at s) ≡ ok ps u) × (length (templateParts ps) ≡ k) × (v ≡ info.template (templateParts ps))
-Stands s source levels (argument.Chain k at) v =
-    (n : Node) × (t : List ℕ) × (l : List DynamicTemplatePart)
-    × (node source levels (drop at s) ≡ ok n t) × (chain n ≡ Option.some l) × (length l ≡ k) × (v ≡ info.template l)
+-- what an argument stands for, with the number of surrogates of its single text, in a sheet s with so many levels left
+abbrev pub Stands : List ℕ → List ℕ → ℕ → DynamicArgument → info.DynamicArgument → ℕ → Type 0
+Stands s source levels argument.Expr v replacements = (v ≡ info.expr) × (replacements ≡ 0)
+Stands s source levels (argument.String from to) v replacements = (v ≡ info.string (lossy (part s from to))) × (replacements ≡ replaced (part s from to))
+Stands s source levels (argument.Template k holes at) v replacements =
+    ((ps : Pieces) × (u : List ℕ) × (many [] piece (holes + 1) (drop at s) ≡ ok ps u) × (length (templateParts ps) ≡ k) × (v ≡ info.template (templateParts ps)))
+    × (replacements ≡ 0)
+Stands s source levels (argument.Chain k at) v replacements =
+    ((n : Node) × (t : List ℕ) × (l : List DynamicTemplatePart)
+    × (node source levels (drop at s) ≡ ok n t) × (chain n ≡ Option.some l) × (length l ≡ k) × (v ≡ info.template l))
+    × (replacements ≡ 0)
 
 -- a text is a part of the n bytes; there are no more holes than a number can say
 abbrev pub ArgumentWithin : ℕ → DynamicArgument → Type 0

@@ -4,7 +4,7 @@ use Prim.Native.Nat.{ℕ}
 use Rattle.report.specs.ModuleInfo.{PositionRange, DynamicArgument, TypeScriptReference, JsDocImportInfo, DependencyDescriptor}
 use Rattle.report.specs.Encode.{encodeRange, encodeArgument, encodeReference, encodeJsDoc, encodeDependency}
 use Rattle.report.specs.Valid.{ValidRange, ValidArgument, ValidReference, ValidJsDoc, ValidDependency}
-use Rattle.citation.specs.Citation.{Line, citeDependency, citeReference, citeJsDoc}
+use Rattle.citation.specs.Citation.{Line, citeNoted, citeReference, citeJsDoc}
 use Rattle.citation.specs.declared.cite.Kind.{Kind}
 use Rattle.citation.specs.declared.cite.Kind.the-variants as kind
 
@@ -23,10 +23,11 @@ ValidItem kind.Dependency = ValidDependency
 ValidItem kind.Reference = ValidReference
 ValidItem kind.JsDoc = ValidJsDoc
 
-abbrev pub citeItem : (k : Kind) → Item k → List Line
-citeItem kind.Dependency = citeDependency
-citeItem kind.Reference = citeReference
-citeItem kind.JsDoc = citeJsDoc
+-- with the number beside it, which counts for a dependency
+abbrev pub citeItem : (k : Kind) → ℕ → Item k → List Line
+citeItem kind.Dependency = citeNoted
+citeItem kind.Reference = λ number. citeReference
+citeItem kind.JsDoc = λ number. citeJsDoc
 
 -- a dynamic argument with its range
 abbrev pub encodeRanged : DynamicArgument × PositionRange → List ℕ

@@ -8,26 +8,28 @@ use Rattle.cite.proofs.cite.Statement.{statement}
 use Rattle.cite.proofs.cite.Tie as tie
 
 slice-reshare-prefix-cite-report : tie.Need-slice-reshare-prefix-cite-report
-slice-reshare-prefix-cite-report c = reported (rw (c .before .before .before .before .before .before .before .before .before .before .before .pre .0, c .before .n .given .1) at (c .before .before .before .before .before .module-info .ensures)) .within
+slice-reshare-prefix-cite-report c = reported (rw (c .before .before .before .before .before .before .before .before .before .before .before .before .before .before .before .pre .0, c .before .n .given .1) at (c .before .before .before .before .before .before .before .module-info-with-replaced .ensures .0)) (rw (c .before .before .before .before .before .before .before .before .before .before .before .before .before .before .before .pre .1 .0, c .before .n .given .1) at (c .before .before .before .before .before .before .before .module-info-with-replaced .ensures .1)) .within
 
 slice-aggregate-cite-report : tie.Need-slice-aggregate-cite-report
-slice-aggregate-cite-report c = sym (length-take-le _ _ (reported (rw (c .before .before .before .before .before .before .before .before .before .before .before .before .pre .0, c .before .before .n .given .1) at (c .before .before .before .before .before .before .module-info .ensures)) .within))
+slice-aggregate-cite-report c = sym (length-take-le _ _ (reported (rw (c .before .before .before .before .before .before .before .before .before .before .before .before .before .before .before .before .pre .0, c .before .before .n .given .1) at (c .before .before .before .before .before .before .before .before .module-info-with-replaced .ensures .0)) (rw (c .before .before .before .before .before .before .before .before .before .before .before .before .before .before .before .before .pre .1 .0, c .before .before .n .given .1) at (c .before .before .before .before .before .before .before .before .module-info-with-replaced .ensures .1)) .within))
 
 cite-report-requires : tie.Need-cite-report-requires
-cite-report-requires c κs = let room = reported (rw (c .before .before .before .before .before .before .before .before .before .before .before .before .before .before .pre .0, c .before .before .before .before .n .given .1) at (c .before .before .before .before .before .before .before .before .module-info .ensures)) .room in omega (arith, c .before .before .before .before .before .before .before .before .before .before .before .before .before .before .pre .1)
+cite-report-requires c κs =
+    let room = reported (rw (c .before .before .before .before .before .before .before .before .before .before .before .before .before .before .before .before .before .before .before .before .pre .0, c .before .before .before .before .before .before .n .given .1) at (c .before .before .before .before .before .before .before .before .before .before .before .before .module-info-with-replaced .ensures .0)) (rw (c .before .before .before .before .before .before .before .before .before .before .before .before .before .before .before .before .before .before .before .before .pre .1 .0, c .before .before .before .before .before .before .n .given .1) at (c .before .before .before .before .before .before .before .before .before .before .before .before .module-info-with-replaced .ensures .1)) .room in
+    omega (arith, c .before .before .before .before .before .before .before .before .before .before .before .before .before .before .before .before .before .before .before .before .pre .1 .1)
 
 returns : tie.Need-returns
 returns c =
-    let demands = rw (c .before .before .before .before .before .before .before .before .before .before .before .before .before .before .before .pre .0, c .before .before .before .before .before .r .given .1) at (c .before .before .before .before .before .before .before .before .before .module-info .ensures) in
+    let demands = rw (c .before .before .before .before .before .before .before .before .before .before .before .before .before .before .before .before .before .before .before .pre .0, c .before .before .before .before .before .r .given .1) at (c .before .before .before .before .before .before .before .before .before .before .before .module-info-with-replaced .ensures .0) in
     let cited = c .before .before .cite-refusal .ensures in
-    (rw (refused-lines _ (c .before .before .before .before .before .before .before .before .before .before .before .find-source .ensures .0) demands) (cited .0), (cited .1 .0, editor-columns demands))
+    (rw (refused-lines _ (c .before .before .before .before .before .before .before .before .before .before .before .before .before .before .find-source .ensures .0) demands (rw (c .before .before .before .before .before .before .before .before .before .before .before .before .before .before .before .before .before .before .before .pre .1 .0) at (c .before .before .before .before .before .before .before .before .before .before .before .module-info-with-replaced .ensures .1))) (cited .0), (cited .1 .0, editor-columns demands))
 
 returns-2 : tie.Need-returns-2
 returns-2 c =
-    let demands = rw (c .before .before .before .before .before .before .before .before .before .before .before .before .before .before .before .before .before .pre .0, c .before .before .before .before .before .before .before .n .given .1) at (c .before .before .before .before .before .before .before .before .before .before .before .module-info .ensures) in
-    let found = reported demands in
+    let demands = rw (c .before .before .before .before .before .before .before .before .before .before .before .before .before .before .before .before .before .before .before .before .before .before .before .pre .0, c .before .before .before .before .before .before .before .before .before .n .given .1) at (c .before .before .before .before .before .before .before .before .before .before .before .before .before .before .before .module-info-with-replaced .ensures .0) in
+    let found = reported demands (rw (c .before .before .before .before .before .before .before .before .before .before .before .before .before .before .before .before .before .before .before .before .before .before .before .pre .1 .0, c .before .before .before .before .before .before .before .before .before .n .given .1) at (c .before .before .before .before .before .before .before .before .before .before .before .before .before .before .before .module-info-with-replaced .ensures .1)) in
     let cited = c .before .before .cite-report .ensures in
-    (rw (found .lines _ (c .before .before .before .before .before .before .before .before .before .before .before .before .before .find-source .ensures .0)) (cited .0 (found .info) (found .valid) (found .bytes)), (cited .1 .0, editor-columns demands))
+    (rw (found .lines _ (c .before .before .before .before .before .before .before .before .before .before .before .before .before .before .before .before .before .before .find-source .ensures .0)) (cited .0 (found .info) (found .valid) (found .bytes)), (cited .1 .0, editor-columns demands))
 
 pub cite-spec : {M : Type 1} → statement M
 cite-spec =
@@ -43,10 +45,15 @@ cite-spec =
     (λ c. search needs)
     (λ c. search needs)
     (λ c. search needs)
+    (λ c. search needs)
+    (λ c. search needs)
+    (λ c. search needs)
     cite-report-requires
     (λ c. search needs)
     (λ c. search needs)
+    (λ c. search needs)
     returns
+    (λ c. search needs)
     (λ c. search needs)
     (λ c. search needs)
     returns-2)

@@ -6,14 +6,14 @@ use Rattle.cite.proofs.main.Tie as tie
 
 array-share-prefix-sheet : tie.Need-array-share-prefix-sheet
 array-share-prefix-sheet c =
-    (rw (c .before .before .before .input .given .1) at (c .before .before .before .before .before .before .read-input .ensures)) .0
+    (rw (c .before .before .before .before .input .given .1) at (c .before .before .before .before .before .before .before .read-input .ensures)) .0
 
 slice-aggregate-cite : tie.Need-slice-aggregate-cite
 slice-aggregate-cite c =
-    (rw (c .before .before .before .before .input .given .1) at (c .before .before .before .before .before .before .before .read-input .ensures)) .1
+    (rw (c .before .before .before .before .before .input .given .1) at (c .before .before .before .before .before .before .before .before .read-input .ensures)) .1
 
 slice-aggregate-write-all-2 : tie.Need-slice-aggregate-write-all-2
-slice-aggregate-write-all-2 c = sym (length-take-le _ _ (c .before .before .before .cite .ensures .1 .0))
+slice-aggregate-write-all-2 c = sym (length-take-le _ _ (c .before .before .before .before .cite .ensures .1 .0))
 
 pub main-spec : {M : Type 1} → statement M
 main-spec =
@@ -28,8 +28,10 @@ main-spec =
     (λ c. search needs)
     (λ c κs. search needs)
     (λ c κs. search needs)
+    (λ c κs. search needs)
     array-share-prefix-sheet
     slice-aggregate-cite
+    (λ c. search needs)
     (λ c. search needs)
     (λ c. search needs)
     (λ c κs. search needs)

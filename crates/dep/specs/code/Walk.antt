@@ -7,12 +7,14 @@ use mathlib.Core.Option.{Option}
 use Prim.Native.Nat.{ℕ, _≤_}
 use lib.ListN.{length, drop}
 use Rattle.laws.specs.Decoded.{Decoded, ok, no}
+use Rattle.text.specs.Lossy.{replaced}
 use Rattle.sheet.specs.Limits.{tableNumbers}
 use Rattle.sheet.specs.declared.names.ImportPhase.{ImportPhase}
 use Rattle.sheet.specs.declared.fields.Span.{Span}
 use Rattle.sheet.specs.Tree.{Quoted, Node, Nodes, Arguments, noArguments, Properties, noProperties, Attributes}
 use Rattle.sheet.specs.Nodes.{node}
 use Rattle.sheet.specs.Shape.{shape, isRequire}
+use Rattle.sheet.specs.Walk.{walkAll, walkOf, walkIn, walkWith}
 use Rattle.sheet.specs.code.Tables.{commentsIn, groupsIn, commentsPart, groupsPart, indexPart}
 use Rattle.heads.specs.declared.quoted.Quoted as q
 use Rattle.heads.specs.declared.node.Head as h
@@ -21,20 +23,23 @@ use Rattle.heads.specs.code.Head.{Head, otherHead, stringHead, nameHead, templa
 use Rattle.heads.specs.code.Views.{quotedOf, QuotedPart, headOf, Within}
 use Rattle.report.specs.declared.names.DynamicDependencyKind.{DynamicDependencyKind}
 use Rattle.report.specs.declared.names.DynamicDependencyKind.the-variants as dynamics
-use Rattle.report.specs.ModuleInfo.{SpecifierWithRange, ImportAttributes, DynamicArgument, DependencyDescriptor, dynamic}
+use Rattle.report.specs.declared.writer.Place.{Place}
+use Rattle.report.specs.ModuleInfo.{SpecifierWithRange, ImportAttributes, DynamicArgument, dynamic}
 use Rattle.report.specs.Encode.{encodeDependency}
 use Rattle.report.specs.Range.{rangeOf, InSource}
 use Rattle.report.specs.Buffer.{Buffer, wrote, bufferAs}
 use Rattle.attributes.specs.Attributes.{staticAttributes, typeAttributes}
 use Rattle.pragmas.specs.Pragmas.{typesIn}
 use Rattle.pragmas.specs.code.Held.{Held}
+use Rattle.arguments.specs.Argument.{replacedIn}
 use Rattle.dep.specs.declared.entries.Counts.{Counts}
 use Rattle.dep.specs.declared.entries.CallHead.{CallHead}
 use Rattle.dep.specs.declared.entries.StaticDependencyDescriptor.{StaticDependencyDescriptor}
 use Rattle.dep.specs.declared.entries.DynamicDependencyDescriptor.{DynamicDependencyDescriptor}
 use Rattle.dep.specs.declared.walk.Walked.{Walked}
 use Rattle.dep.specs.declared.walk.Walked.the-variants as walked
-use Rattle.dep.specs.Collect.{dynamicKind, staticEntry, callEntry, collect, collectAll, collectOf, collectIn, collectWith}
+use Rattle.dep.specs.Collect.{dynamicKind, firstText, textIn, Noted, beside, numbersOf, staticEntry, callEntry, moduleEntry, noting, collectNoted}
+use Rattle.dep.specs.code.Notes.{allNoted}
 
 -- the types that the comments and the groups in the table give
 abbrev pub typesFrom : List ℕ → List ℕ → Counts → ℕ → Option SpecifierWithRange
@@ -91,67 +96,95 @@ calleesOf dynamics.ImportDefer = 0
 calleesOf dynamics.ImportSource = 0
 calleesOf dynamics.Require = 1
 
-abbrev pub walkedAs : List ℕ → List ℕ → Walked → Decoded Buffer
-walkedAs s out (walked.Is p next) = ok (bufferAs out p) (drop (next .at) s)
-walkedAs s out (walked.Refused r) = no r
+-- what is written: the report so far, and the notes beside it
+abbrev pub Written : Type 0
+Written = Buffer × List ℕ
+
+abbrev pub writtenAs : List ℕ → List ℕ → Place → Written
+writtenAs out notes p = (bufferAs out p, notes)
+
+abbrev pub walkedAs : List ℕ → List ℕ → List ℕ → Walked → Decoded Written
+walkedAs s out notes (walked.Is p next) = ok (writtenAs out notes p) (drop (next .at) s)
+walkedAs s out notes (walked.Refused r) = no r
 
 -- a cursor that is not past the n bytes
 abbrev pub PastWalked : ℕ → Walked → Type 0
 PastWalked n (walked.Is p next) = next .at ≤ n
 PastWalked n (walked.Refused r) = Unit {0}
 
--- the entries of dependencies written behind what stands there
-abbrev pub wroteEntries : Buffer → List DependencyDescriptor → Buffer
-wroteEntries w l = wrote w (flatMap encodeDependency l)
+-- the entries of dependencies written behind what stands there, and their numbers noted
+abbrev pub wroteEntries : Written → List Noted → Written
+wroteEntries w l = (wrote (w .0) (flatMap (λ e. encodeDependency (e .0)) l), allNoted (w .1) (numbersOf l))
 
 module _ (source : List ℕ) (types : ℕ → Option SpecifierWithRange) where
   -- the entry of a static dependency, with its attributes
-  abbrev pub staticOf : List ℕ → StaticDependencyDescriptor → ImportAttributes → List DependencyDescriptor
-  staticOf s d a = staticEntry source types (d .kind) (d .span) (quotedOf s (d .specifier)) (d .«is_side_effect») a ∷ []
+  abbrev pub staticOf : List ℕ → StaticDependencyDescriptor → ImportAttributes → List Noted
+  staticOf s d a =
+      let x = quotedOf s (d .specifier) in
+      (staticEntry source types (d .kind) (d .span) x (d .«is_side_effect») a, replaced (x .text)) ∷ []
 
-  -- the entry of a dynamic one, with its argument and its attributes
-  abbrev pub dynamicOf : DynamicDependencyDescriptor → DynamicArgument → ImportAttributes → List DependencyDescriptor
-  dynamicOf d v a =
-      dynamic
-      (record { kind = d .kind; typesSpecifier = types (d .start); argument = v; argumentRange = rangeOf source (d .«argument_range»); importAttributes = a })
+  -- the entry of a dynamic one, with its argument, its attributes and the number of surrogates of its single text
+  abbrev pub dynamicOf : DynamicDependencyDescriptor → DynamicArgument → ImportAttributes → ℕ → List Noted
+  dynamicOf d v a replacements = (
+    dynamic
+        (record { kind = d .kind; typesSpecifier = types (d .start); argument = v; argumentRange = rangeOf source (d .«argument_range»); importAttributes = a }),
+    replacements,
+  )
       ∷ []
 
+  -- the entry of a module declaration, by its String
+  abbrev pub moduleOf : Span → Option Quoted → List Noted
+  moduleOf sp x = beside (replacedIn (textIn x)) (moduleEntry source types sp x)
+
   -- the entry of a call that is listed
-  abbrev pub entryOfCall : CallHead → Arguments → List DependencyDescriptor
-  entryOfCall d xs = cond (d .listed) (callEntry source types (d .kind) (d .span) xs) []
+  abbrev pub entryOfCall : CallHead → Arguments → List Noted
+  entryOfCall d xs = beside (replacedIn (firstText xs)) (cond (d .listed) (callEntry source types (d .kind) (d .span) xs) [])
 
-  -- what a buffer holds after the entries of a node, and of parts of one
-  abbrev pub afterNode : Buffer → Node → Buffer
-  afterNode w n = wroteEntries w (collect source types n)
+  -- the entries of parts of a node
+  abbrev pub noteAll : Nodes → List Noted
+  noteAll = walkAll (noting source types)
 
-  abbrev pub afterNodes : Buffer → Nodes → Buffer
-  afterNodes w ns = wroteEntries w (collectAll source types ns)
+  abbrev pub noteOf : Arguments → List Noted
+  noteOf = walkOf (noting source types)
 
-  abbrev pub afterArguments : Buffer → Arguments → Buffer
-  afterArguments w xs = wroteEntries w (collectOf source types xs)
+  abbrev pub noteIn : Properties → List Noted
+  noteIn = walkIn (noting source types)
 
-  abbrev pub afterArgument : Buffer → (Arguments → Arguments) → Buffer
+  abbrev pub noteWith : Attributes → List Noted
+  noteWith = walkWith (noting source types)
+
+  -- what is written after the entries of a node, and of parts of one
+  abbrev pub afterNode : Written → Node → Written
+  afterNode w n = wroteEntries w (collectNoted source types n)
+
+  abbrev pub afterNodes : Written → Nodes → Written
+  afterNodes w ns = wroteEntries w (noteAll ns)
+
+  abbrev pub afterArguments : Written → Arguments → Written
+  afterArguments w xs = wroteEntries w (noteOf xs)
+
+  abbrev pub afterArgument : Written → (Arguments → Arguments) → Written
   afterArgument w add = afterArguments w (add noArguments)
 
-  abbrev pub afterProperties : Buffer → Properties → Buffer
-  afterProperties w ps = wroteEntries w (collectIn source types ps)
+  abbrev pub afterProperties : Written → Properties → Written
+  afterProperties w ps = wroteEntries w (noteIn ps)
 
-  abbrev pub afterProperty : Buffer → (Properties → Properties) → Buffer
+  abbrev pub afterProperty : Written → (Properties → Properties) → Written
   afterProperty w add = afterProperties w (add noProperties)
 
-  abbrev pub afterWith : Buffer → Attributes → Buffer
-  afterWith w a = wroteEntries w (collectWith source types a)
+  abbrev pub afterWith : Written → Attributes → Written
+  afterWith w a = wroteEntries w (noteWith a)
 
   -- an import or an export
-  abbrev pub afterImport : List ℕ → StaticDependencyDescriptor → Buffer → Attributes → Buffer
+  abbrev pub afterImport : List ℕ → StaticDependencyDescriptor → Written → Attributes → Written
   afterImport s d w a = wroteEntries w (staticOf s d (staticAttributes a))
 
   -- a call without its callee: its entry behind what it holds
-  abbrev pub afterCall : CallHead → Buffer → Arguments × Nodes → Buffer
+  abbrev pub afterCall : CallHead → Written → Arguments × Nodes → Written
   afterCall d w p =
-      wroteEntries w (collectOf source types (p .0) ++ (collectAll source types (p .1) ++ entryOfCall d (p .0)))
+      wroteEntries w (noteOf (p .0) ++ (noteAll (p .1) ++ entryOfCall d (p .0)))
 
   -- an import type: its entry before what it holds
-  abbrev pub afterTyped : List ℕ → StaticDependencyDescriptor → Buffer → Nodes × Attributes → Buffer
+  abbrev pub afterTyped : List ℕ → StaticDependencyDescriptor → Written → Nodes × Attributes → Written
   afterTyped s d w p =
-      wroteEntries w (staticOf s d (typeAttributes (p .1)) ++ (collectAll source types (p .0) ++ collectWith source types (p .1)))
+      wroteEntries w (staticOf s d (typeAttributes (p .1)) ++ (noteAll (p .0) ++ noteWith (p .1)))

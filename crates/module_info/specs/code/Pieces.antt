@@ -3,17 +3,19 @@ use mathlib.Core.Path.{_≡_}
 use mathlib.Core.List.{List, [], _++_}
 use Prim.Native.Nat.{ℕ, _≤_}
 use lib.ListN.{length, drop}
-use Rattle.laws.specs.Decoded.{ok}
+use Rattle.laws.specs.Decoded.{ok, no}
 use Rattle.text.specs.Bytes.{part}
 use Rattle.wire.specs.Fields.{encodeFlag}
 use Rattle.wire.specs.Optional.{encodeOptional}
 use Rattle.sheet.specs.Limits.{depthLimit, tableNumbers}
 use Rattle.sheet.specs.Nodes.{node}
 use Rattle.sheet.specs.Walked.{entries}
-use Rattle.sheet.specs.Sheet.{Sheet}
+use Rattle.sheet.specs.Sheet.{Sheet, accept}
 use Rattle.sheet.specs.code.Tables.{commentsIn, groupsIn, commentsPart, groupsPart, indexPart}
 use Rattle.sheet.specs.code.Views.{programOf}
 use Rattle.accept.specs.declared.check.Parts.{Parts}
+use Rattle.accept.specs.declared.check.SheetChecked.{SheetChecked}
+use Rattle.accept.specs.declared.check.SheetChecked.the-variants as checked
 use Rattle.accept.specs.code.Accepts.{Accepts}
 use Rattle.report.specs.Range.{IndexOf}
 use Rattle.report.specs.Encode.{encodeList, encodeSpecifier, encodeReference, encodeJsDoc, encodeDependency}
@@ -63,3 +65,8 @@ pub record AcceptsIn (s tables : List ℕ) (p : Parts) : Type 0 where
   pub room : tableNumbers ≤ length tables
   pub accepts : Accepts s (commentsPart tables) (groupsPart tables) p
   pub indexed : IndexOf (part s (p .«source_start») (p .«source_end»)) (indexPart tables)
+
+-- what the check says of a sheet s, with what the table holds
+abbrev pub JudgesIn : List ℕ → List ℕ → SheetChecked → Type 0
+JudgesIn s tables (checked.Accepted p) = AcceptsIn s tables p
+JudgesIn s tables (checked.Refused r) = accept s ≡ no r

@@ -1,7 +1,7 @@
 use mathlib.Core.Path.{sym, ap, _∙_}
 use borrow.Author.Needs.{needs}
 use denote.Ref.{now}
-use Rattle.arguments.specs.Argument.{chain, ofChain}
+use Rattle.arguments.specs.Argument.{chain, ofChain, replacedIn}
 use Rattle.arguments.proofs.Chains.{uncounted, has-count}
 use Rattle.arguments.proofs.Arguments.{string-argument, template-argument, plus-argument}
 use Rattle.arguments.proofs.argument.parse_argument.Statement.{statement}
@@ -21,7 +21,7 @@ returns-2 c =
     let a = c .before .before .before .before .before .before .before .args in (
       λ n t e.
           let template = rw (c .before .before .holes .given .1) at (c .before .before .before .before .read-expression .ensures .0 n t e) in
-          rw (template-argument template) (c .parse-template .ensures .0 (now (a .source)) (a .levels) (template .pieces) (template .behind) (template .read)),
+          rw (template-argument template .0, template-argument template .1) (c .parse-template .ensures .0 (now (a .source)) (a .levels) (template .pieces) (template .behind) (template .read)),
       c .parse-template .ensures .1,
     )
 
@@ -30,7 +30,7 @@ returns-3 c = (
   λ n t e.
       let plus = rw (c .before .before .before .before .enum-told .given .1) at (c .before .before .before .before .before .before .read-expression .ensures .0 n t e) in
       let (l, is, total, past) = has-count (chain n) t (rw (c .before .n .given .1) at (c .before .before .before .visit-bin .ensures .0 n t e)) in
-      (n, t, l, e, is, sym total, plus-argument plus ∙ ap ofChain is),
+      ((n, t, l, e, is, sym total, plus-argument plus .0 ∙ ap ofChain is), ap replacedIn (plus-argument plus .1)),
   tt,
 )
 
@@ -38,12 +38,17 @@ returns-4 : tie.Need-returns-4
 returns-4 c = (
   λ n t e.
       let plus = rw (c .before .before .before .enum-told .given .1) at (c .before .before .before .before .before .read-expression .ensures .0 n t e) in
-      plus-argument plus ∙ ap ofChain (uncounted (chain n) t (rw (c .enum-told2 .given .1) at (c .before .before .visit-bin .ensures .0 n t e))),
+      (plus-argument plus .0 ∙ ap ofChain (uncounted (chain n) t (rw (c .enum-told2 .given .1) at (c .before .before .visit-bin .ensures .0 n t e))), ap replacedIn (plus-argument plus .1)),
   tt,
 )
 
 returns-5 : tie.Need-returns-5
-returns-5 c = (λ n t e. (rw (c .enum-told3 .given .1) at (c .before .before .read-expression .ensures .0 n t e)) .whole, tt)
+returns-5 c = (
+  λ n t e.
+      let unknown = rw (c .enum-told3 .given .1) at (c .before .before .read-expression .ensures .0 n t e) in
+      (unknown .whole, ap replacedIn (unknown .single)),
+  tt,
+)
 
 pub parse-argument-spec : {M : Type 1} → statement M
 parse-argument-spec =

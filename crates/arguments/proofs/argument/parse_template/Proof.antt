@@ -1,3 +1,4 @@
+use mathlib.Core.Path.{refl, ap}
 use mathlib.Core.List.{[]}
 use Prim.Native.Nat.{_+_}
 use native.Mathlib.Omega.{arith}
@@ -8,6 +9,7 @@ use Rattle.laws.proofs.Steps.{seen}
 use Rattle.sheet.specs.Nodes.{piece}
 use Rattle.heads.specs.code.Views.{pieceAs}
 use Rattle.heads.proofs.Many.{many-refused}
+use Rattle.arguments.specs.Argument.{replacedIn}
 use Rattle.arguments.proofs.Pieces.{one-only, of-parts}
 use Rattle.arguments.proofs.argument.parse_template.Statement.{statement}
 use Rattle.arguments.proofs.argument.parse_template.Tie as tie
@@ -17,13 +19,13 @@ returns c =
     let a = c .before .before .before .before .before .before .args in
     let s = now (a .sheet) in
     let past = rw (c .before .from .given .1) at (c .before .before .before .read-piece .ensures .1) in
-    (λ source levels ps u e. rw (one-only (a .holes) (drop (a .c .at) s) e (c .before .before .before .before .if1 .taken) (seen (pieceAs s) (c .before .before .before .read-piece .ensures .0) (c .before .from .given .1))), (past .1, past .2))
+    (λ source levels ps u e. rw (one-only (a .holes) (drop (a .c .at) s) e (c .before .before .before .before .if1 .taken) (seen (pieceAs s) (c .before .before .before .read-piece .ensures .0) (c .before .from .given .1))) (refl, refl), (past .1, past .2))
 
 returns-2 : tie.Need-returns-2
 returns-2 c =
     let a = c .before .before .before .before .before .args in
     let s = now (a .sheet) in
-    (λ source levels ps u e. rw (one-only (a .holes) (drop (a .c .at) s) e (c .before .before .before .if1 .taken) (seen (pieceAs s) (c .before .before .read-piece .ensures .0) (c .enum-told .given .1))), tt)
+    (λ source levels ps u e. rw (one-only (a .holes) (drop (a .c .at) s) e (c .before .before .before .if1 .taken) (seen (pieceAs s) (c .before .before .read-piece .ensures .0) (c .enum-told .given .1))) (refl, refl), tt)
 
 returns-3 : tie.Need-returns-3
 returns-3 c =
@@ -33,8 +35,12 @@ returns-3 c =
 
 returns-4 : tie.Need-returns-4
 returns-4 c =
-    let a = c .before .before .before .args in
-    (λ source levels ps u e. (ps, u, e, c .count-parts .ensures ps u e, of-parts (a .holes) (drop (a .c .at) (now (a .sheet))) e (c .before .if1 .left)), c .before .before .before .pre)
+    let a = c .before .before .before .args in (
+      λ source levels ps u e.
+          let (is, none) = of-parts (a .holes) (drop (a .c .at) (now (a .sheet))) e (c .before .if1 .left) in
+          ((ps, u, e, c .count-parts .ensures ps u e, is), ap replacedIn none),
+      c .before .before .before .pre,
+    )
 
 pub parse-template-spec : {M : Type 1} → statement M
 parse-template-spec =

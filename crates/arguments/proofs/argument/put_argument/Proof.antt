@@ -1,4 +1,5 @@
 use borrow.Author.Needs.{needs}
+use mathlib.Core.Path.{sym, _∙_}
 use Rattle.report.specs.Encode.{encodeList, encodeArgument}
 use Rattle.report.proofs.Buffers.{wrote-append, wrote-cons}
 use Rattle.arguments.proofs.argument.put_argument.Statement.{statement}
@@ -18,27 +19,37 @@ put-parts-requires c κs = rw (c .before .before .before .before .before .before
 
 returns : tie.Need-returns
 unfolding encodeArgument
-returns c = ((λ v stands. rw (rw (c .before .before .before .before .enum-told .given .1) at stands) (c .before .before .put .ensures)), search needs)
+returns c = (
+  (λ v k stands.
+      let (is, none) = rw (c .before .before .before .before .enum-told .given .1) at stands in
+      (rw is (c .before .before .put .ensures), sym none)),
+  search needs,
+)
 
 returns-2 : tie.Need-returns-2
 unfolding encodeArgument
-returns-2 c = ((λ v stands. rw (rw (c .before .before .before .before .before .before .before .before .before .before .a .given .1) at stands, wrote-cons, ← (c .before .before .before .before .before .before .before .put2 .ensures)) (c .before .before .put-lossy-text .ensures)), search needs)
+returns-2 c = (
+  (λ v k stands.
+      let (is, many) = rw (c .before .before .before .before .before .before .before .before .before .before .a .given .1) at stands in
+      (rw (is, wrote-cons, ← (c .before .before .before .before .before .before .before .put2 .ensures)) (c .before .before .put-lossy-text .ensures .0), c .before .before .put-lossy-text .ensures .1 ∙ sym many)),
+  search needs,
+)
 
 returns-3 : tie.Need-returns-3
 unfolding encodeArgument encodeList
 returns-3 c = (
-  (λ v stands.
-      let (ps, u, read, total, is) = rw (c .before .before .before .before .before .before .before .before .before .before .before .before .before .a2 .given .1) at stands in
-      rw (is, wrote-cons, ← (c .before .before .before .before .before .before .before .before .before .before .put3 .ensures), total, wrote-append, ← (c .before .before .before .before .before .before .put-number .ensures)) (c .before .before .put-parts .ensures .0 ps u read)),
+  (λ v k stands.
+      let ((ps, u, read, total, is), none) = rw (c .before .before .before .before .before .before .before .before .before .before .before .before .before .a2 .given .1) at stands in
+      (rw (is, wrote-cons, ← (c .before .before .before .before .before .before .before .before .before .before .put3 .ensures), total, wrote-append, ← (c .before .before .before .before .before .before .put-number .ensures)) (c .before .before .put-parts .ensures .0 ps u read), sym none)),
   search needs,
 )
 
 returns-4 : tie.Need-returns-4
 unfolding encodeArgument encodeList
 returns-4 c = (
-  (λ v stands.
-      let (n, t, l, read, parts, total, is) = rw (c .before .before .before .before .before .before .before .before .before .before .before .before .before .before .a3 .given .1) at stands in
-      rw (is, wrote-cons, ← (c .before .before .before .before .before .before .before .before .before .before .before .put4 .ensures), total, wrote-append, ← (c .before .before .before .before .before .before .before .put-number2 .ensures)) (c .before .before .before .put-bin .ensures .0 n t l read parts .0)),
+  (λ v k stands.
+      let ((n, t, l, read, parts, total, is), none) = rw (c .before .before .before .before .before .before .before .before .before .before .before .before .before .before .a3 .given .1) at stands in
+      (rw (is, wrote-cons, ← (c .before .before .before .before .before .before .before .before .before .before .before .put4 .ensures), total, wrote-append, ← (c .before .before .before .before .before .before .before .put-number2 .ensures)) (c .before .before .before .put-bin .ensures .0 n t l read parts .0), sym none)),
   search needs,
 )
 

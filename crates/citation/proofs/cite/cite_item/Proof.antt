@@ -4,7 +4,7 @@ use Rattle.citation.proofs.cite.cite_item.Statement.{statement}
 use Rattle.citation.proofs.cite.cite_item.Tie as tie
 
 returns : tie.Need-returns
-returns c = rw (c .before .before .before .before .enum-told .given .1) (c .before .before .cite-dependency .ensures)
+returns c = rw (c .before .before .before .before .before .enum-told .given .1) (rw (c .before .before .before .before .dependency-letter .ensures) at (c .before .before .cite-dependency .ensures))
 
 returns-2 : tie.Need-returns-2
 returns-2 c = rw (c .before .before .before .before .enum-told2 .given .1) (c .before .before .cite-reference .ensures .0, omega (arith, c .before .before .cite-reference .ensures .1))
@@ -17,6 +17,7 @@ cite-item-spec =
     tie.close
     (tie.spec
     (λ c. search needs)
+    (λ c κs. search needs)
     (λ c κs. search needs)
     (λ c. search needs)
     (λ c κs. search needs)

@@ -3,12 +3,12 @@ use mathlib.Core.Path.{_≡_, refl, sym, _∙_}
 use mathlib.Core.List.{List, [], _++_, append-nil, flatMap}
 use Prim.Native.Nat.{ℕ, _+_, _*_, _≤_}
 use native.Mathlib.Omega.{arith}
-use lib.ListN.{length, drop}
+use lib.ListN.{length, getD, drop}
 use denote.Ref.{now}
 use Rattle.laws.specs.Codec.{All}
 use Rattle.report.specs.Buffer.{bufferAs}
 use Rattle.report.proofs.Buffers.{wrote-nil}
-use Rattle.citation.specs.Citation.{Line}
+use Rattle.citation.specs.Citation.{Line, citeEach}
 use Rattle.citation.specs.code.Cites.{Printed}
 use Rattle.citation.specs.code.Items.{Item, encodeItem, ValidItem, citeItem}
 use Rattle.report_reader.proofs.Lists.{Stand, next-item, no-item}
@@ -17,45 +17,47 @@ use Rattle.citation.proofs.cite.cite_items.Statement.{statement}
 use Rattle.citation.proofs.cite.cite_items.Tie as tie
 
 abbrev Inv-loop : tie.InvT-loop
-Inv-loop report source at kind count out₀ p₀ lines₀ next₀ left₀ out p lines next left =
+Inv-loop report source at kind count numbers out₀ p₀ lines₀ next₀ turn₀ left₀ out p lines next turn left =
     (length out ≡ length out₀)
     × (lines + 2 * left ≤ 2 * count)
+    × (turn + left ≡ count)
     × ((l : List (Item kind)) → (length l ≡ count) × All (ValidItem kind) l → (t : List ℕ) → drop at report ≡ flatMap (encodeItem kind) l ++ t
     → (l′ : List (Item kind)) × (done : List Line)
     × Stand (encodeItem kind) (ValidItem kind) report t next left l′
     × Printed source (bufferAs out₀ p₀) done (bufferAs out p) lines
-    × (flatMap (citeItem kind) l ≡ done ++ flatMap (citeItem kind) l′))
+    × (citeEach (citeItem kind) numbers l ≡ done ++ citeEach (citeItem kind) (drop turn numbers) l′))
 
 abbrev μ-loop : tie.MeasureT-loop
-μ-loop report source at kind count out₀ p₀ lines₀ next₀ left₀ out p lines next left = left
+μ-loop report source at kind count numbers out₀ p₀ lines₀ next₀ turn₀ left₀ out p lines next turn left = left
 
 loop-holds : tie.Need-loop-holds Inv-loop μ-loop
 unfolding flatMap
 loop-holds c =
-    let a = c .before .before .before .args in
-    (refl, omega arith, λ l v t e. (l, [], (v .0, v .1, e), record { written = sym (wrote-nil (now (a .out)) (a .place)); counted = refl }, refl))
+    let a = c .before .before .before .before .args in
+    (refl, omega arith, omega arith, λ l v t e. (l, [], (v .0, v .1, e), record { written = sym (wrote-nil (now (a .out)) (a .place)); counted = refl }, refl))
 
 loop-again : tie.Need-loop-again Inv-loop μ-loop
 loop-again c =
-    let a = c .before .before .before .before .before .before .before .before .before .before .before .args in
-    let i = c .before .before .before .before .before .before .before .loop in
+    let a = c .before .before .before .before .before .before .before .before .before .before .before .before .before .args in
+    let i = c .before .before .before .before .before .before .before .before .loop in
     let item = c .before .before .before .before .cite-item in (
-      item .kept .1 .1 .1 .1 .0 ∙ i .inv .0,
-      omega (arith, i .inv .1, item .ensures .1, c .before .before .before .before .before .before .loop-test .taken),
+      item .kept .1 .1 .1 .1 .1 .0 ∙ i .inv .0,
+      omega (arith, i .inv .1, item .ensures .1, c .before .before .before .before .before .before .before .loop-test .taken),
+      omega (arith, i .inv .2, c .before .before .before .before .before .before .before .loop-test .taken),
       λ l v t e.
-          let (l, done, p, q, r) = i .inv .2 l v t e in
-          let (x, l, same, v, e, on) = next-item (encodeItem (a .kind)) (ValidItem (a .kind)) (now (a .report)) t (i .next) (i .left) l (c .before .before .before .before .before .before .loop-test .taken) p in
+          let (l, done, p, q, r) = i .inv .3 l v t e in
+          let (x, l, same, v, e, on) = next-item (encodeItem (a .kind)) (ValidItem (a .kind)) (now (a .report)) t (i .next) (i .left) l (c .before .before .before .before .before .before .before .loop-test .taken) p in
           let (o, e) = item .ensures .0 x v _ e in
-          (l, done ++ citeItem (a .kind) x, on (item .result .next) e, both q o, r ∙ cite-next (citeItem (a .kind)) done same),
+          (l, done ++ citeItem (a .kind) (getD (now (a .numbers)) (i .turn) 0) x, on (item .result .next) e, both q (rw (c .before .before .before .before .before .before .number-at .ensures) at o), r ∙ cite-next (citeItem (a .kind)) (now (a .numbers)) (i .turn) done same),
     )
 
 returns : tie.Need-returns Inv-loop μ-loop
 unfolding flatMap
 returns c =
-    let a = c .before .before .before .before .before .args in
+    let a = c .before .before .before .before .before .before .args in
     let i = c .before .loop in (
       λ l v t e.
-          let (l, done, p, q, r) = i .inv .2 l v t e in
+          let (l, done, p, q, r) = i .inv .3 l v t e in
           let (none, e) = no-item (encodeItem (a .kind)) (ValidItem (a .kind)) (now (a .report)) t (i .next) (i .left) l (c .loop-test .left) p in
           rw (r, none, append-nil) (q, e),
       omega (arith, i .inv .1),
@@ -69,6 +71,8 @@ cite-items-spec =
     μ-loop
     loop-holds
     (λ c κs. search needs)
+    (λ c κs. search needs)
+    (λ c. search needs)
     (λ c. search needs)
     (λ c. search needs)
     (λ c. search needs)

@@ -1,10 +1,11 @@
 use borrow.Author.Needs.{needs}
 use mathlib.Core.Path.{_∙_}
 use mathlib.Core.List.{append-assoc}
+use denote.Ref.{now}
 use Rattle.report.specs.Encode.{encode}
-use Rattle.citation.specs.Citation.{lines}
+use Rattle.citation.specs.Citation.{citeReference, citeJsDoc, lines}
 use Rattle.report_reader.proofs.FromBytes.{flag-read}
-use Rattle.citation.proofs.Printing.{both}
+use Rattle.citation.proofs.Printing.{both, each-plain}
 use Rattle.citation.proofs.cite.cite_lines.Statement.{statement}
 use Rattle.citation.proofs.cite.cite_lines.Tie as tie
 
@@ -22,23 +23,26 @@ total-requires c κs = (
 same-length : tie.Need-same-length
 same-length c =
     c .before .before .before .before .cite-optional4 .kept .1 .1 .1 .1 .0
-    ∙ c .before .before .before .before .before .before .before .before .cite-list3 .kept .1 .1 .1 .1 .0
+    ∙ c .before .before .before .before .before .before .before .before .cite-list3 .kept .1 .1 .1 .1 .1 .0
     ∙ c .before .before .before .before .before .before .before .before .before .before .before .before .cite-optional3 .kept .1 .1 .1 .1 .0
     ∙ c .before .before .before .before .before .before .before .before .before .before .before .before .before .before .before .before .cite-optional2 .kept .1 .1 .1 .1 .0
     ∙ c .before .before .before .before .before .before .before .before .before .before .before .before .before .before .before .before .before .before .before .before .cite-optional .kept .1 .1 .1 .1 .0
-    ∙ c .before .before .before .before .before .before .before .before .before .before .before .before .before .before .before .before .before .before .before .before .before .before .before .before .cite-list2 .kept .1 .1 .1 .1 .0
-    ∙ c .before .before .before .before .before .before .before .before .before .before .before .before .before .before .before .before .before .before .before .before .before .before .before .before .before .before .before .before .cite-list .kept .1 .1 .1 .1 .0
+    ∙ c .before .before .before .before .before .before .before .before .before .before .before .before .before .before .before .before .before .before .before .before .before .before .before .before .cite-list2 .kept .1 .1 .1 .1 .1 .0
+    ∙ c .before .before .before .before .before .before .before .before .before .before .before .before .before .before .before .before .before .before .before .before .before .before .before .before .before .before .before .before .cite-list .kept .1 .1 .1 .1 .1 .0
 
 returns : tie.Need-returns
 unfolding encode lines
 returns c = λ m v t e.
+    let numbers = now (c .before .before .before .before .before .before .before .before .before .before .before .before .before .before .before .before .before .before .before .before .before .before .before .before .before .before .before .before .before .before .before .before .before .before .before .args .numbers) in
     let e = flag-read (c .before .before .before .before .before .before .before .before .before .before .before .before .before .before .before .before .before .before .before .before .before .before .before .before .before .before .before .before .before .before .read-number .ensures) (m .isScript) _ (simp append-assoc at e) in
     let (d, e) = c .before .before .before .before .before .before .before .before .before .before .before .before .before .before .before .before .before .before .before .before .before .before .before .before .before .before .before .before .cite-list .ensures .0 (m .dependencies) (v .dependencies) _ e in
     let (r, e) = c .before .before .before .before .before .before .before .before .before .before .before .before .before .before .before .before .before .before .before .before .before .before .before .before .cite-list2 .ensures .0 (m .tsReferences) (v .tsReferences) _ e in
+    let r = rw (each-plain citeReference numbers (m .tsReferences)) at r in
     let (s, e) = c .before .before .before .before .before .before .before .before .before .before .before .before .before .before .before .before .before .before .before .before .cite-optional .ensures .0 (m .selfTypesSpecifier) (v .selfTypesSpecifier) _ e in
     let (x, e) = c .before .before .before .before .before .before .before .before .before .before .before .before .before .before .before .before .cite-optional2 .ensures .0 (m .jsxImportSource) (v .jsxImportSource) _ e in
     let (y, e) = c .before .before .before .before .before .before .before .before .before .before .before .before .cite-optional3 .ensures .0 (m .jsxImportSourceTypes) (v .jsxImportSourceTypes) _ e in
     let (j, e) = c .before .before .before .before .before .before .before .before .cite-list3 .ensures .0 (m .jsdocImports) (v .jsdocImports) _ e in
+    let j = rw (each-plain citeJsDoc numbers (m .jsdocImports)) at j in
     let (u, e) = c .before .before .before .before .cite-optional4 .ensures .0 (m .sourceMapUrl) (v .sourceMapUrl) t e in
     (rw (c .total .ensures) (simp append-assoc at (both (both (both (both (both (both d r) s) x) y) j) u)), e)
 

@@ -14,7 +14,7 @@ unfolding encodeList
 returns c =
     let count = c .before .before .before .before .read-number in (
       λ l v t e.
-          let (n, e) = count .ensures .read (length l) (v .0) _ (e ∙ append-assoc (encodeNumber (length l)) (flatMap (encodeItem (c .before .before .before .before .before .before .before .before .args .kind)) l) t) in
+          let (n, e) = count .ensures .read (length l) (v .0) _ (e ∙ append-assoc (encodeNumber (length l)) (flatMap (encodeItem (c .before .before .before .before .before .before .before .before .before .args .kind)) l) t) in
           c .before .before .cite-items .ensures .0 l (sym n, v .1) t e,
       omega (arith, c .before .before .cite-items .ensures .1, count .ensures .small),
     )

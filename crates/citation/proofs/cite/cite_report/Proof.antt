@@ -23,23 +23,24 @@ unfolding citation
 returns c =
     let counted = c .before .before .before .before .before .before .before .before .before .before .before .before .before .cite-lines in
     let cited = c .before .before .before .before .cite-lines2 in
-    let start = c .before .before .before .before .before .before .before .before .before .before .before .before .before .before .before .before .before .before .before .before in
+    let start = c .before .before .before .before .before .before .before .before .before .before .before .before .before .before .before .before .before .before .before .before .before in
     let last = c .before .before .before .before .before .before .before .before .before .before .before .before .before .before .before .before .last-four in
+    let numbers = now (start .args .numbers) in
     let n = c .written in (
       λ m v e.
-          let same = citation-same _ _ (recounted-front (now (start .args .source)) (last .result) (last .ensures .1)) m in
+          let same = citation-same _ _ (recounted-front (now (start .args .source)) (last .result) (last .ensures .1)) numbers m in
           let (p, _) = counted .ensures m v [] (sym (append-nil (encode m) ∙ e)) in
           let (q, _) = cited .ensures m v [] (sym (append-nil (encode m) ∙ e)) in
           rw same at (all-written
-          (cited .last .1 .1 .0)
+          (cited .last .1 .1 .1 .0)
           (cited .result .place)
-          (length (counted .last .1 .1 .0))
-          (citation (take (last .result) (now (start .args .source))) m)
+          (length (counted .last .1 .1 .1 .0))
+          (citation (take (last .result) (now (start .args .source))) numbers m)
           (rw (wrote-append, ← (p .counted), ← (c .before .before .before .before .before .before .before .before .put-title .ensures)) (q .written))
-          (omega (arith, citation-short (take (last .result) (now (start .args .source))) m v, ap length e, counted .kept .1 .1 .0, start .pre))
+          (omega (arith, citation-short (take (last .result) (now (start .args .source))) numbers m v, ap length e, counted .kept .1 .1 .1 .0, start .pre))
           (n .result)
           (n .ensures)),
-      (omega (arith, n .ensures, length-take (cited .result .place .at) (cited .last .1 .1 .0)), search needs),
+      (omega (arith, n .ensures, length-take (cited .result .place .at) (cited .last .1 .1 .1 .0)), cited .kept .1 .1 .1 .0 ∙ c .before .before .before .before .before .before .before .before .put-title .kept .1 .0 ∙ counted .kept .1 .1 .1 .0),
     )
 
 pub cite-report-spec : {M : Type 1} → statement M

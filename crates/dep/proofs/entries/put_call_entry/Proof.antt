@@ -7,9 +7,9 @@ use Rattle.laws.proofs.Steps.{seen}
 use Rattle.sheet.specs.Nodes.{node}
 use Rattle.heads.specs.code.Views.{argumentAs}
 use Rattle.heads.proofs.FirstArgument.{first, no-first, no-arguments}
-use Rattle.report.specs.Buffer.{bufferAs}
-use Rattle.dep.specs.Collect.{callEntry}
-use Rattle.dep.specs.code.Walk.{typesFrom, wroteEntries}
+use Rattle.arguments.specs.Argument.{replacedIn}
+use Rattle.dep.specs.Collect.{firstText, beside, callEntry}
+use Rattle.dep.specs.code.Walk.{typesFrom, writtenAs, wroteEntries}
 use Rattle.dep.proofs.Wrote.{entries-nil}
 use Rattle.dep.proofs.Spans.{argument-spanned}
 use Rattle.dep.proofs.entries.put_call_entry.Statement.{statement}
@@ -17,14 +17,14 @@ use Rattle.dep.proofs.entries.put_call_entry.Tie as tie
 
 put-argument-entry-requires : tie.Need-put-argument-entry-requires
 put-argument-entry-requires c κs =
-    let a = c .before .before .before .before .before .before .before .before .before .before .args in
+    let a = c .before .before .before .before .before .before .before .before .before .before .before .before .args in
     let s = now (a .sheet) in
     let source = now (a .source) in
-    (c .before .before .before .before .before .before .before .before .before .before .pre, argument-spanned source (drop (a .cursor .at) s) (seen (argumentAs s) (c .before .before .before .before .read-argument .ensures .0) (c .before .before .range .given .1)))
+    (c .before .before .before .before .before .before .before .before .before .before .before .before .pre, argument-spanned source (drop (a .cursor .at) s) (seen (argumentAs s) (c .before .before .before .before .before .read-argument .ensures .0) (c .before .before .before .range .given .1)))
 
 returns : tie.Need-returns
 returns c =
-    let a = c .before .before .before .before .before .before .before .before .args in
+    let a = c .before .before .before .before .before .before .before .before .before .args in
     let s = now (a .sheet) in
     let source = now (a .source) in
     let inner = node source (a .levels) in
@@ -33,35 +33,46 @@ returns c =
 
 returns-2 : tie.Need-returns-2
 returns-2 c =
-    let a = c .before .before .before .before .before .before .before .before .before .before .before .before .before .args in
+    let a = c .before .before .before .before .before .before .before .before .before .before .before .before .before .before .before .before .before .args in
     let s = now (a .sheet) in
     let source = now (a .source) in
     let types = typesFrom source (now (a .tables)) (a .counts) in
-    let w = bufferAs (now (a .out)) (a .place) in
+    let w = writtenAs (now (a .out)) (now (a .notes)) (a .place) in
     let inner = node source (a .levels) in
     let u = drop (a .cursor .at) s in (
       (λ xs t is.
-          let f = first inner source (a .count) u (c .before .before .before .before .before .before .before .before .if2 .taken) is (seen (argumentAs s) (c .before .before .before .before .before .before .before .read-argument .ensures .0) (c .before .before .before .before .before .range .given .1)) in
-          rw (c .before .before .before .before .before .before .before .before .before .if1 .taken)
-          (c .before .before .put-argument-entry .ensures (c .before .before .before .before .before .range .given .0 .0) (f .node) (f .others) (f .between) t (f .read) (f .behind)
-          ∙ ap (λ xs. wroteEntries w (callEntry source types (a .call .kind) (a .call .span) xs)) (sym (f .are)))),
+          let f = first inner source (a .count) u (c .before .before .before .before .before .before .before .before .before .before .before .if2 .taken) is (seen (argumentAs s) (c .before .before .before .before .before .before .before .before .before .before .read-argument .ensures .0) (c .before .before .before .before .before .before .before .before .range .given .1)) in
+          rw (c .before .before .before .before .before .before .before .before .before .before .before .before .if1 .taken)
+          (c .before .before .before .before .put-argument-entry .ensures (c .before .before .before .before .before .before .before .before .range .given .0 .0) (f .node) (f .others) (f .between) t (f .read) (f .behind)
+          ∙ ap (λ xs. wroteEntries w (beside (replacedIn (firstText xs)) (callEntry source types (a .call .kind) (a .call .span) xs))) (sym (f .are)))),
       search needs,
     )
 
 returns-3 : tie.Need-returns-3
 unfolding callEntry
 returns-3 c =
-    let a = c .before .before .before .before .before .args in
+    let a = c .before .before .before .before .before .before .args in
     let s = now (a .sheet) in
     let source = now (a .source) in
     let inner = node source (a .levels) in
     let u = drop (a .cursor .at) s in
-    ((λ xs t is. rw (c .before .if1 .taken, no-arguments inner source (a .count) u (c .if2 .left) is) (sym (entries-nil (now (a .out)) (a .place)))), search needs)
+    ((λ xs t is. rw (c .before .if1 .taken, no-arguments inner source (a .count) u (c .if2 .left) is) (sym (entries-nil (now (a .out)) (now (a .notes)) (a .place)))), search needs)
 
 returns-4 : tie.Need-returns-4
 returns-4 c =
-    let a = c .before .before .before .before .args in
-    ((λ xs t is. rw (c .if1 .left) (sym (entries-nil (now (a .out)) (a .place)))), search needs)
+    let a = c .before .before .before .before .before .args in
+    ((λ xs t is. rw (c .if1 .left) (sym (entries-nil (now (a .out)) (now (a .notes)) (a .place)))), search needs)
 
 pub put-call-entry-spec : {M : Type 1} → statement M
-put-call-entry-spec = tie.close (tie.spec (λ c κs. search needs) (λ c. search needs) (λ c. search needs) (λ c. search needs) put-argument-entry-requires returns (λ c. search needs) returns-2 returns-3 returns-4)
+put-call-entry-spec = tie.close (tie.spec
+    (λ c κs. search needs)
+    (λ c. search needs)
+    (λ c. search needs)
+    (λ c. search needs)
+    put-argument-entry-requires
+    returns
+    (λ c. search needs)
+    (λ c. search needs)
+    returns-2
+    returns-3
+    returns-4)

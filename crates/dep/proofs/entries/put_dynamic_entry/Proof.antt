@@ -1,35 +1,35 @@
 -- `put_dynamic_entry`: the fields of the entry in turn.
 use borrow.Author.Needs.{needs}
-use mathlib.Core.Path.{_∙_}
+use mathlib.Core.Path.{ap, _∙_}
 use denote.Ref.{now}
 use Rattle.sheet.specs.Tree.{Arguments}
 use Rattle.report.specs.ModuleInfo as info
 use Rattle.report.specs.Range.{rangeOf}
 use Rattle.report.specs.Buffer.{bufferAs}
 use Rattle.attributes.specs.Attributes.{dynamicAttributes}
+use Rattle.dep.specs.code.Notes.{noted}
 use Rattle.dep.specs.code.Walk.{typesFrom}
 use Rattle.dep.proofs.Fields.{dynamic-written}
 use Rattle.dep.proofs.entries.put_dynamic_entry.Statement.{statement}
 use Rattle.dep.proofs.entries.put_dynamic_entry.Tie as tie
 
 part-index-end : tie.Need-part-index-end
-part-index-end c = c .before .before .before .before .before .before .before .before .before .before .before .before .pre .0 .0
+part-index-end c = c .before .before .before .before .before .before .before .before .before .before .before .before .before .pre .0 .0
 
 put-span-requires : tie.Need-put-span-requires
-put-span-requires c κs = (c .before .before .before .before .before .before .before .before .before .before .before .before .before .before .before .before .before .before .before .before .before .before .pre .0 .1 .0 .indexed, c .before .before .before .before .before .before .before .before .before .before .before .before .before .before .before .before .before .before .before .before .before .before .pre .1)
+put-span-requires c κs = (c .before .before .before .before .before .before .before .before .before .before .before .before .before .before .before .before .before .before .before .before .before .before .before .before .before .before .before .before .pre .0 .1 .0 .indexed, c .before .before .before .before .before .before .before .before .before .before .before .before .before .before .before .before .before .before .before .before .before .before .before .before .before .before .before .before .pre .1)
 
 put-attributes-requires : tie.Need-put-attributes-requires
-put-attributes-requires c κs = c .before .before .before .before .before .before .before .before .before .before .before .before .before .before .before .before .parse-dynamic-import-attributes .ensures .1 .0
+put-attributes-requires c κs = c .before .before .before .before .before .before .before .before .before .before .before .before .before .before .before .before .before .before .before .before .before .parse-dynamic-import-attributes .ensures .1 .0
 
 same-length : tie.Need-same-length
-same-length c = c .before .before .put-attributes .kept .1 .1 .1 .0 ∙ (c .before .before .before .before .before .before .before .put-span .kept .1 .0 ∙ (c .before .before .before .before .before .before .before .before .before .before .before .put-argument .kept .1 .1 .1 .1 .0 ∙ (c .before .before .before .before .before .before .before .before .before .before .before .before .before .before .before .put-types .kept .1 .1 .1 .1 .0 ∙ (c .before .before .before .before .before .before .before .before .before .before .before .before .before .before .before .before .before .before .before .before .before .before .before .put .kept .1 .0))))
+same-length c = c .before .before .put-attributes .kept .1 .1 .1 .0 ∙ (c .before .before .before .before .before .before .before .put-span .kept .1 .0 ∙ (c .before .before .before .before .before .before .before .before .before .before .before .before .before .before .before .before .put-argument .kept .1 .1 .1 .1 .0 ∙ (c .before .before .before .before .before .before .before .before .before .before .before .before .before .before .before .before .before .before .before .before .put-types .kept .1 .1 .1 .1 .0 ∙ (c .before .before .before .before .before .before .before .before .before .before .before .before .before .before .before .before .before .before .before .before .before .before .before .before .before .before .before .before .put .kept .1 .0))))
 
 returns : tie.Need-returns
 returns c =
-    let a = c .before .before .before .before .before .before .before .before .before .before .before .before .before .before .before .before .before .before .before .before .before .before .before .before .before .before .before .before .before .before .args in
+    let a = c .before .before .before .before .before .before .before .before .before .before .before .before .before .before .before .before .before .before .before .before .before .before .before .before .before .before .before .before .before .before .before .before .before .before .before .before .args in
     let source = now (a .source) in
     let types = typesFrom source (now (a .tables)) (a .counts) in
-    let w = bufferAs (now (a .out)) (a .place) in
     let entry : info.DynamicArgument → Arguments → info.DynamicDependencyDescriptor =
     λ v xs. record {
       kind = a .dependency .kind;
@@ -38,7 +38,9 @@ returns c =
       argumentRange = rangeOf source (a .dependency .«argument_range»);
       importAttributes = dynamicAttributes xs;
     } in
-    λ v xs t stands are. dynamic-written w (entry v xs) (rw (c .before .before .before .before .before .before .before .before .before .before .before .before .before .before .before .before .before .before .before .before .before .before .before .before .before .dynamic-number .ensures) at (c .before .before .before .before .before .before .before .before .before .before .before .before .before .before .before .before .before .before .before .before .before .before .before .put .ensures)) (c .before .before .before .before .before .before .before .before .before .before .before .before .before .before .before .put-types .ensures) (c .before .before .before .before .before .before .before .before .before .before .before .put-argument .ensures .0 v stands) (c .before .before .before .before .before .before .before .put-span .ensures) (rw (c .before .before .before .before .before .before .before .before .before .before .before .before .before .before .before .before .before .before .before .parse-dynamic-import-attributes .ensures .0 xs t are) at (c .before .before .put-attributes .ensures))
+    λ v k xs t stands are.
+    let (written, counted) = c .before .before .before .before .before .before .before .before .before .before .before .before .before .before .before .before .put-argument .ensures .0 v k stands in
+    dynamic-written (bufferAs (now (a .out)) (a .place)) (now (a .notes)) k (c .before .before .before .before .before .before .before .before .before .before .before .before .note .ensures ∙ ap (noted (now (a .notes))) counted) (entry v xs) (rw (c .before .before .before .before .before .before .before .before .before .before .before .before .before .before .before .before .before .before .before .before .before .before .before .before .before .before .before .before .before .before .dynamic-number .ensures) at (c .before .before .before .before .before .before .before .before .before .before .before .before .before .before .before .before .before .before .before .before .before .before .before .before .before .before .before .before .put .ensures)) (c .before .before .before .before .before .before .before .before .before .before .before .before .before .before .before .before .before .before .before .before .put-types .ensures) written (c .before .before .before .before .before .before .before .put-span .ensures) (rw (c .before .before .before .before .before .before .before .before .before .before .before .before .before .before .before .before .before .before .before .before .before .before .before .before .parse-dynamic-import-attributes .ensures .0 xs t are) at (c .before .before .put-attributes .ensures))
 
 pub put-dynamic-entry-spec : {M : Type 1} → statement M
 put-dynamic-entry-spec =
@@ -53,8 +55,10 @@ put-dynamic-entry-spec =
     part-index-end
     (λ c κs. search needs)
     (λ c κs. search needs)
+    (λ c κs. search needs)
     put-span-requires
     (λ c. search needs)
     put-attributes-requires
     same-length
+    (λ c. search needs)
     returns)

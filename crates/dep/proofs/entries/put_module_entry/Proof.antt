@@ -10,11 +10,17 @@ use Rattle.dep.proofs.entries.put_module_entry.Tie as tie
 
 returns : tie.Need-returns
 unfolding moduleEntry
-returns c = rw (known (c .before .before .before .before .before .declares .ensures) (c .before .before .before .before .if1 .taken)) (c .before .before .put-plain-entry .ensures)
+returns c = rw (known (c .before .before .before .before .before .before .before .before .declares .ensures) (c .before .before .before .before .before .before .before .if1 .taken)) (c .before .before .before .before .put-plain-entry .ensures)
 
 returns-2 : tie.Need-returns-2
 unfolding moduleEntry
-returns-2 c = rw (known (c .before .declares .ensures) (c .if1 .left)) (sym (entries-nil (now (c .before .before .before .before .before .args .out)) (c .before .before .before .before .before .args .place)))
+returns-2 c = rw (known (c .before .declares .ensures) (c .if1 .left)) (sym (entries-nil (now (c .before .before .before .before .before .before .args .out)) (now (c .before .before .before .before .before .before .args .notes)) (c .before .before .before .before .before .before .args .place)))
 
 pub put-module-entry-spec : {M : Type 1} → statement M
-put-module-entry-spec = tie.close (tie.spec (λ c κs. search needs) (λ c κs. search needs) (λ c. search needs) returns returns-2)
+put-module-entry-spec = tie.close (tie.spec
+    (λ c κs. search needs)
+    (λ c κs. search needs)
+    (λ c. search needs)
+    (λ c. search needs)
+    returns
+    returns-2)

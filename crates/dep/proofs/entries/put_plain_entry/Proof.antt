@@ -4,7 +4,12 @@ use Rattle.dep.proofs.entries.put_plain_entry.Statement.{statement}
 use Rattle.dep.proofs.entries.put_plain_entry.Tie as tie
 
 returns : tie.Need-returns
-returns c = c .before .before .put-static-entry .ensures
+returns c = c .before .before .before .before .put-static-entry .ensures
 
 pub put-plain-entry-spec : {M : Type 1} → statement M
-put-plain-entry-spec = tie.close (tie.spec (λ c. search needs) (λ c κs. search needs) (λ c. search needs) returns)
+put-plain-entry-spec = tie.close (tie.spec
+    (λ c. search needs)
+    (λ c κs. search needs)
+    (λ c. search needs)
+    (λ c. search needs)
+    returns)

@@ -1,35 +1,36 @@
 -- `put_static_entry`: the fields of the entry in turn.
 use borrow.Author.Needs.{needs}
+use mathlib.Core.Path.{ap, _∙_}
 use denote.Ref.{now}
-use Rattle.text.specs.Lossy.{lossy}
+use Rattle.text.specs.Lossy.{lossy, replaced}
 use Rattle.text.specs.Bytes.{part}
 use Rattle.report.specs.ModuleInfo as info
 use Rattle.report.specs.Range.{rangeOf}
 use Rattle.report.specs.Buffer.{bufferAs}
 use Rattle.attributes.specs.code.Views.{attributesAs}
 use Rattle.dep.specs.Collect.{staticEntry}
+use Rattle.dep.specs.code.Notes.{noted}
 use Rattle.dep.specs.code.Walk.{typesFrom}
 use Rattle.dep.proofs.Fields.{static-written}
 use Rattle.dep.proofs.entries.put_static_entry.Statement.{statement}
 use Rattle.dep.proofs.entries.put_static_entry.Tie as tie
 
 part-index-end : tie.Need-part-index-end
-part-index-end c = c .before .before .before .before .before .pre .0 .0
+part-index-end c = c .before .before .before .before .before .before .pre .0 .0
 
 put-lossy-specifier-requires : tie.Need-put-lossy-specifier-requires
-put-lossy-specifier-requires c κs = (c .before .before .before .before .before .before .before .before .before .before .before .before .before .before .before .before .before .before .pre .0 .1 .0 .indexed, c .before .before .before .before .before .before .before .before .before .before .before .before .before .before .before .before .before .before .pre .1 .1)
+put-lossy-specifier-requires c κs = (c .before .before .before .before .before .before .before .before .before .before .before .before .before .before .before .before .before .before .before .pre .0 .1 .0 .indexed, c .before .before .before .before .before .before .before .before .before .before .before .before .before .before .before .before .before .before .before .pre .1 .1)
 
 put-attributes-requires : tie.Need-put-attributes-requires
-put-attributes-requires c κs = c .before .before .before .before .before .before .before .before .before .before .before .before .before .before .before .before .before .before .before .before .before .before .before .before .before .before .pre .2
+put-attributes-requires c κs = c .before .before .before .before .before .before .before .before .before .before .before .before .before .before .before .before .before .before .before .before .before .before .before .before .before .before .before .before .before .before .before .before .pre .2
 
 returns : tie.Need-returns
 unfolding staticEntry
 returns c =
-    let a = c .before .before .before .before .before .before .before .before .before .before .before .before .before .before .before .before .before .before .before .before .before .before .before .before .before .before .before .before .before .args in
+    let a = c .before .before .before .before .before .before .before .before .before .before .before .before .before .before .before .before .before .before .before .before .before .before .before .before .before .before .before .before .before .before .before .before .before .before .before .args in
     let s = now (a .sheet) in
     let source = now (a .source) in
     let types = typesFrom source (now (a .tables)) (a .counts) in
-    let w = bufferAs (now (a .out)) (a .place) in
     let x = a .dependency .specifier in
     let d : info.StaticDependencyDescriptor =
     record {
@@ -39,7 +40,8 @@ returns c =
       sideEffect = a .dependency .«is_side_effect»;
       importAttributes = attributesAs s (now (a .pairs)) (a .attributes);
     } in
-    static-written w d (rw (c .before .before .before .before .before .before .before .before .before .before .before .before .before .before .before .before .before .before .before .before .before .static-number .ensures) at (c .before .before .before .before .before .before .before .before .before .before .before .before .before .before .before .before .before .before .before .put .ensures)) (c .before .before .before .before .before .before .before .before .before .before .before .before .before .before .before .put-types .ensures) (c .before .before .before .before .before .before .before .before .before .before .put-lossy-specifier .ensures) (c .before .before .before .before .before .before .put-flag .ensures) (c .before .before .put-attributes .ensures)
+    static-written (bufferAs (now (a .out)) (a .place)) (now (a .notes)) (replaced (part s (x .start) (x .end)))
+    (c .before .before .before .before .before .before .before .before .before .before .before .note .ensures ∙ ap (noted (now (a .notes))) (c .before .before .before .before .before .before .before .before .before .before .before .before .before .before .before .put-lossy-specifier .ensures .1)) d (rw (c .before .before .before .before .before .before .before .before .before .before .before .before .before .before .before .before .before .before .before .before .before .before .before .before .before .before .static-number .ensures) at (c .before .before .before .before .before .before .before .before .before .before .before .before .before .before .before .before .before .before .before .before .before .before .before .before .put .ensures)) (c .before .before .before .before .before .before .before .before .before .before .before .before .before .before .before .before .before .before .before .before .put-types .ensures) (c .before .before .before .before .before .before .before .before .before .before .before .before .before .before .before .put-lossy-specifier .ensures .0) (c .before .before .before .before .before .before .put-flag .ensures) (c .before .before .put-attributes .ensures)
 
 pub put-static-entry-spec : {M : Type 1} → statement M
 put-static-entry-spec =
@@ -56,6 +58,8 @@ put-static-entry-spec =
     (λ c. search needs)
     put-lossy-specifier-requires
     (λ c κs. search needs)
+    (λ c κs. search needs)
     put-attributes-requires
+    (λ c. search needs)
     (λ c. search needs)
     returns)

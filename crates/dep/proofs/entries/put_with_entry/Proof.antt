@@ -2,28 +2,27 @@
 use borrow.Author.Needs.{needs}
 use mathlib.Core.Path.{ap, _∙_}
 use denote.Ref.{now}
-use Rattle.report.specs.Buffer.{bufferAs}
-use Rattle.dep.specs.code.Walk.{typesFrom, wroteEntries, staticOf}
+use Rattle.dep.specs.code.Walk.{typesFrom, writtenAs, wroteEntries, staticOf}
 use Rattle.dep.proofs.entries.put_with_entry.Statement.{statement}
 use Rattle.dep.proofs.entries.put_with_entry.Tie as tie
 
 returns : tie.Need-returns
 returns c =
-    let a = c .before .before .before .before .before .before .before .before .before .before .before .before .before .args in
+    let a = c .before .before .before .before .before .before .before .before .before .before .before .before .before .before .before .before .before .args in
     let s = now (a .sheet) in
     let source = now (a .source) in
     let types = typesFrom source (now (a .tables)) (a .counts) in
-    let w = bufferAs (now (a .out)) (a .place) in
-    ((λ b t is. c .before .before .put-static-entry .ensures ∙ ap (λ x. wroteEntries w (staticOf source types s (a .dependency) x)) (rw (c .before .before .before .before .before .before .before .before .before .if1 .taken) (c .before .before .before .before .before .before .before .parse-type-attributes .ensures .0 b t is))), search needs)
+    let w = writtenAs (now (a .out)) (now (a .notes)) (a .place) in
+    ((λ b t is. c .before .before .before .before .put-static-entry .ensures ∙ ap (λ x. wroteEntries w (staticOf source types s (a .dependency) x)) (rw (c .before .before .before .before .before .before .before .before .before .before .before .before .if1 .taken) (c .before .before .before .before .before .before .before .before .before .before .parse-type-attributes .ensures .0 b t is))), search needs)
 
 returns-2 : tie.Need-returns-2
 returns-2 c =
-    let a = c .before .before .before .before .before .before .before .before .before .before .before .before .before .args in
+    let a = c .before .before .before .before .before .before .before .before .before .before .before .before .before .before .before .before .before .args in
     let s = now (a .sheet) in
     let source = now (a .source) in
     let types = typesFrom source (now (a .tables)) (a .counts) in
-    let w = bufferAs (now (a .out)) (a .place) in
-    ((λ b t is. c .before .before .put-static-entry2 .ensures ∙ ap (λ x. wroteEntries w (staticOf source types s (a .dependency) x)) (rw (c .before .before .before .before .before .before .before .before .before .if1 .left) (c .before .before .before .before .before .before .before .parse-import-attributes .ensures .0 b t is))), search needs)
+    let w = writtenAs (now (a .out)) (now (a .notes)) (a .place) in
+    ((λ b t is. c .before .before .before .before .put-static-entry2 .ensures ∙ ap (λ x. wroteEntries w (staticOf source types s (a .dependency) x)) (rw (c .before .before .before .before .before .before .before .before .before .before .before .before .if1 .left) (c .before .before .before .before .before .before .before .before .before .before .parse-import-attributes .ensures .0 b t is))), search needs)
 
 pub put-with-entry-spec : {M : Type 1} → statement M
 put-with-entry-spec =
@@ -34,10 +33,12 @@ put-with-entry-spec =
     (λ c. search needs)
     (λ c κs. search needs)
     (λ c. search needs)
+    (λ c. search needs)
     returns
     (λ c. search needs)
     (λ c κs. search needs)
     (λ c. search needs)
     (λ c κs. search needs)
+    (λ c. search needs)
     (λ c. search needs)
     returns-2)

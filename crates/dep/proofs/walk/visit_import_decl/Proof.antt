@@ -8,23 +8,27 @@ use Rattle.sheet.specs.Tree.{importDecl}
 use Rattle.sheet.specs.Nodes.{attributesObject}
 use Rattle.heads.specs.code.Rest.{behind}
 use Rattle.heads.specs.code.Views.{quotedOf}
-use Rattle.report.specs.Buffer.{bufferAs}
 use Rattle.dep.specs.declared.entries.StaticDependencyDescriptor.{StaticDependencyDescriptor}
-use Rattle.dep.specs.Collect.{collector}
-use Rattle.dep.specs.code.Walk.{typesFrom, afterNode, afterImport}
+use Rattle.dep.specs.Collect.{noting}
+use Rattle.dep.specs.code.Walk.{typesFrom, writtenAs, afterNode, afterImport}
 use Rattle.dep.proofs.walk.visit_import_decl.Statement.{statement}
 use Rattle.dep.proofs.walk.visit_import_decl.Tie as tie
 
 returns : tie.Need-returns
-unfolding collector
+unfolding noting
 returns c =
-    let a = c .before .before .before .before .before .before .before .before .args in
+    let a = c .before .before .before .before .before .before .before .before .before .before .before .before .args in
     let s = now (a .sheet) in
     let source = now (a .source) in
     let types = typesFrom source (now (a .tables)) (a .counts) in
-    let w = bufferAs (now (a .out)) (a .place) in
-    let d : StaticDependencyDescriptor = record { kind = c .before .before .before .before .import-kind .result; span = a .span; specifier = a .specifier; «is_side_effect» = a .is-side-effect } in
-    (c .before .before .walk-import .ensures .0 ∙ built (afterImport source types s d w) (afterNode source types w) (importDecl (a .span) (a .type-only) (a .phase) (a .is-side-effect) (quotedOf s (a .specifier))) (λ b. rw (c .before .before .before .before .import-kind .ensures)) (behind (a .there) (attributesObject source (a .levels)) (drop (a .cursor .at) s)), c .before .before .walk-import .ensures .1)
+    let w = writtenAs (now (a .out)) (now (a .notes)) (a .place) in
+    let d : StaticDependencyDescriptor = record { kind = c .before .before .before .before .before .before .before .import-kind .result; span = a .span; specifier = a .specifier; «is_side_effect» = a .is-side-effect } in
+    (c .before .before .before .before .walk-import .ensures .0 ∙ built (afterImport source types s d w) (afterNode source types w) (importDecl (a .span) (a .type-only) (a .phase) (a .is-side-effect) (quotedOf s (a .specifier))) (λ b. rw (c .before .before .before .before .before .before .before .import-kind .ensures)) (behind (a .there) (attributesObject source (a .levels)) (drop (a .cursor .at) s)), c .before .before .before .before .walk-import .ensures .1)
 
 pub visit-import-decl-spec : {M : Type 1} → statement M
-visit-import-decl-spec = tie.close (tie.spec (λ c κs. search needs) (λ c κs. search needs) (λ c. search needs) returns)
+visit-import-decl-spec = tie.close (tie.spec
+    (λ c κs. search needs)
+    (λ c κs. search needs)
+    (λ c. search needs)
+    (λ c. search needs)
+    returns)

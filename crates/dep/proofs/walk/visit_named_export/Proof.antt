@@ -8,21 +8,25 @@ use Rattle.sheet.specs.Tree.{exportFrom}
 use Rattle.sheet.specs.Nodes.{attributesObject}
 use Rattle.heads.specs.code.Rest.{behind}
 use Rattle.heads.specs.code.Views.{quotedOf}
-use Rattle.report.specs.Buffer.{bufferAs}
-use Rattle.dep.specs.Collect.{collector}
-use Rattle.dep.specs.code.Walk.{typesFrom, afterNode}
+use Rattle.dep.specs.Collect.{noting}
+use Rattle.dep.specs.code.Walk.{typesFrom, writtenAs, afterNode}
 use Rattle.dep.proofs.walk.visit_named_export.Statement.{statement}
 use Rattle.dep.proofs.walk.visit_named_export.Tie as tie
 
 returns : tie.Need-returns
-unfolding collector
+unfolding noting
 returns c =
-    let a = c .before .before .before .before .before .before .before .before .args in
+    let a = c .before .before .before .before .before .before .before .before .before .before .before .before .args in
     let s = now (a .sheet) in
     let source = now (a .source) in
     let types = typesFrom source (now (a .tables)) (a .counts) in
-    let w = bufferAs (now (a .out)) (a .place) in
-    (c .before .before .walk-import .ensures .0 ∙ rw (c .before .before .before .before .export-kind .ensures) (built _ (afterNode source types w) (exportFrom (a .span) (a .type-only) (quotedOf s (a .specifier))) (λ b. refl) (behind (a .there) (attributesObject source (a .levels)) (drop (a .cursor .at) s))), c .before .before .walk-import .ensures .1)
+    let w = writtenAs (now (a .out)) (now (a .notes)) (a .place) in
+    (c .before .before .before .before .walk-import .ensures .0 ∙ rw (c .before .before .before .before .before .before .before .export-kind .ensures) (built _ (afterNode source types w) (exportFrom (a .span) (a .type-only) (quotedOf s (a .specifier))) (λ b. refl) (behind (a .there) (attributesObject source (a .levels)) (drop (a .cursor .at) s))), c .before .before .before .before .walk-import .ensures .1)
 
 pub visit-named-export-spec : {M : Type 1} → statement M
-visit-named-export-spec = tie.close (tie.spec (λ c κs. search needs) (λ c κs. search needs) (λ c. search needs) returns)
+visit-named-export-spec = tie.close (tie.spec
+    (λ c κs. search needs)
+    (λ c κs. search needs)
+    (λ c. search needs)
+    (λ c. search needs)
+    returns)

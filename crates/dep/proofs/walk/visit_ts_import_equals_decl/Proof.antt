@@ -1,13 +1,18 @@
 -- `visit_ts_import_equals_decl`: the entry by the declaration's kind, with no attributes.
 use borrow.Author.Needs.{needs}
-use Rattle.dep.specs.Collect.{collector}
+use Rattle.dep.specs.Collect.{noting}
 use Rattle.dep.proofs.walk.visit_ts_import_equals_decl.Statement.{statement}
 use Rattle.dep.proofs.walk.visit_ts_import_equals_decl.Tie as tie
 
 returns : tie.Need-returns
-unfolding collector
+unfolding noting
 returns c =
-    (rw (c .before .before .put-plain-entry .ensures, c .before .before .before .before .equals-kind .ensures), c .before .before .before .before .before .before .before .before .pre .2)
+    (rw (c .before .before .before .before .put-plain-entry .ensures, c .before .before .before .before .before .before .before .equals-kind .ensures), c .before .before .before .before .before .before .before .before .before .before .before .before .pre .2)
 
 pub visit-ts-import-equals-decl-spec : {M : Type 1} → statement M
-visit-ts-import-equals-decl-spec = tie.close (tie.spec (λ c κs. search needs) (λ c κs. search needs) (λ c. search needs) returns)
+visit-ts-import-equals-decl-spec = tie.close (tie.spec
+    (λ c κs. search needs)
+    (λ c κs. search needs)
+    (λ c. search needs)
+    (λ c. search needs)
+    returns)

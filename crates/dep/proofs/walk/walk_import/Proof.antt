@@ -10,16 +10,15 @@ use Rattle.sheet.specs.Nodes.{attributesObject}
 use Rattle.heads.specs.code.Rest.{behind}
 use Rattle.nodes.specs.code.Judged.{tallyWith}
 use Rattle.nodes.specs.code.Answers.{talliedAs}
-use Rattle.report.specs.Buffer.{bufferAs}
 use Rattle.attributes.specs.Attributes.{staticAttributes}
-use Rattle.dep.specs.code.Walk.{typesFrom}
+use Rattle.dep.specs.code.Walk.{typesFrom, writtenAs}
 use Rattle.dep.proofs.Arms.{import-written}
 use Rattle.dep.proofs.walk.walk_import.Statement.{statement}
 use Rattle.dep.proofs.walk.walk_import.Tie as tie
 
 returns : tie.Need-returns
 returns c =
-    let a = c .before .before .before .before .before .before .before .before .args in
+    let a = c .before .before .before .before .before .before .before .before .before .args in
     let s = now (a .sheet) in
     let source = now (a .source) in
     let x = behind (a .there) (attributesObject source (a .levels)) (drop (a .cursor .at) s) in
@@ -27,20 +26,32 @@ returns c =
 
 returns-2 : tie.Need-returns-2
 returns-2 c =
-    let a = c .before .before .before .before .before .before .before .before .before .before .before .before .args in
+    let a = c .before .before .before .before .before .before .before .before .before .before .before .before .before .before .before .before .args in
     let s = now (a .sheet) in
     let source = now (a .source) in
     let types = typesFrom source (now (a .tables)) (a .counts) in
-    let w = bufferAs (now (a .out)) (a .place) in
+    let w = writtenAs (now (a .out)) (now (a .notes)) (a .place) in
     let x = behind (a .there) (attributesObject source (a .levels)) (drop (a .cursor .at) s) in
-    let past = rw (c .before .before .before .before .before .next .given .1) at (c .before .before .before .before .before .before .before .check-attributes .ensures .1) in
-    (import-written source types w s (a .dependency) x (seen (talliedAs s) (c .before .before .before .before .before .before .before .check-attributes .ensures .0) (c .before .before .before .before .before .next .given .1)) (c .before .before .put-with-entry .ensures .0), past .0)
+    let past = rw (c .before .before .before .before .before .before .before .before .next .given .1) at (c .before .before .before .before .before .before .before .before .before .before .check-attributes .ensures .1) in
+    (import-written source types w s (a .dependency) x (seen (talliedAs s) (c .before .before .before .before .before .before .before .before .before .before .check-attributes .ensures .0) (c .before .before .before .before .before .before .before .before .next .given .1)) (c .before .before .before .before .put-with-entry .ensures .0), past .0)
 
 returns-3 : tie.Need-returns-3
 unfolding staticAttributes
 returns-3 c =
-    let a = c .before .before .before .before .before .before .before .before .args in
-    (rw (c .before .before .before .before .if1 .left) (ap (λ w. ok w (drop (a .cursor .at) (now (a .sheet)))) (c .before .before .put-plain-entry .ensures)), c .before .before .before .before .before .before .before .before .pre .2)
+    let a = c .before .before .before .before .before .before .before .before .before .before .before .before .args in
+    (rw (c .before .before .before .before .before .before .before .if1 .left) (ap (λ w. ok w (drop (a .cursor .at) (now (a .sheet)))) (c .before .before .before .before .put-plain-entry .ensures)), c .before .before .before .before .before .before .before .before .before .before .before .before .pre .2)
 
 pub walk-import-spec : {M : Type 1} → statement M
-walk-import-spec = tie.close (tie.spec (λ c κs. search needs) (λ c. search needs) (λ c. search needs) (λ c κs. search needs) returns (λ c. search needs) returns-2 (λ c κs. search needs) (λ c. search needs) returns-3)
+walk-import-spec = tie.close (tie.spec
+    (λ c κs. search needs)
+    (λ c. search needs)
+    (λ c. search needs)
+    (λ c κs. search needs)
+    returns
+    (λ c. search needs)
+    (λ c. search needs)
+    returns-2
+    (λ c κs. search needs)
+    (λ c. search needs)
+    (λ c. search needs)
+    returns-3)

@@ -7,8 +7,7 @@ use Rattle.laws.proofs.Steps.{seen}
 use Rattle.sheet.specs.Nodes.{node}
 use Rattle.heads.specs.code.Views.{argumentAs}
 use Rattle.heads.proofs.ByHead.{argument-by-head}
-use Rattle.report.specs.Buffer.{bufferAs}
-use Rattle.dep.specs.code.Walk.{typesFrom}
+use Rattle.dep.specs.code.Walk.{typesFrom, writtenAs}
 use Rattle.dep.proofs.Arms.{argument-holds}
 use Rattle.dep.proofs.walk.walk_argument.Reads as walk-argument
 use Rattle.dep.proofs.walk.+visit_call_expr+visit_ts_import_type+visit_ts_module_decl+walk_argument+walk_arguments+walk_attributes+walk_callee+walk_node+walk_nodes+walk_properties+walk_property+walk_rest.Lts-walk_argument as walk-argument-lts
@@ -16,18 +15,18 @@ use Rattle.dep.proofs.walk.+visit_call_expr+visit_ts_import_type+visit_
 
 pub returns : (t : ℕ) → walk-argument-lts.Need-returns (walk-argument-calls t) (walk-argument-at t) walk-argument.Post
 returns t c =
-    let a = c .before .before .before .before .before .before .before .args in
+    let a = c .before .before .before .before .before .before .before .before .args in
     let s = now (a .sheet) in
     let source = now (a .source) in
     (rw (argument-by-head (node source (a .levels)) source (drop (a .cursor .at) s), seen (argumentAs s) (c .before .before .before .read-argument .ensures .0) (c .before .r .given .1)), tt)
 
 pub returns-2 : (t : ℕ) → walk-argument-lts.Need-returns-2 (walk-argument-calls t) (walk-argument-at t) walk-argument.Post
 returns-2 t c =
-    let a = c .before .before .before .before .before .before .before .before .before .before .before .args in
+    let a = c .before .before .before .before .before .before .before .before .before .before .before .before .before .before .before .args in
     let s = now (a .sheet) in
     let source = now (a .source) in
     let types = typesFrom source (now (a .tables)) (a .counts) in
-    let w = bufferAs (now (a .out)) (a .place) in
+    let w = writtenAs (now (a .out)) (now (a .notes)) (a .place) in
     let inner = node source (a .levels) in
-    let h = c .before .before .before .before .before .next .given .0 in
-    (rw (argument-by-head inner source (drop (a .cursor .at) s), seen (argumentAs s) (c .before .before .before .before .before .before .before .read-argument .ensures .0) (c .before .before .before .before .before .next .given .1)) (c .before .before .walk-node .ensures .0 ∙ argument-holds source types w (h .0) (h .1 .0) (inner (drop (h .1 .1 .0 .at) s))), c .before .before .walk-node .ensures .1)
+    let h = c .before .before .before .before .before .before .before .before .next .given .0 in
+    (rw (argument-by-head inner source (drop (a .cursor .at) s), seen (argumentAs s) (c .before .before .before .before .before .before .before .before .before .before .read-argument .ensures .0) (c .before .before .before .before .before .before .before .before .next .given .1)) (c .before .before .before .before .walk-node .ensures .0 ∙ argument-holds source types w (h .0) (h .1 .0) (inner (drop (h .1 .1 .0 .at) s))), c .before .before .before .before .walk-node .ensures .1)

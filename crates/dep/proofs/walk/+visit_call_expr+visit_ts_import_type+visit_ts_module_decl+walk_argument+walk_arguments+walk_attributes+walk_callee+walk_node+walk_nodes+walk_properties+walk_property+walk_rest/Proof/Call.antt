@@ -11,8 +11,7 @@ use Rattle.wire.specs.Number.{number}
 use Rattle.wire.specs.code.Views.{readAs}
 use Rattle.sheet.specs.Nodes.{node, nodes, arguments, callRest}
 use Rattle.nodes.proofs.Arms.{pair}
-use Rattle.report.specs.Buffer.{bufferAs}
-use Rattle.dep.specs.code.Walk.{typesFrom, walkedAs, afterNodes, afterArguments, afterCall}
+use Rattle.dep.specs.code.Walk.{typesFrom, writtenAs, walkedAs, afterNodes, afterArguments, afterCall}
 use Rattle.dep.proofs.Arms.{call-walked}
 use Rattle.dep.proofs.walk.visit_call_expr.Reads as visit-call-expr
 use Rattle.dep.proofs.walk.+visit_call_expr+visit_ts_import_type+visit_ts_module_decl+walk_argument+walk_arguments+walk_attributes+walk_callee+walk_node+walk_nodes+walk_properties+walk_property+walk_rest.Lts-visit_call_expr as visit-call-expr-lts
@@ -20,84 +19,87 @@ use Rattle.dep.proofs.walk.+visit_call_expr+visit_ts_import_type+visit_
 
 pub walk-arguments-requires : (t : ℕ) → visit-call-expr-lts.Need-walk-arguments-requires (visit-call-expr-calls t) (visit-call-expr-at t) visit-call-expr.Post
 walk-arguments-requires t c κs =
-    let past = rw (c .before .before .count .given .1) at (c .before .before .before .before .number .ensures .1) in
-    (omega arith, (c .before .before .before .before .before .before .before .before .pre .1, past .1))
+    let past = rw (c .before .before .before .count .given .1) at (c .before .before .before .before .before .number .ensures .1) in
+    (omega arith, (c .before .before .before .before .before .before .before .before .before .before .pre .1, past .1))
 
 pub walk-nodes-requires : (t : ℕ) → visit-call-expr-lts.Need-walk-nodes-requires (visit-call-expr-calls t) (visit-call-expr-at t) visit-call-expr.Post
 walk-nodes-requires t c κs =
-    let past = rw (c .before .before .more .given .1) at (c .before .before .before .before .number2 .ensures .1) in
-    let is : 6 * (c .before .before .before .before .before .before .before .before .before .before .before .before .before .before .before .before .before .before .before .args .levels) + 3 ≡ t = c .before .before .before .before .before .before .before .before .before .before .before .before .before .before .before .before .before .before .before .pre .0 in
-    let less : 6 * (c .before .before .before .before .before .before .before .before .before .before .before .before .before .before .before .before .before .before .before .args .levels) + 1 < t = omega (arith, is) in
-    (less, (c .before .before .before .before .before .before .before .before .before .before .before .before .before .before .before .before .before .before .before .pre .1, past .1))
+    let past = rw (c .before .before .before .more .given .1) at (c .before .before .before .before .before .number2 .ensures .1) in
+    let is : 6 * (c .before .before .before .before .before .before .before .before .before .before .before .before .before .before .before .before .before .before .before .before .before .before .before .before .args .levels) + 3 ≡ t = c .before .before .before .before .before .before .before .before .before .before .before .before .before .before .before .before .before .before .before .before .before .before .before .before .pre .0 in
+    let less : 6 * (c .before .before .before .before .before .before .before .before .before .before .before .before .before .before .before .before .before .before .before .before .before .before .before .before .args .levels) + 1 < t = omega (arith, is) in
+    (less, (c .before .before .before .before .before .before .before .before .before .before .before .before .before .before .before .before .before .before .before .before .before .before .before .before .pre .1, past .1))
 
 pub put-call-entry-requires : (t : ℕ) → visit-call-expr-lts.Need-put-call-entry-requires (visit-call-expr-calls t) (visit-call-expr-at t) visit-call-expr.Post
-put-call-entry-requires t c κs = c .before .before .before .before .before .before .before .before .before .before .before .before .before .before .before .before .before .before .before .before .before .before .before .before .before .before .pre .1
+put-call-entry-requires t c κs = c .before .before .before .before .before .before .before .before .before .before .before .before .before .before .before .before .before .before .before .before .before .before .before .before .before .before .before .before .before .before .before .before .before .before .pre .1
 
 pub returns : (t : ℕ) → visit-call-expr-lts.Need-returns (visit-call-expr-calls t) (visit-call-expr-at t) visit-call-expr.Post
 unfolding callRest
 returns t c =
-    let a = c .before .before .before .before .before .before .before .args in
+    let a = c .before .before .before .before .before .before .before .before .args in
     let s = now (a .sheet) in
     (rw (seen (readAs s) (c .before .before .before .number .ensures .0) (c .before .r .given .1)), tt)
 
 pub returns-2 : (t : ℕ) → visit-call-expr-lts.Need-returns-2 (visit-call-expr-calls t) (visit-call-expr-at t) visit-call-expr.Post
 unfolding callRest
 returns-2 t c =
-    let a = c .before .before .before .before .before .before .before .before .before .before .before .before .before .before .args in
-    let s = now (a .sheet) in
-    let source = now (a .source) in
-    let types = typesFrom source (now (a .tables)) (a .counts) in
-    let w = bufferAs (now (a .out)) (a .place) in
-    let inner = node source (a .levels) in
-    let (n, next) = c .before .before .before .before .before .before .before .before .count .given .0 in
-    let xs = arguments inner source n (drop (next .0 .at) s) in
-    (rw (seen (readAs s) (c .before .before .before .before .before .before .before .before .before .before .number .ensures .0) (c .before .before .before .before .before .before .before .before .count .given .1), onOk-no (afterArguments source types w) xs (seen (walkedAs s (c .before .before .before .before .before .walk-arguments .last .1 .1 .1 .1 .1 .1 .1 .0)) (c .before .before .before .before .before .walk-arguments .ensures .0) (c .before .r2 .given .1))), tt)
-
-pub returns-3 : (t : ℕ) → visit-call-expr-lts.Need-returns-3 (visit-call-expr-calls t) (visit-call-expr-at t) visit-call-expr.Post
-unfolding callRest
-returns-3 t c =
     let a = c .before .before .before .before .before .before .before .before .before .before .before .before .before .before .before .before .before .before .args in
     let s = now (a .sheet) in
     let source = now (a .source) in
     let types = typesFrom source (now (a .tables)) (a .counts) in
-    let w = bufferAs (now (a .out)) (a .place) in
+    let w = writtenAs (now (a .out)) (now (a .notes)) (a .place) in
     let inner = node source (a .levels) in
-    let (n, next) = c .before .before .before .before .before .before .before .before .before .before .before .before .count .given .0 in
+    let (n, next) = c .before .before .before .before .before .before .before .before .before .before .before .count .given .0 in
+    let xs = arguments inner source n (drop (next .0 .at) s) in
+    (rw (seen (readAs s) (c .before .before .before .before .before .before .before .before .before .before .before .before .before .number .ensures .0) (c .before .before .before .before .before .before .before .before .before .before .before .count .given .1), onOk-no (afterArguments source types w) xs (seen (walkedAs s (c .before .before .before .before .before .before .before .walk-arguments .last .1 .1 .1 .1 .1 .1 .1 .0) (c .before .before .before .before .before .before .before .walk-arguments .last .1 .1 .1 .1 .1 .1 .1 .1 .0)) (c .before .before .before .before .before .before .before .walk-arguments .ensures .0) (c .before .r2 .given .1))), tt)
+
+pub returns-3 : (t : ℕ) → visit-call-expr-lts.Need-returns-3 (visit-call-expr-calls t) (visit-call-expr-at t) visit-call-expr.Post
+unfolding callRest
+returns-3 t c =
+    let a = c .before .before .before .before .before .before .before .before .before .before .before .before .before .before .before .before .before .before .before .before .before .before .args in
+    let s = now (a .sheet) in
+    let source = now (a .source) in
+    let types = typesFrom source (now (a .tables)) (a .counts) in
+    let w = writtenAs (now (a .out)) (now (a .notes)) (a .place) in
+    let inner = node source (a .levels) in
+    let (n, next) = c .before .before .before .before .before .before .before .before .before .before .before .before .before .before .before .count .given .0 in
     let xs = arguments inner source n (drop (next .0 .at) s) in
     let cut = seen (readAs s) (c .before .before .before .number2 .ensures .0) (c .before .r4 .given .1) in
-    let none = then-no (afterArguments source types w) xs (seen (walkedAs s (c .before .before .before .before .before .before .before .before .before .walk-arguments .last .1 .1 .1 .1 .1 .1 .1 .0)) (c .before .before .before .before .before .before .before .before .before .walk-arguments .ensures .0) (c .before .before .before .before .before .r3 .given .1)) (λ xs. number >>= λ m. nodes inner m >>= pair xs) (c .before .r4 .given .0 .0) (λ xs. rw cut) in
-    (rw (seen (readAs s) (c .before .before .before .before .before .before .before .before .before .before .before .before .before .before .number .ensures .0) (c .before .before .before .before .before .before .before .before .before .before .before .before .count .given .1)) (sym (ap (onOk (afterCall source types (a .call) w)) none)), tt)
+    let none = then-no (afterArguments source types w) xs (seen (walkedAs s (c .before .before .before .before .before .before .before .before .before .before .before .walk-arguments .last .1 .1 .1 .1 .1 .1 .1 .0) (c .before .before .before .before .before .before .before .before .before .before .before .walk-arguments .last .1 .1 .1 .1 .1 .1 .1 .1 .0)) (c .before .before .before .before .before .before .before .before .before .before .before .walk-arguments .ensures .0) (c .before .before .before .before .before .r3 .given .1)) (λ xs. number >>= λ m. nodes inner m >>= pair xs) (c .before .r4 .given .0 .0) (λ xs. rw cut) in
+    (rw (seen (readAs s) (c .before .before .before .before .before .before .before .before .before .before .before .before .before .before .before .before .before .number .ensures .0) (c .before .before .before .before .before .before .before .before .before .before .before .before .before .before .before .count .given .1)) (sym (ap (onOk (afterCall source types (a .call) w)) none)), tt)
 
 pub returns-4 : (t : ℕ) → visit-call-expr-lts.Need-returns-4 (visit-call-expr-calls t) (visit-call-expr-at t) visit-call-expr.Post
 unfolding callRest
 returns-4 t c =
-    let a = c .before .before .before .before .before .before .before .before .before .before .before .before .before .before .before .before .before .before .before .before .before .before .before .before .before .args in
+    let a = c .before .before .before .before .before .before .before .before .before .before .before .before .before .before .before .before .before .before .before .before .before .before .before .before .before .before .before .before .before .before .before .before .args in
     let s = now (a .sheet) in
     let source = now (a .source) in
     let types = typesFrom source (now (a .tables)) (a .counts) in
-    let w = bufferAs (now (a .out)) (a .place) in
+    let w = writtenAs (now (a .out)) (now (a .notes)) (a .place) in
     let inner = node source (a .levels) in
-    let (n, next) = c .before .before .before .before .before .before .before .before .before .before .before .before .before .before .before .before .before .before .before .count .given .0 in
+    let (n, next) = c .before .before .before .before .before .before .before .before .before .before .before .before .before .before .before .before .before .before .before .before .before .before .before .before .before .count .given .0 in
     let xs = arguments inner source n (drop (next .0 .at) s) in
-    let (m, after) = c .before .before .before .before .before .before .before .before .more .given .0 in
-    let w1 = bufferAs (c .before .before .before .before .before .before .before .before .before .before .before .before .before .before .before .before .walk-arguments .last .1 .1 .1 .1 .1 .1 .1 .0) (c .before .before .before .before .before .before .before .before .before .before .before .before .r3 .given .0 .0) in
-    let cut = onOk-no (afterNodes source types w1) (nodes inner m (drop (after .0 .at) s)) (seen (walkedAs s (c .before .before .before .before .before .walk-nodes .last .1 .1 .1 .1 .1 .1 .1 .0)) (c .before .before .before .before .before .walk-nodes .ensures .0) (c .before .r5 .given .1)) in
-    let none = then-no (afterArguments source types w) xs (seen (walkedAs s (c .before .before .before .before .before .before .before .before .before .before .before .before .before .before .before .before .walk-arguments .last .1 .1 .1 .1 .1 .1 .1 .0)) (c .before .before .before .before .before .before .before .before .before .before .before .before .before .before .before .before .walk-arguments .ensures .0) (c .before .before .before .before .before .before .before .before .before .before .before .before .r3 .given .1)) (λ xs. number >>= λ m. nodes inner m >>= pair xs) (c .before .r5 .given .0 .0) (λ xs. rw (seen (readAs s) (c .before .before .before .before .before .before .before .before .before .before .number2 .ensures .0) (c .before .before .before .before .before .before .before .before .more .given .1), cut)) in
-    (rw (seen (readAs s) (c .before .before .before .before .before .before .before .before .before .before .before .before .before .before .before .before .before .before .before .before .before .number .ensures .0) (c .before .before .before .before .before .before .before .before .before .before .before .before .before .before .before .before .before .before .before .count .given .1)) (sym (ap (onOk (afterCall source types (a .call) w)) none)), tt)
+    let (m, after) = c .before .before .before .before .before .before .before .before .before .before .before .more .given .0 in
+    let w1 = writtenAs (c .before .before .before .before .before .before .before .before .before .before .before .before .before .before .before .before .before .before .before .before .before .walk-arguments .last .1 .1 .1 .1 .1 .1 .1 .0) (c .before .before .before .before .before .before .before .before .before .before .before .before .before .before .before .before .before .before .before .before .before .walk-arguments .last .1 .1 .1 .1 .1 .1 .1 .1 .0) (c .before .before .before .before .before .before .before .before .before .before .before .before .before .before .before .r3 .given .0 .0) in
+    let cut = onOk-no (afterNodes source types w1) (nodes inner m (drop (after .0 .at) s)) (seen (walkedAs s (c .before .before .before .before .before .before .before .walk-nodes .last .1 .1 .1 .1 .1 .1 .1 .0) (c .before .before .before .before .before .before .before .walk-nodes .last .1 .1 .1 .1 .1 .1 .1 .1 .0)) (c .before .before .before .before .before .before .before .walk-nodes .ensures .0) (c .before .r5 .given .1)) in
+    let none = then-no (afterArguments source types w) xs (seen (walkedAs s (c .before .before .before .before .before .before .before .before .before .before .before .before .before .before .before .before .before .before .before .before .before .walk-arguments .last .1 .1 .1 .1 .1 .1 .1 .0) (c .before .before .before .before .before .before .before .before .before .before .before .before .before .before .before .before .before .before .before .before .before .walk-arguments .last .1 .1 .1 .1 .1 .1 .1 .1 .0)) (c .before .before .before .before .before .before .before .before .before .before .before .before .before .before .before .before .before .before .before .before .before .walk-arguments .ensures .0) (c .before .before .before .before .before .before .before .before .before .before .before .before .before .before .before .r3 .given .1)) (λ xs. number >>= λ m. nodes inner m >>= pair xs) (c .before .r5 .given .0 .0) (λ xs. rw (seen (readAs s) (c .before .before .before .before .before .before .before .before .before .before .before .before .before .number2 .ensures .0) (c .before .before .before .before .before .before .before .before .before .before .before .more .given .1), cut)) in
+    (rw (seen (readAs s) (c .before .before .before .before .before .before .before .before .before .before .before .before .before .before .before .before .before .before .before .before .before .before .before .before .before .before .before .number .ensures .0) (c .before .before .before .before .before .before .before .before .before .before .before .before .before .before .before .before .before .before .before .before .before .before .before .before .before .count .given .1)) (sym (ap (onOk (afterCall source types (a .call) w)) none)), tt)
 
-pub same-length-4 : (t : ℕ) → visit-call-expr-lts.Need-same-length-4 (visit-call-expr-calls t) (visit-call-expr-at t) visit-call-expr.Post
-same-length-4 t c = c .before .before .put-call-entry .kept .1 .1 .1 .1 .1 .1 .1 .1 .0 ∙ (c .before .before .before .before .before .before .before .before .before .walk-nodes .kept .1 .1 .1 .1 .1 .1 .1 .0 ∙ c .before .before .before .before .before .before .before .before .before .before .before .before .before .before .before .before .before .before .before .before .walk-arguments .kept .1 .1 .1 .1 .1 .1 .1 .0)
+pub same-length-7 : (t : ℕ) → visit-call-expr-lts.Need-same-length-7 (visit-call-expr-calls t) (visit-call-expr-at t) visit-call-expr.Post
+same-length-7 t c = c .before .before .before .before .put-call-entry .kept .1 .1 .1 .1 .1 .1 .1 .1 .0 ∙ (c .before .before .before .before .before .before .before .before .before .before .before .before .before .before .walk-nodes .kept .1 .1 .1 .1 .1 .1 .1 .0 ∙ c .before .before .before .before .before .before .before .before .before .before .before .before .before .before .before .before .before .before .before .before .before .before .before .before .before .before .before .before .walk-arguments .kept .1 .1 .1 .1 .1 .1 .1 .0)
+
+pub same-length-8 : (t : ℕ) → visit-call-expr-lts.Need-same-length-8 (visit-call-expr-calls t) (visit-call-expr-at t) visit-call-expr.Post
+same-length-8 t c = c .before .before .before .before .put-call-entry .kept .1 .1 .1 .1 .1 .1 .1 .1 .1 .0 ∙ (c .before .before .before .before .before .before .before .before .before .before .before .before .before .before .walk-nodes .kept .1 .1 .1 .1 .1 .1 .1 .1 .0 ∙ c .before .before .before .before .before .before .before .before .before .before .before .before .before .before .before .before .before .before .before .before .before .before .before .before .before .before .before .before .walk-arguments .kept .1 .1 .1 .1 .1 .1 .1 .1 .0)
 
 pub returns-5 : (t : ℕ) → visit-call-expr-lts.Need-returns-5 (visit-call-expr-calls t) (visit-call-expr-at t) visit-call-expr.Post
 unfolding callRest
 returns-5 t c =
-    let a = c .before .before .before .before .before .before .before .before .before .before .before .before .before .before .before .before .before .before .before .before .before .before .before .before .before .before .before .before .before .args in
+    let a = c .before .before .before .before .before .before .before .before .before .before .before .before .before .before .before .before .before .before .before .before .before .before .before .before .before .before .before .before .before .before .before .before .before .before .before .before .before .before .before .args in
     let s = now (a .sheet) in
     let source = now (a .source) in
     let types = typesFrom source (now (a .tables)) (a .counts) in
-    let w = bufferAs (now (a .out)) (a .place) in
+    let w = writtenAs (now (a .out)) (now (a .notes)) (a .place) in
     let inner = node source (a .levels) in
-    let (n, next) = c .before .before .before .before .before .before .before .before .before .before .before .before .before .before .before .before .before .before .before .before .before .before .before .count .given .0 in
+    let (n, next) = c .before .before .before .before .before .before .before .before .before .before .before .before .before .before .before .before .before .before .before .before .before .before .before .before .before .before .before .before .before .before .before .before .count .given .0 in
     let xs = arguments inner source n (drop (next .0 .at) s) in
-    let past = rw (c .before .before .before .before .before .r6 .given .1) at (c .before .before .before .before .before .before .before .before .before .walk-nodes .ensures .1) in
-    (rw (seen (readAs s) (c .before .before .before .before .before .before .before .before .before .before .before .before .before .before .before .before .before .before .before .before .before .before .before .before .before .number .ensures .0) (c .before .before .before .before .before .before .before .before .before .before .before .before .before .before .before .before .before .before .before .before .before .before .before .count .given .1)) (call-walked source types w (a .call) inner xs (seen (walkedAs s (c .before .before .before .before .before .before .before .before .before .before .before .before .before .before .before .before .before .before .before .before .walk-arguments .last .1 .1 .1 .1 .1 .1 .1 .0)) (c .before .before .before .before .before .before .before .before .before .before .before .before .before .before .before .before .before .before .before .before .walk-arguments .ensures .0) (c .before .before .before .before .before .before .before .before .before .before .before .before .before .before .before .before .r3 .given .1)) (seen (readAs s) (c .before .before .before .before .before .before .before .before .before .before .before .before .before .before .number2 .ensures .0) (c .before .before .before .before .before .before .before .before .before .before .before .before .more .given .1)) (seen (walkedAs s (c .before .before .before .before .before .before .before .before .before .walk-nodes .last .1 .1 .1 .1 .1 .1 .1 .0)) (c .before .before .before .before .before .before .before .before .before .walk-nodes .ensures .0) (c .before .before .before .before .before .r6 .given .1)) (c .before .before .put-call-entry .ensures .0)), past)
+    let past = rw (c .before .before .before .before .before .before .before .before .r6 .given .1) at (c .before .before .before .before .before .before .before .before .before .before .before .before .before .before .walk-nodes .ensures .1) in
+    (rw (seen (readAs s) (c .before .before .before .before .before .before .before .before .before .before .before .before .before .before .before .before .before .before .before .before .before .before .before .before .before .before .before .before .before .before .before .before .before .before .number .ensures .0) (c .before .before .before .before .before .before .before .before .before .before .before .before .before .before .before .before .before .before .before .before .before .before .before .before .before .before .before .before .before .before .before .before .count .given .1)) (call-walked source types w (a .call) inner xs (seen (walkedAs s (c .before .before .before .before .before .before .before .before .before .before .before .before .before .before .before .before .before .before .before .before .before .before .before .before .before .before .before .before .walk-arguments .last .1 .1 .1 .1 .1 .1 .1 .0) (c .before .before .before .before .before .before .before .before .before .before .before .before .before .before .before .before .before .before .before .before .before .before .before .before .before .before .before .before .walk-arguments .last .1 .1 .1 .1 .1 .1 .1 .1 .0)) (c .before .before .before .before .before .before .before .before .before .before .before .before .before .before .before .before .before .before .before .before .before .before .before .before .before .before .before .before .walk-arguments .ensures .0) (c .before .before .before .before .before .before .before .before .before .before .before .before .before .before .before .before .before .before .before .before .before .before .r3 .given .1)) (seen (readAs s) (c .before .before .before .before .before .before .before .before .before .before .before .before .before .before .before .before .before .before .before .before .number2 .ensures .0) (c .before .before .before .before .before .before .before .before .before .before .before .before .before .before .before .before .before .before .more .given .1)) (seen (walkedAs s (c .before .before .before .before .before .before .before .before .before .before .before .before .before .before .walk-nodes .last .1 .1 .1 .1 .1 .1 .1 .0) (c .before .before .before .before .before .before .before .before .before .before .before .before .before .before .walk-nodes .last .1 .1 .1 .1 .1 .1 .1 .1 .0)) (c .before .before .before .before .before .before .before .before .before .before .before .before .before .before .walk-nodes .ensures .0) (c .before .before .before .before .before .before .before .before .r6 .given .1)) (c .before .before .before .before .put-call-entry .ensures .0)), past)

@@ -12,25 +12,25 @@ use Rattle.dep.proofs.walk.+visit_call_expr+visit_ts_import_type+visit_
 use Rattle.dep.proofs.walk.+visit_call_expr+visit_ts_import_type+visit_ts_module_decl+walk_argument+walk_arguments+walk_attributes+walk_callee+walk_node+walk_nodes+walk_properties+walk_property+walk_rest.Proof.Calls.{walk-callee-at, walk-callee-calls}
 
 pub walk-nodes-requires : (t : ℕ) → walk-callee-lts.Need-walk-nodes-requires (walk-callee-calls t) (walk-callee-at t) walk-callee.Post
-walk-nodes-requires t c κs = let start = c .before .before .before .before .before .before in (omega arith, (start .pre .1 .0, start .pre .1 .1))
+walk-nodes-requires t c κs = let start = c .before .before .before .before .before .before .before .before in (omega arith, (start .pre .1 .0, start .pre .1 .1))
 
 pub visit-call-expr-requires : (t : ℕ) → walk-callee-lts.Need-visit-call-expr-requires (walk-callee-calls t) (walk-callee-at t) walk-callee.Post
-visit-call-expr-requires t c κs = (omega arith, c .before .before .before .before .before .before .before .before .before .before .before .before .before .pre .1 .0)
+visit-call-expr-requires t c κs = (omega arith, c .before .before .before .before .before .before .before .before .before .before .before .before .before .before .before .before .before .before .pre .1 .0)
 
 pub returns : (t : ℕ) → walk-callee-lts.Need-returns (walk-callee-calls t) (walk-callee-at t) walk-callee.Post
 returns t c =
-    let start = c .before .before .before .before .before .before .before .before .before .before .before .before in
-    let a = start .args in
-    let s = now (a .sheet) in
-    let source = now (a .source) in
-    let walked = c .before .before .before .before .before .walk-nodes in
-    (called-refused source (typesFrom source (now (a .tables)) (a .counts)) (a .levels) (a .span) s (a .head) (c .before .before .before .before .before .before .before .before .call-of .ensures) (entries-nil (now (a .out)) (a .place)) (start .pre .1 .2) (rw (c .before .before .before .before .before .before .before .callees .ensures) at (seen (walkedAs s (walked .last .1 .1 .1 .1 .1 .1 .1 .0)) (walked .ensures .0) (c .before .r .given .1))), tt)
-
-pub returns-2 : (t : ℕ) → walk-callee-lts.Need-returns-2 (walk-callee-calls t) (walk-callee-at t) walk-callee.Post
-returns-2 t c =
     let start = c .before .before .before .before .before .before .before .before .before .before .before .before .before .before .before .before in
     let a = start .args in
     let s = now (a .sheet) in
     let source = now (a .source) in
-    let walked = c .before .before .before .before .before .before .before .before .before .walk-nodes in
-    (c .before .before .visit-call-expr .ensures .0 ∙ called-holds source (typesFrom source (now (a .tables)) (a .counts)) (a .levels) (a .span) s (a .head) (c .before .before .before .before .before .before .before .before .before .before .before .before .call-of .ensures) (entries-nil (now (a .out)) (a .place)) (start .pre .1 .2) (rw (c .before .before .before .before .before .before .before .before .before .before .before .callees .ensures) at (seen (walkedAs s (walked .last .1 .1 .1 .1 .1 .1 .1 .0)) (walked .ensures .0) (c .before .before .before .before .before .place .given .1))), c .before .before .visit-call-expr .ensures .1)
+    let walked = c .before .before .before .before .before .before .before .walk-nodes in
+    (called-refused source (typesFrom source (now (a .tables)) (a .counts)) (a .levels) (a .span) s (a .head) (c .before .before .before .before .before .before .before .before .before .before .before .call-of .ensures) (entries-nil (now (a .out)) (now (a .notes)) (a .place)) (start .pre .1 .2) (rw (c .before .before .before .before .before .before .before .before .before .before .callees .ensures) at (seen (walkedAs s (walked .last .1 .1 .1 .1 .1 .1 .1 .0) (walked .last .1 .1 .1 .1 .1 .1 .1 .1 .0)) (walked .ensures .0) (c .before .r .given .1))), tt)
+
+pub returns-2 : (t : ℕ) → walk-callee-lts.Need-returns-2 (walk-callee-calls t) (walk-callee-at t) walk-callee.Post
+returns-2 t c =
+    let start = c .before .before .before .before .before .before .before .before .before .before .before .before .before .before .before .before .before .before .before .before .before .before .before in
+    let a = start .args in
+    let s = now (a .sheet) in
+    let source = now (a .source) in
+    let walked = c .before .before .before .before .before .before .before .before .before .before .before .before .before .before .walk-nodes in
+    (c .before .before .before .before .visit-call-expr .ensures .0 ∙ called-holds source (typesFrom source (now (a .tables)) (a .counts)) (a .levels) (a .span) s (a .head) (c .before .before .before .before .before .before .before .before .before .before .before .before .before .before .before .before .before .before .call-of .ensures) (entries-nil (now (a .out)) (now (a .notes)) (a .place)) (start .pre .1 .2) (rw (c .before .before .before .before .before .before .before .before .before .before .before .before .before .before .before .before .before .callees .ensures) at (seen (walkedAs s (walked .last .1 .1 .1 .1 .1 .1 .1 .0) (walked .last .1 .1 .1 .1 .1 .1 .1 .1 .0)) (walked .ensures .0) (c .before .before .before .before .before .before .before .before .place .given .1))), c .before .before .before .before .visit-call-expr .ensures .1)

@@ -60,119 +60,119 @@ use Rattle.dep.proofs.walk.visit_named_export.Reads as visit-named-expo
 use Rattle.dep.proofs.walk.visit_ts_import_equals_decl.Reads as visit-ts-import-equals-decl
 
 -- six for each level that is left; a member that calls another on the same level is above it
-abbrev pub μ-walk-argument : Measures 4 walk-argument-kinds.ps ℕ
+abbrev pub μ-walk-argument : Measures 5 walk-argument-kinds.ps ℕ
 μ-walk-argument κs a = 6 * (a .1 .1 .1 .0) + 1
 
-abbrev pub μ-walk-arguments : Measures 4 walk-arguments-kinds.ps ℕ
+abbrev pub μ-walk-arguments : Measures 5 walk-arguments-kinds.ps ℕ
 μ-walk-arguments κs a = 6 * (a .1 .1 .1 .1 .0) + 2
 
-abbrev pub μ-walk-attributes : Measures 4 walk-attributes-kinds.ps ℕ
+abbrev pub μ-walk-attributes : Measures 5 walk-attributes-kinds.ps ℕ
 μ-walk-attributes κs a = 6 * (a .1 .1 .1 .1 .0)
 
-abbrev pub μ-visit-call-expr : Measures 4 visit-call-expr-kinds.ps ℕ
+abbrev pub μ-visit-call-expr : Measures 5 visit-call-expr-kinds.ps ℕ
 μ-visit-call-expr κs a = 6 * (a .1 .1 .1 .0) + 3
 
-abbrev pub μ-walk-callee : Measures 4 walk-callee-kinds.ps ℕ
+abbrev pub μ-walk-callee : Measures 5 walk-callee-kinds.ps ℕ
 μ-walk-callee κs a = 6 * (a .1 .1 .1 .0) + 4
 
-abbrev pub μ-walk-node : Measures 4 walk-node-kinds.ps ℕ
+abbrev pub μ-walk-node : Measures 5 walk-node-kinds.ps ℕ
 μ-walk-node κs a = 6 * (a .1 .1 .1 .0)
 
-abbrev pub μ-walk-nodes : Measures 4 walk-nodes-kinds.ps ℕ
+abbrev pub μ-walk-nodes : Measures 5 walk-nodes-kinds.ps ℕ
 μ-walk-nodes κs a = 6 * (a .1 .1 .1 .1 .0) + 1
 
-abbrev pub μ-walk-properties : Measures 4 walk-properties-kinds.ps ℕ
+abbrev pub μ-walk-properties : Measures 5 walk-properties-kinds.ps ℕ
 μ-walk-properties κs a = 6 * (a .1 .1 .1 .1 .0) + 3
 
-abbrev pub μ-walk-property : Measures 4 walk-property-kinds.ps ℕ
+abbrev pub μ-walk-property : Measures 5 walk-property-kinds.ps ℕ
 μ-walk-property κs a = 6 * (a .1 .1 .1 .0) + 2
 
-abbrev pub μ-walk-rest : Measures 4 walk-rest-kinds.ps ℕ
+abbrev pub μ-walk-rest : Measures 5 walk-rest-kinds.ps ℕ
 μ-walk-rest κs a = 6 * (a .1 .1 .1 .0) + 5
 
-abbrev pub μ-visit-ts-import-type : Measures 4 visit-ts-import-type-kinds.ps ℕ
+abbrev pub μ-visit-ts-import-type : Measures 5 visit-ts-import-type-kinds.ps ℕ
 μ-visit-ts-import-type κs a = 6 * (a .1 .1 .1 .1 .0) + 2
 
-abbrev pub μ-visit-ts-module-decl : Measures 4 visit-ts-module-decl-kinds.ps ℕ
+abbrev pub μ-visit-ts-module-decl : Measures 5 visit-ts-module-decl-kinds.ps ℕ
 μ-visit-ts-module-decl κs a = 6 * (a .1 .1 .1 .1 .0) + 2
 
 -- what a member asks, where its measure is t, and where it is below t
-abbrev At : (ps : List (PK 4)) → Measures 4 ps ℕ → In 4 ps → ℕ → In 4 ps
+abbrev At : (ps : List (PK 5)) → Measures 5 ps ℕ → In 5 ps → ℕ → In 5 ps
 At ps μ pre t κs a = (μ κs a ≡ t) × pre κs a
 
-abbrev Below : (ps : List (PK 4)) → Measures 4 ps ℕ → In 4 ps → ℕ → In 4 ps
+abbrev Below : (ps : List (PK 5)) → Measures 5 ps ℕ → In 5 ps → ℕ → In 5 ps
 Below ps μ pre t κs a = (μ κs a < t) × pre κs a
 
-abbrev pub walk-argument-at : ℕ → In 4 walk-argument-kinds.ps
+abbrev pub walk-argument-at : ℕ → In 5 walk-argument-kinds.ps
 walk-argument-at = At walk-argument-kinds.ps μ-walk-argument walk-argument.Pre
 
-abbrev pub walk-argument-below : ℕ → In 4 walk-argument-kinds.ps
+abbrev pub walk-argument-below : ℕ → In 5 walk-argument-kinds.ps
 walk-argument-below = Below walk-argument-kinds.ps μ-walk-argument walk-argument.Pre
 
-abbrev pub walk-arguments-at : ℕ → In 4 walk-arguments-kinds.ps
+abbrev pub walk-arguments-at : ℕ → In 5 walk-arguments-kinds.ps
 walk-arguments-at = At walk-arguments-kinds.ps μ-walk-arguments walk-arguments.Pre
 
-abbrev pub walk-arguments-below : ℕ → In 4 walk-arguments-kinds.ps
+abbrev pub walk-arguments-below : ℕ → In 5 walk-arguments-kinds.ps
 walk-arguments-below = Below walk-arguments-kinds.ps μ-walk-arguments walk-arguments.Pre
 
-abbrev pub walk-attributes-at : ℕ → In 4 walk-attributes-kinds.ps
+abbrev pub walk-attributes-at : ℕ → In 5 walk-attributes-kinds.ps
 walk-attributes-at = At walk-attributes-kinds.ps μ-walk-attributes walk-attributes.Pre
 
-abbrev pub walk-attributes-below : ℕ → In 4 walk-attributes-kinds.ps
+abbrev pub walk-attributes-below : ℕ → In 5 walk-attributes-kinds.ps
 walk-attributes-below = Below walk-attributes-kinds.ps μ-walk-attributes walk-attributes.Pre
 
-abbrev pub visit-call-expr-at : ℕ → In 4 visit-call-expr-kinds.ps
+abbrev pub visit-call-expr-at : ℕ → In 5 visit-call-expr-kinds.ps
 visit-call-expr-at = At visit-call-expr-kinds.ps μ-visit-call-expr visit-call-expr.Pre
 
-abbrev pub visit-call-expr-below : ℕ → In 4 visit-call-expr-kinds.ps
+abbrev pub visit-call-expr-below : ℕ → In 5 visit-call-expr-kinds.ps
 visit-call-expr-below = Below visit-call-expr-kinds.ps μ-visit-call-expr visit-call-expr.Pre
 
-abbrev pub walk-callee-at : ℕ → In 4 walk-callee-kinds.ps
+abbrev pub walk-callee-at : ℕ → In 5 walk-callee-kinds.ps
 walk-callee-at = At walk-callee-kinds.ps μ-walk-callee walk-callee.Pre
 
-abbrev pub walk-callee-below : ℕ → In 4 walk-callee-kinds.ps
+abbrev pub walk-callee-below : ℕ → In 5 walk-callee-kinds.ps
 walk-callee-below = Below walk-callee-kinds.ps μ-walk-callee walk-callee.Pre
 
-abbrev pub walk-node-at : ℕ → In 4 walk-node-kinds.ps
+abbrev pub walk-node-at : ℕ → In 5 walk-node-kinds.ps
 walk-node-at = At walk-node-kinds.ps μ-walk-node walk-node.Pre
 
-abbrev pub walk-node-below : ℕ → In 4 walk-node-kinds.ps
+abbrev pub walk-node-below : ℕ → In 5 walk-node-kinds.ps
 walk-node-below = Below walk-node-kinds.ps μ-walk-node walk-node.Pre
 
-abbrev pub walk-nodes-at : ℕ → In 4 walk-nodes-kinds.ps
+abbrev pub walk-nodes-at : ℕ → In 5 walk-nodes-kinds.ps
 walk-nodes-at = At walk-nodes-kinds.ps μ-walk-nodes walk-nodes.Pre
 
-abbrev pub walk-nodes-below : ℕ → In 4 walk-nodes-kinds.ps
+abbrev pub walk-nodes-below : ℕ → In 5 walk-nodes-kinds.ps
 walk-nodes-below = Below walk-nodes-kinds.ps μ-walk-nodes walk-nodes.Pre
 
-abbrev pub walk-properties-at : ℕ → In 4 walk-properties-kinds.ps
+abbrev pub walk-properties-at : ℕ → In 5 walk-properties-kinds.ps
 walk-properties-at = At walk-properties-kinds.ps μ-walk-properties walk-properties.Pre
 
-abbrev pub walk-properties-below : ℕ → In 4 walk-properties-kinds.ps
+abbrev pub walk-properties-below : ℕ → In 5 walk-properties-kinds.ps
 walk-properties-below = Below walk-properties-kinds.ps μ-walk-properties walk-properties.Pre
 
-abbrev pub walk-property-at : ℕ → In 4 walk-property-kinds.ps
+abbrev pub walk-property-at : ℕ → In 5 walk-property-kinds.ps
 walk-property-at = At walk-property-kinds.ps μ-walk-property walk-property.Pre
 
-abbrev pub walk-property-below : ℕ → In 4 walk-property-kinds.ps
+abbrev pub walk-property-below : ℕ → In 5 walk-property-kinds.ps
 walk-property-below = Below walk-property-kinds.ps μ-walk-property walk-property.Pre
 
-abbrev pub walk-rest-at : ℕ → In 4 walk-rest-kinds.ps
+abbrev pub walk-rest-at : ℕ → In 5 walk-rest-kinds.ps
 walk-rest-at = At walk-rest-kinds.ps μ-walk-rest walk-rest.Pre
 
-abbrev pub walk-rest-below : ℕ → In 4 walk-rest-kinds.ps
+abbrev pub walk-rest-below : ℕ → In 5 walk-rest-kinds.ps
 walk-rest-below = Below walk-rest-kinds.ps μ-walk-rest walk-rest.Pre
 
-abbrev pub visit-ts-import-type-at : ℕ → In 4 visit-ts-import-type-kinds.ps
+abbrev pub visit-ts-import-type-at : ℕ → In 5 visit-ts-import-type-kinds.ps
 visit-ts-import-type-at = At visit-ts-import-type-kinds.ps μ-visit-ts-import-type visit-ts-import-type.Pre
 
-abbrev pub visit-ts-import-type-below : ℕ → In 4 visit-ts-import-type-kinds.ps
+abbrev pub visit-ts-import-type-below : ℕ → In 5 visit-ts-import-type-kinds.ps
 visit-ts-import-type-below = Below visit-ts-import-type-kinds.ps μ-visit-ts-import-type visit-ts-import-type.Pre
 
-abbrev pub visit-ts-module-decl-at : ℕ → In 4 visit-ts-module-decl-kinds.ps
+abbrev pub visit-ts-module-decl-at : ℕ → In 5 visit-ts-module-decl-kinds.ps
 visit-ts-module-decl-at = At visit-ts-module-decl-kinds.ps μ-visit-ts-module-decl visit-ts-module-decl.Pre
 
-abbrev pub visit-ts-module-decl-below : ℕ → In 4 visit-ts-module-decl-kinds.ps
+abbrev pub visit-ts-module-decl-below : ℕ → In 5 visit-ts-module-decl-kinds.ps
 visit-ts-module-decl-below = Below visit-ts-module-decl-kinds.ps μ-visit-ts-module-decl visit-ts-module-decl.Pre
 
 -- what the callees of a member ask and give, where its measure is t

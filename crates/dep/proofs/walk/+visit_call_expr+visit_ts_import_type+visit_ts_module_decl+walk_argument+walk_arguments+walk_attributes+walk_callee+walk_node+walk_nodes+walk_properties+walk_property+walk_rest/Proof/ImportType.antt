@@ -16,34 +16,33 @@ use Rattle.nodes.specs.code.Judged.{tallyAll}
 use Rattle.nodes.specs.code.Answers.{talliedAs}
 use Rattle.nodes.proofs.Arms.{pair}
 use Rattle.report.specs.declared.names.StaticDependencyKind.the-variants as statics
-use Rattle.report.specs.Buffer.{bufferAs}
 use Rattle.dep.specs.declared.entries.StaticDependencyDescriptor.{StaticDependencyDescriptor}
-use Rattle.dep.specs.code.Walk.{typesFrom, walkedAs, afterNode, afterNodes}
+use Rattle.dep.specs.code.Walk.{typesFrom, writtenAs, walkedAs, afterNode, afterNodes}
 use Rattle.dep.proofs.Arms.{typed-walked, typed-holds}
 use Rattle.dep.proofs.walk.visit_ts_import_type.Reads as visit-ts-import-type
 use Rattle.dep.proofs.walk.+visit_call_expr+visit_ts_import_type+visit_ts_module_decl+walk_argument+walk_arguments+walk_attributes+walk_callee+walk_node+walk_nodes+walk_properties+walk_property+walk_rest.Lts-visit_ts_import_type as visit-ts-import-type-lts
 use Rattle.dep.proofs.walk.+visit_call_expr+visit_ts_import_type+visit_ts_module_decl+walk_argument+walk_arguments+walk_attributes+walk_callee+walk_node+walk_nodes+walk_properties+walk_property+walk_rest.Proof.Calls.{visit-ts-import-type-at, visit-ts-import-type-calls}
 
 pub put-with-entry-requires : (t : ℕ) → visit-ts-import-type-lts.Need-put-with-entry-requires (visit-ts-import-type-calls t) (visit-ts-import-type-at t) visit-ts-import-type.Post
-put-with-entry-requires t c κs = (c .before .before .before .before .before .before .before .before .before .before .before .before .pre .1 .0, c .before .before .before .before .before .before .before .before .before .before .before .before .pre .1 .1)
+put-with-entry-requires t c κs = (c .before .before .before .before .before .before .before .before .before .before .before .before .before .before .pre .1 .0, c .before .before .before .before .before .before .before .before .before .before .before .before .before .before .pre .1 .1)
 
 pub walk-nodes-requires : (t : ℕ) → visit-ts-import-type-lts.Need-walk-nodes-requires (visit-ts-import-type-calls t) (visit-ts-import-type-at t) visit-ts-import-type.Post
 walk-nodes-requires t c κs =
-    let is : 6 * (c .before .before .before .before .before .before .before .before .before .before .before .before .before .before .before .before .args .levels) + 2 ≡ t = c .before .before .before .before .before .before .before .before .before .before .before .before .before .before .before .before .pre .0 in
-    let less : 6 * (c .before .before .before .before .before .before .before .before .before .before .before .before .before .before .before .before .args .levels) + 1 < t = omega (arith, is) in
-    (less, (c .before .before .before .before .before .before .before .before .before .before .before .before .before .before .before .before .pre .1 .0, c .before .before .before .before .before .before .before .before .before .before .before .before .before .before .before .before .pre .1 .2))
+    let is : 6 * (c .before .before .before .before .before .before .before .before .before .before .before .before .before .before .before .before .before .before .before .before .before .args .levels) + 2 ≡ t = c .before .before .before .before .before .before .before .before .before .before .before .before .before .before .before .before .before .before .before .before .before .pre .0 in
+    let less : 6 * (c .before .before .before .before .before .before .before .before .before .before .before .before .before .before .before .before .before .before .before .before .before .args .levels) + 1 < t = omega (arith, is) in
+    (less, (c .before .before .before .before .before .before .before .before .before .before .before .before .before .before .before .before .before .before .before .before .before .pre .1 .0, c .before .before .before .before .before .before .before .before .before .before .before .before .before .before .before .before .before .before .before .before .before .pre .1 .2))
 
 pub walk-attributes-requires : (t : ℕ) → visit-ts-import-type-lts.Need-walk-attributes-requires (visit-ts-import-type-calls t) (visit-ts-import-type-at t) visit-ts-import-type.Post
 walk-attributes-requires t c κs =
-    let past = rw (c .before .before .before .before .before .before .before .before .before .before .before .before .before .there .given .1) at (c .before .before .before .before .before .before .before .before .before .before .before .before .before .before .before .flag .ensures .1) in
-    let is : 6 * (c .before .before .before .before .before .before .before .before .before .before .before .before .before .before .before .before .before .before .before .before .before .before .before .args .levels) + 2 ≡ t = c .before .before .before .before .before .before .before .before .before .before .before .before .before .before .before .before .before .before .before .before .before .before .before .pre .0 in
-    let less : 6 * (c .before .before .before .before .before .before .before .before .before .before .before .before .before .before .before .before .before .before .before .before .before .before .before .args .levels) < t = omega (arith, is) in
-    (less, (c .before .before .before .before .before .before .before .before .before .before .before .before .before .before .before .before .before .before .before .before .before .before .before .pre .1 .0, past .1))
+    let past = rw (c .before .before .before .before .before .before .before .before .before .before .before .before .before .before .before .before .before .before .before .before .there .given .1) at (c .before .before .before .before .before .before .before .before .before .before .before .before .before .before .before .before .before .before .before .before .before .before .flag .ensures .1) in
+    let is : 6 * (c .before .before .before .before .before .before .before .before .before .before .before .before .before .before .before .before .before .before .before .before .before .before .before .before .before .before .before .before .before .before .before .args .levels) + 2 ≡ t = c .before .before .before .before .before .before .before .before .before .before .before .before .before .before .before .before .before .before .before .before .before .before .before .before .before .before .before .before .before .before .before .pre .0 in
+    let less : 6 * (c .before .before .before .before .before .before .before .before .before .before .before .before .before .before .before .before .before .before .before .before .before .before .before .before .before .before .before .before .before .before .before .args .levels) < t = omega (arith, is) in
+    (less, (c .before .before .before .before .before .before .before .before .before .before .before .before .before .before .before .before .before .before .before .before .before .before .before .before .before .before .before .before .before .before .before .pre .1 .0, past .1))
 
 pub returns : (t : ℕ) → visit-ts-import-type-lts.Need-returns (visit-ts-import-type-calls t) (visit-ts-import-type-at t) visit-ts-import-type.Post
 unfolding typeRest
 returns t c =
-    let a = c .before .before .before .before .before .before .before .args in
+    let a = c .before .before .before .before .before .before .before .before .args in
     let s = now (a .sheet) in
     let source = now (a .source) in
     let inner = node source (a .levels) in
@@ -53,11 +52,11 @@ returns t c =
 pub returns-2 : (t : ℕ) → visit-ts-import-type-lts.Need-returns-2 (visit-ts-import-type-calls t) (visit-ts-import-type-at t) visit-ts-import-type.Post
 unfolding typeRest attributes
 returns-2 t c =
-    let a = c .before .before .before .before .before .before .before .before .before .before .before .args in
+    let a = c .before .before .before .before .before .before .before .before .before .before .before .before .args in
     let s = now (a .sheet) in
     let source = now (a .source) in
     let types = typesFrom source (now (a .tables)) (a .counts) in
-    let w = bufferAs (now (a .out)) (a .place) in
+    let w = writtenAs (now (a .out)) (now (a .notes)) (a .place) in
     let inner = node source (a .levels) in
     let ns = nodes inner (a .count) (drop (a .cursor .at) s) in
     let object′ = attributesObject source (a .levels) in
@@ -68,28 +67,31 @@ returns-2 t c =
 pub returns-3 : (t : ℕ) → visit-ts-import-type-lts.Need-returns-3 (visit-ts-import-type-calls t) (visit-ts-import-type-at t) visit-ts-import-type.Post
 unfolding typeRest
 returns-3 t c =
-    let a = c .before .before .before .before .before .before .before .before .before .before .before .before .before .before .before .before .before .before .before .before .before .before .args in
+    let a = c .before .before .before .before .before .before .before .before .before .before .before .before .before .before .before .before .before .before .before .before .before .before .before .before .before .before .before .before .before .args in
     let s = now (a .sheet) in
     let source = now (a .source) in
     let types = typesFrom source (now (a .tables)) (a .counts) in
     let inner = node source (a .levels) in
     let ns = nodes inner (a .count) (drop (a .cursor .at) s) in
-    let w1 = bufferAs (c .before .before .before .before .before .before .before .before .before .put-with-entry .last .1 .1 .1 .1 .1 .1 .1 .1 .0) (c .before .before .before .before .before .before .before .before .before .put-with-entry .result) in
-    (rw (onOk-no (afterNodes source types w1) ns (seen (walkedAs s (c .before .before .before .before .before .walk-nodes .last .1 .1 .1 .1 .1 .1 .1 .0)) (c .before .before .before .before .before .walk-nodes .ensures .0) (c .before .r3 .given .1))), tt)
+    let w1 = writtenAs (c .before .before .before .before .before .before .before .before .before .before .before .before .before .before .put-with-entry .last .1 .1 .1 .1 .1 .1 .1 .1 .0) (c .before .before .before .before .before .before .before .before .before .before .before .before .before .before .put-with-entry .last .1 .1 .1 .1 .1 .1 .1 .1 .1 .0) (c .before .before .before .before .before .before .before .before .before .before .before .before .before .before .put-with-entry .result) in
+    (rw (onOk-no (afterNodes source types w1) ns (seen (walkedAs s (c .before .before .before .before .before .before .before .walk-nodes .last .1 .1 .1 .1 .1 .1 .1 .0) (c .before .before .before .before .before .before .before .walk-nodes .last .1 .1 .1 .1 .1 .1 .1 .1 .0)) (c .before .before .before .before .before .before .before .walk-nodes .ensures .0) (c .before .r3 .given .1))), tt)
 
-pub same-length-2 : (t : ℕ) → visit-ts-import-type-lts.Need-same-length-2 (visit-ts-import-type-calls t) (visit-ts-import-type-at t) visit-ts-import-type.Post
-same-length-2 t c = c .before .before .walk-attributes .kept .1 .1 .1 .1 .1 .1 .1 .0 ∙ (c .before .before .before .before .before .before .before .before .before .walk-nodes .kept .1 .1 .1 .1 .1 .1 .1 .0 ∙ c .before .before .before .before .before .before .before .before .before .before .before .before .before .put-with-entry .kept .1 .1 .1 .1 .1 .1 .1 .1 .0)
+pub same-length-3 : (t : ℕ) → visit-ts-import-type-lts.Need-same-length-3 (visit-ts-import-type-calls t) (visit-ts-import-type-at t) visit-ts-import-type.Post
+same-length-3 t c = c .before .before .before .before .walk-attributes .kept .1 .1 .1 .1 .1 .1 .1 .0 ∙ (c .before .before .before .before .before .before .before .before .before .before .before .before .before .before .walk-nodes .kept .1 .1 .1 .1 .1 .1 .1 .0 ∙ c .before .before .before .before .before .before .before .before .before .before .before .before .before .before .before .before .before .before .before .before .before .put-with-entry .kept .1 .1 .1 .1 .1 .1 .1 .1 .0)
+
+pub same-length-4 : (t : ℕ) → visit-ts-import-type-lts.Need-same-length-4 (visit-ts-import-type-calls t) (visit-ts-import-type-at t) visit-ts-import-type.Post
+same-length-4 t c = c .before .before .before .before .walk-attributes .kept .1 .1 .1 .1 .1 .1 .1 .1 .0 ∙ (c .before .before .before .before .before .before .before .before .before .before .before .before .before .before .walk-nodes .kept .1 .1 .1 .1 .1 .1 .1 .1 .0 ∙ c .before .before .before .before .before .before .before .before .before .before .before .before .before .before .before .before .before .before .before .before .before .put-with-entry .kept .1 .1 .1 .1 .1 .1 .1 .1 .1 .0)
 
 pub returns-4 : (t : ℕ) → visit-ts-import-type-lts.Need-returns-4 (visit-ts-import-type-calls t) (visit-ts-import-type-at t) visit-ts-import-type.Post
 unfolding typeRest
 returns-4 t c =
-    let a = c .before .before .before .before .before .before .before .before .before .before .before .before .before .before .before .before .before .before .before .before .before .before .before .before .before .before .args in
+    let a = c .before .before .before .before .before .before .before .before .before .before .before .before .before .before .before .before .before .before .before .before .before .before .before .before .before .before .before .before .before .before .before .before .before .before .before .before .args in
     let s = now (a .sheet) in
     let source = now (a .source) in
     let types = typesFrom source (now (a .tables)) (a .counts) in
-    let w = bufferAs (now (a .out)) (a .place) in
+    let w = writtenAs (now (a .out)) (now (a .notes)) (a .place) in
     let inner = node source (a .levels) in
     let ns = nodes inner (a .count) (drop (a .cursor .at) s) in
     let object′ = attributesObject source (a .levels) in
     let d : StaticDependencyDescriptor = record { kind = statics.ImportType; span = a .span; specifier = a .specifier; «is_side_effect» = false } in
-    (c .before .before .walk-attributes .ensures .0 ∙ typed-walked source types w s d object′ ns (seen (talliedAs s) (c .before .before .before .before .before .before .before .before .before .before .before .before .before .before .before .before .before .before .before .before .before .before .check-nodes .ensures .0) (c .before .before .before .before .before .before .before .before .before .before .before .before .before .before .before .before .before .before .before .before .next .given .1)) (seen (flagAs s) (c .before .before .before .before .before .before .before .before .before .before .before .before .before .before .before .before .before .before .flag .ensures .0) (c .before .before .before .before .before .before .before .before .before .before .before .before .before .before .before .before .there .given .1)) (c .before .before .before .before .before .before .before .before .before .before .before .before .before .put-with-entry .ensures .0) (seen (walkedAs s (c .before .before .before .before .before .before .before .before .before .walk-nodes .last .1 .1 .1 .1 .1 .1 .1 .0)) (c .before .before .before .before .before .before .before .before .before .walk-nodes .ensures .0) (c .before .before .before .before .before .place .given .1)) ∙ typed-holds source types w s (a .span) (a .specifier) (typeRest inner object′ (a .count) (drop (a .cursor .at) s)), c .before .before .walk-attributes .ensures .1)
+    (c .before .before .before .before .walk-attributes .ensures .0 ∙ typed-walked source types w s d object′ ns (seen (talliedAs s) (c .before .before .before .before .before .before .before .before .before .before .before .before .before .before .before .before .before .before .before .before .before .before .before .before .before .before .before .before .before .before .before .check-nodes .ensures .0) (c .before .before .before .before .before .before .before .before .before .before .before .before .before .before .before .before .before .before .before .before .before .before .before .before .before .before .before .before .before .next .given .1)) (seen (flagAs s) (c .before .before .before .before .before .before .before .before .before .before .before .before .before .before .before .before .before .before .before .before .before .before .before .before .before .before .before .flag .ensures .0) (c .before .before .before .before .before .before .before .before .before .before .before .before .before .before .before .before .before .before .before .before .before .before .before .before .before .there .given .1)) (c .before .before .before .before .before .before .before .before .before .before .before .before .before .before .before .before .before .before .before .before .before .put-with-entry .ensures .0) (seen (walkedAs s (c .before .before .before .before .before .before .before .before .before .before .before .before .before .before .walk-nodes .last .1 .1 .1 .1 .1 .1 .1 .0) (c .before .before .before .before .before .before .before .before .before .before .before .before .before .before .walk-nodes .last .1 .1 .1 .1 .1 .1 .1 .1 .0)) (c .before .before .before .before .before .before .before .before .before .before .before .before .before .before .walk-nodes .ensures .0) (c .before .before .before .before .before .before .before .before .place .given .1)) ∙ typed-holds source types w s (a .span) (a .specifier) (typeRest inner object′ (a .count) (drop (a .cursor .at) s)), c .before .before .before .before .walk-attributes .ensures .1)

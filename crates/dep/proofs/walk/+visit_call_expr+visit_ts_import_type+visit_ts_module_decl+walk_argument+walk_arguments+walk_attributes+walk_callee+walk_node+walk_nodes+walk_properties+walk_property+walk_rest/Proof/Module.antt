@@ -6,8 +6,7 @@ use lib.ListN.{drop}
 use denote.Ref.{now}
 use Rattle.sheet.specs.Nodes.{node, nodes}
 use Rattle.heads.specs.code.Views.{quotedOf}
-use Rattle.report.specs.Buffer.{bufferAs}
-use Rattle.dep.specs.code.Walk.{typesFrom}
+use Rattle.dep.specs.code.Walk.{typesFrom, writtenAs}
 use Rattle.dep.proofs.Arms.{module-holds}
 use Rattle.dep.proofs.walk.visit_ts_module_decl.Reads as visit-ts-module-decl
 use Rattle.dep.proofs.walk.+visit_call_expr+visit_ts_import_type+visit_ts_module_decl+walk_argument+walk_arguments+walk_attributes+walk_callee+walk_node+walk_nodes+walk_properties+walk_property+walk_rest.Lts-visit_ts_module_decl as visit-ts-module-decl-lts
@@ -15,10 +14,10 @@ use Rattle.dep.proofs.walk.+visit_call_expr+visit_ts_import_type+visit_
 
 pub returns : (t : ℕ) → visit-ts-module-decl-lts.Need-returns (visit-ts-module-decl-calls t) (visit-ts-module-decl-at t) visit-ts-module-decl.Post
 returns t c =
-    let a = c .before .before .before .before .before .before .before .before .before .before .before .args in
+    let a = c .before .before .before .before .before .before .before .before .before .before .before .before .before .before .before .before .before .before .args in
     let s = now (a .sheet) in
     let source = now (a .source) in
     let types = typesFrom source (now (a .tables)) (a .counts) in
-    let w = bufferAs (now (a .out)) (a .place) in
+    let w = writtenAs (now (a .out)) (now (a .notes)) (a .place) in
     let x = nodes (node source (a .levels)) (a .count) (drop (a .cursor .at) s) in
-    (c .before .before .walk-nodes .ensures .0 ∙ module-holds source types w (a .span) (Option.some (quotedOf s (a .specifier))) (c .before .before .before .before .before .before .put-module-entry .ensures) x, c .before .before .walk-nodes .ensures .1)
+    (c .before .before .before .before .walk-nodes .ensures .0 ∙ module-holds source types w (a .span) (Option.some (quotedOf s (a .specifier))) (c .before .before .before .before .before .before .before .before .before .before .before .put-module-entry .ensures) x, c .before .before .before .before .walk-nodes .ensures .1)

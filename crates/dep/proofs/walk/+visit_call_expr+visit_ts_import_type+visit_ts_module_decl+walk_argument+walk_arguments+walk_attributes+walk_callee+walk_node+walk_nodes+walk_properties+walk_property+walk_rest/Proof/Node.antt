@@ -16,22 +16,22 @@ sub-walk-rest t c = (rw (c .before .span .given .1) at (c .before .before .befor
 
 pub walk-rest-requires : (t : ℕ) → walk-node-lts.Need-walk-rest-requires (walk-node-calls t) (walk-node-at t) walk-node.Post
 walk-rest-requires t c κs =
-    let a = c .before .before .before .before .before .before .before .before .args in
+    let a = c .before .before .before .before .before .before .before .before .before .before .args in
     let s = now (a .sheet) in
     let source = now (a .source) in
-    let past = rw (c .before .before .span .given .1) at (c .before .before .before .before .read-head .ensures .1) in
-    (omega arith, (c .before .before .before .before .before .before .before .before .pre .1, (past .2, past .3, head-spanned source (a .levels) (drop (a .cursor .at) s) (seen (headAs s) (c .before .before .before .before .read-head .ensures .0) (c .before .before .span .given .1)))))
+    let past = rw (c .before .before .before .span .given .1) at (c .before .before .before .before .before .read-head .ensures .1) in
+    (omega arith, (c .before .before .before .before .before .before .before .before .before .before .pre .1, (past .2, past .3, head-spanned source (a .levels) (drop (a .cursor .at) s) (seen (headAs s) (c .before .before .before .before .before .read-head .ensures .0) (c .before .before .before .span .given .1)))))
 
 pub returns : (t : ℕ) → walk-node-lts.Need-returns (walk-node-calls t) (walk-node-at t) walk-node.Post
 returns t c =
-    let a = c .before .before .before .before .before .before .before .args in
+    let a = c .before .before .before .before .before .before .before .before .args in
     let s = now (a .sheet) in
     let source = now (a .source) in
     (rw (node-by-head source (a .levels) (drop (a .cursor .at) s), seen (headAs s) (c .before .before .before .read-head .ensures .0) (c .before .r .given .1)), tt)
 
 pub returns-2 : (t : ℕ) → walk-node-lts.Need-returns-2 (walk-node-calls t) (walk-node-at t) walk-node.Post
 returns-2 t c =
-    let a = c .before .before .before .before .before .before .before .before .before .before .before .args in
+    let a = c .before .before .before .before .before .before .before .before .before .before .before .before .before .before .before .args in
     let s = now (a .sheet) in
     let source = now (a .source) in
-    (rw (node-by-head source (a .levels) (drop (a .cursor .at) s), seen (headAs s) (c .before .before .before .before .before .before .before .read-head .ensures .0) (c .before .before .before .before .before .span .given .1)) (c .before .before .walk-rest .ensures .0), c .before .before .walk-rest .ensures .1)
+    (rw (node-by-head source (a .levels) (drop (a .cursor .at) s), seen (headAs s) (c .before .before .before .before .before .before .before .before .before .before .read-head .ensures .0) (c .before .before .before .before .before .before .before .before .span .given .1)) (c .before .before .before .before .walk-rest .ensures .0), c .before .before .before .before .walk-rest .ensures .1)

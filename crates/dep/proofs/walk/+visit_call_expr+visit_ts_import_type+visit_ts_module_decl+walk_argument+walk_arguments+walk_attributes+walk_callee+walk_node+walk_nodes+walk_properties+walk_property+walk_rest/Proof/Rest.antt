@@ -12,9 +12,8 @@ use Rattle.wire.specs.code.Views.{flagAs}
 use Rattle.sheet.specs.Tree.{other, object}
 use Rattle.sheet.specs.Shape.{anyUncooked}
 use Rattle.sheet.specs.Nodes.{many, piece, node, nodes, properties}
-use Rattle.report.specs.Buffer.{bufferAs}
-use Rattle.dep.specs.Collect.{moduleEntry, collector}
-use Rattle.dep.specs.code.Walk.{typesFrom, afterNode, afterNodes, afterProperties}
+use Rattle.dep.specs.Collect.{moduleEntry, noting}
+use Rattle.dep.specs.code.Walk.{typesFrom, writtenAs, afterNode, afterNodes, afterProperties}
 use Rattle.dep.proofs.Wrote.{entries-nil}
 use Rattle.dep.proofs.Arms.{leaf-holds, template-holds, binary-holds, module-holds, calls}
 use Rattle.dep.proofs.walk.walk_rest.Reads as walk-rest
@@ -23,60 +22,60 @@ use Rattle.dep.proofs.walk.+visit_call_expr+visit_ts_import_type+visit_
 
 pub add-read-pieces : (t : ℕ) → walk-rest-lts.Need-add-read-pieces (walk-rest-calls t) (walk-rest-at t) walk-rest.Post
 add-read-pieces t c =
-    let w = rw (c .before .head2 .given .1) at (c .before .before .before .before .before .before .pre .1 .1 .1) in
+    let w = rw (c .before .head2 .given .1) at (c .before .before .before .before .before .before .before .pre .1 .1 .1) in
     omega arith
 
 pub walk-nodes-requires-2 : (t : ℕ) → walk-rest-lts.Need-walk-nodes-requires-2 (walk-rest-calls t) (walk-rest-at t) walk-rest.Post
 walk-nodes-requires-2 t c κs =
-    let past = rw (c .before .before .next .given .1) at (c .before .before .before .before .read-pieces .ensures .1) in
-    (omega arith, (c .before .before .before .before .before .before .before .before .before .before .before .pre .1 .0, past .1))
+    let past = rw (c .before .before .before .next .given .1) at (c .before .before .before .before .before .read-pieces .ensures .1) in
+    (omega arith, (c .before .before .before .before .before .before .before .before .before .before .before .before .before .pre .1 .0, past .1))
 
 pub walk-callee-requires : (t : ℕ) → walk-rest-lts.Need-walk-callee-requires (walk-rest-calls t) (walk-rest-at t) walk-rest.Post
 walk-callee-requires t c κs =
-    let start = c .before .before .before .before .before in
-    (omega arith, (start .pre .1 .0, start .pre .1 .1 .0, calls (start .args .head) (c .before .match .keys6)))
+    let start = c .before .before .before .before .before .before .before in
+    (omega arith, (start .pre .1 .0, start .pre .1 .1 .0, calls (start .args .head) (c .before .before .match .keys6)))
 
 pub visit-import-decl-requires : (t : ℕ) → walk-rest-lts.Need-visit-import-decl-requires (walk-rest-calls t) (walk-rest-at t) walk-rest.Post
-visit-import-decl-requires t c κs = (c .before .before .before .before .before .before .before .pre .1 .0, (rw (c .before .before .head4 .given .1) at (c .before .before .before .before .before .before .before .pre .1 .1 .1), rw (c .before .before .head4 .given .1) at (c .before .before .before .before .before .before .before .pre .1 .1 .2)), c .before .before .before .before .before .before .before .pre .1 .1 .0)
+visit-import-decl-requires t c κs = (c .before .before .before .before .before .before .before .before .before .pre .1 .0, (rw (c .before .before .before .head4 .given .1) at (c .before .before .before .before .before .before .before .before .before .pre .1 .1 .1), rw (c .before .before .before .head4 .given .1) at (c .before .before .before .before .before .before .before .before .before .pre .1 .1 .2)), c .before .before .before .before .before .before .before .before .before .pre .1 .1 .0)
 
 pub visit-named-export-requires : (t : ℕ) → walk-rest-lts.Need-visit-named-export-requires (walk-rest-calls t) (walk-rest-at t) walk-rest.Post
-visit-named-export-requires t c κs = (c .before .before .before .before .before .before .before .pre .1 .0, (rw (c .before .before .head5 .given .1) at (c .before .before .before .before .before .before .before .pre .1 .1 .1), rw (c .before .before .head5 .given .1) at (c .before .before .before .before .before .before .before .pre .1 .1 .2)), c .before .before .before .before .before .before .before .pre .1 .1 .0)
+visit-named-export-requires t c κs = (c .before .before .before .before .before .before .before .before .before .pre .1 .0, (rw (c .before .before .before .head5 .given .1) at (c .before .before .before .before .before .before .before .before .before .pre .1 .1 .1), rw (c .before .before .before .head5 .given .1) at (c .before .before .before .before .before .before .before .before .before .pre .1 .1 .2)), c .before .before .before .before .before .before .before .before .before .pre .1 .1 .0)
 
 pub visit-export-all-requires : (t : ℕ) → walk-rest-lts.Need-visit-export-all-requires (walk-rest-calls t) (walk-rest-at t) walk-rest.Post
-visit-export-all-requires t c κs = (c .before .before .before .before .before .before .before .pre .1 .0, (rw (c .before .before .head6 .given .1) at (c .before .before .before .before .before .before .before .pre .1 .1 .1), rw (c .before .before .head6 .given .1) at (c .before .before .before .before .before .before .before .pre .1 .1 .2)), c .before .before .before .before .before .before .before .pre .1 .1 .0)
+visit-export-all-requires t c κs = (c .before .before .before .before .before .before .before .before .before .pre .1 .0, (rw (c .before .before .before .head6 .given .1) at (c .before .before .before .before .before .before .before .before .before .pre .1 .1 .1), rw (c .before .before .before .head6 .given .1) at (c .before .before .before .before .before .before .before .before .before .pre .1 .1 .2)), c .before .before .before .before .before .before .before .before .before .pre .1 .1 .0)
 
 pub visit-ts-import-type-requires : (t : ℕ) → walk-rest-lts.Need-visit-ts-import-type-requires (walk-rest-calls t) (walk-rest-at t) walk-rest.Post
-visit-ts-import-type-requires t c κs = (omega arith, (c .before .before .before .before .before .before .before .pre .1 .0, (rw (c .before .before .head7 .given .1) at (c .before .before .before .before .before .before .before .pre .1 .1 .1), rw (c .before .before .head7 .given .1) at (c .before .before .before .before .before .before .before .pre .1 .1 .2)), c .before .before .before .before .before .before .before .pre .1 .1 .0))
+visit-ts-import-type-requires t c κs = (omega arith, (c .before .before .before .before .before .before .before .before .before .pre .1 .0, (rw (c .before .before .before .head7 .given .1) at (c .before .before .before .before .before .before .before .before .before .pre .1 .1 .1), rw (c .before .before .before .head7 .given .1) at (c .before .before .before .before .before .before .before .before .before .pre .1 .1 .2)), c .before .before .before .before .before .before .before .before .before .pre .1 .1 .0))
 
 pub visit-ts-import-equals-decl-requires : (t : ℕ) → walk-rest-lts.Need-visit-ts-import-equals-decl-requires (walk-rest-calls t) (walk-rest-at t) walk-rest.Post
-visit-ts-import-equals-decl-requires t c κs = (c .before .before .before .before .before .before .before .pre .1 .0, (rw (c .before .before .head8 .given .1) at (c .before .before .before .before .before .before .before .pre .1 .1 .1), rw (c .before .before .head8 .given .1) at (c .before .before .before .before .before .before .before .pre .1 .1 .2)), c .before .before .before .before .before .before .before .pre .1 .1 .0)
+visit-ts-import-equals-decl-requires t c κs = (c .before .before .before .before .before .before .before .before .before .pre .1 .0, (rw (c .before .before .before .head8 .given .1) at (c .before .before .before .before .before .before .before .before .before .pre .1 .1 .1), rw (c .before .before .before .head8 .given .1) at (c .before .before .before .before .before .before .before .before .before .pre .1 .1 .2)), c .before .before .before .before .before .before .before .before .before .pre .1 .1 .0)
 
 pub visit-ts-module-decl-requires : (t : ℕ) → walk-rest-lts.Need-visit-ts-module-decl-requires (walk-rest-calls t) (walk-rest-at t) walk-rest.Post
-visit-ts-module-decl-requires t c κs = (omega arith, (c .before .before .before .before .before .before .before .pre .1 .0, (rw (c .before .before .head10 .given .1) at (c .before .before .before .before .before .before .before .pre .1 .1 .1), rw (c .before .before .head10 .given .1) at (c .before .before .before .before .before .before .before .pre .1 .1 .2)), c .before .before .before .before .before .before .before .pre .1 .1 .0))
+visit-ts-module-decl-requires t c κs = (omega arith, (c .before .before .before .before .before .before .before .before .before .pre .1 .0, (rw (c .before .before .before .head10 .given .1) at (c .before .before .before .before .before .before .before .before .before .pre .1 .1 .1), rw (c .before .before .before .head10 .given .1) at (c .before .before .before .before .before .before .before .before .before .pre .1 .1 .2)), c .before .before .before .before .before .before .before .before .before .pre .1 .1 .0))
 
 pub returns : (t : ℕ) → walk-rest-lts.Need-returns (walk-rest-calls t) (walk-rest-at t) walk-rest.Post
-unfolding collector
+unfolding noting
 returns t c =
-    let a = c .before .before .before .before .before .before .before .before .before .before .args in
+    let a = c .before .before .before .before .before .before .before .before .before .before .before .before .before .before .args in
     let s = now (a .sheet) in
     let source = now (a .source) in
     let types = typesFrom source (now (a .tables)) (a .counts) in
-    let w = bufferAs (now (a .out)) (a .place) in
+    let w = writtenAs (now (a .out)) (now (a .notes)) (a .place) in
     let inner = node source (a .levels) in
     let u = drop (a .cursor .at) s in
-    (rw (c .before .before .before .before .before .head .given .1) (c .before .before .walk-nodes .ensures .0 ∙ built (afterNodes source types w) (afterNode source types w) (other (a .span)) (λ ns. refl) (nodes inner (c .before .before .before .before .before .head .given .0 .0) u)), c .before .before .walk-nodes .ensures .1)
+    (rw (c .before .before .before .before .before .before .before .before .head .given .1) (c .before .before .before .before .walk-nodes .ensures .0 ∙ built (afterNodes source types w) (afterNode source types w) (other (a .span)) (λ ns. refl) (nodes inner (c .before .before .before .before .before .before .before .before .head .given .0 .0) u)), c .before .before .before .before .walk-nodes .ensures .1)
 
 pub returns-2 : (t : ℕ) → walk-rest-lts.Need-returns-2 (walk-rest-calls t) (walk-rest-at t) walk-rest.Post
 returns-2 t c =
-    let a = c .before .before .before .before .args in
+    let a = c .before .before .before .before .before .args in
     let s = now (a .sheet) in
     let source = now (a .source) in
     let types = typesFrom source (now (a .tables)) (a .counts) in
-    (leaf-holds source types s (a .levels) (a .span) (a .head) (c .match .keys2) (entries-nil (now (a .out)) (a .place)) (drop (a .cursor .at) s), c .before .before .before .before .pre .1 .1 .0)
+    (leaf-holds source types s (a .levels) (a .span) (a .head) (c .match .keys2) (entries-nil (now (a .out)) (now (a .notes)) (a .place)) (drop (a .cursor .at) s), c .before .before .before .before .before .pre .1 .1 .0)
 
 pub returns-3 : (t : ℕ) → walk-rest-lts.Need-returns-3 (walk-rest-calls t) (walk-rest-at t) walk-rest.Post
 returns-3 t c =
-    let a = c .before .before .before .before .before .before .before .before .before .before .args in
+    let a = c .before .before .before .before .before .before .before .before .before .before .before .args in
     let s = now (a .sheet) in
     let u = drop (a .cursor .at) s in
     let pieces = many [] piece (c .before .before .before .before .before .head2 .given .0 .0 + 1) u in
@@ -84,68 +83,68 @@ returns-3 t c =
 
 pub returns-4 : (t : ℕ) → walk-rest-lts.Need-returns-4 (walk-rest-calls t) (walk-rest-at t) walk-rest.Post
 returns-4 t c =
+    let a = c .before .before .before .before .before .before .before .before .before .before .before .before .before .before .before .before .before .before .args in
+    let s = now (a .sheet) in
+    let source = now (a .source) in
+    let types = typesFrom source (now (a .tables)) (a .counts) in
+    let w = writtenAs (now (a .out)) (now (a .notes)) (a .place) in
+    let inner = node source (a .levels) in
+    let u = drop (a .cursor .at) s in
+    let n = c .before .before .before .before .before .before .before .before .before .before .before .before .head2 .given .0 .0 in
+    (rw (c .before .before .before .before .before .before .before .before .before .before .before .before .head2 .given .1) (c .before .before .before .before .walk-nodes2 .ensures .0 ∙ template-holds source types w (a .span) inner n (many [] piece (n + 1) u) (seen (flagAs s) (c .before .before .before .before .before .before .before .before .before .before .read-pieces .ensures .0) (c .before .before .before .before .before .before .before .before .next .given .1))), c .before .before .before .before .walk-nodes2 .ensures .1)
+
+pub returns-5 : (t : ℕ) → walk-rest-lts.Need-returns-5 (walk-rest-calls t) (walk-rest-at t) walk-rest.Post
+returns-5 t c =
+    let a = c .before .before .before .before .before .before .before .before .before .before .before .before .before .args in
+    let s = now (a .sheet) in
+    let source = now (a .source) in
+    let types = typesFrom source (now (a .tables)) (a .counts) in
+    let w = writtenAs (now (a .out)) (now (a .notes)) (a .place) in
+    let inner = node source (a .levels) in
+    let u = drop (a .cursor .at) s in
+    (rw (c .before .before .before .before .before .before .before .enum-told .given .1) (c .before .before .before .before .walk-nodes3 .ensures .0 ∙ binary-holds source types w (a .span) (c .before .before .before .before .before .before .before .enum-told .given .0 .0) inner u), c .before .before .before .before .walk-nodes3 .ensures .1)
+
+pub returns-6 : (t : ℕ) → walk-rest-lts.Need-returns-6 (walk-rest-calls t) (walk-rest-at t) walk-rest.Post
+unfolding noting
+returns-6 t c =
     let a = c .before .before .before .before .before .before .before .before .before .before .before .before .before .before .args in
     let s = now (a .sheet) in
     let source = now (a .source) in
     let types = typesFrom source (now (a .tables)) (a .counts) in
-    let w = bufferAs (now (a .out)) (a .place) in
+    let w = writtenAs (now (a .out)) (now (a .notes)) (a .place) in
     let inner = node source (a .levels) in
     let u = drop (a .cursor .at) s in
-    let n = c .before .before .before .before .before .before .before .before .before .head2 .given .0 .0 in
-    (rw (c .before .before .before .before .before .before .before .before .before .head2 .given .1) (c .before .before .walk-nodes2 .ensures .0 ∙ template-holds source types w (a .span) inner n (many [] piece (n + 1) u) (seen (flagAs s) (c .before .before .before .before .before .before .before .read-pieces .ensures .0) (c .before .before .before .before .before .next .given .1))), c .before .before .walk-nodes2 .ensures .1)
-
-pub returns-5 : (t : ℕ) → walk-rest-lts.Need-returns-5 (walk-rest-calls t) (walk-rest-at t) walk-rest.Post
-returns-5 t c =
-    let a = c .before .before .before .before .before .before .before .before .before .args in
-    let s = now (a .sheet) in
-    let source = now (a .source) in
-    let types = typesFrom source (now (a .tables)) (a .counts) in
-    let w = bufferAs (now (a .out)) (a .place) in
-    let inner = node source (a .levels) in
-    let u = drop (a .cursor .at) s in
-    (rw (c .before .before .before .before .enum-told .given .1) (c .before .before .walk-nodes3 .ensures .0 ∙ binary-holds source types w (a .span) (c .before .before .before .before .enum-told .given .0 .0) inner u), c .before .before .walk-nodes3 .ensures .1)
-
-pub returns-6 : (t : ℕ) → walk-rest-lts.Need-returns-6 (walk-rest-calls t) (walk-rest-at t) walk-rest.Post
-unfolding collector
-returns-6 t c =
-    let a = c .before .before .before .before .before .before .before .before .before .before .args in
-    let s = now (a .sheet) in
-    let source = now (a .source) in
-    let types = typesFrom source (now (a .tables)) (a .counts) in
-    let w = bufferAs (now (a .out)) (a .place) in
-    let inner = node source (a .levels) in
-    let u = drop (a .cursor .at) s in
-    (rw (c .before .before .before .before .before .head3 .given .1) (c .before .before .walk-properties .ensures .0 ∙ built (afterProperties source types w) (afterNode source types w) (object (a .span)) (λ ps. refl) (properties inner (c .before .before .before .before .before .head3 .given .0 .0) u)), c .before .before .walk-properties .ensures .1)
+    (rw (c .before .before .before .before .before .before .before .before .head3 .given .1) (c .before .before .before .before .walk-properties .ensures .0 ∙ built (afterProperties source types w) (afterNode source types w) (object (a .span)) (λ ps. refl) (properties inner (c .before .before .before .before .before .before .before .before .head3 .given .0 .0) u)), c .before .before .before .before .walk-properties .ensures .1)
 
 pub returns-7 : (t : ℕ) → walk-rest-lts.Need-returns-7 (walk-rest-calls t) (walk-rest-at t) walk-rest.Post
-returns-7 t c = c .before .before .walk-callee .ensures
+returns-7 t c = c .before .before .before .before .walk-callee .ensures
 
 pub returns-8 : (t : ℕ) → walk-rest-lts.Need-returns-8 (walk-rest-calls t) (walk-rest-at t) walk-rest.Post
-returns-8 t c = (rw (c .before .before .before .before .before .head4 .given .1) (c .before .before .visit-import-decl .ensures .0), c .before .before .visit-import-decl .ensures .1)
+returns-8 t c = (rw (c .before .before .before .before .before .before .before .before .head4 .given .1) (c .before .before .before .before .visit-import-decl .ensures .0), c .before .before .before .before .visit-import-decl .ensures .1)
 
 pub returns-9 : (t : ℕ) → walk-rest-lts.Need-returns-9 (walk-rest-calls t) (walk-rest-at t) walk-rest.Post
-returns-9 t c = (rw (c .before .before .before .before .before .head5 .given .1) (c .before .before .visit-named-export .ensures .0), c .before .before .visit-named-export .ensures .1)
+returns-9 t c = (rw (c .before .before .before .before .before .before .before .before .head5 .given .1) (c .before .before .before .before .visit-named-export .ensures .0), c .before .before .before .before .visit-named-export .ensures .1)
 
 pub returns-10 : (t : ℕ) → walk-rest-lts.Need-returns-10 (walk-rest-calls t) (walk-rest-at t) walk-rest.Post
-returns-10 t c = (rw (c .before .before .before .before .before .head6 .given .1) (c .before .before .visit-export-all .ensures .0), c .before .before .visit-export-all .ensures .1)
+returns-10 t c = (rw (c .before .before .before .before .before .before .before .before .head6 .given .1) (c .before .before .before .before .visit-export-all .ensures .0), c .before .before .before .before .visit-export-all .ensures .1)
 
 pub returns-11 : (t : ℕ) → walk-rest-lts.Need-returns-11 (walk-rest-calls t) (walk-rest-at t) walk-rest.Post
-returns-11 t c = (rw (c .before .before .before .before .before .head7 .given .1) (c .before .before .visit-ts-import-type .ensures .0), c .before .before .visit-ts-import-type .ensures .1)
+returns-11 t c = (rw (c .before .before .before .before .before .before .before .before .head7 .given .1) (c .before .before .before .before .visit-ts-import-type .ensures .0), c .before .before .before .before .visit-ts-import-type .ensures .1)
 
 pub returns-12 : (t : ℕ) → walk-rest-lts.Need-returns-12 (walk-rest-calls t) (walk-rest-at t) walk-rest.Post
-returns-12 t c = (rw (c .before .before .before .before .before .head8 .given .1) (c .before .before .visit-ts-import-equals-decl .ensures .0), c .before .before .visit-ts-import-equals-decl .ensures .1)
+returns-12 t c = (rw (c .before .before .before .before .before .before .before .before .head8 .given .1) (c .before .before .before .before .visit-ts-import-equals-decl .ensures .0), c .before .before .before .before .visit-ts-import-equals-decl .ensures .1)
 
 pub returns-13 : (t : ℕ) → walk-rest-lts.Need-returns-13 (walk-rest-calls t) (walk-rest-at t) walk-rest.Post
 unfolding moduleEntry
 returns-13 t c =
-    let a = c .before .before .before .before .before .before .before .before .before .before .args in
+    let a = c .before .before .before .before .before .before .before .before .before .before .before .before .before .before .args in
     let s = now (a .sheet) in
     let source = now (a .source) in
     let types = typesFrom source (now (a .tables)) (a .counts) in
-    let w = bufferAs (now (a .out)) (a .place) in
+    let w = writtenAs (now (a .out)) (now (a .notes)) (a .place) in
     let inner = node source (a .levels) in
     let u = drop (a .cursor .at) s in
-    (rw (c .before .before .before .before .before .head9 .given .1) (c .before .before .walk-nodes4 .ensures .0 ∙ module-holds source types w (a .span) Option.none (sym (entries-nil (now (a .out)) (a .place))) (nodes inner (c .before .before .before .before .before .head9 .given .0 .0) u)), c .before .before .walk-nodes4 .ensures .1)
+    (rw (c .before .before .before .before .before .before .before .before .head9 .given .1) (c .before .before .before .before .walk-nodes4 .ensures .0 ∙ module-holds source types w (a .span) Option.none (sym (entries-nil (now (a .out)) (now (a .notes)) (a .place))) (nodes inner (c .before .before .before .before .before .before .before .before .head9 .given .0 .0) u)), c .before .before .before .before .walk-nodes4 .ensures .1)
 
 pub returns-14 : (t : ℕ) → walk-rest-lts.Need-returns-14 (walk-rest-calls t) (walk-rest-at t) walk-rest.Post
-returns-14 t c = (rw (c .before .before .before .before .before .head10 .given .1) (c .before .before .visit-ts-module-decl .ensures .0), c .before .before .visit-ts-module-decl .ensures .1)
+returns-14 t c = (rw (c .before .before .before .before .before .before .before .before .head10 .given .1) (c .before .before .before .before .visit-ts-module-decl .ensures .0), c .before .before .before .before .visit-ts-module-decl .ensures .1)

@@ -6,7 +6,10 @@ use Rattle.report.proofs.writer.Place.put_lossy_specifier.Tie as tie
 
 returns : tie.Need-returns
 unfolding encodeSpecifier
-returns c = rw (wrote-append, ← c .before .before .before .before .before .before .put-lossy-text .ensures) (c .before .before .put-span .ensures)
+returns c = (
+  rw (wrote-append, ← (c .before .before .before .before .before .before .before .put-lossy-text .ensures .0)) (c .before .before .put-span .ensures),
+  c .before .before .before .before .before .before .before .put-lossy-text .ensures .1,
+)
 
 pub put-lossy-specifier-spec : {M : Type 1} → statement M
 put-lossy-specifier-spec =

@@ -8,7 +8,7 @@ use Rattle.report.proofs.writer.Place.put_lossy_text.Tie as tie
 
 returns : tie.Need-returns
 unfolding encodeText
-returns c = rw (lossy-length (now (c .before .before .before .before .before .before .before .before .before .before .args .s)), wrote-append, ← (c .before .before .before .before .before .before .put-number .ensures)) (c .before .before .put-lossy .ensures)
+returns c = (rw (lossy-length (now (c .before .before .before .before .before .before .before .before .before .before .args .s)), wrote-append, ← (c .before .before .before .before .before .before .put-number .ensures)) (c .before .before .put-lossy .ensures .0), c .before .before .put-lossy .ensures .1)
 
 pub put-lossy-text-spec : {M : Type 1} → statement M
 put-lossy-text-spec =

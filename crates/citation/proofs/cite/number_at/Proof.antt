@@ -1,0 +1,13 @@
+-- `number_at`: past the numbers it is 0.
+use borrow.Author.Needs.{needs}
+use mathlib.Core.Path.{sym}
+use denote.Ref.{now}
+use lib.ListN.{List·getD-eq-default}
+use Rattle.citation.proofs.cite.number_at.Statement.{statement}
+use Rattle.citation.proofs.cite.number_at.Tie as tie
+
+returns-2 : tie.Need-returns-2
+returns-2 c = sym (List·getD-eq-default (now (c .before .args .numbers)) 0 (c .if1 .left))
+
+pub number-at-spec : {M : Type 1} → statement M
+number-at-spec = tie.close (tie.spec (λ c. search needs) (λ c. search needs) (λ c. search needs) returns-2)

@@ -1,0 +1,36 @@
+-- `note`: the number is stored behind the others, and counted.
+use borrow.Author.Needs.{needs}
+use native.Mathlib.Omega.{arith}
+use denote.Ref.{now}
+use Rattle.dep.proofs.Noting.{note-stored, note-left}
+use Rattle.dep.proofs.entries.note.Statement.{statement}
+use Rattle.dep.proofs.entries.note.Tie as tie
+
+returns : tie.Need-returns
+returns c =
+    let a = c .before .before .before .args in
+    note-stored (now (a .notes)) (a .number) (c .if2 .taken)
+
+returns-2 : tie.Need-returns-2
+returns-2 c =
+    let a = c .before .before .before .args in
+    note-left (now (a .notes)) (a .number) (c .if2 .left)
+
+returns-3 : tie.Need-returns-3
+returns-3 c =
+    let a = c .before .args in
+    note-left (now (a .notes)) (a .number) (omega (arith, c .if1 .left))
+
+pub note-spec : {M : Type 1} → statement M
+note-spec = tie.close (tie.spec
+    (λ c. search needs)
+    (λ c. search needs)
+    (λ c. search needs)
+    (λ c. search needs)
+    (λ c. search needs)
+    (λ c. search needs)
+    (λ c. search needs)
+    (λ c. search needs)
+    returns
+    returns-2
+    returns-3)

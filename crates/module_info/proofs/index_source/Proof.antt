@@ -1,0 +1,44 @@
+use borrow.Author.Needs.{needs}
+use native.Mathlib.Omega.{arith}
+use denote.Ref.{now}
+use Rattle.sheet.specs.Limits.{indexStart, tableNumbers}
+use Rattle.accept.proofs.Lent.{part-length}
+use Rattle.module_info.proofs.Accepted.{source-short, indexed-in}
+use Rattle.module_info.proofs.index_source.Statement.{statement}
+use Rattle.module_info.proofs.index_source.Tie as tie
+
+sub-build-index : tie.Need-sub-build-index
+sub-build-index c = c .before .before .pre .1 .places .0
+
+part-build-index-start : tie.Need-part-build-index-start
+part-build-index-start c = c .before .before .pre .1 .places .0
+
+part-build-index-end : tie.Need-part-build-index-end
+part-build-index-end c = c .before .before .pre .1 .places .1
+
+build-index-requires : tie.Need-build-index-requires
+build-index-requires c κs =
+    let start = c .before .before .before .before in
+    let room = start .pre .0 in
+    let short = source-short (start .pre .1) in
+    (omega arith, omega (arith, part-length (now (start .args .tables)) indexStart tableNumbers (omega arith) room))
+
+returns : tie.Need-returns
+returns c =
+    let start = c .before .before .before .before .before .before .before in
+    let index = c .before .before .build-index in
+    indexed-in (now (start .args .tables)) (start .pre .0) (start .pre .1) (index .last .1 .0) (index .kept .1 .0) (index .ensures .0)
+
+pub index-source-spec : {M : Type 1} → statement M
+index-source-spec =
+    tie.close
+    (tie.spec
+    sub-build-index
+    part-build-index-start
+    part-build-index-end
+    (λ c. search needs)
+    (λ c. search needs)
+    (λ c. search needs)
+    build-index-requires
+    (λ c. search needs)
+    returns)

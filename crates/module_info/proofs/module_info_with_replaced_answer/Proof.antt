@@ -1,0 +1,16 @@
+use borrow.Author.Needs.{needs}
+use Rattle.module_info.proofs.module_info_with_replaced_answer.Statement.{statement}
+use Rattle.module_info.proofs.module_info_with_replaced_answer.Tie as tie
+
+returns : tie.Need-returns
+returns c = (c .before .before .before .before .before .module-info-with-replaced .result, c .before .before .before .before .before .module-info-with-replaced .ensures .0, c .before .before .before .before .before .module-info-with-replaced .ensures .1, c .pack .ensures _)
+
+pub module-info-with-replaced-answer-spec : {M : Type 1} → statement M
+module-info-with-replaced-answer-spec =
+    tie.close
+    (tie.spec
+    (λ c κs. search needs)
+    (λ c κs. search needs)
+    (λ c. search needs)
+    (λ c. search needs)
+    returns)

@@ -37,7 +37,7 @@ digits-short k (suc places) n h = by-size (ltb n 10) refl k h (λ k. digits-shor
     by-size false e zero h front = absurd (omega (arith, ltb-false n 10 e))
     by-size false e (suc k) h front = rw (e, length-append) (omega (arith, front k (omega (arith, pow-suc 10 (suc k)))))
 
-digits-most : (places n : ℕ) → length (digits places n) ≤ places
+pub digits-most : (places n : ℕ) → length (digits places n) ≤ places
 unfolding digits
 digits-most zero n = omega arith
 digits-most (suc places) n = by-size (ltb n 10) (digits-most places (n / 10))
@@ -105,7 +105,7 @@ byte-short b = either (isEscaped b)
     either true = omega arith
     either false = omega arith
 
-text-short : (x : List ℕ) → length (flatMap escaped x) ≤ 4 * length x
+pub text-short : (x : List ℕ) → length (flatMap escaped x) ≤ 4 * length x
 unfolding flatMap
 text-short [] = omega arith
 text-short (b ∷ x) = rw length-append (omega (arith, byte-short b, text-short x))

@@ -6,5 +6,5 @@ pub mod Lengths
 pub mod Few
 mod Digits
 pub mod Printing
-mod Whole
+pub mod Whole
 mod Cases

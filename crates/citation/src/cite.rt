@@ -379,7 +379,7 @@ fn cite_lines(
 }
 
 // How many bytes stand before a place.
-fn written(out: &[u8], place: Place) -> usize
+pub fn written(out: &[u8], place: Place) -> usize
     ensures { λ r. ⌜ r ≡ length (take (place .at) (now (out .entry))) ⌝ }
 {
     if place.at < out.len() {

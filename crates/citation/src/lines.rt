@@ -12,7 +12,7 @@ ghost use Rattle.citation.specs.Citation.{digits, hexDigit, isEscaped, e
 ghost use Rattle.citation.specs.code.Printable.{Printable};
 
 // Writes a number in decimal, in at most so many places.
-fn put_digits(place: Place, out: &mut [u8], places: usize, n: usize) -> Place
+pub fn put_digits(place: Place, out: &mut [u8], places: usize, n: usize) -> Place
     ensures { λ r. ⌜ bufferAs (now (out .exit)) r ≡ wrote (bufferAs (now (out .entry)) place) (digits places n) ⌝ }
 {
     if places == 0 {
@@ -59,7 +59,7 @@ fn put_escaped(place: Place, out: &mut [u8], b: u8) -> Place
 }
 
 // Writes a text.
-fn put_text(place: Place, out: &mut [u8], text: &[u8]) -> Place
+pub fn put_text(place: Place, out: &mut [u8], text: &[u8]) -> Place
     ensures { λ r. ⌜ bufferAs (now (out .exit)) r
         ≡ wrote (bufferAs (now (out .entry)) place) (flatMap escaped (now (text .entry))) ⌝ }
 {

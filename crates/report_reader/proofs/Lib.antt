@@ -1,2 +1,3 @@
 pub mod FromBytes
+pub mod KindsTold
 pub mod Lists

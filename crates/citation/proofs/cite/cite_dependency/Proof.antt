@@ -1,32 +1,15 @@
 use borrow.Author.Needs.{needs}
-use mathlib.Core.Path.{_≡_, sym, ap, _∙_}
+use mathlib.Core.Path.{sym, _∙_}
 use mathlib.Core.List.{_++_, append-assoc}
-use Prim.Native.Nat.{ℕ, _<_}
 use native.Mathlib.Omega.{arith}
-use Rattle.wire.specs.Fields.{valueOf}
-use Rattle.report.specs.declared.names.StaticDependencyKind.{StaticDependencyKind}
-use Rattle.report.specs.declared.names.DynamicDependencyKind.{DynamicDependencyKind}
-use Rattle.report.specs.declared.names.DependencyKind.{DependencyKind}
 use Rattle.report.specs.declared.names.DependencyKind.the-variants.{Static, Dynamic}
-use Rattle.report.specs.Names.{dependencyNumber, dependencyKinds}
 use Rattle.report.specs.ModuleInfo.{static, dynamic}
 use Rattle.report.specs.Encode.{encodeAttributes, encodeStatic, encodeDynamic, encodeDependency}
-use Rattle.report.proofs.Numbered.{dependency-numbers}
 use Rattle.report_reader.proofs.FromBytes.{byte-read, flag-read}
+use Rattle.report_reader.proofs.KindsTold.{small, told, apart}
 use Rattle.citation.proofs.Printing.{both}
 use Rattle.citation.proofs.cite.cite_dependency.Statement.{statement}
 use Rattle.citation.proofs.cite.cite_dependency.Tie as tie
-
-small : (kind : DependencyKind) → dependencyNumber kind < 128
-small kind = omega (arith, dependency-numbers .few kind)
-
--- the kind that a number gives is the one that has it
-told : {n : ℕ} {given : DependencyKind} → given ≡ valueOf dependencyKinds n → (kind : DependencyKind) → n ≡ dependencyNumber kind → given ≡ kind
-told e kind is = e ∙ ap (valueOf dependencyKinds) is ∙ dependency-numbers .back kind
-
--- no kind is both static and dynamic
-apart : {a : StaticDependencyKind} {b : DynamicDependencyKind} → Static a ≡ Dynamic b → ⊥
-apart e = let z : _≡_ {A = ℕ} 0 1 = cc in omega arith
 
 returns : tie.Need-returns
 unfolding encodeDependency encodeStatic encodeDynamic

@@ -1251,7 +1251,7 @@ const KINDS: [(&str, usize); 23] = [
     ("flip", 40), ("cut", 30), ("insert", 30), ("delete", 30), ("splice", 30), ("number", 20), ("noise", 8), ("limit", 10),
 ];
 
-fn make(seed: u64, index: u64) -> (&'static str, Vec<u8>) {
+pub fn make(seed: u64, index: u64) -> (&'static str, Vec<u8>) {
     let mut r = Rng(seed.wrapping_mul(0xD6E8_FEB8_6659_FD93) ^ index.wrapping_mul(0xA076_1D64_78BD_642F));
     let r = &mut r;
     r.next();

@@ -1,0 +1,9 @@
+pub mod Deliveries
+pub mod Checks
+pub mod Along
+pub mod Turns
+pub mod Reported
+pub mod ReportEntries
+pub mod Judging
+pub mod InTurn
+pub mod Orders

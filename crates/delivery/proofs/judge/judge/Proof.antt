@@ -1,0 +1,57 @@
+use borrow.Author.Needs.{needs}
+use mathlib.Core.Path.{_∙_}
+use mathlib.Core.List.{[]}
+use Rattle.laws.proofs.Steps.{known}
+use Rattle.delivery.specs.Order.{modulesInTurn, orderOf}
+use Rattle.delivery.proofs.Orders.{none-refused}
+use Rattle.delivery.proofs.judge.judge.Statement.{statement}
+use Rattle.delivery.proofs.judge.judge.Tie as tie
+
+returns : tie.Need-returns
+unfolding orderOf
+returns c =
+    let (_, e) = rw (c .enum-told .given .1) at (c .before .before .check-delivery .ensures) in
+    (rw e, tt)
+
+returns-2 : tie.Need-returns-2
+unfolding orderOf
+returns-2 c =
+    let (ms, e, p) = rw (c .before .before .before .count .given .1) at (c .before .before .before .before .before .check-delivery .ensures) in
+    (rw (e, known (c .before .has-name-twice .ensures ms [] p) (c .if1 .taken)), tt)
+
+returns-3 : tie.Need-returns-3
+unfolding orderOf
+returns-3 c =
+    let (ms, e, p) = rw (c .before .before .before .before .before .before .before .before .before .before .count .given .1) at (c .before .before .before .before .before .before .before .before .before .before .before .before .check-delivery .ensures) in
+    let once = known (c .before .before .before .before .before .before .before .before .has-name-twice .ensures ms [] p) (c .before .before .before .before .before .before .before .if1 .left) in
+    let sheets = rw (c .before .number .given .1) at (c .before .before .before .before .before .judge-sheets .ensures .0) in
+    (rw (e, once) (sheets ms [] p (modulesInTurn [] 0 ms)), tt)
+
+returns-4 : tie.Need-returns-4
+unfolding orderOf
+returns-4 c =
+    let (ms, e, p) = rw (c .before .before .before .before .before .before .before .before .before .before .before .before .before .count .given .1) at (c .before .before .before .before .before .before .before .before .before .before .before .before .before .before .before .check-delivery .ensures) in
+    let once = known (c .before .before .before .before .before .before .before .before .before .before .before .has-name-twice .ensures ms [] p) (c .before .before .before .before .before .before .before .before .before .before .if1 .left) in
+    let sheets = rw (c .before .before .before .before .enum-told2 .given .1) at (c .before .before .before .before .before .before .before .before .judge-sheets .ensures .0) in
+    let all = none-refused _ ms (sheets ms [] p) in
+    let order = rw (c .before .before .before .before .before .before .before .before .judge-sheets .ensures .1) at (c .before .before .judge-order .ensures .0) in
+    (rw (e, once) (order ms [] p all ∙ sheets ms [] p (modulesInTurn [] 0 ms)), c .before .before .judge-order .ensures .1)
+
+pub judge-spec : {M : Type 1} → statement M
+judge-spec =
+    tie.close
+    (tie.spec
+    (λ c κs. search needs)
+    (λ c. search needs)
+    (λ c. search needs)
+    returns
+    (λ c κs. search needs)
+    returns-2
+    (λ c κs. search needs)
+    (λ c. search needs)
+    (λ c. search needs)
+    returns-3
+    (λ c. search needs)
+    (λ c κs. search needs)
+    (λ c. search needs)
+    returns-4)

@@ -1,0 +1,103 @@
+use borrow.Author.Needs.{needs}
+use mathlib.Core.Path.{_≡_, refl, sym, ap, _∙_}
+use mathlib.Core.List.{List, [], _∷_, _++_}
+use Prim.Native.Nat.{ℕ, _+_, _-_}
+use lib.ListN.{length}
+use Rattle.laws.specs.Codec.{All}
+use Rattle.laws.proofs.Lists.{all-member, middle-member}
+use Rattle.delivery.specs.Delivery.{Module}
+use Rattle.delivery.specs.Order.{modulesInTurn}
+use Rattle.delivery.specs.Right.{Reported, namesOf}
+use Rattle.delivery.specs.code.Views.{Modules}
+use Rattle.delivery.proofs.Along.{Along, at-first, one-more, all-passed, name-more}
+use Rattle.delivery.proofs.Turns.{module-here}
+use Rattle.delivery.proofs.judge.judge_order.Statement.{statement}
+use Rattle.delivery.proofs.judge.judge_order.Tie as tie
+
+abbrev Inv-loop : tie.InvT-loop
+Inv-loop delivery first count work₀ at₀ i₀ work at i =
+    (length work ≡ length work₀)
+    × ((ms : List Module) (t : List ℕ) → Modules delivery first count ms t → All (Reported (length work₀)) ms
+    → (earlier : List Module) × (rest : List Module) × Along delivery t first count ms at i earlier rest
+    × (modulesInTurn [] 0 ms ≡ modulesInTurn (namesOf earlier) i rest))
+
+abbrev μ-loop : tie.MeasureT-loop
+μ-loop delivery first count work₀ at₀ i₀ work at i = count - i
+
+loop-holds : tie.Need-loop-holds Inv-loop μ-loop
+loop-holds c = (refl, λ ms t p all. ([], ms, at-first p, refl))
+
+sub-judge-module : tie.Need-sub-judge-module Inv-loop μ-loop
+sub-judge-module c = c .read-module .ensures .1 .1 .order
+
+part-judge-module-start : tie.Need-part-judge-module-start Inv-loop μ-loop
+part-judge-module-start c = c .read-module .ensures .1 .1 .order
+
+part-judge-module-end : tie.Need-part-judge-module-end Inv-loop μ-loop
+part-judge-module-end c = c .read-module .ensures .1 .1 .end
+
+returns : tie.Need-returns Inv-loop μ-loop
+returns c =
+    let l = c .before .before .before .before .before .before .before .before .before .before .loop in
+    let found = c .before .entry .given .1 in (
+      λ ms t p all.
+          let (earlier, rest, along, e) = l .inv .1 ms t p all in
+          let (m, after, is, v, there, on) = one-more (c .before .before .before .before .before .before .before .before .before .loop-test .taken) along in
+          let (read, _) = c .before .before .before .before .before .before .before .before .read-module .ensures .0 m v _ there in
+          let judged = rw (l .inv .0, ap (λ (m : Module). m .sheet) read, found) at (c .before .before .before .before .before .judge-module .ensures .0) in
+          let zero = all-member (Reported _) ms all (middle-member earlier after (along .whole ∙ ap (earlier ++_) is)) in
+          judged earlier _ (along .passed) zero (l .i) (modulesInTurn (namesOf earlier ++ (m .name ∷ [])) (l .i + 1) after) ∙ sym (e ∙ module-here is (namesOf earlier) (l .i)),
+      rw found at (c .before .before .before .before .before .judge-module .ensures .1 .0),
+    )
+
+loop-again : tie.Need-loop-again Inv-loop μ-loop
+loop-again c =
+    let l = c .before .before .before .before .before .before .before .before .before .loop in (
+      c .before .before .before .before .judge-module .ensures .1 .1 ∙ l .inv .0,
+      λ ms t p all.
+          let (earlier, rest, along, e) = l .inv .1 ms t p all in
+          let (m, after, is, v, there, on) = one-more (c .before .before .before .before .before .before .before .before .loop-test .taken) along in
+          let (read, next) = c .before .before .before .before .before .before .before .read-module .ensures .0 m v _ there in
+          let judged = rw (l .inv .0, ap (λ (m : Module). m .sheet) read, c .enum-told .given .1) at (c .before .before .before .before .judge-module .ensures .0) in
+          let zero = all-member (Reported _) ms all (middle-member earlier after (along .whole ∙ ap (earlier ++_) is)) in (
+            earlier ++ (m ∷ []),
+            after,
+            on _ next,
+            e
+                ∙ module-here is (namesOf earlier) (l .i)
+                ∙ sym (judged earlier _ (along .passed) zero (l .i) (modulesInTurn (namesOf earlier ++ (m .name ∷ [])) (l .i + 1) after))
+                ∙ ap (λ names. modulesInTurn names (l .i + 1) after) (sym (name-more earlier m)),
+          ),
+    )
+
+returns-2 : tie.Need-returns-2 Inv-loop μ-loop
+unfolding modulesInTurn
+returns-2 c =
+    let l = c .before .loop in (
+      λ ms t p all.
+          let (earlier, rest, along, e) = l .inv .1 ms t p all in
+          sym (e ∙ rw (all-passed (c .loop-test .left) along)),
+      tt,
+    )
+
+pub judge-order-spec : {M : Type 1} → statement M
+judge-order-spec =
+    tie.close
+    (tie.spec
+    Inv-loop
+    μ-loop
+    loop-holds
+    (λ c κs. search needs)
+    sub-judge-module
+    part-judge-module-start
+    part-judge-module-end
+    (λ c κs. search needs)
+    (λ c. search needs)
+    (λ c. search needs)
+    returns
+    (λ c. search needs)
+    (λ c. search needs)
+    (λ c. search needs)
+    loop-again
+    (λ c. search needs)
+    returns-2)

@@ -1,0 +1,76 @@
+use borrow.Author.Needs.{needs}
+use mathlib.Core.Path.{_≡_, refl, sym, ap, _∙_}
+use mathlib.Core.List.{List}
+use Prim.Native.Nat.{ℕ}
+use denote.Ref.{now}
+use Rattle.laws.proofs.Steps.{known}
+use Rattle.delivery.specs.Delivery.{Module}
+use Rattle.delivery.specs.Order.{among}
+use Rattle.delivery.specs.Right.{namesOf}
+use Rattle.delivery.specs.code.Views.{Modules}
+use Rattle.delivery.proofs.Along.{next-module, no-module}
+use Rattle.delivery.proofs.Turns.{among-here}
+use Rattle.delivery.proofs.modules.is_name.Statement.{statement}
+use Rattle.delivery.proofs.modules.is_name.Tie as tie
+
+abbrev Inv-loop : tie.InvT-loop
+Inv-loop delivery first count text at₀ left₀ at left =
+    (ms : List Module) (t : List ℕ) → Modules delivery first count ms t
+    → (rest : List Module) × Modules delivery at left rest t × (among text (namesOf ms) ≡ among text (namesOf rest))
+
+abbrev μ-loop : tie.MeasureT-loop
+μ-loop delivery first count text at₀ left₀ at left = left
+
+loop-holds : tie.Need-loop-holds Inv-loop μ-loop
+loop-holds c = λ ms t p. (ms, p, refl)
+
+sub-equal : tie.Need-sub-equal Inv-loop μ-loop
+sub-equal c = c .read-module .ensures .1 .0 .order
+
+part-equal-start : tie.Need-part-equal-start Inv-loop μ-loop
+part-equal-start c = c .read-module .ensures .1 .0 .order
+
+part-equal-end : tie.Need-part-equal-end Inv-loop μ-loop
+part-equal-end c = c .read-module .ensures .1 .0 .end
+
+returns : tie.Need-returns Inv-loop μ-loop
+returns c = λ ms t p.
+    let text = now (c .before .before .before .before .before .before .before .before .args .text) in
+    let (rest, p, e) = c .before .before .before .before .before .loop .inv ms t p in
+    let (m, behind, is, v, there, on) = next-module (c .before .before .before .before .loop-test .taken) p in
+    let (read, _) = c .before .before .before .read-module .ensures .0 m v _ there in
+    let name = ap (λ (m : Module). m .name) read in
+    sym (e ∙ among-here is text (rw name at (known (c .before .equal .ensures) (c .if1 .taken))))
+
+loop-again : tie.Need-loop-again Inv-loop μ-loop
+loop-again c = λ ms t p.
+    let text = now (c .before .before .before .before .before .before .before .before .args .text) in
+    let (rest, p, e) = c .before .before .before .before .before .loop .inv ms t p in
+    let (m, behind, is, v, there, on) = next-module (c .before .before .before .before .loop-test .taken) p in
+    let (read, next) = c .before .before .before .read-module .ensures .0 m v _ there in
+    let name = ap (λ (m : Module). m .name) read in
+    (behind, on _ next, e ∙ among-here is text (rw name at (known (c .before .equal .ensures) (c .if1 .left))))
+
+returns-2 : tie.Need-returns-2 Inv-loop μ-loop
+unfolding among
+returns-2 c = λ ms t p.
+    let (rest, p, e) = c .before .loop .inv ms t p in
+    sym (e ∙ rw (no-module (c .loop-test .left) p))
+
+pub is-name-spec : {M : Type 1} → statement M
+is-name-spec =
+    tie.close
+    (tie.spec
+    Inv-loop
+    μ-loop
+    loop-holds
+    (λ c κs. search needs)
+    sub-equal
+    part-equal-start
+    part-equal-end
+    (λ c κs. search needs)
+    returns
+    (λ c. search needs)
+    (λ c. search needs)
+    loop-again
+    returns-2)

@@ -1,0 +1,25 @@
+use borrow.Author.Needs.{needs}
+use mathlib.Core.Path.{_∙_}
+use mathlib.Core.List.{append-assoc}
+use Rattle.wire.specs.Text.{encodeText}
+use Rattle.delivery.specs.Delivery.{encodeModule}
+use Rattle.delivery.proofs.modules.read_module.Statement.{statement}
+use Rattle.delivery.proofs.modules.read_module.Tie as tie
+
+returns : tie.Need-returns
+unfolding encodeModule
+returns c = (
+  λ m v t e.
+      let (x, e) = c .before .read-text .ensures .0 (m .name) (v .name) _ (e ∙ append-assoc (encodeText (m .name)) (encodeText (m .sheet)) t) in
+      let (y, e) = c .read-text2 .ensures .0 (m .sheet) (v .sheet) t e in
+      (rw (x, y), e),
+  (c .before .read-text .ensures .1, c .read-text2 .ensures .1),
+)
+
+pub read-module-spec : {M : Type 1} → statement M
+read-module-spec =
+    tie.close
+    (tie.spec
+    (λ c κs. search needs)
+    (λ c κs. search needs)
+    returns)

@@ -658,6 +658,8 @@ struct Writer<'a> {
     out: Vec<u8>,
     /// For each dependency, how many surrogates its one text has.
     replaced: Vec<usize>,
+    /// Where the nodes of the dependencies start.
+    starts: Vec<usize>,
 }
 
 enum Attributes {
@@ -896,6 +898,7 @@ impl Sheet {
 
     fn start(&self, p: &Patterns, kind: u8, n: &Node, w: &mut Writer, count: &mut usize) {
         *count += 1;
+        w.starts.push(n.span.0);
         w.out.push(kind);
         w.optional(self.types_at(p, n.span.0));
     }
@@ -914,10 +917,10 @@ impl Sheet {
     /// The report, and the numbers beside its dependencies.
     fn report(&self) -> Read<(Vec<u8>, Vec<usize>)> {
         let p = patterns();
-        let mut dependencies = Writer { sheet: self, out: Vec::new(), replaced: Vec::new() };
+        let mut dependencies = Writer { sheet: self, out: Vec::new(), replaced: Vec::new(), starts: Vec::new() };
         let mut count = 0;
         self.walk(&p, &self.root, &mut dependencies, &mut count)?;
-        let mut w = Writer { sheet: self, out: vec![u8::from(self.script)], replaced: dependencies.replaced };
+        let mut w = Writer { sheet: self, out: vec![u8::from(self.script)], replaced: dependencies.replaced, starts: Vec::new() };
         w.number(count);
         w.out.extend(dependencies.out);
         self.references(&p, &mut w);
@@ -1264,3 +1267,7 @@ pub fn both(sheet: &[u8]) -> bool {
 pub unsafe extern "C" fn second_both(sheet: *const u8, n: usize) -> bool {
     both(if n == 0 { &[] } else { unsafe { std::slice::from_raw_parts(sheet, n) } })
 }
+
+#[cfg(revisions)]
+#[path = "revised.rs"]
+pub mod revised;

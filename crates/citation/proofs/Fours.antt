@@ -14,7 +14,8 @@ use Rattle.laws.proofs.Onward.{carried-to}
 use Rattle.text.specs.declared.position.Position.{Position}
 use Rattle.text.specs.Ranges.{within}
 use Rattle.text.specs.Utf8.{continuation}
-use Rattle.citation.specs.Columns.{beginsFour, utf16, fromLine, foursIn, recounted}
+use Rattle.text.specs.Position.{utf16}
+use Rattle.citation.specs.Columns.{beginsFour, fromLine, foursIn, recounted}
 
 -- no more of them than characters
 pub fours-most : (n : ℕ) (s : List ℕ) → foursIn n s ≤ n

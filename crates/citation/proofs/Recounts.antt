@@ -11,8 +11,8 @@ use lib.ListN.{take}
 use Rattle.text.specs.declared.position.Position.{Position}
 use Rattle.text.specs.Ranges.{within}
 use Rattle.text.specs.Utf8.{continuation}
-use Rattle.text.specs.Position.{Units, characters, step, walk, origin, positionOf}
-use Rattle.citation.specs.Columns.{beginsFour, utf16, fromLine, foursIn, recounted}
+use Rattle.text.specs.Position.{Units, characters, step, walk, origin, positionOf, utf16}
+use Rattle.citation.specs.Columns.{beginsFour, fromLine, foursIn, recounted}
 use Rattle.citation.proofs.Fours.{fours-none, fours-on, fours-next, from-zero, from-on, from-next}
 
 pub same-position : {p q : Position} → p .line ≡ q .line → p .column ≡ q .column → p ≡ q

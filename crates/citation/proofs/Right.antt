@@ -1,5 +1,5 @@
 -- The columns that are printed are right.
-use mathlib.Core.Path.{_≡_, ap}
+use mathlib.Core.Path.{_≡_, sym, ap, _∙_}
 use mathlib.Core.Bool.{Bool, true, false, cond}
 use mathlib.Core.Logic.{_↔_, ⊎-elim}
 use mathlib.Core.List.{List, [], _∷_}
@@ -14,18 +14,18 @@ use Rattle.text.specs.declared.position.Position.{Position}
 use Rattle.text.specs.declared.utf8.Encoding.the-variants.{Utf8}
 use Rattle.text.specs.Encode.{encode}
 use Rattle.text.specs.WellFormed.{WellFormed}
-use Rattle.text.specs.Position.{Units, characters, positionOf, Boundary, Before}
+use Rattle.text.specs.Position.{Units, characters, positionOf, Boundary, Before, utf16}
 use Rattle.text.proofs.CodePoint.{by-length}
 use Rattle.text.proofs.Columns.{counted}
 use Rattle.text.proofs.Places.{grows, one-place}
 use Rattle.wire.specs.Number.{largest}
 use Rattle.sheet.specs.declared.fields.Span.{Span}
 use Rattle.report.specs.ModuleInfo.{PositionRange}
-use Rattle.report.specs.Range.{RangeAt}
+use Rattle.report.specs.Range.{rangeOf, RangeAt}
 use Rattle.report.specs.Valid.{ValidPosition}
 use Rattle.report.proofs.Ranges.{range-valid}
-use Rattle.citation.specs.Columns.{beginsFour, utf16, fromLine, recounted}
-use Rattle.citation.specs.Citation.{citeRange, Line}
+use Rattle.citation.specs.Columns.{beginsFour, fromLine, recounted}
+use Rattle.citation.specs.Citation.{citeRange, Line, printed}
 use Rattle.citation.specs.Right.{utf16Range, CitedAt, ColumnsRight}
 use Rattle.citation.specs.code.Printable.{Printable}
 use Rattle.citation.proofs.Fours.{fours-most}
@@ -101,3 +101,19 @@ module _ (source : List ℕ) (short : length source ≤ largest) where
         let (u, v) = before-iff {unit = utf16} utf16-some source p q a b in
         (λ h. u (y h), λ h. x (v h));
   }
+
+-- a line is printed alike over two sources where both positions of its place are the same, in characters and in UTF-16 code units
+module _ (s t : List ℕ) where
+  position-same : (p : Position) (at : ℕ) → p ≡ positionOf characters s at → positionOf characters s at ≡ positionOf characters t at → positionOf utf16 s at ≡ positionOf utf16 t at
+      → recounted s p ≡ recounted t p
+  position-same p at is c u = rw is (recounts s at ∙ u ∙ sym (recounts t at) ∙ ap (recounted t) (sym c))
+
+  pub printed-same : (l : Line) (place : Span) → l .range ≡ rangeOf s place
+      → positionOf characters s (place .start) ≡ positionOf characters t (place .start) → positionOf characters s (place .end) ≡ positionOf characters t (place .end)
+      → positionOf utf16 s (place .start) ≡ positionOf utf16 t (place .start) → positionOf utf16 s (place .end) ≡ positionOf utf16 t (place .end)
+      → printed s l ≡ printed t l
+  unfolding printed
+  printed-same l place is c d u v =
+      let start = position-same (l .range .start) (place .start) (ap (λ (r : PositionRange). r .start) is) c u in
+      let end = position-same (l .range .end) (place .end) (ap (λ (r : PositionRange). r .end) is) d v in
+      rw (start, end)

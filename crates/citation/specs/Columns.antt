@@ -6,16 +6,11 @@ use lib.Dec.{eqb, leb}
 use Rattle.text.specs.declared.position.Position.{Position}
 use Rattle.text.specs.Ranges.{within}
 use Rattle.text.specs.Utf8.{continuation}
-use Rattle.text.specs.Position.{Units}
 use Rattle.report.specs.ModuleInfo.{PositionRange}
 
 -- does the byte begin a character of four UTF-8 bytes?
 abbrev pub beginsFour : ℕ → Bool
 beginsFour b = leb 0xF0 b
-
--- a character of four UTF-8 bytes counts two, any other one
-abbrev pub utf16 : Units
-utf16 b = cond (beginsFour b) 2 1
 
 -- a text from its nth line on
 unfoldable pub fromLine : ℕ → List ℕ → List ℕ

@@ -8,11 +8,11 @@ use lib.Dec.{eqb}
 use lib.ListN.{length, getD}
 use Rattle.laws.specs.Codec.{All}
 use Rattle.text.specs.Encode.{encode}
-use Rattle.text.specs.Position.{characters, positionOf, Boundary, Before, Counted}
+use Rattle.text.specs.Position.{characters, positionOf, Boundary, Before, Counted, utf16}
 use Rattle.sheet.specs.declared.fields.Span.{Span}
 use Rattle.report.specs.ModuleInfo.{PositionRange}
 use Rattle.report.specs.Range.{RangeAt}
-use Rattle.citation.specs.Columns.{utf16, recountedRange}
+use Rattle.citation.specs.Columns.{recountedRange}
 use Rattle.citation.specs.Citation.{citeRange, Line}
 
 -- the range of a place, in UTF-16 code units

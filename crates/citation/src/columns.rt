@@ -8,7 +8,8 @@ ghost use lib.ListN.{length, getD, drop};
 ghost use Rattle.text.specs.Ranges.{within};
 ghost use Rattle.text.specs.Utf8.{continuation};
 ghost use Rattle.report.specs.Valid.{ValidPosition};
-ghost use Rattle.citation.specs.Columns.{beginsFour, utf16, fromLine, foursIn, recounted};
+ghost use Rattle.text.specs.Position.{utf16};
+ghost use Rattle.citation.specs.Columns.{beginsFour, fromLine, foursIn, recounted};
 ghost use Rattle.citation.specs.code.Printable.{Printable};
 
 // The place where a line starts, or the end.

@@ -18,7 +18,7 @@ ghost use Rattle.text.specs.Bytes.{part};
 ghost use Rattle.sheet.specs.Sheet.{Sheet};
 ghost use Rattle.sheet_codec.specs.SheetOf.{SheetOf};
 ghost use Rattle.report_reader.specs.code.Reads.{Inside};
-ghost use Rattle.cite.specs.Cited.{reportRoom, noteRoom, lineRoom, cited, EditorColumns};
+ghost use Rattle.cite.specs.Cited.{reportRoom, noteRoom, lineRoom, cited, EditorColumns, KeptLines};
 
 // Where the source of an accepted sheet stands: behind the media byte.
 fn find_source(sheet: &[u8]) -> TextRead
@@ -36,6 +36,7 @@ fn cite(sheet: &[u8], report: &mut [u8], notes: &mut [usize], lines: &mut [u8]) 
     ensures { λ r. ⌜ (r ≡ length (cited (now (sheet .entry)))) × (take r (now (lines .exit)) ≡ cited (now (sheet .entry))) ⌝ }
     ensures { λ r. ⌜ r ≤ length (now (lines .exit)) ⌝ }
     ensures { λ _. ⌜ EditorColumns (now (sheet .entry)) ⌝ }
+    ensures { λ _. ⌜ KeptLines (now (sheet .entry)) ⌝ }
 {
     let source = find_source(sheet);
     let from = source.from;

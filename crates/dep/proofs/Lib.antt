@@ -10,3 +10,4 @@ pub mod Turns
 pub mod Right
 pub mod Replaced
 mod Cases
+pub mod Revised

@@ -6,3 +6,6 @@ pub mod Only
 pub mod Right
 pub mod Turns
 pub mod Valid
+pub mod Openings
+pub mod ByComment
+pub mod Revised

@@ -108,7 +108,7 @@ module _ {source : List ℕ} (c : Comment) (w : Within source c) where
           (marks-pasted (bodySpan c .start) (bodySpan c .end) (w .order) (omega (arith, w .end, w .source-end)) k body-marks before)
       go false o = marks-iff (λ q m r. inl r) (λ q m r. ⊎-elim (λ x. x) (λ x. absurd (true≢false (sym (opened-complete source c (x .0)) ∙ o))) r) k
 
-fit-tail : {source : List ℕ} {c : Comment} {cs : List Comment} → Fit source (c ∷ cs) → Fit source cs
+pub fit-tail : {source : List ℕ} {c : Comment} {cs : List Comment} → Fit source (c ∷ cs) → Fit source cs
 fit-tail f = record { each = λ k l. f .each (suc k) (suc-le-suc l); apart = λ j k i l. f .apart (suc j) (suc k) (suc-le-suc i) (suc-le-suc l) }
 
 marks-by-all : {source : List ℕ} (cs : List Comment) → Fit source cs → {P : ℕ → Mode → Type 0} {l : List ℕ} → Marks P (length source) l

@@ -47,16 +47,47 @@ pub record Standing (source : List ℕ) (q e : ℕ) (mode : Mode) : Type 0 where
   pub stands : ImportAt source import (record { start = q; end = e })
   pub mode-is : import .mode ≡ mode
 
+-- the import of a text, at the range from q to e
+abbrev pub importOf : List ℕ → ℕ → ℕ → List ℕ → Mode → JsDocImportInfo
+importOf source q e text mode = record { specifier = record { text = text; range = rangeOf source (record { start = q; end = e }) }; mode = mode }
+
+-- at a quote from q to e that is reported
+quote-import : (source : List ℕ) (q e : ℕ) (mode : Mode) {k : List ℕ} → e ≤ length source → Quote k (drop q source) (drop e source)
+    → importAt source q mode ≡ Option.some (importOf source q e k mode)
+unfolding importAt
+quote-import source q e mode l r =
+    let past : length source - length (drop e source) ≡ e = omega (arith, length-drop e source) in
+    rw (quote-complete r, past)
+
+-- a reading of a body is one of its comment's source
+module _ (source : List ℕ) (c : Comment) (w : Within source c) {b : List ℕ} (is : body source c ≡ b) {k j : ℕ} {mode : Mode} (r : From Reading b k j mode) where
+  reading-ends : bodySpan c .start + r .end ≤ length source
+  reading-ends = omega (arith, r .inside, ap length is, w .long, w .order, w .end, w .source-end)
+
+  pub reading-starts : j ≤ r .end
+  reading-starts =
+      let (x, t) = place-quote (r .reads) in
+      omega (arith, quote-shorter t, length-drop j b, length-drop (r .end) b, r .inside)
+
+  reading-quote : Quote (place-quote (r .reads) .0) (drop (bodySpan c .start + j) source) (drop (bodySpan c .start + r .end) source)
+  reading-quote =
+      let end : r .end ≤ length (body source c) = rw is (r .inside) in
+      let begin : j ≤ length (body source c) = omega (arith, reading-starts) in
+      rw (body-then source c w j begin, body-then source c w (r .end) end, is) (quote-then _ (place-quote (r .reads) .1))
+
+  -- what is reported of it
+  pub reading-import : importAt source (bodySpan c .start + j) mode
+      ≡ Option.some (importOf source (bodySpan c .start + j) (bodySpan c .start + r .end) (place-quote (r .reads) .0) mode)
+  reading-import = quote-import source (bodySpan c .start + j) (bodySpan c .start + r .end) mode reading-ends reading-quote
+
 module _ {source : List ℕ} (f : formed Utf8 0 source ≡ true) where
   quote-stands : (q e : ℕ) (mode : Mode) {k : List ℕ} → e ≤ length source → Quote k (drop q source) (drop e source) → Standing source q e mode
-  unfolding importAt
   quote-stands q e mode {k} l r =
       let bounds = quote-boundaries source f q e l r in
-      let past : length source - length (drop e source) ≡ e = omega (arith, length-drop e source) in
       let size : e - q + length (drop e source) ≡ length (drop q source) = omega (arith, length-drop e source, length-drop q source, quote-shorter r) in
       record {
-        import = record { specifier = record { text = k; range = rangeOf source (record { start = q; end = e }) }; mode = mode };
-        is = rw (quote-complete r, past);
+        import = importOf source q e k mode;
+        is = quote-import source q e mode l r;
         stands = record { range = range-at (bounds .0) (bounds .1) refl; text = quote-alone (e - q) size r };
         mode-is = refl;
       }
@@ -65,7 +96,4 @@ module _ {source : List ℕ} (f : formed Utf8 0 source ≡ true) where
   pub reading-stands : (c : Comment) → Within source c → {k j : ℕ} {mode : Mode} (r : From Reading (body source c) k j mode)
       → Standing source (bodySpan c .start + j) (bodySpan c .start + r .end) mode
   reading-stands c w {j} {mode} r =
-      let (k, t) = place-quote (r .reads) in
-      let below : j ≤ length (body source c) = omega (arith, quote-shorter t, length-drop j (body source c)) in
-      let last : bodySpan c .start + r .end ≤ length source = omega (arith, r .inside, w .long, w .order, w .end, w .source-end) in
-      quote-stands (bodySpan c .start + j) (bodySpan c .start + r .end) mode {k = k} last (rw (body-then source c w j below, body-then source c w (r .end) (r .inside)) (quote-then _ t))
+      quote-stands (bodySpan c .start + j) (bodySpan c .start + r .end) mode (reading-ends source c w refl r) (reading-quote source c w refl r)

@@ -1,2 +1,3 @@
 pub mod Imports
 pub mod Demand
+pub mod ByComment

@@ -60,6 +60,7 @@ use Rattle.module_info.proofs.Numbers.{number-right}
 use Rattle.module_info.proofs.Empty.{empty-right}
 use Rattle.module_info.proofs.Fine.{Fine}
 use Rattle.module_info.proofs.Reports.{entries-fine, report-right}
+use Rattle.module_info.proofs.Revised.{unchanged}
 
 -- a dependency of a visit
 record Known (t : Sheet) (v : Visit) (d : DependencyDescriptor) : Type 0 where
@@ -122,6 +123,7 @@ module _ {s comments groups : List ℕ} {p : Parts} (a : Accepts s comments grou
     walk = λ t h. walk-right (t .root);
     strings = shown (λ t. _) (strings-quoted (a .sheet .source) depthLimit (a .sheet .root) (within .root));
     jsdoc = shown (λ t. _) jsdoc-right;
+    revisions = λ t h r u i k revision. unchanged revision (h .encodes .within .fields) (i .encodes .within .fields);
     pragmas = shown (λ t. _) (pragmas-present (a .sheet));
     texts = shown (λ t. _) sheet-texts;
     columns = shown (λ t. _) (counted characters (a .sheet .source) (within .source .1));
@@ -213,6 +215,7 @@ module _ (s : List ℕ) {size : ℕ} {outcome : Outcome} {buffer : List ℕ} whe
     walk = λ t h. never t h;
     strings = λ t h. never t h;
     jsdoc = λ t h. never t h;
+    revisions = λ t h. never t h;
     pragmas = λ t h. never t h;
     texts = λ t h. never t h;
     columns = λ t h. never t h;

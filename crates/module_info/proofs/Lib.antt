@@ -4,6 +4,7 @@ pub mod Inside
 pub mod Fine
 pub mod Reports
 pub mod Empty
+pub mod Revised
 pub mod Accepted
 pub mod Cleared
 pub mod Notes
@@ -12,3 +13,4 @@ pub mod MapCases
 pub mod PathFirst
 pub mod Example
 pub mod SourceMap
+pub mod Reworded

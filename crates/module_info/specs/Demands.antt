@@ -9,6 +9,7 @@ use Rattle.sheet.specs.Quotation.{Quotation}
 use Rattle.sheet.specs.Strings.{strings}
 use Rattle.sheet.specs.Walk.{visits}
 use Rattle.sheet.specs.WalkRight.{WalkRight}
+use Rattle.sheet.specs.Revision.{Revision}
 use Rattle.sheet.specs.Sheet.{Sheet}
 use Rattle.sheet_codec.specs.SheetOf.{SheetOf}
 use Rattle.report.specs.declared.writer.Outcome.{Outcome}
@@ -22,6 +23,7 @@ use Rattle.module_info.specs.Information.{moduleInfo, answerOf}
 use Rattle.module_info.specs.Numbers.{NumberRight}
 use Rattle.module_info.specs.Report.{ReportRight}
 use Rattle.module_info.specs.Empty.{EmptyRight}
+use Rattle.module_info.specs.Unchanged.{Unchanged}
 
 -- what holds of the sheet that the bytes s are, if they meet none of refusals 1 to 9 and 13
 abbrev pub OfAccepted : List ℕ → (Sheet → Type 0) → Type 0
@@ -50,6 +52,8 @@ pub record Demands (s : List ℕ) (size : ℕ) (outcome : Outcome) (buffer : Lis
   -- ascending by the start of its place, with the one mode that all its readings give; the source there, less the two marks, is its text. No other list
   -- is so
   pub jsdoc : OfAccepted s (λ t. OnlyRight (t .media) (t .source) (t .comments) (moduleInfo t .jsdocImports))
+  -- and of revisions: where u is an accepted sheet too, the same but for the body of its kth comment, all that does not come from that comment is equal
+  pub revisions : OfAccepted s (λ t. (r : List ℕ) (u : Sheet) → SheetOf r u → (k : ℕ) → Revision t u k → Unchanged t u k)
   -- every reference and pragma appears exactly when its rule has a reading in the comments that 01 gives to it, at that reading's place, references in
   -- the order of their comments
   pub pragmas : OfAccepted s (λ t. Present t (moduleInfo t))

@@ -3,6 +3,7 @@ pub mod Numbers
 pub mod Replaced
 pub mod Report
 pub mod Empty
+pub mod Unchanged
 pub mod Demands
 pub mod SourceMap
 pub mod code

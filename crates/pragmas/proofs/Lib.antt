@@ -7,3 +7,4 @@ pub mod Texts
 pub mod SourceMap
 pub mod Cases
 pub mod Valid
+pub mod Revised

@@ -85,7 +85,7 @@ module _ (source : List ℕ) (f : formed Utf8 0 source ≡ true) (c : Comment) (
 -- ---- the comments that they stand in
 
 -- the comments of a fit list are placed
-comment-index : (cs : List Comment) {c : Comment} → List·Memᴰ c cs → (k : ℕ) × (k < length cs) × (commentOf cs k ≡ c)
+pub comment-index : (cs : List Comment) {c : Comment} → List·Memᴰ c cs → (k : ℕ) × (k < length cs) × (commentOf cs k ≡ c)
 comment-index [] m = absurd (List·Memᴰ·not-nil m)
 comment-index (d ∷ cs) m =
     ⊎-elim (λ e. (0, omega arith, sym e)) (λ i. let (k, l, e) = comment-index cs i in (suc k, omega arith, e)) (List·Memᴰ·cases-cons m)

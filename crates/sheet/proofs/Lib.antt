@@ -18,3 +18,5 @@ pub mod NameCases
 pub mod Walks
 pub mod Reaches
 pub mod Kept
+pub mod Spans
+pub mod Revised

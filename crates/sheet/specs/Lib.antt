@@ -16,5 +16,7 @@ pub mod Walked
 pub mod Reached
 pub mod WalkRight
 pub mod Sheet
+pub mod Recorded
+pub mod Revision
 pub mod Judge
 pub mod code

@@ -11,6 +11,7 @@ pub mod Cuts
 pub mod Exact
 pub mod Formed
 pub mod Members
+pub mod Outside
 pub mod Places
 pub mod Positions
 pub mod Reader

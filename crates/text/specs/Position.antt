@@ -21,6 +21,10 @@ Units = ℕ → ℕ
 abbrev pub characters : Units
 characters b = 1
 
+-- code units of UTF-16: a character of four bytes counts two, any other one
+abbrev pub utf16 : Units
+utf16 b = cond (leb 0xF0 b) 2 1
+
 -- the position past a byte: LF ends the line; a byte that goes on with a character adds nothing; any other begins a character
 unfoldable pub step : Units → Position → ℕ → Position
 step unit p b =

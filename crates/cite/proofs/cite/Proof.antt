@@ -4,6 +4,7 @@ use native.Mathlib.Omega.{arith}
 use lib.Seq.{length-take-le}
 use Rattle.cite.proofs.Printed.{reported, refused-lines}
 use Rattle.cite.proofs.Placed.{editor-columns}
+use Rattle.cite.proofs.Revised.{kept-lines}
 use Rattle.cite.proofs.cite.Statement.{statement}
 use Rattle.cite.proofs.cite.Tie as tie
 
@@ -22,14 +23,14 @@ returns : tie.Need-returns
 returns c =
     let demands = rw (c .before .before .before .before .before .before .before .before .before .before .before .before .before .before .before .before .before .before .before .pre .0, c .before .before .before .before .before .r .given .1) at (c .before .before .before .before .before .before .before .before .before .before .before .module-info-with-replaced .ensures .0) in
     let cited = c .before .before .cite-refusal .ensures in
-    (rw (refused-lines _ (c .before .before .before .before .before .before .before .before .before .before .before .before .before .before .find-source .ensures .0) demands (rw (c .before .before .before .before .before .before .before .before .before .before .before .before .before .before .before .before .before .before .before .pre .1 .0) at (c .before .before .before .before .before .before .before .before .before .before .before .module-info-with-replaced .ensures .1))) (cited .0), (cited .1 .0, editor-columns demands))
+    (rw (refused-lines _ (c .before .before .before .before .before .before .before .before .before .before .before .before .before .before .find-source .ensures .0) demands (rw (c .before .before .before .before .before .before .before .before .before .before .before .before .before .before .before .before .before .before .before .pre .1 .0) at (c .before .before .before .before .before .before .before .before .before .before .before .module-info-with-replaced .ensures .1))) (cited .0), (cited .1 .0, (editor-columns demands, kept-lines demands)))
 
 returns-2 : tie.Need-returns-2
 returns-2 c =
     let demands = rw (c .before .before .before .before .before .before .before .before .before .before .before .before .before .before .before .before .before .before .before .before .before .before .before .pre .0, c .before .before .before .before .before .before .before .before .before .n .given .1) at (c .before .before .before .before .before .before .before .before .before .before .before .before .before .before .before .module-info-with-replaced .ensures .0) in
     let found = reported demands (rw (c .before .before .before .before .before .before .before .before .before .before .before .before .before .before .before .before .before .before .before .before .before .before .before .pre .1 .0, c .before .before .before .before .before .before .before .before .before .n .given .1) at (c .before .before .before .before .before .before .before .before .before .before .before .before .before .before .before .module-info-with-replaced .ensures .1)) in
     let cited = c .before .before .cite-report .ensures in
-    (rw (found .lines _ (c .before .before .before .before .before .before .before .before .before .before .before .before .before .before .before .before .before .before .find-source .ensures .0)) (cited .0 (found .info) (found .valid) (found .bytes)), (cited .1 .0, editor-columns demands))
+    (rw (found .lines _ (c .before .before .before .before .before .before .before .before .before .before .before .before .before .before .before .before .before .before .find-source .ensures .0)) (cited .0 (found .info) (found .valid) (found .bytes)), (cited .1 .0, (editor-columns demands, kept-lines demands)))
 
 pub cite-spec : {M : Type 1} → statement M
 cite-spec =

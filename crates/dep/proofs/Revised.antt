@@ -1,0 +1,46 @@
+-- The dependencies of a tree are the entries of its visits, one after the other; the entry of a visit goes by the range that it reports and the types at its start.
+use mathlib.Core.Path.{_≡_, refl, ap}
+use mathlib.Core.Bool.{cond}
+use mathlib.Core.List.{List, [], append-nil, flatMap}
+use mathlib.Core.Option.{Option}
+use Prim.Native.Nat.{ℕ}
+use Rattle.laws.proofs.Lists.{flatMap-append}
+use Rattle.sheet.specs.declared.fields.Span.{Span}
+use Rattle.sheet.specs.Tree.{Node, Arguments, noArguments, argument}
+use Rattle.sheet.specs.Shape.{shape, isRequire}
+use Rattle.sheet.specs.Walk.{Visit, called, importing, expression, imported, exported, typed, required, declared, startOf, visiting, visits}
+use Rattle.sheet.proofs.Spans.{OfFirst, Reported}
+use Rattle.sheet.proofs.Walks.{walks-related}
+use Rattle.report.specs.declared.names.DynamicDependencyKind.{DynamicDependencyKind}
+use Rattle.report.specs.declared.names.DynamicDependencyKind.the-variants as dynamics
+use Rattle.report.specs.ModuleInfo.{SpecifierWithRange, DependencyDescriptor}
+use Rattle.report.specs.Range.{rangeOf}
+use Rattle.dep.specs.Collect.{dynamicKind, staticEntry, callEntry, moduleEntry, entryOf, collector, collect}
+
+pub collect-each : (source : List ℕ) (types : ℕ → Option SpecifierWithRange) (n : Node) → collect source types n ≡ flatMap (entryOf source types) (visits n)
+unfolding collector flatMap
+collect-each source types =
+    walks-related (λ l vs. l ≡ flatMap (entryOf source types) vs) (collector source types) visiting
+    (record { nothing = refl; both = λ {a} {b} {x} {y} e f. rw (e, f, flatMap-append (entryOf source types) x y); own = λ v. rw append-nil })
+
+-- a span has the same range in two sources
+abbrev pub SameRange : List ℕ → List ℕ → Span → Type 0
+SameRange s r sp = rangeOf s sp ≡ rangeOf r sp
+
+module _ (s r : List ℕ) (types types′ : ℕ → Option SpecifierWithRange) where
+  call-kept : (kind : DynamicDependencyKind) (sp : Span) (xs : Arguments) → OfFirst (SameRange s r) xs → types (sp .start) ≡ types′ (sp .start)
+      → callEntry s types kind sp xs ≡ callEntry r types′ kind sp xs
+  unfolding callEntry
+  call-kept kind sp noArguments h e = refl
+  call-kept kind sp (argument dots at n xs) h e = rw (h, e)
+
+  pub entry-kept : (v : Visit) → Reported (SameRange s r) v → types (startOf v) ≡ types′ (startOf v) → entryOf s types v ≡ entryOf r types′ v
+  unfolding staticEntry moduleEntry
+  entry-kept (called sp (importing phase) xs) h e = call-kept (dynamicKind phase) sp xs h e
+  entry-kept (called sp (expression n) xs) h e = ap (λ (l : List DependencyDescriptor). cond (isRequire (shape n)) l []) (call-kept dynamics.Require sp xs h e)
+  entry-kept (imported sp typeOnly phase sideEffect x a) h e = rw (h, e)
+  entry-kept (exported sp typeOnly x a) h e = rw (h, e)
+  entry-kept (typed sp x a) h e = rw (h, e)
+  entry-kept (required sp typeOnly export x) h e = rw (h, e)
+  entry-kept (declared sp Option.none) h e = refl
+  entry-kept (declared sp (Option.some x)) h e = rw (h, e)

@@ -1,5 +1,7 @@
 //! bench SHEET                      the names of the classes; SHEET is the small decoder's sheet
 //! bench SHEET times [CLASS]...     nanoseconds for a sheet of each class, as a table
+//! bench SHEET grow                 nanoseconds for sheets of 1, 2, 4, .. KB of each class that grows, as CSV
+//! bench SHEET sizes                the names of these sheets, NAME@BYTES, which `times` and `once` take for a CLASS too
 //! bench SHEET once CLASS WORK      one piece of work inside the function `bench_measured`, for callgrind; WORK is one of
 //!   ours     the library's whole call, with a buffer of 65,536 bytes: check of the sheet, analysis, report, zeros
 //!   fitting  the same with a buffer as long as the report
@@ -21,17 +23,32 @@ const WORKS: [&str; 4] = ["ours", "fitting", "crate", "whole"];
 fn main() {
     let args: Vec<String> = std::env::args().skip(1).collect();
     let args: Vec<&str> = args.iter().map(String::as_str).collect();
-    let [sheet, rest @ ..] = &args[..] else { fail("usage: bench SHEET [times [CLASS]... | once CLASS WORK]") };
+    let [sheet, rest @ ..] = &args[..] else { fail("usage: bench SHEET [times [CLASS]... | grow | sizes | once CLASS WORK]") };
     let small = std::fs::read(sheet).unwrap_or_else(|e| fail(&format!("{sheet}: {e}")));
     let classes = sheets::classes(small);
-    let class = |name: &str| classes.iter().find(|c| c.name == name).unwrap_or_else(|| fail(&format!("no class is named {name}")));
+    let named = |name: &str| classes.iter().find(|c| c.name == name).cloned().or_else(|| grown(name));
+    let class = |name: &str| named(name).unwrap_or_else(|| fail(&format!("no class is named {name}")));
     match rest {
         [] => classes.iter().for_each(|c| println!("{}", c.name)),
-        ["times"] => times(&classes.iter().collect::<Vec<_>>()),
+        ["times"] => times(&classes),
         ["times", names @ ..] => times(&names.iter().map(|n| class(n)).collect::<Vec<_>>()),
-        ["once", name, work] => once(class(name), work),
-        _ => fail("usage: bench SHEET [times [CLASS]... | once CLASS WORK]"),
+        ["grow"] => grow(),
+        ["sizes"] => sizes().for_each(|(name, bytes)| println!("{name}@{bytes}")),
+        ["once", name, work] => once(&class(name), work),
+        _ => fail("usage: bench SHEET [times [CLASS]... | grow | sizes | once CLASS WORK]"),
     }
+}
+
+/// The classes that grow, each at 1, 2, 4, .. KB.
+fn sizes() -> impl Iterator<Item = (&'static str, usize)> {
+    sheets::GROWING.into_iter().flat_map(|(name, most)| (10..=16).map(move |k| (name, 1 << k)).filter(move |(_, bytes)| *bytes <= most))
+}
+
+/// The class of a name NAME@BYTES.
+fn grown(name: &str) -> Option<Class> {
+    let (name, bytes) = name.split_once('@')?;
+    let (name, bytes) = sizes().find(|(n, b)| *n == name && b.to_string() == bytes)?;
+    Some(Class { name, what: name, sheet: sheets::grown(name, bytes)? })
 }
 
 fn fail(message: &str) -> ! {
@@ -98,7 +115,7 @@ fn bench_measured(ready: &mut Ready, work: &str) {
 
 // ---- times ----
 
-fn times(classes: &[&Class]) {
+fn times(classes: &[Class]) {
     let rounds = setting("ROUNDS", 15).max(1) as usize;
     let round = Duration::from_millis(setting("MILLISECONDS", 20).max(1));
     println!(
@@ -130,6 +147,18 @@ fn times(classes: &[&Class]) {
     println!(
         "each time is the median of the rounds; spread: the middle half of the rounds as a share of the median, the largest of the four"
     );
+}
+
+/// One line for each size of each class that grows: class, bytes of the sheet, ours, crate alone, crate whole.
+fn grow() {
+    let rounds = setting("ROUNDS", 15).max(1) as usize;
+    let round = Duration::from_millis(setting("MILLISECONDS", 20).max(1));
+    println!("class,bytes,ours,alone,whole");
+    for (name, bytes) in sizes() {
+        let class = grown(&format!("{name}@{bytes}")).unwrap_or_else(|| fail("a size that no class has"));
+        let [ours, _, alone, whole] = measure(&mut Ready::new(&class), rounds, round).map(|r| r.median);
+        println!("{name},{},{ours:.0},{alone:.0},{whole:.0}", class.sheet.len());
+    }
 }
 
 #[derive(Clone, Copy)]

@@ -1,5 +1,6 @@
 //! The sheets that are timed. They are made here, as an exporter makes them from a parse, and are the same at each run.
 
+#[derive(Clone)]
 pub struct Class {
     pub name: &'static str,
     pub what: &'static str,
@@ -19,6 +20,42 @@ pub fn classes(small_decoder: Vec<u8>) -> Vec<Class> {
         class("imports", "worst comment: `{import('a') ` over and over", one_comment("{import('a') ")),
         class("declarations", "worst comment: `@import {` over and over", one_comment("@import {")),
     ]
+}
+
+/// The classes that grow, each with the longest sheet that it has here: but for `tree` the source's limit is met first, and the crate takes too
+/// long for longer ones of `braces` under valgrind.
+pub const GROWING: [(&str, usize); 6] =
+    [("module", 32_768), ("commented", 32_768), ("tree", MAX_SHEET), ("braces", 16_384), ("imports", 32_768), ("declarations", 32_768)];
+
+/// A sheet of about so many bytes, and no more, of a class that grows.
+pub fn grown(name: &str, bytes: usize) -> Option<Vec<u8>> {
+    let (_, most) = GROWING.iter().find(|(n, _)| *n == name)?;
+    if bytes > *most {
+        return None;
+    }
+    Some(match name {
+        "module" => grown_by(bytes, function),
+        "commented" => grown_by(bytes, field),
+        "tree" => tree(bytes),
+        "braces" => one_comment_of("{", bytes - 64),
+        "imports" => one_comment_of("{import('a') ", bytes - 64),
+        _ => one_comment_of("@import {", bytes - 64),
+    })
+}
+
+/// Parts one after the other, up to so many bytes.
+fn grown_by(bytes: usize, part: fn(&mut Maker, usize)) -> Vec<u8> {
+    let mut m = Maker::default();
+    let mut sheet = m.sheet();
+    for i in 0.. {
+        part(&mut m, i);
+        let longer = m.sheet();
+        if longer.len() > bytes || m.source.len() > MAX_SOURCE {
+            break;
+        }
+        sheet = longer;
+    }
+    sheet
 }
 
 // ---- a sheet in the making ----
@@ -183,23 +220,28 @@ fn typical() -> Vec<u8> {
         m.import(&format!("open{i}, close{i} as done{i}"), &format!("./parts/part{i}.js"), attributes);
     }
     for i in 0..30 {
-        let of = if i % 3 == 0 { r#"import("./types.ts").Reading"# } else { "Reading" };
-        m.comment(&format!(
-            "/**\n * Adds reading {i} to the series, in litres.\n * @param {{{of}}} reading the value and its time\n * @returns {{number}} the sum\n */"
-        ));
-        m.code(&format!("export function add{i}(reading, series = []) {{\n"));
-        if i % 10 == 9 {
-            m.code("  const unit = ");
-            m.call(i % 20 == 9, &format!("./units/unit{i}.js"));
-            m.code(";\n");
-        }
-        m.comment("// a meter that runs backwards is read again");
-        m.code("if (reading.volume < series.at(-1)?.volume) return open1(reading, { again: true });\n");
-        m.code("  series.push({ ...reading, volume: Math.round(reading.volume * 1000) / 1000 });\n");
-        m.code("  return series.reduce((sum, r) => sum + r.volume, 0);\n}\n\n");
+        function(&mut m, i);
     }
     m.comment("//# sourceMappingURL=series.js.map");
     m.sheet()
+}
+
+/// A function with its comments; every tenth has a call.
+fn function(m: &mut Maker, i: usize) {
+    let of = if i % 3 == 0 { r#"import("./types.ts").Reading"# } else { "Reading" };
+    m.comment(&format!(
+        "/**\n * Adds reading {i} to the series, in litres.\n * @param {{{of}}} reading the value and its time\n * @returns {{number}} the sum\n */"
+    ));
+    m.code(&format!("export function add{i}(reading, series = []) {{\n"));
+    if i % 10 == 9 {
+        m.code("  const unit = ");
+        m.call(i % 20 == 9, &format!("./units/unit{i}.js"));
+        m.code(";\n");
+    }
+    m.comment("// a meter that runs backwards is read again");
+    m.code("if (reading.volume < series.at(-1)?.volume) return open1(reading, { again: true });\n");
+    m.code("  series.push({ ...reading, volume: Math.round(reading.volume * 1000) / 1000 });\n");
+    m.code("  return series.reduce((sum, r) => sum + r.volume, 0);\n}\n\n");
 }
 
 /// A source of about 30,000 bytes, most of it comments.
@@ -210,11 +252,16 @@ fn comment_heavy() -> Vec<u8> {
         if m.source.len() > 29_500 {
             break;
         }
-        commented(&mut m, i);
-        m.code(&format!("export const field{i} = {};\n", 7 * i));
+        field(&mut m, i);
     }
     m.comment("//# sourceMappingURL=fields.js.map");
     m.sheet()
+}
+
+/// A field with its comments.
+fn field(m: &mut Maker, i: usize) {
+    commented(m, i);
+    m.code(&format!("export const field{i} = {};\n", 7 * i));
 }
 
 fn commented(m: &mut Maker, i: usize) {
@@ -237,24 +284,9 @@ fn full() -> Vec<u8> {
         if m.source.len() > MAX_SOURCE - 400 {
             break;
         }
-        if i % 2 == 0 {
-            commented(&mut m, i);
-        }
-        places.push(m.code(&format!("const value{i} = await ")));
-        m.call(i % 4 == 0, &format!("./fields/field{i}.js"));
-        m.code(&format!(".then((field) => field.read(bytes, {i}));\n"));
+        places.push(value(&mut m, i));
     }
-    // what is no dependency: other nodes, eight deep, with a name inside
-    for at in places.iter().cycle() {
-        let mut node = [head(2, *at, at + 5), text("field")].concat();
-        for _ in 0..7 {
-            node = [head(0, *at, at + 5), number(1), node].concat();
-        }
-        if m.sheet().len() + node.len() + 8 > MAX_SHEET {
-            break;
-        }
-        m.children.push(node);
-    }
+    nested(&mut m, &places, MAX_SHEET);
     // one more name fills the sheet
     let free = MAX_SHEET - m.sheet().len();
     m.children.push([head(2, 0, 0), text(&"n".repeat(free - 4))].concat());
@@ -263,9 +295,56 @@ fn full() -> Vec<u8> {
     sheet
 }
 
+/// A value that a call gives, every second one with comments; answers where it stands.
+fn value(m: &mut Maker, i: usize) -> usize {
+    if i % 2 == 0 {
+        commented(m, i);
+    }
+    let at = m.code(&format!("const value{i} = await "));
+    m.call(i % 4 == 0, &format!("./fields/field{i}.js"));
+    m.code(&format!(".then((field) => field.read(bytes, {i}));\n"));
+    at
+}
+
+/// What is no dependency: other nodes, eight deep, with a name inside, up to so many bytes.
+fn nested(m: &mut Maker, places: &[usize], bytes: usize) {
+    let mut length = m.sheet().len();
+    for at in places.iter().cycle() {
+        let mut node = [head(2, *at, at + 5), text("field")].concat();
+        for _ in 0..7 {
+            node = [head(0, *at, at + 5), number(1), node].concat();
+        }
+        // the count of children takes at most two bytes more
+        if length + node.len() + 8 > bytes {
+            break;
+        }
+        length += node.len();
+        m.children.push(node);
+    }
+}
+
+/// Half of it values with their calls, half nodes without entries.
+fn tree(bytes: usize) -> Vec<u8> {
+    let mut m = Maker::default();
+    let mut places = Vec::new();
+    for i in 0.. {
+        if i > 0 && (m.sheet().len() > bytes / 2 || m.source.len() > MAX_SOURCE - 400) {
+            break;
+        }
+        places.push(value(&mut m, i));
+    }
+    nested(&mut m, &places, bytes);
+    m.sheet()
+}
+
 /// The longest source, one star-opened comment with a word over and over.
 fn one_comment(word: &str) -> Vec<u8> {
-    let room = MAX_SOURCE - "/***/".len();
+    one_comment_of(word, MAX_SOURCE)
+}
+
+/// A source of so many bytes.
+fn one_comment_of(word: &str, bytes: usize) -> Vec<u8> {
+    let room = bytes - "/***/".len();
     let body = word.repeat(room / word.len());
     let rest = " ".repeat(room - body.len());
     let source = format!("/**{body}{rest}*/");

@@ -1,9 +1,10 @@
 // The module information of a sheet, as a report in a lent buffer.
+pub mod judge;
 pub mod source_map;
 
+use self::judge::SheetJudged;
+use self::judge::judge;
 use accept::check::Parts;
-use accept::check::SheetChecked;
-use accept::check::check_sheet;
 use dep::entries::Counts;
 use dep::walk::analyze_program_dependencies;
 use listing::imports::analyze_jsdoc_imports;
@@ -17,25 +18,19 @@ use report::writer::Outcome;
 use report::writer::Place;
 use report::writer::finish;
 use report::writer::refuse_all;
-use sheet::limits::COMMENT_LIMIT;
 use sheet::limits::GROUPS_START;
 use sheet::limits::INDEX_START;
 use sheet::limits::SOURCE_LIMIT;
 use sheet::limits::TABLE_NUMBERS;
 use sheet::lookups::end_group;
 use sheet::lookups::head_group;
-use text::position::build_index;
 use wire::Cursor;
 ghost use mathlib.Core.Path.{_≡_};
 ghost use mathlib.Core.List.{List, []};
 ghost use Prim.Native.Nat.{ℕ, _≤_};
 ghost use lib.ListN.{length, replicate};
 ghost use Rattle.laws.specs.Decoded.{ok};
-ghost use Rattle.laws.specs.code.Left.{Free};
-ghost use Rattle.sheet.specs.Limits.{tableNumbers};
-ghost use Rattle.sheet.specs.code.Tables.{commentsPart, groupsPart};
 ghost use Rattle.sheet.specs.Sheet.{Sheet, accept};
-ghost use Rattle.accept.specs.code.Accepts.{Accepts, Judges};
 ghost use Rattle.report.specs.declared.writer.Outcome.{Outcome};
 ghost use Rattle.report.specs.Buffer.{wrote, bufferAs};
 ghost use Rattle.report.specs.Encode.{encode};
@@ -44,7 +39,7 @@ ghost use Rattle.dep.specs.Collect.{numbersOf};
 ghost use Rattle.dep.specs.code.Notes.{allNoted};
 ghost use Rattle.module_info.specs.Information.{moduleInfo, defaultInfo, packed};
 ghost use Rattle.module_info.specs.Replaced.{noted, notesWith, NotesRight};
-ghost use Rattle.module_info.specs.code.Pieces.{dependencyBytes, headBytes, restBytes, PartsIn, RootOf, HeldBy, AcceptsIn, JudgesIn};
+ghost use Rattle.module_info.specs.code.Pieces.{dependencyBytes, headBytes, restBytes, PartsIn, RootOf, HeldBy, AcceptsIn};
 ghost use Rattle.module_info.specs.Demands.{Demands};
 
 // The script flag and the dependencies, with their numbers in the notes.
@@ -204,40 +199,6 @@ fn write_report(
     w.finish()
 }
 
-// Checks a sheet. The table that only the check works in is here, so that its room on the stack is free again for what follows.
-fn check(sheet: &[u8], tables: &mut [u32; TABLE_NUMBERS]) -> SheetChecked
-    ensures { λ r. ⌜ Judges (now (sheet .entry)) (commentsPart (now (tables .exit))) (groupsPart (now (tables .exit))) r ⌝ }
-    ensures { λ _. ⌜ Free (now (tables .entry)) (now (tables .exit)) ⌝ }
-{
-    let mut longest = [0u32; COMMENT_LIMIT];
-    check_sheet(sheet, tables, &mut longest)
-}
-
-// Writes the index of the source's positions into the table, behind the comments and groups of a sheet that was accepted.
-fn index_source(sheet: &[u8], parts: Parts, tables: &mut [u32])
-    requires { ⌜ tableNumbers ≤ length (now tables) ⌝ }
-    requires { ⌜ Accepts (now sheet) (commentsPart (now tables)) (groupsPart (now tables)) parts ⌝ }
-    ensures { λ _. ⌜ AcceptsIn (now (sheet .entry)) (now (tables .exit)) parts ⌝ }
-{
-    let start = parts.source_start;
-    let end = parts.source_end;
-    build_index(&sheet[start..end], &mut tables[INDEX_START..TABLE_NUMBERS]);
-}
-
-// Checks a sheet, and indexes the positions of its source.
-fn check_indexed(sheet: &[u8], tables: &mut [u32; TABLE_NUMBERS]) -> SheetChecked
-    ensures { λ r. ⌜ JudgesIn (now (sheet .entry)) (now (tables .exit)) r ⌝ }
-    ensures { λ _. ⌜ Free (now (tables .entry)) (now (tables .exit)) ⌝ }
-{
-    match check(sheet, tables) {
-        SheetChecked::Refused(r) => SheetChecked::Refused(r),
-        SheetChecked::Accepted(parts) => {
-            index_source(sheet, parts, tables);
-            SheetChecked::Accepted(parts)
-        }
-    }
-}
-
 // Zeros.
 fn clear_notes(notes: &mut [usize])
     ensures { λ _. ⌜ now (notes .exit) ≡ zeros (length (now (notes .entry))) ⌝ }
@@ -289,12 +250,10 @@ pub fn module_info(sheet: &[u8], buffer: &mut [u8]) -> Outcome
     ensures { λ r. ⌜ Demands (now (sheet .entry)) (length (now (buffer .entry))) r (now (buffer .exit)) ⌝ }
 {
     let mut tables = [0u32; TABLE_NUMBERS];
-    if sheet.len() == 0 {
-        return write_default(buffer);
-    }
-    match check_indexed(sheet, &mut tables) {
-        SheetChecked::Refused(r) => refuse_all(buffer, r as u8),
-        SheetChecked::Accepted(parts) => write_report(sheet, parts, &tables, buffer),
+    match judge(sheet, &mut tables) {
+        SheetJudged::Empty => write_default(buffer),
+        SheetJudged::Refused(r) => refuse_all(buffer, r),
+        SheetJudged::Accepted(parts) => write_report(sheet, parts, &tables, buffer),
     }
 }
 
@@ -306,14 +265,10 @@ pub fn module_info_with_replaced(sheet: &[u8], buffer: &mut [u8], notes: &mut [u
 {
     let mut tables = [0u32; TABLE_NUMBERS];
     clear_notes(notes);
-    if sheet.len() == 0 {
-        return write_default(buffer);
-    }
-    match check_indexed(sheet, &mut tables) {
-        SheetChecked::Refused(r) => refuse_all(buffer, r as u8),
-        SheetChecked::Accepted(parts) => {
-            write_noted_report(sheet, parts, &tables, buffer, notes)
-        }
+    match judge(sheet, &mut tables) {
+        SheetJudged::Empty => write_default(buffer),
+        SheetJudged::Refused(r) => refuse_all(buffer, r),
+        SheetJudged::Accepted(parts) => { write_noted_report(sheet, parts, &tables, buffer, notes) }
     }
 }
 

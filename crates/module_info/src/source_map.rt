@@ -1,7 +1,7 @@
 // The source map by ECMA-426: the second question that a sheet can be asked.
-use super::check;
+use super::judge::SheetJudged;
+use super::judge::judge;
 use accept::check::Parts;
-use accept::check::SheetChecked;
 use pragmas::readings::Reading;
 use pragmas::readings::Rule;
 use pragmas::readings::comment_source_to_span;
@@ -12,7 +12,6 @@ use sheet::limits::TABLE_NUMBERS;
 use sheet::lookups::body_span;
 use sheet::lookups::end_group;
 use text::position::Position;
-use text::position::build_index;
 use text::position::indexed_position;
 ghost use mathlib.Core.Path.{_≡_};
 ghost use mathlib.Core.List.{[]};
@@ -89,17 +88,10 @@ pub fn source_map(sheet: &[u8]) -> SourceMap
     ensures { λ r. ⌜ SourceMapRight (now (sheet .entry)) r ⌝ }
 {
     let mut tables = [0u32; TABLE_NUMBERS];
-    if sheet.len() == 0 {
-        return SourceMap::Nothing;
-    }
-    match check(sheet, &mut tables) {
-        SheetChecked::Refused(r) => SourceMap::Refused(r as u8),
-        SheetChecked::Accepted(parts) => {
-            let start = parts.source_start;
-            let end = parts.source_end;
-            build_index(&sheet[start..end], &mut tables[INDEX_START..TABLE_NUMBERS]);
-            read_source_map(sheet, parts, &tables)
-        }
+    match judge(sheet, &mut tables) {
+        SheetJudged::Empty => SourceMap::Nothing,
+        SheetJudged::Refused(r) => SourceMap::Refused(r),
+        SheetJudged::Accepted(parts) => read_source_map(sheet, parts, &tables),
     }
 }
 

@@ -1,39 +1,34 @@
 use borrow.Author.Needs.{needs}
-use Prim.Native.Nat.{_<_}
-use native.Mathlib.Omega.{arith}
 use denote.Ref.{now}
-use lib.ListN.{length, drop-of-length-le}
-use Rattle.module_info.proofs.Accepted.{demanded, refusal-small, refusal-demanded, empty-demanded}
+use lib.ListN.{length}
+use Rattle.module_info.proofs.Accepted.{demanded, refusal-demanded, empty-demanded}
 use Rattle.module_info.proofs.Notes.{empty-notes, refusal-notes, sheet-notes, cleared-whole}
 use Rattle.module_info.proofs.module_info_with_replaced.Statement.{statement}
 use Rattle.module_info.proofs.module_info_with_replaced.Tie as tie
 
 returns : tie.Need-returns
 returns c =
-    let a = c .before .before .before .before .before .before .before .before .before .before .before .before .args in
-    let s = now (a .sheet) in
-    let none = drop-of-length-le s {i = 0} (omega (arith, c .before .before .before .before .if1 .taken)) in
-    (empty-demanded s none (c .before .before .write-default .ensures), empty-notes (length (now (a .notes))) _ none (c .before .before .before .before .before .before .before .clear-notes .ensures))
-
-cast-refuse-all : tie.Need-cast-refuse-all
-cast-refuse-all c = omega (arith, refusal-small _ (omega (arith, c .before .before .before .before .before .before .if1 .left)) (rw (c .before .before .r .given .1) at (c .before .before .before .before .check-indexed .ensures .0)))
+    let a = c .before .before .before .before .before .before .before .before .before .before .before .before .before .before .before .args in
+    let none = rw (c .before .before .before .before .enum-told .given .1) at (c .before .before .before .before .before .before .judge .ensures .0) in
+    (empty-demanded _ none (c .before .before .write-default .ensures), empty-notes (length (now (a .notes))) _ none (c .before .before .before .before .before .before .before .before .before .before .clear-notes .ensures))
 
 write-noted-report-requires : tie.Need-write-noted-report-requires
-write-noted-report-requires c κs = (rw (c .before .before .before .before .parts .given .1) at (c .before .before .before .before .before .before .check-indexed .ensures .0), cleared-whole (length (now (c .before .before .before .before .before .before .before .before .before .before .before .before .before .before .before .before .args .notes))) (c .before .before .before .before .before .before .before .before .before .before .before .clear-notes .ensures))
+write-noted-report-requires c κs =
+    let a = c .before .before .before .before .before .before .before .before .before .before .before .before .before .before .before .args in
+    (rw (c .before .before .before .before .parts .given .1) at (c .before .before .before .before .before .before .judge .ensures .0), cleared-whole (length (now (a .notes))) (c .before .before .before .before .before .before .before .before .before .before .clear-notes .ensures))
 
 returns-2 : tie.Need-returns-2
 returns-2 c =
-    let a = c .before .before .before .before .before .before .before .before .before .before .before .before .before .before .before .before .before .args in
-    let some : 0 < length (now (a .sheet)) = omega (arith, c .before .before .before .before .before .before .before .before .before .if1 .left) in
-    let refused = rw (c .before .before .before .before .before .r .given .1) at (c .before .before .before .before .before .before .before .check-indexed .ensures .0) in
-    (refusal-demanded _ some refused (c .before .before .refuse-all .ensures), refusal-notes (length (now (a .notes))) _ some refused (c .before .before .before .before .before .before .before .before .before .before .before .before .clear-notes .ensures))
+    let a = c .before .before .before .before .before .before .before .before .before .before .before .before .before .before .before .before .args in
+    let (some, refused) = rw (c .before .before .before .before .before .r .given .1) at (c .before .before .before .before .before .before .before .judge .ensures .0) in
+    (refusal-demanded _ some refused (c .before .before .refuse-all .ensures), refusal-notes (length (now (a .notes))) _ some refused (c .before .before .before .before .before .before .before .before .before .before .before .clear-notes .ensures))
 
 returns-3 : tie.Need-returns-3
 returns-3 c =
-    let accepts = (rw (c .before .before .before .before .before .before .before .before .before .parts .given .1) at (c .before .before .before .before .before .before .before .before .before .before .before .check-indexed .ensures .0)) .accepts in
+    let accepts = (rw (c .before .before .before .before .before .before .before .before .before .parts .given .1) at (c .before .before .before .before .before .before .before .before .before .before .before .judge .ensures .0)) .accepts in
     let written = c .before .before .before .before .write-noted-report .ensures in
     let numbered = written (accepts .sheet) (accepts .accepted) .1 in
-    (demanded accepts (λ t e. written t e .0), sheet-notes _ _ (accepts .accepted) (rw (c .before .before .before .before .before .before .before .before .before .before .before .before .before .before .before .before .clear-notes .kept .0) at numbered))
+    (demanded accepts (λ t e. written t e .0), sheet-notes _ _ (accepts .accepted) (rw (c .before .before .before .before .before .before .before .before .before .before .before .before .before .before .before .clear-notes .kept .0) at numbered))
 
 pub module-info-with-replaced-spec : {M : Type 1} → statement M
 module-info-with-replaced-spec =
@@ -42,14 +37,14 @@ module-info-with-replaced-spec =
     (λ c κs. search needs)
     (λ c κs. search needs)
     (λ c. search needs)
-    (λ c. search needs)
-    returns
     (λ c κs. search needs)
     (λ c. search needs)
-    cast-refuse-all
     (λ c κs. search needs)
     (λ c. search needs)
     write-noted-report-requires
+    (λ c. search needs)
+    (λ c. search needs)
+    returns
     (λ c. search needs)
     (λ c. search needs)
     returns-2

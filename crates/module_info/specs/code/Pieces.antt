@@ -1,7 +1,7 @@
 -- The report in the pieces that functions write, and what is lent to these.
 use mathlib.Core.Path.{_≡_}
 use mathlib.Core.List.{List, [], _++_}
-use Prim.Native.Nat.{ℕ, _≤_}
+use Prim.Native.Nat.{ℕ, _≤_, _<_}
 use lib.ListN.{length, drop}
 use Rattle.laws.specs.Decoded.{ok, no}
 use Rattle.text.specs.Bytes.{part}
@@ -14,8 +14,6 @@ use Rattle.sheet.specs.Sheet.{Sheet, accept}
 use Rattle.sheet.specs.code.Tables.{commentsIn, groupsIn, commentsPart, groupsPart, indexPart}
 use Rattle.sheet.specs.code.Views.{programOf}
 use Rattle.accept.specs.declared.check.Parts.{Parts}
-use Rattle.accept.specs.declared.check.SheetChecked.{SheetChecked}
-use Rattle.accept.specs.declared.check.SheetChecked.the-variants as checked
 use Rattle.accept.specs.code.Accepts.{Accepts}
 use Rattle.report.specs.Range.{IndexOf}
 use Rattle.report.specs.Encode.{encodeList, encodeSpecifier, encodeReference, encodeJsDoc, encodeDependency}
@@ -23,6 +21,8 @@ use Rattle.pragmas.specs.Pragmas.{tsReferences, selfTypesSpecifier, jsxImportSo
 use Rattle.listing.specs.Imports.{jsdocImports}
 use Rattle.dep.specs.Collect.{collect}
 use Rattle.dep.specs.code.Walk.{HeldIn}
+use Rattle.module_info.specs.declared.judge.SheetJudged.{SheetJudged}
+use Rattle.module_info.specs.declared.judge.SheetJudged.the-variants as judged
 
 -- the script flag and the dependencies
 unfoldable pub dependencyBytes : Sheet → List ℕ
@@ -66,7 +66,8 @@ pub record AcceptsIn (s tables : List ℕ) (p : Parts) : Type 0 where
   pub accepts : Accepts s (commentsPart tables) (groupsPart tables) p
   pub indexed : IndexOf (part s (p .«source_start») (p .«source_end»)) (indexPart tables)
 
--- what the check says of a sheet s, with what the table holds
-abbrev pub JudgesIn : List ℕ → List ℕ → SheetChecked → Type 0
-JudgesIn s tables (checked.Accepted p) = AcceptsIn s tables p
-JudgesIn s tables (checked.Refused r) = accept s ≡ no r
+-- what is said of bytes s, with what the table holds
+abbrev pub JudgesIn : List ℕ → List ℕ → SheetJudged → Type 0
+JudgesIn s tables judged.Empty = s ≡ []
+JudgesIn s tables (judged.Refused r) = (0 < length s) × (accept s ≡ no r)
+JudgesIn s tables (judged.Accepted p) = AcceptsIn s tables p

@@ -4,8 +4,8 @@ use denote.Ref.{now}
 use Rattle.sheet.specs.Limits.{indexStart, tableNumbers}
 use Rattle.accept.proofs.Lent.{part-length}
 use Rattle.module_info.proofs.Accepted.{source-short, indexed-in}
-use Rattle.module_info.proofs.index_source.Statement.{statement}
-use Rattle.module_info.proofs.index_source.Tie as tie
+use Rattle.module_info.proofs.judge.index_source.Statement.{statement}
+use Rattle.module_info.proofs.judge.index_source.Tie as tie
 
 sub-build-index : tie.Need-sub-build-index
 sub-build-index c = c .before .before .pre .1 .places .0

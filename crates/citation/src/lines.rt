@@ -91,7 +91,8 @@ fn put_range(place: Place, out: &mut [u8], source: &[u8], start: Position, end: 
 {
     let p = put_position(place, out, recounted(source, start));
     let p = p.put(out, b'-');
-    put_position(p, out, recounted(source, end))
+    let last = recounted(source, end);
+    put_position(p, out, last)
 }
 
 // Writes a line: letter, space, range, space, text.

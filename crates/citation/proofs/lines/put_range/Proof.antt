@@ -13,7 +13,7 @@ returns c =
       ← (c .before .before .before .before .before .before .before .before .before .before .before .put-position .ensures),
       wrote-cons,
       ← (c .before .before .before .before .before .before .before .put .ensures),
-      ← (c .before .before .before .recounted2 .ensures .0),
+      ← (c .before .before .before .before .recounted2 .ensures .0),
     )
     (c .before .before .put-position2 .ensures)
 

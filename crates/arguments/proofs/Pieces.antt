@@ -75,11 +75,6 @@ pub hole-count : (there : Bool) → length (holeParts there) ≡ one there
 hole-count true = refl
 hole-count false = refl
 
--- a test counts for one at most
-pub one-most : (b : Bool) → one b ≤ 1
-one-most true = omega arith
-one-most false = omega arith
-
 -- a template without holes is its one piece, any other is its parts
 module _ (holes : ℕ) (s : List ℕ) {ps : Pieces} {u : List ℕ} (read : many [] piece (holes + 1) s ≡ ok ps u) where
   pub one-only : {p : Option (List ℕ)} {t : List ℕ} → holes ≡ 0 → piece s ≡ ok (p ∷_) t → ps ≡ p ∷ []

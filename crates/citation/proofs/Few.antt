@@ -6,9 +6,10 @@ use native.Mathlib.Omega.{arith}
 use lib.ListN.{length, length-append}
 use Rattle.wire.specs.Text.{encodeText}
 use Rattle.wire.specs.Optional.{encodeOptional}
+use Rattle.wire.proofs.Lengths.{number-long}
 use Rattle.report.specs.ModuleInfo.{SpecifierWithRange, ImportAttributes, none, unknown, known, DynamicArgument, expr, string, template, DependencyDescriptor, static, dynamic, ModuleInfo}
 use Rattle.report.specs.Encode.{encodeList, encodeSpecifier, encodeAttributes, encodeArgument, encodeStatic, encodeDynamic, encodeDependency, encode}
-use Rattle.citation.proofs.Lengths.{number-long, range-long}
+use Rattle.citation.proofs.Lengths.{range-long}
 
 optional-long : (o : Option SpecifierWithRange) → 0 < length (encodeOptional encodeSpecifier o)
 unfolding encodeOptional

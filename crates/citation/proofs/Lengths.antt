@@ -17,6 +17,7 @@ use Rattle.text.specs.declared.position.Position.{Position}
 use Rattle.wire.specs.Number.{largest, encodeGroups, encodeNumber}
 use Rattle.wire.specs.Text.{encodeText}
 use Rattle.wire.specs.Optional.{encodeOptional}
+use Rattle.wire.proofs.Lengths.{number-long}
 use Rattle.report.specs.ModuleInfo.{PositionRange, SpecifierWithRange, DynamicArgument, expr, string, template, path, types, static, dynamic, TypeScriptReference, JsDocImportInfo, DependencyDescriptor, ModuleInfo}
 use Rattle.report.specs.Encode.{encodeList, encodePosition, encodeRange, encodeSpecifier, encodeReference, encodeJsDoc, encodeArgument, encodeStatic, encodeDynamic, encodeDependency, encode}
 use Rattle.report.specs.Valid.{ValidPosition, ValidRange, ValidSpecifier, ValidReference, ValidJsDoc, ValidDependency, Valid}
@@ -60,14 +61,6 @@ groups-long (suc k) j n l h = by-size (ltb n 128) refl j l h (λ j. groups-long 
     by-size true e (suc j) l h above = absurd (omega (arith, ltb-true n 128 e, pow-suc 128 j, one-le-pow j 128 (omega arith)))
     by-size false e zero l h above = rw e (omega arith)
     by-size false e (suc j) l h above = rw e (omega (arith, above j (omega arith) (omega (arith, pow-suc 128 j))))
-
-pub number-long : (n : ℕ) → 0 < length (encodeNumber n)
-unfolding encodeNumber encodeGroups
-number-long n = by-size (ltb n 128)
-  where
-    by-size : (b : Bool) → 0 < length (cond b (n ∷ []) ((128 + n % 128) ∷ encodeGroups 4 (n / 128)))
-    by-size true = omega arith
-    by-size false = omega arith
 
 -- up to twice a number, counted from 1, has at most three digits for each of the number's groups
 number-short : (n m : ℕ) → n ≤ largest → m ≤ 2 * n → length (decimal (m + 1)) ≤ 3 * length (encodeNumber n)

@@ -1,22 +1,17 @@
 -- How what is found adds up.
 use mathlib.Core.Path.{_≡_}
-use mathlib.Core.Bool.{Bool, true, false, not, _&&_, and-false, _||_, or-assoc, or-false, or-true}
-use Prim.Native.Nat.{_+_, _≤_}
+use mathlib.Core.Bool.{Bool, false, not, _&&_, and-false, _||_, or-assoc, or-false, or-true}
+use Prim.Native.Nat.{_+_}
 use native.Mathlib.Nat.{add-assoc, add-zero, zero-add}
-use native.Mathlib.Omega.{arith}
 use Rattle.sheet.specs.declared.fields.Span.{Span}
 use Rattle.sheet.specs.Tree.{Node, Arguments, noArguments, argument}
 use Rattle.sheet.specs.Shape.{shape, isUncooked}
 use Rattle.sheet.specs.Walk.{walkOf}
-use Rattle.sheet.specs.Walked.{one, counting, entries, judging, uncooked}
+use Rattle.sheet.specs.Walked.{counting, entries, judging, uncooked}
 use Rattle.nodes.specs.declared.tally.Tally.{Tally}
 use Rattle.nodes.specs.declared.tally.Judged.{Judged}
 use Rattle.nodes.specs.declared.tally.Passed.{Passed}
 use Rattle.nodes.specs.code.Judged.{judged, plus, withArgument, passed}
-
-pub one-small : (b : Bool) → one b ≤ 1
-one-small true = omega arith
-one-small false = omega arith
 
 abbrev pub nothing : Tally
 nothing = record { entries = 0; uncooked = false }

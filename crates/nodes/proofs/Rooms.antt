@@ -4,6 +4,7 @@ use Prim.Native.Nat.{ℕ, _+_, _≤_}
 use native.Mathlib.Omega.{arith}
 use mathlib.Core.Bool.{_&&_}
 use Rattle.wire.specs.declared.Cursor.{Cursor}
+use Rattle.sheet.proofs.Ones.{one-most}
 use Rattle.nodes.specs.declared.tally.Tally.{Tally}
 use Rattle.nodes.specs.declared.tally.Judged.{Judged}
 use Rattle.nodes.specs.declared.tally.Passed.{Passed}
@@ -14,7 +15,6 @@ use Rattle.nodes.specs.declared.tally.Tallied.the-variants as tallied
 use Rattle.nodes.specs.declared.tally.PassedRead.{PassedRead}
 use Rattle.nodes.specs.declared.tally.PassedRead.the-variants as passedRead
 use Rattle.nodes.specs.code.Answers.{leafOf, withOwn, onlyEntry, joined, withNodes, calledBy, Room, RoomPassed, PastChecked, PastRest, PastTally, PastPassed}
-use Rattle.nodes.proofs.Adds.{one-small}
 
 module _ (at n : ℕ) where
   pub room : (k : ℕ) (y : Tallied) → k ≤ at → PastTally at n y → Room k y
@@ -26,7 +26,7 @@ module _ (at n : ℕ) where
   room-passed k (passedRead.Refused r) h p = tt
 
   pub leaf-past : (own require : Bool) (next : Cursor) → at ≤ next .at → next .at ≤ n → PastRest at n (leafOf own require next)
-  leaf-past own require next h l = (h, l, omega (arith, one-small own))
+  leaf-past own require next h l = (h, l, omega (arith, one-most own))
 
   pub entry-past : (y : Tallied) → PastTally at n y → PastRest at n (onlyEntry y)
   entry-past (tallied.Is t next) p = (omega arith, p .0, omega arith)
@@ -39,7 +39,7 @@ module _ (at n : ℕ) where
     tally-past (tallied.Refused r) p = tt
 
     pub holding-past : (own template : Bool) (y : Tallied) → PastTally from n y → PastRest at n (withOwn own template y)
-    holding-past own template (tallied.Is t next) p = (omega arith, p .0, omega (arith, one-small own))
+    holding-past own template (tallied.Is t next) p = (omega arith, p .0, omega (arith, one-most own))
     holding-past own template (tallied.Refused r) p = tt
 
   -- with what was found up to there
@@ -52,7 +52,7 @@ module _ (at n : ℕ) where
   nodes-past from t (tallied.Refused r) h p = tt
 
   pub called-past : (from : ℕ) (e : Judged) (y : PassedRead) → at + e .entries ≤ from → PastPassed from n y → PastRest at n (calledBy e y)
-  called-past from e (passedRead.Is t next) h p = (omega arith, p .0, omega (arith, one-small (e .require && t .any)))
+  called-past from e (passedRead.Is t next) h p = (omega arith, p .0, omega (arith, one-most (e .require && t .any)))
   called-past from e (passedRead.Refused r) h p = tt
 
   -- a node from its head and what follows

@@ -29,6 +29,14 @@ depthLimit = 64
 abbrev pub propertyLimit : ℕ
 propertyLimit = 64
 
+-- bytes of the sheet that a dependency takes at least (crates/sheet_codec, law `few-entries`)
+abbrev pub entryBytes : ℕ
+entryBytes = 9
+
+-- dependencies
+abbrev pub entryLimit : ℕ
+entryLimit = sheetLimit / entryBytes
+
 -- numbers in a table of comments, three for each
 abbrev pub commentNumbers : ℕ
 commentNumbers = 3 * commentLimit

@@ -21,6 +21,12 @@ pub const DEPTH_LIMIT: usize = 64;
 // Properties of an Object.
 pub const PROPERTY_LIMIT: usize = 64;
 
+// Bytes of the sheet that a dependency takes at least.
+pub const ENTRY_BYTES: usize = 9;
+
+// Dependencies.
+pub const ENTRY_LIMIT: usize = SHEET_LIMIT / ENTRY_BYTES;
+
 // Numbers in a table of comments, three for each.
 pub const COMMENT_NUMBERS: usize = 3 * COMMENT_LIMIT;
 

@@ -6,6 +6,7 @@ pub mod Trees
 pub mod Tags
 pub mod Levels
 pub mod Sheets
+pub mod EntryBytes
 pub mod Quotations
 pub mod FieldBytes
 pub mod Fields

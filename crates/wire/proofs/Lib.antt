@@ -1,5 +1,6 @@
 pub mod Places
 pub mod Groups
+pub mod Lengths
 pub mod NumberCodec
 pub mod TextCodec
 pub mod OptionalCodec

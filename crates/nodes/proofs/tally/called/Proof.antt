@@ -1,6 +1,6 @@
 use borrow.Author.Needs.{needs}
 use native.Mathlib.Omega.{arith}
-use Rattle.nodes.proofs.Adds.{one-small}
+use Rattle.sheet.proofs.Ones.{one-most}
 use Rattle.nodes.proofs.tally.called.Statement.{statement}
 use Rattle.nodes.proofs.tally.called.Tie as tie
 
@@ -12,7 +12,7 @@ add-t11 c =
 add-t12 : tie.Need-add-t12
 add-t12 c =
     let room = rw (c .before .before .before .before .before .before .before .r2 .given .1) at (c .before .before .before .before .before .before .before .before .before .pre) in
-    rw (c .before .before .before .before .count-one .ensures) (omega (arith, one-small (c .before .before .before .before .before .both .result)))
+    rw (c .before .before .before .before .count-one .ensures) (omega (arith, one-most (c .before .before .before .before .before .both .result)))
 
 returns : tie.Need-returns
 returns c = rw (c .before .r .given .1)

@@ -1,13 +1,13 @@
 use borrow.Author.Needs.{needs}
 use native.Mathlib.Omega.{arith}
-use Rattle.nodes.proofs.Adds.{one-small}
+use Rattle.sheet.proofs.Ones.{one-most}
 use Rattle.nodes.proofs.tally.holding.Statement.{statement}
 use Rattle.nodes.proofs.tally.holding.Tie as tie
 
 add-t9 : tie.Need-add-t9
 add-t9 c =
     let room = rw (c .before .before .before .r2 .given .1) at (c .before .before .before .before .before .pre) in
-    rw (c .before .count-one .ensures) (omega (arith, one-small (c .before .before .before .before .before .args .own)))
+    rw (c .before .count-one .ensures) (omega (arith, one-most (c .before .before .before .before .before .args .own)))
 
 returns : tie.Need-returns
 returns c = rw (c .before .r .given .1)

@@ -1,0 +1,9 @@
+-- A test counts for one at most.
+use mathlib.Core.Bool.{Bool, true, false}
+use Prim.Native.Nat.{_≤_}
+use native.Mathlib.Omega.{arith}
+use Rattle.sheet.specs.Walked.{one}
+
+pub one-most : (b : Bool) → one b ≤ 1
+one-most true = omega arith
+one-most false = omega arith

@@ -54,9 +54,10 @@ enum module_info_number {
  * measured on x86-64 (bindings/c/stack.c), not proved. Nothing else is asked of the caller. */
 uint64_t module_info_answer(const uint8_t *sheet, size_t n, uint8_t *buffer, size_t m);
 
-/* The same report, with how many characters were replaced in the text of each dependency, in k notes: a lone surrogate is reported as U+FFFD.
- * The first note says how many numbers follow it, one for each dependency in the report's order, as far as there is room; every other note is 0,
- * and all of them after a refusal. 1 + m / 8 notes hold the numbers of every report that fits the buffer. The notes overlap neither of the others. */
+/* The same report, with two numbers for each dependency, in k notes: the byte of the source at which its node starts, and how many characters were
+ * replaced in its text, since a lone surrogate is reported as U+FFFD. The first note says how many numbers follow it, those of the dependencies in
+ * the report's order, as far as there is room for both; every other note is 0, and all of them after a refusal. 1 + m / 4 notes hold the numbers of
+ * every report that fits the buffer. The notes overlap neither of the others. */
 uint64_t module_info_with_replaced_answer(const uint8_t *sheet, size_t n, uint8_t *buffer, size_t m, size_t *notes, size_t k);
 
 /* The answers of module_info_source_map besides the refusals. */

@@ -1,9 +1,10 @@
 /* compare [--before ANSWERS] SHEETS ANSWERS KINDS FILE [KIND]...
  * Runs the linked library and tools/second.rs on every sheet of a batch and compares them with each other and with ANSWERS, those of
  * tools/oracle: the library with lent buffers of several sizes, by number, length and every byte of the buffer. Where the oracle leaves a
- * sheet out, the library is compared with second, and each text that second has from a comment must stand between its positions. The numbers of
- * replaced characters, which the oracle does not have, are compared with second's, in notes of several sizes. Prints by kind how many sheets were accepted, refused with each number and left out, and
- * the shortest sheet that differs, which is also written to FILE.
+ * sheet out, the library is compared with second, and each text that second has from a comment must stand between its positions. Where the
+ * dependencies start and the numbers of replaced characters, which the oracle does not have, are compared with second's, in notes of several
+ * sizes. Prints by kind how many sheets were accepted, refused with each number and left out, and the shortest sheet that differs, which is also
+ * written to FILE.
  * The library and second are also asked for the source map by ECMA-426 (request #105).
  * The status is 1 if a sheet differs, or if one of the kinds named has no accepted sheet or one with a String that is not quoted.
  * With --before, ANSWERS are those of an oracle without the patch of request #104: they must differ from the others on just the sheets in which
@@ -35,7 +36,7 @@ bool second_shows(const uint8_t *sheet, size_t n, const uint8_t *report, size_t 
 #define ROOM ((size_t)1 << 20)
 #define LARGE 65536
 /* how many dependencies, and a number for each: a report of LARGE bytes has eight for each of them */
-#define NOTES (1 + LARGE / 8)
+#define NOTES (1 + LARGE / 4)
 #define MAX_KINDS 64
 /* an answer's number is a byte; the oracle's last one says that the sheet is left out */
 #define NUMBERS 256
@@ -129,7 +130,8 @@ static const char *difference(const uint8_t *sheet, size_t n, struct answer expe
     return NULL;
 }
 
-/* What differs in the library's answer and notes, with a buffer of m bytes and k notes, or NULL. */
+/* What differs in the library's answer and notes, with a buffer of m bytes and k notes, or NULL. A dependency has two notes, and the second counts
+ * its replaced characters. */
 static const char *notes_differ(const uint8_t *sheet, size_t n, struct answer expected, size_t m, size_t k) {
     static char message[200];
     static size_t notes[NOTES + 1], others[NOTES];
@@ -142,8 +144,8 @@ static const char *notes_differ(const uint8_t *sheet, size_t n, struct answer ex
     calls++;
     second_notes(sheet, n, m, others, k);
     if (k == NOTES && m == LARGE) {
-        size_t i = 1;
-        while (i <= others[0] && !others[i]) i++;
+        size_t i = 2;
+        while (i <= others[0] && !others[i]) i += 2;
         replaced += i <= others[0];
     }
     if (got != expected.number + 256 * (uint64_t)expected.length || memcmp(buffer, expected.report, expected.length)
@@ -168,7 +170,7 @@ static const char *library_differs(const uint8_t *sheet, size_t n, struct answer
     const char *message = NULL;
     for (size_t i = 0; i < sizeof sizes / sizeof *sizes && !message; i++) message = difference(sheet, n, expected, sizes[i]);
     if (!message) message = notes_differ(sheet, n, expected, LARGE, NOTES);
-    if (!message) message = notes_differ(sheet, n, expected, LARGE, 3);
+    if (!message) message = notes_differ(sheet, n, expected, LARGE, 3 + n % 2);
     if (!message) message = notes_differ(sheet, n, expected, LARGE, 0);
     if (!message && length) message = notes_differ(sheet, n, expected, length - 1, NOTES);
     return message;

@@ -914,13 +914,14 @@ impl Sheet {
         w.attributes(a);
     }
 
-    /// The report, and the numbers beside its dependencies.
-    fn report(&self) -> Read<(Vec<u8>, Vec<usize>)> {
+    /// The report, and beside each dependency where its node starts and how many surrogates its one text has.
+    fn report(&self) -> Read<(Vec<u8>, Vec<[usize; 2]>)> {
         let p = patterns();
         let mut dependencies = Writer { sheet: self, out: Vec::new(), replaced: Vec::new(), starts: Vec::new() };
         let mut count = 0;
         self.walk(&p, &self.root, &mut dependencies, &mut count)?;
-        let mut w = Writer { sheet: self, out: vec![u8::from(self.script)], replaced: dependencies.replaced, starts: Vec::new() };
+        let rows = dependencies.starts.into_iter().zip(dependencies.replaced).map(|(start, number)| [start, number]).collect();
+        let mut w = Writer { sheet: self, out: vec![u8::from(self.script)], replaced: Vec::new(), starts: Vec::new() };
         w.number(count);
         w.out.extend(dependencies.out);
         self.references(&p, &mut w);
@@ -935,7 +936,7 @@ impl Sheet {
         self.jsdoc(&mut w);
         let end = self.group(1, self.span.1);
         w.optional(end.iter().rev().find_map(|c| self.captured(c, &p.source_map, true, false)));
-        Ok((w.out, w.replaced))
+        Ok((w.out, rows))
     }
 }
 
@@ -1056,9 +1057,9 @@ fn call_attributes(argument: Option<&(bool, Span, Node)>) -> Attributes {
     found
 }
 
-/// The report of a sheet, however long, or its refusal (1 to 9, or 13); of no bytes eight zero bytes. With it the numbers beside its dependencies:
-/// how many surrogates the one text of each has.
-pub fn answer_with_replaced(sheet: &[u8]) -> Read<(Vec<u8>, Vec<usize>)> {
+/// The report of a sheet, however long, or its refusal (1 to 9, or 13); of no bytes eight zero bytes. With it the rows beside its dependencies:
+/// where the node of each starts, and how many surrogates its one text has.
+pub fn answer_with_rows(sheet: &[u8]) -> Read<(Vec<u8>, Vec<[usize; 2]>)> {
     if sheet.is_empty() {
         return Ok((vec![0; 8], Vec::new()));
     }
@@ -1066,7 +1067,7 @@ pub fn answer_with_replaced(sheet: &[u8]) -> Read<(Vec<u8>, Vec<usize>)> {
 }
 
 pub fn answer(sheet: &[u8]) -> Read<Vec<u8>> {
-    Ok(answer_with_replaced(sheet)?.0)
+    Ok(answer_with_rows(sheet)?.0)
 }
 
 /// # Safety
@@ -1086,7 +1087,8 @@ pub unsafe extern "C" fn second_answer(sheet: *const u8, n: usize, buffer: *mut 
     }
 }
 
-/// The numbers as the library notes them in m numbers, for a report of at most `room` bytes: how many follow, these as far as they fit, and zeros.
+/// The rows as the library notes them in m numbers, for a report of at most `room` bytes: how many numbers follow, the rows as far as they fit, and
+/// zeros.
 ///
 /// # Safety
 /// `sheet` has `n` bytes to read, and `notes` has `m` numbers to write.
@@ -1095,14 +1097,14 @@ pub unsafe extern "C" fn second_notes(sheet: *const u8, n: usize, room: usize, n
     let sheet = if n == 0 { &[] } else { unsafe { std::slice::from_raw_parts(sheet, n) } };
     let notes = if m == 0 { &mut [] } else { unsafe { std::slice::from_raw_parts_mut(notes, m) } };
     notes.fill(0);
-    let numbers = match answer_with_replaced(sheet) {
-        Ok((report, numbers)) if report.len() <= room => numbers,
+    let rows = match answer_with_rows(sheet) {
+        Ok((report, rows)) if report.len() <= room => rows,
         _ => Vec::new(),
     };
     if let Some((count, rest)) = notes.split_first_mut() {
-        for (place, number) in rest.iter_mut().zip(&numbers) {
-            *place = *number;
-            *count += 1;
+        for (place, row) in rest.chunks_exact_mut(2).zip(&rows) {
+            place.copy_from_slice(row);
+            *count += 2;
         }
     }
 }

@@ -19,7 +19,7 @@
 static unsigned long calls, failures;
 static size_t largest = LARGE;
 
-/* The answer with notes is the same. The first note says how many numbers follow, the others are 0. */
+/* The answer with notes is the same. The first note says how many numbers follow, two for each dependency; the others are 0. */
 static void noted(const char *name, const uint8_t *sheet, size_t n, size_t m, uint64_t expected) {
     static uint8_t buffer[LARGE];
     size_t notes[4], i;
@@ -29,7 +29,7 @@ static void noted(const char *name, const uint8_t *sheet, size_t n, size_t m, ui
     answer = module_info_with_replaced_answer(sheet, n, buffer, m, notes, 3);
     calls++;
     for (i = notes[0] < 3 ? 1 + notes[0] : 0; i < 3 && !notes[i]; i++) continue;
-    if ((answer != expected || i < 3 || (MODULE_INFO_NUMBER(answer) && notes[0]) || notes[3] % 256 != FILL) && ++failures <= SHOWN)
+    if ((answer != expected || i < 3 || notes[0] % 2 || (MODULE_INFO_NUMBER(answer) && notes[0]) || notes[3] % 256 != FILL) && ++failures <= SHOWN)
         printf("%s, notes: number %d and %lu notes\n", name, MODULE_INFO_NUMBER(answer), (unsigned long)notes[0]);
 }
 

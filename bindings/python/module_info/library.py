@@ -54,12 +54,12 @@ def module_info(sheet: bytes, size: int = BUFFER) -> ModuleInfo:
 def module_info_with_replaced(sheet: bytes, size: int = BUFFER) -> Tuple[ModuleInfo, List[int]]:
     """The same, with how many characters were replaced in the text of each dependency: a lone surrogate is reported as U+FFFD."""
     buffer = ctypes.create_string_buffer(max(size, 1))
-    notes = (ctypes.c_size_t * (1 + size // 8))()
+    notes = (ctypes.c_size_t * (1 + size // 4))()
     answer = _load().module_info_with_replaced_answer(bytes(sheet), len(sheet), buffer, size, notes, len(notes))
     number, length = answer % 256, answer // 256
     if number != 0:
         raise Refused(number)
-    return decode(buffer.raw[:length]), notes[1 : 1 + notes[0]]
+    return decode(buffer.raw[:length]), notes[2 : 1 + notes[0] : 2]  # two numbers for each dependency, and this is the second
 
 
 def source_map(sheet: bytes) -> Optional[SpecifierWithRange]:

@@ -83,8 +83,9 @@ pub fn module_info(sheet: &[u8], buffer: &mut [u8]) -> Result<usize, Refusal> {
     unpacked(answer, buffer.len())
 }
 
-/// The same, with how many characters were replaced in the text of each dependency: a lone surrogate is reported as U+FFFD. The first of the notes
-/// says how many numbers follow it, one for each dependency in order, as far as there is room; all else is 0, and all of them after a refusal.
+/// The same, with two numbers for each dependency: the byte of the source at which its node starts, and how many characters were replaced in its
+/// text, since a lone surrogate is reported as U+FFFD. The first of the notes says how many numbers follow it, those of the dependencies in order, as
+/// far as there is room for both; all else is 0, and all of them after a refusal.
 ///
 /// ```
 /// use module_info::module_info_with_replaced;

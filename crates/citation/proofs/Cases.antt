@@ -46,7 +46,7 @@ cases =
           ∷ 1 ∷ 1 ∷ 1 ∷ 0x68 ∷ 10 ∷ 12 ∷ 10 ∷ 15 ∷ 1  -- JSDoc entries
           ∷ 1 ∷ 1 ∷ 0x69 ∷ 11 ∷ 21 ∷ 11 ∷ 22  -- source map
           ∷ [],
-      0 ∷ 0 ∷ 2 ∷ [],
+      4 ∷ 0 ∷ 5 ∷ 0 ∷ 6 ∷ 2 ∷ [],  -- where each starts, and its number
       "module 10"
           ∷ "D 10:8-10:201 \\x5C\\x07\\x7Fe"
           ∷ "T 1:2-1:5 t"

@@ -148,7 +148,7 @@ module _ (source : List ℕ) where
     where
       items : (numbers : List ℕ) (l : List A) → All P l → Short (citeEach f numbers l) (flatMap encode l)
       items numbers [] v = omega arith
-      items numbers (a ∷ l) v = simp (flatMap-append, length-append) (omega (arith, h (getD numbers 0 0) a (v .0), items (drop 1 numbers) l (v .1)))
+      items numbers (a ∷ l) v = simp (flatMap-append, length-append) (omega (arith, h (getD numbers 1 0) a (v .0), items (drop 2 numbers) l (v .1)))
 
   list-short : {A : Type 0} (f : A → List Line) (encode : A → List ℕ) (P : A → Type 0) → ((a : A) → P a → Short (f a) (encode a))
       → (l : List A) → All P l → length (flatMap (printed source) (flatMap f l)) + 4 ≤ 4 * length (encodeList encode l)

@@ -2,7 +2,6 @@
 use mathlib.Core.Path.{_≡_, refl, ap}
 use mathlib.Core.List.{List, [], _∷_, _++_, append-assoc, flatMap}
 use Prim.Native.Nat.{ℕ, zero, suc, _+_}
-use native.Mathlib.Nat.{add-zero}
 use lib.ListN.{getD, drop, length-append}
 use lib.Seq.{getD-drop, drop-drop}
 use Rattle.laws.proofs.Lists.{flatMap-append}
@@ -22,22 +21,25 @@ both {source} {a} {b} p q =
     record { written = rw (flatMap-append (printed source) a b, wrote-append, ← (p .written)) (q .written); counted = rw (length-append, p .counted, q .counted) }
 
 -- the lines of one item more
-pub cite-next : {A : Type 0} (f : ℕ → A → List Line) (numbers : List ℕ) (turn : ℕ) (done : List Line) {a : A} {l l′ : List A} → l ≡ a ∷ l′
-    → done ++ citeEach f (drop turn numbers) l ≡ (done ++ f (getD numbers turn 0) a) ++ citeEach f (drop (turn + 1) numbers) l′
-cite-next f numbers turn done e = rw (e, getD-drop turn numbers 0 0, add-zero turn, drop-drop 1 turn numbers, append-assoc)
+pub cite-next : {A : Type 0} (f : ℕ → A → List Line) (numbers : List ℕ) (row : ℕ) (done : List Line) {a : A} {l l′ : List A} → l ≡ a ∷ l′
+    → done ++ citeEach f (drop row numbers) l ≡ (done ++ f (getD numbers (row + 1) 0) a) ++ citeEach f (drop (row + 2) numbers) l′
+cite-next f numbers row done e = rw (e, getD-drop row numbers 1 0, drop-drop 2 row numbers, append-assoc)
 
 -- where numbers do not count
 pub each-plain : {A : Type 0} (f : A → List Line) (numbers : List ℕ) (l : List A) → citeEach (λ number. f) numbers l ≡ flatMap f l
 unfolding flatMap
 each-plain f numbers [] = refl
-each-plain f numbers (a ∷ l) = ap (f a ++_) (each-plain f (drop 1 numbers) l)
+each-plain f numbers (a ∷ l) = ap (f a ++_) (each-plain f (drop 2 numbers) l)
 
 -- numbers of 0 behind the others change nothing
 each-padded : {A : Type 0} (f : ℕ → A → List Line) (numbers : List ℕ) (k : ℕ) (l : List A) → citeEach f (numbers ++ zeros k) l ≡ citeEach f numbers l
 each-padded f numbers k [] = refl
-each-padded f (n ∷ numbers) k (a ∷ l) = ap (f n a ++_) (each-padded f numbers k l)
+each-padded f (start ∷ number ∷ numbers) k (a ∷ l) = ap (f number a ++_) (each-padded f numbers k l)
+each-padded f (start ∷ []) zero (a ∷ l) = refl
+each-padded f (start ∷ []) (suc k) (a ∷ l) = ap (f 0 a ++_) (each-padded f [] k l)
 each-padded f [] zero (a ∷ l) = refl
-each-padded f [] (suc k) (a ∷ l) = ap (f 0 a ++_) (each-padded f [] k l)
+each-padded f [] (suc zero) (a ∷ l) = refl
+each-padded f [] (suc (suc k)) (a ∷ l) = ap (f 0 a ++_) (each-padded f [] k l)
 
 pub citation-padded : (source numbers : List ℕ) (k : ℕ) (m : ModuleInfo) → citation source (numbers ++ zeros k) m ≡ citation source numbers m
 unfolding citation lines

@@ -78,10 +78,10 @@ dependencyLetter number = cond (eqb number 0) (code "D") (code "d")
 abbrev pub citeNoted : ℕ → DependencyDescriptor → List Line
 citeNoted number = citeDependency (dependencyLetter number)
 
--- items, each with the number in its turn, or 0
+-- items, each with the second of the two numbers in its turn, or 0
 abbrev pub citeEach : {A : Type 0} → (ℕ → A → List Line) → List ℕ → List A → List Line
 citeEach cite numbers [] = []
-citeEach cite numbers (x ∷ l) = cite (getD numbers 0 0) x ++ citeEach cite (drop 1 numbers) l
+citeEach cite numbers (x ∷ l) = cite (getD numbers 1 0) x ++ citeEach cite (drop 2 numbers) l
 
 -- R
 abbrev pub citeReference : TypeScriptReference → List Line
@@ -92,7 +92,7 @@ citeReference (types s mode) = citeSpecifier (code "R") s
 abbrev pub citeJsDoc : JsDocImportInfo → List Line
 citeJsDoc i = citeSpecifier (code "J") (i .specifier)
 
--- the lines, in report order: D or d and T, R, S, X, Y, J, M; with the numbers beside the dependencies
+-- the lines, in report order: D or d and T, R, S, X, Y, J, M; with the numbers beside the dependencies, two for each
 unfoldable pub lines : List ℕ → ModuleInfo → List Line
 lines numbers m =
     citeEach citeNoted numbers (m .dependencies)

@@ -247,12 +247,12 @@ fn cite_item(
     }
 }
 
-// The number in its turn, 0 where there is none.
-fn number_at(numbers: &[usize], turn: usize) -> usize
-    ensures { λ r. ⌜ r ≡ getD (now (numbers .entry)) turn 0 ⌝ }
+// The number at a place, 0 where there is none.
+fn number_at(numbers: &[usize], at: usize) -> usize
+    ensures { λ r. ⌜ r ≡ getD (now (numbers .entry)) at 0 ⌝ }
 {
-    if turn < numbers.len() {
-        return numbers[turn];
+    if at < numbers.len() {
+        return numbers[at];
     }
     0
 }
@@ -276,14 +276,22 @@ fn cite_items(
     let mut p = place;
     let mut lines: usize = 0;
     let mut next = at;
-    let mut turn: usize = 0;
+    let mut row: usize = 0;
     let mut left = count;
     while 0 < left {
-        let item = cite_item(report, source, next, kind, number_at(numbers, turn), out, p);
+        let item = cite_item(
+            report,
+            source,
+            next,
+            kind,
+            number_at(numbers, row + 1),
+            out,
+            p,
+        );
         p = item.place;
         lines += item.lines;
         next = item.next;
-        turn += 1;
+        row += 2;
         left -= 1;
     }
     Cited {

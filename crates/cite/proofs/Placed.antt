@@ -49,7 +49,7 @@ all-flatMap P f (x ∷ l) a = all-append P (f x) (flatMap f l) (a .0) (all-flatM
 
 all-each : {A : Type 0} (P : Line → Type 0) (f : ℕ → A → List Line) (numbers : List ℕ) (l : List A) → All (λ a. (number : ℕ) → All P (f number a)) l → All P (citeEach f numbers l)
 all-each P f numbers [] a = tt
-all-each P f numbers (x ∷ l) a = all-append P (f (getD numbers 0 0) x) (citeEach f (drop 1 numbers) l) (a .0 (getD numbers 0 0)) (all-each P f (drop 1 numbers) l (a .1))
+all-each P f numbers (x ∷ l) a = all-append P (f (getD numbers 1 0) x) (citeEach f (drop 2 numbers) l) (a .0 (getD numbers 1 0)) (all-each P f (drop 2 numbers) l (a .1))
 
 module _ (source : List ℕ) where
   abbrev Placed : PositionRange → Type 0

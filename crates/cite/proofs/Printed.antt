@@ -2,7 +2,7 @@
 use mathlib.Core.Path.{_≡_, refl, sym, ap, _∙_}
 use mathlib.Core.Bool.{Bool, true, false}
 use mathlib.Core.List.{List, [], _++_, flatMap}
-use Prim.Native.Nat.{ℕ, _-_, _*_, _/_, _≤_}
+use Prim.Native.Nat.{ℕ, _+_, _-_, _*_, _≤_}
 use native.Mathlib.Omega.{arith}
 use lib.Dec.{leb}
 use lib.ListN.{length, take, drop, length-append, length-drop, length-map}
@@ -23,9 +23,10 @@ use Rattle.report.specs.declared.writer.Outcome.{Outcome}
 use Rattle.report.specs.declared.writer.Outcome.the-variants.{Accepted, Refused}
 use Rattle.module_info.specs.Information.{moduleInfo, defaultInfo, answerOf}
 use Rattle.dep.specs.Collect.{Noted, numbersOf}
-use Rattle.module_info.specs.Replaced.{numbersIn, held, NotesRight}
+use Rattle.module_info.specs.Replaced.{notedIn, held, NotesRight}
 use Rattle.module_info.specs.Replaced as Replaced
 use Rattle.module_info.specs.Demands.{Demands}
+use Rattle.module_info.proofs.Notes.{held-whole}
 use Rattle.citation.specs.Citation.{lines, citation, refusal}
 use Rattle.citation.proofs.Printing.{citation-padded}
 use Rattle.citation.proofs.Few.{few-dependencies}
@@ -53,11 +54,11 @@ pub record Reported (s : List ℕ) (n : ℕ) (buffer notes : List ℕ) : Type 0 
 -- information of which the report is answered and cited
 record Asked (s : List ℕ) : Type 0 where
   info : ModuleInfo
-  numbers : List ℕ
-  numbered : numbersIn (judge s) ≡ numbers
-  beside : length numbers ≡ length (info .dependencies)
+  noted : List Noted
+  numbered : notedIn (judge s) ≡ noted
+  beside : length noted ≡ length (info .dependencies)
   answer : answerOf s reportRoom ≡ fitted reportRoom (encode info)
-  lines : (source : List ℕ) → Holds s source → cited s ≡ citedIn source numbers info
+  lines : (source : List ℕ) → Holds s source → cited s ≡ citedIn source (numbersOf noted) info
   valid : Valid info
 
 -- there is such information, or there is a refusal of a sheet
@@ -65,25 +66,20 @@ data Question (s : List ℕ) : Type 0 where
   asked : Asked s → Question s
   refused : (r : ℕ) → oneOf ofSheets r ≡ true → answerOf s reportRoom ≡ refusedWith r reportRoom → cited s ≡ refusal r → Question s
 
--- notes with room for all the numbers hold them, and zeros
-notes-hold : (numbers : List ℕ) → length numbers ≤ reportRoom / 8 → drop 1 (held noteRoom numbers) ≡ numbers ++ zeros (reportRoom / 8 - length numbers)
-unfolding held
-notes-hold numbers h = rw (take-all (reportRoom / 8) numbers h)
-
 module _ {s buffer notes : List ℕ} where
   question : {outcome : Outcome} {number : ℕ} → Demands s reportRoom outcome buffer → NotesRight s noteRoom number notes → Question s
   unfolding answerOf cited judge citation lines flatMap
   question d noted = by (decided s)
     where
       by : Decision s → Question s
-      by (Decision.empty e) = asked (record { info = defaultInfo; numbers = []; numbered = rw e; beside = refl; answer = rw e; lines = λ source h. rw e; valid = d .empty e .report .fits })
+      by (Decision.empty e) = asked (record { info = defaultInfo; noted = []; numbered = rw e; beside = refl; answer = rw e; lines = λ source h. rw e; valid = d .empty e .report .fits })
       by (Decision.accepted t e) =
           let is = accepts-exactly s t .0 e in
           asked (record {
             info = moduleInfo t;
-            numbers = numbersOf (Replaced.noted t);
-            numbered = ap numbersIn (judged-sheet s e);
-            beside = length-map (Replaced.noted t) (λ (e : Noted). e .1) ∙ sym (length-map (Replaced.noted t) (λ (e : Noted). e .0)) ∙ ap length (noted .beside t is);
+            noted = Replaced.noted t;
+            numbered = ap notedIn (judged-sheet s e);
+            beside = sym (length-map (Replaced.noted t) (λ (e : Noted). e .entry)) ∙ ap length (noted .beside t is);
             answer = rw (judged-sheet s e);
             lines = λ source h. rw (judged-sheet s e, h t is);
             valid = d .report t is .fits;
@@ -102,18 +98,19 @@ module _ {s buffer notes : List ℕ} where
           let begun : buffer ≡ bytes ++ zeros (reportRoom - length bytes) = ap (λ (x : Answer). x .buffer) answer in
           let begins : bytes ≡ take n buffer = rw (long, begun) (sym (take-append-seam bytes _)) in
           let room = leb-true (length bytes) reportRoom h in
-          let few : length (a .numbers) ≤ reportRoom / 8 = omega (arith, a .beside, few-dependencies (a .info)) in
-          let hold : take (length notes - 1) (drop 1 notes) ≡ a .numbers ++ zeros (reportRoom / 8 - length (a .numbers)) =
+          let numbers = numbersOf (a .noted) in
+          let free = noteRoom - (1 + 2 * length (a .noted)) in
+          let few : 1 + 2 * length (a .noted) ≤ noteRoom = omega (arith, a .beside, few-dependencies (a .info)) in
+          let hold : take (length notes - 1) (drop 1 notes) ≡ numbers ++ zeros free =
           take-all (length notes - 1) (drop 1 notes) (omega (arith, length-drop 1 notes))
-          ∙ ap (drop 1) (noted .answer ∙ ap (held noteRoom) (a .numbered))
-          ∙ notes-hold (a .numbers) few in
+          ∙ ap (drop 1) (noted .answer ∙ ap (held noteRoom) (a .numbered) ∙ held-whole noteRoom (a .noted) few) in
           record {
             info = a .info;
             within = omega (arith, ap length begun, length-append bytes (zeros (reportRoom - length bytes)));
             room = rw (← begins) (omega arith);
             valid = a .valid;
             bytes = begins;
-            lines = λ source o. rw (a .lines source o, h) (sym (ap (λ l. citation source l (a .info)) hold ∙ citation-padded source (a .numbers) (reportRoom / 8 - length (a .numbers)) (a .info)));
+            lines = λ source o. rw (a .lines source o, h) (sym (ap (λ l. citation source l (a .info)) hold ∙ citation-padded source numbers free (a .info)));
           }
       by-room a false h =
           let none : _≡_ {A = ℕ} 0 refusals.buffer = ap (λ (x : Answer). x .number) (rw h at (d .answer ∙ a .answer)) in

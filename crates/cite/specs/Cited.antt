@@ -25,9 +25,9 @@ use Rattle.citation.specs.Right.{ColumnsRight}
 abbrev pub reportRoom : ℕ
 reportRoom = 65536
 
--- numbers of the notes: one for each dependency, which has at least eight bytes, behind how many there are
+-- numbers of the notes: two for each dependency, which has at least eight bytes, behind how many there are
 abbrev pub noteRoom : ℕ
-noteRoom = 1 + reportRoom / 8
+noteRoom = 1 + reportRoom / 4
 
 -- bytes of the buffer for the lines
 abbrev pub lineRoom : ℕ

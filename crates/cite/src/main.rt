@@ -47,8 +47,8 @@ fn cite(sheet: &[u8], report: &mut [u8], notes: &mut [usize], lines: &mut [u8]) 
     }
 }
 
-// Room for a number of each dependency of every report of 65,536 bytes, behind how many there are: a dependency has at least eight bytes.
-const NOTE_ROOM: usize = 1 + 65536 / 8;
+// Room for the two numbers of each dependency of every report of 65,536 bytes, behind how many there are: a dependency has at least eight bytes.
+const NOTE_ROOM: usize = 1 + 65536 / 4;
 
 fn note_buffer() -> [usize; NOTE_ROOM]
     ensures { λ r. ⌜ length r ≡ noteRoom ⌝ }

@@ -10,7 +10,7 @@ use Rattle.wire.specs.Number.{encodeNumber}
 use Rattle.sheet.specs.declared.fields.Span.{Span}
 use Rattle.sheet.specs.Tree.{Quoted, Node, Arguments, noArguments, argument}
 use Rattle.sheet.specs.Shape.{shape, isRequire, isAugmentation}
-use Rattle.sheet.specs.Walk.{Visit, called, importing, expression, imported, exported, typed, required, declared}
+use Rattle.sheet.specs.Walk.{Visit, called, importing, expression, imported, exported, typed, required, declared, startOf}
 use Rattle.sheet.specs.Walked.{declares, gives, one, anyArgument, counting, entries}
 use Rattle.sheet.proofs.Walks.{walks-related}
 use Rattle.report.specs.declared.names.StaticDependencyKind.the-variants as statics
@@ -24,7 +24,7 @@ use Rattle.report.proofs.Buffers.{wrote-append}
 use Rattle.arguments.specs.Argument.{replacedIn}
 use Rattle.dep.specs.code.Notes.{allNoted}
 use Rattle.dep.specs.code.Walk.{wroteEntries, afterNode}
-use Rattle.dep.specs.Collect.{dynamicKind, staticEntry, callEntry, moduleEntry, entryOf, collector, collect, textOf, Noted, beside, numbersOf, noting, collectNoted}
+use Rattle.dep.specs.Collect.{dynamicKind, staticEntry, callEntry, moduleEntry, entryOf, collector, collect, textOf, Noted, beside, noting, collectNoted}
 
 module _ (source : List ℕ) (types : ℕ → Option SpecifierWithRange) where
   call-one : (kind : DynamicDependencyKind) (sp : Span) (xs : Arguments) → length (callEntry source types kind sp xs) ≡ one (anyArgument xs)
@@ -59,32 +59,32 @@ module _ (source : List ℕ) (types : ℕ → Option SpecifierWithRange) where
   counted = walks-related (λ l n. length l ≡ n) (collector source types) counting
       (record { nothing = refl; both = λ e f. rw (length-append, e, f); own = entry-one })
 
-  -- the numbers stand beside the dependencies
-  beside-first : (number : ℕ) (l : List DependencyDescriptor) → map (λ e. e .0) (beside number l) ≡ l
-  beside-first number [] = refl
-  beside-first number (d ∷ l) = ap (d ∷_) (beside-first number l)
+  -- the rows stand beside the dependencies
+  beside-first : (start number : ℕ) (l : List DependencyDescriptor) → map (λ e. e .entry) (beside start number l) ≡ l
+  beside-first start number [] = refl
+  beside-first start number (d ∷ l) = ap (d ∷_) (beside-first start number l)
 
-  pub noted-first : (n : Node) → map (λ e. e .0) (collectNoted source types n) ≡ collect source types n
+  pub noted-first : (n : Node) → map (λ e. e .entry) (collectNoted source types n) ≡ collect source types n
   unfolding collector noting
-  noted-first = walks-related (λ l m. map (λ e. e .0) l ≡ m) (noting source types) (collector source types)
-      (record { nothing = refl; both = λ {a} {b} e f. rw (map-append (λ (e : Noted). e .0) a b, e, f); own = λ v. beside-first (replacedIn (textOf v)) (entryOf source types v) })
+  noted-first = walks-related (λ l m. map (λ e. e .entry) l ≡ m) (noting source types) (collector source types)
+      (record { nothing = refl; both = λ {a} {b} e f. rw (map-append (λ (e : Noted). e .entry) a b, e, f); own = λ v. beside-first (startOf v) (replacedIn (textOf v)) (entryOf source types v) })
 
-  noted-bytes : (l : List Noted) → flatMap (λ e. encodeDependency (e .0)) l ≡ flatMap encodeDependency (map (λ e. e .0) l)
+  noted-bytes : (l : List Noted) → flatMap (λ e. encodeDependency (e .entry)) l ≡ flatMap encodeDependency (map (λ e. e .entry) l)
   unfolding flatMap
   noted-bytes [] = refl
-  noted-bytes (e ∷ l) = ap (encodeDependency (e .0) ++_) (noted-bytes l)
+  noted-bytes (e ∷ l) = ap (encodeDependency (e .entry) ++_) (noted-bytes l)
 
   -- their number, and then their entries
   pub program-written : (w : Buffer) (x : Decoded Node) {n : Node} {t : List ℕ} → x ≡ ok n t → {count : ℕ} → count ≡ entries n
       → {w1 : Buffer} → w1 ≡ wrote w (encodeNumber count) → (notes : List ℕ) {w2 : Buffer} {notes′ v : List ℕ} → onOk (afterNode source types (w1, notes)) x ≡ ok (w2, notes′) v
-      → (w2 ≡ wrote w (encodeList encodeDependency (collect source types n))) × (notes′ ≡ allNoted notes (numbersOf (collectNoted source types n)))
+      → (w2 ≡ wrote w (encodeList encodeDependency (collect source types n))) × (notes′ ≡ allNoted notes (collectNoted source types n))
   unfolding encodeList
   program-written w x {n} {t} is {count} as-many {w1} number-first notes {w2} {notes′} {v} then-entries =
       let both : ok (afterNode source types (w1, notes) n) t ≡ ok (w2, notes′) v = rw is at then-entries in
       let last : (w2, notes′) ≡ wroteEntries (w1, notes) (collectNoted source types n) = cc in
       let bytes = noted-bytes (collectNoted source types n) ∙ ap (flatMap encodeDependency) (noted-first n) in (
         ap (λ p. p .0) last
-            ∙ ap (λ w. wrote w (flatMap (λ e. encodeDependency (e .0)) (collectNoted source types n))) number-first
+            ∙ ap (λ w. wrote w (flatMap (λ e. encodeDependency (e .entry)) (collectNoted source types n))) number-first
             ∙ rw (bytes, as-many, ← counted n) (sym (wrote-append w (encodeNumber (length (collect source types n))) (flatMap encodeDependency (collect source types n)))),
         ap (λ p. p .1) last,
       )

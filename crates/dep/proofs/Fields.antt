@@ -26,10 +26,10 @@ module _ (w : Buffer) (k : ℕ) (a b c d : List ℕ) where
       ∙ wrote-append (wrote v a) b (c ++ d)
       ∙ wrote-append (wrote (wrote v a) b) c d)
 
-module _ (w : Buffer) (notes : List ℕ) (number : ℕ) {w1 w2 w3 w4 w5 : Buffer} {notes′ : List ℕ} (numbered : notes′ ≡ noted notes number) where
+module _ (w : Buffer) (notes : List ℕ) (start number : ℕ) {w1 w2 w3 w4 w5 : Buffer} {notes′ : List ℕ} (numbered : notes′ ≡ noted notes start number) where
   pub static-written : (d : StaticDependencyDescriptor) → w1 ≡ wrote w (staticNumber (d .kind) ∷ []) → w2 ≡ wrote w1 (encodeOptional encodeSpecifier (d .typesSpecifier))
       → w3 ≡ wrote w2 (encodeSpecifier (d .specifier)) → w4 ≡ wrote w3 (encodeFlag (d .sideEffect)) → w5 ≡ wrote w4 (encodeAttributes (d .importAttributes))
-      → (w5, notes′) ≡ wroteEntries (w, notes) ((static d, number) ∷ [])
+      → (w5, notes′) ≡ wroteEntries (w, notes) (record { entry = static d; start = start; number = number } ∷ [])
   unfolding flatMap encodeDependency encodeStatic
   static-written d e1 e2 e3 e4 e5 =
       let written =
@@ -39,7 +39,7 @@ module _ (w : Buffer) (notes : List ℕ) (number : ℕ) {w1 w2 w3 w4 w5 : Buffer
 
   pub dynamic-written : (d : DynamicDependencyDescriptor) → w1 ≡ wrote w (dynamicNumber (d .kind) ∷ []) → w2 ≡ wrote w1 (encodeOptional encodeSpecifier (d .typesSpecifier))
       → w3 ≡ wrote w2 (encodeArgument (d .argument)) → w4 ≡ wrote w3 (encodeRange (d .argumentRange)) → w5 ≡ wrote w4 (encodeAttributes (d .importAttributes))
-      → (w5, notes′) ≡ wroteEntries (w, notes) ((dynamic d, number) ∷ [])
+      → (w5, notes′) ≡ wroteEntries (w, notes) (record { entry = dynamic d; start = start; number = number } ∷ [])
   unfolding flatMap encodeDependency encodeDynamic
   dynamic-written d e1 e2 e3 e4 e5 =
       let written =

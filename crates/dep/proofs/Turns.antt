@@ -7,6 +7,8 @@ use mathlib.Core.Option.{Option}
 use Prim.Native.Nat.{ℕ, _≤_}
 use native.Mathlib.Omega.{arith}
 use lib.ListN.{length}
+use Rattle.laws.specs.Codec.{All}
+use Rattle.laws.proofs.Lists.{of-members}
 use Rattle.sheet.specs.declared.fields.Span.{Span}
 use Rattle.sheet.specs.Tree.{Quoted, Node, Arguments, noArguments, argument}
 use Rattle.sheet.specs.Shape.{shape, isRequire, isAugmentation}
@@ -19,8 +21,14 @@ use Rattle.report.specs.ModuleInfo.{SpecifierWithRange, DependencyDescriptor}
 use Rattle.report.specs.ModuleInfo as info
 use Rattle.pragmas.specs.Texts.{typesOf}
 use Rattle.arguments.specs.Argument.{replacedIn}
-use Rattle.dep.specs.Collect.{textOf, beside, staticEntry, callEntry, moduleEntry, entryOf, collector, collect, noting, collectNoted}
+use Rattle.dep.specs.Collect.{textOf, Noted, beside, staticEntry, callEntry, moduleEntry, entryOf, collector, collect, noting, collectNoted}
 use Rattle.dep.specs.InTurn.{InTurn, nothing, entry, passed}
+
+-- what is so of an entry and its visit, with the visit's start and number
+pub record BesideTurn (P : Visit → DependencyDescriptor → Type 0) (v : Visit) (e : Noted) : Type 0 where
+  pub own : P v (e .entry)
+  pub start : e .start ≡ startOf v
+  pub number : e .number ≡ replacedIn (textOf v)
 
 turns-append : {A : Type 0} {P : Visit → A → Type 0} {vs ws : List Visit} {l m : List A} → InTurn P vs l → InTurn P ws m → InTurn P (vs ++ ws) (l ++ m)
 turns-append nothing q = q
@@ -47,11 +55,11 @@ turns-with nothing f = nothing
 turns-with (entry {v = v} {d = d} g h p) f = entry g (f v (List·Memᴰ·head refl) d h) (turns-with p (λ w i. f w (List·Memᴰ·tail i)))
 turns-with (passed g p) f = passed g (turns-with p (λ w i. f w (List·Memᴰ·tail i)))
 
--- an entry with the number of its visit
-beside-turn : {P : Visit → DependencyDescriptor → Type 0} (number : Visit → ℕ) {v : Visit} {l : List DependencyDescriptor} → InTurn P (v ∷ []) l
-    → InTurn (λ v e. P v (e .0) × (e .1 ≡ number v)) (v ∷ []) (beside (number v) l)
-beside-turn number (entry g h nothing) = entry g (h, refl) nothing
-beside-turn number (passed g nothing) = passed g nothing
+-- an entry with the start and the number of its visit
+beside-turn : {P : Visit → DependencyDescriptor → Type 0} {v : Visit} {l : List DependencyDescriptor} → InTurn P (v ∷ []) l
+    → InTurn (BesideTurn P) (v ∷ []) (beside (startOf v) (replacedIn (textOf v)) l)
+beside-turn (entry g h nothing) = entry g (record { own = h; start = refl; number = refl }) nothing
+beside-turn (passed g nothing) = passed g nothing
 
 module _ (source : List ℕ) (types : ℕ → Option SpecifierWithRange) (P : Visit → DependencyDescriptor → Type 0)
     (holds : (v : Visit) (d : DependencyDescriptor) → entryOf source types v ≡ d ∷ [] → typesOf d ≡ types (startOf v) → P v d) where
@@ -91,7 +99,15 @@ module _ (source : List ℕ) (types : ℕ → Option SpecifierWithRange) (P : Vi
   unfolding collector
   collect-turns = walks-related (λ l vs. InTurn P vs l) (collector source types) visiting (record { nothing = nothing; both = λ p q. turns-append p q; own = own-turn })
 
-  pub noted-turns : (n : Node) → InTurn (λ v e. P v (e .0) × (e .1 ≡ replacedIn (textOf v))) (visits n) (collectNoted source types n)
+  pub noted-turns : (n : Node) → InTurn (BesideTurn P) (visits n) (collectNoted source types n)
   unfolding noting
-  noted-turns = walks-related (λ l vs. InTurn (λ v e. P v (e .0) × (e .1 ≡ replacedIn (textOf v))) vs l) (noting source types) visiting
-      (record { nothing = nothing; both = λ p q. turns-append p q; own = λ v. beside-turn (λ v. replacedIn (textOf v)) (own-turn v) })
+  noted-turns = walks-related (λ l vs. InTurn (BesideTurn P) vs l) (noting source types) visiting
+      (record { nothing = nothing; both = λ p q. turns-append p q; own = λ v. beside-turn (own-turn v) })
+
+-- each dependency that is noted has the types that are given at its start
+pub types-at-start : (source : List ℕ) (types : ℕ → Option SpecifierWithRange) (n : Node)
+    → All (λ e. typesOf (e .entry) ≡ types (e .start)) (collectNoted source types n)
+types-at-start source types n =
+    of-members (λ e. typesOf (e .entry) ≡ types (e .start)) (collectNoted source types n) (λ e m.
+    let (v, h) = turn-member (noted-turns source types (λ v d. typesOf d ≡ types (startOf v)) (λ v d is same. same) n) m in
+    rw (h .start) (h .own))

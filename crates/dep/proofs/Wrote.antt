@@ -1,24 +1,24 @@
--- Entries written list by list, and their numbers noted.
+-- Entries written list by list, and their rows noted.
 use mathlib.Core.Path.{_≡_, refl, ap, _∙_}
-use mathlib.Core.List.{List, [], _∷_, _++_, flatMap, map-append}
+use mathlib.Core.List.{List, [], _∷_, _++_, flatMap}
 use Prim.Native.Nat.{ℕ}
 use Rattle.laws.proofs.Lists.{flatMap-append}
 use Rattle.report.specs.declared.writer.Place.{Place}
 use Rattle.report.specs.Encode.{encodeDependency}
 use Rattle.report.specs.Buffer.{wrote}
 use Rattle.report.proofs.Buffers.{wrote-append, wrote-nil}
-use Rattle.dep.specs.Collect.{Noted, numbersOf}
+use Rattle.dep.specs.Collect.{Noted}
 use Rattle.dep.specs.code.Notes.{noted, allNoted}
 use Rattle.dep.specs.code.Walk.{Written, writtenAs, wroteEntries}
 
-noted-append : (notes l m : List ℕ) → allNoted notes (l ++ m) ≡ allNoted (allNoted notes l) m
+noted-append : (notes : List ℕ) (l m : List Noted) → allNoted notes (l ++ m) ≡ allNoted (allNoted notes l) m
 noted-append notes [] m = refl
-noted-append notes (number ∷ l) m = noted-append (noted notes number) l m
+noted-append notes (e ∷ l) m = noted-append (noted notes (e .start) (e .number)) l m
 
 pub entries-append : (w : Written) (l m : List Noted) → wroteEntries w (l ++ m) ≡ wroteEntries (wroteEntries w l) m
 entries-append w l m =
-    let encoded : Noted → List ℕ = λ e. encodeDependency (e .0) in
-    rw (flatMap-append encoded l m, wrote-append (w .0) (flatMap encoded l) (flatMap encoded m), map-append (λ (e : Noted). e .1) l m, noted-append (w .1) (numbersOf l) (numbersOf m))
+    let encoded : Noted → List ℕ = λ e. encodeDependency (e .entry) in
+    rw (flatMap-append encoded l m, wrote-append (w .0) (flatMap encoded l) (flatMap encoded m), noted-append (w .1) l m)
 
 pub entries-nil : (out notes : List ℕ) (p : Place) → wroteEntries (writtenAs out notes p) [] ≡ writtenAs out notes p
 unfolding flatMap

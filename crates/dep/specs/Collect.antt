@@ -1,6 +1,6 @@
 -- The dependencies of a tree: `DependencyCollector` of src/ast/dep.rs, entry by entry. Their order is that of the walk.
 use mathlib.Core.Bool.{Bool, true, false, cond}
-use mathlib.Core.List.{List, [], _∷_, _++_, map}
+use mathlib.Core.List.{List, [], _∷_, _++_, map, flatMap}
 use mathlib.Core.Option.{Option}
 use Prim.Native.Nat.{ℕ}
 use Rattle.text.specs.Lossy.{lossy}
@@ -9,7 +9,7 @@ use Rattle.sheet.specs.declared.names.ImportPhase.{ImportPhase}
 use Rattle.sheet.specs.declared.names.ImportPhase.the-variants.{Evaluation, Source, Defer}
 use Rattle.sheet.specs.Tree.{Quoted, Node, Arguments, noArguments, argument}
 use Rattle.sheet.specs.Shape.{shape, isRequire, isAugmentation}
-use Rattle.sheet.specs.Walk.{Visit, called, importing, expression, imported, exported, typed, required, declared, Collector, walk}
+use Rattle.sheet.specs.Walk.{Visit, called, importing, expression, imported, exported, typed, required, declared, startOf, Collector, walk}
 use Rattle.report.specs.declared.names.StaticDependencyKind.{StaticDependencyKind}
 use Rattle.report.specs.declared.names.StaticDependencyKind.the-variants as statics
 use Rattle.report.specs.declared.names.DynamicDependencyKind.{DynamicDependencyKind}
@@ -61,17 +61,23 @@ textOf (typed sp x a) = Option.some (x .text)
 textOf (required sp typeOnly export x) = Option.some (x .text)
 textOf (declared sp x) = textIn x
 
--- a dependency, with the number of surrogates replaced in its text
-abbrev pub Noted : Type 0
-Noted = DependencyDescriptor × ℕ
+-- a dependency, with where its node starts and the number of surrogates replaced in its text
+pub record Noted : Type 0 where
+  pub entry : DependencyDescriptor
+  pub start : ℕ
+  pub number : ℕ
 
--- each with that number
-abbrev pub beside : ℕ → List DependencyDescriptor → List Noted
-beside number [] = []
-beside number (d ∷ l) = (d, number) ∷ beside number l
+-- each with that start and number
+abbrev pub beside : ℕ → ℕ → List DependencyDescriptor → List Noted
+beside start number [] = []
+beside start number (d ∷ l) = record { entry = d; start = start; number = number } ∷ beside start number l
 
+-- a row of two numbers for each
 abbrev pub numbersOf : List Noted → List ℕ
-numbersOf = map (λ e. e .1)
+numbersOf = flatMap (λ e. e .start ∷ e .number ∷ [])
+
+abbrev pub startsOf : List Noted → List ℕ
+startsOf = map (λ e. e .start)
 
 -- over a source, with the types that a comment before a place gives to the node that starts there
 module _ (source : List ℕ) (types : ℕ → Option SpecifierWithRange) where
@@ -124,9 +130,9 @@ module _ (source : List ℕ) (types : ℕ → Option SpecifierWithRange) where
   abbrev pub collect : Node → List DependencyDescriptor
   collect = walk collector
 
-  -- the same with the number of surrogates replaced in the text of each
+  -- the same with the start and the number of each
   unfoldable pub noting : Collector (List Noted)
-  noting = record { nothing = []; both = _++_; own = λ v. beside (replacedIn (textOf v)) (entryOf v) }
+  noting = record { nothing = []; both = _++_; own = λ v. beside (startOf v) (replacedIn (textOf v)) (entryOf v) }
 
   abbrev pub collectNoted : Node → List Noted
   collectNoted = walk noting

@@ -1,6 +1,6 @@
 // The entries of dependencies in the report. tables has the comments, the groups and the index of the source's positions, counts
-// how many comments and groups there are, cursor is in the sheet, and place in the buffer. notes takes for each entry how many characters
-// were replaced in its text.
+// how many comments and groups there are, cursor is in the sheet, and place in the buffer. notes takes for each entry where its node starts,
+// and how many characters were replaced in its text.
 use arguments::argument::DynamicArgument;
 use arguments::argument::parse_argument;
 use arguments::argument::put_argument;
@@ -164,15 +164,20 @@ fn put_types(
     )
 }
 
-// Notes a number for the next dependency: the first of the notes says how many there are. Where there is no room, nothing is noted.
-fn note(notes: &mut [usize], number: usize)
-    ensures { λ _. ⌜ now (notes .exit) ≡ noted (now (notes .entry)) number ⌝ }
+// Notes a row for the next dependency, where its node starts and its number: the first of the notes says how many numbers follow it. Where there is
+// no room for both, nothing is noted.
+fn note(notes: &mut [usize], start: usize, number: usize)
+    ensures { λ _. ⌜ now (notes .exit) ≡ noted (now (notes .entry)) start number ⌝ }
 {
     if 0 < notes.len() {
         let count = notes[0];
-        if count < notes.len() - 1 {
-            notes[count + 1] = number;
-            notes[0] = count + 1;
+        let room = notes.len() - 1;
+        if count < room {
+            if count + 1 < room {
+                notes[count + 1] = start;
+                notes[count + 2] = number;
+                notes[0] = count + 2;
+            }
         }
     }
 }
@@ -209,7 +214,7 @@ fn put_static_entry(
     let place = place.put(out, number);
     let place = put_types(source, tables, counts, start, out, place);
     let written = place.put_lossy_specifier(out, &sheet[from..to], source, index, specifier.span);
-    note(notes, written.replaced);
+    note(notes, start, written.replaced);
     let place = written.place;
     let place = place.put_flag(out, dependency.is_side_effect);
     put_attributes(sheet, pairs, attributes, out, place)
@@ -376,7 +381,7 @@ fn put_dynamic_entry(
     let argument = dependency.argument;
     let place = put_types(source, tables, counts, dependency.start, out, place);
     let written = put_argument(sheet, source, levels, argument, out, place);
-    note(notes, written.replaced);
+    note(notes, dependency.start, written.replaced);
     let place = written.place;
     let place = place.put_span(out, source, index, dependency.argument_range);
     put_attributes(sheet, &pairs, attributes, out, place)
@@ -403,7 +408,7 @@ fn put_argument_entry(
         → arguments (node (now (source .entry)) levels) (now (source .entry)) more t ≡ ok xs u
         → writtenAs (now (out .exit)) (now (notes .exit)) r
         ≡ wroteEntries (writtenAs (now (out .entry)) (now (notes .entry)) place)
-        (beside (replacedIn (singleText (shape n)))
+        (beside (call .span .start) (replacedIn (singleText (shape n)))
         (callEntry (now (source .entry))
         (typesFrom (now (source .entry)) (now (tables .entry)) counts)
         (call .kind) (call .span) (argument dots range n xs)))) ⌝ }

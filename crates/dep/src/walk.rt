@@ -56,7 +56,7 @@ ghost use Rattle.heads.specs.code.Head.{importHead, exportFromHead, exportAllHe
 ghost use Rattle.heads.specs.code.Views.{quotedOf, headOf};
 ghost use Rattle.report.specs.Encode.{encodeList, encodeDependency};
 ghost use Rattle.report.specs.Buffer.{wrote, bufferAs};
-ghost use Rattle.dep.specs.Collect.{collect, collectNoted, numbersOf};
+ghost use Rattle.dep.specs.Collect.{collect, collectNoted};
 ghost use Rattle.dep.specs.code.Notes.{allNoted};
 ghost use Rattle.dep.specs.code.Walk.{typesFrom, HeldIn, Quotes, PastHead, Calls, Begins, calleesOf, writtenAs, walkedAs, PastWalked, afterNode, afterNodes, afterArgument, afterArguments, afterProperties, afterProperty, afterWith, afterImport, afterCall};
 
@@ -87,7 +87,7 @@ pub fn analyze_program_dependencies(
         ≡ wrote (bufferAs (now (out .entry)) place)
         (encodeList encodeDependency (collect (now (source .entry)) (typesFrom (now (source .entry)) (now (tables .entry)) counts) n)))
         × (now (notes .exit)
-        ≡ allNoted (now (notes .entry)) (numbersOf (collectNoted (now (source .entry)) (typesFrom (now (source .entry)) (now (tables .entry)) counts) n)))) ⌝ }
+        ≡ allNoted (now (notes .entry)) (collectNoted (now (source .entry)) (typesFrom (now (source .entry)) (now (tables .entry)) counts) n))) ⌝ }
     ensures { λ _. ⌜ Free (now (out .entry)) (now (out .exit)) × Free (now (notes .entry)) (now (notes .exit)) ⌝ }
 {
     let place = place.put_number(out, count);

@@ -1,15 +1,17 @@
--- What cleared notes hold once numbers are noted in them.
+-- What cleared notes hold once rows are noted in them.
 use mathlib.Core.Path.{_≡_, refl, sym, ap, _∙_}
 use mathlib.Core.Bool.{Bool, true, false, cond}
-use mathlib.Core.List.{List, [], _∷_, _++_, append-nil, append-assoc}
-use Prim.Native.Nat.{ℕ, zero, suc, _+_, _-_, _≤_, _<_}
+use mathlib.Core.List.{List, [], _∷_, _++_, append-nil, append-assoc, flatMap}
+use Prim.Native.Nat.{ℕ, zero, suc, _+_, _-_, _*_, _/_, _≤_, _<_}
 use native.Mathlib.Nat.{sub-zero}
+use native.Mathlib.Numerals.{add-one}
 use native.Mathlib.Omega.{arith}
 use lib.Dec.{eqb, leb, ltb}
-use lib.ListN.{length, take, set, length-append, length-take, length-replicate}
+use lib.ListN.{length, getD, take, set, length-append, length-take, length-replicate}
 use lib.Seq.{take-all, take-append-le, length-take-le}
 use borrow.Author.Tests.{ltb-true, ltb-false, lt-ltb, le-ltb}
 use Rattle.laws.specs.Decoded.{ok, no}
+use Rattle.laws.proofs.Lists.{flatMap-append}
 use Rattle.wire.specs.Refusals as refusals
 use Rattle.sheet.specs.Sheet.{Sheet, accept}
 use Rattle.sheet.specs.Judge.{judge}
@@ -20,7 +22,7 @@ use Rattle.report.specs.Encode.{encode}
 use Rattle.report.specs.Answer.{Answer, zeros, accepted, refusedWith, fitted, outcomeAs}
 use Rattle.pragmas.specs.Pragmas.{typesAt}
 use Rattle.arguments.specs.Argument.{replacedIn}
-use Rattle.dep.specs.Collect.{textOf, numbersOf}
+use Rattle.dep.specs.Collect.{textOf, Noted, numbersOf, startsOf}
 use Rattle.dep.specs.Replaced.{NumberOf}
 use Rattle.dep.specs.code.Notes.{allNoted}
 use Rattle.dep.specs.code.Notes as code
@@ -28,52 +30,97 @@ use Rattle.dep.proofs.Counted.{noted-first}
 use Rattle.dep.proofs.Turns.{turns-with, noted-turns}
 use Rattle.dep.proofs.Replaced.{number-right}
 use Rattle.module_info.specs.Information.{moduleInfo}
-use Rattle.module_info.specs.Replaced.{noted, numbersIn, held, notesWith, NotesRight}
+use Rattle.module_info.specs.Replaced.{noted, notedIn, counted, held, notesWith, NotesRight}
 
--- notes with room for so many numbers, these noted in them as far as they fit
-abbrev filled : ℕ → List ℕ → List ℕ
-filled room numbers = length (take room numbers) ∷ (take room numbers ++ zeros (room - length numbers))
+set-row : (l : List ℕ) (a b c d : ℕ) (m : List ℕ) → set (set (l ++ a ∷ b ∷ m) (length l) c) (length l + 1) d ≡ l ++ c ∷ d ∷ m
+set-row [] a b c d m = refl
+set-row (x ∷ l) a b c d m = rw (add-one (suc (length l))) (ap (x ∷_) (rw (add-one (length l)) at (set-row l a b c d m)))
 
-set-behind : (l : List ℕ) (a b : ℕ) (m : List ℕ) → set (l ++ a ∷ m) (length l) b ≡ l ++ b ∷ m
-set-behind [] a b m = refl
-set-behind (x ∷ l) a b m = ap (x ∷_) (set-behind l a b m)
+-- two numbers for each
+rows-long : (l : List Noted) → length (numbersOf l) ≡ 2 * length l
+unfolding flatMap
+rows-long [] = refl
+rows-long (e ∷ l) = omega (arith, rows-long l)
 
 module _ (room : ℕ) where
-  note-more : (l : List ℕ) (n : ℕ) → code.noted (filled room l) n ≡ filled room (l ++ n ∷ [])
-  unfolding code.noted
-  note-more l n = by-room (ltb (length l) room) refl
+  -- notes with so much room behind the first, the rows noted in them as far as they fit
+  abbrev filled : List Noted → List ℕ
+  filled l = counted room (numbersOf (take (room / 2) l))
+
+  note-more : (l : List Noted) (e : Noted) → code.noted (filled l) (e .start) (e .number) ≡ filled (l ++ e ∷ [])
+  unfolding code.noted flatMap
+  note-more l e = by-room (ltb (length l) (room / 2)) refl
     where
-      by-room : (b : Bool) → ltb (length l) room ≡ b → code.noted (filled room l) n ≡ filled room (l ++ n ∷ [])
+      by-room : (b : Bool) → ltb (length l) (room / 2) ≡ b → code.noted (filled l) (e .start) (e .number) ≡ filled (l ++ e ∷ [])
       by-room true h =
-          let some = ltb-true (length l) room h in
-          let left : room - length l ≡ suc (room - (length l + 1)) = omega arith in
-          let long : length (l ++ 0 ∷ zeros (room - (length l + 1))) ≡ room = simp (length-append, length-replicate) (omega arith) in
-          let more : length (l ++ n ∷ []) ≡ length l + 1 = length-append l (n ∷ []) in
-          rw (take-all room l (omega arith), left, long, h, set-behind l 0 n (zeros (room - (length l + 1))), take-all room (l ++ n ∷ []) (omega arith), more, append-assoc l (n ∷ []) (zeros (room - (length l + 1))))
+          let some = ltb-true (length l) (room / 2) h in
+          let rows = numbersOf l in
+          let more = room - (2 * length l + 2) in
+          let left : room - length rows ≡ suc (suc more) = omega (arith, rows-long l) in
+          let long : length (rows ++ 0 ∷ 0 ∷ zeros more) ≡ room = simp (length-append, length-replicate) (omega (arith, rows-long l)) in
+          let one : length (l ++ e ∷ []) ≡ length l + 1 = length-append l (e ∷ []) in
+          let after : length (rows ++ e .start ∷ e .number ∷ []) ≡ length rows + 2 = length-append rows (e .start ∷ e .number ∷ []) in
+          let fewer : room - (length rows + 2) ≡ more = omega (arith, rows-long l) in
+          rw (
+            take-all (room / 2) l (omega arith),
+            left,
+            long,
+            lt-ltb (length rows + 1) room (omega (arith, rows-long l)),
+            set-row rows 0 0 (e .start) (e .number) (zeros more),
+            take-all (room / 2) (l ++ e ∷ []) (omega arith),
+            flatMap-append (λ (e : Noted). e .start ∷ e .number ∷ []) l (e ∷ []),
+            after,
+            fewer,
+            append-assoc rows (e .start ∷ e .number ∷ []) (zeros more),
+          )
       by-room false h =
-          let none = ltb-false (length l) room h in
-          let left : room - length l ≡ 0 = omega arith in
-          let more : room - length (l ++ n ∷ []) ≡ 0 = omega (arith, length-append l (n ∷ [])) in
-          rw (left, append-nil (take room l), le-ltb (length (take room l)) (length (take room l)) (omega arith), take-append-le room l (n ∷ []) none, more, append-nil (take room l))
+          let none = ltb-false (length l) (room / 2) h in
+          let kept = numbersOf (take (room / 2) l) in
+          let long : length (kept ++ zeros (room - length kept)) ≡ room =
+          simp (length-append, length-replicate) (omega (arith, rows-long (take (room / 2) l), length-take-le (room / 2) l none)) in
+          rw (long, le-ltb (length kept + 1) room (omega (arith, rows-long (take (room / 2) l), length-take-le (room / 2) l none)), take-append-le (room / 2) l (e ∷ []) none)
 
-  note-all : (numbers l : List ℕ) → allNoted (filled room l) numbers ≡ filled room (l ++ numbers)
+  note-all : (m l : List Noted) → allNoted (filled l) m ≡ filled (l ++ m)
   note-all [] l = rw (append-nil l)
-  note-all (n ∷ numbers) l = rw (note-more l n) (note-all numbers (l ++ n ∷ []) ∙ rw (append-assoc l (n ∷ []) numbers))
+  note-all (e ∷ m) l = rw (note-more l e) (note-all m (l ++ e ∷ []) ∙ rw (append-assoc l (e ∷ []) m))
 
-none-noted : (numbers : List ℕ) → allNoted [] numbers ≡ []
+none-noted : (l : List Noted) → allNoted [] l ≡ []
 unfolding code.noted
 none-noted [] = refl
-none-noted (n ∷ numbers) = none-noted numbers
+none-noted (e ∷ l) = none-noted l
 
-pub all-held : (size : ℕ) (numbers : List ℕ) → allNoted (zeros size) numbers ≡ held size numbers
-unfolding held
-all-held zero numbers = none-noted numbers
-all-held (suc room) numbers = ap (λ notes. allNoted notes numbers) empty ∙ note-all room numbers []
+pub all-held : (size : ℕ) (l : List Noted) → allNoted (zeros size) l ≡ held size l
+unfolding held flatMap
+all-held zero l = none-noted l
+all-held (suc room) l = ap (λ notes. allNoted notes l) empty ∙ note-all room l []
   where
     empty : zeros (suc room) ≡ filled room []
-    empty = rw (take-all {A = ℕ} room [] (omega arith), sub-zero room)
+    empty = rw (take-all {A = Noted} (room / 2) [] (omega arith), sub-zero room)
 
--- where there are no numbers, all is zero
+-- with room for all of them there are two numbers for each, and zeros
+pub held-whole : (size : ℕ) (l : List Noted) → 1 + 2 * length l ≤ size
+    → held size l ≡ (2 * length l) ∷ (numbersOf l ++ zeros (size - (1 + 2 * length l)))
+unfolding held
+held-whole zero l h = absurd (omega arith)
+held-whole (suc room) l h =
+    let same : suc room - (1 + 2 * length l) ≡ room - 2 * length l = omega arith in
+    rw (take-all (room / 2) l (omega arith), rows-long l, same)
+
+-- so cleared notes with room for all hold them once they are noted
+pub all-noted : {notes : List ℕ} (l : List Noted) → notes ≡ zeros (length notes) → 1 + 2 * length l ≤ length notes
+    → allNoted notes l ≡ (2 * length l) ∷ (numbersOf l ++ zeros (length notes - (1 + 2 * length l)))
+all-noted {notes} l cleared room = ap (λ n. allNoted n l) cleared ∙ all-held (length notes) l ∙ held-whole (length notes) l room
+
+-- where the kth of them starts
+pub start-noted : (l : List Noted) (rest : List ℕ) (count k : ℕ) → k < length l → getD (count ∷ (numbersOf l ++ rest)) (1 + 2 * k) 0 ≡ getD (startsOf l) k 0
+unfolding flatMap
+start-noted [] rest count k h = absurd (omega arith)
+start-noted (e ∷ l) rest count zero h = refl
+start-noted (e ∷ l) rest count (suc k) h =
+    let next : 1 + 2 * suc k ≡ suc (suc (1 + 2 * k)) = omega arith in
+    rw next (start-noted l rest (e .number) k (omega arith))
+
+-- where there are no rows, all is zero
 pub none-held : (size : ℕ) → held size [] ≡ zeros size
 none-held size = sym (all-held size [])
 
@@ -87,12 +134,12 @@ refused-ten size r buffer m e = by-room (leb (length (encode m)) size) e
     by-room false e = ap (λ (x : Answer). x .number) e
 
 -- the notes of a report that was accepted, and of one that was refused, whose notes were cleared
-pub accepted-notes : (size : ℕ) {notes : List ℕ} (numbers : List ℕ) → notes ≡ allNoted (zeros size) numbers → notes ≡ notesWith size numbers 0
-accepted-notes size numbers e = e ∙ all-held size numbers
+pub accepted-notes : (size : ℕ) {notes : List ℕ} (l : List Noted) → notes ≡ allNoted (zeros size) l → notes ≡ notesWith size l 0
+accepted-notes size l e = e ∙ all-held size l
 
-pub refused-notes : (size room r : ℕ) {notes : List ℕ} (buffer numbers : List ℕ) (m : ModuleInfo) → outcomeAs (Refused r) buffer ≡ fitted room (encode m) → notes ≡ zeros size
-    → notes ≡ notesWith size numbers r
-refused-notes size room r buffer numbers m e cleared = rw (refused-ten room r buffer m e, none-held size) cleared
+pub refused-notes : (size room r : ℕ) {notes : List ℕ} (buffer : List ℕ) (l : List Noted) (m : ModuleInfo) → outcomeAs (Refused r) buffer ≡ fitted room (encode m) → notes ≡ zeros size
+    → notes ≡ notesWith size l r
+refused-notes size room r buffer l m e cleared = rw (refused-ten room r buffer m e, none-held size) cleared
 
 -- notes of nothing stay cleared
 pub nothing-noted : (size : ℕ) {notes : List ℕ} (number : ℕ) → notes ≡ zeros size → notes ≡ notesWith size [] number
@@ -102,13 +149,15 @@ nothing-noted size {notes} number cleared = by-number (eqb number 0)
     by-number true = cleared ∙ sym (none-held size)
     by-number false = cleared ∙ sym (none-held size)
 
--- what holds of the numbers of every sheet
-pub notes-right : {s : List ℕ} {size number : ℕ} {notes : List ℕ} → notes ≡ notesWith size (numbersIn (judge s)) number → NotesRight s size number notes
+-- what holds of the rows of every sheet
+pub notes-right : {s : List ℕ} {size number : ℕ} {notes : List ℕ} → notes ≡ notesWith size (notedIn (judge s)) number → NotesRight s size number notes
 unfolding moduleInfo
 notes-right answer = record {
   answer = answer;
   beside = λ t h. noted-first (t .source) (typesAt t) (t .root);
-  numbers = λ t h. turns-with (noted-turns (t .source) (typesAt t) (λ v d. NumberOf v d (replacedIn (textOf v))) (λ v d e i. number-right (t .source) (typesAt t) v e) (t .root)) (λ v i e (right, is). rw is right);
+  rows = λ t h.
+      turns-with (noted-turns (t .source) (typesAt t) (λ v d. NumberOf v d (replacedIn (textOf v))) (λ v d e i. number-right (t .source) (typesAt t) v e) (t .root))
+      (λ v i e h. record { start = h .start; number = rw (h .number) (h .own) });
 }
 
 module _ {s : List ℕ} (size number : ℕ) {notes : List ℕ} where
@@ -119,7 +168,7 @@ module _ {s : List ℕ} (size number : ℕ) {notes : List ℕ} where
   pub refusal-notes : {r : ℕ} → 0 < length s → accept s ≡ no r → notes ≡ zeros size → NotesRight s size number notes
   refusal-notes some e cleared = notes-right (rw (judged-refusal s some e) (nothing-noted size number cleared))
 
-  pub sheet-notes : {t : Sheet} → accept s ≡ ok t [] → notes ≡ notesWith size (numbersOf (noted t)) number → NotesRight s size number notes
+  pub sheet-notes : {t : Sheet} → accept s ≡ ok t [] → notes ≡ notesWith size (noted t) number → NotesRight s size number notes
   sheet-notes e h = notes-right (rw (judged-sheet s e) h)
 
 -- zeros, as many as there are

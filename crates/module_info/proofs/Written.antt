@@ -22,7 +22,7 @@ use Rattle.report.specs.Buffer.{Buffer, wrote}
 use Rattle.report.proofs.Buffers.{wrote-append, wrote-cons}
 use Rattle.pragmas.specs.Pragmas.{inGroup, headComments, endComments, referencesIn, selfTypesIn, jsxImportSourceIn, jsxImportSourceTypesIn, sourceMapUrlIn, typesIn}
 use Rattle.listing.specs.Imports.{jsdocImports}
-use Rattle.dep.specs.Collect.{numbersOf, collect, collectNoted}
+use Rattle.dep.specs.Collect.{collect, collectNoted}
 use Rattle.dep.specs.code.Notes.{allNoted}
 use Rattle.module_info.specs.Information.{moduleInfo}
 use Rattle.module_info.specs.Replaced.{noted}
@@ -40,8 +40,8 @@ module _ {t : Sheet} {source comments groups : List ℕ} {p : Parts} (o : PartsO
 
   pub dependencies-noted : {s : List ℕ} (r : RootOf t s p) (notes : List ℕ) {notes′ : List ℕ}
       → ((n : Node) (l : List ℕ) → node source depthLimit (drop (p .root) s) ≡ ok n l → p .entries ≡ entries n
-      → notes′ ≡ allNoted notes (numbersOf (collectNoted source (typesIn source (commentsIn comments (p .comments)) (groupsIn groups (p .groups))) n)))
-      → notes′ ≡ allNoted notes (numbersOf (noted t))
+      → notes′ ≡ allNoted notes (collectNoted source (typesIn source (commentsIn comments (p .comments)) (groupsIn groups (p .groups))) n))
+      → notes′ ≡ allNoted notes (noted t)
   dependencies-noted r notes walked =
       rw (← o .source-is, ← o .comments-are, ← o .groups-are) (walked (t .root) [] (rw (o .source-is) (r .root)) (sym (r .count)))
 

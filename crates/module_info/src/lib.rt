@@ -35,14 +35,13 @@ ghost use Rattle.report.specs.declared.writer.Outcome.{Outcome};
 ghost use Rattle.report.specs.Buffer.{wrote, bufferAs};
 ghost use Rattle.report.specs.Encode.{encode};
 ghost use Rattle.report.specs.Answer.{zeros, outcomeAs, fitted};
-ghost use Rattle.dep.specs.Collect.{numbersOf};
 ghost use Rattle.dep.specs.code.Notes.{allNoted};
 ghost use Rattle.module_info.specs.Information.{moduleInfo, defaultInfo, packed};
 ghost use Rattle.module_info.specs.Replaced.{noted, notesWith, NotesRight};
 ghost use Rattle.module_info.specs.code.Pieces.{dependencyBytes, headBytes, restBytes, PartsIn, RootOf, HeldBy, AcceptsIn};
 ghost use Rattle.module_info.specs.Demands.{Demands};
 
-// The script flag and the dependencies, with their numbers in the notes.
+// The script flag and the dependencies, with their rows in the notes.
 fn put_dependencies(
     sheet: &[u8],
     source: &[u8],
@@ -55,7 +54,7 @@ fn put_dependencies(
     requires { ⌜ HeldBy (now source) (now tables) parts ⌝ }
     ensures { λ r. ⌜ ((t : Sheet) → PartsIn t (now (source .entry)) (now (tables .entry)) parts → RootOf t (now (sheet .entry)) parts
         → (bufferAs (now (out .exit)) r ≡ wrote (bufferAs (now (out .entry)) place) (dependencyBytes t))
-        × (now (notes .exit) ≡ allNoted (now (notes .entry)) (numbersOf (noted t)))) ⌝ }
+        × (now (notes .exit) ≡ allNoted (now (notes .entry)) (noted t))) ⌝ }
 {
     let counts = Counts {
         comments: parts.comments,
@@ -135,7 +134,7 @@ fn put_rest(
     analyze_source_map_url(source, comments, n, index, end, out, p)
 }
 
-// The parts of the report of an accepted sheet, one after the other. The notes take a number for each dependency.
+// The parts of the report of an accepted sheet, one after the other. The notes take a row for each dependency.
 fn put_noted_report(
     sheet: &[u8],
     parts: Parts,
@@ -147,7 +146,7 @@ fn put_noted_report(
     requires { ⌜ AcceptsIn (now sheet) (now tables) parts ⌝ }
     ensures { λ r. ⌜ ((t : Sheet) → accept (now (sheet .entry)) ≡ ok t []
         → (bufferAs (now (out .exit)) r ≡ wrote (bufferAs (now (out .entry)) place) (encode (moduleInfo t)))
-        × (now (notes .exit) ≡ allNoted (now (notes .entry)) (numbersOf (noted t)))) ⌝ }
+        × (now (notes .exit) ≡ allNoted (now (notes .entry)) (noted t))) ⌝ }
 {
     let start = parts.source_start;
     let end = parts.source_end;
@@ -175,7 +174,7 @@ fn put_report(
     ensures { λ r. ⌜ ((t : Sheet) → accept (now (sheet .entry)) ≡ ok t []
         → bufferAs (now (out .exit)) r ≡ wrote (bufferAs (now (out .entry)) place) (encode (moduleInfo t))) ⌝ }
 {
-    let mut none = [0usize; 1];
+    let mut none = [0usize; 0];
     put_noted_report(sheet, parts, tables, out, &mut none, place)
 }
 
@@ -222,7 +221,7 @@ fn write_noted_report(
     requires { ⌜ now notes ≡ zeros (length (now notes)) ⌝ }
     ensures { λ r. ⌜ ((t : Sheet) → accept (now (sheet .entry)) ≡ ok t []
         → (outcomeAs r (now (buffer .exit)) ≡ fitted (length (now (buffer .entry))) (encode (moduleInfo t)))
-        × (now (notes .exit) ≡ notesWith (length (now (notes .entry))) (numbersOf (noted t)) (outcomeAs r (now (buffer .exit)) .number))) ⌝ }
+        × (now (notes .exit) ≡ notesWith (length (now (notes .entry))) (noted t) (outcomeAs r (now (buffer .exit)) .number))) ⌝ }
 {
     let start = Place { at: 0 };
     let place = put_noted_report(sheet, parts, tables, buffer, notes, start);
@@ -257,8 +256,8 @@ pub fn module_info(sheet: &[u8], buffer: &mut [u8]) -> Outcome
     }
 }
 
-// The same report, with how many characters were replaced in the text of each dependency: the first of the notes says how many numbers follow it,
-// one for each dependency in order, as far as there is room. All else is zero, and all of them on a refusal.
+// The same report, with a row of two numbers for each dependency: where its node starts, and how many characters were replaced in its text. The first
+// of the notes says how many numbers follow it, the rows in order, as far as there is room. All else is zero, and all of them on a refusal.
 pub fn module_info_with_replaced(sheet: &[u8], buffer: &mut [u8], notes: &mut [usize]) -> Outcome
     ensures { λ r. ⌜ Demands (now (sheet .entry)) (length (now (buffer .entry))) r (now (buffer .exit)) ⌝ }
     ensures { λ r. ⌜ NotesRight (now (sheet .entry)) (length (now (notes .entry))) (outcomeAs r (now (buffer .exit)) .number) (now (notes .exit)) ⌝ }

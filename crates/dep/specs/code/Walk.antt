@@ -38,7 +38,7 @@ use Rattle.dep.specs.declared.entries.StaticDependencyDescriptor.{Static
 use Rattle.dep.specs.declared.entries.DynamicDependencyDescriptor.{DynamicDependencyDescriptor}
 use Rattle.dep.specs.declared.walk.Walked.{Walked}
 use Rattle.dep.specs.declared.walk.Walked.the-variants as walked
-use Rattle.dep.specs.Collect.{dynamicKind, firstText, textIn, Noted, beside, numbersOf, staticEntry, callEntry, moduleEntry, noting, collectNoted}
+use Rattle.dep.specs.Collect.{dynamicKind, firstText, textIn, Noted, beside, staticEntry, callEntry, moduleEntry, noting, collectNoted}
 use Rattle.dep.specs.code.Notes.{allNoted}
 
 -- the types that the comments and the groups in the table give
@@ -112,33 +112,41 @@ abbrev pub PastWalked : ℕ → Walked → Type 0
 PastWalked n (walked.Is p next) = next .at ≤ n
 PastWalked n (walked.Refused r) = Unit {0}
 
--- the entries of dependencies written behind what stands there, and their numbers noted
+-- the entries of dependencies written behind what stands there, and their rows noted
 abbrev pub wroteEntries : Written → List Noted → Written
-wroteEntries w l = (wrote (w .0) (flatMap (λ e. encodeDependency (e .0)) l), allNoted (w .1) (numbersOf l))
+wroteEntries w l = (wrote (w .0) (flatMap (λ e. encodeDependency (e .entry)) l), allNoted (w .1) l)
 
 module _ (source : List ℕ) (types : ℕ → Option SpecifierWithRange) where
   -- the entry of a static dependency, with its attributes
   abbrev pub staticOf : List ℕ → StaticDependencyDescriptor → ImportAttributes → List Noted
   staticOf s d a =
       let x = quotedOf s (d .specifier) in
-      (staticEntry source types (d .kind) (d .span) x (d .«is_side_effect») a, replaced (x .text)) ∷ []
+      record {
+        entry = staticEntry source types (d .kind) (d .span) x (d .«is_side_effect») a;
+        start = d .span .start;
+        number = replaced (x .text);
+      }
+      ∷ []
 
   -- the entry of a dynamic one, with its argument, its attributes and the number of surrogates of its single text
   abbrev pub dynamicOf : DynamicDependencyDescriptor → DynamicArgument → ImportAttributes → ℕ → List Noted
-  dynamicOf d v a replacements = (
-    dynamic
-        (record { kind = d .kind; typesSpecifier = types (d .start); argument = v; argumentRange = rangeOf source (d .«argument_range»); importAttributes = a }),
-    replacements,
-  )
+  dynamicOf d v a replacements =
+      record {
+        entry =
+            dynamic
+            (record { kind = d .kind; typesSpecifier = types (d .start); argument = v; argumentRange = rangeOf source (d .«argument_range»); importAttributes = a });
+        start = d .start;
+        number = replacements;
+      }
       ∷ []
 
   -- the entry of a module declaration, by its String
   abbrev pub moduleOf : Span → Option Quoted → List Noted
-  moduleOf sp x = beside (replacedIn (textIn x)) (moduleEntry source types sp x)
+  moduleOf sp x = beside (sp .start) (replacedIn (textIn x)) (moduleEntry source types sp x)
 
   -- the entry of a call that is listed
   abbrev pub entryOfCall : CallHead → Arguments → List Noted
-  entryOfCall d xs = beside (replacedIn (firstText xs)) (cond (d .listed) (callEntry source types (d .kind) (d .span) xs) [])
+  entryOfCall d xs = beside (d .span .start) (replacedIn (firstText xs)) (cond (d .listed) (callEntry source types (d .kind) (d .span) xs) [])
 
   -- the entries of parts of a node
   abbrev pub noteAll : Nodes → List Noted

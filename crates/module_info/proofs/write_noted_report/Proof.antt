@@ -7,7 +7,6 @@ use Rattle.report.specs.Encode.{encode}
 use Rattle.report.specs.Answer.{zeros}
 use Rattle.report.specs.Buffer.{holds, wrote, bufferAs}
 use Rattle.report.proofs.Answers.{answered-fitted}
-use Rattle.dep.specs.Collect.{numbersOf}
 use Rattle.dep.specs.code.Notes.{allNoted}
 use Rattle.module_info.specs.Information.{moduleInfo}
 use Rattle.module_info.specs.Replaced.{noted}
@@ -23,7 +22,7 @@ returns c =
     let (written, numbered) = put .ensures t e in
     let whole : bufferAs (put .last .1 .1 .1 .0) (put .result) ≡ wrote (holds (length (now (a .buffer))) []) (encode (moduleInfo t)) = written in
     let answer = rw (c .before .n .given .1) at (c .before .before .before .before .before .finish .ensures) ∙ answered-fitted (encode (moduleInfo t)) (put .kept .1 .1 .1 .0) whole in
-    (answer, accepted-notes (length (now (a .notes))) (numbersOf (noted t)) (numbered ∙ ap (λ l. allNoted l (numbersOf (noted t))) (c .before .before .before .before .before .before .before .before .before .before .before .before .before .before .before .before .before .pre .1)))
+    (answer, accepted-notes (length (now (a .notes))) (noted t) (numbered ∙ ap (λ l. allNoted l (noted t)) (c .before .before .before .before .before .before .before .before .before .before .before .before .before .before .before .before .before .pre .1)))
 
 returns-2 : tie.Need-returns-2
 returns-2 c =
@@ -33,7 +32,7 @@ returns-2 c =
     let (written, numbered) = put .ensures t e in
     let whole : bufferAs (put .last .1 .1 .1 .0) (put .result) ≡ wrote (holds (length (now (a .buffer))) []) (encode (moduleInfo t)) = written in
     let answer = rw (c .before .before .before .before .before .r .given .1) at (c .before .before .before .before .before .before .before .before .before .finish .ensures) ∙ answered-fitted (encode (moduleInfo t)) (put .kept .1 .1 .1 .0) whole in
-    (answer, refused-notes (length (now (a .notes))) (length (now (a .buffer))) (c .before .before .before .before .before .r .given .0 .0) (c .before .before .before .before .before .before .before .before .before .finish .last .0) (numbersOf (noted t)) (moduleInfo t) answer (c .before .before .clear-notes .ensures ∙ ap zeros (put .kept .1 .1 .1 .1 .0)))
+    (answer, refused-notes (length (now (a .notes))) (length (now (a .buffer))) (c .before .before .before .before .before .r .given .0 .0) (c .before .before .before .before .before .before .before .before .before .finish .last .0) (noted t) (moduleInfo t) answer (c .before .before .clear-notes .ensures ∙ ap zeros (put .kept .1 .1 .1 .1 .0)))
 
 pub write-noted-report-spec : {M : Type 1} → statement M
 write-noted-report-spec =

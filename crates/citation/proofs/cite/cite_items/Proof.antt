@@ -17,18 +17,18 @@ use Rattle.citation.proofs.cite.cite_items.Statement.{statement}
 use Rattle.citation.proofs.cite.cite_items.Tie as tie
 
 abbrev Inv-loop : tie.InvT-loop
-Inv-loop report source at kind count numbers out₀ p₀ lines₀ next₀ turn₀ left₀ out p lines next turn left =
+Inv-loop report source at kind count numbers out₀ p₀ lines₀ next₀ row₀ left₀ out p lines next row left =
     (length out ≡ length out₀)
     × (lines + 2 * left ≤ 2 * count)
-    × (turn + left ≡ count)
+    × (row + 2 * left ≡ 2 * count)
     × ((l : List (Item kind)) → (length l ≡ count) × All (ValidItem kind) l → (t : List ℕ) → drop at report ≡ flatMap (encodeItem kind) l ++ t
     → (l′ : List (Item kind)) × (done : List Line)
     × Stand (encodeItem kind) (ValidItem kind) report t next left l′
     × Printed source (bufferAs out₀ p₀) done (bufferAs out p) lines
-    × (citeEach (citeItem kind) numbers l ≡ done ++ citeEach (citeItem kind) (drop turn numbers) l′))
+    × (citeEach (citeItem kind) numbers l ≡ done ++ citeEach (citeItem kind) (drop row numbers) l′))
 
 abbrev μ-loop : tie.MeasureT-loop
-μ-loop report source at kind count numbers out₀ p₀ lines₀ next₀ turn₀ left₀ out p lines next turn left = left
+μ-loop report source at kind count numbers out₀ p₀ lines₀ next₀ row₀ left₀ out p lines next row left = left
 
 loop-holds : tie.Need-loop-holds Inv-loop μ-loop
 unfolding flatMap
@@ -48,7 +48,7 @@ loop-again c =
           let (l, done, p, q, r) = i .inv .3 l v t e in
           let (x, l, same, v, e, on) = next-item (encodeItem (a .kind)) (ValidItem (a .kind)) (now (a .report)) t (i .next) (i .left) l (c .before .before .before .before .before .before .before .loop-test .taken) p in
           let (o, e) = item .ensures .0 x v _ e in
-          (l, done ++ citeItem (a .kind) (getD (now (a .numbers)) (i .turn) 0) x, on (item .result .next) e, both q (rw (c .before .before .before .before .before .before .number-at .ensures) at o), r ∙ cite-next (citeItem (a .kind)) (now (a .numbers)) (i .turn) done same),
+          (l, done ++ citeItem (a .kind) (getD (now (a .numbers)) (i .row + 1) 0) x, on (item .result .next) e, both q (rw (c .before .before .before .before .before .before .number-at .ensures) at o), r ∙ cite-next (citeItem (a .kind)) (now (a .numbers)) (i .row) done same),
     )
 
 returns : tie.Need-returns Inv-loop μ-loop
@@ -70,6 +70,7 @@ cite-items-spec =
     Inv-loop
     μ-loop
     loop-holds
+    (λ c. search needs)
     (λ c κs. search needs)
     (λ c κs. search needs)
     (λ c. search needs)

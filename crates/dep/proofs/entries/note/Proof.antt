@@ -1,25 +1,34 @@
--- `note`: the number is stored behind the others, and counted.
+-- `note`: the row is stored behind the others, and counted.
 use borrow.Author.Needs.{needs}
 use native.Mathlib.Omega.{arith}
+use lib.ListN.{length-set}
 use denote.Ref.{now}
 use Rattle.dep.proofs.Noting.{note-stored, note-left}
 use Rattle.dep.proofs.entries.note.Statement.{statement}
 use Rattle.dep.proofs.entries.note.Tie as tie
 
+slice-write-notes-2 : tie.Need-slice-write-notes-2
+slice-write-notes-2 c = simp length-set (omega arith)
+
 returns : tie.Need-returns
 returns c =
-    let a = c .before .before .before .args in
-    note-stored (now (a .notes)) (a .number) (c .if2 .taken)
+    let a = c .before .before .before .before .args in
+    note-stored (now (a .notes)) (a .start) (a .number) (c .if3 .taken)
 
 returns-2 : tie.Need-returns-2
 returns-2 c =
-    let a = c .before .before .before .args in
-    note-left (now (a .notes)) (a .number) (c .if2 .left)
+    let a = c .before .before .before .before .args in
+    note-left (now (a .notes)) (a .start) (a .number) (c .if3 .left)
 
 returns-3 : tie.Need-returns-3
 returns-3 c =
+    let a = c .before .before .before .args in
+    note-left (now (a .notes)) (a .start) (a .number) (omega (arith, c .if2 .left))
+
+returns-4 : tie.Need-returns-4
+returns-4 c =
     let a = c .before .args in
-    note-left (now (a .notes)) (a .number) (omega (arith, c .if1 .left))
+    note-left (now (a .notes)) (a .start) (a .number) (omega (arith, c .if1 .left))
 
 pub note-spec : {M : Type 1} → statement M
 note-spec = tie.close (tie.spec
@@ -31,6 +40,11 @@ note-spec = tie.close (tie.spec
     (λ c. search needs)
     (λ c. search needs)
     (λ c. search needs)
+    slice-write-notes-2
+    (λ c. search needs)
+    (λ c. search needs)
+    (λ c. search needs)
     returns
     returns-2
-    returns-3)
+    returns-3
+    returns-4)

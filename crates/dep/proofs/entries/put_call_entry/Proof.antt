@@ -44,7 +44,7 @@ returns-2 c =
           let f = first inner source (a .count) u (c .before .before .before .before .before .before .before .before .before .before .before .if2 .taken) is (seen (argumentAs s) (c .before .before .before .before .before .before .before .before .before .before .read-argument .ensures .0) (c .before .before .before .before .before .before .before .before .range .given .1)) in
           rw (c .before .before .before .before .before .before .before .before .before .before .before .before .if1 .taken)
           (c .before .before .before .before .put-argument-entry .ensures (c .before .before .before .before .before .before .before .before .range .given .0 .0) (f .node) (f .others) (f .between) t (f .read) (f .behind)
-          ∙ ap (λ xs. wroteEntries w (beside (replacedIn (firstText xs)) (callEntry source types (a .call .kind) (a .call .span) xs))) (sym (f .are)))),
+          ∙ ap (λ xs. wroteEntries w (beside (a .call .span .start) (replacedIn (firstText xs)) (callEntry source types (a .call .kind) (a .call .span) xs))) (sym (f .are)))),
       search needs,
     )
 

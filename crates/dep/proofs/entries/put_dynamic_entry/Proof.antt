@@ -40,7 +40,7 @@ returns c =
     } in
     λ v k xs t stands are.
     let (written, counted) = c .before .before .before .before .before .before .before .before .before .before .before .before .before .before .before .before .put-argument .ensures .0 v k stands in
-    dynamic-written (bufferAs (now (a .out)) (a .place)) (now (a .notes)) k (c .before .before .before .before .before .before .before .before .before .before .before .before .note .ensures ∙ ap (noted (now (a .notes))) counted) (entry v xs) (rw (c .before .before .before .before .before .before .before .before .before .before .before .before .before .before .before .before .before .before .before .before .before .before .before .before .before .before .before .before .before .before .dynamic-number .ensures) at (c .before .before .before .before .before .before .before .before .before .before .before .before .before .before .before .before .before .before .before .before .before .before .before .before .before .before .before .before .put .ensures)) (c .before .before .before .before .before .before .before .before .before .before .before .before .before .before .before .before .before .before .before .before .put-types .ensures) written (c .before .before .before .before .before .before .before .put-span .ensures) (rw (c .before .before .before .before .before .before .before .before .before .before .before .before .before .before .before .before .before .before .before .before .before .before .before .before .parse-dynamic-import-attributes .ensures .0 xs t are) at (c .before .before .put-attributes .ensures))
+    dynamic-written (bufferAs (now (a .out)) (a .place)) (now (a .notes)) (a .dependency .start) k (c .before .before .before .before .before .before .before .before .before .before .before .before .note .ensures ∙ ap (noted (now (a .notes)) (a .dependency .start)) counted) (entry v xs) (rw (c .before .before .before .before .before .before .before .before .before .before .before .before .before .before .before .before .before .before .before .before .before .before .before .before .before .before .before .before .before .before .dynamic-number .ensures) at (c .before .before .before .before .before .before .before .before .before .before .before .before .before .before .before .before .before .before .before .before .before .before .before .before .before .before .before .before .put .ensures)) (c .before .before .before .before .before .before .before .before .before .before .before .before .before .before .before .before .before .before .before .before .put-types .ensures) written (c .before .before .before .before .before .before .before .put-span .ensures) (rw (c .before .before .before .before .before .before .before .before .before .before .before .before .before .before .before .before .before .before .before .before .before .before .before .before .parse-dynamic-import-attributes .ensures .0 xs t are) at (c .before .before .put-attributes .ensures))
 
 pub put-dynamic-entry-spec : {M : Type 1} → statement M
 put-dynamic-entry-spec =

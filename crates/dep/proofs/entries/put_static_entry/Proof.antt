@@ -24,6 +24,14 @@ put-lossy-specifier-requires c κs = (c .before .before .before .before .before 
 put-attributes-requires : tie.Need-put-attributes-requires
 put-attributes-requires c κs = c .before .before .before .before .before .before .before .before .before .before .before .before .before .before .before .before .before .before .before .before .before .before .before .before .before .before .before .before .before .before .before .before .pre .2
 
+same-length : tie.Need-same-length
+same-length c =
+    c .before .before .put-attributes .kept .1 .1 .1 .0
+    ∙ c .before .before .before .before .before .before .put-flag .kept .1 .0
+    ∙ c .before .before .before .before .before .before .before .before .before .before .before .before .before .before .before .put-lossy-specifier .kept .1 .0
+    ∙ c .before .before .before .before .before .before .before .before .before .before .before .before .before .before .before .before .before .before .before .before .put-types .kept .1 .1 .1 .1 .0
+    ∙ c .before .before .before .before .before .before .before .before .before .before .before .before .before .before .before .before .before .before .before .before .before .before .before .before .put .kept .1 .0
+
 returns : tie.Need-returns
 unfolding staticEntry
 returns c =
@@ -40,8 +48,8 @@ returns c =
       sideEffect = a .dependency .«is_side_effect»;
       importAttributes = attributesAs s (now (a .pairs)) (a .attributes);
     } in
-    static-written (bufferAs (now (a .out)) (a .place)) (now (a .notes)) (replaced (part s (x .start) (x .end)))
-    (c .before .before .before .before .before .before .before .before .before .before .before .note .ensures ∙ ap (noted (now (a .notes))) (c .before .before .before .before .before .before .before .before .before .before .before .before .before .before .before .put-lossy-specifier .ensures .1)) d (rw (c .before .before .before .before .before .before .before .before .before .before .before .before .before .before .before .before .before .before .before .before .before .before .before .before .before .before .static-number .ensures) at (c .before .before .before .before .before .before .before .before .before .before .before .before .before .before .before .before .before .before .before .before .before .before .before .before .put .ensures)) (c .before .before .before .before .before .before .before .before .before .before .before .before .before .before .before .before .before .before .before .before .put-types .ensures) (c .before .before .before .before .before .before .before .before .before .before .before .before .before .before .before .put-lossy-specifier .ensures .0) (c .before .before .before .before .before .before .put-flag .ensures) (c .before .before .put-attributes .ensures)
+    static-written (bufferAs (now (a .out)) (a .place)) (now (a .notes)) (a .dependency .span .start) (replaced (part s (x .start) (x .end)))
+    (c .before .before .before .before .before .before .before .before .before .before .before .note .ensures ∙ ap (noted (now (a .notes)) (a .dependency .span .start)) (c .before .before .before .before .before .before .before .before .before .before .before .before .before .before .before .put-lossy-specifier .ensures .1)) d (rw (c .before .before .before .before .before .before .before .before .before .before .before .before .before .before .before .before .before .before .before .before .before .before .before .before .before .before .static-number .ensures) at (c .before .before .before .before .before .before .before .before .before .before .before .before .before .before .before .before .before .before .before .before .before .before .before .before .put .ensures)) (c .before .before .before .before .before .before .before .before .before .before .before .before .before .before .before .before .before .before .before .before .put-types .ensures) (c .before .before .before .before .before .before .before .before .before .before .before .before .before .before .before .put-lossy-specifier .ensures .0) (c .before .before .before .before .before .before .put-flag .ensures) (c .before .before .put-attributes .ensures)
 
 pub put-static-entry-spec : {M : Type 1} → statement M
 put-static-entry-spec =
@@ -60,6 +68,6 @@ put-static-entry-spec =
     (λ c κs. search needs)
     (λ c κs. search needs)
     put-attributes-requires
-    (λ c. search needs)
+    same-length
     (λ c. search needs)
     returns)

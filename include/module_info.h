@@ -1,5 +1,6 @@
-/* Which modules a JavaScript or TypeScript module asks for, in code and in comments, and its source map: the proved library's three functions.
- * docs/01-scope.md defines sheets, refusals and reports. Link libmodule_info.a, which `rt staticlib module_info` writes to target/staticlib. */
+/* Which modules a JavaScript or TypeScript module asks for, in code and in comments, and its source map: the four proved functions.
+ * docs/01-scope.md defines sheets, refusals and reports. Link libmodule_info.a, which `rt staticlib module_info` writes to target/staticlib;
+ * module_info_with_rules is in librules.a, which `rt staticlib rules` writes beside it. */
 #ifndef MODULE_INFO_H
 #define MODULE_INFO_H
 
@@ -37,7 +38,9 @@ enum module_info_number {
     /* The report is longer than the buffer. */
     MODULE_INFO_BUFFER = 10,
     /* A String's span has fewer than two bytes, or does not begin and end with the same mark, `"` or `'`. */
-    MODULE_INFO_STRING = 13
+    MODULE_INFO_STRING = 13,
+    /* The rules of the entries are longer than the second buffer: only of module_info_with_rules, and judged after 10. */
+    MODULE_INFO_RULES = 16
 };
 
 /* The two parts of an answer. The length is 0 after a refusal. */
@@ -59,6 +62,40 @@ uint64_t module_info_answer(const uint8_t *sheet, size_t n, uint8_t *buffer, siz
  * the report's order, as far as there is room for both; every other note is 0, and all of them after a refusal. 1 + m / 4 notes hold the numbers of
  * every report that fits the buffer. The notes overlap neither of the others. */
 uint64_t module_info_with_replaced_answer(const uint8_t *sheet, size_t n, uint8_t *buffer, size_t m, size_t *notes, size_t k);
+
+/* The rules by which a comment gives an entry. */
+enum module_info_rule {
+    MODULE_INFO_RULE_PATH = 1,
+    MODULE_INFO_RULE_TYPES = 2,
+    MODULE_INFO_RULE_SELF_TYPES = 3,
+    MODULE_INFO_RULE_JSX_IMPORT_SOURCE = 4,
+    MODULE_INFO_RULE_JSX_IMPORT_SOURCE_TYPES = 5,
+    /* A JSDoc import from a `{`. */
+    MODULE_INFO_RULE_BRACE = 6,
+    /* A JSDoc import from an `@import`. */
+    MODULE_INFO_RULE_DECLARATION = 7,
+    MODULE_INFO_RULE_SOURCE_MAP = 8,
+    /* The types specifier of a dependency. */
+    MODULE_INFO_RULE_TS_TYPES = 9,
+    MODULE_INFO_RULE_DENO_TYPES = 10
+};
+
+/* The lengths that module_info_with_rules writes. */
+enum module_info_length {
+    MODULE_INFO_REPORT_LENGTH,
+    MODULE_INFO_RULES_LENGTH,
+    MODULE_INFO_LENGTHS
+};
+
+/* The same report, and in a second buffer of k bytes the rule of each entry that a comment gives, in the report's order: types specifiers at their
+ * dependencies, references, self types, JSX source, its types, JSDoc imports, source map. For each there is a byte, which is one of the rules above,
+ * and an offset in the source, in bytes, as a number in groups of seven bits, low group first: that of the comment's start; for
+ * MODULE_INFO_RULE_BRACE and MODULE_INFO_RULE_DECLARATION that of the smallest `{` or `@import` from which the entry is read. No count is written.
+ * Answers the number, and writes MODULE_INFO_LENGTHS numbers: the length of the report and that of the rules. Accepted: every byte behind either is
+ * 0. Refused: both buffers and both lengths are 0. MODULE_INFO_BUFFER comes before MODULE_INFO_RULES. No bytes (n is 0) have no rules. A second
+ * buffer as long as the first is always enough (counted, not proved). What is asked of the caller is as above; `lengths` is not null, and no two of
+ * sheet, buffers and lengths overlap. The call needs at most some 296 KiB of stack (measured, bindings/c/stack.c). */
+uint64_t module_info_with_rules(const uint8_t *sheet, size_t n, uint8_t *buffer, size_t m, uint8_t *rules, size_t k, uint64_t *lengths);
 
 /* The answers of module_info_source_map besides the refusals. */
 #define MODULE_INFO_NO_MAP 0

@@ -1,11 +1,13 @@
-/* compare [--before ANSWERS] SHEETS ANSWERS KINDS FILE [KIND]...
+/* compare [--rules RULES] [--before ANSWERS] SHEETS ANSWERS KINDS FILE [KIND]...
  * Runs the linked library and tools/second.rs on every sheet of a batch and compares them with each other and with ANSWERS, those of
  * tools/oracle: the library with lent buffers of several sizes, by number, length and every byte of the buffer. Where the oracle leaves a
  * sheet out, the library is compared with second, and each text that second has from a comment must stand between its positions. Where the
  * dependencies start and the numbers of replaced characters, which the oracle does not have, are compared with second's, in notes of several
  * sizes. Prints by kind how many sheets were accepted, refused with each number and left out, and the shortest sheet that differs, which is also
  * written to FILE.
- * The library and second are also asked for the source map by ECMA-426 (request #105).
+ * The library and second are also asked for the source map by ECMA-426 (request #105), and for each entry with its rule (request #112), with sizes
+ * of each buffer at the exact length and around it. With --rules, these rules (the library's, or second's without one) are written to the file
+ * RULES, an answer for each sheet as in ANSWERS, for `oracle rules`.
  * The status is 1 if a sheet differs, or if one of the kinds named has no accepted sheet or one with a String that is not quoted.
  * With --before, ANSWERS are those of an oracle without the patch of request #104: they must differ from the others on just the sheets in which
  * a reference comment has both a path and types.
@@ -26,10 +28,12 @@
 uint64_t module_info_answer(const uint8_t *sheet, size_t n, uint8_t *buffer, size_t m);
 uint64_t module_info_with_replaced_answer(const uint8_t *sheet, size_t n, uint8_t *buffer, size_t m, size_t *notes, size_t k);
 uint64_t module_info_source_map(const uint8_t *sheet, size_t n, uint64_t *places);
+uint64_t module_info_with_rules(const uint8_t *sheet, size_t n, uint8_t *buffer, size_t m, uint8_t *rules, size_t k, uint64_t *lengths);
 #endif
 uint64_t second_answer(const uint8_t *sheet, size_t n, uint8_t *buffer, size_t m);
 void second_notes(const uint8_t *sheet, size_t n, size_t room, size_t *notes, size_t m);
 uint64_t second_source_map(const uint8_t *sheet, size_t n, uint64_t *places);
+uint64_t second_with_rules(const uint8_t *sheet, size_t n, uint8_t *buffer, size_t m, uint8_t *rules, size_t k, uint64_t *lengths);
 bool second_both(const uint8_t *sheet, size_t n);
 bool second_shows(const uint8_t *sheet, size_t n, const uint8_t *report, size_t m);
 
@@ -198,6 +202,99 @@ static const char *map_differs(const uint8_t *sheet, size_t n) {
 }
 #endif
 
+/* ---- each entry with its rule ---- */
+
+#define RULES 11
+#define RULES_REFUSAL 16
+
+/* An answer with rules, in two buffers. */
+struct ruled {
+    unsigned number;
+    uint8_t *report, *rules;
+    uint64_t lengths[2];
+};
+
+static FILE *rules_file;
+static unsigned long rules_named[RULES], refused_rules, rules_differ;
+
+/* The answer of second, with room for m and k bytes. */
+static struct ruled ruled_of_second(const uint8_t *sheet, size_t n, size_t m, size_t k) {
+    static uint8_t report[ROOM], rules[ROOM];
+    struct ruled r = {0, report, rules, {0, 0}};
+    r.number = (unsigned)second_with_rules(sheet, n, report, m, rules, k, r.lengths);
+    return r;
+}
+
+/* Counts the rules by their numbers, and writes them to the file as an answer. */
+static void keep_rules(struct ruled r) {
+    size_t length = (size_t)r.lengths[1], i = 0;
+    while (i < length) {
+        rules_named[r.rules[i] < RULES ? r.rules[i] : 0]++;
+        for (i++; i < length && r.rules[i] & 128; i++) continue;
+        i++;
+    }
+    uint8_t head[5] = {(uint8_t)r.number, (uint8_t)length, (uint8_t)(length >> 8), (uint8_t)(length >> 16), (uint8_t)(length >> 24)};
+    if (rules_file && (fwrite(head, 1, 5, rules_file) != 5 || fwrite(r.rules, 1, length, rules_file) != length)) fail("rules", "cannot be written");
+}
+
+#ifdef LIBRARY
+static uint8_t *rules_end;
+
+/* The answer of the library, with buffers of m and k bytes that end at a page that must not be touched and are full of other bytes. */
+static struct ruled ruled_of_library(const uint8_t *sheet, size_t n, size_t m, size_t k) {
+    struct ruled r = {0, buffer_end - m, rules_end - k, {0, 0}};
+    uint8_t *copy = sheet_end - n;
+    memcpy(copy, sheet, n);
+    memset(r.report - 64, 0xA5, m + 64);
+    memset(r.rules - 64, 0xA5, k + 64);
+    memset(r.lengths, 0xA5, sizeof r.lengths);
+    uint64_t number = module_info_with_rules(copy, n, r.report, m, r.rules, k, r.lengths);
+    calls++;
+    r.number = number < NUMBERS ? (unsigned)number : NUMBERS;
+    for (size_t i = 1; i <= 64; i++)
+        if (r.report[-(ptrdiff_t)i] != 0xA5 || r.rules[-(ptrdiff_t)i] != 0xA5) r.number = NUMBERS;
+    if (memcmp(copy, sheet, n)) r.number = NUMBERS;
+    return r;
+}
+
+/* What differs between the library and second with such buffers, or NULL. */
+static const char *ruled_differ(const uint8_t *sheet, size_t n, size_t m, size_t k) {
+    static char message[200];
+    struct ruled expected = ruled_of_second(sheet, n, m, k), got = ruled_of_library(sheet, n, m, k);
+    refused_rules += expected.number == RULES_REFUSAL;
+    const char *what = NULL;
+    if (memcmp(got.rules, expected.rules, k)) what = "the second buffer";
+    if (memcmp(got.report, expected.report, m)) what = "the first buffer";
+    if (memcmp(got.lengths, expected.lengths, sizeof got.lengths)) what = "a length";
+    if (got.number != expected.number) what = "the number, or what stands beside a buffer";
+    if (!what) return NULL;
+    snprintf(message, sizeof message, "rules, buffers %zu and %zu: %s: %u, %llu and %llu are expected, got %u, %llu and %llu", m, k, what,
+             expected.number, (unsigned long long)expected.lengths[0], (unsigned long long)expected.lengths[1], got.number,
+             (unsigned long long)got.lengths[0], (unsigned long long)got.lengths[1]);
+    return message;
+}
+#endif
+
+/* What is wrong with the rules beside the report that second has, or NULL. Where there is a library, the sizes of each buffer are the exact length,
+ * one less and one more, none and large. */
+static const char *with_rules(const uint8_t *sheet, size_t n, struct answer second) {
+    /* an entry has more bytes in the report than its rule */
+    size_t m = second.length;
+    struct ruled large = ruled_of_second(sheet, n, m + 64, m + 64);
+    const char *message = NULL;
+    if (large.number != second.number || large.lengths[0] != m || memcmp(large.report, second.report, m)) message = "rules: second's own report";
+#ifdef LIBRARY
+    size_t k = (size_t)large.lengths[1], room = m > LARGE ? m : LARGE, less = k ? k - 1 : 0;
+    size_t sizes[][2] = {{room, LARGE}, {m, k}, {m, less}, {m, k + 1}, {m, 0}, {m + 1, k}, {m ? m - 1 : 7, k}, {m ? m - 1 : 7, less}, {0, 0}};
+    for (size_t i = 0; i < sizeof sizes / sizeof *sizes && !message; i++) message = ruled_differ(sheet, n, sizes[i][0], sizes[i][1]);
+    if (message) rules_differ++;
+    large = ruled_of_library(sheet, n, room, LARGE);
+    if (large.number == NUMBERS || large.lengths[1] > LARGE) large = (struct ruled){255, large.report, large.rules, {0, 0}};
+#endif
+    keep_rules(large);
+    return message;
+}
+
 /* ---- what is printed ---- */
 
 struct kind {
@@ -301,9 +398,10 @@ static const char *compared(const uint8_t *sheet, size_t n, struct answer oracle
     of_library = map_differs(sheet, n);
     if (of_library) found = of_library;
 #else
-    (void)sheet, (void)n, (void)message;
+    (void)message;
 #endif
-    return found;
+    const char *of_rules = with_rules(sheet, n, second);
+    return of_rules ? of_rules : found;
 }
 
 /* The answer before the patch differs from the one behind it just where a comment has both a path and types. */
@@ -343,13 +441,19 @@ static bool kinds_are_there(char **names, int count) {
 
 int main(int argc, char **argv) {
     const char *before_name = NULL;
+    if (argc > 2 && !strcmp(argv[1], "--rules")) {
+        rules_file = fopen(argv[2], "wb");
+        if (!rules_file) fail(argv[2], "cannot be written");
+        argv += 2;
+        argc -= 2;
+    }
     if (argc > 2 && !strcmp(argv[1], "--before")) {
         before_name = argv[2];
         argv += 2;
         argc -= 2;
     }
     if (argc < 5) {
-        fprintf(stderr, "usage: compare [--before ANSWERS] SHEETS ANSWERS KINDS FILE [KIND]...\n");
+        fprintf(stderr, "usage: compare [--rules RULES] [--before ANSWERS] SHEETS ANSWERS KINDS FILE [KIND]...\n");
         return 2;
     }
     struct file befores = {NULL, 0};
@@ -359,6 +463,7 @@ int main(int argc, char **argv) {
 #ifdef LIBRARY
     sheet_end = guarded_end();
     buffer_end = guarded_end();
+    rules_end = guarded_end();
 #endif
     unsigned long total = 0;
     size_t at = 0, answer_at = 0, before_at = 0;
@@ -391,10 +496,13 @@ int main(int argc, char **argv) {
         }
     }
     if (answer_at != answers.size) fail(argv[2], "has too many answers");
+    if (rules_file && fclose(rules_file)) fail("rules", "cannot be written");
 
     bool there = kinds_are_there(argv + 5, argc - 5);
     print_kinds();
     if (differ) print_shortest(argv[4]);
+    printf("entries by rule:");
+    for (unsigned r = 1; r < RULES; r++) printf(" %u: %lu%s", r, rules_named[r], r + 1 < RULES ? "," : "\n");
     printf("second and oracle: %lu sheets differ\n", second_and_oracle);
     if (before_name) printf("before the patch of #104: %lu sheets differ; on %lu sheets this is not where a comment has both a path and types\n", by_patch, not_by_patch);
     printf("left out, with a text that does not stand between its positions: %lu sheets\n", not_shown);
@@ -402,8 +510,10 @@ int main(int argc, char **argv) {
     printf("library and oracle: %lu sheets differ\nlibrary and second: %lu sheets differ\n", library_and_oracle, library_and_second);
     printf("sheets with a replaced character: %lu\n", replaced);
     printf("source map by ECMA-426: %lu found, %lu none, %lu refused; library and second: %lu sheets differ\n", maps, no_maps, refused_maps, maps_differ);
+    printf("rules: %lu calls refused with 16; library and second: %lu sheets differ\n", refused_rules, rules_differ);
     printf("%lu sheets, %lu calls, %lu sheets differ\n", total, calls, differ);
 #else
+    (void)refused_rules, (void)rules_differ;
     printf("%lu sheets, %lu sheets differ\n", total, differ);
 #endif
     return differ || !there;

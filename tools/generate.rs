@@ -2,8 +2,9 @@
 //! generate kinds
 //! Writes COUNT sheets, from number FIRST on, as a batch (each: length as u32 little-endian, bytes) to the file SHEETS, and a line with
 //! the kind of each to the file KINDS. The sheet of a number depends on SEED and that number only. `kinds` prints the well-formed kinds.
-//! Kinds: `small`, `rich`, `comments`, `html` (HTML-like comments), `jsdoc`, `near`, `tree`, `letters` and `long` (a long report) are well-formed; `empty` has no bytes, which
-//! the report of the default information answers; `uncooked` has uncooked pieces (refusal 9); `text` has a text at the border of UTF-8 or WTF-8;
+//! Kinds: `small`, `rich`, `comments`, `html` (HTML-like comments), `jsdoc`, `rules` (several readings in one comment), `near`, `tree`, `letters` and
+//! `long` (a long report) are well-formed; `empty` has no bytes, which the report of the default information answers;
+//! `uncooked` has uncooked pieces (refusal 9); `text` has a text at the border of UTF-8 or WTF-8;
 //! `string` has a String whose place in the source is quoted or nearly so (refusal 13); `order` meets two refusals; `limit` hits a limit of document 01,
 //! `over` exceeds one by one; `flip`, `cut`, `insert`, `delete`, `splice` and `number` are damaged copies; `noise` is bytes at random.
 //! The span of a String, if nothing damaged it, is a quoted place of the source: it begins and ends with the same mark, `"` or `'`.
@@ -301,6 +302,49 @@ fn jsdoc(r: &mut Rng) -> String {
     s
 }
 
+/// Pieces of JSDoc readings, which in any order are often a reading that another one begins or ends in.
+#[rustfmt::skip]
+const PIECES: [&str; 20] = [
+    "@import {", "@import {", "@import ", "@import", "@import * as ", "{", "{", "{{", "}", "} from ", "A ", "from", "import(", "import", "\"a\"", "'b'",
+    "\"", "'", ")}", " with {\"resolution-mode\": \"import\"}",
+];
+
+/// One import that several places of a body read, or nearly so: `@import` in `@import`, braces in braces, a brace and an `@import` near each other.
+fn entangled(r: &mut Rng) -> String {
+    let text = specifier(r);
+    let quoted = quote(r, &text);
+    let (n, m) = (1 + r.few(4), 1 + r.few(4));
+    match r.below(8) {
+        0 => format!("{}{}}}{}from{}{quoted}", "@import {".repeat(n), words(r).replace('}', ""), whites(r), whites(r)),
+        1 => format!("{}import({quoted}){}", "{".repeat(n), "}".repeat(m)),
+        2 => format!("{}@import {}}} from {quoted}", "{".repeat(n), "{".repeat(m)),
+        3 => format!("@import {}import({quoted})}} from {quoted}{}", "{".repeat(n), "}".repeat(m)),
+        4 => format!(
+            "@import {} from {}",
+            r.pick(&["{", "{}", "A", "* as B", "{@import {}"]),
+            quote(r, &format!("{}import('c')}}", "{".repeat(n)))
+        ),
+        5 => format!("{}import(\"{}@import {{}} from 'd'\")}}", "{".repeat(n), "@import {".repeat(m - 1)),
+        6 => format!("{{{}{}", declaration(r), brace(r)),
+        _ => (0..2 + r.below(10)).map(|_| r.pick(&PIECES)).collect(),
+    }
+}
+
+/// A comment with several readings: of JSDoc imports, or of a dependency's types, by both patterns for them.
+fn readings(r: &mut Rng) -> String {
+    if r.percent(70) {
+        return format!("*{}", (0..=r.few(3)).map(|_| entangled(r) + &whites(r)).collect::<String>());
+    }
+    let first = r.below(2);
+    let pair = [["@ts-types", "@deno-types"][first], ["@deno-types", "@ts-types"][first]];
+    let each = |word: &str, r: &mut Rng| {
+        let text = specifier(r);
+        let value = if r.percent(80) { marked(r, &text) } else { text };
+        format!("{}{}{}={}{value}", whites(r), cased(r, word), whites(r), whites(r))
+    };
+    format!("{}{}{}", each(pair[0], r), white(r), each(pair[1], r))
+}
+
 /// A letter left out, doubled, changed or put in, a few times.
 fn mutated(r: &mut Rng, s: &str) -> String {
     let mut v: Vec<char> = s.chars().collect();
@@ -363,6 +407,8 @@ struct Style {
     html: bool,
     /// Comments are map comments, mostly in the trailing group at the program's end.
     maps: bool,
+    /// Comments have several readings.
+    rules: bool,
     /// Percentages: a mutated body, an uncooked piece.
     near: usize,
     uncooked: usize,
@@ -439,6 +485,11 @@ impl Maker<'_> {
         if self.r.percent(8) {
             self.source += "#!/usr/bin/env deno\n";
         }
+        // offsets with two and three groups of seven bits
+        if style.rules && self.r.percent(6) {
+            let n = self.r.pick(&[64, 16_256]) + self.r.below(128);
+            self.source += &" ".repeat(n);
+        }
         for _ in 0..self.r.below(style.comments + 1) {
             if style.comments > 1 && self.r.percent(35) {
                 self.source += &words(self.r);
@@ -447,6 +498,7 @@ impl Maker<'_> {
             let b = match (style.maps, self.r.below(4)) {
                 (true, 0) => source_map(self.r),
                 (true, _) => standard_map(self.r),
+                (false, _) if style.rules => readings(self.r),
                 (false, _) => body(self.r, style.jsdoc, style.near),
             };
             let start = self.source.len();
@@ -1219,13 +1271,15 @@ fn damaged(r: &mut Rng, kind: &str, mut s: Vec<u8>, other: &[u8]) -> Vec<u8> {
 }
 
 fn well_formed(r: &mut Rng, kind: &str) -> Vec<u8> {
-    let mut style = Style { comments: 8, nodes: 80, javascript: false, jsdoc: false, html: false, maps: false, near: 15, uncooked: 0 };
+    let mut style =
+        Style { comments: 8, nodes: 80, javascript: false, jsdoc: false, html: false, maps: false, rules: false, near: 15, uncooked: 0 };
     match kind {
         "small" => (style.comments, style.nodes) = (1, 4),
         "comments" => (style.comments, style.nodes) = (16, 8),
         "jsdoc" => (style.comments, style.nodes, style.javascript, style.jsdoc) = (5, 3, true, true),
         "html" => (style.comments, style.nodes, style.html, style.near) = (8, 30, true, 30),
         "maps" => (style.comments, style.nodes, style.maps) = (4, 3, true),
+        "rules" => (style.comments, style.nodes, style.javascript, style.rules) = (5, 8, true, true),
         "near" => (style.comments, style.nodes, style.near) = (8, 8, 100),
         "tree" => (style.comments, style.nodes) = (3, 300),
         "uncooked" => (style.comments, style.nodes, style.uncooked) = (2, 60, 40),
@@ -1242,12 +1296,12 @@ fn well_formed(r: &mut Rng, kind: &str) -> Vec<u8> {
 }
 
 /// The kinds whose sheets meet none of refusals 1 to 9 and 13.
-const WELL_FORMED: [&str; 11] = ["small", "empty", "rich", "comments", "html", "maps", "jsdoc", "near", "tree", "letters", "long"];
+const WELL_FORMED: [&str; 12] = ["small", "empty", "rich", "comments", "html", "maps", "jsdoc", "rules", "near", "tree", "letters", "long"];
 
 /// How many sheets are of each kind, among as many as the numbers make together.
 #[rustfmt::skip]
-const KINDS: [(&str, usize); 23] = [
-    ("small", 145), ("empty", 5), ("text", 20), ("string", 20), ("order", 10), ("rich", 200), ("comments", 130), ("html", 80), ("maps", 100), ("jsdoc", 180), ("near", 130), ("tree", 120), ("letters", 20), ("uncooked", 20), ("long", 2),
+const KINDS: [(&str, usize); 24] = [
+    ("small", 145), ("empty", 5), ("text", 20), ("string", 20), ("order", 10), ("rich", 200), ("comments", 130), ("html", 80), ("maps", 100), ("jsdoc", 180), ("rules", 130), ("near", 130), ("tree", 120), ("letters", 20), ("uncooked", 20), ("long", 2),
     ("flip", 40), ("cut", 30), ("insert", 30), ("delete", 30), ("splice", 30), ("number", 20), ("noise", 8), ("limit", 10),
 ];
 

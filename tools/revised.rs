@@ -1,5 +1,5 @@
-//! What request #114 says of two sheets that differ only in the body of one comment, checked on their reports. A part of tools/second.rs, which
-//! tools/revisions.rs uses.
+//! What request #114 says of two sheets that differ only in the body of one comment, checked on their reports, rows and rules. A part of
+//! tools/second.rs, which tools/revisions.rs uses.
 
 use super::*;
 
@@ -12,12 +12,6 @@ impl Sheet {
         all.extend(self.comments.iter().flat_map(|c| [c.span.0, c.span.1]));
         self.root.recorded(&mut all);
         all
-    }
-
-    /// Where the nodes of the dependencies start.
-    fn starts(&self) -> Vec<usize> {
-        let mut w = Writer { sheet: self, out: Vec::new(), replaced: Vec::new(), starts: Vec::new() };
-        self.walk(&patterns(), &self.root, &mut w, &mut 0).map_or(Vec::new(), |()| w.starts)
     }
 
     /// The side and the position of the head group.
@@ -62,13 +56,41 @@ pub fn bodies(sheet: &[u8]) -> Vec<(usize, Span, String)> {
     t.comments.iter().enumerate().filter_map(place).collect()
 }
 
-/// The parts of a report as bytes, with the place at which each JSDoc entry starts.
+/// What a sheet is answered: its report, the rows beside the dependencies, and the rules of the entries.
+#[derive(PartialEq)]
+pub struct Answered {
+    pub report: Vec<u8>,
+    pub rows: Vec<[usize; 2]>,
+    pub rules: Vec<u8>,
+}
+
+pub fn answered(sheet: &[u8]) -> Read<Answered> {
+    let t = decode(sheet)?;
+    let (report, rows) = t.report()?;
+    let rules = t.rules(&report);
+    Ok(Answered { report, rows, rules })
+}
+
+/// The rule that gave an entry, and the offset beside it.
+type Origin = (Rule, usize);
+
+/// The origins that have one of these rules.
+fn origins(bytes: &[u8], rules: std::ops::RangeInclusive<Rule>) -> Vec<Origin> {
+    let mut inner = Beside { rest: bytes, source: "" };
+    let mut all = Vec::new();
+    while !inner.rest.is_empty() {
+        all.push((inner.byte(), inner.number()));
+    }
+    all.into_iter().filter(|origin| rules.contains(&origin.0)).collect()
+}
+
+/// The parts of a report as bytes, each with its origins; and the place at which each JSDoc entry starts.
 struct Parts {
     script: u8,
-    dependencies: Vec<Vec<u8>>,
-    head: Vec<Vec<u8>>,
-    jsdoc: Vec<(Vec<u8>, usize)>,
-    source_map: Vec<u8>,
+    dependencies: Vec<(Vec<u8>, Option<Origin>)>,
+    head: (Vec<Vec<u8>>, Vec<Origin>),
+    jsdoc: Vec<((Vec<u8>, Origin), usize)>,
+    source_map: (Vec<u8>, Vec<Origin>),
 }
 
 impl Beside<'_> {
@@ -89,13 +111,23 @@ impl Beside<'_> {
         inner.position().expect("a place")
     }
 
-    fn parts(&mut self) -> Parts {
+    fn parts(&mut self, rules: &[u8]) -> Parts {
         let script = self.byte();
+        let mut types = origins(rules, 9..=10).into_iter();
+        let origin = |entry: &Vec<u8>| if entry[1] == 1 { types.next() } else { None };
         let dependencies = self.each(Self::dependency);
+        let of_types: Vec<_> = dependencies.iter().map(origin).collect();
         let mut head = vec![self.taken(|b| b.all(Self::reference))];
         head.extend((0..3).map(|_| self.taken(Self::optional)));
-        let jsdoc = self.each(Self::reference).into_iter().map(|entry| (entry.clone(), self.start(&entry))).collect();
-        Parts { script, dependencies, head, jsdoc, source_map: self.taken(Self::optional) }
+        let entries = self.each(Self::reference).into_iter().zip(origins(rules, BRACE..=DECLARATION));
+        let jsdoc = entries.map(|entry| (self.start(&entry.0), entry)).map(|(start, entry)| (entry, start)).collect();
+        Parts {
+            script,
+            dependencies: dependencies.into_iter().zip(of_types).collect(),
+            head: (head, origins(rules, 1..=5)),
+            jsdoc,
+            source_map: (self.taken(Self::optional), origins(rules, 8..=8)),
+        }
     }
 }
 
@@ -111,25 +143,27 @@ fn without_types(entry: &[u8]) -> Vec<u8> {
     [&entry[..1], inner.rest].concat()
 }
 
-/// What two reports of sheets that differ only in the body of comment k must have in common; or what they do not.
-pub fn kept(first: &[u8], other: &[u8], k: usize, reports: [&[u8]; 2]) -> Result<(), &'static str> {
+/// What the answers to two sheets that differ only in the body of comment k must have in common; or what they do not.
+pub fn kept(first: &[u8], other: &[u8], k: usize, answers: [&Answered; 2]) -> Result<(), &'static str> {
     let (t, u) = (decode(first).expect("a sheet"), decode(other).expect("a sheet"));
-    let parts = |t: &Sheet, report| Beside { rest: report, source: str::from_utf8(&t.source).expect("UTF-8") }.parts();
-    let (a, b) = (parts(&t, reports[0]), parts(&u, reports[1]));
+    let parts = |t: &Sheet, a: &Answered| Beside { rest: &a.report, source: str::from_utf8(&t.source).expect("UTF-8") }.parts(&a.rules);
+    let (a, b) = (parts(&t, answers[0]), parts(&u, answers[1]));
     let (from, to) = t.comments[k].body;
     let own = |start: usize| from <= start && start < to;
-    let others = |parts: &Parts| -> Vec<Vec<u8>> { parts.jsdoc.iter().filter(|e| !own(e.1)).map(|e| e.0.clone()).collect() };
+    let others = |parts: &Parts| -> Vec<_> { parts.jsdoc.iter().filter(|e| !own(e.1)).map(|e| e.0.clone()).collect() };
     let few = |t: &Sheet, parts: &Parts| {
         let body = &t.source[from..to];
         let openings = (0..body.len()).filter(|i| body[*i] == b'{' || body[*i..].starts_with(b"@import")).count();
         parts.jsdoc.iter().filter(|e| own(e.1)).count() <= openings
     };
-    let same = |start: usize, x: &[u8], y: &[u8]| if t.lacks((0, start), k) { x == y } else { without_types(x) == without_types(y) };
-    let starts = t.starts();
+    let same = |start: usize, x: &(Vec<u8>, Option<Origin>), y: &(Vec<u8>, Option<Origin>)| {
+        if t.lacks((0, start), k) { x == y } else { without_types(&x.0) == without_types(&y.0) }
+    };
     let entries = a.dependencies.len() == b.dependencies.len()
-        && a.dependencies.iter().zip(&b.dependencies).zip(starts).all(|((x, y), start)| same(start, x, y));
+        && a.dependencies.iter().zip(&b.dependencies).zip(&answers[0].rows).all(|((x, y), row)| same(row[0], x, y));
     let tests = [
         (a.script == b.script, "the script flag"),
+        (answers[0].rows == answers[1].rows, "rows"),
         (others(&a) == others(&b), "JSDoc entries from other comments"),
         (few(&t, &a) && few(&u, &b), "the number of JSDoc entries"),
         (entries, "dependencies"),

@@ -1,26 +1,48 @@
-//! Rewords comments of sheets and checks on the reports what request #114 says of that.
+//! Rewords comments of sheets and checks on reports, rows and rules what request #114 says of that.
 //!   revisions SEED SHEETS    SHEETS is a batch of tools/generate
 //! Of each sheet that is accepted and has comments some bodies are reworded: with equal byte length, the same line and column at the end, in characters
-//! and in UTF-16 units alike, and no recorded position inside. The library's two reports are compared with the second answer's, and by `kept`
+//! and in UTF-16 units alike, and no recorded position inside. The library's two answers are compared with the second answer's, and by `kept`
 //! (tools/revised.rs) with each other. The status is 1 at the first that differs, or if no reworded comment changed a report.
 
 #[path = "second.rs"]
 #[allow(dead_code)]
 mod second;
 
+use second::revised::{Answered, answered, bodies, kept};
+
 unsafe extern "C" {
-    fn module_info_answer(sheet: *const u8, n: usize, buffer: *mut u8, m: usize) -> u64;
+    fn module_info_with_replaced_answer(sheet: *const u8, n: usize, buffer: *mut u8, m: usize, notes: *mut usize, k: usize) -> u64;
+    fn module_info_with_rules(
+        sheet: *const u8,
+        n: usize,
+        buffer: *mut u8,
+        m: usize,
+        rules: *mut u8,
+        k: usize,
+        lengths: *mut [u64; 2],
+    ) -> u64;
 }
 
-fn library(sheet: &[u8]) -> Result<Vec<u8>, u8> {
-    let mut buffer = vec![0; 1 << 20];
-    // the pointer of a slice is never null
-    let packed = unsafe { module_info_answer(sheet.as_ptr(), sheet.len(), buffer.as_mut_ptr(), buffer.len()) };
-    if packed % 256 != 0 {
-        return Err((packed % 256) as u8);
-    }
-    buffer.truncate((packed / 256) as usize);
-    Ok(buffer)
+/// Whether the library answers the same, in buffers that hold just that.
+fn agrees(sheet: &[u8], answer: &Answered) -> bool {
+    let mut reports = [vec![0; answer.report.len()], vec![0; answer.report.len()]];
+    let mut notes = vec![0; 1 + 2 * answer.rows.len()];
+    let mut rules = vec![0; answer.rules.len()];
+    let mut lengths = [0; 2];
+    let [one, two] = &mut reports;
+    // the pointer of a vector is never null
+    let numbers = unsafe {
+        [
+            module_info_with_replaced_answer(sheet.as_ptr(), sheet.len(), one.as_mut_ptr(), one.len(), notes.as_mut_ptr(), notes.len()),
+            module_info_with_rules(sheet.as_ptr(), sheet.len(), two.as_mut_ptr(), two.len(), rules.as_mut_ptr(), rules.len(), &mut lengths),
+        ]
+    };
+    numbers == [256 * answer.report.len() as u64, 0]
+        && lengths == [answer.report.len() as u64, answer.rules.len() as u64]
+        && reports.iter().all(|report| *report == answer.report)
+        && notes[0] + 1 == notes.len()
+        && notes[1..] == *answer.rows.as_flattened()
+        && rules == answer.rules
 }
 
 // ---- rewording ----
@@ -87,8 +109,8 @@ struct Counts {
 }
 
 fn check(random: &mut Random, sheet: &[u8], counts: &mut Counts) -> Result<(), String> {
-    let Ok(report) = second::answer(sheet) else { return Ok(()) };
-    let bodies = second::revised::bodies(sheet);
+    let Ok(answer) = answered(sheet) else { return Ok(()) };
+    let bodies = bodies(sheet);
     counts.sheets += usize::from(!bodies.is_empty());
     for (k, (from, to), front) in bodies {
         let body = str::from_utf8(&sheet[from..to]).expect("UTF-8").to_string();
@@ -99,14 +121,13 @@ fn check(random: &mut Random, sheet: &[u8], counts: &mut Counts) -> Result<(), S
             }
             let mut revised = sheet.to_vec();
             revised[from..to].copy_from_slice(other.as_bytes());
-            let Ok(revision) = second::answer(&revised) else { continue };
-            if library(sheet).as_ref() != Ok(&report) || library(&revised).as_ref() != Ok(&revision) {
+            let Ok(revision) = answered(&revised) else { continue };
+            if !agrees(sheet, &answer) || !agrees(&revised, &revision) {
                 return Err(format!("library and second differ on comment {k}"));
             }
-            second::revised::kept(sheet, &revised, k, [&report, &revision])
-                .map_err(|what| format!("{what}, comment {k}: {body:?} as {other:?}"))?;
+            kept(sheet, &revised, k, [&answer, &revision]).map_err(|what| format!("{what}, comment {k}: {body:?} as {other:?}"))?;
             counts.reworded += 1;
-            counts.changed += usize::from(report != revision);
+            counts.changed += usize::from(answer.report != revision.report);
         }
     }
     Ok(())

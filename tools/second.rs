@@ -1270,6 +1270,153 @@ pub unsafe extern "C" fn second_both(sheet: *const u8, n: usize) -> bool {
     both(if n == 0 { &[] } else { unsafe { std::slice::from_raw_parts(sheet, n) } })
 }
 
+// ---- each entry with its rule (request #112) ----
+
+/// The rules by their numbers: path, types, self types, JSX source, its types, brace, declaration, source map, ts-types, deno-types.
+type Rule = u8;
+const BRACE: Rule = 6;
+const DECLARATION: Rule = 7;
+
+impl Beside<'_> {
+    /// Where the place of a specifier starts in the source; the specifier is passed over.
+    fn place(&mut self) -> usize {
+        self.text();
+        let start = self.position().expect("a place");
+        self.position();
+        start
+    }
+
+    fn optional_place(&mut self) -> Option<usize> {
+        (self.byte() == 1).then(|| self.place())
+    }
+
+    /// The entries that a comment gives, in the report's order: which rules may have read it, and where its place starts.
+    fn ruled(&mut self) -> Vec<(&'static [Rule], usize)> {
+        let mut all: Vec<(&'static [Rule], usize)> = Vec::new();
+        self.byte();
+        for _ in 0..self.number() {
+            let types = Beside { rest: &self.rest[1..], source: self.source }.optional_place();
+            all.extend(types.map(|place| (&[9, 10][..], place)));
+            self.dependency();
+        }
+        for _ in 0..self.number() {
+            let types = self.byte() == 1;
+            all.push((if types { &[2] } else { &[1] }, self.place()));
+            self.rest = &self.rest[usize::from(types)..];
+        }
+        let pragmas: [&'static [Rule]; 3] = [&[3], &[4], &[5]];
+        all.extend(pragmas.into_iter().filter_map(|rules| Some((rules, self.optional_place()?))));
+        for _ in 0..self.number() {
+            self.byte();
+            all.push((&[BRACE, DECLARATION], self.place()));
+            self.byte();
+        }
+        all.extend(self.optional_place().map(|place| (&[8][..], place)));
+        all
+    }
+}
+
+impl Sheet {
+    /// The readings that a rule has in a comment: the offset that is named, and where the place of what is read starts.
+    fn readings(&self, p: &Patterns, rule: Rule, c: &Comment) -> Vec<(usize, usize)> {
+        let b = &self.source[c.body.0..c.body.1];
+        let from = |opening: &'static str, read: fn(&[u8], usize) -> Option<(Quote, u8)>| {
+            let openings = (0..b.len()).filter(move |i| b[*i..].starts_with(opening.as_bytes()));
+            openings.filter_map(|i| Some((c.body.0 + i, c.body.0 + read(b, i)?.0.place.0))).collect()
+        };
+        let (steps, anchored, marks) = match rule {
+            1 => (&p.path, false, true),
+            2 => (&p.types, false, true),
+            3 => (&p.self_types, true, true),
+            4 => (&p.jsx, true, false),
+            5 => (&p.jsx_types, true, false),
+            BRACE => return from("{", brace),
+            DECLARATION => return from("@import", declaration),
+            8 => (&p.source_map, true, false),
+            9 => (&p.ts_types, true, true),
+            _ => (&p.deno_types, true, true),
+        };
+        self.captured(c, steps, anchored, marks).map(|(_, place)| (c.span.0, place.0)).into_iter().collect()
+    }
+
+    /// The second buffer's bytes for a report of this sheet. Each entry is looked for in the comment around its place: the smallest offset from
+    /// which one of its rules reads it.
+    fn rules(&self, report: &[u8]) -> Vec<u8> {
+        let p = patterns();
+        let mut known = BTreeMap::new();
+        let mut w = Writer { sheet: self, out: Vec::new(), replaced: Vec::new(), starts: Vec::new() };
+        for (rules, place) in (Beside { rest: report, source: str::from_utf8(&self.source).expect("UTF-8") }).ruled() {
+            let around = self.comments.iter().find(|c| c.body.0 <= place && place < c.body.1).expect("a comment");
+            let mut least: Option<(usize, Rule)> = None;
+            for rule in rules {
+                let readings = known.entry((around.span.0, *rule)).or_insert_with(|| self.readings(&p, *rule, around));
+                for (offset, _) in readings.iter().filter(|reading| reading.1 == place) {
+                    least = Some(least.map_or((*offset, *rule), |old| old.min((*offset, *rule))));
+                }
+            }
+            let (offset, rule) = least.expect("a rule that reads it");
+            w.out.push(rule);
+            w.number(offset);
+        }
+        w.out
+    }
+}
+
+/// The report and the rules of its entries, however long, or the refusal (1 to 9, or 13); of no bytes there are no rules.
+pub fn answer_with_rules(sheet: &[u8]) -> Read<(Vec<u8>, Vec<u8>)> {
+    let report = answer(sheet)?;
+    // no bytes are no sheet
+    let rules = decode(sheet).map_or(Vec::new(), |t| t.rules(&report));
+    Ok((report, rules))
+}
+
+/// The same with room for so many bytes in each of two buffers: 10 for the first, and only then 16 for the second.
+pub fn answer_with_rules_in(sheet: &[u8], m: usize, k: usize) -> Read<(Vec<u8>, Vec<u8>)> {
+    thread_local! {
+        /// The last sheet and its answer: it is asked again with other sizes.
+        static LAST: std::cell::RefCell<Option<(Vec<u8>, Read<(Vec<u8>, Vec<u8>)>)>> = const { std::cell::RefCell::new(None) };
+    }
+    let answer = LAST.with_borrow_mut(|last| {
+        if last.as_ref().is_none_or(|last| last.0 != sheet) {
+            *last = Some((sheet.to_vec(), answer_with_rules(sheet)));
+        }
+        last.as_ref().expect("an answer").1.clone()
+    });
+    let (report, rules) = answer?;
+    match (report.len() <= m, rules.len() <= k) {
+        (false, _) => Err(10),
+        (true, false) => Err(16),
+        (true, true) => Ok((report, rules)),
+    }
+}
+
+/// As `module_info_with_rules` of include/module_info.h.
+///
+/// # Safety
+/// `sheet` has `n` bytes to read, `buffer` has `m` and `rules` `k` bytes to write, and `lengths` two numbers.
+#[unsafe(no_mangle)]
+pub unsafe extern "C" fn second_with_rules(
+    sheet: *const u8,
+    n: usize,
+    buffer: *mut u8,
+    m: usize,
+    rules: *mut u8,
+    k: usize,
+    lengths: *mut [u64; 2],
+) -> u64 {
+    let sheet = if n == 0 { &[] } else { unsafe { std::slice::from_raw_parts(sheet, n) } };
+    let buffer = if m == 0 { &mut [] } else { unsafe { std::slice::from_raw_parts_mut(buffer, m) } };
+    let second = if k == 0 { &mut [] } else { unsafe { std::slice::from_raw_parts_mut(rules, k) } };
+    buffer.fill(0);
+    second.fill(0);
+    let answer = answer_with_rules_in(sheet, m, k);
+    let (report, rules) = answer.as_ref().map_or((&[][..], &[][..]), |(report, rules)| (report, rules));
+    buffer[..report.len()].copy_from_slice(report);
+    second[..rules.len()].copy_from_slice(rules);
+    unsafe { *lengths = [report.len() as u64, rules.len() as u64] };
+    answer.map_or_else(u64::from, |_| 0)
+}
+
 #[cfg(revisions)]
 #[path = "revised.rs"]
 pub mod revised;

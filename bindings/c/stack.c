@@ -1,7 +1,9 @@
-/* stack [KIB]
+/* stack [KIB [RULES]]
  * Runs the deepest sheets of every form on a thread with a stack of KIB KiB (128): 64 levels of nodes, each with an entry where its form has one,
  * behind comments that are read with the largest tables. Each answer must be that of a call on the caller's own stack, and have the right number
  * and the right count of dependencies; the source map by ECMA-426, which is absent, is asked for too. A stack that is too small ends the program by a fault.
+ * Each entry with its rule is asked for on a thread of its own, with a stack of RULES KiB (320): the same report, a rule for each entry's types and
+ * one for the JSDoc import.
  * The status is 1 if an answer differs, 2 if no thread can be made. */
 #define _POSIX_C_SOURCE 200112L
 
@@ -15,8 +17,8 @@
 #define LEVELS 64
 #define SOURCE 5000
 /* where './j.ts' begins and ends in the source */
-#define QUOTED 19
-#define QUOTED_END 27
+#define QUOTED 22
+#define QUOTED_END 30
 
 /* What holds the node one level down. */
 enum form {
@@ -61,7 +63,7 @@ static const char *const names[FORMS] = {"other nodes",
 /* The forms by the levels that are left. */
 static enum form forms[LEVELS + 1];
 static uint8_t sheet[MODULE_INFO_MAX_SHEET];
-static size_t length, entries;
+static size_t length, entries, types_start;
 
 /* ---- a sheet, written front to back; each node is at 0, but for Strings ---- */
 
@@ -253,11 +255,12 @@ static void node(int left, int walked) {
 
 /* JavaScript; two comments that lead 0, a JSDoc import and then types that each entry reads, with wide characters; a tree as deep as can be. */
 static void make(void) {
-    static const char jsdoc[] = "/**@import{\344\270\200}from'./j.ts'with{\344\270\200:'a'}*/";
+    static const char jsdoc[] = "/**@import\343\200\200{\344\270\200}from'./j.ts'with{\344\270\200:'a'}*/";
     static const char types[] = "/*\343\200\200@ts-types\343\200\200=\343\200\200\"./d.ts\"\343\200\200*/";
     size_t first = sizeof jsdoc - 1, second = first + sizeof types - 1, i;
 
     length = entries = 0;
+    types_start = first;
     byte(0);
     number(SOURCE);
     bytes(jsdoc);
@@ -291,10 +294,48 @@ static void *run(void *unused) {
     return unused;
 }
 
-static unsigned long calls, failures;
+/* The same with rules. */
+static uint8_t rules[65536], ruled[65536];
+static uint64_t rules_number, lengths[MODULE_INFO_LENGTHS];
+
+static void *run_rules(void *unused) {
+    rules_number = module_info_with_rules(sheet, length, ruled, sizeof ruled, rules, sizeof rules, lengths);
+    return unused;
+}
+
+/* Each entry has its types from the second comment, whose start is a number of one byte; then the JSDoc import, from its `@import` at 3. */
+static int rules_are_right(uint64_t here) {
+    size_t i;
+
+    if (rules_number != MODULE_INFO_ACCEPTED || lengths[MODULE_INFO_REPORT_LENGTH] != MODULE_INFO_LENGTH(here)) return 0;
+    if (lengths[MODULE_INFO_RULES_LENGTH] != 2 * entries + 2 || memcmp(ruled, expected, sizeof ruled)) return 0;
+    for (i = 0; i < entries; i++)
+        if (rules[2 * i] != MODULE_INFO_RULE_TS_TYPES || rules[2 * i + 1] != types_start) return 0;
+    return rules[2 * i] == MODULE_INFO_RULE_DECLARATION && rules[2 * i + 1] == 3;
+}
+
+static unsigned long calls, ruled_calls, failures;
+
+/* Asks for the rules on a thread. */
+static void compare_rules(const char *name, uint64_t here, pthread_attr_t *large) {
+    pthread_t thread;
+
+    memset(ruled, 0xA5, sizeof ruled);
+    memset(rules, 0xA5, sizeof rules);
+    if (pthread_create(&thread, large, run_rules, NULL) || pthread_join(thread, NULL)) {
+        fprintf(stderr, "stack: no thread can be made\n");
+        exit(2);
+    }
+    ruled_calls++;
+    if (!rules_are_right(here)) {
+        failures++;
+        printf("%s, with rules: number %d and %lu bytes of rules are expected, got %lu and %lu\n", name, MODULE_INFO_ACCEPTED,
+               (unsigned long)(2 * entries + 2), (unsigned long)rules_number, (unsigned long)lengths[MODULE_INFO_RULES_LENGTH]);
+    }
+}
 
 /* Compares the answer on a thread with the one on this stack. */
-static void compare(const char *name, pthread_attr_t *small) {
+static void compare(const char *name, pthread_attr_t *small, pthread_attr_t *large) {
     uint64_t here;
     pthread_t thread;
 
@@ -312,30 +353,33 @@ static void compare(const char *name, pthread_attr_t *small) {
         printf("%s: number %d and %lu dependencies are expected, got %d and %d, and on the thread %d and %d\n", name, MODULE_INFO_ACCEPTED,
                (unsigned long)entries, MODULE_INFO_NUMBER(here), expected[1], MODULE_INFO_NUMBER(answer), report[1]);
     }
+    compare_rules(name, here, large);
 }
 
 int main(int argc, char **argv) {
-    unsigned long kib = argc > 1 ? strtoul(argv[1], NULL, 10) : 128;
-    pthread_attr_t small;
+    unsigned long kib = argc > 1 ? strtoul(argv[1], NULL, 10) : 128, rules_kib = argc > 2 ? strtoul(argv[2], NULL, 10) : 320;
+    pthread_attr_t small, large;
     int form, left;
 
-    if (pthread_attr_init(&small) || pthread_attr_setstacksize(&small, kib * 1024)) {
-        fprintf(stderr, "stack: no stack of %lu KiB\n", kib);
+    if (pthread_attr_init(&small) || pthread_attr_setstacksize(&small, kib * 1024) || pthread_attr_init(&large)
+        || pthread_attr_setstacksize(&large, rules_kib * 1024)) {
+        fprintf(stderr, "stack: no stack of %lu or %lu KiB\n", kib, rules_kib);
         return 2;
     }
     for (form = 0; form < FORMS; form++) {
         for (left = 0; left <= LEVELS; left++) forms[left] = (enum form)form;
-        compare(names[form], &small);
+        compare(names[form], &small, &large);
         /* the same in an import, which reads it as its argument or its attributes */
         forms[LEVELS] = ARGUMENT_OF_IMPORT;
-        compare(names[form], &small);
+        compare(names[form], &small, &large);
         forms[LEVELS] = SECOND_OF_IMPORT;
-        compare(names[form], &small);
+        compare(names[form], &small, &large);
     }
     for (form = 0; form < FORMS; form++) {
         for (left = 0; left <= LEVELS; left++) forms[left] = (enum form)((left + form) % FORMS);
-        compare("all forms in turn", &small);
+        compare("all forms in turn", &small, &large);
     }
-    printf("C: %lu of the deepest sheets on a thread of %lu KiB, %lu differ\n", calls, kib, failures);
+    printf("C: %lu of the deepest sheets on a thread of %lu KiB, %lu with rules on one of %lu KiB, %lu differ\n", calls, kib, ruled_calls, rules_kib,
+           failures);
     return failures != 0;
 }

@@ -1,6 +1,7 @@
 /* test FILE NAMES [LARGEST]
- * Tries the library through its C interface: document 01's example, some refusals, null pointers, the source map by ECMA-426, and the stored list
- * of sheets FILE with a line of NAMES for each; the formats stand at the head of tools/replay.rs. LARGEST is the size of the largest buffer (65,536).
+ * Tries the library through its C interface: document 01's example, some refusals, null pointers, the source map by ECMA-426, each entry with its
+ * rule, and the stored list of sheets FILE with a line of NAMES for each; the formats stand at the head of tools/replay.rs. LARGEST is the size of
+ * the largest buffer (65,536).
  * The status is 1 if an answer differs, 2 if a file cannot be read. */
 #include <stdio.h>
 #include <stdlib.h>
@@ -176,6 +177,112 @@ static void source_maps(void) {
     for (n = 1; n < MAP_SHEET; n++) source_map("a sheet that is cut off", map_sheet, n, MODULE_INFO_CUT_OFF, none);
 }
 
+/* ---- each entry with its rule ---- */
+
+/* Are all bytes those of the text, and then zeros? */
+static int begins(const uint8_t *bytes, size_t size, const uint8_t *text, size_t length) {
+    size_t i;
+
+    for (i = 0; i < size && bytes[i] == (i < length ? text[i] : 0); i++) continue;
+    return i == size;
+}
+
+/* Compares the answer with buffers of m and k bytes: number, lengths, every byte of both buffers, and nothing beside them. */
+static void ruled(const char *name, const uint8_t *sheet, size_t n, size_t m, size_t k, int number, const uint8_t *report, size_t length,
+                  const uint8_t *rules, size_t rules_length) {
+    static uint8_t first[EDGE + LARGE + EDGE], second[EDGE + LARGE + EDGE];
+    uint64_t lengths[MODULE_INFO_LENGTHS + 1], answer;
+    const char *problem = NULL;
+    size_t i;
+
+    if (number != MODULE_INFO_ACCEPTED) length = rules_length = 0;
+    memset(first, FILL, EDGE + m + EDGE);
+    memset(second, FILL, EDGE + k + EDGE);
+    memset(lengths, FILL, sizeof lengths);
+    answer = module_info_with_rules(sheet, n, m ? first + EDGE : NULL, m, k ? second + EDGE : NULL, k, lengths);
+    calls++;
+    if (answer != (uint64_t)number) problem = "the number";
+    if (!problem && (lengths[MODULE_INFO_REPORT_LENGTH] != length || lengths[MODULE_INFO_RULES_LENGTH] != rules_length)) problem = "a length";
+    if (!problem && !begins(first + EDGE, m, report, length)) problem = "a byte of the first buffer";
+    if (!problem && !begins(second + EDGE, k, rules, rules_length)) problem = "a byte of the second buffer";
+    for (i = 0; i < EDGE && !problem; i++)
+        if (first[i] != FILL || first[EDGE + m + i] != FILL || second[i] != FILL || second[EDGE + k + i] != FILL) problem = "a byte beside a buffer";
+    if (!problem && lengths[MODULE_INFO_LENGTHS] % 256 != FILL) problem = "a number behind the lengths";
+    if (problem && ++failures <= SHOWN)
+        printf("%s, buffers %lu and %lu: %s differs: number %d is expected, got %lu\n", name, (unsigned long)m, (unsigned long)k, problem, number,
+               (unsigned long)answer);
+}
+
+/* The answer with buffers that fit, lack a byte, have one more and are none; the first buffer is judged before the second. */
+static void ruled_sizes(const char *name, const uint8_t *sheet, size_t n, int number, const uint8_t *report, size_t length, const uint8_t *rules,
+                        size_t rules_length) {
+    size_t sizes[8][2], less = rules_length ? rules_length - 1 : 0, shorter = length ? length - 1 : 0;
+    int i, expected;
+
+    for (i = 0; i < 8; i++) {
+        sizes[i][0] = i < 4 ? length : i < 6 ? shorter : i < 7 ? length + 1 : 0;
+        sizes[i][1] = i == 1 || i == 5 ? less : i == 2 ? rules_length + 1 : i == 3 || i == 7 ? 0 : rules_length;
+        expected = number;
+        if (number == MODULE_INFO_ACCEPTED && rules_length > sizes[i][1]) expected = MODULE_INFO_RULES;
+        if (number == MODULE_INFO_ACCEPTED && length > sizes[i][0]) expected = MODULE_INFO_BUFFER;
+        ruled(name, sheet, n, sizes[i][0], sizes[i][1], expected, report, length, rules, rules_length);
+    }
+}
+
+/* How many rules the bytes have; 0 if one is no rule or no number in its shortest form. */
+static size_t count_rules(const uint8_t *rules, size_t length) {
+    size_t count = 0, i = 0;
+
+    while (i < length) {
+        if (rules[i] < MODULE_INFO_RULE_PATH || rules[i] > MODULE_INFO_RULE_DENO_TYPES) return 0;
+        for (i++; i < length && rules[i] >= 128; i++) continue;
+        if (i == length || (!rules[i] && rules[i - 1] >= 128)) return 0;
+        i++;
+        count++;
+    }
+    return count;
+}
+
+/* The same for a sheet whose report is known and whose rules are not: as they are in large buffers, if the report fits one. */
+static void stored_rules(const char *name, const uint8_t *sheet, size_t n, int number, const uint8_t *report, size_t length) {
+    static uint8_t buffer[LARGE], rules[LARGE];
+    uint64_t lengths[MODULE_INFO_LENGTHS];
+    size_t k;
+
+    if (length > largest) return;
+    module_info_with_rules(sheet, n, buffer, largest, rules, largest, lengths);
+    calls++;
+    k = lengths[MODULE_INFO_RULES_LENGTH] <= length ? (size_t)lengths[MODULE_INFO_RULES_LENGTH] : 0;
+    if ((k != lengths[MODULE_INFO_RULES_LENGTH] || (k && !count_rules(rules, k))) && ++failures <= SHOWN) printf("%s: no rules\n", name);
+    ruled(name, sheet, n, largest, largest, number, report, length, rules, k);
+    ruled_sizes(name, sheet, n, number, report, length, rules, k);
+}
+
+/* JavaScript; one comment, a block from 0 to 35, in which two `@import` read one quote; the rest as in the example. */
+static const uint8_t twice[] = "\0\43/** @import {@import {} from \"a\" */"
+                               "\1\1\0\43"
+                               "\1\0\43\0\1"
+                               "\0\43\43\0\0"
+                               "\0\43\43\0";
+static const uint8_t twice_report[] = "\0\0\0\0\0\0"
+                                      "\1\1\1a\0\35\0\40\0"
+                                      "\0";
+/* TypeScript, no JSX: the source map alone, of the last comment. */
+static const uint8_t map_report[] = "\0\0\0\0\0\0\0"
+                                    "\1\1b\2\25\2\26";
+
+static void rules_of_entries(void) {
+    static const uint8_t brace[] = {MODULE_INFO_RULE_BRACE, 4}, declaration[] = {MODULE_INFO_RULE_DECLARATION, 4};
+    static const uint8_t map[] = {MODULE_INFO_RULE_SOURCE_MAP, 30}, long_sheet[MODULE_INFO_MAX_SHEET + 1];
+
+    ruled_sizes("rules of the example", example, EXAMPLE, MODULE_INFO_ACCEPTED, example_report, sizeof example_report - 1, brace, sizeof brace);
+    ruled_sizes("rules of two readings", twice, sizeof twice - 1, MODULE_INFO_ACCEPTED, twice_report, sizeof twice_report - 1, declaration,
+                sizeof declaration);
+    ruled_sizes("rules of a source map", map_sheet, MAP_SHEET, MODULE_INFO_ACCEPTED, map_report, sizeof map_report - 1, map, sizeof map);
+    ruled_sizes("rules of no bytes", NULL, 0, MODULE_INFO_ACCEPTED, default_report, sizeof default_report, brace, 0);
+    ruled_sizes("rules of a longer sheet", long_sheet, sizeof long_sheet, MODULE_INFO_SHEET_LENGTH, example_report, 0, brace, 0);
+}
+
 /* ---- the stored list ---- */
 
 static const uint8_t *list;
@@ -233,6 +340,7 @@ static unsigned long replay(void) {
             exit(2);
         }
         all_sizes(name ? name : "a sheet without a name", i, sheet, n, number, report, length);
+        stored_rules(name ? name : "a sheet without a name", sheet, n, number, report, length);
     }
     if (list_at != list_size) {
         fprintf(stderr, "test: bytes follow the stored list\n");
@@ -255,6 +363,7 @@ int main(int argc, char **argv) {
     names = (char *)read_file(argv[2], &names_size);
     examples();
     source_maps();
+    rules_of_entries();
     count = replay();
     printf("C: %lu stored sheets, %lu calls, %lu differ\n", count, calls, failures);
     return failures != 0;

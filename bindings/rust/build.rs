@@ -1,5 +1,5 @@
 //! Links the proved static library: the file that MODULE_INFO_LIB names (absolute, or from this folder), else target/staticlib/libmodule_info.a of
-//! the repository.
+//! the repository; and librules.a, where that is in the same folder: only `module_info_with_rules` needs it.
 
 use std::path::{Path, PathBuf};
 
@@ -25,6 +25,15 @@ fn main() {
     }
     println!("cargo::rustc-link-search=native={out}");
     println!("cargo::rustc-link-lib=static=module_info");
+    let rules = library.with_file_name("librules.a");
+    println!("cargo::rerun-if-changed={}", rules.display());
+    if rules.is_file() {
+        if let Err(e) = std::fs::copy(&rules, Path::new(&out).join("librules.a")) {
+            println!("cargo::error={} cannot be copied: {e}", rules.display());
+            return;
+        }
+        println!("cargo::rustc-link-lib=static=rules");
+    }
 }
 
 fn var(name: &str) -> String {

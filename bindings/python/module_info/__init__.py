@@ -39,17 +39,20 @@ from .decode import decode, source_of
 from .json_form import to_json
 from .library import module_info, module_info_with_replaced, source_map
 from .refusal import MEANINGS, Refused
+from .rules import EntryRule, Origin, from_comments, module_info_with_rules
 
 __all__ = [
     "DependencyDescriptor",
     "DynamicArgument",
     "DynamicDependencyDescriptor",
     "DynamicDependencyKind",
+    "EntryRule",
     "ImportAttributes",
     "JsDocImportInfo",
     "Line",
     "MEANINGS",
     "ModuleInfo",
+    "Origin",
     "PathReference",
     "Position",
     "PositionRange",
@@ -62,9 +65,11 @@ __all__ = [
     "TypesReference",
     "citation",
     "decode",
+    "from_comments",
     "lines",
     "module_info",
     "module_info_with_replaced",
+    "module_info_with_rules",
     "source_map",
     "source_of",
     "to_json",

@@ -14,6 +14,7 @@ MEANINGS = {
     "is a template with an uncooked piece",
     10: "the report is longer than the buffer",
     13: "a String's span has fewer than two bytes, or does not begin and end with the same mark",
+    16: "the rules of the entries are longer than the second buffer",
 }
 
 

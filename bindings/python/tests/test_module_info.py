@@ -14,6 +14,7 @@ from pathlib import Path
 
 import module_info as package
 from module_info import ModuleInfo, Position, Refused, citation, decode, module_info, module_info_with_replaced, source_map, source_of, to_json
+from module_info import EntryRule, Origin, from_comments, module_info_with_rules
 from module_info.library import report
 
 ROOT = Path(__file__).resolve().parents[3]
@@ -102,6 +103,31 @@ class Answers(unittest.TestCase):
             with self.subTest(sheet=index):
                 try:
                     source_map(sheet)
+                    refused = 0
+                except Refused as refusal:
+                    refused = refusal.number
+                self.assertEqual(refused, number)
+
+    def test_rules(self):
+        """An origin for each entry that a comment gives; 10 before 16."""
+        source = b'/** {{import("./a.ts").A}} @import {@import {} from "b" */'
+        end = len(source)
+        sheet = bytes([0, end]) + source + bytes([1, 1, 0, end, 1, 0, end, 0, 1, 0, end, end, 0, 0, 0, end, end, 0])
+        info, origins = module_info_with_rules(sheet)
+        self.assertEqual([s.text for s in from_comments(info)], ["./a.ts", "b"])
+        self.assertEqual(origins, [Origin(EntryRule.Brace, 4), Origin(EntryRule.Declaration, source.index(b"@import"))])
+        self.assertEqual(module_info_with_rules(sheet, len(report(sheet)), 4), (info, origins))
+        self.assertEqual(module_info_with_rules(b"", 8, 0), (decode(bytes(8)), []))
+        for size, rules_size, number in (len(report(sheet)), 3, 16), (len(report(sheet)) - 1, 3, 10), (len(report(sheet)) - 1, 4, 10):
+            with self.assertRaises(Refused) as refused:
+                module_info_with_rules(sheet, size, rules_size)
+            self.assertEqual(refused.exception.number, number)
+        for index, sheet, number, expected in stored():
+            with self.subTest(sheet=index):
+                try:
+                    info, origins = module_info_with_rules(sheet)
+                    self.assertEqual(info, decode(expected))
+                    self.assertEqual(len(origins), len(from_comments(info)))
                     refused = 0
                 except Refused as refusal:
                     refused = refusal.number

@@ -4,6 +4,7 @@ use std::collections::HashMap;
 use std::fmt;
 
 use crate::analysis::*;
+use crate::rules::{EntryRule, Origin};
 
 /// Why bytes are no report, and at which byte.
 #[derive(Debug, Clone, Copy, PartialEq, Eq)]
@@ -70,6 +71,31 @@ impl ModuleInfo {
             source_map_url: r.optional(Reader::specifier)?,
         };
         if r.at < report.len() { Err(r.problem(Problem::Trailing)) } else { Ok(info) }
+    }
+}
+
+impl Origin {
+    /// Decodes the rules of a report's entries: the bytes of the second buffer up to the length that
+    /// [`module_info_with_rules`](crate::module_info_with_rules) answers. One for each of [`ModuleInfo::from_comments`].
+    ///
+    /// ```
+    /// use module_info::{EntryRule, Origin, Problem};
+    ///
+    /// let origins = Origin::decode_all(&[1, 0, 10, 128, 1])?;
+    /// assert_eq!(origins, [Origin { rule: EntryRule::Path, offset: 0 }, Origin { rule: EntryRule::DenoTypes, offset: 128 }]);
+    /// assert_eq!(Origin::decode_all(&[11, 0]).unwrap_err().problem, Problem::Byte);
+    /// assert_eq!(Origin::decode_all(&[1, 128]).unwrap_err().problem, Problem::CutOff);
+    /// # Ok::<(), module_info::DecodeError>(())
+    /// ```
+    pub fn decode_all(rules: &[u8]) -> Result<Vec<Origin>, DecodeError> {
+        let mut r = Reader { bytes: rules, at: 0 };
+        let mut all = Vec::new();
+        while r.at < rules.len() {
+            let error = r.problem(Problem::Byte);
+            let rule = EntryRule::from_number(r.byte()?).ok_or(error)?;
+            all.push(Origin { rule, offset: r.number()? });
+        }
+        Ok(all)
     }
 }
 

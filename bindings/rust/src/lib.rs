@@ -37,6 +37,7 @@ mod analysis;
 mod decode;
 mod json;
 mod refusal;
+mod rules;
 mod sheet;
 mod sheet_decode;
 mod sheet_encode;
@@ -45,6 +46,7 @@ pub use analysis::*;
 pub use decode::{DecodeError, Problem};
 pub use json::json_string;
 pub use refusal::Refusal;
+pub use rules::{EntryRule, Origin, module_info_with_rules};
 pub use sheet::*;
 pub use sheet_encode::OutOfForm;
 

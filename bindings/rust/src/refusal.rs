@@ -1,6 +1,6 @@
 use std::fmt;
 
-/// Document 01's refusals by their numbers; 13 is judged among 2 to 7.
+/// Document 01's refusals by their numbers; 13 is judged among 2 to 7, and 16 is only of the question with rules.
 #[derive(Debug, Clone, Copy, PartialEq, Eq, PartialOrd, Ord, Hash)]
 #[repr(u8)]
 pub enum Refusal {
@@ -15,10 +15,11 @@ pub enum Refusal {
     Uncooked = 9,
     Buffer = 10,
     String = 13,
+    Rules = 16,
 }
 
 impl Refusal {
-    pub const ALL: [Refusal; 11] = [
+    pub const ALL: [Refusal; 12] = [
         Refusal::SheetLength,
         Refusal::CutOff,
         Refusal::Byte,
@@ -30,6 +31,7 @@ impl Refusal {
         Refusal::Uncooked,
         Refusal::Buffer,
         Refusal::String,
+        Refusal::Rules,
     ];
 
     /// The refusal of a number.
@@ -70,6 +72,7 @@ impl Refusal {
             }
             Refusal::Buffer => "the report is longer than the buffer",
             Refusal::String => "a String's span has fewer than two bytes, or does not begin and end with the same mark",
+            Refusal::Rules => "the rules of the entries are longer than the second buffer",
         }
     }
 }

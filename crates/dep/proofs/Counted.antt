@@ -45,7 +45,7 @@ module _ (source : List ℕ) (types : ℕ → Option SpecifierWithRange) where
       go true = refl
       go false = refl
 
-  entry-one : (v : Visit) → length (entryOf source types v) ≡ one (gives v)
+  pub entry-one : (v : Visit) → length (entryOf source types v) ≡ one (gives v)
   entry-one (called sp (importing phase) xs) = call-one (dynamicKind phase) sp xs
   entry-one (called sp (expression e) xs) = listed-one (isRequire (shape e)) dynamics.Require sp xs
   entry-one (imported sp typeOnly phase sideEffect x a) = refl

@@ -1,9 +1,12 @@
--- The dependencies of a tree are the entries of its visits, one after the other; the entry of a visit goes by the range that it reports and the types at its start.
-use mathlib.Core.Path.{_≡_, refl, ap}
+-- The dependencies of a tree are the entries of its visits, one after the other; the entry of a visit goes by the range that it reports and the types at its
+-- start, and the rows beside them by the tree alone.
+use mathlib.Core.Path.{_≡_, refl, sym, ap, _∙_}
 use mathlib.Core.Bool.{cond}
-use mathlib.Core.List.{List, [], append-nil, flatMap}
+use mathlib.Core.List.{List, [], _∷_, append-nil, flatMap}
 use mathlib.Core.Option.{Option}
 use Prim.Native.Nat.{ℕ}
+use native.Mathlib.Omega.{arith}
+use lib.ListN.{length}
 use Rattle.laws.proofs.Lists.{flatMap-append}
 use Rattle.sheet.specs.declared.fields.Span.{Span}
 use Rattle.sheet.specs.Tree.{Node, Arguments, noArguments, argument}
@@ -15,7 +18,9 @@ use Rattle.report.specs.declared.names.DynamicDependencyKind.{DynamicDependency
 use Rattle.report.specs.declared.names.DynamicDependencyKind.the-variants as dynamics
 use Rattle.report.specs.ModuleInfo.{SpecifierWithRange, DependencyDescriptor}
 use Rattle.report.specs.Range.{rangeOf}
-use Rattle.dep.specs.Collect.{dynamicKind, staticEntry, callEntry, moduleEntry, entryOf, collector, collect}
+use Rattle.arguments.specs.Argument.{replacedIn}
+use Rattle.dep.specs.Collect.{dynamicKind, staticEntry, callEntry, moduleEntry, entryOf, collector, collect, textOf, beside, numbersOf, noting, collectNoted}
+use Rattle.dep.proofs.Counted.{entry-one}
 
 pub collect-each : (source : List ℕ) (types : ℕ → Option SpecifierWithRange) (n : Node) → collect source types n ≡ flatMap (entryOf source types) (visits n)
 unfolding collector flatMap
@@ -26,6 +31,15 @@ collect-each source types =
 -- a span has the same range in two sources
 abbrev pub SameRange : List ℕ → List ℕ → Span → Type 0
 SameRange s r sp = rangeOf s sp ≡ rangeOf r sp
+
+-- the rows beside as many entries
+rows-beside : (start number : ℕ) (l m : List DependencyDescriptor) → length l ≡ length m
+    → numbersOf (beside start number l) ≡ numbersOf (beside start number m)
+unfolding flatMap
+rows-beside start number [] [] e = refl
+rows-beside start number [] (d ∷ m) e = absurd (omega arith)
+rows-beside start number (d ∷ l) [] e = absurd (omega arith)
+rows-beside start number (d ∷ l) (d′ ∷ m) e = rw (rows-beside start number l m (omega arith))
 
 module _ (s r : List ℕ) (types types′ : ℕ → Option SpecifierWithRange) where
   call-kept : (kind : DynamicDependencyKind) (sp : Span) (xs : Arguments) → OfFirst (SameRange s r) xs → types (sp .start) ≡ types′ (sp .start)
@@ -44,3 +58,14 @@ module _ (s r : List ℕ) (types types′ : ℕ → Option SpecifierWithRange) w
   entry-kept (required sp typeOnly export x) h e = rw (h, e)
   entry-kept (declared sp Option.none) h e = refl
   entry-kept (declared sp (Option.some x)) h e = rw (h, e)
+
+  -- the rows go by the tree alone
+  pub rows-kept : (n : Node) → numbersOf (collectNoted s types n) ≡ numbersOf (collectNoted r types′ n)
+  unfolding noting flatMap
+  rows-kept =
+      walks-related (λ l m. numbersOf l ≡ numbersOf m) (noting s types) (noting r types′)
+      (record {
+        nothing = refl;
+        both = λ {a} {b} {x} {y} e f. rw (flatMap-append _ a b, flatMap-append _ x y, e, f);
+        own = λ v. rows-beside (startOf v) (replacedIn (textOf v)) (entryOf s types v) (entryOf r types′ v) (entry-one s types v ∙ sym (entry-one r types′ v));
+      })

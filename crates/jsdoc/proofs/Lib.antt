@@ -12,6 +12,9 @@ pub mod Listing
 pub mod Marked
 pub mod Marking
 pub mod Moved
+pub mod Noted
+pub mod Noting
+pub mod Openers
 pub mod Places
 pub mod Searches
 pub mod Skips

@@ -13,11 +13,12 @@ use Rattle.analysis.proofs.Modes.{found-of}
 use Rattle.jsdoc.specs.Grammar.{Bytes, Brace, Declaration, Reading, From, Listed}
 use Rattle.jsdoc.specs.Parsed.{Parser, value}
 use Rattle.jsdoc.specs.Reader.{Hit, hit}
-use Rattle.jsdoc.specs.code.Answers.{Imports, marked}
+use Rattle.jsdoc.specs.code.Answers.{Imports, marked, noted}
 use Rattle.jsdoc.specs.declared.answers.JsDocImport.{JsDocImport}
 use Rattle.jsdoc.specs.declared.answers.JsDocImport.the-variants as jsDocImport
 use Rattle.jsdoc.specs.code.Marks.{Marks}
 use Rattle.jsdoc.specs.Listing.{markAt, listingBy, listing}
+use Rattle.jsdoc.specs.Origins.{noteOf}
 use Rattle.jsdoc.proofs.Ends.{Ends, ends-trans}
 use Rattle.jsdoc.proofs.Suffixes.{reading-ends}
 use Rattle.jsdoc.proofs.Places.{with-kind}
@@ -29,13 +30,14 @@ ends-at {s} {t} (p, e) =
     let n : length s - length t ≡ length p = omega (arith, ap length e, length-append p t) in
     rw n (rw e (drop-append-seam p t))
 
--- an answer of the code that stands for what the parser reads of s, and has its mark
-record Answer (s : Bytes) (o : Option Hit) : Type 0 where
-  import : JsDocImport
-  is : Imports s o import
-  mark : (i : ℕ) (l : List ℕ) → marked i import l ≡ markAt i s o l
+-- an answer of the code that stands for what the parser reads of s, and has its mark and its note
+pub record Answer (s : Bytes) (o : Option Hit) : Type 0 where
+  pub import : JsDocImport
+  pub is : Imports s o import
+  pub mark : (i : ℕ) (l : List ℕ) → marked i import l ≡ markAt i s o l
+  pub note : (i : ℕ) (l : List ℕ) → noted i import l ≡ noteOf i s o l
 
-answered : {R : Bytes → Bytes → Bytes → Mode → Type 0} {p : Parser Hit} → Kind R p → (s : Bytes) → Answer s (value (p s))
+pub answered : {R : Bytes → Bytes → Bytes → Mode → Type 0} {p : Parser Hit} → Kind R p → (s : Bytes) → Answer s (value (p s))
 answered {p} K s = go (value (p s)) refl
   where
     go : (o : Option Hit) → value (p s) ≡ o → Answer s o
@@ -46,8 +48,9 @@ answered {p} K s = go (value (p s)) refl
           import = jsDocImport.Import (length s - length q) (length s - length e) mode;
           is = record { is = rw (ends-at a, ends-at (ends-trans a b), same); ordered = omega arith };
           mark = λ i l. rw same;
+          note = λ i l. refl;
         }
-    go none h = record { import = jsDocImport.Backtrace; is = record { is = refl; ordered = tt }; mark = λ i l. refl }
+    go none h = record { import = jsDocImport.Backtrace; is = record { is = refl; ordered = tt }; mark = λ i l. refl; note = λ i l. refl }
 
 -- so one turn marks what the parser reads
 turned : {R : Bytes → Bytes → Bytes → Mode → Type 0} {p : Parser Hit} → Kind R p → (b : Bytes) (n : ℕ) → n < length b → {P : ℕ → Mode → Type 0} {l : List ℕ}

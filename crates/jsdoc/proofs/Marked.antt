@@ -57,7 +57,7 @@ module _ {P R : ℕ → Mode → Type 0} {n : ℕ} {l : List ℕ} (q : ℕ) (m :
       complete a b (inr r) (no p) = absurd (p (r .0))
 
 -- a table of zeros marks nothing
-zeros : (n q : ℕ) → getD {A = ℕ} (replicate n 0) q 0 ≡ 0
+pub zeros : (n q : ℕ) → getD {A = ℕ} (replicate n 0) q 0 ≡ 0
 zeros zero q = refl
 zeros (suc n) zero = refl
 zeros (suc n) (suc q) = zeros n q

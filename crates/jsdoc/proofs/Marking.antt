@@ -41,11 +41,11 @@ braces = record { agrees = brace-agrees; reading = inl }
 pub declarations : Kind Declaration parseJsdocImportDecl
 declarations = record { agrees = declaration-agrees; reading = inr }
 
-place-below : {b : Bytes} {k q : ℕ} {m : Mode} → From Reading b k q m → q < length b
+pub place-below : {b : Bytes} {k q : ℕ} {m : Mode} → From Reading b k q m → q < length b
 place-below {b} {q} r = let (t, i) = place-quote (r .reads) in omega (arith, quote-shorter i, length-drop q b)
 
 module _ {R : Bytes → Bytes → Bytes → Mode → Type 0} {p : Parser Hit} (K : Kind R p) (b : Bytes) (i : ℕ) (h : i < length b) where
-  found : (a e : ℕ) (m : ModeFound) → Imports (drop i b) (value (p (drop i b))) (jsDocImport.Import a e m) → From R b i (i + a) (modeAs m)
+  pub found : (a e : ℕ) (m : ModeFound) → Imports (drop i b) (value (p (drop i b))) (jsDocImport.Import a e m) → From R b i (i + a) (modeAs m)
   found a e m r = record {
     end = i + e;
     inside = omega (arith, r .ordered, length-drop i b);
@@ -60,7 +60,7 @@ module _ {R : Bytes → Bytes → Bytes → Mode → Type 0} {p : Parser Hit} (K
 
   -- from one place there is one reading
   module _ {a e q : ℕ} {m : ModeFound} {n : Mode} (r : Imports (drop i b) (value (p (drop i b))) (jsDocImport.Import a e m)) (g : From R b i q n) where
-    only-one : (q ≡ i + a) × (n ≡ modeAs m)
+    pub only-one : (q ≡ i + a) × (n ≡ modeAs m)
     only-one =
         let f = found a e m r in
         let u = K .agrees _ _ _ _ .0 (g .reads) in
@@ -105,29 +105,41 @@ listed-brace (k, f) = (k, with-kind f (inl (f .reads)))
 pub marks-none : {R : Bytes → Bytes → Bytes → Mode → Type 0} (b : Bytes) → Marks (Before R b 0) (length b) (replicate (length b) 0)
 marks-none b = marks-nothing (λ q m r. omega (arith, r .1)) (length b)
 
+module _ (b : Bytes) (i : ℕ) (h : i < length b) where
+  -- where no brace stands, no Brace reading begins
+  pub passed : (getD b i 0 ≡ code "{" → ⊥) → {k q : ℕ} {m : Mode} → k < i + 1 → From Brace b k q m → k < i
+  passed n {k} {q} {m} g f = go (ℕ-discrete k i)
+    where
+      go : Dec (k ≡ i) → k < i
+      go (yes p) = absurd (n (cc (cons-at b i h, (rw p at f) .reads .brace)))
+      go (no p) = omega arith
+
+  -- a Brace reading from before where the search from i ended is one from before i, or the same as from i
+  pub searched : getD b i 0 ≡ code "{" → (r : Searched) → Scans (drop i b) r → {k q : ℕ} {m : Mode} → k < i + r .end → From Brace b k q m
+      → (k < i) ⊎ ((i ≤ k) × From Brace b i q m)
+  searched o r t {k} {q} {m} g f = go (ℕ-discrete k i) (decLt k i)
+    where
+      go : Dec (k ≡ i) → Dec (k < i) → (k < i) ⊎ ((i ≤ k) × From Brace b i q m)
+      go (yes p) d = inr (omega arith, rw p at f)
+      go (no p) (yes d) = inl d
+      go (no p) (no d) =
+          let e = same-reading b i h o r t k (omega arith) g (f .reads .brace) in
+          let reads = brace-sound (drop i b) (drop q b) (drop (f .end) b) m (f .reads .end) (sym e ∙ brace-complete (f .reads)) in
+          inr (omega arith, record { end = f .end; inside = f .inside; reads = reads })
+
 module _ (b : Bytes) (i : ℕ) {l : Bytes} (k : Marks (Before Brace b i) (length b) l) where
   pub braces-all : length b ≤ i → Marks (ListedBy Brace b) (length b) l
   braces-all h = marks-iff (λ q m r. (r .0, r .2)) (λ q m r. (r .0, omega (arith, from-below (with-kind (r .1) (inl (r .1 .reads)))), r .1)) k
 
   module _ (h : i < length b) where
     pub no-brace-turn : (getD b i 0 ≡ code "{" → ⊥) → Marks (Before Brace b (i + 1)) (length b) l
-    no-brace-turn n = marks-iff (λ q m r. later (omega arith) q m (inl r)) (λ q m r. go q m r (ℕ-discrete (r .0) i)) k
-      where
-        go : (q : ℕ) (m : Mode) (r : Before Brace b (i + 1) q m) → Dec (r .0 ≡ i) → Before Brace b i q m
-        go q m r (yes p) = absurd (n (cc (cons-at b i h, (rw p at (r .2)) .reads .brace)))
-        go q m r (no p) = (r .0, omega (arith, r .1), r .2)
+    no-brace-turn n = marks-iff (λ q m r. later (omega arith) q m (inl r)) (λ q m r. (r .0, passed b i h n (r .1) (r .2), r .2)) k
 
     pub brace-turn : getD b i 0 ≡ code "{" → (r : Searched) → Scans (drop i b) r → Marks (Before Brace b (i + r .end)) (length b) (marked i (r .found) l)
     brace-turn o r t =
-        marks-iff (later (omega (arith, search-goes-on b i h o r t))) (λ q m f. back q m f (ℕ-discrete (f .0) i) (decLt (f .0) i))
+        marks-iff (later (omega (arith, search-goes-on b i h o r t)))
+        (λ q m f. ⊎-elim (λ d. inl (f .0, d, f .2)) (λ x. inr (x .1)) (searched b i h o r t (f .1) (f .2)))
         (marks-turn braces b i h k (λ q m f. listed-brace (f .0, f .2)) (r .found) (t .import))
-      where
-        back : (q : ℕ) (m : Mode) (f : Before Brace b (i + r .end) q m) → Dec (f .0 ≡ i) → Dec (f .0 < i) → Before Brace b i q m ⊎ From Brace b i q m
-        back q m f (yes p) d = inr (rw p at (f .2))
-        back q m f (no p) (yes d) = inl (f .0, d, f .2)
-        back q m (j, g, f) (no p) (no d) =
-            let e = same-reading b i h o r t j (omega arith) g (f .reads .brace) in
-            inr (record { end = f .end; inside = f .inside; reads = brace-sound (drop i b) (drop q b) (drop (f .end) b) m (f .reads .end) (sym e ∙ brace-complete (f .reads)) })
 
 -- ---- the declarations
 

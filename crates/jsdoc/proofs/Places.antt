@@ -59,7 +59,7 @@ place-quote (inr r) = (r .text, r .quote)
 
 -- ---- boundaries
 
-head-at : (b : Bytes) (i m : ℕ) (t : Bytes) → drop i b ≡ m ∷ t → (i < length b) × (getD b i 0 ≡ m)
+pub head-at : (b : Bytes) (i m : ℕ) (t : Bytes) → drop i b ≡ m ∷ t → (i < length b) × (getD b i 0 ≡ m)
 head-at b i m t e =
     let n : i + 0 ≡ i = add-zero i in
     (omega (arith, ap length e, length-drop i b), rw (← n) (sym (getD-drop i b 0 0) ∙ ap (λ (l : Bytes). getD l 0 0) e))

@@ -22,7 +22,7 @@ module _ (b : Bytes) (i r : ℕ) (l : i ≤ r) (h : r ≤ length b) {t : List �
   braces-skip f m = carried-to (λ k. Marks (Before Brace b k) (length b) t) i r l m (λ k g n p. no-brace-turn b k p (omega arith) (f k g n))
 
 -- where no `@` stands, no declaration begins
-no-at : (b : Bytes) (k : ℕ) → k < length b → (getD b k 0 ≡ code "@" → ⊥)
+pub no-at : (b : Bytes) (k : ℕ) → k < length b → (getD b k 0 ≡ code "@" → ⊥)
     → Imports (drop k b) (value (parseJsdocImportDecl (drop k b))) jsDocImport.Backtrace
 unfolding parseJsdocImportDecl tag begins
 no-at b k l n = record { is = rw (cons-at b k l, ne-eqb (getD b k 0) (code "@") n); ordered = tt }

@@ -5,5 +5,6 @@ mod clause;
 pub mod dynamic_import;
 pub mod import_decl;
 pub mod imports;
+pub mod origins;
 mod pieces;
 pub mod quote;

@@ -2,4 +2,5 @@ pub mod Codec
 pub mod Decoded
 pub mod Quoted
 pub mod Ordered
+pub mod Aligned
 pub mod code

@@ -9,3 +9,5 @@ pub mod Valid
 pub mod Openings
 pub mod ByComment
 pub mod Revised
+pub mod Openers
+pub mod Origins

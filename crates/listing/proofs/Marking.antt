@@ -166,7 +166,11 @@ module _ (source : List ℕ) (c : Comment) (l : List ℕ) where
   unfolding markedBy
   marked-not o = rw o
 
+pub rows-next : (row : ℕ → Comment) (n k : ℕ) → k < n → rows row k (n - k) ≡ row k ∷ rows row (k + 1) (n - (k + 1))
+unfolding rows
+rows-next row n k h = let e : n - k ≡ suc (n - suc k) = omega arith in rw (e, add-one k)
+
 pub mark-more : (source l : List ℕ) (row : ℕ → Comment) (n k : ℕ) → k < n
     → markedByAll source (rows row k (n - k)) l ≡ markedByAll source (rows row (k + 1) (n - (k + 1))) (markedBy source (row k) l)
-unfolding rows markedByAll
-mark-more source l row n k h = let e : n - k ≡ suc (n - suc k) = omega arith in rw (e, add-one k)
+unfolding markedByAll
+mark-more source l row n k h = rw (rows-next row n k h)

@@ -1,4 +1,4 @@
--- A comment that is alike in two sources gives the same JSDoc imports in both.
+-- A comment that is alike in two sources gives the same JSDoc imports in both, with the same origins.
 use mathlib.Core.Path.{_≡_, refl, ap, sym, _∙_}
 use mathlib.Core.List.{List, [], _∷_}
 use mathlib.Core.Option.{Option}
@@ -20,6 +20,7 @@ use Rattle.report.specs.Decode.{modes}
 use Rattle.report.proofs.Modes.{mode-numbers}
 use Rattle.listing.specs.Imports.{markedBy, markedByAll, marksOf, importAt, importsFrom, jsdocImports}
 use Rattle.listing.specs.ByComment.{givenBy}
+use Rattle.listing.specs.Origins.{originsOf}
 use Rattle.listing.proofs.Marking.{ReadIn, marks-of}
 use Rattle.listing.proofs.Quotes.{importOf, reading-starts, reading-import}
 use Rattle.listing.proofs.ByComment.{fit-one}
@@ -53,6 +54,10 @@ module _ {s r : List ℕ} {c : Comment} (a : Alike s r c) where
   marks-kept : marksOf s (c ∷ []) ≡ marksOf r (c ∷ [])
   unfolding markedByAll markedBy
   marks-kept = rw (a .same-body, a .size)
+
+  pub origins-kept : originsOf s c ≡ originsOf r c
+  unfolding originsOf
+  origins-kept = rw (a .same-body)
 
   module _ (p : Placed s c) where
     each-kept : (d m : ℕ) → getD (marksOf s (c ∷ [])) d 0 ≡ m + 1 → importAt s (0 + d) (valueOf modes m) ≡ importAt r (0 + d) (valueOf modes m)

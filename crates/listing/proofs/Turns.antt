@@ -30,10 +30,10 @@ use Rattle.listing.proofs.Entries.{count-all}
 use Rattle.listing.proofs.Right.{standings}
 
 -- the marks from place q on: the first of them, and the others
-first-mark : (marks : List ℕ) (q : ℕ) → q < length marks → drop q marks ≡ getD marks q 0 ∷ drop (q + 1) marks
+pub first-mark : (marks : List ℕ) (q : ℕ) → q < length marks → drop q marks ≡ getD marks q 0 ∷ drop (q + 1) marks
 first-mark marks q h = rw (add-one q) (drop-cons marks q 0 h)
 
-first-mode : (n : ℕ) → (n ≡ 0 → ⊥) → n ≡ suc (n - 1)
+pub first-mode : (n : ℕ) → (n ≡ 0 → ⊥) → n ≡ suc (n - 1)
 first-mode n h = omega arith
 
 module _ (source marks : List ℕ) (q : ℕ) (h : q < length marks) where

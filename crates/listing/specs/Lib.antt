@@ -1,3 +1,4 @@
 pub mod Imports
 pub mod Demand
 pub mod ByComment
+pub mod Origins

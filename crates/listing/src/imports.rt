@@ -28,7 +28,7 @@ ghost use Rattle.pragmas.specs.code.Views.{encodeAny};
 ghost use Rattle.listing.specs.Imports.{isStarOpened, markedBy, marksOf, marksIn, countOf, importAt, importsFrom, jsdocImports};
 
 // Is it a block comment whose body begins with `*`?
-fn is_star_opened(source: &[u8], c: Comment) -> bool
+pub fn is_star_opened(source: &[u8], c: Comment) -> bool
     requires { ⌜ HoldsMarks c ⌝ }
     requires { ⌜ c .span .end ≤ length (now source) ⌝ }
     ensures { λ r. ⌜ r ≡ isStarOpened (now (source .entry)) c ⌝ }

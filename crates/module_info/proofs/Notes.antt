@@ -125,7 +125,7 @@ pub none-held : (size : ℕ) → held size [] ≡ zeros size
 none-held size = sym (all-held size [])
 
 -- a refused report is longer than its buffer
-refused-ten : (size r : ℕ) (buffer : List ℕ) (m : ModuleInfo) → outcomeAs (Refused r) buffer ≡ fitted size (encode m) → r ≡ refusals.buffer
+pub refused-ten : (size r : ℕ) (buffer : List ℕ) (m : ModuleInfo) → outcomeAs (Refused r) buffer ≡ fitted size (encode m) → r ≡ refusals.buffer
 unfolding fitted encode
 refused-ten size r buffer m e = by-room (leb (length (encode m)) size) e
   where

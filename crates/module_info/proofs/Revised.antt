@@ -26,15 +26,15 @@ use Rattle.sheet_codec.specs.Limits.{FieldsFit}
 use Rattle.report.specs.ModuleInfo.{SpecifierWithRange}
 use Rattle.pragmas.specs.Pragmas.{inGroup, headComments, endComments, typesAt}
 use Rattle.pragmas.proofs.Texts.{comment-index}
-use Rattle.pragmas.proofs.Revised.{references-kept, self-types-kept, jsx-import-source-kept, jsx-import-source-types-kept, source-map-kept, types-kept}
+use Rattle.pragmas.proofs.Revised.{references-kept, self-types-kept, jsx-import-source-kept, jsx-import-source-types-kept, head-origins-kept, source-map-kept, end-origins-kept, types-kept, types-origins-kept}
 use Rattle.listing.specs.ByComment.{givenBy}
 use Rattle.listing.specs.Imports.{jsdocImports}
 use Rattle.listing.proofs.ByComment.{by-comment}
-use Rattle.listing.proofs.Revised.{given-kept}
+use Rattle.listing.proofs.Revised.{given-kept, origins-kept}
 use Rattle.dep.specs.Collect.{entryOf, collect}
-use Rattle.dep.proofs.Revised.{collect-each, SameRange, entry-kept}
+use Rattle.dep.proofs.Revised.{collect-each, SameRange, entry-kept, rows-kept}
 use Rattle.module_info.specs.Information.{moduleInfo}
-use Rattle.module_info.specs.Unchanged.{jsdocFrom, dependencyOf, Aside, SameHead, Unchanged}
+use Rattle.module_info.specs.Unchanged.{jsdocFrom, dependencyOf, originsOfHead, originsOfEnd, Aside, SameHead, Unchanged}
 
 flatMap-same : {A B : Type 0} {f g : A → List B} (l : List A) → ((a : A) → List·Memᴰ a l → f a ≡ g a) → flatMap f l ≡ flatMap g l
 unfolding flatMap
@@ -80,14 +80,22 @@ module _ {t u : Sheet} {k : ℕ} (r : Revision t u k) where
         let alike = in-group (headGroup (t .program) (t .groups)) lacks in
         record {
           references = references-kept (t .source) (u .source) (headComments t) alike;
-          self-types = self-types-kept (t .source) (u .source) (t .media) (headComments t) alike;
-          jsx-import-source = jsx-import-source-kept (t .source) (u .source) (t .media) (headComments t) alike;
-          jsx-import-source-types = jsx-import-source-types-kept (t .source) (u .source) (t .media) (headComments t) alike;
+          self-types = self-types-kept (t .source) (u .source) (t .media) (headComments t) alike .0;
+          jsx-import-source = jsx-import-source-kept (t .source) (u .source) (t .media) (headComments t) alike .0;
+          jsx-import-source-types = jsx-import-source-types-kept (t .source) (u .source) (t .media) (headComments t) alike .0;
         }
 
     source-map : Lacks k (endGroup (t .program) (t .groups)) → moduleInfo t .sourceMapUrl ≡ moduleInfo second .sourceMapUrl
     unfolding moduleInfo endComments
     source-map lacks = source-map-kept (t .source) (u .source) (endComments t) (in-group (endGroup (t .program) (t .groups)) lacks)
+
+    head-origins : Lacks k (headGroup (t .program) (t .groups)) → originsOfHead t ≡ originsOfHead second
+    unfolding headComments
+    head-origins lacks = head-origins-kept (t .source) (u .source) (t .media) (headComments t) (in-group (headGroup (t .program) (t .groups)) lacks)
+
+    end-origins : Lacks k (endGroup (t .program) (t .groups)) → originsOfEnd t ≡ originsOfEnd second
+    unfolding endComments
+    end-origins lacks = end-origins-kept (t .source) (u .source) (endComments t) (in-group (endGroup (t .program) (t .groups)) lacks)
 
     entry : (v : Visit) → List·Memᴰ v (visits (t .root)) → Lacks k (groupAt (t .groups) Leading (startOf v)) → dependencyOf t v ≡ dependencyOf second v
     entry v m lacks = by-types (typesAt t) (typesAt second) v m (types-kept (t .source) (u .source) (t .comments) (t .groups) (startOf v) (in-group (groupAt (t .groups) Leading (startOf v)) lacks))
@@ -138,6 +146,11 @@ module _ {t u : Sheet} {k : ℕ} (r : Revision t u k) where
       dependencies′ = collect-each (u .source) (typesAt second) (t .root);
       entry = entry;
       but-types = λ types v m. by-types types types v m refl;
+      rows = rows-kept (t .source) (u .source) (typesAt t) (typesAt second) (t .root);
+      jsdoc-origins = λ i l n. origins-kept (others-alike r f fit i l n);
+      head-origins = head-origins;
+      end-origins = end-origins;
+      types-origins = λ at lacks. types-origins-kept (t .source) (u .source) (t .comments) (t .groups) at (in-group (groupAt (t .groups) Leading at) lacks);
       all = all-same;
     }
 

@@ -36,8 +36,9 @@ use Rattle.pragmas.specs.declared.readings.Rule.the-variants.{StandardSourceMap
 use Rattle.pragmas.specs.Readings.{specifierIn, lastOf}
 use Rattle.pragmas.specs.Pragmas.{inGroup, endComments}
 use Rattle.pragmas.specs.SourceMap.{readStandard, standardMapIn, standardMap}
-use Rattle.pragmas.specs.code.Views.{readRule, readAs, ReadIn}
+use Rattle.pragmas.specs.code.Views.{takenBy, takenAs, readAs, ReadIn}
 use Rattle.pragmas.proofs.SourceMap.{standard-present, standard-shown}
+use Rattle.pragmas.proofs.Taken.{read-last}
 use Rattle.module_info.specs.declared.source_map.SourceMap.{SourceMap}
 use Rattle.module_info.specs.Information.{answerOf}
 use Rattle.module_info.specs.SourceMap.{given, refused, sourceMapOf, mapAs, TextInside, MapRight, SourceMapRight}
@@ -119,8 +120,9 @@ module _ (s : List ℕ) where
         (rw (size, place, ← in-sheet, ← in-source), (omega arith, omega arith))
 
 -- the last reading in the trailing group at the program's end is that of the sheet
-pub map-read : {t : Sheet} {source comments groups : List ℕ} {p : Parts} → PartsOf t source comments groups p → {f : Option Group} {x : Option SpecifierWithRange}
+pub map-read : {t : Sheet} {source comments groups : List ℕ} {p : Parts} → PartsOf t source comments groups p → {f : Option Group} (r : Reading)
     → f ≡ endGroup (programOf (p .program)) (groupsIn groups (p .groups))
-    → x ≡ lastOf (readRule StandardSourceMap source) (inGroup (commentsIn comments (p .comments)) f) → x ≡ standardMap t
+    → takenAs r ≡ lastOf (takenBy StandardSourceMap source) (inGroup (commentsIn comments (p .comments)) f) → readAs source r ≡ standardMap t
 unfolding endComments readStandard standardMapIn
-map-read o found last = rw (← o .source-is, ← o .comments-are, ← o .groups-are, ← o .program, ← found) last
+map-read {source = source} o r found last =
+    rw (← o .source-is, ← o .comments-are, ← o .groups-are, ← o .program, ← found) (read-last StandardSourceMap source r _ last)

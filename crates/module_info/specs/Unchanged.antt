@@ -12,10 +12,14 @@ use Rattle.sheet.specs.Walk.{Visit, startOf, visits}
 use Rattle.sheet.specs.Revision.{Outside, SameAt, bodyOf, Lacks}
 use Rattle.sheet.specs.Sheet.{Sheet}
 use Rattle.report.specs.ModuleInfo.{SpecifierWithRange, DependencyDescriptor, JsDocImportInfo, ModuleInfo}
-use Rattle.pragmas.specs.Pragmas.{typesAt}
+use Rattle.report.specs.Origin.{Origin}
+use Rattle.pragmas.specs.Pragmas.{headComments, endComments, typesAt}
+use Rattle.pragmas.specs.Origins.{headOrigins, endOrigins, typesOrigins}
 use Rattle.listing.specs.ByComment.{givenBy, ByComment}
-use Rattle.dep.specs.Collect.{entryOf}
+use Rattle.listing.specs.Origins.{originsOf}
+use Rattle.dep.specs.Collect.{numbersOf, entryOf}
 use Rattle.module_info.specs.Information.{moduleInfo}
+use Rattle.module_info.specs.Replaced.{noted}
 
 -- the JSDoc entries from the comment of an index
 abbrev pub jsdocFrom : Sheet → ℕ → List JsDocImportInfo
@@ -24,6 +28,19 @@ jsdocFrom t i = givenBy (t .media) (t .source) (commentOf (t .comments) i)
 -- the entry of a visit, if it gives one
 abbrev pub dependencyOf : Sheet → Visit → List DependencyDescriptor
 dependencyOf t = entryOf (t .source) (typesAt t)
+
+-- the origins of these JSDoc entries, of references and pragmas of the head group, of the source map, and of the types at a place
+abbrev pub jsdocOriginsFrom : Sheet → ℕ → List Origin
+jsdocOriginsFrom t i = originsOf (t .source) (commentOf (t .comments) i)
+
+abbrev pub originsOfHead : Sheet → List Origin
+originsOfHead t = headOrigins (t .media) (t .source) (headComments t)
+
+abbrev pub originsOfEnd : Sheet → List Origin
+originsOfEnd t = endOrigins (t .source) (endComments t)
+
+abbrev pub originsOfTypes : Sheet → ℕ → List Origin
+originsOfTypes t = typesOrigins (t .source) (t .comments) (t .groups)
 
 -- the comment is in no group that a rule is given, and gives the same JSDoc entries
 pub record Aside (t u : Sheet) (k : ℕ) : Type 0 where
@@ -59,5 +76,13 @@ pub record Unchanged (t u : Sheet) (k : ℕ) : Type 0 where
   pub entry : (v : Visit) → List·Memᴰ v (visits (t .root)) → Lacks k (groupAt (t .groups) Leading (startOf v)) → dependencyOf t v ≡ dependencyOf u v
   -- any other is, but for its types
   pub but-types : (types : ℕ → Option SpecifierWithRange) (v : Visit) → List·Memᴰ v (visits (t .root)) → entryOf (t .source) types v ≡ entryOf (u .source) types v
+  -- all rows of the notes are equal: where the node of each dependency starts, and how many characters were replaced in its text
+  pub rows : numbersOf (noted t) ≡ numbersOf (noted u)
+  -- so are the origins of JSDoc entries from other comments, of references and pragmas whose group lacks the comment, and of types at each place whose
+  -- leading group lacks it, or that has none
+  pub jsdoc-origins : (i : ℕ) → i < length (t .comments) → (i ≡ k → ⊥) → jsdocOriginsFrom t i ≡ jsdocOriginsFrom u i
+  pub head-origins : Lacks k (headGroup (t .program) (t .groups)) → originsOfHead t ≡ originsOfHead u
+  pub end-origins : Lacks k (endGroup (t .program) (t .groups)) → originsOfEnd t ≡ originsOfEnd u
+  pub types-origins : (at : ℕ) → Lacks k (groupAt (t .groups) Leading at) → originsOfTypes t at ≡ originsOfTypes u at
   -- and where no rule is given the comment, all is
   pub all : Aside t u k → moduleInfo t ≡ moduleInfo u

@@ -210,7 +210,7 @@ fn clear_notes(notes: &mut [usize])
 }
 
 // The report of an accepted sheet with its notes, which come cleared and are cleared where the report is refused.
-fn write_noted_report(
+pub fn write_noted_report(
     sheet: &[u8],
     parts: Parts,
     tables: &[u32; TABLE_NUMBERS],
@@ -235,7 +235,7 @@ fn write_noted_report(
 }
 
 // The report of the default information: eight zero bytes.
-fn write_default(buffer: &mut [u8]) -> Outcome
+pub fn write_default(buffer: &mut [u8]) -> Outcome
     ensures { λ r. ⌜ outcomeAs r (now (buffer .exit)) ≡ fitted (length (now (buffer .entry))) (encode defaultInfo) ⌝ }
 {
     let bytes = [0u8; 8];

@@ -1,9 +1,13 @@
 pub mod Between
+pub mod Both
+pub mod Taken
+pub mod Written
 pub mod Captures
 pub mod Reached
 pub mod Present
 pub mod PathFirst
 pub mod Texts
+pub mod GivenFrom
 pub mod SourceMap
 pub mod Cases
 pub mod Valid

@@ -87,7 +87,7 @@ made row source make gives reading =
     (λ c a g. let (x, r, i) = reading c a g in let (k, e, j) = read-found row source c r in (k, e, ap (make c) j ∙ sym i))
     (λ c. (unmatched row source c, unread-none row source c))
 
-pattern : (row : Row) (source : List ℕ) → Agrees (readBy row source) (byPattern row source)
+pub pattern : (row : Row) (source : List ℕ) → Agrees (readBy row source) (byPattern row source)
 unfolding readBy
 pattern row source = made row source (λ c x. x) (λ c x r. r) (λ c a r. (a, r, refl))
 
@@ -98,7 +98,7 @@ module _ {A : Type 0} where
   same e h = record { gives = λ c a. rw (e c) at (h .gives c a); unread = λ c. rw (e c) at (h .unread c) }
 
   -- for the comments of a test only
-  onlyIf : (b : Comment → Bool) {P : Comment → Type 0} {f : Comment → Option A} {r : Reader A} → ((c : Comment) → (b c ≡ true) ↔ P c) → Agrees f r
+  pub onlyIf : (b : Comment → Bool) {P : Comment → Type 0} {f : Comment → Option A} {r : Reader A} → ((c : Comment) → (b c ≡ true) ↔ P c) → Agrees f r
       → Agrees (λ c. cond (b c) (f c) Option.none) (only P r)
   onlyIf b {P} {f} {r} t h = record {
     gives = λ c a. (some c a (b c) refl, λ (p, g). rw (t c .1 p) (h .gives c a .1 g));
@@ -183,7 +183,7 @@ module _ (source : List ℕ) where
   by-either c Nothing (At k) = refl
   by-either c Nothing Nothing = refl
 
-  referring : Agrees (reference source) (referenceRule source)
+  pub referring : Agrees (reference source) (referenceRule source)
   unfolding reference
   referring =
       onlyIf (λ c. isLine c && isFound (find tripleSlashRow (body source c))) is-reference
@@ -294,7 +294,7 @@ module _ {A : Type 0} {f : Comment → Option A} {r : Reader A} (h : Agrees f r)
 
 -- ---- the rules of document 01
 
-is-block : (c : Comment) → (isBlock c ≡ true) ↔ (c .kind ≡ Block)
+pub is-block : (c : Comment) → (isBlock c ≡ true) ↔ (c .kind ≡ Block)
 is-block c = (λ e. one-number kind-numbers (eqb-true (kindNumber (c .kind)) 1 e), λ e. eq-eqb (kindNumber (c .kind)) 1 (ap kindNumber e))
 
 pub present : (t : Sheet) (m : ModuleInfo)

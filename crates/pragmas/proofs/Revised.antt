@@ -1,8 +1,8 @@
--- Comments that are alike in two sources give the same references and pragmas in both.
+-- Comments that are alike in two sources give the same references and pragmas in both, with the same origins.
 use mathlib.Core.Path.{_≡_, refl, ap}
 use mathlib.Core.Bool.{Bool, true, false, cond, _&&_}
 use mathlib.Core.List.{List, [], _∷_, getLast?}
-use mathlib.Core.Option.{Option}
+use mathlib.Core.Option.{Option, Option·map}
 use Prim.Native.Nat.{ℕ}
 use native.Mathlib.Omega.{arith}
 use lib.ListN.{length}
@@ -23,8 +23,11 @@ use Rattle.sheet.specs.Lookups.{groupAt, commentsOf, body}
 use Rattle.sheet.specs.Media.{isJavaScript, isJsx}
 use Rattle.sheet.proofs.Revised.{Alike}
 use Rattle.report.specs.ModuleInfo.{SpecifierWithRange, TypeScriptReference}
-use Rattle.pragmas.specs.Readings.{placeIn, specifierIn, onFound, readBy, firstOf, lastOf, allOf}
+use Rattle.report.specs.declared.origins.EntryRule.{EntryRule}
+use Rattle.report.specs.declared.origins.EntryRule.the-variants as rules
+use Rattle.pragmas.specs.Readings.{placeIn, specifierIn, onFound, readBy, firstOf, lastOf, allOf, optional}
 use Rattle.pragmas.specs.Pragmas.{inGroup, isBlock, isLine, modeIn, referenceBy, reference, referencesIn, givenIf, inBlock, selfTypesIn, jsxImportSourceIn, jsxImportSourceTypesIn, sourceMapUrlIn, tsOrDenoTypes, typesBy, lastIn, typesIn}
+use Rattle.pragmas.specs.Origins.{originOf, originBy, referenceOrigin, selfTypesOrigin, jsxImportSourceOrigin, jsxImportSourceTypesOrigin, sourceMapOrigin, headOrigins, endOrigins, tsOrDenoOrigin, typesOrigin, typesOrigins}
 
 -- ---- one comment
 
@@ -86,6 +89,15 @@ module _ {s r : List ℕ} {c : Comment} (a : Alike s r c) where
   unfolding tsOrDenoTypes
   types-of-kept = rw (read-kept tsTypesRow (each .ts-types), read-kept denoTypesRow (each .deno-types))
 
+  -- origins are made of the same readings
+  reference-origin-kept : referenceOrigin s c ≡ referenceOrigin r c
+  unfolding referenceOrigin
+  reference-origin-kept = rw reference-kept
+
+  types-origin-kept : tsOrDenoOrigin s c ≡ tsOrDenoOrigin r c
+  unfolding tsOrDenoOrigin
+  types-origin-kept = rw (read-kept tsTypesRow (each .ts-types), read-kept denoTypesRow (each .deno-types))
+
 -- ---- comments one after the other
 
 module _ (s r : List ℕ) where
@@ -109,45 +121,83 @@ module _ (s r : List ℕ) where
   given-alike true cs h = h
   given-alike false cs h = tt
 
-  -- the references and pragmas of the head group
+  -- the first that reads of the comments that a rule is given, and its origin
+  module _ {A : Type 0} (rule : EntryRule) (f g : Comment → Option A) (same : (c : Comment) → Alike s r c → f c ≡ g c) where
+    same-origin : (c : Comment) → Alike s r c → originBy rule f c ≡ originBy rule g c
+    same-origin c a = ap (Option·map (λ x. originOf rule c)) (same c a)
+
+    given-kept : (b : Bool) (cs : List Comment) → All (Alike s r) cs
+        → (firstOf f (givenIf b cs) ≡ firstOf g (givenIf b cs)) × (firstOf (originBy rule f) (givenIf b cs) ≡ firstOf (originBy rule g) (givenIf b cs))
+    given-kept b cs h =
+        let given = given-alike b cs h in
+        (first-kept f g same (givenIf b cs) given, first-kept (originBy rule f) (originBy rule g) same-origin (givenIf b cs) given)
+
+  -- the references of the head group
   pub references-kept : (cs : List Comment) → All (Alike s r) cs → referencesIn s cs ≡ referencesIn r cs
   unfolding referencesIn
   references-kept cs h = all-kept (reference s) (reference r) (λ c a. reference-kept a) cs h
 
-  pub self-types-kept : (media : MediaType) (cs : List Comment) → All (Alike s r) cs → selfTypesIn media s cs ≡ selfTypesIn media r cs
-  unfolding selfTypesIn
-  self-types-kept media cs h =
-      first-kept (readBy tsSelfTypesRow s) (readBy tsSelfTypesRow r) (λ c a. read-kept a tsSelfTypesRow (each a .ts-self-types)) _ (given-alike (isJavaScript media) cs h)
+  -- its pragmas, each with its origin
+  module _ (media : MediaType) (cs : List Comment) (h : All (Alike s r) cs) where
+    pub self-types-kept : (selfTypesIn media s cs ≡ selfTypesIn media r cs) × (selfTypesOrigin media s cs ≡ selfTypesOrigin media r cs)
+    unfolding selfTypesIn selfTypesOrigin
+    self-types-kept =
+        given-kept rules.SelfTypes (readBy tsSelfTypesRow s) (readBy tsSelfTypesRow r)
+        (λ c a. read-kept a tsSelfTypesRow (each a .ts-self-types)) (isJavaScript media) cs h
 
-  -- a row that is read in the first block comment of a JSX sheet
-  jsx-kept : (row : Row) → ((c : Comment) (a : Alike s r c) → FindsInside a row) → (media : MediaType) (cs : List Comment) → All (Alike s r) cs
-      → firstOf (inBlock (readBy row s)) (givenIf (isJsx media) cs) ≡ firstOf (inBlock (readBy row r)) (givenIf (isJsx media) cs)
-  jsx-kept row inside media cs h =
-      first-kept (inBlock (readBy row s)) (inBlock (readBy row r)) (λ c a. block-kept a row (inside c a)) _ (given-alike (isJsx media) cs h)
+    pub jsx-import-source-kept : (jsxImportSourceIn media s cs ≡ jsxImportSourceIn media r cs)
+        × (jsxImportSourceOrigin media s cs ≡ jsxImportSourceOrigin media r cs)
+    unfolding jsxImportSourceIn jsxImportSourceOrigin
+    jsx-import-source-kept =
+        given-kept rules.JsxImportSource (inBlock (readBy jsxImportSourceRow s)) (inBlock (readBy jsxImportSourceRow r))
+        (λ c a. block-kept a jsxImportSourceRow (each a .jsx-import-source)) (isJsx media) cs h
 
-  pub jsx-import-source-kept : (media : MediaType) (cs : List Comment) → All (Alike s r) cs → jsxImportSourceIn media s cs ≡ jsxImportSourceIn media r cs
-  unfolding jsxImportSourceIn
-  jsx-import-source-kept = jsx-kept jsxImportSourceRow (λ c a. each a .jsx-import-source)
+    pub jsx-import-source-types-kept : (jsxImportSourceTypesIn media s cs ≡ jsxImportSourceTypesIn media r cs)
+        × (jsxImportSourceTypesOrigin media s cs ≡ jsxImportSourceTypesOrigin media r cs)
+    unfolding jsxImportSourceTypesIn jsxImportSourceTypesOrigin
+    jsx-import-source-types-kept =
+        given-kept rules.JsxImportSourceTypes (inBlock (readBy jsxImportSourceTypesRow s)) (inBlock (readBy jsxImportSourceTypesRow r))
+        (λ c a. block-kept a jsxImportSourceTypesRow (each a .jsx-import-source-types)) (isJsx media) cs h
 
-  pub jsx-import-source-types-kept : (media : MediaType) (cs : List Comment) → All (Alike s r) cs → jsxImportSourceTypesIn media s cs ≡ jsxImportSourceTypesIn media r cs
-  unfolding jsxImportSourceTypesIn
-  jsx-import-source-types-kept = jsx-kept jsxImportSourceTypesRow (λ c a. each a .jsx-import-source-types)
+    -- the origins of all of these
+    pub head-origins-kept : headOrigins media s cs ≡ headOrigins media r cs
+    unfolding headOrigins
+    head-origins-kept =
+        let of-references = all-kept (referenceOrigin s) (referenceOrigin r) (λ c a. reference-origin-kept a) cs h in
+        rw (of-references, self-types-kept .1, jsx-import-source-kept .1, jsx-import-source-types-kept .1)
 
   -- the source map of the group at the program's end
+  source-map-same : (c : Comment) → Alike s r c → readBy sourceMappingUrlRow s c ≡ readBy sourceMappingUrlRow r c
+  source-map-same c a = read-kept a sourceMappingUrlRow (each a .source-mapping-url)
+
   pub source-map-kept : (cs : List Comment) → All (Alike s r) cs → sourceMapUrlIn s cs ≡ sourceMapUrlIn r cs
   unfolding sourceMapUrlIn
-  source-map-kept cs h =
-      last-kept (readBy sourceMappingUrlRow s) (readBy sourceMappingUrlRow r) (λ c a. read-kept a sourceMappingUrlRow (each a .source-mapping-url)) cs h
+  source-map-kept cs h = last-kept (readBy sourceMappingUrlRow s) (readBy sourceMappingUrlRow r) source-map-same cs h
 
-  -- the types of the leading group at a node
-  pub types-kept : (cs : List Comment) (gs : List Group) (start : ℕ) → All (Alike s r) (inGroup cs (groupAt gs Leading start)) → typesIn s cs gs start ≡ typesIn r cs gs start
-  unfolding typesIn
-  types-kept cs gs start h = go (groupAt gs Leading start) h
-    where
-      by-last : (l : List Comment) → All (Alike s r) l → (o : Option Comment) → getLast? l ≡ o → typesBy s o ≡ typesBy r o
-      by-last l a Option.none e = refl
-      by-last l a (Option.some c) e = types-of-kept (all-member (Alike s r) l a (last-member l e))
+  pub end-origins-kept : (cs : List Comment) → All (Alike s r) cs → endOrigins s cs ≡ endOrigins r cs
+  unfolding endOrigins sourceMapOrigin
+  end-origins-kept cs h =
+      ap optional
+      (last-kept (originBy rules.SourceMap (readBy sourceMappingUrlRow s)) (originBy rules.SourceMap (readBy sourceMappingUrlRow r))
+      (same-origin rules.SourceMap (readBy sourceMappingUrlRow s) (readBy sourceMappingUrlRow r) source-map-same) cs h)
 
-      go : (o : Option Group) → All (Alike s r) (inGroup cs o) → typesBy s (lastIn cs o) ≡ typesBy r (lastIn cs o)
-      go Option.none a = refl
-      go (Option.some g) a = by-last (commentsOf cs g) a (getLast? (commentsOf cs g)) refl
+  -- what the last comment of a group gives
+  module _ {A : Type 0} (f g : Option Comment → A) (nothing : f Option.none ≡ g Option.none)
+      (same : (c : Comment) → Alike s r c → f (Option.some c) ≡ g (Option.some c)) where
+    last-in-kept : (cs : List Comment) (o : Option Group) → All (Alike s r) (inGroup cs o) → f (lastIn cs o) ≡ g (lastIn cs o)
+    last-in-kept cs Option.none h = nothing
+    last-in-kept cs (Option.some m) h = go (getLast? (commentsOf cs m)) refl
+      where
+        go : (o : Option Comment) → getLast? (commentsOf cs m) ≡ o → f o ≡ g o
+        go Option.none e = nothing
+        go (Option.some c) e = same c (all-member (Alike s r) (commentsOf cs m) h (last-member (commentsOf cs m) e))
+
+  -- the types of the leading group at a node, and their origin
+  module _ (cs : List Comment) (gs : List Group) (start : ℕ) (h : All (Alike s r) (inGroup cs (groupAt gs Leading start))) where
+    pub types-kept : typesIn s cs gs start ≡ typesIn r cs gs start
+    unfolding typesIn
+    types-kept = last-in-kept (typesBy s) (typesBy r) refl (λ c a. types-of-kept a) cs (groupAt gs Leading start) h
+
+    pub types-origins-kept : typesOrigins s cs gs start ≡ typesOrigins r cs gs start
+    unfolding typesOrigins
+    types-origins-kept = ap optional (last-in-kept (typesOrigin s) (typesOrigin r) refl (λ c a. types-origin-kept a) cs (groupAt gs Leading start) h)

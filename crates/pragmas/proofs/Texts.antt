@@ -97,11 +97,11 @@ group-member : (cs : List Comment) (o : Option Group) {c : Comment} → List·Me
 group-member cs Option.none m = absurd (List·Memᴰ·not-nil m)
 group-member cs (Option.some g) m = back-member (g .first) cs (front-member (g .count) (drop (g .first) cs) m)
 
-last-in : (cs : List Comment) (o : Option Group) {c : Comment} → lastIn cs o ≡ Option.some c → List·Memᴰ c cs
+pub last-in : (cs : List Comment) (o : Option Group) {c : Comment} → lastIn cs o ≡ Option.some c → List·Memᴰ c cs
 last-in cs Option.none {c} e = absurd (Option·none-ne-some c e)
 last-in cs (Option.some g) e = group-member cs (Option.some g) (last-member (commentsOf cs g) e)
 
-given-member : (b : Bool) (cs : List Comment) {c : Comment} → List·Memᴰ c (givenIf b cs) → List·Memᴰ c cs
+pub given-member : (b : Bool) (cs : List Comment) {c : Comment} → List·Memᴰ c (givenIf b cs) → List·Memᴰ c cs
 given-member true cs m = m
 given-member false cs m = absurd (List·Memᴰ·not-nil m)
 

@@ -1,6 +1,7 @@
 pub mod Readings
 pub mod Pragmas
 pub mod Present
+pub mod Origins
 pub mod Texts
 pub mod SourceMap
 pub mod code

@@ -47,6 +47,10 @@ abbrev pub listed : {A : Type 0} → Option A → List A → List A
 listed Option.none l = l
 listed (Option.some a) l = a ∷ l
 
+-- the answer alone
+abbrev pub optional : {A : Type 0} → Option A → List A
+optional o = listed o []
+
 unfoldable pub allOf : {A : Type 0} → (Comment → Option A) → List Comment → List A
 allOf f [] = []
 allOf f (c ∷ cs) = listed (f c) (allOf f cs)

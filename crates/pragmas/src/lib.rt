@@ -1,4 +1,5 @@
 // References and pragmas: what the patterns read in the comments that document 01 gives to each rule.
+pub mod origins;
 pub mod readings;
 pub mod references;
 
@@ -46,7 +47,7 @@ pub fn is_javascript(media: MediaType) -> bool
     }
 }
 
-fn is_jsx(media: MediaType) -> bool
+pub fn is_jsx(media: MediaType) -> bool
     ensures { λ r. ⌜ r ≡ isJsx media ⌝ }
 {
     match media {

@@ -36,7 +36,7 @@ ghost use Rattle.report.specs.Buffer.{wrote, bufferAs};
 ghost use Rattle.pragmas.specs.code.Held.{Reached};
 ghost use Rattle.pragmas.specs.Readings.{placeIn, specifierIn, firstOf, lastOf};
 ghost use Rattle.pragmas.specs.Pragmas.{inGroup, givenIf};
-ghost use Rattle.pragmas.specs.code.Views.{findRule, takes, readRule, readAs, ReadIn, CaptureIn, commentsFrom};
+ghost use Rattle.pragmas.specs.code.Views.{findRule, takes, takenBy, takenAs, readAs, ReadIn, CaptureIn, commentsFrom};
 
 // The rules that give one specifier.
 pub enum Rule {
@@ -100,7 +100,7 @@ fn takes(rule: Rule, kind: CommentKind) -> bool
 // What a rule reads in a comment.
 pub fn read(source: &[u8], c: Comment, rule: Rule) -> Reading
     requires { ⌜ Placed (now source) c ⌝ }
-    ensures { λ r. ⌜ readAs (now (source .entry)) r ≡ readRule rule (now (source .entry)) c ⌝ }
+    ensures { λ r. ⌜ takenAs r ≡ takenBy rule (now (source .entry)) c ⌝ }
     ensures { λ r. ⌜ ReadIn (now (source .entry)) r ⌝ }
 {
     let kind = c.kind;
@@ -124,7 +124,7 @@ fn first_between(
 ) -> Reading
     requires { ⌜ (3 * n ≤ length (now comments)) × (start ≤ end) × (end ≤ n) ⌝ }
     requires { ⌜ Fit (now source) (commentsIn (now comments) n) ⌝ }
-    ensures { λ r. ⌜ readAs (now (source .entry)) r ≡ firstOf (readRule rule (now (source .entry))) (commentsFrom (now (comments .entry)) start end) ⌝ }
+    ensures { λ r. ⌜ takenAs r ≡ firstOf (takenBy rule (now (source .entry))) (commentsFrom (now (comments .entry)) start end) ⌝ }
     ensures { λ r. ⌜ ReadIn (now (source .entry)) r ⌝ }
 {
     let mut i = start;
@@ -149,7 +149,7 @@ fn last_between(
 ) -> Reading
     requires { ⌜ (3 * n ≤ length (now comments)) × (start ≤ end) × (end ≤ n) ⌝ }
     requires { ⌜ Fit (now source) (commentsIn (now comments) n) ⌝ }
-    ensures { λ r. ⌜ readAs (now (source .entry)) r ≡ lastOf (readRule rule (now (source .entry))) (commentsFrom (now (comments .entry)) start end) ⌝ }
+    ensures { λ r. ⌜ takenAs r ≡ lastOf (takenBy rule (now (source .entry))) (commentsFrom (now (comments .entry)) start end) ⌝ }
     ensures { λ r. ⌜ ReadIn (now (source .entry)) r ⌝ }
 {
     let mut i = end;
@@ -175,8 +175,8 @@ pub fn first_reading(
     requires { ⌜ 3 * n ≤ length (now comments) ⌝ }
     requires { ⌜ Fit (now source) (commentsIn (now comments) n) ⌝ }
     requires { ⌜ Reached n (foundAs found) ⌝ }
-    ensures { λ r. ⌜ readAs (now (source .entry)) r
-        ≡ firstOf (readRule rule (now (source .entry))) (givenIf given (inGroup (commentsIn (now (comments .entry)) n) (foundAs found))) ⌝ }
+    ensures { λ r. ⌜ takenAs r
+        ≡ firstOf (takenBy rule (now (source .entry))) (givenIf given (inGroup (commentsIn (now (comments .entry)) n) (foundAs found))) ⌝ }
     ensures { λ r. ⌜ ReadIn (now (source .entry)) r ⌝ }
 {
     match found {
@@ -201,8 +201,8 @@ pub fn last_reading(
     requires { ⌜ 3 * n ≤ length (now comments) ⌝ }
     requires { ⌜ Fit (now source) (commentsIn (now comments) n) ⌝ }
     requires { ⌜ Reached n (foundAs found) ⌝ }
-    ensures { λ r. ⌜ readAs (now (source .entry)) r
-        ≡ lastOf (readRule rule (now (source .entry))) (inGroup (commentsIn (now (comments .entry)) n) (foundAs found)) ⌝ }
+    ensures { λ r. ⌜ takenAs r
+        ≡ lastOf (takenBy rule (now (source .entry))) (inGroup (commentsIn (now (comments .entry)) n) (foundAs found)) ⌝ }
     ensures { λ r. ⌜ ReadIn (now (source .entry)) r ⌝ }
 {
     match found {

@@ -52,7 +52,7 @@ fn resolution_mode(body: &[u8]) -> ModeFound
 }
 
 // The reference of a comment.
-fn read_reference(source: &[u8], c: Comment) -> Reference
+pub fn read_reference(source: &[u8], c: Comment) -> Reference
     requires { ⌜ Placed (now source) c ⌝ }
     ensures { λ r. ⌜ referenceAs (now (source .entry)) c r ≡ reference (now (source .entry)) c ⌝ }
     ensures { λ r. ⌜ ReferenceIn (now (source .entry)) c r ⌝ }

@@ -9,4 +9,5 @@ pub mod Texts
 pub mod Range
 pub mod Stands
 pub mod Answer
+pub mod Origin
 pub mod code

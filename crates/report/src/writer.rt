@@ -4,6 +4,7 @@ use text::position::Position;
 use wire::refusals;
 ghost use mathlib.Core.Path.{_≡_};
 ghost use mathlib.Core.List.{[], _∷_};
+ghost use lib.Dec.{eqb};
 ghost use lib.ListN.{length};
 ghost use Rattle.text.specs.Lossy.{lossy, replaced};
 ghost use Rattle.wire.specs.Fields.{encodeFlag};
@@ -11,7 +12,7 @@ ghost use Rattle.wire.specs.Number.{encodeNumber};
 ghost use Rattle.wire.specs.Text.{encodeText};
 ghost use Rattle.report.specs.Encode.{encodePosition, encodeRange, encodeSpecifier};
 ghost use Rattle.report.specs.Range.{rangeOf, InSource, IndexOf};
-ghost use Rattle.report.specs.Buffer.{wrote, bufferAs};
+ghost use Rattle.report.specs.Buffer.{fullPlace, wrote, bufferAs};
 ghost use Rattle.report.specs.Answer.{clearedFrom, refusedWith, answered, outcomeAs};
 
 // The place that stands for full: no buffer is so long. One number, and not a flag beside the place: two are copied as one through memory
@@ -36,6 +37,13 @@ pub enum Outcome {
 }
 
 impl Place {
+    // Did a byte find no room?
+    pub fn is_full(self) -> bool
+        ensures { λ r. ⌜ r ≡ eqb (self .at) fullPlace ⌝ }
+    {
+        self.at == FULL
+    }
+
     // Writes a byte.
     pub fn put(self, out: &mut [u8], b: u8) -> Place
         ensures { λ r. ⌜ bufferAs (now (out .exit)) r ≡ wrote (bufferAs (now (out .entry)) self) (b ∷ []) ⌝ }
@@ -212,7 +220,7 @@ impl Place {
 }
 
 // Zeros from `at` to the end.
-fn clear_from(out: &mut [u8], at: usize)
+pub fn clear_from(out: &mut [u8], at: usize)
     ensures { λ _. ⌜ now (out .exit) ≡ clearedFrom at (now (out .entry)) ⌝ }
 {
     let mut i = at;

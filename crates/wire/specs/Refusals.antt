@@ -48,6 +48,10 @@ buffer = 10
 abbrev pub quotation : ℕ
 quotation = 13
 
+-- the rules are longer than the second buffer
+abbrev pub rules : ℕ
+rules = 16
+
 -- those that are judged at a field
 abbrev pub atFields : List ℕ
 atFields = cutOff ∷ byte ∷ limit ∷ text ∷ position ∷ comments ∷ quotation ∷ []

@@ -32,3 +32,6 @@ pub const BUFFER: u8 = 10;
 
 // A String's span has fewer than two bytes, or does not begin and end with the same mark, `"` or `'`.
 pub const QUOTATION: usize = 13;
+
+// The rules are longer than the second buffer: a byte, as that of the report.
+pub const RULES: u8 = 16;

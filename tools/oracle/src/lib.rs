@@ -1,6 +1,7 @@
 //! The answer of deno_graph 0.111.1 to a sheet.
 
 pub mod report;
+pub mod rules;
 pub mod sheet;
 
 use std::panic;

@@ -3,17 +3,18 @@
 //! oracle cite [FILE]     what `cite` prints for one sheet
 //! oracle json [FILE]     what serde_json prints of one sheet's module information, or `refused N`
 //! oracle reads BATCH [FILE]   whether the lines of FILE, one for each sheet of BATCH, are the same JSON
+//! oracle rules BATCH [FILE]   whether the pairs of FILE, an answer for each sheet of BATCH, name rules that yield the entries
 //! With no FILE, or `-`, standard input is read. See README.md for the formats.
 
 use std::io::{Read, Write};
 
-const USAGE: &str = "usage: oracle answer|batch|cite|json [FILE] | oracle reads BATCH [FILE]";
+const USAGE: &str = "usage: oracle answer|batch|cite|json [FILE] | oracle reads|rules BATCH [FILE]";
 
 fn main() {
     let args: Vec<String> = std::env::args().skip(1).collect();
     let (mode, sheets, file) = match &args[..] {
-        [mode, sheets] if mode == "reads" => ("reads", sheets.as_str(), "-"),
-        [mode, sheets, file] if mode == "reads" => ("reads", sheets.as_str(), file.as_str()),
+        [mode, sheets] if mode == "reads" || mode == "rules" => (mode.as_str(), sheets.as_str(), "-"),
+        [mode, sheets, file] if mode == "reads" || mode == "rules" => (mode.as_str(), sheets.as_str(), file.as_str()),
         [mode] => (mode.as_str(), "", "-"),
         [mode, file] => (mode.as_str(), "", file.as_str()),
         _ => fail(USAGE),
@@ -27,6 +28,7 @@ fn main() {
         "cite" => out.write_all(&cite(&input)),
         "json" => writeln!(out, "{}", json(&input)),
         "reads" => reads(&mut out, &read(sheets), &input),
+        "rules" => rules(&mut out, &read(sheets), &input),
         _ => fail(USAGE),
     };
     if let Err(e) = written.and_then(|()| out.flush()) {
@@ -125,4 +127,32 @@ fn reads(out: &mut impl Write, batch: &[u8], lines: &[u8]) -> std::io::Result<()
 
 fn value(line: &str) -> serde_json::Value {
     serde_json::from_str(line).unwrap_or_else(|e| fail(&format!("{e}: {line}")))
+}
+
+/// The pairs of each answer with number 0 are right. An answer with another number has none, and 10 and 16 are the caller's; a sheet that is left
+/// out is passed over.
+fn rules(out: &mut impl Write, batch: &[u8], mut answers: &[u8]) -> std::io::Result<()> {
+    let mut counts = [0; 11];
+    let (mut checked, mut passed) = (0, 0);
+    for (index, sheet) in sheets(batch).into_iter().enumerate() {
+        let Some((head, rest)) = answers.split_first_chunk::<5>() else { fail("the answers are cut off") };
+        let [number, length @ ..] = *head;
+        let Some((pairs, rest)) = rest.split_at_checked(u32::from_le_bytes(length) as usize) else { fail("the answers are cut off") };
+        answers = rest;
+        match (oracle::module_info(sheet), number) {
+            (Err(oracle::LEFT_OUT), _) | (Ok(_), 10 | 16) => passed += 1,
+            (Err(refusal), _) if refusal == number && pairs.is_empty() => {}
+            (Ok(info), 0) => {
+                let found = oracle::rules::check(sheet, &info, pairs).unwrap_or_else(|e| fail(&format!("sheet {index}: {e}")));
+                (0..11).for_each(|rule| counts[rule] += found[rule]);
+                checked += 1;
+            }
+            _ => fail(&format!("sheet {index}: number {number} is not the crate's answer, or rules stand beside a refusal")),
+        }
+    }
+    if !answers.is_empty() {
+        fail("bytes follow the answers");
+    }
+    let by_rule: Vec<String> = (1..11).map(|rule| format!("{rule}: {}", counts[rule])).collect();
+    writeln!(out, "the crate's own finders: {checked} sheets, {passed} passed over; each entry has its rule ({})", by_rule.join(", "))
 }

@@ -9,6 +9,7 @@ use Rattle.analysis.specs.Mode.{Mode, modeNumber}
 use Rattle.analysis.specs.code.Mode.{modeAs}
 use Rattle.jsdoc.specs.Grammar.{Bytes}
 use Rattle.jsdoc.specs.Parsed.{Parsed, ok, backtrace, onParsed, value}
+use Rattle.jsdoc.specs.Origins.{noteAt}
 use Rattle.jsdoc.specs.Reader.{ModeNamed, Hit, hit, parseQuote, sought, parseJsdocDynamicImport}
 use Rattle.jsdoc.specs.declared.answers.Skipped.{Skipped}
 use Rattle.jsdoc.specs.declared.answers.Skipped.the-variants as skipped
@@ -114,6 +115,11 @@ Movable i text.Backtrace = Unit {0}
 abbrev pub marked : ℕ → JsDocImport → List ℕ → List ℕ
 marked i (jsDocImport.Import a b m) l = set l (i + a) (modeNumber (modeAs m) + 1)
 marked i jsDocImport.Backtrace l = l
+
+-- its note
+abbrev pub noted : ℕ → JsDocImport → List ℕ → List ℕ
+noted i (jsDocImport.Import a b m) l = noteAt i (i + a) l
+noted i jsDocImport.Backtrace l = l
 
 -- its place is below n
 abbrev pub Room : ℕ → ℕ → JsDocImport → Type 0

@@ -1,19 +1,29 @@
 use borrow.Author.Needs.{needs}
 use denote.Ref.{now}
 use Rattle.laws.proofs.Steps.{seen}
+use Rattle.pragmas.specs.declared.readings.Rule.the-variants.{TsTypes, DenoTypes}
 use Rattle.pragmas.specs.Readings.{readBy}
 use Rattle.pragmas.specs.Pragmas.{tsOrDenoTypes}
 use Rattle.pragmas.specs.code.Views.{readAs}
+use Rattle.pragmas.proofs.Taken.{read-one}
 use Rattle.pragmas.proofs.read_types.Statement.{statement}
 use Rattle.pragmas.proofs.read_types.Tie as tie
 
 returns : tie.Need-returns
 unfolding readBy tsOrDenoTypes
-returns c = (rw (← c .before .before .read .ensures .0, c .enum-told .given .1), c .before .before .read .ensures .1)
+returns c =
+    let a = c .before .before .before .before .args in
+    let read = c .before .before .read in
+    (rw (← read-one TsTypes (now (a .source)) (read .result) (a .c) (read .ensures .0), c .enum-told .given .1), read .ensures .1)
 
 returns-2 : tie.Need-returns-2
 unfolding readBy tsOrDenoTypes
-returns-2 c = (rw (seen (readAs (now (c .before .before .before .before .before .args .source))) (c .before .before .before .read .ensures .0) (c .before .enum-told2 .given .1)) (c .read2 .ensures .0), c .read2 .ensures .1)
+returns-2 c =
+    let a = c .before .before .before .before .before .args in
+    let source = now (a .source) in
+    let read = c .before .before .before .read in
+    let none = seen (readAs source) (read-one TsTypes source (read .result) (a .c) (read .ensures .0)) (c .before .enum-told2 .given .1) in
+    (rw none (read-one DenoTypes source (c .read2 .result) (a .c) (c .read2 .ensures .0)), c .read2 .ensures .1)
 
 pub read-types-spec : {M : Type 1} → statement M
 read-types-spec =

@@ -1,7 +1,7 @@
 -- What the answers of the code stand for, and the rules that it reads comments by.
 use mathlib.Core.Bool.{Bool, true, cond}
 use mathlib.Core.List.{List, []}
-use mathlib.Core.Option.{Option}
+use mathlib.Core.Option.{Option, Option·map}
 use Prim.Native.Nat.{ℕ, _-_}
 use lib.Dec.{eqb}
 use lib.ListN.{length}
@@ -20,6 +20,8 @@ use Rattle.sheet.specs.code.Tables.{rows, commentIn}
 use Rattle.sheet.specs.Fit.{Placed}
 use Rattle.sheet.specs.Lookups.{body}
 use Rattle.report.specs.ModuleInfo.{SpecifierWithRange, TypeScriptReference, path, types}
+use Rattle.report.specs.declared.origins.EntryRule.{EntryRule}
+use Rattle.report.specs.Origin.{Origin}
 use Rattle.pragmas.specs.declared.readings.Rule.{Rule}
 use Rattle.pragmas.specs.declared.readings.Rule.the-variants.{TsSelfTypes, JsxImportSource, JsxImportSourceTypes, SourceMapUrl, StandardSourceMap, TsTypes, DenoTypes}
 use Rattle.pragmas.specs.declared.readings.Reading.{Reading}
@@ -27,6 +29,7 @@ use Rattle.pragmas.specs.declared.readings.Reading.the-variants as readi
 use Rattle.pragmas.specs.declared.references.Reference.{Reference}
 use Rattle.pragmas.specs.declared.references.Reference.the-variants as reference
 use Rattle.pragmas.specs.Readings.{specifierIn, onFound}
+use Rattle.pragmas.specs.Origins.{originOf}
 
 -- what a rule finds in a body
 abbrev pub findRule : Rule → List ℕ → Found
@@ -48,6 +51,10 @@ takes StandardSourceMap kind = true
 takes TsTypes kind = true
 takes DenoTypes kind = true
 
+-- a comment that it reads, with what is captured there
+abbrev pub takenBy : Rule → List ℕ → Comment → Option (Comment × Capture)
+takenBy rule source c = cond (takes rule (c .kind)) (onFound (λ k. (c, k)) (findRule rule (body source c))) Option.none
+
 -- the specifier that it reads in a comment
 abbrev pub readRule : Rule → List ℕ → Comment → Option SpecifierWithRange
 readRule rule source c = cond (takes rule (c .kind)) (onFound (specifierIn source c) (findRule rule (body source c))) Option.none
@@ -57,9 +64,16 @@ pub record CaptureIn (source : List ℕ) (c : Comment) (k : Capture) : Type 0 wh
   pub placed : Placed source c
   pub inside : Inside k (length (body source c))
 
+abbrev pub takenAs : Reading → Option (Comment × Capture)
+takenAs (reading.Of c k) = Option.some (c, k)
+takenAs reading.Nothing = Option.none
+
+-- the specifier there, and how it was found
 abbrev pub readAs : List ℕ → Reading → Option SpecifierWithRange
-readAs source (reading.Of c k) = Option.some (specifierIn source c k)
-readAs source reading.Nothing = Option.none
+readAs source r = Option·map (λ t. specifierIn source (t .0) (t .1)) (takenAs r)
+
+abbrev pub originAs : EntryRule → Reading → Option Origin
+originAs entry r = Option·map (λ t. originOf entry (t .0)) (takenAs r)
 
 abbrev pub ReadIn : List ℕ → Reading → Type 0
 ReadIn source (reading.Of c k) = CaptureIn source c k

@@ -31,7 +31,7 @@ returns c =
     let start = c .before .before .before .before .before .before .before .before .before in
     let a = start .pre .accepts in
     let l = located-as (now (start .args .sheet)) (start .args .parts .«source_start») (start .args .parts .«source_end») (a .places .0) (a .places .1) (c .before .last-reading .result) (c .before .last-reading .ensures .1) in
-    (λ t e. rw (c .locate .ensures) (l .0 ∙ ap given (map-read (parts-of a e) (c .before .before .end-group .ensures) (c .before .last-reading .ensures .0))), rw (c .locate .ensures) (l .1))
+    (λ t e. rw (c .locate .ensures) (l .0 ∙ ap given (map-read (parts-of a e) (c .before .last-reading .result) (c .before .before .end-group .ensures) (c .before .last-reading .ensures .0))), rw (c .locate .ensures) (l .1))
 
 pub read-source-map-spec : {M : Type 1} → statement M
 read-source-map-spec =

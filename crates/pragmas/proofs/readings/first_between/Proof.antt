@@ -6,14 +6,14 @@ use denote.Ref.{now}
 use Rattle.laws.proofs.Steps.{seen}
 use Rattle.sheet.proofs.Members.{row-placed}
 use Rattle.pragmas.specs.Readings.{firstOf}
-use Rattle.pragmas.specs.code.Views.{readRule, readAs, commentsFrom}
+use Rattle.pragmas.specs.code.Views.{takenBy, takenAs, commentsFrom}
 use Rattle.pragmas.proofs.Between.{first-next, first-none}
 use Rattle.pragmas.proofs.readings.first_between.Statement.{statement}
 use Rattle.pragmas.proofs.readings.first_between.Tie as tie
 
 abbrev Inv-loop : tie.InvT-loop
 Inv-loop source comments n start end rule i₀ i =
-    firstOf (readRule rule source) (commentsFrom comments start end) ≡ firstOf (readRule rule source) (commentsFrom comments i end)
+    firstOf (takenBy rule source) (commentsFrom comments start end) ≡ firstOf (takenBy rule source) (commentsFrom comments i end)
 
 abbrev μ-loop : tie.MeasureT-loop
 μ-loop source comments n start end rule i₀ i = end - i
@@ -26,19 +26,19 @@ read-requires c κs =
 returns : tie.Need-returns Inv-loop μ-loop
 returns c =
     let a = c .before .before .before .before .before .before .before .before .args in
-    let step = first-next (readRule (a .rule) (now (a .source))) (now (a .comments)) (c .before .before .before .before .before .loop .i) (a .end) (c .before .before .before .before .loop-test .taken) (c .before .before .before .comment-at .ensures) in
+    let step = first-next (takenBy (a .rule) (now (a .source))) (now (a .comments)) (c .before .before .before .before .before .loop .i) (a .end) (c .before .before .before .before .loop-test .taken) (c .before .before .before .comment-at .ensures) in
     (rw (c .before .before .before .before .before .loop .inv, step, ← c .before .before .read .ensures .0, c .enum-told .given .1), c .before .before .read .ensures .1)
 
 loop-again : tie.Need-loop-again Inv-loop μ-loop
 loop-again c =
     let a = c .before .before .before .before .before .before .before .before .args in
-    let step = first-next (readRule (a .rule) (now (a .source))) (now (a .comments)) (c .before .before .before .before .before .loop .i) (a .end) (c .before .before .before .before .loop-test .taken) (c .before .before .before .comment-at .ensures) in
-    c .before .before .before .before .before .loop .inv ∙ step ∙ rw (seen (readAs (now (a .source))) (c .before .before .read .ensures .0) (c .enum-told2 .given .1))
+    let step = first-next (takenBy (a .rule) (now (a .source))) (now (a .comments)) (c .before .before .before .before .before .loop .i) (a .end) (c .before .before .before .before .loop-test .taken) (c .before .before .before .comment-at .ensures) in
+    c .before .before .before .before .before .loop .inv ∙ step ∙ rw (seen takenAs (c .before .before .read .ensures .0) (c .enum-told2 .given .1))
 
 returns-2 : tie.Need-returns-2 Inv-loop μ-loop
 returns-2 c =
     let a = c .before .before .before .before .args in
-    (rw (c .before .loop .inv, first-none (readRule (a .rule) (now (a .source))) (now (a .comments)) (c .before .loop .i) (a .end) (c .loop-test .left)), tt)
+    (rw (c .before .loop .inv, first-none (takenBy (a .rule) (now (a .source))) (now (a .comments)) (c .before .loop .i) (a .end) (c .loop-test .left)), tt)
 
 pub first-between-spec : {M : Type 1} → statement M
 first-between-spec =

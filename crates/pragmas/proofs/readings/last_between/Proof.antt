@@ -6,14 +6,14 @@ use denote.Ref.{now}
 use Rattle.laws.proofs.Steps.{seen}
 use Rattle.sheet.proofs.Members.{row-placed}
 use Rattle.pragmas.specs.Readings.{lastOf}
-use Rattle.pragmas.specs.code.Views.{readRule, readAs, commentsFrom}
+use Rattle.pragmas.specs.code.Views.{takenBy, takenAs, commentsFrom}
 use Rattle.pragmas.proofs.Between.{last-next, last-none}
 use Rattle.pragmas.proofs.readings.last_between.Statement.{statement}
 use Rattle.pragmas.proofs.readings.last_between.Tie as tie
 
 abbrev Inv-loop : tie.InvT-loop
 Inv-loop source comments n start end rule i₀ i =
-    (i ≤ end) × (lastOf (readRule rule source) (commentsFrom comments start end) ≡ lastOf (readRule rule source) (commentsFrom comments start i))
+    (i ≤ end) × (lastOf (takenBy rule source) (commentsFrom comments start end) ≡ lastOf (takenBy rule source) (commentsFrom comments start i))
 
 abbrev μ-loop : tie.MeasureT-loop
 μ-loop source comments n start end rule i₀ i = i - start
@@ -26,19 +26,19 @@ read-requires c κs =
 returns : tie.Need-returns Inv-loop μ-loop
 returns c =
     let a = c .before .before .before .before .before .before .before .before .args in
-    let step = last-next (readRule (a .rule) (now (a .source))) (now (a .comments)) (a .start) (c .before .before .before .before .before .loop .i) (c .before .before .before .before .loop-test .taken) (c .before .before .before .comment-at .ensures) in
+    let step = last-next (takenBy (a .rule) (now (a .source))) (now (a .comments)) (a .start) (c .before .before .before .before .before .loop .i) (c .before .before .before .before .loop-test .taken) (c .before .before .before .comment-at .ensures) in
     (rw (c .before .before .before .before .before .loop .inv .1, step, ← c .before .before .read .ensures .0, c .enum-told .given .1), c .before .before .read .ensures .1)
 
 loop-again : tie.Need-loop-again Inv-loop μ-loop
 loop-again c =
     let a = c .before .before .before .before .before .before .before .before .args in
-    let step = last-next (readRule (a .rule) (now (a .source))) (now (a .comments)) (a .start) (c .before .before .before .before .before .loop .i) (c .before .before .before .before .loop-test .taken) (c .before .before .before .comment-at .ensures) in
-    (omega arith, c .before .before .before .before .before .loop .inv .1 ∙ step ∙ rw (seen (readAs (now (a .source))) (c .before .before .read .ensures .0) (c .enum-told2 .given .1)))
+    let step = last-next (takenBy (a .rule) (now (a .source))) (now (a .comments)) (a .start) (c .before .before .before .before .before .loop .i) (c .before .before .before .before .loop-test .taken) (c .before .before .before .comment-at .ensures) in
+    (omega arith, c .before .before .before .before .before .loop .inv .1 ∙ step ∙ rw (seen takenAs (c .before .before .read .ensures .0) (c .enum-told2 .given .1)))
 
 returns-2 : tie.Need-returns-2 Inv-loop μ-loop
 returns-2 c =
     let a = c .before .before .before .before .args in
-    (rw (c .before .loop .inv .1, last-none (readRule (a .rule) (now (a .source))) (now (a .comments)) (a .start) (c .before .loop .i) (c .loop-test .left)), tt)
+    (rw (c .before .loop .inv .1, last-none (takenBy (a .rule) (now (a .source))) (now (a .comments)) (a .start) (c .before .loop .i) (c .loop-test .left)), tt)
 
 pub last-between-spec : {M : Type 1} → statement M
 last-between-spec =

@@ -1,0 +1,63 @@
+use borrow.Author.Needs.{needs}
+use native.Mathlib.Omega.{arith}
+use Prim.Native.Nat.{_+_, _≤_, _-_}
+use lib.ListN.{length}
+use denote.Ref.{now}
+use Rattle.jsdoc.specs.code.Origins.{Origins}
+use Rattle.jsdoc.proofs.Moved.{part-to-end}
+use Rattle.jsdoc.proofs.Marking.{declarations, room}
+use Rattle.jsdoc.proofs.Noting.{Beside, beside-none, readings-noted, declaration-noted, declarations-noted-to}
+use Rattle.jsdoc.proofs.origins.note_declarations.Statement.{statement}
+use Rattle.jsdoc.proofs.origins.note_declarations.Tie as tie
+
+abbrev Inv-loop : tie.InvT-loop
+Inv-loop body origins₀ i₀ origins i = (i ≤ length body) × Origins (Beside body i) (length body) origins
+
+abbrev μ-loop : tie.MeasureT-loop
+μ-loop body origins₀ i₀ origins i = length body - i
+
+loop-holds : tie.Need-loop-holds Inv-loop μ-loop
+loop-holds c = (search needs, beside-none _ (c .before .before .pre .1))
+
+note-requires : tie.Need-note-requires Inv-loop μ-loop
+note-requires c κs =
+    let test = c .before .before .before in
+    let l = test .before .loop in
+    let start = test .before .before .before .before in
+    let b = now (start .args .body) in
+    let t = rw (part-to-end b (l .i)) at (c .parse-jsdoc-import-decl .ensures) in
+    (rw (l .inv .1 .same) (room declarations b (l .i) (test .loop-test .taken) _ t), omega (arith, test .loop-test .taken, start .pre .0))
+
+loop-again : tie.Need-loop-again Inv-loop μ-loop
+loop-again c =
+    let b = now (c .before .before .before .before .before .before .before .before .before .before .before .args .body) in
+    let l = c .before .before .before .before .before .before .before .before .loop in
+    let n = c .before .before .before .before .before .before .before .loop-test .taken in
+    let f = c .next-of .ensures in (
+      f .1,
+      rw (c .before .before .before .note .ensures)
+          (declarations-noted-to b (l .i + 1) (c .next-of .result) (f .0) (f .1) (f .2)
+          (declaration-noted b (l .i) (l .inv .1) n _ (rw (part-to-end b (l .i)) at (c .before .before .before .before .parse-jsdoc-import-decl .ensures)))),
+    )
+
+returns : tie.Need-returns Inv-loop μ-loop
+returns c = readings-noted _ (c .before .loop .i) (c .before .loop .inv .1) (c .loop-test .left)
+
+pub note-declarations-spec : {M : Type 1} → statement M
+note-declarations-spec =
+    tie.close
+    (tie.spec
+    Inv-loop
+    μ-loop
+    loop-holds
+    (λ c. search needs)
+    (λ c. search needs)
+    (λ c. search needs)
+    (λ c κs. search needs)
+    note-requires
+    (λ c. search needs)
+    (λ c κs. search needs)
+    (λ c. omega (arith, c .next-of .ensures .0, c .next-of .ensures .1))
+    loop-again
+    (λ c. search needs)
+    returns)

@@ -1,0 +1,46 @@
+use borrow.Author.Needs.{needs}
+use denote.Ref.{now}
+use Rattle.laws.proofs.Steps.{seen}
+use Rattle.report.specs.declared.origins.EntryRule.the-variants.{TsTypes, DenoTypes}
+use Rattle.pragmas.specs.declared.readings.Rule.the-variants as rule
+use Rattle.pragmas.specs.Readings.{readBy}
+use Rattle.pragmas.specs.Origins.{tsOrDenoOrigin}
+use Rattle.pragmas.specs.code.Views.{originAs}
+use Rattle.pragmas.proofs.Taken.{origin-one}
+use Rattle.pragmas.proofs.origins.put_types_origin.Statement.{statement}
+use Rattle.pragmas.proofs.origins.put_types_origin.Tie as tie
+
+returns : tie.Need-returns
+unfolding readBy tsOrDenoOrigin
+returns c =
+    let a = c .before .before .before .before .before .before .before .before .before .args in
+    let read = c .before .before .before .before .before .before .read in
+    let is = c .before .before .before .before .enum-told .given .1 in
+    let found = origin-one rule.TsTypes (now (a .source)) (read .result) (a .c) (read .ensures .0) TsTypes in
+    rw (← found, is) (rw is at (c .before .before .put-reading-origin .ensures))
+
+returns-2 : tie.Need-returns-2
+unfolding readBy tsOrDenoOrigin
+returns-2 c =
+    let a = c .before .before .before .before .before .before .before .before .before .before .args in
+    let source = now (a .source) in
+    let read = c .before .before .before .before .before .before .before .read in
+    let other = c .before .before .before .before .read2 in
+    let found = origin-one rule.TsTypes source (read .result) (a .c) (read .ensures .0) TsTypes in
+    let none = seen (originAs TsTypes) found (c .before .before .before .before .before .enum-told2 .given .1) in
+    rw (none, ← origin-one rule.DenoTypes source (other .result) (a .c) (other .ensures .0) DenoTypes) (c .before .before .put-reading-origin2 .ensures)
+
+pub put-types-origin-spec : {M : Type 1} → statement M
+put-types-origin-spec =
+    tie.close
+    (tie.spec
+    (λ c κs. search needs)
+    (λ c. search needs)
+    (λ c κs. search needs)
+    (λ c. search needs)
+    returns
+    (λ c. search needs)
+    (λ c κs. search needs)
+    (λ c κs. search needs)
+    (λ c. search needs)
+    returns-2)

@@ -1,0 +1,33 @@
+use borrow.Author.Needs.{needs}
+use mathlib.Core.Path.{refl, sym, _∙_}
+use denote.Ref.{now}
+use lib.ListN.{length}
+use Rattle.rules.proofs.BothBuffers.{second-refused, both-accepted}
+use Rattle.rules.proofs.finish_rules.Statement.{statement}
+use Rattle.rules.proofs.finish_rules.Tie as tie
+
+returns : tie.Need-returns
+returns c =
+    λ a b e h.
+    let args = c .before .before .before .before .before .before .before .before .before .before .before .args in
+    c .before .before .before .before .refuse-both .ensures ∙ second-refused (length (now (args .buffer))) (length (now (args .rules))) a b (now (args .rules)) (args .place) e (sym (c .before .before .before .before .before .before .before .before .is-full .ensures) ∙ c .before .before .before .before .before .before .before .if1 .taken) h
+
+returns-2 : tie.Need-returns-2
+returns-2 c =
+    λ a b e h.
+    let args = c .before .before .before .before .before .before .before .before .before .args in
+    both-accepted (length (now (args .buffer))) (length (now (args .rules))) a b (now (args .rules)) (args .place) e (sym (c .before .before .before .before .before .before .is-full .ensures) ∙ c .before .before .before .before .before .if1 .left) h refl (c .before .before .before .finish .result) (c .before .before .before .finish .ensures) (c .length-of .ensures _)
+
+pub finish-rules-spec : {M : Type 1} → statement M
+finish-rules-spec =
+    tie.close
+    (tie.spec
+    (λ c κs. search needs)
+    (λ c κs. search needs)
+    (λ c. search needs)
+    (λ c. search needs)
+    returns
+    (λ c κs. search needs)
+    (λ c κs. search needs)
+    (λ c. search needs)
+    returns-2)

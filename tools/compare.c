@@ -439,6 +439,26 @@ static bool kinds_are_there(char **names, int count) {
     return all;
 }
 
+static void print_counts(unsigned long total, bool with_before) {
+    printf("entries by rule:");
+    for (unsigned r = 1; r < RULES; r++) printf(" %u: %lu%s", r, rules_named[r], r + 1 < RULES ? "," : "\n");
+    printf("second and oracle: %lu sheets differ\n", second_and_oracle);
+    if (with_before)
+        printf("before the patch of #104: %lu sheets differ; on %lu sheets this is not where a comment has both a path and types\n",
+               by_patch, not_by_patch);
+    printf("left out, with a text that does not stand between its positions: %lu sheets\n", not_shown);
+#ifdef LIBRARY
+    printf("library and oracle: %lu sheets differ\nlibrary and second: %lu sheets differ\n", library_and_oracle, library_and_second);
+    printf("sheets with a replaced character: %lu\n", replaced);
+    printf("source map by ECMA-426: %lu found, %lu none, %lu refused; library and second: %lu sheets differ\n", maps, no_maps, refused_maps, maps_differ);
+    printf("rules: %lu calls refused with 16; library and second: %lu sheets differ\n", refused_rules, rules_differ);
+    printf("%lu sheets, %lu calls, %lu sheets differ\n", total, calls, differ);
+#else
+    (void)refused_rules, (void)rules_differ;
+    printf("%lu sheets, %lu sheets differ\n", total, differ);
+#endif
+}
+
 int main(int argc, char **argv) {
     const char *before_name = NULL;
     if (argc > 2 && !strcmp(argv[1], "--rules")) {
@@ -501,20 +521,6 @@ int main(int argc, char **argv) {
     bool there = kinds_are_there(argv + 5, argc - 5);
     print_kinds();
     if (differ) print_shortest(argv[4]);
-    printf("entries by rule:");
-    for (unsigned r = 1; r < RULES; r++) printf(" %u: %lu%s", r, rules_named[r], r + 1 < RULES ? "," : "\n");
-    printf("second and oracle: %lu sheets differ\n", second_and_oracle);
-    if (before_name) printf("before the patch of #104: %lu sheets differ; on %lu sheets this is not where a comment has both a path and types\n", by_patch, not_by_patch);
-    printf("left out, with a text that does not stand between its positions: %lu sheets\n", not_shown);
-#ifdef LIBRARY
-    printf("library and oracle: %lu sheets differ\nlibrary and second: %lu sheets differ\n", library_and_oracle, library_and_second);
-    printf("sheets with a replaced character: %lu\n", replaced);
-    printf("source map by ECMA-426: %lu found, %lu none, %lu refused; library and second: %lu sheets differ\n", maps, no_maps, refused_maps, maps_differ);
-    printf("rules: %lu calls refused with 16; library and second: %lu sheets differ\n", refused_rules, rules_differ);
-    printf("%lu sheets, %lu calls, %lu sheets differ\n", total, calls, differ);
-#else
-    (void)refused_rules, (void)rules_differ;
-    printf("%lu sheets, %lu sheets differ\n", total, differ);
-#endif
+    print_counts(total, before_name != NULL);
     return differ || !there;
 }

@@ -1,6 +1,7 @@
 //! delivery SEED COUNT
 //! delivery times
-//! Compares the library of crates/delivery, through bindings/delivery, with a second answer on COUNT generated deliveries, each with several sizes of the work buffer.
+//! Compares the library of crates/delivery, through bindings/delivery, with a second answer on COUNT generated deliveries, each with several
+//! sizes of the work buffer.
 //! The second answer is written from document 01's section on deliveries; reports come from tools/second.rs. It keeps no offsets and
 //! makes one pass after the other over vectors. The status is 1 if an answer differs or a work buffer is not zero, or if some sort of
 //! answer did not occur.
@@ -15,6 +16,7 @@ mod second;
 use std::collections::{BTreeMap, HashSet};
 
 use delivery::{Order, order};
+use generate::sheet_writer::{put_number, put_text};
 
 /// The library's answer, and whether it left the work buffer zero.
 fn library(delivery: &[u8], size: usize) -> (Order, bool) {
@@ -176,19 +178,6 @@ impl Random {
     }
 }
 
-fn put_number(out: &mut Vec<u8>, mut n: usize) {
-    while n >= 128 {
-        out.push(0x80 | (n & 0x7F) as u8);
-        n >>= 7;
-    }
-    out.push(n as u8);
-}
-
-fn put_text(out: &mut Vec<u8>, text: &[u8]) {
-    put_number(out, text.len());
-    out.extend(text);
-}
-
 /// A node that asks for a specifier; the place of every String is the source, `''`.
 fn put_entry(r: &mut Random, out: &mut Vec<u8>, specifier: &[u8]) {
     let sort = r.below(100);
@@ -216,7 +205,6 @@ fn put_entry(r: &mut Random, out: &mut Vec<u8>, specifier: &[u8]) {
     }
 }
 
-/// An import of a specifier.
 fn put_import(out: &mut Vec<u8>, specifier: &[u8]) {
     out.extend([7, 0, 2, 0, 0, 0, 1, 0, 2]);
     put_text(out, specifier);

@@ -9,8 +9,14 @@
 //! `over` exceeds one by one; `flip`, `cut`, `insert`, `delete`, `splice` and `number` are damaged copies; `noise` is bytes at random.
 //! The span of a String, if nothing damaged it, is a quoted place of the source: it begins and ends with the same mark, `"` or `'`.
 
+#[allow(dead_code)]
+#[path = "sheet_writer.rs"]
+pub mod sheet_writer;
+
 use std::collections::BTreeMap;
 use std::io::{BufWriter, Write};
+
+use sheet_writer::{Comment, Doc, Group, put_comments, put_groups, put_number, put_program, put_text};
 
 // ---- chance ----
 
@@ -383,19 +389,6 @@ fn body(r: &mut Rng, jsdoc_only: bool, near: usize) -> String {
 
 // ---- sheets ----
 
-fn number(out: &mut Vec<u8>, mut n: usize) {
-    while n >= 128 {
-        out.push((n % 128) as u8 | 0x80);
-        n /= 128;
-    }
-    out.push(n as u8);
-}
-
-fn text(out: &mut Vec<u8>, text: &[u8]) {
-    number(out, text.len());
-    out.extend_from_slice(text);
-}
-
 /// What a kind asks for.
 struct Style {
     /// Most comments, and most nodes.
@@ -452,13 +445,8 @@ fn sheet(r: &mut Rng, style: &Style) -> Vec<u8> {
     let comments = m.draw_source(style);
     m.out.push(media as u8);
     let source = m.source.clone();
-    text(&mut m.out, source.as_bytes());
-    number(&mut m.out, comments.len());
-    for &(kind, start, end) in &comments {
-        m.out.push(kind);
-        number(&mut m.out, start);
-        number(&mut m.out, end);
-    }
+    put_text(&mut m.out, source.as_bytes());
+    put_comments(&mut m.out, &comments);
     let end = m.place();
     let item = m.place();
     let head = m.program(end, item);
@@ -477,7 +465,7 @@ fn sheet(r: &mut Rng, style: &Style) -> Vec<u8> {
 }
 
 impl Maker<'_> {
-    fn draw_source(&mut self, style: &Style) -> Vec<(u8, usize, usize)> {
+    fn draw_source(&mut self, style: &Style) -> Vec<Comment> {
         let mut comments = Vec::new();
         if self.r.percent(5) {
             self.source += "\u{FEFF}";
@@ -552,13 +540,13 @@ impl Maker<'_> {
         if !self.leads.is_empty() && self.r.percent(40) {
             let start = self.r.pick(&self.leads);
             let end = self.place().max(start);
-            number(&mut self.out, start);
-            number(&mut self.out, end);
+            put_number(&mut self.out, start);
+            put_number(&mut self.out, end);
             return;
         }
         let (a, b) = (self.place(), self.place());
-        number(&mut self.out, a.min(b));
-        number(&mut self.out, a.max(b));
+        put_number(&mut self.out, a.min(b));
+        put_number(&mut self.out, a.max(b));
     }
 
     /// A quoted place: from one mark to another of its sort, mostly to the next.
@@ -567,12 +555,12 @@ impl Maker<'_> {
         let marks = &self.marks[self.r.pick(&sorts)];
         let first = self.r.below(marks.len() - 1);
         let next = if self.r.percent(80) { 1 } else { 1 + self.r.below(marks.len() - first - 1) };
-        number(&mut self.out, marks[first]);
-        number(&mut self.out, marks[first + next] + 1);
+        put_number(&mut self.out, marks[first]);
+        put_number(&mut self.out, marks[first + next] + 1);
     }
 
     /// Runs of comments, each at a key of its own: mostly where the head group and the end group are looked for.
-    fn groups(&mut self, comments: &[(u8, usize, usize)], end: usize, head: (u8, usize)) {
+    fn groups(&mut self, comments: &[Comment], end: usize, head: (u8, usize)) {
         let mut groups: BTreeMap<(u8, usize), (usize, usize)> = BTreeMap::new();
         let mut last = (0, 0);
         let mut first = 0;
@@ -599,16 +587,9 @@ impl Maker<'_> {
             }
             first = next;
         }
-        number(&mut self.out, groups.len());
-        for ((side, position), (first, count)) in groups {
-            if side == 0 {
-                self.leads.push(position);
-            }
-            self.out.push(side);
-            for n in [position, first, count] {
-                number(&mut self.out, n);
-            }
-        }
+        self.leads.extend(groups.keys().filter(|key| key.0 == 0).map(|key| key.1));
+        let groups: Vec<_> = groups.into_iter().map(|((side, position), (first, count))| (side, position, first, count)).collect();
+        put_groups(&mut self.out, &groups);
     }
 
     fn flag(&mut self, percent: usize) -> bool {
@@ -621,16 +602,12 @@ impl Maker<'_> {
     fn program(&mut self, end: usize, item: usize) -> (u8, usize) {
         let start = self.place().min(end);
         let [script, shebang, there] = [30, 30, 60].map(|percent| self.r.percent(percent));
-        self.late.push(u8::from(script));
-        number(&mut self.late, start);
-        number(&mut self.late, end);
-        self.late.push(u8::from(shebang));
-        self.late.push(u8::from(there));
-        if there {
-            number(&mut self.late, item);
-            return (0, item);
+        put_program(&mut self.late, u8::from(script), (start, end), u8::from(shebang), there.then_some(item));
+        match (there, shebang) {
+            (true, _) => (0, item),
+            (false, true) => (1, end),
+            (false, false) => (0, start),
         }
-        if shebang { (1, end) } else { (0, start) }
     }
 
     fn wtf8(&mut self, special: &[&str]) {
@@ -652,12 +629,12 @@ impl Maker<'_> {
                 bytes.splice(at..at, [0xED, 0xB0, 0x80]);
             }
         }
-        text(&mut self.out, &bytes);
+        put_text(&mut self.out, &bytes);
     }
 
     fn utf8(&mut self, special: &[&str]) {
         let s = if self.r.percent(70) { self.r.pick(special).to_string() } else { name(self.r) };
-        text(&mut self.out, s.as_bytes());
+        put_text(&mut self.out, s.as_bytes());
     }
 
     fn string(&mut self) {
@@ -676,7 +653,7 @@ impl Maker<'_> {
         self.out.push(3);
         self.span();
         let n = if depth == 0 { 0 } else { self.r.few(3) };
-        number(&mut self.out, n);
+        put_number(&mut self.out, n);
         for _ in 0..=n {
             if self.flag(100 - self.uncooked) {
                 self.wtf8(&["", "", "./", ".ts"]);
@@ -711,7 +688,7 @@ impl Maker<'_> {
         self.out.push(5);
         self.span();
         let n = if depth == 0 { 0 } else { self.r.few(4) };
-        number(&mut self.out, n);
+        put_number(&mut self.out, n);
         for _ in 0..n {
             match self.r.below(24) {
                 0 => {
@@ -758,7 +735,7 @@ impl Maker<'_> {
 
     fn children(&mut self, depth: usize) {
         let n = if depth == 0 { 0 } else { self.r.few(4) };
-        number(&mut self.out, n);
+        put_number(&mut self.out, n);
         for _ in 0..n {
             self.node(depth - 1);
         }
@@ -774,7 +751,7 @@ impl Maker<'_> {
         self.out.push(0);
         self.span();
         let n = 1 + self.r.few(most);
-        number(&mut self.out, n);
+        put_number(&mut self.out, n);
         for _ in 0..n {
             self.node(depth - 1);
         }
@@ -789,7 +766,7 @@ impl Maker<'_> {
             if self.r.percent(85) { self.name_node() } else { self.node(depth - 1) }
         }
         let n = self.r.pick(&[0, 1, 1, 1, 2, 2, 2, 3]);
-        number(&mut self.out, n);
+        put_number(&mut self.out, n);
         for i in 0..n {
             self.flag(8);
             self.span();
@@ -902,7 +879,7 @@ fn texts(r: &mut Rng) -> Vec<u8> {
     }
     if r.percent(20) {
         let mut out = vec![0];
-        text(&mut out, &x);
+        put_text(&mut out, &x);
         // no comments, no groups; an empty program, an empty root
         out.extend([0; 11]);
         return out;
@@ -918,34 +895,14 @@ fn texts(r: &mut Rng) -> Vec<u8> {
         7 => (vec![6, 0, 0, 0, 1, 0, 0, 0, 3, 0, 0, 0, 1], &[0]),
         _ => (vec![9, 0, 0, 0, 1, 0, 2, 0, 1, 5, 0, 0, 1, 2, 1], &[1, 0, 2, 1, b'v']),
     };
-    text(&mut root, &x);
+    put_text(&mut root, &x);
     root.extend(after);
     bare(&root)
 }
 
 /// A sheet of given parts; the program is the whole source, with no item.
-fn plain(media: u8, source: &str, comments: &[(u8, usize, usize)], groups: &[(u8, usize, usize, usize)], root: &[u8]) -> Vec<u8> {
-    let mut out = vec![media];
-    text(&mut out, source.as_bytes());
-    number(&mut out, comments.len());
-    for &(kind, start, end) in comments {
-        out.push(kind);
-        number(&mut out, start);
-        number(&mut out, end);
-    }
-    number(&mut out, groups.len());
-    for &(side, position, first, count) in groups {
-        out.push(side);
-        for n in [position, first, count] {
-            number(&mut out, n);
-        }
-    }
-    out.push(0);
-    number(&mut out, 0);
-    number(&mut out, source.len());
-    out.extend([0, 0]);
-    out.extend_from_slice(root);
-    out
+fn plain(media: u8, source: &str, comments: &[Comment], groups: &[Group], root: &[u8]) -> Vec<u8> {
+    Doc { media, source, comments, groups, span: (0, source.len()), root: root.to_vec(), ..Doc::default() }.bytes()
 }
 
 /// A sheet whose source is an empty string, for the spans of Strings, from 0 to 2.
@@ -962,17 +919,17 @@ fn long_report(r: &mut Rng) -> Vec<u8> {
     let entry = 25 + size;
     let n = (65_536 / entry).saturating_sub(2) + r.below(6);
     let mut root = vec![0, 0, 0];
-    number(&mut root, n);
+    put_number(&mut root, n);
     for _ in 0..n {
         for tag in [9, 1] {
             root.push(tag);
-            number(&mut root, at);
-            number(&mut root, at + 2);
+            put_number(&mut root, at);
+            put_number(&mut root, at + 2);
             if tag == 9 {
                 root.push(0);
             }
         }
-        text(&mut root, &vec![b'a'; r.below(90)]);
+        put_text(&mut root, &vec![b'a'; r.below(90)]);
         root.push(0);
     }
     plain(4, &source, &[(0, 0, pragma.len())], &[(0, at, 0, 1)], &root)
@@ -1020,138 +977,164 @@ fn nested(sort: usize, levels: usize, last: &[u8]) -> Vec<u8> {
 
 /// A sheet at a limit of document 01 (`over` 0) or one past it (`over` 1).
 fn limit(r: &mut Rng, over: usize) -> Vec<u8> {
-    let empty: &[u8] = &[0, 0, 0, 0];
     match r.below(13) {
-        0 => {
-            // the sheet's length: strings fill it
-            let target = 65_536 + over;
-            let mut root = vec![0, 0, 0, 16 + 1];
-            for _ in 0..16 {
-                root.extend([1, 0, 2]);
-                text(&mut root, &[b'x'; 4000]);
-            }
-            let mut s = bare(&root);
-            let rest = target - s.len() - 5;
-            s.extend([1, 0, 2]);
-            text(&mut s, &vec![b'y'; rest]);
-            s
-        }
-        1 => {
-            let source = if r.percent(50) { "x".repeat(32_768 + over) } else { "é".repeat(16_384) + &"x".repeat(over) };
-            plain(0, &source, &[], &[], empty)
-        }
-        2 => {
-            let x = vec![b'a'; 4_096 + over];
-            let mut root: Vec<u8> = match r.below(8) {
-                0 => vec![1, 0, 2],
-                1 => vec![2, 0, 0],
-                2 => vec![3, 0, 0, 0, 1],
-                3 => vec![5, 0, 0, 1, 2, 1],
-                4 => vec![5, 0, 0, 1, 2, 2],
-                5 => vec![9, 0, 0, 0, 1, 0, 2],
-                6 => vec![6, 0, 0, 0, 1, 0, 0, 0, 1, 0, 2],
-                _ => vec![12, 0, 0, 1, 1, 0, 2],
-            };
-            let after: &[u8] = match root[0] {
-                5 => &[1, 0, 2, 0],
-                9 | 6 | 12 => &[0],
-                _ => &[],
-            };
-            text(&mut root, &x);
-            root.extend(after);
-            bare(&root)
-        }
-        3 => {
-            let n = 1_024 + over;
-            let line = r.percent(50);
-            let source = if line { "//".repeat(n) } else { "/**/".repeat(n) };
-            let size = if line { 2 } else { 4 };
-            let comments: Vec<_> = (0..n).map(|i| (u8::from(!line), size * i, size * (i + 1))).collect();
-            plain(0, &source, &comments, &[(0, 0, 0, n)], empty)
-        }
-        4 => {
-            let n = 1_024 + over;
-            let source = format!("//{}", "x".repeat(n));
-            let groups: Vec<_> = (0..n).map(|i| (0, i, 0, 1)).collect();
-            plain(0, &source, &[(0, 0, source.len())], &groups, empty)
-        }
-        5 | 6 => {
-            let sort = r.below(14);
-            let last: &[u8] = match r.below(3) {
-                0 => empty,
-                1 => &[1, 0, 2, 1, b'z'],
-                _ => &[2, 0, 0, 0],
-            };
-            bare(&nested(sort, 63 + over, last))
-        }
-        7 => {
-            // a String or an Object that another node holds is a level too
-            let (hold, levels): (&[u8], usize) = match r.below(8) {
-                0 => (&[7, 0, 0, 0, 0, 0, 1, 0, 2, 1, b'a', 0], 62),
-                1 => (&[7, 0, 0, 0, 0, 0, 1, 0, 2, 1, b'a', 1, 5, 0, 0, 0], 62),
-                2 => (&[7, 0, 0, 0, 0, 0, 1, 0, 2, 1, b'a', 1, 5, 0, 0, 1, 0, 1, 0, 2, 0], 61),
-                3 => (&[8, 0, 0, 0, 1, 1, 0, 2, 1, b'a', 0], 62),
-                4 => (&[9, 0, 0, 0, 1, 0, 2, 1, b'a', 0], 62),
-                5 => (&[10, 0, 0, 1, 0, 2, 1, b'a', 0, 0], 62),
-                6 => (&[11, 0, 0, 1, 0, 0, 1, 0, 2, 1, b'a'], 62),
-                _ => (&[12, 0, 0, 1, 1, 0, 2, 1, b'a', 0], 62),
-            };
-            bare(&nested(0, levels + over, hold))
-        }
-        8 => {
-            let mut root = vec![5, 0, 0, 64 + over as u8];
-            for i in 0..64 + over {
-                root.extend([2, 2, 2, b'a' + (i % 26) as u8, b'a' + (i / 26) as u8, 1, 0, 2, 0]);
-            }
-            if r.percent(50) {
-                root = [&[9, 0, 0, 0, 1, 0, 2, 1, b'x', 1][..], &root].concat();
-            }
-            bare(&root)
-        }
-        9 => {
-            // the largest number, and one more: as a count of children, and as a group's first comment
-            let n = 4_294_967_295 + over;
-            let mut root = vec![0, 0, 0];
-            if r.percent(50) {
-                number(&mut root, n);
-                return plain(0, "", &[], &[], &root);
-            }
-            plain(0, "//", &[(0, 0, 2)], &[(0, 0, n, 1)], empty)
-        }
-        10 => {
-            // positions at the source's end and past it; inside a character is past a boundary by one
-            let source = r.pick(&["", "é", "aé", "中"]);
-            let at = source.len() + over;
-            let mut root = vec![0];
-            number(&mut root, 0);
-            number(&mut root, at);
-            root.push(0);
-            if over == 1 && !source.is_empty() && r.percent(50) {
-                root[1] = source.len() as u8 - 1;
-                root[2] = source.len() as u8;
-            }
-            plain(0, source, &[], &[], &root)
-        }
-        11 => {
-            // a group's reach, and its order
-            let groups = match r.below(3) {
-                0 => vec![(0, 0, 0, 2 + over)],
-                1 => vec![(0, 0, over, 2)],
-                _ => vec![(0, 1 + over, 0, 2), (0, 2, 0, 2)],
-            };
-            plain(0, "////", &[(0, 0, 2), (0, 2, 4)], &groups, empty)
-        }
-        _ => {
-            // comments that touch, and that overlap by one; a block of four bytes, and of three
-            let (source, comments): (&str, &[(u8, usize, usize)]) = match (r.below(2), over) {
-                (0, 0) => ("////", &[(0, 0, 2), (0, 2, 4)]),
-                (0, _) => ("////", &[(0, 0, 3), (0, 2, 4)]),
-                (_, 0) => ("/**/", &[(1, 0, 4)]),
-                (..) => ("/*/", &[(1, 0, 3)]),
-            };
-            plain(0, source, comments, &[(0, 0, 0, comments.len())], empty)
-        }
+        0 => longest_sheet(over),
+        1 => longest_source(r, over),
+        2 => longest_text(r, over),
+        3 => most_comments(r, over),
+        4 => most_groups(over),
+        5 | 6 => deepest(r, over),
+        7 => deepest_held(r, over),
+        8 => most_properties(r, over),
+        9 => largest_number(r, over),
+        10 => last_position(r, over),
+        11 => last_group(r, over),
+        _ => next_comment(r, over),
     }
+}
+
+const EMPTY_OTHER: &[u8] = &[0, 0, 0, 0];
+
+/// Strings fill it.
+fn longest_sheet(over: usize) -> Vec<u8> {
+    let target = 65_536 + over;
+    let mut root = vec![0, 0, 0, 16 + 1];
+    for _ in 0..16 {
+        root.extend([1, 0, 2]);
+        put_text(&mut root, &[b'x'; 4000]);
+    }
+    let mut s = bare(&root);
+    let rest = target - s.len() - 5;
+    s.extend([1, 0, 2]);
+    put_text(&mut s, &vec![b'y'; rest]);
+    s
+}
+
+fn longest_source(r: &mut Rng, over: usize) -> Vec<u8> {
+    let source = if r.percent(50) { "x".repeat(32_768 + over) } else { "é".repeat(16_384) + &"x".repeat(over) };
+    plain(0, &source, &[], &[], EMPTY_OTHER)
+}
+
+/// In each node that has a text.
+fn longest_text(r: &mut Rng, over: usize) -> Vec<u8> {
+    let x = vec![b'a'; 4_096 + over];
+    let mut root: Vec<u8> = match r.below(8) {
+        0 => vec![1, 0, 2],
+        1 => vec![2, 0, 0],
+        2 => vec![3, 0, 0, 0, 1],
+        3 => vec![5, 0, 0, 1, 2, 1],
+        4 => vec![5, 0, 0, 1, 2, 2],
+        5 => vec![9, 0, 0, 0, 1, 0, 2],
+        6 => vec![6, 0, 0, 0, 1, 0, 0, 0, 1, 0, 2],
+        _ => vec![12, 0, 0, 1, 1, 0, 2],
+    };
+    let after: &[u8] = match root[0] {
+        5 => &[1, 0, 2, 0],
+        9 | 6 | 12 => &[0],
+        _ => &[],
+    };
+    put_text(&mut root, &x);
+    root.extend(after);
+    bare(&root)
+}
+
+fn most_comments(r: &mut Rng, over: usize) -> Vec<u8> {
+    let n = 1_024 + over;
+    let line = r.percent(50);
+    let source = if line { "//".repeat(n) } else { "/**/".repeat(n) };
+    let size = if line { 2 } else { 4 };
+    let comments: Vec<_> = (0..n).map(|i| (u8::from(!line), size * i, size * (i + 1))).collect();
+    plain(0, &source, &comments, &[(0, 0, 0, n)], EMPTY_OTHER)
+}
+
+fn most_groups(over: usize) -> Vec<u8> {
+    let n = 1_024 + over;
+    let source = format!("//{}", "x".repeat(n));
+    let groups: Vec<_> = (0..n).map(|i| (0, i, 0, 1)).collect();
+    plain(0, &source, &[(0, 0, source.len())], &groups, EMPTY_OTHER)
+}
+
+fn deepest(r: &mut Rng, over: usize) -> Vec<u8> {
+    let sort = r.below(14);
+    let last: &[u8] = match r.below(3) {
+        0 => EMPTY_OTHER,
+        1 => &[1, 0, 2, 1, b'z'],
+        _ => &[2, 0, 0, 0],
+    };
+    bare(&nested(sort, 63 + over, last))
+}
+
+/// A String or an Object that another node holds is a level too.
+fn deepest_held(r: &mut Rng, over: usize) -> Vec<u8> {
+    let (hold, levels): (&[u8], usize) = match r.below(8) {
+        0 => (&[7, 0, 0, 0, 0, 0, 1, 0, 2, 1, b'a', 0], 62),
+        1 => (&[7, 0, 0, 0, 0, 0, 1, 0, 2, 1, b'a', 1, 5, 0, 0, 0], 62),
+        2 => (&[7, 0, 0, 0, 0, 0, 1, 0, 2, 1, b'a', 1, 5, 0, 0, 1, 0, 1, 0, 2, 0], 61),
+        3 => (&[8, 0, 0, 0, 1, 1, 0, 2, 1, b'a', 0], 62),
+        4 => (&[9, 0, 0, 0, 1, 0, 2, 1, b'a', 0], 62),
+        5 => (&[10, 0, 0, 1, 0, 2, 1, b'a', 0, 0], 62),
+        6 => (&[11, 0, 0, 1, 0, 0, 1, 0, 2, 1, b'a'], 62),
+        _ => (&[12, 0, 0, 1, 1, 0, 2, 1, b'a', 0], 62),
+    };
+    bare(&nested(0, levels + over, hold))
+}
+
+fn most_properties(r: &mut Rng, over: usize) -> Vec<u8> {
+    let mut root = vec![5, 0, 0, 64 + over as u8];
+    for i in 0..64 + over {
+        root.extend([2, 2, 2, b'a' + (i % 26) as u8, b'a' + (i / 26) as u8, 1, 0, 2, 0]);
+    }
+    if r.percent(50) {
+        root = [&[9, 0, 0, 0, 1, 0, 2, 1, b'x', 1][..], &root].concat();
+    }
+    bare(&root)
+}
+
+/// As a count of children, and as a group's first comment.
+fn largest_number(r: &mut Rng, over: usize) -> Vec<u8> {
+    let n = 4_294_967_295 + over;
+    let mut root = vec![0, 0, 0];
+    if r.percent(50) {
+        put_number(&mut root, n);
+        return plain(0, "", &[], &[], &root);
+    }
+    plain(0, "//", &[(0, 0, 2)], &[(0, 0, n, 1)], EMPTY_OTHER)
+}
+
+/// Positions at the source's end and past it; inside a character is past a boundary by one.
+fn last_position(r: &mut Rng, over: usize) -> Vec<u8> {
+    let source = r.pick(&["", "é", "aé", "中"]);
+    let at = source.len() + over;
+    let mut root = vec![0];
+    put_number(&mut root, 0);
+    put_number(&mut root, at);
+    root.push(0);
+    if over == 1 && !source.is_empty() && r.percent(50) {
+        root[1] = source.len() as u8 - 1;
+        root[2] = source.len() as u8;
+    }
+    plain(0, source, &[], &[], &root)
+}
+
+/// A group's reach, and its order.
+fn last_group(r: &mut Rng, over: usize) -> Vec<u8> {
+    let groups = match r.below(3) {
+        0 => vec![(0, 0, 0, 2 + over)],
+        1 => vec![(0, 0, over, 2)],
+        _ => vec![(0, 1 + over, 0, 2), (0, 2, 0, 2)],
+    };
+    plain(0, "////", &[(0, 0, 2), (0, 2, 4)], &groups, EMPTY_OTHER)
+}
+
+/// Comments that touch, and that overlap by one; a block of four bytes, and of three.
+fn next_comment(r: &mut Rng, over: usize) -> Vec<u8> {
+    let (source, comments): (&str, &[Comment]) = match (r.below(2), over) {
+        (0, 0) => ("////", &[(0, 0, 2), (0, 2, 4)]),
+        (0, _) => ("////", &[(0, 0, 3), (0, 2, 4)]),
+        (_, 0) => ("/**/", &[(1, 0, 4)]),
+        (..) => ("/*/", &[(1, 0, 3)]),
+    };
+    plain(0, source, comments, &[(0, 0, 0, comments.len())], EMPTY_OTHER)
 }
 
 /// A sheet with one String, a node of its own or held by another, at a place that is quoted or misses that nearly; what follows the place may be
@@ -1177,8 +1160,8 @@ fn strings(r: &mut Rng) -> Vec<u8> {
         _ => r.pick(&[(28, 31), (3, 0), (30, 28)]),
     };
     let mut string = vec![1];
-    number(&mut string, start);
-    number(&mut string, end);
+    put_number(&mut string, start);
+    put_number(&mut string, end);
     string.extend(match r.below(8) {
         0 => vec![0x80],
         1 => vec![0x81, 0x20],
@@ -1257,7 +1240,7 @@ fn damaged(r: &mut Rng, kind: &str, mut s: Vec<u8>, other: &[u8]) -> Vec<u8> {
             "number" if at < s.len() => {
                 let n = r.pick(&[0, 1, 64, 65, 127, 128, 1024, 1025, 4096, 4097, 32_768, 32_769, 0xFFFF_FFFF]);
                 let mut b = Vec::new();
-                number(&mut b, n);
+                put_number(&mut b, n);
                 if r.percent(20) {
                     *b.last_mut().unwrap() |= 0x80;
                     b.push(0);
@@ -1301,7 +1284,8 @@ const WELL_FORMED: [&str; 12] = ["small", "empty", "rich", "comments", "html", "
 /// How many sheets are of each kind, among as many as the numbers make together.
 #[rustfmt::skip]
 const KINDS: [(&str, usize); 24] = [
-    ("small", 145), ("empty", 5), ("text", 20), ("string", 20), ("order", 10), ("rich", 200), ("comments", 130), ("html", 80), ("maps", 100), ("jsdoc", 180), ("rules", 130), ("near", 130), ("tree", 120), ("letters", 20), ("uncooked", 20), ("long", 2),
+    ("small", 145), ("empty", 5), ("text", 20), ("string", 20), ("order", 10), ("rich", 200), ("comments", 130), ("html", 80),
+    ("maps", 100), ("jsdoc", 180), ("rules", 130), ("near", 130), ("tree", 120), ("letters", 20), ("uncooked", 20), ("long", 2),
     ("flip", 40), ("cut", 30), ("insert", 30), ("delete", 30), ("splice", 30), ("number", 20), ("noise", 8), ("limit", 10),
 ];
 

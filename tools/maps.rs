@@ -4,7 +4,13 @@
 //! is taken out, or put in place of by a plainer one, and if it differs in the same manner: some and none, none and some, or two texts.
 //! The status is 1 if a row does not differ, or if a smallest body is in no row. tools/maps links and runs it.
 
+#[allow(dead_code)]
+#[path = "sheet_writer.rs"]
+mod sheet_writer;
+
 use std::collections::BTreeSet;
+
+use sheet_writer::{Doc, number};
 
 unsafe extern "C" {
     fn module_info_answer(sheet: *const u8, n: usize, buffer: *mut u8, m: usize) -> u64;
@@ -50,37 +56,17 @@ const ROWS: &[(&str, &[&str])] = &[
 /// A text with its lines and columns.
 type Answer = Option<(String, [u64; 4])>;
 
-fn number(out: &mut Vec<u8>, n: usize) {
-    if n >= 128 {
-        out.push((n % 128) as u8 | 0x80);
-        return number(out, n / 128);
-    }
-    out.push(n as u8);
-}
-
 /// TypeScript whose source is these block comments, in the trailing group at the program's end; an empty Other as root.
 fn sheet(bodies: &[&str]) -> Vec<u8> {
     let source: String = bodies.iter().map(|b| format!("/*{b}*/")).collect();
-    let mut out = vec![4];
-    number(&mut out, source.len());
-    out.extend(source.as_bytes());
-    number(&mut out, bodies.len());
-    let mut at = 0;
+    let end = source.len();
+    let mut comments = Vec::new();
     for b in bodies {
-        out.push(1);
-        number(&mut out, at);
-        at += b.len() + 4;
-        number(&mut out, at);
+        let at = comments.last().map_or(0, |(_, _, end)| *end);
+        comments.push((1, at, at + b.len() + 4));
     }
-    // one group; the program: a module without an item; the root
-    out.extend([1, 1]);
-    number(&mut out, at);
-    out.extend([0, bodies.len() as u8, 0, 0]);
-    number(&mut out, at);
-    out.extend([0, 0, 0, 0]);
-    number(&mut out, at);
-    out.push(0);
-    out
+    let root = [vec![0, 0], number(end), vec![0]].concat();
+    Doc { source: &source, comments: &comments, groups: &[(1, end, 0, bodies.len())], span: (0, end), root, ..Doc::default() }.bytes()
 }
 
 fn read_number(rest: &mut &[u8]) -> u64 {

@@ -122,7 +122,6 @@ struct Node {
     pieces: Vec<Option<Vec<u8>>>,
     /// The flags and small bytes in their order.
     marks: Vec<u8>,
-    /// A callee or none.
     callee: Option<Box<Node>>,
     arguments: Vec<(bool, Span, Node)>,
     children: Vec<Node>,
@@ -403,7 +402,6 @@ enum Class {
     White(bool),
     NoNewline,
     Set(Vec<char>, bool),
-    /// White or one of these.
     WhiteOr(char),
 }
 

@@ -1,5 +1,11 @@
 //! The sheets that are timed. They are made here, as an exporter makes them from a parse, and are the same at each run.
 
+#[allow(dead_code)]
+#[path = "../../tools/sheet_writer.rs"]
+mod sheet_writer;
+
+use sheet_writer::{Comment, Doc, Group, list, number};
+
 #[derive(Clone)]
 pub struct Class {
     pub name: &'static str,
@@ -67,10 +73,8 @@ const MAX_SOURCE: usize = 32_768;
 #[derive(Default)]
 struct Maker {
     source: String,
-    /// Kind byte, start, end.
-    comments: Vec<(u8, usize, usize)>,
-    /// Position, first comment, count.
-    leading: Vec<(usize, usize, usize)>,
+    comments: Vec<Comment>,
+    leading: Vec<Group>,
     grouped: usize,
     first_item: Option<usize>,
     children: Vec<Vec<u8>>,
@@ -89,7 +93,7 @@ impl Maker {
     fn code(&mut self, text: &str) -> usize {
         let start = self.source.len();
         if self.grouped < self.comments.len() {
-            self.leading.push((start, self.grouped, self.comments.len() - self.grouped));
+            self.leading.push((0, start, self.grouped, self.comments.len() - self.grouped));
             self.grouped = self.comments.len();
         }
         self.first_item.get_or_insert(start);
@@ -158,46 +162,19 @@ impl Maker {
     /// The sheet. Comments that lead nothing trail the program's end.
     fn sheet(&self) -> Vec<u8> {
         let end = self.source.len();
-        let mut out = vec![0];
-        out.extend(text(&self.source));
-        out.extend(number(self.comments.len()));
-        for (kind, start, end) in &self.comments {
-            out.push(*kind);
-            out.extend(number(*start));
-            out.extend(number(*end));
+        let mut groups = self.leading.clone();
+        if self.grouped < self.comments.len() {
+            groups.push((1, end, self.grouped, self.comments.len() - self.grouped));
         }
-        let trailing = (self.grouped < self.comments.len()).then_some((end, self.grouped, self.comments.len() - self.grouped));
-        out.extend(number(self.leading.len() + usize::from(trailing.is_some())));
-        let groups = self.leading.iter().map(|g| (0, *g)).chain(trailing.map(|g| (1, g)));
-        for (side, (position, first, count)) in groups {
-            out.push(side);
-            [position, first, count].iter().for_each(|n| out.extend(number(*n)));
-        }
-        out.push(0);
-        out.extend(number(self.first_item.unwrap_or(end)));
-        out.extend(number(end));
-        out.push(0);
-        out.push(u8::from(self.first_item.is_some()));
-        out.extend(self.first_item.map(number).unwrap_or_default());
-        out.extend(head(0, self.first_item.unwrap_or(end), end));
-        out.extend(number(self.children.len()));
-        self.children.iter().for_each(|node| out.extend(node));
-        out
+        let span = (self.first_item.unwrap_or(end), end);
+        let root = [head(0, span.0, end), list(&self.children)].concat();
+        let (source, comments, groups, item) = (&self.source, &self.comments, &groups, self.first_item);
+        Doc { media: 0, source, comments, groups, span, item, root, ..Doc::default() }.bytes()
     }
-}
-
-fn number(mut n: usize) -> Vec<u8> {
-    let mut out = Vec::new();
-    while n >= 128 {
-        out.push((n % 128) as u8 + 128);
-        n /= 128;
-    }
-    out.push(n as u8);
-    out
 }
 
 fn text(text: &str) -> Vec<u8> {
-    [number(text.len()), text.as_bytes().to_vec()].concat()
+    sheet_writer::text(text.as_bytes())
 }
 
 fn head(tag: u8, start: usize, end: usize) -> Vec<u8> {
@@ -348,7 +325,7 @@ fn one_comment_of(word: &str, bytes: usize) -> Vec<u8> {
     let body = word.repeat(room / word.len());
     let rest = " ".repeat(room - body.len());
     let source = format!("/**{body}{rest}*/");
-    let mut m = Maker { comments: vec![(1, 0, source.len())], leading: vec![(source.len(), 0, 1)], grouped: 1, ..Maker::default() };
+    let mut m = Maker { comments: vec![(1, 0, source.len())], leading: vec![(0, source.len(), 0, 1)], grouped: 1, ..Maker::default() };
     m.source = source;
     m.sheet()
 }

@@ -120,17 +120,11 @@ static void object(const char *key) {
     text(key);
 }
 
-/* The node at the level where so many are left, its own among them. Is it walked? */
-static void node(int left, int walked) {
-    int below = left - 1;
-    enum form form = forms[left];
-    /* the Object of attributes is a level too */
-    int least = form == ATTRIBUTE_OF_TYPE || form == ATTRIBUTE_OF_IMPORT ? 3 : 2;
+static void node(int left, int walked);
 
-    if (left < least) {
-        string("./a.ts");
-        return;
-    }
+/* A node of that form, with so many levels below it. */
+
+static void expression_of(enum form form, int below, int walked) {
     switch (form) {
     case OTHER:
         head(0);
@@ -173,13 +167,17 @@ static void node(int left, int walked) {
         object("with");
         node(below, walked);
         break;
-    case CALLEE:
+    default: /* CALLEE */
         head(6);
         byte(3);
         node(below, walked);
         number(0);
         number(0);
-        break;
+    }
+}
+
+static void call_of(enum form form, int below, int walked) {
+    switch (form) {
     case ARGUMENT_OF_CALL:
         call(3, "f", 1);
         node(below, walked);
@@ -207,13 +205,17 @@ static void node(int left, int walked) {
         number(0);
         entries += walked;
         break;
-    case BEHIND_IMPORT:
+    default: /* BEHIND_IMPORT */
         call(0, NULL, 1);
         string("./b.ts");
         number(1);
         node(below, walked);
         entries += walked;
-        break;
+    }
+}
+
+static void declaration_of(enum form form, int below, int walked) {
+    switch (form) {
     case CHILD_OF_TYPE:
         head(10);
         string("./t.ts");
@@ -243,7 +245,7 @@ static void node(int left, int walked) {
         node(below - 1, 0);
         entries += walked;
         break;
-    default:
+    default: /* MODULE */
         head(12);
         byte(1);
         string("./m.ts");
@@ -251,6 +253,22 @@ static void node(int left, int walked) {
         node(below, walked);
         entries += walked;
     }
+}
+
+/* The node at the level where so many are left, its own among them. Is it walked? */
+static void node(int left, int walked) {
+    enum form form = forms[left];
+    /* the Object of attributes is a level too */
+    int least = form == ATTRIBUTE_OF_TYPE || form == ATTRIBUTE_OF_IMPORT ? 3 : 2;
+
+    if (left < least)
+        string("./a.ts");
+    else if (form <= CALLEE)
+        expression_of(form, left - 1, walked);
+    else if (form <= BEHIND_IMPORT)
+        call_of(form, left - 1, walked);
+    else
+        declaration_of(form, left - 1, walked);
 }
 
 /* JavaScript; two comments that lead 0, a JSDoc import and then types that each entry reads, with wide characters; a tree as deep as can be. */

@@ -1,4 +1,5 @@
-//! Links the proved static library: the folder that DELIVERY_LIB names (absolute, or from this folder) has it as libdelivery.a, else target/staticlib of the repository.
+//! Links the proved static library: the folder that DELIVERY_LIB names (absolute, or from this folder) has it as libdelivery.a, else
+//! target/staticlib of the repository.
 
 fn main() {
     println!("cargo::rerun-if-env-changed=DELIVERY_LIB");

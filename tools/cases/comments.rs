@@ -173,8 +173,14 @@ fn patterns(c: &mut Cases) {
     c.add(0, "source map, a block", comment(4, "/*#sourceMappingURL=a*/"));
     c.add(0, "source map, up to a block's end", comment(4, "/*#sourceMappingURL=*/"));
     // White_Space and what stands next to it, each where the pattern asks for some
-    let white = "\u{9}\u{A}\u{B}\u{C}\u{D} \u{85}\u{A0}\u{1680}\u{2000}\u{2001}\u{2002}\u{2003}\u{2004}\u{2005}\u{2006}\u{2007}\u{2008}\u{2009}\u{200A}\u{2028}\u{2029}\u{202F}\u{205F}\u{3000}";
-    let none = "\u{8}\u{E}\u{1C}\u{1F}!\u{84}\u{86}\u{9F}\u{A1}\u{167F}\u{1681}\u{180E}\u{1FFF}\u{200B}\u{2027}\u{202A}\u{202E}\u{2030}\u{205E}\u{2060}\u{2FFF}\u{3001}\u{FEFF}";
+    let white = concat!(
+        "\u{9}\u{A}\u{B}\u{C}\u{D} \u{85}\u{A0}\u{1680}\u{2000}\u{2001}\u{2002}\u{2003}\u{2004}\u{2005}\u{2006}",
+        "\u{2007}\u{2008}\u{2009}\u{200A}\u{2028}\u{2029}\u{202F}\u{205F}\u{3000}"
+    );
+    let none = concat!(
+        "\u{8}\u{E}\u{1C}\u{1F}!\u{84}\u{86}\u{9F}\u{A1}\u{167F}\u{1681}\u{180E}\u{1FFF}\u{200B}\u{2027}\u{202A}",
+        "\u{202E}\u{2030}\u{205E}\u{2060}\u{2FFF}\u{3001}\u{FEFF}"
+    );
     for (what, characters) in [("White_Space", white), ("no White_Space", none)] {
         let body: String = characters.chars().map(|w| format!("{{import{w}('')}}")).collect();
         c.add(0, format!("JSDoc import, {what}"), comment(2, &format!("/**{body}*/")));

@@ -9,6 +9,8 @@
 mod comments;
 mod fields;
 mod refusals;
+#[path = "../sheet_writer.rs"]
+mod sheet_writer;
 mod sheets;
 mod tree;
 

@@ -1,67 +1,6 @@
-//! Sheets of given parts, and their nodes.
+//! The nodes of sheets, and a sheet that has nothing but a root.
 
-pub type Bytes = Vec<u8>;
-
-// ---- bytes of a sheet ----
-
-pub fn number(mut n: usize) -> Bytes {
-    let mut out = Vec::new();
-    while n >= 128 {
-        out.push((n % 128) as u8 | 0x80);
-        n /= 128;
-    }
-    out.push(n as u8);
-    out
-}
-
-pub fn text(text: &[u8]) -> Bytes {
-    [number(text.len()), text.to_vec()].concat()
-}
-
-pub fn list(items: &[Bytes]) -> Bytes {
-    [number(items.len()), items.concat()].concat()
-}
-
-// ---- sheets of given parts ----
-
-/// A sheet; by default TypeScript, with an empty quoted place for its source and an empty root.
-#[derive(Clone)]
-pub struct Doc<'a> {
-    pub media: u8,
-    pub source: &'a str,
-    /// Kind, start, end.
-    pub comments: &'a [(u8, usize, usize)],
-    /// Side, position, first, count.
-    pub groups: &'a [(u8, usize, usize, usize)],
-    pub script: u8,
-    pub span: (usize, usize),
-    pub shebang: u8,
-    pub item: Option<usize>,
-    pub root: Bytes,
-}
-
-impl Default for Doc<'_> {
-    fn default() -> Self {
-        let (comments, groups, root) = (&[], &[], leaf());
-        Doc { media: 4, source: "\"\"", comments, groups, script: 0, span: (0, 0), shebang: 0, item: None, root }
-    }
-}
-
-impl Doc<'_> {
-    pub fn bytes(&self) -> Bytes {
-        let mut out = vec![self.media];
-        out.extend(text(self.source.as_bytes()));
-        out.extend(list(&self.comments.iter().map(|c| [vec![c.0], number(c.1), number(c.2)].concat()).collect::<Vec<_>>()));
-        out.extend(list(&self.groups.iter().map(|g| [vec![g.0], number(g.1), number(g.2), number(g.3)].concat()).collect::<Vec<_>>()));
-        out.push(self.script);
-        out.extend(number(self.span.0));
-        out.extend(number(self.span.1));
-        out.extend([self.shebang, u8::from(self.item.is_some())]);
-        out.extend(self.item.map(number).unwrap_or_default());
-        out.extend(&self.root);
-        out
-    }
-}
+pub use crate::sheet_writer::{Bytes, Doc, list, number, text};
 
 /// The root in a sheet that has nothing else.
 pub fn bare(root: Bytes) -> Bytes {

@@ -234,7 +234,6 @@ fn calls(c: &mut Cases) {
 
 // ---- attributes ----
 
-/// Objects of attributes.
 fn attribute_objects() -> Vec<(&'static str, Vec<Bytes>)> {
     let (one, two, x) = (|| string("1"), || string("2"), || name("x"));
     let lone = || string(SURROGATE);

@@ -194,19 +194,7 @@ impl<'a> Reader<'a> {
             0 => Expr::Other(self.nodes(inner)?),
             1 => Expr::Lit(Lit::Str(self.quoted(span)?)),
             2 => Expr::Ident(Ident { sym: Atom(self.utf8(MAX_TEXT)?) }),
-            3 => {
-                let holes = self.number()?;
-                let mut quasis = Vec::new();
-                for _ in 0..=holes {
-                    let cooked = if self.flag()? { Some(self.wtf8()?) } else { None };
-                    quasis.push(TplElement { cooked });
-                }
-                let mut exprs = Vec::new();
-                for _ in 0..holes {
-                    exprs.push(self.node(inner)?);
-                }
-                Expr::Tpl(Tpl { exprs, quasis })
-            }
+            3 => Expr::Tpl(self.template(inner)?),
             4 => {
                 let op = if self.flag()? { BinaryOp::Add } else { BinaryOp::Other };
                 let left = self.boxed(inner)?;
@@ -214,28 +202,51 @@ impl<'a> Reader<'a> {
                 Expr::Bin(BinExpr { op, left, right })
             }
             5 => Expr::Object(self.properties(inner)?),
-            6 => {
-                let callee = match self.byte_up_to(3)? {
-                    3 => Callee::Expr(self.boxed(inner)?),
-                    phase => Callee::Import(Import { phase: phase_of(phase) }),
-                };
-                let n = self.number()?;
-                let mut args = Vec::new();
-                for _ in 0..n {
-                    let spread = self.flag()?.then_some(());
-                    let span = self.span()?;
-                    let expr = self.boxed(inner)?;
-                    args.push(ExprOrSpread { spread, span, expr });
-                }
-                let further = self.nodes(inner)?;
-                Expr::Call(CallExpr { span, callee, args, further })
-            }
+            6 => Expr::Call(self.call(span, inner)?),
+            _ => self.declaration(tag, span, inner)?,
+        })
+    }
+
+    fn template(&mut self, depth: usize) -> Read<Tpl> {
+        let holes = self.number()?;
+        let mut quasis = Vec::new();
+        for _ in 0..=holes {
+            let cooked = if self.flag()? { Some(self.wtf8()?) } else { None };
+            quasis.push(TplElement { cooked });
+        }
+        let mut exprs = Vec::new();
+        for _ in 0..holes {
+            exprs.push(self.node(depth)?);
+        }
+        Ok(Tpl { exprs, quasis })
+    }
+
+    fn call(&mut self, span: SourceRange, depth: usize) -> Read<CallExpr> {
+        let callee = match self.byte_up_to(3)? {
+            3 => Callee::Expr(self.boxed(depth)?),
+            phase => Callee::Import(Import { phase: phase_of(phase) }),
+        };
+        let n = self.number()?;
+        let mut args = Vec::new();
+        for _ in 0..n {
+            let spread = self.flag()?.then_some(());
+            let span = self.span()?;
+            let expr = self.boxed(depth)?;
+            args.push(ExprOrSpread { spread, span, expr });
+        }
+        let further = self.nodes(depth)?;
+        Ok(CallExpr { span, callee, args, further })
+    }
+
+    /// The nodes with tags 7 to 12, behind their spans.
+    fn declaration(&mut self, tag: u8, span: SourceRange, depth: usize) -> Read<Expr> {
+        Ok(match tag {
             7 => {
                 let type_only = self.flag()?;
                 let phase = phase_of(self.byte_up_to(2)?);
                 let specifiers = if self.flag()? { vec![] } else { vec![()] };
-                let src = Box::new(self.string(inner)?);
-                let with = self.attributes(inner)?;
+                let src = Box::new(self.string(depth)?);
+                let with = self.attributes(depth)?;
                 Expr::ImportDecl(ImportDecl { span, type_only, phase, specifiers, src, with })
             }
             8 => {
@@ -243,21 +254,21 @@ impl<'a> Reader<'a> {
                 let mut src = None;
                 let mut with = None;
                 if self.flag()? {
-                    src = Some(Box::new(self.string(inner)?));
-                    with = self.attributes(inner)?;
+                    src = Some(Box::new(self.string(depth)?));
+                    with = self.attributes(depth)?;
                 }
                 Expr::NamedExport(NamedExport { span, type_only, src, with })
             }
             9 => {
                 let type_only = self.flag()?;
-                let src = Box::new(self.string(inner)?);
-                let with = self.attributes(inner)?;
+                let src = Box::new(self.string(depth)?);
+                let with = self.attributes(depth)?;
                 Expr::ExportAll(ExportAll { span, type_only, src, with })
             }
             10 => {
-                let arg = self.string(inner)?;
-                let children = self.nodes(inner)?;
-                let attributes = self.attributes(inner)?.map(|with| TsImportCallOptions { with });
+                let arg = self.string(depth)?;
+                let children = self.nodes(depth)?;
+                let attributes = self.attributes(depth)?.map(|with| TsImportCallOptions { with });
                 Expr::TsImportType(TsImportType { span, arg, children, attributes })
             }
             11 => {
@@ -265,14 +276,14 @@ impl<'a> Reader<'a> {
                 if self.flag()? {
                     decl.is_type_only = self.flag()?;
                     decl.is_export = self.flag()?;
-                    let expr = self.string(inner)?;
+                    let expr = self.string(depth)?;
                     decl.module_ref = TsModuleRef::TsExternalModuleRef(TsExternalModuleRef { expr });
                 }
                 Expr::TsImportEquals(decl)
             }
             _ => {
-                let id = if self.flag()? { TsModuleName::Str(self.string(inner)?) } else { TsModuleName::Ident };
-                let children = self.nodes(inner)?;
+                let id = if self.flag()? { TsModuleName::Str(self.string(depth)?) } else { TsModuleName::Ident };
+                let children = self.nodes(depth)?;
                 Expr::TsModule(TsModuleDecl { span, id, children })
             }
         })

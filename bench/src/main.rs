@@ -7,23 +7,28 @@
 //!   fitting  the same with a buffer as long as the report
 //!   crate    `module_info_from_swc` alone, on a tree that was built before, with the release of what it answers
 //!   whole    the crate with the oracle's decoding of the sheet before it and the encoding of the report behind it
+//! bench SHEET folder DIRECTORY PROGRAM COMMAND    how many of DIRECTORY's sheets are cited in a second, as a table: by the library, by PROGRAM
+//!                                  (started for each, the sheet on its input) and by COMMAND (started once, the sheets as its arguments)
 //! Environment: ROUNDS (15; at most 5 where one piece of work takes more than ten rounds), MILLISECONDS of a round (20).
 
 mod sheets;
 
 use std::hint::black_box;
+use std::path::PathBuf;
+use std::process::{Command, Stdio};
 use std::time::{Duration, Instant};
 
 use oracle::Parsed;
 use sheets::Class;
 
 const LARGE: usize = 65_536;
+const USAGE: &str = "usage: bench SHEET [times [CLASS]... | grow | sizes | once CLASS WORK | folder DIRECTORY PROGRAM COMMAND]";
 const WORKS: [&str; 4] = ["ours", "fitting", "crate", "whole"];
 
 fn main() {
     let args: Vec<String> = std::env::args().skip(1).collect();
     let args: Vec<&str> = args.iter().map(String::as_str).collect();
-    let [sheet, rest @ ..] = &args[..] else { fail("usage: bench SHEET [times [CLASS]... | grow | sizes | once CLASS WORK]") };
+    let [sheet, rest @ ..] = &args[..] else { fail(USAGE) };
     let small = std::fs::read(sheet).unwrap_or_else(|e| fail(&format!("{sheet}: {e}")));
     let classes = sheets::classes(small);
     let named = |name: &str| classes.iter().find(|c| c.name == name).cloned().or_else(|| grown(name));
@@ -35,7 +40,8 @@ fn main() {
         ["grow"] => grow(),
         ["sizes"] => sizes().for_each(|(name, bytes)| println!("{name}@{bytes}")),
         ["once", name, work] => once(&class(name), work),
-        _ => fail("usage: bench SHEET [times [CLASS]... | grow | sizes | once CLASS WORK]"),
+        ["folder", directory, program, command] => folder(directory, program, command),
+        _ => fail(USAGE),
     }
 }
 
@@ -206,4 +212,52 @@ fn clock(ready: &mut Ready, work: &str, turns: u32) -> f64 {
         ready.run(work);
     }
     start.elapsed().as_nanos() as f64 / f64::from(turns)
+}
+
+// ---- a folder of sheets ----
+
+/// One line for each way to cite all sheets of a folder, one after the other: how many a second. The least time of the rounds, start included.
+fn folder(directory: &str, program: &str, command: &str) {
+    let files = std::fs::read_dir(directory).unwrap_or_else(|e| fail(&format!("{directory}: {e}")));
+    let mut files: Vec<PathBuf> = files.filter_map(|f| Some(f.ok()?.path())).collect();
+    files.sort();
+    let sheets: Vec<Vec<u8>> = files.iter().map(|f| std::fs::read(f).unwrap_or_else(|e| fail(&format!("{}: {e}", f.display())))).collect();
+    let bytes: usize = sheets.iter().map(Vec::len).sum();
+    let mut buffer = vec![0; LARGE];
+    println!("| {} sheets, {bytes} bytes | sheets in a second | microseconds for a sheet |", sheets.len());
+    println!("|---|--:|--:|");
+    let line = |what: &str, time: Duration| {
+        let each = time.as_secs_f64() / sheets.len() as f64;
+        println!("| {what} | {:.0} | {:.1} |", 1.0 / each, 1e6 * each);
+    };
+    line(
+        "the library, in one process",
+        least(|| {
+            sheets.iter().for_each(|s| _ = black_box(module_info::module_info(s, &mut buffer)));
+        }),
+    );
+    line("the program `cite`, started for each", least(|| files.iter().for_each(|f| cite_one(program, f))));
+    line("`bin/cite`, started once", least(|| run(Command::new(command).args(&files))));
+}
+
+fn cite_one(program: &str, sheet: &PathBuf) {
+    let input = std::fs::File::open(sheet).unwrap_or_else(|e| fail(&format!("{}: {e}", sheet.display())));
+    run(Command::new(program).stdin(input));
+}
+
+fn run(command: &mut Command) {
+    let status = command.stdout(Stdio::null()).status();
+    if !status.is_ok_and(|s| s.success()) {
+        fail(&format!("{command:?} failed"));
+    }
+}
+
+/// The least time that a work takes in some rounds.
+fn least(mut work: impl FnMut()) -> Duration {
+    let round = || {
+        let start = Instant::now();
+        work();
+        start.elapsed()
+    };
+    std::iter::repeat_with(round).take(setting("ROUNDS", 5).max(1) as usize).min().unwrap_or_default()
 }

@@ -17,6 +17,7 @@ pub struct Class {
 pub fn classes(small_decoder: Vec<u8>) -> Vec<Class> {
     let class = |name, what, sheet| Class { name, what, sheet };
     vec![
+        class("tiny", "sheet of 60 bytes", tiny()),
         class("small", "small decoder (examples/wmbus-decoder.js)", small_decoder),
         class("typical", "typical module", typical()),
         class("comments", "comment-heavy module", comment_heavy()),
@@ -182,6 +183,15 @@ fn head(tag: u8, start: usize, end: usize) -> Vec<u8> {
 }
 
 // ---- the classes ----
+
+/// One import and nothing else, in 60 bytes.
+fn tiny() -> Vec<u8> {
+    let mut m = Maker::default();
+    m.import("at", "./a.js", &[]);
+    let sheet = m.sheet();
+    assert_eq!(sheet.len(), 60);
+    sheet
+}
 
 /// A source of about 15,000 bytes: 12 imports, 30 functions with comments, 3 calls.
 fn typical() -> Vec<u8> {

@@ -2,7 +2,7 @@
 use mathlib.Core.Path.{_≡_, refl, ap, _∙_}
 use mathlib.Core.Bool.{Bool, true, false, cond}
 use mathlib.Core.List.{List, [], _∷_, _++_}
-use Prim.Native.Nat.{ℕ, suc, _+_, _-_, _≤_, _<_}
+use Prim.Native.Nat.{ℕ, zero, suc, _+_, _-_, _≤_, _<_}
 use native.Mathlib.Omega.{arith}
 use native.Mathlib.Nat.{eq-or-lt-of-le}
 use mathlib.Core.Logic.{⊎-elim}
@@ -10,7 +10,7 @@ use native.Mathlib.Numerals.{add-one}
 use lib.Dec.{eqb}
 use lib.ListN.{length, getD, take, drop, length-drop, length-take}
 use lib.Seq.{take-suc, take-add, drop-drop, getD-drop, getD-take}
-use borrow.Author.Tests.{eq-eqb, ne-eqb}
+use borrow.Author.Tests.{lt-leb, eq-eqb, ne-eqb}
 use Rattle.text.specs.declared.position.Position.{Position}
 use Rattle.text.specs.Ranges.{within}
 use Rattle.text.specs.Utf8.{continuation}
@@ -72,6 +72,25 @@ begun-more s from k i n m l h more same = (
 pub begun-none : (s : List ℕ) (from k : ℕ) → Begun s from k 0 0
 unfolding total
 begun-none s from k = (λ g. refl, λ g. let z : 0 - k ≡ 0 = omega arith in rw z)
+
+-- each byte of ASCII begins a character
+begins-ascii : (b : ℕ) → b < 128 → beginsOne b ≡ 1
+begins-ascii b h = begins b (rw (lt-leb 128 b h))
+
+ascii-total : (s : List ℕ) (from n : ℕ) → from + n ≤ length s → ((k : ℕ) → k < n → getD s (from + k) 0 < 128)
+    → total beginsOne (take n (drop from s)) ≡ n
+unfolding total
+ascii-total s from zero l h = refl
+ascii-total s from (suc n) l h =
+    let e = ascii-total s from n (omega arith) (λ k b. h k (omega arith)) in
+    let one = begins-ascii (getD s (from + n) 0) (h n (omega arith)) in
+    let more = rw add-one at (total-suc beginsOne s from n (omega arith)) in
+    omega arith
+
+pub begun-ascii : (s : List ℕ) (from k n : ℕ) → from + n ≤ length s → k ≤ n → ((i : ℕ) → i < n → getD s (from + i) 0 < 128)
+    → total beginsOne (take (n - k) (drop (from + k) s)) ≡ n - k
+begun-ascii s from k n l g h =
+    ascii-total s (from + k) (n - k) (omega arith) (λ i b. let q : from + k + i ≡ from + (k + i) = omega arith in rw q (h (k + i) (omega arith)))
 
 -- the line and the column past a byte, and past a text
 step-line : (p : Position) (b : ℕ) → step characters p b .line ≡ p .line + endsLine b

@@ -71,15 +71,15 @@ pub fn compare(a: &[u8], b: &[u8]) -> Order
     Order::Equal
 }
 
-// How many of the 32 bytes at `at` are `b`.
-fn count_in_block(s: &[u8], at: usize, b: u8) -> u8
+// How many of the 32 bytes at `at` are not `b`.
+fn others_in_block(s: &[u8], at: usize, b: u8) -> u8
     requires { ⌜ at + 32 ≤ length (now s) ⌝ }
-    ensures { λ r. ⌜ (r ≡ 0 → (k : ℕ) → k < 32 → getD (now (s .entry)) (at + k) 0 ≡ b → ⊥) ⌝ }
+    ensures { λ r. ⌜ (r ≡ 32 → (k : ℕ) → k < 32 → getD (now (s .entry)) (at + k) 0 ≡ b → ⊥) ⌝ }
 {
     let mut n: u8 = 0;
     let mut i: usize = 0;
     while i < 32 {
-        if s[at + i] == b {
+        if s[at + i] != b {
             n += 1;
         }
         i += 1;
@@ -95,7 +95,7 @@ fn absent_at(s: &[u8], at: usize, b: u8) -> bool
     if s.len() - at < 32 {
         return false;
     }
-    count_in_block(s, at, b) == 0
+    others_in_block(s, at, b) == 32
 }
 
 // The place from which on to look for `b` byte by byte: it is nowhere from `at` up to there.
@@ -126,21 +126,20 @@ pub fn next_of(s: &[u8], at: usize, b: u8) -> usize
     i
 }
 
-// The largest of the 32 bytes at `at`, or more.
-pub fn block_top(s: &[u8], at: usize) -> u8
+// How many of the 32 bytes at `at` are 0.
+fn zeros_in_block(s: &[u8], at: usize) -> u8
     requires { ⌜ at + 32 ≤ length (now s) ⌝ }
-    ensures { λ r. ⌜ ((k : ℕ) → k < 32 → getD (now (s .entry)) (at + k) 0 ≤ r) ⌝ }
+    ensures { λ r. ⌜ (r ≡ 32 → (k : ℕ) → k < 32 → getD (now (s .entry)) (at + k) 0 ≡ 0) ⌝ }
 {
-    let mut top: u8 = 0;
+    let mut n: u8 = 0;
     let mut i: usize = 0;
     while i < 32 {
-        let b = s[at + i];
-        if top < b {
-            top = b;
+        if s[at + i] == 0 {
+            n += 1;
         }
         i += 1;
     }
-    top
+    n
 }
 
 // Do 32 zeros stand at `at`?
@@ -151,7 +150,7 @@ fn zeros_at(s: &[u8], at: usize) -> bool
     if s.len() - at < 32 {
         return false;
     }
-    block_top(s, at) == 0
+    zeros_in_block(s, at) == 32
 }
 
 // The place from which on to look byte by byte for what is not 0: from `at` up to there all is 0.

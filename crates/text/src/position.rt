@@ -133,6 +133,33 @@ fn begun_in(s: &[u8], from: usize, k: u8) -> u8
     n
 }
 
+// How many of the 64 bytes at `from` are ASCII.
+fn ascii_in(s: &[u8], from: usize) -> u8
+    requires { ⌜ from + 64 ≤ length (now s) ⌝ }
+    ensures { λ r. ⌜ (r ≡ 64 → (k : ℕ) → k < 64 → getD (now (s .entry)) (from + k) 0 < 128) ⌝ }
+{
+    let mut n: u8 = 0;
+    let mut i: usize = 0;
+    while i < 64 {
+        if s[from + i] < 128 {
+            n += 1;
+        }
+        i += 1;
+    }
+    n
+}
+
+// The same as `begun_in`: each byte of ASCII begins a character.
+fn begun_from(s: &[u8], from: usize, k: u8) -> u8
+    requires { ⌜ (from + 64 ≤ length (now s)) × (k ≤ 64) ⌝ }
+    ensures { λ r. ⌜ (r ≡ total beginsOne (take (64 - k) (drop (from + k) (now (s .entry))))) × (r ≤ 64) ⌝ }
+{
+    if ascii_in(s, from) == 64 {
+        return 64 - k;
+    }
+    begun_in(s, from, k)
+}
+
 // The position past the 64 bytes at `from`, where that at `from` is `p`.
 fn scan_block(s: &[u8], p: Position, from: usize) -> Position
     requires { ⌜ (from + 64 ≤ length (now s)) × (p .line < 4294967296) × (p .column < 4294967296) ⌝ }
@@ -140,7 +167,7 @@ fn scan_block(s: &[u8], p: Position, from: usize) -> Position
 {
     let lines = lines_in(s, from);
     let last = past_last(s, from);
-    let begun = begun_in(s, from, last);
+    let begun = begun_from(s, from, last);
     let line = p.line + (lines as usize);
     if last == 0 {
         return Position {

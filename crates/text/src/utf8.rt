@@ -1,5 +1,4 @@
 // UTF-8 and WTF-8, by the rows of Unicode's table of well-formed byte sequences.
-use super::bytes::block_top;
 use super::bytes::byte_at;
 ghost use mathlib.Core.Path.{_≡_};
 ghost use mathlib.Core.Bool.{true, false};
@@ -206,6 +205,22 @@ pub fn char_at(s: &[u8], at: usize, encoding: Encoding) -> Char
     Char { len, code }
 }
 
+// How many of the 32 bytes at `at` are ASCII.
+fn ascii_in_block(s: &[u8], at: usize) -> u8
+    requires { ⌜ at + 32 ≤ length (now s) ⌝ }
+    ensures { λ r. ⌜ (r ≡ 32 → (k : ℕ) → k < 32 → getD (now (s .entry)) (at + k) 0 < 128) ⌝ }
+{
+    let mut n: u8 = 0;
+    let mut i: usize = 0;
+    while i < 32 {
+        if s[at + i] < 128 {
+            n += 1;
+        }
+        i += 1;
+    }
+    n
+}
+
 // Do 32 bytes of ASCII stand at `at`?
 fn ascii_at(s: &[u8], at: usize) -> bool
     requires { ⌜ at ≤ length (now s) ⌝ }
@@ -214,15 +229,42 @@ fn ascii_at(s: &[u8], at: usize) -> bool
     if s.len() - at < 32 {
         return false;
     }
-    block_top(s, at) < 128
+    ascii_in_block(s, at) == 32
 }
 
-// The place 32 bytes on, or the end.
+// How many of the 8 bytes at `at` are ASCII.
+fn ascii_in_eight(s: &[u8], at: usize) -> u8
+    requires { ⌜ at + 8 ≤ length (now s) ⌝ }
+    ensures { λ r. ⌜ (r ≡ 8 → (k : ℕ) → k < 8 → getD (now (s .entry)) (at + k) 0 < 128) ⌝ }
+{
+    let mut n: u8 = 0;
+    let mut i: usize = 0;
+    while i < 8 {
+        if s[at + i] < 128 {
+            n += 1;
+        }
+        i += 1;
+    }
+    n
+}
+
+// Do 8 bytes of ASCII stand at `at`?
+fn ascii_eight_at(s: &[u8], at: usize) -> bool
+    requires { ⌜ at ≤ length (now s) ⌝ }
+    ensures { λ r. ⌜ (r ≡ true → (at + 8 ≤ length (now (s .entry))) × ((k : ℕ) → k < 8 → getD (now (s .entry)) (at + k) 0 < 128)) ⌝ }
+{
+    if s.len() - at < 8 {
+        return false;
+    }
+    ascii_in_eight(s, at) == 8
+}
+
+// The place 8 bytes on, or the end.
 fn block_end(s: &[u8], at: usize) -> usize
     requires { ⌜ at < length (now s) ⌝ }
     ensures { λ r. ⌜ (at < r) × (r ≤ length (now (s .entry))) ⌝ }
 {
-    if s.len() - at < 32 { s.len() } else { at + 32 }
+    if s.len() - at < 8 { s.len() } else { at + 8 }
 }
 
 // Character by character from `at` to `stop` or past it; a place before `stop` is one where no character stands.
@@ -234,11 +276,15 @@ fn run_to(s: &[u8], at: usize, stop: usize, encoding: Encoding) -> usize
 {
     let mut i = at;
     while i < stop {
-        let n = char_length(s, i, encoding);
-        if n == 0 {
-            return i;
+        if s[i] < 128 {
+            i += 1;
+        } else {
+            let n = char_length(s, i, encoding);
+            if n == 0 {
+                return i;
+            }
+            i += n;
         }
-        i += n;
     }
     i
 }
@@ -252,6 +298,8 @@ pub fn well_formed(s: &[u8], encoding: Encoding) -> bool
     while at < s.len() {
         if ascii_at(s, at) {
             at += 32;
+        } else if ascii_eight_at(s, at) {
+            at += 8;
         } else {
             let stop = block_end(s, at);
             let r = run_to(s, at, stop, encoding);

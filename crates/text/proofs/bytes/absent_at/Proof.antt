@@ -9,7 +9,7 @@ returns : tie.Need-returns
 returns c = λ e. absurd (false≢true e)
 
 returns-2 : tie.Need-returns-2
-returns-2 c = λ e. (omega arith, c .count-in-block .ensures (eqb-true _ _ e))
+returns-2 c = λ e. (omega arith, c .others-in-block .ensures (eqb-true _ _ e))
 
 pub absent-at-spec : {M : Type 1} → statement M
 absent-at-spec = tie.close (tie.spec (λ c. search needs) returns (λ c κs. search needs) returns-2)

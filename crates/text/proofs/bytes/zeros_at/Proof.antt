@@ -9,7 +9,7 @@ returns : tie.Need-returns
 returns c = λ e. absurd (false≢true e)
 
 returns-2 : tie.Need-returns-2
-returns-2 c = λ e. (omega arith, λ k h. omega (arith, c .block-top .ensures k h, eqb-true (c .block-top .result) 0 e))
+returns-2 c = λ e. (omega arith, c .zeros-in-block .ensures (eqb-true _ _ e))
 
 pub zeros-at-spec : {M : Type 1} → statement M
 zeros-at-spec = tie.close (tie.spec (λ c. search needs) returns (λ c κs. search needs) returns-2)

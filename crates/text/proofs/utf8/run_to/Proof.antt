@@ -1,11 +1,12 @@
 use borrow.Author.Needs.{needs}
 use native.Mathlib.Omega.{arith}
-use mathlib.Core.Path.{_≡_, refl, _∙_}
+use mathlib.Core.Path.{_≡_, refl, sym, _∙_}
 use Prim.Native.Nat.{_-_, _≤_}
 use lib.ListN.{length, drop, length-drop}
 use denote.Ref.{now}
 use Rattle.text.specs.Utf8.{formed}
 use Rattle.text.proofs.Formed.{stuck, passed, fits}
+use Rattle.text.proofs.Ascii.{ascii-one}
 use Rattle.text.proofs.utf8.run_to.Statement.{statement}
 use Rattle.text.proofs.utf8.run_to.Tie as tie
 
@@ -18,24 +19,31 @@ abbrev μ-loop : tie.MeasureT-loop
 loop-holds : tie.Need-loop-holds Inv-loop μ-loop
 loop-holds c = (omega arith, refl)
 
-returns : tie.Need-returns Inv-loop μ-loop
-returns c =
-    let a = c .before .before .before .before .before .args in
-    let l = c .before .before .before .loop in
-    (l .inv .1, omega arith, λ h. stuck (a .encoding) (now (a .s)) (l .i) (omega arith) (c .before .char-length .ensures .0) (c .if1 .taken))
-
-add-i : tie.Need-add-i Inv-loop μ-loop
-add-i c =
-    let a = c .before .before .before .before .before .args in
-    let l = c .before .before .before .loop in
-    omega (arith, fits (a .encoding) (drop (l .i) (now (a .s))), length-drop (l .i) (now (a .s)), c .before .char-length .ensures .0)
-
 loop-again : tie.Need-loop-again Inv-loop μ-loop
 loop-again c =
     let a = c .before .before .before .before .before .args in
-    let l = c .before .before .before .loop in (
+    let l = c .before .before .before .loop in
+    let one = ascii-one (a .encoding) (now (a .s)) (l .i) (omega arith) (omega arith) in
+    (omega arith, l .inv .1 ∙ passed (a .encoding) (now (a .s)) (l .i) (omega arith) 1 (sym one) (λ z. omega arith))
+
+returns : tie.Need-returns Inv-loop μ-loop
+returns c =
+    let a = c .before .before .before .before .before .before .before .args in
+    let l = c .before .before .before .before .before .loop in
+    (l .inv .1, omega arith, λ h. stuck (a .encoding) (now (a .s)) (l .i) (omega arith) (c .before .char-length .ensures .0) (c .if2 .taken))
+
+add-i-2 : tie.Need-add-i-2 Inv-loop μ-loop
+add-i-2 c =
+    let a = c .before .before .before .before .before .before .before .args in
+    let l = c .before .before .before .before .before .loop in
+    omega (arith, fits (a .encoding) (drop (l .i) (now (a .s))), length-drop (l .i) (now (a .s)), c .before .char-length .ensures .0)
+
+loop-again-2 : tie.Need-loop-again-2 Inv-loop μ-loop
+loop-again-2 c =
+    let a = c .before .before .before .before .before .before .before .args in
+    let l = c .before .before .before .before .before .loop in (
       omega (arith, fits (a .encoding) (drop (l .i) (now (a .s))), length-drop (l .i) (now (a .s)), c .before .char-length .ensures .0),
-      l .inv .1 ∙ passed (a .encoding) (now (a .s)) (l .i) (omega arith) _ (c .before .char-length .ensures .0) (c .if1 .left),
+      l .inv .1 ∙ passed (a .encoding) (now (a .s)) (l .i) (omega arith) _ (c .before .char-length .ensures .0) (c .if2 .left),
     )
 
 returns-2 : tie.Need-returns-2 Inv-loop μ-loop
@@ -48,9 +56,13 @@ run-to-spec =
     Inv-loop
     μ-loop
     loop-holds
-    (λ c κs. search needs)
-    returns
-    add-i
+    (λ c. search needs)
+    (λ c. search needs)
     (λ c. search needs)
     loop-again
+    (λ c κs. search needs)
+    returns
+    add-i-2
+    (λ c. search needs)
+    loop-again-2
     returns-2)

@@ -30,18 +30,31 @@ loop-again c =
     let f = c .before .ascii-at .ensures (c .if1 .taken) in
     (f .0, l .inv .1 ∙ ascii-run (a .encoding) (now (a .s)) (l .at) 32 (f .0) (f .1))
 
-returns : tie.Need-returns Inv-loop μ-loop
-returns c =
-    let l = c .before .before .before .before .before .before .loop in
-    let r = c .before .run-to .ensures in
-    judged _ _ (sym (l .inv .1 ∙ r .0 ∙ r .2 (c .if2 .taken)))
+add-at-2 : tie.Need-add-at-2 Inv-loop μ-loop
+add-at-2 c = omega (arith, c .before .ascii-eight-at .ensures (c .if2 .taken) .0)
 
 loop-less-2 : tie.Need-loop-less-2 Inv-loop μ-loop
 loop-less-2 c = omega arith
 
 loop-again-2 : tie.Need-loop-again-2 Inv-loop μ-loop
 loop-again-2 c =
-    let l = c .before .before .before .before .before .before .loop in
+    let a = c .before .before .before .before .before .before .before .args in
+    let l = c .before .before .before .before .before .loop in
+    let f = c .before .ascii-eight-at .ensures (c .if2 .taken) in
+    (f .0, l .inv .1 ∙ ascii-run (a .encoding) (now (a .s)) (l .at) 8 (f .0) (f .1))
+
+returns : tie.Need-returns Inv-loop μ-loop
+returns c =
+    let l = c .before .before .before .before .before .before .before .before .loop in
+    let r = c .before .run-to .ensures in
+    judged _ _ (sym (l .inv .1 ∙ r .0 ∙ r .2 (c .if3 .taken)))
+
+loop-less-3 : tie.Need-loop-less-3 Inv-loop μ-loop
+loop-less-3 c = omega arith
+
+loop-again-3 : tie.Need-loop-again-3 Inv-loop μ-loop
+loop-again-3 c =
+    let l = c .before .before .before .before .before .before .before .before .loop in
     let r = c .before .run-to .ensures in
     (r .1, l .inv .1 ∙ r .0)
 
@@ -60,8 +73,12 @@ well-formed-spec =
     loop-less
     loop-again
     (λ c κs. search needs)
-    (λ c κs. search needs)
-    returns
+    add-at-2
     loop-less-2
     loop-again-2
+    (λ c κs. search needs)
+    (λ c κs. search needs)
+    returns
+    loop-less-3
+    loop-again-3
     returns-2)

@@ -6,14 +6,14 @@ use borrow.Author.Count.{below-more}
 use borrow.Author.Needs.{needs}
 use lib.ListN.{getD}
 use denote.Ref.{now}
-use Rattle.text.proofs.bytes.count_in_block.Statement.{statement}
-use Rattle.text.proofs.bytes.count_in_block.Tie as tie
+use Rattle.text.proofs.utf8.ascii_in_block.Statement.{statement}
+use Rattle.text.proofs.utf8.ascii_in_block.Tie as tie
 
 abbrev Inv-loop : tie.InvT-loop
-Inv-loop s at b n₀ i₀ n i = (i ≤ 32) × (n ≤ i) × (n ≡ 0 → (k : ℕ) → k < i → getD s (at + k) 0 ≡ b → ⊥)
+Inv-loop s at n₀ i₀ n i = (i ≤ 32) × (n ≤ i) × (n ≡ i → (k : ℕ) → k < i → getD s (at + k) 0 < 128)
 
 abbrev μ-loop : tie.MeasureT-loop
-μ-loop s at b n₀ i₀ n i = 32 - i
+μ-loop s at n₀ i₀ n i = 32 - i
 
 loop-holds : tie.Need-loop-holds Inv-loop μ-loop
 loop-holds c = (omega arith, omega arith, λ e k h. absurd (omega arith))
@@ -22,20 +22,20 @@ loop-again : tie.Need-loop-again Inv-loop μ-loop
 loop-again c =
     let a = c .before .before .before .before .args in
     let l = c .before .before .before .loop in
-    let P : ℕ → Type 0 = λ k. getD (now (a .s)) (a .at + k) 0 ≡ a .b → ⊥ in (
+    let P : ℕ → Type 0 = λ k. getD (now (a .s)) (a .at + k) 0 < 128 in (
       omega arith,
       ⊎-elim (λ w. omega arith) (λ w. omega arith) (c .if1 .came),
       λ z. ⊎-elim
+          (λ w. below-more P (l .i) (l .inv .2 (omega arith)) (omega arith))
           (λ w. absurd (omega arith))
-          (λ w. below-more P (l .i) (l .inv .2 (omega arith)) (λ e. omega arith))
           (c .if1 .came),
     )
 
 returns : tie.Need-returns Inv-loop μ-loop
-returns c = λ e k h. c .before .loop .inv .2 e k (omega arith)
+returns c = λ e k h. c .before .loop .inv .2 (omega arith) k (omega arith)
 
-pub count-in-block-spec : {M : Type 1} → statement M
-count-in-block-spec =
+pub ascii-in-block-spec : {M : Type 1} → statement M
+ascii-in-block-spec =
     tie.close
     (tie.spec
     Inv-loop

@@ -106,11 +106,6 @@ held-whole (suc room) l h =
     let same : suc room - (1 + 2 * length l) ≡ room - 2 * length l = omega arith in
     rw (take-all (room / 2) l (omega arith), rows-long l, same)
 
--- so cleared notes with room for all hold them once they are noted
-pub all-noted : {notes : List ℕ} (l : List Noted) → notes ≡ zeros (length notes) → 1 + 2 * length l ≤ length notes
-    → allNoted notes l ≡ (2 * length l) ∷ (numbersOf l ++ zeros (length notes - (1 + 2 * length l)))
-all-noted {notes} l cleared room = ap (λ n. allNoted n l) cleared ∙ all-held (length notes) l ∙ held-whole (length notes) l room
-
 -- where the kth of them starts
 pub start-noted : (l : List Noted) (rest : List ℕ) (count k : ℕ) → k < length l → getD (count ∷ (numbersOf l ++ rest)) (1 + 2 * k) 0 ≡ getD (startsOf l) k 0
 unfolding flatMap

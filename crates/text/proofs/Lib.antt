@@ -7,6 +7,7 @@ pub mod Characters
 pub mod ClassCases
 pub mod CodePoint
 pub mod Columns
+pub mod Counted
 pub mod Cuts
 pub mod Exact
 pub mod Formed

@@ -1,14 +1,18 @@
 -- A number's groups at a place of a list, and the place values that they have.
-use mathlib.Core.Path.{_≡_, refl}
-use mathlib.Core.Bool.{cond}
+use mathlib.Core.Path.{_≡_, refl, ap, _∙_}
+use mathlib.Core.Bool.{true, cond, _||_}
 use mathlib.Core.List.{List}
 use Prim.Native.Nat.{ℕ, zero, suc, _+_, _-_, _*_, _^_, _≤_, _<_}
 use native.Mathlib.Nat.{mul-le-mul, le-refl, pow-le-pow-right, pow-suc}
 use native.Mathlib.Omega.{arith}
-use lib.Dec.{ltb}
+use lib.Dec.{leb, ltb}
 use lib.ListN.{length, getD, drop}
-use Rattle.laws.specs.Decoded.{no, _>>_, require}
-use Rattle.wire.specs.Number.{lastGroup, groups}
+use borrow.Author.Tests.{lt-ltb, le-ltb, le-leb}
+use Rattle.laws.specs.Decoded.{ok, no, _>>_, require}
+use Rattle.wire.specs.Number.{largest, lastGroup, groups, number}
+use Rattle.wire.specs.code.Views.{Past, PlaceValue}
+use Rattle.wire.specs.declared.Read.{Read}
+use Rattle.wire.specs.declared.Read.the-variants as read
 use Rattle.wire.proofs.Places.{byte-past, byte-at}
 
 module _ (scale low : ℕ) (s : List ℕ) (at : ℕ) where
@@ -30,11 +34,66 @@ module _ (scale low : ℕ) (s : List ℕ) (at : ℕ) where
   next-group zero l h = absurd (omega arith)
   next-group (suc k) l h = let down : suc k - 1 ≡ k = omega arith in rw (down, byte-at s at h)
 
--- with so many of five groups left: what the next one is counted by, and a number below that, which the groups before it make up
-pub record PlaceValue (left scale low : ℕ) : Type 0 where
-  pub few : left ≤ 5
-  pub power : scale ≡ 128 ^ (5 - left)
-  pub less : low < scale
+  -- a last group, in the shortest form of a number that is not above the largest
+  pub last-group : (k : ℕ) → 0 < k → at < length s
+      → (let b = getD s at 0 in
+      b < 128 → (leb scale 1 || ltb 0 b) ≡ true → low + scale * b ≤ largest → groups k scale low (drop at s) ≡ ok (low + scale * b) (drop (at + 1) s))
+  unfolding lastGroup
+  last-group k l h small short most =
+      let b = getD s at 0 in
+      rw (next-group k l h, lt-ltb b 256 (omega arith), lt-ltb b 128 small, short, le-leb (low + scale * b) largest most)
+
+  -- a group that others follow
+  pub more-groups : (k : ℕ) → 0 < k → at < length s
+      → (let b = getD s at 0 in
+      128 ≤ b → b < 256 → groups k scale low (drop at s) ≡ groups (k - 1) (scale * 128) (low + scale * (b - 128)) (drop (at + 1) s))
+  more-groups k l h large small = rw (lt-ltb _ 256 small, le-ltb _ 128 large) at (next-group k l h)
+
+-- numbers of one, two and three groups
+module _ (s : List ℕ) (at : ℕ) where
+  pub one-group : at < length s → getD s at 0 < 128 → number (drop at s) ≡ ok (getD s at 0) (drop (at + 1) s)
+  unfolding number
+  one-group h small =
+      let value : 0 + 1 * getD s at 0 ≡ getD s at 0 = omega arith in
+      last-group 1 0 s at 5 (omega arith) h small refl (omega arith) ∙ ap (λ n. ok n (drop (at + 1) s)) value
+
+  module _ (h : at + 2 < length s) (large : 128 ≤ getD s at 0) (fits : getD s at 0 < 256) where
+    abbrev a : ℕ
+    a = getD s at 0
+
+    abbrev b : ℕ
+    b = getD s (at + 1) 0
+
+    abbrev low : ℕ
+    low = 0 + 1 * (a - 128)
+
+    second : number (drop at s) ≡ groups 4 128 low (drop (at + 1) s)
+    unfolding number
+    second = more-groups 1 0 s at 5 (omega arith) (omega arith) large fits
+
+    pub two-groups : 0 < b → b < 128 → number (drop at s) ≡ ok (128 * b + a - 128) (drop (at + 2) s)
+    two-groups some small =
+        let value : low + 128 * b ≡ 128 * b + a - 128 = omega arith in
+        let end : at + 1 + 1 ≡ at + 2 = omega arith in
+        second
+        ∙ last-group 128 low s (at + 1) 4 (omega arith) (omega arith) small (rw (lt-ltb 0 b some)) (omega arith)
+        ∙ ap (λ n. ok n (drop (at + 1 + 1) s)) value
+        ∙ ap (λ p. ok (128 * b + a - 128) (drop p s)) end
+
+    abbrev c : ℕ
+    c = getD s (at + 2) 0
+
+    pub three-groups : 128 ≤ b → b < 256 → 0 < c → c < 128 → number (drop at s) ≡ ok (16384 * c + 128 * b + a - 16512) (drop (at + 3) s)
+    three-groups large′ fits′ some small =
+        let value : low + 128 * (b - 128) + 16384 * c ≡ 16384 * c + 128 * b + a - 16512 = omega arith in
+        let third : at + 1 + 1 ≡ at + 2 = omega arith in
+        let end : at + 2 + 1 ≡ at + 3 = omega arith in
+        second
+        ∙ more-groups 128 low s (at + 1) 4 (omega arith) (omega arith) large′ fits′
+        ∙ ap (λ p. groups 3 16384 (low + 128 * (b - 128)) (drop p s)) third
+        ∙ last-group 16384 (low + 128 * (b - 128)) s (at + 2) 3 (omega arith) h small (rw (lt-ltb 0 c some)) (omega arith)
+        ∙ ap (λ n. ok n (drop (at + 2 + 1) s)) value
+        ∙ ap (λ p. ok (16384 * c + 128 * b + a - 16512) (drop p s)) end
 
 pub first-place : PlaceValue 5 1 0
 first-place = record { few = omega arith; power = refl; less = omega arith }
@@ -57,3 +116,8 @@ module _ {left scale low : ℕ} (p : PlaceValue left scale low) (l : 0 < left) w
         let digit : b - 128 ≤ 127 = omega arith in
         let most : scale * (b - 128) ≤ scale * 127 = mul-le-mul (le-refl scale) digit in
         record { few = omega arith; power = rw (up, pow-suc 128 (5 - left), p .power); less = omega arith }
+
+-- what is past a place is past the place before it
+pub past-before : (at n : ℕ) (r : Read) → Past (at + 1) n r → Past at n r
+past-before at n (read.Value v next) h = (omega (arith, h .0), h .1)
+past-before at n (read.Refused r) h = tt

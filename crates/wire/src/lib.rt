@@ -7,9 +7,9 @@ ghost use mathlib.Core.Bool.{_||_};
 ghost use lib.Dec.{leb, ltb};
 ghost use lib.ListN.{length, drop};
 ghost use Rattle.wire.specs.Fields.{byte, below, flag};
-ghost use Rattle.wire.specs.Number.{number};
+ghost use Rattle.wire.specs.Number.{groups, number};
 ghost use Rattle.wire.specs.Text.{count, text};
-ghost use Rattle.wire.specs.code.Views.{readAs, flagAs, textAs, Past, PastFlag, PastText};
+ghost use Rattle.wire.specs.code.Views.{readAs, flagAs, textAs, Past, PastFlag, PastText, PlaceValue};
 
 // A place in a sheet: what is read next.
 pub struct Cursor {
@@ -86,35 +86,63 @@ impl Cursor {
         }
     }
 
-    // A number: at most five groups of seven bits, low group first, in its shortest form.
+    // At most so many groups, the first with its place value, above groups that make up `low`. A function that calls itself is never inlined,
+    // so that `number` stays short.
+    fn groups(self, sheet: &[u8], left: usize, scale: usize, low: usize) -> Read
+        requires { ⌜ PlaceValue left scale low ⌝ }
+        ensures { λ r. ⌜ readAs (now (sheet .entry)) r ≡ groups left scale low (drop (self .at) (now (sheet .entry))) ⌝ }
+        ensures { λ r. ⌜ Past (self .at) (length (now (sheet .entry))) r ⌝ }
+    {
+        let at = self.at;
+        if left == 0 {
+            return Read::Refused(refusals::CUT_OFF);
+        }
+        if sheet.len() <= at {
+            return Read::Refused(refusals::CUT_OFF);
+        }
+        let b = sheet[at] as usize;
+        let next = Cursor { at: at + 1 };
+        if b < 128 {
+            let n = low + scale * b;
+            if shortest(scale, b) {
+                if n <= 4294967295 {
+                    return Read::Value(n, next);
+                }
+            }
+            return Read::Refused(refusals::CUT_OFF);
+        }
+        next.groups(sheet, left - 1, scale * 128, low + scale * (b - 128))
+    }
+
+    // A number: at most five groups of seven bits, low group first, in its shortest form. One of up to three groups is read right here.
     pub fn number(self, sheet: &[u8]) -> Read
         ensures { λ r. ⌜ readAs (now (sheet .entry)) r ≡ number (drop (self .at) (now (sheet .entry))) ⌝ }
         ensures { λ r. ⌜ Past (self .at) (length (now (sheet .entry))) r ⌝ }
     {
-        let mut at = self.at;
-        let mut left: usize = 5;
-        let mut scale: usize = 1;
-        let mut low: usize = 0;
-        while 0 < left {
-            if sheet.len() <= at {
-                return Read::Refused(refusals::CUT_OFF);
+        let at = self.at;
+        if at < sheet.len() {
+            let a = sheet[at] as usize;
+            if a < 128 {
+                return Read::Value(a, Cursor { at: at + 1 });
             }
-            let b = sheet[at] as usize;
-            at += 1;
-            if b < 128 {
-                let n = low + scale * b;
-                if shortest(scale, b) {
-                    if n <= 4294967295 {
-                        return Read::Value(n, Cursor { at });
+            if 2 < sheet.len() - at {
+                let b = sheet[at + 1] as usize;
+                if b < 128 {
+                    if 0 < b {
+                        return Read::Value(128 * b + a - 128, Cursor { at: at + 2 });
+                    }
+                } else {
+                    let c = sheet[at + 2] as usize;
+                    if c < 128 {
+                        if 0 < c {
+                            let n = 16384 * c + 128 * b + a - 16512;
+                            return Read::Value(n, Cursor { at: at + 3 });
+                        }
                     }
                 }
-                return Read::Refused(refusals::CUT_OFF);
             }
-            low += scale * (b - 128);
-            scale *= 128;
-            left -= 1;
         }
-        Read::Refused(refusals::CUT_OFF)
+        self.groups(sheet, 5, 1, 0)
     }
 
     // A number up to a limit: a count, or a length.

@@ -1,7 +1,8 @@
 -- What the cursor's answers stand for, in a sheet s.
+use mathlib.Core.Path.{_≡_}
 use mathlib.Core.Bool.{Bool}
 use mathlib.Core.List.{List}
-use Prim.Native.Nat.{ℕ, _≤_, _<_}
+use Prim.Native.Nat.{ℕ, _-_, _^_, _≤_, _<_}
 use lib.ListN.{drop}
 use Rattle.laws.specs.Decoded.{Decoded, ok, no}
 use Rattle.text.specs.Bytes.{part}
@@ -36,3 +37,9 @@ PastFlag at n (flag.Refused r) = Unit {0}
 abbrev pub PastText : ℕ → ℕ → Text → Type 0
 PastText at n (text.From start next) = (at < start) × (start ≤ next .at) × (next .at ≤ n)
 PastText at n (text.Refused r) = Unit {0}
+
+-- with so many of five groups left: what the next one is counted by, and a number below that, which the groups before it make up
+pub record PlaceValue (left scale low : ℕ) : Type 0 where
+  pub few : left ≤ 5
+  pub power : scale ≡ 128 ^ (5 - left)
+  pub less : low < scale

@@ -1,16 +1,19 @@
 -- A letter ends in the text, and a word goes on from one of its letters to the next. `wordAt` answers where the letters that `Spelled` asks for end.
 use mathlib.Core.Path.{_≡_, refl}
+use mathlib.Core.Bool.{cond}
 use mathlib.Core.List.{List, [], _∷_}
 use Prim.Native.Nat.{ℕ, zero, suc, _+_, _≤_, _<_}
+use native.Mathlib.Nat.{add-zero}
 use native.Mathlib.Numerals.{add-one}
 use native.Mathlib.Omega.{arith}
 use lib.Dec.{eqb, eqb·suc-zero}
 use lib.ListN.{length, getD, drop, drop-of-length-le}
-use lib.Seq.{drop-cons}
+use lib.Seq.{drop-cons, getD-drop}
 use borrow.Author.Tests.{eqb-true, eq-eqb, ne-eqb}
 use Rattle.text.specs.declared.utf8.Encoding.the-variants.{Utf8}
-use Rattle.text.specs.Utf8.{charAt}
+use Rattle.text.specs.Utf8.{codeBy, charAt}
 use Rattle.text.specs.Characters.{Stands}
+use Rattle.text.proofs.Ascii.{ascii-one}
 use Rattle.text.proofs.Formed.{fits-if}
 use Rattle.text.proofs.Characters.{stands-sound, stands-complete}
 use Rattle.analysis.specs.declared.matcher.Matched.the-variants.{At, Not}
@@ -21,6 +24,12 @@ use Rattle.analysis.specs.Matches.{Letter, Spelled}
 pub letter-fits : (w : ℕ) (s : List ℕ) → letterAt w s ≤ length s
 unfolding letterAt charAt
 letter-fits w s = fits-if Utf8 (eqb (foldCase (charAt Utf8 s .code)) (foldCase w)) s
+
+-- a byte of ASCII is a letter by its own number
+pub ascii-letter : (w : ℕ) (s : List ℕ) (at : ℕ) → at < length s → getD s at 0 < 128
+    → letterAt w (drop at s) ≡ cond (eqb (foldCase (getD s at 0)) (foldCase w)) 1 0
+unfolding letterAt charAt codeBy
+ascii-letter w s at l h = rw (ascii-one Utf8 s at l h, getD-drop, add-zero)
 
 -- a word from its letter k on, which has n bytes at `at`
 module _ (w s : List ℕ) (k at : ℕ) (h : k < length w) {n : ℕ} (e : n ≡ letterAt (getD w k 0) (drop at s)) where

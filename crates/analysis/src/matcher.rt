@@ -40,8 +40,8 @@ fn fold_case(code: u32) -> u32
     code
 }
 
-// The length in bytes of the letter at `at`, whatever its case, 0 where it does not stand there.
-fn letter_at(s: &[u8], at: usize, letter: u8) -> usize
+// The same as `letter_at`, by the rows of characters.
+fn wide_letter_at(s: &[u8], at: usize, letter: u8) -> usize
     requires { ⌜ at ≤ length (now s) ⌝ }
     ensures { λ r. ⌜ r ≡ letterAt letter (drop at (now (s .entry))) ⌝ }
     ensures { λ r. ⌜ at + r ≤ length (now (s .entry)) ⌝ }
@@ -54,6 +54,25 @@ fn letter_at(s: &[u8], at: usize, letter: u8) -> usize
     } else {
         0
     }
+}
+
+// The length in bytes of the letter at `at`, whatever its case, 0 where it does not stand there.
+fn letter_at(s: &[u8], at: usize, letter: u8) -> usize
+    requires { ⌜ at ≤ length (now s) ⌝ }
+    ensures { λ r. ⌜ r ≡ letterAt letter (drop at (now (s .entry))) ⌝ }
+    ensures { λ r. ⌜ at + r ≤ length (now (s .entry)) ⌝ }
+{
+    if s.len() <= at {
+        return wide_letter_at(s, at, letter);
+    }
+    let b = s[at];
+    if b < 0x80 {
+        if fold_case(b as u32) == fold_case(letter as u32) {
+            return 1;
+        }
+        return 0;
+    }
+    wide_letter_at(s, at, letter)
 }
 
 // Where the word ends that begins at `at`, letter by letter.

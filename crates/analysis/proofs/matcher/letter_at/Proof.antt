@@ -1,27 +1,34 @@
 use borrow.Author.Needs.{needs}
 use native.Mathlib.Omega.{arith}
-use mathlib.Core.Path.{_≡_}
-use lib.ListN.{drop, length-drop}
 use denote.Ref.{now}
 use borrow.Author.Tests.{eq-eqb, ne-eqb}
-use Rattle.analysis.specs.Letters.{letterAt}
-use Rattle.analysis.proofs.Spelling.{letter-fits}
+use Rattle.analysis.proofs.Spelling.{ascii-letter}
 use Rattle.analysis.proofs.matcher.letter_at.Statement.{statement}
 use Rattle.analysis.proofs.matcher.letter_at.Tie as tie
 
-returns : tie.Need-returns
-unfolding letterAt
-returns c =
-    let a = c .before .before .before .before .before .args in
-    let t = drop (a .at) (now (a .s)) in
-    let e : c .before .before .before .char-at .result .len ≡ letterAt (a .letter) t =
-    rw (← c .before .before .before .char-at .ensures, ← c .before .before .fold-case .ensures, ← c .before .fold-case2 .ensures, eq-eqb _ _ (c .if1 .taken)) in
-    (e, omega (arith, letter-fits (a .letter) t, length-drop (a .at) (now (a .s))))
-
 returns-2 : tie.Need-returns-2
-unfolding letterAt
-returns-2 c = (rw (← c .before .before .before .char-at .ensures, ← c .before .before .fold-case .ensures, ← c .before .fold-case2 .ensures, ne-eqb _ _ (c .if1 .left)), omega arith)
+returns-2 c =
+    let a = c .before .before .before .before .before .before .before .args in
+    let letter = ascii-letter (a .letter) (now (a .s)) (a .at) (omega arith) (omega arith) in
+    (rw (letter, ← c .before .before .fold-case .ensures, ← c .before .fold-case2 .ensures, eq-eqb _ _ (c .if3 .taken)), omega arith)
+
+returns-3 : tie.Need-returns-3
+returns-3 c =
+    let a = c .before .before .before .before .before .before .before .args in
+    let letter = ascii-letter (a .letter) (now (a .s)) (a .at) (omega arith) (omega arith) in
+    (rw (letter, ← c .before .before .fold-case .ensures, ← c .before .fold-case2 .ensures, ne-eqb _ _ (c .if3 .left)), omega arith)
 
 pub letter-at-spec : {M : Type 1} → statement M
 letter-at-spec =
-    tie.close (tie.spec (λ c κs. search needs) (λ c κs. search needs) (λ c κs. search needs) returns returns-2)
+    tie.close
+    (tie.spec
+    (λ c κs. search needs)
+    (λ c. search needs)
+    (λ c. search needs)
+    (λ c. search needs)
+    (λ c κs. search needs)
+    (λ c κs. search needs)
+    returns-2
+    returns-3
+    (λ c κs. search needs)
+    (λ c. search needs))

@@ -173,7 +173,7 @@ impl Place {
             ≡ wrote (bufferAs (now (out .entry)) self) (encodeRange (rangeOf (now (source .entry)) span)) ⌝ }
     {
         let start = text::position::indexed_position(source, index, span.start);
-        let end = text::position::indexed_position(source, index, span.end);
+        let end = text::position::later_position(source, index, start, span.start, span.end);
         self.put_range(out, start, end)
     }
 

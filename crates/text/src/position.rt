@@ -6,7 +6,7 @@ ghost use Rattle.laws.specs.code.Left.{KeptFrom};
 ghost use Rattle.text.specs.Ranges.{within};
 ghost use Rattle.text.specs.Utf8.{continuation};
 ghost use Rattle.text.specs.code.Totals.{total, endsLine, beginsOne};
-ghost use Rattle.text.specs.Position.{characters, step, walk, stored, kept, Indexed, indexedPosition};
+ghost use Rattle.text.specs.Position.{characters, step, walk, positionOf, stored, kept, Indexed, indexedPosition};
 
 pub struct Position {
     pub line: usize,
@@ -42,7 +42,7 @@ fn past(p: Position, b: u8) -> Position
 
 // The position at `at`, where that at `from` is `start`.
 fn scan(s: &[u8], start: Position, from: usize, at: usize) -> Position
-    requires { ⌜ (from ≤ at) × (at ≤ length (now s)) × (start .line < 4294967296) × (start .column < 4294967296) ⌝ }
+    requires { ⌜ (from ≤ at) × (at ≤ length (now s)) × (start .line < 4294967296 + from) × (start .column < 4294967296 + from) ⌝ }
     ensures { λ r. ⌜ r ≡ walk characters start (take (at - from) (drop from (now (s .entry)))) ⌝ }
 {
     let mut p = start;
@@ -205,4 +205,18 @@ pub fn indexed_position(s: &[u8], index: &[u32], at: usize) -> Position
 {
     let k = at / 64;
     scan(s, get(index, k), 64 * k, at)
+}
+
+// The position at `at`, where that at `from` is `start`: counted from there where that is nearer than the index.
+pub fn later_position(s: &[u8], index: &[u32], start: Position, from: usize, at: usize) -> Position
+    requires { ⌜ (from ≤ length (now s)) × (at ≤ length (now s)) × (start ≡ positionOf characters (now s) from)
+        × (2 * (length (now s) / 64) + 1 < length (now index)) × Indexed characters (now s) (now index) (length (now s) / 64 + 1) ⌝ }
+    ensures { λ r. ⌜ r ≡ positionOf characters (now (s .entry)) at ⌝ }
+{
+    if from <= at {
+        if at - from < at % 64 {
+            return scan(s, start, from, at);
+        }
+    }
+    indexed_position(s, index, at)
 }

@@ -42,6 +42,7 @@ module _ (s : List ℕ) (few : length s ≤ sheetLimit) where
           program = x .program;
           root = x .root;
           entries = x .entries;
+          reach = x .reach;
         })
     unfolding tree
     accepts x places stands =
@@ -56,4 +57,5 @@ module _ (s : List ℕ) (few : length s ≤ sheetLimit) where
           program = refl;
           root = stands .stands;
           entries = stands .gives;
+          reaches = stands .reaches;
         }

@@ -7,11 +7,13 @@ use lib.ListN.{drop}
 use Rattle.laws.specs.Decoded.{ok, no, onOk}
 use Rattle.laws.proofs.Decoding.{onOk-ok, onOk-no}
 use Rattle.sheet.specs.Limits.{depthLimit}
+use Rattle.sheet.specs.Tree.{Node}
 use Rattle.sheet.specs.Program.{Program, program}
 use Rattle.sheet.specs.Nodes.{node}
 use Rattle.sheet.specs.code.Views.{programOf}
 use Rattle.nodes.specs.declared.tally.Judged.{Judged}
 use Rattle.nodes.specs.code.Judged.{judged}
+use Rattle.nodes.specs.code.Reach.{ReachesIn}
 use Rattle.accept.specs.declared.tree.Tree.{Tree}
 use Rattle.accept.specs.code.Pieces.{tree}
 use Rattle.accept.specs.code.Views.{Stands}
@@ -35,8 +37,9 @@ module _ (source s : List ℕ) {p : Program} {t : List ℕ} (before : program so
 
 -- the root ends the sheet, and no call in it meets refusal 9
 pub tree-stands : (s source : List ℕ) (at : ℕ) (x : Tree) {j : Judged} → program source (drop at s) ≡ ok (programOf (x .program)) (drop (x .root) s)
-    → onOk judged (node source depthLimit (drop (x .root) s)) ≡ ok j [] → j .uncooked ≡ false → j .entries ≡ x .entries → Stands s source at x
-tree-stands s source at x before e h gives =
+    → onOk judged (node source depthLimit (drop (x .root) s)) ≡ ok j [] → j .uncooked ≡ false → j .entries ≡ x .entries
+    → ((n : Node) (t : List ℕ) → node source depthLimit (drop (x .root) s) ≡ ok n t → ReachesIn (x .reach) n) → Stands s source at x
+tree-stands s source at x before e h gives reaches =
     let (root, stands, found) = onOk-ok judged (node source depthLimit (drop (x .root) s)) e in
     record {
       root = root;
@@ -44,4 +47,5 @@ tree-stands s source at x before e h gives =
       stands = stands;
       cooked = ap (λ j. j .uncooked) found ∙ h;
       gives = ap (λ j. j .entries) found ∙ gives;
+      reaches = reaches root [] stands;
     }

@@ -23,6 +23,7 @@ pub struct Parts {
     pub program: Program,
     pub root: usize,
     pub entries: usize,
+    pub reach: usize,
 }
 
 // A sheet that meets none of refusals 1 to 9, or the number of the first that it meets.
@@ -64,6 +65,7 @@ pub fn check_sheet(
                         program,
                         root: tree.root,
                         entries: tree.entries,
+                        reach: tree.reach,
                     })
                 }
             }

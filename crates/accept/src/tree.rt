@@ -1,5 +1,5 @@
 // The program and the root of a sheet, with refusals 8 and 9 behind them.
-use nodes::check::check_node;
+use nodes::root::check_root;
 use nodes::tally::Checked;
 use sheet::limits::DEPTH_LIMIT;
 use sheet::program::Program;
@@ -9,11 +9,13 @@ use wire::Cursor;
 use wire::refusals;
 ghost use Rattle.accept.specs.code.Views.{TreeFound};
 
-// The program, where the root stands in the sheet, and how many dependencies it gives.
+// The program, where the root stands in the sheet, how many dependencies it gives, and how many of its children there are up to the last that
+// gives one, if it is an Other.
 pub struct Tree {
     pub program: Program,
     pub root: usize,
     pub entries: usize,
+    pub reach: usize,
 }
 
 // The tree, behind which the sheet ends, or a refusal's number.
@@ -28,22 +30,27 @@ pub fn check_tree(sheet: &[u8], source: &[u8], c: Cursor) -> TreeRead
 {
     match read_program(sheet, source, c) {
         ProgramRead::Refused(r) => TreeRead::Refused(r),
-        ProgramRead::Is(program, next) => match check_node(sheet, source, next, DEPTH_LIMIT) {
-            Checked::Refused(r) => TreeRead::Refused(r),
-            Checked::Is(found, after) => {
-                let end = after.at;
-                if end < sheet.len() {
-                    return TreeRead::Refused(refusals::TRAILING);
+        ProgramRead::Is(program, next) => {
+            let root = check_root(sheet, source, next, DEPTH_LIMIT);
+            let checked = root.checked;
+            match checked {
+                Checked::Refused(r) => TreeRead::Refused(r),
+                Checked::Is(found, after) => {
+                    let end = after.at;
+                    if end < sheet.len() {
+                        return TreeRead::Refused(refusals::TRAILING);
+                    }
+                    if found.uncooked {
+                        return TreeRead::Refused(refusals::UNCOOKED);
+                    }
+                    TreeRead::Is(Tree {
+                        program,
+                        root: next.at,
+                        entries: found.entries,
+                        reach: root.reach,
+                    })
                 }
-                if found.uncooked {
-                    return TreeRead::Refused(refusals::UNCOOKED);
-                }
-                TreeRead::Is(Tree {
-                    program,
-                    root: next.at,
-                    entries: found.entries,
-                })
             }
-        },
+        }
     }
 }

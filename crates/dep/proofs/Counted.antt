@@ -4,8 +4,9 @@ use mathlib.Core.Bool.{Bool, true, false, cond, _&&_}
 use mathlib.Core.List.{List, [], _∷_, _++_, map, flatMap, map-append}
 use mathlib.Core.Option.{Option}
 use Prim.Native.Nat.{ℕ}
+use native.Mathlib.Omega.{arith}
 use lib.ListN.{length, length-append}
-use Rattle.laws.specs.Decoded.{Decoded, ok, onOk}
+use Rattle.laws.specs.Decoded.{ok}
 use Rattle.wire.specs.Number.{encodeNumber}
 use Rattle.sheet.specs.declared.fields.Span.{Span}
 use Rattle.sheet.specs.Tree.{Quoted, Node, Arguments, noArguments, argument}
@@ -69,18 +70,25 @@ module _ (source : List ℕ) (types : ℕ → Option SpecifierWithRange) where
   noted-first = walks-related (λ l m. map (λ e. e .entry) l ≡ m) (noting source types) (collector source types)
       (record { nothing = refl; both = λ {a} {b} e f. rw (map-append (λ (e : Noted). e .entry) a b, e, f); own = λ v. beside-first (startOf v) (replacedIn (textOf v)) (entryOf source types v) })
 
+  -- a node without entries
+  pub noted-none : (n : Node) → entries n ≡ 0 → collectNoted source types n ≡ []
+  noted-none n none = go (collectNoted source types n) (ap length (noted-first n) ∙ counted n ∙ none)
+    where
+      go : (l : List Noted) → length (map (λ e. e .entry) l) ≡ 0 → l ≡ []
+      go [] h = refl
+      go (e ∷ l) h = absurd (omega arith)
+
   noted-bytes : (l : List Noted) → flatMap (λ e. encodeDependency (e .entry)) l ≡ flatMap encodeDependency (map (λ e. e .entry) l)
   unfolding flatMap
   noted-bytes [] = refl
   noted-bytes (e ∷ l) = ap (encodeDependency (e .entry) ++_) (noted-bytes l)
 
   -- their number, and then their entries
-  pub program-written : (w : Buffer) (x : Decoded Node) {n : Node} {t : List ℕ} → x ≡ ok n t → {count : ℕ} → count ≡ entries n
-      → {w1 : Buffer} → w1 ≡ wrote w (encodeNumber count) → (notes : List ℕ) {w2 : Buffer} {notes′ v : List ℕ} → onOk (afterNode source types (w1, notes)) x ≡ ok (w2, notes′) v
+  pub program-written : (w : Buffer) (n : Node) {count : ℕ} → count ≡ entries n
+      → {w1 : Buffer} → w1 ≡ wrote w (encodeNumber count) → (notes : List ℕ) {w2 : Buffer} {notes′ t v : List ℕ} → ok (afterNode source types (w1, notes) n) t ≡ ok (w2, notes′) v
       → (w2 ≡ wrote w (encodeList encodeDependency (collect source types n))) × (notes′ ≡ allNoted notes (collectNoted source types n))
   unfolding encodeList
-  program-written w x {n} {t} is {count} as-many {w1} number-first notes {w2} {notes′} {v} then-entries =
-      let both : ok (afterNode source types (w1, notes) n) t ≡ ok (w2, notes′) v = rw is at then-entries in
+  program-written w n {count} as-many {w1} number-first notes {w2} {notes′} then-entries =
       let last : (w2, notes′) ≡ wroteEntries (w1, notes) (collectNoted source types n) = cc in
       let bytes = noted-bytes (collectNoted source types n) ∙ ap (flatMap encodeDependency) (noted-first n) in (
         ap (λ p. p .0) last

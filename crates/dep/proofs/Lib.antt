@@ -4,6 +4,7 @@ pub mod Spans
 pub mod Loops
 pub mod Arms
 pub mod Counted
+pub mod Reach
 pub mod Fields
 pub mod Callee
 pub mod Turns

@@ -54,11 +54,12 @@ ghost use Rattle.sheet.specs.Walked.{entries};
 ghost use Rattle.heads.specs.code.Rest.{behind, rest};
 ghost use Rattle.heads.specs.code.Head.{importHead, exportFromHead, exportAllHead, importTypeHead, moduleHead};
 ghost use Rattle.heads.specs.code.Views.{quotedOf, headOf};
+ghost use Rattle.nodes.specs.code.Reach.{ReachesIn};
 ghost use Rattle.report.specs.Encode.{encodeList, encodeDependency};
 ghost use Rattle.report.specs.Buffer.{wrote, bufferAs};
 ghost use Rattle.dep.specs.Collect.{collect, collectNoted};
 ghost use Rattle.dep.specs.code.Notes.{allNoted};
-ghost use Rattle.dep.specs.code.Walk.{typesFrom, HeldIn, Quotes, PastHead, Calls, Begins, calleesOf, writtenAs, walkedAs, PastWalked, afterNode, afterNodes, afterArgument, afterArguments, afterProperties, afterProperty, afterWith, afterImport, afterCall};
+ghost use Rattle.dep.specs.code.Walk.{typesFrom, HeldIn, Quotes, PastHead, Calls, Begins, calleesOf, writtenAs, walkedAs, Answered, PastWalked, afterNode, afterNodes, afterArgument, afterArguments, afterProperties, afterProperty, afterWith, afterImport, afterCall};
 
 // The next place in the buffer, with the cursor past what was walked, or a refusal's number.
 pub enum Walked {
@@ -66,13 +67,14 @@ pub enum Walked {
     Refused(usize),
 }
 
-// The dependencies of a tree: their number, which the check of the tree counted, and their entries. Where the bytes are no tree with so many,
-// the buffer and the notes are left free.
+// The dependencies of a tree: their number, which the check of the tree counted, and their entries, as far as it says that these reach. Where
+// the bytes are no tree with so many, the buffer and the notes are left free.
 pub fn analyze_program_dependencies(
     sheet: &[u8],
     source: &[u8],
     root: Cursor,
     count: usize,
+    reach: usize,
     tables: &[u32; TABLE_NUMBERS],
     counts: Counts,
     out: &mut [u8],
@@ -83,6 +85,7 @@ pub fn analyze_program_dependencies(
     ensures { λ r. ⌜ ((n : Node) (t : List ℕ)
         → node (now (source .entry)) depthLimit (drop (root .at) (now (sheet .entry))) ≡ ok n t
         → count ≡ entries n
+        → ReachesIn reach n
         → (bufferAs (now (out .exit)) r
         ≡ wrote (bufferAs (now (out .entry)) place)
         (encodeList encodeDependency (collect (now (source .entry)) (typesFrom (now (source .entry)) (now (tables .entry)) counts) n)))
@@ -91,11 +94,11 @@ pub fn analyze_program_dependencies(
     ensures { λ _. ⌜ Free (now (out .entry)) (now (out .exit)) × Free (now (notes .entry)) (now (notes .exit)) ⌝ }
 {
     let place = place.put_number(out, count);
-    match walk_node(
+    match walk_root(
         sheet,
         source,
         root,
-        DEPTH_LIMIT,
+        reach,
         tables,
         counts,
         out,
@@ -104,6 +107,59 @@ pub fn analyze_program_dependencies(
     ) {
         Walked::Refused(_) => place,
         Walked::Is(place, _) => place,
+    }
+}
+
+// The root: of an Other only the children up to the last that has an entry, so many.
+fn walk_root(
+    sheet: &[u8],
+    source: &[u8],
+    root: Cursor,
+    reach: usize,
+    tables: &[u32; TABLE_NUMBERS],
+    counts: Counts,
+    out: &mut [u8],
+    notes: &mut [usize],
+    place: Place,
+) -> Walked
+    requires { ⌜ HeldIn (now source) (now tables) counts ⌝ }
+    ensures { λ r. ⌜ ((n : Node) (t : List ℕ)
+        → node (now (source .entry)) depthLimit (drop (root .at) (now (sheet .entry))) ≡ ok n t
+        → ReachesIn reach n
+        → Answered (walkedAs (now (sheet .entry)) (now (out .exit)) (now (notes .exit)) r)
+        (afterNode (now (source .entry)) (typesFrom (now (source .entry)) (now (tables .entry)) counts) (writtenAs (now (out .entry)) (now (notes .entry)) place) n)) ⌝ }
+{
+    match read_head(sheet, source, root, DEPTH_LIMIT) {
+        HeadRead::Refused(r) => Walked::Refused(r),
+        HeadRead::Is { head, next, .. } => match head {
+            Head::Other(_) => {
+                walk_nodes(
+                    sheet,
+                    source,
+                    next,
+                    reach,
+                    DEPTH_LIMIT - 1,
+                    tables,
+                    counts,
+                    out,
+                    notes,
+                    place,
+                )
+            }
+            _ => {
+                walk_node(
+                    sheet,
+                    source,
+                    root,
+                    DEPTH_LIMIT,
+                    tables,
+                    counts,
+                    out,
+                    notes,
+                    place,
+                )
+            }
+        },
     }
 }
 

@@ -108,7 +108,7 @@ module _ {s comments groups : List ℕ} {p : Parts} (a : Accepts s comments grou
         (record { media = a .media; source-is = a .source; comments-are = a .comments; groups-are = a .groups; program = a .program })
 
     pub root-of : RootOf t s p
-    root-of = rw (same-sheet e (a .accepted)) (record { root = a .root; count = a .entries })
+    root-of = rw (same-sheet e (a .accepted)) (record { root = a .root; count = a .entries; reaches = a .reaches })
 
   -- the demands
   pub demanded : {size : ℕ} {outcome : Outcome} {buffer : List ℕ}

@@ -16,6 +16,7 @@ use Rattle.sheet.specs.Sheet.{Sheet}
 use Rattle.sheet.specs.code.Tables.{commentsIn, groupsIn}
 use Rattle.sheet.specs.code.Views.{programOf}
 use Rattle.sheet.specs.Lookups.{headGroup, endGroup}
+use Rattle.nodes.specs.code.Reach.{ReachesIn}
 use Rattle.accept.specs.declared.check.Parts.{Parts}
 use Rattle.report.specs.Encode.{encodeList, encodeSpecifier, encodeReference, encodeJsDoc, encodeDependency, encode}
 use Rattle.report.specs.Buffer.{Buffer, wrote}
@@ -30,20 +31,20 @@ use Rattle.module_info.specs.code.Pieces.{dependencyBytes, headBytes, re
 
 module _ {t : Sheet} {source comments groups : List ℕ} {p : Parts} (o : PartsOf t source comments groups p) where
   pub dependencies-written : {s : List ℕ} (r : RootOf t s p) (u : Buffer) {v w : Buffer} → v ≡ wrote u (encodeFlag (p .program .script))
-      → ((n : Node) (l : List ℕ) → node source depthLimit (drop (p .root) s) ≡ ok n l → p .entries ≡ entries n
+      → ((n : Node) (l : List ℕ) → node source depthLimit (drop (p .root) s) ≡ ok n l → p .entries ≡ entries n → ReachesIn (p .reach) n
       → w ≡ wrote v (encodeList encodeDependency (collect source (typesIn source (commentsIn comments (p .comments)) (groupsIn groups (p .groups))) n)))
       → w ≡ wrote u (dependencyBytes t)
   unfolding dependencyBytes
   dependencies-written r u flagged walked =
       rw (← o .source-is, ← o .comments-are, ← o .groups-are, ← o .program, wrote-cons, ← flagged)
-      (walked (t .root) [] (rw (o .source-is) (r .root)) (sym (r .count)))
+      (walked (t .root) [] (rw (o .source-is) (r .root)) (sym (r .count)) (r .reaches))
 
   pub dependencies-noted : {s : List ℕ} (r : RootOf t s p) (notes : List ℕ) {notes′ : List ℕ}
-      → ((n : Node) (l : List ℕ) → node source depthLimit (drop (p .root) s) ≡ ok n l → p .entries ≡ entries n
+      → ((n : Node) (l : List ℕ) → node source depthLimit (drop (p .root) s) ≡ ok n l → p .entries ≡ entries n → ReachesIn (p .reach) n
       → notes′ ≡ allNoted notes (collectNoted source (typesIn source (commentsIn comments (p .comments)) (groupsIn groups (p .groups))) n))
       → notes′ ≡ allNoted notes (noted t)
   dependencies-noted r notes walked =
-      rw (← o .source-is, ← o .comments-are, ← o .groups-are) (walked (t .root) [] (rw (o .source-is) (r .root)) (sym (r .count)))
+      rw (← o .source-is, ← o .comments-are, ← o .groups-are) (walked (t .root) [] (rw (o .source-is) (r .root)) (sym (r .count)) (r .reaches))
 
   module _ {f : Option Group} where
     pub head-written : (u : Buffer) {v w x y : Buffer} → f ≡ headGroup (programOf (p .program)) (groupsIn groups (p .groups))

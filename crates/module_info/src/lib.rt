@@ -68,6 +68,7 @@ fn put_dependencies(
         source,
         root,
         parts.entries,
+        parts.reach,
         tables,
         counts,
         out,

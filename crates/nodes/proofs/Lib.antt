@@ -3,3 +3,4 @@ pub mod Loops
 pub mod Arms
 pub mod Rooms
 pub mod NodeCases
+pub mod Reach

@@ -11,6 +11,7 @@ use Rattle.sheet.specs.Nodes.{node}
 use Rattle.sheet.specs.Walked.{entries}
 use Rattle.sheet.specs.code.Views.{programOf}
 use Rattle.sheet.specs.Sheet.{Sheet, accept}
+use Rattle.nodes.specs.code.Reach.{ReachesIn}
 use Rattle.accept.specs.declared.check.Parts.{Parts}
 use Rattle.accept.specs.declared.check.SheetChecked.{SheetChecked}
 use Rattle.accept.specs.declared.check.SheetChecked.the-variants as checked
@@ -27,6 +28,7 @@ pub record Accepts (s commentTable groupTable : List ℕ) (p : Parts) : Type 0 w
   pub program : programOf (p .program) ≡ sheet .program
   pub root : node (sheet .source) depthLimit (drop (p .root) s) ≡ ok (sheet .root) []
   pub entries : entries (sheet .root) ≡ p .entries
+  pub reaches : ReachesIn (p .reach) (sheet .root)
 
 -- what the answer says of a sheet, with what the tables hold
 abbrev pub Judges : List ℕ → List ℕ → List ℕ → SheetChecked → Type 0

@@ -16,6 +16,7 @@ use Rattle.sheet.specs.Program.{program}
 use Rattle.sheet.specs.Nodes.{node}
 use Rattle.sheet.specs.Walked.{entries, uncooked}
 use Rattle.sheet.specs.code.Views.{programOf}
+use Rattle.nodes.specs.code.Reach.{ReachesIn}
 use Rattle.accept.specs.declared.front.SourceRead.{SourceRead}
 use Rattle.accept.specs.declared.front.SourceRead.the-variants as sourceRead
 use Rattle.accept.specs.declared.front.Counted.{Counted}
@@ -70,6 +71,7 @@ pub record Stands (s source : List ℕ) (at : ℕ) (t : Tree) : Type 0 where
   pub stands : node source depthLimit (drop (t .root) s) ≡ ok root []
   pub cooked : uncooked root ≡ false
   pub gives : entries root ≡ t .entries
+  pub reaches : ReachesIn (t .reach) root
 
 abbrev pub TreeFound : List ℕ → List ℕ → ℕ → TreeRead → Type 0
 TreeFound s source at (treeRead.Is t) = Stands s source at t

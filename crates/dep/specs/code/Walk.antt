@@ -107,6 +107,10 @@ abbrev pub walkedAs : List ℕ → List ℕ → List ℕ → Walked → Decoded 
 walkedAs s out notes (walked.Is p next) = ok (writtenAs out notes p) (drop (next .at) s)
 walkedAs s out notes (walked.Refused r) = no r
 
+-- the value w was answered, whatever is left behind it
+abbrev pub Answered : Decoded Written → Written → Type 0
+Answered x w = (t : List ℕ) × (x ≡ ok w t)
+
 -- a cursor that is not past the n bytes
 abbrev pub PastWalked : ℕ → Walked → Type 0
 PastWalked n (walked.Is p next) = next .at ≤ n

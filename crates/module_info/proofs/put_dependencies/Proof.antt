@@ -7,7 +7,7 @@ returns : tie.Need-returns
 returns c =
     λ t o r.
     let walked = c .before .before .before .before .analyze-program-dependencies .ensures .0 in
-    (dependencies-written o r _ (c .before .before .before .before .before .before .before .before .before .put-flag .ensures) (λ n l e k. walked n l e k .0), dependencies-noted o r _ (λ n l e k. walked n l e k .1))
+    (dependencies-written o r _ (c .before .before .before .before .before .before .before .before .before .put-flag .ensures) (λ n l e k far. walked n l e k far .0), dependencies-noted o r _ (λ n l e k far. walked n l e k far .1))
 
 pub put-dependencies-spec : {M : Type 1} → statement M
 put-dependencies-spec = tie.close (tie.spec (λ c κs. search needs) (λ c κs. search needs) (λ c. search needs) (λ c. search needs) returns)

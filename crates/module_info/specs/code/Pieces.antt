@@ -13,6 +13,7 @@ use Rattle.sheet.specs.Walked.{entries}
 use Rattle.sheet.specs.Sheet.{Sheet, accept}
 use Rattle.sheet.specs.code.Tables.{commentsIn, groupsIn, commentsPart, groupsPart, indexPart}
 use Rattle.sheet.specs.code.Views.{programOf}
+use Rattle.nodes.specs.code.Reach.{ReachesIn}
 use Rattle.accept.specs.declared.check.Parts.{Parts}
 use Rattle.accept.specs.code.Accepts.{Accepts}
 use Rattle.report.specs.Range.{IndexOf}
@@ -55,6 +56,7 @@ PartsIn t source tables = PartsOf t source (commentsPart tables) (groupsPart tab
 pub record RootOf (t : Sheet) (s : List ℕ) (p : Parts) : Type 0 where
   pub root : node (t .source) depthLimit (drop (p .root) s) ≡ ok (t .root) []
   pub count : entries (t .root) ≡ p .entries
+  pub reaches : ReachesIn (p .reach) (t .root)
 
 -- what is lent to the writers of a report with these parts
 abbrev pub HeldBy : List ℕ → List ℕ → Parts → Type 0

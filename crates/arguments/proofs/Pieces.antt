@@ -13,12 +13,12 @@ use Rattle.laws.proofs.Decoding.{then-ok}
 use Rattle.text.specs.declared.utf8.Encoding.the-variants.{Wtf8}
 use Rattle.text.specs.Lossy.{lossy}
 use Rattle.text.specs.Bytes.{part}
+use Rattle.text.specs.Truth.{one}
 use Rattle.wire.specs.Text.{text}
 use Rattle.wire.specs.Optional.{optional}
 use Rattle.sheet.specs.Limits.{textLimit}
 use Rattle.sheet.specs.Tree.{Pieces}
 use Rattle.sheet.specs.Nodes.{many, piece}
-use Rattle.sheet.specs.Walked.{one}
 use Rattle.heads.proofs.Many.{many-first, many-next, many-end}
 use Rattle.report.specs.ModuleInfo as info
 use Rattle.arguments.specs.code.Views.{holeParts}

@@ -1,7 +1,7 @@
 // Pairs of keys and values in a lent table, a row of five numbers for each, with keys that ascend.
-use nodes::tally::count_one;
 use text::bytes::Order;
 use text::bytes::compare;
+use text::truth::count_one;
 ghost use mathlib.Core.Path.{_≡_};
 ghost use mathlib.Core.List.{List};
 ghost use Prim.Native.Nat.{ℕ, _+_, _*_, _≤_, _<_};

@@ -11,7 +11,7 @@ use Rattle.laws.proofs.Decoding.{onOk-ok, onOk-no, map-map}
 use Rattle.wire.specs.Number.{number}
 use Rattle.report.specs.Decode.{times}
 use Rattle.delivery.specs.Delivery.{Module, deliveryLimit, moduleLimit, namedSheet, lastModules, countedModules, decodeDelivery}
-use Rattle.delivery.specs.code.Views.{forget, CheckedAs, Modules}
+use Rattle.delivery.specs.code.Views.{forget, CheckedAs}
 use Rattle.delivery.specs.declared.check.Checked.{Checked}
 use Rattle.delivery.specs.declared.check.Checked.the-variants as checked
 use Rattle.delivery.proofs.Deliveries.{stand}

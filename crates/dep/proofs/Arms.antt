@@ -17,7 +17,7 @@ use Rattle.sheet.specs.declared.names.ImportPhase.{ImportPhase}
 use Rattle.sheet.specs.declared.names.ImportPhase.the-variants.{Evaluation, Source, Defer}
 use Rattle.sheet.specs.declared.fields.Span.{Span}
 use Rattle.sheet.specs.Tree.{Quoted, Pieces, Node, template, binary, importCall, call, importType, moduleDecl, Nodes, none, more, spread, otherProperty, childKey, stringKey, nameKey, Arguments, argument, Attributes}
-use Rattle.sheet.specs.Nodes.{many, nodes, attributes, callRest, node, attributesObject}
+use Rattle.sheet.specs.Nodes.{many, nodes, attributes, callRest, node}
 use Rattle.sheet.specs.Shape.{shape, isRequire, anyUncooked}
 use Rattle.heads.specs.declared.node.Head.{Head}
 use Rattle.heads.specs.declared.node.Head.the-variants as head
@@ -25,12 +25,11 @@ use Rattle.heads.specs.declared.parts.Property.{Property}
 use Rattle.heads.specs.declared.parts.Property.the-variants as property
 use Rattle.heads.specs.code.Rest.{behind, rest}
 use Rattle.heads.specs.declared.quoted.Quoted as heads
-use Rattle.heads.specs.code.Views.{quotedOf, headOf, propertyOf}
+use Rattle.heads.specs.code.Views.{quotedOf, headOf, propertyOf, nodesOf}
 use Rattle.heads.proofs.node.Head.{the-type, enum}
 use Rattle.heads.proofs.ByHead.{propertyRest}
 use Rattle.nodes.specs.declared.tally.Tally.{Tally}
 use Rattle.nodes.specs.code.Judged.{tallyAll, tallyWith}
-use Rattle.nodes.specs.code.Answers.{nodesOf}
 use Rattle.nodes.proofs.Arms.{alike, alike-two, nodes-one, nodes-two, pair}
 use Rattle.report.specs.declared.names.StaticDependencyKind.the-variants as statics
 use Rattle.report.specs.declared.names.DynamicDependencyKind.{DynamicDependencyKind}

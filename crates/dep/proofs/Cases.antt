@@ -9,7 +9,6 @@ use Rattle.text.specs.Bytes.{begins, same}
 use Rattle.text.specs.Utf8.{admits}
 use Rattle.text.specs.Lossy.{replacing}
 use Rattle.sheet.specs.declared.fields.Span.{Span}
-use Rattle.sheet.specs.declared.names.ImportPhase.{ImportPhase}
 use Rattle.sheet.specs.declared.names.ImportPhase.the-variants.{Evaluation, Source, Defer}
 use Rattle.sheet.specs.Tree.{Quoted, Node, other, string, name, object, importCall, call, importDecl, namedExport, exportFrom, exportAll, importType, importEquals, importRequire, moduleDecl, Nodes, none, more, Arguments, noArguments, argument, noProperties, childKey, nameKey, without, withObject}
 use Rattle.report.specs.declared.names.StaticDependencyKind.the-variants as statics

@@ -7,12 +7,13 @@ use Prim.Native.Nat.{ℕ}
 use native.Mathlib.Omega.{arith}
 use lib.ListN.{length, length-append}
 use Rattle.laws.specs.Decoded.{ok}
+use Rattle.text.specs.Truth.{one}
 use Rattle.wire.specs.Number.{encodeNumber}
 use Rattle.sheet.specs.declared.fields.Span.{Span}
 use Rattle.sheet.specs.Tree.{Quoted, Node, Arguments, noArguments, argument}
 use Rattle.sheet.specs.Shape.{shape, isRequire, isAugmentation}
 use Rattle.sheet.specs.Walk.{Visit, called, importing, expression, imported, exported, typed, required, declared, startOf}
-use Rattle.sheet.specs.Walked.{declares, gives, one, anyArgument, counting, entries}
+use Rattle.sheet.specs.Walked.{declares, gives, anyArgument, counting, entries}
 use Rattle.sheet.proofs.Walks.{walks-related}
 use Rattle.report.specs.declared.names.StaticDependencyKind.the-variants as statics
 use Rattle.report.specs.declared.names.DynamicDependencyKind.{DynamicDependencyKind}

@@ -1,8 +1,7 @@
 -- The number beside a dependency is that of the surrogates of its one text.
 use mathlib.Core.Path.{_≡_, refl, sym, _∙_}
-use mathlib.Core.Bool.{Bool, true, false, cond}
+use mathlib.Core.Bool.{Bool, true, false}
 use mathlib.Core.List.{List, [], _∷_}
-use mathlib.Core.Logic.{_↔_}
 use mathlib.Core.Option.{Option}
 use Prim.Native.Nat.{ℕ}
 use native.Mathlib.Omega.{arith}
@@ -17,10 +16,10 @@ use Rattle.sheet.specs.Shape.{Shape, text, named, pieces, operation, properties
 use Rattle.sheet.specs.Walk.{Visit, called, importing, expression, imported, exported, typed, required, declared}
 use Rattle.report.specs.declared.names.StaticDependencyKind.the-variants as statics
 use Rattle.report.specs.declared.names.DynamicDependencyKind.the-variants as dynamics
-use Rattle.report.specs.ModuleInfo.{SpecifierWithRange, none, expr, string, template, DynamicTemplatePart, DynamicDependencyDescriptor, StaticDependencyDescriptor, DependencyDescriptor, static, dynamic}
+use Rattle.report.specs.ModuleInfo.{SpecifierWithRange, none, string, DynamicTemplatePart, DynamicDependencyDescriptor, StaticDependencyDescriptor, DependencyDescriptor, static, dynamic}
 use Rattle.arguments.specs.Argument.{ofShape, argumentOf, chain, singleText, replacedIn}
 use Rattle.dep.specs.Collect.{textOf, staticEntry, callEntry, moduleEntry, entryOf}
-use Rattle.dep.specs.Replaced.{Shows, Replaces, NumberOf}
+use Rattle.dep.specs.Replaced.{Replaces, NumberOf}
 use Rattle.dep.proofs.Right.{all-if}
 
 -- a text that is reported as it is has no surrogate

@@ -1,11 +1,10 @@
 -- Entries written list by list, and their rows noted.
-use mathlib.Core.Path.{_≡_, refl, ap, _∙_}
+use mathlib.Core.Path.{_≡_, refl, ap}
 use mathlib.Core.List.{List, [], _∷_, _++_, flatMap}
 use Prim.Native.Nat.{ℕ}
 use Rattle.laws.proofs.Lists.{flatMap-append}
 use Rattle.report.specs.declared.writer.Place.{Place}
 use Rattle.report.specs.Encode.{encodeDependency}
-use Rattle.report.specs.Buffer.{wrote}
 use Rattle.report.proofs.Buffers.{wrote-append, wrote-nil}
 use Rattle.dep.specs.Collect.{Noted}
 use Rattle.dep.specs.code.Notes.{noted, allNoted}

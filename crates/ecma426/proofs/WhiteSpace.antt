@@ -63,9 +63,6 @@ module _ (p : ℕ) where
       (either _ _ (passed (λ x. isSpace x || eqb x 0x85) p unicode.whiteSpace refl u))
   from-unicode (inr e) = rw e
 
-  pub by-unicode : (isSpace p ≡ true) ↔ ByUnicode p
-  by-unicode = (to-unicode, from-unicode)
-
 -- an answer that is true just there
 pub answers : {r : Bool} {p : ℕ} → (r ≡ true → ByUnicode p) → (ByUnicode p → r ≡ true) → (r ≡ isSpace p) × ((r ≡ true) ↔ ByUnicode p)
 answers {r} {p} f g = (go r (isSpace p) (λ e. from-unicode p (f e)) (λ e. g (to-unicode p e)), (f, g))

@@ -20,7 +20,7 @@ ghost use Rattle.wire.specs.code.Views.{flagAs};
 ghost use Rattle.sheet.specs.Nodes.{many, piece};
 ghost use Rattle.sheet.specs.Shape.{anyUncooked};
 ghost use Rattle.heads.specs.code.Parts.{argumentHead, keyHead, propertyHead, attributesHead};
-ghost use Rattle.heads.specs.code.Views.{pieceAs, argumentAs, propertyAs, attributesAs, PastPiece, PastPieces, PastArgument, PastProperty, PastAttributes};
+ghost use Rattle.heads.specs.code.Views.{pieceAs, argumentAs, nodesOf, propertyAs, attributesAs, PastPiece, PastPieces, PastArgument, PastProperty, PastAttributes};
 
 // A piece with the cursor past it, or a refusal's number. A cooked piece's text stands from a place up to that cursor.
 pub enum PieceRead {
@@ -62,6 +62,19 @@ pub enum AttributesRead {
         next: Cursor,
     },
     Refused(usize),
+}
+
+// How many nodes a property holds.
+pub fn nodes_of(p: Property) -> usize
+    ensures { λ r. ⌜ r ≡ nodesOf p ⌝ }
+{
+    match p {
+        Property::ChildKey => 2,
+        Property::Spread => 1,
+        Property::Other => 1,
+        Property::StringKey(_, _) => 1,
+        Property::NameKey(_, _) => 1,
+    }
 }
 
 // A piece of a template.

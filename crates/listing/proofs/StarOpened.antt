@@ -2,7 +2,7 @@
 use mathlib.Core.Path.{_≡_, ap}
 use mathlib.Core.Bool.{true, and-eq-true-iff}
 use mathlib.Core.List.{List}
-use Prim.Native.Nat.{ℕ, _-_}
+use Prim.Native.Nat.{ℕ}
 use lib.ListN.{drop}
 use borrow.Author.Tests.{eqb-true, eq-eqb}
 use Rattle.laws.specs.Quoted.{ascii}

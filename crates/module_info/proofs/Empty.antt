@@ -8,7 +8,7 @@ use native.Mathlib.Omega.{arith}
 use Rattle.laws.specs.Decoded.{ok}
 use Rattle.text.specs.Utf8.{formed}
 use Rattle.text.specs.Position.{isBoundary}
-use Rattle.wire.specs.Fields.{byte, below, numbered, flag, bytes, encodeFlag}
+use Rattle.wire.specs.Fields.{byte, below, numbered, flag, bytes}
 use Rattle.wire.specs.Number.{lastGroup, number, encodeGroups, encodeNumber}
 use Rattle.wire.specs.Text.{count, text}
 use Rattle.wire.specs.Optional.{encodeOptional, optional}
@@ -31,7 +31,6 @@ use Rattle.pragmas.specs.Pragmas.{headComments, endComments, referencesIn, self
 use Rattle.listing.specs.Imports.{markedByAll, importsFrom, jsdocImports}
 use Rattle.dep.specs.Collect.{collector}
 use Rattle.module_info.specs.Information.{moduleInfo, defaultInfo}
-use Rattle.module_info.specs.Report.{ReportRight}
 use Rattle.module_info.specs.Empty.{EmptyRight}
 
 -- the sheet of thirteen zero bytes

@@ -7,7 +7,7 @@ use native.Mathlib.Nat.{sub-zero}
 use native.Mathlib.Numerals.{add-one}
 use native.Mathlib.Omega.{arith}
 use lib.Dec.{eqb, leb, ltb}
-use lib.ListN.{length, getD, take, set, length-append, length-take, length-replicate}
+use lib.ListN.{length, getD, take, set, length-append, length-replicate}
 use lib.Seq.{take-all, take-append-le, length-take-le}
 use borrow.Author.Tests.{ltb-true, ltb-false, lt-ltb, le-ltb}
 use Rattle.laws.specs.Decoded.{ok, no}
@@ -16,7 +16,7 @@ use Rattle.wire.specs.Refusals as refusals
 use Rattle.sheet.specs.Sheet.{Sheet, accept}
 use Rattle.sheet.specs.Judge.{judge}
 use Rattle.sheet_codec.proofs.Refusals.{judged-sheet, judged-refusal}
-use Rattle.report.specs.declared.writer.Outcome.the-variants.{Accepted, Refused}
+use Rattle.report.specs.declared.writer.Outcome.the-variants.{Refused}
 use Rattle.report.specs.ModuleInfo.{ModuleInfo}
 use Rattle.report.specs.Encode.{encode}
 use Rattle.report.specs.Answer.{Answer, zeros, accepted, refusedWith, fitted, outcomeAs}

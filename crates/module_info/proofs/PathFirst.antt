@@ -7,7 +7,7 @@ use Rattle.sheet.specs.declared.comments.Comment.{Comment}
 use Rattle.sheet.specs.Sheet.{Sheet}
 use Rattle.report.specs.ModuleInfo.{ModuleInfo}
 use Rattle.pragmas.specs.Readings.{allOf}
-use Rattle.pragmas.specs.Pragmas.{headComments, reference, referencesIn}
+use Rattle.pragmas.specs.Pragmas.{headComments, referencesIn}
 use Rattle.pragmas.proofs.PathFirst.{pathFirst, BothRead, same-references}
 use Rattle.module_info.specs.Information.{moduleInfo}
 

@@ -27,7 +27,7 @@ use sheet::lookups::head_group;
 use wire::Cursor;
 ghost use mathlib.Core.Path.{_≡_};
 ghost use mathlib.Core.List.{List, []};
-ghost use Prim.Native.Nat.{ℕ, _≤_};
+ghost use Prim.Native.Nat.{ℕ};
 ghost use lib.ListN.{length, replicate};
 ghost use Rattle.laws.specs.Decoded.{ok};
 ghost use Rattle.sheet.specs.Sheet.{Sheet, accept};

@@ -18,7 +18,7 @@ use Rattle.sheet.specs.Walked.{uncooked}
 use Rattle.heads.specs.declared.parts.Property.{Property}
 use Rattle.heads.specs.declared.parts.Property.the-variants as property
 use Rattle.heads.specs.code.Rest.{behind}
-use Rattle.heads.specs.code.Views.{propertyOf}
+use Rattle.heads.specs.code.Views.{propertyOf, nodesOf}
 use Rattle.heads.proofs.ByHead.{propertyRest}
 use Rattle.nodes.specs.declared.tally.Tally.{Tally}
 use Rattle.nodes.specs.declared.tally.Judged.{Judged}
@@ -28,7 +28,7 @@ use Rattle.nodes.specs.declared.tally.Tallied.the-variants as tallied
 use Rattle.nodes.specs.declared.tally.PassedRead.{PassedRead}
 use Rattle.nodes.specs.declared.tally.PassedRead.the-variants as passedRead
 use Rattle.nodes.specs.code.Judged.{judged, tallyAll, tallyIn, tallyWith, passed, gain, plus, importCallee, passedAll, tallyTyped}
-use Rattle.nodes.specs.code.Answers.{checkedAs, talliedAs, passedAs, nodesOf, holdingOf, withOwn, onlyEntry, joined, plusNodes, withNodes, callOf, calledBy}
+use Rattle.nodes.specs.code.Answers.{checkedAs, talliedAs, passedAs, holdingOf, withOwn, onlyEntry, joined, plusNodes, withNodes, callOf, calledBy}
 
 -- a node without an entry of its own, and one with nothing else
 abbrev held : Bool → Tally → Judged

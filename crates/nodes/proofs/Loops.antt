@@ -3,7 +3,7 @@ use mathlib.Core.Path.{_≡_, sym, ap, _∙_}
 use mathlib.Core.Bool.{Bool}
 use mathlib.Core.List.{List}
 use Prim.Native.Nat.{ℕ, _-_, _≤_, _<_}
-use Rattle.laws.specs.Decoded.{Decoded, ok, no, onOk, Decoder, _>>=_}
+use Rattle.laws.specs.Decoded.{Decoded, ok, no, onOk, Decoder}
 use Rattle.laws.proofs.Decoding.{onOk-ok, onOk-no, onOk-same}
 use Rattle.laws.proofs.Answers.{Reads, ends, behind}
 use Rattle.sheet.specs.declared.fields.Span.{Span}

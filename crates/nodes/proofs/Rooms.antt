@@ -3,8 +3,8 @@ use mathlib.Core.Bool.{Bool}
 use Prim.Native.Nat.{ℕ, _+_, _≤_}
 use native.Mathlib.Omega.{arith}
 use mathlib.Core.Bool.{_&&_}
+use Rattle.text.proofs.Ones.{one-most}
 use Rattle.wire.specs.declared.Cursor.{Cursor}
-use Rattle.sheet.proofs.Ones.{one-most}
 use Rattle.nodes.specs.declared.tally.Tally.{Tally}
 use Rattle.nodes.specs.declared.tally.Judged.{Judged}
 use Rattle.nodes.specs.declared.tally.Passed.{Passed}

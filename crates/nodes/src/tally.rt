@@ -1,12 +1,12 @@
 // What is found in nodes, and how it adds up.
-use heads::parts::Property;
+use text::truth::both;
+use text::truth::count_one;
+use text::truth::either;
 use wire::Cursor;
 ghost use mathlib.Core.Path.{_≡_};
-ghost use mathlib.Core.Bool.{_&&_, _||_};
 ghost use Prim.Native.Nat.{_+_, _^_, _<_};
-ghost use Rattle.sheet.specs.Walked.{one};
 ghost use Rattle.nodes.specs.code.Judged.{plus, withArgument, importCallee};
-ghost use Rattle.nodes.specs.code.Answers.{nodesOf, leafOf, withOwn, onlyEntry, joined, withNodes, calledBy, Room, RoomPassed};
+ghost use Rattle.nodes.specs.code.Answers.{leafOf, withOwn, onlyEntry, joined, withNodes, calledBy, Room, RoomPassed};
 
 // Of nodes: how many dependencies they give, and whether a call in them has an uncooked template for its first argument.
 pub struct Tally {
@@ -46,46 +46,6 @@ pub enum Tallied {
 pub enum PassedRead {
     Is(Passed, Cursor),
     Refused(usize),
-}
-
-// How many nodes a property holds.
-pub fn nodes_of(p: Property) -> usize
-    ensures { λ r. ⌜ r ≡ nodesOf p ⌝ }
-{
-    match p {
-        Property::ChildKey => 2,
-        Property::Spread => 1,
-        Property::Other => 1,
-        Property::StringKey(_, _) => 1,
-        Property::NameKey(_, _) => 1,
-    }
-}
-
-pub fn either(a: bool, b: bool) -> bool
-    ensures { λ r. ⌜ r ≡ a || b ⌝ }
-{
-    if a {
-        return true;
-    }
-    b
-}
-
-pub fn both(a: bool, b: bool) -> bool
-    ensures { λ r. ⌜ r ≡ a && b ⌝ }
-{
-    if a {
-        return b;
-    }
-    false
-}
-
-pub fn count_one(b: bool) -> usize
-    ensures { λ r. ⌜ r ≡ one b ⌝ }
-{
-    if b {
-        return 1;
-    }
-    0
 }
 
 pub fn add(t: Tally, u: Tally) -> Tally

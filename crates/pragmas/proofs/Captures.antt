@@ -1,6 +1,6 @@
 -- Where a capture in the body of a comment stands in the source.
 use mathlib.Core.List.{List}
-use Prim.Native.Nat.{ℕ, _-_}
+use Prim.Native.Nat.{ℕ}
 use native.Mathlib.Omega.{arith}
 use Rattle.analysis.specs.declared.Capture.{Capture}
 use Rattle.analysis.specs.Place.{placeOf}

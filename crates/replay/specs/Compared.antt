@@ -6,7 +6,7 @@ use lib.Dec.{eqb}
 use lib.ListN.{length}
 use Rattle.laws.specs.Decoded.{Decoded, ok, no}
 use Rattle.text.specs.Bytes.{same}
-use Rattle.sheet.specs.Walked.{one}
+use Rattle.text.specs.Truth.{one}
 use Rattle.report.specs.Answer.{Answer, zeros}
 use Rattle.module_info.specs.Information.{answerOf}
 use Rattle.replay.specs.Stored.{Row}

@@ -13,7 +13,7 @@ ghost use Prim.Native.Nat.{ℕ, _+_, _≤_};
 ghost use lib.ListN.{length, drop};
 ghost use Rattle.laws.specs.Decoded.{ok, onOk};
 ghost use Rattle.text.specs.Bytes.{same};
-ghost use Rattle.sheet.specs.Walked.{one};
+ghost use Rattle.text.specs.Truth.{one};
 ghost use Rattle.report.specs.Answer.{outcomeAs};
 ghost use Rattle.replay.specs.Stored.{fourBytes, piece, row, storedRows};
 ghost use Rattle.replay.specs.Compared.{padded, storedAnswer, sameAnswer, ranOf, counted, tallyOf};

@@ -4,7 +4,6 @@ use mathlib.Core.Bool.{true, false}
 use mathlib.Core.List.{List, [], _∷_, _++_, append-assoc, flatMap}
 use mathlib.Core.Option.{Option}
 use Prim.Native.Nat.{ℕ}
-use native.Mathlib.Omega.{arith}
 use lib.ListN.{length}
 use Rattle.laws.specs.Decoded.{ok, Decoder}
 use Rattle.laws.specs.Codec.{IfThere, All}
@@ -12,10 +11,10 @@ use Rattle.wire.specs.Fields.{byte}
 use Rattle.wire.specs.Text.{encodeText}
 use Rattle.wire.specs.Optional.{encodeOptional, optional}
 use Rattle.wire.proofs.NumberCodec.{number-codec}
-use Rattle.wire.proofs.TextCodec.{below-codec, flag-codec, bytes-codec}
+use Rattle.wire.proofs.TextCodec.{flag-codec, bytes-codec}
 use Rattle.wire.proofs.Numbered.{numbered-codec}
 use Rattle.report.specs.declared.names.DependencyKind.the-variants.{Static, Dynamic}
-use Rattle.report.specs.ModuleInfo.{path, types, none, unknown, known, expr, string, template, StaticDependencyDescriptor, DynamicDependencyDescriptor, static, dynamic, ModuleInfo}
+use Rattle.report.specs.ModuleInfo.{path, types, none, unknown, known, expr, string, template, StaticDependencyDescriptor, DynamicDependencyDescriptor, static, dynamic}
 use Rattle.report.specs.Encode.{encodeList, encodePosition, encodeRange, encodeSpecifier, encodeReference, encodeJsDoc, encodeKeyValue, encodeAttributes, encodeArgument, encodeStatic, encodeDynamic, encodeDependency, encode}
 use Rattle.report.specs.Decode.{times, list, text, position, range, specifier, reference, jsDoc, keyValue, attributes, argument, rest, dependency, report}
 use Rattle.report.specs.Valid.{Short, ValidPosition, ValidRange, ValidSpecifier, ValidReference, ValidJsDoc, ValidKeyValue, ValidAttributes, ValidArgument, ValidStatic, ValidDynamic, ValidDependency, Valid}
@@ -139,6 +138,3 @@ report-back = record {
         optional-back specifier-back .back (m .sourceMapUrl) (v .sourceMapUrl),
       ));
 }
-
-pub one-report : {m m′ : ModuleInfo} → Valid m → Valid m′ → encode m ≡ encode m′ → m ≡ m′
-one-report {m} {m′} v v′ e = cc (report-back .back m v [], report-back .back m′ v′ [])

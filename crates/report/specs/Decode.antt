@@ -7,7 +7,7 @@ use lib.ListN.{getD}
 use Rattle.laws.specs.Decoded.{Decoder, onOk, _>>=_, _>>_, return, refuse, require}
 use Rattle.text.specs.declared.position.Position.{Position}
 use Rattle.wire.specs.Refusals as refusals
-use Rattle.wire.specs.Fields.{byte, below, Values, numbered, flag, bytes}
+use Rattle.wire.specs.Fields.{byte, Values, numbered, flag, bytes}
 use Rattle.wire.specs.Number.{number}
 use Rattle.wire.specs.Optional.{optional}
 use Rattle.analysis.specs.Mode.{TypeScriptTypesResolutionMode, Mode}

@@ -2,7 +2,7 @@
 use mathlib.Core.Path.{_≡_, sym, ap, _∙_}
 use mathlib.Core.Bool.{true}
 use mathlib.Core.Option.{Option}
-use mathlib.Core.List.{List, [], _∷_, _++_, map, flatMap}
+use mathlib.Core.List.{List, [], _∷_, map, flatMap}
 use Prim.Native.Nat.{ℕ, zero, suc, _+_, _-_, _*_, _≤_, _<_}
 use native.Mathlib.Nat.{zero-add}
 use native.Mathlib.Omega.{arith}
@@ -37,7 +37,7 @@ use Rattle.pragmas.specs.Origins.{typesOrigins, headOrigins, endOrigins}
 use Rattle.pragmas.proofs.GivenFrom.{types-from, references-from, self-types-from, jsx-import-source-from, jsx-import-source-types-from, source-map-from}
 use Rattle.listing.specs.Origins.{jsdocOrigins}
 use Rattle.listing.proofs.Origins.{jsdoc-origins}
-use Rattle.dep.specs.Collect.{Noted, numbersOf, startsOf}
+use Rattle.dep.specs.Collect.{Noted, startsOf}
 use Rattle.dep.proofs.Counted.{counted, noted-first}
 use Rattle.dep.proofs.Turns.{types-at-start}
 use Rattle.module_info.specs.Information.{moduleInfo}

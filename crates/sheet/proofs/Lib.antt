@@ -16,7 +16,6 @@ pub mod Bodies
 pub mod CommentCases
 pub mod NameCases
 pub mod Walks
-pub mod Ones
 pub mod Reaches
 pub mod Kept
 pub mod Spans

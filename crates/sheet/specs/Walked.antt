@@ -1,7 +1,8 @@
 -- What the walk over the tree finds: how many dependencies it lists, and whether a call meets refusal 9.
-use mathlib.Core.Bool.{Bool, true, false, cond, _&&_, _||_}
+use mathlib.Core.Bool.{Bool, true, false, _&&_, _||_}
 use mathlib.Core.Option.{Option}
 use Prim.Native.Nat.{ℕ, _+_}
+use Rattle.text.specs.Truth.{one}
 use Rattle.sheet.specs.Tree.{Quoted, Node, Arguments, noArguments, argument}
 use Rattle.sheet.specs.Shape.{shape, isRequire, isUncooked, isAugmentation}
 use Rattle.sheet.specs.Walk.{Callee, importing, expression, Visit, called, imported, exported, typed, required, declared, Collector, walk}
@@ -43,10 +44,6 @@ refused (exported sp typeOnly x a) = false
 refused (typed sp x a) = false
 refused (required sp typeOnly export x) = false
 refused (declared sp x) = false
-
--- 1 for true, 0 for false
-abbrev pub one : Bool → ℕ
-one b = cond b 1 0
 
 -- how many dependencies a node gives: the length of `collect` (crates/dep, law `counted`)
 abbrev pub counting : Collector ℕ

@@ -1,4 +1,5 @@
 // Positions and spans in the source.
+use text::position::goes_on;
 use wire::Cursor;
 use wire::Read;
 use wire::refusals;
@@ -26,14 +27,7 @@ fn is_boundary(source: &[u8], p: usize) -> bool
     ensures { λ r. ⌜ r ≡ isBoundary (now (source .entry)) p ⌝ }
 {
     if p < source.len() {
-        let b = source[p];
-        if b < 0x80 {
-            return true;
-        }
-        if b <= 0xBF {
-            return false;
-        }
-        return true;
+        return !goes_on(source[p]);
     }
     p == source.len()
 }

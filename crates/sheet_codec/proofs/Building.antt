@@ -9,7 +9,7 @@ use native.Mathlib.Omega.{arith}
 use lib.Dec.{ltb}
 use lib.ListN.{length, getD}
 use borrow.Author.Tests.{ltb-true, ltb-false, lt-ltb, le-ltb}
-use Rattle.laws.specs.Decoded.{ok, Decoder, _>>=_, _>>_, return, refuse}
+use Rattle.laws.specs.Decoded.{ok, Decoder, _>>=_, return, refuse}
 use Rattle.laws.specs.Codec.{Codec}
 use Rattle.laws.proofs.Decoding.{then-ok, then-then}
 use Rattle.laws.proofs.Codecs.{Built, built-then, codec-as, built-end}

@@ -6,6 +6,8 @@ use mathlib.Core.Option.{Option}
 use Prim.Native.Nat.{ℕ, _+_, _*_, _≤_}
 use native.Mathlib.Omega.{arith}
 use lib.ListN.{length, length-append}
+use Rattle.text.specs.Truth.{one}
+use Rattle.text.proofs.Ones.{one-most}
 use Rattle.wire.specs.Number.{encodeNumber}
 use Rattle.wire.specs.Text.{encodeText}
 use Rattle.wire.specs.Optional.{encodeOptional}
@@ -15,10 +17,9 @@ use Rattle.sheet.specs.declared.fields.Span.{Span}
 use Rattle.sheet.specs.Tree.{Quoted, Node, other, string, name, template, binary, object, importCall, call, importDecl, namedExport, exportFrom, exportAll, importType, importEquals, importRequire, moduleDecl, Nodes, none, more, Arguments, noArguments, argument, Properties, noProperties, spread, otherProperty, childKey, stringKey, nameKey, Attributes, without, withObject}
 use Rattle.sheet.specs.Shape.{shape, isRequire, isAugmentation}
 use Rattle.sheet.specs.Walk.{walkAll, walkOf, walkIn, walkWith}
-use Rattle.sheet.specs.Walked.{anyArgument, declares, one, counting, entries}
+use Rattle.sheet.specs.Walked.{anyArgument, declares, counting, entries}
 use Rattle.sheet.specs.Sheet.{Sheet}
-use Rattle.sheet.proofs.Ones.{one-most}
-use Rattle.sheet_codec.specs.Encode.{nodesIn, argumentsIn, propertiesIn, encodeQuoted, encodeNode, encodeNodes, encodeArguments, encodeProperties, encodeAttributes, encodeSheet}
+use Rattle.sheet_codec.specs.Encode.{nodesIn, argumentsIn, encodeQuoted, encodeNode, encodeNodes, encodeArguments, encodeProperties, encodeAttributes, encodeSheet}
 use Rattle.sheet_codec.specs.SheetOf.{SheetOf}
 
 -- a span, a text and a String, as the parts of a node's length

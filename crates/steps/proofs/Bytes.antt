@@ -11,8 +11,8 @@ use lib.Seq.{getD-drop}
 use borrow.Author.Tests.{leb-true, ltb-true, ltb-false}
 use Rattle.text.specs.declared.utf8.Encoding.the-variants.{Utf8}
 use Rattle.text.specs.Ranges.{Range, _to_, within}
-use Rattle.text.specs.Utf8.{admits, rows, charLength}
-use Rattle.text.proofs.Formed.{by-rows}
+use Rattle.text.specs.Utf8.{admits, Row, char, never, lengthBy, rows, charLength}
+use Rattle.text.proofs.Formed.{everyRow, picked}
 use Rattle.text.proofs.Within.{within-iff}
 use Rattle.steps.specs.Answers.{Precedes}
 
@@ -60,6 +60,17 @@ begun-by (x ∷ s) ((lo to hi) ∷ rs) a g l =
     others : admits rs s ≡ true → goesOn rs ≡ true → (q : ℕ) → 0 < q → q < suc (length rs) → (0x80 ≤ getD (x ∷ s) q 0) × (getD (x ∷ s) q 0 ≤ 0xBF)
     others m o zero z h = absurd (omega arith)
     others m o (suc q) z h = going rs s m o q (omega arith)
+
+-- what holds of 0, and of the length of each row that admits the text and passes a test, holds of the character's length
+module _ (P : ℕ → Type 0) (none : P 0) (test : List Range → Bool) where
+  by-rows : (s : List ℕ) → ((rs : List Range) → admits rs s ≡ true → test rs ≡ true → P (length rs))
+      → (table : List Row) → everyRow test table ≡ true → P (lengthBy table s)
+  unfolding lengthBy
+  by-rows s f [] t = none
+  by-rows s f (char first last rs ∷ more) t =
+      let both = and-eq-true-iff (test rs) (everyRow test more) .0 t in
+      picked P (admits rs s) (λ h. f rs h (both .0)) (λ h. by-rows s f more (both .1))
+  by-rows s f (never rs ∷ more) t = picked P (admits rs s) (λ h. none) (λ h. by-rows s f more t)
 
 begun : (s : List ℕ) → Begun s (charLength Utf8 s)
 unfolding charLength

@@ -4,12 +4,9 @@ use mathlib.Core.Bool.{Bool, true, false, cond, _&&_, and-eq-true-iff}
 use mathlib.Core.List.{List, [], _∷_}
 use Prim.Native.Nat.{ℕ, zero, suc, _+_, _≤_, _<_, zero-le, suc-le-suc}
 use native.Mathlib.Nat.{add-suc, suc-add}
-use lib.Dec.{leb}
 use lib.ListN.{length, drop, drop-of-length-le}
 use lib.Seq.{drop-cons, drop-drop}
-use borrow.Author.Tests.{leb-true}
 use Rattle.text.specs.declared.utf8.Encoding.{Encoding}
-use Rattle.text.specs.declared.utf8.Encoding.the-variants.{Utf8, Wtf8}
 use Rattle.text.specs.Ranges.{Range, within}
 use Rattle.text.specs.Utf8.{admits, Row, char, never, lengthBy, rows, charLength, formed}
 
@@ -58,32 +55,16 @@ pub picked : {A : Type 0} (P : A → Type 0) (b : Bool) {x y : A} → (b ≡ tru
 picked P true f g = f refl
 picked P false f g = g refl
 
--- what holds of 0, and of the length of each row that admits the text and passes a test, holds of the character's length
-module _ (P : ℕ → Type 0) (none : P 0) (test : List Range → Bool) where
-  pub by-rows : (s : List ℕ) → ((rs : List Range) → admits rs s ≡ true → test rs ≡ true → P (length rs))
-      → (table : List Row) → everyRow test table ≡ true → P (lengthBy table s)
-  unfolding lengthBy
-  by-rows s f [] t = none
-  by-rows s f (char first last rs ∷ more) t =
-      let both = and-eq-true-iff (test rs) (everyRow test more) .0 t in
-      picked P (admits rs s) (λ h. f rs h (both .0)) (λ h. by-rows s f more (both .1))
-  by-rows s f (never rs ∷ more) t = picked P (admits rs s) (λ h. none) (λ h. by-rows s f more t)
-
--- a character has at most four bytes, all of them in the text
-abbrev isShort : List Range → Bool
-isShort rs = leb (length rs) 4
-
-short-rows : (e : Encoding) → everyRow isShort (rows e) ≡ true
-short-rows Utf8 = refl
-short-rows Wtf8 = refl
-
-pub short : (e : Encoding) (s : List ℕ) → charLength e s ≤ 4
-unfolding charLength
-short e s = by-rows (λ n. n ≤ 4) zero-le isShort s (λ rs h t. leb-true (length rs) 4 t) (rows e) (short-rows e)
+-- a row that admits the text has no more ranges than the text has bytes, so a character is all in the text
+rows-fit : (table : List Row) (s : List ℕ) → lengthBy table s ≤ length s
+unfolding lengthBy
+rows-fit [] s = zero-le
+rows-fit (char first last rs ∷ more) s = picked (λ n. n ≤ length s) (admits rs s) (admitted rs s) (λ h. rows-fit more s)
+rows-fit (never rs ∷ more) s = picked (λ n. n ≤ length s) (admits rs s) (λ h. zero-le) (λ h. rows-fit more s)
 
 pub fits : (e : Encoding) (s : List ℕ) → charLength e s ≤ length s
 unfolding charLength
-fits e s = by-rows (λ n. n ≤ length s) zero-le isShort s (λ rs h t. admitted rs s h) (rows e) (short-rows e)
+fits e s = rows-fit (rows e) s
 
 -- so does one that is taken only where a test holds
 pub fits-if : (e : Encoding) (b : Bool) (s : List ℕ) → cond b (charLength e s) 0 ≤ length s

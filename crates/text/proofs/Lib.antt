@@ -12,6 +12,7 @@ pub mod Cuts
 pub mod Exact
 pub mod Formed
 pub mod Members
+pub mod Ones
 pub mod Outside
 pub mod Places
 pub mod Positions

@@ -2,7 +2,6 @@
 use mathlib.Core.Path.{_≡_, refl, sym, ap, _∙_}
 use mathlib.Core.Bool.{Bool, true, false, cond, _||_, and-false, and-eq-true-iff, not-eq-not, or-true, false≢true}
 use mathlib.Core.List.{List, [], _∷_, _++_}
-use mathlib.Core.Logic.{_↔_}
 use Prim.Native.Nat.{ℕ, zero, suc, _+_, _/_, _≤_, _<_}
 use native.Mathlib.Omega.{arith}
 use lib.Dec.{leb, ltb}
@@ -10,13 +9,12 @@ use lib.ListN.{length, getD, take, drop, take-append-drop}
 use lib.Seq.{length-take-le, take-at, drop-at}
 use borrow.Author.Tests.{leb-true, leb-false, lt-leb, ltb-true, lt-ltb, le-ltb}
 use Rattle.laws.specs.Codec.{All}
-use Rattle.text.specs.declared.utf8.Char.{Char}
 use Rattle.text.specs.declared.utf8.Encoding.{Encoding}
 use Rattle.text.specs.declared.utf8.Encoding.the-variants.{Utf8, Wtf8}
 use Rattle.text.specs.Ranges.{Range, _to_, within, inRanges}
 use Rattle.text.specs.Utf8.{admits, Row, char, never, leadSurrogate, trailSurrogate, pair, rows, besides, lengthBy, charLength, codeBy, charAt}
 use Rattle.text.specs.Encode.{encode, codePoints, Lead, Trail, Paired, Exact, RowExact}
-use Rattle.text.proofs.CodePoint.{by-length, nonempty, round}
+use Rattle.text.proofs.CodePoint.{by-length, round}
 use Rattle.text.proofs.Exact.{exact, leads, trails}
 use Rattle.text.proofs.Formed.{admitted, everyRow, picked}
 use Rattle.text.proofs.Rows.{admits-append}
@@ -233,16 +231,3 @@ unfolding charLength lengthBy
 pair-unread Utf8 p q t l m = unread p (encode q ++ t) (l .0) (omega arith)
 pair-unread Wtf8 p q t l m =
     passed-over (rows Utf8) (besides Wtf8) _ refl tt (unread p (encode q ++ t) (l .0) (omega arith)) ∙ rw (pair-all p q t l m)
-
--- the text begins with the encoding of p exactly if the reader answers p
-pub reader : (p : ℕ) (s : List ℕ)
-    → ((inRanges (codePoints Utf8) p ≡ true) × (t : List ℕ) × (s ≡ encode p ++ t)) ↔ (charAt Utf8 s ≡ record { len = length (encode p); code = p })
-unfolding charAt
-reader p s = (
-  λ h. rw (h .2) (reader-complete p (h .1) (h .0)),
-  λ a.
-      let n : charLength Utf8 s ≡ length (encode p) = ap (λ (r : Char). r .len) a in
-      let (q, c) = reader-sound Utf8 s (omega (arith, nonempty p)) in
-      let e : q ≡ p = ap (λ (r : Char). r .code) (sym (c .read) ∙ a) in
-      (rw e at (c .among), drop (charLength Utf8 s) s, rw (← e) (c .begins)),
-)

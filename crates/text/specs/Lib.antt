@@ -7,6 +7,7 @@ pub mod Encode
 pub mod Lossy
 pub mod Position
 pub mod Ranges
+pub mod Truth
 pub mod Utf8
 pub mod WellFormed
 pub mod WhiteSpace

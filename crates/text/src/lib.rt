@@ -6,5 +6,6 @@ pub mod class;
 pub mod lossy;
 pub mod position;
 mod ranges;
+pub mod truth;
 pub mod utf8;
 pub mod white_space;

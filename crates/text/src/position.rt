@@ -13,8 +13,8 @@ pub struct Position {
     pub column: usize,
 }
 
-// The byte goes on with a character.
-fn goes_on(b: u8) -> bool
+// Does the byte go on with a character?
+pub fn goes_on(b: u8) -> bool
     ensures { λ r. ⌜ r ≡ within continuation b ⌝ }
 {
     if b < 0x80 { false } else { b <= 0xBF }

@@ -1,6 +1,6 @@
 -- A number takes a byte at least.
 use mathlib.Core.Bool.{Bool, true, false, cond}
-use mathlib.Core.List.{List, [], _∷_}
+use mathlib.Core.List.{[], _∷_}
 use Prim.Native.Nat.{ℕ, _+_, _/_, _%_, _<_}
 use native.Mathlib.Omega.{arith}
 use lib.Dec.{ltb}

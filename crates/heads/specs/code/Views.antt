@@ -93,6 +93,14 @@ propertyOf s property.ChildKey = childKeyHead
 propertyOf s (property.StringKey from to) = stringKeyHead (part s from to)
 propertyOf s (property.NameKey from to) = nameKeyHead (part s from to)
 
+-- how many nodes a property holds
+abbrev pub nodesOf : Property → ℕ
+nodesOf property.Spread = 1
+nodesOf property.Other = 1
+nodesOf property.ChildKey = 2
+nodesOf (property.StringKey from to) = 1
+nodesOf (property.NameKey from to) = 1
+
 abbrev pub propertyAs : List ℕ → PropertyRead → Decoded PropertyHead
 propertyAs s (propertyRead.Is x next) = ok (propertyOf s x) (drop (next .at) s)
 propertyAs s (propertyRead.Refused r) = no r

@@ -4,11 +4,9 @@ use mathlib.Core.List.{List}
 use Prim.Native.Nat.{ℕ, _+_, _≤_, _<_}
 use lib.ListN.{drop}
 use Rattle.laws.specs.Decoded.{Decoded, ok, no}
+use Rattle.text.specs.Truth.{one}
 use Rattle.wire.specs.declared.Cursor.{Cursor}
-use Rattle.sheet.specs.Walked.{one}
 use Rattle.heads.specs.declared.node.Head.{Head}
-use Rattle.heads.specs.declared.parts.Property.{Property}
-use Rattle.heads.specs.declared.parts.Property.the-variants as property
 use Rattle.heads.specs.code.Views.{Within}
 use Rattle.nodes.specs.declared.tally.Tally.{Tally}
 use Rattle.nodes.specs.declared.tally.Judged.{Judged}
@@ -32,14 +30,6 @@ talliedAs s (tallied.Refused r) = no r
 abbrev pub passedAs : List ℕ → PassedRead → Decoded Passed
 passedAs s (passedRead.Is p next) = ok p (drop (next .at) s)
 passedAs s (passedRead.Refused r) = no r
-
--- how many nodes a property holds
-abbrev pub nodesOf : Property → ℕ
-nodesOf property.Spread = 1
-nodesOf property.Other = 1
-nodesOf property.ChildKey = 2
-nodesOf (property.StringKey from to) = 1
-nodesOf (property.NameKey from to) = 1
 
 -- a node that holds none that is walked
 abbrev pub leafOf : Bool → Bool → Cursor → Checked

@@ -1,6 +1,4 @@
 use borrow.Author.Needs.{needs}
-use lib.ListN.{length}
-use denote.Ref.{now}
 use Rattle.module_info.proofs.Accepted.{held, parts-of}
 use Rattle.rules.proofs.Origins.{rules-written}
 use Rattle.rules.proofs.put_rules.Statement.{statement}

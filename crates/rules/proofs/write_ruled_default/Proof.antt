@@ -1,6 +1,6 @@
 use borrow.Author.Needs.{needs}
 use Rattle.module_info.specs.Information.{defaultInfo}
-use mathlib.Core.Path.{refl, sym, _∙_}
+use mathlib.Core.Path.{sym, _∙_}
 use mathlib.Core.List.{[]}
 use lib.ListN.{length}
 use denote.Ref.{now}

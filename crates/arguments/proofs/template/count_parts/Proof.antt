@@ -8,10 +8,10 @@ use lib.ListN.{length, drop, length-append}
 use denote.Ref.{now}
 use Rattle.laws.specs.Decoded.{ok}
 use Rattle.laws.proofs.Steps.{seen}
+use Rattle.text.proofs.Ones.{one-most}
 use Rattle.wire.specs.Number.{largest}
 use Rattle.sheet.specs.Tree.{Pieces}
 use Rattle.sheet.specs.Nodes.{many, piece}
-use Rattle.sheet.proofs.Ones.{one-most}
 use Rattle.heads.specs.code.Views.{pieceAs}
 use Rattle.heads.proofs.Many.{many-refused, many-end}
 use Rattle.arguments.specs.Argument.{templateParts}

@@ -1,6 +1,6 @@
 use borrow.Author.Needs.{needs}
 use native.Mathlib.Omega.{arith}
-use Rattle.sheet.proofs.Ones.{one-most}
+use Rattle.text.proofs.Ones.{one-most}
 use Rattle.nodes.proofs.tally.called.Statement.{statement}
 use Rattle.nodes.proofs.tally.called.Tie as tie
 

@@ -1,6 +1,6 @@
 use borrow.Author.Needs.{needs}
 use native.Mathlib.Omega.{arith}
-use Rattle.sheet.proofs.Ones.{one-most}
+use Rattle.text.proofs.Ones.{one-most}
 use Rattle.nodes.proofs.tally.holding.Statement.{statement}
 use Rattle.nodes.proofs.tally.holding.Tie as tie
 

@@ -4,7 +4,7 @@ use mathlib.Core.Path.{_≡_, refl}
 use mathlib.Core.Bool.{Bool, true, false, not}
 use Prim.Native.Nat.{_+_}
 use native.Mathlib.Omega.{arith}
-use Rattle.sheet.specs.Walked.{one}
+use Rattle.text.specs.Truth.{one}
 use Rattle.replay.proofs.Counts.with.Statement.{statement}
 use Rattle.replay.proofs.Counts.with.Tie as tie
 

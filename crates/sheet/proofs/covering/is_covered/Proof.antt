@@ -19,12 +19,6 @@ loop-holds : tie.Need-loop-holds Inv-loop μ-loop
 loop-holds c =
     (omega arith, λ j l. keep-zeros _ _ (c .before .before .before .before .before .before .clear .ensures) j l (c .before .before .keep-longest .ensures j l), pass-none _)
 
-cast-larger : tie.Need-cast-larger Inv-loop μ-loop
-cast-larger c = omega (arith, c .slice-known4 .given (c .before .before .loop .i))
-
-add-larger : tie.Need-add-larger Inv-loop μ-loop
-add-larger c = omega (arith, c .slice-known4 .given (c .before .before .loop .i))
-
 returns : tie.Need-returns Inv-loop μ-loop
 returns c =
     let l = c .before .before .before .before .loop in
@@ -51,8 +45,8 @@ is-covered-spec =
     loop-holds
     (λ c. search needs)
     (λ c. search needs)
-    cast-larger
-    add-larger
+    (λ c. omega (arith, c .slice-known4 .given (c .before .before .loop .i)))
+    (λ c. omega (arith, c .slice-known4 .given (c .before .before .loop .i)))
     (λ c κs. search needs)
     (λ c. search needs)
     returns

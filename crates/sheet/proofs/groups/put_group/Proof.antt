@@ -5,12 +5,6 @@ use native.Mathlib.Numerals.{add-one, add-two, add-three}
 use Rattle.sheet.proofs.groups.put_group.Statement.{statement}
 use Rattle.sheet.proofs.groups.put_group.Tie as tie
 
-slice-write-table-2 : tie.Need-slice-write-table-2
-slice-write-table-2 c = simp length-set (omega arith)
-
-slice-write-table-3 : tie.Need-slice-write-table-3
-slice-write-table-3 c = simp length-set (omega arith)
-
 returns : tie.Need-returns
 returns c = rw (add-one, add-two, add-three, c .before .before .before .side-number .ensures)
 
@@ -25,11 +19,11 @@ put-group-spec =
     (λ c. search needs)
     (λ c. search needs)
     (λ c. search needs)
-    slice-write-table-2
+    (λ c. simp length-set (omega arith))
     (λ c. search needs)
     (λ c. search needs)
     (λ c. search needs)
-    slice-write-table-3
+    (λ c. simp length-set (omega arith))
     (λ c. search needs)
     (λ c. search needs)
     (λ c. search needs)

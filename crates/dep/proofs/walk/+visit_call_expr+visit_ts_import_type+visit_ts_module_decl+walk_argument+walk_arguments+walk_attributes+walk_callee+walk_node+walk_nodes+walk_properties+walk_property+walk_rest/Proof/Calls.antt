@@ -44,7 +44,7 @@ use Rattle.dep.proofs.walk.call_of.Reads as call-of
 use Rattle.dep.proofs.walk.callees.Reads as callees
 use Rattle.nodes.proofs.check.check_nodes.Reads as check-nodes
 use Rattle.wire.proofs.Cursor.flag.Reads as flag
-use Rattle.nodes.proofs.tally.nodes_of.Reads as nodes-of
+use Rattle.heads.proofs.parts.nodes_of.Reads as nodes-of
 use Rattle.wire.proofs.Cursor.number.Reads as number
 use Rattle.dep.proofs.entries.put_call_entry.Reads as put-call-entry
 use Rattle.dep.proofs.entries.put_module_entry.Reads as put-module-entry

@@ -47,7 +47,7 @@ use Rattle.nodes.proofs.tally.import_callee.Reads as import-callee
 use Rattle.nodes.proofs.tally.join.Reads as join
 use Rattle.nodes.proofs.tally.join_passed.Reads as join-passed
 use Rattle.nodes.proofs.tally.leaf.Reads as leaf
-use Rattle.nodes.proofs.tally.nodes_of.Reads as nodes-of
+use Rattle.heads.proofs.parts.nodes_of.Reads as nodes-of
 use Rattle.wire.proofs.Cursor.flag.Reads as flag
 use Rattle.wire.proofs.Cursor.number.Reads as number
 

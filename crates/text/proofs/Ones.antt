@@ -2,7 +2,7 @@
 use mathlib.Core.Bool.{Bool, true, false}
 use Prim.Native.Nat.{_≤_}
 use native.Mathlib.Omega.{arith}
-use Rattle.sheet.specs.Walked.{one}
+use Rattle.text.specs.Truth.{one}
 
 pub one-most : (b : Bool) → one b ≤ 1
 one-most true = omega arith

@@ -12,6 +12,7 @@ use Rattle.jsdoc.specs.Parsed.{onParsed}
 use Rattle.jsdoc.specs.Reader.{parseQuote}
 use Rattle.jsdoc.specs.Listing.{listing}
 use Rattle.sheet.specs.declared.comments.Comment.{Comment}
+use Rattle.sheet.specs.Comments.{isBlock}
 use Rattle.sheet.specs.Lookups.{bodySpan, body}
 use Rattle.sheet.specs.declared.names.MediaType.{MediaType}
 use Rattle.sheet.specs.Media.{isJavaScript}
@@ -19,11 +20,10 @@ use Rattle.report.specs.ModuleInfo.{JsDocImportInfo}
 use Rattle.report.specs.Decode.{modes}
 use Rattle.report.specs.Range.{rangeOf}
 use Rattle.pragmas.specs.Readings.{listed}
-use Rattle.pragmas.specs.Pragmas.{isBlock}
 
 -- a block comment whose body begins with `*`
 abbrev pub isStarOpened : List ℕ → Comment → Bool
-isStarOpened source c = isBlock c && begins (ascii "*") (body source c)
+isStarOpened source c = isBlock (c .kind) && begins (ascii "*") (body source c)
 
 -- marks over the source: at the body of a star-opened block comment those of its readings, and elsewhere what stands there
 unfoldable pub markedBy : List ℕ → Comment → List ℕ → List ℕ

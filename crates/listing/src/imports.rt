@@ -1,8 +1,6 @@
 // The JSDoc imports of all comments, by marks over the source.
 use jsdoc::answers::Text;
 use jsdoc::quote::quote_at;
-use pragmas::is_javascript;
-use pragmas::readings::is_block;
 use report::writer::Place;
 use sheet::comments::Comment;
 use sheet::comments::comment_at;
@@ -10,6 +8,8 @@ use sheet::fields::Span;
 use sheet::lookups::body;
 use sheet::lookups::body_span;
 use sheet::names::MediaType;
+use sheet::names::is_block;
+use sheet::names::is_javascript;
 use text::bytes::next_nonzero;
 ghost use mathlib.Core.Path.{_≡_};
 ghost use mathlib.Core.List.{flatMap};

@@ -1,7 +1,6 @@
 // Where the JSDoc imports of all comments are read: for each its rule, and the first `{` or `@import` that reads it.
 use super::imports::is_star_opened;
 use jsdoc::origins::note_origins;
-use pragmas::is_javascript;
 use report::origins::EntryRule;
 use report::origins::put_origin;
 use report::writer::Place;
@@ -9,6 +8,7 @@ use sheet::comments::Comment;
 use sheet::comments::comment_at;
 use sheet::lookups::body_span;
 use sheet::names::MediaType;
+use sheet::names::is_javascript;
 ghost use mathlib.Core.Path.{_≡_};
 ghost use mathlib.Core.List.{flatMap};
 ghost use Prim.Native.Nat.{ℕ, _+_, _*_, _^_, _<_, _≤_};

@@ -27,8 +27,8 @@ use Rattle.sheet.specs.Lookups.{groupAt, bodySpan}
 use Rattle.sheet.specs.Tree.{other, none}
 use Rattle.sheet.specs.Sheet.{Sheet}
 use Rattle.report.specs.ModuleInfo.{SpecifierWithRange}
-use Rattle.pragmas.specs.Readings.{placeIn, specifierIn, readBy, lastOf}
-use Rattle.pragmas.specs.Pragmas.{endComments, sourceMapUrlIn, sourceMapUrl}
+use Rattle.pragmas.specs.Readings.{placeIn, specifierIn, readBy, firstOf, lastOf}
+use Rattle.pragmas.specs.Pragmas.{endComments, lastBy, sourceMapUrl}
 use Rattle.pragmas.specs.SourceMap.{readStandard, standardMapIn, standardMap}
 
 -- a text, from one column of the first line to another
@@ -97,5 +97,5 @@ abbrev computed : Case → Case
 computed c = record { bodies = c .bodies; reported = sourceMapUrl (sheetOf (c .bodies)); standard = standardMap (sheetOf (c .bodies)) }
 
 as-stated : map computed table ≡ table
-unfolding table commentsFrom sheetOf flatMap inRanges admits lengthBy charLength codeBy charAt encode outside ranges member classAt run begins step walk positionOf foldCase letterAt wordAt ends all first places find placeOf isSpace isOf oneAt row rowEnd findSourceMap groupAt bodySpan placeIn specifierIn readBy lastOf endComments sourceMapUrlIn readStandard standardMapIn
+unfolding table commentsFrom sheetOf flatMap inRanges admits lengthBy charLength codeBy charAt encode outside ranges member classAt run begins step walk positionOf foldCase letterAt wordAt ends all first places find placeOf isSpace isOf oneAt row rowEnd findSourceMap groupAt bodySpan placeIn specifierIn readBy firstOf lastOf endComments lastBy readStandard standardMapIn
 as-stated = refl

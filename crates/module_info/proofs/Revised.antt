@@ -87,7 +87,7 @@ module _ {t u : Sheet} {k : ℕ} (r : Revision t u k) where
 
     source-map : Lacks k (endGroup (t .program) (t .groups)) → moduleInfo t .sourceMapUrl ≡ moduleInfo second .sourceMapUrl
     unfolding moduleInfo endComments
-    source-map lacks = source-map-kept (t .source) (u .source) (endComments t) (in-group (endGroup (t .program) (t .groups)) lacks)
+    source-map lacks = source-map-kept (t .source) (u .source) (t .media) (endComments t) (in-group (endGroup (t .program) (t .groups)) lacks)
 
     head-origins : Lacks k (headGroup (t .program) (t .groups)) → originsOfHead t ≡ originsOfHead second
     unfolding headComments

@@ -32,13 +32,14 @@ use Rattle.accept.proofs.Lent.{part-length}
 use Rattle.report.specs.ModuleInfo.{SpecifierWithRange}
 use Rattle.pragmas.specs.declared.readings.Reading.{Reading}
 use Rattle.pragmas.specs.declared.readings.Reading.the-variants as reading
+use Rattle.pragmas.specs.declared.readings.Counts.the-variants.{Last}
 use Rattle.pragmas.specs.declared.readings.Rule.the-variants.{StandardSourceMap}
 use Rattle.pragmas.specs.Readings.{specifierIn, lastOf}
 use Rattle.pragmas.specs.Pragmas.{inGroup, endComments}
 use Rattle.pragmas.specs.SourceMap.{readStandard, standardMapIn, standardMap}
 use Rattle.pragmas.specs.code.Views.{takenBy, takenAs, readAs, ReadIn}
 use Rattle.pragmas.proofs.SourceMap.{standard-present, standard-shown}
-use Rattle.pragmas.proofs.Taken.{read-last}
+use Rattle.pragmas.proofs.Taken.{read-counted}
 use Rattle.module_info.specs.declared.source_map.SourceMap.{SourceMap}
 use Rattle.module_info.specs.Information.{answerOf}
 use Rattle.module_info.specs.SourceMap.{given, refused, sourceMapOf, mapAs, TextInside, MapRight, SourceMapRight}
@@ -125,4 +126,4 @@ pub map-read : {t : Sheet} {source comments groups : List ℕ} {p : Parts} → P
     → takenAs r ≡ lastOf (takenBy StandardSourceMap source) (inGroup (commentsIn comments (p .comments)) f) → readAs source r ≡ standardMap t
 unfolding endComments readStandard standardMapIn
 map-read {source = source} o r found last =
-    rw (← o .source-is, ← o .comments-are, ← o .groups-are, ← o .program, ← found) (read-last StandardSourceMap source r _ last)
+    rw (← o .source-is, ← o .comments-are, ← o .groups-are, ← o .program, ← found) (read-counted StandardSourceMap source r Last _ last)

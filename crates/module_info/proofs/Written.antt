@@ -21,7 +21,9 @@ use Rattle.accept.specs.declared.check.Parts.{Parts}
 use Rattle.report.specs.Encode.{encodeList, encodeSpecifier, encodeReference, encodeJsDoc, encodeDependency, encode}
 use Rattle.report.specs.Buffer.{Buffer, wrote}
 use Rattle.report.proofs.Buffers.{wrote-append, wrote-cons}
-use Rattle.pragmas.specs.Pragmas.{inGroup, headComments, endComments, referencesIn, selfTypesIn, jsxImportSourceIn, jsxImportSourceTypesIn, sourceMapUrlIn, typesIn}
+use Rattle.pragmas.specs.Asks.{selfTypesRule, jsxImportSourceRule, jsxImportSourceTypesRule, sourceMapUrlRule}
+use Rattle.pragmas.specs.Readings.{readBy, lastOf}
+use Rattle.pragmas.specs.Pragmas.{inGroup, headComments, endComments, referencesIn, firstBy, lastBy, typesIn}
 use Rattle.listing.specs.Imports.{jsdocImports}
 use Rattle.dep.specs.Collect.{collect, collectNoted}
 use Rattle.dep.specs.code.Notes.{allNoted}
@@ -49,9 +51,9 @@ module _ {t : Sheet} {source comments groups : List ℕ} {p : Parts} (o : PartsO
   module _ {f : Option Group} where
     pub head-written : (u : Buffer) {v w x y : Buffer} → f ≡ headGroup (programOf (p .program)) (groupsIn groups (p .groups))
         → v ≡ wrote u (encodeList encodeReference (referencesIn source (inGroup (commentsIn comments (p .comments)) f)))
-        → w ≡ wrote v (encodeOptional encodeSpecifier (selfTypesIn (p .media) source (inGroup (commentsIn comments (p .comments)) f)))
-        → x ≡ wrote w (encodeOptional encodeSpecifier (jsxImportSourceIn (p .media) source (inGroup (commentsIn comments (p .comments)) f)))
-        → y ≡ wrote x (encodeOptional encodeSpecifier (jsxImportSourceTypesIn (p .media) source (inGroup (commentsIn comments (p .comments)) f)))
+        → w ≡ wrote v (encodeOptional encodeSpecifier (firstBy selfTypesRule (p .media) source (inGroup (commentsIn comments (p .comments)) f)))
+        → x ≡ wrote w (encodeOptional encodeSpecifier (firstBy jsxImportSourceRule (p .media) source (inGroup (commentsIn comments (p .comments)) f)))
+        → y ≡ wrote x (encodeOptional encodeSpecifier (firstBy jsxImportSourceTypesRule (p .media) source (inGroup (commentsIn comments (p .comments)) f)))
         → y ≡ wrote u (headBytes t)
     unfolding headBytes headComments
     head-written u found references self jsx jsxTypes =
@@ -60,9 +62,9 @@ module _ {t : Sheet} {source comments groups : List ℕ} {p : Parts} (o : PartsO
 
     pub rest-written : (u : Buffer) {v w : Buffer} → f ≡ endGroup (programOf (p .program)) (groupsIn groups (p .groups))
         → v ≡ wrote u (encodeList encodeJsDoc (jsdocImports (p .media) source (commentsIn comments (p .comments))))
-        → w ≡ wrote v (encodeOptional encodeSpecifier (sourceMapUrlIn source (inGroup (commentsIn comments (p .comments)) f)))
+        → w ≡ wrote v (encodeOptional encodeSpecifier (lastOf (readBy sourceMapUrlRule source) (inGroup (commentsIn comments (p .comments)) f)))
         → w ≡ wrote u (restBytes t)
-    unfolding restBytes endComments
+    unfolding restBytes endComments lastBy
     rest-written u found imports map =
         rw (← o .media, ← o .source-is, ← o .comments-are, ← o .groups-are, ← o .program, ← found, wrote-append, ← imports) map
 

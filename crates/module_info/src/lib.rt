@@ -8,10 +8,9 @@ use accept::check::Parts;
 use dep::entries::Counts;
 use dep::walk::analyze_program_dependencies;
 use listing::imports::analyze_jsdoc_imports;
-use pragmas::analyze_jsx_import_source;
-use pragmas::analyze_jsx_import_source_types;
+use pragmas::analyze_first;
 use pragmas::analyze_source_map_url;
-use pragmas::analyze_ts_self_types;
+use pragmas::readings::Rule;
 use pragmas::references::analyze_ts_references;
 use report::lent::Writer;
 use report::writer::Outcome;
@@ -90,9 +89,12 @@ fn put_head(source: &[u8], parts: Parts, tables: &[u32], out: &mut [u8], place: 
     let media = parts.media;
     let head = head_group(groups, parts.groups, parts.program);
     let p = analyze_ts_references(source, comments, n, index, head, out, place);
-    let p = analyze_ts_self_types(media, source, comments, n, index, head, out, p);
-    let p = analyze_jsx_import_source(media, source, comments, n, index, head, out, p);
-    analyze_jsx_import_source_types(media, source, comments, n, index, head, out, p)
+    let own = Rule::TsSelfTypes;
+    let p = analyze_first(own, media, source, comments, n, index, head, out, p);
+    let jsx = Rule::JsxImportSource;
+    let p = analyze_first(jsx, media, source, comments, n, index, head, out, p);
+    let jsx_types = Rule::JsxImportSourceTypes;
+    analyze_first(jsx_types, media, source, comments, n, index, head, out, p)
 }
 
 // The JSDoc imports and the source map. `marks` is lent to work in, and comes cleared. Where they are too few, there are more here: marks for the

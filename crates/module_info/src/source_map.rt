@@ -2,10 +2,11 @@
 use super::judge::SheetJudged;
 use super::judge::judge;
 use accept::check::Parts;
+use pragmas::readings::Counts;
 use pragmas::readings::Reading;
 use pragmas::readings::Rule;
 use pragmas::readings::comment_source_to_span;
-use pragmas::readings::last_reading;
+use pragmas::readings::find_reading;
 use sheet::limits::GROUPS_START;
 use sheet::limits::INDEX_START;
 use sheet::limits::TABLE_NUMBERS;
@@ -73,11 +74,12 @@ fn read_source_map(sheet: &[u8], parts: Parts, tables: &[u32]) -> SourceMap
     let groups = &tables[GROUPS_START..INDEX_START];
     let index = &tables[INDEX_START..TABLE_NUMBERS];
     let group = end_group(groups, parts.groups, parts.program);
-    let reading = last_reading(
+    let reading = find_reading(
         source,
         comments,
         parts.comments,
         group,
+        Counts::Last,
         Rule::StandardSourceMap,
     );
     locate(source, index, start, reading)

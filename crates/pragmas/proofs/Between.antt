@@ -1,6 +1,6 @@
 -- The comments of a table from one row to another, row by row, and what a rule answers of them.
 use mathlib.Core.Path.{_≡_, refl, ap}
-use mathlib.Core.List.{List, [], _∷_, _++_, flatMap}
+use mathlib.Core.List.{List, [], _∷_, _++_, reverse-append, flatMap}
 use mathlib.Core.Option.{Option}
 use Prim.Native.Nat.{ℕ, suc, _+_, _-_, _≤_, _<_}
 use native.Mathlib.Nat.{sub-eq-zero-of-le}
@@ -15,10 +15,12 @@ use Rattle.sheet.specs.Lookups.{commentsOf}
 use Rattle.sheet.proofs.Rows.{rows-more}
 use Rattle.sheet.proofs.Members.{group-comments}
 use Rattle.report.specs.ModuleInfo.{TypeScriptReference}
+use Rattle.pragmas.specs.declared.readings.Counts.{Counts}
+use Rattle.pragmas.specs.declared.readings.Counts.the-variants.{First, Last}
 use Rattle.pragmas.specs.declared.references.Reference.{Reference}
 use Rattle.pragmas.specs.declared.references.Reference.the-variants as reference
 use Rattle.pragmas.specs.Readings.{orElse, firstOf, lastOf, listed, allOf}
-use Rattle.pragmas.specs.code.Views.{commentsFrom, referenceAs, amount, encodeAny}
+use Rattle.pragmas.specs.code.Views.{commentsFrom, counted, referenceAs, amount, encodeAny}
 
 module _ (table : List ℕ) (start end : ℕ) where
   from-next : start < end → commentsFrom table start end ≡ commentIn table start ∷ commentsFrom table (start + 1) end
@@ -44,49 +46,39 @@ group-from table n g r =
     let e : g .first + g .count - g .first ≡ g .count = omega arith in
     rw e (group-comments table n g r)
 
-module _ {A : Type 0} (f : Comment → Option A) where
-  else-none : (a : Option A) → orElse Option.none a ≡ orElse a Option.none
-  else-none Option.none = refl
-  else-none (Option.some a) = refl
+-- the row that is looked at first among some, and the other rows
+abbrev pub sought : Counts → ℕ → ℕ → ℕ
+sought First start end = start
+sought Last start end = end - 1
 
-  else-else : (a b c : Option A) → orElse (orElse a b) c ≡ orElse a (orElse b c)
-  else-else Option.none b c = refl
-  else-else (Option.some a) b c = refl
+abbrev pub others : Counts → List ℕ → ℕ → ℕ → List Comment
+others First table start end = commentsFrom table (start + 1) end
+others Last table start end = commentsFrom table start (end - 1)
 
-  last-append : (cs : List Comment) (c : Comment) → lastOf f (cs ++ (c ∷ [])) ≡ orElse (f c) (lastOf f cs)
-  unfolding lastOf
-  last-append [] c = else-none (f c)
-  last-append (d ∷ cs) c = rw (last-append cs c) (else-else (f c) (lastOf f cs) (f d))
+pub counted-nothing : {A : Type 0} (f : Comment → Option A) (counts : Counts) → counted counts f [] ≡ Option.none
+unfolding firstOf lastOf
+counted-nothing f First = refl
+counted-nothing f Last = refl
 
-  -- by the first row, or by the last
-  module _ (table : List ℕ) (start end : ℕ) (h : start < end) where
-    pub first-next : {c : Comment} → c ≡ commentIn table start
-        → firstOf f (commentsFrom table start end) ≡ orElse (f c) (firstOf f (commentsFrom table (start + 1) end))
-    unfolding firstOf
-    first-next e = rw (from-next table start end h, e)
+module _ {A : Type 0} (f : Comment → Option A) (table : List ℕ) (start end : ℕ) where
+  -- by the row that is looked at first
+  pub counted-next : start < end → (counts : Counts) {c : Comment} → c ≡ commentIn table (sought counts start end)
+      → counted counts f (commentsFrom table start end) ≡ orElse (f c) (counted counts f (others counts table start end))
+  unfolding firstOf lastOf
+  counted-next h First e = rw (from-next table start end h, e)
+  counted-next h Last e = rw (from-last table start end h, reverse-append, e)
 
-    pub last-next : {c : Comment} → c ≡ commentIn table (end - 1)
-        → lastOf f (commentsFrom table start end) ≡ orElse (f c) (lastOf f (commentsFrom table start (end - 1)))
-    last-next e = rw (from-last table start end h, e) (last-append (commentsFrom table start (end - 1)) (commentIn table (end - 1)))
+  pub counted-none : (counts : Counts) → end ≤ start → counted counts f (commentsFrom table start end) ≡ Option.none
+  counted-none counts h = rw (from-none table start end h) (counted-nothing f counts)
 
-    pub all-next : {c : Comment} → c ≡ commentIn table start
-        → allOf f (commentsFrom table start end) ≡ listed (f c) (allOf f (commentsFrom table (start + 1) end))
-    unfolding allOf
-    all-next e = rw (from-next table start end h, e)
+  pub all-next : start < end → {c : Comment} → c ≡ commentIn table start
+      → allOf f (commentsFrom table start end) ≡ listed (f c) (allOf f (commentsFrom table (start + 1) end))
+  unfolding allOf
+  all-next h e = rw (from-next table start end h, e)
 
-  -- there is no row
-  module _ (table : List ℕ) (start end : ℕ) (h : end ≤ start) where
-    pub first-none : firstOf f (commentsFrom table start end) ≡ Option.none
-    unfolding firstOf
-    first-none = rw (from-none table start end h)
-
-    pub last-none : lastOf f (commentsFrom table start end) ≡ Option.none
-    unfolding lastOf
-    last-none = rw (from-none table start end h)
-
-    pub all-none : allOf f (commentsFrom table start end) ≡ []
-    unfolding allOf
-    all-none = rw (from-none table start end h)
+  pub all-none : end ≤ start → allOf f (commentsFrom table start end) ≡ []
+  unfolding allOf
+  all-none h = rw (from-none table start end h)
 
 -- one more, or none
 pub listed-each : {A : Type 0} (f : A → List ℕ) (o : Option A) (l : List A) → flatMap f (listed o l) ≡ encodeAny f o ++ flatMap f l

@@ -1,10 +1,19 @@
 -- Two rules side by side: what holds of their answers of each comment holds of their first answers, of their last and of all.
 use mathlib.Core.Path.{_≡_, refl, ap}
-use mathlib.Core.List.{List, [], _∷_, List·Memᴰ, List·Memᴰ·head, List·Memᴰ·tail}
+use mathlib.Core.Logic.{_⊎_, inl, inr, ⊎-elim}
+use mathlib.Core.List.{List, [], _∷_, reverse, reverseAux, List·Memᴰ, List·Memᴰ·head, List·Memᴰ·tail, List·Memᴰ·not-nil, List·Memᴰ·cases-cons}
 use mathlib.Core.Option.{Option, Option·map}
 use Rattle.laws.specs.Aligned.{Aligned}
 use Rattle.sheet.specs.declared.comments.Comment.{Comment}
 use Rattle.pragmas.specs.Readings.{orElse, firstOf, lastOf, listed, allOf}
+
+-- the comments from the end are the same
+turned : (cs ds : List Comment) {c : Comment} → List·Memᴰ c (reverseAux cs ds) → List·Memᴰ c cs ⊎ List·Memᴰ c ds
+turned [] ds m = inr m
+turned (d ∷ cs) ds m = ⊎-elim (λ i. inl (List·Memᴰ·tail i)) (λ i. ⊎-elim (λ e. inl (List·Memᴰ·head e)) inr (List·Memᴰ·cases-cons i)) (turned cs (d ∷ ds) m)
+
+pub of-reverse : (cs : List Comment) {c : Comment} → List·Memᴰ c (reverse cs) → List·Memᴰ c cs
+of-reverse cs m = ⊎-elim (λ i. i) (λ i. absurd (List·Memᴰ·not-nil i)) (turned cs [] m)
 
 -- there is no answer of either, or one of each
 pub data Both {A B : Type 0} (P : A → B → Type 0) : Option A → Option B → Type 0 where
@@ -41,8 +50,7 @@ module _ {A B : Type 0} {P : A → B → Type 0} where
 
     pub both-last : (cs : List Comment) → ((c : Comment) → List·Memᴰ c cs → Both P (f c) (g c)) → Both P (lastOf f cs) (lastOf g cs)
     unfolding lastOf
-    both-last [] h = Both.neither
-    both-last (c ∷ cs) h = both-else (both-last cs (λ d m. h d (List·Memᴰ·tail m))) (h c (List·Memᴰ·head refl))
+    both-last cs h = both-first (reverse cs) (λ c m. h c (of-reverse cs m))
 
     pub both-all : (cs : List Comment) → ((c : Comment) → List·Memᴰ c cs → Both P (f c) (g c)) → Aligned P (allOf f cs) (allOf g cs)
     unfolding allOf

@@ -1,49 +1,46 @@
 -- Against the rule before request #104, by which the path pattern came first: the two differ exactly in the comments that both patterns read, and there
 -- the answer is the types one.
 use mathlib.Core.Path.{_≡_, refl, sym, ap, _∙_}
-use mathlib.Core.Bool.{Bool, true, false, cond, _&&_, false≢true}
+use mathlib.Core.Bool.{Bool, true, false, cond, false≢true}
 use mathlib.Core.Logic.{⊎-elim, _↔_}
 use mathlib.Core.List.{List, [], _∷_, List·Memᴰ, List·Memᴰ·head, List·Memᴰ·tail, List·Memᴰ·cases-cons, List·Memᴰ·not-nil}
-use mathlib.Core.Option.{Option}
+use mathlib.Core.Option.{Option, Option·map}
 use Prim.Native.Nat.{ℕ}
 use native.Mathlib.Omega.{arith}
-use Rattle.analysis.specs.declared.Found.{Found}
-use Rattle.analysis.specs.declared.Found.the-variants.{At, Nothing}
 use Rattle.analysis.specs.Mode.{Mode}
 use Rattle.analysis.specs.Row.{find, isFound}
-use Rattle.analysis.specs.Patterns.{tripleSlashRow, pathRow, typesRow}
+use Rattle.analysis.specs.Patterns.{tripleSlashRow}
 use Rattle.sheet.specs.declared.comments.Comment.{Comment}
-use Rattle.sheet.specs.declared.names.CommentKind.the-variants.{Line}
-use Rattle.sheet.specs.Comments.{actsAs}
 use Rattle.sheet.specs.Lookups.{body}
 use Rattle.report.specs.ModuleInfo.{SpecifierWithRange, TypeScriptReference, path, types}
-use Rattle.pragmas.specs.Readings.{specifierIn, allOf, listed}
-use Rattle.pragmas.specs.Pragmas.{isLine, modeIn, referenceBy, reference}
-use Rattle.pragmas.specs.Present.{Matched, Read, ModeRead}
-use Rattle.pragmas.proofs.Present.{unmatched, matched, found-read, mode-read, is-reference}
+use Rattle.pragmas.specs.Asks.{pathRule, typesRule}
+use Rattle.pragmas.specs.Readings.{readBy, orElse, allOf, listed}
+use Rattle.pragmas.specs.Pragmas.{modeIn, reference}
+use Rattle.pragmas.specs.Present.{Matched, byRule, byTypes}
+use Rattle.pragmas.proofs.Present.{gives-reads, ruled, is-found, by-types}
 
 module _ (source : List ℕ) where
-  -- a reference by the path pattern, or else by the types one
-  abbrev pathFirstBy : Comment → Found → Found → Option TypeScriptReference
-  pathFirstBy c (At k) t = Option.some (path (specifierIn source c k))
-  pathFirstBy c Nothing (At k) = Option.some (types (specifierIn source c k) (modeIn source c))
-  pathFirstBy c Nothing Nothing = Option.none
+  -- what each rule makes of a reading
+  abbrev byPathOf : Option SpecifierWithRange → Option TypeScriptReference
+  byPathOf = Option·map path
+
+  abbrev byTypesOf : Comment → Option SpecifierWithRange → Option TypeScriptReference
+  byTypesOf c = Option·map (λ x. types x (modeIn source c))
 
   -- the rule before
   abbrev pub pathFirst : Comment → Option TypeScriptReference
   pathFirst c =
-      cond (isLine c && isFound (find tripleSlashRow (body source c)))
-      (pathFirstBy c (find pathRow (body source c)) (find typesRow (body source c)))
+      cond (isFound (find tripleSlashRow (body source c)))
+      (orElse (byPathOf (readBy pathRule source c)) (byTypesOf c (readBy typesRule source c)))
       Option.none
 
-  -- a line comment that the triple-slash pattern reads, and both others
+  -- a line comment that the triple-slash pattern reads, and both rules
   pub record BothRead (c : Comment) : Type 0 where
-    pub line : actsAs (c .kind) ≡ Line
     pub slashes : Matched tripleSlashRow source c
-    pub by-path : Matched pathRow source c
-    pub by-types : Matched typesRow source c
+    pub path-reads : byRule pathRule source .Reads c
+    pub types-reads : byRule typesRule source .Reads c
 
-  -- what the two rules give of a comment, by what the three patterns find in it
+  -- what the two give of a comment
   abbrev Alike : Option TypeScriptReference → Option TypeScriptReference → Type 0
   Alike Option.none Option.none = Unit {0}
   Alike (Option.some a) (Option.some b) = Unit {0}
@@ -59,43 +56,42 @@ module _ (source : List ℕ) where
   unlike : {x y : SpecifierWithRange} {m : Mode} → Option.some (path x) ≡ Option.some (types y m) → ⊥
   unlike q = let z : _≡_ {A = ℕ} 0 1 = cc in omega (arith, z)
 
+  -- there is no such comment, and the answers are equal
+  equal : {c : Comment} {a : Option TypeScriptReference} → Alike a a → (BothRead c → ⊥) → Compared c a a
+  equal alike n = record { alike = alike; apart = λ b q. n b; agree = λ n. refl; both = λ q. absurd (q refl) }
+
   compared : (c : Comment) → Compared c (pathFirst c) (reference source c)
   unfolding reference
-  compared c =
-      by (isLine c && isFound (find tripleSlashRow (body source c))) refl
-      (find pathRow (body source c)) refl
-      (find typesRow (body source c)) refl
+  compared c = by (isFound (find tripleSlashRow (body source c))) refl (readBy pathRule source c) refl (readBy typesRule source c) refl
     where
-      by : (x : Bool) → isLine c && isFound (find tripleSlashRow (body source c)) ≡ x
-          → (p : Found) → find pathRow (body source c) ≡ p → (t : Found) → find typesRow (body source c) ≡ t
-          → Compared c (cond x (pathFirstBy c p t) Option.none) (cond x (referenceBy source c t p) Option.none)
-      by true e (At k) i (At l) j =
-          let (line, slashes) = is-reference source c .0 e in
-          let here : BothRead c = record { line = line; slashes = slashes; by-path = matched pathRow source c i; by-types = matched typesRow source c j } in
+      by : (b : Bool) → isFound (find tripleSlashRow (body source c)) ≡ b → (p : Option SpecifierWithRange) → readBy pathRule source c ≡ p
+          → (t : Option SpecifierWithRange) → readBy typesRule source c ≡ t
+          → Compared c (cond b (orElse (byPathOf p) (byTypesOf c t)) Option.none) (cond b (orElse (byTypesOf c t) (byPathOf p)) Option.none)
+      by true e (Option.some x) i (Option.some y) j =
+          let here : BothRead c = record {
+            slashes = is-found source c .0 e;
+            path-reads = gives-reads pathRule source c (ruled pathRule source .gives c x .0 i);
+            types-reads = gives-reads typesRule source c (ruled typesRule source .gives c y .0 j);
+          } in
           record { alike = tt; apart = λ b q. unlike q; agree = λ n. absurd (n here); both = λ n. here }
-      by true e (At k) i Nothing j =
-          record { alike = tt; apart = λ b q. unmatched typesRow source c j (b .by-types); agree = λ n. refl; both = λ n. absurd (n refl) }
-      by true e Nothing i (At l) j =
-          record { alike = tt; apart = λ b q. unmatched pathRow source c i (b .by-path); agree = λ n. refl; both = λ n. absurd (n refl) }
-      by true e Nothing i Nothing j =
-          record { alike = tt; apart = λ b q. unmatched pathRow source c i (b .by-path); agree = λ n. refl; both = λ n. absurd (n refl) }
-      by false e p i t j =
-          record { alike = tt; apart = λ b q. false≢true (sym e ∙ is-reference source c .1 (b .line, b .slashes)); agree = λ n. refl; both = λ n. absurd (n refl) }
+      by true e (Option.some x) i Option.none j = equal tt (λ b. ruled typesRule source .unread c .0 j (b .types-reads))
+      by true e Option.none i (Option.some y) j = equal tt (λ b. ruled pathRule source .unread c .0 i (b .path-reads))
+      by true e Option.none i Option.none j = equal tt (λ b. ruled pathRule source .unread c .0 i (b .path-reads))
+      by false e p i t j = equal tt (λ b. false≢true (sym e ∙ is-found source c .1 (b .slashes)))
 
   -- the two rules differ exactly where both patterns read
   pub differ : (c : Comment) → (pathFirst c ≡ reference source c → ⊥) ↔ BothRead c
   differ c = (compared c .both, compared c .apart)
 
   -- there the answer is the types one, with the mode that the resolution-mode pattern reads anywhere in the body
-  pub there : (c : Comment) → BothRead c
-      → (x : SpecifierWithRange) × (m : Mode) × Read typesRow source c x × ModeRead source c m × (reference source c ≡ Option.some (types x m))
+  pub there : (c : Comment) → BothRead c → (a : TypeScriptReference) × byTypes source .Gives c a × (reference source c ≡ Option.some a)
   unfolding reference
-  there c b = by (find typesRow (body source c)) refl
+  there c b = by (byTypesOf c (readBy typesRule source c)) refl
     where
-      by : (t : Found) → find typesRow (body source c) ≡ t
-          → (x : SpecifierWithRange) × (m : Mode) × Read typesRow source c x × ModeRead source c m × (reference source c ≡ Option.some (types x m))
-      by (At l) j = (specifierIn source c l, modeIn source c, found-read typesRow source c j, mode-read source c, rw (is-reference source c .1 (b .line, b .slashes), j))
-      by Nothing j = absurd (unmatched typesRow source c j (b .by-types))
+      by : (t : Option TypeScriptReference) → byTypesOf c (readBy typesRule source c) ≡ t
+          → (a : TypeScriptReference) × byTypes source .Gives c a × (reference source c ≡ Option.some a)
+      by (Option.some a) e = (a, by-types source .gives c a .0 e, rw (is-found source c .1 (b .slashes), e))
+      by Option.none e = absurd (by-types source .unread c .0 e (b .types-reads))
 
   -- so the references of some comments are equal exactly where there is no such comment among them
   pub same-references : (cs : List Comment)

@@ -1,35 +1,27 @@
 -- The references and the pragmas are exactly the readings of their rules.
 use mathlib.Core.Path.{_≡_, refl, sym, ap, _∙_}
-use mathlib.Core.Bool.{Bool, true, false, cond, not, _&&_, and-eq-true-iff, false≢true}
+use mathlib.Core.Bool.{Bool, true, false, cond, false≢true}
 use mathlib.Core.Logic.{_⊎_, inl, inr, ⊎-elim, _↔_}
-use mathlib.Core.List.{List, [], _∷_, _++_, List·Memᴰ·head, List·Memᴰ·tail, List·Memᴰ·not-nil, List·Memᴰ·cases-cons}
-use mathlib.Core.Option.{Option, Option·some-injective, Option·none-ne-some}
+use mathlib.Core.List.{List, [], _∷_, _++_, append-assoc, reverse, reverse-cons, reverse-append, reverse-reverse, List·Memᴰ·head, List·Memᴰ·tail, List·Memᴰ·not-nil, List·Memᴰ·cases-cons}
+use mathlib.Core.Option.{Option, Option·map, Option·some-injective, Option·none-ne-some}
 use Prim.Native.Nat.{ℕ}
-use native.Mathlib.Omega.{arith}
-use lib.Dec.{eqb}
-use borrow.Author.Tests.{eqb-true, eq-eqb}
 use Rattle.analysis.specs.declared.Capture.{Capture}
 use Rattle.analysis.specs.declared.Found.{Found}
 use Rattle.analysis.specs.declared.Found.the-variants.{At, Nothing}
 use Rattle.analysis.specs.Row.{Row, find, isFound}
 use Rattle.analysis.specs.Mode.{Mode}
-use Rattle.analysis.specs.Patterns.{tripleSlashRow, pathRow, typesRow, resolutionModeRow, jsxImportSourceRow, jsxImportSourceTypesRow, sourceMappingUrlRow, tsSelfTypesRow, tsTypesRow, denoTypesRow}
+use Rattle.analysis.specs.Patterns.{tripleSlashRow, resolutionModeRow}
 use Rattle.analysis.proofs.Preference.{preferred-reads, finds}
-use Rattle.wire.proofs.Numbered.{one-number}
 use Rattle.sheet.specs.declared.comments.Comment.{Comment}
-use Rattle.sheet.specs.declared.names.CommentKind.{CommentKind}
-use Rattle.sheet.specs.declared.names.CommentKind.the-variants.{Line, Block, HtmlOpen, HtmlClose}
 use Rattle.sheet.specs.declared.names.Side.the-variants.{Leading}
-use Rattle.sheet.specs.Names.{kindNumber}
-use Rattle.sheet.specs.Comments.{actsAs}
 use Rattle.sheet.specs.Lookups.{groupAt, body}
 use Rattle.sheet.specs.Sheet.{Sheet}
-use Rattle.sheet.specs.Media.{isJavaScript, isJsx}
 use Rattle.report.specs.ModuleInfo.{SpecifierWithRange, path, types, ModuleInfo}
-use Rattle.sheet.proofs.Numbered.{kind-numbers}
+use Rattle.pragmas.specs.Asks.{Asks, pathRule, typesRule, selfTypesRule, jsxImportSourceRule, jsxImportSourceTypesRule, sourceMapUrlRule, tsTypesRule, denoTypesRule}
 use Rattle.pragmas.specs.Readings.{specifierIn, onFound, readBy, orElse, firstOf, lastOf, listed, allOf}
-use Rattle.pragmas.specs.Pragmas.{headComments, endComments, givenIf, isLine, isBlock, modeIn, modeBy, referenceBy, reference, referencesIn, selfTypesIn, jsxImportSourceIn, jsxImportSourceTypesIn, sourceMapUrlIn, tsReferences, selfTypesSpecifier, jsxImportSource, jsxImportSourceTypes, sourceMapUrl, tsOrDenoTypes, typesBy, lastIn, typesIn, typesAt}
-use Rattle.pragmas.specs.Present.{Matched, Read, Reader, byPattern, only, orElseBy, ModeRead, referenceRule, tsOrDenoTypesRule, NoReading, FirstReading, LastReading, InOrder, Exactly, ExactlyFirst, ExactlyLast, Present, TypesPresent}
+use Rattle.pragmas.specs.Pragmas.{headComments, endComments, givenTo, modeIn, modeBy, reference, referencesIn, firstBy, lastBy, tsReferences, selfTypesSpecifier, jsxImportSource, jsxImportSourceTypes, sourceMapUrl, tsOrDenoTypes, typesBy, lastIn, typesIn, typesAt}
+use Rattle.pragmas.specs.Present.{Matched, Read, Reader, only, orElseBy, made, byRule, ModeRead, byPath, byTypes, byReference, byTsOrDenoTypes, NoReading, FirstReading, LastReading, InOrder, Exactly, ExactlyFirst, ExactlyLast, Present, TypesPresent}
+use Rattle.pragmas.proofs.Both.{of-reverse}
 
 -- what a function answers of a comment is what a rule gives
 pub record Agrees {A : Type 0} (f : Comment → Option A) (r : Reader A) : Type 0 where
@@ -77,26 +69,9 @@ by-finder {A} found make {r} gives reading nothing = record {
     none c (At k) i = absurd (Option·none-ne-some _ (sym i))
     none c Nothing i = refl
 
--- what is made of a pattern's reading
-made : (row : Row) (source : List ℕ) {A : Type 0} (make : Comment → SpecifierWithRange → A) {Gives : Comment → A → Type 0}
-    → ((c : Comment) (x : SpecifierWithRange) → Read row source c x → Gives c (make c x))
-    → ((c : Comment) (a : A) → Gives c a → (x : SpecifierWithRange) × Read row source c x × (a ≡ make c x))
-    → Agrees (λ c. onFound (λ k. make c (specifierIn source c k)) (find row (body source c))) (record { Reads = Matched row source; Gives = Gives })
-made row source make gives reading =
-    by-finder (λ c. find row (body source c)) (λ c k. make c (specifierIn source c k)) (λ c k e. gives c _ (found-read row source c e))
-    (λ c a g. let (x, r, i) = reading c a g in let (k, e, j) = read-found row source c r in (k, e, ap (make c) j ∙ sym i))
-    (λ c. (unmatched row source c, unread-none row source c))
-
-pub pattern : (row : Row) (source : List ℕ) → Agrees (readBy row source) (byPattern row source)
-unfolding readBy
-pattern row source = made row source (λ c x. x) (λ c x r. r) (λ c a r. (a, r, refl))
-
 -- ---- rules from rules
 
 module _ {A : Type 0} where
-  same : {f g : Comment → Option A} {r : Reader A} → ((c : Comment) → f c ≡ g c) → Agrees f r → Agrees g r
-  same e h = record { gives = λ c a. rw (e c) at (h .gives c a); unread = λ c. rw (e c) at (h .unread c) }
-
   -- for the comments of a test only
   pub onlyIf : (b : Comment → Bool) {P : Comment → Type 0} {f : Comment → Option A} {r : Reader A} → ((c : Comment) → (b c ≡ true) ↔ P c) → Agrees f r
       → Agrees (λ c. cond (b c) (f c) Option.none) (only P r)
@@ -137,10 +112,38 @@ module _ {A : Type 0} where
       none c Option.none e j (inr q) = i .unread c .0 j q
       none c (Option.some b) e j q = Option·none-ne-some _ (sym j)
 
+  -- what is made of a reading
+  mapped : {B : Type 0} (m : Comment → A → B) {M : Comment → A → B → Type 0} → ((c : Comment) (a : A) → M c a (m c a))
+      → ((c : Comment) (a : A) (b : B) → M c a b → b ≡ m c a) → {f : Comment → Option A} {r : Reader A} → Agrees f r
+      → Agrees (λ c. Option·map (m c) (f c)) (made M r)
+  mapped {B} m {M} is alone {f} {r} h = record {
+    gives = λ c b. (some c b (f c) refl, λ (a, g, e). rw (h .gives c a .1 g) (ap Option.some (sym (alone c a b e))));
+    unread = λ c. (λ e. h .unread c .0 (none c (f c) e), λ n. rw (h .unread c .1 n));
+  }
+    where
+      some : (c : Comment) (b : B) (x : Option A) → f c ≡ x → Option·map (m c) x ≡ Option.some b → made M r .Gives c b
+      some c b Option.none e i = absurd (Option·none-ne-some _ i)
+      some c b (Option.some a) e i = let same : m c a ≡ b = cc in rw (← same) (a, h .gives c a .0 e, is c a)
+
+      none : (c : Comment) (x : Option A) → Option·map (m c) x ≡ Option.none → x ≡ Option.none
+      none c Option.none i = refl
+      none c (Option.some a) i = absurd (Option·none-ne-some _ (sym i))
+
+-- a rule
+pub ruled : (rule : Asks) (source : List ℕ) → Agrees (readBy rule source) (byRule rule source)
+unfolding readBy
+ruled rule source =
+    onlyIf (λ c. rule .kind (c .kind)) (λ c. (λ e. e, λ e. e))
+    (by-finder (λ c. find (rule .row) (body source c)) (specifierIn source) (λ c k e. found-read (rule .row) source c e)
+    (λ c x r. read-found (rule .row) source c r) (λ c. (unmatched (rule .row) source c, unread-none (rule .row) source c)))
+
+pub gives-reads : (rule : Asks) (source : List ℕ) (c : Comment) {x : SpecifierWithRange} → byRule rule source .Gives c x → byRule rule source .Reads c
+gives-reads rule source c (kind, r) = (kind, (r .capture, preferred-reads (rule .row) (body source c) (r .preferred)))
+
 -- ---- references
 
 module _ (source : List ℕ) where
-  pub mode-read : (c : Comment) → ModeRead source c (modeIn source c)
+  mode-read : (c : Comment) → ModeRead source c (modeIn source c)
   unfolding modeIn
   mode-read c = go (find resolutionModeRow (body source c)) refl
     where
@@ -153,8 +156,8 @@ module _ (source : List ℕ) where
   read-mode c (ModeRead.named {k} p) = rw (finds resolutionModeRow (body source c) .some k .1 p)
   read-mode c (ModeRead.none n) = rw (unread-none resolutionModeRow source c n)
 
-  -- a line comment that the triple-slash pattern reads
-  is-found : (c : Comment) → (isFound (find tripleSlashRow (body source c)) ≡ true) ↔ Matched tripleSlashRow source c
+  -- a comment that the triple-slash pattern reads
+  pub is-found : (c : Comment) → (isFound (find tripleSlashRow (body source c)) ≡ true) ↔ Matched tripleSlashRow source c
   is-found c = (some (find tripleSlashRow (body source c)) refl, λ m. back m (find tripleSlashRow (body source c)) refl)
     where
       some : (f : Found) → find tripleSlashRow (body source c) ≡ f → isFound f ≡ true → Matched tripleSlashRow source c
@@ -165,32 +168,17 @@ module _ (source : List ℕ) where
       back m (At k) e = refl
       back m Nothing e = absurd (unmatched tripleSlashRow source c e m)
 
-  is-line : (kind : CommentKind) → (not (eqb (kindNumber kind) (kindNumber Block)) ≡ true) ↔ (actsAs kind ≡ Line)
-  is-line Line = (λ e. refl, λ e. refl)
-  is-line Block = (λ e. absurd (false≢true e), λ e. let z : _≡_ {A = ℕ} 1 0 = ap kindNumber e in absurd (omega arith))
-  is-line HtmlOpen = (λ e. refl, λ e. refl)
-  is-line HtmlClose = (λ e. refl, λ e. refl)
+  pub by-types : Agrees (λ c. Option·map (λ x. types x (modeIn source c)) (readBy typesRule source c)) (byTypes source)
+  by-types =
+      mapped (λ c x. types x (modeIn source c)) (λ c x. (modeIn source c, mode-read c, refl)) (λ c x a (m, n, e). e ∙ ap (types x) (sym (read-mode c n)))
+      (ruled typesRule source)
 
-  pub is-reference : (c : Comment) → (isLine c && isFound (find tripleSlashRow (body source c)) ≡ true) ↔ ((actsAs (c .kind) ≡ Line) × Matched tripleSlashRow source c)
-  is-reference c = (
-    λ t. let (l, m) = and-eq-true-iff (isLine c) (isFound (find tripleSlashRow (body source c))) .0 t in (is-line (c .kind) .0 l, is-found c .0 m),
-    λ (l, m). rw (is-line (c .kind) .1 l) (is-found c .1 m),
-  )
+  pub by-path : Agrees (λ c. Option·map path (readBy pathRule source c)) (byPath source)
+  by-path = mapped (λ c. path) (λ c x. refl) (λ c x a e. e) (ruled pathRule source)
 
-  by-either : (c : Comment) (t p : Found)
-      → orElse (onFound (λ k. types (specifierIn source c k) (modeIn source c)) t) (onFound (λ k. path (specifierIn source c k)) p) ≡ referenceBy source c t p
-  by-either c (At k) p = refl
-  by-either c Nothing (At k) = refl
-  by-either c Nothing Nothing = refl
-
-  pub referring : Agrees (reference source) (referenceRule source)
+  pub referring : Agrees (reference source) (byReference source)
   unfolding reference
-  referring =
-      onlyIf (λ c. isLine c && isFound (find tripleSlashRow (body source c))) is-reference
-      (same (λ c. by-either c (find typesRow (body source c)) (find pathRow (body source c)))
-      (either
-      (made typesRow source (λ c x. types x (modeIn source c)) (λ c x r. (x, modeIn source c, r, mode-read c, refl)) (λ c a (x, m, r, n, e). (x, r, e ∙ ap (types x) (sym (read-mode c n)))))
-      (made pathRow source (λ c x. path x) (λ c x r. (x, r, refl)) (λ c a g. g))))
+  referring = onlyIf (λ c. isFound (find tripleSlashRow (body source c))) is-found (either by-types by-path)
 
 -- ---- comments one after the other
 
@@ -237,42 +225,39 @@ module _ {A : Type 0} {f : Comment → Option A} {r : Reader A} (h : Agrees f r)
     none = (first-unread cs, first-none cs);
   }
 
-  last-none : (cs : List Comment) → NoReading r cs → lastOf f cs ≡ Option.none
-  unfolding lastOf
-  last-none [] n = refl
-  last-none (c ∷ cs) n = rw (last-none cs (λ d m. n d (List·Memᴰ·tail m))) (h .unread c .1 (n c (List·Memᴰ·head refl)))
+  -- from the end
+  turned : (before : List Comment) (c : Comment) (behind : List Comment) → reverse (before ++ c ∷ behind) ≡ reverse behind ++ c ∷ reverse before
+  turned before c behind = reverse-append before (c ∷ behind) ∙ rw (reverse-cons c behind, append-assoc)
 
-  last-unread : (cs : List Comment) → lastOf f cs ≡ Option.none → NoReading r cs
-  unfolding lastOf
-  last-unread [] e = λ d m q. List·Memᴰ·not-nil m
-  last-unread (c ∷ cs) e = go (lastOf f cs) refl e (last-unread cs)
-    where
-      go : (x : Option A) → lastOf f cs ≡ x → orElse x (f c) ≡ Option.none → (lastOf f cs ≡ Option.none → NoReading r cs) → NoReading r (c ∷ cs)
-      go Option.none i e more = unread-here (h .unread c .0 e) (more i)
-      go (Option.some b) i e more = absurd (Option·none-ne-some _ (sym e))
-
-  last-some : (cs : List Comment) (a : A) → lastOf f cs ≡ Option.some a → LastReading r cs a
-  unfolding lastOf
-  last-some [] a e = absurd (Option·none-ne-some _ e)
-  last-some (c ∷ cs) a e = go (lastOf f cs) refl e (last-some cs a)
-    where
-      go : (x : Option A) → lastOf f cs ≡ x → orElse x (f c) ≡ Option.some a → (lastOf f cs ≡ Option.some a → LastReading r cs a) → LastReading r (c ∷ cs) a
-      go Option.none i e more =
-          record { before = []; comment = c; behind = cs; among = refl; unread = last-unread cs i; gives = h .gives c a .0 e }
-      go (Option.some b) i e more =
-          let t = more (i ∙ e) in
-          record { before = c ∷ t .before; comment = t .comment; behind = t .behind; among = ap (c ∷_) (t .among); unread = t .unread; gives = t .gives }
-
-  last-is : (before : List Comment) (c : Comment) (behind : List Comment) {a : A} → NoReading r behind → r .Gives c a → lastOf f (before ++ c ∷ behind) ≡ Option.some a
-  unfolding lastOf
-  last-is [] c behind {a} n g = rw (last-none behind n) (h .gives c a .1 g)
-  last-is (d ∷ before) c behind n g = rw (last-is before c behind n g)
+  unread-turned : (cs : List Comment) → NoReading r cs → NoReading r (reverse cs)
+  unread-turned cs n c m = n c (of-reverse cs m)
 
   pub lastly : (cs : List Comment) → ExactlyLast r cs (lastOf f cs)
-  lastly cs = record {
-    some = λ a. (last-some cs a, λ t. rw (t .among) (last-is (t .before) (t .comment) (t .behind) (t .unread) (t .gives)));
-    none = (last-unread cs, last-none cs);
-  }
+  unfolding lastOf
+  lastly cs = record { some = λ a. (λ e. last (first .some a .0 e), λ t. first .some a .1 (back t)); none = (λ e. rw reverse-reverse at (unread-turned (reverse cs) (first .none .0 e)), λ n. first .none .1 (unread-turned cs n)) }
+    where
+      first : ExactlyFirst r (reverse cs) (firstOf f (reverse cs))
+      first = firstly (reverse cs)
+
+      last : {a : A} → FirstReading r (reverse cs) a → LastReading r cs a
+      last t = record {
+        before = reverse (t .behind);
+        comment = t .comment;
+        behind = reverse (t .before);
+        among = sym (reverse-reverse cs) ∙ ap reverse (t .among) ∙ turned (t .before) (t .comment) (t .behind);
+        unread = unread-turned (t .before) (t .unread);
+        gives = t .gives;
+      }
+
+      back : {a : A} → LastReading r cs a → FirstReading r (reverse cs) a
+      back t = record {
+        before = reverse (t .behind);
+        comment = t .comment;
+        behind = reverse (t .before);
+        among = ap reverse (t .among) ∙ turned (t .before) (t .comment) (t .behind);
+        unread = unread-turned (t .behind) (t .unread);
+        gives = t .gives;
+      }
 
   in-order : (cs : List Comment) → InOrder r cs (allOf f cs)
   unfolding allOf
@@ -294,9 +279,6 @@ module _ {A : Type 0} {f : Comment → Option A} {r : Reader A} (h : Agrees f r)
 
 -- ---- the rules of document 01
 
-pub is-block : (c : Comment) → (isBlock c ≡ true) ↔ (c .kind ≡ Block)
-is-block c = (λ e. one-number kind-numbers (eqb-true (kindNumber (c .kind)) 1 e), λ e. eq-eqb (kindNumber (c .kind)) 1 (ap kindNumber e))
-
 pub present : (t : Sheet) (m : ModuleInfo)
     → m .tsReferences ≡ tsReferences t
     → m .selfTypesSpecifier ≡ selfTypesSpecifier t
@@ -304,13 +286,13 @@ pub present : (t : Sheet) (m : ModuleInfo)
     → m .jsxImportSourceTypes ≡ jsxImportSourceTypes t
     → m .sourceMapUrl ≡ sourceMapUrl t
     → Present t m
-unfolding referencesIn selfTypesIn jsxImportSourceIn jsxImportSourceTypesIn sourceMapUrlIn
+unfolding referencesIn firstBy lastBy
 present t m references self jsx jsx-types map = record {
   references = rw references (all-in-order (referring (t .source)) (headComments t));
-  self-types = rw self (firstly (pattern tsSelfTypesRow (t .source)) (givenIf (isJavaScript (t .media)) (headComments t)));
-  jsx-import-source = rw jsx (firstly (onlyIf isBlock is-block (pattern jsxImportSourceRow (t .source))) (givenIf (isJsx (t .media)) (headComments t)));
-  jsx-import-source-types = rw jsx-types (firstly (onlyIf isBlock is-block (pattern jsxImportSourceTypesRow (t .source))) (givenIf (isJsx (t .media)) (headComments t)));
-  source-map-url = rw map (lastly (pattern sourceMappingUrlRow (t .source)) (endComments t));
+  self-types = rw self (firstly (ruled selfTypesRule (t .source)) (givenTo selfTypesRule (t .media) (headComments t)));
+  jsx-import-source = rw jsx (firstly (ruled jsxImportSourceRule (t .source)) (givenTo jsxImportSourceRule (t .media) (headComments t)));
+  jsx-import-source-types = rw jsx-types (firstly (ruled jsxImportSourceTypesRule (t .source)) (givenTo jsxImportSourceTypesRule (t .media) (headComments t)));
+  source-map-url = rw map (lastly (ruled sourceMapUrlRule (t .source)) (endComments t));
 }
 
 pub types-present : (t : Sheet) (start : ℕ) → TypesPresent t start (typesAt t start)
@@ -320,12 +302,12 @@ types-present t start = by-last (lastIn (t .comments) (groupAt (t .groups) Leadi
     source : List ℕ
     source = t .source
 
-    rule : Agrees (λ c. orElse (readBy tsTypesRow source c) (readBy denoTypesRow source c)) (tsOrDenoTypesRule source)
-    rule = either (pattern tsTypesRow source) (pattern denoTypesRow source)
+    rule : Agrees (λ c. orElse (readBy tsTypesRule source c) (readBy denoTypesRule source c)) (byTsOrDenoTypes source)
+    rule = either (ruled tsTypesRule source) (ruled denoTypesRule source)
 
     by-last : (o : Option Comment)
-        → Exactly (λ x. (c : Comment) × (o ≡ Option.some c) × tsOrDenoTypesRule source .Gives c x)
-        ((c : Comment) → o ≡ Option.some c → tsOrDenoTypesRule source .Reads c → ⊥) (typesBy source o)
+        → Exactly (λ x. (c : Comment) × (o ≡ Option.some c) × byTsOrDenoTypes source .Gives c x)
+        ((c : Comment) → o ≡ Option.some c → byTsOrDenoTypes source .Reads c → ⊥) (typesBy source o)
     by-last Option.none = record {
       some = λ x. (λ e. absurd (Option·none-ne-some _ e), λ (c, e, g). absurd (Option·none-ne-some _ e));
       none = (λ e c i q. Option·none-ne-some _ i, λ n. refl);

@@ -1,18 +1,17 @@
 -- Comments that are alike in two sources give the same references and pragmas in both, with the same origins.
 use mathlib.Core.Path.{_≡_, refl, ap}
-use mathlib.Core.Bool.{Bool, true, false, cond, _&&_}
-use mathlib.Core.List.{List, [], _∷_, getLast?}
-use mathlib.Core.Option.{Option, Option·map}
+use mathlib.Core.Bool.{Bool, true, false, cond}
+use mathlib.Core.List.{List, [], _∷_, reverse, getLast?}
+use mathlib.Core.Option.{Option}
 use Prim.Native.Nat.{ℕ}
 use native.Mathlib.Omega.{arith}
 use lib.ListN.{length}
 use Rattle.laws.specs.Codec.{All}
-use Rattle.laws.proofs.Lists.{all-member, last-member}
+use Rattle.laws.proofs.Lists.{all-member, of-members, last-member}
 use Rattle.analysis.specs.declared.Capture.{Capture}
 use Rattle.analysis.specs.declared.Found.{Found}
 use Rattle.analysis.specs.declared.Found.the-variants.{At, Nothing}
-use Rattle.analysis.specs.Row.{Row, find, isFound}
-use Rattle.analysis.specs.Patterns.{tripleSlashRow, pathRow, typesRow, jsxImportSourceRow, jsxImportSourceTypesRow, sourceMappingUrlRow, tsSelfTypesRow, tsTypesRow, denoTypesRow}
+use Rattle.analysis.specs.Row.{Row, find}
 use Rattle.analysis.specs.Place.{Inside, placeOf}
 use Rattle.analysis.proofs.Boundaries.{EachSpecifier, whole}
 use Rattle.sheet.specs.declared.comments.Comment.{Comment}
@@ -20,14 +19,13 @@ use Rattle.sheet.specs.declared.groups.Group.{Group}
 use Rattle.sheet.specs.declared.names.MediaType.{MediaType}
 use Rattle.sheet.specs.declared.names.Side.the-variants.{Leading}
 use Rattle.sheet.specs.Lookups.{groupAt, commentsOf, body}
-use Rattle.sheet.specs.Media.{isJavaScript, isJsx}
 use Rattle.sheet.proofs.Revised.{Alike}
-use Rattle.report.specs.ModuleInfo.{SpecifierWithRange, TypeScriptReference}
-use Rattle.report.specs.declared.origins.EntryRule.{EntryRule}
-use Rattle.report.specs.declared.origins.EntryRule.the-variants as rules
+use Rattle.report.specs.ModuleInfo.{SpecifierWithRange}
+use Rattle.pragmas.specs.Asks.{Asks, pathRule, typesRule, selfTypesRule, jsxImportSourceRule, jsxImportSourceTypesRule, sourceMapUrlRule, tsTypesRule, denoTypesRule}
 use Rattle.pragmas.specs.Readings.{placeIn, specifierIn, onFound, readBy, firstOf, lastOf, allOf, optional}
-use Rattle.pragmas.specs.Pragmas.{inGroup, isBlock, isLine, modeIn, referenceBy, reference, referencesIn, givenIf, inBlock, selfTypesIn, jsxImportSourceIn, jsxImportSourceTypesIn, sourceMapUrlIn, tsOrDenoTypes, typesBy, lastIn, typesIn}
-use Rattle.pragmas.specs.Origins.{originOf, originBy, referenceOrigin, selfTypesOrigin, jsxImportSourceOrigin, jsxImportSourceTypesOrigin, sourceMapOrigin, headOrigins, endOrigins, tsOrDenoOrigin, typesOrigin, typesOrigins}
+use Rattle.pragmas.specs.Pragmas.{inGroup, modeIn, reference, referencesIn, givenTo, firstBy, lastBy, tsOrDenoTypes, typesBy, lastIn, typesIn}
+use Rattle.pragmas.specs.Origins.{originBy, referenceOrigin, firstOrigin, headOrigins, endOrigins, tsOrDenoOrigin, typesOrigin, typesOrigins}
+use Rattle.pragmas.proofs.Both.{of-reverse}
 
 -- ---- one comment
 
@@ -59,11 +57,12 @@ module _ {s r : List ℕ} {c : Comment} (a : Alike s r c) where
         deno-types = λ k e. w .deno-types k e .0 .inside;
       }
 
-  read-kept : (row : Row) → FindsInside row → readBy row s c ≡ readBy row r c
+  read-kept : (rule : Asks) → FindsInside (rule .row) → readBy rule s c ≡ readBy rule r c
   unfolding readBy
-  read-kept row inside = rw (← a .same-body) (go (find row (body s c)) refl)
+  read-kept rule inside =
+      rw (← a .same-body) (ap (λ (x : Option SpecifierWithRange). cond (rule .kind (c .kind)) x Option.none) (go (find (rule .row) (body s c)) refl))
     where
-      go : (x : Found) → find row (body s c) ≡ x → onFound (specifierIn s c) x ≡ onFound (specifierIn r c) x
+      go : (x : Found) → find (rule .row) (body s c) ≡ x → onFound (specifierIn s c) x ≡ onFound (specifierIn r c) x
       go (At k) e = ap Option.some (specifier-kept k (inside k e))
       go Nothing e = refl
 
@@ -73,30 +72,24 @@ module _ {s r : List ℕ} {c : Comment} (a : Alike s r c) where
 
   reference-kept : reference s c ≡ reference r c
   unfolding reference
-  reference-kept =
-      rw (← a .same-body)
-      (ap (λ (x : Option TypeScriptReference). cond (isLine c && isFound (find tripleSlashRow (body s c))) x Option.none) (go (find typesRow (body s c)) refl (find pathRow (body s c)) refl))
-    where
-      go : (x : Found) → find typesRow (body s c) ≡ x → (y : Found) → find pathRow (body s c) ≡ y → referenceBy s c x y ≡ referenceBy r c x y
-      go (At k) e y f = rw (specifier-kept k (each .types k e), mode-kept)
-      go Nothing e (At k) f = rw (specifier-kept k (each .path k f))
-      go Nothing e Nothing f = refl
-
-  block-kept : (row : Row) → FindsInside row → inBlock (readBy row s) c ≡ inBlock (readBy row r) c
-  block-kept row inside = ap (λ (x : Option SpecifierWithRange). cond (isBlock c) x Option.none) (read-kept row inside)
+  reference-kept = rw (a .same-body, mode-kept, read-kept typesRule (each .types), read-kept pathRule (each .path))
 
   types-of-kept : tsOrDenoTypes s c ≡ tsOrDenoTypes r c
   unfolding tsOrDenoTypes
-  types-of-kept = rw (read-kept tsTypesRow (each .ts-types), read-kept denoTypesRow (each .deno-types))
+  types-of-kept = rw (read-kept tsTypesRule (each .ts-types), read-kept denoTypesRule (each .deno-types))
 
   -- origins are made of the same readings
   reference-origin-kept : referenceOrigin s c ≡ referenceOrigin r c
   unfolding referenceOrigin
   reference-origin-kept = rw reference-kept
 
+  origin-kept : (rule : Asks) → FindsInside (rule .row) → originBy rule s c ≡ originBy rule r c
+  unfolding originBy
+  origin-kept rule inside = rw (read-kept rule inside)
+
   types-origin-kept : tsOrDenoOrigin s c ≡ tsOrDenoOrigin r c
   unfolding tsOrDenoOrigin
-  types-origin-kept = rw (read-kept tsTypesRow (each .ts-types), read-kept denoTypesRow (each .deno-types))
+  types-origin-kept = rw (origin-kept tsTypesRule (each .ts-types), origin-kept denoTypesRule (each .deno-types))
 
 -- ---- comments one after the other
 
@@ -109,28 +102,16 @@ module _ (s r : List ℕ) where
 
     last-kept : (cs : List Comment) → All (Alike s r) cs → lastOf f cs ≡ lastOf g cs
     unfolding lastOf
-    last-kept [] h = refl
-    last-kept (c ∷ cs) h = rw (same c (h .0), last-kept cs (h .1))
+    last-kept cs h = first-kept (reverse cs) (of-members _ (reverse cs) (λ c m. all-member (Alike s r) cs h (of-reverse cs m)))
 
     all-kept : (cs : List Comment) → All (Alike s r) cs → allOf f cs ≡ allOf g cs
     unfolding allOf
     all-kept [] h = refl
     all-kept (c ∷ cs) h = rw (same c (h .0), all-kept cs (h .1))
 
-  given-alike : (b : Bool) (cs : List Comment) → All (Alike s r) cs → All (Alike s r) (givenIf b cs)
+  given-alike : (b : Bool) (cs : List Comment) → All (Alike s r) cs → All (Alike s r) (cond b cs [])
   given-alike true cs h = h
   given-alike false cs h = tt
-
-  -- the first that reads of the comments that a rule is given, and its origin
-  module _ {A : Type 0} (rule : EntryRule) (f g : Comment → Option A) (same : (c : Comment) → Alike s r c → f c ≡ g c) where
-    same-origin : (c : Comment) → Alike s r c → originBy rule f c ≡ originBy rule g c
-    same-origin c a = ap (Option·map (λ x. originOf rule c)) (same c a)
-
-    given-kept : (b : Bool) (cs : List Comment) → All (Alike s r) cs
-        → (firstOf f (givenIf b cs) ≡ firstOf g (givenIf b cs)) × (firstOf (originBy rule f) (givenIf b cs) ≡ firstOf (originBy rule g) (givenIf b cs))
-    given-kept b cs h =
-        let given = given-alike b cs h in
-        (first-kept f g same (givenIf b cs) given, first-kept (originBy rule f) (originBy rule g) same-origin (givenIf b cs) given)
 
   -- the references of the head group
   pub references-kept : (cs : List Comment) → All (Alike s r) cs → referencesIn s cs ≡ referencesIn r cs
@@ -139,25 +120,26 @@ module _ (s r : List ℕ) where
 
   -- its pragmas, each with its origin
   module _ (media : MediaType) (cs : List Comment) (h : All (Alike s r) cs) where
-    pub self-types-kept : (selfTypesIn media s cs ≡ selfTypesIn media r cs) × (selfTypesOrigin media s cs ≡ selfTypesOrigin media r cs)
-    unfolding selfTypesIn selfTypesOrigin
-    self-types-kept =
-        given-kept rules.SelfTypes (readBy tsSelfTypesRow s) (readBy tsSelfTypesRow r)
-        (λ c a. read-kept a tsSelfTypesRow (each a .ts-self-types)) (isJavaScript media) cs h
+    first-both : (rule : Asks) → ((c : Comment) (a : Alike s r c) → FindsInside a (rule .row))
+        → (firstBy rule media s cs ≡ firstBy rule media r cs) × (firstOrigin rule media s cs ≡ firstOrigin rule media r cs)
+    unfolding firstBy firstOrigin
+    first-both rule inside =
+        let given = given-alike (rule .media media) cs h in (
+          first-kept (readBy rule s) (readBy rule r) (λ c a. read-kept a rule (inside c a)) (givenTo rule media cs) given,
+          first-kept (originBy rule s) (originBy rule r) (λ c a. origin-kept a rule (inside c a)) (givenTo rule media cs) given,
+        )
 
-    pub jsx-import-source-kept : (jsxImportSourceIn media s cs ≡ jsxImportSourceIn media r cs)
-        × (jsxImportSourceOrigin media s cs ≡ jsxImportSourceOrigin media r cs)
-    unfolding jsxImportSourceIn jsxImportSourceOrigin
-    jsx-import-source-kept =
-        given-kept rules.JsxImportSource (inBlock (readBy jsxImportSourceRow s)) (inBlock (readBy jsxImportSourceRow r))
-        (λ c a. block-kept a jsxImportSourceRow (each a .jsx-import-source)) (isJsx media) cs h
+    pub self-types-kept : (firstBy selfTypesRule media s cs ≡ firstBy selfTypesRule media r cs)
+        × (firstOrigin selfTypesRule media s cs ≡ firstOrigin selfTypesRule media r cs)
+    self-types-kept = first-both selfTypesRule (λ c a. each a .ts-self-types)
 
-    pub jsx-import-source-types-kept : (jsxImportSourceTypesIn media s cs ≡ jsxImportSourceTypesIn media r cs)
-        × (jsxImportSourceTypesOrigin media s cs ≡ jsxImportSourceTypesOrigin media r cs)
-    unfolding jsxImportSourceTypesIn jsxImportSourceTypesOrigin
-    jsx-import-source-types-kept =
-        given-kept rules.JsxImportSourceTypes (inBlock (readBy jsxImportSourceTypesRow s)) (inBlock (readBy jsxImportSourceTypesRow r))
-        (λ c a. block-kept a jsxImportSourceTypesRow (each a .jsx-import-source-types)) (isJsx media) cs h
+    pub jsx-import-source-kept : (firstBy jsxImportSourceRule media s cs ≡ firstBy jsxImportSourceRule media r cs)
+        × (firstOrigin jsxImportSourceRule media s cs ≡ firstOrigin jsxImportSourceRule media r cs)
+    jsx-import-source-kept = first-both jsxImportSourceRule (λ c a. each a .jsx-import-source)
+
+    pub jsx-import-source-types-kept : (firstBy jsxImportSourceTypesRule media s cs ≡ firstBy jsxImportSourceTypesRule media r cs)
+        × (firstOrigin jsxImportSourceTypesRule media s cs ≡ firstOrigin jsxImportSourceTypesRule media r cs)
+    jsx-import-source-types-kept = first-both jsxImportSourceTypesRule (λ c a. each a .jsx-import-source-types)
 
     -- the origins of all of these
     pub head-origins-kept : headOrigins media s cs ≡ headOrigins media r cs
@@ -167,19 +149,16 @@ module _ (s r : List ℕ) where
         rw (of-references, self-types-kept .1, jsx-import-source-kept .1, jsx-import-source-types-kept .1)
 
   -- the source map of the group at the program's end
-  source-map-same : (c : Comment) → Alike s r c → readBy sourceMappingUrlRow s c ≡ readBy sourceMappingUrlRow r c
-  source-map-same c a = read-kept a sourceMappingUrlRow (each a .source-mapping-url)
-
-  pub source-map-kept : (cs : List Comment) → All (Alike s r) cs → sourceMapUrlIn s cs ≡ sourceMapUrlIn r cs
-  unfolding sourceMapUrlIn
-  source-map-kept cs h = last-kept (readBy sourceMappingUrlRow s) (readBy sourceMappingUrlRow r) source-map-same cs h
+  pub source-map-kept : (media : MediaType) (cs : List Comment) → All (Alike s r) cs → lastBy sourceMapUrlRule media s cs ≡ lastBy sourceMapUrlRule media r cs
+  unfolding lastBy
+  source-map-kept media cs h =
+      last-kept (readBy sourceMapUrlRule s) (readBy sourceMapUrlRule r) (λ c a. read-kept a sourceMapUrlRule (each a .source-mapping-url)) cs h
 
   pub end-origins-kept : (cs : List Comment) → All (Alike s r) cs → endOrigins s cs ≡ endOrigins r cs
-  unfolding endOrigins sourceMapOrigin
+  unfolding endOrigins
   end-origins-kept cs h =
       ap optional
-      (last-kept (originBy rules.SourceMap (readBy sourceMappingUrlRow s)) (originBy rules.SourceMap (readBy sourceMappingUrlRow r))
-      (same-origin rules.SourceMap (readBy sourceMappingUrlRow s) (readBy sourceMappingUrlRow r) source-map-same) cs h)
+      (last-kept (originBy sourceMapUrlRule s) (originBy sourceMapUrlRule r) (λ c a. origin-kept a sourceMapUrlRule (each a .source-mapping-url)) cs h)
 
   -- what the last comment of a group gives
   module _ {A : Type 0} (f g : Option Comment → A) (nothing : f Option.none ≡ g Option.none)

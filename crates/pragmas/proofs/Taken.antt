@@ -10,20 +10,27 @@ use Rattle.analysis.specs.declared.Found.the-variants.{At, Nothing}
 use Rattle.sheet.specs.declared.comments.Comment.{Comment}
 use Rattle.sheet.specs.Lookups.{body}
 use Rattle.report.specs.declared.origins.EntryRule.{EntryRule}
+use Rattle.report.specs.Origin.{Origin}
+use Rattle.pragmas.specs.declared.readings.Counts.{Counts}
+use Rattle.pragmas.specs.declared.readings.Counts.the-variants.{First, Last}
 use Rattle.pragmas.specs.declared.readings.Rule.{Rule}
 use Rattle.pragmas.specs.declared.readings.Reading.{Reading}
-use Rattle.pragmas.specs.Readings.{specifierIn, onFound, firstOf, lastOf}
-use Rattle.pragmas.specs.Origins.{originOf, originBy}
-use Rattle.pragmas.specs.code.Views.{findRule, takes, takenBy, readRule, takenAs, readAs, originAs}
+use Rattle.pragmas.specs.Readings.{specifierIn, onFound}
+use Rattle.pragmas.specs.Origins.{originOf}
+use Rattle.pragmas.specs.code.Views.{asked, findRule, takenBy, readRule, counted, takenAs, readAs, originAs}
 use Rattle.pragmas.proofs.Both.{Both, both-made, both-first, both-last}
 
 module _ (rule : Rule) (source : List ℕ) where
+  -- how what it reads in a comment was found
+  abbrev originRule : EntryRule → Comment → Option Origin
+  originRule entry c = Option·map (λ x. originOf entry c) (readRule rule source c)
+
   -- what a function answers of a comment is made of what the rule takes there
   abbrev Made : {A : Type 0} → (Comment × Capture → A) → (Comment → Option A) → Type 0
   Made make f = (c : Comment) → Both (λ t a. make t ≡ a) (takenBy rule source c) (f c)
 
   specifier-made : Made (λ t. specifierIn source (t .0) (t .1)) (readRule rule source)
-  specifier-made c = by (takes rule (c .kind)) (findRule rule (body source c))
+  specifier-made c = by (asked rule .kind (c .kind)) (findRule rule (body source c))
     where
       by : (b : Bool) (f : Found)
           → Both (λ (t : Comment × Capture) a. specifierIn source (t .0) (t .1) ≡ a) (cond b (onFound (λ k. (c, k)) f) Option.none)
@@ -32,8 +39,8 @@ module _ (rule : Rule) (source : List ℕ) where
       by true Nothing = Both.neither
       by false f = Both.neither
 
-  origin-made : (entry : EntryRule) → Made (λ t. originOf entry (t .0)) (originBy entry (readRule rule source))
-  origin-made entry c = by (takes rule (c .kind)) (findRule rule (body source c))
+  origin-made : (entry : EntryRule) → Made (λ t. originOf entry (t .0)) (originRule entry)
+  origin-made entry c = by (asked rule .kind (c .kind)) (findRule rule (body source c))
     where
       by : (b : Bool) (f : Found)
           → Both (λ (t : Comment × Capture) a. originOf entry (t .0) ≡ a) (cond b (onFound (λ k. (c, k)) f) Option.none)
@@ -42,29 +49,24 @@ module _ (rule : Rule) (source : List ℕ) where
       by true Nothing = Both.neither
       by false f = Both.neither
 
+  made-counted : {A : Type 0} {make : Comment × Capture → A} {f : Comment → Option A} → Made make f → (counts : Counts) (cs : List Comment)
+      → Both (λ t a. make t ≡ a) (counted counts (takenBy rule source) cs) (counted counts f cs)
+  made-counted {f = f} h First cs = both-first (takenBy rule source) f cs (λ c m. h c)
+  made-counted {f = f} h Last cs = both-last (takenBy rule source) f cs (λ c m. h c)
+
   module _ (r : Reading) where
     -- in one comment
     module _ (c : Comment) (e : takenAs r ≡ takenBy rule source c) where
       pub read-one : readAs source r ≡ readRule rule source c
       read-one = ap (Option·map _) e ∙ both-made _ (specifier-made c)
 
-      pub origin-one : (entry : EntryRule) → originAs entry r ≡ originBy entry (readRule rule source) c
+      pub origin-one : (entry : EntryRule) → originAs entry r ≡ originRule entry c
       origin-one entry = ap (Option·map _) e ∙ both-made _ (origin-made entry c)
 
-    -- in the first of some comments
-    module _ (cs : List Comment) (e : takenAs r ≡ firstOf (takenBy rule source) cs) where
-      pub read-first : readAs source r ≡ firstOf (readRule rule source) cs
-      read-first = ap (Option·map _) e ∙ both-made _ (both-first (takenBy rule source) (readRule rule source) cs (λ c m. specifier-made c))
+    -- in the first of some comments, or in the last
+    module _ (counts : Counts) (cs : List Comment) (e : takenAs r ≡ counted counts (takenBy rule source) cs) where
+      pub read-counted : readAs source r ≡ counted counts (readRule rule source) cs
+      read-counted = ap (Option·map _) e ∙ both-made _ (made-counted specifier-made counts cs)
 
-      pub origin-first : (entry : EntryRule) → originAs entry r ≡ firstOf (originBy entry (readRule rule source)) cs
-      origin-first entry =
-          ap (Option·map _) e ∙ both-made _ (both-first (takenBy rule source) (originBy entry (readRule rule source)) cs (λ c m. origin-made entry c))
-
-    -- in the last
-    module _ (cs : List Comment) (e : takenAs r ≡ lastOf (takenBy rule source) cs) where
-      pub read-last : readAs source r ≡ lastOf (readRule rule source) cs
-      read-last = ap (Option·map _) e ∙ both-made _ (both-last (takenBy rule source) (readRule rule source) cs (λ c m. specifier-made c))
-
-      pub origin-last : (entry : EntryRule) → originAs entry r ≡ lastOf (originBy entry (readRule rule source)) cs
-      origin-last entry =
-          ap (Option·map _) e ∙ both-made _ (both-last (takenBy rule source) (originBy entry (readRule rule source)) cs (λ c m. origin-made entry c))
+      pub origin-counted : (entry : EntryRule) → originAs entry r ≡ counted counts (originRule entry) cs
+      origin-counted entry = ap (Option·map _) e ∙ both-made _ (made-counted (origin-made entry) counts cs)

@@ -1,6 +1,6 @@
 -- Each reference and pragma stands in the source at its reading's place, in marks or bare, as its rule's row asks.
 use mathlib.Core.Path.{_≡_, refl, sym, _∙_}
-use mathlib.Core.Bool.{Bool, true, false}
+use mathlib.Core.Bool.{Bool, true, false, cond}
 use mathlib.Core.Logic.{inl, inr, ⊎-elim}
 use mathlib.Core.List.{List, [], _∷_, List·Memᴰ, List·Memᴰ·head, List·Memᴰ·tail, List·Memᴰ·not-nil, List·Memᴰ·cases-cons}
 use mathlib.Core.Option.{Option, Option·none-ne-some}
@@ -27,15 +27,15 @@ use Rattle.sheet.specs.Fit.{Placed, commentOf, Fit}
 use Rattle.sheet.specs.declared.names.Side.the-variants.{Leading}
 use Rattle.sheet.specs.Lookups.{groupAt, headGroup, endGroup, commentsOf, bodySpan, body}
 use Rattle.sheet.specs.Sheet.{Sheet}
-use Rattle.sheet.specs.Media.{isJavaScript, isJsx}
 use Rattle.sheet.proofs.Bodies.{Within, placed-body, body-formed, body-boundary}
 use Rattle.report.specs.ModuleInfo.{SpecifierWithRange, TypeScriptReference, ModuleInfo}
 use Rattle.report.specs.Range.{rangeOf}
 use Rattle.report.specs.Stands.{StandsAt}
 use Rattle.report.proofs.Places.{range-at}
+use Rattle.pragmas.specs.Asks.{Asks, selfTypesRule, jsxImportSourceRule, jsxImportSourceTypesRule}
 use Rattle.pragmas.specs.Readings.{placeIn}
-use Rattle.pragmas.specs.Pragmas.{inGroup, headComments, endComments, givenIf, lastIn, typesAt}
-use Rattle.pragmas.specs.Present.{Read, Reader, InOrder, FirstReading, referenceRule, tsOrDenoTypesRule, Present}
+use Rattle.pragmas.specs.Pragmas.{inGroup, headComments, endComments, givenTo, lastIn, typesAt}
+use Rattle.pragmas.specs.Present.{Read, Reader, byRule, byReference, byTsOrDenoTypes, InOrder, FirstReading, Present}
 use Rattle.pragmas.specs.Texts.{writtenIf, ShownInMarks, ShownBare, ShownEither, ReferenceShown, TypesShown, typesOf, Texts}
 use Rattle.pragmas.proofs.Present.{types-present}
 
@@ -101,7 +101,7 @@ pub last-in : (cs : List Comment) (o : Option Group) {c : Comment} → lastIn cs
 last-in cs Option.none {c} e = absurd (Option·none-ne-some c e)
 last-in cs (Option.some g) e = group-member cs (Option.some g) (last-member (commentsOf cs g) e)
 
-pub given-member : (b : Bool) (cs : List Comment) {c : Comment} → List·Memᴰ c (givenIf b cs) → List·Memᴰ c cs
+pub given-member : (b : Bool) (cs : List Comment) {c : Comment} → List·Memᴰ c (cond b cs []) → List·Memᴰ c cs
 given-member true cs m = m
 given-member false cs m = absurd (List·Memᴰ·not-nil m)
 
@@ -142,13 +142,13 @@ module _ (t : Sheet) (f : formed Utf8 0 (t .source) ≡ true) (fit : Fit (t .sou
     either : {row : Row} {Q : Capture → Type 0} → Captured row Q → {x : SpecifierWithRange} → Read row (t .source) c x → ShownEither row t x
     either w r = record { comment = c; among = i; read = r; stands = stands w r (r .capture .quoted) refl }
 
-    reference-shown : (r : TypeScriptReference) → referenceRule (t .source) .Gives c r → ReferenceShown t r
-    reference-shown r (p, inl (x, m, g, q, e)) = rw e (in-marks (each .types) g)
-    reference-shown r (p, inr (n, (x, g, e))) = rw e (in-marks (each .path) g)
+    reference-shown : (r : TypeScriptReference) → byReference (t .source) .Gives c r → ReferenceShown t r
+    reference-shown r (p, inl (x, (k, g), (m, q, e))) = rw e (in-marks (each .types) g)
+    reference-shown r (p, inr (n, (x, (k, g), e))) = rw e (in-marks (each .path) g)
 
-    types-given : {x : SpecifierWithRange} → tsOrDenoTypesRule (t .source) .Gives c x → TypesShown t x
-    types-given (inl g) = inl (in-marks (each .ts-types) g)
-    types-given (inr (n, g)) = inr (either (each .deno-types) g)
+    types-given : {x : SpecifierWithRange} → byTsOrDenoTypes (t .source) .Gives c x → TypesShown t x
+    types-given (inl (k, g)) = inl (in-marks (each .ts-types) g)
+    types-given (inr (n, (k, g))) = inr (either (each .deno-types) g)
 
   pub types-shown : (start : ℕ) → IfThere (TypesShown t) (typesAt t start)
   types-shown start =
@@ -164,22 +164,23 @@ module _ (t : Sheet) (f : formed Utf8 0 (t .source) ≡ true) (fit : Fit (t .sou
   in-end = group-member (t .comments) (endGroup (t .program) (t .groups))
 
   -- the comment of the first reading in those of the head group that a rule is given
-  first-shown : {A : Type 0} {r : Reader A} (b : Bool) {a : A} (h : FirstReading r (givenIf b (headComments t)) a) → List·Memᴰ (h .comment) (t .comments)
-  first-shown b h = in-head (given-member b (headComments t) (middle-member (h .before) (h .behind) (h .among)))
+  first-shown : (rule : Asks) {x : SpecifierWithRange} (h : FirstReading (byRule rule (t .source)) (givenTo rule (t .media) (headComments t)) x)
+      → List·Memᴰ (h .comment) (t .comments)
+  first-shown rule h = in-head (given-member (rule .media (t .media)) (headComments t) (middle-member (h .before) (h .behind) (h .among)))
 
   pub texts : (m : ModuleInfo) → Present t m → All (λ d. IfThere (TypesShown t) (typesOf d)) (m .dependencies) → Texts t m
   texts m p types = record {
     types = types;
     references = of-members _ (m .tsReferences) (λ r i. let (c, j, g) = order-member (p .references (m .tsReferences) .0 refl) i in reference-shown (in-head j) r g);
     self-types = if-there _ (m .selfTypesSpecifier)
-        (λ x e. let h = p .self-types .some x .0 e in let i = first-shown (isJavaScript (t .media)) h in in-marks i (each i .ts-self-types) (h .gives));
+        (λ x e. let h = p .self-types .some x .0 e in let i = first-shown selfTypesRule h in in-marks i (each i .ts-self-types) (h .gives .1));
     jsx-import-source = if-there _ (m .jsxImportSource)
-        (λ x e. let h = p .jsx-import-source .some x .0 e in let i = first-shown (isJsx (t .media)) h in bare i (each i .jsx-import-source) (h .gives .1));
+        (λ x e. let h = p .jsx-import-source .some x .0 e in let i = first-shown jsxImportSourceRule h in bare i (each i .jsx-import-source) (h .gives .1));
     jsx-import-source-types = if-there _ (m .jsxImportSourceTypes)
-        (λ x e. let h = p .jsx-import-source-types .some x .0 e in let i = first-shown (isJsx (t .media)) h in bare i (each i .jsx-import-source-types) (h .gives .1));
+        (λ x e. let h = p .jsx-import-source-types .some x .0 e in let i = first-shown jsxImportSourceTypesRule h in bare i (each i .jsx-import-source-types) (h .gives .1));
     source-map-url = if-there _ (m .sourceMapUrl)
         (λ x e.
         let h = p .source-map-url .some x .0 e in
         let i = in-end (middle-member (h .before) (h .behind) (h .among)) in
-        bare i (each i .source-mapping-url) (h .gives));
+        bare i (each i .source-mapping-url) (h .gives .1));
   }

@@ -20,7 +20,7 @@ use Rattle.report.specs.ModuleInfo.{SpecifierWithRange, TypeScriptReference, pa
 use Rattle.report.specs.Stands.{StandsAt}
 use Rattle.report.proofs.Stands.{Good, bare-good, marks-good}
 use Rattle.pragmas.specs.Pragmas.{inGroup, headComments}
-use Rattle.pragmas.specs.Present.{Reader, referenceRule, InOrder}
+use Rattle.pragmas.specs.Present.{Reader, byReference, InOrder}
 use Rattle.pragmas.specs.Texts.{writtenIf, ShownInMarks, ShownBare, ShownEither, ReferenceShown, TypesShown}
 
 abbrev pub GoodReference : TypeScriptReference → Type 0
@@ -60,7 +60,7 @@ in-order-few InOrder.none = omega arith
 in-order-few (InOrder.reads g o) = omega (arith, in-order-few o)
 in-order-few (InOrder.passes n o) = omega (arith, in-order-few o)
 
-pub references-few : (t : Sheet) {l : List TypeScriptReference} → InOrder (referenceRule (t .source)) (headComments t) l → length l ≤ length (t .comments)
+pub references-few : (t : Sheet) {l : List TypeScriptReference} → InOrder (byReference (t .source)) (headComments t) l → length l ≤ length (t .comments)
 unfolding headComments
 references-few t o = omega (arith, in-order-few o, group-few (headGroup (t .program) (t .groups)))
   where

@@ -9,8 +9,9 @@ use Rattle.sheet.specs.declared.names.MediaType.{MediaType}
 use Rattle.report.specs.Buffer.{Buffer, wrote}
 use Rattle.report.specs.Origin.{encodeOrigin}
 use Rattle.report.proofs.Buffers.{wrote-append}
+use Rattle.pragmas.specs.Asks.{selfTypesRule, jsxImportSourceRule, jsxImportSourceTypesRule}
 use Rattle.pragmas.specs.Readings.{allOf, optional}
-use Rattle.pragmas.specs.Origins.{referenceOrigin, selfTypesOrigin, jsxImportSourceOrigin, jsxImportSourceTypesOrigin, headOrigins}
+use Rattle.pragmas.specs.Origins.{referenceOrigin, firstOrigin, headOrigins}
 use Rattle.pragmas.specs.code.Views.{encodeAny}
 use Rattle.pragmas.proofs.Between.{listed-each}
 
@@ -21,9 +22,9 @@ optional-each f o = listed-each f o List.[] ∙ append-nil (encodeAny f o)
 
 pub head-written : (media : MediaType) (source : List ℕ) (cs : List Comment) (w : Buffer) {references self jsx all : Buffer}
     → references ≡ wrote w (flatMap encodeOrigin (allOf (referenceOrigin source) cs))
-    → self ≡ wrote references (encodeAny encodeOrigin (selfTypesOrigin media source cs))
-    → jsx ≡ wrote self (encodeAny encodeOrigin (jsxImportSourceOrigin media source cs))
-    → all ≡ wrote jsx (encodeAny encodeOrigin (jsxImportSourceTypesOrigin media source cs))
+    → self ≡ wrote references (encodeAny encodeOrigin (firstOrigin selfTypesRule media source cs))
+    → jsx ≡ wrote self (encodeAny encodeOrigin (firstOrigin jsxImportSourceRule media source cs))
+    → all ≡ wrote jsx (encodeAny encodeOrigin (firstOrigin jsxImportSourceTypesRule media source cs))
     → all ≡ wrote w (flatMap encodeOrigin (headOrigins media source cs))
 unfolding headOrigins
 head-written media source cs w a b c d =

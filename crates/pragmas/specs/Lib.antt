@@ -1,3 +1,4 @@
+pub mod Asks
 pub mod Readings
 pub mod Pragmas
 pub mod Present

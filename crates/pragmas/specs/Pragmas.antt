@@ -1,26 +1,23 @@
 -- The references and the pragmas of a sheet: each rule of document 01's "Readings" with the comments that it gives to it.
-use mathlib.Core.Bool.{Bool, cond, not, _&&_}
+use mathlib.Core.Bool.{cond}
 use mathlib.Core.List.{List, []}
-use mathlib.Core.Option.{Option}
+use mathlib.Core.Option.{Option, Option·map}
 use Prim.Native.Nat.{ℕ}
-use lib.Dec.{eqb}
 use Rattle.analysis.specs.declared.Found.{Found}
 use Rattle.analysis.specs.declared.Found.the-variants.{At, Nothing}
 use Rattle.analysis.specs.Mode.{Mode, modeOf}
 use Rattle.analysis.specs.Row.{find, isFound}
 use Rattle.analysis.specs.Place.{textOf}
-use Rattle.analysis.specs.Patterns.{tripleSlashRow, pathRow, typesRow, resolutionModeRow, jsxImportSourceRow, jsxImportSourceTypesRow, sourceMappingUrlRow, tsSelfTypesRow, tsTypesRow, denoTypesRow}
+use Rattle.analysis.specs.Patterns.{tripleSlashRow, resolutionModeRow}
 use Rattle.sheet.specs.declared.comments.Comment.{Comment}
 use Rattle.sheet.specs.declared.groups.Group.{Group}
 use Rattle.sheet.specs.Lookups.{groupAt, headGroup, endGroup, commentsOf, lastCommentOf, body}
 use Rattle.sheet.specs.Sheet.{Sheet}
 use Rattle.sheet.specs.declared.names.MediaType.{MediaType}
-use Rattle.sheet.specs.declared.names.CommentKind.the-variants.{Block}
 use Rattle.sheet.specs.declared.names.Side.the-variants.{Leading}
-use Rattle.sheet.specs.Names.{kindNumber}
-use Rattle.sheet.specs.Media.{isJavaScript, isJsx}
 use Rattle.report.specs.ModuleInfo.{SpecifierWithRange, TypeScriptReference, path, types}
-use Rattle.pragmas.specs.Readings.{specifierIn, readBy, orElse, firstOf, lastOf, allOf}
+use Rattle.pragmas.specs.Asks.{Asks, pathRule, typesRule, selfTypesRule, jsxImportSourceRule, jsxImportSourceTypesRule, sourceMapUrlRule, tsTypesRule, denoTypesRule}
+use Rattle.pragmas.specs.Readings.{readBy, orElse, firstOf, lastOf, allOf}
 
 -- the comments of a group, none if there is no such group
 abbrev pub inGroup : List Comment → Option Group → List Comment
@@ -34,13 +31,6 @@ headComments t = inGroup (t .comments) (headGroup (t .program) (t .groups))
 unfoldable pub endComments : Sheet → List Comment
 endComments t = inGroup (t .comments) (endGroup (t .program) (t .groups))
 
--- a line comment, a block comment
-abbrev pub isBlock : Comment → Bool
-isBlock c = eqb (kindNumber (c .kind)) (kindNumber Block)
-
-abbrev pub isLine : Comment → Bool
-isLine c = not (isBlock c)
-
 -- the mode that a comment names for a types reference
 abbrev pub modeBy : List ℕ → Found → Mode
 modeBy b (At k) = modeOf (textOf b k)
@@ -49,63 +39,47 @@ modeBy b Nothing = Option.none
 unfoldable pub modeIn : List ℕ → Comment → Mode
 modeIn source c = modeBy (body source c) (find resolutionModeRow (body source c))
 
--- a reference: by the types pattern, or else by the path one
-abbrev pub referenceBy : List ℕ → Comment → Found → Found → Option TypeScriptReference
-referenceBy source c (At k) p = Option.some (types (specifierIn source c k) (modeIn source c))
-referenceBy source c Nothing (At k) = Option.some (path (specifierIn source c k))
-referenceBy source c Nothing Nothing = Option.none
+-- a reference: by the types rule, or else by the path one
+abbrev pub referenceBy : List ℕ → Comment → Option TypeScriptReference
+referenceBy source c = orElse (Option·map (λ x. types x (modeIn source c)) (readBy typesRule source c)) (Option·map path (readBy pathRule source c))
 
--- from a line comment that the triple-slash pattern reads
+-- from a comment that the triple-slash pattern reads
 unfoldable pub reference : List ℕ → Comment → Option TypeScriptReference
-reference source c =
-    cond (isLine c && isFound (find tripleSlashRow (body source c)))
-    (referenceBy source c (find typesRow (body source c)) (find pathRow (body source c)))
-    Option.none
+reference source c = cond (isFound (find tripleSlashRow (body source c))) (referenceBy source c) Option.none
 
 unfoldable pub referencesIn : List ℕ → List Comment → List TypeScriptReference
 referencesIn source cs = allOf (reference source) cs
 
 -- the comments that a rule is given: none where the media excludes it
-abbrev pub givenIf : Bool → List Comment → List Comment
-givenIf b cs = cond b cs []
+abbrev pub givenTo : Asks → MediaType → List Comment → List Comment
+givenTo rule media cs = cond (rule .media media) cs []
 
--- the first comment that reads
-unfoldable pub selfTypesIn : MediaType → List ℕ → List Comment → Option SpecifierWithRange
-selfTypesIn media source cs = firstOf (readBy tsSelfTypesRow source) (givenIf (isJavaScript media) cs)
+-- the first reading of a rule in comments of a sheet of that media, and the last
+unfoldable pub firstBy : Asks → MediaType → List ℕ → List Comment → Option SpecifierWithRange
+firstBy rule media source cs = firstOf (readBy rule source) (givenTo rule media cs)
 
--- the first block comment that reads
-abbrev pub inBlock : {A : Type 0} → (Comment → Option A) → Comment → Option A
-inBlock f c = cond (isBlock c) (f c) Option.none
-
-unfoldable pub jsxImportSourceIn : MediaType → List ℕ → List Comment → Option SpecifierWithRange
-jsxImportSourceIn media source cs = firstOf (inBlock (readBy jsxImportSourceRow source)) (givenIf (isJsx media) cs)
-
-unfoldable pub jsxImportSourceTypesIn : MediaType → List ℕ → List Comment → Option SpecifierWithRange
-jsxImportSourceTypesIn media source cs = firstOf (inBlock (readBy jsxImportSourceTypesRow source)) (givenIf (isJsx media) cs)
-
--- the last comment that reads
-unfoldable pub sourceMapUrlIn : List ℕ → List Comment → Option SpecifierWithRange
-sourceMapUrlIn source cs = lastOf (readBy sourceMappingUrlRow source) cs
+unfoldable pub lastBy : Asks → MediaType → List ℕ → List Comment → Option SpecifierWithRange
+lastBy rule media source cs = lastOf (readBy rule source) (givenTo rule media cs)
 
 -- those of a sheet
 abbrev pub tsReferences : Sheet → List TypeScriptReference
 tsReferences t = referencesIn (t .source) (headComments t)
 
 abbrev pub selfTypesSpecifier : Sheet → Option SpecifierWithRange
-selfTypesSpecifier t = selfTypesIn (t .media) (t .source) (headComments t)
+selfTypesSpecifier t = firstBy selfTypesRule (t .media) (t .source) (headComments t)
 
 abbrev pub jsxImportSource : Sheet → Option SpecifierWithRange
-jsxImportSource t = jsxImportSourceIn (t .media) (t .source) (headComments t)
+jsxImportSource t = firstBy jsxImportSourceRule (t .media) (t .source) (headComments t)
 
 abbrev pub jsxImportSourceTypes : Sheet → Option SpecifierWithRange
-jsxImportSourceTypes t = jsxImportSourceTypesIn (t .media) (t .source) (headComments t)
+jsxImportSourceTypes t = firstBy jsxImportSourceTypesRule (t .media) (t .source) (headComments t)
 
 abbrev pub sourceMapUrl : Sheet → Option SpecifierWithRange
-sourceMapUrl t = sourceMapUrlIn (t .source) (endComments t)
+sourceMapUrl t = lastBy sourceMapUrlRule (t .media) (t .source) (endComments t)
 
--- the ts-types pattern, or else the deno-types one
+-- by the ts-types rule, or else by the deno-types one
 unfoldable pub tsOrDenoTypes : List ℕ → Comment → Option SpecifierWithRange
-tsOrDenoTypes source c = orElse (readBy tsTypesRow source c) (readBy denoTypesRow source c)
+tsOrDenoTypes source c = orElse (readBy tsTypesRule source c) (readBy denoTypesRule source c)
 
 abbrev pub typesBy : List ℕ → Option Comment → Option SpecifierWithRange
 typesBy source Option.none = Option.none

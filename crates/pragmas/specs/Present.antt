@@ -1,5 +1,6 @@
 -- Demand 3 for references and pragmas, without a parser: each appears exactly when its rule has a reading in the comments that document 01 gives to it.
 use mathlib.Core.Path.{_≡_}
+use mathlib.Core.Bool.{true}
 use mathlib.Core.Logic.{_⊎_, _↔_}
 use mathlib.Core.List.{List, [], _∷_, _++_, List·Memᴰ}
 use mathlib.Core.Option.{Option}
@@ -10,18 +11,16 @@ use Rattle.analysis.specs.Row.{Row}
 use Rattle.analysis.specs.Place.{textOf}
 use Rattle.analysis.specs.Matches.{Reading}
 use Rattle.analysis.specs.Prefers.{Preferred}
-use Rattle.analysis.specs.Patterns.{tripleSlashRow, pathRow, typesRow, resolutionModeRow, jsxImportSourceRow, jsxImportSourceTypesRow, sourceMappingUrlRow, tsSelfTypesRow, tsTypesRow, denoTypesRow}
+use Rattle.analysis.specs.Patterns.{tripleSlashRow, resolutionModeRow}
 use Rattle.sheet.specs.declared.comments.Comment.{Comment}
-use Rattle.sheet.specs.Comments.{actsAs}
 use Rattle.sheet.specs.Lookups.{groupAt, body}
 use Rattle.sheet.specs.Sheet.{Sheet}
-use Rattle.sheet.specs.declared.names.CommentKind.the-variants.{Line, Block}
 use Rattle.sheet.specs.declared.names.Side.the-variants.{Leading}
-use Rattle.sheet.specs.Media.{isJavaScript, isJsx}
 use Rattle.report.specs.ModuleInfo.{SpecifierWithRange, TypeScriptReference, path, types, ModuleInfo}
 use Rattle.report.specs.Range.{rangeOf}
+use Rattle.pragmas.specs.Asks.{Asks, pathRule, typesRule, selfTypesRule, jsxImportSourceRule, jsxImportSourceTypesRule, sourceMapUrlRule, tsTypesRule, denoTypesRule}
 use Rattle.pragmas.specs.Readings.{placeIn}
-use Rattle.pragmas.specs.Pragmas.{headComments, endComments, givenIf, lastIn}
+use Rattle.pragmas.specs.Pragmas.{headComments, endComments, givenTo, lastIn}
 
 -- the pattern matches some part of the comment's body
 abbrev pub Matched : Row → List ℕ → Comment → Type 0
@@ -34,22 +33,26 @@ pub record Read (row : Row) (source : List ℕ) (c : Comment) (x : SpecifierWith
   pub text : x .text ≡ textOf (body source c) capture
   pub range : x .range ≡ rangeOf source (placeIn c capture)
 
--- a rule: the comments in which it has a reading, and what that gives
+-- the comments in which there is a reading, and what that gives
 pub record Reader (A : Type 0) : Type 1 where
   pub Reads : Comment → Type 0
   pub Gives : Comment → A → Type 0
 
--- by a pattern
-abbrev pub byPattern : Row → List ℕ → Reader SpecifierWithRange
-byPattern row source = record { Reads = Matched row source; Gives = Read row source }
-
--- a rule for some comments only
+-- a reader for some comments only
 abbrev pub only : {A : Type 0} → (Comment → Type 0) → Reader A → Reader A
 only P r = record { Reads = λ c. P c × r .Reads c; Gives = λ c a. P c × r .Gives c a }
 
--- one rule or else another, which counts only where the first reads nothing
+-- one or else another, which counts only where the first reads nothing
 abbrev pub orElseBy : {A : Type 0} → Reader A → Reader A → Reader A
 orElseBy r s = record { Reads = λ c. r .Reads c ⊎ s .Reads c; Gives = λ c a. r .Gives c a ⊎ ((r .Reads c → ⊥) × s .Gives c a) }
+
+-- what is so made of a reading
+abbrev pub made : {A B : Type 0} → (Comment → A → B → Type 0) → Reader A → Reader B
+made {A} M r = record { Reads = r .Reads; Gives = λ c b. (a : A) × r .Gives c a × M c a b }
+
+-- a rule: its pattern, in comments of the kind that it asks for
+abbrev pub byRule : Asks → List ℕ → Reader SpecifierWithRange
+byRule rule source = only (λ c. rule .kind (c .kind) ≡ true) (record { Reads = Matched (rule .row) source; Gives = Read (rule .row) source })
 
 -- the mode of a types reference: that of the text that the resolution-mode pattern reads; none where it reads nothing
 pub data ModeRead (source : List ℕ) (c : Comment) : Mode → Type 0 where
@@ -57,56 +60,38 @@ pub data ModeRead (source : List ℕ) (c : Comment) : Mode → Type 0 where
   none : (Matched resolutionModeRow source c → ⊥) → ModeRead source c Option.none
 
 -- the two kinds of references
-abbrev pub pathRule : List ℕ → Reader TypeScriptReference
-pathRule source = record { Reads = Matched pathRow source; Gives = λ c a. (x : SpecifierWithRange) × Read pathRow source c x × (a ≡ path x) }
+abbrev pub byPath : List ℕ → Reader TypeScriptReference
+byPath source = made (λ c x a. a ≡ path x) (byRule pathRule source)
 
-abbrev pub typesRule : List ℕ → Reader TypeScriptReference
-typesRule source = record {
-  Reads = Matched typesRow source;
-  Gives = λ c a. (x : SpecifierWithRange) × (m : Mode) × Read typesRow source c x × ModeRead source c m × (a ≡ types x m);
-}
+abbrev pub byTypes : List ℕ → Reader TypeScriptReference
+byTypes source = made (λ c x a. (m : Mode) × ModeRead source c m × (a ≡ types x m)) (byRule typesRule source)
 
--- the rules of document 01's "Readings"
-abbrev pub referenceRule : List ℕ → Reader TypeScriptReference
-referenceRule source = only (λ c. (actsAs (c .kind) ≡ Line) × Matched tripleSlashRow source c) (orElseBy (typesRule source) (pathRule source))
+abbrev pub byReference : List ℕ → Reader TypeScriptReference
+byReference source = only (Matched tripleSlashRow source) (orElseBy (byTypes source) (byPath source))
 
-abbrev pub selfTypesRule : List ℕ → Reader SpecifierWithRange
-selfTypesRule = byPattern tsSelfTypesRow
-
-abbrev pub jsxImportSourceRule : List ℕ → Reader SpecifierWithRange
-jsxImportSourceRule source = only (λ c. c .kind ≡ Block) (byPattern jsxImportSourceRow source)
-
-abbrev pub jsxImportSourceTypesRule : List ℕ → Reader SpecifierWithRange
-jsxImportSourceTypesRule source = only (λ c. c .kind ≡ Block) (byPattern jsxImportSourceTypesRow source)
-
-abbrev pub sourceMapUrlRule : List ℕ → Reader SpecifierWithRange
-sourceMapUrlRule = byPattern sourceMappingUrlRow
-
-abbrev pub tsOrDenoTypesRule : List ℕ → Reader SpecifierWithRange
-tsOrDenoTypesRule source = orElseBy (byPattern tsTypesRow source) (byPattern denoTypesRow source)
+abbrev pub byTsOrDenoTypes : List ℕ → Reader SpecifierWithRange
+byTsOrDenoTypes source = orElseBy (byRule tsTypesRule source) (byRule denoTypesRule source)
 
 module _ {A : Type 0} (r : Reader A) where
   -- none of the comments has a reading
   abbrev pub NoReading : List Comment → Type 0
   NoReading cs = (c : Comment) → List·Memᴰ c cs → r .Reads c → ⊥
 
-  -- the first of the comments that have a reading gives a
-  pub record FirstReading (cs : List Comment) (a : A) : Type 0 where
+  -- one of the comments gives a, and those that are passed on the way to it have no reading
+  pub record ReadingPast (passed : List Comment → List Comment → List Comment) (cs : List Comment) (a : A) : Type 0 where
     pub before : List Comment
     pub comment : Comment
     pub behind : List Comment
     pub among : cs ≡ before ++ comment ∷ behind
-    pub unread : NoReading before
+    pub unread : NoReading (passed before behind)
     pub gives : r .Gives comment a
 
-  -- the last of them
-  pub record LastReading (cs : List Comment) (a : A) : Type 0 where
-    pub before : List Comment
-    pub comment : Comment
-    pub behind : List Comment
-    pub among : cs ≡ before ++ comment ∷ behind
-    pub unread : NoReading behind
-    pub gives : r .Gives comment a
+  -- the first of the comments that have a reading gives a, and the last of them
+  abbrev pub FirstReading : List Comment → A → Type 0
+  FirstReading = ReadingPast (λ before behind. before)
+
+  abbrev pub LastReading : List Comment → A → Type 0
+  LastReading = ReadingPast (λ before behind. behind)
 
   -- what the comments give, one after the other
   pub data InOrder : List Comment → List A → Type 0 where
@@ -125,17 +110,21 @@ ExactlyFirst r cs = Exactly (FirstReading r cs) (NoReading r cs)
 abbrev pub ExactlyLast : {A : Type 0} → Reader A → List Comment → Option A → Type 0
 ExactlyLast r cs = Exactly (LastReading r cs) (NoReading r cs)
 
+-- the first reading of a rule in the head group's comments, where the sheet's media is one that it asks for
+abbrev pub FirstInHead : Asks → Sheet → Option SpecifierWithRange → Type 0
+FirstInHead rule t = ExactlyFirst (byRule rule (t .source)) (givenTo rule (t .media) (headComments t))
+
 -- the references and the pragmas of a sheet, as its module information m has them
 pub record Present (t : Sheet) (m : ModuleInfo) : Type 0 where
-  pub references : (l : List TypeScriptReference) → (m .tsReferences ≡ l) ↔ InOrder (referenceRule (t .source)) (headComments t) l
-  pub self-types : ExactlyFirst (selfTypesRule (t .source)) (givenIf (isJavaScript (t .media)) (headComments t)) (m .selfTypesSpecifier)
-  pub jsx-import-source : ExactlyFirst (jsxImportSourceRule (t .source)) (givenIf (isJsx (t .media)) (headComments t)) (m .jsxImportSource)
-  pub jsx-import-source-types : ExactlyFirst (jsxImportSourceTypesRule (t .source)) (givenIf (isJsx (t .media)) (headComments t)) (m .jsxImportSourceTypes)
-  pub source-map-url : ExactlyLast (sourceMapUrlRule (t .source)) (endComments t) (m .sourceMapUrl)
+  pub references : (l : List TypeScriptReference) → (m .tsReferences ≡ l) ↔ InOrder (byReference (t .source)) (headComments t) l
+  pub self-types : FirstInHead selfTypesRule t (m .selfTypesSpecifier)
+  pub jsx-import-source : FirstInHead jsxImportSourceRule t (m .jsxImportSource)
+  pub jsx-import-source-types : FirstInHead jsxImportSourceTypesRule t (m .jsxImportSourceTypes)
+  pub source-map-url : ExactlyLast (byRule sourceMapUrlRule (t .source)) (endComments t) (m .sourceMapUrl)
 
 -- the types x of an entry whose node starts at `start`: only the last comment of the leading group there counts
 abbrev pub TypesPresent : Sheet → ℕ → Option SpecifierWithRange → Type 0
 TypesPresent t start =
     Exactly
-    (λ x. (c : Comment) × (lastIn (t .comments) (groupAt (t .groups) Leading start) ≡ Option.some c) × tsOrDenoTypesRule (t .source) .Gives c x)
-    ((c : Comment) → lastIn (t .comments) (groupAt (t .groups) Leading start) ≡ Option.some c → tsOrDenoTypesRule (t .source) .Reads c → ⊥)
+    (λ x. (c : Comment) × (lastIn (t .comments) (groupAt (t .groups) Leading start) ≡ Option.some c) × byTsOrDenoTypes (t .source) .Gives c x)
+    ((c : Comment) → lastIn (t .comments) (groupAt (t .groups) Leading start) ≡ Option.some c → byTsOrDenoTypes (t .source) .Reads c → ⊥)

@@ -3,10 +3,11 @@ pub mod origins;
 pub mod readings;
 pub mod references;
 
+use self::readings::Counts;
 use self::readings::Reading;
 use self::readings::Rule;
+use self::readings::find_reading;
 use self::readings::first_reading;
-use self::readings::last_reading;
 use self::readings::put_reading;
 use self::readings::read;
 use report::writer::Place;
@@ -21,52 +22,17 @@ ghost use Rattle.wire.specs.Optional.{encodeOptional};
 ghost use Rattle.sheet.specs.code.Tables.{commentsIn, groupsIn};
 ghost use Rattle.sheet.specs.Fit.{Placed};
 ghost use Rattle.sheet.specs.code.Views.{foundAs};
-ghost use Rattle.sheet.specs.Media.{isJavaScript, isJsx};
 ghost use Rattle.report.specs.Encode.{encodeSpecifier};
 ghost use Rattle.report.specs.Buffer.{wrote, bufferAs};
 ghost use Rattle.pragmas.specs.code.Held.{Commented, GroupedIn, Reached};
-ghost use Rattle.pragmas.specs.Pragmas.{inGroup, selfTypesIn, jsxImportSourceIn, jsxImportSourceTypesIn, sourceMapUrlIn, tsOrDenoTypes, typesIn};
-ghost use Rattle.pragmas.specs.code.Views.{readAs, ReadIn};
+ghost use Rattle.pragmas.specs.Asks.{sourceMapUrlRule};
+ghost use Rattle.pragmas.specs.Readings.{readBy, firstOf, lastOf};
+ghost use Rattle.pragmas.specs.Pragmas.{inGroup, givenTo, tsOrDenoTypes, typesIn};
+ghost use Rattle.pragmas.specs.code.Views.{asked, readRule, readAs, ReadIn};
 
-// The opposite of the Rust's `is_typed`.
-pub fn is_javascript(media: MediaType) -> bool
-    ensures { λ r. ⌜ r ≡ isJavaScript media ⌝ }
-{
-    match media {
-        MediaType::JavaScript => true,
-        MediaType::Jsx => true,
-        MediaType::Mjs => true,
-        MediaType::Cjs => true,
-        MediaType::TypeScript => false,
-        MediaType::Mts => false,
-        MediaType::Cts => false,
-        MediaType::Dts => false,
-        MediaType::Dmts => false,
-        MediaType::Dcts => false,
-        MediaType::Tsx => false,
-    }
-}
-
-pub fn is_jsx(media: MediaType) -> bool
-    ensures { λ r. ⌜ r ≡ isJsx media ⌝ }
-{
-    match media {
-        MediaType::JavaScript => false,
-        MediaType::Jsx => true,
-        MediaType::Mjs => false,
-        MediaType::Cjs => false,
-        MediaType::TypeScript => false,
-        MediaType::Mts => false,
-        MediaType::Cts => false,
-        MediaType::Dts => false,
-        MediaType::Dmts => false,
-        MediaType::Dcts => false,
-        MediaType::Tsx => true,
-    }
-}
-
-// The JSX source: the first block comment that reads, for Jsx and Tsx.
-pub fn analyze_jsx_import_source(
+// Self types and the two JSX sources: the first comment that the rule reads, in the media that it asks for.
+pub fn analyze_first(
+    rule: Rule,
     media: MediaType,
     source: &[u8],
     comments: &[u32],
@@ -81,56 +47,10 @@ pub fn analyze_jsx_import_source(
     ensures { λ r. ⌜ bufferAs (now (out .exit)) r
         ≡ wrote (bufferAs (now (out .entry)) place)
         (encodeOptional encodeSpecifier
-        (jsxImportSourceIn media (now (source .entry)) (inGroup (commentsIn (now (comments .entry)) n) (foundAs found)))) ⌝ }
+        (firstOf (readRule rule (now (source .entry)))
+        (givenTo (asked rule) media (inGroup (commentsIn (now (comments .entry)) n) (foundAs found))))) ⌝ }
 {
-    let jsx = is_jsx(media);
-    let reading = first_reading(jsx, source, comments, n, found, Rule::JsxImportSource);
-    put_reading(source, index, reading, out, place)
-}
-
-// The JSX source of types: the first block comment that reads, for Jsx and Tsx.
-pub fn analyze_jsx_import_source_types(
-    media: MediaType,
-    source: &[u8],
-    comments: &[u32],
-    n: usize,
-    index: &[u32],
-    found: GroupFound,
-    out: &mut [u8],
-    place: Place,
-) -> Place
-    requires { ⌜ Commented (now source) (now comments) n (now index) ⌝ }
-    requires { ⌜ Reached n (foundAs found) ⌝ }
-    ensures { λ r. ⌜ bufferAs (now (out .exit)) r
-        ≡ wrote (bufferAs (now (out .entry)) place)
-        (encodeOptional encodeSpecifier
-        (jsxImportSourceTypesIn media (now (source .entry)) (inGroup (commentsIn (now (comments .entry)) n) (foundAs found)))) ⌝ }
-{
-    let jsx = is_jsx(media);
-    let reading = first_reading(jsx, source, comments, n, found, Rule::JsxImportSourceTypes);
-    put_reading(source, index, reading, out, place)
-}
-
-// The self types: the first comment that reads, for JavaScript.
-pub fn analyze_ts_self_types(
-    media: MediaType,
-    source: &[u8],
-    comments: &[u32],
-    n: usize,
-    index: &[u32],
-    found: GroupFound,
-    out: &mut [u8],
-    place: Place,
-) -> Place
-    requires { ⌜ Commented (now source) (now comments) n (now index) ⌝ }
-    requires { ⌜ Reached n (foundAs found) ⌝ }
-    ensures { λ r. ⌜ bufferAs (now (out .exit)) r
-        ≡ wrote (bufferAs (now (out .entry)) place)
-        (encodeOptional encodeSpecifier
-        (selfTypesIn media (now (source .entry)) (inGroup (commentsIn (now (comments .entry)) n) (foundAs found)))) ⌝ }
-{
-    let javascript = is_javascript(media);
-    let reading = first_reading(javascript, source, comments, n, found, Rule::TsSelfTypes);
+    let reading = first_reading(media, source, comments, n, found, rule);
     put_reading(source, index, reading, out, place)
 }
 
@@ -149,9 +69,9 @@ pub fn analyze_source_map_url(
     ensures { λ r. ⌜ bufferAs (now (out .exit)) r
         ≡ wrote (bufferAs (now (out .entry)) place)
         (encodeOptional encodeSpecifier
-        (sourceMapUrlIn (now (source .entry)) (inGroup (commentsIn (now (comments .entry)) n) (foundAs found)))) ⌝ }
+        (lastOf (readBy sourceMapUrlRule (now (source .entry))) (inGroup (commentsIn (now (comments .entry)) n) (foundAs found)))) ⌝ }
 {
-    let reading = last_reading(source, comments, n, found, Rule::SourceMapUrl);
+    let reading = find_reading(source, comments, n, found, Counts::Last, Rule::SourceMapUrl);
     put_reading(source, index, reading, out, place)
 }
 

@@ -1,10 +1,9 @@
 // How each reference and pragma was found: the rule that gave it, and where its comment starts.
-use super::is_javascript;
-use super::is_jsx;
+use super::readings::Counts;
 use super::readings::Reading;
 use super::readings::Rule;
+use super::readings::find_reading;
 use super::readings::first_reading;
-use super::readings::last_reading;
 use super::readings::read;
 use super::references::Reference;
 use super::references::read_reference;
@@ -122,11 +121,16 @@ pub fn put_head_origins(
         ≡ wrote (bufferAs (now (out .entry)) place)
         (flatMap encodeOrigin (headOrigins media (now (source .entry)) (inGroup (commentsIn (now (comments .entry)) n) (foundAs found)))) ⌝ }
 {
-    let javascript = is_javascript(media);
-    let jsx = is_jsx(media);
-    let self_types = first_reading(javascript, source, comments, n, found, Rule::TsSelfTypes);
-    let jsx_source = first_reading(jsx, source, comments, n, found, Rule::JsxImportSource);
-    let jsx_types = first_reading(jsx, source, comments, n, found, Rule::JsxImportSourceTypes);
+    let self_types = first_reading(media, source, comments, n, found, Rule::TsSelfTypes);
+    let jsx_source = first_reading(media, source, comments, n, found, Rule::JsxImportSource);
+    let jsx_types = first_reading(
+        media,
+        source,
+        comments,
+        n,
+        found,
+        Rule::JsxImportSourceTypes,
+    );
     let p = put_reference_origins(source, comments, n, found, out, place);
     let p = put_reading_origin(EntryRule::SelfTypes, self_types, out, p);
     let p = put_reading_origin(EntryRule::JsxImportSource, jsx_source, out, p);
@@ -149,7 +153,7 @@ pub fn put_end_origins(
         ≡ wrote (bufferAs (now (out .entry)) place)
         (flatMap encodeOrigin (endOrigins (now (source .entry)) (inGroup (commentsIn (now (comments .entry)) n) (foundAs found)))) ⌝ }
 {
-    let reading = last_reading(source, comments, n, found, Rule::SourceMapUrl);
+    let reading = find_reading(source, comments, n, found, Counts::Last, Rule::SourceMapUrl);
     put_reading_origin(EntryRule::SourceMap, reading, out, place)
 }
 

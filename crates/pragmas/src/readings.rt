@@ -18,14 +18,15 @@ use sheet::lookups::GroupFound;
 use sheet::lookups::body;
 use sheet::lookups::body_span;
 use sheet::names::CommentKind;
+use sheet::names::MediaType;
+use sheet::names::is_block;
+use sheet::names::is_javascript;
+use sheet::names::is_jsx;
 ghost use mathlib.Core.Path.{_≡_};
 ghost use Prim.Native.Nat.{_-_, _*_, _≤_};
-ghost use lib.Dec.{eqb};
 ghost use lib.ListN.{length};
 ghost use Rattle.wire.specs.Optional.{encodeOptional};
 ghost use Rattle.analysis.specs.Place.{Inside, Within};
-ghost use Rattle.sheet.specs.declared.names.CommentKind.the-variants.{Block};
-ghost use Rattle.sheet.specs.Names.{kindNumber};
 ghost use Rattle.sheet.specs.code.Tables.{commentsIn};
 ghost use Rattle.sheet.specs.Fit.{Placed, Fit};
 ghost use Rattle.sheet.specs.Lookups.{HoldsMarks, bodySpan};
@@ -34,9 +35,9 @@ ghost use Rattle.report.specs.Encode.{encodeSpecifier};
 ghost use Rattle.report.specs.Range.{IndexOf};
 ghost use Rattle.report.specs.Buffer.{wrote, bufferAs};
 ghost use Rattle.pragmas.specs.code.Held.{Reached};
-ghost use Rattle.pragmas.specs.Readings.{placeIn, specifierIn, firstOf, lastOf};
-ghost use Rattle.pragmas.specs.Pragmas.{inGroup, givenIf};
-ghost use Rattle.pragmas.specs.code.Views.{findRule, takes, takenBy, takenAs, readAs, ReadIn, CaptureIn, commentsFrom};
+ghost use Rattle.pragmas.specs.Readings.{placeIn, specifierIn, firstOf};
+ghost use Rattle.pragmas.specs.Pragmas.{inGroup, givenTo};
+ghost use Rattle.pragmas.specs.code.Views.{asked, findRule, takenBy, counted, takenAs, readAs, ReadIn, CaptureIn, commentsFrom};
 
 // The rules that give one specifier.
 pub enum Rule {
@@ -47,6 +48,12 @@ pub enum Rule {
     StandardSourceMap,
     TsTypes,
     DenoTypes,
+}
+
+// Which of the comments that read counts.
+pub enum Counts {
+    First,
+    Last,
 }
 
 // A comment that a rule reads, with what is captured in its body.
@@ -71,25 +78,29 @@ fn find_by(body: &[u8], rule: Rule) -> Found
     }
 }
 
-pub fn is_block(kind: CommentKind) -> bool
-    ensures { λ r. ⌜ r ≡ eqb (kindNumber kind) (kindNumber Block) ⌝ }
-{
-    match kind {
-        CommentKind::Line => false,
-        CommentKind::Block => true,
-        CommentKind::HtmlOpen => false,
-        CommentKind::HtmlClose => false,
-    }
-}
-
 // Does the rule take comments of this kind? The JSX rules take block comments only.
 fn takes(rule: Rule, kind: CommentKind) -> bool
-    ensures { λ r. ⌜ r ≡ takes rule kind ⌝ }
+    ensures { λ r. ⌜ r ≡ asked rule .kind kind ⌝ }
 {
     match rule {
         Rule::JsxImportSource => is_block(kind),
         Rule::JsxImportSourceTypes => is_block(kind),
         Rule::TsSelfTypes => true,
+        Rule::SourceMapUrl => true,
+        Rule::StandardSourceMap => true,
+        Rule::TsTypes => true,
+        Rule::DenoTypes => true,
+    }
+}
+
+// Does the rule ask for this media?
+fn asks_media(rule: Rule, media: MediaType) -> bool
+    ensures { λ r. ⌜ r ≡ asked rule .media media ⌝ }
+{
+    match rule {
+        Rule::JsxImportSource => is_jsx(media),
+        Rule::JsxImportSourceTypes => is_jsx(media),
+        Rule::TsSelfTypes => is_javascript(media),
         Rule::SourceMapUrl => true,
         Rule::StandardSourceMap => true,
         Rule::TsTypes => true,
@@ -113,85 +124,79 @@ pub fn read(source: &[u8], c: Comment, rule: Rule) -> Reading
     Reading::Nothing
 }
 
-// The first reading among the comments of a table from one row to another.
-fn first_between(
+// The reading that counts among the comments of a table from one row to another, sought from the start or from the end.
+fn reading_between(
     source: &[u8],
     comments: &[u32],
     n: usize,
     start: usize,
     end: usize,
+    counts: Counts,
     rule: Rule,
 ) -> Reading
     requires { ⌜ (3 * n ≤ length (now comments)) × (start ≤ end) × (end ≤ n) ⌝ }
     requires { ⌜ Fit (now source) (commentsIn (now comments) n) ⌝ }
-    ensures { λ r. ⌜ takenAs r ≡ firstOf (takenBy rule (now (source .entry))) (commentsFrom (now (comments .entry)) start end) ⌝ }
+    ensures { λ r. ⌜ takenAs r ≡ counted counts (takenBy rule (now (source .entry))) (commentsFrom (now (comments .entry)) start end) ⌝ }
     ensures { λ r. ⌜ ReadIn (now (source .entry)) r ⌝ }
 {
-    let mut i = start;
-    while i < end {
+    let mut from = start;
+    let mut to = end;
+    while from < to {
+        let i = match counts {
+            Counts::First => from,
+            Counts::Last => to - 1,
+        };
         let reading = read(source, comment_at(comments, i), rule);
         if let Reading::Of(_, _) = reading {
             return reading;
         }
-        i += 1;
-    }
-    Reading::Nothing
-}
-
-// The last one, sought from the end.
-fn last_between(
-    source: &[u8],
-    comments: &[u32],
-    n: usize,
-    start: usize,
-    end: usize,
-    rule: Rule,
-) -> Reading
-    requires { ⌜ (3 * n ≤ length (now comments)) × (start ≤ end) × (end ≤ n) ⌝ }
-    requires { ⌜ Fit (now source) (commentsIn (now comments) n) ⌝ }
-    ensures { λ r. ⌜ takenAs r ≡ lastOf (takenBy rule (now (source .entry))) (commentsFrom (now (comments .entry)) start end) ⌝ }
-    ensures { λ r. ⌜ ReadIn (now (source .entry)) r ⌝ }
-{
-    let mut i = end;
-    while start < i {
-        i -= 1;
-        let reading = read(source, comment_at(comments, i), rule);
-        if let Reading::Of(_, _) = reading {
-            return reading;
+        match counts {
+            Counts::First => {
+                from += 1;
+            }
+            Counts::Last => {
+                to -= 1;
+            }
         }
     }
     Reading::Nothing
 }
 
-// The first comment of a group that the rule reads, where the group is given to it.
-pub fn first_reading(
-    given: bool,
+// The reading that counts among the comments of a group.
+pub fn find_reading(
     source: &[u8],
     comments: &[u32],
     n: usize,
     found: GroupFound,
+    counts: Counts,
     rule: Rule,
 ) -> Reading
     requires { ⌜ 3 * n ≤ length (now comments) ⌝ }
     requires { ⌜ Fit (now source) (commentsIn (now comments) n) ⌝ }
     requires { ⌜ Reached n (foundAs found) ⌝ }
     ensures { λ r. ⌜ takenAs r
-        ≡ firstOf (takenBy rule (now (source .entry))) (givenIf given (inGroup (commentsIn (now (comments .entry)) n) (foundAs found))) ⌝ }
+        ≡ counted counts (takenBy rule (now (source .entry))) (inGroup (commentsIn (now (comments .entry)) n) (foundAs found)) ⌝ }
     ensures { λ r. ⌜ ReadIn (now (source .entry)) r ⌝ }
 {
     match found {
         GroupFound::At(g) => {
-            if given {
-                return first_between(source, comments, n, g.first, g.first + g.count, rule);
-            }
-            Reading::Nothing
+            reading_between(
+                source,
+                comments,
+                n,
+                g.first,
+                g.first + g.count,
+                counts,
+                rule,
+            )
         }
         GroupFound::Nothing => Reading::Nothing,
     }
 }
 
-// The last comment of a group that the rule reads.
-pub fn last_reading(
+// The first of them, where the sheet's media is one that the rule asks for.
+pub fn first_reading(
+    media: MediaType,
     source: &[u8],
     comments: &[u32],
     n: usize,
@@ -202,13 +207,14 @@ pub fn last_reading(
     requires { ⌜ Fit (now source) (commentsIn (now comments) n) ⌝ }
     requires { ⌜ Reached n (foundAs found) ⌝ }
     ensures { λ r. ⌜ takenAs r
-        ≡ lastOf (takenBy rule (now (source .entry))) (inGroup (commentsIn (now (comments .entry)) n) (foundAs found)) ⌝ }
+        ≡ firstOf (takenBy rule (now (source .entry)))
+        (givenTo (asked rule) media (inGroup (commentsIn (now (comments .entry)) n) (foundAs found))) ⌝ }
     ensures { λ r. ⌜ ReadIn (now (source .entry)) r ⌝ }
 {
-    match found {
-        GroupFound::At(g) => last_between(source, comments, n, g.first, g.first + g.count, rule),
-        GroupFound::Nothing => Reading::Nothing,
+    if asks_media(rule, media) {
+        return find_reading(source, comments, n, found, Counts::First, rule);
     }
+    Reading::Nothing
 }
 
 // Where a capture in a comment stands in the source, with its marks.

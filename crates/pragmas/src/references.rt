@@ -1,5 +1,4 @@
 // The references of the head group.
-use super::readings::is_block;
 use super::readings::put_capture;
 use analysis::Capture;
 use analysis::Found;
@@ -16,6 +15,7 @@ use sheet::comments::Comment;
 use sheet::comments::comment_at;
 use sheet::lookups::GroupFound;
 use sheet::lookups::body;
+use sheet::names::is_block;
 ghost use mathlib.Core.Path.{_≡_};
 ghost use Prim.Native.Nat.{_*_, _≤_};
 ghost use lib.ListN.{length};

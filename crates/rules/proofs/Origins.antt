@@ -31,10 +31,11 @@ use Rattle.accept.specs.code.Accepts.{Accepts}
 use Rattle.report.specs.Origin.{encodeOrigin}
 use Rattle.report.specs.Buffer.{Buffer, wrote}
 use Rattle.report.proofs.Buffers.{wrote-append}
+use Rattle.pragmas.specs.Asks.{selfTypesRule, jsxImportSourceRule, jsxImportSourceTypesRule}
 use Rattle.pragmas.specs.Pragmas.{inGroup, headComments, endComments, typesAt}
 use Rattle.pragmas.specs.Texts.{typesOf}
 use Rattle.pragmas.specs.Origins.{typesOrigins, headOrigins, endOrigins}
-use Rattle.pragmas.proofs.GivenFrom.{types-from, references-from, self-types-from, jsx-import-source-from, jsx-import-source-types-from, source-map-from}
+use Rattle.pragmas.proofs.GivenFrom.{types-from, references-from, first-from, source-map-from}
 use Rattle.listing.specs.Origins.{jsdocOrigins}
 use Rattle.listing.proofs.Origins.{jsdoc-origins}
 use Rattle.dep.specs.Collect.{Noted, startsOf}
@@ -74,10 +75,10 @@ module _ (t : Sheet) where
       aligned-append typed
       (aligned-append
       (aligned-append (aligned-of entry.reference (references-from (t .source) head))
-      (aligned-append (aligned-of entry.self-types (self-types-from (t .source) head (t .media)))
-      (aligned-append (aligned-of entry.jsx-import-source (jsx-import-source-from (t .source) head (t .media)))
-      (aligned-of entry.jsx-import-source-types (jsx-import-source-types-from (t .source) head (t .media))))))
-      (aligned-append (aligned-of entry.jsdoc (jsdoc-origins (t .media) utf8 fit)) (aligned-of entry.source-map-url (source-map-from (t .source) (endComments t)))))
+      (aligned-append (aligned-of entry.self-types (first-from (t .source) head selfTypesRule (t .media)))
+      (aligned-append (aligned-of entry.jsx-import-source (first-from (t .source) head jsxImportSourceRule (t .media)))
+      (aligned-of entry.jsx-import-source-types (first-from (t .source) head jsxImportSourceTypesRule (t .media))))))
+      (aligned-append (aligned-of entry.jsdoc (jsdoc-origins (t .media) utf8 fit)) (aligned-of entry.source-map-url (source-map-from (t .source) (endComments t) (t .media)))))
 
 -- the origins in the pieces that functions write
 module _ {t : Sheet} {source comments groups : List ℕ} {p : Parts} (o : PartsOf t source comments groups p) where

@@ -13,14 +13,13 @@ use Rattle.sheet.specs.Judge.{Judged, empty, sheet, refusal, judge}
 use Rattle.sheet_codec.specs.SheetOf.{SheetOf}
 use Rattle.report.specs.declared.writer.Outcome.{Outcome}
 use Rattle.report.specs.declared.writer.Outcome.the-variants as outcome
-use Rattle.report.specs.declared.origins.EntryRule.the-variants as rules
 use Rattle.report.specs.ModuleInfo.{SpecifierWithRange, TypeScriptReference, JsDocImportInfo, DependencyDescriptor, ModuleInfo}
 use Rattle.report.specs.Origin.{Origin, encodeOrigin}
 use Rattle.report.specs.Encode.{encode}
 use Rattle.report.specs.Answer.{Answer, accepted, refusedWith, outcomeAs}
 use Rattle.pragmas.specs.Readings.{optional}
 use Rattle.pragmas.specs.Pragmas.{headComments, endComments}
-use Rattle.pragmas.specs.Present.{selfTypesRule, jsxImportSourceRule, jsxImportSourceTypesRule, sourceMapUrlRule}
+use Rattle.pragmas.specs.Asks.{selfTypesRule, jsxImportSourceRule, jsxImportSourceTypesRule, sourceMapUrlRule}
 use Rattle.pragmas.specs.Texts.{typesOf}
 use Rattle.pragmas.specs.Origins.{typesOrigins, headOrigins, endOrigins, TypesFrom, ReferenceFrom, SpecifierFrom}
 use Rattle.listing.specs.Origins.{jsdocOrigins, JsDocFrom}
@@ -58,11 +57,11 @@ entriesOf m =
 abbrev pub OriginFor : Sheet → Entry → Origin → Type 0
 OriginFor t (types x) o = TypesFrom (t .source) (t .comments) x o
 OriginFor t (reference a) o = ReferenceFrom (t .source) (headComments t) a o
-OriginFor t (self-types x) o = SpecifierFrom rules.SelfTypes (selfTypesRule (t .source)) (headComments t) x o
-OriginFor t (jsx-import-source x) o = SpecifierFrom rules.JsxImportSource (jsxImportSourceRule (t .source)) (headComments t) x o
-OriginFor t (jsx-import-source-types x) o = SpecifierFrom rules.JsxImportSourceTypes (jsxImportSourceTypesRule (t .source)) (headComments t) x o
+OriginFor t (self-types x) o = SpecifierFrom selfTypesRule (t .source) (headComments t) x o
+OriginFor t (jsx-import-source x) o = SpecifierFrom jsxImportSourceRule (t .source) (headComments t) x o
+OriginFor t (jsx-import-source-types x) o = SpecifierFrom jsxImportSourceTypesRule (t .source) (headComments t) x o
 OriginFor t (jsdoc i) o = JsDocFrom (t .source) (t .comments) i o
-OriginFor t (source-map-url x) o = SpecifierFrom rules.SourceMap (sourceMapUrlRule (t .source)) (endComments t) x o
+OriginFor t (source-map-url x) o = SpecifierFrom sourceMapUrlRule (t .source) (endComments t) x o
 
 -- the origins of a sheet's entries, in report order
 unfoldable pub originsIn : Sheet → List Origin

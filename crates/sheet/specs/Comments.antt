@@ -1,5 +1,5 @@
 -- Comments and the groups that they stand in.
-use mathlib.Core.Bool.{Bool, true, false, _&&_, _||_}
+use mathlib.Core.Bool.{Bool, true, false, not, _&&_, _||_}
 use mathlib.Core.List.{List, [], _∷_, _++_}
 use Prim.Native.Nat.{ℕ, zero, suc, _+_, _-_}
 use lib.Dec.{eqb, leb, ltb}
@@ -35,12 +35,15 @@ marksOf Block = record { opening = ascii "/*"; closing = ascii "*/" }
 marksOf HtmlOpen = record { opening = ascii "<!--"; closing = [] }
 marksOf HtmlClose = record { opening = ascii "-->"; closing = [] }
 
--- the kind as which the readings take a comment: an HTML-like one acts as a line comment
-abbrev pub actsAs : CommentKind → CommentKind
-actsAs Line = Line
-actsAs Block = Block
-actsAs HtmlOpen = Line
-actsAs HtmlClose = Line
+-- the readings take a comment as a block comment or as a line comment: an HTML-like one acts as a line comment
+abbrev pub isBlock : CommentKind → Bool
+isBlock Block = true
+isBlock Line = false
+isBlock HtmlOpen = false
+isBlock HtmlClose = false
+
+abbrev pub isLine : CommentKind → Bool
+isLine kind = not (isBlock kind)
 
 abbrev pub opening : CommentKind → List ℕ
 opening kind = marksOf kind .opening

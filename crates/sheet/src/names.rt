@@ -1,6 +1,8 @@
 // The enums of a sheet, and the value of each number.
 ghost use mathlib.Core.Path.{_≡_};
 ghost use Rattle.wire.specs.Fields.{valueOf};
+ghost use Rattle.sheet.specs.Media.{isJavaScript, isJsx};
+ghost use Rattle.sheet.specs.Comments.{isBlock};
 ghost use Rattle.sheet.specs.Names.{mediaTypes, kindNumber, commentKinds, sideNumber, sides, importPhases};
 
 pub enum MediaType {
@@ -35,6 +37,43 @@ pub fn media_type(n: usize) -> MediaType
     }
 }
 
+// The opposite of the Rust's `is_typed`.
+pub fn is_javascript(media: MediaType) -> bool
+    ensures { λ r. ⌜ r ≡ isJavaScript media ⌝ }
+{
+    match media {
+        MediaType::JavaScript => true,
+        MediaType::Jsx => true,
+        MediaType::Mjs => true,
+        MediaType::Cjs => true,
+        MediaType::TypeScript => false,
+        MediaType::Mts => false,
+        MediaType::Cts => false,
+        MediaType::Dts => false,
+        MediaType::Dmts => false,
+        MediaType::Dcts => false,
+        MediaType::Tsx => false,
+    }
+}
+
+pub fn is_jsx(media: MediaType) -> bool
+    ensures { λ r. ⌜ r ≡ isJsx media ⌝ }
+{
+    match media {
+        MediaType::JavaScript => false,
+        MediaType::Jsx => true,
+        MediaType::Mjs => false,
+        MediaType::Cjs => false,
+        MediaType::TypeScript => false,
+        MediaType::Mts => false,
+        MediaType::Cts => false,
+        MediaType::Dts => false,
+        MediaType::Dmts => false,
+        MediaType::Dcts => false,
+        MediaType::Tsx => true,
+    }
+}
+
 // The last two are the HTML-like comments of ECMAScript's Annex B.
 pub enum CommentKind {
     Line,
@@ -62,6 +101,17 @@ pub fn kind_number(kind: CommentKind) -> u32
         CommentKind::Block => 1,
         CommentKind::HtmlOpen => 2,
         CommentKind::HtmlClose => 3,
+    }
+}
+
+pub fn is_block(kind: CommentKind) -> bool
+    ensures { λ r. ⌜ r ≡ isBlock kind ⌝ }
+{
+    match kind {
+        CommentKind::Line => false,
+        CommentKind::Block => true,
+        CommentKind::HtmlOpen => false,
+        CommentKind::HtmlClose => false,
     }
 }
 

@@ -1,5 +1,7 @@
 use borrow.Author.Needs.{needs}
 use native.Mathlib.Omega.{arith}
+use Rattle.pragmas.specs.Readings.{readBy}
+use Rattle.pragmas.specs.Pragmas.{firstBy}
 use Rattle.pragmas.proofs.Reached.{head-reached}
 use Rattle.module_info.proofs.Written.{head-written}
 use Rattle.module_info.proofs.put_head.Statement.{statement}
@@ -17,18 +19,19 @@ part-index-end c = c .before .before .before .before .before .pre .0
 analyze-ts-references-requires : tie.Need-analyze-ts-references-requires
 analyze-ts-references-requires c κs = (c .before .before .before .before .before .before .before .before .pre .1 .0, head-reached (c .before .before .before .before .before .before .before .before .pre .1 .1 .grouped) _ _ (c .before .head-group .ensures))
 
-analyze-ts-self-types-requires : tie.Need-analyze-ts-self-types-requires
-analyze-ts-self-types-requires c κs = (c .before .before .before .before .before .before .before .before .before .before .before .before .pre .1 .0, head-reached (c .before .before .before .before .before .before .before .before .before .before .before .before .pre .1 .1 .grouped) _ _ (c .before .before .before .before .before .head-group .ensures))
+analyze-first-requires : tie.Need-analyze-first-requires
+analyze-first-requires c κs = (c .before .before .before .before .before .before .before .before .before .before .before .before .pre .1 .0, head-reached (c .before .before .before .before .before .before .before .before .before .before .before .before .pre .1 .1 .grouped) _ _ (c .before .before .before .before .before .head-group .ensures))
 
-analyze-jsx-import-source-requires : tie.Need-analyze-jsx-import-source-requires
-analyze-jsx-import-source-requires c κs = (c .before .before .before .before .before .before .before .before .before .before .before .before .before .before .before .before .pre .1 .0, head-reached (c .before .before .before .before .before .before .before .before .before .before .before .before .before .before .before .before .pre .1 .1 .grouped) _ _ (c .before .before .before .before .before .before .before .before .before .head-group .ensures))
+analyze-first-requires-2 : tie.Need-analyze-first-requires-2
+analyze-first-requires-2 c κs = (c .before .before .before .before .before .before .before .before .before .before .before .before .before .before .before .before .pre .1 .0, head-reached (c .before .before .before .before .before .before .before .before .before .before .before .before .before .before .before .before .pre .1 .1 .grouped) _ _ (c .before .before .before .before .before .before .before .before .before .head-group .ensures))
 
-analyze-jsx-import-source-types-requires : tie.Need-analyze-jsx-import-source-types-requires
-analyze-jsx-import-source-types-requires c κs = (c .before .before .before .before .before .before .before .before .before .before .before .before .before .before .before .before .before .before .before .before .pre .1 .0, head-reached (c .before .before .before .before .before .before .before .before .before .before .before .before .before .before .before .before .before .before .before .before .pre .1 .1 .grouped) _ _ (c .before .before .before .before .before .before .before .before .before .before .before .before .before .head-group .ensures))
+analyze-first-requires-3 : tie.Need-analyze-first-requires-3
+analyze-first-requires-3 c κs = (c .before .before .before .before .before .before .before .before .before .before .before .before .before .before .before .before .before .before .before .before .pre .1 .0, head-reached (c .before .before .before .before .before .before .before .before .before .before .before .before .before .before .before .before .before .before .before .before .pre .1 .1 .grouped) _ _ (c .before .before .before .before .before .before .before .before .before .before .before .before .before .head-group .ensures))
 
 returns : tie.Need-returns
+unfolding readBy firstBy
 returns c =
-    λ t o. head-written o _ (c .before .before .before .before .before .before .before .before .before .before .before .before .before .before .before .before .head-group .ensures) (c .before .before .before .before .before .before .before .before .before .before .before .before .before .before .analyze-ts-references .ensures) (c .before .before .before .before .before .before .before .before .before .before .analyze-ts-self-types .ensures) (c .before .before .before .before .before .before .analyze-jsx-import-source .ensures) (c .before .before .analyze-jsx-import-source-types .ensures)
+    λ t o. head-written o _ (c .before .before .before .before .before .before .before .before .before .before .before .before .before .before .before .before .head-group .ensures) (c .before .before .before .before .before .before .before .before .before .before .before .before .before .before .analyze-ts-references .ensures) (c .before .before .before .before .before .before .before .before .before .before .analyze-first .ensures) (c .before .before .before .before .before .before .analyze-first2 .ensures) (c .before .before .analyze-first3 .ensures)
 
 pub put-head-spec : {M : Type 1} → statement M
 put-head-spec =
@@ -45,8 +48,8 @@ put-head-spec =
     part-index-end
     (λ c κs. search needs)
     analyze-ts-references-requires
-    analyze-ts-self-types-requires
-    analyze-jsx-import-source-requires
-    analyze-jsx-import-source-types-requires
+    analyze-first-requires
+    analyze-first-requires-2
+    analyze-first-requires-3
     (λ c. search needs)
     returns)

@@ -1,18 +1,18 @@
 use borrow.Author.Needs.{needs}
 use denote.Ref.{now}
+use Rattle.pragmas.specs.declared.readings.Counts.the-variants.{Last}
 use Rattle.pragmas.specs.declared.readings.Rule.the-variants.{SourceMapUrl}
 use Rattle.pragmas.specs.Readings.{readBy}
-use Rattle.pragmas.specs.Pragmas.{sourceMapUrlIn}
-use Rattle.pragmas.proofs.Taken.{read-last}
+use Rattle.pragmas.proofs.Taken.{read-counted}
 use Rattle.pragmas.proofs.analyze_source_map_url.Statement.{statement}
 use Rattle.pragmas.proofs.analyze_source_map_url.Tie as tie
 
 returns : tie.Need-returns
-unfolding readBy sourceMapUrlIn
+unfolding readBy
 returns c =
     let source = now (c .before .before .before .before .before .before .before .before .before .args .source) in
-    let read = c .before .before .before .before .last-reading in
-    rw (← read-last SourceMapUrl source (read .result) _ (read .ensures .0)) (c .before .before .put-reading .ensures)
+    let read = c .before .before .before .before .find-reading in
+    rw (← read-counted SourceMapUrl source (read .result) Last _ (read .ensures .0)) (c .before .before .put-reading .ensures)
 
 pub analyze-source-map-url-spec : {M : Type 1} → statement M
 analyze-source-map-url-spec =

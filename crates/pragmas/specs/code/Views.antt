@@ -1,20 +1,15 @@
 -- What the answers of the code stand for, and the rules that it reads comments by.
-use mathlib.Core.Bool.{Bool, true, cond}
+use mathlib.Core.Bool.{cond}
 use mathlib.Core.List.{List, []}
 use mathlib.Core.Option.{Option, Option·map}
 use Prim.Native.Nat.{ℕ, _-_}
-use lib.Dec.{eqb}
 use lib.ListN.{length}
 use Rattle.analysis.specs.declared.Capture.{Capture}
 use Rattle.analysis.specs.declared.Found.{Found}
 use Rattle.analysis.specs.Row.{find}
 use Rattle.analysis.specs.Place.{Inside}
-use Rattle.analysis.specs.Patterns.{jsxImportSourceRow, jsxImportSourceTypesRow, sourceMappingUrlRow, tsSelfTypesRow, tsTypesRow, denoTypesRow}
 use Rattle.analysis.specs.code.Mode.{modeAs}
 use Rattle.ecma426.specs.Reader.{findSourceMap}
-use Rattle.sheet.specs.declared.names.CommentKind.{CommentKind}
-use Rattle.sheet.specs.declared.names.CommentKind.the-variants.{Block}
-use Rattle.sheet.specs.Names.{kindNumber}
 use Rattle.sheet.specs.declared.comments.Comment.{Comment}
 use Rattle.sheet.specs.code.Tables.{rows, commentIn}
 use Rattle.sheet.specs.Fit.{Placed}
@@ -22,42 +17,53 @@ use Rattle.sheet.specs.Lookups.{body}
 use Rattle.report.specs.ModuleInfo.{SpecifierWithRange, TypeScriptReference, path, types}
 use Rattle.report.specs.declared.origins.EntryRule.{EntryRule}
 use Rattle.report.specs.Origin.{Origin}
+use Rattle.pragmas.specs.declared.readings.Counts.{Counts}
+use Rattle.pragmas.specs.declared.readings.Counts.the-variants.{First, Last}
 use Rattle.pragmas.specs.declared.readings.Rule.{Rule}
 use Rattle.pragmas.specs.declared.readings.Rule.the-variants.{TsSelfTypes, JsxImportSource, JsxImportSourceTypes, SourceMapUrl, StandardSourceMap, TsTypes, DenoTypes}
 use Rattle.pragmas.specs.declared.readings.Reading.{Reading}
 use Rattle.pragmas.specs.declared.readings.Reading.the-variants as reading
 use Rattle.pragmas.specs.declared.references.Reference.{Reference}
 use Rattle.pragmas.specs.declared.references.Reference.the-variants as reference
-use Rattle.pragmas.specs.Readings.{specifierIn, onFound}
+use Rattle.pragmas.specs.Asks.{Asks, selfTypesRule, jsxImportSourceRule, jsxImportSourceTypesRule, sourceMapUrlRule, tsTypesRule, denoTypesRule}
+use Rattle.pragmas.specs.Readings.{specifierIn, onFound, firstOf, lastOf}
 use Rattle.pragmas.specs.Origins.{originOf}
 
--- what a rule finds in a body
+-- what a rule asks; that of ECMA-426 asks what the report's source map does, but for what it finds
+abbrev pub asked : Rule → Asks
+asked TsSelfTypes = selfTypesRule
+asked JsxImportSource = jsxImportSourceRule
+asked JsxImportSourceTypes = jsxImportSourceTypesRule
+asked SourceMapUrl = sourceMapUrlRule
+asked StandardSourceMap = sourceMapUrlRule
+asked TsTypes = tsTypesRule
+asked DenoTypes = denoTypesRule
+
+-- what it finds in a body
 abbrev pub findRule : Rule → List ℕ → Found
-findRule TsSelfTypes = find tsSelfTypesRow
-findRule JsxImportSource = find jsxImportSourceRow
-findRule JsxImportSourceTypes = find jsxImportSourceTypesRow
-findRule SourceMapUrl = find sourceMappingUrlRow
+findRule TsSelfTypes = find (selfTypesRule .row)
+findRule JsxImportSource = find (jsxImportSourceRule .row)
+findRule JsxImportSourceTypes = find (jsxImportSourceTypesRule .row)
+findRule SourceMapUrl = find (sourceMapUrlRule .row)
 findRule StandardSourceMap = findSourceMap
-findRule TsTypes = find tsTypesRow
-findRule DenoTypes = find denoTypesRow
+findRule TsTypes = find (tsTypesRule .row)
+findRule DenoTypes = find (denoTypesRule .row)
 
--- whether it takes comments of a kind
-abbrev pub takes : Rule → CommentKind → Bool
-takes TsSelfTypes kind = true
-takes JsxImportSource kind = eqb (kindNumber kind) (kindNumber Block)
-takes JsxImportSourceTypes kind = eqb (kindNumber kind) (kindNumber Block)
-takes SourceMapUrl kind = true
-takes StandardSourceMap kind = true
-takes TsTypes kind = true
-takes DenoTypes kind = true
+-- what is made of what it captures in a comment
+abbrev pub onRule : {A : Type 0} → Rule → List ℕ → (Comment → Capture → A) → Comment → Option A
+onRule rule source make c = cond (asked rule .kind (c .kind)) (onFound (make c) (findRule rule (body source c))) Option.none
 
--- a comment that it reads, with what is captured there
+-- the comment with what is captured there, and the specifier
 abbrev pub takenBy : Rule → List ℕ → Comment → Option (Comment × Capture)
-takenBy rule source c = cond (takes rule (c .kind)) (onFound (λ k. (c, k)) (findRule rule (body source c))) Option.none
+takenBy rule source = onRule rule source (λ c k. (c, k))
 
--- the specifier that it reads in a comment
 abbrev pub readRule : Rule → List ℕ → Comment → Option SpecifierWithRange
-readRule rule source c = cond (takes rule (c .kind)) (onFound (specifierIn source c) (findRule rule (body source c))) Option.none
+readRule rule source = onRule rule source (specifierIn source)
+
+-- the answer that counts among those of some comments
+abbrev pub counted : {A : Type 0} → Counts → (Comment → Option A) → List Comment → Option A
+counted First = firstOf
+counted Last = lastOf
 
 -- the capture and its marks lie in the body of a comment of the source
 pub record CaptureIn (source : List ℕ) (c : Comment) (k : Capture) : Type 0 where

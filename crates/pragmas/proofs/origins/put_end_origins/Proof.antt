@@ -1,20 +1,21 @@
 use borrow.Author.Needs.{needs}
 use denote.Ref.{now}
 use Rattle.report.specs.declared.origins.EntryRule.the-variants.{SourceMap}
+use Rattle.pragmas.specs.declared.readings.Counts.the-variants.{Last}
 use Rattle.pragmas.specs.declared.readings.Rule.the-variants.{SourceMapUrl}
 use Rattle.pragmas.specs.Readings.{readBy}
-use Rattle.pragmas.specs.Origins.{sourceMapOrigin, endOrigins}
-use Rattle.pragmas.proofs.Taken.{origin-last}
+use Rattle.pragmas.specs.Origins.{originBy, endOrigins}
+use Rattle.pragmas.proofs.Taken.{origin-counted}
 use Rattle.pragmas.proofs.Written.{optional-each}
 use Rattle.pragmas.proofs.origins.put_end_origins.Statement.{statement}
 use Rattle.pragmas.proofs.origins.put_end_origins.Tie as tie
 
 returns : tie.Need-returns
-unfolding readBy sourceMapOrigin endOrigins
+unfolding readBy originBy endOrigins
 returns c =
     let source = now (c .before .before .before .before .before .before .before .before .args .source) in
-    let read = c .before .before .before .before .last-reading in
-    rw (optional-each, ← origin-last SourceMapUrl source (read .result) _ (read .ensures .0) SourceMap) (c .before .before .put-reading-origin .ensures)
+    let read = c .before .before .before .before .find-reading in
+    rw (optional-each, ← origin-counted SourceMapUrl source (read .result) Last _ (read .ensures .0) SourceMap) (c .before .before .put-reading-origin .ensures)
 
 pub put-end-origins-spec : {M : Type 1} → statement M
 put-end-origins-spec =

@@ -4,14 +4,14 @@ use Rattle.laws.proofs.Steps.{seen}
 use Rattle.report.specs.declared.origins.EntryRule.the-variants.{TsTypes, DenoTypes}
 use Rattle.pragmas.specs.declared.readings.Rule.the-variants as rule
 use Rattle.pragmas.specs.Readings.{readBy}
-use Rattle.pragmas.specs.Origins.{tsOrDenoOrigin}
+use Rattle.pragmas.specs.Origins.{originBy, tsOrDenoOrigin}
 use Rattle.pragmas.specs.code.Views.{originAs}
 use Rattle.pragmas.proofs.Taken.{origin-one}
 use Rattle.pragmas.proofs.origins.put_types_origin.Statement.{statement}
 use Rattle.pragmas.proofs.origins.put_types_origin.Tie as tie
 
 returns : tie.Need-returns
-unfolding readBy tsOrDenoOrigin
+unfolding readBy originBy tsOrDenoOrigin
 returns c =
     let a = c .before .before .before .before .before .before .before .before .before .args in
     let read = c .before .before .before .before .before .before .read in
@@ -20,7 +20,7 @@ returns c =
     rw (← found, is) (rw is at (c .before .before .put-reading-origin .ensures))
 
 returns-2 : tie.Need-returns-2
-unfolding readBy tsOrDenoOrigin
+unfolding readBy originBy tsOrDenoOrigin
 returns-2 c =
     let a = c .before .before .before .before .before .before .before .before .before .before .args in
     let source = now (a .source) in

@@ -1,20 +1,36 @@
 use borrow.Author.Needs.{needs}
+use mathlib.Core.Path.{_≡_, refl, sym}
+use mathlib.Core.Bool.{Bool, true, false, cond}
+use mathlib.Core.Option.{Option}
+use denote.Ref.{now}
 use Rattle.laws.proofs.Steps.{known}
+use Rattle.analysis.specs.Row.{find, isFound}
+use Rattle.analysis.specs.Patterns.{tripleSlashRow}
+use Rattle.sheet.specs.Lookups.{body}
 use Rattle.sheet.proofs.Members.{placed-within}
 use Rattle.sheet.proofs.Marks.{holds-marks}
+use Rattle.report.specs.ModuleInfo.{TypeScriptReference}
+use Rattle.pragmas.specs.Readings.{readBy}
 use Rattle.pragmas.specs.Pragmas.{modeIn, reference}
 use Rattle.pragmas.proofs.references.read_reference.Statement.{statement}
 use Rattle.pragmas.proofs.references.read_reference.Tie as tie
 
+neither : (b : Bool) → _≡_ {A = Option TypeScriptReference} (cond b Option.none Option.none) Option.none
+neither true = refl
+neither false = refl
+
 returns : tie.Need-returns
-unfolding reference
-returns c = (rw (known (c .before .is-block .ensures) (c .if1 .taken)), tt)
+unfolding readBy reference
+returns c =
+    let a = c .before .before .before .args in
+    let slashes = isFound (find tripleSlashRow (body (now (a .source)) (a .c))) in
+    (rw (known (c .before .is-block .ensures) (c .if1 .taken)) (sym (neither slashes)), tt)
 
 body-requires : tie.Need-body-requires
 body-requires c κs = let placed = c .before .before .before .pre in (holds-marks _ _ placed, placed-within _ _ placed)
 
 returns-2 : tie.Need-returns-2
-unfolding modeIn reference
+unfolding readBy modeIn reference
 returns-2 c = (
   rw (
     known (c .before .before .before .before .before .before .before .before .before .is-block .ensures) (c .before .before .before .before .before .before .before .before .if1 .left),
@@ -28,7 +44,7 @@ returns-2 c = (
 )
 
 returns-3 : tie.Need-returns-3
-unfolding reference
+unfolding readBy reference
 returns-3 c = (
   rw (
     known (c .before .before .before .before .before .before .before .before .before .before .before .is-block .ensures) (c .before .before .before .before .before .before .before .before .before .before .if1 .left),
@@ -41,7 +57,7 @@ returns-3 c = (
 )
 
 returns-4 : tie.Need-returns-4
-unfolding reference
+unfolding readBy reference
 returns-4 c = (
   rw (
     known (c .before .before .before .before .before .before .before .before .before .before .is-block .ensures) (c .before .before .before .before .before .before .before .before .before .if1 .left),
@@ -54,7 +70,7 @@ returns-4 c = (
 )
 
 returns-5 : tie.Need-returns-5
-unfolding reference
+unfolding readBy reference
 returns-5 c = (
   rw (
     known (c .before .before .before .before .is-block .ensures) (c .before .before .before .if1 .left),

@@ -10,6 +10,7 @@ use sheet::names::MediaType;
 use sheet::program::Program;
 use wire::refusals;
 ghost use Rattle.laws.specs.code.Left.{Free};
+ghost use Rattle.laws.specs.code.Told.{Leaving};
 ghost use Rattle.sheet.specs.code.Tables.{commentsPart, groupsPart};
 ghost use Rattle.accept.specs.code.Accepts.{Judges};
 
@@ -39,9 +40,9 @@ pub fn check_sheet(
     tables: &mut [u32; TABLE_NUMBERS],
     longest: &mut [u32; COMMENT_LIMIT],
 ) -> SheetChecked
-    ensures { λ r. ⌜ Judges (now (sheet .entry)) (commentsPart (now (tables .exit))) (groupsPart (now (tables .exit))) r ⌝ }
-    ensures { λ _. ⌜ Free (now (tables .entry)) (now (tables .exit))
-        × Free (now (longest .entry)) (now (longest .exit)) ⌝ }
+    ensures { λ r. ⌜ Leaving
+        (Judges (now (sheet .entry)) (commentsPart (now (tables .exit))) (groupsPart (now (tables .exit))) r)
+        (Free (now (tables .entry)) (now (tables .exit)) × Free (now (longest .entry)) (now (longest .exit))) ⌝ }
 {
     if SHEET_LIMIT < sheet.len() {
         return SheetChecked::Refused(refusals::SHEET_LENGTH);

@@ -19,6 +19,7 @@ ghost use mathlib.Core.Path.{_≡_};
 ghost use Prim.Native.Nat.{_≤_};
 ghost use lib.ListN.{length, drop};
 ghost use Rattle.laws.specs.code.Left.{Free};
+ghost use Rattle.laws.specs.code.Told.{Lent, Told};
 ghost use Rattle.sheet.specs.Limits.{commentLimit, commentNumbers, groupNumbers, indexStart};
 ghost use Rattle.sheet.specs.code.Tables.{commentsPart, groupsPart};
 ghost use Rattle.accept.specs.code.Pieces.{sourceFields, commentFields, groupFields, front};
@@ -57,8 +58,9 @@ pub enum FrontRead {
 
 // The media byte and the source.
 fn read_source(sheet: &[u8]) -> SourceRead
-    ensures { λ r. ⌜ sourceAs (now (sheet .entry)) r ≡ sourceFields (now (sheet .entry)) ⌝ }
-    ensures { λ r. ⌜ WithinSource (length (now (sheet .entry))) r ⌝ }
+    ensures { λ r. ⌜ Told (sourceAs (now (sheet .entry)))
+        (sourceFields (now (sheet .entry)))
+        (WithinSource (length (now (sheet .entry)))) r ⌝ }
 {
     let c = Cursor { at: 0 };
     match c.below(sheet, 11) {
@@ -122,10 +124,10 @@ fn read_group_table(
 pub fn read_front(sheet: &[u8], tables: &mut [u32], longest: &mut [u32]) -> FrontRead
     requires { ⌜ indexStart ≤ length (now tables) ⌝ }
     requires { ⌜ commentLimit ≤ length (now longest) ⌝ }
-    ensures { λ r. ⌜ frontAs (now (sheet .entry)) (commentsPart (now (tables .exit))) (groupsPart (now (tables .exit))) r ≡ front (now (sheet .entry)) ⌝ }
-    ensures { λ r. ⌜ WithinFront (length (now (sheet .entry))) r ⌝ }
-    ensures { λ _. ⌜ Free (now (tables .entry)) (now (tables .exit))
-        × Free (now (longest .entry)) (now (longest .exit)) ⌝ }
+    ensures { λ r. ⌜ Lent
+        (frontAs (now (sheet .entry)) (commentsPart (now (tables .exit))) (groupsPart (now (tables .exit))) r ≡ front (now (sheet .entry)))
+        (WithinFront (length (now (sheet .entry))) r)
+        (Free (now (tables .entry)) (now (tables .exit)) × Free (now (longest .entry)) (now (longest .exit))) ⌝ }
 {
     match read_source(sheet) {
         SourceRead::Refused(r) => FrontRead::Refused(r),

@@ -9,6 +9,7 @@ use text::utf8::char_at;
 ghost use mathlib.Core.Path.{_≡_};
 ghost use Prim.Native.Nat.{_+_, _≤_};
 ghost use lib.ListN.{length, drop};
+ghost use Rattle.laws.specs.code.Told.{Bounded};
 ghost use Rattle.analysis.specs.Letters.{foldCase, letterAt, wordAt};
 ghost use Rattle.analysis.specs.Row.{matchAt, find, isFound};
 ghost use Rattle.analysis.specs.code.Matcher.{assignedAt, EndsBy, BeginsWithAtSign};
@@ -43,8 +44,7 @@ fn fold_case(code: u32) -> u32
 // The same as `letter_at`, by the rows of characters.
 fn wide_letter_at(s: &[u8], at: usize, letter: u8) -> usize
     requires { ⌜ at ≤ length (now s) ⌝ }
-    ensures { λ r. ⌜ r ≡ letterAt letter (drop at (now (s .entry))) ⌝ }
-    ensures { λ r. ⌜ at + r ≤ length (now (s .entry)) ⌝ }
+    ensures { λ r. ⌜ Bounded (r ≡ letterAt letter (drop at (now (s .entry)))) (at + r ≤ length (now (s .entry))) ⌝ }
 {
     let c = char_at(s, at, Encoding::Utf8);
     let len = c.len;
@@ -59,8 +59,7 @@ fn wide_letter_at(s: &[u8], at: usize, letter: u8) -> usize
 // The length in bytes of the letter at `at`, whatever its case, 0 where it does not stand there.
 fn letter_at(s: &[u8], at: usize, letter: u8) -> usize
     requires { ⌜ at ≤ length (now s) ⌝ }
-    ensures { λ r. ⌜ r ≡ letterAt letter (drop at (now (s .entry))) ⌝ }
-    ensures { λ r. ⌜ at + r ≤ length (now (s .entry)) ⌝ }
+    ensures { λ r. ⌜ Bounded (r ≡ letterAt letter (drop at (now (s .entry)))) (at + r ≤ length (now (s .entry))) ⌝ }
 {
     if s.len() <= at {
         return wide_letter_at(s, at, letter);
@@ -78,8 +77,7 @@ fn letter_at(s: &[u8], at: usize, letter: u8) -> usize
 // Where the word ends that begins at `at`, letter by letter.
 pub fn match_word(s: &[u8], at: usize, word: &[u8]) -> Matched
     requires { ⌜ at ≤ length (now s) ⌝ }
-    ensures { λ r. ⌜ r ≡ wordAt (now (word .entry)) (now (s .entry)) at ⌝ }
-    ensures { λ r. ⌜ EndsBy r (length (now (s .entry))) ⌝ }
+    ensures { λ r. ⌜ Bounded (r ≡ wordAt (now (word .entry)) (now (s .entry)) at) (EndsBy r (length (now (s .entry)))) ⌝ }
 {
     let mut i = at;
     let mut k = 0;
@@ -97,8 +95,7 @@ pub fn match_word(s: &[u8], at: usize, word: &[u8]) -> Matched
 // Where the value begins behind a word and `\s*=\s*`.
 pub fn assigned_at(s: &[u8], at: usize, word: &[u8]) -> Matched
     requires { ⌜ at ≤ length (now s) ⌝ }
-    ensures { λ r. ⌜ r ≡ assignedAt (now (word .entry)) (now (s .entry)) at ⌝ }
-    ensures { λ r. ⌜ EndsBy r (length (now (s .entry))) ⌝ }
+    ensures { λ r. ⌜ Bounded (r ≡ assignedAt (now (word .entry)) (now (s .entry)) at) (EndsBy r (length (now (s .entry)))) ⌝ }
 {
     let Matched::At(a) = match_word(s, at, word) else {
         return Matched::Not;
@@ -113,8 +110,7 @@ pub fn assigned_at(s: &[u8], at: usize, word: &[u8]) -> Matched
 // ["']([^"']*)["']
 pub fn quoted_at(s: &[u8], at: usize) -> Found
     requires { ⌜ at ≤ length (now s) ⌝ }
-    ensures { λ r. ⌜ r ≡ matchAt quoted (now (s .entry)) at ⌝ }
-    ensures { λ r. ⌜ Within r (length (now (s .entry))) ⌝ }
+    ensures { λ r. ⌜ Bounded (r ≡ matchAt quoted (now (s .entry)) at) (Within r (length (now (s .entry)))) ⌝ }
 {
     let n = class_at(s, at, Class::Quote);
     if n == 0 {
@@ -136,8 +132,7 @@ pub fn quoted_at(s: &[u8], at: usize) -> Found
 // ["']([^"']+)["']
 pub fn quoted_some_at(s: &[u8], at: usize) -> Found
     requires { ⌜ at ≤ length (now s) ⌝ }
-    ensures { λ r. ⌜ r ≡ matchAt quotedSome (now (s .entry)) at ⌝ }
-    ensures { λ r. ⌜ Within r (length (now (s .entry))) ⌝ }
+    ensures { λ r. ⌜ Bounded (r ≡ matchAt quotedSome (now (s .entry)) at) (Within r (length (now (s .entry)))) ⌝ }
 {
     let n = class_at(s, at, Class::Quote);
     if n == 0 {
@@ -163,8 +158,7 @@ pub fn quoted_some_at(s: &[u8], at: usize) -> Found
 // (\S+)
 pub fn bare_at(s: &[u8], at: usize) -> Found
     requires { ⌜ at ≤ length (now s) ⌝ }
-    ensures { λ r. ⌜ r ≡ matchAt bare (now (s .entry)) at ⌝ }
-    ensures { λ r. ⌜ Within r (length (now (s .entry))) ⌝ }
+    ensures { λ r. ⌜ Bounded (r ≡ matchAt bare (now (s .entry)) at) (Within r (length (now (s .entry)))) ⌝ }
 {
     let n = class_at(s, at, Class::NotWhite);
     if n == 0 {
@@ -199,8 +193,8 @@ pub fn reference_ends(s: &[u8], at: usize) -> bool
 // \sWORD\s*=\s*["']([^"']*)["']
 fn attribute_at(s: &[u8], at: usize, word: &[u8]) -> Found
     requires { ⌜ at ≤ length (now s) ⌝ }
-    ensures { λ r. ⌜ r ≡ matchAt (attributeRow (now (word .entry))) (now (s .entry)) at ⌝ }
-    ensures { λ r. ⌜ Within r (length (now (s .entry))) ⌝ }
+    ensures { λ r. ⌜ Bounded (r ≡ matchAt (attributeRow (now (word .entry))) (now (s .entry)) at)
+        (Within r (length (now (s .entry)))) ⌝ }
 {
     let n = class_at(s, at, Class::White);
     if n == 0 {
@@ -214,8 +208,8 @@ fn attribute_at(s: &[u8], at: usize, word: &[u8]) -> Found
 
 // The leftmost of these.
 pub fn find_attribute(body: &[u8], word: &[u8]) -> Found
-    ensures { λ r. ⌜ r ≡ find (attributeRow (now (word .entry))) (now (body .entry)) ⌝ }
-    ensures { λ r. ⌜ Within r (length (now (body .entry))) ⌝ }
+    ensures { λ r. ⌜ Bounded (r ≡ find (attributeRow (now (word .entry))) (now (body .entry)))
+        (Within r (length (now (body .entry)))) ⌝ }
 {
     let mut i = 0;
     while i < body.len() {
@@ -231,8 +225,8 @@ pub fn find_attribute(body: &[u8], word: &[u8]) -> Found
 // ^[\s*]*WORD\s+(\S+), the word beginning with @
 pub fn find_jsx(body: &[u8], word: &[u8]) -> Found
     requires { ⌜ BeginsWithAtSign (now word) ⌝ }
-    ensures { λ r. ⌜ r ≡ find (jsxRow (now (word .entry))) (now (body .entry)) ⌝ }
-    ensures { λ r. ⌜ Within r (length (now (body .entry))) ⌝ }
+    ensures { λ r. ⌜ Bounded (r ≡ find (jsxRow (now (word .entry))) (now (body .entry)))
+        (Within r (length (now (body .entry)))) ⌝ }
 {
     let a = run_end(body, 0, Class::WhiteOrStar);
     let Matched::At(b) = match_word(body, a, word) else {
@@ -249,8 +243,8 @@ pub fn find_jsx(body: &[u8], word: &[u8]) -> Found
 // ^\s*WORD\s*=\s*["']([^"']+)["'], the word beginning with @
 pub fn find_pragma(body: &[u8], word: &[u8]) -> Found
     requires { ⌜ BeginsWithAtSign (now word) ⌝ }
-    ensures { λ r. ⌜ r ≡ find (pragmaRow (now (word .entry))) (now (body .entry)) ⌝ }
-    ensures { λ r. ⌜ Within r (length (now (body .entry))) ⌝ }
+    ensures { λ r. ⌜ Bounded (r ≡ find (pragmaRow (now (word .entry))) (now (body .entry)))
+        (Within r (length (now (body .entry)))) ⌝ }
 {
     let a = run_end(body, 0, Class::White);
     let Matched::At(b) = assigned_at(body, a, word) else {

@@ -17,6 +17,7 @@ ghost use Prim.Native.Nat.{ℕ, _+_, _≤_};
 ghost use lib.ListN.{length, drop};
 ghost use Rattle.laws.specs.Decoded.{ok};
 ghost use Rattle.laws.specs.code.Left.{Free};
+ghost use Rattle.laws.specs.code.Told.{Bounded, Leaving};
 ghost use Rattle.wire.specs.Number.{largest};
 ghost use Rattle.sheet.specs.Tree.{Node, Pieces};
 ghost use Rattle.sheet.specs.Nodes.{node, many, piece};
@@ -45,9 +46,11 @@ pub enum DynamicArgument {
 // A template by its holes: one of one piece is its text.
 fn parse_template(sheet: &[u8], c: Cursor, holes: usize) -> DynamicArgument
     requires { ⌜ holes ≤ largest ⌝ }
-    ensures { λ r. ⌜ ((source : List ℕ) (levels : ℕ) (ps : Pieces) (u : List ℕ) → many [] piece (holes + 1) (drop (c .at) (now (sheet .entry))) ≡ ok ps u
-        → Stands (now (sheet .entry)) source levels r (ofPieces ps) (replacedIn (onePiece ps))) ⌝ }
-    ensures { λ r. ⌜ ArgumentWithin (length (now (sheet .entry))) r ⌝ }
+    ensures { λ r. ⌜ Bounded
+        ((source : List ℕ) (levels : ℕ) (ps : Pieces) (u : List ℕ)
+        → many [] piece (holes + 1) (drop (c .at) (now (sheet .entry))) ≡ ok ps u
+        → Stands (now (sheet .entry)) source levels r (ofPieces ps) (replacedIn (onePiece ps)))
+        (ArgumentWithin (length (now (sheet .entry))) r) ⌝ }
 {
     if holes == 0 {
         return match read_piece(sheet, c) {
@@ -65,9 +68,11 @@ fn parse_template(sheet: &[u8], c: Cursor, holes: usize) -> DynamicArgument
 
 // The argument whose node is at a cursor, with so many levels left, its own among them.
 pub fn parse_argument(sheet: &[u8], source: &[u8], c: Cursor, levels: usize) -> DynamicArgument
-    ensures { λ r. ⌜ ((n : Node) (t : List ℕ) → node (now (source .entry)) levels (drop (c .at) (now (sheet .entry))) ≡ ok n t
-        → Stands (now (sheet .entry)) (now (source .entry)) levels r (argumentOf n) (replacedIn (singleText (shape n)))) ⌝ }
-    ensures { λ r. ⌜ ArgumentWithin (length (now (sheet .entry))) r ⌝ }
+    ensures { λ r. ⌜ Bounded
+        ((n : Node) (t : List ℕ)
+        → node (now (source .entry)) levels (drop (c .at) (now (sheet .entry))) ≡ ok n t
+        → Stands (now (sheet .entry)) (now (source .entry)) levels r (argumentOf n) (replacedIn (singleText (shape n))))
+        (ArgumentWithin (length (now (sheet .entry))) r) ⌝ }
 {
     match read_expression(sheet, source, c, levels) {
         Expression::String { from, to, .. } => DynamicArgument::String(from, to),
@@ -91,9 +96,13 @@ pub fn put_argument(
     place: Place,
 ) -> Lossy
     requires { ⌜ ArgumentWithin (length (now sheet)) a ⌝ }
-    ensures { λ r. ⌜ ((v : info.DynamicArgument) (replacements : ℕ) → Stands (now (sheet .entry)) (now (source .entry)) levels a v replacements
-        → (bufferAs (now (out .exit)) (r .place) ≡ wrote (bufferAs (now (out .entry)) place) (encodeArgument v)) × (r .replaced ≡ replacements)) ⌝ }
-    ensures { λ _. ⌜ Free (now (out .entry)) (now (out .exit)) ⌝ }
+    ensures { λ r. ⌜ Leaving
+        ((v : info.DynamicArgument) (replacements : ℕ)
+        → Stands (now (sheet .entry)) (now (source .entry)) levels a v replacements
+        → (bufferAs (now (out .exit)) (r .place)
+        ≡ wrote (bufferAs (now (out .entry)) place) (encodeArgument v))
+        × (r .replaced ≡ replacements))
+        (Free (now (out .entry)) (now (out .exit))) ⌝ }
 {
     match a {
         DynamicArgument::Expr => {

@@ -14,6 +14,7 @@ ghost use Prim.Native.Nat.{ℕ};
 ghost use lib.ListN.{drop};
 ghost use Rattle.laws.specs.Decoded.{ok};
 ghost use Rattle.laws.specs.code.Left.{Free};
+ghost use Rattle.laws.specs.code.Told.{Bounded, Leaving};
 ghost use Rattle.wire.specs.Optional.{encodeOptional};
 ghost use Rattle.wire.specs.Text.{encodeText};
 ghost use Rattle.sheet.specs.Tree.{Node};
@@ -38,9 +39,11 @@ pub struct Written {
 
 // The parts of the node at a cursor, with so many levels left, its own among them.
 pub fn visit_bin(sheet: &[u8], source: &[u8], c: Cursor, levels: usize) -> Parts
-    ensures { λ r. ⌜ ((n : Node) (t : List ℕ) → node (now (source .entry)) levels (drop (c .at) (now (sheet .entry))) ≡ ok n t
-        → partsAs (now (sheet .entry)) r ≡ counted (chain n) t) ⌝ }
-    ensures { λ r. ⌜ PartsWithin levels r ⌝ }
+    ensures { λ r. ⌜ Bounded
+        ((n : Node) (t : List ℕ)
+        → node (now (source .entry)) levels (drop (c .at) (now (sheet .entry))) ≡ ok n t
+        → partsAs (now (sheet .entry)) r ≡ counted (chain n) t)
+        (PartsWithin levels r) ⌝ }
 {
     match read_expression(sheet, source, c, levels) {
         Expression::String { next, .. } => Parts::Are(1, next),
@@ -85,11 +88,14 @@ pub fn put_bin(
     out: &mut [u8],
     place: Place,
 ) -> Written
-    ensures { λ r. ⌜ ((n : Node) (t : List ℕ) (l : List DynamicTemplatePart) → node (now (source .entry)) levels (drop (c .at) (now (sheet .entry))) ≡ ok n t
+    ensures { λ r. ⌜ Leaving
+        ((n : Node) (t : List ℕ) (l : List DynamicTemplatePart)
+        → node (now (source .entry)) levels (drop (c .at) (now (sheet .entry))) ≡ ok n t
         → chain n ≡ Option.some l
-        → (bufferAs (now (out .exit)) (r .place) ≡ wrote (bufferAs (now (out .entry)) place) (encodeParts l))
-        × (drop (r .next .at) (now (sheet .entry)) ≡ t)) ⌝ }
-    ensures { λ _. ⌜ Free (now (out .entry)) (now (out .exit)) ⌝ }
+        → (bufferAs (now (out .exit)) (r .place)
+        ≡ wrote (bufferAs (now (out .entry)) place) (encodeParts l))
+        × (drop (r .next .at) (now (sheet .entry)) ≡ t))
+        (Free (now (out .entry)) (now (out .exit))) ⌝ }
 {
     match read_expression(sheet, source, c, levels) {
         Expression::String { from, to, next } => {

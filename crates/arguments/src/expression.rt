@@ -8,6 +8,7 @@ ghost use mathlib.Core.List.{List};
 ghost use Prim.Native.Nat.{ℕ, _-_};
 ghost use lib.ListN.{length, drop};
 ghost use Rattle.laws.specs.Decoded.{ok};
+ghost use Rattle.laws.specs.code.Told.{Bounded};
 ghost use Rattle.sheet.specs.Tree.{Node};
 ghost use Rattle.sheet.specs.Nodes.{node};
 ghost use Rattle.arguments.specs.code.Views.{Reads, ExpressionWithin};
@@ -26,9 +27,11 @@ pub enum Expression {
 
 // The expression at a cursor, with so many levels left, its own among them.
 pub fn read_expression(sheet: &[u8], source: &[u8], c: Cursor, levels: usize) -> Expression
-    ensures { λ r. ⌜ ((n : Node) (t : List ℕ) → node (now (source .entry)) levels (drop (c .at) (now (sheet .entry))) ≡ ok n t
-        → Reads (now (sheet .entry)) (node (now (source .entry)) (levels - 1)) r n t) ⌝ }
-    ensures { λ r. ⌜ ExpressionWithin (length (now (sheet .entry))) levels r ⌝ }
+    ensures { λ r. ⌜ Bounded
+        ((n : Node) (t : List ℕ)
+        → node (now (source .entry)) levels (drop (c .at) (now (sheet .entry))) ≡ ok n t
+        → Reads (now (sheet .entry)) (node (now (source .entry)) (levels - 1)) r n t)
+        (ExpressionWithin (length (now (sheet .entry))) levels r) ⌝ }
 {
     match read_head(sheet, source, c, levels) {
         HeadRead::Refused(_) => Expression::Other,

@@ -13,6 +13,7 @@ ghost use Prim.Native.Nat.{ℕ, _+_, _≤_};
 ghost use lib.ListN.{length, drop};
 ghost use Rattle.laws.specs.Decoded.{ok};
 ghost use Rattle.laws.specs.code.Left.{Free};
+ghost use Rattle.laws.specs.code.Told.{Bounded, Leaving};
 ghost use Rattle.text.specs.Bytes.{part};
 ghost use Rattle.wire.specs.Number.{largest};
 ghost use Rattle.sheet.specs.Tree.{Pieces};
@@ -24,8 +25,7 @@ ghost use Rattle.arguments.specs.code.Views.{encodeParts, holeParts};
 
 // How many parts a cooked piece gives: one if it has text.
 fn count_piece(from: usize, to: usize) -> usize
-    ensures { λ r. ⌜ ((s : List ℕ) → to ≤ length s → length (pieceParts (Option.some (part s from to))) ≡ r) ⌝ }
-    ensures { λ r. ⌜ r ≤ 1 ⌝ }
+    ensures { λ r. ⌜ Bounded ((s : List ℕ) → to ≤ length s → length (pieceParts (Option.some (part s from to))) ≡ r) (r ≤ 1) ⌝ }
 {
     if to <= from {
         return 0;
@@ -86,9 +86,12 @@ fn put_hole(there: bool, out: &mut [u8], place: Place) -> Place
 // Writes the parts of the pieces and of the holes between them. Where the bytes are no such pieces, the buffer is left free.
 pub fn put_parts(sheet: &[u8], c: Cursor, holes: usize, out: &mut [u8], place: Place) -> Place
     requires { ⌜ holes ≤ largest ⌝ }
-    ensures { λ r. ⌜ ((ps : Pieces) (u : List ℕ) → many [] piece (holes + 1) (drop (c .at) (now (sheet .entry))) ≡ ok ps u
-        → bufferAs (now (out .exit)) r ≡ wrote (bufferAs (now (out .entry)) place) (encodeParts (templateParts ps))) ⌝ }
-    ensures { λ _. ⌜ Free (now (out .entry)) (now (out .exit)) ⌝ }
+    ensures { λ r. ⌜ Leaving
+        ((ps : Pieces) (u : List ℕ)
+        → many [] piece (holes + 1) (drop (c .at) (now (sheet .entry))) ≡ ok ps u
+        → bufferAs (now (out .exit)) r
+        ≡ wrote (bufferAs (now (out .entry)) place) (encodeParts (templateParts ps)))
+        (Free (now (out .entry)) (now (out .exit))) ⌝ }
 {
     let mut left = holes + 1;
     let mut at = c;

@@ -8,6 +8,7 @@ ghost use Prim.Native.Nat.{ℕ, _+_, _*_, _≤_, _<_};
 ghost use lib.ListN.{length};
 ghost use lib.Seq.{sets};
 ghost use Rattle.laws.specs.code.Left.{Free};
+ghost use Rattle.laws.specs.code.Told.{Bounded, Told};
 ghost use Rattle.sheet.specs.Limits.{propertyLimit, pairNumbers};
 ghost use Rattle.attributes.specs.Attributes.{insert, insertKnown};
 ghost use Rattle.attributes.specs.code.Views.{pairRow, rowIn, pairAs, pairsIn, PairWithin, Pairs, opened, slotAs, SlotWithin};
@@ -63,9 +64,9 @@ pub fn pair_at(pairs: &[usize], k: usize) -> Pair
 // Where a pair belongs among the first n rows.
 fn find(sheet: &[u8], pairs: &[usize], n: usize, p: Pair) -> Slot
     requires { ⌜ Pairs (length (now sheet)) (now pairs) n × PairWithin (length (now sheet)) p ⌝ }
-    ensures { λ r. ⌜ slotAs (now (sheet .entry)) (now (pairs .entry)) n (pairAs (now (sheet .entry)) p) r
-        ≡ insert (pairAs (now (sheet .entry)) p) (pairsIn (now (sheet .entry)) (now (pairs .entry)) n) ⌝ }
-    ensures { λ r. ⌜ SlotWithin n r ⌝ }
+    ensures { λ r. ⌜ Told (slotAs (now (sheet .entry)) (now (pairs .entry)) n (pairAs (now (sheet .entry)) p))
+        (insert (pairAs (now (sheet .entry)) p) (pairsIn (now (sheet .entry)) (now (pairs .entry)) n))
+        (SlotWithin n) r ⌝ }
 {
     let start = p.key_start;
     let end = p.key_end;
@@ -92,8 +93,9 @@ fn find(sheet: &[u8], pairs: &[usize], n: usize, p: Pair) -> Slot
 // Puts a pair before the ith of n rows, and moves the others up.
 fn insert_before(pairs: &mut [usize], n: usize, i: usize, p: Pair)
     requires { ⌜ (i ≤ n) × (n < propertyLimit) × (pairNumbers ≤ length (now pairs)) ⌝ }
-    ensures { λ _. ⌜ ((s : List ℕ) → pairsIn s (now (pairs .exit)) (n + 1) ≡ opened s (now (pairs .entry)) n (pairAs s p) i) ⌝ }
-    ensures { λ _. ⌜ ((m : ℕ) → Pairs m (now (pairs .entry)) n → PairWithin m p → Pairs m (now (pairs .exit)) (n + 1)) ⌝ }
+    ensures { λ _. ⌜ Bounded
+        ((s : List ℕ) → pairsIn s (now (pairs .exit)) (n + 1) ≡ opened s (now (pairs .entry)) n (pairAs s p) i)
+        ((m : ℕ) → Pairs m (now (pairs .entry)) n → PairWithin m p → Pairs m (now (pairs .exit)) (n + 1)) ⌝ }
 {
     let mut k = i;
     let mut carried = p;
@@ -110,11 +112,9 @@ fn insert_before(pairs: &mut [usize], n: usize, i: usize, p: Pair)
 // them are left free.
 pub fn insert(sheet: &[u8], pairs: &mut [usize], n: usize, p: Pair) -> usize
     requires { ⌜ (n < propertyLimit) × Pairs (length (now sheet)) (now pairs) n × PairWithin (length (now sheet)) p ⌝ }
-    ensures { λ r. ⌜ pairsIn (now (sheet .entry)) (now (pairs .exit)) r
-        ≡ insert (pairAs (now (sheet .entry)) p) (pairsIn (now (sheet .entry)) (now (pairs .entry)) n) ⌝ }
-    ensures { λ r. ⌜ (r ≤ n + 1)
-        × Pairs (length (now (sheet .entry))) (now (pairs .exit)) r
-        × Free (now (pairs .entry)) (now (pairs .exit)) ⌝ }
+    ensures { λ r. ⌜ Bounded
+        (pairsIn (now (sheet .entry)) (now (pairs .exit)) r ≡ insert (pairAs (now (sheet .entry)) p) (pairsIn (now (sheet .entry)) (now (pairs .entry)) n))
+        ((r ≤ n + 1) × Pairs (length (now (sheet .entry))) (now (pairs .exit)) r × Free (now (pairs .entry)) (now (pairs .exit))) ⌝ }
 {
     match find(sheet, pairs, n, p) {
         Slot::Same(i) => {
@@ -131,11 +131,9 @@ pub fn insert(sheet: &[u8], pairs: &mut [usize], n: usize, p: Pair) -> usize
 // The same for a pair whose value is known; any other is passed over.
 pub fn insert_known(sheet: &[u8], pairs: &mut [usize], n: usize, p: Pair) -> usize
     requires { ⌜ (n < propertyLimit) × Pairs (length (now sheet)) (now pairs) n × PairWithin (length (now sheet)) p ⌝ }
-    ensures { λ r. ⌜ pairsIn (now (sheet .entry)) (now (pairs .exit)) r
-        ≡ insertKnown (pairAs (now (sheet .entry)) p .key) (pairAs (now (sheet .entry)) p .value) (pairsIn (now (sheet .entry)) (now (pairs .entry)) n) ⌝ }
-    ensures { λ r. ⌜ (r ≤ n + 1)
-        × Pairs (length (now (sheet .entry))) (now (pairs .exit)) r
-        × Free (now (pairs .entry)) (now (pairs .exit)) ⌝ }
+    ensures { λ r. ⌜ Bounded
+        (pairsIn (now (sheet .entry)) (now (pairs .exit)) r ≡ insertKnown (pairAs (now (sheet .entry)) p .key) (pairAs (now (sheet .entry)) p .value) (pairsIn (now (sheet .entry)) (now (pairs .entry)) n))
+        ((r ≤ n + 1) × Pairs (length (now (sheet .entry))) (now (pairs .exit)) r × Free (now (pairs .entry)) (now (pairs .exit))) ⌝ }
 {
     if p.known {
         return insert(sheet, pairs, n, p);

@@ -15,6 +15,7 @@ ghost use mathlib.Core.List.{List};
 ghost use Prim.Native.Nat.{ℕ, _-_};
 ghost use lib.ListN.{length, drop};
 ghost use Rattle.laws.specs.Decoded.{ok};
+ghost use Rattle.laws.specs.code.Told.{Bounded};
 ghost use Rattle.text.specs.Bytes.{part};
 ghost use Rattle.sheet.specs.Tree.{Node};
 ghost use Rattle.sheet.specs.Nodes.{node};
@@ -44,9 +45,11 @@ pub enum PropRead {
 
 // The node at a cursor, with so many levels left, its own among them.
 pub fn read_value(sheet: &[u8], source: &[u8], c: Cursor, levels: usize) -> Value
-    ensures { λ r. ⌜ ((v : Node) (t : List ℕ) → node (now (source .entry)) levels (drop (c .at) (now (sheet .entry))) ≡ ok v t
-        → ValueIs (now (sheet .entry)) (now (source .entry)) (levels - 1) r (shape v)) ⌝ }
-    ensures { λ r. ⌜ ValueWithin (length (now (sheet .entry))) levels r ⌝ }
+    ensures { λ r. ⌜ Bounded
+        ((v : Node) (t : List ℕ)
+        → node (now (source .entry)) levels (drop (c .at) (now (sheet .entry))) ≡ ok v t
+        → ValueIs (now (sheet .entry)) (now (source .entry)) (levels - 1) r (shape v))
+        (ValueWithin (length (now (sheet .entry))) levels r) ⌝ }
 {
     match read_head(sheet, source, c, levels) {
         HeadRead::Refused(_) => Value::Other,
@@ -68,9 +71,11 @@ pub fn read_pair(
     levels: usize,
 ) -> Pair
     requires { ⌜ Part (length (now sheet)) start end ⌝ }
-    ensures { λ r. ⌜ ((v : Node) (t : List ℕ) → node (now (source .entry)) levels (drop (c .at) (now (sheet .entry))) ≡ ok v t
-        → pairAs (now (sheet .entry)) r ≡ record { key = part (now (sheet .entry)) start end; value = valueOf (shape v) }) ⌝ }
-    ensures { λ r. ⌜ PairWithin (length (now (sheet .entry))) r ⌝ }
+    ensures { λ r. ⌜ Bounded
+        ((v : Node) (t : List ℕ)
+        → node (now (source .entry)) levels (drop (c .at) (now (sheet .entry))) ≡ ok v t
+        → pairAs (now (sheet .entry)) r ≡ record { key = part (now (sheet .entry)) start end; value = valueOf (shape v) })
+        (PairWithin (length (now (sheet .entry))) r) ⌝ }
 {
     match read_value(sheet, source, c, levels) {
         Value::Text(from, to) => Pair {
@@ -128,8 +133,8 @@ fn prop_of(sheet: &[u8], p: Property, value: Cursor, next: Cursor) -> PropRead
 
 // The property at a cursor, with so many levels left for its nodes.
 pub fn read_prop(sheet: &[u8], source: &[u8], c: Cursor, levels: usize) -> PropRead
-    ensures { λ r. ⌜ PropIs (now (sheet .entry)) (node (now (source .entry)) levels) (c .at) r ⌝ }
-    ensures { λ r. ⌜ PropWithin (length (now (sheet .entry))) r ⌝ }
+    ensures { λ r. ⌜ Bounded (PropIs (now (sheet .entry)) (node (now (source .entry)) levels) (c .at) r)
+        (PropWithin (length (now (sheet .entry))) r) ⌝ }
 {
     match read_property(sheet, c) {
         PropertyRead::Refused(r) => PropRead::Refused(r),

@@ -28,6 +28,7 @@ ghost use Rattle.heads.specs.code.Rest.{behind};
 ghost use Rattle.heads.specs.code.Views.{Part};
 ghost use Rattle.report.specs.ModuleInfo.{none};
 ghost use Rattle.laws.specs.code.Left.{Free};
+ghost use Rattle.laws.specs.code.Told.{Bounded, Lent};
 ghost use Rattle.attributes.specs.Attributes.{props, staticPairs, staticAttributes, objectAttributes, typeAttributes, ofObject, argumentProperties, dynamicAttributes, isAttributesKey};
 ghost use Rattle.attributes.specs.code.Views.{pairsIn, attributesAs, Pairs, AttributesWithin};
 
@@ -48,9 +49,11 @@ fn parse_known(
     pairs: &mut [usize],
 ) -> usize
     requires { ⌜ (count ≤ propertyLimit) × (pairNumbers ≤ length (now pairs)) ⌝ }
-    ensures { λ r. ⌜ ((ps : Properties) (t : List ℕ) → properties (node (now (source .entry)) levels) count (drop (c .at) (now (sheet .entry))) ≡ ok ps t
-        → pairsIn (now (sheet .entry)) (now (pairs .exit)) r ≡ staticPairs [] (props ps)) ⌝ }
-    ensures { λ r. ⌜ Pairs (length (now (sheet .entry))) (now (pairs .exit)) r ⌝ }
+    ensures { λ r. ⌜ Bounded
+        ((ps : Properties) (t : List ℕ)
+        → properties (node (now (source .entry)) levels) count (drop (c .at) (now (sheet .entry))) ≡ ok ps t
+        → pairsIn (now (sheet .entry)) (now (pairs .exit)) r ≡ staticPairs [] (props ps))
+        (Pairs (length (now (sheet .entry))) (now (pairs .exit)) r) ⌝ }
 {
     let mut left = count;
     let mut at = c;
@@ -91,10 +94,12 @@ pub fn parse_import_attributes(
     pairs: &mut [usize],
 ) -> ImportAttributes
     requires { ⌜ pairNumbers ≤ length (now pairs) ⌝ }
-    ensures { λ r. ⌜ ((a : Attributes) (t : List ℕ) → behind there (attributesObject (now (source .entry)) levels) (drop (c .at) (now (sheet .entry))) ≡ ok a t
-        → attributesAs (now (sheet .entry)) (now (pairs .exit)) r ≡ staticAttributes a) ⌝ }
-    ensures { λ r. ⌜ AttributesWithin (length (now (sheet .entry))) (now (pairs .exit)) r ⌝ }
-    ensures { λ _. ⌜ Free (now (pairs .entry)) (now (pairs .exit)) ⌝ }
+    ensures { λ r. ⌜ Lent
+        ((a : Attributes) (t : List ℕ)
+        → behind there (attributesObject (now (source .entry)) levels) (drop (c .at) (now (sheet .entry))) ≡ ok a t
+        → attributesAs (now (sheet .entry)) (now (pairs .exit)) r ≡ staticAttributes a)
+        (AttributesWithin (length (now (sheet .entry))) (now (pairs .exit)) r)
+        (Free (now (pairs .entry)) (now (pairs .exit))) ⌝ }
 {
     if there {
         return match read_attributes(sheet, source, c, levels) {
@@ -117,9 +122,11 @@ fn parse_import_attributes_from_object_lit(
     pairs: &mut [usize],
 ) -> ImportAttributes
     requires { ⌜ (count ≤ propertyLimit) × (pairNumbers ≤ length (now pairs)) ⌝ }
-    ensures { λ r. ⌜ ((ps : Properties) (t : List ℕ) → properties (node (now (source .entry)) levels) count (drop (c .at) (now (sheet .entry))) ≡ ok ps t
-        → attributesAs (now (sheet .entry)) (now (pairs .exit)) r ≡ objectAttributes [] (props ps)) ⌝ }
-    ensures { λ r. ⌜ AttributesWithin (length (now (sheet .entry))) (now (pairs .exit)) r ⌝ }
+    ensures { λ r. ⌜ Bounded
+        ((ps : Properties) (t : List ℕ)
+        → properties (node (now (source .entry)) levels) count (drop (c .at) (now (sheet .entry))) ≡ ok ps t
+        → attributesAs (now (sheet .entry)) (now (pairs .exit)) r ≡ objectAttributes [] (props ps))
+        (AttributesWithin (length (now (sheet .entry))) (now (pairs .exit)) r) ⌝ }
 {
     let mut left = count;
     let mut at = c;
@@ -158,10 +165,12 @@ pub fn parse_type_attributes(
     pairs: &mut [usize],
 ) -> ImportAttributes
     requires { ⌜ pairNumbers ≤ length (now pairs) ⌝ }
-    ensures { λ r. ⌜ ((a : Attributes) (t : List ℕ) → behind there (attributesObject (now (source .entry)) levels) (drop (c .at) (now (sheet .entry))) ≡ ok a t
-        → attributesAs (now (sheet .entry)) (now (pairs .exit)) r ≡ typeAttributes a) ⌝ }
-    ensures { λ r. ⌜ AttributesWithin (length (now (sheet .entry))) (now (pairs .exit)) r ⌝ }
-    ensures { λ _. ⌜ Free (now (pairs .entry)) (now (pairs .exit)) ⌝ }
+    ensures { λ r. ⌜ Lent
+        ((a : Attributes) (t : List ℕ)
+        → behind there (attributesObject (now (source .entry)) levels) (drop (c .at) (now (sheet .entry))) ≡ ok a t
+        → attributesAs (now (sheet .entry)) (now (pairs .exit)) r ≡ typeAttributes a)
+        (AttributesWithin (length (now (sheet .entry))) (now (pairs .exit)) r)
+        (Free (now (pairs .entry)) (now (pairs .exit))) ⌝ }
 {
     if there {
         return match read_attributes(sheet, source, c, levels) {
@@ -190,9 +199,11 @@ fn parse_nested(
     pairs: &mut [usize],
 ) -> ImportAttributes
     requires { ⌜ pairNumbers ≤ length (now pairs) ⌝ }
-    ensures { λ r. ⌜ ((v : Node) (t : List ℕ) → node (now (source .entry)) levels (drop (c .at) (now (sheet .entry))) ≡ ok v t
-        → attributesAs (now (sheet .entry)) (now (pairs .exit)) r ≡ ofObject (objectAttributes []) (shape v)) ⌝ }
-    ensures { λ r. ⌜ AttributesWithin (length (now (sheet .entry))) (now (pairs .exit)) r ⌝ }
+    ensures { λ r. ⌜ Bounded
+        ((v : Node) (t : List ℕ)
+        → node (now (source .entry)) levels (drop (c .at) (now (sheet .entry))) ≡ ok v t
+        → attributesAs (now (sheet .entry)) (now (pairs .exit)) r ≡ ofObject (objectAttributes []) (shape v))
+        (AttributesWithin (length (now (sheet .entry))) (now (pairs .exit)) r) ⌝ }
 {
     match read_value(sheet, source, c, levels) {
         Value::Text(_, _) => ImportAttributes::Unknown,
@@ -234,9 +245,11 @@ fn parse_argument_properties(
     pairs: &mut [usize],
 ) -> ImportAttributes
     requires { ⌜ pairNumbers ≤ length (now pairs) ⌝ }
-    ensures { λ r. ⌜ ((ps : Properties) (t : List ℕ) → properties (node (now (source .entry)) levels) count (drop (c .at) (now (sheet .entry))) ≡ ok ps t
-        → attributesAs (now (sheet .entry)) (now (pairs .exit)) r ≡ argumentProperties false none (props ps)) ⌝ }
-    ensures { λ r. ⌜ AttributesWithin (length (now (sheet .entry))) (now (pairs .exit)) r ⌝ }
+    ensures { λ r. ⌜ Bounded
+        ((ps : Properties) (t : List ℕ)
+        → properties (node (now (source .entry)) levels) count (drop (c .at) (now (sheet .entry))) ≡ ok ps t
+        → attributesAs (now (sheet .entry)) (now (pairs .exit)) r ≡ argumentProperties false none (props ps))
+        (AttributesWithin (length (now (sheet .entry))) (now (pairs .exit)) r) ⌝ }
 {
     let mut left = count;
     let mut at = c;
@@ -291,11 +304,12 @@ pub fn parse_dynamic_import_attributes(
     pairs: &mut [usize],
 ) -> ImportAttributes
     requires { ⌜ pairNumbers ≤ length (now pairs) ⌝ }
-    ensures { λ r. ⌜ ((xs : Arguments) (t : List ℕ)
+    ensures { λ r. ⌜ Lent
+        ((xs : Arguments) (t : List ℕ)
         → arguments (node (now (source .entry)) levels) (now (source .entry)) count (drop (c .at) (now (sheet .entry))) ≡ ok xs t
-        → attributesAs (now (sheet .entry)) (now (pairs .exit)) r ≡ dynamicAttributes xs) ⌝ }
-    ensures { λ r. ⌜ AttributesWithin (length (now (sheet .entry))) (now (pairs .exit)) r ⌝ }
-    ensures { λ _. ⌜ Free (now (pairs .entry)) (now (pairs .exit)) ⌝ }
+        → attributesAs (now (sheet .entry)) (now (pairs .exit)) r ≡ dynamicAttributes xs)
+        (AttributesWithin (length (now (sheet .entry))) (now (pairs .exit)) r)
+        (Free (now (pairs .entry)) (now (pairs .exit))) ⌝ }
 {
     if 0 < count {
         return match read_argument(sheet, source, c) {

@@ -17,6 +17,7 @@ ghost use Prim.Native.Nat.{_+_, _*_, _≤_};
 ghost use lib.ListN.{length, getD, take};
 ghost use Rattle.laws.specs.code.Left.{Free};
 ghost use Rattle.laws.specs.Codec.{IfThere, All};
+ghost use Rattle.laws.specs.code.Told.{Bounded, Lent};
 ghost use Rattle.wire.specs.Number.{largest};
 ghost use Rattle.wire.specs.Optional.{encodeOptional};
 ghost use Rattle.report.specs.ModuleInfo.{ModuleInfo};
@@ -51,10 +52,9 @@ fn cite_range(
     out: &mut [u8],
     place: Place,
 ) -> Cited
-    ensures { λ r. ⌜ Cites encodeRange ValidRange (now (report .entry)) (now (source .entry)) at
-        (λ range. record { letter = letter; range = range; text = now (text .entry) } ∷ [])
-        (bufferAs (now (out .entry)) place) (now (out .exit)) r ⌝ }
-    ensures { λ r. ⌜ r .lines ≤ 1 ⌝ }
+    ensures { λ r. ⌜ Bounded
+        (Cites encodeRange ValidRange (now (report .entry)) (now (source .entry)) at (λ range. record { letter = letter; range = range; text = now (text .entry) } ∷ []) (bufferAs (now (out .entry)) place) (now (out .exit)) r)
+        (r .lines ≤ 1) ⌝ }
 {
     let range = read_range(report, at);
     Cited {
@@ -73,9 +73,9 @@ fn cite_specifier(
     out: &mut [u8],
     place: Place,
 ) -> Cited
-    ensures { λ r. ⌜ Cites encodeSpecifier ValidSpecifier (now (report .entry)) (now (source .entry)) at
-        (citeSpecifier letter) (bufferAs (now (out .entry)) place) (now (out .exit)) r ⌝ }
-    ensures { λ r. ⌜ r .lines ≤ 1 ⌝ }
+    ensures { λ r. ⌜ Bounded
+        (Cites encodeSpecifier ValidSpecifier (now (report .entry)) (now (source .entry)) at (citeSpecifier letter) (bufferAs (now (out .entry)) place) (now (out .exit)) r)
+        (r .lines ≤ 1) ⌝ }
 {
     let text = read_text(report, at);
     let from = text.from;
@@ -92,9 +92,9 @@ fn cite_optional(
     out: &mut [u8],
     place: Place,
 ) -> Cited
-    ensures { λ r. ⌜ Cites (encodeOptional encodeSpecifier) (IfThere ValidSpecifier) (now (report .entry)) (now (source .entry)) at
-        (citeOptional letter) (bufferAs (now (out .entry)) place) (now (out .exit)) r ⌝ }
-    ensures { λ r. ⌜ r .lines ≤ 1 ⌝ }
+    ensures { λ r. ⌜ Bounded
+        (Cites (encodeOptional encodeSpecifier) (IfThere ValidSpecifier) (now (report .entry)) (now (source .entry)) at (citeOptional letter) (bufferAs (now (out .entry)) place) (now (out .exit)) r)
+        (r .lines ≤ 1) ⌝ }
 {
     let there = read_number(report, at);
     if there.value == 0 {
@@ -109,9 +109,9 @@ fn cite_optional(
 
 // Cites a reference: R.
 fn cite_reference(report: &[u8], source: &[u8], at: usize, out: &mut [u8], place: Place) -> Cited
-    ensures { λ r. ⌜ Cites encodeReference ValidReference (now (report .entry)) (now (source .entry)) at
-        citeReference (bufferAs (now (out .entry)) place) (now (out .exit)) r ⌝ }
-    ensures { λ r. ⌜ r .lines ≤ 1 ⌝ }
+    ensures { λ r. ⌜ Bounded
+        (Cites encodeReference ValidReference (now (report .entry)) (now (source .entry)) at citeReference (bufferAs (now (out .entry)) place) (now (out .exit)) r)
+        (r .lines ≤ 1) ⌝ }
 {
     let kind = read_number(report, at);
     let line = cite_specifier(report, source, kind.next, b'R', out, place);
@@ -129,9 +129,9 @@ fn cite_reference(report: &[u8], source: &[u8], at: usize, out: &mut [u8], place
 
 // Cites a JSDoc import: J.
 fn cite_jsdoc(report: &[u8], source: &[u8], at: usize, out: &mut [u8], place: Place) -> Cited
-    ensures { λ r. ⌜ Cites encodeJsDoc ValidJsDoc (now (report .entry)) (now (source .entry)) at
-        citeJsDoc (bufferAs (now (out .entry)) place) (now (out .exit)) r ⌝ }
-    ensures { λ r. ⌜ r .lines ≤ 1 ⌝ }
+    ensures { λ r. ⌜ Bounded
+        (Cites encodeJsDoc ValidJsDoc (now (report .entry)) (now (source .entry)) at citeJsDoc (bufferAs (now (out .entry)) place) (now (out .exit)) r)
+        (r .lines ≤ 1) ⌝ }
 {
     let kind = read_number(report, at);
     let line = cite_specifier(report, source, kind.next, b'J', out, place);
@@ -153,9 +153,9 @@ fn cite_argument(
     out: &mut [u8],
     place: Place,
 ) -> Cited
-    ensures { λ r. ⌜ Cites encodeRanged ValidRanged (now (report .entry)) (now (source .entry)) at
-        (λ a. citeArgument letter (a .0) (a .1)) (bufferAs (now (out .entry)) place) (now (out .exit)) r ⌝ }
-    ensures { λ r. ⌜ r .lines ≤ 1 ⌝ }
+    ensures { λ r. ⌜ Bounded
+        (Cites encodeRanged ValidRanged (now (report .entry)) (now (source .entry)) at (λ a. citeArgument letter (a .0) (a .1)) (bufferAs (now (out .entry)) place) (now (out .exit)) r)
+        (r .lines ≤ 1) ⌝ }
 {
     let kind = read_number(report, at);
     if kind.value == 1 {
@@ -187,9 +187,9 @@ fn cite_dependency(
     out: &mut [u8],
     place: Place,
 ) -> Cited
-    ensures { λ r. ⌜ Cites encodeDependency ValidDependency (now (report .entry)) (now (source .entry)) at
-        (citeDependency letter) (bufferAs (now (out .entry)) place) (now (out .exit)) r ⌝ }
-    ensures { λ r. ⌜ r .lines ≤ 2 ⌝ }
+    ensures { λ r. ⌜ Bounded
+        (Cites encodeDependency ValidDependency (now (report .entry)) (now (source .entry)) at (citeDependency letter) (bufferAs (now (out .entry)) place) (now (out .exit)) r)
+        (r .lines ≤ 2) ⌝ }
 {
     let kind = read_number(report, at);
     let types = kind.next;
@@ -229,9 +229,9 @@ fn cite_item(
     out: &mut [u8],
     place: Place,
 ) -> Cited
-    ensures { λ r. ⌜ Cites (encodeItem kind) (ValidItem kind) (now (report .entry)) (now (source .entry)) at
-        (citeItem kind number) (bufferAs (now (out .entry)) place) (now (out .exit)) r ⌝ }
-    ensures { λ r. ⌜ r .lines ≤ 2 ⌝ }
+    ensures { λ r. ⌜ Bounded
+        (Cites (encodeItem kind) (ValidItem kind) (now (report .entry)) (now (source .entry)) at (citeItem kind number) (bufferAs (now (out .entry)) place) (now (out .exit)) r)
+        (r .lines ≤ 2) ⌝ }
 {
     match kind {
         Kind::Dependency => cite_dependency(
@@ -269,9 +269,10 @@ fn cite_items(
     place: Place,
 ) -> Cited
     requires { ⌜ count ≤ largest ⌝ }
-    ensures { λ r. ⌜ Cites (flatMap (encodeItem kind)) (λ l. (length l ≡ count) × All (ValidItem kind) l) (now (report .entry)) (now (source .entry)) at
-        (citeEach (citeItem kind) (now (numbers .entry))) (bufferAs (now (out .entry)) place) (now (out .exit)) r ⌝ }
-    ensures { λ r. ⌜ r .lines ≤ 2 * count ⌝ }
+    ensures { λ r. ⌜ Bounded
+        (Cites (flatMap (encodeItem kind)) (λ l. (length l ≡ count)
+        × All (ValidItem kind) l) (now (report .entry)) (now (source .entry)) at (citeEach (citeItem kind) (now (numbers .entry))) (bufferAs (now (out .entry)) place) (now (out .exit)) r)
+        (r .lines ≤ 2 * count) ⌝ }
 {
     let mut p = place;
     let mut lines: usize = 0;
@@ -311,9 +312,10 @@ fn cite_list(
     out: &mut [u8],
     place: Place,
 ) -> Cited
-    ensures { λ r. ⌜ Cites (encodeList (encodeItem kind)) (λ l. Short l × All (ValidItem kind) l) (now (report .entry)) (now (source .entry)) at
-        (citeEach (citeItem kind) (now (numbers .entry))) (bufferAs (now (out .entry)) place) (now (out .exit)) r ⌝ }
-    ensures { λ r. ⌜ r .lines ≤ 2 * largest ⌝ }
+    ensures { λ r. ⌜ Bounded
+        (Cites (encodeList (encodeItem kind)) (λ l. Short l
+        × All (ValidItem kind) l) (now (report .entry)) (now (source .entry)) at (citeEach (citeItem kind) (now (numbers .entry))) (bufferAs (now (out .entry)) place) (now (out .exit)) r)
+        (r .lines ≤ 2 * largest) ⌝ }
 {
     let count = read_number(report, at);
     cite_items(
@@ -400,10 +402,14 @@ pub fn written(out: &[u8], place: Place) -> usize
 // what it writes is written over. Behind the citation the buffer is left free, and all of it where the bytes are no report.
 pub fn cite_report(report: &[u8], source: &[u8], numbers: &[usize], out: &mut [u8]) -> usize
     requires { ⌜ 4 * length (now report) ≤ length (now out) ⌝ }
-    ensures { λ r. ⌜ ((m : ModuleInfo) → Valid m → encode m ≡ now (report .entry)
-        → (r ≡ length (citation (now (source .entry)) (now (numbers .entry)) m)) × (take r (now (out .exit)) ≡ citation (now (source .entry)) (now (numbers .entry)) m)) ⌝ }
-    ensures { λ r. ⌜ r ≤ length (now (out .exit)) ⌝ }
-    ensures { λ _. ⌜ Free (now (out .entry)) (now (out .exit)) ⌝ }
+    ensures { λ r. ⌜ Lent
+        ((m : ModuleInfo)
+        → Valid m
+        → encode m ≡ now (report .entry)
+        → (r ≡ length (citation (now (source .entry)) (now (numbers .entry)) m))
+        × (take r (now (out .exit)) ≡ citation (now (source .entry)) (now (numbers .entry)) m))
+        (r ≤ length (now (out .exit)))
+        (Free (now (out .entry)) (now (out .exit))) ⌝ }
 {
     let wide = &source[..last_four(source)];
     let start = Place { at: 0 };
@@ -416,9 +422,9 @@ pub fn cite_report(report: &[u8], source: &[u8], numbers: &[usize], out: &mut [u
 // Writes the citation of a refusal, and answers its length. Behind it the buffer is left free.
 pub fn cite_refusal(number: u8, out: &mut [u8]) -> usize
     requires { ⌜ 12 ≤ length (now out) ⌝ }
-    ensures { λ r. ⌜ (r ≡ length (refusal number)) × (take r (now (out .exit)) ≡ refusal number) ⌝ }
-    ensures { λ r. ⌜ r ≤ length (now (out .exit)) ⌝ }
-    ensures { λ _. ⌜ Free (now (out .entry)) (now (out .exit)) ⌝ }
+    ensures { λ r. ⌜ Lent ((r ≡ length (refusal number)) × (take r (now (out .exit)) ≡ refusal number))
+        (r ≤ length (now (out .exit)))
+        (Free (now (out .entry)) (now (out .exit))) ⌝ }
 {
     let start = Place { at: 0 };
     let p = put_title(start, out, b"refused ", number as usize);

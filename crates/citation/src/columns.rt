@@ -5,6 +5,7 @@ ghost use mathlib.Core.Path.{_≡_};
 ghost use mathlib.Core.Bool.{false, cond};
 ghost use Prim.Native.Nat.{ℕ, _≤_, _<_};
 ghost use lib.ListN.{length, getD, drop};
+ghost use Rattle.laws.specs.code.Told.{Bounded};
 ghost use Rattle.text.specs.Ranges.{within};
 ghost use Rattle.text.specs.Utf8.{continuation};
 ghost use Rattle.report.specs.Valid.{ValidPosition};
@@ -14,7 +15,8 @@ ghost use Rattle.citation.specs.code.Printable.{Printable};
 
 // The place where a line starts, or the end.
 fn line_start(source: &[u8], line: usize) -> usize
-    ensures { λ r. ⌜ (r ≤ length (now (source .entry))) × (drop r (now (source .entry)) ≡ fromLine line (now (source .entry))) ⌝ }
+    ensures { λ r. ⌜ Bounded (drop r (now (source .entry)) ≡ fromLine line (now (source .entry)))
+        (r ≤ length (now (source .entry))) ⌝ }
 {
     let mut at = 0;
     let mut left = line;
@@ -45,7 +47,7 @@ fn units(b: u8) -> usize
 // How many of the first n characters from `at` on have four bytes.
 fn fours_in(source: &[u8], at: usize, n: usize) -> usize
     requires { ⌜ at ≤ length (now source) ⌝ }
-    ensures { λ r. ⌜ (r ≡ foursIn n (drop at (now (source .entry)))) × (r ≤ n) ⌝ }
+    ensures { λ r. ⌜ Bounded (r ≡ foursIn n (drop at (now (source .entry)))) (r ≤ n) ⌝ }
 {
     let mut count: usize = 0;
     let mut left = n;
@@ -67,8 +69,7 @@ fn fours_in(source: &[u8], at: usize, n: usize) -> usize
 // A position in characters, recounted in UTF-16 code units.
 pub fn recounted(source: &[u8], p: Position) -> Position
     requires { ⌜ ValidPosition p ⌝ }
-    ensures { λ r. ⌜ r ≡ recounted (now (source .entry)) p ⌝ }
-    ensures { λ r. ⌜ Printable r ⌝ }
+    ensures { λ r. ⌜ Bounded (r ≡ recounted (now (source .entry)) p) (Printable r) ⌝ }
 {
     let start = line_start(source, p.line);
     Position {
@@ -79,8 +80,9 @@ pub fn recounted(source: &[u8], p: Position) -> Position
 
 // The place behind the last byte that begins a character of four bytes: what follows recounts no position.
 pub fn last_four(source: &[u8]) -> usize
-    ensures { λ r. ⌜ (r ≤ length (now (source .entry)))
-        × ((k : ℕ) → r ≤ k → k < length (now (source .entry)) → beginsFour (getD (now (source .entry)) k 0) ≡ false) ⌝ }
+    ensures { λ r. ⌜ Bounded
+        ((k : ℕ) → r ≤ k → k < length (now (source .entry)) → beginsFour (getD (now (source .entry)) k 0) ≡ false)
+        (r ≤ length (now (source .entry))) ⌝ }
 {
     let mut end = source.len();
     while 0 < end {

@@ -14,6 +14,7 @@ use sheet::limits::SHEET_LIMIT;
 ghost use mathlib.Core.Path.{_≡_};
 ghost use Prim.Native.Nat.{_≤_};
 ghost use lib.ListN.{length, take};
+ghost use Rattle.laws.specs.code.Told.{Bounded, Meant};
 ghost use Rattle.text.specs.Bytes.{part};
 ghost use Rattle.sheet.specs.Sheet.{Sheet};
 ghost use Rattle.sheet_codec.specs.SheetOf.{SheetOf};
@@ -22,8 +23,9 @@ ghost use Rattle.cite.specs.Cited.{reportRoom, noteRoom, lineRoom, cited
 
 // Where the source of an accepted sheet stands: behind the media byte.
 fn find_source(sheet: &[u8]) -> TextRead
-    ensures { λ r. ⌜ ((t : Sheet) → SheetOf (now (sheet .entry)) t → part (now (sheet .entry)) (r .from) (r .to) ≡ t .source) ⌝ }
-    ensures { λ r. ⌜ Inside (now (sheet .entry)) (r .from) (r .to) ⌝ }
+    ensures { λ r. ⌜ Bounded
+        ((t : Sheet) → SheetOf (now (sheet .entry)) t → part (now (sheet .entry)) (r .from) (r .to) ≡ t .source)
+        (Inside (now (sheet .entry)) (r .from) (r .to)) ⌝ }
 {
     read_text(sheet, 1)
 }
@@ -33,10 +35,10 @@ fn cite(sheet: &[u8], report: &mut [u8], notes: &mut [usize], lines: &mut [u8]) 
     requires { ⌜ length (now report) ≡ reportRoom ⌝ }
     requires { ⌜ length (now notes) ≡ noteRoom ⌝ }
     requires { ⌜ lineRoom ≤ length (now lines) ⌝ }
-    ensures { λ r. ⌜ (r ≡ length (cited (now (sheet .entry)))) × (take r (now (lines .exit)) ≡ cited (now (sheet .entry))) ⌝ }
-    ensures { λ r. ⌜ r ≤ length (now (lines .exit)) ⌝ }
-    ensures { λ _. ⌜ EditorColumns (now (sheet .entry)) ⌝ }
-    ensures { λ _. ⌜ KeptLines (now (sheet .entry)) ⌝ }
+    ensures { λ r. ⌜ Meant
+        (Bounded ((r ≡ length (cited (now (sheet .entry)))) × (take r (now (lines .exit)) ≡ cited (now (sheet .entry))))
+        (r ≤ length (now (lines .exit))))
+        (EditorColumns (now (sheet .entry)) × KeptLines (now (sheet .entry))) ⌝ }
 {
     let source = find_source(sheet);
     let from = source.from;

@@ -9,6 +9,7 @@ ghost use mathlib.Core.Path.{_≡_};
 ghost use mathlib.Core.List.{List};
 ghost use Prim.Native.Nat.{ℕ, _≤_};
 ghost use lib.ListN.{length, take};
+ghost use Rattle.laws.specs.code.Told.{Bounded};
 ghost use Rattle.io.specs.Counts.{Counts};
 ghost use Rattle.scan.specs.Dearest.{starAndBraces};
 ghost use Rattle.dearest.specs.Input.{Digits, Asks, ReadOf};
@@ -81,8 +82,9 @@ fn put_body(size: usize, body: &mut [u8])
 
 // Puts the body that the input asks for, of which `front` was read, and answers its length; 0 where it asks for none.
 fn dearest(front: &[u8], body: &mut [u8; LONGEST]) -> usize
-    ensures { λ r. ⌜ ((input : List ℕ) → ReadOf input (now (front .entry)) → Written input (take r (now (body .exit)))) ⌝ }
-    ensures { λ r. ⌜ Counts r (now (body .exit)) ⌝ }
+    ensures { λ r. ⌜ Bounded
+        ((input : List ℕ) → ReadOf input (now (front .entry)) → Written input (take r (now (body .exit))))
+        (Counts r (now (body .exit))) ⌝ }
 {
     match read_request(front) {
         Request::Bytes(size) => {

@@ -9,6 +9,7 @@ ghost use mathlib.Core.Path.{_≡_};
 ghost use mathlib.Core.Bool.{not, _&&_};
 ghost use mathlib.Core.List.{List};
 ghost use Prim.Native.Nat.{ℕ};
+ghost use Rattle.laws.specs.code.Told.{Bounded};
 ghost use Rattle.report.specs.ModuleInfo.{ModuleInfo};
 ghost use Rattle.report.specs.Encode.{encode};
 ghost use Rattle.report.specs.Valid.{Valid};
@@ -88,9 +89,11 @@ fn is_late(
 }
 
 fn judge_entry(report: &[u8], at: usize, delivery: &[u8], first: usize, earlier: usize) -> Entry
-    ensures { λ r. ⌜ ((ms : List Module) (t : List ℕ) → Modules (now (delivery .entry)) first earlier ms t
-        → JudgesEntry (namesOf ms) (now (report .entry)) at r) ⌝ }
-    ensures { λ r. ⌜ Inside (now (report .entry)) (r .from) (r .to) ⌝ }
+    ensures { λ r. ⌜ Bounded
+        ((ms : List Module) (t : List ℕ)
+        → Modules (now (delivery .entry)) first earlier ms t
+        → JudgesEntry (namesOf ms) (now (report .entry)) at r)
+        (Inside (now (report .entry)) (r .from) (r .to)) ⌝ }
 {
     match read_dependency(report, at) {
         DependencyRead::Static {
@@ -118,10 +121,15 @@ fn judge_entry(report: &[u8], at: usize, delivery: &[u8], first: usize, earlier:
 
 // The first entry in a report that is late behind the first modules, so many.
 pub fn late_entry(report: &[u8], delivery: &[u8], first: usize, earlier: usize) -> Late
-    ensures { λ r. ⌜ ((ms : List Module) (t : List ℕ) → Modules (now (delivery .entry)) first earlier ms t
-        → (info : ModuleInfo) → Valid info → now (report .entry) ≡ encode info
-        → (i : ℕ) (behind : Answer) → lateAs (now (report .entry)) i r behind ≡ entriesInTurn (namesOf ms) i 0 (info .dependencies) behind) ⌝ }
-    ensures { λ r. ⌜ LateInside (now (report .entry)) r ⌝ }
+    ensures { λ r. ⌜ Bounded
+        ((ms : List Module) (t : List ℕ)
+        → Modules (now (delivery .entry)) first earlier ms t
+        → (info : ModuleInfo)
+        → Valid info
+        → now (report .entry) ≡ encode info
+        → (i : ℕ) (behind : Answer)
+        → lateAs (now (report .entry)) i r behind ≡ entriesInTurn (namesOf ms) i 0 (info .dependencies) behind)
+        (LateInside (now (report .entry)) r) ⌝ }
 {
     let is_script = read_number(report, 0);
     let count = read_number(report, is_script.next);

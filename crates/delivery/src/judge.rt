@@ -14,6 +14,7 @@ ghost use Prim.Native.Nat.{ℕ};
 ghost use lib.ListN.{length};
 ghost use Rattle.laws.specs.Codec.{All};
 ghost use Rattle.laws.specs.code.Left.{Free};
+ghost use Rattle.laws.specs.code.Told.{Bounded, Leaving, Lent, Told};
 ghost use Rattle.delivery.specs.Delivery.{Module};
 ghost use Rattle.delivery.specs.Order.{Answer, entriesOf, numberOf, entriesInTurn, sheetsInTurn, modulesInTurn, orderOf};
 ghost use Rattle.delivery.specs.Right.{Reported, namesOf};
@@ -42,9 +43,12 @@ pub enum Sheets {
 
 // The first refused sheet of so many modules.
 fn judge_sheets(delivery: &[u8], first: usize, count: usize, work: &mut [u8]) -> Sheets
-    ensures { λ r. ⌜ ((ms : List Module) (t : List ℕ) → Modules (now (delivery .entry)) first count ms t
-        → (behind : Answer) → sheetsAs r behind ≡ sheetsInTurn (length (now (work .entry))) 0 ms behind) ⌝ }
-    ensures { λ _. ⌜ Free (now (work .entry)) (now (work .exit)) ⌝ }
+    ensures { λ r. ⌜ Leaving
+        ((ms : List Module) (t : List ℕ)
+        → Modules (now (delivery .entry)) first count ms t
+        → (behind : Answer)
+        → sheetsAs r behind ≡ sheetsInTurn (length (now (work .entry))) 0 ms behind)
+        (Free (now (work .entry)) (now (work .exit))) ⌝ }
 {
     let mut at = first;
     let mut i = 0;
@@ -69,11 +73,14 @@ fn judge_module(
     earlier: usize,
     work: &mut [u8],
 ) -> Late
-    ensures { λ r. ⌜ ((ms : List Module) (t : List ℕ) → Modules (now (delivery .entry)) first earlier ms t
+    ensures { λ r. ⌜ Lent
+        ((ms : List Module) (t : List ℕ)
+        → Modules (now (delivery .entry)) first earlier ms t
         → numberOf (length (now (work .entry))) (now (sheet .entry)) ≡ 0
-        → (i : ℕ) (behind : Answer) → lateAs (now (work .exit)) i r behind ≡ entriesInTurn (namesOf ms) i 0 (entriesOf (now (sheet .entry))) behind) ⌝ }
-    ensures { λ r. ⌜ LateInside (now (work .exit)) r ⌝ }
-    ensures { λ _. ⌜ Free (now (work .entry)) (now (work .exit)) ⌝ }
+        → (i : ℕ) (behind : Answer)
+        → lateAs (now (work .exit)) i r behind ≡ entriesInTurn (namesOf ms) i 0 (entriesOf (now (sheet .entry))) behind)
+        (LateInside (now (work .exit)) r)
+        (Free (now (work .entry)) (now (work .exit))) ⌝ }
 {
     match module_info(sheet, work) {
         Outcome::Refused(_) => Late::Nothing,
@@ -83,9 +90,12 @@ fn judge_module(
 
 // The first entry that is late in so many modules, whose sheets all get their reports.
 fn judge_order(delivery: &[u8], first: usize, count: usize, work: &mut [u8]) -> Judgement
-    ensures { λ r. ⌜ ((ms : List Module) (t : List ℕ) → Modules (now (delivery .entry)) first count ms t
-        → All (Reported (length (now (work .entry)))) ms → judgementAs (now (work .exit)) r ≡ modulesInTurn [] 0 ms) ⌝ }
-    ensures { λ r. ⌜ JudgementInside (now (work .exit)) r ⌝ }
+    ensures { λ r. ⌜ Bounded
+        ((ms : List Module) (t : List ℕ)
+        → Modules (now (delivery .entry)) first count ms t
+        → All (Reported (length (now (work .entry)))) ms
+        → judgementAs (now (work .exit)) r ≡ modulesInTurn [] 0 ms)
+        (JudgementInside (now (work .exit)) r) ⌝ }
 {
     let mut at = first;
     let mut i = 0;
@@ -115,8 +125,9 @@ fn judge_order(delivery: &[u8], first: usize, count: usize, work: &mut [u8]) -> 
 
 // The answer to a delivery. The work buffer has what was written last.
 pub fn judge(delivery: &[u8], work: &mut [u8]) -> Judgement
-    ensures { λ r. ⌜ judgementAs (now (work .exit)) r ≡ orderOf (length (now (work .entry))) (now (delivery .entry)) ⌝ }
-    ensures { λ r. ⌜ JudgementInside (now (work .exit)) r ⌝ }
+    ensures { λ r. ⌜ Told (judgementAs (now (work .exit)))
+        (orderOf (length (now (work .entry))) (now (delivery .entry)))
+        (JudgementInside (now (work .exit))) r ⌝ }
 {
     let Checked::Modules { count, first } = check_delivery(delivery) else {
         return Judgement::Refused {

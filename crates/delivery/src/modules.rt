@@ -8,7 +8,7 @@ ghost use Rattle.report_reader.specs.code.Reads.{Reads, Inside};
 ghost use Rattle.delivery.specs.Delivery.{Module, encodeModule};
 ghost use Rattle.delivery.specs.Order.{among, repeated};
 ghost use Rattle.delivery.specs.Right.{namesOf};
-ghost use Rattle.delivery.specs.code.Views.{moduleAs, ValidModule, Modules};
+ghost use Rattle.delivery.specs.code.Views.{moduleAs, ValidModule, Modules, ModuleIn};
 
 // Where a module's name and its sheet begin and end. The next module is behind the sheet.
 pub struct ModuleRead {
@@ -19,9 +19,7 @@ pub struct ModuleRead {
 }
 
 pub fn read_module(delivery: &[u8], at: usize) -> ModuleRead
-    ensures { λ r. ⌜ Reads encodeModule ValidModule (now (delivery .entry)) at (moduleAs (now (delivery .entry)) r) (r .«sheet_to») ⌝ }
-    ensures { λ r. ⌜ Inside (now (delivery .entry)) (r .«name_from») (r .«name_to») ⌝ }
-    ensures { λ r. ⌜ Inside (now (delivery .entry)) (r .«sheet_from») (r .«sheet_to») ⌝ }
+    ensures { λ r. ⌜ ModuleIn (now (delivery .entry)) at r ⌝ }
 {
     let name = read_text(delivery, at);
     let sheet = read_text(delivery, name.to);

@@ -36,6 +36,7 @@ ghost use Prim.Native.Nat.{ℕ};
 ghost use lib.ListN.{length, drop};
 ghost use Rattle.laws.specs.Decoded.{ok};
 ghost use Rattle.laws.specs.code.Left.{Free};
+ghost use Rattle.laws.specs.code.Told.{Leaving};
 ghost use Rattle.wire.specs.Optional.{encodeOptional};
 ghost use Rattle.sheet.specs.Tree.{Node, Attributes, Arguments, argument};
 ghost use Rattle.sheet.specs.Nodes.{node, arguments, attributesObject};
@@ -238,12 +239,11 @@ pub fn put_with_entry(
     is_type: bool,
 ) -> Place
     requires { ⌜ HeldIn (now source) (now tables) counts × Quotes (now sheet) (now source) (dependency .specifier) ⌝ }
-    ensures { λ r. ⌜ ((a : Attributes) (t : List ℕ)
+    ensures { λ r. ⌜ Leaving
+        ((a : Attributes) (t : List ℕ)
         → behind there (attributesObject (now (source .entry)) levels) (drop (cursor .at) (now (sheet .entry))) ≡ ok a t
-        → writtenAs (now (out .exit)) (now (notes .exit)) r
-        ≡ wroteEntries (writtenAs (now (out .entry)) (now (notes .entry)) place)
-        (staticOf (now (source .entry)) (typesFrom (now (source .entry)) (now (tables .entry)) counts) (now (sheet .entry)) dependency (cond «is_type» (typeAttributes a) (staticAttributes a)))) ⌝ }
-    ensures { λ _. ⌜ Free (now (out .entry)) (now (out .exit)) × Free (now (notes .entry)) (now (notes .exit)) ⌝ }
+        → writtenAs (now (out .exit)) (now (notes .exit)) r ≡ wroteEntries (writtenAs (now (out .entry)) (now (notes .entry)) place) (staticOf (now (source .entry)) (typesFrom (now (source .entry)) (now (tables .entry)) counts) (now (sheet .entry)) dependency (cond «is_type» (typeAttributes a) (staticAttributes a))))
+        (Free (now (out .entry)) (now (out .exit)) × Free (now (notes .entry)) (now (notes .exit))) ⌝ }
 {
     let mut pairs: [usize; PAIR_NUMBERS] = [0; PAIR_NUMBERS];
     if is_type {
@@ -472,12 +472,11 @@ pub fn put_call_entry(
     place: Place,
 ) -> Place
     requires { ⌜ HeldIn (now source) (now tables) counts ⌝ }
-    ensures { λ r. ⌜ ((xs : Arguments) (t : List ℕ)
+    ensures { λ r. ⌜ Leaving
+        ((xs : Arguments) (t : List ℕ)
         → arguments (node (now (source .entry)) levels) (now (source .entry)) count (drop (cursor .at) (now (sheet .entry))) ≡ ok xs t
-        → writtenAs (now (out .exit)) (now (notes .exit)) r
-        ≡ wroteEntries (writtenAs (now (out .entry)) (now (notes .entry)) place)
-        (entryOfCall (now (source .entry)) (typesFrom (now (source .entry)) (now (tables .entry)) counts) call xs)) ⌝ }
-    ensures { λ _. ⌜ Free (now (out .entry)) (now (out .exit)) × Free (now (notes .entry)) (now (notes .exit)) ⌝ }
+        → writtenAs (now (out .exit)) (now (notes .exit)) r ≡ wroteEntries (writtenAs (now (out .entry)) (now (notes .entry)) place) (entryOfCall (now (source .entry)) (typesFrom (now (source .entry)) (now (tables .entry)) counts) call xs))
+        (Free (now (out .entry)) (now (out .exit)) × Free (now (notes .entry)) (now (notes .exit))) ⌝ }
 {
     if call.listed {
         if 0 < count {

@@ -46,6 +46,7 @@ ghost use Prim.Native.Nat.{ℕ, _≤_};
 ghost use lib.ListN.{length, drop};
 ghost use Rattle.laws.specs.Decoded.{ok, onOk};
 ghost use Rattle.laws.specs.code.Left.{Free};
+ghost use Rattle.laws.specs.code.Told.{Leaving, Told};
 ghost use Rattle.sheet.specs.Limits.{depthLimit};
 ghost use Rattle.sheet.specs.Tree.{Node, importRequire};
 ghost use Rattle.sheet.specs.Nodes.{node, nodes, argumentItem, arguments, propertyItem, properties, callRest, attributesObject};
@@ -82,16 +83,15 @@ pub fn analyze_program_dependencies(
     place: Place,
 ) -> Place
     requires { ⌜ HeldIn (now source) (now tables) counts ⌝ }
-    ensures { λ r. ⌜ ((n : Node) (t : List ℕ)
+    ensures { λ r. ⌜ Leaving
+        ((n : Node) (t : List ℕ)
         → node (now (source .entry)) depthLimit (drop (root .at) (now (sheet .entry))) ≡ ok n t
         → count ≡ entries n
         → ReachesIn reach n
         → (bufferAs (now (out .exit)) r
-        ≡ wrote (bufferAs (now (out .entry)) place)
-        (encodeList encodeDependency (collect (now (source .entry)) (typesFrom (now (source .entry)) (now (tables .entry)) counts) n)))
-        × (now (notes .exit)
-        ≡ allNoted (now (notes .entry)) (collectNoted (now (source .entry)) (typesFrom (now (source .entry)) (now (tables .entry)) counts) n))) ⌝ }
-    ensures { λ _. ⌜ Free (now (out .entry)) (now (out .exit)) × Free (now (notes .entry)) (now (notes .exit)) ⌝ }
+        ≡ wrote (bufferAs (now (out .entry)) place) (encodeList encodeDependency (collect (now (source .entry)) (typesFrom (now (source .entry)) (now (tables .entry)) counts) n)))
+        × (now (notes .exit) ≡ allNoted (now (notes .entry)) (collectNoted (now (source .entry)) (typesFrom (now (source .entry)) (now (tables .entry)) counts) n)))
+        (Free (now (out .entry)) (now (out .exit)) × Free (now (notes .entry)) (now (notes .exit))) ⌝ }
 {
     let place = place.put_number(out, count);
     match walk_root(
@@ -195,10 +195,9 @@ fn visit_import_decl(
     place: Place,
 ) -> Walked
     requires { ⌜ HeldIn (now source) (now tables) counts × Quotes (now sheet) (now source) specifier × (cursor .at ≤ length (now sheet)) ⌝ }
-    ensures { λ r. ⌜ walkedAs (now (sheet .entry)) (now (out .exit)) (now (notes .exit)) r
-        ≡ onOk (afterNode (now (source .entry)) (typesFrom (now (source .entry)) (now (tables .entry)) counts) (writtenAs (now (out .entry)) (now (notes .entry)) place))
-        (rest (now (source .entry)) levels (span, importHead «type_only» phase «is_side_effect» (quotedOf (now (sheet .entry)) specifier) there) (drop (cursor .at) (now (sheet .entry)))) ⌝ }
-    ensures { λ r. ⌜ PastWalked (length (now (sheet .entry))) r ⌝ }
+    ensures { λ r. ⌜ Told (walkedAs (now (sheet .entry)) (now (out .exit)) (now (notes .exit)))
+        (onOk (afterNode (now (source .entry)) (typesFrom (now (source .entry)) (now (tables .entry)) counts) (writtenAs (now (out .entry)) (now (notes .entry)) place)) (rest (now (source .entry)) levels (span, importHead «type_only» phase «is_side_effect» (quotedOf (now (sheet .entry)) specifier) there) (drop (cursor .at) (now (sheet .entry)))))
+        (PastWalked (length (now (sheet .entry)))) r ⌝ }
 {
     let kind = import_kind(type_only, phase);
     let dependency = StaticDependencyDescriptor {
@@ -239,10 +238,9 @@ fn visit_named_export(
     place: Place,
 ) -> Walked
     requires { ⌜ HeldIn (now source) (now tables) counts × Quotes (now sheet) (now source) specifier × (cursor .at ≤ length (now sheet)) ⌝ }
-    ensures { λ r. ⌜ walkedAs (now (sheet .entry)) (now (out .exit)) (now (notes .exit)) r
-        ≡ onOk (afterNode (now (source .entry)) (typesFrom (now (source .entry)) (now (tables .entry)) counts) (writtenAs (now (out .entry)) (now (notes .entry)) place))
-        (rest (now (source .entry)) levels (span, exportFromHead «type_only» (quotedOf (now (sheet .entry)) specifier) there) (drop (cursor .at) (now (sheet .entry)))) ⌝ }
-    ensures { λ r. ⌜ PastWalked (length (now (sheet .entry))) r ⌝ }
+    ensures { λ r. ⌜ Told (walkedAs (now (sheet .entry)) (now (out .exit)) (now (notes .exit)))
+        (onOk (afterNode (now (source .entry)) (typesFrom (now (source .entry)) (now (tables .entry)) counts) (writtenAs (now (out .entry)) (now (notes .entry)) place)) (rest (now (source .entry)) levels (span, exportFromHead «type_only» (quotedOf (now (sheet .entry)) specifier) there) (drop (cursor .at) (now (sheet .entry)))))
+        (PastWalked (length (now (sheet .entry)))) r ⌝ }
 {
     let kind = export_kind(type_only);
     let dependency = StaticDependencyDescriptor {
@@ -283,10 +281,9 @@ fn visit_export_all(
     place: Place,
 ) -> Walked
     requires { ⌜ HeldIn (now source) (now tables) counts × Quotes (now sheet) (now source) specifier × (cursor .at ≤ length (now sheet)) ⌝ }
-    ensures { λ r. ⌜ walkedAs (now (sheet .entry)) (now (out .exit)) (now (notes .exit)) r
-        ≡ onOk (afterNode (now (source .entry)) (typesFrom (now (source .entry)) (now (tables .entry)) counts) (writtenAs (now (out .entry)) (now (notes .entry)) place))
-        (rest (now (source .entry)) levels (span, exportAllHead «type_only» (quotedOf (now (sheet .entry)) specifier) there) (drop (cursor .at) (now (sheet .entry)))) ⌝ }
-    ensures { λ r. ⌜ PastWalked (length (now (sheet .entry))) r ⌝ }
+    ensures { λ r. ⌜ Told (walkedAs (now (sheet .entry)) (now (out .exit)) (now (notes .exit)))
+        (onOk (afterNode (now (source .entry)) (typesFrom (now (source .entry)) (now (tables .entry)) counts) (writtenAs (now (out .entry)) (now (notes .entry)) place)) (rest (now (source .entry)) levels (span, exportAllHead «type_only» (quotedOf (now (sheet .entry)) specifier) there) (drop (cursor .at) (now (sheet .entry)))))
+        (PastWalked (length (now (sheet .entry)))) r ⌝ }
 {
     let kind = export_kind(type_only);
     let dependency = StaticDependencyDescriptor {
@@ -326,10 +323,9 @@ fn visit_ts_import_type(
     place: Place,
 ) -> Walked
     requires { ⌜ HeldIn (now source) (now tables) counts × Quotes (now sheet) (now source) specifier × (cursor .at ≤ length (now sheet)) ⌝ }
-    ensures { λ r. ⌜ walkedAs (now (sheet .entry)) (now (out .exit)) (now (notes .exit)) r
-        ≡ onOk (afterNode (now (source .entry)) (typesFrom (now (source .entry)) (now (tables .entry)) counts) (writtenAs (now (out .entry)) (now (notes .entry)) place))
-        (rest (now (source .entry)) levels (span, importTypeHead (quotedOf (now (sheet .entry)) specifier) count) (drop (cursor .at) (now (sheet .entry)))) ⌝ }
-    ensures { λ r. ⌜ PastWalked (length (now (sheet .entry))) r ⌝ }
+    ensures { λ r. ⌜ Told (walkedAs (now (sheet .entry)) (now (out .exit)) (now (notes .exit)))
+        (onOk (afterNode (now (source .entry)) (typesFrom (now (source .entry)) (now (tables .entry)) counts) (writtenAs (now (out .entry)) (now (notes .entry)) place)) (rest (now (source .entry)) levels (span, importTypeHead (quotedOf (now (sheet .entry)) specifier) count) (drop (cursor .at) (now (sheet .entry)))))
+        (PastWalked (length (now (sheet .entry)))) r ⌝ }
 {
     let dependency = StaticDependencyDescriptor {
         kind: StaticDependencyKind::ImportType,
@@ -403,10 +399,9 @@ fn visit_call_expr(
     place: Place,
 ) -> Walked
     requires { ⌜ HeldIn (now source) (now tables) counts ⌝ }
-    ensures { λ r. ⌜ walkedAs (now (sheet .entry)) (now (out .exit)) (now (notes .exit)) r
-        ≡ onOk (afterCall (now (source .entry)) (typesFrom (now (source .entry)) (now (tables .entry)) counts) call (writtenAs (now (out .entry)) (now (notes .entry)) place))
-        (callRest (node (now (source .entry)) levels) (now (source .entry)) (drop (cursor .at) (now (sheet .entry)))) ⌝ }
-    ensures { λ r. ⌜ PastWalked (length (now (sheet .entry))) r ⌝ }
+    ensures { λ r. ⌜ Told (walkedAs (now (sheet .entry)) (now (out .exit)) (now (notes .exit)))
+        (onOk (afterCall (now (source .entry)) (typesFrom (now (source .entry)) (now (tables .entry)) counts) call (writtenAs (now (out .entry)) (now (notes .entry)) place)) (callRest (node (now (source .entry)) levels) (now (source .entry)) (drop (cursor .at) (now (sheet .entry)))))
+        (PastWalked (length (now (sheet .entry)))) r ⌝ }
 {
     match cursor.number(sheet) {
         Read::Refused(r) => Walked::Refused(r),
@@ -482,11 +477,9 @@ fn visit_ts_import_equals_decl(
     place: Place,
 ) -> Walked
     requires { ⌜ HeldIn (now source) (now tables) counts × Quotes (now sheet) (now source) specifier × (cursor .at ≤ length (now sheet)) ⌝ }
-    ensures { λ r. ⌜ walkedAs (now (sheet .entry)) (now (out .exit)) (now (notes .exit)) r
-        ≡ ok (afterNode (now (source .entry)) (typesFrom (now (source .entry)) (now (tables .entry)) counts) (writtenAs (now (out .entry)) (now (notes .entry)) place)
-        (importRequire span «type_only» export (quotedOf (now (sheet .entry)) specifier)))
-        (drop (cursor .at) (now (sheet .entry))) ⌝ }
-    ensures { λ r. ⌜ PastWalked (length (now (sheet .entry))) r ⌝ }
+    ensures { λ r. ⌜ Told (walkedAs (now (sheet .entry)) (now (out .exit)) (now (notes .exit)))
+        (ok (afterNode (now (source .entry)) (typesFrom (now (source .entry)) (now (tables .entry)) counts) (writtenAs (now (out .entry)) (now (notes .entry)) place) (importRequire span «type_only» export (quotedOf (now (sheet .entry)) specifier))) (drop (cursor .at) (now (sheet .entry))))
+        (PastWalked (length (now (sheet .entry)))) r ⌝ }
 {
     let kind = equals_kind(type_only, export);
     let dependency = StaticDependencyDescriptor {
@@ -515,10 +508,9 @@ fn visit_ts_module_decl(
     place: Place,
 ) -> Walked
     requires { ⌜ HeldIn (now source) (now tables) counts × Quotes (now sheet) (now source) specifier × (cursor .at ≤ length (now sheet)) ⌝ }
-    ensures { λ r. ⌜ walkedAs (now (sheet .entry)) (now (out .exit)) (now (notes .exit)) r
-        ≡ onOk (afterNode (now (source .entry)) (typesFrom (now (source .entry)) (now (tables .entry)) counts) (writtenAs (now (out .entry)) (now (notes .entry)) place))
-        (rest (now (source .entry)) levels (span, moduleHead (Option.some (quotedOf (now (sheet .entry)) specifier)) count) (drop (cursor .at) (now (sheet .entry)))) ⌝ }
-    ensures { λ r. ⌜ PastWalked (length (now (sheet .entry))) r ⌝ }
+    ensures { λ r. ⌜ Told (walkedAs (now (sheet .entry)) (now (out .exit)) (now (notes .exit)))
+        (onOk (afterNode (now (source .entry)) (typesFrom (now (source .entry)) (now (tables .entry)) counts) (writtenAs (now (out .entry)) (now (notes .entry)) place)) (rest (now (source .entry)) levels (span, moduleHead (Option.some (quotedOf (now (sheet .entry)) specifier)) count) (drop (cursor .at) (now (sheet .entry)))))
+        (PastWalked (length (now (sheet .entry)))) r ⌝ }
 {
     let place = put_module_entry(
         sheet,
@@ -558,10 +550,9 @@ fn walk_node(
     place: Place,
 ) -> Walked
     requires { ⌜ HeldIn (now source) (now tables) counts ⌝ }
-    ensures { λ r. ⌜ walkedAs (now (sheet .entry)) (now (out .exit)) (now (notes .exit)) r
-        ≡ onOk (afterNode (now (source .entry)) (typesFrom (now (source .entry)) (now (tables .entry)) counts) (writtenAs (now (out .entry)) (now (notes .entry)) place))
-        (node (now (source .entry)) levels (drop (cursor .at) (now (sheet .entry)))) ⌝ }
-    ensures { λ r. ⌜ PastWalked (length (now (sheet .entry))) r ⌝ }
+    ensures { λ r. ⌜ Told (walkedAs (now (sheet .entry)) (now (out .exit)) (now (notes .exit)))
+        (onOk (afterNode (now (source .entry)) (typesFrom (now (source .entry)) (now (tables .entry)) counts) (writtenAs (now (out .entry)) (now (notes .entry)) place)) (node (now (source .entry)) levels (drop (cursor .at) (now (sheet .entry)))))
+        (PastWalked (length (now (sheet .entry)))) r ⌝ }
 {
     match read_head(sheet, source, cursor, levels) {
         HeadRead::Refused(r) => Walked::Refused(r),
@@ -598,10 +589,9 @@ fn walk_rest(
     place: Place,
 ) -> Walked
     requires { ⌜ HeldIn (now source) (now tables) counts × PastHead (now sheet) (now source) (cursor .at) head ⌝ }
-    ensures { λ r. ⌜ walkedAs (now (sheet .entry)) (now (out .exit)) (now (notes .exit)) r
-        ≡ onOk (afterNode (now (source .entry)) (typesFrom (now (source .entry)) (now (tables .entry)) counts) (writtenAs (now (out .entry)) (now (notes .entry)) place))
-        (rest (now (source .entry)) levels (span, headOf (now (sheet .entry)) head) (drop (cursor .at) (now (sheet .entry)))) ⌝ }
-    ensures { λ r. ⌜ PastWalked (length (now (sheet .entry))) r ⌝ }
+    ensures { λ r. ⌜ Told (walkedAs (now (sheet .entry)) (now (out .exit)) (now (notes .exit)))
+        (onOk (afterNode (now (source .entry)) (typesFrom (now (source .entry)) (now (tables .entry)) counts) (writtenAs (now (out .entry)) (now (notes .entry)) place)) (rest (now (source .entry)) levels (span, headOf (now (sheet .entry)) head) (drop (cursor .at) (now (sheet .entry)))))
+        (PastWalked (length (now (sheet .entry)))) r ⌝ }
 {
     match head {
         Head::Other(count) => {
@@ -830,10 +820,9 @@ fn walk_nodes(
     place: Place,
 ) -> Walked
     requires { ⌜ HeldIn (now source) (now tables) counts × (cursor .at ≤ length (now sheet)) ⌝ }
-    ensures { λ r. ⌜ walkedAs (now (sheet .entry)) (now (out .exit)) (now (notes .exit)) r
-        ≡ onOk (afterNodes (now (source .entry)) (typesFrom (now (source .entry)) (now (tables .entry)) counts) (writtenAs (now (out .entry)) (now (notes .entry)) place))
-        (nodes (node (now (source .entry)) levels) count (drop (cursor .at) (now (sheet .entry)))) ⌝ }
-    ensures { λ r. ⌜ PastWalked (length (now (sheet .entry))) r ⌝ }
+    ensures { λ r. ⌜ Told (walkedAs (now (sheet .entry)) (now (out .exit)) (now (notes .exit)))
+        (onOk (afterNodes (now (source .entry)) (typesFrom (now (source .entry)) (now (tables .entry)) counts) (writtenAs (now (out .entry)) (now (notes .entry)) place)) (nodes (node (now (source .entry)) levels) count (drop (cursor .at) (now (sheet .entry)))))
+        (PastWalked (length (now (sheet .entry)))) r ⌝ }
 {
     let mut left = count;
     let mut at = cursor;
@@ -866,10 +855,9 @@ fn walk_argument(
     place: Place,
 ) -> Walked
     requires { ⌜ HeldIn (now source) (now tables) counts ⌝ }
-    ensures { λ r. ⌜ walkedAs (now (sheet .entry)) (now (out .exit)) (now (notes .exit)) r
-        ≡ onOk (afterArgument (now (source .entry)) (typesFrom (now (source .entry)) (now (tables .entry)) counts) (writtenAs (now (out .entry)) (now (notes .entry)) place))
-        (argumentItem (node (now (source .entry)) levels) (now (source .entry)) (drop (cursor .at) (now (sheet .entry)))) ⌝ }
-    ensures { λ r. ⌜ PastWalked (length (now (sheet .entry))) r ⌝ }
+    ensures { λ r. ⌜ Told (walkedAs (now (sheet .entry)) (now (out .exit)) (now (notes .exit)))
+        (onOk (afterArgument (now (source .entry)) (typesFrom (now (source .entry)) (now (tables .entry)) counts) (writtenAs (now (out .entry)) (now (notes .entry)) place)) (argumentItem (node (now (source .entry)) levels) (now (source .entry)) (drop (cursor .at) (now (sheet .entry)))))
+        (PastWalked (length (now (sheet .entry)))) r ⌝ }
 {
     match read_argument(sheet, source, cursor) {
         ArgumentRead::Refused(r) => Walked::Refused(r),
@@ -903,10 +891,9 @@ fn walk_arguments(
     place: Place,
 ) -> Walked
     requires { ⌜ HeldIn (now source) (now tables) counts × (cursor .at ≤ length (now sheet)) ⌝ }
-    ensures { λ r. ⌜ walkedAs (now (sheet .entry)) (now (out .exit)) (now (notes .exit)) r
-        ≡ onOk (afterArguments (now (source .entry)) (typesFrom (now (source .entry)) (now (tables .entry)) counts) (writtenAs (now (out .entry)) (now (notes .entry)) place))
-        (arguments (node (now (source .entry)) levels) (now (source .entry)) count (drop (cursor .at) (now (sheet .entry)))) ⌝ }
-    ensures { λ r. ⌜ PastWalked (length (now (sheet .entry))) r ⌝ }
+    ensures { λ r. ⌜ Told (walkedAs (now (sheet .entry)) (now (out .exit)) (now (notes .exit)))
+        (onOk (afterArguments (now (source .entry)) (typesFrom (now (source .entry)) (now (tables .entry)) counts) (writtenAs (now (out .entry)) (now (notes .entry)) place)) (arguments (node (now (source .entry)) levels) (now (source .entry)) count (drop (cursor .at) (now (sheet .entry)))))
+        (PastWalked (length (now (sheet .entry)))) r ⌝ }
 {
     let mut left = count;
     let mut at = cursor;
@@ -939,10 +926,9 @@ fn walk_property(
     place: Place,
 ) -> Walked
     requires { ⌜ HeldIn (now source) (now tables) counts ⌝ }
-    ensures { λ r. ⌜ walkedAs (now (sheet .entry)) (now (out .exit)) (now (notes .exit)) r
-        ≡ onOk (afterProperty (now (source .entry)) (typesFrom (now (source .entry)) (now (tables .entry)) counts) (writtenAs (now (out .entry)) (now (notes .entry)) place))
-        (propertyItem (node (now (source .entry)) levels) (drop (cursor .at) (now (sheet .entry)))) ⌝ }
-    ensures { λ r. ⌜ PastWalked (length (now (sheet .entry))) r ⌝ }
+    ensures { λ r. ⌜ Told (walkedAs (now (sheet .entry)) (now (out .exit)) (now (notes .exit)))
+        (onOk (afterProperty (now (source .entry)) (typesFrom (now (source .entry)) (now (tables .entry)) counts) (writtenAs (now (out .entry)) (now (notes .entry)) place)) (propertyItem (node (now (source .entry)) levels) (drop (cursor .at) (now (sheet .entry)))))
+        (PastWalked (length (now (sheet .entry)))) r ⌝ }
 {
     match read_property(sheet, cursor) {
         PropertyRead::Refused(r) => Walked::Refused(r),
@@ -978,10 +964,9 @@ fn walk_properties(
     place: Place,
 ) -> Walked
     requires { ⌜ HeldIn (now source) (now tables) counts × (cursor .at ≤ length (now sheet)) ⌝ }
-    ensures { λ r. ⌜ walkedAs (now (sheet .entry)) (now (out .exit)) (now (notes .exit)) r
-        ≡ onOk (afterProperties (now (source .entry)) (typesFrom (now (source .entry)) (now (tables .entry)) counts) (writtenAs (now (out .entry)) (now (notes .entry)) place))
-        (properties (node (now (source .entry)) levels) count (drop (cursor .at) (now (sheet .entry)))) ⌝ }
-    ensures { λ r. ⌜ PastWalked (length (now (sheet .entry))) r ⌝ }
+    ensures { λ r. ⌜ Told (walkedAs (now (sheet .entry)) (now (out .exit)) (now (notes .exit)))
+        (onOk (afterProperties (now (source .entry)) (typesFrom (now (source .entry)) (now (tables .entry)) counts) (writtenAs (now (out .entry)) (now (notes .entry)) place)) (properties (node (now (source .entry)) levels) count (drop (cursor .at) (now (sheet .entry)))))
+        (PastWalked (length (now (sheet .entry)))) r ⌝ }
 {
     let mut left = count;
     let mut at = cursor;
@@ -1015,10 +1000,9 @@ fn walk_attributes(
     place: Place,
 ) -> Walked
     requires { ⌜ HeldIn (now source) (now tables) counts × (cursor .at ≤ length (now sheet)) ⌝ }
-    ensures { λ r. ⌜ walkedAs (now (sheet .entry)) (now (out .exit)) (now (notes .exit)) r
-        ≡ onOk (afterWith (now (source .entry)) (typesFrom (now (source .entry)) (now (tables .entry)) counts) (writtenAs (now (out .entry)) (now (notes .entry)) place))
-        (behind there (attributesObject (now (source .entry)) levels) (drop (cursor .at) (now (sheet .entry)))) ⌝ }
-    ensures { λ r. ⌜ PastWalked (length (now (sheet .entry))) r ⌝ }
+    ensures { λ r. ⌜ Told (walkedAs (now (sheet .entry)) (now (out .exit)) (now (notes .exit)))
+        (onOk (afterWith (now (source .entry)) (typesFrom (now (source .entry)) (now (tables .entry)) counts) (writtenAs (now (out .entry)) (now (notes .entry)) place)) (behind there (attributesObject (now (source .entry)) levels) (drop (cursor .at) (now (sheet .entry)))))
+        (PastWalked (length (now (sheet .entry)))) r ⌝ }
 {
     if there {
         return match read_attributes(sheet, source, cursor, levels) {
@@ -1059,12 +1043,9 @@ fn walk_import(
     requires { ⌜ HeldIn (now source) (now tables) counts
         × Quotes (now sheet) (now source) (dependency .specifier)
         × (cursor .at ≤ length (now sheet)) ⌝ }
-    ensures { λ r. ⌜ walkedAs (now (sheet .entry)) (now (out .exit)) (now (notes .exit)) r
-        ≡ onOk (afterImport (now (source .entry))
-        (typesFrom (now (source .entry)) (now (tables .entry)) counts)
-        (now (sheet .entry)) dependency (writtenAs (now (out .entry)) (now (notes .entry)) place))
-        (behind there (attributesObject (now (source .entry)) levels) (drop (cursor .at) (now (sheet .entry)))) ⌝ }
-    ensures { λ r. ⌜ PastWalked (length (now (sheet .entry))) r ⌝ }
+    ensures { λ r. ⌜ Told (walkedAs (now (sheet .entry)) (now (out .exit)) (now (notes .exit)))
+        (onOk (afterImport (now (source .entry)) (typesFrom (now (source .entry)) (now (tables .entry)) counts) (now (sheet .entry)) dependency (writtenAs (now (out .entry)) (now (notes .entry)) place)) (behind there (attributesObject (now (source .entry)) levels) (drop (cursor .at) (now (sheet .entry)))))
+        (PastWalked (length (now (sheet .entry)))) r ⌝ }
 {
     if there {
         return match check_attributes(sheet, source, cursor, there, levels) {
@@ -1108,10 +1089,9 @@ fn walk_callee(
     place: Place,
 ) -> Walked
     requires { ⌜ HeldIn (now source) (now tables) counts × (cursor .at ≤ length (now sheet)) × Calls head ⌝ }
-    ensures { λ r. ⌜ walkedAs (now (sheet .entry)) (now (out .exit)) (now (notes .exit)) r
-        ≡ onOk (afterNode (now (source .entry)) (typesFrom (now (source .entry)) (now (tables .entry)) counts) (writtenAs (now (out .entry)) (now (notes .entry)) place))
-        (rest (now (source .entry)) levels (span, headOf (now (sheet .entry)) head) (drop (cursor .at) (now (sheet .entry)))) ⌝ }
-    ensures { λ r. ⌜ PastWalked (length (now (sheet .entry))) r ⌝ }
+    ensures { λ r. ⌜ Told (walkedAs (now (sheet .entry)) (now (out .exit)) (now (notes .exit)))
+        (onOk (afterNode (now (source .entry)) (typesFrom (now (source .entry)) (now (tables .entry)) counts) (writtenAs (now (out .entry)) (now (notes .entry)) place)) (rest (now (source .entry)) levels (span, headOf (now (sheet .entry)) head) (drop (cursor .at) (now (sheet .entry)))))
+        (PastWalked (length (now (sheet .entry)))) r ⌝ }
 {
     let call = call_of(sheet, source, cursor, levels, span, head);
     let kind = call.kind;

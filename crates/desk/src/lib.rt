@@ -3,6 +3,7 @@ ghost use mathlib.Core.Path.{_≡_};
 ghost use mathlib.Core.List.{[]};
 ghost use Prim.Native.Nat.{_<_};
 ghost use lib.ListN.{length, getD};
+ghost use Rattle.laws.specs.code.Told.{Leaving};
 ghost use Rattle.desk.specs.Desk.{handIn, turn, queue, firstWaiting, withSheet, withoutFront};
 ghost use Rattle.desk.specs.Fair.{Fair};
 ghost use Rattle.desk.specs.Block.{countIn, deskAs, foundAs, handedInAs, turnedAs, Stands, Does, handedInNumber, turnedNumber};
@@ -93,8 +94,8 @@ fn first_waiting(block: &[u32]) -> Found
 // Takes the front sheet of a depositor, and goes on to the depositor after that one.
 fn serve(block: &mut [u32], depositor: u32) -> u32
     requires { ⌜ (length (now block) ≡ 161) × (depositor < 16) × (0 < countIn (now block) depositor) ⌝ }
-    ensures { λ r. ⌜ (deskAs (now (block .exit)) ≡ withoutFront (deskAs (now (block .entry))) depositor)
-        × (r ≡ getD (queue (deskAs (now (block .entry))) depositor) 0 0) ⌝ }
+    ensures { λ r. ⌜ Leaving (r ≡ getD (queue (deskAs (now (block .entry))) depositor) 0 0)
+        (deskAs (now (block .exit)) ≡ withoutFront (deskAs (now (block .entry))) depositor) ⌝ }
 {
     let row = ROW * depositor as usize;
     let count = waiting(block, depositor);

@@ -10,6 +10,7 @@ use lib.ListN.{length, drop, length-append, length-drop}
 use lib.Seq.{drop-drop}
 use borrow.Author.Tests.{eqb-true, eq-eqb}
 use Rattle.laws.specs.Quoted.{ascii}
+use Rattle.laws.specs.code.Told.{Bounded, Meant}
 use Rattle.text.specs.declared.utf8.Encoding.the-variants.{Utf8}
 use Rattle.text.specs.Ranges.{inRanges}
 use Rattle.text.specs.Utf8.{admits, lengthBy, charLength, codeBy, charAt}
@@ -134,8 +135,8 @@ module _ (body : List ℕ) where
       by Nothing e n = e
 
   -- so does every answer that is the reader's
-  pub answered : {r : Found} → r ≡ findSourceMap body → (r ≡ findSourceMap body) × (FindsMap body r × Within r (length body))
-  answered {r} e = let finds : FindsMap body r = rw e finds-map in (e, (finds, by r refl finds))
+  pub answered : {r : Found} → r ≡ findSourceMap body → Bounded (Meant (r ≡ findSourceMap body) (FindsMap body r)) (Within r (length body))
+  answered {r} e = let finds : FindsMap body r = rw e finds-map in record { answer = record { answer = e; meaning = finds }; bounds = by r refl finds }
     where
       by : (f : Found) → r ≡ f → FindsMap body r → Within f (length body)
       by (At k) i finds = run-inside body (finds .some k .0 i)

@@ -8,6 +8,7 @@ use native.Mathlib.Omega.{arith}
 use native.Mathlib.Decide.{ℕ-discrete}
 use lib.Dec.{eqb}
 use borrow.Author.Tests.{eqb-true}
+use Rattle.laws.specs.code.Told.{Meant}
 use Rattle.text.specs.Ranges.{Range, _to_, within, inRanges}
 use Rattle.text.specs.WhiteSpace as unicode
 use Rattle.text.proofs.Within.{within-iff}
@@ -64,8 +65,8 @@ module _ (p : ℕ) where
   from-unicode (inr e) = rw e
 
 -- an answer that is true just there
-pub answers : {r : Bool} {p : ℕ} → (r ≡ true → ByUnicode p) → (ByUnicode p → r ≡ true) → (r ≡ isSpace p) × ((r ≡ true) ↔ ByUnicode p)
-answers {r} {p} f g = (go r (isSpace p) (λ e. from-unicode p (f e)) (λ e. g (to-unicode p e)), (f, g))
+pub answers : {r : Bool} {p : ℕ} → (r ≡ true → ByUnicode p) → (ByUnicode p → r ≡ true) → Meant (r ≡ isSpace p) ((r ≡ true) ↔ ByUnicode p)
+answers {r} {p} f g = record { answer = go r (isSpace p) (λ e. from-unicode p (f e)) (λ e. g (to-unicode p e)); meaning = (f, g) }
   where
     go : (a b : Bool) → (a ≡ true → b ≡ true) → (b ≡ true → a ≡ true) → a ≡ b
     go true b f g = sym (f refl)

@@ -10,6 +10,7 @@ ghost use mathlib.Core.Bool.{true};
 ghost use mathlib.Core.Logic.{_↔_};
 ghost use Prim.Native.Nat.{_+_, _≤_};
 ghost use lib.ListN.{length, drop};
+ghost use Rattle.laws.specs.code.Told.{Bounded, Meant};
 ghost use Rattle.analysis.specs.Place.{Within};
 ghost use Rattle.ecma426.specs.WhiteSpace.{isSpace, ByUnicode, isOf};
 ghost use Rattle.ecma426.specs.Grammar.{FindsMap};
@@ -26,8 +27,7 @@ pub enum Kind {
 
 // Does ECMAScript's `\s` match the code point? It is White_Space without U+0085, and U+FEFF.
 pub fn is_space(code: u32) -> bool
-    ensures { λ r. ⌜ r ≡ isSpace code ⌝ }
-    ensures { λ r. ⌜ (r ≡ true) ↔ ByUnicode code ⌝ }
+    ensures { λ r. ⌜ Meant (r ≡ isSpace code) ((r ≡ true) ↔ ByUnicode code) ⌝ }
 {
     if code == 0xFEFF {
         return true;
@@ -51,8 +51,7 @@ fn is_of(kind: Kind, code: u32) -> bool
 // The length in bytes of the character of the kind at `at`, 0 where none stands there.
 fn one_at(s: &[u8], at: usize, kind: Kind) -> usize
     requires { ⌜ at ≤ length (now s) ⌝ }
-    ensures { λ r. ⌜ r ≡ oneAt kind (drop at (now (s .entry))) ⌝ }
-    ensures { λ r. ⌜ at + r ≤ length (now (s .entry)) ⌝ }
+    ensures { λ r. ⌜ Bounded (r ≡ oneAt kind (drop at (now (s .entry)))) (at + r ≤ length (now (s .entry))) ⌝ }
 {
     let c = char_at(s, at, Encoding::Utf8);
     let len = c.len;
@@ -63,8 +62,7 @@ fn one_at(s: &[u8], at: usize, kind: Kind) -> usize
 // The end of the longest row of the kind from `at` on.
 fn row_end(s: &[u8], at: usize, kind: Kind) -> usize
     requires { ⌜ at ≤ length (now s) ⌝ }
-    ensures { λ r. ⌜ r ≡ rowEnd kind (now (s .entry)) at ⌝ }
-    ensures { λ r. ⌜ (at ≤ r) × (r ≤ length (now (s .entry))) ⌝ }
+    ensures { λ r. ⌜ Bounded (r ≡ rowEnd kind (now (s .entry)) at) ((at ≤ r) × (r ≤ length (now (s .entry)))) ⌝ }
 {
     let mut i = at;
     loop {
@@ -88,9 +86,8 @@ fn is_marked(body: &[u8]) -> bool
 
 // ^[#@]\s*sourceMappingURL=(\S*)\s*$ in ECMAScript's regular expressions. The word is compared byte by byte, its case too.
 pub fn find_source_map(body: &[u8]) -> Found
-    ensures { λ r. ⌜ r ≡ findSourceMap (now (body .entry)) ⌝ }
-    ensures { λ r. ⌜ FindsMap (now (body .entry)) r ⌝ }
-    ensures { λ r. ⌜ Within r (length (now (body .entry))) ⌝ }
+    ensures { λ r. ⌜ Bounded (Meant (r ≡ findSourceMap (now (body .entry))) (FindsMap (now (body .entry)) r))
+        (Within r (length (now (body .entry)))) ⌝ }
 {
     if is_marked(body) {
         let at = row_end(body, 1, Kind::Space);

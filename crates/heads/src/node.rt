@@ -17,9 +17,9 @@ use wire::Flag;
 use wire::Read;
 use wire::Text;
 use wire::refusals;
-ghost use mathlib.Core.Path.{_≡_};
 ghost use lib.ListN.{length, drop};
 ghost use Rattle.laws.specs.Decoded.{onOk};
+ghost use Rattle.laws.specs.code.Told.{Told};
 ghost use Rattle.text.specs.declared.utf8.Encoding.the-variants.{Utf8};
 ghost use Rattle.wire.specs.Fields.{flag};
 ghost use Rattle.wire.specs.Number.{number};
@@ -105,8 +105,9 @@ pub enum HeadRead {
 }
 
 fn read_other(sheet: &[u8], c: Cursor) -> FieldsRead
-    ensures { λ r. ⌜ fieldsAs (now (sheet .entry)) r ≡ onOk otherHead (number (drop (c .at) (now (sheet .entry)))) ⌝ }
-    ensures { λ r. ⌜ PastFields (c .at) (length (now (sheet .entry))) r ⌝ }
+    ensures { λ r. ⌜ Told (fieldsAs (now (sheet .entry)))
+        (onOk otherHead (number (drop (c .at) (now (sheet .entry)))))
+        (PastFields (c .at) (length (now (sheet .entry)))) r ⌝ }
 {
     match c.number(sheet) {
         Read::Refused(r) => FieldsRead::Refused(r),
@@ -116,8 +117,9 @@ fn read_other(sheet: &[u8], c: Cursor) -> FieldsRead
 
 fn read_string(sheet: &[u8], source: &[u8], c: Cursor, span: Span) -> FieldsRead
     requires { ⌜ Part (length (now source)) (span .start) (span .end) ⌝ }
-    ensures { λ r. ⌜ fieldsAs (now (sheet .entry)) r ≡ onOk stringHead (stringText (now (source .entry)) span (drop (c .at) (now (sheet .entry)))) ⌝ }
-    ensures { λ r. ⌜ PastFields (c .at) (length (now (sheet .entry))) r ⌝ }
+    ensures { λ r. ⌜ Told (fieldsAs (now (sheet .entry)))
+        (onOk stringHead (stringText (now (source .entry)) span (drop (c .at) (now (sheet .entry)))))
+        (PastFields (c .at) (length (now (sheet .entry)))) r ⌝ }
 {
     match read_string_text(sheet, source, c, span) {
         Text::Refused(r) => FieldsRead::Refused(r),
@@ -126,8 +128,9 @@ fn read_string(sheet: &[u8], source: &[u8], c: Cursor, span: Span) -> FieldsRead
 }
 
 fn read_name(sheet: &[u8], c: Cursor) -> FieldsRead
-    ensures { λ r. ⌜ fieldsAs (now (sheet .entry)) r ≡ onOk nameHead (text Utf8 textLimit (drop (c .at) (now (sheet .entry)))) ⌝ }
-    ensures { λ r. ⌜ PastFields (c .at) (length (now (sheet .entry))) r ⌝ }
+    ensures { λ r. ⌜ Told (fieldsAs (now (sheet .entry)))
+        (onOk nameHead (text Utf8 textLimit (drop (c .at) (now (sheet .entry)))))
+        (PastFields (c .at) (length (now (sheet .entry)))) r ⌝ }
 {
     match c.text(sheet, Encoding::Utf8, TEXT_LIMIT) {
         Text::Refused(r) => FieldsRead::Refused(r),
@@ -136,8 +139,9 @@ fn read_name(sheet: &[u8], c: Cursor) -> FieldsRead
 }
 
 fn read_template(sheet: &[u8], c: Cursor) -> FieldsRead
-    ensures { λ r. ⌜ fieldsAs (now (sheet .entry)) r ≡ onOk templateHead (number (drop (c .at) (now (sheet .entry)))) ⌝ }
-    ensures { λ r. ⌜ PastFields (c .at) (length (now (sheet .entry))) r ⌝ }
+    ensures { λ r. ⌜ Told (fieldsAs (now (sheet .entry)))
+        (onOk templateHead (number (drop (c .at) (now (sheet .entry)))))
+        (PastFields (c .at) (length (now (sheet .entry)))) r ⌝ }
 {
     match c.number(sheet) {
         Read::Refused(r) => FieldsRead::Refused(r),
@@ -146,8 +150,9 @@ fn read_template(sheet: &[u8], c: Cursor) -> FieldsRead
 }
 
 fn read_binary(sheet: &[u8], c: Cursor) -> FieldsRead
-    ensures { λ r. ⌜ fieldsAs (now (sheet .entry)) r ≡ onOk binaryHead (flag (drop (c .at) (now (sheet .entry)))) ⌝ }
-    ensures { λ r. ⌜ PastFields (c .at) (length (now (sheet .entry))) r ⌝ }
+    ensures { λ r. ⌜ Told (fieldsAs (now (sheet .entry)))
+        (onOk binaryHead (flag (drop (c .at) (now (sheet .entry)))))
+        (PastFields (c .at) (length (now (sheet .entry)))) r ⌝ }
 {
     match c.flag(sheet) {
         Flag::Refused(r) => FieldsRead::Refused(r),
@@ -156,8 +161,9 @@ fn read_binary(sheet: &[u8], c: Cursor) -> FieldsRead
 }
 
 fn read_object(sheet: &[u8], c: Cursor) -> FieldsRead
-    ensures { λ r. ⌜ fieldsAs (now (sheet .entry)) r ≡ onOk objectHead (count propertyLimit (drop (c .at) (now (sheet .entry)))) ⌝ }
-    ensures { λ r. ⌜ PastFields (c .at) (length (now (sheet .entry))) r ⌝ }
+    ensures { λ r. ⌜ Told (fieldsAs (now (sheet .entry)))
+        (onOk objectHead (count propertyLimit (drop (c .at) (now (sheet .entry)))))
+        (PastFields (c .at) (length (now (sheet .entry)))) r ⌝ }
 {
     match c.count(sheet, PROPERTY_LIMIT) {
         Read::Refused(r) => FieldsRead::Refused(r),
@@ -166,8 +172,9 @@ fn read_object(sheet: &[u8], c: Cursor) -> FieldsRead
 }
 
 fn read_call(sheet: &[u8], c: Cursor) -> FieldsRead
-    ensures { λ r. ⌜ fieldsAs (now (sheet .entry)) r ≡ callStart (drop (c .at) (now (sheet .entry))) ⌝ }
-    ensures { λ r. ⌜ PastFields (c .at) (length (now (sheet .entry))) r ⌝ }
+    ensures { λ r. ⌜ Told (fieldsAs (now (sheet .entry)))
+        (callStart (drop (c .at) (now (sheet .entry))))
+        (PastFields (c .at) (length (now (sheet .entry)))) r ⌝ }
 {
     match c.below(sheet, 4) {
         Read::Refused(r) => FieldsRead::Refused(r),
@@ -183,8 +190,9 @@ fn read_call(sheet: &[u8], c: Cursor) -> FieldsRead
 
 // A String, and the flag of the attributes behind it.
 fn read_origin(sheet: &[u8], source: &[u8], c: Cursor, levels: usize) -> OriginRead
-    ensures { λ r. ⌜ originAs (now (sheet .entry)) r ≡ origin (now (source .entry)) levels (drop (c .at) (now (sheet .entry))) ⌝ }
-    ensures { λ r. ⌜ PastOrigin (c .at) (length (now (sheet .entry))) r ⌝ }
+    ensures { λ r. ⌜ Told (originAs (now (sheet .entry)))
+        (origin (now (source .entry)) levels (drop (c .at) (now (sheet .entry))))
+        (PastOrigin (c .at) (length (now (sheet .entry)))) r ⌝ }
 {
     match read_quoted(sheet, source, c, levels) {
         QuotedRead::Refused(r) => OriginRead::Refused(r),
@@ -200,8 +208,9 @@ fn read_origin(sheet: &[u8], source: &[u8], c: Cursor, levels: usize) -> OriginR
 }
 
 fn read_import(sheet: &[u8], source: &[u8], c: Cursor, levels: usize) -> FieldsRead
-    ensures { λ r. ⌜ fieldsAs (now (sheet .entry)) r ≡ importStart (now (source .entry)) levels (drop (c .at) (now (sheet .entry))) ⌝ }
-    ensures { λ r. ⌜ PastFields (c .at) (length (now (sheet .entry))) r ⌝ }
+    ensures { λ r. ⌜ Told (fieldsAs (now (sheet .entry)))
+        (importStart (now (source .entry)) levels (drop (c .at) (now (sheet .entry))))
+        (PastFields (c .at) (length (now (sheet .entry)))) r ⌝ }
 {
     match c.flag(sheet) {
         Flag::Refused(r) => FieldsRead::Refused(r),
@@ -232,8 +241,9 @@ fn read_import(sheet: &[u8], source: &[u8], c: Cursor, levels: usize) -> FieldsR
 }
 
 fn read_named_export(sheet: &[u8], source: &[u8], c: Cursor, levels: usize) -> FieldsRead
-    ensures { λ r. ⌜ fieldsAs (now (sheet .entry)) r ≡ namedExportStart (now (source .entry)) levels (drop (c .at) (now (sheet .entry))) ⌝ }
-    ensures { λ r. ⌜ PastFields (c .at) (length (now (sheet .entry))) r ⌝ }
+    ensures { λ r. ⌜ Told (fieldsAs (now (sheet .entry)))
+        (namedExportStart (now (source .entry)) levels (drop (c .at) (now (sheet .entry))))
+        (PastFields (c .at) (length (now (sheet .entry)))) r ⌝ }
 {
     match c.flag(sheet) {
         Flag::Refused(r) => FieldsRead::Refused(r),
@@ -264,8 +274,9 @@ fn read_named_export(sheet: &[u8], source: &[u8], c: Cursor, levels: usize) -> F
 }
 
 fn read_export_all(sheet: &[u8], source: &[u8], c: Cursor, levels: usize) -> FieldsRead
-    ensures { λ r. ⌜ fieldsAs (now (sheet .entry)) r ≡ exportAllStart (now (source .entry)) levels (drop (c .at) (now (sheet .entry))) ⌝ }
-    ensures { λ r. ⌜ PastFields (c .at) (length (now (sheet .entry))) r ⌝ }
+    ensures { λ r. ⌜ Told (fieldsAs (now (sheet .entry)))
+        (exportAllStart (now (source .entry)) levels (drop (c .at) (now (sheet .entry))))
+        (PastFields (c .at) (length (now (sheet .entry)))) r ⌝ }
 {
     match c.flag(sheet) {
         Flag::Refused(r) => FieldsRead::Refused(r),
@@ -288,8 +299,9 @@ fn read_export_all(sheet: &[u8], source: &[u8], c: Cursor, levels: usize) -> Fie
 }
 
 fn read_import_type(sheet: &[u8], source: &[u8], c: Cursor, levels: usize) -> FieldsRead
-    ensures { λ r. ⌜ fieldsAs (now (sheet .entry)) r ≡ importTypeStart (now (source .entry)) levels (drop (c .at) (now (sheet .entry))) ⌝ }
-    ensures { λ r. ⌜ PastFields (c .at) (length (now (sheet .entry))) r ⌝ }
+    ensures { λ r. ⌜ Told (fieldsAs (now (sheet .entry)))
+        (importTypeStart (now (source .entry)) levels (drop (c .at) (now (sheet .entry))))
+        (PastFields (c .at) (length (now (sheet .entry)))) r ⌝ }
 {
     match read_quoted(sheet, source, c, levels) {
         QuotedRead::Refused(r) => FieldsRead::Refused(r),
@@ -301,8 +313,9 @@ fn read_import_type(sheet: &[u8], source: &[u8], c: Cursor, levels: usize) -> Fi
 }
 
 fn read_import_equals(sheet: &[u8], source: &[u8], c: Cursor, levels: usize) -> FieldsRead
-    ensures { λ r. ⌜ fieldsAs (now (sheet .entry)) r ≡ importEqualsStart (now (source .entry)) levels (drop (c .at) (now (sheet .entry))) ⌝ }
-    ensures { λ r. ⌜ PastFields (c .at) (length (now (sheet .entry))) r ⌝ }
+    ensures { λ r. ⌜ Told (fieldsAs (now (sheet .entry)))
+        (importEqualsStart (now (source .entry)) levels (drop (c .at) (now (sheet .entry))))
+        (PastFields (c .at) (length (now (sheet .entry)))) r ⌝ }
 {
     match c.flag(sheet) {
         Flag::Refused(r) => FieldsRead::Refused(r),
@@ -316,8 +329,9 @@ fn read_import_equals(sheet: &[u8], source: &[u8], c: Cursor, levels: usize) -> 
 }
 
 fn read_import_require(sheet: &[u8], source: &[u8], c: Cursor, levels: usize) -> FieldsRead
-    ensures { λ r. ⌜ fieldsAs (now (sheet .entry)) r ≡ importRequireStart (now (source .entry)) levels (drop (c .at) (now (sheet .entry))) ⌝ }
-    ensures { λ r. ⌜ PastFields (c .at) (length (now (sheet .entry))) r ⌝ }
+    ensures { λ r. ⌜ Told (fieldsAs (now (sheet .entry)))
+        (importRequireStart (now (source .entry)) levels (drop (c .at) (now (sheet .entry))))
+        (PastFields (c .at) (length (now (sheet .entry)))) r ⌝ }
 {
     match c.flag(sheet) {
         Flag::Refused(r) => FieldsRead::Refused(r),
@@ -339,8 +353,9 @@ fn read_import_require(sheet: &[u8], source: &[u8], c: Cursor, levels: usize) ->
 }
 
 fn read_module(sheet: &[u8], source: &[u8], c: Cursor, levels: usize) -> FieldsRead
-    ensures { λ r. ⌜ fieldsAs (now (sheet .entry)) r ≡ moduleStart (now (source .entry)) levels (drop (c .at) (now (sheet .entry))) ⌝ }
-    ensures { λ r. ⌜ PastFields (c .at) (length (now (sheet .entry))) r ⌝ }
+    ensures { λ r. ⌜ Told (fieldsAs (now (sheet .entry)))
+        (moduleStart (now (source .entry)) levels (drop (c .at) (now (sheet .entry))))
+        (PastFields (c .at) (length (now (sheet .entry)))) r ⌝ }
 {
     match c.flag(sheet) {
         Flag::Refused(r) => FieldsRead::Refused(r),
@@ -372,8 +387,9 @@ fn read_fields(
     tag: usize,
 ) -> FieldsRead
     requires { ⌜ Part (length (now source)) (span .start) (span .end) ⌝ }
-    ensures { λ r. ⌜ fieldsAs (now (sheet .entry)) r ≡ start (now (source .entry)) levels span tag (drop (c .at) (now (sheet .entry))) ⌝ }
-    ensures { λ r. ⌜ PastFields (c .at) (length (now (sheet .entry))) r ⌝ }
+    ensures { λ r. ⌜ Told (fieldsAs (now (sheet .entry)))
+        (start (now (source .entry)) levels span tag (drop (c .at) (now (sheet .entry))))
+        (PastFields (c .at) (length (now (sheet .entry)))) r ⌝ }
 {
     match tag {
         0 => read_other(sheet, c),
@@ -395,8 +411,9 @@ fn read_fields(
 
 // The head of a node, with so many levels left, its own among them.
 pub fn read_head(sheet: &[u8], source: &[u8], c: Cursor, levels: usize) -> HeadRead
-    ensures { λ r. ⌜ headAs (now (sheet .entry)) r ≡ head (now (source .entry)) levels (drop (c .at) (now (sheet .entry))) ⌝ }
-    ensures { λ r. ⌜ PastHead (c .at) (length (now (sheet .entry))) levels r ⌝ }
+    ensures { λ r. ⌜ Told (headAs (now (sheet .entry)))
+        (head (now (source .entry)) levels (drop (c .at) (now (sheet .entry))))
+        (PastHead (c .at) (length (now (sheet .entry))) levels) r ⌝ }
 {
     match read_tag(sheet, c, levels) {
         Read::Refused(r) => HeadRead::Refused(r),

@@ -16,6 +16,7 @@ ghost use mathlib.Core.List.{[]};
 ghost use Prim.Native.Nat.{_≤_};
 ghost use lib.ListN.{length, drop};
 ghost use Rattle.laws.specs.Decoded.{onOk};
+ghost use Rattle.laws.specs.code.Told.{Told};
 ghost use Rattle.wire.specs.code.Views.{flagAs};
 ghost use Rattle.sheet.specs.Nodes.{many, piece};
 ghost use Rattle.sheet.specs.Shape.{anyUncooked};
@@ -79,8 +80,9 @@ pub fn nodes_of(p: Property) -> usize
 
 // A piece of a template.
 pub fn read_piece(sheet: &[u8], c: Cursor) -> PieceRead
-    ensures { λ r. ⌜ pieceAs (now (sheet .entry)) r ≡ piece (drop (c .at) (now (sheet .entry))) ⌝ }
-    ensures { λ r. ⌜ PastPiece (c .at) (length (now (sheet .entry))) r ⌝ }
+    ensures { λ r. ⌜ Told (pieceAs (now (sheet .entry)))
+        (piece (drop (c .at) (now (sheet .entry))))
+        (PastPiece (c .at) (length (now (sheet .entry)))) r ⌝ }
 {
     match c.flag(sheet) {
         Flag::Refused(r) => PieceRead::Refused(r),
@@ -99,8 +101,9 @@ pub fn read_piece(sheet: &[u8], c: Cursor) -> PieceRead
 // So many pieces of a template: is one uncooked?
 pub fn read_pieces(sheet: &[u8], c: Cursor, count: usize) -> Flag
     requires { ⌜ c .at ≤ length (now sheet) ⌝ }
-    ensures { λ r. ⌜ flagAs (now (sheet .entry)) r ≡ onOk anyUncooked (many [] piece count (drop (c .at) (now (sheet .entry)))) ⌝ }
-    ensures { λ r. ⌜ PastPieces (c .at) (length (now (sheet .entry))) r ⌝ }
+    ensures { λ r. ⌜ Told (flagAs (now (sheet .entry)))
+        (onOk anyUncooked (many [] piece count (drop (c .at) (now (sheet .entry)))))
+        (PastPieces (c .at) (length (now (sheet .entry)))) r ⌝ }
 {
     let mut left = count;
     let mut at = c;
@@ -126,8 +129,9 @@ pub fn read_pieces(sheet: &[u8], c: Cursor, count: usize) -> Flag
 
 // An argument up to its node.
 pub fn read_argument(sheet: &[u8], source: &[u8], c: Cursor) -> ArgumentRead
-    ensures { λ r. ⌜ argumentAs (now (sheet .entry)) r ≡ argumentHead (now (source .entry)) (drop (c .at) (now (sheet .entry))) ⌝ }
-    ensures { λ r. ⌜ PastArgument (c .at) (length (now (sheet .entry))) r ⌝ }
+    ensures { λ r. ⌜ Told (argumentAs (now (sheet .entry)))
+        (argumentHead (now (source .entry)) (drop (c .at) (now (sheet .entry))))
+        (PastArgument (c .at) (length (now (sheet .entry)))) r ⌝ }
 {
     match c.flag(sheet) {
         Flag::Refused(r) => ArgumentRead::Refused(r),
@@ -141,8 +145,9 @@ pub fn read_argument(sheet: &[u8], source: &[u8], c: Cursor) -> ArgumentRead
 // A key of a property, by its byte.
 fn read_key(sheet: &[u8], c: Cursor, kind: usize) -> PropertyRead
     requires { ⌜ c .at ≤ length (now sheet) ⌝ }
-    ensures { λ r. ⌜ propertyAs (now (sheet .entry)) r ≡ keyHead kind (drop (c .at) (now (sheet .entry))) ⌝ }
-    ensures { λ r. ⌜ PastProperty (c .at) (length (now (sheet .entry))) r ⌝ }
+    ensures { λ r. ⌜ Told (propertyAs (now (sheet .entry)))
+        (keyHead kind (drop (c .at) (now (sheet .entry))))
+        (PastProperty (c .at) (length (now (sheet .entry)))) r ⌝ }
 {
     match kind {
         0 => PropertyRead::Is(Property::ChildKey, c),
@@ -160,8 +165,9 @@ fn read_key(sheet: &[u8], c: Cursor, kind: usize) -> PropertyRead
 
 // A property up to its first node.
 pub fn read_property(sheet: &[u8], c: Cursor) -> PropertyRead
-    ensures { λ r. ⌜ propertyAs (now (sheet .entry)) r ≡ propertyHead (drop (c .at) (now (sheet .entry))) ⌝ }
-    ensures { λ r. ⌜ PastProperty (c .at) (length (now (sheet .entry))) r ⌝ }
+    ensures { λ r. ⌜ Told (propertyAs (now (sheet .entry)))
+        (propertyHead (drop (c .at) (now (sheet .entry))))
+        (PastProperty (c .at) (length (now (sheet .entry)))) r ⌝ }
 {
     match c.byte(sheet) {
         Read::Refused(r) => PropertyRead::Refused(r),
@@ -179,8 +185,9 @@ pub fn read_property(sheet: &[u8], c: Cursor) -> PropertyRead
 
 // An Object that holds attributes up to its properties, with so many levels left, its own among them.
 pub fn read_attributes(sheet: &[u8], source: &[u8], c: Cursor, levels: usize) -> AttributesRead
-    ensures { λ r. ⌜ attributesAs (now (sheet .entry)) r ≡ attributesHead (now (source .entry)) levels (drop (c .at) (now (sheet .entry))) ⌝ }
-    ensures { λ r. ⌜ PastAttributes (c .at) (length (now (sheet .entry))) levels r ⌝ }
+    ensures { λ r. ⌜ Told (attributesAs (now (sheet .entry)))
+        (attributesHead (now (source .entry)) levels (drop (c .at) (now (sheet .entry))))
+        (PastAttributes (c .at) (length (now (sheet .entry))) levels) r ⌝ }
 {
     match read_tag_of(sheet, c, 5, levels) {
         Read::Refused(r) => AttributesRead::Refused(r),

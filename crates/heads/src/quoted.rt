@@ -13,6 +13,7 @@ ghost use mathlib.Core.List.{List};
 ghost use Prim.Native.Nat.{ℕ, _≤_, _<_};
 ghost use lib.Dec.{eqb, ltb};
 ghost use lib.ListN.{length, drop};
+ghost use Rattle.laws.specs.code.Told.{Bounded, Told};
 ghost use Rattle.wire.specs.code.Views.{readAs, textAs, PastText};
 ghost use Rattle.sheet.specs.Quotation.{looksQuoted};
 ghost use Rattle.sheet.specs.Nodes.{judgeTag, tag, stringText, quoted};
@@ -33,8 +34,8 @@ pub enum QuotedRead {
 
 // A tag that was read: is it allowed there, and only then, is a level left for its node?
 fn judge_tag(t: usize, next: Cursor, allowed: bool, levels: usize) -> Read
-    ensures { λ r. ⌜ ((s : List ℕ) → readAs s r ≡ judgeTag allowed levels t (drop (next .at) s)) ⌝ }
-    ensures { λ r. ⌜ ((at n : ℕ) → at < next .at → next .at ≤ n → PastTag at n levels r) ⌝ }
+    ensures { λ r. ⌜ Bounded ((s : List ℕ) → readAs s r ≡ judgeTag allowed levels t (drop (next .at) s))
+        ((at n : ℕ) → at < next .at → next .at ≤ n → PastTag at n levels r) ⌝ }
 {
     if allowed {
         if 0 < levels {
@@ -47,8 +48,9 @@ fn judge_tag(t: usize, next: Cursor, allowed: bool, levels: usize) -> Read
 
 // The tag of any node.
 pub fn read_tag(sheet: &[u8], c: Cursor, levels: usize) -> Read
-    ensures { λ r. ⌜ readAs (now (sheet .entry)) r ≡ tag (λ t. ltb t 13) levels (drop (c .at) (now (sheet .entry))) ⌝ }
-    ensures { λ r. ⌜ PastTag (c .at) (length (now (sheet .entry))) levels r ⌝ }
+    ensures { λ r. ⌜ Told (readAs (now (sheet .entry)))
+        (tag (λ t. ltb t 13) levels (drop (c .at) (now (sheet .entry))))
+        (PastTag (c .at) (length (now (sheet .entry))) levels) r ⌝ }
 {
     match c.byte(sheet) {
         Read::Refused(r) => Read::Refused(r),
@@ -58,8 +60,9 @@ pub fn read_tag(sheet: &[u8], c: Cursor, levels: usize) -> Read
 
 // The tag of a node where only one is allowed.
 pub fn read_tag_of(sheet: &[u8], c: Cursor, wanted: usize, levels: usize) -> Read
-    ensures { λ r. ⌜ readAs (now (sheet .entry)) r ≡ tag (eqb wanted) levels (drop (c .at) (now (sheet .entry))) ⌝ }
-    ensures { λ r. ⌜ PastTag (c .at) (length (now (sheet .entry))) levels r ⌝ }
+    ensures { λ r. ⌜ Told (readAs (now (sheet .entry)))
+        (tag (eqb wanted) levels (drop (c .at) (now (sheet .entry))))
+        (PastTag (c .at) (length (now (sheet .entry))) levels) r ⌝ }
 {
     match c.byte(sheet) {
         Read::Refused(r) => Read::Refused(r),
@@ -88,8 +91,9 @@ fn looks_quoted(text: &[u8]) -> bool
 // The text of a String whose span was read; before it, the source there must look like one.
 pub fn read_string_text(sheet: &[u8], source: &[u8], c: Cursor, span: Span) -> Text
     requires { ⌜ Part (length (now source)) (span .start) (span .end) ⌝ }
-    ensures { λ r. ⌜ textAs (now (sheet .entry)) r ≡ stringText (now (source .entry)) span (drop (c .at) (now (sheet .entry))) ⌝ }
-    ensures { λ r. ⌜ PastText (c .at) (length (now (sheet .entry))) r ⌝ }
+    ensures { λ r. ⌜ Told (textAs (now (sheet .entry)))
+        (stringText (now (source .entry)) span (drop (c .at) (now (sheet .entry))))
+        (PastText (c .at) (length (now (sheet .entry)))) r ⌝ }
 {
     let start = span.start;
     let end = span.end;
@@ -101,8 +105,9 @@ pub fn read_string_text(sheet: &[u8], source: &[u8], c: Cursor, span: Span) -> T
 
 // A String, with so many levels left, its own among them.
 pub fn read_quoted(sheet: &[u8], source: &[u8], c: Cursor, levels: usize) -> QuotedRead
-    ensures { λ r. ⌜ quotedAs (now (sheet .entry)) r ≡ quoted (now (source .entry)) levels (drop (c .at) (now (sheet .entry))) ⌝ }
-    ensures { λ r. ⌜ PastQuoted (c .at) (length (now (sheet .entry))) r ⌝ }
+    ensures { λ r. ⌜ Told (quotedAs (now (sheet .entry)))
+        (quoted (now (source .entry)) levels (drop (c .at) (now (sheet .entry))))
+        (PastQuoted (c .at) (length (now (sheet .entry)))) r ⌝ }
 {
     match read_tag_of(sheet, c, 1, levels) {
         Read::Refused(r) => QuotedRead::Refused(r),

@@ -1,5 +1,4 @@
 pub mod Agrees
-pub mod Answered
 pub mod Apart
 pub mod Blocks
 pub mod Braces

@@ -46,11 +46,11 @@ answered {p} K s = go (value (p s)) refl
         let (mode, same) = found-of m in
         record {
           import = jsDocImport.Import (length s - length q) (length s - length e) mode;
-          is = record { is = rw (ends-at a, ends-at (ends-trans a b), same); ordered = omega arith };
+          is = record { answer = rw (ends-at a, ends-at (ends-trans a b), same); bounds = omega arith };
           mark = λ i l. rw same;
           note = λ i l. refl;
         }
-    go none h = record { import = jsDocImport.Backtrace; is = record { is = refl; ordered = tt }; mark = λ i l. refl; note = λ i l. refl }
+    go none h = record { import = jsDocImport.Backtrace; is = record { answer = refl; bounds = tt }; mark = λ i l. refl; note = λ i l. refl }
 
 -- so one turn marks what the parser reads
 turned : {R : Bytes → Bytes → Bytes → Mode → Type 0} {p : Parser Hit} → Kind R p → (b : Bytes) (n : ℕ) → n < length b → {P : ℕ → Mode → Type 0} {l : List ℕ}

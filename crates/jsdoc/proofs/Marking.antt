@@ -48,8 +48,8 @@ module _ {R : Bytes → Bytes → Bytes → Mode → Type 0} {p : Parser Hit} (K
   pub found : (a e : ℕ) (m : ModeFound) → Imports (drop i b) (value (p (drop i b))) (jsDocImport.Import a e m) → From R b i (i + a) (modeAs m)
   found a e m r = record {
     end = i + e;
-    inside = omega (arith, r .ordered, length-drop i b);
-    reads = rw (drop-drop a i b, drop-drop e i b) at (K .agrees (drop i b) (drop a (drop i b)) (drop e (drop i b)) (modeAs m) .1 (sym (r .is)));
+    inside = omega (arith, r .bounds, length-drop i b);
+    reads = rw (drop-drop a i b, drop-drop e i b) at (K .agrees (drop i b) (drop a (drop i b)) (drop e (drop i b)) (modeAs m) .1 (sym (r .answer)));
   }
 
   pub room : (r : JsDocImport) → Imports (drop i b) (value (p (drop i b))) r → Room (length b) i r
@@ -82,7 +82,7 @@ module _ {R : Bytes → Bytes → Bytes → Mode → Type 0} {p : Parser Hit} (K
       (λ x y t. ⊎-elim inl (λ g. inr (only-one r g)) t)
       (λ y t. let (j, g) = listed (i + a) y t in one-place g w .1)
   marks-turn k listed jsDocImport.Backtrace r =
-      marks-iff (λ q m t. inl t) (λ q m t. ⊎-elim (λ x. x) (λ g. absurd (Option·none-ne-some _ (r .is ∙ K .agrees _ _ _ _ .0 (g .reads)))) t) k
+      marks-iff (λ q m t. inl t) (λ q m t. ⊎-elim (λ x. x) (λ g. absurd (Option·none-ne-some _ (r .answer ∙ K .agrees _ _ _ _ .0 (g .reads)))) t) k
 
 -- a reading begins inside the body
 pub from-below : {b : Bytes} {k q : ℕ} {m : Mode} → From Reading b k q m → k < length b

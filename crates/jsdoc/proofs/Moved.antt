@@ -22,7 +22,7 @@ module _ (s : Bytes) (i : ℕ) where
 
   module _ (h : i ≤ length s) where
     pub movable : length s < 2 ^ 64 → (mark : ℕ) (o : Parsed Bytes) (r : Text) → Spells (drop i s) 0 mark o r → Movable i r
-    movable l mark o (text.Part a b j) t = let (x, y, z, u, v) = t .ordered in (x, y, omega (arith, length-drop i s))
+    movable l mark o (text.Part a b j) t = let (x, y, z, u, v) = t .bounds in (x, y, omega (arith, length-drop i s))
     movable l mark o text.Backtrace t = tt
 
     part-moved : (a b : ℕ) → part (drop i s) a b ≡ part s (i + a) (i + b)
@@ -30,9 +30,9 @@ module _ (s : Bytes) (i : ℕ) where
 
     pub moved-text : (mark : ℕ) (o : Parsed Bytes) (r : Text) → Spells (drop i s) 0 mark o r → Spells s i mark o (moved i r)
     moved-text mark o (text.Part a b j) t =
-        let (x, y, z, u, v) = t .ordered in
-        record { is = rw (← part-moved a b, ← drop-drop j i s) (t .is); ordered = (omega arith, omega arith, omega (arith, length-drop i s), omega arith, omega arith) }
-    moved-text mark o text.Backtrace t = record { is = t .is; ordered = tt }
+        let (x, y, z, u, v) = t .bounds in
+        record { answer = rw (← part-moved a b, ← drop-drop j i s) (t .answer); bounds = (omega arith, omega arith, omega (arith, length-drop i s), omega arith, omega arith) }
+    moved-text mark o text.Backtrace t = record { answer = t .answer; bounds = tt }
 
     pub moved-mode : {o : Parsed Mode} {m : ModeFound} {j : ℕ} → o ≡ ok (modeAs m) (drop j (drop i s)) → j ≤ length (drop i s) → Gives s o (modeRead.Past m (i + j))
-    moved-mode {m} {j} e l = record { is = rw (← drop-drop j i s) (sym e); ordered = omega (arith, length-drop i s) }
+    moved-mode {m} {j} e l = record { answer = rw (← drop-drop j i s) (sym e); bounds = omega (arith, length-drop i s) }

@@ -39,7 +39,7 @@ module _ {R : Bytes → Bytes → Bytes → Mode → Type 0} {p : Parser Hit} (K
       (origins-note i (i + a) (place-below (with-kind f (K .reading (f .reads)))) o (λ k. behind k (i + a) (modeAs m) f))
   origins-turn {P} o behind jsDocImport.Backtrace r =
       origins-more (λ k q x. inl x)
-      (λ k q x. (k, omega arith, ⊎-elim (λ y. y) (λ y. absurd (Option·none-ne-some _ (r .is ∙ K .agrees _ _ _ _ .0 (y .1 .1 .reads)))) x)) o
+      (λ k q x. (k, omega arith, ⊎-elim (λ y. y) (λ y. absurd (Option·none-ne-some _ (r .answer ∙ K .agrees _ _ _ _ .0 (y .1 .1 .reads)))) x)) o
 
 -- the readings from the places before i
 abbrev pub Early : (Bytes → Bytes → Bytes → Mode → Type 0) → Bytes → ℕ → ℕ → ℕ → Type 0

@@ -49,16 +49,16 @@ module _ (s : Bytes) (i : ℕ) where
 
 pub no-brace : (s : Bytes) → tag (ascii "{") s ≡ backtrace → Scans s (record { found = jsDocImport.Backtrace; end = 0 })
 unfolding parseJsdocDynamicImport sought
-no-brace s e = record { import = record { is = rw e; ordered = tt }; end = rw e; inside = omega arith }
+no-brace s e = record { import = record { answer = rw e; bounds = tt }; end = rw e; inside = omega arith }
 
 module _ (s : Bytes) {a : Bytes} (i : ℕ) (t : tag (ascii "{") s ≡ ok tt a) (e : seek a ≡ drop i s) (h : i ≤ length s) where
   pub no-import : begins (ascii "import") (drop i s) ≡ false → Scans s (record { found = jsDocImport.Backtrace; end = i })
   unfolding parseJsdocDynamicImport parseCall sought word tag
-  no-import b = record { import = record { is = rw (t, e, b); ordered = tt }; end = rw (t, e); inside = h }
+  no-import b = record { import = record { answer = rw (t, e, b); bounds = tt }; end = rw (t, e); inside = h }
 
   pub call-read : {r : JsDocImport} → Imports s (value (parseCall (drop i s))) r → Scans s (record { found = r; end = i })
   unfolding parseJsdocDynamicImport sought
-  call-read r = record { import = record { is = rw (t, e) (r .is); ordered = r .ordered }; end = rw (t, e); inside = h }
+  call-read r = record { import = record { answer = rw (t, e) (r .answer); bounds = r .bounds }; end = rw (t, e); inside = h }
 
 -- ---- one end for all braces before it
 

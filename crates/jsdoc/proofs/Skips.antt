@@ -25,7 +25,7 @@ module _ (b : Bytes) (i r : ℕ) (l : i ≤ r) (h : r ≤ length b) {t : List �
 pub no-at : (b : Bytes) (k : ℕ) → k < length b → (getD b k 0 ≡ code "@" → ⊥)
     → Imports (drop k b) (value (parseJsdocImportDecl (drop k b))) jsDocImport.Backtrace
 unfolding parseJsdocImportDecl tag begins
-no-at b k l n = record { is = rw (cons-at b k l, ne-eqb (getD b k 0) (code "@") n); ordered = tt }
+no-at b k l n = record { answer = rw (cons-at b k l, ne-eqb (getD b k 0) (code "@") n); bounds = tt }
 
 module _ (b : Bytes) (i r : ℕ) (l : i ≤ r) (h : r ≤ length b) {t : List ℕ} where
   pub declarations-skip : ((k : ℕ) → i ≤ k → k < r → getD b k 0 ≡ code "@" → ⊥) → Marks (Besides b i) (length b) t → Marks (Besides b r) (length b) t

@@ -34,11 +34,11 @@ module _ (s : Bytes) (i : ℕ) where
 
     pub tag-found : i ≤ length s → begins w (drop i s) ≡ true → Finds s (tag w (drop i s)) (skipped.At (i + length w))
     unfolding tag
-    tag-found h e = record { is = rw (e, drop-drop (length w) i s); ordered = word-fits h e }
+    tag-found h e = record { answer = rw (e, drop-drop (length w) i s); bounds = word-fits h e }
 
     pub tag-missing : begins w (drop i s) ≡ false → Finds s (tag w (drop i s)) skipped.Backtrace
     unfolding tag
-    tag-missing e = record { is = rw e; ordered = tt }
+    tag-missing e = record { answer = rw e; bounds = tt }
 
   -- white space
   module _ {r : ℕ} (e : r ≡ i + runLength White (drop i s)) where
@@ -49,13 +49,13 @@ module _ (s : Bytes) (i : ℕ) where
     pub white-found : r ≤ length s → (r ≡ i → ⊥) → Finds s (whitespace (drop i s)) (skipped.At r)
     unfolding whitespace skip
     white-found h n = record {
-      is = rw (ne-eqb (runLength White (drop i s)) 0 (λ z. n (omega arith)), e, drop-drop (runLength White (drop i s)) i s);
-      ordered = h;
+      answer = rw (ne-eqb (runLength White (drop i s)) 0 (λ z. n (omega arith)), e, drop-drop (runLength White (drop i s)) i s);
+      bounds = h;
     }
 
     pub white-missing : r ≡ i → Finds s (whitespace (drop i s)) skipped.Backtrace
     unfolding whitespace
-    white-missing z = record { is = rw (eq-eqb (runLength White (drop i s)) 0 (omega arith)); ordered = tt }
+    white-missing z = record { answer = rw (eq-eqb (runLength White (drop i s)) 0 (omega arith)); bounds = tt }
 
   -- a run up to a byte
   module _ (m : ℕ) where
@@ -75,18 +75,18 @@ module _ (s : Bytes) (i : ℕ) where
 module _ (s : Bytes) {n : ℕ} (e : n ≡ classAt Alphabetic (drop 0 s)) where
   pub ident-missing : n ≡ 0 → Spells s 0 nameMark (parseIdent s) text.Backtrace
   unfolding parseIdent
-  ident-missing z = record { is = rw (← e, z); ordered = tt }
+  ident-missing z = record { answer = rw (← e, z); bounds = tt }
 
   pub ident-found : (n ≡ 0 → ⊥) → {r : ℕ} → r ≡ n + runLength NameRest (drop n s) → r ≤ length s → Spells s 0 nameMark (parseIdent s) (text.Part 0 r r)
   unfolding parseIdent pastIdent skip
   ident-found z {r} f h =
       let g : length s - length (drop r s) ≡ r = omega (arith, length-drop r s) in
-      record { is = rw (← e, ne-eqb n 0 z, drop-drop (runLength NameRest (drop n s)) n s, ← f, g, sub-zero); ordered = (omega arith, omega arith, h, omega arith, omega arith) }
+      record { answer = rw (← e, ne-eqb n 0 z, drop-drop (runLength NameRest (drop n s)) n s, ← f, g, sub-zero); bounds = (omega arith, omega arith, h, omega arith, omega arith) }
 
 -- a quote that begins the bytes
 pub quote-empty : (s : Bytes) → length s ≡ 0 → Spells s 0 quoteMark (parseQuote s) text.Backtrace
 unfolding parseQuote
-quote-empty [] h = record { is = refl; ordered = tt }
+quote-empty [] h = record { answer = refl; bounds = tt }
 quote-empty (x ∷ s) h = absurd (omega arith)
 
 quote-first : (s : Bytes) → (length s ≡ 0 → ⊥) → parseQuote s
@@ -97,11 +97,11 @@ quote-first (x ∷ s) n = refl
 
 module _ (s : Bytes) (n : length s ≡ 0 → ⊥) where
   pub quote-unmarked : isMark (getD s 0 0) ≡ false → Spells s 0 quoteMark (parseQuote s) text.Backtrace
-  quote-unmarked k = record { is = rw (quote-first s n, k); ordered = tt }
+  quote-unmarked k = record { answer = rw (quote-first s n, k); bounds = tt }
 
   module _ (k : isMark (getD s 0 0) ≡ true) where
     pub quote-open : upTo (getD s 0 0) (drop 1 s) ≡ backtrace → Spells s 0 quoteMark (parseQuote s) text.Backtrace
-    quote-open e = record { is = rw (quote-first s n, k, e); ordered = tt }
+    quote-open e = record { answer = rw (quote-first s n, k, e); bounds = tt }
 
     module _ {j : ℕ} (e : upTo (getD s 0 0) (drop 1 s) ≡ ok tt (drop j s)) (h : j ≤ length s) where
       pub quote-long : 2 ≤ j
@@ -112,4 +112,4 @@ module _ (s : Bytes) (n : length s ≡ 0 → ⊥) where
       pub quote-closed : Spells s 0 quoteMark (parseQuote s) (text.Part 1 (j - 1) j)
       quote-closed =
           let i : length (drop 1 s) - suc (length (drop j s)) ≡ j - 1 - 1 = omega (arith, length-drop 1 s, length-drop j s, quote-long) in
-          record { is = rw (quote-first s n, k, e, i); ordered = (omega (arith, quote-long), omega arith, h, omega arith, omega (arith, quote-long)) }
+          record { answer = rw (quote-first s n, k, e, i); bounds = (omega (arith, quote-long), omega arith, h, omega arith, omega (arith, quote-long)) }

@@ -7,6 +7,7 @@ use text::class::run_end;
 ghost use mathlib.Core.Path.{_≡_};
 ghost use Prim.Native.Nat.{_≤_};
 ghost use lib.ListN.{length, drop};
+ghost use Rattle.laws.specs.code.Told.{Bounded};
 ghost use Rattle.jsdoc.specs.Parsed.{ok};
 ghost use Rattle.jsdoc.specs.Reader.{skipWhitespace, whitespace, tag as tagOf, word as wordOf, upTo};
 ghost use Rattle.jsdoc.specs.code.Answers.{Finds};
@@ -14,8 +15,8 @@ ghost use Rattle.jsdoc.specs.code.Answers.{Finds};
 // Past the white space at `at`.
 pub fn skip_whitespace(s: &[u8], at: usize) -> usize
     requires { ⌜ at ≤ length (now s) ⌝ }
-    ensures { λ r. ⌜ ok tt (drop r (now (s .entry))) ≡ skipWhitespace (drop at (now (s .entry))) ⌝ }
-    ensures { λ r. ⌜ r ≤ length (now (s .entry)) ⌝ }
+    ensures { λ r. ⌜ Bounded (ok tt (drop r (now (s .entry))) ≡ skipWhitespace (drop at (now (s .entry))))
+        (r ≤ length (now (s .entry))) ⌝ }
 {
     run_end(s, at, Class::White)
 }

@@ -15,6 +15,7 @@ ghost use mathlib.Core.Path.{_≡_};
 ghost use mathlib.Core.List.{flatMap};
 ghost use Prim.Native.Nat.{ℕ, _*_, _≤_};
 ghost use lib.ListN.{length, getD, replicate};
+ghost use Rattle.laws.specs.code.Told.{Beside};
 ghost use Rattle.wire.specs.Fields.{valueOf};
 ghost use Rattle.sheet.specs.code.Tables.{commentsIn};
 ghost use Rattle.sheet.specs.Fit.{Fit};
@@ -148,10 +149,10 @@ pub fn analyze_jsdoc_imports(
 ) -> Place
     requires { ⌜ Commented (now source) (now comments) n (now index) ⌝ }
     requires { ⌜ now marks ≡ replicate (length (now source)) 0 ⌝ }
-    ensures { λ r. ⌜ bufferAs (now (out .exit)) r
-        ≡ wrote (bufferAs (now (out .entry)) place)
-        (encodeList encodeJsDoc (jsdocImports media (now (source .entry)) (commentsIn (now (comments .entry)) n))) ⌝ }
-    ensures { λ _. ⌜ now (marks .exit) ≡ marksIn media (now (source .entry)) (commentsIn (now (comments .entry)) n) ⌝ }
+    ensures { λ r. ⌜ Beside
+        (bufferAs (now (out .exit)) r
+        ≡ wrote (bufferAs (now (out .entry)) place) (encodeList encodeJsDoc (jsdocImports media (now (source .entry)) (commentsIn (now (comments .entry)) n))))
+        (now (marks .exit) ≡ marksIn media (now (source .entry)) (commentsIn (now (comments .entry)) n)) ⌝ }
 {
     if is_javascript(media) {
         mark_comments(source, comments, n, marks);

@@ -9,6 +9,7 @@ use text::position::build_index;
 ghost use Prim.Native.Nat.{_≤_};
 ghost use lib.ListN.{length};
 ghost use Rattle.laws.specs.code.Left.{Free};
+ghost use Rattle.laws.specs.code.Told.{Leaving};
 ghost use Rattle.sheet.specs.Limits.{tableNumbers};
 ghost use Rattle.sheet.specs.code.Tables.{commentsPart, groupsPart};
 ghost use Rattle.accept.specs.code.Accepts.{Accepts, Judges};
@@ -23,8 +24,9 @@ pub enum SheetJudged {
 
 // Checks a sheet. The table that only the check works in is here, so that its room on the stack is free again for what follows.
 fn check(sheet: &[u8], tables: &mut [u32; TABLE_NUMBERS]) -> SheetChecked
-    ensures { λ r. ⌜ Judges (now (sheet .entry)) (commentsPart (now (tables .exit))) (groupsPart (now (tables .exit))) r ⌝ }
-    ensures { λ _. ⌜ Free (now (tables .entry)) (now (tables .exit)) ⌝ }
+    ensures { λ r. ⌜ Leaving
+        (Judges (now (sheet .entry)) (commentsPart (now (tables .exit))) (groupsPart (now (tables .exit))) r)
+        (Free (now (tables .entry)) (now (tables .exit))) ⌝ }
 {
     let mut longest = [0u32; COMMENT_LIMIT];
     check_sheet(sheet, tables, &mut longest)
@@ -43,8 +45,8 @@ fn index_source(sheet: &[u8], parts: Parts, tables: &mut [u32])
 
 // Judges bytes. Of an accepted sheet the comments, the groups and the index of its source's positions are in the table then.
 pub fn judge(sheet: &[u8], tables: &mut [u32; TABLE_NUMBERS]) -> SheetJudged
-    ensures { λ r. ⌜ JudgesIn (now (sheet .entry)) (now (tables .exit)) r ⌝ }
-    ensures { λ _. ⌜ Free (now (tables .entry)) (now (tables .exit)) ⌝ }
+    ensures { λ r. ⌜ Leaving (JudgesIn (now (sheet .entry)) (now (tables .exit)) r)
+        (Free (now (tables .entry)) (now (tables .exit))) ⌝ }
 {
     if sheet.len() == 0 {
         return SheetJudged::Empty;

@@ -29,6 +29,7 @@ ghost use mathlib.Core.List.{List, []};
 ghost use Prim.Native.Nat.{ℕ};
 ghost use lib.ListN.{length, replicate};
 ghost use Rattle.laws.specs.Decoded.{ok};
+ghost use Rattle.laws.specs.code.Told.{Beside};
 ghost use Rattle.sheet.specs.Sheet.{Sheet, accept};
 ghost use Rattle.report.specs.declared.writer.Outcome.{Outcome};
 ghost use Rattle.report.specs.Buffer.{wrote, bufferAs};
@@ -262,8 +263,8 @@ pub fn module_info(sheet: &[u8], buffer: &mut [u8]) -> Outcome
 // The same report, with a row of two numbers for each dependency: where its node starts, and how many characters were replaced in its text. The first
 // of the notes says how many numbers follow it, the rows in order, as far as there is room. All else is zero, and all of them on a refusal.
 pub fn module_info_with_replaced(sheet: &[u8], buffer: &mut [u8], notes: &mut [usize]) -> Outcome
-    ensures { λ r. ⌜ Demands (now (sheet .entry)) (length (now (buffer .entry))) r (now (buffer .exit)) ⌝ }
-    ensures { λ r. ⌜ NotesRight (now (sheet .entry)) (length (now (notes .entry))) (outcomeAs r (now (buffer .exit)) .number) (now (notes .exit)) ⌝ }
+    ensures { λ r. ⌜ Beside (Demands (now (sheet .entry)) (length (now (buffer .entry))) r (now (buffer .exit)))
+        (NotesRight (now (sheet .entry)) (length (now (notes .entry))) (outcomeAs r (now (buffer .exit)) .number) (now (notes .exit))) ⌝ }
 {
     let mut tables = [0u32; TABLE_NUMBERS];
     clear_notes(notes);

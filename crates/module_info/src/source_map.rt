@@ -19,6 +19,7 @@ ghost use mathlib.Core.List.{[]};
 ghost use Prim.Native.Nat.{_+_, _<_, _^_};
 ghost use lib.ListN.{length};
 ghost use Rattle.laws.specs.Decoded.{ok};
+ghost use Rattle.laws.specs.code.Told.{Bounded};
 ghost use Rattle.sheet.specs.Sheet.{Sheet, accept};
 ghost use Rattle.report.specs.Range.{IndexOf};
 ghost use Rattle.pragmas.specs.SourceMap.{standardMap};
@@ -64,8 +65,9 @@ fn locate(source: &[u8], index: &[u32], base: usize, reading: Reading) -> Source
 // The source map of an accepted sheet.
 fn read_source_map(sheet: &[u8], parts: Parts, tables: &[u32]) -> SourceMap
     requires { ⌜ AcceptsIn (now sheet) (now tables) parts ⌝ }
-    ensures { λ r. ⌜ ((t : Sheet) → accept (now (sheet .entry)) ≡ ok t [] → mapAs (now (sheet .entry)) r ≡ given (standardMap t)) ⌝ }
-    ensures { λ r. ⌜ TextInside (now (sheet .entry)) r ⌝ }
+    ensures { λ r. ⌜ Bounded
+        ((t : Sheet) → accept (now (sheet .entry)) ≡ ok t [] → mapAs (now (sheet .entry)) r ≡ given (standardMap t))
+        (TextInside (now (sheet .entry)) r) ⌝ }
 {
     let start = parts.source_start;
     let end = parts.source_end;

@@ -33,6 +33,7 @@ ghost use mathlib.Core.Path.{_≡_};
 ghost use Prim.Native.Nat.{_≤_};
 ghost use lib.ListN.{length, drop};
 ghost use Rattle.laws.specs.Decoded.{onOk};
+ghost use Rattle.laws.specs.code.Told.{Bounded, Told};
 ghost use Rattle.sheet.specs.Nodes.{node, nodes, arguments, propertyItem, properties, callRest, typeRest, attributesObject};
 ghost use Rattle.sheet.specs.declared.fields.Span.{Span};
 ghost use Rattle.heads.specs.code.Rest.{behind, rest};
@@ -42,8 +43,9 @@ ghost use Rattle.nodes.specs.code.Answers.{checkedAs, talliedAs, passedA
 
 // The node at a cursor, with so many levels left, its own among them.
 pub fn check_node(sheet: &[u8], source: &[u8], c: Cursor, levels: usize) -> Checked
-    ensures { λ r. ⌜ checkedAs (now (sheet .entry)) r ≡ onOk judged (node (now (source .entry)) levels (drop (c .at) (now (sheet .entry)))) ⌝ }
-    ensures { λ r. ⌜ PastChecked (c .at) (length (now (sheet .entry))) r ⌝ }
+    ensures { λ r. ⌜ Told (checkedAs (now (sheet .entry)))
+        (onOk judged (node (now (source .entry)) levels (drop (c .at) (now (sheet .entry)))))
+        (PastChecked (c .at) (length (now (sheet .entry)))) r ⌝ }
 {
     match read_head(sheet, source, c, levels) {
         HeadRead::Refused(r) => Checked::Refused(r),
@@ -54,9 +56,11 @@ pub fn check_node(sheet: &[u8], source: &[u8], c: Cursor, levels: usize) -> Chec
 // What follows a head, with so many levels left below its node.
 fn check_rest(sheet: &[u8], source: &[u8], c: Cursor, levels: usize, head: Head) -> Checked
     requires { ⌜ Begun (length (now sheet)) (c .at) head ⌝ }
-    ensures { λ r. ⌜ ((sp : Span) → checkedAs (now (sheet .entry)) r
-        ≡ onOk judged (rest (now (source .entry)) levels (sp, headOf (now (sheet .entry)) head) (drop (c .at) (now (sheet .entry))))) ⌝ }
-    ensures { λ r. ⌜ PastRest (c .at) (length (now (sheet .entry))) r ⌝ }
+    ensures { λ r. ⌜ Bounded
+        ((sp : Span)
+        → checkedAs (now (sheet .entry)) r
+        ≡ onOk judged (rest (now (source .entry)) levels (sp, headOf (now (sheet .entry)) head) (drop (c .at) (now (sheet .entry)))))
+        (PastRest (c .at) (length (now (sheet .entry))) r) ⌝ }
 {
     match head {
         Head::Other(n) => holding(false, false, check_nodes(sheet, source, c, n, levels)),
@@ -97,8 +101,9 @@ fn check_rest(sheet: &[u8], source: &[u8], c: Cursor, levels: usize, head: Head)
 // So many nodes, one after the other.
 pub fn check_nodes(sheet: &[u8], source: &[u8], c: Cursor, count: usize, levels: usize) -> Tallied
     requires { ⌜ c .at ≤ length (now sheet) ⌝ }
-    ensures { λ r. ⌜ talliedAs (now (sheet .entry)) r ≡ onOk tallyAll (nodes (node (now (source .entry)) levels) count (drop (c .at) (now (sheet .entry)))) ⌝ }
-    ensures { λ r. ⌜ PastTally (c .at) (length (now (sheet .entry))) r ⌝ }
+    ensures { λ r. ⌜ Told (talliedAs (now (sheet .entry)))
+        (onOk tallyAll (nodes (node (now (source .entry)) levels) count (drop (c .at) (now (sheet .entry)))))
+        (PastTally (c .at) (length (now (sheet .entry)))) r ⌝ }
 {
     let mut left = count;
     let mut at = c;
@@ -136,9 +141,9 @@ fn check_arguments(
     levels: usize,
 ) -> PassedRead
     requires { ⌜ c .at ≤ length (now sheet) ⌝ }
-    ensures { λ r. ⌜ passedAs (now (sheet .entry)) r
-        ≡ onOk passed (arguments (node (now (source .entry)) levels) (now (source .entry)) count (drop (c .at) (now (sheet .entry)))) ⌝ }
-    ensures { λ r. ⌜ PastPassed (c .at) (length (now (sheet .entry))) r ⌝ }
+    ensures { λ r. ⌜ Told (passedAs (now (sheet .entry)))
+        (onOk passed (arguments (node (now (source .entry)) levels) (now (source .entry)) count (drop (c .at) (now (sheet .entry)))))
+        (PastPassed (c .at) (length (now (sheet .entry)))) r ⌝ }
 {
     let mut left = count;
     let mut at = c;
@@ -170,9 +175,9 @@ fn check_arguments(
 
 // What follows the callee of a call: arguments and further children.
 fn check_call(sheet: &[u8], source: &[u8], c: Cursor, levels: usize) -> PassedRead
-    ensures { λ r. ⌜ passedAs (now (sheet .entry)) r
-        ≡ onOk passedAll (callRest (node (now (source .entry)) levels) (now (source .entry)) (drop (c .at) (now (sheet .entry)))) ⌝ }
-    ensures { λ r. ⌜ PastPassed (c .at) (length (now (sheet .entry))) r ⌝ }
+    ensures { λ r. ⌜ Told (passedAs (now (sheet .entry)))
+        (onOk passedAll (callRest (node (now (source .entry)) levels) (now (source .entry)) (drop (c .at) (now (sheet .entry)))))
+        (PastPassed (c .at) (length (now (sheet .entry)))) r ⌝ }
 {
     match c.number(sheet) {
         Read::Refused(r) => PassedRead::Refused(r),
@@ -190,8 +195,9 @@ fn check_call(sheet: &[u8], source: &[u8], c: Cursor, levels: usize) -> PassedRe
 
 // A property: its key, if that is a node, and its value.
 pub fn check_property(sheet: &[u8], source: &[u8], c: Cursor, levels: usize) -> Tallied
-    ensures { λ r. ⌜ talliedAs (now (sheet .entry)) r ≡ onOk gain (propertyItem (node (now (source .entry)) levels) (drop (c .at) (now (sheet .entry)))) ⌝ }
-    ensures { λ r. ⌜ PastTally (c .at) (length (now (sheet .entry))) r ⌝ }
+    ensures { λ r. ⌜ Told (talliedAs (now (sheet .entry)))
+        (onOk gain (propertyItem (node (now (source .entry)) levels) (drop (c .at) (now (sheet .entry)))))
+        (PastTally (c .at) (length (now (sheet .entry)))) r ⌝ }
 {
     match read_property(sheet, c) {
         PropertyRead::Refused(r) => Tallied::Refused(r),
@@ -202,9 +208,9 @@ pub fn check_property(sheet: &[u8], source: &[u8], c: Cursor, levels: usize) -> 
 // So many properties.
 fn check_properties(sheet: &[u8], source: &[u8], c: Cursor, count: usize, levels: usize) -> Tallied
     requires { ⌜ c .at ≤ length (now sheet) ⌝ }
-    ensures { λ r. ⌜ talliedAs (now (sheet .entry)) r
-        ≡ onOk tallyIn (properties (node (now (source .entry)) levels) count (drop (c .at) (now (sheet .entry)))) ⌝ }
-    ensures { λ r. ⌜ PastTally (c .at) (length (now (sheet .entry))) r ⌝ }
+    ensures { λ r. ⌜ Told (talliedAs (now (sheet .entry)))
+        (onOk tallyIn (properties (node (now (source .entry)) levels) count (drop (c .at) (now (sheet .entry)))))
+        (PastTally (c .at) (length (now (sheet .entry)))) r ⌝ }
 {
     let mut left = count;
     let mut at = c;
@@ -236,9 +242,9 @@ pub fn check_attributes(
     levels: usize,
 ) -> Tallied
     requires { ⌜ c .at ≤ length (now sheet) ⌝ }
-    ensures { λ r. ⌜ talliedAs (now (sheet .entry)) r
-        ≡ onOk tallyWith (behind there (attributesObject (now (source .entry)) levels) (drop (c .at) (now (sheet .entry)))) ⌝ }
-    ensures { λ r. ⌜ PastTally (c .at) (length (now (sheet .entry))) r ⌝ }
+    ensures { λ r. ⌜ Told (talliedAs (now (sheet .entry)))
+        (onOk tallyWith (behind there (attributesObject (now (source .entry)) levels) (drop (c .at) (now (sheet .entry)))))
+        (PastTally (c .at) (length (now (sheet .entry)))) r ⌝ }
 {
     if there {
         return match read_attributes(sheet, source, c, levels) {
@@ -260,9 +266,9 @@ pub fn check_attributes(
 // What follows the head of an import type: children and attributes.
 fn check_typed(sheet: &[u8], source: &[u8], c: Cursor, count: usize, levels: usize) -> Tallied
     requires { ⌜ c .at ≤ length (now sheet) ⌝ }
-    ensures { λ r. ⌜ talliedAs (now (sheet .entry)) r
-        ≡ onOk tallyTyped (typeRest (node (now (source .entry)) levels) (attributesObject (now (source .entry)) levels) count (drop (c .at) (now (sheet .entry)))) ⌝ }
-    ensures { λ r. ⌜ PastTally (c .at) (length (now (sheet .entry))) r ⌝ }
+    ensures { λ r. ⌜ Told (talliedAs (now (sheet .entry)))
+        (onOk tallyTyped (typeRest (node (now (source .entry)) levels) (attributesObject (now (source .entry)) levels) count (drop (c .at) (now (sheet .entry)))))
+        (PastTally (c .at) (length (now (sheet .entry)))) r ⌝ }
 {
     match check_nodes(sheet, source, c, count, levels) {
         Tallied::Refused(r) => Tallied::Refused(r),

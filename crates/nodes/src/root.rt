@@ -14,6 +14,7 @@ ghost use mathlib.Core.List.{List};
 ghost use Prim.Native.Nat.{ℕ, _≤_};
 ghost use lib.ListN.{length, drop};
 ghost use Rattle.laws.specs.Decoded.{ok, onOk};
+ghost use Rattle.laws.specs.code.Told.{Reaching};
 ghost use Rattle.sheet.specs.Tree.{Node, Nodes};
 ghost use Rattle.sheet.specs.Nodes.{node, nodes};
 ghost use Rattle.nodes.specs.code.Judged.{judged, tallyAll};
@@ -45,10 +46,11 @@ fn further(reach: usize, entries: usize, here: usize) -> usize
 // So many children, one after the other.
 fn check_children(sheet: &[u8], source: &[u8], c: Cursor, count: usize, levels: usize) -> Children
     requires { ⌜ c .at ≤ length (now sheet) ⌝ }
-    ensures { λ r. ⌜ talliedAs (now (sheet .entry)) (r .tallied)
-        ≡ onOk tallyAll (nodes (node (now (source .entry)) levels) count (drop (c .at) (now (sheet .entry)))) ⌝ }
-    ensures { λ r. ⌜ PastTally (c .at) (length (now (sheet .entry))) (r .tallied) ⌝ }
-    ensures { λ r. ⌜ ((ns : Nodes) (t : List ℕ)
+    ensures { λ r. ⌜ Reaching
+        (talliedAs (now (sheet .entry)) (r .tallied)
+        ≡ onOk tallyAll (nodes (node (now (source .entry)) levels) count (drop (c .at) (now (sheet .entry)))))
+        (PastTally (c .at) (length (now (sheet .entry))) (r .tallied))
+        ((ns : Nodes) (t : List ℕ)
         → nodes (node (now (source .entry)) levels) count (drop (c .at) (now (sheet .entry))) ≡ ok ns t
         → Reaches (r .reach) ns) ⌝ }
 {
@@ -85,9 +87,13 @@ fn check_children(sheet: &[u8], source: &[u8], c: Cursor, count: usize, levels: 
 
 // The root at a cursor, as `check_node` has it.
 pub fn check_root(sheet: &[u8], source: &[u8], c: Cursor, levels: usize) -> Root
-    ensures { λ r. ⌜ checkedAs (now (sheet .entry)) (r .checked) ≡ onOk judged (node (now (source .entry)) levels (drop (c .at) (now (sheet .entry)))) ⌝ }
-    ensures { λ r. ⌜ PastChecked (c .at) (length (now (sheet .entry))) (r .checked) ⌝ }
-    ensures { λ r. ⌜ ((n : Node) (t : List ℕ) → node (now (source .entry)) levels (drop (c .at) (now (sheet .entry))) ≡ ok n t → ReachesIn (r .reach) n) ⌝ }
+    ensures { λ r. ⌜ Reaching
+        (checkedAs (now (sheet .entry)) (r .checked)
+        ≡ onOk judged (node (now (source .entry)) levels (drop (c .at) (now (sheet .entry)))))
+        (PastChecked (c .at) (length (now (sheet .entry))) (r .checked))
+        ((n : Node) (t : List ℕ)
+        → node (now (source .entry)) levels (drop (c .at) (now (sheet .entry))) ≡ ok n t
+        → ReachesIn (r .reach) n) ⌝ }
 {
     match read_head(sheet, source, c, levels) {
         HeadRead::Refused(r) => {

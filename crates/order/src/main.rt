@@ -15,6 +15,7 @@ ghost use mathlib.Core.Path.{_≡_};
 ghost use mathlib.Core.List.{[], _++_};
 ghost use Prim.Native.Nat.{_+_, _*_, _≤_};
 ghost use lib.ListN.{length, take};
+ghost use Rattle.laws.specs.code.Told.{Bounded};
 ghost use Rattle.report.specs.Buffer.{holds, wrote, bufferAs};
 ghost use Rattle.citation.specs.Citation.{decimal};
 ghost use Rattle.delivery.specs.Order.{notInOrder, refused, orderOf};
@@ -53,9 +54,10 @@ fn put_refused(line: &mut [u8], number: u8, index: usize) -> Place
 
 // Writes the line for a delivery.
 fn put_order(delivery: &[u8], work: &mut [u8], line: &mut [u8]) -> Place
-    ensures { λ r. ⌜ bufferAs (now (line .exit)) r
-        ≡ wrote (holds (length (now (line .entry))) []) (printedAnswer (orderOf (length (now (work .entry))) (now (delivery .entry)))) ⌝ }
-    ensures { λ _. ⌜ length (printedAnswer (orderOf (length (now (work .entry))) (now (delivery .entry)))) ≤ 4 * length (now (work .entry)) + 64 ⌝ }
+    ensures { λ r. ⌜ Bounded
+        (bufferAs (now (line .exit)) r
+        ≡ wrote (holds (length (now (line .entry))) []) (printedAnswer (orderOf (length (now (work .entry))) (now (delivery .entry)))))
+        (length (printedAnswer (orderOf (length (now (work .entry))) (now (delivery .entry)))) ≤ 4 * length (now (work .entry)) + 64) ⌝ }
 {
     match judge(delivery, work) {
         Judgement::InOrder => (Place { at: 0 }).put_bytes(line, b"in order\n"),
@@ -73,8 +75,9 @@ fn put_order(delivery: &[u8], work: &mut [u8], line: &mut [u8]) -> Place
 fn print_order(delivery: &[u8], work: &mut [u8], line: &mut [u8]) -> usize
     requires { ⌜ length (now work) ≡ workRoom ⌝ }
     requires { ⌜ lineRoom ≤ length (now line) ⌝ }
-    ensures { λ r. ⌜ (r ≡ length (printedOrder (now (delivery .entry)))) × (take r (now (line .exit)) ≡ printedOrder (now (delivery .entry))) ⌝ }
-    ensures { λ r. ⌜ r ≤ length (now (line .exit)) ⌝ }
+    ensures { λ r. ⌜ Bounded
+        ((r ≡ length (printedOrder (now (delivery .entry)))) × (take r (now (line .exit)) ≡ printedOrder (now (delivery .entry))))
+        (r ≤ length (now (line .exit))) ⌝ }
 {
     let place = put_order(delivery, work, line);
     written(line, place)

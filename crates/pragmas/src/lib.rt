@@ -18,6 +18,7 @@ use sheet::lookups::find_group;
 use sheet::names::MediaType;
 use sheet::names::Side;
 ghost use mathlib.Core.Path.{_≡_};
+ghost use Rattle.laws.specs.code.Told.{Told};
 ghost use Rattle.wire.specs.Optional.{encodeOptional};
 ghost use Rattle.sheet.specs.code.Tables.{commentsIn, groupsIn};
 ghost use Rattle.sheet.specs.Fit.{Placed};
@@ -78,8 +79,9 @@ pub fn analyze_source_map_url(
 // What the ts-types pattern reads in a comment, or else the deno-types one.
 fn read_types(source: &[u8], c: Comment) -> Reading
     requires { ⌜ Placed (now source) c ⌝ }
-    ensures { λ r. ⌜ readAs (now (source .entry)) r ≡ tsOrDenoTypes (now (source .entry)) c ⌝ }
-    ensures { λ r. ⌜ ReadIn (now (source .entry)) r ⌝ }
+    ensures { λ r. ⌜ Told (readAs (now (source .entry)))
+        (tsOrDenoTypes (now (source .entry)) c)
+        (ReadIn (now (source .entry))) r ⌝ }
 {
     let reading = read(source, c, Rule::TsTypes);
     if let Reading::Of(_, _) = reading {

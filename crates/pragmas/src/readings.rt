@@ -25,6 +25,7 @@ use sheet::names::is_jsx;
 ghost use mathlib.Core.Path.{_≡_};
 ghost use Prim.Native.Nat.{_-_, _*_, _≤_};
 ghost use lib.ListN.{length};
+ghost use Rattle.laws.specs.code.Told.{Bounded, Told};
 ghost use Rattle.wire.specs.Optional.{encodeOptional};
 ghost use Rattle.analysis.specs.Place.{Inside, Within};
 ghost use Rattle.sheet.specs.code.Tables.{commentsIn};
@@ -64,8 +65,7 @@ pub enum Reading {
 
 // The finder of a rule.
 fn find_by(body: &[u8], rule: Rule) -> Found
-    ensures { λ r. ⌜ r ≡ findRule rule (now (body .entry)) ⌝ }
-    ensures { λ r. ⌜ Within r (length (now (body .entry))) ⌝ }
+    ensures { λ r. ⌜ Bounded (r ≡ findRule rule (now (body .entry))) (Within r (length (now (body .entry)))) ⌝ }
 {
     match rule {
         Rule::TsSelfTypes => find_ts_self_types(body),
@@ -111,8 +111,7 @@ fn asks_media(rule: Rule, media: MediaType) -> bool
 // What a rule reads in a comment.
 pub fn read(source: &[u8], c: Comment, rule: Rule) -> Reading
     requires { ⌜ Placed (now source) c ⌝ }
-    ensures { λ r. ⌜ takenAs r ≡ takenBy rule (now (source .entry)) c ⌝ }
-    ensures { λ r. ⌜ ReadIn (now (source .entry)) r ⌝ }
+    ensures { λ r. ⌜ Told takenAs (takenBy rule (now (source .entry)) c) (ReadIn (now (source .entry))) r ⌝ }
 {
     let kind = c.kind;
     if takes(rule, kind) {
@@ -136,8 +135,9 @@ fn reading_between(
 ) -> Reading
     requires { ⌜ (3 * n ≤ length (now comments)) × (start ≤ end) × (end ≤ n) ⌝ }
     requires { ⌜ Fit (now source) (commentsIn (now comments) n) ⌝ }
-    ensures { λ r. ⌜ takenAs r ≡ counted counts (takenBy rule (now (source .entry))) (commentsFrom (now (comments .entry)) start end) ⌝ }
-    ensures { λ r. ⌜ ReadIn (now (source .entry)) r ⌝ }
+    ensures { λ r. ⌜ Told takenAs
+        (counted counts (takenBy rule (now (source .entry))) (commentsFrom (now (comments .entry)) start end))
+        (ReadIn (now (source .entry))) r ⌝ }
 {
     let mut from = start;
     let mut to = end;
@@ -174,9 +174,9 @@ pub fn find_reading(
     requires { ⌜ 3 * n ≤ length (now comments) ⌝ }
     requires { ⌜ Fit (now source) (commentsIn (now comments) n) ⌝ }
     requires { ⌜ Reached n (foundAs found) ⌝ }
-    ensures { λ r. ⌜ takenAs r
-        ≡ counted counts (takenBy rule (now (source .entry))) (inGroup (commentsIn (now (comments .entry)) n) (foundAs found)) ⌝ }
-    ensures { λ r. ⌜ ReadIn (now (source .entry)) r ⌝ }
+    ensures { λ r. ⌜ Told takenAs
+        (counted counts (takenBy rule (now (source .entry))) (inGroup (commentsIn (now (comments .entry)) n) (foundAs found)))
+        (ReadIn (now (source .entry))) r ⌝ }
 {
     match found {
         GroupFound::At(g) => {
@@ -206,10 +206,9 @@ pub fn first_reading(
     requires { ⌜ 3 * n ≤ length (now comments) ⌝ }
     requires { ⌜ Fit (now source) (commentsIn (now comments) n) ⌝ }
     requires { ⌜ Reached n (foundAs found) ⌝ }
-    ensures { λ r. ⌜ takenAs r
-        ≡ firstOf (takenBy rule (now (source .entry)))
-        (givenTo (asked rule) media (inGroup (commentsIn (now (comments .entry)) n) (foundAs found))) ⌝ }
-    ensures { λ r. ⌜ ReadIn (now (source .entry)) r ⌝ }
+    ensures { λ r. ⌜ Told takenAs
+        (firstOf (takenBy rule (now (source .entry))) (givenTo (asked rule) media (inGroup (commentsIn (now (comments .entry)) n) (foundAs found))))
+        (ReadIn (now (source .entry))) r ⌝ }
 {
     if asks_media(rule, media) {
         return find_reading(source, comments, n, found, Counts::First, rule);

@@ -20,6 +20,7 @@ ghost use mathlib.Core.Path.{_≡_};
 ghost use Prim.Native.Nat.{_*_, _≤_};
 ghost use lib.ListN.{length};
 ghost use mathlib.Core.List.{flatMap};
+ghost use Rattle.laws.specs.code.Told.{Told};
 ghost use Rattle.analysis.specs.Row.{find};
 ghost use Rattle.analysis.specs.Patterns.{resolutionModeRow};
 ghost use Rattle.analysis.specs.code.Mode.{modeAs};
@@ -54,8 +55,9 @@ fn resolution_mode(body: &[u8]) -> ModeFound
 // The reference of a comment.
 pub fn read_reference(source: &[u8], c: Comment) -> Reference
     requires { ⌜ Placed (now source) c ⌝ }
-    ensures { λ r. ⌜ referenceAs (now (source .entry)) c r ≡ reference (now (source .entry)) c ⌝ }
-    ensures { λ r. ⌜ ReferenceIn (now (source .entry)) c r ⌝ }
+    ensures { λ r. ⌜ Told (referenceAs (now (source .entry)) c)
+        (reference (now (source .entry)) c)
+        (ReferenceIn (now (source .entry)) c) r ⌝ }
 {
     let kind = c.kind;
     if is_block(kind) {

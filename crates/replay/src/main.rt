@@ -12,6 +12,7 @@ ghost use mathlib.Core.List.{List};
 ghost use Prim.Native.Nat.{ℕ, _+_, _≤_};
 ghost use lib.ListN.{length, drop};
 ghost use Rattle.laws.specs.Decoded.{ok, onOk};
+ghost use Rattle.laws.specs.code.Told.{Bounded, Told};
 ghost use Rattle.text.specs.Bytes.{same};
 ghost use Rattle.text.specs.Truth.{one};
 ghost use Rattle.report.specs.Answer.{outcomeAs};
@@ -57,8 +58,8 @@ enum Tally {
 // A number of four bytes.
 fn number_at(list: &[u8], at: usize) -> usize
     requires { ⌜ at + 4 ≤ length (now list) ⌝ }
-    ensures { λ r. ⌜ fourBytes (drop at (now (list .entry))) ≡ ok r (drop (at + 4) (now (list .entry))) ⌝ }
-    ensures { λ r. ⌜ r ≤ 4294967295 ⌝ }
+    ensures { λ r. ⌜ Bounded (fourBytes (drop at (now (list .entry))) ≡ ok r (drop (at + 4) (now (list .entry))))
+        (r ≤ 4294967295) ⌝ }
 {
     let low = byte_at(list, at) + 256 * byte_at(list, at + 1);
     let high = byte_at(list, at + 2) + 256 * byte_at(list, at + 3);
@@ -67,8 +68,9 @@ fn number_at(list: &[u8], at: usize) -> usize
 
 // A length at a place, and so many bytes behind it.
 fn part_at(list: &[u8], at: usize) -> Part
-    ensures { λ r. ⌜ partAs (now (list .entry)) r ≡ piece (drop at (now (list .entry))) ⌝ }
-    ensures { λ r. ⌜ Within (length (now (list .entry))) r ⌝ }
+    ensures { λ r. ⌜ Told (partAs (now (list .entry)))
+        (piece (drop at (now (list .entry))))
+        (Within (length (now (list .entry)))) r ⌝ }
 {
     if list.len() < 4 {
         return Part::Missing;
@@ -154,8 +156,9 @@ fn run(sheet: &[u8], number: u8, report: &[u8], buffer: &mut [u8]) -> Ran
 
 // Runs the sheet at a place of the list.
 fn replay_one(list: &[u8], at: usize, buffer: &mut [u8]) -> Step
-    ensures { λ r. ⌜ stepAs (now (list .entry)) r ≡ onOk (ranOf (length (now (buffer .entry)))) (row (drop at (now (list .entry)))) ⌝ }
-    ensures { λ r. ⌜ NextWithin (length (now (list .entry))) r ⌝ }
+    ensures { λ r. ⌜ Told (stepAs (now (list .entry)))
+        (onOk (ranOf (length (now (buffer .entry)))) (row (drop at (now (list .entry)))))
+        (NextWithin (length (now (list .entry)))) r ⌝ }
 {
     match part_at(list, at) {
         Part::Bytes(start, end) => {
@@ -185,8 +188,7 @@ impl Counts {
     // Counts a sheet.
     fn with(self, ran: Ran) -> Counts
         requires { ⌜ Room 1 self ⌝ }
-        ensures { λ r. ⌜ r ≡ counted self ran ⌝ }
-        ensures { λ r. ⌜ ((left : ℕ) → Room (1 + left) self → Room left r) ⌝ }
+        ensures { λ r. ⌜ Bounded (r ≡ counted self ran) ((left : ℕ) → Room (1 + left) self → Room left r) ⌝ }
     {
         let accepted = one_if(ran.accepted);
         let refused = one_if(!ran.accepted);
@@ -217,8 +219,7 @@ fn print_line(n: u64, what: &[u8]) {
 
 // Runs every sheet of the list.
 fn replay(list: &[u8], buffer: &mut [u8]) -> Tally
-    ensures { λ r. ⌜ r ≡ tallyOf (length (now (buffer .entry))) (storedRows (now (list .entry))) ⌝ }
-    ensures { λ r. ⌜ Printable r ⌝ }
+    ensures { λ r. ⌜ Bounded (r ≡ tallyOf (length (now (buffer .entry))) (storedRows (now (list .entry)))) (Printable r) ⌝ }
 {
     if list.len() < 4 {
         return Tally::Odd;

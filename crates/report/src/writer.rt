@@ -14,6 +14,7 @@ ghost use Rattle.report.specs.Encode.{encodePosition, encodeRange, encod
 ghost use Rattle.report.specs.Range.{rangeOf, InSource, IndexOf};
 ghost use Rattle.report.specs.Buffer.{fullPlace, wrote, bufferAs};
 ghost use Rattle.report.specs.Answer.{clearedFrom, refusedWith, answered, outcomeAs};
+ghost use Rattle.report.specs.code.Lossy.{Replacing};
 
 // The place that stands for full: no buffer is so long. One number, and not a flag beside the place: two are copied as one through memory
 // at each call, right after they are stored one by one, and the processor waits for that.
@@ -116,8 +117,9 @@ impl Place {
 
     // Writes the bytes of a text in WTF-8, with U+FFFD for each surrogate, and counts these.
     fn put_lossy(self, out: &mut [u8], s: &[u8]) -> Lossy
-        ensures { λ r. ⌜ bufferAs (now (out .exit)) (r .place) ≡ wrote (bufferAs (now (out .entry)) self) (lossy (now (s .entry))) ⌝ }
-        ensures { λ r. ⌜ r .replaced ≡ replaced (now (s .entry)) ⌝ }
+        ensures { λ r. ⌜ Replacing
+            (bufferAs (now (out .exit)) (r .place) ≡ wrote (bufferAs (now (out .entry)) self) (lossy (now (s .entry))))
+            (r .replaced ≡ replaced (now (s .entry))) ⌝ }
     {
         let mut p = self;
         let mut i = 0;
@@ -140,8 +142,9 @@ impl Place {
 
     // Writes a text in WTF-8, with U+FFFD for each surrogate.
     pub fn put_lossy_text(self, out: &mut [u8], s: &[u8]) -> Lossy
-        ensures { λ r. ⌜ bufferAs (now (out .exit)) (r .place) ≡ wrote (bufferAs (now (out .entry)) self) (encodeText (lossy (now (s .entry)))) ⌝ }
-        ensures { λ r. ⌜ r .replaced ≡ replaced (now (s .entry)) ⌝ }
+        ensures { λ r. ⌜ Replacing
+            (bufferAs (now (out .exit)) (r .place) ≡ wrote (bufferAs (now (out .entry)) self) (encodeText (lossy (now (s .entry)))))
+            (r .replaced ≡ replaced (now (s .entry))) ⌝ }
     {
         let p = self.put_number(out, s.len());
         p.put_lossy(out, s)
@@ -205,10 +208,10 @@ impl Place {
         span: Span,
     ) -> Lossy
         requires { ⌜ IndexOf (now source) (now index) × InSource (now source) span ⌝ }
-        ensures { λ r. ⌜ bufferAs (now (out .exit)) (r .place)
-            ≡ wrote (bufferAs (now (out .entry)) self)
-            (encodeSpecifier (record { text = lossy (now (text .entry)); range = rangeOf (now (source .entry)) span })) ⌝ }
-        ensures { λ r. ⌜ r .replaced ≡ replaced (now (text .entry)) ⌝ }
+        ensures { λ r. ⌜ Replacing
+            (bufferAs (now (out .exit)) (r .place)
+            ≡ wrote (bufferAs (now (out .entry)) self) (encodeSpecifier (record { text = lossy (now (text .entry)); range = rangeOf (now (source .entry)) span })))
+            (r .replaced ≡ replaced (now (text .entry))) ⌝ }
     {
         let written = self.put_lossy_text(out, text);
         let p = written.place;

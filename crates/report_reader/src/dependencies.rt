@@ -8,6 +8,7 @@ use super::fields::skip_optional_specifier;
 use report::names::DependencyKind;
 use report::names::StaticDependencyKind;
 use report::names::dependency_kind;
+ghost use Rattle.laws.specs.code.Told.{Bounded};
 ghost use Rattle.report.specs.Encode.{encodeArgument};
 ghost use Rattle.report.specs.Valid.{ValidArgument};
 ghost use Rattle.report_reader.specs.code.Reads.{Skips};
@@ -43,8 +44,7 @@ fn skip_argument(report: &[u8], at: usize) -> usize
 
 // A dependency.
 pub fn read_dependency(report: &[u8], at: usize) -> DependencyRead
-    ensures { λ r. ⌜ ReadsDependency (now (report .entry)) at r ⌝ }
-    ensures { λ r. ⌜ InsideOf (now (report .entry)) r ⌝ }
+    ensures { λ r. ⌜ Bounded (ReadsDependency (now (report .entry)) at r) (InsideOf (now (report .entry)) r) ⌝ }
 {
     let number = read_number(report, at);
     let next = skip_optional_specifier(report, number.next);

@@ -6,6 +6,7 @@ ghost use mathlib.Core.Path.{_≡_};
 ghost use lib.ListN.{length};
 ghost use mathlib.Core.List.{flatMap};
 ghost use Rattle.laws.specs.Codec.{IfThere, All};
+ghost use Rattle.laws.specs.code.Told.{Bounded};
 ghost use Rattle.text.specs.Bytes.{part};
 ghost use Rattle.wire.specs.Text.{encodeText};
 ghost use Rattle.wire.specs.Optional.{encodeOptional};
@@ -51,8 +52,9 @@ pub fn read_number(report: &[u8], at: usize) -> NumberRead
 
 // A text: a number, and as many bytes.
 pub fn read_text(report: &[u8], at: usize) -> TextRead
-    ensures { λ r. ⌜ Reads encodeText Short (now (report .entry)) at (part (now (report .entry)) (r .from) (r .to)) (r .to) ⌝ }
-    ensures { λ r. ⌜ Inside (now (report .entry)) (r .from) (r .to) ⌝ }
+    ensures { λ r. ⌜ Bounded
+        (Reads encodeText Short (now (report .entry)) at (part (now (report .entry)) (r .from) (r .to)) (r .to))
+        (Inside (now (report .entry)) (r .from) (r .to)) ⌝ }
 {
     let n = read_number(report, at);
     let from = n.next;
@@ -67,8 +69,9 @@ pub fn read_text(report: &[u8], at: usize) -> TextRead
 
 // A range: the lines and columns of its start and its end.
 pub fn read_range(report: &[u8], at: usize) -> RangeRead
-    ensures { λ r. ⌜ Reads encodeRange ValidRange (now (report .entry)) at (record { start = r .start; end = r .end }) (r .next) ⌝ }
-    ensures { λ r. ⌜ ValidPosition (r .start) × ValidPosition (r .end) ⌝ }
+    ensures { λ r. ⌜ Bounded
+        (Reads encodeRange ValidRange (now (report .entry)) at (record { start = r .start; end = r .end }) (r .next))
+        (ValidPosition (r .start) × ValidPosition (r .end)) ⌝ }
 {
     let a = read_number(report, at);
     let b = read_number(report, a.next);

@@ -13,6 +13,7 @@ ghost use Prim.Native.Nat.{_+_, _*_, _≤_, _<_};
 ghost use lib.ListN.{length, drop};
 ghost use lib.Seq.{sets};
 ghost use Rattle.laws.specs.code.Left.{KeptFrom};
+ghost use Rattle.laws.specs.code.Told.{Leaving};
 ghost use Rattle.sheet.specs.Comments.{enclosed, marked, comment, comments};
 ghost use Rattle.sheet.specs.code.Tables.{commentRow, commentIn};
 ghost use Rattle.sheet.specs.code.Views.{commentAs, commentsAs};
@@ -118,8 +119,9 @@ pub fn comment_at(table: &[u32], k: usize) -> Comment
 // Reads n comments into the first n rows of a table, which a refusal leaves free. Behind these nothing is changed.
 pub fn read_comments(sheet: &[u8], source: &[u8], c: Cursor, n: usize, table: &mut [u32]) -> Filled
     requires { ⌜ 3 * n ≤ length (now table) ⌝ }
-    ensures { λ r. ⌜ commentsAs (now (sheet .entry)) (now (table .exit)) n r ≡ comments (now (source .entry)) 0 n (drop (c .at) (now (sheet .entry))) ⌝ }
-    ensures { λ _. ⌜ KeptFrom (3 * n) (now (table .entry)) (now (table .exit)) ⌝ }
+    ensures { λ r. ⌜ Leaving
+        (commentsAs (now (sheet .entry)) (now (table .exit)) n r ≡ comments (now (source .entry)) 0 n (drop (c .at) (now (sheet .entry))))
+        (KeptFrom (3 * n) (now (table .entry)) (now (table .exit))) ⌝ }
 {
     let mut next = c;
     let mut last = 0;

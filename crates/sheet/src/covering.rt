@@ -6,6 +6,7 @@ ghost use Prim.Native.Nat.{ℕ, _*_, _≤_, _<_, max};
 ghost use lib.Dec.{eqb};
 ghost use lib.ListN.{length, getD, drop, replicate};
 ghost use Rattle.laws.specs.code.Left.{Free};
+ghost use Rattle.laws.specs.code.Told.{Leaving};
 ghost use Rattle.sheet.specs.Comments.{covered};
 ghost use Rattle.sheet.specs.code.Tables.{groupsIn};
 ghost use Rattle.sheet.specs.code.Covering.{longestAt};
@@ -58,8 +59,8 @@ fn larger(a: usize, b: usize) -> usize
 pub fn is_covered(table: &[u32], m: usize, n: usize, longest: &mut [u32]) -> bool
     requires { ⌜ 4 * m ≤ length (now table) ⌝ }
     requires { ⌜ n ≤ length (now longest) ⌝ }
-    ensures { λ r. ⌜ r ≡ covered (groupsIn (now (table .entry)) m) n ⌝ }
-    ensures { λ _. ⌜ Free (now (longest .entry)) (now (longest .exit)) ⌝ }
+    ensures { λ r. ⌜ Leaving (r ≡ covered (groupsIn (now (table .entry)) m) n)
+        (Free (now (longest .entry)) (now (longest .exit))) ⌝ }
 {
     clear(longest, n);
     keep_longest(table, m, longest, n);

@@ -5,6 +5,7 @@ use wire::Read;
 use wire::refusals;
 ghost use mathlib.Core.Path.{_≡_};
 ghost use lib.ListN.{length, drop};
+ghost use Rattle.laws.specs.code.Told.{Told};
 ghost use Rattle.text.specs.Position.{isBoundary};
 ghost use Rattle.wire.specs.code.Views.{readAs, Past};
 ghost use Rattle.sheet.specs.Fields.{position, endFrom, span};
@@ -33,8 +34,9 @@ fn is_boundary(source: &[u8], p: usize) -> bool
 }
 
 pub fn read_position(sheet: &[u8], source: &[u8], c: Cursor) -> Read
-    ensures { λ r. ⌜ readAs (now (sheet .entry)) r ≡ position (now (source .entry)) (drop (c .at) (now (sheet .entry))) ⌝ }
-    ensures { λ r. ⌜ Past (c .at) (length (now (sheet .entry))) r ⌝ }
+    ensures { λ r. ⌜ Told (readAs (now (sheet .entry)))
+        (position (now (source .entry)) (drop (c .at) (now (sheet .entry))))
+        (Past (c .at) (length (now (sheet .entry)))) r ⌝ }
 {
     match c.number(sheet) {
         Read::Refused(r) => Read::Refused(r),
@@ -50,8 +52,9 @@ pub fn read_position(sheet: &[u8], source: &[u8], c: Cursor) -> Read
 
 // A position that does not precede `start`.
 pub fn read_end(sheet: &[u8], source: &[u8], c: Cursor, start: usize) -> Read
-    ensures { λ r. ⌜ readAs (now (sheet .entry)) r ≡ endFrom (now (source .entry)) start (drop (c .at) (now (sheet .entry))) ⌝ }
-    ensures { λ r. ⌜ Past (c .at) (length (now (sheet .entry))) r ⌝ }
+    ensures { λ r. ⌜ Told (readAs (now (sheet .entry)))
+        (endFrom (now (source .entry)) start (drop (c .at) (now (sheet .entry))))
+        (Past (c .at) (length (now (sheet .entry)))) r ⌝ }
 {
     match read_position(sheet, source, c) {
         Read::Refused(r) => Read::Refused(r),
@@ -66,8 +69,9 @@ pub fn read_end(sheet: &[u8], source: &[u8], c: Cursor, start: usize) -> Read
 }
 
 pub fn read_span(sheet: &[u8], source: &[u8], c: Cursor) -> SpanRead
-    ensures { λ r. ⌜ spanAs (now (sheet .entry)) r ≡ span (now (source .entry)) (drop (c .at) (now (sheet .entry))) ⌝ }
-    ensures { λ r. ⌜ PastSpan (c .at) (length (now (sheet .entry))) r ⌝ }
+    ensures { λ r. ⌜ Told (spanAs (now (sheet .entry)))
+        (span (now (source .entry)) (drop (c .at) (now (sheet .entry))))
+        (PastSpan (c .at) (length (now (sheet .entry)))) r ⌝ }
 {
     match read_position(sheet, source, c) {
         Read::Refused(r) => SpanRead::Refused(r),

@@ -14,6 +14,7 @@ ghost use lib.Dec.{leb, ltb};
 ghost use lib.ListN.{length, drop};
 ghost use lib.Seq.{sets};
 ghost use Rattle.laws.specs.code.Left.{KeptFrom};
+ghost use Rattle.laws.specs.code.Told.{Leaving};
 ghost use Rattle.sheet.specs.Comments.{precedes, anywhere, group, groups};
 ghost use Rattle.sheet.specs.code.Tables.{groupRow, groupIn};
 ghost use Rattle.sheet.specs.code.Views.{afterAs, groupAs, groupsAs};
@@ -153,9 +154,9 @@ pub fn read_groups(
     table: &mut [u32],
 ) -> Filled
     requires { ⌜ 4 * m ≤ length (now table) ⌝ }
-    ensures { λ r. ⌜ groupsAs (now (sheet .entry)) (now (table .exit)) m r
-        ≡ groups (now (source .entry)) total anywhere m (drop (c .at) (now (sheet .entry))) ⌝ }
-    ensures { λ _. ⌜ KeptFrom (4 * m) (now (table .entry)) (now (table .exit)) ⌝ }
+    ensures { λ r. ⌜ Leaving
+        (groupsAs (now (sheet .entry)) (now (table .exit)) m r ≡ groups (now (source .entry)) total anywhere m (drop (c .at) (now (sheet .entry))))
+        (KeptFrom (4 * m) (now (table .entry)) (now (table .exit))) ⌝ }
 {
     let mut next = c;
     let mut before = Before::Nothing;

@@ -11,6 +11,7 @@ use text::class::class_at;
 use text::class::run_end;
 ghost use Prim.Native.Nat.{_≤_, _<_};
 ghost use lib.ListN.{length};
+ghost use Rattle.laws.specs.code.Told.{Bounded};
 ghost use Rattle.analysis.specs.Row.{longest, shortest};
 ghost use Rattle.steps.specs.Answers.{Fits, Passes, PassedBy, Precedes, FirstOf};
 
@@ -23,8 +24,8 @@ pub enum Passed {
 // Passes a plain step, with which the numbers begin, at a place.
 fn pass(plain: Plain, steps: &[u8], body: &[u8], at: usize, k: Capture) -> Passed
     requires { ⌜ (at ≤ length (now body)) × (Fits plain (length (now steps))) ⌝ }
-    ensures { λ r. ⌜ Passes plain (now (steps .entry)) (now (body .entry)) at k r ⌝ }
-    ensures { λ r. ⌜ PassedBy r (length (now (body .entry))) ⌝ }
+    ensures { λ r. ⌜ Bounded (Passes plain (now (steps .entry)) (now (body .entry)) at k r)
+        (PassedBy r (length (now (body .entry)))) ⌝ }
 {
     match plain {
         Plain::Start => {
@@ -76,7 +77,7 @@ fn pass(plain: Plain, steps: &[u8], body: &[u8], at: usize, k: Capture) -> Passe
 // Where the character begins that ends at `end`.
 fn char_before(s: &[u8], end: usize) -> usize
     requires { ⌜ (0 < end) × (end ≤ length (now s)) ⌝ }
-    ensures { λ r. ⌜ (r < end) × Precedes (now (s .entry)) end r ⌝ }
+    ensures { λ r. ⌜ Bounded (Precedes (now (s .entry)) end r) (r < end) ⌝ }
 {
     let mut i = end - 1;
     while 0 < i {

@@ -8,6 +8,7 @@ use native.Mathlib.Omega.{arith}
 use lib.Dec.{ltb}
 use lib.ListN.{drop}
 use borrow.Author.Tests.{ltb-true}
+use Rattle.laws.specs.code.Told.{Meant}
 use Rattle.text.specs.declared.utf8.Char.{Char}
 use Rattle.text.specs.declared.utf8.Encoding.{Encoding}
 use Rattle.text.specs.declared.utf8.Encoding.the-variants.{Utf8, Wtf8}
@@ -61,15 +62,15 @@ all-apart Utf8 = refl
 all-apart Wtf8 = refl
 
 -- a length by the rows, and what it says
-pub measured : (e : Encoding) (s : List ℕ) {n : ℕ} → n ≡ charLength e s → (n ≡ charLength e s) × ByRows e s n
+pub measured : (e : Encoding) (s : List ℕ) {n : ℕ} → n ≡ charLength e s → Meant (n ≡ charLength e s) (ByRows e s n)
 unfolding charAt
-measured e s i = (
-  i,
-  record {
+measured e s i = record {
+  answer = i;
+  meaning = record {
     exact = exact e;
     once = λ p. counted p (rows e) (all-apart e) ∙ ap (λ (b : Bool). cond b 1 0) (covered e p);
     read = λ p t a h alone. i ∙ ap (charLength e) h ∙ ap (λ (r : Char). r .len) (reads e p t a alone);
     pair = λ p t h w. let (l, q, m, u, k) = w in i ∙ ap (charLength e) (h ∙ ap (encode p ++_) k) ∙ pair-unread e p q u l m;
     only = λ z. let (p, c) = reader-sound e s (λ h. z (i ∙ h)) in (p, c .among, c .begins ∙ ap (λ (m : ℕ). encode p ++ drop m s) (sym i));
-  },
-)
+  };
+}

@@ -9,6 +9,7 @@ use native.Mathlib.Omega.{arith}
 use lib.ListN.{length, drop, length-append}
 use lib.Seq.{drop-nil, drop-append-seam}
 use Rattle.laws.specs.Codec.{All}
+use Rattle.laws.specs.code.Told.{Meant}
 use Rattle.laws.proofs.Lists.{all-parts}
 use Rattle.text.specs.declared.utf8.Char.{Char}
 use Rattle.text.specs.declared.utf8.Encoding.{Encoding}
@@ -109,11 +110,11 @@ module _ (e : Encoding) where
       cc
 
   -- the answer of the reader, and what it says
-  pub judged : (x : List ℕ) {r : Bool} → r ≡ wellFormed e x → (r ≡ wellFormed e x) × Judges e x r
-  judged x i = (
-    i,
-    record {
+  pub judged : (x : List ℕ) {r : Bool} → r ≡ wellFormed e x → Meant (r ≡ wellFormed e x) (Judges e x r)
+  judged x i = record {
+    answer = i;
+    meaning = record {
       exactly = rw i (well-formed-iff x);
       one-row = λ ps qs t u. same-row ps qs (t .each) (u .each) (sym (t .bytes) ∙ u .bytes);
-    },
-  )
+    };
+  }

@@ -3,7 +3,9 @@ ghost use mathlib.Core.Path.{_≡_};
 ghost use mathlib.Core.Bool.{true};
 ghost use Prim.Native.Nat.{ℕ, _+_, _<_, _≤_};
 ghost use lib.ListN.{length, getD, drop};
+ghost use Rattle.laws.specs.code.Told.{Bounded};
 ghost use Rattle.text.specs.Bytes.{begins, same, order};
+ghost use Rattle.text.specs.code.Places.{Passing, First};
 
 pub enum Order {
     Less,
@@ -13,8 +15,7 @@ pub enum Order {
 
 // The byte at a place, 0 past the end.
 pub fn byte_at(s: &[u8], i: usize) -> u32
-    ensures { λ r. ⌜ r ≡ getD (now (s .entry)) i 0 ⌝ }
-    ensures { λ r. ⌜ r < 256 ⌝ }
+    ensures { λ r. ⌜ Bounded (r ≡ getD (now (s .entry)) i 0) (r < 256) ⌝ }
 {
     if i < s.len() { s[i] as u32 } else { 0 }
 }
@@ -101,7 +102,7 @@ fn absent_at(s: &[u8], at: usize, b: u8) -> bool
 // The place from which on to look for `b` byte by byte: it is nowhere from `at` up to there.
 fn skip_blocks(s: &[u8], at: usize, b: u8) -> usize
     requires { ⌜ at ≤ length (now s) ⌝ }
-    ensures { λ r. ⌜ (at ≤ r) × (r ≤ length (now (s .entry))) × ((k : ℕ) → at ≤ k → k < r → getD (now (s .entry)) k 0 ≡ b → ⊥) ⌝ }
+    ensures { λ r. ⌜ Passing (λ k. getD (now (s .entry)) k 0 ≡ b → ⊥) at (length (now (s .entry))) r ⌝ }
 {
     let mut i = at;
     while absent_at(s, i, b) {
@@ -113,8 +114,7 @@ fn skip_blocks(s: &[u8], at: usize, b: u8) -> usize
 // The first place of `b` from `at` on, or the end.
 pub fn next_of(s: &[u8], at: usize, b: u8) -> usize
     requires { ⌜ at ≤ length (now s) ⌝ }
-    ensures { λ r. ⌜ (at ≤ r) × (r ≤ length (now (s .entry))) × ((k : ℕ) → at ≤ k → k < r → getD (now (s .entry)) k 0 ≡ b → ⊥)
-        × (r < length (now (s .entry)) → getD (now (s .entry)) r 0 ≡ b) ⌝ }
+    ensures { λ r. ⌜ First b (now (s .entry)) at r ⌝ }
 {
     let mut i = skip_blocks(s, at, b);
     while i < s.len() {
@@ -156,7 +156,7 @@ fn zeros_at(s: &[u8], at: usize) -> bool
 // The place from which on to look byte by byte for what is not 0: from `at` up to there all is 0.
 fn skip_zeros(s: &[u8], at: usize) -> usize
     requires { ⌜ at ≤ length (now s) ⌝ }
-    ensures { λ r. ⌜ (at ≤ r) × (r ≤ length (now (s .entry))) × ((k : ℕ) → at ≤ k → k < r → getD (now (s .entry)) k 0 ≡ 0) ⌝ }
+    ensures { λ r. ⌜ Passing (λ k. getD (now (s .entry)) k 0 ≡ 0) at (length (now (s .entry))) r ⌝ }
 {
     let mut i = at;
     while zeros_at(s, i) {
@@ -168,7 +168,7 @@ fn skip_zeros(s: &[u8], at: usize) -> usize
 // The first place from `at` on of what is not 0, or the end.
 pub fn next_nonzero(s: &[u8], at: usize) -> usize
     requires { ⌜ at ≤ length (now s) ⌝ }
-    ensures { λ r. ⌜ (at ≤ r) × (r ≤ length (now (s .entry))) × ((k : ℕ) → at ≤ k → k < r → getD (now (s .entry)) k 0 ≡ 0) ⌝ }
+    ensures { λ r. ⌜ Passing (λ k. getD (now (s .entry)) k 0 ≡ 0) at (length (now (s .entry))) r ⌝ }
 {
     let mut i = skip_zeros(s, at);
     while i < s.len() {

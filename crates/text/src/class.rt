@@ -8,6 +8,7 @@ ghost use mathlib.Core.Path.{_≡_};
 ghost use mathlib.Core.List.{[], _∷_};
 ghost use Prim.Native.Nat.{_+_, _≤_};
 ghost use lib.ListN.{length, drop};
+ghost use Rattle.laws.specs.code.Told.{Bounded};
 ghost use Rattle.text.specs.Ranges.{_to_, inRanges};
 ghost use Rattle.text.specs.Class.{member, classAt, runLength};
 
@@ -60,8 +61,7 @@ pub fn in_class(class: Class, code: u32) -> bool
 // The same for a character of any length.
 fn wide_class_at(s: &[u8], at: usize, class: Class) -> usize
     requires { ⌜ at ≤ length (now s) ⌝ }
-    ensures { λ r. ⌜ r ≡ classAt class (drop at (now (s .entry))) ⌝ }
-    ensures { λ r. ⌜ at + r ≤ length (now (s .entry)) ⌝ }
+    ensures { λ r. ⌜ Bounded (r ≡ classAt class (drop at (now (s .entry)))) (at + r ≤ length (now (s .entry))) ⌝ }
 {
     let c = char_at(s, at, Encoding::Utf8);
     let len = c.len;
@@ -72,8 +72,7 @@ fn wide_class_at(s: &[u8], at: usize, class: Class) -> usize
 // The length in bytes of the character of the class at `at`, 0 where none stands there.
 pub fn class_at(s: &[u8], at: usize, class: Class) -> usize
     requires { ⌜ at ≤ length (now s) ⌝ }
-    ensures { λ r. ⌜ r ≡ classAt class (drop at (now (s .entry))) ⌝ }
-    ensures { λ r. ⌜ at + r ≤ length (now (s .entry)) ⌝ }
+    ensures { λ r. ⌜ Bounded (r ≡ classAt class (drop at (now (s .entry)))) (at + r ≤ length (now (s .entry))) ⌝ }
 {
     if s.len() <= at {
         return wide_class_at(s, at, class);
@@ -91,8 +90,7 @@ pub fn class_at(s: &[u8], at: usize, class: Class) -> usize
 // The end of the longest run of the class from `at` on.
 pub fn run_end(s: &[u8], at: usize, class: Class) -> usize
     requires { ⌜ at ≤ length (now s) ⌝ }
-    ensures { λ r. ⌜ r ≡ at + runLength class (drop at (now (s .entry))) ⌝ }
-    ensures { λ r. ⌜ r ≤ length (now (s .entry)) ⌝ }
+    ensures { λ r. ⌜ Bounded (r ≡ at + runLength class (drop at (now (s .entry)))) (r ≤ length (now (s .entry))) ⌝ }
 {
     let mut i = at;
     loop {

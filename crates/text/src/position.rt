@@ -3,6 +3,7 @@ ghost use mathlib.Core.Path.{_≡_};
 ghost use Prim.Native.Nat.{ℕ, _+_, _-_, _*_, _/_, _≤_, _<_};
 ghost use lib.ListN.{length, getD, take, drop};
 ghost use Rattle.laws.specs.code.Left.{KeptFrom};
+ghost use Rattle.laws.specs.code.Told.{Bounded, Leaving};
 ghost use Rattle.text.specs.Ranges.{within};
 ghost use Rattle.text.specs.Utf8.{continuation};
 ghost use Rattle.text.specs.code.Totals.{total, endsLine, beginsOne};
@@ -67,8 +68,7 @@ fn put(index: &mut [u32], k: usize, p: Position)
 // The kth position of the index.
 fn get(index: &[u32], k: usize) -> Position
     requires { ⌜ 2 * k + 1 < length (now index) ⌝ }
-    ensures { λ r. ⌜ r ≡ kept (now (index .entry)) k ⌝ }
-    ensures { λ r. ⌜ (r .line < 4294967296) × (r .column < 4294967296) ⌝ }
+    ensures { λ r. ⌜ Bounded (r ≡ kept (now (index .entry)) k) ((r .line < 4294967296) × (r .column < 4294967296)) ⌝ }
 {
     let at = 2 * k;
     let line = index[at] as usize;
@@ -79,7 +79,7 @@ fn get(index: &[u32], k: usize) -> Position
 // How many of the 64 bytes at `from` are LF.
 fn lines_in(s: &[u8], from: usize) -> u8
     requires { ⌜ from + 64 ≤ length (now s) ⌝ }
-    ensures { λ r. ⌜ (r ≡ total endsLine (take 64 (drop from (now (s .entry))))) × (r ≤ 64) ⌝ }
+    ensures { λ r. ⌜ Bounded (r ≡ total endsLine (take 64 (drop from (now (s .entry))))) (r ≤ 64) ⌝ }
 {
     let mut n: u8 = 0;
     let mut i: usize = 0;
@@ -152,7 +152,7 @@ fn ascii_in(s: &[u8], from: usize) -> u8
 // The same as `begun_in`: each byte of ASCII begins a character.
 fn begun_from(s: &[u8], from: usize, k: u8) -> u8
     requires { ⌜ (from + 64 ≤ length (now s)) × (k ≤ 64) ⌝ }
-    ensures { λ r. ⌜ (r ≡ total beginsOne (take (64 - k) (drop (from + k) (now (s .entry))))) × (r ≤ 64) ⌝ }
+    ensures { λ r. ⌜ Bounded (r ≡ total beginsOne (take (64 - k) (drop (from + k) (now (s .entry))))) (r ≤ 64) ⌝ }
 {
     if ascii_in(s, from) == 64 {
         return 64 - k;
@@ -184,8 +184,9 @@ fn scan_block(s: &[u8], p: Position, from: usize) -> Position
 // Fills the index: the line and the column at each 64th byte of the text. Behind these nothing is changed.
 pub fn build_index(s: &[u8], index: &mut [u32])
     requires { ⌜ (length (now s) < 4294967296) × (2 * (length (now s) / 64) + 1 < length (now index)) ⌝ }
-    ensures { λ _. ⌜ Indexed characters (now (s .entry)) (now (index .exit)) (length (now (s .entry)) / 64 + 1) ⌝ }
-    ensures { λ _. ⌜ KeptFrom (2 * (length (now (s .entry)) / 64) + 2) (now (index .entry)) (now (index .exit)) ⌝ }
+    ensures { λ _. ⌜ Leaving
+        (Indexed characters (now (s .entry)) (now (index .exit)) (length (now (s .entry)) / 64 + 1))
+        (KeptFrom (2 * (length (now (s .entry)) / 64) + 2) (now (index .entry)) (now (index .exit))) ⌝ }
 {
     let mut p = Position { line: 0, column: 0 };
     let mut k = 0;

@@ -5,6 +5,7 @@ ghost use mathlib.Core.Bool.{true, false};
 ghost use mathlib.Core.List.{[], _∷_};
 ghost use Prim.Native.Nat.{ℕ, _≤_, _<_, _+_};
 ghost use lib.ListN.{length, getD, drop};
+ghost use Rattle.laws.specs.code.Told.{Meant};
 ghost use Rattle.text.specs.Ranges.{_to_};
 ghost use Rattle.text.specs.Utf8.{admits, continuation, pair, surrogate, besides, rows, lengthBy, charLength, codeBy, charAt, formed, wellFormed};
 ghost use Rattle.text.specs.ByRows.{ByRows};
@@ -162,8 +163,8 @@ fn length_from_two(s: &[u8], at: usize, encoding: Encoding) -> usize
 // How many bytes the character at `at` has; 0 where none of the rows admits what stands there.
 pub fn char_length(s: &[u8], at: usize, encoding: Encoding) -> usize
     requires { ⌜ at ≤ length (now s) ⌝ }
-    ensures { λ r. ⌜ r ≡ charLength encoding (drop at (now (s .entry))) ⌝ }
-    ensures { λ r. ⌜ ByRows encoding (drop at (now (s .entry))) r ⌝ }
+    ensures { λ r. ⌜ Meant (r ≡ charLength encoding (drop at (now (s .entry))))
+        (ByRows encoding (drop at (now (s .entry))) r) ⌝ }
 {
     if inside(s, at, 0x00, 0x7F) {
         return 1;
@@ -291,8 +292,7 @@ fn run_to(s: &[u8], at: usize, stop: usize, encoding: Encoding) -> usize
 
 // The whole of `s` is one character after the other: the text of a row of code points.
 pub fn well_formed(s: &[u8], encoding: Encoding) -> bool
-    ensures { λ r. ⌜ r ≡ wellFormed encoding (now (s .entry)) ⌝ }
-    ensures { λ r. ⌜ Judges encoding (now (s .entry)) r ⌝ }
+    ensures { λ r. ⌜ Meant (r ≡ wellFormed encoding (now (s .entry))) (Judges encoding (now (s .entry)) r) ⌝ }
 {
     let mut at = 0;
     while at < s.len() {

@@ -6,6 +6,7 @@ ghost use mathlib.Core.Path.{_≡_};
 ghost use mathlib.Core.Bool.{_||_};
 ghost use lib.Dec.{leb, ltb};
 ghost use lib.ListN.{length, drop};
+ghost use Rattle.laws.specs.code.Told.{Told};
 ghost use Rattle.wire.specs.Fields.{byte, below, flag};
 ghost use Rattle.wire.specs.Number.{groups, number};
 ghost use Rattle.wire.specs.Text.{count, text};
@@ -47,8 +48,9 @@ fn shortest(scale: usize, group: usize) -> bool
 impl Cursor {
     // A byte.
     pub fn byte(self, sheet: &[u8]) -> Read
-        ensures { λ r. ⌜ readAs (now (sheet .entry)) r ≡ byte (drop (self .at) (now (sheet .entry))) ⌝ }
-        ensures { λ r. ⌜ Past (self .at) (length (now (sheet .entry))) r ⌝ }
+        ensures { λ r. ⌜ Told (readAs (now (sheet .entry)))
+            (byte (drop (self .at) (now (sheet .entry))))
+            (Past (self .at) (length (now (sheet .entry)))) r ⌝ }
     {
         let at = self.at;
         if at < sheet.len() {
@@ -60,8 +62,9 @@ impl Cursor {
 
     // A byte below a limit.
     pub fn below(self, sheet: &[u8], limit: usize) -> Read
-        ensures { λ r. ⌜ readAs (now (sheet .entry)) r ≡ below limit (drop (self .at) (now (sheet .entry))) ⌝ }
-        ensures { λ r. ⌜ Past (self .at) (length (now (sheet .entry))) r ⌝ }
+        ensures { λ r. ⌜ Told (readAs (now (sheet .entry)))
+            (below limit (drop (self .at) (now (sheet .entry))))
+            (Past (self .at) (length (now (sheet .entry)))) r ⌝ }
     {
         match self.byte(sheet) {
             Read::Value(b, next) => {
@@ -77,8 +80,9 @@ impl Cursor {
 
     // A byte, 0 or 1.
     pub fn flag(self, sheet: &[u8]) -> Flag
-        ensures { λ r. ⌜ flagAs (now (sheet .entry)) r ≡ flag (drop (self .at) (now (sheet .entry))) ⌝ }
-        ensures { λ r. ⌜ PastFlag (self .at) (length (now (sheet .entry))) r ⌝ }
+        ensures { λ r. ⌜ Told (flagAs (now (sheet .entry)))
+            (flag (drop (self .at) (now (sheet .entry))))
+            (PastFlag (self .at) (length (now (sheet .entry)))) r ⌝ }
     {
         match self.below(sheet, 2) {
             Read::Value(b, next) => Flag::Is(b == 1, next),
@@ -90,8 +94,9 @@ impl Cursor {
     // so that `number` stays short.
     fn groups(self, sheet: &[u8], left: usize, scale: usize, low: usize) -> Read
         requires { ⌜ PlaceValue left scale low ⌝ }
-        ensures { λ r. ⌜ readAs (now (sheet .entry)) r ≡ groups left scale low (drop (self .at) (now (sheet .entry))) ⌝ }
-        ensures { λ r. ⌜ Past (self .at) (length (now (sheet .entry))) r ⌝ }
+        ensures { λ r. ⌜ Told (readAs (now (sheet .entry)))
+            (groups left scale low (drop (self .at) (now (sheet .entry))))
+            (Past (self .at) (length (now (sheet .entry)))) r ⌝ }
     {
         let at = self.at;
         if left == 0 {
@@ -116,8 +121,9 @@ impl Cursor {
 
     // A number: at most five groups of seven bits, low group first, in its shortest form. One of up to three groups is read right here.
     pub fn number(self, sheet: &[u8]) -> Read
-        ensures { λ r. ⌜ readAs (now (sheet .entry)) r ≡ number (drop (self .at) (now (sheet .entry))) ⌝ }
-        ensures { λ r. ⌜ Past (self .at) (length (now (sheet .entry))) r ⌝ }
+        ensures { λ r. ⌜ Told (readAs (now (sheet .entry)))
+            (number (drop (self .at) (now (sheet .entry))))
+            (Past (self .at) (length (now (sheet .entry)))) r ⌝ }
     {
         let at = self.at;
         if at < sheet.len() {
@@ -147,8 +153,9 @@ impl Cursor {
 
     // A number up to a limit: a count, or a length.
     pub fn count(self, sheet: &[u8], limit: usize) -> Read
-        ensures { λ r. ⌜ readAs (now (sheet .entry)) r ≡ count limit (drop (self .at) (now (sheet .entry))) ⌝ }
-        ensures { λ r. ⌜ Past (self .at) (length (now (sheet .entry))) r ⌝ }
+        ensures { λ r. ⌜ Told (readAs (now (sheet .entry)))
+            (count limit (drop (self .at) (now (sheet .entry))))
+            (Past (self .at) (length (now (sheet .entry)))) r ⌝ }
     {
         match self.number(sheet) {
             Read::Value(n, next) => {
@@ -164,8 +171,9 @@ impl Cursor {
 
     // A text: a length up to a limit, and as many bytes, well-formed.
     pub fn text(self, sheet: &[u8], encoding: Encoding, limit: usize) -> Text
-        ensures { λ r. ⌜ textAs (now (sheet .entry)) r ≡ text encoding limit (drop (self .at) (now (sheet .entry))) ⌝ }
-        ensures { λ r. ⌜ PastText (self .at) (length (now (sheet .entry))) r ⌝ }
+        ensures { λ r. ⌜ Told (textAs (now (sheet .entry)))
+            (text encoding limit (drop (self .at) (now (sheet .entry))))
+            (PastText (self .at) (length (now (sheet .entry)))) r ⌝ }
     {
         match self.count(sheet, limit) {
             Read::Value(n, next) => {

@@ -8,48 +8,48 @@ use Rattle.analysis.proofs.find_deno_types.Tie as tie
 
 returns : tie.Need-returns
 unfolding first
-returns c = (
-  rw (
+returns c = record {
+  answer = rw (
     deno-types-row,
-    ← c .before .before .before .before .run-end .ensures .0,
-    known (c .before .before .assigned-at .ensures .0) (c .enum-told .given .1),
-  ),
-  tt,
-)
+    ← c .before .before .before .before .run-end .ensures .answer,
+    known (c .before .before .assigned-at .ensures .answer) (c .enum-told .given .1),
+  );
+  bounds = tt;
+}
 
 quoted-some-at-requires : tie.Need-quoted-some-at-requires
-quoted-some-at-requires c κs = rw (c .before .b .given .1) at (c .before .before .before .assigned-at .ensures .1)
+quoted-some-at-requires c κs = rw (c .before .b .given .1) at (c .before .before .before .assigned-at .ensures .bounds)
 
 returns-2 : tie.Need-returns-2
 unfolding matchAt all
-returns-2 c = (
-  rw (
+returns-2 c = record {
+  answer = rw (
     deno-types-row,
-    ← c .before .before .before .before .before .before .before .before .run-end .ensures .0,
-    known (c .before .before .before .before .before .before .assigned-at .ensures .0) (c .before .before .before .before .b .given .1),
+    ← c .before .before .before .before .before .before .before .before .run-end .ensures .answer,
+    known (c .before .before .before .before .before .before .assigned-at .ensures .answer) (c .before .before .before .before .b .given .1),
     first-append,
-    ← c .before .before .quoted-some-at .ensures .0,
+    ← c .before .before .quoted-some-at .ensures .answer,
     c .enum-told2 .given .1,
-  ),
-  c .before .before .quoted-some-at .ensures .1,
-)
+  );
+  bounds = c .before .before .quoted-some-at .ensures .bounds;
+}
 
 bare-at-requires : tie.Need-bare-at-requires
-bare-at-requires c κs = rw (c .before .before .before .before .b .given .1) at (c .before .before .before .before .before .before .assigned-at .ensures .1)
+bare-at-requires c κs = rw (c .before .before .before .before .b .given .1) at (c .before .before .before .before .before .before .assigned-at .ensures .bounds)
 
 returns-3 : tie.Need-returns-3
 unfolding matchAt all
-returns-3 c = (
-  rw (
+returns-3 c = record {
+  answer = rw (
     deno-types-row,
-    ← c .before .before .before .before .before .before .before .before .before .run-end .ensures .0,
-    known (c .before .before .before .before .before .before .before .assigned-at .ensures .0) (c .before .before .before .before .before .b .given .1),
+    ← c .before .before .before .before .before .before .before .before .before .run-end .ensures .answer,
+    known (c .before .before .before .before .before .before .before .assigned-at .ensures .answer) (c .before .before .before .before .before .b .given .1),
     first-append,
-    known (c .before .before .before .quoted-some-at .ensures .0) (c .before .enum-told3 .given .1),
+    known (c .before .before .before .quoted-some-at .ensures .answer) (c .before .enum-told3 .given .1),
   )
-      (c .bare-at .ensures .0),
-  c .bare-at .ensures .1,
-)
+      (c .bare-at .ensures .answer);
+  bounds = c .bare-at .ensures .bounds;
+}
 
 pub find-deno-types-spec : {M : Type 1} → statement M
 find-deno-types-spec =

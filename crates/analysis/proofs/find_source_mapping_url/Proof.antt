@@ -9,39 +9,39 @@ use Rattle.analysis.proofs.find_source_mapping_url.Tie as tie
 
 returns : tie.Need-returns
 unfolding first
-returns c = (rw (source-mapping-row, ← c .before .class-at .ensures .0, eq-eqb _ _ (c .if1 .taken)), tt)
+returns c = record { answer = rw (source-mapping-row, ← c .before .class-at .ensures .answer, eq-eqb _ _ (c .if1 .taken)); bounds = tt }
 
 returns-2 : tie.Need-returns-2
 unfolding first
-returns-2 c = (
-  rw (
+returns-2 c = record {
+  answer = rw (
     source-mapping-row,
-    ← c .before .before .before .before .before .before .class-at .ensures .0,
+    ← c .before .before .before .before .before .before .class-at .ensures .answer,
     ne-eqb _ _ (c .before .before .before .before .before .if1 .left),
     zero-add,
-    ← c .before .before .before .before .run-end .ensures .0,
-    known (c .before .before .assigned-at .ensures .0) (c .enum-told .given .1),
-  ),
-  tt,
-)
+    ← c .before .before .before .before .run-end .ensures .answer,
+    known (c .before .before .assigned-at .ensures .answer) (c .enum-told .given .1),
+  );
+  bounds = tt;
+}
 
 bare-at-requires : tie.Need-bare-at-requires
-bare-at-requires c κs = rw (c .before .b .given .1) at (c .before .before .before .assigned-at .ensures .1)
+bare-at-requires c κs = rw (c .before .b .given .1) at (c .before .before .before .assigned-at .ensures .bounds)
 
 returns-3 : tie.Need-returns-3
 unfolding matchAt
-returns-3 c = (
-  rw (
+returns-3 c = record {
+  answer = rw (
     source-mapping-row,
-    ← c .before .before .before .before .before .before .before .before .class-at .ensures .0,
+    ← c .before .before .before .before .before .before .before .before .class-at .ensures .answer,
     ne-eqb _ _ (c .before .before .before .before .before .before .before .if1 .left),
     zero-add,
-    ← c .before .before .before .before .before .before .run-end .ensures .0,
-    known (c .before .before .before .before .assigned-at .ensures .0) (c .before .before .b .given .1),
+    ← c .before .before .before .before .before .before .run-end .ensures .answer,
+    known (c .before .before .before .before .assigned-at .ensures .answer) (c .before .before .b .given .1),
   )
-      (c .bare-at .ensures .0),
-  c .bare-at .ensures .1,
-)
+      (c .bare-at .ensures .answer);
+  bounds = c .bare-at .ensures .bounds;
+}
 
 pub find-source-mapping-url-spec : {M : Type 1} → statement M
 find-source-mapping-url-spec =

@@ -8,33 +8,33 @@ use Rattle.analysis.proofs.is_comment_triple_slash_reference.Tie as tie
 
 returns : tie.Need-returns
 unfolding first
-returns c = rw (triple-slash-row, known (c .before .before .match-word .ensures .0) (c .enum-told .given .1))
+returns c = rw (triple-slash-row, known (c .before .before .match-word .ensures .answer) (c .enum-told .given .1))
 
 run-end-requires : tie.Need-run-end-requires
-run-end-requires c κs = rw (c .before .a .given .1) at (c .before .before .before .match-word .ensures .1)
+run-end-requires c κs = rw (c .before .a .given .1) at (c .before .before .before .match-word .ensures .bounds)
 
 returns-2 : tie.Need-returns-2
 unfolding first
 returns-2 c =
     rw (
       triple-slash-row,
-      known (c .before .before .before .before .before .before .before .before .match-word .ensures .0) (c .before .before .before .before .before .before .a .given .1),
-      ← c .before .before .before .before .run-end .ensures .0,
-      known (c .before .before .match-word2 .ensures .0) (c .enum-told2 .given .1),
+      known (c .before .before .before .before .before .before .before .before .match-word .ensures .answer) (c .before .before .before .before .before .before .a .given .1),
+      ← c .before .before .before .before .run-end .ensures .answer,
+      known (c .before .before .match-word2 .ensures .answer) (c .enum-told2 .given .1),
     )
 
 class-at-requires : tie.Need-class-at-requires
-class-at-requires c κs = rw (c .before .d .given .1) at (c .before .before .before .match-word2 .ensures .1)
+class-at-requires c κs = rw (c .before .d .given .1) at (c .before .before .before .match-word2 .ensures .bounds)
 
 returns-3 : tie.Need-returns-3
 unfolding first
 returns-3 c =
     rw (
       triple-slash-row,
-      known (c .before .before .before .before .before .before .before .before .before .before .before .match-word .ensures .0) (c .before .before .before .before .before .before .before .before .before .a .given .1),
-      ← c .before .before .before .before .before .before .before .run-end .ensures .0,
-      known (c .before .before .before .before .before .match-word2 .ensures .0) (c .before .before .before .d .given .1),
-      ← c .before .class-at .ensures .0,
+      known (c .before .before .before .before .before .before .before .before .before .before .before .match-word .ensures .answer) (c .before .before .before .before .before .before .before .before .before .a .given .1),
+      ← c .before .before .before .before .before .before .before .run-end .ensures .answer,
+      known (c .before .before .before .before .before .match-word2 .ensures .answer) (c .before .before .before .d .given .1),
+      ← c .before .class-at .ensures .answer,
       eq-eqb _ _ (c .if1 .taken),
     )
 
@@ -43,10 +43,10 @@ unfolding matchAt
 returns-4 c =
     rw (
       triple-slash-row,
-      known (c .before .before .before .before .before .before .before .before .before .before .before .before .match-word .ensures .0) (c .before .before .before .before .before .before .before .before .before .before .a .given .1),
-      ← c .before .before .before .before .before .before .before .before .run-end .ensures .0,
-      known (c .before .before .before .before .before .before .match-word2 .ensures .0) (c .before .before .before .before .d .given .1),
-      ← c .before .before .class-at .ensures .0,
+      known (c .before .before .before .before .before .before .before .before .before .before .before .before .match-word .ensures .answer) (c .before .before .before .before .before .before .before .before .before .before .a .given .1),
+      ← c .before .before .before .before .before .before .before .before .run-end .ensures .answer,
+      known (c .before .before .before .before .before .before .match-word2 .ensures .answer) (c .before .before .before .before .d .given .1),
+      ← c .before .before .class-at .ensures .answer,
       ne-eqb _ _ (c .before .if1 .left),
     )
     (c .reference-ends .ensures)

@@ -13,7 +13,7 @@ slice-aggregate-cite c =
     (rw (c .before .before .before .before .before .input .given .1) at (c .before .before .before .before .before .before .before .before .read-input .ensures)) .1
 
 slice-aggregate-write-all-2 : tie.Need-slice-aggregate-write-all-2
-slice-aggregate-write-all-2 c = sym (length-take-le _ _ (c .before .before .before .before .cite .ensures .1 .0))
+slice-aggregate-write-all-2 c = sym (length-take-le _ _ (c .before .before .before .before .cite .ensures .answer .bounds))
 
 pub main-spec : {M : Type 1} → statement M
 main-spec =

@@ -18,11 +18,13 @@ returns : tie.Need-returns
 returns c =
     let s = rw (c .before .before .before .size .given .1) at (c .before .before .before .before .before .read-request .ensures) in
     let short : c .before .before .before .size .given .0 .0 ≤ length (c .put-body .last .1 .0) = omega (arith, s .0 .number .1) in
-    ((λ input read. writes-body read s (c .put-body .ensures)), (short, sym (length-take-le _ _ short)))
+    record { answer = λ input read. writes-body read s (c .put-body .ensures); bounds = (short, sym (length-take-le _ _ short)) }
 
 returns-2 : tie.Need-returns-2
-returns-2 c =
-    ((λ input read. writes-nothing read (rw (c .enum-told .given .1) at (c .before .before .read-request .ensures))), (search needs, refl))
+returns-2 c = record {
+  answer = λ input read. writes-nothing read (rw (c .enum-told .given .1) at (c .before .before .read-request .ensures));
+  bounds = (search needs, refl);
+}
 
 pub dearest-spec : {M : Type 1} → statement M
 dearest-spec =

@@ -17,7 +17,7 @@ returns c =
     let refuse = c .before .before .before .refuse-all in
     record {
       decodes = decodes-exactly (now (a .delivery));
-      defined = c .order-of .ensures (judge .last .1 .0) ∙ ap orderAs (judge .ensures .0);
+      defined = c .order-of .ensures (judge .last .1 .0) ∙ ap orderAs (judge .ensures .answer);
       right = order-right (length (now (a .work))) (now (a .delivery));
       cleared = cleared (refuse .result) (length (judge .last .1 .0)) (refuse .ensures) ∙ ap zeros (judge .kept .1 .0);
     }

@@ -12,7 +12,10 @@ returns : tie.Need-returns
 returns c =
     let start = c .before .before .before .before .before in
     let counted = c .before .before .waiting .ensures in
-    (front-served _ _ _ (start .pre .0) (start .pre .1) counted (omega arith) _ _ _ (omega arith) (omega arith) (omega arith), front-sheet _ _ _ (start .pre .0) (start .pre .1) counted (omega arith))
+    record {
+      answer = front-sheet _ _ _ (start .pre .0) (start .pre .1) counted (omega arith);
+      left = front-served _ _ _ (start .pre .0) (start .pre .1) counted (omega arith) _ _ _ (omega arith) (omega arith) (omega arith);
+    }
 
 pub serve-spec : {M : Type 1} → statement M
 serve-spec =

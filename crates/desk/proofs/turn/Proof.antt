@@ -16,7 +16,7 @@ returns c = finds-nobody _ (seen foundAs (c .before .before .first-waiting .ensu
 returns-2 : tie.Need-returns-2
 returns-2 c =
     serves _ _ (seen foundAs (c .before .before .before .before .before .first-waiting .ensures) (c .before .before .before .depositor .given .1)) _ _
-    (c .serve .ensures .0) (c .serve .ensures .1)
+    (c .serve .ensures .left) (c .serve .ensures .answer)
 
 pub turn-spec : {M : Type 1} → statement M
 turn-spec = tie.close (tie.spec (λ c κs. search needs) (λ c. search needs) (λ c. search needs) serve-requires returns returns-2)

@@ -24,10 +24,10 @@ returns c =
     answered (now (c .before .before .before .before .before .before .before .before .before .before .args .body)) {r = At (record { quoted = false; from = c .before .before .before .before .before .before .row-end .result + 17; to = c .before .before .row-end2 .result })}
     (rw (
       known (c .before .before .before .before .before .before .before .before .is-marked .ensures) (c .before .before .before .before .before .before .before .if1 .taken),
-      ← c .before .before .before .before .before .before .row-end .ensures .0,
+      ← c .before .before .before .before .before .before .row-end .ensures .answer,
       known (c .before .before .before .before .starts-with .ensures) (c .before .before .before .if2 .taken),
-      ← c .before .before .row-end2 .ensures .0,
-      ← c .before .row-end3 .ensures .0,
+      ← c .before .before .row-end2 .ensures .answer,
+      ← c .before .row-end3 .ensures .answer,
       eq-eqb _ _ (c .if3 .taken),
     ))
 
@@ -37,10 +37,10 @@ returns-2 c =
     answered (now (c .before .before .before .before .before .before .before .before .before .before .args .body)) {r = Nothing}
     (rw (
       known (c .before .before .before .before .before .before .before .before .is-marked .ensures) (c .before .before .before .before .before .before .before .if1 .taken),
-      ← c .before .before .before .before .before .before .row-end .ensures .0,
+      ← c .before .before .before .before .before .before .row-end .ensures .answer,
       known (c .before .before .before .before .starts-with .ensures) (c .before .before .before .if2 .taken),
-      ← c .before .before .row-end2 .ensures .0,
-      ← c .before .row-end3 .ensures .0,
+      ← c .before .before .row-end2 .ensures .answer,
+      ← c .before .row-end3 .ensures .answer,
       ne-eqb _ _ (c .if3 .left),
     ))
 
@@ -50,7 +50,7 @@ returns-3 c =
     answered (now (c .before .before .before .before .before .before .before .args .body)) {r = Nothing}
     (rw (
       known (c .before .before .before .before .before .is-marked .ensures) (c .before .before .before .before .if1 .taken),
-      ← c .before .before .before .row-end .ensures .0,
+      ← c .before .before .before .row-end .ensures .answer,
       known (c .before .starts-with .ensures) (c .if2 .left),
     ))
 

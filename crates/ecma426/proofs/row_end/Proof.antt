@@ -20,13 +20,16 @@ returns : tie.Need-returns Inv-loop μ-loop
 returns c =
     let a = c .before .before .before .before .args in
     let i = c .before .before .loop .i in
-    (sym (c .before .before .loop .inv .0 ∙ row-stops (a .kind) (now (a .s)) i (known (c .before .one-at .ensures .0) (c .if1 .taken))), omega arith)
+    record {
+      answer = sym (c .before .before .loop .inv .0 ∙ row-stops (a .kind) (now (a .s)) i (known (c .before .one-at .ensures .answer) (c .if1 .taken)));
+      bounds = omega arith;
+    }
 
 loop-again : tie.Need-loop-again Inv-loop μ-loop
 loop-again c =
     let a = c .before .before .before .before .args in
     let i = c .before .before .loop .i in
-    (c .before .before .loop .inv .0 ∙ row-goes-on (a .kind) (now (a .s)) i (c .before .one-at .ensures .0) (c .if1 .left), omega arith, omega arith)
+    (c .before .before .loop .inv .0 ∙ row-goes-on (a .kind) (now (a .s)) i (c .before .one-at .ensures .answer) (c .if1 .left), omega arith, omega arith)
 
 pub row-end-spec : {M : Type 1} → statement M
 row-end-spec =

@@ -4,6 +4,7 @@ use mathlib.Core.List.{List}
 use mathlib.Core.Option.{Option, none, some}
 use Prim.Native.Nat.{ℕ, _+_, _^_, _≤_, _<_}
 use lib.ListN.{length, drop, set}
+use Rattle.laws.specs.code.Told.{Told}
 use Rattle.text.specs.Bytes.{part}
 use Rattle.analysis.specs.Mode.{Mode, modeNumber}
 use Rattle.analysis.specs.code.Mode.{modeAs}
@@ -26,11 +27,6 @@ use Rattle.jsdoc.specs.declared.answers.Searched.{Searched}
 
 abbrev pub attributeModeAs : AttributeMode → ModeNamed
 attributeModeAs m = record { named = m .named; mode = modeAs (m .mode) }
-
--- the answer r stands for o, and its places are in order
-pub record Reads {A R : Type 0} (view : R → A) (Ordered : R → Type 0) (o : A) (r : R) : Type 0 where
-  pub is : view r ≡ o
-  pub ordered : Ordered r
 
 -- an answer to s, by the bytes and the values that it stands for; and its places in order
 module _ (s : Bytes) where
@@ -77,20 +73,20 @@ module _ (s : Bytes) where
 
   -- an answer to s stands for what a parser answers
   abbrev pub Finds : Parsed (Unit {0}) → Skipped → Type 0
-  Finds = Reads skippedAs skippedIn
+  Finds o = Told skippedAs o skippedIn
 
   -- so does a text that is read from `at` on, with the width of its marks
   abbrev pub Spells : ℕ → ℕ → Parsed Bytes → Text → Type 0
-  Spells at mark = Reads textAs (textIn at mark)
+  Spells at mark o = Told textAs o (textIn at mark)
 
   abbrev pub Holds : Parsed ModeNamed → AttributesRead → Type 0
-  Holds = Reads attributesAs attributesIn
+  Holds o = Told attributesAs o attributesIn
 
   abbrev pub Gives : Parsed Mode → ModeRead → Type 0
-  Gives = Reads modeReadAs modeReadIn
+  Gives o = Told modeReadAs o modeReadIn
 
   abbrev pub Imports : Option Hit → JsDocImport → Type 0
-  Imports = Reads importAs importIn
+  Imports o = Told importAs o importIn
 
 -- the marks of a quote have a byte each, and a name has none; a key is either
 abbrev pub quoteMark : ℕ

@@ -62,7 +62,7 @@ analyze-source-map-url-requires t c κs =
     (start .pre .1 .1 .1 .0, end-reached (start .pre .1 .1 .1 .1 .grouped) (programOf (start .args .parts .program)) _ (c .before .end-group .ensures))
 
 returns-2 : (t : ℕ) → put-rest-lts.Need-returns-2 (calls t) (put-rest-at t) put-rest.Post
-returns-2 t c = λ t o. rest-written o _ (c .before .before .before .before .end-group .ensures) (c .before .before .before .before .before .before .before .before .before .analyze-jsdoc-imports .ensures .0) (c .before .before .analyze-source-map-url .ensures)
+returns-2 t c = λ t o. rest-written o _ (c .before .before .before .before .end-group .ensures) (c .before .before .before .before .before .before .before .before .before .analyze-jsdoc-imports .ensures .answer) (c .before .before .analyze-source-map-url .ensures)
 
 pub +put-rest-spec : {M : Type 1} → statement M
 +put-rest-spec =

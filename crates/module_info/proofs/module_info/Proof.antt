@@ -4,18 +4,18 @@ use Rattle.module_info.proofs.module_info.Statement.{statement}
 use Rattle.module_info.proofs.module_info.Tie as tie
 
 returns : tie.Need-returns
-returns c = empty-demanded _ (rw (c .before .before .before .before .enum-told .given .1) at (c .before .before .before .before .before .before .judge .ensures .0)) (c .before .before .write-default .ensures)
+returns c = empty-demanded _ (rw (c .before .before .before .before .enum-told .given .1) at (c .before .before .before .before .before .before .judge .ensures .answer)) (c .before .before .write-default .ensures)
 
 write-report-requires : tie.Need-write-report-requires
-write-report-requires c κs = rw (c .before .before .before .parts .given .1) at (c .before .before .before .before .before .judge .ensures .0)
+write-report-requires c κs = rw (c .before .before .before .parts .given .1) at (c .before .before .before .before .before .judge .ensures .answer)
 
 returns-2 : tie.Need-returns-2
 returns-2 c =
-    let (some, refused) = rw (c .before .before .before .before .before .r .given .1) at (c .before .before .before .before .before .before .before .judge .ensures .0) in
+    let (some, refused) = rw (c .before .before .before .before .before .r .given .1) at (c .before .before .before .before .before .before .before .judge .ensures .answer) in
     refusal-demanded _ some refused (c .before .before .refuse-all .ensures)
 
 returns-3 : tie.Need-returns-3
-returns-3 c = demanded ((rw (c .before .before .before .before .before .before .parts .given .1) at (c .before .before .before .before .before .before .before .before .judge .ensures .0)) .accepts) (c .before .before .write-report .ensures)
+returns-3 c = demanded ((rw (c .before .before .before .before .before .before .parts .given .1) at (c .before .before .before .before .before .before .before .before .judge .ensures .answer)) .accepts) (c .before .before .write-report .ensures)
 
 pub module-info-spec : {M : Type 1} → statement M
 module-info-spec =

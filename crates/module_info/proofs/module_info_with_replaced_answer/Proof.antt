@@ -3,7 +3,7 @@ use Rattle.module_info.proofs.module_info_with_replaced_answer.Statemen
 use Rattle.module_info.proofs.module_info_with_replaced_answer.Tie as tie
 
 returns : tie.Need-returns
-returns c = (c .before .before .before .before .before .module-info-with-replaced .result, c .before .before .before .before .before .module-info-with-replaced .ensures .0, c .before .before .before .before .before .module-info-with-replaced .ensures .1, c .pack .ensures _)
+returns c = (c .before .before .before .before .before .module-info-with-replaced .result, c .before .before .before .before .before .module-info-with-replaced .ensures .answer, c .before .before .before .before .before .module-info-with-replaced .ensures .beside, c .pack .ensures _)
 
 pub module-info-with-replaced-answer-spec : {M : Type 1} → statement M
 module-info-with-replaced-answer-spec =

@@ -13,7 +13,7 @@ slice-aggregate-print-order c =
     (rw (c .before .before .before .before .input .given .1) at (c .before .before .before .before .before .before .before .read-input .ensures)) .1
 
 slice-aggregate-write-all-2 : tie.Need-slice-aggregate-write-all-2
-slice-aggregate-write-all-2 c = sym (length-take-le _ _ (c .before .before .before .print-order .ensures .1))
+slice-aggregate-write-all-2 c = sym (length-take-le _ _ (c .before .before .before .print-order .ensures .bounds))
 
 pub main-spec : {M : Type 1} → statement M
 main-spec =

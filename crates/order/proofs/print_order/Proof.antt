@@ -12,18 +12,18 @@ returns c =
     let put = c .before .before .before .before .before .before .put-order in
     let start = c .before .before .before .before .before .before .before .before .before .before .before .before in
     let line = put .last .1 .1 .0 in
-    let short = rw (start .pre .0) at (put .ensures .1) in (
-      all-written
+    let short = rw (start .pre .0) at (put .ensures .bounds) in record {
+      answer = all-written
           line
           (put .result)
           (length (now (start .args .line)))
           (printedOrder (now (start .args .delivery)))
-          (rw (start .pre .0) at (put .ensures .0))
+          (rw (start .pre .0) at (put .ensures .answer))
           (omega (arith, short, start .pre .1))
           (c .written .result)
-          (c .written .ensures),
-      omega (arith, c .written .ensures, length-take (put .result .at) line),
-    )
+          (c .written .ensures);
+      bounds = omega (arith, c .written .ensures, length-take (put .result .at) line);
+    }
 
 pub print-order-spec : {M : Type 1} → statement M
 print-order-spec =

@@ -9,7 +9,7 @@ returns : tie.Need-returns
 returns c =
     let read = c .before .before .before .before .first-reading in
     let a = c .before .before .before .before .before .before .before .before .before .args in
-    rw (← read-counted (a .rule) (now (a .source)) (read .result) First _ (read .ensures .0)) (c .before .before .put-reading .ensures)
+    rw (← read-counted (a .rule) (now (a .source)) (read .result) First _ (read .ensures .answer)) (c .before .before .put-reading .ensures)
 
 pub analyze-first-spec : {M : Type 1} → statement M
 analyze-first-spec = tie.close (tie.spec (λ c κs. search needs) (λ c κs. search needs) (λ c. search needs) returns)

@@ -12,7 +12,7 @@ unfolding readBy
 returns c =
     let source = now (c .before .before .before .before .before .before .before .before .before .args .source) in
     let read = c .before .before .before .before .find-reading in
-    rw (← read-counted SourceMapUrl source (read .result) Last _ (read .ensures .0)) (c .before .before .put-reading .ensures)
+    rw (← read-counted SourceMapUrl source (read .result) Last _ (read .ensures .answer)) (c .before .before .put-reading .ensures)
 
 pub analyze-source-map-url-spec : {M : Type 1} → statement M
 analyze-source-map-url-spec =

@@ -33,7 +33,7 @@ read-types-requires c κs =
     rw (c .comment-at .ensures) (row-placed (now (a .comments)) (a .n) (c .before .before .before .before .before .before .before .before .before .before .before .before .pre .0 .fit) _ (omega arith))
 
 put-reading-requires : tie.Need-put-reading-requires
-put-reading-requires c κs = (c .before .before .before .before .before .before .before .before .before .before .before .before .before .before .pre .0 .indexed, c .before .read-types .ensures .1)
+put-reading-requires c κs = (c .before .before .before .before .before .before .before .before .before .before .before .before .before .before .pre .0 .indexed, c .before .read-types .ensures .bounds)
 
 returns : tie.Need-returns
 unfolding typesIn
@@ -41,8 +41,11 @@ returns c =
     let a = c .before .before .before .before .before .before .before .before .before .before .before .before .before .before .before .before .before .args in
     let found = seen foundAs (c .before .before .before .before .before .before .before .before .before .before .before .find-group .ensures) (c .before .before .before .before .before .before .before .before .before .g .given .1) in
     let r = found-reaching (c .before .before .before .before .before .before .before .before .before .before .before .before .before .before .before .before .before .pre .1 .grouped) Leading (a .start) found in
-    let read = rw (c .before .before .before .before .before .comment-at .ensures) at (c .before .before .before .before .read-types .ensures .0) in
-    rw (found, group-last (now (a .comments)) (a .n) (c .before .before .before .before .before .before .before .before .before .g .given .0 .0) r) (rw read at (c .before .before .put-reading .ensures))
+    let read = rw (c .before .before .before .before .before .comment-at .ensures) at (c .before .before .before .before .read-types .ensures .answer) in
+    rw (
+      found,
+      group-last (now (a .comments)) (a .n) (c .before .before .before .before .before .before .before .before .before .g .given .0 .0) r,
+    ) (rw read at (c .before .before .put-reading .ensures))
 
 returns-2 : tie.Need-returns-2
 unfolding typesIn encodeOptional

@@ -14,7 +14,10 @@ unfolding readBy tsOrDenoTypes
 returns c =
     let a = c .before .before .before .before .args in
     let read = c .before .before .read in
-    (rw (← read-one TsTypes (now (a .source)) (read .result) (a .c) (read .ensures .0), c .enum-told .given .1), read .ensures .1)
+    record {
+      answer = rw (← read-one TsTypes (now (a .source)) (read .result) (a .c) (read .ensures .answer), c .enum-told .given .1);
+      bounds = read .ensures .bounds;
+    }
 
 returns-2 : tie.Need-returns-2
 unfolding readBy tsOrDenoTypes
@@ -22,8 +25,11 @@ returns-2 c =
     let a = c .before .before .before .before .before .args in
     let source = now (a .source) in
     let read = c .before .before .before .read in
-    let none = seen (readAs source) (read-one TsTypes source (read .result) (a .c) (read .ensures .0)) (c .before .enum-told2 .given .1) in
-    (rw none (read-one DenoTypes source (c .read2 .result) (a .c) (c .read2 .ensures .0)), c .read2 .ensures .1)
+    let none = seen (readAs source) (read-one TsTypes source (read .result) (a .c) (read .ensures .answer)) (c .before .enum-told2 .given .1) in
+    record {
+      answer = rw none (read-one DenoTypes source (c .read2 .result) (a .c) (c .read2 .ensures .answer));
+      bounds = c .read2 .ensures .bounds;
+    }
 
 pub read-types-spec : {M : Type 1} → statement M
 read-types-spec =

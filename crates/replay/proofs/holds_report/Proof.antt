@@ -20,14 +20,14 @@ returns : tie.Need-returns Inv-loop μ-loop
 returns c =
     let a = c .before .before .before .before .before .before .before .args in
     let l = c .before .before .before .before .loop in
-    let other = held-differ (now (a .buffer)) (now (a .report)) (l .i) (c .before .before .before .loop-test .taken) (λ e. c .if1 .taken (c .before .before .byte-at .ensures .0 ∙ e ∙ sym (c .before .byte-at2 .ensures .0))) in
+    let other = held-differ (now (a .buffer)) (now (a .report)) (l .i) (c .before .before .before .loop-test .taken) (λ e. c .if1 .taken (c .before .before .byte-at .ensures .answer ∙ e ∙ sym (c .before .byte-at2 .ensures .answer))) in
     sym (l .inv ∙ other)
 
 loop-again : tie.Need-loop-again Inv-loop μ-loop
 loop-again c =
     let a = c .before .before .before .before .before .before .before .args in
     let l = c .before .before .before .before .loop in
-    l .inv ∙ held-agree (now (a .buffer)) (now (a .report)) (l .i) (c .before .before .before .loop-test .taken) (sym (c .before .before .byte-at .ensures .0) ∙ c .if1 .left ∙ c .before .byte-at2 .ensures .0)
+    l .inv ∙ held-agree (now (a .buffer)) (now (a .report)) (l .i) (c .before .before .before .loop-test .taken) (sym (c .before .before .byte-at .ensures .answer) ∙ c .if1 .left ∙ c .before .byte-at2 .ensures .answer)
 
 returns-2 : tie.Need-returns-2 Inv-loop μ-loop
 returns-2 c =

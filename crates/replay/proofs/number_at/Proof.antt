@@ -6,16 +6,16 @@ use Rattle.replay.proofs.number_at.Tie as tie
 
 returns : tie.Need-returns
 returns c =
-    let a = c .before .before .before .before .before .args in (
-      rw (
-        c .before .before .before .byte-at .ensures .0,
-        c .before .before .byte-at2 .ensures .0,
-        c .before .byte-at3 .ensures .0,
-        c .byte-at4 .ensures .0,
+    let a = c .before .before .before .before .before .args in record {
+      answer = rw (
+        c .before .before .before .byte-at .ensures .answer,
+        c .before .before .byte-at2 .ensures .answer,
+        c .before .byte-at3 .ensures .answer,
+        c .byte-at4 .ensures .answer,
       )
-          (four-at (now (a .list)) (a .at) (search needs)),
-      search needs,
-    )
+          (four-at (now (a .list)) (a .at) (search needs));
+      bounds = search needs;
+    }
 
 pub number-at-spec : {M : Type 1} → statement M
 number-at-spec =

@@ -13,27 +13,27 @@ returns : tie.Need-returns
 unfolding piece
 returns c =
     let a = c .before .before .args in
-    (rw (four-short (drop (a .at) (now (a .list))) (rw length-drop (omega arith))), tt)
+    record { answer = rw (four-short (drop (a .at) (now (a .list))) (rw length-drop (omega arith))); bounds = tt }
 
 returns-2 : tie.Need-returns-2
 unfolding piece
 returns-2 c =
     let a = c .before .before .before .args in
-    (rw (four-short (drop (a .at) (now (a .list))) (rw length-drop (omega arith))), tt)
+    record { answer = rw (four-short (drop (a .at) (now (a .list))) (rw length-drop (omega arith))); bounds = tt }
 
 returns-3 : tie.Need-returns-3
 unfolding piece
 returns-3 c =
     let a = c .before .before .before .before .before .args in
     let long = c .before .number-at in
-    (rw (long .ensures .0, bytes-past (now (a .list)) (a .at + 4) (long .result) (c .if3 .taken)), tt)
+    record { answer = rw (long .ensures .answer, bytes-past (now (a .list)) (a .at + 4) (long .result) (c .if3 .taken)); bounds = tt }
 
 returns-4 : tie.Need-returns-4
 unfolding piece
 returns-4 c =
     let a = c .before .before .before .before .before .args in
     let long = c .before .number-at in
-    (rw (long .ensures .0, bytes-at (now (a .list)) (a .at + 4) (long .result) (c .if3 .left)), search needs)
+    record { answer = rw (long .ensures .answer, bytes-at (now (a .list)) (a .at + 4) (long .result) (c .if3 .left)); bounds = search needs }
 
 pub part-at-spec : {M : Type 1} → statement M
 part-at-spec =

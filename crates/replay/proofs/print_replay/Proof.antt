@@ -3,7 +3,7 @@ use Rattle.replay.proofs.print_replay.Statement.{statement}
 use Rattle.replay.proofs.print_replay.Tie as tie
 
 print-requires : tie.Need-print-requires
-print-requires c κs = rw (c .before .counts .given .1) at (c .before .before .before .before .replay .ensures .1)
+print-requires c κs = rw (c .before .counts .given .1) at (c .before .before .before .before .replay .ensures .bounds)
 
 pub print-replay-spec : {M : Type 1} → statement M
 print-replay-spec =

@@ -5,7 +5,7 @@ use mathlib.Core.Path.{_≡_, refl, sym, ap, _∙_}
 use Prim.Native.Nat.{_-_, _≤_}
 use lib.ListN.{length, drop}
 use denote.Ref.{now}
-use Rattle.laws.proofs.Steps.{seen}
+use Rattle.laws.proofs.Steps.{seen, told}
 use Rattle.replay.specs.Stored.{rows}
 use Rattle.replay.specs.code.Views.{stepAs}
 use Rattle.replay.specs.code.Bounds.{Room}
@@ -24,7 +24,7 @@ abbrev μ-loop : tie.MeasureT-loop
 μ-loop list buffer₀ counts₀ left₀ at₀ buffer counts left at = left
 
 returns : tie.Need-returns Inv-loop μ-loop
-returns c = (sym (tally-short _ _ (c .if1 .taken)), tt)
+returns c = record { answer = sym (tally-short _ _ (c .if1 .taken)); bounds = tt }
 
 loop-holds : tie.Need-loop-holds Inv-loop μ-loop
 loop-holds c = (refl, search needs, search needs, refl)
@@ -34,8 +34,11 @@ returns-2 c =
     let a = c .before .before .before .before .before .before .before .before .before .before .before .before .args in
     let l = c .before .before .before .before .before .before .before .loop in
     let s = now (a .list) in
-    let none = rw (l .inv .0) at (seen (stepAs s) (c .before .before .before .before .replay-one .ensures .0) (c .enum-told .given .1)) in
-    (sym (tally-rows (length (now (a .buffer))) s (c .before .before .before .before .before .before .before .before .number-at .ensures .0) ∙ l .inv .3 ∙ row-missing (length (now (a .buffer))) (l .counts) (l .left) (drop (l .at) s) (c .before .before .before .before .before .before .loop-test .taken) none), tt)
+    let none = rw (l .inv .0) at (told (c .before .before .before .before .replay-one .ensures) (c .enum-told .given .1)) in
+    record {
+      answer = sym (tally-rows (length (now (a .buffer))) s (c .before .before .before .before .before .before .before .before .number-at .ensures .answer) ∙ l .inv .3 ∙ row-missing (length (now (a .buffer))) (l .counts) (l .left) (drop (l .at) s) (c .before .before .before .before .before .before .loop-test .taken) none);
+      bounds = tt;
+    }
 
 loop-again : tie.Need-loop-again Inv-loop μ-loop
 loop-again c =
@@ -45,12 +48,12 @@ loop-again c =
     let size = length (now (a .buffer)) in
     let called = c .before .before .before .before .before .before .replay-one in
     let found = c .before .before .ran .given in
-    let next = rw (l .inv .0) at (seen (stepAs s) (called .ensures .0) (found .1)) in
+    let next = rw (l .inv .0) at (seen (stepAs s) (called .ensures .answer) (found .1)) in
     let onto = row-counted size (l .counts) (l .left) (drop (l .at) s) (c .before .before .before .before .before .before .before .before .loop-test .taken) next in (
       search needs,
-      c .with .ensures .1 (l .left - 1) (omega arith, omega arith),
-      rw (found .1) at (called .ensures .1),
-      l .inv .3 ∙ onto ∙ ap (λ k. onward size k (rows (l .left - 1) (drop (found .0 .1 .0) s))) (sym (c .with .ensures .0)),
+      c .with .ensures .bounds (l .left - 1) (omega arith, omega arith),
+      rw (found .1) at (called .ensures .bounds),
+      l .inv .3 ∙ onto ∙ ap (λ k. onward size k (rows (l .left - 1) (drop (found .0 .1 .0) s))) (sym (c .with .ensures .answer)),
     )
 
 returns-3 : tie.Need-returns-3 Inv-loop μ-loop
@@ -58,20 +61,20 @@ returns-3 c =
     let a = c .before .before .before .before .before .before .before .args in
     let l = c .before .before .loop in
     let s = now (a .list) in
-    let size = length (now (a .buffer)) in (
-      sym (tally-rows size s (c .before .before .before .number-at .ensures .0) ∙ l .inv .3 ∙ rows-done size (l .counts) (l .left) s (l .at) (c .before .loop-test .left) (c .if2 .taken)),
-      search needs,
-    )
+    let size = length (now (a .buffer)) in record {
+      answer = sym (tally-rows size s (c .before .before .before .number-at .ensures .answer) ∙ l .inv .3 ∙ rows-done size (l .counts) (l .left) s (l .at) (c .before .loop-test .left) (c .if2 .taken));
+      bounds = search needs;
+    }
 
 returns-4 : tie.Need-returns-4 Inv-loop μ-loop
 returns-4 c =
     let a = c .before .before .before .before .before .before .before .args in
     let l = c .before .before .loop in
     let s = now (a .list) in
-    let size = length (now (a .buffer)) in (
-      sym (tally-rows size s (c .before .before .before .number-at .ensures .0) ∙ l .inv .3 ∙ bytes-left size (l .counts) (l .left) s (l .at) (c .before .loop-test .left) (omega arith)),
-      tt,
-    )
+    let size = length (now (a .buffer)) in record {
+      answer = sym (tally-rows size s (c .before .before .before .number-at .ensures .answer) ∙ l .inv .3 ∙ bytes-left size (l .counts) (l .left) s (l .at) (c .before .loop-test .left) (omega arith));
+      bounds = tt;
+    }
 
 pub replay-spec : {M : Type 1} → statement M
 replay-spec =

@@ -1,8 +1,6 @@
 use borrow.Author.Needs.{needs}
 use native.Mathlib.Omega.{arith}
-use denote.Ref.{now}
-use Rattle.laws.proofs.Steps.{seen}
-use Rattle.wire.specs.code.Views.{readAs}
+use Rattle.laws.proofs.Steps.{told}
 use Rattle.wire.proofs.TextCodec.{count-codec}
 use Rattle.sheet.specs.Limits.{commentLimit}
 use Rattle.accept.specs.code.Pieces.{commentFields}
@@ -11,26 +9,30 @@ use Rattle.accept.proofs.front.read_comment_table.Tie as tie
 
 read-comments-requires : tie.Need-read-comments-requires
 read-comments-requires c κs =
-    let s = now (c .before .before .before .before .before .before .before .before .args .sheet) in
-    omega (arith, count-codec commentLimit .sound _ _ _ (seen (readAs s) (c .before .before .before .before .count .ensures .0) (c .before .before .n .given .1)) .1 .0, c .before .before .before .before .before .before .before .before .pre)
+    omega (arith, count-codec commentLimit .sound _ _ _ (told (c .before .before .before .before .count .ensures) (c .before .before .n .given .1)) .1 .0, c .before .before .before .before .before .before .before .before .pre)
 
 returns : tie.Need-returns
 unfolding commentFields
 returns c =
-    let s = now (c .before .before .before .before .before .before .before .args .sheet) in
-    rw (seen (readAs s) (c .before .before .before .count .ensures .0) (c .before .r .given .1))
+    rw (told (c .before .before .before .count .ensures) (c .before .r .given .1))
 
 returns-2 : tie.Need-returns-2
 unfolding commentFields
 returns-2 c =
-    let s = now (c .before .before .before .before .before .before .before .before .before .before .before .before .before .before .args .sheet) in
-    rw (seen (readAs s) (c .before .before .before .before .before .before .before .before .before .before .count .ensures .0) (c .before .before .before .before .before .before .before .before .n .given .1), ← (rw (c .before .r2 .given .1) at (c .before .before .before .before .before .read-comments .ensures .0)))
+    rw (
+      told (c .before .before .before .before .before .before .before .before .before .before .count .ensures)
+          (c .before .before .before .before .before .before .before .before .n .given .1),
+      ← (rw (c .before .r2 .given .1) at (c .before .before .before .before .before .read-comments .ensures .answer)),
+    )
 
 returns-3 : tie.Need-returns-3
 unfolding commentFields
 returns-3 c =
-    let s = now (c .before .before .before .before .before .before .before .before .before .before .before .before .before .before .args .sheet) in
-    rw (seen (readAs s) (c .before .before .before .before .before .before .before .before .before .before .count .ensures .0) (c .before .before .before .before .before .before .before .before .n .given .1), ← (rw (c .before .next .given .1) at (c .before .before .before .before .before .read-comments .ensures .0)))
+    rw (
+      told (c .before .before .before .before .before .before .before .before .before .before .count .ensures)
+          (c .before .before .before .before .before .before .before .before .n .given .1),
+      ← (rw (c .before .next .given .1) at (c .before .before .before .before .before .read-comments .ensures .answer)),
+    )
 
 pub read-comment-table-spec : {M : Type 1} → statement M
 read-comment-table-spec =

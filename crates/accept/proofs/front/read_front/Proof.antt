@@ -2,23 +2,22 @@ use borrow.Author.Needs.{needs}
 use native.Mathlib.Omega.{arith}
 use mathlib.Core.Path.{sym}
 use denote.Ref.{now}
-use Rattle.laws.proofs.Steps.{seen}
+use Rattle.laws.proofs.Steps.{told, bounded}
 use Rattle.sheet.specs.Limits.{groupsStart, indexStart}
 use Rattle.accept.specs.code.Pieces.{front}
-use Rattle.accept.specs.code.Views.{sourceAs}
 use Rattle.accept.proofs.ByPieces.{few-comments}
 use Rattle.accept.proofs.Lent.{part-length, renewed, reaches, comments-are, groups-are, still, still-all}
 use Rattle.accept.proofs.front.read_front.Statement.{statement}
 use Rattle.accept.proofs.front.read_front.Tie as tie
 
 sub-source : tie.Need-sub-source
-sub-source c = (rw (c .before .media .given .1) at (c .before .before .before .read-source .ensures .1)) .0
+sub-source c = bounded (c .before .before .before .read-source .ensures) (c .before .media .given .1) .0
 
 part-source-start : tie.Need-part-source-start
-part-source-start c = (rw (c .before .media .given .1) at (c .before .before .before .read-source .ensures .1)) .0
+part-source-start c = bounded (c .before .before .before .read-source .ensures) (c .before .media .given .1) .0
 
 part-source-end : tie.Need-part-source-end
-part-source-end c = (rw (c .before .media .given .1) at (c .before .before .before .read-source .ensures .1)) .1
+part-source-end c = bounded (c .before .before .before .read-source .ensures) (c .before .media .given .1) .1
 
 part-read-comment-table-end : tie.Need-part-read-comment-table-end
 part-read-comment-table-end c = let room = c .before .before .before .before .before .before .before .before .pre .0 in omega arith
@@ -42,9 +41,7 @@ read-group-table-requires c κs =
 
 returns : tie.Need-returns
 unfolding front
-returns c =
-    let s = now (c .before .before .before .before .before .before .before .args .sheet) in
-    (rw (seen (sourceAs s) (c .before .before .before .read-source .ensures .0) (c .before .r .given .1)), (tt, search needs))
+returns c = record { answer = rw (told (c .before .before .before .read-source .ensures) (c .before .r .given .1)); bounds = tt; left = search needs }
 
 returns-2 : tie.Need-returns-2
 unfolding front
@@ -52,8 +49,15 @@ returns-2 c =
     let table = now (c .before .before .before .before .before .before .before .before .before .before .before .before .before .before .before .args .tables) in
     let comments = c .before .before .before .before .before .read-comment-table .last .1 .1 .1 .0 in
     let kept = c .before .before .before .before .before .read-comment-table .kept .1 .1 .1 .0 in
-    let s = now (c .before .before .before .before .before .before .before .before .before .before .before .before .before .before .before .args .sheet) in
-    (rw (seen (sourceAs s) (c .before .before .before .before .before .before .before .before .before .before .before .read-source .ensures .0) (c .before .before .before .before .before .before .before .before .before .media .given .1), ← (rw (c .before .r2 .given .1) at (c .before .before .before .before .before .read-comment-table .ensures))), (tt, (still table (c .before .before .before .before .before .before .before .before .before .before .before .before .before .before .before .pre .0) comments kept, search needs)))
+    record {
+      answer = rw (
+        told (c .before .before .before .before .before .before .before .before .before .before .before .read-source .ensures)
+            (c .before .before .before .before .before .before .before .before .before .media .given .1),
+        ← (rw (c .before .r2 .given .1) at (c .before .before .before .before .before .read-comment-table .ensures)),
+      );
+      bounds = tt;
+      left = (still table (c .before .before .before .before .before .before .before .before .before .before .before .before .before .before .before .pre .0) comments kept, search needs);
+    }
 
 returns-3 : tie.Need-returns-3
 unfolding front
@@ -63,8 +67,16 @@ returns-3 c =
     let kept = c .before .before .before .before .before .before .before .before .before .before .before .before .before .before .before .read-comment-table .kept .1 .1 .1 .0 in
     let groups = c .before .before .before .before .before .before .before .read-group-table .last .1 .1 .1 .1 .0 in
     let as-long = c .before .before .before .before .before .before .before .read-group-table .kept .1 .1 .1 .1 .0 in
-    let s = now (c .before .before .before .before .before .before .before .before .before .before .before .before .before .before .before .before .before .before .before .before .before .before .before .before .before .args .sheet) in
-    (rw (seen (sourceAs s) (c .before .before .before .before .before .before .before .before .before .before .before .before .before .before .before .before .before .before .before .before .before .read-source .ensures .0) (c .before .before .before .before .before .before .before .before .before .before .before .before .before .before .before .before .before .before .before .media .given .1), ← (rw (c .before .before .before .before .before .before .before .before .before .before .before .n .given .1) at (c .before .before .before .before .before .before .before .before .before .before .before .before .before .before .before .read-comment-table .ensures)), ← (rw (c .before .r3 .given .1) at (c .before .before .before .before .before .before .before .read-group-table .ensures))), (tt, (still-all table (c .before .before .before .before .before .before .before .before .before .before .before .before .before .before .before .before .before .before .before .before .before .before .before .before .before .pre .0) comments kept groups as-long, search needs)))
+    record {
+      answer = rw (
+        told (c .before .before .before .before .before .before .before .before .before .before .before .before .before .before .before .before .before .before .before .before .before .read-source .ensures)
+            (c .before .before .before .before .before .before .before .before .before .before .before .before .before .before .before .before .before .before .before .media .given .1),
+        ← (rw (c .before .before .before .before .before .before .before .before .before .before .before .n .given .1) at (c .before .before .before .before .before .before .before .before .before .before .before .before .before .before .before .read-comment-table .ensures)),
+        ← (rw (c .before .r3 .given .1) at (c .before .before .before .before .before .before .before .read-group-table .ensures)),
+      );
+      bounds = tt;
+      left = (still-all table (c .before .before .before .before .before .before .before .before .before .before .before .before .before .before .before .before .before .before .before .before .before .before .before .before .before .pre .0) comments kept groups as-long, search needs);
+    }
 
 returns-4 : tie.Need-returns-4
 unfolding front
@@ -74,8 +86,18 @@ returns-4 c =
     let kept = c .before .before .before .before .before .before .before .before .before .before .before .before .before .before .before .read-comment-table .kept .1 .1 .1 .0 in
     let groups = c .before .before .before .before .before .before .before .read-group-table .last .1 .1 .1 .1 .0 in
     let as-long = c .before .before .before .before .before .before .before .read-group-table .kept .1 .1 .1 .1 .0 in
-    let s = now (c .before .before .before .before .before .before .before .before .before .before .before .before .before .before .before .before .before .before .before .before .before .before .before .before .before .args .sheet) in
-    (rw (comments-are table (c .before .before .before .before .before .before .before .before .before .before .before .before .before .before .before .before .before .before .before .before .before .before .before .before .before .pre .0) comments kept groups as-long, groups-are table (c .before .before .before .before .before .before .before .before .before .before .before .before .before .before .before .before .before .before .before .before .before .before .before .before .before .pre .0) comments kept groups as-long, seen (sourceAs s) (c .before .before .before .before .before .before .before .before .before .before .before .before .before .before .before .before .before .before .before .before .before .read-source .ensures .0) (c .before .before .before .before .before .before .before .before .before .before .before .before .before .before .before .before .before .before .before .media .given .1), ← (rw (c .before .before .before .before .before .before .before .before .before .before .before .n .given .1) at (c .before .before .before .before .before .before .before .before .before .before .before .before .before .before .before .read-comment-table .ensures)), ← (rw (c .before .m .given .1) at (c .before .before .before .before .before .before .before .read-group-table .ensures))), (rw (c .before .before .before .before .before .before .before .before .before .before .before .before .before .before .before .before .before .before .before .media .given .1) at (c .before .before .before .before .before .before .before .before .before .before .before .before .before .before .before .before .before .before .before .before .before .read-source .ensures .1), (still-all table (c .before .before .before .before .before .before .before .before .before .before .before .before .before .before .before .before .before .before .before .before .before .before .before .before .before .pre .0) comments kept groups as-long, search needs)))
+    record {
+      answer = rw (
+        comments-are table (c .before .before .before .before .before .before .before .before .before .before .before .before .before .before .before .before .before .before .before .before .before .before .before .before .before .pre .0) comments kept groups as-long,
+        groups-are table (c .before .before .before .before .before .before .before .before .before .before .before .before .before .before .before .before .before .before .before .before .before .before .before .before .before .pre .0) comments kept groups as-long,
+        told (c .before .before .before .before .before .before .before .before .before .before .before .before .before .before .before .before .before .before .before .before .before .read-source .ensures)
+            (c .before .before .before .before .before .before .before .before .before .before .before .before .before .before .before .before .before .before .before .media .given .1),
+        ← (rw (c .before .before .before .before .before .before .before .before .before .before .before .n .given .1) at (c .before .before .before .before .before .before .before .before .before .before .before .before .before .before .before .read-comment-table .ensures)),
+        ← (rw (c .before .m .given .1) at (c .before .before .before .before .before .before .before .read-group-table .ensures)),
+      );
+      bounds = bounded (c .before .before .before .before .before .before .before .before .before .before .before .before .before .before .before .before .before .before .before .before .before .read-source .ensures) (c .before .before .before .before .before .before .before .before .before .before .before .before .before .before .before .before .before .before .before .media .given .1);
+      left = (still-all table (c .before .before .before .before .before .before .before .before .before .before .before .before .before .before .before .before .before .before .before .before .before .before .before .before .before .pre .0) comments kept groups as-long, search needs);
+    }
 
 same-length : tie.Need-same-length
 same-length c = still (now (c .before .before .before .before .before .before .before .before .before .before .before .before .before .before .before .args .tables)) (c .before .before .before .before .before .before .before .before .before .before .before .before .before .before .before .pre .0) (c .before .before .before .before .before .read-comment-table .last .1 .1 .1 .0) (c .before .before .before .before .before .read-comment-table .kept .1 .1 .1 .0)

@@ -1,8 +1,6 @@
 use borrow.Author.Needs.{needs}
 use native.Mathlib.Omega.{arith}
-use denote.Ref.{now}
-use Rattle.laws.proofs.Steps.{known, seen}
-use Rattle.wire.specs.code.Views.{readAs}
+use Rattle.laws.proofs.Steps.{known, told}
 use Rattle.wire.proofs.TextCodec.{count-codec}
 use Rattle.sheet.specs.Limits.{groupLimit}
 use Rattle.accept.specs.code.Pieces.{groupFields}
@@ -11,37 +9,45 @@ use Rattle.accept.proofs.front.read_group_table.Tie as tie
 
 read-groups-requires : tie.Need-read-groups-requires
 read-groups-requires c κs =
-    let s = now (c .before .before .before .before .before .before .before .before .before .args .sheet) in
-    omega (arith, count-codec groupLimit .sound _ _ _ (seen (readAs s) (c .before .before .before .before .count .ensures .0) (c .before .before .m .given .1)) .1 .0, c .before .before .before .before .before .before .before .before .before .pre .0)
+    omega (arith, count-codec groupLimit .sound _ _ _ (told (c .before .before .before .before .count .ensures) (c .before .before .m .given .1)) .1 .0, c .before .before .before .before .before .before .before .before .before .pre .0)
 
 is-covered-requires : tie.Need-is-covered-requires
 is-covered-requires c κs =
-    let s = now (c .before .before .before .before .before .before .before .before .before .before .before .before .before .before .before .before .before .args .sheet) in
-    (omega (arith, count-codec groupLimit .sound _ _ _ (seen (readAs s) (c .before .before .before .before .before .before .before .before .before .before .before .before .count .ensures .0) (c .before .before .before .before .before .before .before .before .before .before .m .given .1)) .1 .0, c .before .before .before .before .before .before .before .read-groups .kept .1 .1 .1 .1 .1 .0, c .before .before .before .before .before .before .before .before .before .before .before .before .before .before .before .before .before .pre .0), c .before .before .before .before .before .before .before .before .before .before .before .before .before .before .before .before .before .pre .1)
+    (omega (arith, count-codec groupLimit .sound _ _ _ (told (c .before .before .before .before .before .before .before .before .before .before .before .before .count .ensures) (c .before .before .before .before .before .before .before .before .before .before .m .given .1)) .1 .0, c .before .before .before .before .before .before .before .read-groups .kept .1 .1 .1 .1 .1 .0, c .before .before .before .before .before .before .before .before .before .before .before .before .before .before .before .before .before .pre .0), c .before .before .before .before .before .before .before .before .before .before .before .before .before .before .before .before .before .pre .1)
 
 returns : tie.Need-returns
 unfolding groupFields
 returns c =
-    let s = now (c .before .before .before .before .before .before .before .before .args .sheet) in
-    rw (seen (readAs s) (c .before .before .before .count .ensures .0) (c .before .r .given .1))
+    rw (told (c .before .before .before .count .ensures) (c .before .r .given .1))
 
 returns-2 : tie.Need-returns-2
 unfolding groupFields
 returns-2 c =
-    let s = now (c .before .before .before .before .before .before .before .before .before .before .before .before .before .before .before .args .sheet) in
-    rw (seen (readAs s) (c .before .before .before .before .before .before .before .before .before .before .count .ensures .0) (c .before .before .before .before .before .before .before .before .m .given .1), ← (rw (c .before .r2 .given .1) at (c .before .before .before .before .before .read-groups .ensures .0)))
+    rw (
+      told (c .before .before .before .before .before .before .before .before .before .before .count .ensures)
+          (c .before .before .before .before .before .before .before .before .m .given .1),
+      ← (rw (c .before .r2 .given .1) at (c .before .before .before .before .before .read-groups .ensures .answer)),
+    )
 
 returns-3 : tie.Need-returns-3
 unfolding groupFields
 returns-3 c =
-    let s = now (c .before .before .before .before .before .before .before .before .before .before .before .before .before .before .before .before .before .before .before .before .before .args .sheet) in
-    rw (seen (readAs s) (c .before .before .before .before .before .before .before .before .before .before .before .before .before .before .before .before .count .ensures .0) (c .before .before .before .before .before .before .before .before .before .before .before .before .before .before .m .given .1), ← (rw (c .before .before .before .before .before .before .before .next .given .1) at (c .before .before .before .before .before .before .before .before .before .before .before .read-groups .ensures .0)), known (c .before .before .before .is-covered .ensures .0) (c .if1 .taken))
+    rw (
+      told (c .before .before .before .before .before .before .before .before .before .before .before .before .before .before .before .before .count .ensures)
+          (c .before .before .before .before .before .before .before .before .before .before .before .before .before .before .m .given .1),
+      ← (rw (c .before .before .before .before .before .before .before .next .given .1) at (c .before .before .before .before .before .before .before .before .before .before .before .read-groups .ensures .answer)),
+      known (c .before .before .before .is-covered .ensures .answer) (c .if1 .taken),
+    )
 
 returns-4 : tie.Need-returns-4
 unfolding groupFields
 returns-4 c =
-    let s = now (c .before .before .before .before .before .before .before .before .before .before .before .before .before .before .before .before .before .before .before .before .before .args .sheet) in
-    rw (seen (readAs s) (c .before .before .before .before .before .before .before .before .before .before .before .before .before .before .before .before .count .ensures .0) (c .before .before .before .before .before .before .before .before .before .before .before .before .before .before .m .given .1), ← (rw (c .before .before .before .before .before .before .before .next .given .1) at (c .before .before .before .before .before .before .before .before .before .before .before .read-groups .ensures .0)), known (c .before .before .before .is-covered .ensures .0) (c .if1 .left))
+    rw (
+      told (c .before .before .before .before .before .before .before .before .before .before .before .before .before .before .before .before .count .ensures)
+          (c .before .before .before .before .before .before .before .before .before .before .before .before .before .before .m .given .1),
+      ← (rw (c .before .before .before .before .before .before .before .next .given .1) at (c .before .before .before .before .before .before .before .before .before .before .before .read-groups .ensures .answer)),
+      known (c .before .before .before .is-covered .ensures .answer) (c .if1 .left),
+    )
 
 pub read-group-table-spec : {M : Type 1} → statement M
 read-group-table-spec =

@@ -15,14 +15,14 @@ returns : tie.Need-returns
 returns c =
     let a = c .before .before .before .before .before .before .before .before .before .before .before .args in
     let s = now (a .sheet) in
-    let found = seen (checkedAs s) (c .before .before .before .before .check-root .ensures .0) (c .before .before .checked2 .given .1) in
+    let found = seen (checkedAs s) (c .before .before .before .before .check-root .ensures .answer) (c .before .before .checked2 .given .1) in
     bytes-follow (now (a .source)) _ (seen (programAs s) (c .before .before .before .before .before .before .before .before .read-program .ensures) (c .before .before .before .before .before .before .program .given .1)) (rw (drop-cons s _ 0 (c .if1 .taken)) at found)
 
 returns-2 : tie.Need-returns-2
 returns-2 c =
     let a = c .before .before .before .before .before .before .before .before .before .before .before .before .args in
     let s = now (a .sheet) in
-    let found = seen (checkedAs s) (c .before .before .before .before .before .check-root .ensures .0) (c .before .before .before .checked2 .given .1) in
+    let found = seen (checkedAs s) (c .before .before .before .before .before .check-root .ensures .answer) (c .before .before .before .checked2 .given .1) in
     root-uncooked (now (a .source)) _ (seen (programAs s) (c .before .before .before .before .before .before .before .before .before .read-program .ensures) (c .before .before .before .before .before .before .before .program .given .1)) (rw (drop-of-length-le s (c .before .if1 .left)) at found) (c .if2 .taken)
 
 returns-3 : tie.Need-returns-3
@@ -35,14 +35,14 @@ returns-4 : tie.Need-returns-4
 returns-4 c =
     let a = c .before .before .before .before .before .before .before .before .before .before .args in
     let s = now (a .sheet) in
-    root-refused (now (a .source)) _ (seen (programAs s) (c .before .before .before .before .before .before .before .read-program .ensures) (c .before .before .before .before .before .program .given .1)) (seen (checkedAs s) (c .before .before .before .check-root .ensures .0) (c .before .checked .given .1))
+    root-refused (now (a .source)) _ (seen (programAs s) (c .before .before .before .before .before .before .before .read-program .ensures) (c .before .before .before .before .before .program .given .1)) (seen (checkedAs s) (c .before .before .before .check-root .ensures .answer) (c .before .checked .given .1))
 
 returns-5 : tie.Need-returns-5
 returns-5 c =
     let a = c .before .before .before .before .before .before .before .before .before .before .before .before .args in
     let s = now (a .sheet) in
-    let found = seen (checkedAs s) (c .before .before .before .before .before .check-root .ensures .0) (c .before .before .before .checked2 .given .1) in
-    tree-stands s (now (a .source)) (a .c .at) _ (seen (programAs s) (c .before .before .before .before .before .before .before .before .before .read-program .ensures) (c .before .before .before .before .before .before .before .program .given .1)) (rw (drop-of-length-le s (c .before .if1 .left)) at found) (c .if2 .left) refl (c .before .before .before .before .before .check-root .ensures .1 .1)
+    let found = seen (checkedAs s) (c .before .before .before .before .before .check-root .ensures .answer) (c .before .before .before .checked2 .given .1) in
+    tree-stands s (now (a .source)) (a .c .at) _ (seen (programAs s) (c .before .before .before .before .before .before .before .before .before .read-program .ensures) (c .before .before .before .before .before .before .before .program .given .1)) (rw (drop-of-length-le s (c .before .if1 .left)) at found) (c .if2 .left) refl (c .before .before .before .before .before .check-root .ensures .reach)
 
 pub check-tree-spec : {M : Type 1} → statement M
 check-tree-spec =

@@ -6,36 +6,36 @@ use Rattle.analysis.proofs.matcher.assigned_at.Tie as tie
 
 returns : tie.Need-returns
 unfolding assignedAt
-returns c = (rw (known (c .before .before .match-word .ensures .0) (c .enum-told .given .1)), tt)
+returns c = record { answer = rw (known (c .before .before .match-word .ensures .answer) (c .enum-told .given .1)); bounds = tt }
 
 run-end-requires : tie.Need-run-end-requires
-run-end-requires c κs = rw (c .before .a .given .1) at (c .before .before .before .match-word .ensures .1)
+run-end-requires c κs = rw (c .before .a .given .1) at (c .before .before .before .match-word .ensures .bounds)
 
 returns-2 : tie.Need-returns-2
 unfolding assignedAt
-returns-2 c = (
-  rw (
-    known (c .before .before .before .before .before .before .before .before .match-word .ensures .0) (c .before .before .before .before .before .before .a .given .1),
-    ← c .before .before .before .before .run-end .ensures .0,
-    known (c .before .before .match-word2 .ensures .0) (c .enum-told2 .given .1),
-  ),
-  tt,
-)
+returns-2 c = record {
+  answer = rw (
+    known (c .before .before .before .before .before .before .before .before .match-word .ensures .answer) (c .before .before .before .before .before .before .a .given .1),
+    ← c .before .before .before .before .run-end .ensures .answer,
+    known (c .before .before .match-word2 .ensures .answer) (c .enum-told2 .given .1),
+  );
+  bounds = tt;
+}
 
 run-end-requires-2 : tie.Need-run-end-requires-2
-run-end-requires-2 c κs = rw (c .before .d .given .1) at (c .before .before .before .match-word2 .ensures .1)
+run-end-requires-2 c κs = rw (c .before .d .given .1) at (c .before .before .before .match-word2 .ensures .bounds)
 
 returns-3 : tie.Need-returns-3
 unfolding assignedAt
-returns-3 c = (
-  rw (
-    known (c .before .before .before .before .before .before .before .before .before .before .match-word .ensures .0) (c .before .before .before .before .before .before .before .before .a .given .1),
-    ← c .before .before .before .before .before .before .run-end .ensures .0,
-    known (c .before .before .before .before .match-word2 .ensures .0) (c .before .before .d .given .1),
-    ← c .run-end2 .ensures .0,
-  ),
-  c .run-end2 .ensures .1,
-)
+returns-3 c = record {
+  answer = rw (
+    known (c .before .before .before .before .before .before .before .before .before .before .match-word .ensures .answer) (c .before .before .before .before .before .before .before .before .a .given .1),
+    ← c .before .before .before .before .before .before .run-end .ensures .answer,
+    known (c .before .before .before .before .match-word2 .ensures .answer) (c .before .before .d .given .1),
+    ← c .run-end2 .ensures .answer,
+  );
+  bounds = c .run-end2 .ensures .bounds;
+}
 
 pub assigned-at-spec : {M : Type 1} → statement M
 assigned-at-spec =

@@ -8,35 +8,35 @@ use Rattle.analysis.proofs.matcher.attribute_at.Tie as tie
 
 returns : tie.Need-returns
 unfolding first
-returns c = (rw (attribute-row, ← c .before .class-at .ensures .0, eq-eqb _ _ (c .if1 .taken)), tt)
+returns c = record { answer = rw (attribute-row, ← c .before .class-at .ensures .answer, eq-eqb _ _ (c .if1 .taken)); bounds = tt }
 
 returns-2 : tie.Need-returns-2
 unfolding first
-returns-2 c = (
-  rw (
+returns-2 c = record {
+  answer = rw (
     attribute-row,
-    ← c .before .before .before .before .class-at .ensures .0,
+    ← c .before .before .before .before .class-at .ensures .answer,
     ne-eqb _ _ (c .before .before .before .if1 .left),
-    known (c .before .before .assigned-at .ensures .0) (c .enum-told .given .1),
-  ),
-  tt,
-)
+    known (c .before .before .assigned-at .ensures .answer) (c .enum-told .given .1),
+  );
+  bounds = tt;
+}
 
 quoted-at-requires : tie.Need-quoted-at-requires
-quoted-at-requires c κs = rw (c .before .b .given .1) at (c .before .before .before .assigned-at .ensures .1)
+quoted-at-requires c κs = rw (c .before .b .given .1) at (c .before .before .before .assigned-at .ensures .bounds)
 
 returns-3 : tie.Need-returns-3
 unfolding matchAt
-returns-3 c = (
-  rw (
+returns-3 c = record {
+  answer = rw (
     attribute-row,
-    ← c .before .before .before .before .before .before .class-at .ensures .0,
+    ← c .before .before .before .before .before .before .class-at .ensures .answer,
     ne-eqb _ _ (c .before .before .before .before .before .if1 .left),
-    known (c .before .before .before .before .assigned-at .ensures .0) (c .before .before .b .given .1),
+    known (c .before .before .before .before .assigned-at .ensures .answer) (c .before .before .b .given .1),
   )
-      (c .quoted-at .ensures .0),
-  c .quoted-at .ensures .1,
-)
+      (c .quoted-at .ensures .answer);
+  bounds = c .quoted-at .ensures .bounds;
+}
 
 pub attribute-at-spec : {M : Type 1} → statement M
 attribute-at-spec =

@@ -8,11 +8,14 @@ use Rattle.analysis.proofs.matcher.bare_at.Tie as tie
 
 returns : tie.Need-returns
 unfolding first
-returns c = (rw (bare-row, ← c .before .class-at .ensures .0, eq-eqb _ _ (c .if1 .taken)), tt)
+returns c = record { answer = rw (bare-row, ← c .before .class-at .ensures .answer, eq-eqb _ _ (c .if1 .taken)); bounds = tt }
 
 returns-2 : tie.Need-returns-2
 unfolding first
-returns-2 c = (rw (bare-row, ← c .before .before .class-at .ensures .0, ne-eqb _ _ (c .before .if1 .left), ← c .run-end .ensures .0), omega arith)
+returns-2 c = record {
+  answer = rw (bare-row, ← c .before .before .class-at .ensures .answer, ne-eqb _ _ (c .before .if1 .left), ← c .run-end .ensures .answer);
+  bounds = omega arith;
+}
 
 pub bare-at-spec : {M : Type 1} → statement M
 bare-at-spec =

@@ -25,19 +25,29 @@ returns : tie.Need-returns Inv-loop μ-loop
 returns c =
     let a = c .before .before .before .before .before .before .before .args in
     let step = left-step (attributeRow (now (a .word))) (now (a .body)) (c .before .before .before .before .loop .i) (c .before .before .before .loop-test .taken) in
-    (rw (c .before .before .before .before .loop .inv .1, step, ← c .before .before .attribute-at .ensures .0, c .enum-told .given .1), c .before .before .attribute-at .ensures .1)
+    record {
+      answer = rw (c .before .before .before .before .loop .inv .1, step, ← c .before .before .attribute-at .ensures .answer, c .enum-told .given .1);
+      bounds = c .before .before .attribute-at .ensures .bounds;
+    }
 
 loop-again : tie.Need-loop-again Inv-loop μ-loop
 loop-again c =
     let a = c .before .before .before .before .before .before .before .args in
     let step = left-step (attributeRow (now (a .word))) (now (a .body)) (c .before .before .before .before .loop .i) (c .before .before .before .loop-test .taken) in
-    (omega arith, c .before .before .before .before .loop .inv .1 ∙ step ∙ rw (known (c .before .before .attribute-at .ensures .0) (c .enum-told2 .given .1)))
+    (omega arith, c .before .before .before .before .loop .inv .1 ∙ step ∙ rw (known (c .before .before .attribute-at .ensures .answer) (c .enum-told2 .given .1)))
 
 returns-2 : tie.Need-returns-2 Inv-loop μ-loop
 returns-2 c =
     let a = c .before .before .before .before .args in
     let l = c .before .loop in
-    (rw (l .inv .1, left-ends (attributeRow (now (a .word))) (now (a .body)) (l .i) (c .loop-test .left), attribute-ends (now (a .body)) (l .i) (now (a .word)) (c .loop-test .left)), tt)
+    record {
+      answer = rw (
+        l .inv .1,
+        left-ends (attributeRow (now (a .word))) (now (a .body)) (l .i) (c .loop-test .left),
+        attribute-ends (now (a .body)) (l .i) (now (a .word)) (c .loop-test .left),
+      );
+      bounds = tt;
+    }
 
 pub find-attribute-spec : {M : Type 1} → statement M
 find-attribute-spec =

@@ -8,45 +8,45 @@ use Rattle.analysis.proofs.matcher.find_jsx.Tie as tie
 
 returns : tie.Need-returns
 unfolding first
-returns c = (
-  rw (
+returns c = record {
+  answer = rw (
     jsx-row _ _ (c .before .before .before .before .before .before .pre),
-    ← c .before .before .before .run-end .ensures .0,
-    known (c .before .before .match-word .ensures .0) (c .enum-told .given .1),
-  ),
-  tt,
-)
+    ← c .before .before .before .run-end .ensures .answer,
+    known (c .before .before .match-word .ensures .answer) (c .enum-told .given .1),
+  );
+  bounds = tt;
+}
 
 class-at-requires : tie.Need-class-at-requires
-class-at-requires c κs = rw (c .before .b .given .1) at (c .before .before .before .match-word .ensures .1)
+class-at-requires c κs = rw (c .before .b .given .1) at (c .before .before .before .match-word .ensures .bounds)
 
 returns-2 : tie.Need-returns-2
 unfolding first
-returns-2 c = (
-  rw (
+returns-2 c = record {
+  answer = rw (
     jsx-row _ _ (c .before .before .before .before .before .before .before .before .before .pre),
-    ← c .before .before .before .before .before .before .run-end .ensures .0,
-    known (c .before .before .before .before .before .match-word .ensures .0) (c .before .before .before .b .given .1),
-    ← c .before .class-at .ensures .0,
+    ← c .before .before .before .before .before .before .run-end .ensures .answer,
+    known (c .before .before .before .before .before .match-word .ensures .answer) (c .before .before .before .b .given .1),
+    ← c .before .class-at .ensures .answer,
     eq-eqb _ _ (c .if1 .taken),
-  ),
-  tt,
-)
+  );
+  bounds = tt;
+}
 
 returns-3 : tie.Need-returns-3
 unfolding matchAt
-returns-3 c = (
-  rw (
+returns-3 c = record {
+  answer = rw (
     jsx-row _ _ (c .before .before .before .before .before .before .before .before .before .before .before .pre),
-    ← c .before .before .before .before .before .before .before .before .run-end .ensures .0,
-    known (c .before .before .before .before .before .before .before .match-word .ensures .0) (c .before .before .before .before .before .b .given .1),
-    ← c .before .before .before .class-at .ensures .0,
+    ← c .before .before .before .before .before .before .before .before .run-end .ensures .answer,
+    known (c .before .before .before .before .before .before .before .match-word .ensures .answer) (c .before .before .before .before .before .b .given .1),
+    ← c .before .before .before .class-at .ensures .answer,
     ne-eqb _ _ (c .before .before .if1 .left),
-    ← c .before .run-end2 .ensures .0,
+    ← c .before .run-end2 .ensures .answer,
   )
-      (c .bare-at .ensures .0),
-  c .bare-at .ensures .1,
-)
+      (c .bare-at .ensures .answer);
+  bounds = c .bare-at .ensures .bounds;
+}
 
 pub find-jsx-spec : {M : Type 1} → statement M
 find-jsx-spec =

@@ -7,29 +7,29 @@ use Rattle.analysis.proofs.matcher.find_pragma.Tie as tie
 
 returns : tie.Need-returns
 unfolding first
-returns c = (
-  rw (
+returns c = record {
+  answer = rw (
     pragma-row _ _ (c .before .before .before .before .before .before .pre),
-    ← c .before .before .before .run-end .ensures .0,
-    known (c .before .before .assigned-at .ensures .0) (c .enum-told .given .1),
-  ),
-  tt,
-)
+    ← c .before .before .before .run-end .ensures .answer,
+    known (c .before .before .assigned-at .ensures .answer) (c .enum-told .given .1),
+  );
+  bounds = tt;
+}
 
 quoted-some-at-requires : tie.Need-quoted-some-at-requires
-quoted-some-at-requires c κs = rw (c .before .b .given .1) at (c .before .before .before .assigned-at .ensures .1)
+quoted-some-at-requires c κs = rw (c .before .b .given .1) at (c .before .before .before .assigned-at .ensures .bounds)
 
 returns-2 : tie.Need-returns-2
 unfolding matchAt
-returns-2 c = (
-  rw (
+returns-2 c = record {
+  answer = rw (
     pragma-row _ _ (c .before .before .before .before .before .before .before .before .pre),
-    ← c .before .before .before .before .before .run-end .ensures .0,
-    known (c .before .before .before .before .assigned-at .ensures .0) (c .before .before .b .given .1),
+    ← c .before .before .before .before .before .run-end .ensures .answer,
+    known (c .before .before .before .before .assigned-at .ensures .answer) (c .before .before .b .given .1),
   )
-      (c .quoted-some-at .ensures .0),
-  c .quoted-some-at .ensures .1,
-)
+      (c .quoted-some-at .ensures .answer);
+  bounds = c .quoted-some-at .ensures .bounds;
+}
 
 pub find-pragma-spec : {M : Type 1} → statement M
 find-pragma-spec =

@@ -10,13 +10,19 @@ returns-2 : tie.Need-returns-2
 returns-2 c =
     let a = c .before .before .before .before .before .before .before .args in
     let letter = ascii-letter (a .letter) (now (a .s)) (a .at) (omega arith) (omega arith) in
-    (rw (letter, ← c .before .before .fold-case .ensures, ← c .before .fold-case2 .ensures, eq-eqb _ _ (c .if3 .taken)), omega arith)
+    record {
+      answer = rw (letter, ← c .before .before .fold-case .ensures, ← c .before .fold-case2 .ensures, eq-eqb _ _ (c .if3 .taken));
+      bounds = omega arith;
+    }
 
 returns-3 : tie.Need-returns-3
 returns-3 c =
     let a = c .before .before .before .before .before .before .before .args in
     let letter = ascii-letter (a .letter) (now (a .s)) (a .at) (omega arith) (omega arith) in
-    (rw (letter, ← c .before .before .fold-case .ensures, ← c .before .fold-case2 .ensures, ne-eqb _ _ (c .if3 .left)), omega arith)
+    record {
+      answer = rw (letter, ← c .before .before .fold-case .ensures, ← c .before .fold-case2 .ensures, ne-eqb _ _ (c .if3 .left));
+      bounds = omega arith;
+    }
 
 pub letter-at-spec : {M : Type 1} → statement M
 letter-at-spec =

@@ -21,19 +21,22 @@ returns : tie.Need-returns Inv-loop μ-loop
 returns c =
     let a = c .before .before .before .before .before .before .before .args in
     let l = c .before .before .before .before .loop in
-    (sym (word-misses (now (a .word)) (now (a .s)) (l .k) (l .i) (omega arith) (c .before .letter-at .ensures .0) (c .if1 .taken)) ∙ l .inv .2, tt)
+    record {
+      answer = sym (word-misses (now (a .word)) (now (a .s)) (l .k) (l .i) (omega arith) (c .before .letter-at .ensures .answer) (c .if1 .taken)) ∙ l .inv .2;
+      bounds = tt;
+    }
 
 loop-again : tie.Need-loop-again Inv-loop μ-loop
 loop-again c =
     let a = c .before .before .before .before .before .before .before .args in
     let l = c .before .before .before .before .loop in
-    (omega arith, omega arith, sym (word-goes-on (now (a .word)) (now (a .s)) (l .k) (l .i) (omega arith) (c .before .letter-at .ensures .0) (c .if1 .left)) ∙ l .inv .2)
+    (omega arith, omega arith, sym (word-goes-on (now (a .word)) (now (a .s)) (l .k) (l .i) (omega arith) (c .before .letter-at .ensures .answer) (c .if1 .left)) ∙ l .inv .2)
 
 returns-2 : tie.Need-returns-2 Inv-loop μ-loop
 returns-2 c =
     let a = c .before .before .before .before .args in
     let l = c .before .loop in
-    (sym (word-ends (now (a .word)) (now (a .s)) (l .k) (l .i) (c .loop-test .left)) ∙ l .inv .2, l .inv .0)
+    record { answer = sym (word-ends (now (a .word)) (now (a .s)) (l .k) (l .i) (c .loop-test .left)) ∙ l .inv .2; bounds = l .inv .0 }
 
 pub match-word-spec : {M : Type 1} → statement M
 match-word-spec =

@@ -8,15 +8,35 @@ use Rattle.analysis.proofs.matcher.quoted_at.Tie as tie
 
 returns : tie.Need-returns
 unfolding first
-returns c = (rw (quoted-row, ← c .before .class-at .ensures .0, eq-eqb _ _ (c .if1 .taken)), tt)
+returns c = record { answer = rw (quoted-row, ← c .before .class-at .ensures .answer, eq-eqb _ _ (c .if1 .taken)); bounds = tt }
 
 returns-2 : tie.Need-returns-2
 unfolding first
-returns-2 c = (rw (quoted-row, ← c .before .before .before .before .class-at .ensures .0, ne-eqb _ _ (c .before .before .before .if1 .left), ← c .before .before .run-end .ensures .0, ← c .before .class-at2 .ensures .0, eq-eqb _ _ (c .if2 .taken)), tt)
+returns-2 c = record {
+  answer = rw (
+    quoted-row,
+    ← c .before .before .before .before .class-at .ensures .answer,
+    ne-eqb _ _ (c .before .before .before .if1 .left),
+    ← c .before .before .run-end .ensures .answer,
+    ← c .before .class-at2 .ensures .answer,
+    eq-eqb _ _ (c .if2 .taken),
+  );
+  bounds = tt;
+}
 
 returns-3 : tie.Need-returns-3
 unfolding first
-returns-3 c = (rw (quoted-row, ← c .before .before .before .before .class-at .ensures .0, ne-eqb _ _ (c .before .before .before .if1 .left), ← c .before .before .run-end .ensures .0, ← c .before .class-at2 .ensures .0, ne-eqb _ _ (c .if2 .left)), omega arith)
+returns-3 c = record {
+  answer = rw (
+    quoted-row,
+    ← c .before .before .before .before .class-at .ensures .answer,
+    ne-eqb _ _ (c .before .before .before .if1 .left),
+    ← c .before .before .run-end .ensures .answer,
+    ← c .before .class-at2 .ensures .answer,
+    ne-eqb _ _ (c .if2 .left),
+  );
+  bounds = omega arith;
+}
 
 pub quoted-at-spec : {M : Type 1} → statement M
 quoted-at-spec =

@@ -24,19 +24,22 @@ returns : tie.Need-returns Inv-loop μ-loop
 returns c =
     let s = now (c .before .before .before .before .before .before .args .s) in
     let l = c .before .before .before .before .loop in
-    rw (l .inv .1, reference-hit s (l .i) (known (c .before .before .match-word .ensures .0) (c .enum-told .given .1)))
+    rw (l .inv .1, reference-hit s (l .i) (known (c .before .before .match-word .ensures .answer) (c .enum-told .given .1)))
 
 returns-2 : tie.Need-returns-2 Inv-loop μ-loop
 returns-2 c =
     let s = now (c .before .before .before .before .before .before .before .before .args .s) in
     let l = c .before .before .before .before .before .before .loop in
-    rw (l .inv .1, reference-stop s (l .i) (known (c .before .before .before .before .match-word .ensures .0) (c .before .before .enum-told2 .given .1)) (known (c .before .class-at .ensures .0) (c .if1 .taken)))
+    rw (
+      l .inv .1,
+      reference-stop s (l .i) (known (c .before .before .before .before .match-word .ensures .answer) (c .before .before .enum-told2 .given .1)) (known (c .before .class-at .ensures .answer) (c .if1 .taken)),
+    )
 
 loop-again : tie.Need-loop-again Inv-loop μ-loop
 loop-again c =
     let s = now (c .before .before .before .before .before .before .before .before .args .s) in
     let l = c .before .before .before .before .before .before .loop in
-    (omega arith, l .inv .1 ∙ reference-goes-on s (l .i) (known (c .before .before .before .before .match-word .ensures .0) (c .before .before .enum-told2 .given .1)) (c .before .class-at .ensures .0) (c .if1 .left))
+    (omega arith, l .inv .1 ∙ reference-goes-on s (l .i) (known (c .before .before .before .before .match-word .ensures .answer) (c .before .before .enum-told2 .given .1)) (c .before .class-at .ensures .answer) (c .if1 .left))
 
 pub reference-ends-spec : {M : Type 1} → statement M
 reference-ends-spec =

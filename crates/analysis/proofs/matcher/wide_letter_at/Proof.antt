@@ -16,11 +16,19 @@ returns c =
     let t = drop (a .at) (now (a .s)) in
     let e : c .before .before .before .char-at .result .len ≡ letterAt (a .letter) t =
     rw (← c .before .before .before .char-at .ensures, ← c .before .before .fold-case .ensures, ← c .before .fold-case2 .ensures, eq-eqb _ _ (c .if1 .taken)) in
-    (e, omega (arith, letter-fits (a .letter) t, length-drop (a .at) (now (a .s))))
+    record { answer = e; bounds = omega (arith, letter-fits (a .letter) t, length-drop (a .at) (now (a .s))) }
 
 returns-2 : tie.Need-returns-2
 unfolding letterAt
-returns-2 c = (rw (← c .before .before .before .char-at .ensures, ← c .before .before .fold-case .ensures, ← c .before .fold-case2 .ensures, ne-eqb _ _ (c .if1 .left)), omega arith)
+returns-2 c = record {
+  answer = rw (
+    ← c .before .before .before .char-at .ensures,
+    ← c .before .before .fold-case .ensures,
+    ← c .before .fold-case2 .ensures,
+    ne-eqb _ _ (c .if1 .left),
+  );
+  bounds = omega arith;
+}
 
 pub wide-letter-at-spec : {M : Type 1} → statement M
 wide-letter-at-spec =

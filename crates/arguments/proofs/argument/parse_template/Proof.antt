@@ -5,9 +5,8 @@ use native.Mathlib.Omega.{arith}
 use borrow.Author.Needs.{needs}
 use lib.ListN.{drop}
 use denote.Ref.{now}
-use Rattle.laws.proofs.Steps.{seen}
+use Rattle.laws.proofs.Steps.{told, bounded}
 use Rattle.sheet.specs.Nodes.{piece}
-use Rattle.heads.specs.code.Views.{pieceAs}
 use Rattle.heads.proofs.Many.{many-refused}
 use Rattle.arguments.specs.Argument.{replacedIn}
 use Rattle.arguments.proofs.Pieces.{one-only, of-parts}
@@ -18,29 +17,38 @@ returns : tie.Need-returns
 returns c =
     let a = c .before .before .before .before .before .before .args in
     let s = now (a .sheet) in
-    let past = rw (c .before .from .given .1) at (c .before .before .before .read-piece .ensures .1) in
-    (λ source levels ps u e. rw (one-only (a .holes) (drop (a .c .at) s) e (c .before .before .before .before .if1 .taken) (seen (pieceAs s) (c .before .before .before .read-piece .ensures .0) (c .before .from .given .1))) (refl, refl), (past .1, past .2))
+    let past = bounded (c .before .before .before .read-piece .ensures) (c .before .from .given .1) in
+    record {
+      answer = λ source levels ps u e. rw (one-only (a .holes) (drop (a .c .at) s) e (c .before .before .before .before .if1 .taken) (told (c .before .before .before .read-piece .ensures) (c .before .from .given .1))) (refl, refl);
+      bounds = (past .1, past .2);
+    }
 
 returns-2 : tie.Need-returns-2
 returns-2 c =
     let a = c .before .before .before .before .before .args in
     let s = now (a .sheet) in
-    (λ source levels ps u e. rw (one-only (a .holes) (drop (a .c .at) s) e (c .before .before .before .if1 .taken) (seen (pieceAs s) (c .before .before .read-piece .ensures .0) (c .enum-told .given .1))) (refl, refl), tt)
+    record {
+      answer = λ source levels ps u e. rw (one-only (a .holes) (drop (a .c .at) s) e (c .before .before .before .if1 .taken) (told (c .before .before .read-piece .ensures) (c .enum-told .given .1))) (refl, refl);
+      bounds = tt;
+    }
 
 returns-3 : tie.Need-returns-3
 returns-3 c =
     let a = c .before .before .before .before .before .args in
     let s = now (a .sheet) in
-    (λ source levels ps u e. absurd (many-refused [] piece (a .holes + 1) (drop (a .c .at) s) (omega arith) (seen (pieceAs s) (c .before .before .read-piece .ensures .0) (c .enum-told2 .given .1)) e), tt)
+    record {
+      answer = λ source levels ps u e. absurd (many-refused [] piece (a .holes + 1) (drop (a .c .at) s) (omega arith) (told (c .before .before .read-piece .ensures) (c .enum-told2 .given .1)) e);
+      bounds = tt;
+    }
 
 returns-4 : tie.Need-returns-4
 returns-4 c =
-    let a = c .before .before .before .args in (
-      λ source levels ps u e.
+    let a = c .before .before .before .args in record {
+      answer = λ source levels ps u e.
           let (is, none) = of-parts (a .holes) (drop (a .c .at) (now (a .sheet))) e (c .before .if1 .left) in
-          ((ps, u, e, c .count-parts .ensures ps u e, is), ap replacedIn none),
-      c .before .before .before .pre,
-    )
+          ((ps, u, e, c .count-parts .ensures ps u e, is), ap replacedIn none);
+      bounds = c .before .before .before .pre;
+    }
 
 pub parse-template-spec : {M : Type 1} → statement M
 parse-template-spec =

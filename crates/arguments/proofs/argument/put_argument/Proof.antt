@@ -19,39 +19,63 @@ put-parts-requires c κs = rw (c .before .before .before .before .before .before
 
 returns : tie.Need-returns
 unfolding encodeArgument
-returns c = (
-  (λ v k stands.
+returns c = record {
+  answer = λ v k stands.
       let (is, none) = rw (c .before .before .before .before .enum-told .given .1) at stands in
-      (rw is (c .before .before .put .ensures), sym none)),
-  search needs,
-)
+      (rw is (c .before .before .put .ensures), sym none);
+  left = search needs;
+}
 
 returns-2 : tie.Need-returns-2
 unfolding encodeArgument
-returns-2 c = (
-  (λ v k stands.
-      let (is, many) = rw (c .before .before .before .before .before .before .before .before .before .before .a .given .1) at stands in
-      (rw (is, wrote-cons, ← (c .before .before .before .before .before .before .before .put2 .ensures)) (c .before .before .put-lossy-text .ensures .0), c .before .before .put-lossy-text .ensures .1 ∙ sym many)),
-  search needs,
-)
+returns-2 c = record {
+  answer = λ v k stands.
+      let (is, many) = rw (c .before .before .before .before .before .before .before .before .before .before .a .given .1) at stands in (
+        rw (
+          is,
+          wrote-cons,
+          ← (c .before .before .before .before .before .before .before .put2 .ensures),
+        ) (c .before .before .put-lossy-text .ensures .answer),
+        c .before .before .put-lossy-text .ensures .replaced ∙ sym many,
+      );
+  left = search needs;
+}
 
 returns-3 : tie.Need-returns-3
 unfolding encodeArgument encodeList
-returns-3 c = (
-  (λ v k stands.
-      let ((ps, u, read, total, is), none) = rw (c .before .before .before .before .before .before .before .before .before .before .before .before .before .a2 .given .1) at stands in
-      (rw (is, wrote-cons, ← (c .before .before .before .before .before .before .before .before .before .before .put3 .ensures), total, wrote-append, ← (c .before .before .before .before .before .before .put-number .ensures)) (c .before .before .put-parts .ensures .0 ps u read), sym none)),
-  search needs,
-)
+returns-3 c = record {
+  answer = λ v k stands.
+      let ((ps, u, read, total, is), none) = rw (c .before .before .before .before .before .before .before .before .before .before .before .before .before .a2 .given .1) at stands in (
+        rw (
+          is,
+          wrote-cons,
+          ← (c .before .before .before .before .before .before .before .before .before .before .put3 .ensures),
+          total,
+          wrote-append,
+          ← (c .before .before .before .before .before .before .put-number .ensures),
+        ) (c .before .before .put-parts .ensures .answer ps u read),
+        sym none,
+      );
+  left = search needs;
+}
 
 returns-4 : tie.Need-returns-4
 unfolding encodeArgument encodeList
-returns-4 c = (
-  (λ v k stands.
-      let ((n, t, l, read, parts, total, is), none) = rw (c .before .before .before .before .before .before .before .before .before .before .before .before .before .before .a3 .given .1) at stands in
-      (rw (is, wrote-cons, ← (c .before .before .before .before .before .before .before .before .before .before .before .put4 .ensures), total, wrote-append, ← (c .before .before .before .before .before .before .before .put-number2 .ensures)) (c .before .before .before .put-bin .ensures .0 n t l read parts .0), sym none)),
-  search needs,
-)
+returns-4 c = record {
+  answer = λ v k stands.
+      let ((n, t, l, read, parts, total, is), none) = rw (c .before .before .before .before .before .before .before .before .before .before .before .before .before .before .a3 .given .1) at stands in (
+        rw (
+          is,
+          wrote-cons,
+          ← (c .before .before .before .before .before .before .before .before .before .before .before .put4 .ensures),
+          total,
+          wrote-append,
+          ← (c .before .before .before .before .before .before .before .put-number2 .ensures),
+        ) (c .before .before .before .put-bin .ensures .answer n t l read parts .0),
+        sym none,
+      );
+  left = search needs;
+}
 
 pub put-argument-spec : {M : Type 1} → statement M
 put-argument-spec =

@@ -5,11 +5,10 @@ use borrow.Author.Needs.{needs}
 use borrow.Fn.Kinds.{In}
 use borrow.Fn.PlainCycle.{Measures, is, falls, and}
 use denote.Ref.{now}
-use Rattle.laws.proofs.Steps.{seen}
+use Rattle.laws.proofs.Steps.{told}
 use Rattle.laws.proofs.Decoding.{same-rest}
 use Rattle.sheet.specs.Nodes.{node}
 use Rattle.nodes.specs.code.Judged.{judged}
-use Rattle.nodes.specs.code.Answers.{checkedAs}
 use Rattle.nodes.proofs.check.check_node.Reads as check-node
 use Rattle.arguments.proofs.Chains.{wrote-parts, encode-one, only-part, no-parts, checked-refused, string-chain, template-chain, plus-parts}
 use Rattle.arguments.proofs.bin.put_bin.Reads as put-bin
@@ -35,60 +34,66 @@ abbrev calls : ℕ → put-bin-lts.Claims
 calls t = (read-expression.Asked, read-expression.Learnt, put-string.Asked, put-string.Learnt, put-bin-below t, put-bin.Post, put-operand.Asked, put-operand.Learnt, check-node.Asked, check-node.Learnt)
 
 put-string-requires : (t : ℕ) → put-bin-lts.Need-put-string-requires (calls t) (put-bin-at t) put-bin.Post
-put-string-requires t c κs = (rw (c .before .before .from .given .1) at (c .before .before .before .before .read-expression .ensures .1)) .1
+put-string-requires t c κs = (rw (c .before .before .from .given .1) at (c .before .before .before .before .read-expression .ensures .bounds)) .1
 
 sub-put-bin : (t : ℕ) → put-bin-lts.Need-sub-put-bin (calls t) (put-bin-at t) put-bin.Post
-sub-put-bin t c = (rw (c .before .next .given .1) at (c .before .before .before .read-expression .ensures .1))
+sub-put-bin t c = (rw (c .before .next .given .1) at (c .before .before .before .read-expression .ensures .bounds))
 
 put-bin-requires : (t : ℕ) → put-bin-lts.Need-put-bin-requires (calls t) (put-bin-at t) put-bin.Post
 put-bin-requires t c κs =
-    let past = rw (c .before .before .next .given .1) at (c .before .before .before .before .read-expression .ensures .1) in
+    let past = rw (c .before .before .next .given .1) at (c .before .before .before .before .read-expression .ensures .bounds) in
     (omega arith, search needs)
 
 sub-put-operand : (t : ℕ) → put-bin-lts.Need-sub-put-operand (calls t) (put-bin-at t) put-bin.Post
-sub-put-operand t c = (rw (c .before .before .before .before .before .before .next .given .1) at (c .before .before .before .before .before .before .before .before .read-expression .ensures .1))
+sub-put-operand t c = (rw (c .before .before .before .before .before .before .next .given .1) at (c .before .before .before .before .before .before .before .before .read-expression .ensures .bounds))
 
 sub-check-node : (t : ℕ) → put-bin-lts.Need-sub-check-node (calls t) (put-bin-at t) put-bin.Post
-sub-check-node t c = (rw (c .before .before .before .before .before .before .before .before .before .before .next .given .1) at (c .before .before .before .before .before .before .before .before .before .before .before .before .read-expression .ensures .1))
+sub-check-node t c = (rw (c .before .before .before .before .before .before .before .before .before .before .next .given .1) at (c .before .before .before .before .before .before .before .before .before .before .before .before .read-expression .ensures .bounds))
 
 returns : (t : ℕ) → put-bin-lts.Need-returns (calls t) (put-bin-at t) put-bin.Post
-returns t c = (
-  (λ n u l e is.
-      let string = rw (c .before .before .before .before .before .from .given .1) at (c .before .before .before .before .before .before .before .read-expression .ensures .0 n u e) in
-      (rw (← (only-part (string-chain string) is), encode-one) (c .before .before .put-string .ensures), string .past)),
-  search needs,
-)
+returns t c = record {
+  answer = λ n u l e is.
+      let string = rw (c .before .before .before .before .before .from .given .1) at (c .before .before .before .before .before .before .before .read-expression .ensures .answer n u e) in
+      (rw (← (only-part (string-chain string) is), encode-one) (c .before .before .put-string .ensures), string .past);
+  left = search needs;
+}
 
 returns-2 : (t : ℕ) → put-bin-lts.Need-returns-2 (calls t) (put-bin-at t) put-bin.Post
-returns-2 t c = ((λ n u l e is. absurd (no-parts (template-chain (rw (c .enum-told .given .1) at (c .before .before .read-expression .ensures .0 n u e))) is)), search needs)
+returns-2 t c = record {
+  answer = λ n u l e is. absurd (no-parts (template-chain (rw (c .enum-told .given .1) at (c .before .before .read-expression .ensures .answer n u e))) is);
+  left = search needs;
+}
 
 returns-3 : (t : ℕ) → put-bin-lts.Need-returns-3 (calls t) (put-bin-at t) put-bin.Post
-returns-3 t c = (
-  (λ n u l e is.
+returns-3 t c = record {
+  answer = λ n u l e is.
       let a = c .before .before .before .before .before .before .before .before .before .before .before .before .before .before .before .before .before .before .before .args in
-      let plus = rw (c .before .before .before .before .before .before .before .before .before .before .before .before .before .next .given .1) at (c .before .before .before .before .before .before .before .before .before .before .before .before .before .before .before .read-expression .ensures .0 n u e) in
+      let plus = rw (c .before .before .before .before .before .before .before .before .before .before .before .before .before .next .given .1) at (c .before .before .before .before .before .before .before .before .before .before .before .before .before .before .before .read-expression .ensures .answer n u e) in
       let (m, first, whole) = plus-parts plus is in
-      let left = c .before .before .before .before .before .before .before .before .before .before .put-bin .ensures .0 (plus .left) (plus .between) m (plus .first) first in
-      absurd (checked-refused (ap (node (now (a .source)) (a .levels - 1)) (left .1) ∙ plus .second) (seen (checkedAs (now (a .sheet))) (c .before .before .check-node .ensures .0) (c .enum-told2 .given .1)))),
-  search needs,
-)
+      let left = c .before .before .before .before .before .before .before .before .before .before .put-bin .ensures .answer (plus .left) (plus .between) m (plus .first) first in
+      absurd (checked-refused (ap (node (now (a .source)) (a .levels - 1)) (left .1) ∙ plus .second) (told (c .before .before .check-node .ensures) (c .enum-told2 .given .1)));
+  left = search needs;
+}
 
 returns-4 : (t : ℕ) → put-bin-lts.Need-returns-4 (calls t) (put-bin-at t) put-bin.Post
-returns-4 t c = (
-  (λ n u l e is.
+returns-4 t c = record {
+  answer = λ n u l e is.
       let a = c .before .before .before .before .before .before .before .before .before .before .before .before .before .before .before .before .before .before .before .before .args in
-      let plus = rw (c .before .before .before .before .before .before .before .before .before .before .before .before .before .before .next .given .1) at (c .before .before .before .before .before .before .before .before .before .before .before .before .before .before .before .before .read-expression .ensures .0 n u e) in
+      let plus = rw (c .before .before .before .before .before .before .before .before .before .before .before .before .before .before .next .given .1) at (c .before .before .before .before .before .before .before .before .before .before .before .before .before .before .before .before .read-expression .ensures .answer n u e) in
       let (m, first, whole) = plus-parts plus is in
-      let left = c .before .before .before .before .before .before .before .before .before .before .before .put-bin .ensures .0 (plus .left) (plus .between) m (plus .first) first in
+      let left = c .before .before .before .before .before .before .before .before .before .before .before .put-bin .ensures .answer (plus .left) (plus .between) m (plus .first) first in
       let second = ap (node (now (a .source)) (a .levels - 1)) (left .1) ∙ plus .second in (
         rw (← whole, wrote-parts, ← (left .0), encode-one) (c .before .before .before .before .before .before .put-operand .ensures (plus .right) u second),
-        same-rest judged (node (now (a .source)) (a .levels - 1) _) second (seen (checkedAs (now (a .sheet))) (c .before .before .before .check-node .ensures .0) (c .before .next3 .given .1)),
-      )),
-  search needs,
-)
+        same-rest judged (node (now (a .source)) (a .levels - 1) _) second (told (c .before .before .before .check-node .ensures) (c .before .next3 .given .1)),
+      );
+  left = search needs;
+}
 
 returns-5 : (t : ℕ) → put-bin-lts.Need-returns-5 (calls t) (put-bin-at t) put-bin.Post
-returns-5 t c = ((λ n u l e is. absurd (no-parts ((rw (c .enum-told3 .given .1) at (c .before .before .read-expression .ensures .0 n u e)) .parts) is)), search needs)
+returns-5 t c = record {
+  answer = λ n u l e is. absurd (no-parts ((rw (c .enum-told3 .given .1) at (c .before .before .read-expression .ensures .answer n u e)) .parts) is);
+  left = search needs;
+}
 
 pub +put-bin-spec : {M : Type 1} → statement M
 +put-bin-spec =

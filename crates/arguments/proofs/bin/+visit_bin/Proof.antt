@@ -3,9 +3,7 @@ use native.Mathlib.Omega.{arith}
 use borrow.Author.Needs.{needs}
 use borrow.Fn.Kinds.{In}
 use borrow.Fn.PlainCycle.{Measures, is, falls, and}
-use denote.Ref.{now}
-use Rattle.laws.proofs.Steps.{seen}
-use Rattle.nodes.specs.code.Answers.{checkedAs}
+use Rattle.laws.proofs.Steps.{told}
 use Rattle.nodes.proofs.check.check_node.Reads as check-node
 use Rattle.arguments.proofs.Chains.{checked-refused, string-counted, template-chain, plus-unknown, at-right, plus-counted}
 use Rattle.arguments.proofs.bin.visit_bin.Reads as visit-bin
@@ -29,56 +27,65 @@ abbrev calls : ℕ → visit-bin-lts.Claims
 calls t = (read-expression.Asked, read-expression.Learnt, visit-bin-below t, visit-bin.Post, check-node.Asked, check-node.Learnt)
 
 sub-visit-bin : (t : ℕ) → visit-bin-lts.Need-sub-visit-bin (calls t) (visit-bin-at t) visit-bin.Post
-sub-visit-bin t c = (rw (c .before .next2 .given .1) at (c .before .before .before .read-expression .ensures .1))
+sub-visit-bin t c = (rw (c .before .next2 .given .1) at (c .before .before .before .read-expression .ensures .bounds))
 
 visit-bin-requires : (t : ℕ) → visit-bin-lts.Need-visit-bin-requires (calls t) (visit-bin-at t) visit-bin.Post
 visit-bin-requires t c κs =
-    let past = rw (c .before .next2 .given .1) at (c .before .before .before .read-expression .ensures .1) in
+    let past = rw (c .before .next2 .given .1) at (c .before .before .before .read-expression .ensures .bounds) in
     (omega arith, search needs)
 
 sub-check-node : (t : ℕ) → visit-bin-lts.Need-sub-check-node (calls t) (visit-bin-at t) visit-bin.Post
-sub-check-node t c = (rw (c .before .before .before .before .before .next2 .given .1) at (c .before .before .before .before .before .before .before .read-expression .ensures .1))
+sub-check-node t c = (rw (c .before .before .before .before .before .next2 .given .1) at (c .before .before .before .before .before .before .before .read-expression .ensures .bounds))
 
 add-t18 : (t : ℕ) → visit-bin-lts.Need-add-t18 (calls t) (visit-bin-at t) visit-bin.Post
 add-t18 t c =
-    let past = rw (c .before .before .before .before .before .before .before .before .before .next2 .given .1) at (c .before .before .before .before .before .before .before .before .before .before .before .read-expression .ensures .1) in
-    let most = rw (c .before .before .before .before .before .n .given .1) at (c .before .before .before .before .before .before .before .visit-bin .ensures .1) in
+    let past = rw (c .before .before .before .before .before .before .before .before .before .next2 .given .1) at (c .before .before .before .before .before .before .before .before .before .before .before .read-expression .ensures .bounds) in
+    let most = rw (c .before .before .before .before .before .n .given .1) at (c .before .before .before .before .before .before .before .visit-bin .ensures .bounds) in
     omega arith
 
 returns : (t : ℕ) → visit-bin-lts.Need-returns (calls t) (visit-bin-at t) visit-bin.Post
 returns t c =
-    let past = rw (c .before .next .given .1) at (c .before .before .before .read-expression .ensures .1) in
-    (λ n u e. string-counted (rw (c .before .next .given .1) at (c .before .before .before .read-expression .ensures .0 n u e)), past .0)
+    let past = rw (c .before .next .given .1) at (c .before .before .before .read-expression .ensures .bounds) in
+    record {
+      answer = λ n u e. string-counted (rw (c .before .next .given .1) at (c .before .before .before .read-expression .ensures .answer n u e));
+      bounds = past .0;
+    }
 
 returns-2 : (t : ℕ) → visit-bin-lts.Need-returns-2 (calls t) (visit-bin-at t) visit-bin.Post
-returns-2 t c = (λ n u e. rw (template-chain (rw (c .enum-told .given .1) at (c .before .before .read-expression .ensures .0 n u e))), tt)
+returns-2 t c = record {
+  answer = λ n u e. rw (template-chain (rw (c .enum-told .given .1) at (c .before .before .read-expression .ensures .answer n u e)));
+  bounds = tt;
+}
 
 returns-3 : (t : ℕ) → visit-bin-lts.Need-returns-3 (calls t) (visit-bin-at t) visit-bin.Post
-returns-3 t c =
-    (λ n u e. plus-unknown (rw (c .before .before .before .before .next2 .given .1) at (c .before .before .before .before .before .before .read-expression .ensures .0 n u e)) (rw (c .enum-told2 .given .1) at (c .before .before .visit-bin .ensures .0)), tt)
+returns-3 t c = record {
+  answer = λ n u e. plus-unknown (rw (c .before .before .before .before .next2 .given .1) at (c .before .before .before .before .before .before .read-expression .ensures .answer n u e)) (rw (c .enum-told2 .given .1) at (c .before .before .visit-bin .ensures .answer));
+  bounds = tt;
+}
 
 returns-4 : (t : ℕ) → visit-bin-lts.Need-returns-4 (calls t) (visit-bin-at t) visit-bin.Post
-returns-4 t c =
-    let s = now (c .before .before .before .before .before .before .before .before .before .before .before .before .before .args .sheet) in (
-      λ n u e.
-          let plus = rw (c .before .before .before .before .before .before .before .before .next2 .given .1) at (c .before .before .before .before .before .before .before .before .before .before .read-expression .ensures .0 n u e) in
-          absurd (checked-refused (at-right plus (rw (c .before .before .before .before .n .given .1) at (c .before .before .before .before .before .before .visit-bin .ensures .0))) (seen (checkedAs s) (c .before .before .check-node .ensures .0) (c .enum-told3 .given .1))),
-      tt,
-    )
+returns-4 t c = record {
+  answer = λ n u e.
+      let plus = rw (c .before .before .before .before .before .before .before .before .next2 .given .1) at (c .before .before .before .before .before .before .before .before .before .before .read-expression .ensures .answer n u e) in
+      absurd (checked-refused (at-right plus (rw (c .before .before .before .before .n .given .1) at (c .before .before .before .before .before .before .visit-bin .ensures .answer))) (told (c .before .before .check-node .ensures) (c .enum-told3 .given .1)));
+  bounds = tt;
+}
 
 returns-5 : (t : ℕ) → visit-bin-lts.Need-returns-5 (calls t) (visit-bin-at t) visit-bin.Post
 returns-5 t c =
-    let s = now (c .before .before .before .before .before .before .before .before .before .before .before .before .before .before .args .sheet) in
-    let past = rw (c .before .before .before .before .before .before .before .before .before .next2 .given .1) at (c .before .before .before .before .before .before .before .before .before .before .before .read-expression .ensures .1) in
-    let most = rw (c .before .before .before .before .before .n .given .1) at (c .before .before .before .before .before .before .before .visit-bin .ensures .1) in (
-      λ n u e.
-          let plus = rw (c .before .before .before .before .before .before .before .before .before .next2 .given .1) at (c .before .before .before .before .before .before .before .before .before .before .before .read-expression .ensures .0 n u e) in
-          plus-counted plus (rw (c .before .before .before .before .before .n .given .1) at (c .before .before .before .before .before .before .before .visit-bin .ensures .0)) (seen (checkedAs s) (c .before .before .before .check-node .ensures .0) (c .before .next3 .given .1)),
-      omega arith,
-    )
+    let past = rw (c .before .before .before .before .before .before .before .before .before .next2 .given .1) at (c .before .before .before .before .before .before .before .before .before .before .before .read-expression .ensures .bounds) in
+    let most = rw (c .before .before .before .before .before .n .given .1) at (c .before .before .before .before .before .before .before .visit-bin .ensures .bounds) in record {
+      answer = λ n u e.
+          let plus = rw (c .before .before .before .before .before .before .before .before .before .next2 .given .1) at (c .before .before .before .before .before .before .before .before .before .before .before .read-expression .ensures .answer n u e) in
+          plus-counted plus (rw (c .before .before .before .before .before .n .given .1) at (c .before .before .before .before .before .before .before .visit-bin .ensures .answer)) (told (c .before .before .before .check-node .ensures) (c .before .next3 .given .1));
+      bounds = omega arith;
+    }
 
 returns-6 : (t : ℕ) → visit-bin-lts.Need-returns-6 (calls t) (visit-bin-at t) visit-bin.Post
-returns-6 t c = (λ n u e. rw ((rw (c .enum-told4 .given .1) at (c .before .before .read-expression .ensures .0 n u e)) .parts), tt)
+returns-6 t c = record {
+  answer = λ n u e. rw ((rw (c .enum-told4 .given .1) at (c .before .before .read-expression .ensures .answer n u e)) .parts);
+  bounds = tt;
+}
 
 pub +visit-bin-spec : {M : Type 1} → statement M
 +visit-bin-spec =

@@ -4,19 +4,19 @@ use Rattle.arguments.proofs.bin.put_operand.Statement.{statement}
 use Rattle.arguments.proofs.bin.put_operand.Tie as tie
 
 put-string-requires : tie.Need-put-string-requires
-put-string-requires c κs = (rw (c .before .before .from .given .1) at (c .before .before .before .before .read-expression .ensures .1)) .1
+put-string-requires c κs = (rw (c .before .before .from .given .1) at (c .before .before .before .before .read-expression .ensures .bounds)) .1
 
 returns : tie.Need-returns
-returns c n t e = rw (string-operand (rw (c .before .before .before .before .before .from .given .1) at (c .before .before .before .before .before .before .before .read-expression .ensures .0 n t e))) (c .before .before .put-string .ensures)
+returns c n t e = rw (string-operand (rw (c .before .before .before .before .before .from .given .1) at (c .before .before .before .before .before .before .before .read-expression .ensures .answer n t e))) (c .before .before .put-string .ensures)
 
 returns-2 : tie.Need-returns-2
-returns-2 c n t e = rw (template-operand (rw (c .before .before .before .before .enum-told .given .1) at (c .before .before .before .before .before .before .read-expression .ensures .0 n t e))) (c .before .before .put-expr .ensures)
+returns-2 c n t e = rw (template-operand (rw (c .before .before .before .before .enum-told .given .1) at (c .before .before .before .before .before .before .read-expression .ensures .answer n t e))) (c .before .before .put-expr .ensures)
 
 returns-3 : tie.Need-returns-3
-returns-3 c n t e = rw (plus-operand (rw (c .before .before .before .before .enum-told2 .given .1) at (c .before .before .before .before .before .before .read-expression .ensures .0 n t e))) (c .before .before .put-expr2 .ensures)
+returns-3 c n t e = rw (plus-operand (rw (c .before .before .before .before .enum-told2 .given .1) at (c .before .before .before .before .before .before .read-expression .ensures .answer n t e))) (c .before .before .put-expr2 .ensures)
 
 returns-4 : tie.Need-returns-4
-returns-4 c n t e = rw ((rw (c .before .before .before .before .enum-told3 .given .1) at (c .before .before .before .before .before .before .read-expression .ensures .0 n t e)) .side) (c .before .before .put-expr3 .ensures)
+returns-4 c n t e = rw ((rw (c .before .before .before .before .enum-told3 .given .1) at (c .before .before .before .before .before .before .read-expression .ensures .answer n t e)) .side) (c .before .before .put-expr3 .ensures)
 
 pub put-operand-spec : {M : Type 1} → statement M
 put-operand-spec =

@@ -6,7 +6,10 @@ use Rattle.arguments.proofs.part.put_string.Tie as tie
 
 returns : tie.Need-returns
 unfolding encodeOptional
-returns c = rw (wrote-cons, ← (c .before .before .before .before .before .before .before .before .put .ensures)) (c .before .before .before .put-lossy-text .ensures .0)
+returns c = rw (
+  wrote-cons,
+  ← (c .before .before .before .before .before .before .before .before .put .ensures),
+) (c .before .before .before .put-lossy-text .ensures .answer)
 
 pub put-string-spec : {M : Type 1} → statement M
 put-string-spec =

@@ -7,12 +7,11 @@ use lib.Dec.{ltb}
 use lib.ListN.{length, drop, length-append}
 use denote.Ref.{now}
 use Rattle.laws.specs.Decoded.{ok}
-use Rattle.laws.proofs.Steps.{seen}
+use Rattle.laws.proofs.Steps.{told, bounded}
 use Rattle.text.proofs.Ones.{one-most}
 use Rattle.wire.specs.Number.{largest}
 use Rattle.sheet.specs.Tree.{Pieces}
 use Rattle.sheet.specs.Nodes.{many, piece}
-use Rattle.heads.specs.code.Views.{pieceAs}
 use Rattle.heads.proofs.Many.{many-refused, many-end}
 use Rattle.arguments.specs.Argument.{templateParts}
 use Rattle.arguments.proofs.Pieces.{piece-next, hole-count}
@@ -37,7 +36,7 @@ returns c ps u e =
     let s = now (c .before .before .before .before .before .before .args .sheet) in
     let l = c .before .before .before .before .loop in
     let (qs, read, total) = l .inv .1 ps u e in
-    absurd (many-refused [] piece (l .left) (drop (l .at .at) s) (c .before .before .before .loop-test .taken) (seen (pieceAs s) (c .before .before .read-piece .ensures .0) (c .enum-told .given .1)) read)
+    absurd (many-refused [] piece (l .left) (drop (l .at .at) s) (c .before .before .before .loop-test .taken) (told (c .before .before .read-piece .ensures) (c .enum-told .given .1)) read)
 
 add-parts-2 : tie.Need-add-parts-2 Inv-loop μ-loop
 add-parts-2 c = omega (arith, one-most (ltb 1 (c .before .before .before .before .before .before .before .loop .left)))
@@ -46,13 +45,13 @@ loop-again : tie.Need-loop-again Inv-loop μ-loop
 loop-again c =
     let s = now (c .before .before .before .before .before .before .before .before .before .args .sheet) in
     let l = c .before .before .before .before .before .before .before .loop in
-    let is = seen (pieceAs s) (c .before .before .before .before .before .read-piece .ensures .0) (c .before .before .before .from .given .1) in
-    let past = rw (c .before .before .before .from .given .1) at (c .before .before .before .before .before .read-piece .ensures .1) in (
+    let is = told (c .before .before .before .before .before .read-piece .ensures) (c .before .before .before .from .given .1) in
+    let past = bounded (c .before .before .before .before .before .read-piece .ensures) (c .before .before .before .from .given .1) in (
       omega (arith, one-most (ltb 1 (c .before .before .before .before .before .before .before .loop .left))),
       λ ps u e.
           let (qs, read, total) = l .inv .1 ps u e in
           let (rs, behind, parts) = piece-next (l .left) (drop (l .at .at) s) (c .before .before .before .before .before .before .loop-test .taken) is read in
-          (rs, behind, omega (arith, simp length-append at (ap length parts), c .before .count-piece .ensures .0 s (past .2), hole-count (ltb 1 (l .left)))),
+          (rs, behind, omega (arith, simp length-append at (ap length parts), c .before .count-piece .ensures .answer s (past .2), hole-count (ltb 1 (l .left)))),
     )
 
 add-parts-3 : tie.Need-add-parts-3 Inv-loop μ-loop
@@ -62,7 +61,7 @@ loop-again-2 : tie.Need-loop-again-2 Inv-loop μ-loop
 loop-again-2 c =
     let s = now (c .before .before .before .before .before .before .before .before .args .sheet) in
     let l = c .before .before .before .before .before .before .loop in
-    let is = seen (pieceAs s) (c .before .before .before .before .read-piece .ensures .0) (c .before .before .next .given .1) in (
+    let is = told (c .before .before .before .before .read-piece .ensures) (c .before .before .next .given .1) in (
       omega (arith, one-most (ltb 1 (c .before .before .before .before .before .before .loop .left))),
       λ ps u e.
           let (qs, read, total) = l .inv .1 ps u e in

@@ -7,10 +7,9 @@ use lib.Dec.{ltb}
 use lib.ListN.{length, drop}
 use denote.Ref.{now}
 use Rattle.laws.specs.Decoded.{ok}
-use Rattle.laws.proofs.Steps.{seen}
+use Rattle.laws.proofs.Steps.{told, bounded}
 use Rattle.sheet.specs.Tree.{Pieces}
 use Rattle.sheet.specs.Nodes.{many, piece}
-use Rattle.heads.specs.code.Views.{pieceAs}
 use Rattle.heads.proofs.Many.{many-refused, many-end}
 use Rattle.report.specs.Buffer.{wrote, bufferAs}
 use Rattle.report.proofs.Buffers.{wrote-nil}
@@ -36,54 +35,70 @@ loop-holds : tie.Need-loop-holds Inv-loop μ-loop
 loop-holds c = (refl, λ ps u e. (ps, e, refl))
 
 returns : tie.Need-returns Inv-loop μ-loop
-returns c = (
-  (λ ps u e.
+returns c = record {
+  answer = λ ps u e.
       let s = now (c .before .before .before .before .before .before .before .args .sheet) in
       let l = c .before .before .before .before .loop in
       let (qs, read, total) = l .inv .1 ps u e in
-      absurd (many-refused [] piece (l .left) (drop (l .at .at) s) (c .before .before .before .loop-test .taken) (seen (pieceAs s) (c .before .before .read-piece .ensures .0) (c .enum-told .given .1)) read)),
-  search needs,
-)
+      absurd (many-refused [] piece (l .left) (drop (l .at .at) s) (c .before .before .before .loop-test .taken) (told (c .before .before .read-piece .ensures) (c .enum-told .given .1)) read);
+  left = search needs;
+}
 
 put-piece-requires : tie.Need-put-piece-requires Inv-loop μ-loop
 put-piece-requires c κs =
-    let past = rw (c .before .before .from .given .1) at (c .before .before .before .before .read-piece .ensures .1) in
+    let past = bounded (c .before .before .before .before .read-piece .ensures) (c .before .before .from .given .1) in
     (past .1, past .2)
 
 loop-again : tie.Need-loop-again Inv-loop μ-loop
 loop-again c =
     let s = now (c .before .before .before .before .before .before .before .before .before .before .before .before .before .before .before .before .args .sheet) in
     let l = c .before .before .before .before .before .before .before .before .before .before .before .before .before .loop in
-    let is = seen (pieceAs s) (c .before .before .before .before .before .before .before .before .before .before .before .read-piece .ensures .0) (c .before .before .before .before .before .before .before .before .before .from .given .1) in (
+    let is = told (c .before .before .before .before .before .before .before .before .before .before .before .read-piece .ensures) (c .before .before .before .before .before .before .before .before .before .from .given .1) in (
       omega arith,
       λ ps u e.
           let (qs, read, total) = l .inv .1 ps u e in
-          let (rs, behind, parts) = piece-next (l .left) (drop (l .at .at) s) (c .before .before .before .before .before .before .before .before .before .before .before .before .loop-test .taken) is read in
-          (rs, behind, total ∙ rw (parts, wrote-parts, ← (c .before .before .before .before .before .before .put-piece .ensures), wrote-parts, ← (c .before .before .put-hole .ensures))),
+          let (rs, behind, parts) = piece-next (l .left) (drop (l .at .at) s) (c .before .before .before .before .before .before .before .before .before .before .before .before .loop-test .taken) is read in (
+            rs,
+            behind,
+            total ∙ rw (
+              parts,
+              wrote-parts,
+              ← (c .before .before .before .before .before .before .put-piece .ensures),
+              wrote-parts,
+              ← (c .before .before .put-hole .ensures),
+            ),
+          ),
     )
 
 loop-again-2 : tie.Need-loop-again-2 Inv-loop μ-loop
 loop-again-2 c =
     let s = now (c .before .before .before .before .before .before .before .before .before .before .before .before .args .sheet) in
     let l = c .before .before .before .before .before .before .before .before .before .loop in
-    let is = seen (pieceAs s) (c .before .before .before .before .before .before .before .read-piece .ensures .0) (c .before .before .before .before .before .next .given .1) in (
+    let is = told (c .before .before .before .before .before .before .before .read-piece .ensures) (c .before .before .before .before .before .next .given .1) in (
       omega arith,
       λ ps u e.
           let (qs, read, total) = l .inv .1 ps u e in
-          let (rs, behind, parts) = piece-next (l .left) (drop (l .at .at) s) (c .before .before .before .before .before .before .before .before .loop-test .taken) is read in
-          (rs, behind, total ∙ rw (parts, wrote-parts (bufferAs (l .out) (l .p)) (holeParts (ltb 1 (l .left))) (templateParts rs), ← (c .before .before .put-hole2 .ensures))),
+          let (rs, behind, parts) = piece-next (l .left) (drop (l .at .at) s) (c .before .before .before .before .before .before .before .before .loop-test .taken) is read in (
+            rs,
+            behind,
+            total ∙ rw (
+              parts,
+              wrote-parts (bufferAs (l .out) (l .p)) (holeParts (ltb 1 (l .left))) (templateParts rs),
+              ← (c .before .before .put-hole2 .ensures),
+            ),
+          ),
     )
 
 returns-2 : tie.Need-returns-2 Inv-loop μ-loop
 unfolding flatMap
-returns-2 c = (
-  (λ ps u e.
+returns-2 c = record {
+  answer = λ ps u e.
       let s = now (c .before .before .before .before .args .sheet) in
       let l = c .before .loop in
       let (qs, read, total) = l .inv .1 ps u e in
-      sym (total ∙ rw (many-end [] piece (l .left) (drop (l .at .at) s) (c .loop-test .left) read) (wrote-nil (l .out) (l .p)))),
-  search needs,
-)
+      sym (total ∙ rw (many-end [] piece (l .left) (drop (l .at .at) s) (c .loop-test .left) read) (wrote-nil (l .out) (l .p)));
+  left = search needs;
+}
 
 pub put-parts-spec : {M : Type 1} → statement M
 put-parts-spec =

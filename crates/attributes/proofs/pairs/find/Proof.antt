@@ -48,7 +48,10 @@ returns c =
     let s = now (a .sheet) in
     let l = c .before .before .before .before .before .before .before .loop in
     let is = rw (c .before .before .before .before .before .pair-at .ensures) at (known (c .before .before .compare .ensures) (c .enum-told .given .1)) in
-    (sought-less s (now (a .pairs)) (a .n) (pairAs s (a .p)) (l .i) (c .before .before .before .before .before .before .loop-test .taken) (l .inv .1 _) is, l .inv .0)
+    record {
+      answer = sought-less s (now (a .pairs)) (a .n) (pairAs s (a .p)) (l .i) (c .before .before .before .before .before .before .loop-test .taken) (l .inv .1 _) is;
+      bounds = l .inv .0;
+    }
 
 returns-2 : tie.Need-returns-2 Inv-loop μ-loop
 returns-2 c =
@@ -56,7 +59,10 @@ returns-2 c =
     let s = now (a .sheet) in
     let l = c .before .before .before .before .before .before .before .loop in
     let is = rw (c .before .before .before .before .before .pair-at .ensures) at (known (c .before .before .compare .ensures) (c .enum-told2 .given .1)) in
-    (sought-equal s (now (a .pairs)) (a .n) (pairAs s (a .p)) (l .i) (c .before .before .before .before .before .before .loop-test .taken) (l .inv .1 _) is, c .before .before .before .before .before .before .loop-test .taken)
+    record {
+      answer = sought-equal s (now (a .pairs)) (a .n) (pairAs s (a .p)) (l .i) (c .before .before .before .before .before .before .loop-test .taken) (l .inv .1 _) is;
+      bounds = c .before .before .before .before .before .before .loop-test .taken;
+    }
 
 loop-again : tie.Need-loop-again Inv-loop μ-loop
 loop-again c =
@@ -71,7 +77,10 @@ returns-3 c =
     let a = c .before .before .before .before .args in
     let s = now (a .sheet) in
     let l = c .before .loop in
-    (sought-all s (now (a .pairs)) (a .n) (pairAs s (a .p)) (l .i) (l .inv .0) (c .loop-test .left) (l .inv .1 _), search needs)
+    record {
+      answer = sought-all s (now (a .pairs)) (a .n) (pairAs s (a .p)) (l .i) (l .inv .0) (c .loop-test .left) (l .inv .1 _);
+      bounds = search needs;
+    }
 
 pub find-spec : {M : Type 1} → statement M
 find-spec =

@@ -4,31 +4,32 @@ use Prim.Native.Nat.{_+_, _*_, _≤_}
 use native.Mathlib.Omega.{arith}
 use lib.ListN.{length}
 use denote.Ref.{now}
+use Rattle.laws.proofs.Steps.{bounded}
 use Rattle.attributes.proofs.Rows.{stored-replaces, stored-within}
 use Rattle.attributes.proofs.pairs.insert.Statement.{statement}
 use Rattle.attributes.proofs.pairs.insert.Tie as tie
 
 store-pair-requires : tie.Need-store-pair-requires
 store-pair-requires c κs =
-    let here = rw (c .before .before .i .given .1) at (c .before .before .before .before .find .ensures .1) in
+    let here = bounded (c .before .before .before .before .find .ensures) (c .before .before .i .given .1) in
     let pairs = c .before .before .before .before .before .before .before .before .pre .1 in
     omega (arith, pairs .long, pairs .most)
 
 insert-before-requires : tie.Need-insert-before-requires
-insert-before-requires c κs = (rw (c .before .before .i2 .given .1) at (c .before .before .before .before .find .ensures .1), c .before .before .before .before .before .before .before .before .pre .0, c .before .before .before .before .before .before .before .before .pre .1 .long)
+insert-before-requires c κs = (bounded (c .before .before .before .before .find .ensures) (c .before .before .i2 .given .1), c .before .before .before .before .before .before .before .before .pre .0, c .before .before .before .before .before .before .before .before .pre .1 .long)
 
 returns : tie.Need-returns
 returns c =
     let a = c .before .before .before .before .before .before .before .before .before .before .before .args in
     let t = now (a .pairs) in
     let i = c .before .before .before .before .before .i .given .0 .0 in
-    let here = rw (c .before .before .before .before .before .i .given .1) at (c .before .before .before .before .before .before .before .find .ensures .1) in
-    let is = rw (c .before .before .before .before .before .i .given .1) at (c .before .before .before .before .before .before .before .find .ensures .0) in
+    let here = bounded (c .before .before .before .before .before .before .before .find .ensures) (c .before .before .before .before .before .i .given .1) in
+    let is = rw (c .before .before .before .before .before .i .given .1) at (c .before .before .before .before .before .before .before .find .ensures .answer) in
     let pairs = c .before .before .before .before .before .before .before .before .before .before .before .pre .1 in
     let fits : 5 * i + 5 ≤ length t = omega (arith, pairs .long, pairs .most) in
-    let stored = c .before .before .store-pair .ensures in (
-      stored-replaces t i (a .p) fits stored (now (a .sheet)) (a .n) here ∙ is,
-      (
+    let stored = c .before .before .store-pair .ensures in record {
+      answer = stored-replaces t i (a .p) fits stored (now (a .sheet)) (a .n) here ∙ is;
+      bounds = (
         omega arith,
         record {
           long = omega (arith, c .before .before .store-pair .kept .0, pairs .long);
@@ -36,13 +37,16 @@ returns c =
           parts = λ j b. stored-within t i (a .p) fits stored _ j (λ q. pairs .parts j b) (c .before .before .before .before .before .before .before .before .before .before .before .pre .2);
         },
         search needs,
-      ),
-    )
+      );
+    }
 
 returns-2 : tie.Need-returns-2
 returns-2 c =
-    let is = rw (c .before .before .before .before .before .i2 .given .1) at (c .before .before .before .before .before .before .before .find .ensures .0) in
-    (c .before .before .insert-before .ensures .0 (now (c .before .before .before .before .before .before .before .before .before .before .before .args .sheet)) ∙ is, (omega arith, c .before .before .insert-before .ensures .1 _ (c .before .before .before .before .before .before .before .before .before .before .before .pre .1) (c .before .before .before .before .before .before .before .before .before .before .before .pre .2), search needs))
+    let is = rw (c .before .before .before .before .before .i2 .given .1) at (c .before .before .before .before .before .before .before .find .ensures .answer) in
+    record {
+      answer = c .before .before .insert-before .ensures .answer (now (c .before .before .before .before .before .before .before .before .before .before .before .args .sheet)) ∙ is;
+      bounds = (omega arith, c .before .before .insert-before .ensures .bounds _ (c .before .before .before .before .before .before .before .before .before .before .before .pre .1) (c .before .before .before .before .before .before .before .before .before .before .before .pre .2), search needs);
+    }
 
 pub insert-spec : {M : Type 1} → statement M
 insert-spec =

@@ -52,16 +52,16 @@ returns c =
     let all : l .k ≡ n = omega (arith, l .inv .0, c .before .before .before .before .loop-test .left) in
     let same : length (l .pairs) ≡ _ = l .inv .1 in
     let fits : 5 * n + 5 ≤ length (l .pairs) = omega (arith, c .before .before .before .before .before .before .before .pre) in
-    let stored = c .before .before .store-pair2 .ensures in (
-      (λ s. stored-last (l .pairs) n (l .carried) fits stored s n refl ∙ (rw all at (l .inv .2 s))),
-      (λ m h w.
+    let stored = c .before .before .store-pair2 .ensures in record {
+      answer = λ s. stored-last (l .pairs) n (l .carried) fits stored s n refl ∙ (rw all at (l .inv .2 s));
+      bounds = λ m h w.
           let was = l .inv .3 m h w in
           record {
             long = omega (arith, c .before .before .store-pair2 .kept .0, was .0 .long);
             most = omega arith;
             parts = λ j b. stored-within (l .pairs) n (l .carried) fits stored m j (λ q. was .0 .parts j (omega arith)) (was .1);
-          }),
-    )
+          };
+    }
 
 pub insert-before-spec : {M : Type 1} → statement M
 insert-before-spec =

@@ -4,8 +4,8 @@ use Rattle.attributes.proofs.pairs.insert_known.Tie as tie
 
 returns : tie.Need-returns
 returns c =
-    let is = rw (c .before .before .before .before .if1 .taken) at (c .before .before .insert .ensures .0) in
-    rw (c .before .before .before .before .if1 .taken) (is, c .before .before .insert .ensures .1)
+    let is = rw (c .before .before .before .before .if1 .taken) at (c .before .before .insert .ensures .answer) in
+    rw (c .before .before .before .before .if1 .taken) (record { answer = is; bounds = c .before .before .insert .ensures .bounds })
 
 returns-2 : tie.Need-returns-2
 returns-2 c = rw (c .if1 .left) (search needs)

@@ -13,10 +13,10 @@ part-is-exact-end : tie.Need-part-is-exact-end
 part-is-exact-end c = let within = rw (c .before .p .given .1) at (c .before .before .before .before .pre) in within .1
 
 returns : tie.Need-returns
-returns c = rw (c .before .before .before .before .p .given .1, known (c .before .is-exact .ensures .0) (c .if1 .taken))
+returns c = rw (c .before .before .before .before .p .given .1, known (c .before .is-exact .ensures .answer) (c .if1 .taken))
 
 returns-5 : tie.Need-returns-5
-returns-5 c = rw (c .before .before .before .before .p .given .1, known (c .before .is-exact .ensures .0) (c .if1 .left))
+returns-5 c = rw (c .before .before .before .before .p .given .1, known (c .before .is-exact .ensures .answer) (c .if1 .left))
 
 pub prop-of-spec : {M : Type 1} → statement M
 prop-of-spec =

@@ -4,31 +4,34 @@ use Rattle.attributes.proofs.props.read_pair.Statement.{statement}
 use Rattle.attributes.proofs.props.read_pair.Tie as tie
 
 sub-is-exact : tie.Need-sub-is-exact
-sub-is-exact c = let within = rw (c .before .from .given .1) at (c .before .before .before .read-value .ensures .1) in within .0
+sub-is-exact c = let within = rw (c .before .from .given .1) at (c .before .before .before .read-value .ensures .bounds) in within .0
 
 part-is-exact-start : tie.Need-part-is-exact-start
-part-is-exact-start c = let within = rw (c .before .from .given .1) at (c .before .before .before .read-value .ensures .1) in within .0
+part-is-exact-start c = let within = rw (c .before .from .given .1) at (c .before .before .before .read-value .ensures .bounds) in within .0
 
 part-is-exact-end : tie.Need-part-is-exact-end
-part-is-exact-end c = let within = rw (c .before .from .given .1) at (c .before .before .before .read-value .ensures .1) in within .1
+part-is-exact-end c = let within = rw (c .before .from .given .1) at (c .before .before .before .read-value .ensures .bounds) in within .1
 
 returns : tie.Need-returns
-returns c = (
-  (λ v t e. let is = rw (c .before .before .before .from .given .1) at (c .before .before .before .before .before .read-value .ensures .0 v t e) in rw (is, c .is-exact .ensures .0)),
-  record { key = c .before .before .before .before .before .before .before .before .pre; value = rw (c .before .before .before .from .given .1) at (c .before .before .before .before .before .read-value .ensures .1) },
-)
+returns c = record {
+  answer = λ v t e. let is = rw (c .before .before .before .from .given .1) at (c .before .before .before .before .before .read-value .ensures .answer v t e) in rw (
+    is,
+    c .is-exact .ensures .answer,
+  );
+  bounds = record { key = c .before .before .before .before .before .before .before .before .pre; value = rw (c .before .before .before .from .given .1) at (c .before .before .before .before .before .read-value .ensures .bounds) };
+}
 
 returns-2 : tie.Need-returns-2
-returns-2 c = (
-  (λ v t e. let is = rw (c .enum-told .given .1) at (c .before .before .read-value .ensures .0 v t e) in rw (is .2)),
-  record { key = c .before .before .before .before .before .pre; value = search needs },
-)
+returns-2 c = record {
+  answer = λ v t e. let is = rw (c .enum-told .given .1) at (c .before .before .read-value .ensures .answer v t e) in rw (is .2);
+  bounds = record { key = c .before .before .before .before .before .pre; value = search needs };
+}
 
 returns-3 : tie.Need-returns-3
-returns-3 c = (
-  (λ v t e. let is = rw (c .enum-told2 .given .1) at (c .before .before .read-value .ensures .0 v t e) in rw (other-value _ is)),
-  record { key = c .before .before .before .before .before .pre; value = search needs },
-)
+returns-3 c = record {
+  answer = λ v t e. let is = rw (c .enum-told2 .given .1) at (c .before .before .read-value .ensures .answer v t e) in rw (other-value _ is);
+  bounds = record { key = c .before .before .before .before .before .pre; value = search needs };
+}
 
 pub read-pair-spec : {M : Type 1} → statement M
 read-pair-spec =

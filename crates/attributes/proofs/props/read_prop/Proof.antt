@@ -3,30 +3,34 @@ use mathlib.Core.Path.{_∙_}
 use lib.ListN.{length, drop}
 use denote.Ref.{now}
 use Rattle.laws.proofs.Decoding.{onOk-ok, onOk-no}
-use Rattle.laws.proofs.Steps.{seen}
+use Rattle.laws.proofs.Steps.{told, bounded}
 use Rattle.sheet.specs.Nodes.{node, propertyItem}
-use Rattle.heads.specs.code.Views.{propertyAs}
 use Rattle.heads.proofs.ByHead.{property-by-head}
-use Rattle.nodes.specs.code.Answers.{talliedAs}
 use Rattle.nodes.specs.code.Judged.{gain}
 use Rattle.attributes.proofs.Seen.{prop-is, prop-within}
 use Rattle.attributes.proofs.props.read_prop.Statement.{statement}
 use Rattle.attributes.proofs.props.read_prop.Tie as tie
 
 prop-of-requires : tie.Need-prop-of-requires
-prop-of-requires c κs = (rw (c .before .before .before .before .before .p .given .1) at (c .before .before .before .before .before .before .before .read-property .ensures .1)) .2
+prop-of-requires c κs = bounded (c .before .before .before .before .before .before .before .read-property .ensures) (c .before .before .before .before .before .p .given .1) .2
 
 returns : tie.Need-returns
 returns c =
     let a = c .before .before .before .before .before .before .args in
     let s = now (a .sheet) in
-    (property-by-head (node (now (a .source)) (a .levels)) (drop (a .c .at) s) ∙ rw (seen (propertyAs s) (c .before .before .before .read-property .ensures .0) (c .before .r .given .1)), tt)
+    record {
+      answer = property-by-head (node (now (a .source)) (a .levels)) (drop (a .c .at) s) ∙ rw (told (c .before .before .before .read-property .ensures) (c .before .r .given .1));
+      bounds = tt;
+    }
 
 returns-2 : tie.Need-returns-2
 returns-2 c =
     let a = c .before .before .before .before .before .before .before .before .before .before .args in
     let s = now (a .sheet) in
-    (onOk-no gain (propertyItem (node (now (a .source)) (a .levels)) (drop (a .c .at) s)) (seen (talliedAs s) (c .before .before .before .check-property .ensures .0) (c .before .r2 .given .1)), tt)
+    record {
+      answer = onOk-no gain (propertyItem (node (now (a .source)) (a .levels)) (drop (a .c .at) s)) (told (c .before .before .before .check-property .ensures) (c .before .r2 .given .1));
+      bounds = tt;
+    }
 
 returns-3 : tie.Need-returns-3
 returns-3 c =
@@ -35,12 +39,12 @@ returns-3 c =
     let inner = node (now (a .source)) (a .levels) in
     let p = c .before .before .before .before .before .before .p .given .0 in
     let next = c .before .before .next .given .0 .1 .0 in
-    let (add, item, is) = onOk-ok gain (propertyItem inner (drop (a .c .at) s)) (seen (talliedAs s) (c .before .before .before .before .check-property .ensures .0) (c .before .before .next .given .1)) in
-    let past = rw (c .before .before .before .before .before .before .p .given .1) at (c .before .before .before .before .before .before .before .before .read-property .ensures .1) in
-    rw (c .prop-of .ensures) (
-      prop-is inner s (a .c .at) (p .1 .0) next item (p .0) (seen (propertyAs s) (c .before .before .before .before .before .before .before .before .read-property .ensures .0) (c .before .before .before .before .before .before .p .given .1)),
-      prop-within (length s) s (p .0) (p .1 .0) next (past .2),
-    )
+    let (add, item, is) = onOk-ok gain (propertyItem inner (drop (a .c .at) s)) (told (c .before .before .before .before .check-property .ensures) (c .before .before .next .given .1)) in
+    let past = bounded (c .before .before .before .before .before .before .before .before .read-property .ensures) (c .before .before .before .before .before .before .p .given .1) in
+    rw (c .prop-of .ensures) (record {
+      answer = prop-is inner s (a .c .at) (p .1 .0) next item (p .0) (told (c .before .before .before .before .before .before .before .before .read-property .ensures) (c .before .before .before .before .before .before .p .given .1));
+      bounds = prop-within (length s) s (p .0) (p .1 .0) next (past .2);
+    })
 
 pub read-prop-spec : {M : Type 1} → statement M
 read-prop-spec =

@@ -1,7 +1,6 @@
 use borrow.Author.Needs.{needs}
 use denote.Ref.{now}
-use Rattle.laws.proofs.Steps.{seen}
-use Rattle.heads.specs.code.Views.{headAs}
+use Rattle.laws.proofs.Steps.{told, bounded}
 use Rattle.heads.proofs.ByHead.{no-head}
 use Rattle.attributes.proofs.Shapes.{text-is, object-is, other-is}
 use Rattle.attributes.proofs.props.read_value.Statement.{statement}
@@ -10,24 +9,36 @@ use Rattle.attributes.proofs.props.read_value.Tie as tie
 returns : tie.Need-returns
 returns c =
     let a = c .before .before .before .before .before .args in
-    ((λ v t e. absurd (no-head (now (a .source)) (a .levels) _ e (seen (headAs (now (a .sheet))) (c .before .before .read-head .ensures .0) (c .enum-told .given .1)))), tt)
+    record {
+      answer = λ v t e. absurd (no-head (now (a .source)) (a .levels) _ e (told (c .before .before .read-head .ensures) (c .enum-told .given .1)));
+      bounds = tt;
+    }
 
 returns-2 : tie.Need-returns-2
 returns-2 c =
     let a = c .before .before .before .before .before .before .before .before .before .args in
-    let past = rw (c .before .before .before .before .head .given .1) at (c .before .before .before .before .before .before .read-head .ensures .1) in
-    ((λ v t e. text-is (now (a .sheet)) (now (a .source)) (a .c .at) (a .levels) (c .before .before .before .before .before .before .read-head .ensures .0) (c .before .before .before .before .head .given .1) e (c .before .head2 .given .1)), rw (c .before .head2 .given .1) at (past .3))
+    let past = bounded (c .before .before .before .before .before .before .read-head .ensures) (c .before .before .before .before .head .given .1) in
+    record {
+      answer = λ v t e. text-is (now (a .sheet)) (now (a .source)) (a .c .at) (a .levels) (c .before .before .before .before .before .before .read-head .ensures .answer) (c .before .before .before .before .head .given .1) e (c .before .head2 .given .1);
+      bounds = rw (c .before .head2 .given .1) at (past .3);
+    }
 
 returns-3 : tie.Need-returns-3
 returns-3 c =
     let a = c .before .before .before .before .before .before .before .before .before .args in
-    let past = rw (c .before .before .before .before .head .given .1) at (c .before .before .before .before .before .before .read-head .ensures .1) in
-    ((λ v t e. object-is (now (a .sheet)) (now (a .source)) (a .c .at) (a .levels) (c .before .before .before .before .before .before .read-head .ensures .0) (c .before .before .before .before .head .given .1) e (c .before .head3 .given .1)), (past .0, rw (c .before .head3 .given .1) at (past .3)))
+    let past = bounded (c .before .before .before .before .before .before .read-head .ensures) (c .before .before .before .before .head .given .1) in
+    record {
+      answer = λ v t e. object-is (now (a .sheet)) (now (a .source)) (a .c .at) (a .levels) (c .before .before .before .before .before .before .read-head .ensures .answer) (c .before .before .before .before .head .given .1) e (c .before .head3 .given .1);
+      bounds = (past .0, rw (c .before .head3 .given .1) at (past .3));
+    }
 
 returns-4 : tie.Need-returns-4
 returns-4 c =
     let a = c .before .before .before .before .before .before .before .args in
-    ((λ v t e. other-is (now (a .sheet)) (now (a .source)) (a .c .at) (a .levels) (c .before .before .before .before .read-head .ensures .0) (c .before .before .head .given .1) e (c .match2 .keys3)), tt)
+    record {
+      answer = λ v t e. other-is (now (a .sheet)) (now (a .source)) (a .c .at) (a .levels) (c .before .before .before .before .read-head .ensures .answer) (c .before .before .head .given .1) e (c .match2 .keys3);
+      bounds = tt;
+    }
 
 pub read-value-spec : {M : Type 1} → statement M
 read-value-spec = tie.close (tie.spec (λ c κs. search needs) (λ c. search needs) (λ c. search needs) (λ c. search needs) (λ c. search needs) returns returns-2 returns-3 returns-4)

@@ -35,18 +35,21 @@ loop-holds c = (refl, tt, begins _ _ _ _ _)
 returns : tie.Need-returns Inv-loop μ-loop
 returns c =
     let l = c .before .before .before .before .loop in
-    let stop = rw (c .enum-told .given .1) at (c .before .before .read-prop .ensures .0) in
-    ((λ ps t e. absurd (stops (l .inv .2) ps t e (c .before .before .before .loop-test .taken) stop)), tt)
+    let stop = rw (c .enum-told .given .1) at (c .before .before .read-prop .ensures .answer) in
+    record { answer = λ ps t e. absurd (stops (l .inv .2) ps t e (c .before .before .before .loop-test .taken) stop); bounds = tt }
 
 returns-2 : tie.Need-returns-2 Inv-loop μ-loop
 unfolding argumentProperties
 returns-2 c =
     let l = c .before .before .before .before .loop in
-    let read = rw (c .enum-told2 .given .1) at (c .before .before .read-prop .ensures .0) in
-    ((λ ps t e. settles (l .inv .2) ps t e (c .before .before .before .loop-test .taken) read unknown (λ es. refl)), tt)
+    let read = rw (c .enum-told2 .given .1) at (c .before .before .read-prop .ensures .answer) in
+    record {
+      answer = λ ps t e. settles (l .inv .2) ps t e (c .before .before .before .loop-test .taken) read unknown (λ es. refl);
+      bounds = tt;
+    }
 
 is-attributes-key-requires : tie.Need-is-attributes-key-requires Inv-loop μ-loop
-is-attributes-key-requires c κs = rw (c .before .start .given .1) at (c .before .before .before .read-prop .ensures .1)
+is-attributes-key-requires c κs = rw (c .before .start .given .1) at (c .before .before .before .read-prop .ensures .bounds)
 
 parse-nested-requires : tie.Need-parse-nested-requires Inv-loop μ-loop
 parse-nested-requires c κs =
@@ -61,10 +64,13 @@ returns-3 c =
     let l = c .before .before .before .before .before .before .before .before .before .before .before .before .before .loop in
     let found = attributesAs s (l .pairs) (l .found) in
     let start = c .before .before .before .before .before .before .before .before .before .start .given .0 in
-    let (v, value, read) = rw (c .before .before .before .before .before .before .before .before .before .start .given .1) at (c .before .before .before .before .before .before .before .before .before .before .before .read-prop .ensures .0) in
+    let (v, value, read) = rw (c .before .before .before .before .before .before .before .before .before .start .given .1) at (c .before .before .before .before .before .before .before .before .before .before .before .read-prop .ensures .answer) in
     let key = known (c .before .before .before .before .before .before .before .is-attributes-key .ensures) (c .before .before .before .before .before .before .if1 .taken) in
-    let inside = sym (seen (attributesAs s _) (c .before .before .before .before .parse-nested .ensures .0 v _ value) (c .enum-told3 .given .1)) in
-    ((λ ps t e. settles (l .inv .2) ps t e (c .before .before .before .before .before .before .before .before .before .before .before .before .loop-test .taken) read none (λ es. attributes-key (l .had-with) found (part s (start .0) (start .1 .0)) (shape v) es key refl inside)), tt)
+    let inside = sym (seen (attributesAs s _) (c .before .before .before .before .parse-nested .ensures .answer v _ value) (c .enum-told3 .given .1)) in
+    record {
+      answer = λ ps t e. settles (l .inv .2) ps t e (c .before .before .before .before .before .before .before .before .before .before .before .before .loop-test .taken) read none (λ es. attributes-key (l .had-with) found (part s (start .0) (start .1 .0)) (shape v) es key refl inside);
+      bounds = tt;
+    }
 
 returns-4 : tie.Need-returns-4 Inv-loop μ-loop
 unfolding argumentProperties
@@ -74,13 +80,16 @@ returns-4 c =
     let l = c .before .before .before .before .before .before .before .before .before .before .before .before .before .loop in
     let found = attributesAs s (l .pairs) (l .found) in
     let start = c .before .before .before .before .before .before .before .before .before .start .given .0 in
-    let (v, value, read) = rw (c .before .before .before .before .before .before .before .before .before .start .given .1) at (c .before .before .before .before .before .before .before .before .before .before .before .read-prop .ensures .0) in
+    let (v, value, read) = rw (c .before .before .before .before .before .before .before .before .before .start .given .1) at (c .before .before .before .before .before .before .before .before .before .before .before .read-prop .ensures .answer) in
     let key = known (c .before .before .before .before .before .before .before .is-attributes-key .ensures) (c .before .before .before .before .before .before .if1 .taken) in
-    let inside = sym (seen (attributesAs s _) (c .before .before .before .before .parse-nested .ensures .0 v _ value) (c .enum-told4 .given .1)) in
-    ((λ ps t e. settles (l .inv .2) ps t e (c .before .before .before .before .before .before .before .before .before .before .before .before .loop-test .taken) read unknown (λ es. attributes-key (l .had-with) found (part s (start .0) (start .1 .0)) (shape v) es key refl inside)), tt)
+    let inside = sym (seen (attributesAs s _) (c .before .before .before .before .parse-nested .ensures .answer v _ value) (c .enum-told4 .given .1)) in
+    record {
+      answer = λ ps t e. settles (l .inv .2) ps t e (c .before .before .before .before .before .before .before .before .before .before .before .before .loop-test .taken) read unknown (λ es. attributes-key (l .had-with) found (part s (start .0) (start .1 .0)) (shape v) es key refl inside);
+      bounds = tt;
+    }
 
 is-with-requires : tie.Need-is-with-requires Inv-loop μ-loop
-is-with-requires c κs = rw (c .before .before .before .before .before .before .before .before .before .before .start .given .1) at (c .before .before .before .before .before .before .before .before .before .before .before .before .read-prop .ensures .1)
+is-with-requires c κs = rw (c .before .before .before .before .before .before .before .before .before .before .start .given .1) at (c .before .before .before .before .before .before .before .before .before .before .before .before .read-prop .ensures .bounds)
 
 loop-again : tie.Need-loop-again Inv-loop μ-loop
 loop-again c =
@@ -89,11 +98,11 @@ loop-again c =
     let l = c .before .before .before .before .before .before .before .before .before .before .before .before .before .before .before .loop in
     let found = attributesAs s (l .pairs) (l .found) in
     let start = c .before .before .before .before .before .before .before .before .before .before .before .start .given .0 in
-    let (v, value, read) = rw (c .before .before .before .before .before .before .before .before .before .before .before .start .given .1) at (c .before .before .before .before .before .before .before .before .before .before .before .before .before .read-prop .ensures .0) in
+    let (v, value, read) = rw (c .before .before .before .before .before .before .before .before .before .before .before .start .given .1) at (c .before .before .before .before .before .before .before .before .before .before .before .before .before .read-prop .ensures .answer) in
     let key = known (c .before .before .before .before .before .before .before .before .before .is-attributes-key .ensures) (c .before .before .before .before .before .before .before .before .if1 .taken) in
-    let inside = sym (seen (attributesAs s _) (c .before .before .before .before .before .before .parse-nested .ensures .0 v _ value) (c .before .before .n .given .1)) in (
+    let inside = sym (seen (attributesAs s _) (c .before .before .before .before .before .before .parse-nested .ensures .answer v _ value) (c .before .before .n .given .1)) in (
       c .before .before .before .before .before .before .parse-nested .kept .1 .1 .1 .1 .0 ∙ l .inv .0,
-      rw (c .before .before .n .given .1) at (c .before .before .before .before .before .before .parse-nested .ensures .1),
+      rw (c .before .before .n .given .1) at (c .before .before .before .before .before .before .parse-nested .ensures .bounds),
       goes-on (l .inv .2) (c .before .before .before .before .before .before .before .before .before .before .before .before .before .before .loop-test .taken) read
           (λ es. attributes-key (l .had-with) found (part s (start .0) (start .1 .0)) (shape v) es key (c .is-with .ensures) inside),
     )
@@ -105,7 +114,7 @@ loop-again-2 c =
     let l = c .before .before .before .before .before .before .before .loop in
     let found = attributesAs s (l .pairs) (l .found) in
     let start = c .before .before .before .start .given .0 in
-    let (v, value, read) = rw (c .before .before .before .start .given .1) at (c .before .before .before .before .before .read-prop .ensures .0) in
+    let (v, value, read) = rw (c .before .before .before .start .given .1) at (c .before .before .before .before .before .read-prop .ensures .answer) in
     let key = known (c .before .is-attributes-key .ensures) (c .if1 .left) in (
       l .inv .0,
       l .inv .1,
@@ -116,7 +125,7 @@ returns-5 : tie.Need-returns-5 Inv-loop μ-loop
 unfolding argumentProperties
 returns-5 c =
     let l = c .before .loop in
-    ((λ ps t e. ends (l .inv .2) ps t e (c .loop-test .left)), l .inv .1)
+    record { answer = λ ps t e. ends (l .inv .2) ps t e (c .loop-test .left); bounds = l .inv .1 }
 
 pub parse-argument-properties-spec : {M : Type 1} → statement M
 parse-argument-properties-spec =

@@ -3,10 +3,9 @@ use mathlib.Core.Path.{sym, ap, _∙_}
 use mathlib.Core.Bool.{false, cond}
 use native.Mathlib.Omega.{arith}
 use denote.Ref.{now}
-use Rattle.laws.proofs.Steps.{seen}
+use Rattle.laws.proofs.Steps.{told}
 use Rattle.sheet.specs.Nodes.{node}
 use Rattle.sheet.specs.Shape.{shape}
-use Rattle.heads.specs.code.Views.{argumentAs}
 use Rattle.heads.proofs.FirstArgument.{no-first, no-arguments}
 use Rattle.report.specs.ModuleInfo.{none, unknown}
 use Rattle.attributes.specs.Attributes.{ofObject, argumentProperties, dynamicAttributes}
@@ -18,67 +17,74 @@ use Rattle.attributes.proofs.readings.parse_dynamic_import_attributes.T
 returns : tie.Need-returns
 returns c =
     let a = c .before .before .before .before .before .before .before .before .before .args in
-    let s = now (a .sheet) in
-    let head = seen (argumentAs s) (c .before .before .before .before .read-argument .ensures .0) (c .before .before .spread .given .1) in (
-      (λ xs t e.
+    let head = told (c .before .before .before .before .read-argument .ensures) (c .before .before .spread .given .1) in record {
+      answer = λ xs t e.
           let (n, u, x, is) = first-argument (node (now (a .source)) (a .levels)) (now (a .source)) _ (a .count) (c .before .before .before .before .before .if1 .taken) e head in
-          sym (is ∙ ap (λ b. cond b unknown (ofObject (argumentProperties false none) (shape n))) (c .if2 .taken))),
-      (tt, search needs),
-    )
+          sym (is ∙ ap (λ b. cond b unknown (ofObject (argumentProperties false none) (shape n))) (c .if2 .taken));
+      bounds = tt;
+      left = search needs;
+    }
 
 sub-parse-argument-properties : tie.Need-sub-parse-argument-properties
 sub-parse-argument-properties c =
-    let within = rw (c .before .n .given .1) at (c .before .before .before .read-value .ensures .1) in
+    let within = rw (c .before .n .given .1) at (c .before .before .before .read-value .ensures .bounds) in
     omega (arith, within .0)
 
 returns-2 : tie.Need-returns-2
 returns-2 c =
     let a = c .before .before .before .before .before .before .before .args in
-    let s = now (a .sheet) in
-    let stop = seen (argumentAs s) (c .before .before .read-argument .ensures .0) (c .enum-told .given .1) in
-    ((λ xs t e. absurd (no-first (node (now (a .source)) (a .levels)) (now (a .source)) (a .count) _ (c .before .before .before .if1 .taken) e stop)), (tt, search needs))
+    let stop = told (c .before .before .read-argument .ensures) (c .enum-told .given .1) in
+    record {
+      answer = λ xs t e. absurd (no-first (node (now (a .source)) (a .levels)) (now (a .source)) (a .count) _ (c .before .before .before .if1 .taken) e stop);
+      bounds = tt;
+      left = search needs;
+    }
 
 returns-3 : tie.Need-returns-3
 returns-3 c =
     let a = c .before .before .before .before .before .before .before .before .before .before .before .before .args in
-    let s = now (a .sheet) in
-    let head = seen (argumentAs s) (c .before .before .before .before .before .before .before .read-argument .ensures .0) (c .before .before .before .before .before .spread .given .1) in (
-      (λ xs t e.
+    let head = told (c .before .before .before .before .before .before .before .read-argument .ensures) (c .before .before .before .before .before .spread .given .1) in record {
+      answer = λ xs t e.
           let (n, u, x, is) = first-argument (node (now (a .source)) (a .levels)) (now (a .source)) _ (a .count) (c .before .before .before .before .before .before .before .before .if1 .taken) e head in
-          let value = rw (c .enum-told2 .given .1) at (c .before .before .read-value .ensures .0 n u x) in
-          sym (is ∙ ap (λ b. cond b unknown (ofObject (argumentProperties false none) (shape n))) (c .before .before .before .if2 .left) ∙ ap (ofObject (argumentProperties false none)) value)),
-      (tt, search needs),
-    )
+          let value = rw (c .enum-told2 .given .1) at (c .before .before .read-value .ensures .answer n u x) in
+          sym (is ∙ ap (λ b. cond b unknown (ofObject (argumentProperties false none) (shape n))) (c .before .before .before .if2 .left) ∙ ap (ofObject (argumentProperties false none)) value);
+      bounds = tt;
+      left = search needs;
+    }
 
 returns-4 : tie.Need-returns-4
 returns-4 c =
     let a = c .before .before .before .before .before .before .before .before .before .before .before .before .args in
-    let s = now (a .sheet) in
-    let head = seen (argumentAs s) (c .before .before .before .before .before .before .before .read-argument .ensures .0) (c .before .before .before .before .before .spread .given .1) in (
-      (λ xs t e.
+    let head = told (c .before .before .before .before .before .before .before .read-argument .ensures) (c .before .before .before .before .before .spread .given .1) in record {
+      answer = λ xs t e.
           let (n, u, x, is) = first-argument (node (now (a .source)) (a .levels)) (now (a .source)) _ (a .count) (c .before .before .before .before .before .before .before .before .if1 .taken) e head in
-          let value = rw (c .enum-told3 .given .1) at (c .before .before .read-value .ensures .0 n u x) in
-          sym (is ∙ ap (λ b. cond b unknown (ofObject (argumentProperties false none) (shape n))) (c .before .before .before .if2 .left) ∙ other-unknown (argumentProperties false none) (shape n) value)),
-      (tt, search needs),
-    )
+          let value = rw (c .enum-told3 .given .1) at (c .before .before .read-value .ensures .answer n u x) in
+          sym (is ∙ ap (λ b. cond b unknown (ofObject (argumentProperties false none) (shape n))) (c .before .before .before .if2 .left) ∙ other-unknown (argumentProperties false none) (shape n) value);
+      bounds = tt;
+      left = search needs;
+    }
 
 returns-5 : tie.Need-returns-5
 returns-5 c =
     let a = c .before .before .before .before .before .before .before .before .before .before .before .before .before .before .before .before .before .args in
-    let s = now (a .sheet) in
-    let head = seen (argumentAs s) (c .before .before .before .before .before .before .before .before .before .before .before .before .read-argument .ensures .0) (c .before .before .before .before .before .before .before .before .before .before .spread .given .1) in (
-      (λ xs t e.
+    let head = told (c .before .before .before .before .before .before .before .before .before .before .before .before .read-argument .ensures) (c .before .before .before .before .before .before .before .before .before .before .spread .given .1) in record {
+      answer = λ xs t e.
           let (n, u, x, is) = first-argument (node (now (a .source)) (a .levels)) (now (a .source)) _ (a .count) (c .before .before .before .before .before .before .before .before .before .before .before .before .before .if1 .taken) e head in
-          let (ps, v, object, y) = rw (c .before .before .before .before .before .n .given .1) at (c .before .before .before .before .before .before .before .read-value .ensures .0 n u x) in
-          c .before .before .parse-argument-properties .ensures .0 ps v y ∙ sym (is ∙ ap (λ b. cond b unknown (ofObject (argumentProperties false none) (shape n))) (c .before .before .before .before .before .before .before .before .if2 .left) ∙ ap (ofObject (argumentProperties false none)) object)),
-      (c .before .before .parse-argument-properties .ensures .1, search needs),
-    )
+          let (ps, v, object, y) = rw (c .before .before .before .before .before .n .given .1) at (c .before .before .before .before .before .before .before .read-value .ensures .answer n u x) in
+          c .before .before .parse-argument-properties .ensures .answer ps v y ∙ sym (is ∙ ap (λ b. cond b unknown (ofObject (argumentProperties false none) (shape n))) (c .before .before .before .before .before .before .before .before .if2 .left) ∙ ap (ofObject (argumentProperties false none)) object);
+      bounds = c .before .before .parse-argument-properties .ensures .bounds;
+      left = search needs;
+    }
 
 returns-6 : tie.Need-returns-6
 unfolding dynamicAttributes
 returns-6 c =
     let a = c .before .before .before .before .args in
-    ((λ xs t e. sym (ap dynamicAttributes (no-arguments (node (now (a .source)) (a .levels)) (now (a .source)) (a .count) _ (c .if1 .left) e))), (tt, search needs))
+    record {
+      answer = λ xs t e. sym (ap dynamicAttributes (no-arguments (node (now (a .source)) (a .levels)) (now (a .source)) (a .count) _ (c .if1 .left) e));
+      bounds = tt;
+      left = search needs;
+    }
 
 pub parse-dynamic-import-attributes-spec : {M : Type 1} → statement M
 parse-dynamic-import-attributes-spec =

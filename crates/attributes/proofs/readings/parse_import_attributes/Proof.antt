@@ -2,9 +2,8 @@ use borrow.Author.Needs.{needs}
 use mathlib.Core.Path.{_≡_, ap, _∙_}
 use native.Mathlib.Omega.{arith}
 use denote.Ref.{now}
-use Rattle.laws.proofs.Steps.{seen}
+use Rattle.laws.proofs.Steps.{told, bounded}
 use Rattle.sheet.specs.Tree.{without}
-use Rattle.heads.specs.code.Views.{attributesAs}
 use Rattle.report.specs.ModuleInfo.{known}
 use Rattle.attributes.specs.Attributes.{staticAttributes}
 use Rattle.attributes.proofs.Objects.{behind-attributes, no-attributes}
@@ -13,40 +12,46 @@ use Rattle.attributes.proofs.readings.parse_import_attributes.Tie as ti
 
 sub-parse-known : tie.Need-sub-parse-known
 sub-parse-known c =
-    let past = rw (c .before .count .given .1) at (c .before .before .before .read-attributes .ensures .1) in
+    let past = bounded (c .before .before .before .read-attributes .ensures) (c .before .count .given .1) in
     omega (arith, past .0)
 
 parse-known-requires : tie.Need-parse-known-requires
 parse-known-requires c κs =
-    let past = rw (c .before .before .count .given .1) at (c .before .before .before .before .read-attributes .ensures .1) in
+    let past = bounded (c .before .before .before .before .read-attributes .ensures) (c .before .before .count .given .1) in
     (past .3, c .before .before .before .before .before .before .before .before .before .pre)
 
 returns : tie.Need-returns
 returns c =
     let a = c .before .before .before .before .before .before .before .args in
-    let stop = seen (attributesAs (now (a .sheet))) (c .before .before .read-attributes .ensures .0) (c .enum-told .given .1) in
-    ((λ x t e. absurd (no-attributes (now (a .source)) (a .levels) _ (rw (c .before .before .before .if1 .taken) at e) stop)), (tt, search needs))
+    let stop = told (c .before .before .read-attributes .ensures) (c .enum-told .given .1) in
+    record {
+      answer = λ x t e. absurd (no-attributes (now (a .source)) (a .levels) _ (rw (c .before .before .before .if1 .taken) at e) stop);
+      bounds = tt;
+      left = search needs;
+    }
 
 returns-2 : tie.Need-returns-2
 unfolding staticAttributes
 returns-2 c =
     let a = c .before .before .before .before .before .before .before .before .before .before .before .before .args in
-    let is = seen (attributesAs (now (a .sheet))) (c .before .before .before .before .before .before .before .read-attributes .ensures .0) (c .before .before .before .before .before .count .given .1) in (
-      (λ y t e.
+    let is = told (c .before .before .before .before .before .before .before .read-attributes .ensures) (c .before .before .before .before .before .count .given .1) in record {
+      answer = λ y t e.
           let (ps, x, object) = behind-attributes (now (a .source)) (a .levels) _ (rw (c .before .before .before .before .before .before .before .before .if1 .taken) at e) is in
-          ap known (c .before .before .parse-known .ensures .0 ps t x) ∙ ap staticAttributes object),
-      (c .before .before .parse-known .ensures .1, search needs),
-    )
+          ap known (c .before .before .parse-known .ensures .answer ps t x) ∙ ap staticAttributes object;
+      bounds = c .before .before .parse-known .ensures .bounds;
+      left = search needs;
+    }
 
 returns-3 : tie.Need-returns-3
 unfolding staticAttributes
-returns-3 c = (
-  (λ y t e.
+returns-3 c = record {
+  answer = λ y t e.
       let nothing = rw (c .if1 .left) at e in
       let is : without ≡ y = cc in
-      ap staticAttributes is),
-  (tt, search needs),
-)
+      ap staticAttributes is;
+  bounds = tt;
+  left = search needs;
+}
 
 pub parse-import-attributes-spec : {M : Type 1} → statement M
 parse-import-attributes-spec =

@@ -32,21 +32,24 @@ loop-holds c = (omega arith, refl, record { long = c .before .before .before .pr
 returns : tie.Need-returns Inv-loop μ-loop
 returns c =
     let l = c .before .before .before .before .loop in
-    let stop = rw (c .enum-told .given .1) at (c .before .before .read-prop .ensures .0) in
-    ((λ ps t e. absurd (stops (l .inv .3) ps t e (c .before .before .before .loop-test .taken) stop)), tt)
+    let stop = rw (c .enum-told .given .1) at (c .before .before .read-prop .ensures .answer) in
+    record { answer = λ ps t e. absurd (stops (l .inv .3) ps t e (c .before .before .before .loop-test .taken) stop); bounds = tt }
 
 returns-2 : tie.Need-returns-2 Inv-loop μ-loop
 unfolding objectAttributes
 returns-2 c =
     let l = c .before .before .before .before .loop in
-    let read = rw (c .enum-told2 .given .1) at (c .before .before .read-prop .ensures .0) in
-    ((λ ps t e. settles (l .inv .3) ps t e (c .before .before .before .loop-test .taken) read unknown (λ es. refl)), tt)
+    let read = rw (c .enum-told2 .given .1) at (c .before .before .read-prop .ensures .answer) in
+    record {
+      answer = λ ps t e. settles (l .inv .3) ps t e (c .before .before .before .loop-test .taken) read unknown (λ es. refl);
+      bounds = tt;
+    }
 
 read-pair-requires : tie.Need-read-pair-requires Inv-loop μ-loop
-read-pair-requires c κs = rw (c .before .start .given .1) at (c .before .before .before .read-prop .ensures .1)
+read-pair-requires c κs = rw (c .before .start .given .1) at (c .before .before .before .read-prop .ensures .bounds)
 
 insert-requires : tie.Need-insert-requires Inv-loop μ-loop
-insert-requires c κs = (omega arith, c .before .before .before .before .before .before .before .loop .inv .2, c .before .read-pair .ensures .1)
+insert-requires c κs = (omega arith, c .before .before .before .before .before .before .before .loop .inv .2, c .before .read-pair .ensures .bounds)
 
 loop-again : tie.Need-loop-again Inv-loop μ-loop
 unfolding objectAttributes
@@ -55,11 +58,11 @@ loop-again c =
     let s = now (a .sheet) in
     let l = c .before .before .before .before .before .before .before .before .before .before .loop in
     let pairs = pairsIn s (l .pairs) (l .n) in
-    let (v, value, read) = rw (c .before .before .before .before .before .before .start .given .1) at (c .before .before .before .before .before .before .before .before .read-prop .ensures .0) in
-    let inserted = c .before .before .insert .ensures .0 ∙ ap (λ p. insert p pairs) (c .before .before .before .before .read-pair .ensures .0 v _ value) in (
-      omega (arith, c .before .before .insert .ensures .1 .0),
+    let (v, value, read) = rw (c .before .before .before .before .before .before .start .given .1) at (c .before .before .before .before .before .before .before .before .read-prop .ensures .answer) in
+    let inserted = c .before .before .insert .ensures .answer ∙ ap (λ p. insert p pairs) (c .before .before .before .before .read-pair .ensures .answer v _ value) in (
+      omega (arith, c .before .before .insert .ensures .bounds .0),
       c .before .before .insert .kept .1 .0 ∙ l .inv .1,
-      c .before .before .insert .ensures .1 .1,
+      c .before .before .insert .ensures .bounds .1,
       goes-on (l .inv .3) (c .before .before .before .before .before .before .before .before .before .loop-test .taken) read (λ es. ap (λ l. objectAttributes l es) (sym inserted)),
     )
 
@@ -67,7 +70,7 @@ returns-3 : tie.Need-returns-3 Inv-loop μ-loop
 unfolding objectAttributes
 returns-3 c =
     let l = c .before .loop in
-    ((λ ps t e. ends (l .inv .3) ps t e (c .loop-test .left)), l .inv .2)
+    record { answer = λ ps t e. ends (l .inv .3) ps t e (c .loop-test .left); bounds = l .inv .2 }
 
 pub parse-import-attributes-from-object-lit-spec : {M : Type 1} → statement M
 parse-import-attributes-from-object-lit-spec =

@@ -32,21 +32,21 @@ loop-holds c = (omega arith, refl, record { long = c .before .before .before .pr
 returns : tie.Need-returns Inv-loop μ-loop
 returns c =
     let l = c .before .before .before .before .loop in
-    let stop = rw (c .enum-told .given .1) at (c .before .before .read-prop .ensures .0) in
-    ((λ ps t e. absurd (stops (l .inv .3) ps t e (c .before .before .before .loop-test .taken) stop)), l .inv .2)
+    let stop = rw (c .enum-told .given .1) at (c .before .before .read-prop .ensures .answer) in
+    record { answer = λ ps t e. absurd (stops (l .inv .3) ps t e (c .before .before .before .loop-test .taken) stop); bounds = l .inv .2 }
 
 loop-again : tie.Need-loop-again Inv-loop μ-loop
 unfolding staticPairs
 loop-again c =
     let l = c .before .before .before .before .before .loop in
-    let read = rw (c .before .next .given .1) at (c .before .before .before .read-prop .ensures .0) in
+    let read = rw (c .before .next .given .1) at (c .before .before .before .read-prop .ensures .answer) in
     (omega arith, l .inv .1, l .inv .2, goes-on (l .inv .3) (c .before .before .before .before .loop-test .taken) read (λ es. refl))
 
 read-pair-requires : tie.Need-read-pair-requires Inv-loop μ-loop
-read-pair-requires c κs = rw (c .before .start .given .1) at (c .before .before .before .read-prop .ensures .1)
+read-pair-requires c κs = rw (c .before .start .given .1) at (c .before .before .before .read-prop .ensures .bounds)
 
 insert-known-requires : tie.Need-insert-known-requires Inv-loop μ-loop
-insert-known-requires c κs = (omega arith, c .before .before .before .before .before .before .before .loop .inv .2, c .before .read-pair .ensures .1)
+insert-known-requires c κs = (omega arith, c .before .before .before .before .before .before .before .loop .inv .2, c .before .read-pair .ensures .bounds)
 
 loop-again-2 : tie.Need-loop-again-2 Inv-loop μ-loop
 unfolding staticPairs
@@ -55,11 +55,11 @@ loop-again-2 c =
     let s = now (a .sheet) in
     let l = c .before .before .before .before .before .before .before .before .before .before .loop in
     let pairs = pairsIn s (l .pairs) (l .n) in
-    let (v, value, read) = rw (c .before .before .before .before .before .before .start .given .1) at (c .before .before .before .before .before .before .before .before .read-prop .ensures .0) in
-    let inserted = c .before .before .insert-known .ensures .0 ∙ ap (λ (p : KeyValue). insertKnown (p .key) (p .value) pairs) (c .before .before .before .before .read-pair .ensures .0 v _ value) in (
-      omega (arith, c .before .before .insert-known .ensures .1 .0),
+    let (v, value, read) = rw (c .before .before .before .before .before .before .start .given .1) at (c .before .before .before .before .before .before .before .before .read-prop .ensures .answer) in
+    let inserted = c .before .before .insert-known .ensures .answer ∙ ap (λ (p : KeyValue). insertKnown (p .key) (p .value) pairs) (c .before .before .before .before .read-pair .ensures .answer v _ value) in (
+      omega (arith, c .before .before .insert-known .ensures .bounds .0),
       c .before .before .insert-known .kept .1 .0 ∙ l .inv .1,
-      c .before .before .insert-known .ensures .1 .1,
+      c .before .before .insert-known .ensures .bounds .1,
       goes-on (l .inv .3) (c .before .before .before .before .before .before .before .before .before .loop-test .taken) read (λ es. ap (λ l. staticPairs l es) (sym inserted)),
     )
 
@@ -67,7 +67,7 @@ returns-2 : tie.Need-returns-2 Inv-loop μ-loop
 unfolding staticPairs
 returns-2 c =
     let l = c .before .loop in
-    ((λ ps t e. ends (l .inv .3) ps t e (c .loop-test .left)), l .inv .2)
+    record { answer = λ ps t e. ends (l .inv .3) ps t e (c .loop-test .left); bounds = l .inv .2 }
 
 pub parse-known-spec : {M : Type 1} → statement M
 parse-known-spec =

@@ -10,27 +10,33 @@ use Rattle.attributes.proofs.readings.parse_nested.Tie as tie
 
 sub-parse : tie.Need-sub-parse-import-attributes-from-object-lit
 sub-parse c =
-    let within = rw (c .before .n .given .1) at (c .before .before .before .read-value .ensures .1) in
+    let within = rw (c .before .n .given .1) at (c .before .before .before .read-value .ensures .bounds) in
     omega (arith, within .0)
 
 parse-requires : tie.Need-parse-import-attributes-from-object-lit-requires
 parse-requires c κs =
-    let within = rw (c .before .before .n .given .1) at (c .before .before .before .before .read-value .ensures .1) in
+    let within = rw (c .before .before .n .given .1) at (c .before .before .before .before .read-value .ensures .bounds) in
     (within .1, c .before .before .before .before .before .before .before .before .pre)
 
 returns : tie.Need-returns
-returns c = ((λ v t e. let is = rw (c .enum-told .given .1) at (c .before .before .read-value .ensures .0 v t e) in sym (ap (ofObject (objectAttributes [])) is)), tt)
+returns c = record {
+  answer = λ v t e. let is = rw (c .enum-told .given .1) at (c .before .before .read-value .ensures .answer v t e) in sym (ap (ofObject (objectAttributes [])) is);
+  bounds = tt;
+}
 
 returns-2 : tie.Need-returns-2
-returns-2 c = ((λ v t e. let is = rw (c .enum-told2 .given .1) at (c .before .before .read-value .ensures .0 v t e) in sym (other-unknown (objectAttributes []) (shape v) is)), tt)
+returns-2 c = record {
+  answer = λ v t e. let is = rw (c .enum-told2 .given .1) at (c .before .before .read-value .ensures .answer v t e) in sym (other-unknown (objectAttributes []) (shape v) is);
+  bounds = tt;
+}
 
 returns-3 : tie.Need-returns-3
-returns-3 c = (
-  (λ v t e.
-      let (ps, u, is, x) = rw (c .before .before .before .before .before .n .given .1) at (c .before .before .before .before .before .before .before .read-value .ensures .0 v t e) in
-      c .before .before .parse-import-attributes-from-object-lit .ensures .0 ps u x ∙ sym (ap (ofObject (objectAttributes [])) is)),
-  c .before .before .parse-import-attributes-from-object-lit .ensures .1,
-)
+returns-3 c = record {
+  answer = λ v t e.
+      let (ps, u, is, x) = rw (c .before .before .before .before .before .n .given .1) at (c .before .before .before .before .before .before .before .read-value .ensures .answer v t e) in
+      c .before .before .parse-import-attributes-from-object-lit .ensures .answer ps u x ∙ sym (ap (ofObject (objectAttributes [])) is);
+  bounds = c .before .before .parse-import-attributes-from-object-lit .ensures .bounds;
+}
 
 pub parse-nested-spec : {M : Type 1} → statement M
 parse-nested-spec =

@@ -2,9 +2,8 @@ use borrow.Author.Needs.{needs}
 use mathlib.Core.Path.{_≡_, ap, _∙_}
 use native.Mathlib.Omega.{arith}
 use denote.Ref.{now}
-use Rattle.laws.proofs.Steps.{seen}
+use Rattle.laws.proofs.Steps.{told, bounded}
 use Rattle.sheet.specs.Tree.{without}
-use Rattle.heads.specs.code.Views.{attributesAs}
 use Rattle.attributes.specs.Attributes.{typeAttributes}
 use Rattle.attributes.proofs.Objects.{behind-attributes, no-attributes}
 use Rattle.attributes.proofs.readings.parse_type_attributes.Statement.{statement}
@@ -12,40 +11,46 @@ use Rattle.attributes.proofs.readings.parse_type_attributes.Tie as tie
 
 sub-parse-import-attributes-from-object-lit : tie.Need-sub-parse-import-attributes-from-object-lit
 sub-parse-import-attributes-from-object-lit c =
-    let past = rw (c .before .count .given .1) at (c .before .before .before .read-attributes .ensures .1) in
+    let past = bounded (c .before .before .before .read-attributes .ensures) (c .before .count .given .1) in
     omega (arith, past .0)
 
 parse-import-attributes-from-object-lit-requires : tie.Need-parse-import-attributes-from-object-lit-requires
 parse-import-attributes-from-object-lit-requires c κs =
-    let past = rw (c .before .before .count .given .1) at (c .before .before .before .before .read-attributes .ensures .1) in
+    let past = bounded (c .before .before .before .before .read-attributes .ensures) (c .before .before .count .given .1) in
     (past .3, c .before .before .before .before .before .before .before .before .before .pre)
 
 returns : tie.Need-returns
 returns c =
     let a = c .before .before .before .before .before .before .before .args in
-    let stop = seen (attributesAs (now (a .sheet))) (c .before .before .read-attributes .ensures .0) (c .enum-told .given .1) in
-    ((λ x t e. absurd (no-attributes (now (a .source)) (a .levels) _ (rw (c .before .before .before .if1 .taken) at e) stop)), (tt, search needs))
+    let stop = told (c .before .before .read-attributes .ensures) (c .enum-told .given .1) in
+    record {
+      answer = λ x t e. absurd (no-attributes (now (a .source)) (a .levels) _ (rw (c .before .before .before .if1 .taken) at e) stop);
+      bounds = tt;
+      left = search needs;
+    }
 
 returns-2 : tie.Need-returns-2
 unfolding typeAttributes
 returns-2 c =
     let a = c .before .before .before .before .before .before .before .before .before .before .before .before .args in
-    let is = seen (attributesAs (now (a .sheet))) (c .before .before .before .before .before .before .before .read-attributes .ensures .0) (c .before .before .before .before .before .count .given .1) in (
-      (λ y t e.
+    let is = told (c .before .before .before .before .before .before .before .read-attributes .ensures) (c .before .before .before .before .before .count .given .1) in record {
+      answer = λ y t e.
           let (ps, x, object) = behind-attributes (now (a .source)) (a .levels) _ (rw (c .before .before .before .before .before .before .before .before .if1 .taken) at e) is in
-          c .before .before .parse-import-attributes-from-object-lit .ensures .0 ps t x ∙ ap typeAttributes object),
-      (c .before .before .parse-import-attributes-from-object-lit .ensures .1, search needs),
-    )
+          c .before .before .parse-import-attributes-from-object-lit .ensures .answer ps t x ∙ ap typeAttributes object;
+      bounds = c .before .before .parse-import-attributes-from-object-lit .ensures .bounds;
+      left = search needs;
+    }
 
 returns-3 : tie.Need-returns-3
 unfolding typeAttributes
-returns-3 c = (
-  (λ y t e.
+returns-3 c = record {
+  answer = λ y t e.
       let nothing = rw (c .if1 .left) at e in
       let is : without ≡ y = cc in
-      ap typeAttributes is),
-  (tt, search needs),
-)
+      ap typeAttributes is;
+  bounds = tt;
+  left = search needs;
+}
 
 pub parse-type-attributes-spec : {M : Type 1} → statement M
 parse-type-attributes-spec =

@@ -18,19 +18,19 @@ returns c =
     let kind = c .before .before .before .before .before .before .before .before .before .before .before .before .before .before .before .dependency-kind in
     let first = c .before .before .before .before .before .before .before .before .before .before .before .cite-specifier in
     let flag = c .before .before .before .before .read-number2 in
-    let byte = byte-read (number .ensures) in (
-      elim [
+    let byte = byte-read (number .ensures) in record {
+      answer = elim [
         | static d ↦ λ v t e.
             let types = simp append-assoc at (byte _ (small (Static (d .kind))) _ e .1) in
-            let (p, e) = first .ensures .0 (d .specifier) (v .specifier) _ (c .before .before .before .before .before .before .before .before .before .before .before .before .before .before .before .before .skip-optional-specifier .ensures (d .typesSpecifier) (v .typesSpecifier) _ types) in
-            let (q, _) = c .before .before .before .before .before .before .before .cite-optional .ensures .0 (d .typesSpecifier) (v .typesSpecifier) _ types in
+            let (p, e) = first .ensures .answer (d .specifier) (v .specifier) _ (c .before .before .before .before .before .before .before .before .before .before .before .before .before .before .before .before .skip-optional-specifier .ensures (d .typesSpecifier) (v .typesSpecifier) _ types) in
+            let (q, _) = c .before .before .before .before .before .before .before .cite-optional .ensures .answer (d .typesSpecifier) (v .typesSpecifier) _ types in
             let e = flag-read (flag .ensures) (d .sideEffect) _ e in
             (both p q, c .skip-attributes .ensures (d .importAttributes) (v .importAttributes) t e)
         | dynamic d ↦ λ v t e.
             absurd (apart (sym (c .before .before .before .before .before .before .before .before .before .before .before .before .before .enum-told .given .1) ∙ told (kind .ensures) (Dynamic (d .kind)) (byte _ (small (Dynamic (d .kind))) _ e .0)))
-      ],
-      omega (arith, first .ensures .1, c .before .before .before .before .before .before .before .cite-optional .ensures .1),
-    )
+      ];
+      bounds = omega (arith, first .ensures .bounds, c .before .before .before .before .before .before .before .cite-optional .ensures .bounds);
+    }
 
 returns-2 : tie.Need-returns-2
 unfolding encodeDependency encodeStatic encodeDynamic
@@ -38,18 +38,18 @@ returns-2 c =
     let number = c .before .before .before .before .before .before .before .before .before .before .before .before .before .before .before .before .read-number in
     let kind = c .before .before .before .before .before .before .before .before .before .before .before .before .before .before .dependency-kind in
     let first = c .before .before .before .before .before .before .before .before .before .before .cite-argument in
-    let byte = byte-read (number .ensures) in (
-      elim [
+    let byte = byte-read (number .ensures) in record {
+      answer = elim [
         | static d ↦ λ v t e.
             absurd (apart (sym (told (kind .ensures) (Static (d .kind)) (byte _ (small (Static (d .kind))) _ e .0)) ∙ c .before .before .before .before .before .before .before .before .before .before .before .before .enum-told2 .given .1))
         | dynamic d ↦ λ v t e.
             let types = simp append-assoc at (byte _ (small (Dynamic (d .kind))) _ e .1) in
-            let (p, e) = first .ensures .0 (d .argument, d .argumentRange) (v .argument, v .argumentRange) (encodeAttributes (d .importAttributes) ++ t) (rw append-assoc (c .before .before .before .before .before .before .before .before .before .before .before .before .before .before .before .skip-optional-specifier .ensures (d .typesSpecifier) (v .typesSpecifier) _ types)) in
-            let (q, _) = c .before .before .before .before .before .before .cite-optional2 .ensures .0 (d .typesSpecifier) (v .typesSpecifier) _ types in
+            let (p, e) = first .ensures .answer (d .argument, d .argumentRange) (v .argument, v .argumentRange) (encodeAttributes (d .importAttributes) ++ t) (rw append-assoc (c .before .before .before .before .before .before .before .before .before .before .before .before .before .before .before .skip-optional-specifier .ensures (d .typesSpecifier) (v .typesSpecifier) _ types)) in
+            let (q, _) = c .before .before .before .before .before .before .cite-optional2 .ensures .answer (d .typesSpecifier) (v .typesSpecifier) _ types in
             (both p q, c .skip-attributes2 .ensures (d .importAttributes) (v .importAttributes) t e)
-      ],
-      omega (arith, first .ensures .1, c .before .before .before .before .before .before .cite-optional2 .ensures .1),
-    )
+      ];
+      bounds = omega (arith, first .ensures .bounds, c .before .before .before .before .before .before .cite-optional2 .ensures .bounds);
+    }
 
 pub cite-dependency-spec : {M : Type 1} → statement M
 cite-dependency-spec =

@@ -7,10 +7,13 @@ returns : tie.Need-returns
 returns c = rw (c .before .before .before .before .before .enum-told .given .1) (rw (c .before .before .before .before .dependency-letter .ensures) at (c .before .before .cite-dependency .ensures))
 
 returns-2 : tie.Need-returns-2
-returns-2 c = rw (c .before .before .before .before .enum-told2 .given .1) (c .before .before .cite-reference .ensures .0, omega (arith, c .before .before .cite-reference .ensures .1))
+returns-2 c = rw (c .before .before .before .before .enum-told2 .given .1) (record {
+  answer = c .before .before .cite-reference .ensures .answer;
+  bounds = omega (arith, c .before .before .cite-reference .ensures .bounds);
+})
 
 returns-3 : tie.Need-returns-3
-returns-3 c = rw (c .before .before .before .before .enum-told3 .given .1) (c .before .before .cite-jsdoc .ensures .0, omega (arith, c .before .before .cite-jsdoc .ensures .1))
+returns-3 c = rw (c .before .before .before .before .enum-told3 .given .1) (record { answer = c .before .before .cite-jsdoc .ensures .answer; bounds = omega (arith, c .before .before .cite-jsdoc .ensures .bounds) })
 
 pub cite-item-spec : {M : Type 1} → statement M
 cite-item-spec =

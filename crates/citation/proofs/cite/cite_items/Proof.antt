@@ -42,12 +42,12 @@ loop-again c =
     let i = c .before .before .before .before .before .before .before .before .loop in
     let item = c .before .before .before .before .cite-item in (
       item .kept .1 .1 .1 .1 .1 .0 ∙ i .inv .0,
-      omega (arith, i .inv .1, item .ensures .1, c .before .before .before .before .before .before .before .loop-test .taken),
+      omega (arith, i .inv .1, item .ensures .bounds, c .before .before .before .before .before .before .before .loop-test .taken),
       omega (arith, i .inv .2, c .before .before .before .before .before .before .before .loop-test .taken),
       λ l v t e.
           let (l, done, p, q, r) = i .inv .3 l v t e in
           let (x, l, same, v, e, on) = next-item (encodeItem (a .kind)) (ValidItem (a .kind)) (now (a .report)) t (i .next) (i .left) l (c .before .before .before .before .before .before .before .loop-test .taken) p in
-          let (o, e) = item .ensures .0 x v _ e in
+          let (o, e) = item .ensures .answer x v _ e in
           (l, done ++ citeItem (a .kind) (getD (now (a .numbers)) (i .row + 1) 0) x, on (item .result .next) e, both q (rw (c .before .before .before .before .before .before .number-at .ensures) at o), r ∙ cite-next (citeItem (a .kind)) (now (a .numbers)) (i .row) done same),
     )
 
@@ -55,13 +55,13 @@ returns : tie.Need-returns Inv-loop μ-loop
 unfolding flatMap
 returns c =
     let a = c .before .before .before .before .before .before .args in
-    let i = c .before .loop in (
-      λ l v t e.
+    let i = c .before .loop in record {
+      answer = λ l v t e.
           let (l, done, p, q, r) = i .inv .3 l v t e in
           let (none, e) = no-item (encodeItem (a .kind)) (ValidItem (a .kind)) (now (a .report)) t (i .next) (i .left) l (c .loop-test .left) p in
-          rw (r, none, append-nil) (q, e),
-      omega (arith, i .inv .1),
-    )
+          rw (r, none, append-nil) (q, e);
+      bounds = omega (arith, i .inv .1);
+    }
 
 pub cite-items-spec : {M : Type 1} → statement M
 cite-items-spec =

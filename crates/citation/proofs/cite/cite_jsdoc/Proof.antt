@@ -14,13 +14,13 @@ unfolding encodeJsDoc
 returns c =
     let kind = c .before .before .before .before .before .before .read-number in
     let line = c .before .before .before .before .cite-specifier in
-    let mode = c .before .read-number2 in (
-      λ i v t e.
+    let mode = c .before .read-number2 in record {
+      answer = λ i v t e.
           let (_, e) = byte-read (kind .ensures) 1 (omega arith) _ e in
-          let (p, e) = line .ensures .0 (i .specifier) v _ (e ∙ append-assoc (encodeSpecifier (i .specifier)) (modeNumber (i .mode) ∷ []) t) in
-          (p, byte-read (mode .ensures) (modeNumber (i .mode)) (omega (arith, number-small (i .mode))) t e .1),
-      line .ensures .1,
-    )
+          let (p, e) = line .ensures .answer (i .specifier) v _ (e ∙ append-assoc (encodeSpecifier (i .specifier)) (modeNumber (i .mode) ∷ []) t) in
+          (p, byte-read (mode .ensures) (modeNumber (i .mode)) (omega (arith, number-small (i .mode))) t e .1);
+      bounds = line .ensures .bounds;
+    }
 
 pub cite-jsdoc-spec : {M : Type 1} → statement M
 cite-jsdoc-spec =

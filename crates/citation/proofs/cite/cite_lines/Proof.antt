@@ -11,13 +11,13 @@ use Rattle.citation.proofs.cite.cite_lines.Tie as tie
 
 total-requires : tie.Need-total-requires
 total-requires c κs = (
-  c .before .before .before .before .before .before .before .before .before .before .before .before .before .before .before .before .before .before .before .before .before .before .before .before .before .before .before .cite-list .ensures .1,
-  c .before .before .before .before .before .before .before .before .before .before .before .before .before .before .before .before .before .before .before .before .before .before .before .cite-list2 .ensures .1,
-  c .before .before .before .before .before .before .before .before .before .before .before .before .before .before .before .before .before .before .before .cite-optional .ensures .1,
-  c .before .before .before .before .before .before .before .before .before .before .before .before .before .before .before .cite-optional2 .ensures .1,
-  c .before .before .before .before .before .before .before .before .before .before .before .cite-optional3 .ensures .1,
-  c .before .before .before .before .before .before .before .cite-list3 .ensures .1,
-  c .before .before .before .cite-optional4 .ensures .1,
+  c .before .before .before .before .before .before .before .before .before .before .before .before .before .before .before .before .before .before .before .before .before .before .before .before .before .before .before .cite-list .ensures .bounds,
+  c .before .before .before .before .before .before .before .before .before .before .before .before .before .before .before .before .before .before .before .before .before .before .before .cite-list2 .ensures .bounds,
+  c .before .before .before .before .before .before .before .before .before .before .before .before .before .before .before .before .before .before .before .cite-optional .ensures .bounds,
+  c .before .before .before .before .before .before .before .before .before .before .before .before .before .before .before .cite-optional2 .ensures .bounds,
+  c .before .before .before .before .before .before .before .before .before .before .before .cite-optional3 .ensures .bounds,
+  c .before .before .before .before .before .before .before .cite-list3 .ensures .bounds,
+  c .before .before .before .cite-optional4 .ensures .bounds,
 )
 
 same-length : tie.Need-same-length
@@ -35,15 +35,15 @@ unfolding encode lines
 returns c = λ m v t e.
     let numbers = now (c .before .before .before .before .before .before .before .before .before .before .before .before .before .before .before .before .before .before .before .before .before .before .before .before .before .before .before .before .before .before .before .before .before .before .before .args .numbers) in
     let e = flag-read (c .before .before .before .before .before .before .before .before .before .before .before .before .before .before .before .before .before .before .before .before .before .before .before .before .before .before .before .before .before .before .read-number .ensures) (m .isScript) _ (simp append-assoc at e) in
-    let (d, e) = c .before .before .before .before .before .before .before .before .before .before .before .before .before .before .before .before .before .before .before .before .before .before .before .before .before .before .before .before .cite-list .ensures .0 (m .dependencies) (v .dependencies) _ e in
-    let (r, e) = c .before .before .before .before .before .before .before .before .before .before .before .before .before .before .before .before .before .before .before .before .before .before .before .before .cite-list2 .ensures .0 (m .tsReferences) (v .tsReferences) _ e in
+    let (d, e) = c .before .before .before .before .before .before .before .before .before .before .before .before .before .before .before .before .before .before .before .before .before .before .before .before .before .before .before .before .cite-list .ensures .answer (m .dependencies) (v .dependencies) _ e in
+    let (r, e) = c .before .before .before .before .before .before .before .before .before .before .before .before .before .before .before .before .before .before .before .before .before .before .before .before .cite-list2 .ensures .answer (m .tsReferences) (v .tsReferences) _ e in
     let r = rw (each-plain citeReference numbers (m .tsReferences)) at r in
-    let (s, e) = c .before .before .before .before .before .before .before .before .before .before .before .before .before .before .before .before .before .before .before .before .cite-optional .ensures .0 (m .selfTypesSpecifier) (v .selfTypesSpecifier) _ e in
-    let (x, e) = c .before .before .before .before .before .before .before .before .before .before .before .before .before .before .before .before .cite-optional2 .ensures .0 (m .jsxImportSource) (v .jsxImportSource) _ e in
-    let (y, e) = c .before .before .before .before .before .before .before .before .before .before .before .before .cite-optional3 .ensures .0 (m .jsxImportSourceTypes) (v .jsxImportSourceTypes) _ e in
-    let (j, e) = c .before .before .before .before .before .before .before .before .cite-list3 .ensures .0 (m .jsdocImports) (v .jsdocImports) _ e in
+    let (s, e) = c .before .before .before .before .before .before .before .before .before .before .before .before .before .before .before .before .before .before .before .before .cite-optional .ensures .answer (m .selfTypesSpecifier) (v .selfTypesSpecifier) _ e in
+    let (x, e) = c .before .before .before .before .before .before .before .before .before .before .before .before .before .before .before .before .cite-optional2 .ensures .answer (m .jsxImportSource) (v .jsxImportSource) _ e in
+    let (y, e) = c .before .before .before .before .before .before .before .before .before .before .before .before .cite-optional3 .ensures .answer (m .jsxImportSourceTypes) (v .jsxImportSourceTypes) _ e in
+    let (j, e) = c .before .before .before .before .before .before .before .before .cite-list3 .ensures .answer (m .jsdocImports) (v .jsdocImports) _ e in
     let j = rw (each-plain citeJsDoc numbers (m .jsdocImports)) at j in
-    let (u, e) = c .before .before .before .before .cite-optional4 .ensures .0 (m .sourceMapUrl) (v .sourceMapUrl) t e in
+    let (u, e) = c .before .before .before .before .cite-optional4 .ensures .answer (m .sourceMapUrl) (v .sourceMapUrl) t e in
     (rw (c .total .ensures) (simp append-assoc at (both (both (both (both (both (both d r) s) x) y) j) u)), e)
 
 pub cite-lines-spec : {M : Type 1} → statement M

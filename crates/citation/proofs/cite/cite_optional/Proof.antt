@@ -11,23 +11,23 @@ use Rattle.citation.proofs.cite.cite_optional.Tie as tie
 
 returns : tie.Need-returns
 unfolding flatMap
-returns c = (
-  λ o v t e.
+returns c = record {
+  answer = λ o v t e.
       let a = c .before .before .before .before .before .before .args in
       let n = c .before .before .read-number in
       let (p, e) = none-there (n .ensures) encodeSpecifier (c .if1 .taken) o t e in
-      rw p (record { written = sym (wrote-nil (now (a .out)) (a .place)); counted = refl }, e),
-  omega arith,
-)
+      rw p (record { written = sym (wrote-nil (now (a .out)) (a .place)); counted = refl }, e);
+  bounds = omega arith;
+}
 
 returns-2 : tie.Need-returns-2
-returns-2 c = (
-  λ o v t e.
+returns-2 c = record {
+  answer = λ o v t e.
       let n = c .before .before .before .before .before .before .read-number in
       let (x, p, e) = some-there (n .ensures) encodeSpecifier (c .before .before .before .before .if1 .left) o t e in
-      rw p (c .before .before .cite-specifier .ensures .0 x (rw p at v) t e),
-  c .before .before .cite-specifier .ensures .1,
-)
+      rw p (c .before .before .cite-specifier .ensures .answer x (rw p at v) t e);
+  bounds = c .before .before .cite-specifier .ensures .bounds;
+}
 
 pub cite-optional-spec : {M : Type 1} → statement M
 cite-optional-spec =

@@ -14,13 +14,13 @@ returns : tie.Need-returns
 unfolding encodeReference
 returns c =
     let kind = c .before .before .before .before .before .before .read-number in
-    let byte = byte-read (kind .ensures) in (
-      elim [
-        | path s ↦ λ v t e. c .before .before .before .before .cite-specifier .ensures .0 s v t (byte 0 (omega arith) _ e .1)
+    let byte = byte-read (kind .ensures) in record {
+      answer = elim [
+        | path s ↦ λ v t e. c .before .before .before .before .cite-specifier .ensures .answer s v t (byte 0 (omega arith) _ e .1)
         | types s mode ↦ λ v t e. absurd (omega (arith, byte 1 (omega arith) _ e .0))
-      ],
-      c .before .before .before .before .cite-specifier .ensures .1,
-    )
+      ];
+      bounds = c .before .before .before .before .cite-specifier .ensures .bounds;
+    }
 
 returns-2 : tie.Need-returns-2
 unfolding encodeReference
@@ -28,15 +28,15 @@ returns-2 c =
     let kind = c .before .before .before .before .before .before .before .before .read-number in
     let byte = byte-read (kind .ensures) in
     let line = c .before .before .before .before .before .before .cite-specifier in
-    let read = c .before .read-number2 in (
-      elim [
+    let read = c .before .read-number2 in record {
+      answer = elim [
         | path s ↦ λ v t e. absurd (c .before .before .if1 .left (byte 0 (omega arith) _ e .0))
         | types s mode ↦ λ v t e.
-            let (p, e) = line .ensures .0 s v _ (byte 1 (omega arith) _ e .1 ∙ append-assoc (encodeSpecifier s) (modeNumber mode ∷ []) t) in
+            let (p, e) = line .ensures .answer s v _ (byte 1 (omega arith) _ e .1 ∙ append-assoc (encodeSpecifier s) (modeNumber mode ∷ []) t) in
             (p, byte-read (read .ensures) (modeNumber mode) (omega (arith, number-small mode)) t e .1)
-      ],
-      line .ensures .1,
-    )
+      ];
+      bounds = line .ensures .bounds;
+    }
 
 pub cite-reference-spec : {M : Type 1} → statement M
 cite-reference-spec =

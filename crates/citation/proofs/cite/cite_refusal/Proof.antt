@@ -13,10 +13,11 @@ unfolding refusal
 returns c =
     let a = c .before .before .before .before .before .before .before .before .args in
     let p = c .before .before .before .before .put-title in
-    let n = c .written in (
-      all-written (p .last .1 .0) (p .result) (length (now (a .out))) (refusal (a .number)) (p .ensures) (omega (arith, refusal-short (a .number) (omega arith))) (n .result) (n .ensures),
-      (omega (arith, n .ensures, length-take (p .result .at) (p .last .1 .0)), search needs),
-    )
+    let n = c .written in record {
+      answer = all-written (p .last .1 .0) (p .result) (length (now (a .out))) (refusal (a .number)) (p .ensures) (omega (arith, refusal-short (a .number) (omega arith))) (n .result) (n .ensures);
+      bounds = omega (arith, n .ensures, length-take (p .result .at) (p .last .1 .0));
+      left = search needs;
+    }
 
 pub cite-refusal-spec : {M : Type 1} → statement M
 cite-refusal-spec =

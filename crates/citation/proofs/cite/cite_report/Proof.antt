@@ -16,7 +16,7 @@ use Rattle.citation.proofs.cite.cite_report.Statement.{statement}
 use Rattle.citation.proofs.cite.cite_report.Tie as tie
 
 slice-aggregate-wide : tie.Need-slice-aggregate-wide
-slice-aggregate-wide c = sym (length-take-le _ _ (c .before .last-four .ensures .0))
+slice-aggregate-wide c = sym (length-take-le _ _ (c .before .last-four .ensures .bounds))
 
 returns : tie.Need-returns
 unfolding citation
@@ -26,9 +26,9 @@ returns c =
     let start = c .before .before .before .before .before .before .before .before .before .before .before .before .before .before .before .before .before .before .before .before .before in
     let last = c .before .before .before .before .before .before .before .before .before .before .before .before .before .before .before .before .last-four in
     let numbers = now (start .args .numbers) in
-    let n = c .written in (
-      λ m v e.
-          let same = citation-same _ _ (recounted-front (now (start .args .source)) (last .result) (last .ensures .1)) numbers m in
+    let n = c .written in record {
+      answer = λ m v e.
+          let same = citation-same _ _ (recounted-front (now (start .args .source)) (last .result) (last .ensures .answer)) numbers m in
           let (p, _) = counted .ensures m v [] (sym (append-nil (encode m) ∙ e)) in
           let (q, _) = cited .ensures m v [] (sym (append-nil (encode m) ∙ e)) in
           rw same at (all-written
@@ -39,9 +39,10 @@ returns c =
           (rw (wrote-append, ← (p .counted), ← (c .before .before .before .before .before .before .before .before .put-title .ensures)) (q .written))
           (omega (arith, citation-short (take (last .result) (now (start .args .source))) numbers m v, ap length e, counted .kept .1 .1 .1 .0, start .pre))
           (n .result)
-          (n .ensures)),
-      (omega (arith, n .ensures, length-take (cited .result .place .at) (cited .last .1 .1 .1 .0)), cited .kept .1 .1 .1 .0 ∙ c .before .before .before .before .before .before .before .before .put-title .kept .1 .0 ∙ counted .kept .1 .1 .1 .0),
-    )
+          (n .ensures));
+      bounds = omega (arith, n .ensures, length-take (cited .result .place .at) (cited .last .1 .1 .1 .0));
+      left = cited .kept .1 .1 .1 .0 ∙ c .before .before .before .before .before .before .before .before .put-title .kept .1 .0 ∙ counted .kept .1 .1 .1 .0;
+    }
 
 pub cite-report-spec : {M : Type 1} → statement M
 cite-report-spec =

@@ -20,7 +20,7 @@ returns : tie.Need-returns Inv-loop μ-loop
 returns c =
     let l = c .before .before .before .before .before .loop in
     let none : foursIn (l .left) (drop (l .i) (now (c .before .before .before .before .before .before .before .args .source))) ≡ 0 = rw (c .if2 .taken) (fours-none _) in
-    (omega (arith, l .inv .1), omega (arith, l .inv .0))
+    record { answer = omega (arith, l .inv .1); bounds = omega (arith, l .inv .0) }
 
 add-count : tie.Need-add-count Inv-loop μ-loop
 add-count c =
@@ -50,7 +50,7 @@ returns-2 c =
     let l = c .before .loop in
     let s = now (c .before .before .before .args .source) in
     let none : foursIn (l .left) (drop (l .i) s) ≡ 0 = rw (drop-of-length-le s (c .loop-test .left)) (fours-past (l .left)) in
-    (omega (arith, l .inv .1), omega (arith, l .inv .0))
+    record { answer = omega (arith, l .inv .1); bounds = omega (arith, l .inv .0) }
 
 pub fours-in-spec : {M : Type 1} → statement M
 fours-in-spec =

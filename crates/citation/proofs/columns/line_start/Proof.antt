@@ -20,7 +20,10 @@ returns c =
     let l = c .before .before .before .loop in
     let found = c .before .next-of .ensures in
     let s = now (c .before .before .before .before .before .args .source) in
-    (found .1, sym (l .inv .1 ∙ no-line (l .left) s (l .at) (c .before .next-of .result) (c .before .before .loop-test .taken) (found .1) (found .0) (found .2) (c .if1 .taken)))
+    record {
+      answer = sym (l .inv .1 ∙ no-line (l .left) s (l .at) (c .before .next-of .result) (c .before .before .loop-test .taken) (found .passed .to) (found .passed .from) (found .passed .each) (c .if1 .taken));
+      bounds = found .passed .to;
+    }
 
 loop-again : tie.Need-loop-again Inv-loop μ-loop
 loop-again c =
@@ -28,13 +31,13 @@ loop-again c =
     let found = c .before .next-of .ensures in
     let s = now (c .before .before .before .before .before .args .source) in
     let inside : c .before .next-of .result < length s = omega arith in
-    (omega arith, l .inv .1 ∙ next-line (l .left) s (l .at) (c .before .next-of .result) (c .before .before .loop-test .taken) (found .1) (found .0) (found .2) inside (found .3 inside))
+    (omega arith, l .inv .1 ∙ next-line (l .left) s (l .at) (c .before .next-of .result) (c .before .before .loop-test .taken) (found .passed .to) (found .passed .from) (found .passed .each) inside (found .there inside))
 
 returns-2 : tie.Need-returns-2 Inv-loop μ-loop
 returns-2 c =
     let l = c .before .loop in
     let none : l .left ≡ 0 = omega (arith, c .loop-test .left) in
-    (l .inv .0, sym (l .inv .1 ∙ rw (none, from-zero)))
+    record { answer = sym (l .inv .1 ∙ rw (none, from-zero)); bounds = l .inv .0 }
 
 pub line-start-spec : {M : Type 1} → statement M
 line-start-spec =

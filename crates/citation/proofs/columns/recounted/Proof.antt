@@ -7,10 +7,10 @@ use Rattle.citation.proofs.columns.recounted.Tie as tie
 returns : tie.Need-returns
 unfolding recounted
 returns c =
-    let valid = c .before .before .before .before .pre in (
-      rw (c .before .fours-in .ensures .0, c .before .before .line-start .ensures .1),
-      record { line = valid .line; column = omega (arith, c .before .fours-in .ensures .1, valid .column) },
-    )
+    let valid = c .before .before .before .before .pre in record {
+      answer = rw (c .before .fours-in .ensures .answer, c .before .before .line-start .ensures .answer);
+      bounds = record { line = valid .line; column = omega (arith, c .before .fours-in .ensures .bounds, valid .column) };
+    }
 
 pub recounted-spec : {M : Type 1} → statement M
 recounted-spec =

@@ -8,12 +8,12 @@ returns : tie.Need-returns
 unfolding citeRange
 returns c =
     rw (
-      ← (c .before .before .before .before .before .before .before .before .before .before .before .before .recounted .ensures .0),
+      ← (c .before .before .before .before .before .before .before .before .before .before .before .before .recounted .ensures .answer),
       wrote-append,
       ← (c .before .before .before .before .before .before .before .before .before .before .before .put-position .ensures),
       wrote-cons,
       ← (c .before .before .before .before .before .before .before .put .ensures),
-      ← (c .before .before .before .before .recounted2 .ensures .0),
+      ← (c .before .before .before .before .recounted2 .ensures .answer),
     )
     (c .before .before .put-position2 .ensures)
 

@@ -1,6 +1,6 @@
 use borrow.Author.Needs.{needs}
 use denote.Ref.{now}
-use Rattle.laws.proofs.Steps.{seen}
+use Rattle.laws.proofs.Steps.{seen, told}
 use Rattle.wire.specs.code.Views.{textAs}
 use Rattle.delivery.specs.Delivery.{namedSheet}
 use Rattle.delivery.proofs.check.check_module.Statement.{statement}
@@ -10,19 +10,24 @@ returns : tie.Need-returns
 unfolding namedSheet
 returns c =
     let s = now (c .before .before .before .before .before .before .before .before .before .args .delivery) in
-    rw (seen (textAs s) (c .before .before .before .before .before .before .before .text .ensures .0) (c .before .before .before .before .before .next .given .1), seen (textAs s) (c .before .before .before .check-sheet .ensures) (c .before .end .given .1))
+    rw (
+      told (c .before .before .before .before .before .before .before .text .ensures) (c .before .before .before .before .before .next .given .1),
+      seen (textAs s) (c .before .before .before .check-sheet .ensures) (c .before .end .given .1),
+    )
 
 returns-2 : tie.Need-returns-2
 unfolding namedSheet
 returns-2 c =
     let s = now (c .before .before .before .before .before .before .before .before .before .args .delivery) in
-    rw (seen (textAs s) (c .before .before .before .before .before .before .before .text .ensures .0) (c .before .before .before .before .before .next .given .1), seen (textAs s) (c .before .before .before .check-sheet .ensures) (c .before .r .given .1))
+    rw (
+      told (c .before .before .before .before .before .before .before .text .ensures) (c .before .before .before .before .before .next .given .1),
+      seen (textAs s) (c .before .before .before .check-sheet .ensures) (c .before .r .given .1),
+    )
 
 returns-3 : tie.Need-returns-3
 unfolding namedSheet
 returns-3 c =
-    let s = now (c .before .before .before .before .before .args .delivery) in
-    rw (seen (textAs s) (c .before .before .before .text .ensures .0) (c .before .r2 .given .1))
+    rw (told (c .before .before .before .text .ensures) (c .before .r2 .given .1))
 
 pub check-module-spec : {M : Type 1} → statement M
 check-module-spec =

@@ -1,34 +1,32 @@
 use borrow.Author.Needs.{needs}
 use denote.Ref.{now}
-use Rattle.laws.proofs.Steps.{seen}
-use Rattle.wire.specs.code.Views.{readAs}
+use Rattle.laws.proofs.Steps.{told, bounded}
 use Rattle.wire.proofs.Places.{bytes-past, bytes-at}
 use Rattle.report.specs.Decode.{text}
 use Rattle.delivery.proofs.check.check_sheet.Statement.{statement}
 use Rattle.delivery.proofs.check.check_sheet.Tie as tie
 
 sub-if1 : tie.Need-sub-if1
-sub-if1 c = (rw (c .before .n .given .1) at (c .before .before .before .number .ensures .1)) .1
+sub-if1 c = bounded (c .before .before .before .number .ensures) (c .before .n .given .1) .1
 
 returns : tie.Need-returns
 unfolding text
 returns c =
     let s = now (c .before .before .before .before .before .before .args .delivery) in
     let (n, next) = c .before .before .n .given .0 in
-    rw (seen (readAs s) (c .before .before .before .before .number .ensures .0) (c .before .before .n .given .1), bytes-past s (next .0 .at) n (c .if1 .taken))
+    rw (told (c .before .before .before .before .number .ensures) (c .before .before .n .given .1), bytes-past s (next .0 .at) n (c .if1 .taken))
 
 returns-2 : tie.Need-returns-2
 unfolding text
 returns-2 c =
     let s = now (c .before .before .before .before .before .before .args .delivery) in
     let (n, next) = c .before .before .n .given .0 in
-    rw (seen (readAs s) (c .before .before .before .before .number .ensures .0) (c .before .before .n .given .1), bytes-at s (next .0 .at) n (c .if1 .left))
+    rw (told (c .before .before .before .before .number .ensures) (c .before .before .n .given .1), bytes-at s (next .0 .at) n (c .if1 .left))
 
 returns-3 : tie.Need-returns-3
 unfolding text
 returns-3 c =
-    let s = now (c .before .before .before .before .before .args .delivery) in
-    rw (seen (readAs s) (c .before .before .before .number .ensures .0) (c .before .r .given .1))
+    rw (told (c .before .before .before .number .ensures) (c .before .r .given .1))
 
 pub check-sheet-spec : {M : Type 1} → statement M
 check-sheet-spec =

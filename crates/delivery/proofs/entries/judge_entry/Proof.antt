@@ -6,33 +6,33 @@ use Rattle.delivery.proofs.entries.judge_entry.Statement.{statement}
 use Rattle.delivery.proofs.entries.judge_entry.Tie as tie
 
 sub-is-late : tie.Need-sub-is-late
-sub-is-late c = (rw (c .before .kind .given .1) at (c .before .before .before .read-dependency .ensures .1)) .order
+sub-is-late c = (rw (c .before .kind .given .1) at (c .before .before .before .read-dependency .ensures .bounds)) .order
 
 part-is-late-start : tie.Need-part-is-late-start
-part-is-late-start c = (rw (c .before .kind .given .1) at (c .before .before .before .read-dependency .ensures .1)) .order
+part-is-late-start c = (rw (c .before .kind .given .1) at (c .before .before .before .read-dependency .ensures .bounds)) .order
 
 part-is-late-end : tie.Need-part-is-late-end
-part-is-late-end c = (rw (c .before .kind .given .1) at (c .before .before .before .read-dependency .ensures .1)) .end
+part-is-late-end c = (rw (c .before .kind .given .1) at (c .before .before .before .read-dependency .ensures .bounds)) .end
 
 returns : tie.Need-returns
 returns c =
     let found = c .before .before .before .kind .given .1 in
-    let read = c .before .before .before .before .before .read-dependency .ensures in (
-      λ ms t p d v u e.
-          let (named, next) = (rw found at (read .0)) d v u e in
-          (static-late (namesOf ms) d named (c .is-late .ensures ms t p), next),
-      rw found at (read .1),
-    )
+    let read = c .before .before .before .before .before .read-dependency .ensures in record {
+      answer = λ ms t p d v u e.
+          let (named, next) = (rw found at (read .answer)) d v u e in
+          (static-late (namesOf ms) d named (c .is-late .ensures ms t p), next);
+      bounds = rw found at (read .bounds);
+    }
 
 returns-2 : tie.Need-returns-2
 returns-2 c =
     let found = c .before .next .given .1 in
-    let read = c .before .before .before .read-dependency .ensures in (
-      λ ms t p d v u e.
-          let (named, next) = (rw found at (read .0)) d v u e in
-          (dynamic-late (namesOf ms) d named, next),
-      record { order = omega arith; end = omega arith },
-    )
+    let read = c .before .before .before .read-dependency .ensures in record {
+      answer = λ ms t p d v u e.
+          let (named, next) = (rw found at (read .answer)) d v u e in
+          (dynamic-late (namesOf ms) d named, next);
+      bounds = record { order = omega arith; end = omega arith };
+    }
 
 pub judge-entry-spec : {M : Type 1} → statement M
 judge-entry-spec =

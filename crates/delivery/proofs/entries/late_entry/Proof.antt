@@ -36,15 +36,15 @@ returns : tie.Need-returns Inv-loop μ-loop
 returns c =
     let a = c .before .before .before .before .before .before .before .before .before .args in
     let i = c .before .before .before .before .loop in
-    let entry = c .before .judge-entry in (
-      λ ms t p info valid bytes k behind.
+    let entry = c .before .judge-entry in record {
+      answer = λ ms t p info valid bytes k behind.
           let (l, u, stand, e) = i .inv ms t p info valid bytes k behind in
           let left : 0 < c .before .before .before .before .before .read-number2 .result .value - i .i = omega (arith, c .before .before .if1 .taken) in
           let (d, rest, is, v, there, on) = next-item encodeDependency ValidDependency (now (a .report)) u (i .at) _ l left stand in
-          let late = rw (c .if2 .taken) at (entry .ensures .0 ms t p d v _ there .0) in
-          sym (e ∙ entry-here is (namesOf ms) k (i .i) behind late),
-      entry .ensures .1,
-    )
+          let late = rw (c .if2 .taken) at (entry .ensures .answer ms t p d v _ there .0) in
+          sym (e ∙ entry-here is (namesOf ms) k (i .i) behind late);
+      bounds = entry .ensures .bounds;
+    }
 
 loop-again : tie.Need-loop-again Inv-loop μ-loop
 loop-again c = λ ms t p info valid bytes k behind.
@@ -53,7 +53,7 @@ loop-again c = λ ms t p info valid bytes k behind.
     let (l, u, stand, e) = i .inv ms t p info valid bytes k behind in
     let left : 0 < c .before .before .before .before .before .read-number2 .result .value - i .i = omega (arith, c .before .before .if1 .taken) in
     let (d, rest, is, v, there, on) = next-item encodeDependency ValidDependency (now (a .report)) u (i .at) _ l left stand in
-    let (late, next) = c .before .judge-entry .ensures .0 ms t p d v _ there in
+    let (late, next) = c .before .judge-entry .ensures .answer ms t p d v _ there in
     let (n, v, w) = on (c .before .judge-entry .result .next) next in
     (rest, u, (omega (arith, n), v, w), e ∙ entry-here is (namesOf ms) k (i .i) behind (rw (c .if2 .left) at late))
 
@@ -61,13 +61,13 @@ returns-2 : tie.Need-returns-2 Inv-loop μ-loop
 unfolding entriesInTurn
 returns-2 c =
     let a = c .before .before .before .before .before .before .before .args in
-    let i = c .before .before .loop in (
-      λ ms t p info valid bytes k behind.
+    let i = c .before .before .loop in record {
+      answer = λ ms t p info valid bytes k behind.
           let (l, u, stand, e) = i .inv ms t p info valid bytes k behind in
           let none : c .before .before .before .read-number2 .result .value - i .i ≤ 0 = omega (arith, c .if1 .left) in
-          sym (e ∙ rw (no-item encodeDependency ValidDependency (now (a .report)) u (i .at) _ l none stand .0)),
-      tt,
-    )
+          sym (e ∙ rw (no-item encodeDependency ValidDependency (now (a .report)) u (i .at) _ l none stand .0));
+      bounds = tt;
+    }
 
 pub late-entry-spec : {M : Type 1} → statement M
 late-entry-spec =

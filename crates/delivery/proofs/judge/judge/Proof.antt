@@ -11,31 +11,34 @@ returns : tie.Need-returns
 unfolding orderOf
 returns c =
     let (_, e) = rw (c .enum-told .given .1) at (c .before .before .check-delivery .ensures) in
-    (rw e, tt)
+    record { answer = rw e; bounds = tt }
 
 returns-2 : tie.Need-returns-2
 unfolding orderOf
 returns-2 c =
     let (ms, e, p) = rw (c .before .before .before .count .given .1) at (c .before .before .before .before .before .check-delivery .ensures) in
-    (rw (e, known (c .before .has-name-twice .ensures ms [] p) (c .if1 .taken)), tt)
+    record { answer = rw (e, known (c .before .has-name-twice .ensures ms [] p) (c .if1 .taken)); bounds = tt }
 
 returns-3 : tie.Need-returns-3
 unfolding orderOf
 returns-3 c =
     let (ms, e, p) = rw (c .before .before .before .before .before .before .before .before .before .before .count .given .1) at (c .before .before .before .before .before .before .before .before .before .before .before .before .check-delivery .ensures) in
     let once = known (c .before .before .before .before .before .before .before .before .has-name-twice .ensures ms [] p) (c .before .before .before .before .before .before .before .if1 .left) in
-    let sheets = rw (c .before .number .given .1) at (c .before .before .before .before .before .judge-sheets .ensures .0) in
-    (rw (e, once) (sheets ms [] p (modulesInTurn [] 0 ms)), tt)
+    let sheets = rw (c .before .number .given .1) at (c .before .before .before .before .before .judge-sheets .ensures .answer) in
+    record { answer = rw (e, once) (sheets ms [] p (modulesInTurn [] 0 ms)); bounds = tt }
 
 returns-4 : tie.Need-returns-4
 unfolding orderOf
 returns-4 c =
     let (ms, e, p) = rw (c .before .before .before .before .before .before .before .before .before .before .before .before .before .count .given .1) at (c .before .before .before .before .before .before .before .before .before .before .before .before .before .before .before .check-delivery .ensures) in
     let once = known (c .before .before .before .before .before .before .before .before .before .before .before .has-name-twice .ensures ms [] p) (c .before .before .before .before .before .before .before .before .before .before .if1 .left) in
-    let sheets = rw (c .before .before .before .before .enum-told2 .given .1) at (c .before .before .before .before .before .before .before .before .judge-sheets .ensures .0) in
+    let sheets = rw (c .before .before .before .before .enum-told2 .given .1) at (c .before .before .before .before .before .before .before .before .judge-sheets .ensures .answer) in
     let all = none-refused _ ms (sheets ms [] p) in
-    let order = rw (c .before .before .before .before .before .before .before .before .judge-sheets .ensures .1) at (c .before .before .judge-order .ensures .0) in
-    (rw (e, once) (order ms [] p all ∙ sheets ms [] p (modulesInTurn [] 0 ms)), c .before .before .judge-order .ensures .1)
+    let order = rw (c .before .before .before .before .before .before .before .before .judge-sheets .ensures .left) at (c .before .before .judge-order .ensures .answer) in
+    record {
+      answer = rw (e, once) (order ms [] p all ∙ sheets ms [] p (modulesInTurn [] 0 ms));
+      bounds = c .before .before .judge-order .ensures .bounds;
+    }
 
 pub judge-spec : {M : Type 1} → statement M
 judge-spec =

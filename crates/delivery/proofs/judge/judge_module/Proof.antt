@@ -16,22 +16,23 @@ slice-aggregate-late-entry c = sym (length-take-le _ _ (reported (rw (c .before 
 returns : tie.Need-returns
 returns c =
     let (number, some) = refused-number (rw (c .enum-told .given .1) at (c .before .before .before .before .module-info .ensures)) in
-    (λ ms t p zero i behind. absurd (some (sym number ∙ zero)), (tt, search needs))
+    record { answer = λ ms t p zero i behind. absurd (some (sym number ∙ zero)); bounds = tt; left = search needs }
 
 returns-2 : tie.Need-returns-2
 returns-2 c =
     let work = c .before .before .before .before .before .before .before .module-info .last .1 .0 in
     let n = c .before .before .before .n .given .0 .0 in
-    let late = c .late-entry in (
-      λ ms t p zero.
+    let late = c .late-entry in record {
+      answer = λ ms t p zero.
           late-in-module
           (reported (rw (c .before .before .before .n .given .1) at (c .before .before .before .before .before .before .before .module-info .ensures)) .1)
           (namesOf ms)
           (late .result)
-          (late .ensures .1)
-          (late .ensures .0 ms t p),
-      (inside-whole work n (late .result) (late .ensures .1), search needs),
-    )
+          (late .ensures .bounds)
+          (late .ensures .answer ms t p);
+      bounds = inside-whole work n (late .result) (late .ensures .bounds);
+      left = search needs;
+    }
 
 pub judge-module-spec : {M : Type 1} → statement M
 judge-module-spec =

@@ -28,37 +28,45 @@ loop-holds : tie.Need-loop-holds Inv-loop μ-loop
 loop-holds c = (refl, λ ms t p all. ([], ms, at-first p, refl))
 
 sub-judge-module : tie.Need-sub-judge-module Inv-loop μ-loop
-sub-judge-module c = c .read-module .ensures .1 .1 .order
+sub-judge-module c = c .read-module .ensures .sheet .order
 
 part-judge-module-start : tie.Need-part-judge-module-start Inv-loop μ-loop
-part-judge-module-start c = c .read-module .ensures .1 .1 .order
+part-judge-module-start c = c .read-module .ensures .sheet .order
 
 part-judge-module-end : tie.Need-part-judge-module-end Inv-loop μ-loop
-part-judge-module-end c = c .read-module .ensures .1 .1 .end
+part-judge-module-end c = c .read-module .ensures .sheet .end
 
 returns : tie.Need-returns Inv-loop μ-loop
 returns c =
     let l = c .before .before .before .before .before .before .before .before .before .before .loop in
-    let found = c .before .entry .given .1 in (
-      λ ms t p all.
+    let found = c .before .entry .given .1 in record {
+      answer = λ ms t p all.
           let (earlier, rest, along, e) = l .inv .1 ms t p all in
           let (m, after, is, v, there, on) = one-more (c .before .before .before .before .before .before .before .before .before .loop-test .taken) along in
-          let (read, _) = c .before .before .before .before .before .before .before .before .read-module .ensures .0 m v _ there in
-          let judged = rw (l .inv .0, ap (λ (m : Module). m .sheet) read, found) at (c .before .before .before .before .before .judge-module .ensures .0) in
+          let (read, _) = c .before .before .before .before .before .before .before .before .read-module .ensures .answer m v _ there in
+          let judged = rw (
+            l .inv .0,
+            ap (λ (m : Module). m .sheet) read,
+            found,
+          ) at (c .before .before .before .before .before .judge-module .ensures .answer) in
           let zero = all-member (Reported _) ms all (middle-member earlier after (along .whole ∙ ap (earlier ++_) is)) in
-          judged earlier _ (along .passed) zero (l .i) (modulesInTurn (namesOf earlier ++ (m .name ∷ [])) (l .i + 1) after) ∙ sym (e ∙ module-here is (namesOf earlier) (l .i)),
-      rw found at (c .before .before .before .before .before .judge-module .ensures .1 .0),
-    )
+          judged earlier _ (along .passed) zero (l .i) (modulesInTurn (namesOf earlier ++ (m .name ∷ [])) (l .i + 1) after) ∙ sym (e ∙ module-here is (namesOf earlier) (l .i));
+      bounds = rw found at (c .before .before .before .before .before .judge-module .ensures .bounds);
+    }
 
 loop-again : tie.Need-loop-again Inv-loop μ-loop
 loop-again c =
     let l = c .before .before .before .before .before .before .before .before .before .loop in (
-      c .before .before .before .before .judge-module .ensures .1 .1 ∙ l .inv .0,
+      c .before .before .before .before .judge-module .ensures .left ∙ l .inv .0,
       λ ms t p all.
           let (earlier, rest, along, e) = l .inv .1 ms t p all in
           let (m, after, is, v, there, on) = one-more (c .before .before .before .before .before .before .before .before .loop-test .taken) along in
-          let (read, next) = c .before .before .before .before .before .before .before .read-module .ensures .0 m v _ there in
-          let judged = rw (l .inv .0, ap (λ (m : Module). m .sheet) read, c .enum-told .given .1) at (c .before .before .before .before .judge-module .ensures .0) in
+          let (read, next) = c .before .before .before .before .before .before .before .read-module .ensures .answer m v _ there in
+          let judged = rw (
+            l .inv .0,
+            ap (λ (m : Module). m .sheet) read,
+            c .enum-told .given .1,
+          ) at (c .before .before .before .before .judge-module .ensures .answer) in
           let zero = all-member (Reported _) ms all (middle-member earlier after (along .whole ∙ ap (earlier ++_) is)) in (
             earlier ++ (m ∷ []),
             after,
@@ -73,12 +81,12 @@ loop-again c =
 returns-2 : tie.Need-returns-2 Inv-loop μ-loop
 unfolding modulesInTurn
 returns-2 c =
-    let l = c .before .loop in (
-      λ ms t p all.
+    let l = c .before .loop in record {
+      answer = λ ms t p all.
           let (earlier, rest, along, e) = l .inv .1 ms t p all in
-          sym (e ∙ rw (all-passed (c .loop-test .left) along)),
-      tt,
-    )
+          sym (e ∙ rw (all-passed (c .loop-test .left) along));
+      bounds = tt;
+    }
 
 pub judge-order-spec : {M : Type 1} → statement M
 judge-order-spec =

@@ -26,25 +26,29 @@ loop-holds : tie.Need-loop-holds Inv-loop μ-loop
 loop-holds c = (refl, λ ms t p. ([], ms, at-first p, λ behind. refl))
 
 sub-module-info : tie.Need-sub-module-info Inv-loop μ-loop
-sub-module-info c = c .read-module .ensures .1 .1 .order
+sub-module-info c = c .read-module .ensures .sheet .order
 
 part-module-info-start : tie.Need-part-module-info-start Inv-loop μ-loop
-part-module-info-start c = c .read-module .ensures .1 .1 .order
+part-module-info-start c = c .read-module .ensures .sheet .order
 
 part-module-info-end : tie.Need-part-module-info-end Inv-loop μ-loop
-part-module-info-end c = c .read-module .ensures .1 .1 .end
+part-module-info-end c = c .read-module .ensures .sheet .end
 
 returns : tie.Need-returns Inv-loop μ-loop
 returns c =
-    let l = c .before .before .before .before .before .before .before .before .before .before .loop in (
-      λ ms t p behind.
+    let l = c .before .before .before .before .before .before .before .before .before .before .loop in record {
+      answer = λ ms t p behind.
           let (earlier, rest, along, e) = l .inv .1 ms t p in
           let (m, after, is, v, there, on) = one-more (c .before .before .before .before .before .before .before .before .before .loop-test .taken) along in
-          let (read, _) = c .before .before .before .before .before .before .before .before .read-module .ensures .0 m v _ there in
-          let (number, some) = refused-number (rw (l .inv .0, ap (λ (m : Module). m .sheet) read, c .before .number .given .1) at (c .before .before .before .before .before .module-info .ensures)) in
-          sym (e behind ∙ refused-here is _ (l .i) behind number some),
-      search needs,
-    )
+          let (read, _) = c .before .before .before .before .before .before .before .before .read-module .ensures .answer m v _ there in
+          let (number, some) = refused-number (rw (
+            l .inv .0,
+            ap (λ (m : Module). m .sheet) read,
+            c .before .number .given .1,
+          ) at (c .before .before .before .before .before .module-info .ensures)) in
+          sym (e behind ∙ refused-here is _ (l .i) behind number some);
+      left = search needs;
+    }
 
 loop-again : tie.Need-loop-again Inv-loop μ-loop
 loop-again c =
@@ -53,20 +57,24 @@ loop-again c =
       λ ms t p.
           let (earlier, rest, along, e) = l .inv .1 ms t p in
           let (m, after, is, v, there, on) = one-more (c .before .before .before .before .before .before .before .before .loop-test .taken) along in
-          let (read, next) = c .before .before .before .before .before .before .before .read-module .ensures .0 m v _ there in
-          let (zero, _) = reported (rw (l .inv .0, ap (λ (m : Module). m .sheet) read, c .enum-told .given .1) at (c .before .before .before .before .module-info .ensures)) in
+          let (read, next) = c .before .before .before .before .before .before .before .read-module .ensures .answer m v _ there in
+          let (zero, _) = reported (rw (
+            l .inv .0,
+            ap (λ (m : Module). m .sheet) read,
+            c .enum-told .given .1,
+          ) at (c .before .before .before .before .module-info .ensures)) in
           (earlier ++ (m ∷ []), after, on _ next, λ behind. e behind ∙ reported-here is _ (l .i) behind zero),
     )
 
 returns-2 : tie.Need-returns-2 Inv-loop μ-loop
 unfolding sheetsInTurn
 returns-2 c =
-    let l = c .before .loop in (
-      λ ms t p behind.
+    let l = c .before .loop in record {
+      answer = λ ms t p behind.
           let (earlier, rest, along, e) = l .inv .1 ms t p in
-          sym (e behind ∙ rw (all-passed (c .loop-test .left) along)),
-      search needs,
-    )
+          sym (e behind ∙ rw (all-passed (c .loop-test .left) along));
+      left = search needs;
+    }
 
 pub judge-sheets-spec : {M : Type 1} → statement M
 judge-sheets-spec =

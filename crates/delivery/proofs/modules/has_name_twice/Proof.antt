@@ -24,19 +24,19 @@ loop-holds : tie.Need-loop-holds Inv-loop μ-loop
 loop-holds c = λ ms t p. ([], ms, at-first p, refl)
 
 sub-is-name : tie.Need-sub-is-name Inv-loop μ-loop
-sub-is-name c = c .read-module .ensures .1 .0 .order
+sub-is-name c = c .read-module .ensures .name .order
 
 part-is-name-start : tie.Need-part-is-name-start Inv-loop μ-loop
-part-is-name-start c = c .read-module .ensures .1 .0 .order
+part-is-name-start c = c .read-module .ensures .name .order
 
 part-is-name-end : tie.Need-part-is-name-end Inv-loop μ-loop
-part-is-name-end c = c .read-module .ensures .1 .0 .end
+part-is-name-end c = c .read-module .ensures .name .end
 
 returns : tie.Need-returns Inv-loop μ-loop
 returns c = λ ms t p.
     let (earlier, rest, along, e) = c .before .before .before .before .before .loop .inv ms t p in
     let (m, after, is, v, there, on) = one-more (c .before .before .before .before .loop-test .taken) along in
-    let (read, _) = c .before .before .before .read-module .ensures .0 m v _ there in
+    let (read, _) = c .before .before .before .read-module .ensures .answer m v _ there in
     let found = known (c .before .is-name .ensures earlier _ (along .passed)) (c .if1 .taken) in
     sym (e ∙ repeated-here is (namesOf earlier) (rw (ap (λ (m : Module). m .name) read) at found))
 
@@ -44,7 +44,7 @@ loop-again : tie.Need-loop-again Inv-loop μ-loop
 loop-again c = λ ms t p.
     let (earlier, rest, along, e) = c .before .before .before .before .before .loop .inv ms t p in
     let (m, after, is, v, there, on) = one-more (c .before .before .before .before .loop-test .taken) along in
-    let (read, next) = c .before .before .before .read-module .ensures .0 m v _ there in
+    let (read, next) = c .before .before .before .read-module .ensures .answer m v _ there in
     let found = known (c .before .is-name .ensures earlier _ (along .passed)) (c .if1 .left) in
     (earlier ++ (m ∷ []), after, on _ next, e ∙ repeated-here is (namesOf earlier) (rw (ap (λ (m : Module). m .name) read) at found) ∙ ap (λ names. repeated names after) (sym (name-more earlier m)))
 

@@ -25,20 +25,20 @@ loop-holds : tie.Need-loop-holds Inv-loop μ-loop
 loop-holds c = λ ms t p. (ms, p, refl)
 
 sub-equal : tie.Need-sub-equal Inv-loop μ-loop
-sub-equal c = c .read-module .ensures .1 .0 .order
+sub-equal c = c .read-module .ensures .name .order
 
 part-equal-start : tie.Need-part-equal-start Inv-loop μ-loop
-part-equal-start c = c .read-module .ensures .1 .0 .order
+part-equal-start c = c .read-module .ensures .name .order
 
 part-equal-end : tie.Need-part-equal-end Inv-loop μ-loop
-part-equal-end c = c .read-module .ensures .1 .0 .end
+part-equal-end c = c .read-module .ensures .name .end
 
 returns : tie.Need-returns Inv-loop μ-loop
 returns c = λ ms t p.
     let text = now (c .before .before .before .before .before .before .before .before .args .text) in
     let (rest, p, e) = c .before .before .before .before .before .loop .inv ms t p in
     let (m, behind, is, v, there, on) = next-module (c .before .before .before .before .loop-test .taken) p in
-    let (read, _) = c .before .before .before .read-module .ensures .0 m v _ there in
+    let (read, _) = c .before .before .before .read-module .ensures .answer m v _ there in
     let name = ap (λ (m : Module). m .name) read in
     sym (e ∙ among-here is text (rw name at (known (c .before .equal .ensures) (c .if1 .taken))))
 
@@ -47,7 +47,7 @@ loop-again c = λ ms t p.
     let text = now (c .before .before .before .before .before .before .before .before .args .text) in
     let (rest, p, e) = c .before .before .before .before .before .loop .inv ms t p in
     let (m, behind, is, v, there, on) = next-module (c .before .before .before .before .loop-test .taken) p in
-    let (read, next) = c .before .before .before .read-module .ensures .0 m v _ there in
+    let (read, next) = c .before .before .before .read-module .ensures .answer m v _ there in
     let name = ap (λ (m : Module). m .name) read in
     (behind, on _ next, e ∙ among-here is text (rw name at (known (c .before .equal .ensures) (c .if1 .left))))
 

@@ -8,13 +8,14 @@ use Rattle.delivery.proofs.modules.read_module.Tie as tie
 
 returns : tie.Need-returns
 unfolding encodeModule
-returns c = (
-  λ m v t e.
-      let (x, e) = c .before .read-text .ensures .0 (m .name) (v .name) _ (e ∙ append-assoc (encodeText (m .name)) (encodeText (m .sheet)) t) in
-      let (y, e) = c .read-text2 .ensures .0 (m .sheet) (v .sheet) t e in
-      (rw (x, y), e),
-  (c .before .read-text .ensures .1, c .read-text2 .ensures .1),
-)
+returns c = record {
+  answer = λ m v t e.
+      let (x, e) = c .before .read-text .ensures .answer (m .name) (v .name) _ (e ∙ append-assoc (encodeText (m .name)) (encodeText (m .sheet)) t) in
+      let (y, e) = c .read-text2 .ensures .answer (m .sheet) (v .sheet) t e in
+      (rw (x, y), e);
+  name = c .before .read-text .ensures .bounds;
+  sheet = c .read-text2 .ensures .bounds;
+}
 
 pub read-module-spec : {M : Type 1} → statement M
 read-module-spec =

@@ -8,12 +8,11 @@ use lib.ListN.{drop}
 use denote.Ref.{now}
 use Rattle.laws.specs.Decoded.{ok, Decoder}
 use Rattle.laws.proofs.Decoding.{refused, onOk-no, same-rest}
-use Rattle.laws.proofs.Steps.{seen}
+use Rattle.laws.proofs.Steps.{told}
 use Rattle.sheet.specs.Tree.{Node, Arguments, noArguments}
 use Rattle.sheet.specs.Nodes.{many, node, arguments}
 use Rattle.sheet.specs.Shape.{shape}
 use Rattle.nodes.specs.code.Judged.{judged}
-use Rattle.nodes.specs.code.Answers.{checkedAs}
 use Rattle.arguments.specs.Argument.{argumentOf, singleText, replacedIn}
 use Rattle.dep.specs.Collect.{callEntry}
 use Rattle.dep.proofs.entries.put_argument_entry.Statement.{statement}
@@ -31,7 +30,7 @@ unfolding callEntry
 returns c =
     let a = c .before .before .before .before .before .before .before .before .before .before .before .before .before .before .args in
     λ dots n xs t u is are.
-    c .before .before .before .before .put-dynamic-entry .ensures (argumentOf n) (replacedIn (singleText (shape n))) xs (drop (a .cursor .at) (now (a .sheet))) (c .before .before .before .before .before .before .before .before .before .parse-argument .ensures .0 n t is) (none-anywhere (node (now (a .source)) (a .levels)) (now (a .source)) t (rw (c .before .before .before .before .before .before .before .before .if1 .taken) at are) (drop (a .cursor .at) (now (a .sheet))))
+    c .before .before .before .before .put-dynamic-entry .ensures (argumentOf n) (replacedIn (singleText (shape n))) xs (drop (a .cursor .at) (now (a .sheet))) (c .before .before .before .before .before .before .before .before .before .parse-argument .ensures .answer n t is) (none-anywhere (node (now (a .source)) (a .levels)) (now (a .source)) t (rw (c .before .before .before .before .before .before .before .before .if1 .taken) at are) (drop (a .cursor .at) (now (a .sheet))))
 
 returns-2 : tie.Need-returns-2
 returns-2 c =
@@ -39,7 +38,7 @@ returns-2 c =
     let s = now (a .sheet) in
     let source = now (a .source) in
     let x = node source (a .levels) (drop (a .cursor .at) s) in
-    λ dots n xs t u is are. absurd (refused (sym (onOk-no judged x (seen (checkedAs s) (c .before .before .check-node .ensures .0) (c .enum-told .given .1))) ∙ is))
+    λ dots n xs t u is are. absurd (refused (sym (onOk-no judged x (told (c .before .before .check-node .ensures) (c .enum-told .given .1))) ∙ is))
 
 returns-3 : tie.Need-returns-3
 unfolding callEntry
@@ -49,8 +48,8 @@ returns-3 c =
     let source = now (a .source) in
     let x = node source (a .levels) (drop (a .cursor .at) s) in
     λ dots n xs t u is are.
-    c .before .before .before .before .put-dynamic-entry2 .ensures (argumentOf n) (replacedIn (singleText (shape n))) xs u (c .before .before .before .before .before .before .before .before .before .before .before .before .before .parse-argument .ensures .0 n t is)
-    (ap (arguments (node source (a .levels)) source (a .more)) (same-rest judged x is (seen (checkedAs s) (c .before .before .before .before .before .before .before .before .before .before .before .check-node .ensures .0) (c .before .before .before .before .before .before .before .before .before .next .given .1))) ∙ are)
+    c .before .before .before .before .put-dynamic-entry2 .ensures (argumentOf n) (replacedIn (singleText (shape n))) xs u (c .before .before .before .before .before .before .before .before .before .before .before .before .before .parse-argument .ensures .answer n t is)
+    (ap (arguments (node source (a .levels)) source (a .more)) (same-rest judged x is (told (c .before .before .before .before .before .before .before .before .before .before .before .check-node .ensures) (c .before .before .before .before .before .before .before .before .before .next .given .1))) ∙ are)
 
 pub put-argument-entry-spec : {M : Type 1} → statement M
 put-argument-entry-spec =

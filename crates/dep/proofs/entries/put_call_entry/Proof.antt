@@ -3,9 +3,8 @@ use borrow.Author.Needs.{needs}
 use mathlib.Core.Path.{sym, ap, _∙_}
 use lib.ListN.{drop}
 use denote.Ref.{now}
-use Rattle.laws.proofs.Steps.{seen}
+use Rattle.laws.proofs.Steps.{told}
 use Rattle.sheet.specs.Nodes.{node}
-use Rattle.heads.specs.code.Views.{argumentAs}
 use Rattle.heads.proofs.FirstArgument.{first, no-first, no-arguments}
 use Rattle.arguments.specs.Argument.{replacedIn}
 use Rattle.dep.specs.Collect.{firstText, beside, callEntry}
@@ -20,7 +19,7 @@ put-argument-entry-requires c κs =
     let a = c .before .before .before .before .before .before .before .before .before .before .before .before .args in
     let s = now (a .sheet) in
     let source = now (a .source) in
-    (c .before .before .before .before .before .before .before .before .before .before .before .before .pre, argument-spanned source (drop (a .cursor .at) s) (seen (argumentAs s) (c .before .before .before .before .before .read-argument .ensures .0) (c .before .before .before .range .given .1)))
+    (c .before .before .before .before .before .before .before .before .before .before .before .before .pre, argument-spanned source (drop (a .cursor .at) s) (told (c .before .before .before .before .before .read-argument .ensures) (c .before .before .before .range .given .1)))
 
 returns : tie.Need-returns
 returns c =
@@ -29,7 +28,10 @@ returns c =
     let source = now (a .source) in
     let inner = node source (a .levels) in
     let u = drop (a .cursor .at) s in
-    ((λ xs t is. absurd (no-first inner source (a .count) u (c .before .before .before .if2 .taken) is (seen (argumentAs s) (c .before .before .read-argument .ensures .0) (c .enum-told .given .1)))), search needs)
+    record {
+      answer = λ xs t is. absurd (no-first inner source (a .count) u (c .before .before .before .if2 .taken) is (told (c .before .before .read-argument .ensures) (c .enum-told .given .1)));
+      left = search needs;
+    }
 
 returns-2 : tie.Need-returns-2
 returns-2 c =
@@ -39,14 +41,14 @@ returns-2 c =
     let types = typesFrom source (now (a .tables)) (a .counts) in
     let w = writtenAs (now (a .out)) (now (a .notes)) (a .place) in
     let inner = node source (a .levels) in
-    let u = drop (a .cursor .at) s in (
-      (λ xs t is.
-          let f = first inner source (a .count) u (c .before .before .before .before .before .before .before .before .before .before .before .if2 .taken) is (seen (argumentAs s) (c .before .before .before .before .before .before .before .before .before .before .read-argument .ensures .0) (c .before .before .before .before .before .before .before .before .range .given .1)) in
+    let u = drop (a .cursor .at) s in record {
+      answer = λ xs t is.
+          let f = first inner source (a .count) u (c .before .before .before .before .before .before .before .before .before .before .before .if2 .taken) is (told (c .before .before .before .before .before .before .before .before .before .before .read-argument .ensures) (c .before .before .before .before .before .before .before .before .range .given .1)) in
           rw (c .before .before .before .before .before .before .before .before .before .before .before .before .if1 .taken)
           (c .before .before .before .before .put-argument-entry .ensures (c .before .before .before .before .before .before .before .before .range .given .0 .0) (f .node) (f .others) (f .between) t (f .read) (f .behind)
-          ∙ ap (λ xs. wroteEntries w (beside (a .call .span .start) (replacedIn (firstText xs)) (callEntry source types (a .call .kind) (a .call .span) xs))) (sym (f .are)))),
-      search needs,
-    )
+          ∙ ap (λ xs. wroteEntries w (beside (a .call .span .start) (replacedIn (firstText xs)) (callEntry source types (a .call .kind) (a .call .span) xs))) (sym (f .are)));
+      left = search needs;
+    }
 
 returns-3 : tie.Need-returns-3
 unfolding callEntry
@@ -56,12 +58,18 @@ returns-3 c =
     let source = now (a .source) in
     let inner = node source (a .levels) in
     let u = drop (a .cursor .at) s in
-    ((λ xs t is. rw (c .before .if1 .taken, no-arguments inner source (a .count) u (c .if2 .left) is) (sym (entries-nil (now (a .out)) (now (a .notes)) (a .place)))), search needs)
+    record {
+      answer = λ xs t is. rw (
+        c .before .if1 .taken,
+        no-arguments inner source (a .count) u (c .if2 .left) is,
+      ) (sym (entries-nil (now (a .out)) (now (a .notes)) (a .place)));
+      left = search needs;
+    }
 
 returns-4 : tie.Need-returns-4
 returns-4 c =
     let a = c .before .before .before .before .before .args in
-    ((λ xs t is. rw (c .if1 .left) (sym (entries-nil (now (a .out)) (now (a .notes)) (a .place)))), search needs)
+    record { answer = λ xs t is. rw (c .if1 .left) (sym (entries-nil (now (a .out)) (now (a .notes)) (a .place))); left = search needs }
 
 pub put-call-entry-spec : {M : Type 1} → statement M
 put-call-entry-spec = tie.close (tie.spec

@@ -20,7 +20,7 @@ put-span-requires : tie.Need-put-span-requires
 put-span-requires c κs = (c .before .before .before .before .before .before .before .before .before .before .before .before .before .before .before .before .before .before .before .before .before .before .before .before .before .before .before .before .pre .0 .1 .0 .indexed, c .before .before .before .before .before .before .before .before .before .before .before .before .before .before .before .before .before .before .before .before .before .before .before .before .before .before .before .before .pre .1)
 
 put-attributes-requires : tie.Need-put-attributes-requires
-put-attributes-requires c κs = c .before .before .before .before .before .before .before .before .before .before .before .before .before .before .before .before .before .before .before .before .before .parse-dynamic-import-attributes .ensures .1 .0
+put-attributes-requires c κs = c .before .before .before .before .before .before .before .before .before .before .before .before .before .before .before .before .before .before .before .before .before .parse-dynamic-import-attributes .ensures .bounds
 
 same-length : tie.Need-same-length
 same-length c = c .before .before .put-attributes .kept .1 .1 .1 .0 ∙ (c .before .before .before .before .before .before .before .put-span .kept .1 .0 ∙ (c .before .before .before .before .before .before .before .before .before .before .before .before .before .before .before .before .put-argument .kept .1 .1 .1 .1 .0 ∙ (c .before .before .before .before .before .before .before .before .before .before .before .before .before .before .before .before .before .before .before .before .put-types .kept .1 .1 .1 .1 .0 ∙ (c .before .before .before .before .before .before .before .before .before .before .before .before .before .before .before .before .before .before .before .before .before .before .before .before .before .before .before .before .put .kept .1 .0))))
@@ -39,8 +39,8 @@ returns c =
       importAttributes = dynamicAttributes xs;
     } in
     λ v k xs t stands are.
-    let (written, counted) = c .before .before .before .before .before .before .before .before .before .before .before .before .before .before .before .before .put-argument .ensures .0 v k stands in
-    dynamic-written (bufferAs (now (a .out)) (a .place)) (now (a .notes)) (a .dependency .start) k (c .before .before .before .before .before .before .before .before .before .before .before .before .note .ensures ∙ ap (noted (now (a .notes)) (a .dependency .start)) counted) (entry v xs) (rw (c .before .before .before .before .before .before .before .before .before .before .before .before .before .before .before .before .before .before .before .before .before .before .before .before .before .before .before .before .before .before .dynamic-number .ensures) at (c .before .before .before .before .before .before .before .before .before .before .before .before .before .before .before .before .before .before .before .before .before .before .before .before .before .before .before .before .put .ensures)) (c .before .before .before .before .before .before .before .before .before .before .before .before .before .before .before .before .before .before .before .before .put-types .ensures) written (c .before .before .before .before .before .before .before .put-span .ensures) (rw (c .before .before .before .before .before .before .before .before .before .before .before .before .before .before .before .before .before .before .before .before .before .before .before .before .parse-dynamic-import-attributes .ensures .0 xs t are) at (c .before .before .put-attributes .ensures))
+    let (written, counted) = c .before .before .before .before .before .before .before .before .before .before .before .before .before .before .before .before .put-argument .ensures .answer v k stands in
+    dynamic-written (bufferAs (now (a .out)) (a .place)) (now (a .notes)) (a .dependency .start) k (c .before .before .before .before .before .before .before .before .before .before .before .before .note .ensures ∙ ap (noted (now (a .notes)) (a .dependency .start)) counted) (entry v xs) (rw (c .before .before .before .before .before .before .before .before .before .before .before .before .before .before .before .before .before .before .before .before .before .before .before .before .before .before .before .before .before .before .dynamic-number .ensures) at (c .before .before .before .before .before .before .before .before .before .before .before .before .before .before .before .before .before .before .before .before .before .before .before .before .before .before .before .before .put .ensures)) (c .before .before .before .before .before .before .before .before .before .before .before .before .before .before .before .before .before .before .before .before .put-types .ensures) written (c .before .before .before .before .before .before .before .put-span .ensures) (rw (c .before .before .before .before .before .before .before .before .before .before .before .before .before .before .before .before .before .before .before .before .before .before .before .before .parse-dynamic-import-attributes .ensures .answer xs t are) at (c .before .before .put-attributes .ensures))
 
 pub put-dynamic-entry-spec : {M : Type 1} → statement M
 put-dynamic-entry-spec =

@@ -49,7 +49,7 @@ returns c =
       importAttributes = attributesAs s (now (a .pairs)) (a .attributes);
     } in
     static-written (bufferAs (now (a .out)) (a .place)) (now (a .notes)) (a .dependency .span .start) (replaced (part s (x .start) (x .end)))
-    (c .before .before .before .before .before .before .before .before .before .before .before .note .ensures ∙ ap (noted (now (a .notes)) (a .dependency .span .start)) (c .before .before .before .before .before .before .before .before .before .before .before .before .before .before .before .put-lossy-specifier .ensures .1)) d (rw (c .before .before .before .before .before .before .before .before .before .before .before .before .before .before .before .before .before .before .before .before .before .before .before .before .before .before .static-number .ensures) at (c .before .before .before .before .before .before .before .before .before .before .before .before .before .before .before .before .before .before .before .before .before .before .before .before .put .ensures)) (c .before .before .before .before .before .before .before .before .before .before .before .before .before .before .before .before .before .before .before .before .put-types .ensures) (c .before .before .before .before .before .before .before .before .before .before .before .before .before .before .before .put-lossy-specifier .ensures .0) (c .before .before .before .before .before .before .put-flag .ensures) (c .before .before .put-attributes .ensures)
+    (c .before .before .before .before .before .before .before .before .before .before .before .note .ensures ∙ ap (noted (now (a .notes)) (a .dependency .span .start)) (c .before .before .before .before .before .before .before .before .before .before .before .before .before .before .before .put-lossy-specifier .ensures .replaced)) d (rw (c .before .before .before .before .before .before .before .before .before .before .before .before .before .before .before .before .before .before .before .before .before .before .before .before .before .before .static-number .ensures) at (c .before .before .before .before .before .before .before .before .before .before .before .before .before .before .before .before .before .before .before .before .before .before .before .before .put .ensures)) (c .before .before .before .before .before .before .before .before .before .before .before .before .before .before .before .before .before .before .before .before .put-types .ensures) (c .before .before .before .before .before .before .before .before .before .before .before .before .before .before .before .put-lossy-specifier .ensures .answer) (c .before .before .before .before .before .before .put-flag .ensures) (c .before .before .put-attributes .ensures)
 
 pub put-static-entry-spec : {M : Type 1} → statement M
 put-static-entry-spec =

@@ -13,7 +13,10 @@ returns c =
     let source = now (a .source) in
     let types = typesFrom source (now (a .tables)) (a .counts) in
     let w = writtenAs (now (a .out)) (now (a .notes)) (a .place) in
-    ((λ b t is. c .before .before .before .before .put-static-entry .ensures ∙ ap (λ x. wroteEntries w (staticOf source types s (a .dependency) x)) (rw (c .before .before .before .before .before .before .before .before .before .before .before .before .if1 .taken) (c .before .before .before .before .before .before .before .before .before .before .parse-type-attributes .ensures .0 b t is))), search needs)
+    record {
+      answer = λ b t is. c .before .before .before .before .put-static-entry .ensures ∙ ap (λ x. wroteEntries w (staticOf source types s (a .dependency) x)) (rw (c .before .before .before .before .before .before .before .before .before .before .before .before .if1 .taken) (c .before .before .before .before .before .before .before .before .before .before .parse-type-attributes .ensures .answer b t is));
+      left = search needs;
+    }
 
 returns-2 : tie.Need-returns-2
 returns-2 c =
@@ -22,7 +25,10 @@ returns-2 c =
     let source = now (a .source) in
     let types = typesFrom source (now (a .tables)) (a .counts) in
     let w = writtenAs (now (a .out)) (now (a .notes)) (a .place) in
-    ((λ b t is. c .before .before .before .before .put-static-entry2 .ensures ∙ ap (λ x. wroteEntries w (staticOf source types s (a .dependency) x)) (rw (c .before .before .before .before .before .before .before .before .before .before .before .before .if1 .left) (c .before .before .before .before .before .before .before .before .before .before .parse-import-attributes .ensures .0 b t is))), search needs)
+    record {
+      answer = λ b t is. c .before .before .before .before .put-static-entry2 .ensures ∙ ap (λ x. wroteEntries w (staticOf source types s (a .dependency) x)) (rw (c .before .before .before .before .before .before .before .before .before .before .before .before .if1 .left) (c .before .before .before .before .before .before .before .before .before .before .parse-import-attributes .ensures .answer b t is));
+      left = search needs;
+    }
 
 pub put-with-entry-spec : {M : Type 1} → statement M
 put-with-entry-spec =

@@ -14,14 +14,20 @@ use Rattle.dep.proofs.walk.analyze_program_dependencies.Tie as tie
 returns : tie.Need-returns
 returns c =
     let a = c .before .before .before .before .before .before .before .before .before .before .before .before .before .before .before .before .before .args in
-    ((λ n t is as-many far. absurd (refused (sym (seen (walkedAs (now (a .sheet)) (c .before .before .before .before .before .before .walk-root .last .1 .1 .1 .1 .1 .1 .0) (c .before .before .before .before .before .before .walk-root .last .1 .1 .1 .1 .1 .1 .1 .0)) (c .before .before .before .before .before .before .walk-root .ensures n t is far .1) (c .enum-told .given .1))))), search needs)
+    record {
+      answer = λ n t is as-many far. absurd (refused (sym (seen (walkedAs (now (a .sheet)) (c .before .before .before .before .before .before .walk-root .last .1 .1 .1 .1 .1 .1 .0) (c .before .before .before .before .before .before .walk-root .last .1 .1 .1 .1 .1 .1 .1 .0)) (c .before .before .before .before .before .before .walk-root .ensures n t is far .1) (c .enum-told .given .1))));
+      left = search needs;
+    }
 
 returns-2 : tie.Need-returns-2
 returns-2 c =
     let a = c .before .before .before .before .before .before .before .before .before .before .before .before .before .before .before .before .before .before .args in
     let source = now (a .source) in
     let types = typesFrom source (now (a .tables)) (a .counts) in
-    ((λ n t is as-many far. program-written source types (bufferAs (now (a .out)) (a .place)) n as-many (c .before .before .before .before .before .before .before .before .before .before .before .before .put-number .ensures) (now (a .notes)) (seen (walkedAs (now (a .sheet)) (c .before .before .before .before .before .before .before .walk-root .last .1 .1 .1 .1 .1 .1 .0) (c .before .before .before .before .before .before .before .walk-root .last .1 .1 .1 .1 .1 .1 .1 .0)) (c .before .before .before .before .before .before .before .walk-root .ensures n t is far .1) (c .before .place .given .1))), search needs)
+    record {
+      answer = λ n t is as-many far. program-written source types (bufferAs (now (a .out)) (a .place)) n as-many (c .before .before .before .before .before .before .before .before .before .before .before .before .put-number .ensures) (now (a .notes)) (seen (walkedAs (now (a .sheet)) (c .before .before .before .before .before .before .before .walk-root .last .1 .1 .1 .1 .1 .1 .0) (c .before .before .before .before .before .before .before .walk-root .last .1 .1 .1 .1 .1 .1 .1 .0)) (c .before .before .before .before .before .before .before .walk-root .ensures n t is far .1) (c .before .place .given .1));
+      left = search needs;
+    }
 
 pub analyze-program-dependencies-spec : {M : Type 1} → statement M
 analyze-program-dependencies-spec =

@@ -3,8 +3,7 @@ use borrow.Author.Needs.{needs}
 use mathlib.Core.Path.{_∙_}
 use native.Mathlib.Omega.{arith}
 use denote.Ref.{now}
-use Rattle.laws.proofs.Steps.{seen}
-use Rattle.heads.specs.code.Views.{headAs}
+use Rattle.laws.proofs.Steps.{told, bounded}
 use Rattle.heads.proofs.ByHead.{no-head}
 use Rattle.dep.proofs.Callee.{name-is, other-is}
 use Rattle.dep.proofs.walk.is_require.Statement.{statement}
@@ -12,36 +11,36 @@ use Rattle.dep.proofs.walk.is_require.Tie as tie
 
 sub-is-require : tie.Need-sub-is-require
 sub-is-require c =
-    let past = rw (c .before .before .before .before .head .given .1) at (c .before .before .before .before .before .before .read-head .ensures .1) in
+    let past = bounded (c .before .before .before .before .before .before .read-head .ensures) (c .before .before .before .before .head .given .1) in
     let w = rw (c .before .head2 .given .1) at (past .3) in
     omega arith
 
 part-is-require-start : tie.Need-part-is-require-start
 part-is-require-start c =
-    let past = rw (c .before .before .before .before .head .given .1) at (c .before .before .before .before .before .before .read-head .ensures .1) in
+    let past = bounded (c .before .before .before .before .before .before .read-head .ensures) (c .before .before .before .before .head .given .1) in
     let w = rw (c .before .head2 .given .1) at (past .3) in
     omega arith
 
 part-is-require-end : tie.Need-part-is-require-end
 part-is-require-end c =
-    let past = rw (c .before .before .before .before .head .given .1) at (c .before .before .before .before .before .before .read-head .ensures .1) in
+    let past = bounded (c .before .before .before .before .before .before .read-head .ensures) (c .before .before .before .before .head .given .1) in
     let w = rw (c .before .head2 .given .1) at (past .3) in
     omega arith
 
 returns : tie.Need-returns
 returns c =
     let a = c .before .before .before .before .before .args in
-    λ n t e. absurd (no-head (now (a .source)) (a .levels) _ e (seen (headAs (now (a .sheet))) (c .before .before .read-head .ensures .0) (c .enum-told .given .1)))
+    λ n t e. absurd (no-head (now (a .source)) (a .levels) _ e (told (c .before .before .read-head .ensures) (c .enum-told .given .1)))
 
 returns-2 : tie.Need-returns-2
 returns-2 c =
     let a = c .before .before .before .before .before .before .before .before .before .before .before .args in
-    λ n t e. c .is-require .ensures ∙ name-is (now (a .sheet)) (now (a .source)) (a .cursor .at) (a .levels) (c .before .before .before .before .before .before .before .before .read-head .ensures .0) (c .before .before .before .before .before .before .head .given .1) e (c .before .before .before .head2 .given .1)
+    λ n t e. c .is-require .ensures ∙ name-is (now (a .sheet)) (now (a .source)) (a .cursor .at) (a .levels) (c .before .before .before .before .before .before .before .before .read-head .ensures .answer) (c .before .before .before .before .before .before .head .given .1) e (c .before .before .before .head2 .given .1)
 
 returns-3 : tie.Need-returns-3
 returns-3 c =
     let a = c .before .before .before .before .before .before .before .args in
-    λ n t e. other-is (now (a .sheet)) (now (a .source)) (a .cursor .at) (a .levels) (c .before .before .before .before .read-head .ensures .0) (c .before .before .head .given .1) e (c .match2 .keys2)
+    λ n t e. other-is (now (a .sheet)) (now (a .source)) (a .cursor .at) (a .levels) (c .before .before .before .before .read-head .ensures .answer) (c .before .before .head .given .1) e (c .match2 .keys2)
 
 pub is-require-spec : {M : Type 1} → statement M
 is-require-spec =

@@ -23,7 +23,10 @@ returns c =
     let types = typesFrom source (now (a .tables)) (a .counts) in
     let w = writtenAs (now (a .out)) (now (a .notes)) (a .place) in
     let d : StaticDependencyDescriptor = record { kind = c .before .before .before .before .before .before .before .import-kind .result; span = a .span; specifier = a .specifier; «is_side_effect» = a .is-side-effect } in
-    (c .before .before .before .before .walk-import .ensures .0 ∙ built (afterImport source types s d w) (afterNode source types w) (importDecl (a .span) (a .type-only) (a .phase) (a .is-side-effect) (quotedOf s (a .specifier))) (λ b. rw (c .before .before .before .before .before .before .before .import-kind .ensures)) (behind (a .there) (attributesObject source (a .levels)) (drop (a .cursor .at) s)), c .before .before .before .before .walk-import .ensures .1)
+    record {
+      answer = c .before .before .before .before .walk-import .ensures .answer ∙ built (afterImport source types s d w) (afterNode source types w) (importDecl (a .span) (a .type-only) (a .phase) (a .is-side-effect) (quotedOf s (a .specifier))) (λ b. rw (c .before .before .before .before .before .before .before .import-kind .ensures)) (behind (a .there) (attributesObject source (a .levels)) (drop (a .cursor .at) s));
+      bounds = c .before .before .before .before .walk-import .ensures .bounds;
+    }
 
 pub visit-import-decl-spec : {M : Type 1} → statement M
 visit-import-decl-spec = tie.close (tie.spec

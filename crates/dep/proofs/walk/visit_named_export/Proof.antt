@@ -21,7 +21,10 @@ returns c =
     let source = now (a .source) in
     let types = typesFrom source (now (a .tables)) (a .counts) in
     let w = writtenAs (now (a .out)) (now (a .notes)) (a .place) in
-    (c .before .before .before .before .walk-import .ensures .0 ∙ rw (c .before .before .before .before .before .before .before .export-kind .ensures) (built _ (afterNode source types w) (exportFrom (a .span) (a .type-only) (quotedOf s (a .specifier))) (λ b. refl) (behind (a .there) (attributesObject source (a .levels)) (drop (a .cursor .at) s))), c .before .before .before .before .walk-import .ensures .1)
+    record {
+      answer = c .before .before .before .before .walk-import .ensures .answer ∙ rw (c .before .before .before .before .before .before .before .export-kind .ensures) (built _ (afterNode source types w) (exportFrom (a .span) (a .type-only) (quotedOf s (a .specifier))) (λ b. refl) (behind (a .there) (attributesObject source (a .levels)) (drop (a .cursor .at) s)));
+      bounds = c .before .before .before .before .walk-import .ensures .bounds;
+    }
 
 pub visit-named-export-spec : {M : Type 1} → statement M
 visit-named-export-spec = tie.close (tie.spec

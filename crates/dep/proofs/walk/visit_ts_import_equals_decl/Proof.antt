@@ -6,8 +6,10 @@ use Rattle.dep.proofs.walk.visit_ts_import_equals_decl.Tie as tie
 
 returns : tie.Need-returns
 unfolding noting
-returns c =
-    (rw (c .before .before .before .before .put-plain-entry .ensures, c .before .before .before .before .before .before .before .equals-kind .ensures), c .before .before .before .before .before .before .before .before .before .before .before .before .pre .2)
+returns c = record {
+  answer = rw (c .before .before .before .before .put-plain-entry .ensures, c .before .before .before .before .before .before .before .equals-kind .ensures);
+  bounds = c .before .before .before .before .before .before .before .before .before .before .before .before .pre .2;
+}
 
 pub visit-ts-import-equals-decl-spec : {M : Type 1} → statement M
 visit-ts-import-equals-decl-spec = tie.close (tie.spec

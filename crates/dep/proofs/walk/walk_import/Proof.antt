@@ -5,11 +5,10 @@ use lib.ListN.{drop}
 use denote.Ref.{now}
 use Rattle.laws.specs.Decoded.{ok}
 use Rattle.laws.proofs.Decoding.{onOk-no}
-use Rattle.laws.proofs.Steps.{seen}
+use Rattle.laws.proofs.Steps.{told, bounded}
 use Rattle.sheet.specs.Nodes.{attributesObject}
 use Rattle.heads.specs.code.Rest.{behind}
 use Rattle.nodes.specs.code.Judged.{tallyWith}
-use Rattle.nodes.specs.code.Answers.{talliedAs}
 use Rattle.attributes.specs.Attributes.{staticAttributes}
 use Rattle.dep.specs.code.Walk.{typesFrom, writtenAs}
 use Rattle.dep.proofs.Arms.{import-written}
@@ -22,7 +21,10 @@ returns c =
     let s = now (a .sheet) in
     let source = now (a .source) in
     let x = behind (a .there) (attributesObject source (a .levels)) (drop (a .cursor .at) s) in
-    (rw (onOk-no tallyWith x (seen (talliedAs s) (c .before .before .before .check-attributes .ensures .0) (c .before .r .given .1))), tt)
+    record {
+      answer = rw (onOk-no tallyWith x (told (c .before .before .before .check-attributes .ensures) (c .before .r .given .1)));
+      bounds = tt;
+    }
 
 returns-2 : tie.Need-returns-2
 returns-2 c =
@@ -32,14 +34,20 @@ returns-2 c =
     let types = typesFrom source (now (a .tables)) (a .counts) in
     let w = writtenAs (now (a .out)) (now (a .notes)) (a .place) in
     let x = behind (a .there) (attributesObject source (a .levels)) (drop (a .cursor .at) s) in
-    let past = rw (c .before .before .before .before .before .before .before .before .next .given .1) at (c .before .before .before .before .before .before .before .before .before .before .check-attributes .ensures .1) in
-    (import-written source types w s (a .dependency) x (seen (talliedAs s) (c .before .before .before .before .before .before .before .before .before .before .check-attributes .ensures .0) (c .before .before .before .before .before .before .before .before .next .given .1)) (c .before .before .before .before .put-with-entry .ensures .0), past .0)
+    let past = bounded (c .before .before .before .before .before .before .before .before .before .before .check-attributes .ensures) (c .before .before .before .before .before .before .before .before .next .given .1) in
+    record {
+      answer = import-written source types w s (a .dependency) x (told (c .before .before .before .before .before .before .before .before .before .before .check-attributes .ensures) (c .before .before .before .before .before .before .before .before .next .given .1)) (c .before .before .before .before .put-with-entry .ensures .answer);
+      bounds = past .0;
+    }
 
 returns-3 : tie.Need-returns-3
 unfolding staticAttributes
 returns-3 c =
     let a = c .before .before .before .before .before .before .before .before .before .before .before .before .args in
-    (rw (c .before .before .before .before .before .before .before .if1 .left) (ap (λ w. ok w (drop (a .cursor .at) (now (a .sheet)))) (c .before .before .before .before .put-plain-entry .ensures)), c .before .before .before .before .before .before .before .before .before .before .before .before .pre .2)
+    record {
+      answer = rw (c .before .before .before .before .before .before .before .if1 .left) (ap (λ w. ok w (drop (a .cursor .at) (now (a .sheet)))) (c .before .before .before .before .put-plain-entry .ensures));
+      bounds = c .before .before .before .before .before .before .before .before .before .before .before .before .pre .2;
+    }
 
 pub walk-import-spec : {M : Type 1} → statement M
 walk-import-spec = tie.close (tie.spec

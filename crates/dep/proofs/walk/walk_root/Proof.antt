@@ -5,10 +5,9 @@ use Prim.Native.Nat.{_-_}
 use lib.ListN.{drop}
 use denote.Ref.{now}
 use Rattle.laws.specs.Decoded.{onOk}
-use Rattle.laws.proofs.Steps.{seen}
+use Rattle.laws.proofs.Steps.{told, bounded}
 use Rattle.sheet.specs.Limits.{depthLimit}
 use Rattle.sheet.specs.Nodes.{node}
-use Rattle.heads.specs.code.Views.{headAs}
 use Rattle.heads.proofs.ByHead.{no-head}
 use Rattle.nodes.proofs.Reach.{children-are}
 use Rattle.dep.specs.code.Walk.{typesFrom, writtenAs, afterNode}
@@ -18,13 +17,13 @@ use Rattle.dep.proofs.walk.walk_root.Tie as tie
 
 walk-nodes-requires : tie.Need-walk-nodes-requires
 walk-nodes-requires c κs =
-    let past = rw (c .before .before .before .before .before .head .given .1) at (c .before .before .before .before .before .before .before .read-head .ensures .1) in
+    let past = bounded (c .before .before .before .before .before .before .before .read-head .ensures) (c .before .before .before .before .before .head .given .1) in
     (c .before .before .before .before .before .before .before .before .before .before .before .before .pre, past .2)
 
 returns : tie.Need-returns
 returns c =
     let a = c .before .before .before .before .before .before .before .before .args in
-    λ n t e far. absurd (no-head (now (a .source)) depthLimit _ e (seen (headAs (now (a .sheet))) (c .before .before .before .read-head .ensures .0) (c .before .r .given .1)))
+    λ n t e far. absurd (no-head (now (a .source)) depthLimit _ e (told (c .before .before .before .read-head .ensures) (c .before .r .given .1)))
 
 returns-2 : tie.Need-returns-2
 returns-2 c =
@@ -37,8 +36,8 @@ returns-2 c =
     let next = c .before .before .before .before .before .before .before .before .before .before .head .given .0 .1 .1 .0 in
     let told = c .before .before .before .before .before .before .before .enum-told .given in
     λ n t e far.
-    let (ns, read, made) = children-are s source (a .root .at) depthLimit (c .before .before .before .before .before .before .before .before .before .before .before .before .read-head .ensures .0) (c .before .before .before .before .before .before .before .before .before .before .head .given .1) e (told .1) in
-    children-walked source types (node source (depthLimit - 1)) sp w (far sp ns made) (told .0 .0) (drop (next .at) s) read made (c .before .before .before .before .walk-nodes .ensures .0)
+    let (ns, read, made) = children-are s source (a .root .at) depthLimit (c .before .before .before .before .before .before .before .before .before .before .before .before .read-head .ensures .answer) (c .before .before .before .before .before .before .before .before .before .before .head .given .1) e (told .1) in
+    children-walked source types (node source (depthLimit - 1)) sp w (far sp ns made) (told .0 .0) (drop (next .at) s) read made (c .before .before .before .before .walk-nodes .ensures .answer)
 
 returns-3 : tie.Need-returns-3
 returns-3 c =
@@ -46,7 +45,7 @@ returns-3 c =
     let source = now (a .source) in
     let types = typesFrom source (now (a .tables)) (a .counts) in
     let w = writtenAs (now (a .out)) (now (a .notes)) (a .place) in
-    λ n t e far. (t, c .before .before .before .before .walk-node .ensures .0 ∙ ap (onOk (afterNode source types w)) e)
+    λ n t e far. (t, c .before .before .before .before .walk-node .ensures .answer ∙ ap (onOk (afterNode source types w)) e)
 
 pub walk-root-spec : {M : Type 1} → statement M
 walk-root-spec =

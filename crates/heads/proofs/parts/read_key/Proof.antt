@@ -1,8 +1,7 @@
 use borrow.Author.Needs.{needs}
 use Rattle.heads.specs.code.Parts.{keyHead}
-use Rattle.wire.specs.code.Views.{textAs}
 use denote.Ref.{now}
-use Rattle.laws.proofs.Steps.{seen}
+use Rattle.laws.proofs.Steps.{told, bounded}
 use mathlib.Core.Path.{sym}
 use Rattle.heads.proofs.Outside.{no-key}
 use lib.ListN.{drop}
@@ -11,38 +10,44 @@ use Rattle.heads.proofs.parts.read_key.Tie as tie
 
 returns : tie.Need-returns
 unfolding keyHead
-returns c = (rw (c .match .keys1), search needs)
+returns c = record { answer = rw (c .match .keys1); bounds = search needs }
 
 returns-2 : tie.Need-returns-2
 unfolding keyHead
-returns-2 c =
-    let s = now (c .before .before .before .before .before .before .args .sheet) in
-    (rw (c .before .before .before .before .match .keys2, seen (textAs s) (c .before .before .before .text .ensures .0) (c .before .r .given .1)), tt)
+returns-2 c = record {
+  answer = rw (c .before .before .before .before .match .keys2, told (c .before .before .before .text .ensures) (c .before .r .given .1));
+  bounds = tt;
+}
 
 returns-3 : tie.Need-returns-3
 unfolding keyHead
 returns-3 c =
-    let s = now (c .before .before .before .before .before .before .args .sheet) in
-    let p1 = rw (c .before .start .given .1) at (c .before .before .before .text .ensures .1) in
-    (rw (c .before .before .before .before .match .keys2, seen (textAs s) (c .before .before .before .text .ensures .0) (c .before .start .given .1)), search needs)
+    let p1 = bounded (c .before .before .before .text .ensures) (c .before .start .given .1) in
+    record {
+      answer = rw (c .before .before .before .before .match .keys2, told (c .before .before .before .text .ensures) (c .before .start .given .1));
+      bounds = search needs;
+    }
 
 returns-4 : tie.Need-returns-4
 unfolding keyHead
-returns-4 c =
-    let s = now (c .before .before .before .before .before .before .args .sheet) in
-    (rw (c .before .before .before .before .match .keys3, seen (textAs s) (c .before .before .before .text2 .ensures .0) (c .before .r2 .given .1)), tt)
+returns-4 c = record {
+  answer = rw (c .before .before .before .before .match .keys3, told (c .before .before .before .text2 .ensures) (c .before .r2 .given .1));
+  bounds = tt;
+}
 
 returns-5 : tie.Need-returns-5
 unfolding keyHead
 returns-5 c =
-    let s = now (c .before .before .before .before .before .before .args .sheet) in
-    let p1 = rw (c .before .start2 .given .1) at (c .before .before .before .text2 .ensures .1) in
-    (rw (c .before .before .before .before .match .keys3, seen (textAs s) (c .before .before .before .text2 .ensures .0) (c .before .start2 .given .1)), search needs)
+    let p1 = bounded (c .before .before .before .text2 .ensures) (c .before .start2 .given .1) in
+    record {
+      answer = rw (c .before .before .before .before .match .keys3, told (c .before .before .before .text2 .ensures) (c .before .start2 .given .1));
+      bounds = search needs;
+    }
 
 returns-6 : tie.Need-returns-6
 returns-6 c =
     let a = c .before .before .args in
-    (sym (no-key (a .kind) (drop (a .c .at) (now (a .sheet))) (c .match .rest)), tt)
+    record { answer = sym (no-key (a .kind) (drop (a .c .at) (now (a .sheet))) (c .match .rest)); bounds = tt }
 
 pub read-key-spec : {M : Type 1} → statement M
 read-key-spec =

@@ -1,7 +1,5 @@
 use borrow.Author.Needs.{needs}
-use denote.Ref.{now}
-use Rattle.laws.proofs.Steps.{seen}
-use Rattle.wire.specs.code.Views.{flagAs, textAs}
+use Rattle.laws.proofs.Steps.{told, bounded}
 use Rattle.wire.specs.Optional.{optional}
 use Rattle.sheet.specs.Nodes.{piece}
 use Rattle.heads.proofs.parts.read_piece.Statement.{statement}
@@ -9,30 +7,43 @@ use Rattle.heads.proofs.parts.read_piece.Tie as tie
 
 returns : tie.Need-returns
 unfolding piece optional
-returns c =
-    let s = now (c .before .before .before .before .before .before .before .before .before .before .args .sheet) in
-    (rw (seen (flagAs s) (c .before .before .before .before .before .before .before .before .flag .ensures .0) (c .before .before .before .before .before .before .cooked .given .1), c .before .before .before .before .if1 .taken, seen (textAs s) (c .before .before .before .text .ensures .0) (c .before .r2 .given .1)), tt)
+returns c = record {
+  answer = rw (
+    told (c .before .before .before .before .before .before .before .before .flag .ensures)
+        (c .before .before .before .before .before .before .cooked .given .1),
+    c .before .before .before .before .if1 .taken,
+    told (c .before .before .before .text .ensures) (c .before .r2 .given .1),
+  );
+  bounds = tt;
+}
 
 returns-2 : tie.Need-returns-2
 unfolding piece optional
 returns-2 c =
-    let s = now (c .before .before .before .before .before .before .before .before .before .before .args .sheet) in
-    let p1 = rw (c .before .before .before .before .before .before .cooked .given .1) at (c .before .before .before .before .before .before .before .before .flag .ensures .1) in
-    let p2 = rw (c .before .start .given .1) at (c .before .before .before .text .ensures .1) in
-    (rw (seen (flagAs s) (c .before .before .before .before .before .before .before .before .flag .ensures .0) (c .before .before .before .before .before .before .cooked .given .1), c .before .before .before .before .if1 .taken, seen (textAs s) (c .before .before .before .text .ensures .0) (c .before .start .given .1)), search needs)
+    let p1 = bounded (c .before .before .before .before .before .before .before .before .flag .ensures) (c .before .before .before .before .before .before .cooked .given .1) in
+    let p2 = bounded (c .before .before .before .text .ensures) (c .before .start .given .1) in
+    record {
+      answer = rw (
+        told (c .before .before .before .before .before .before .before .before .flag .ensures)
+            (c .before .before .before .before .before .before .cooked .given .1),
+        c .before .before .before .before .if1 .taken,
+        told (c .before .before .before .text .ensures) (c .before .start .given .1),
+      );
+      bounds = search needs;
+    }
 
 returns-3 : tie.Need-returns-3
 unfolding piece optional
-returns-3 c =
-    let s = now (c .before .before .before .before .before .args .sheet) in
-    (rw (seen (flagAs s) (c .before .before .before .flag .ensures .0) (c .before .r .given .1)), tt)
+returns-3 c = record { answer = rw (told (c .before .before .before .flag .ensures) (c .before .r .given .1)); bounds = tt }
 
 returns-4 : tie.Need-returns-4
 unfolding piece optional
 returns-4 c =
-    let s = now (c .before .before .before .before .before .before .args .sheet) in
-    let p1 = rw (c .before .before .cooked .given .1) at (c .before .before .before .before .flag .ensures .1) in
-    (rw (seen (flagAs s) (c .before .before .before .before .flag .ensures .0) (c .before .before .cooked .given .1), c .if1 .left), search needs)
+    let p1 = bounded (c .before .before .before .before .flag .ensures) (c .before .before .cooked .given .1) in
+    record {
+      answer = rw (told (c .before .before .before .before .flag .ensures) (c .before .before .cooked .given .1), c .if1 .left);
+      bounds = search needs;
+    }
 
 pub read-piece-spec : {M : Type 1} → statement M
 read-piece-spec =

@@ -1,8 +1,7 @@
 use borrow.Author.Needs.{needs}
 use Rattle.heads.specs.code.Parts.{propertyHead}
-use Rattle.wire.specs.code.Views.{readAs}
 use denote.Ref.{now}
-use Rattle.laws.proofs.Steps.{seen}
+use Rattle.laws.proofs.Steps.{told, bounded}
 use mathlib.Core.Path.{sym}
 use native.Mathlib.Omega.{arith}
 use Rattle.heads.proofs.Outside.{no-property}
@@ -12,47 +11,64 @@ use Rattle.heads.proofs.parts.read_property.Statement.{statement}
 use Rattle.heads.proofs.parts.read_property.Tie as tie
 
 read-key-requires : tie.Need-read-key-requires
-read-key-requires c κs = (rw (c .before .key .given .1) at (c .before .before .before .byte2 .ensures .1)) .1
+read-key-requires c κs = bounded (c .before .before .before .byte2 .ensures) (c .before .key .given .1) .1
 
 returns : tie.Need-returns
 unfolding propertyHead
-returns c =
-    let s = now (c .before .before .before .before .before .args .sheet) in
-    (rw (seen (readAs s) (c .before .before .before .byte .ensures .0) (c .before .r .given .1)), tt)
+returns c = record { answer = rw (told (c .before .before .before .byte .ensures) (c .before .r .given .1)); bounds = tt }
 
 returns-2 : tie.Need-returns-2
 unfolding propertyHead
 returns-2 c =
-    let s = now (c .before .before .before .before .before .before .args .sheet) in
-    let p1 = rw (c .before .before .kind .given .1) at (c .before .before .before .before .byte .ensures .1) in
-    (rw (seen (readAs s) (c .before .before .before .before .byte .ensures .0) (c .before .before .kind .given .1), c .match2 .keys1), search needs)
+    let p1 = bounded (c .before .before .before .before .byte .ensures) (c .before .before .kind .given .1) in
+    record {
+      answer = rw (told (c .before .before .before .before .byte .ensures) (c .before .before .kind .given .1), c .match2 .keys1);
+      bounds = search needs;
+    }
 
 returns-3 : tie.Need-returns-3
 unfolding propertyHead
 returns-3 c =
-    let s = now (c .before .before .before .before .before .before .args .sheet) in
-    let p1 = rw (c .before .before .kind .given .1) at (c .before .before .before .before .byte .ensures .1) in
-    (rw (seen (readAs s) (c .before .before .before .before .byte .ensures .0) (c .before .before .kind .given .1), c .match2 .keys2), search needs)
+    let p1 = bounded (c .before .before .before .before .byte .ensures) (c .before .before .kind .given .1) in
+    record {
+      answer = rw (told (c .before .before .before .before .byte .ensures) (c .before .before .kind .given .1), c .match2 .keys2);
+      bounds = search needs;
+    }
 
 returns-4 : tie.Need-returns-4
 unfolding propertyHead
-returns-4 c =
-    let s = now (c .before .before .before .before .before .before .before .before .before .before .args .sheet) in
-    (rw (seen (readAs s) (c .before .before .before .before .before .before .before .before .byte .ensures .0) (c .before .before .before .before .before .before .kind .given .1), c .before .before .before .before .match2 .keys3, seen (readAs s) (c .before .before .before .byte2 .ensures .0) (c .before .r2 .given .1)), tt)
+returns-4 c = record {
+  answer = rw (
+    told (c .before .before .before .before .before .before .before .before .byte .ensures) (c .before .before .before .before .before .before .kind .given .1),
+    c .before .before .before .before .match2 .keys3,
+    told (c .before .before .before .byte2 .ensures) (c .before .r2 .given .1),
+  );
+  bounds = tt;
+}
 
 returns-5 : tie.Need-returns-5
 unfolding propertyHead
 returns-5 c =
     let a = c .before .before .before .before .before .before .before .before .before .before .before .args in
-    let s = now (a .sheet) in
-    let p1 = rw (c .before .before .before .before .before .before .before .kind .given .1) at (c .before .before .before .before .before .before .before .before .before .byte .ensures .1) in
-    let p2 = rw (c .before .before .key .given .1) at (c .before .before .before .before .byte2 .ensures .1) in
-    (rw (seen (readAs s) (c .before .before .before .before .before .before .before .before .before .byte .ensures .0) (c .before .before .before .before .before .before .before .kind .given .1), c .before .before .before .before .before .match2 .keys3, seen (readAs s) (c .before .before .before .before .byte2 .ensures .0) (c .before .before .key .given .1)) (c .read-key .ensures .0), property-from (a .c .at) _ _ (c .read-key .result) (omega arith) (c .read-key .ensures .1))
+    let p1 = bounded (c .before .before .before .before .before .before .before .before .before .byte .ensures) (c .before .before .before .before .before .before .before .kind .given .1) in
+    let p2 = bounded (c .before .before .before .before .byte2 .ensures) (c .before .before .key .given .1) in
+    record {
+      answer = rw (
+        told (c .before .before .before .before .before .before .before .before .before .byte .ensures)
+            (c .before .before .before .before .before .before .before .kind .given .1),
+        c .before .before .before .before .before .match2 .keys3,
+        told (c .before .before .before .before .byte2 .ensures) (c .before .before .key .given .1),
+      ) (c .read-key .ensures .answer);
+      bounds = property-from (a .c .at) _ _ (c .read-key .result) (omega arith) (c .read-key .ensures .bounds);
+    }
 
 returns-6 : tie.Need-returns-6
 returns-6 c =
     let s = now (c .before .before .before .before .before .before .args .sheet) in
-    (sym (no-property _ (drop (c .before .before .before .before .before .before .args .c .at) s) (seen (readAs s) (c .before .before .before .before .byte .ensures .0) (c .before .before .kind .given .1)) (c .match2 .rest)), tt)
+    record {
+      answer = sym (no-property _ (drop (c .before .before .before .before .before .before .args .c .at) s) (told (c .before .before .before .before .byte .ensures) (c .before .before .kind .given .1)) (c .match2 .rest));
+      bounds = tt;
+    }
 
 pub read-property-spec : {M : Type 1} → statement M
 read-property-spec =

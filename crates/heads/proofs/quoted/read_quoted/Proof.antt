@@ -1,8 +1,5 @@
 use borrow.Author.Needs.{needs}
-use denote.Ref.{now}
-use Rattle.laws.proofs.Steps.{seen}
-use Rattle.wire.specs.code.Views.{readAs, textAs}
-use Rattle.sheet.specs.code.Views.{spanAs}
+use Rattle.laws.proofs.Steps.{told, bounded}
 use Rattle.sheet.specs.Nodes.{quoted}
 use Rattle.sheet.proofs.Judged.{span-part}
 use Rattle.heads.proofs.quoted.read_quoted.Statement.{statement}
@@ -10,35 +7,49 @@ use Rattle.heads.proofs.quoted.read_quoted.Tie as tie
 
 read-string-text-requires : tie.Need-read-string-text-requires
 read-string-text-requires c κs =
-    let s = now (c .before .before .before .before .before .before .before .before .before .before .args .sheet) in
-    span-part _ _ (seen (spanAs s) (c .before .before .before .read-span .ensures .0) (c .before .span .given .1))
+    span-part _ _ (told (c .before .before .before .read-span .ensures) (c .before .span .given .1))
 
 returns : tie.Need-returns
 unfolding quoted
-returns c =
-    let s = now (c .before .before .before .before .before .before .args .sheet) in
-    (rw (seen (readAs s) (c .before .before .before .read-tag-of .ensures .0) (c .before .r .given .1)), tt)
+returns c = record { answer = rw (told (c .before .before .before .read-tag-of .ensures) (c .before .r .given .1)); bounds = tt }
 
 returns-2 : tie.Need-returns-2
 unfolding quoted
-returns-2 c =
-    let s = now (c .before .before .before .before .before .before .before .before .before .before .args .sheet) in
-    (rw (seen (readAs s) (c .before .before .before .before .before .before .before .read-tag-of .ensures .0) (c .before .before .before .before .before .next .given .1), seen (spanAs s) (c .before .before .before .read-span .ensures .0) (c .before .r2 .given .1)), tt)
+returns-2 c = record {
+  answer = rw (
+    told (c .before .before .before .before .before .before .before .read-tag-of .ensures) (c .before .before .before .before .before .next .given .1),
+    told (c .before .before .before .read-span .ensures) (c .before .r2 .given .1),
+  );
+  bounds = tt;
+}
 
 returns-3 : tie.Need-returns-3
 unfolding quoted
-returns-3 c =
-    let s = now (c .before .before .before .before .before .before .before .before .before .before .before .before .before .before .args .sheet) in
-    (rw (seen (readAs s) (c .before .before .before .before .before .before .before .before .before .before .before .read-tag-of .ensures .0) (c .before .before .before .before .before .before .before .before .before .next .given .1), seen (spanAs s) (c .before .before .before .before .before .before .before .read-span .ensures .0) (c .before .before .before .before .before .span .given .1), seen (textAs s) (c .before .before .before .read-string-text .ensures .0) (c .before .r3 .given .1)), tt)
+returns-3 c = record {
+  answer = rw (
+    told (c .before .before .before .before .before .before .before .before .before .before .before .read-tag-of .ensures)
+        (c .before .before .before .before .before .before .before .before .before .next .given .1),
+    told (c .before .before .before .before .before .before .before .read-span .ensures) (c .before .before .before .before .before .span .given .1),
+    told (c .before .before .before .read-string-text .ensures) (c .before .r3 .given .1),
+  );
+  bounds = tt;
+}
 
 returns-4 : tie.Need-returns-4
 unfolding quoted
 returns-4 c =
-    let s = now (c .before .before .before .before .before .before .before .before .before .before .before .before .before .before .args .sheet) in
-    let p1 = rw (c .before .before .before .before .before .before .before .before .before .next .given .1) at (c .before .before .before .before .before .before .before .before .before .before .before .read-tag-of .ensures .1) in
-    let p2 = rw (c .before .before .before .before .before .span .given .1) at (c .before .before .before .before .before .before .before .read-span .ensures .1) in
-    let p3 = rw (c .before .start .given .1) at (c .before .before .before .read-string-text .ensures .1) in
-    (rw (seen (readAs s) (c .before .before .before .before .before .before .before .before .before .before .before .read-tag-of .ensures .0) (c .before .before .before .before .before .before .before .before .before .next .given .1), seen (spanAs s) (c .before .before .before .before .before .before .before .read-span .ensures .0) (c .before .before .before .before .before .span .given .1), seen (textAs s) (c .before .before .before .read-string-text .ensures .0) (c .before .start .given .1)), search needs)
+    let p1 = bounded (c .before .before .before .before .before .before .before .before .before .before .before .read-tag-of .ensures) (c .before .before .before .before .before .before .before .before .before .next .given .1) in
+    let p2 = bounded (c .before .before .before .before .before .before .before .read-span .ensures) (c .before .before .before .before .before .span .given .1) in
+    let p3 = bounded (c .before .before .before .read-string-text .ensures) (c .before .start .given .1) in
+    record {
+      answer = rw (
+        told (c .before .before .before .before .before .before .before .before .before .before .before .read-tag-of .ensures)
+            (c .before .before .before .before .before .before .before .before .before .next .given .1),
+        told (c .before .before .before .before .before .before .before .read-span .ensures) (c .before .before .before .before .before .span .given .1),
+        told (c .before .before .before .read-string-text .ensures) (c .before .start .given .1),
+      );
+      bounds = search needs;
+    }
 
 pub read-quoted-spec : {M : Type 1} → statement M
 read-quoted-spec =

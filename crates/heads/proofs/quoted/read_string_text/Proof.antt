@@ -6,11 +6,14 @@ use Rattle.heads.proofs.quoted.read_string_text.Tie as tie
 
 returns : tie.Need-returns
 unfolding stringText
-returns c = (rw (known (c .before .before .looks-quoted .ensures) (c .before .if1 .taken)) (c .text .ensures .0), c .text .ensures .1)
+returns c = record {
+  answer = rw (known (c .before .before .looks-quoted .ensures) (c .before .if1 .taken)) (c .text .ensures .answer);
+  bounds = c .text .ensures .bounds;
+}
 
 returns-2 : tie.Need-returns-2
 unfolding stringText
-returns-2 c = (rw (known (c .before .looks-quoted .ensures) (c .if1 .left)), tt)
+returns-2 c = record { answer = rw (known (c .before .looks-quoted .ensures) (c .if1 .left)); bounds = tt }
 
 pub read-string-text-spec : {M : Type 1} → statement M
 read-string-text-spec =

@@ -3,7 +3,7 @@ use native.Mathlib.Omega.{arith}
 use mathlib.Core.Path.{sym}
 use lib.ListN.{length-drop}
 use denote.Ref.{now}
-use Rattle.jsdoc.proofs.Answered.{read, inside}
+use Rattle.laws.proofs.Steps.{told, bounded}
 use Rattle.jsdoc.proofs.Moved.{part-to-end, moved-mode}
 use Rattle.jsdoc.proofs.block.block_at.Statement.{statement}
 use Rattle.jsdoc.proofs.block.block_at.Tie as tie
@@ -12,19 +12,19 @@ add-t11 : tie.Need-add-t11
 add-t11 c =
     let a = c .before .before .before .before .before .before .args in
     let h = rw (part-to-end (now (a .s)) (a .at)) at (c .before .before .before .parse-import-attribute-block-for-resolution-mode .ensures) in
-    omega (arith, inside h (c .before .mode .given .1), length-drop (a .at) (now (a .s)))
+    omega (arith, bounded h (c .before .mode .given .1), length-drop (a .at) (now (a .s)))
 
 returns : tie.Need-returns
 returns c =
     let a = c .before .before .before .before .before .before .args in
     let h = rw (part-to-end (now (a .s)) (a .at)) at (c .before .before .before .parse-import-attribute-block-for-resolution-mode .ensures) in
-    moved-mode (now (a .s)) (a .at) (c .before .before .before .before .before .before .pre) (read h (c .before .mode .given .1)) (inside h (c .before .mode .given .1))
+    moved-mode (now (a .s)) (a .at) (c .before .before .before .before .before .before .pre) (told h (c .before .mode .given .1)) (bounded h (c .before .mode .given .1))
 
 returns-2 : tie.Need-returns-2
 returns-2 c =
     let a = c .before .before .before .before .before .args in
     let h = rw (part-to-end (now (a .s)) (a .at)) at (c .before .before .parse-import-attribute-block-for-resolution-mode .ensures) in
-    record { is = sym (read h (c .enum-told .given .1)); ordered = tt }
+    record { answer = sym (told h (c .enum-told .given .1)); bounds = tt }
 
 pub block-at-spec : {M : Type 1} → statement M
 block-at-spec =

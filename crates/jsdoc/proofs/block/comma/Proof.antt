@@ -5,7 +5,7 @@ use Rattle.jsdoc.proofs.block.comma.Tie as tie
 
 returns : tie.Need-returns
 unfolding comma
-returns c = record { is = rw (← c .before .before .skip-whitespace .ensures .0) (c .word .ensures .is); ordered = c .word .ensures .ordered }
+returns c = record { answer = rw (← c .before .before .skip-whitespace .ensures .answer) (c .word .ensures .answer); bounds = c .word .ensures .bounds }
 
 pub comma-spec : {M : Type 1} → statement M
 comma-spec =

@@ -1,74 +1,79 @@
 use borrow.Author.Needs.{needs}
 use native.Mathlib.Omega.{arith}
+use Rattle.laws.proofs.Steps.{told, bounded}
 use Rattle.jsdoc.specs.Reader.{parseAttribute}
-use Rattle.jsdoc.proofs.Answered.{read, inside}
 use Rattle.jsdoc.proofs.block.parse_attribute.Statement.{statement}
 use Rattle.jsdoc.proofs.block.parse_attribute.Tie as tie
 
 returns : tie.Need-returns
 unfolding parseAttribute
-returns c = record { is = rw (read (c .before .before .parse-key .ensures) (c .enum-told .given .1)); ordered = tt }
+returns c = record { answer = rw (told (c .before .before .parse-key .ensures) (c .enum-told .given .1)); bounds = tt }
 
 skip-whitespace-requires : tie.Need-skip-whitespace-requires
-skip-whitespace-requires c κs = inside (c .before .before .before .parse-key .ensures) (c .before .key .given .1) .2
+skip-whitespace-requires c κs = bounded (c .before .before .before .parse-key .ensures) (c .before .key .given .1) .2
 
 returns-2 : tie.Need-returns-2
 unfolding parseAttribute
 returns-2 c =
     record {
-      is =
-          rw (read (c .before .before .before .before .before .before .before .before .parse-key .ensures) (c .before .before .before .before .before .before .key .given .1), ← c .before .before .before .before .skip-whitespace .ensures .0, read (c .before .before .word .ensures) (c .enum-told2 .given .1));
-      ordered = tt;
+      answer =
+          rw (
+            told (c .before .before .before .before .before .before .before .before .parse-key .ensures)
+                (c .before .before .before .before .before .before .key .given .1),
+            ← c .before .before .before .before .skip-whitespace .ensures .answer,
+            told (c .before .before .word .ensures) (c .enum-told2 .given .1),
+          );
+      bounds = tt;
     }
 
 quote-at-requires : tie.Need-quote-at-requires
-quote-at-requires c κs = inside (c .before .before .before .word .ensures) (c .before .quote .given .1)
+quote-at-requires c κs = bounded (c .before .before .before .word .ensures) (c .before .quote .given .1)
 
 returns-3 : tie.Need-returns-3
 unfolding parseAttribute
 returns-3 c =
     record {
-      is =
+      answer =
           rw (
-            read (c .before .before .before .before .before .before .before .before .before .before .before .before .parse-key .ensures) (c .before .before .before .before .before .before .before .before .before .before .key .given .1),
-            ← c .before .before .before .before .before .before .before .before .skip-whitespace .ensures .0,
-            read (c .before .before .before .before .before .before .word .ensures) (c .before .before .before .before .quote .given .1),
-            read (c .before .before .quote-at .ensures) (c .enum-told3 .given .1),
+            told (c .before .before .before .before .before .before .before .before .before .before .before .before .parse-key .ensures) (c .before .before .before .before .before .before .before .before .before .before .key .given .1),
+            ← c .before .before .before .before .before .before .before .before .skip-whitespace .ensures .answer,
+            told (c .before .before .before .before .before .before .word .ensures) (c .before .before .before .before .quote .given .1),
+            told (c .before .before .quote-at .ensures) (c .enum-told3 .given .1),
           );
-      ordered = tt;
+      bounds = tt;
     }
 
 sub-attribute-mode : tie.Need-sub-attribute-mode
-sub-attribute-mode c = omega (arith, inside (c .before .before .before .before .before .before .before .before .before .before .before .before .before .parse-key .ensures) (c .before .before .before .before .before .before .before .before .before .before .before .key .given .1))
+sub-attribute-mode c = omega (arith, bounded (c .before .before .before .before .before .before .before .before .before .before .before .before .before .parse-key .ensures) (c .before .before .before .before .before .before .before .before .before .before .before .key .given .1))
 
 part-attribute-mode-start : tie.Need-part-attribute-mode-start
-part-attribute-mode-start c = omega (arith, inside (c .before .before .before .before .before .before .before .before .before .before .before .before .before .parse-key .ensures) (c .before .before .before .before .before .before .before .before .before .before .before .key .given .1))
+part-attribute-mode-start c = omega (arith, bounded (c .before .before .before .before .before .before .before .before .before .before .before .before .before .parse-key .ensures) (c .before .before .before .before .before .before .before .before .before .before .before .key .given .1))
 
 part-attribute-mode-end : tie.Need-part-attribute-mode-end
-part-attribute-mode-end c = omega (arith, inside (c .before .before .before .before .before .before .before .before .before .before .before .before .before .parse-key .ensures) (c .before .before .before .before .before .before .before .before .before .before .before .key .given .1))
+part-attribute-mode-end c = omega (arith, bounded (c .before .before .before .before .before .before .before .before .before .before .before .before .before .parse-key .ensures) (c .before .before .before .before .before .before .before .before .before .before .before .key .given .1))
 
 sub-attribute-mode-2 : tie.Need-sub-attribute-mode-2
-sub-attribute-mode-2 c = omega (arith, inside (c .before .before .before .before .quote-at .ensures) (c .before .before .from .given .1))
+sub-attribute-mode-2 c = omega (arith, bounded (c .before .before .before .before .quote-at .ensures) (c .before .before .from .given .1))
 
 part-attribute-mode-start-2 : tie.Need-part-attribute-mode-start-2
-part-attribute-mode-start-2 c = omega (arith, inside (c .before .before .before .before .quote-at .ensures) (c .before .before .from .given .1))
+part-attribute-mode-start-2 c = omega (arith, bounded (c .before .before .before .before .quote-at .ensures) (c .before .before .from .given .1))
 
 part-attribute-mode-end-2 : tie.Need-part-attribute-mode-end-2
-part-attribute-mode-end-2 c = omega (arith, inside (c .before .before .before .before .quote-at .ensures) (c .before .before .from .given .1))
+part-attribute-mode-end-2 c = omega (arith, bounded (c .before .before .before .before .quote-at .ensures) (c .before .before .from .given .1))
 
 returns-4 : tie.Need-returns-4
 unfolding parseAttribute
 returns-4 c =
     record {
-      is =
+      answer =
           rw (
-            read (c .before .before .before .before .before .before .before .before .before .before .before .before .before .before .before .before .parse-key .ensures) (c .before .before .before .before .before .before .before .before .before .before .before .before .before .before .key .given .1),
-            ← c .before .before .before .before .before .before .before .before .before .before .before .before .skip-whitespace .ensures .0,
-            read (c .before .before .before .before .before .before .before .before .before .before .word .ensures) (c .before .before .before .before .before .before .before .before .quote .given .1),
-            read (c .before .before .before .before .before .before .quote-at .ensures) (c .before .before .before .before .from .given .1),
+            told (c .before .before .before .before .before .before .before .before .before .before .before .before .before .before .before .before .parse-key .ensures) (c .before .before .before .before .before .before .before .before .before .before .before .before .before .before .key .given .1),
+            ← c .before .before .before .before .before .before .before .before .before .before .before .before .skip-whitespace .ensures .answer,
+            told (c .before .before .before .before .before .before .before .before .before .before .word .ensures) (c .before .before .before .before .before .before .before .before .quote .given .1),
+            told (c .before .before .before .before .before .before .quote-at .ensures) (c .before .before .before .before .from .given .1),
             c .attribute-mode .ensures,
           );
-      ordered = inside (c .before .before .before .before .before .before .quote-at .ensures) (c .before .before .before .before .from .given .1) .2;
+      bounds = bounded (c .before .before .before .before .before .before .quote-at .ensures) (c .before .before .before .before .from .given .1) .2;
     }
 
 pub parse-attribute-spec : {M : Type 1} → statement M

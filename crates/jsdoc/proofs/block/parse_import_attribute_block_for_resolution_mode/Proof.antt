@@ -1,50 +1,50 @@
 use borrow.Author.Needs.{needs}
+use Rattle.laws.proofs.Steps.{told, bounded}
 use Rattle.jsdoc.specs.Reader.{parseImportAttributeBlockForResolutionMode}
-use Rattle.jsdoc.proofs.Answered.{read, inside}
 use Rattle.jsdoc.proofs.block.parse_import_attribute_block_for_resolution_mode.Statement.{statement}
 use Rattle.jsdoc.proofs.block.parse_import_attribute_block_for_resolution_mode.Tie as tie
 
 returns : tie.Need-returns
 unfolding parseImportAttributeBlockForResolutionMode
-returns c = record { is = rw (read (c .before .before .word .ensures) (c .enum-told .given .1)); ordered = tt }
+returns c = record { answer = rw (told (c .before .before .word .ensures) (c .enum-told .given .1)); bounds = tt }
 
 separated-list-requires : tie.Need-separated-list-requires
-separated-list-requires c κs = inside (c .before .before .before .word .ensures) (c .before .first .given .1)
+separated-list-requires c κs = bounded (c .before .before .before .word .ensures) (c .before .first .given .1)
 
 returns-2 : tie.Need-returns-2
 unfolding parseImportAttributeBlockForResolutionMode
 returns-2 c =
-    record { is = rw (read (c .before .before .before .before .before .before .word .ensures) (c .before .before .before .before .first .given .1), read (c .before .before .separated-list .ensures) (c .enum-told2 .given .1)); ordered = tt }
+    record { answer = rw (told (c .before .before .before .before .before .before .word .ensures) (c .before .before .before .before .first .given .1), told (c .before .before .separated-list .ensures) (c .enum-told2 .given .1)); bounds = tt }
 
 skip-whitespace-requires : tie.Need-skip-whitespace-requires
-skip-whitespace-requires c κs = inside (c .before .before .before .separated-list .ensures) (c .before .mode .given .1)
+skip-whitespace-requires c κs = bounded (c .before .before .before .separated-list .ensures) (c .before .mode .given .1)
 
 returns-3 : tie.Need-returns-3
 unfolding parseImportAttributeBlockForResolutionMode
 returns-3 c =
     record {
-      is =
+      answer =
           rw (
-            read (c .before .before .before .before .before .before .before .before .before .before .before .before .word .ensures) (c .before .before .before .before .before .before .before .before .before .before .first .given .1),
-            read (c .before .before .before .before .before .before .before .before .separated-list .ensures) (c .before .before .before .before .before .before .mode .given .1),
-            ← c .before .before .before .before .skip-whitespace .ensures .0,
-            read (c .before .before .tag .ensures) (c .enum-told3 .given .1),
+            told (c .before .before .before .before .before .before .before .before .before .before .before .before .word .ensures) (c .before .before .before .before .before .before .before .before .before .before .first .given .1),
+            told (c .before .before .before .before .before .before .before .before .separated-list .ensures) (c .before .before .before .before .before .before .mode .given .1),
+            ← c .before .before .before .before .skip-whitespace .ensures .answer,
+            told (c .before .before .tag .ensures) (c .enum-told3 .given .1),
           );
-      ordered = tt;
+      bounds = tt;
     }
 
 returns-4 : tie.Need-returns-4
 unfolding parseImportAttributeBlockForResolutionMode
 returns-4 c =
     record {
-      is =
+      answer =
           rw (
-            read (c .before .before .before .before .before .before .before .before .before .before .before .before .before .word .ensures) (c .before .before .before .before .before .before .before .before .before .before .before .first .given .1),
-            read (c .before .before .before .before .before .before .before .before .before .separated-list .ensures) (c .before .before .before .before .before .before .before .mode .given .1),
-            ← c .before .before .before .before .before .skip-whitespace .ensures .0,
-            read (c .before .before .before .tag .ensures) (c .before .end .given .1),
+            told (c .before .before .before .before .before .before .before .before .before .before .before .before .before .word .ensures) (c .before .before .before .before .before .before .before .before .before .before .before .first .given .1),
+            told (c .before .before .before .before .before .before .before .before .before .separated-list .ensures) (c .before .before .before .before .before .before .before .mode .given .1),
+            ← c .before .before .before .before .before .skip-whitespace .ensures .answer,
+            told (c .before .before .before .tag .ensures) (c .before .end .given .1),
           );
-      ordered = inside (c .before .before .before .tag .ensures) (c .before .end .given .1);
+      bounds = bounded (c .before .before .before .tag .ensures) (c .before .end .given .1);
     }
 
 pub parse-import-attribute-block-for-resolution-mode-spec : {M : Type 1} → statement M

@@ -4,9 +4,9 @@ use mathlib.Core.Path.{_≡_, refl, sym, _∙_}
 use Prim.Native.Nat.{_≤_, _-_}
 use lib.ListN.{length, drop, length-drop}
 use denote.Ref.{now}
+use Rattle.laws.proofs.Steps.{told, bounded}
 use Rattle.jsdoc.specs.Reader.{unnamed, separatedList}
 use Rattle.jsdoc.specs.code.Answers.{attributeModeAs}
-use Rattle.jsdoc.proofs.Answered.{read, inside}
 use Rattle.jsdoc.proofs.Blocks.{attributes-none, attributes-last, attributes-shorter, attributes-next}
 use Rattle.jsdoc.proofs.block.separated_list.Statement.{statement}
 use Rattle.jsdoc.proofs.block.separated_list.Tie as tie
@@ -21,18 +21,18 @@ loop-holds : tie.Need-loop-holds Inv-loop μ-loop
 loop-holds c = (search needs, refl)
 
 returns : tie.Need-returns Inv-loop μ-loop
-returns c = record { is = sym (c .before .before .before .loop .inv .1 ∙ attributes-none _ _ (read (c .before .before .parse-attribute .ensures) (c .enum-told .given .1))); ordered = search needs }
+returns c = record { answer = sym (c .before .before .before .loop .inv .1 ∙ attributes-none _ _ (told (c .before .before .parse-attribute .ensures) (c .enum-told .given .1))); bounds = search needs }
 
 comma-requires : tie.Need-comma-requires Inv-loop μ-loop
-comma-requires c κs = inside (c .before .before .before .before .parse-attribute .ensures) (c .before .before .n .given .1)
+comma-requires c κs = bounded (c .before .before .before .before .parse-attribute .ensures) (c .before .before .n .given .1)
 
 returns-2 : tie.Need-returns-2 Inv-loop μ-loop
 returns-2 c =
     record {
-      is =
+      answer =
           rw (c .before .before .before .first-mode .ensures)
-          (sym (c .before .before .before .before .before .before .before .before .loop .inv .1 ∙ attributes-last _ _ (read (c .before .before .before .before .before .before .before .parse-attribute .ensures) (c .before .before .before .before .before .n .given .1)) (read (c .before .before .comma .ensures) (c .enum-told2 .given .1))));
-      ordered = inside (c .before .before .before .before .before .before .before .parse-attribute .ensures) (c .before .before .before .before .before .n .given .1);
+          (sym (c .before .before .before .before .before .before .before .before .loop .inv .1 ∙ attributes-last _ _ (told (c .before .before .before .before .before .before .before .parse-attribute .ensures) (c .before .before .before .before .before .n .given .1)) (told (c .before .before .comma .ensures) (c .enum-told2 .given .1))));
+      bounds = bounded (c .before .before .before .before .before .before .before .parse-attribute .ensures) (c .before .before .before .before .before .n .given .1);
     }
 
 loop-less : tie.Need-loop-less Inv-loop μ-loop
@@ -42,17 +42,17 @@ loop-less c =
     let j = c .before .next .given .0 .0 in
     omega (
       arith,
-      attributes-shorter unnamed (drop i s) (read (c .before .before .before .before .before .before .before .before .parse-attribute .ensures) (c .before .before .before .before .before .before .n .given .1)) (read (c .before .before .before .comma .ensures) (c .before .next .given .1)),
-      inside (c .before .before .before .comma .ensures) (c .before .next .given .1),
+      attributes-shorter unnamed (drop i s) (told (c .before .before .before .before .before .before .before .before .parse-attribute .ensures) (c .before .before .before .before .before .before .n .given .1)) (told (c .before .before .before .comma .ensures) (c .before .next .given .1)),
+      bounded (c .before .before .before .comma .ensures) (c .before .next .given .1),
       length-drop i s,
       length-drop j s,
     )
 
 loop-again : tie.Need-loop-again Inv-loop μ-loop
 loop-again c = (
-  inside (c .before .before .before .comma .ensures) (c .before .next .given .1),
+  bounded (c .before .before .before .comma .ensures) (c .before .next .given .1),
   rw (c .before .before .before .before .first-mode .ensures)
-      (c .before .before .before .before .before .before .before .before .before .loop .inv .1 ∙ attributes-next _ _ (read (c .before .before .before .before .before .before .before .before .parse-attribute .ensures) (c .before .before .before .before .before .before .n .given .1)) (read (c .before .before .before .comma .ensures) (c .before .next .given .1))),
+      (c .before .before .before .before .before .before .before .before .before .loop .inv .1 ∙ attributes-next _ _ (told (c .before .before .before .before .before .before .before .before .parse-attribute .ensures) (c .before .before .before .before .before .before .n .given .1)) (told (c .before .before .before .comma .ensures) (c .before .next .given .1))),
 )
 
 pub separated-list-spec : {M : Type 1} → statement M

@@ -1,37 +1,37 @@
 use borrow.Author.Needs.{needs}
+use Rattle.laws.proofs.Steps.{told, bounded}
 use Rattle.jsdoc.specs.Reader.{skipClause}
-use Rattle.jsdoc.proofs.Answered.{read, inside}
 use Rattle.jsdoc.proofs.clause.skip_clause.Statement.{statement}
 use Rattle.jsdoc.proofs.clause.skip_clause.Tie as tie
 
 returns : tie.Need-returns
 unfolding skipClause
 returns c =
-    record { is = rw (read (c .before .before .before .skip-named-imports .ensures) (c .before .past .given .1)); ordered = inside (c .before .before .before .skip-named-imports .ensures) (c .before .past .given .1) }
+    record { answer = rw (told (c .before .before .before .skip-named-imports .ensures) (c .before .past .given .1)); bounds = bounded (c .before .before .before .skip-named-imports .ensures) (c .before .past .given .1) }
 
 returns-2 : tie.Need-returns-2
 unfolding skipClause
 returns-2 c =
     record {
-      is =
+      answer =
           rw (
-            read (c .before .before .before .before .before .before .skip-named-imports .ensures) (c .before .before .before .before .enum-told .given .1),
-            read (c .before .before .before .skip-namespace-import .ensures) (c .before .past2 .given .1),
+            told (c .before .before .before .before .before .before .skip-named-imports .ensures) (c .before .before .before .before .enum-told .given .1),
+            told (c .before .before .before .skip-namespace-import .ensures) (c .before .past2 .given .1),
           );
-      ordered = inside (c .before .before .before .skip-namespace-import .ensures) (c .before .past2 .given .1);
+      bounds = bounded (c .before .before .before .skip-namespace-import .ensures) (c .before .past2 .given .1);
     }
 
 returns-3 : tie.Need-returns-3
 unfolding skipClause
 returns-3 c =
     record {
-      is =
+      answer =
           rw (
-            read (c .before .before .before .before .before .before .skip-named-imports .ensures) (c .before .before .before .before .enum-told .given .1),
-            read (c .before .before .before .skip-namespace-import .ensures) (c .before .enum-told2 .given .1),
+            told (c .before .before .before .before .before .before .skip-named-imports .ensures) (c .before .before .before .before .enum-told .given .1),
+            told (c .before .before .before .skip-namespace-import .ensures) (c .before .enum-told2 .given .1),
           )
-          (c .skip-default-import .ensures .is);
-      ordered = c .skip-default-import .ensures .ordered;
+          (c .skip-default-import .ensures .answer);
+      bounds = c .skip-default-import .ensures .bounds;
     }
 
 pub skip-clause-spec : {M : Type 1} → statement M

@@ -1,20 +1,20 @@
 use borrow.Author.Needs.{needs}
+use Rattle.laws.proofs.Steps.{told, bounded}
 use Rattle.jsdoc.specs.Reader.{skipDefaultImport}
-use Rattle.jsdoc.proofs.Answered.{read, inside}
 use Rattle.jsdoc.proofs.clause.skip_default_import.Statement.{statement}
 use Rattle.jsdoc.proofs.clause.skip_default_import.Tie as tie
 
 returns : tie.Need-returns
 unfolding skipDefaultImport
-returns c = record { is = rw (read (c .before .before .ident-at .ensures) (c .enum-told .given .1)); ordered = tt }
+returns c = record { answer = rw (told (c .before .before .ident-at .ensures) (c .enum-told .given .1)); bounds = tt }
 
 whitespace-requires : tie.Need-whitespace-requires
-whitespace-requires c κs = inside (c .before .before .before .ident-at .ensures) (c .before .past .given .1) .2
+whitespace-requires c κs = bounded (c .before .before .before .ident-at .ensures) (c .before .past .given .1) .2
 
 returns-2 : tie.Need-returns-2
 unfolding skipDefaultImport
 returns-2 c =
-    record { is = rw (read (c .before .before .before .before .ident-at .ensures) (c .before .before .past .given .1)) (c .whitespace .ensures .is); ordered = c .whitespace .ensures .ordered }
+    record { answer = rw (told (c .before .before .before .before .ident-at .ensures) (c .before .before .past .given .1)) (c .whitespace .ensures .answer); bounds = c .whitespace .ensures .bounds }
 
 pub skip-default-import-spec : {M : Type 1} → statement M
 skip-default-import-spec =

@@ -1,52 +1,52 @@
 use borrow.Author.Needs.{needs}
+use Rattle.laws.proofs.Steps.{told, bounded}
 use Rattle.jsdoc.specs.Reader.{skipNamespaceImport}
-use Rattle.jsdoc.proofs.Answered.{read, inside}
 use Rattle.jsdoc.proofs.clause.skip_namespace_import.Statement.{statement}
 use Rattle.jsdoc.proofs.clause.skip_namespace_import.Tie as tie
 
 returns : tie.Need-returns
 unfolding skipNamespaceImport
-returns c = record { is = rw (read (c .before .before .word .ensures) (c .enum-told .given .1)); ordered = tt }
+returns c = record { answer = rw (told (c .before .before .word .ensures) (c .enum-told .given .1)); bounds = tt }
 
 tag-requires : tie.Need-tag-requires
-tag-requires c κs = inside (c .before .before .before .before .word .ensures) (c .before .before .a .given .1)
+tag-requires c κs = bounded (c .before .before .before .before .word .ensures) (c .before .before .a .given .1)
 
 returns-2 : tie.Need-returns-2
 unfolding skipNamespaceImport
 returns-2 c =
-    record { is = rw (read (c .before .before .before .before .before .before .before .word .ensures) (c .before .before .before .before .before .a .given .1), read (c .before .before .tag .ensures) (c .enum-told2 .given .1)); ordered = tt }
+    record { answer = rw (told (c .before .before .before .before .before .before .before .word .ensures) (c .before .before .before .before .before .a .given .1), told (c .before .before .tag .ensures) (c .enum-told2 .given .1)); bounds = tt }
 
 whitespace-requires : tie.Need-whitespace-requires
-whitespace-requires c κs = inside (c .before .before .before .tag .ensures) (c .before .b .given .1)
+whitespace-requires c κs = bounded (c .before .before .before .tag .ensures) (c .before .b .given .1)
 
 returns-3 : tie.Need-returns-3
 unfolding skipNamespaceImport
 returns-3 c =
     record {
-      is =
+      answer =
           rw (
-            read (c .before .before .before .before .before .before .before .before .before .before .before .word .ensures) (c .before .before .before .before .before .before .before .before .before .a .given .1),
-            read (c .before .before .before .before .before .before .tag .ensures) (c .before .before .before .before .b .given .1),
-            read (c .before .before .whitespace .ensures) (c .enum-told3 .given .1),
+            told (c .before .before .before .before .before .before .before .before .before .before .before .word .ensures) (c .before .before .before .before .before .before .before .before .before .a .given .1),
+            told (c .before .before .before .before .before .before .tag .ensures) (c .before .before .before .before .b .given .1),
+            told (c .before .before .whitespace .ensures) (c .enum-told3 .given .1),
           );
-      ordered = tt;
+      bounds = tt;
     }
 
 skip-default-import-requires : tie.Need-skip-default-import-requires
-skip-default-import-requires c κs = inside (c .before .before .before .whitespace .ensures) (c .before .c .given .1)
+skip-default-import-requires c κs = bounded (c .before .before .before .whitespace .ensures) (c .before .c .given .1)
 
 returns-4 : tie.Need-returns-4
 unfolding skipNamespaceImport
 returns-4 c =
     record {
-      is =
+      answer =
           rw (
-            read (c .before .before .before .before .before .before .before .before .before .before .before .before .before .word .ensures) (c .before .before .before .before .before .before .before .before .before .before .before .a .given .1),
-            read (c .before .before .before .before .before .before .before .before .tag .ensures) (c .before .before .before .before .before .before .b .given .1),
-            read (c .before .before .before .before .whitespace .ensures) (c .before .before .c .given .1),
+            told (c .before .before .before .before .before .before .before .before .before .before .before .before .before .word .ensures) (c .before .before .before .before .before .before .before .before .before .before .before .a .given .1),
+            told (c .before .before .before .before .before .before .before .before .tag .ensures) (c .before .before .before .before .before .before .b .given .1),
+            told (c .before .before .before .before .whitespace .ensures) (c .before .before .c .given .1),
           )
-          (c .skip-default-import .ensures .is);
-      ordered = c .skip-default-import .ensures .ordered;
+          (c .skip-default-import .ensures .answer);
+      bounds = c .skip-default-import .ensures .bounds;
     }
 
 pub skip-namespace-import-spec : {M : Type 1} → statement M

@@ -1,27 +1,27 @@
 use borrow.Author.Needs.{needs}
+use Rattle.laws.proofs.Steps.{told, bounded}
 use Rattle.jsdoc.specs.Reader.{closeCall}
-use Rattle.jsdoc.proofs.Answered.{read, inside}
 use Rattle.jsdoc.proofs.dynamic_import.close_call.Statement.{statement}
 use Rattle.jsdoc.proofs.dynamic_import.close_call.Tie as tie
 
 returns : tie.Need-returns
 unfolding closeCall
-returns c = record { is = rw (read (c .before .before .tag .ensures) (c .enum-told .given .1)); ordered = tt }
+returns c = record { answer = rw (told (c .before .before .tag .ensures) (c .enum-told .given .1)); bounds = tt }
 
 up-to-requires : tie.Need-up-to-requires
-up-to-requires c κs = inside (c .before .before .before .tag .ensures) (c .before .run .given .1)
+up-to-requires c κs = bounded (c .before .before .before .tag .ensures) (c .before .run .given .1)
 
 returns-2 : tie.Need-returns-2
 unfolding closeCall
 returns-2 c =
-    record { is = rw (read (c .before .before .before .before .before .before .tag .ensures) (c .before .before .before .before .run .given .1), read (c .before .before .up-to .ensures) (c .enum-told2 .given .1)); ordered = tt }
+    record { answer = rw (told (c .before .before .before .before .before .before .tag .ensures) (c .before .before .before .before .run .given .1), told (c .before .before .up-to .ensures) (c .enum-told2 .given .1)); bounds = tt }
 
 returns-3 : tie.Need-returns-3
 unfolding closeCall
 returns-3 c =
     record {
-      is = rw (read (c .before .before .before .before .before .before .before .tag .ensures) (c .before .before .before .before .before .run .given .1), read (c .before .before .before .up-to .ensures) (c .before .past .given .1));
-      ordered = inside (c .before .before .before .up-to .ensures) (c .before .past .given .1);
+      answer = rw (told (c .before .before .before .before .before .before .before .tag .ensures) (c .before .before .before .before .before .run .given .1), told (c .before .before .before .up-to .ensures) (c .before .past .given .1));
+      bounds = bounded (c .before .before .before .up-to .ensures) (c .before .past .given .1);
     }
 
 pub close-call-spec : {M : Type 1} → statement M

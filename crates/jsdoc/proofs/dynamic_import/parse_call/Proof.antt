@@ -1,66 +1,66 @@
 use borrow.Author.Needs.{needs}
+use Rattle.laws.proofs.Steps.{told, bounded}
 use Rattle.jsdoc.specs.Reader.{parseCall}
-use Rattle.jsdoc.proofs.Answered.{read, inside}
 use Rattle.jsdoc.proofs.dynamic_import.parse_call.Statement.{statement}
 use Rattle.jsdoc.proofs.dynamic_import.parse_call.Tie as tie
 
 returns : tie.Need-returns
 unfolding parseCall
-returns c = record { is = rw (read (c .before .before .word .ensures) (c .enum-told .given .1)); ordered = tt }
+returns c = record { answer = rw (told (c .before .before .word .ensures) (c .enum-told .given .1)); bounds = tt }
 
 word-requires-2 : tie.Need-word-requires-2
-word-requires-2 c κs = inside (c .before .before .before .before .word .ensures) (c .before .before .paren .given .1)
+word-requires-2 c κs = bounded (c .before .before .before .before .word .ensures) (c .before .before .paren .given .1)
 
 returns-2 : tie.Need-returns-2
 unfolding parseCall
 returns-2 c =
-    record { is = rw (read (c .before .before .before .before .before .before .before .word .ensures) (c .before .before .before .before .before .paren .given .1), read (c .before .before .word2 .ensures) (c .enum-told2 .given .1)); ordered = tt }
+    record { answer = rw (told (c .before .before .before .before .before .before .before .word .ensures) (c .before .before .before .before .before .paren .given .1), told (c .before .before .word2 .ensures) (c .enum-told2 .given .1)); bounds = tt }
 
 quote-at-requires : tie.Need-quote-at-requires
-quote-at-requires c κs = inside (c .before .before .before .word2 .ensures) (c .before .start .given .1)
+quote-at-requires c κs = bounded (c .before .before .before .word2 .ensures) (c .before .start .given .1)
 
 returns-3 : tie.Need-returns-3
 unfolding parseCall
 returns-3 c =
     record {
-      is =
+      answer =
           rw (
-            read (c .before .before .before .before .before .before .before .before .before .before .before .word .ensures) (c .before .before .before .before .before .before .before .before .before .paren .given .1),
-            read (c .before .before .before .before .before .before .word2 .ensures) (c .before .before .before .before .start .given .1),
-            read (c .before .before .quote-at .ensures) (c .enum-told3 .given .1),
+            told (c .before .before .before .before .before .before .before .before .before .before .before .word .ensures) (c .before .before .before .before .before .before .before .before .before .paren .given .1),
+            told (c .before .before .before .before .before .before .word2 .ensures) (c .before .before .before .before .start .given .1),
+            told (c .before .before .quote-at .ensures) (c .enum-told3 .given .1),
           );
-      ordered = tt;
+      bounds = tt;
     }
 
 parse-tail-requires : tie.Need-parse-tail-requires
-parse-tail-requires c κs = inside (c .before .before .before .quote-at .ensures) (c .before .end .given .1) .2
+parse-tail-requires c κs = bounded (c .before .before .before .quote-at .ensures) (c .before .end .given .1) .2
 
 returns-4 : tie.Need-returns-4
 unfolding parseCall
 returns-4 c =
     record {
-      is =
+      answer =
           rw (
-            read (c .before .before .before .before .before .before .before .before .before .before .before .before .before .before .before .word .ensures) (c .before .before .before .before .before .before .before .before .before .before .before .before .before .paren .given .1),
-            read (c .before .before .before .before .before .before .before .before .before .before .word2 .ensures) (c .before .before .before .before .before .before .before .before .start .given .1),
-            read (c .before .before .before .before .before .before .quote-at .ensures) (c .before .before .before .before .end .given .1),
-            read (c .before .before .parse-tail .ensures) (c .enum-told4 .given .1),
+            told (c .before .before .before .before .before .before .before .before .before .before .before .before .before .before .before .word .ensures) (c .before .before .before .before .before .before .before .before .before .before .before .before .before .paren .given .1),
+            told (c .before .before .before .before .before .before .before .before .before .before .word2 .ensures) (c .before .before .before .before .before .before .before .before .start .given .1),
+            told (c .before .before .before .before .before .before .quote-at .ensures) (c .before .before .before .before .end .given .1),
+            told (c .before .before .parse-tail .ensures) (c .enum-told4 .given .1),
           );
-      ordered = tt;
+      bounds = tt;
     }
 
 returns-5 : tie.Need-returns-5
 unfolding parseCall
 returns-5 c =
     record {
-      is =
+      answer =
           rw (
-            read (c .before .before .before .before .before .before .before .before .before .before .before .before .before .before .before .before .word .ensures) (c .before .before .before .before .before .before .before .before .before .before .before .before .before .before .paren .given .1),
-            read (c .before .before .before .before .before .before .before .before .before .before .before .word2 .ensures) (c .before .before .before .before .before .before .before .before .before .start .given .1),
-            read (c .before .before .before .before .before .before .before .quote-at .ensures) (c .before .before .before .before .before .end .given .1),
-            read (c .before .before .before .parse-tail .ensures) (c .before .mode .given .1),
+            told (c .before .before .before .before .before .before .before .before .before .before .before .before .before .before .before .before .word .ensures) (c .before .before .before .before .before .before .before .before .before .before .before .before .before .before .paren .given .1),
+            told (c .before .before .before .before .before .before .before .before .before .before .before .word2 .ensures) (c .before .before .before .before .before .before .before .before .before .start .given .1),
+            told (c .before .before .before .before .before .before .before .quote-at .ensures) (c .before .before .before .before .before .end .given .1),
+            told (c .before .before .before .parse-tail .ensures) (c .before .mode .given .1),
           );
-      ordered = inside (c .before .before .before .before .before .before .before .quote-at .ensures) (c .before .before .before .before .before .end .given .1) .2;
+      bounds = bounded (c .before .before .before .before .before .before .before .quote-at .ensures) (c .before .before .before .before .before .end .given .1) .2;
     }
 
 pub parse-call-spec : {M : Type 1} → statement M

@@ -2,9 +2,8 @@ use borrow.Author.Needs.{needs}
 use mathlib.Core.Path.{_≡_, refl, _∙_}
 use Prim.Native.Nat.{_≤_, _-_}
 use lib.ListN.{length, drop}
-use Rattle.laws.proofs.Steps.{known}
+use Rattle.laws.proofs.Steps.{known, told, bounded}
 use Rattle.jsdoc.specs.Reader.{seek}
-use Rattle.jsdoc.proofs.Answered.{read, inside}
 use Rattle.jsdoc.proofs.Searches.{search-ended, search-closed, search-found, search-further, no-brace, no-import, call-read}
 use Rattle.jsdoc.proofs.dynamic_import.parse_jsdoc_dynamic_import.Statement.{statement}
 use Rattle.jsdoc.proofs.dynamic_import.parse_jsdoc_dynamic_import.Tie as tie
@@ -16,20 +15,20 @@ abbrev μ-scan : tie.MeasureT-scan
 μ-scan rest first i₀ t6 i = length rest - i
 
 returns : tie.Need-returns Inv-scan μ-scan
-returns c = no-brace _ (read (c .before .before .tag .ensures) (c .enum-told .given .1))
+returns c = no-brace _ (told (c .before .before .tag .ensures) (c .enum-told .given .1))
 
 scan-holds : tie.Need-scan-holds Inv-scan μ-scan
-scan-holds c = (inside (c .before .before .before .tag .ensures) (c .before .first .given .1), refl)
+scan-holds c = (bounded (c .before .before .before .tag .ensures) (c .before .first .given .1), refl)
 
 returns-2 : tie.Need-returns-2 Inv-scan μ-scan
 returns-2 c =
     let (e, b) = search-ended _ (c .before .scan .i) (c .if1 .taken) in
-    no-import _ (c .before .scan .i) (read (c .before .before .before .before .before .tag .ensures) (c .before .before .before .first .given .1)) (c .before .scan .inv .1 ∙ e) (c .before .scan .inv .0) b
+    no-import _ (c .before .scan .i) (told (c .before .before .before .before .before .tag .ensures) (c .before .before .before .first .given .1)) (c .before .scan .inv .1 ∙ e) (c .before .scan .inv .0) b
 
 returns-3 : tie.Need-returns-3 Inv-scan μ-scan
 returns-3 c =
     let (e, b) = search-closed _ (c .before .before .before .scan .i) (c .before .before .if1 .left) (c .if2 .taken) in
-    no-import _ (c .before .before .before .scan .i) (read (c .before .before .before .before .before .before .before .tag .ensures) (c .before .before .before .before .before .first .given .1)) (c .before .before .before .scan .inv .1 ∙ e) (c .before .before .before .scan .inv .0) b
+    no-import _ (c .before .before .before .scan .i) (told (c .before .before .before .before .before .before .before .tag .ensures) (c .before .before .before .before .before .first .given .1)) (c .before .before .before .scan .inv .1 ∙ e) (c .before .before .before .scan .inv .0) b
 
 scan-again : tie.Need-scan-again Inv-scan μ-scan
 scan-again c = (
@@ -39,7 +38,7 @@ scan-again c = (
 
 returns-4 : tie.Need-returns-4 Inv-scan μ-scan
 returns-4 c =
-    call-read _ (c .before .before .before .before .before .before .before .scan .i) (read (c .before .before .before .before .before .before .before .before .before .before .before .tag .ensures) (c .before .before .before .before .before .before .before .before .before .first .given .1))
+    call-read _ (c .before .before .before .before .before .before .before .scan .i) (told (c .before .before .before .before .before .before .before .before .before .before .before .tag .ensures) (c .before .before .before .before .before .before .before .before .before .first .given .1))
     (c .before .before .before .before .before .before .before .scan .inv .1 ∙ search-found _ (c .before .before .before .before .before .before .before .scan .i) (c .before .before .before .before .before .before .if1 .left) (c .before .before .before .before .if2 .left) (known (c .before .before .starts-with .ensures) (c .before .if3 .taken)))
     (c .before .before .before .before .before .before .before .scan .inv .0) (c .parse-call .ensures)
 

@@ -1,52 +1,52 @@
 use borrow.Author.Needs.{needs}
+use Rattle.laws.proofs.Steps.{told, bounded}
 use Rattle.jsdoc.specs.Reader.{secondParamStart}
-use Rattle.jsdoc.proofs.Answered.{read, inside}
 use Rattle.jsdoc.proofs.dynamic_import.second_param_start.Statement.{statement}
 use Rattle.jsdoc.proofs.dynamic_import.second_param_start.Tie as tie
 
 returns : tie.Need-returns
 unfolding secondParamStart
-returns c = record { is = rw (read (c .before .before .word .ensures) (c .enum-told .given .1)); ordered = tt }
+returns c = record { answer = rw (told (c .before .before .word .ensures) (c .enum-told .given .1)); bounds = tt }
 
 word-requires-2 : tie.Need-word-requires-2
-word-requires-2 c κs = inside (c .before .before .before .before .word .ensures) (c .before .before .brace .given .1)
+word-requires-2 c κs = bounded (c .before .before .before .before .word .ensures) (c .before .before .brace .given .1)
 
 returns-2 : tie.Need-returns-2
 unfolding secondParamStart
 returns-2 c =
-    record { is = rw (read (c .before .before .before .before .before .before .before .word .ensures) (c .before .before .before .before .before .brace .given .1), read (c .before .before .word2 .ensures) (c .enum-told2 .given .1)); ordered = tt }
+    record { answer = rw (told (c .before .before .before .before .before .before .before .word .ensures) (c .before .before .before .before .before .brace .given .1), told (c .before .before .word2 .ensures) (c .enum-told2 .given .1)); bounds = tt }
 
 word-requires-3 : tie.Need-word-requires-3
-word-requires-3 c κs = inside (c .before .before .before .before .word2 .ensures) (c .before .before .with .given .1)
+word-requires-3 c κs = bounded (c .before .before .before .before .word2 .ensures) (c .before .before .with .given .1)
 
 returns-3 : tie.Need-returns-3
 unfolding secondParamStart
 returns-3 c =
     record {
-      is =
+      answer =
           rw (
-            read (c .before .before .before .before .before .before .before .before .before .before .before .before .word .ensures) (c .before .before .before .before .before .before .before .before .before .before .brace .given .1),
-            read (c .before .before .before .before .before .before .before .word2 .ensures) (c .before .before .before .before .before .with .given .1),
-            read (c .before .before .word3 .ensures) (c .enum-told3 .given .1),
+            told (c .before .before .before .before .before .before .before .before .before .before .before .before .word .ensures) (c .before .before .before .before .before .before .before .before .before .before .brace .given .1),
+            told (c .before .before .before .before .before .before .before .word2 .ensures) (c .before .before .before .before .before .with .given .1),
+            told (c .before .before .word3 .ensures) (c .enum-told3 .given .1),
           );
-      ordered = tt;
+      bounds = tt;
     }
 
 word-requires-4 : tie.Need-word-requires-4
-word-requires-4 c κs = inside (c .before .before .before .before .word3 .ensures) (c .before .before .colon .given .1)
+word-requires-4 c κs = bounded (c .before .before .before .before .word3 .ensures) (c .before .before .colon .given .1)
 
 returns-4 : tie.Need-returns-4
 unfolding secondParamStart
 returns-4 c =
     record {
-      is =
+      answer =
           rw (
-            read (c .before .before .before .before .before .before .before .before .before .before .before .before .before .before .before .word .ensures) (c .before .before .before .before .before .before .before .before .before .before .before .before .before .brace .given .1),
-            read (c .before .before .before .before .before .before .before .before .before .before .word2 .ensures) (c .before .before .before .before .before .before .before .before .with .given .1),
-            read (c .before .before .before .before .before .word3 .ensures) (c .before .before .before .colon .given .1),
+            told (c .before .before .before .before .before .before .before .before .before .before .before .before .before .before .before .word .ensures) (c .before .before .before .before .before .before .before .before .before .before .before .before .before .brace .given .1),
+            told (c .before .before .before .before .before .before .before .before .before .before .word2 .ensures) (c .before .before .before .before .before .before .before .before .with .given .1),
+            told (c .before .before .before .before .before .word3 .ensures) (c .before .before .before .colon .given .1),
           )
-          (c .word4 .ensures .is);
-      ordered = c .word4 .ensures .ordered;
+          (c .word4 .ensures .answer);
+      bounds = c .word4 .ensures .bounds;
     }
 
 pub second-param-start-spec : {M : Type 1} → statement M

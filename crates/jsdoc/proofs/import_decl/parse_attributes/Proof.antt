@@ -1,22 +1,31 @@
 use borrow.Author.Needs.{needs}
+use Rattle.laws.proofs.Steps.{told, bounded}
 use Rattle.jsdoc.specs.Reader.{parseAttributes}
-use Rattle.jsdoc.proofs.Answered.{read, inside}
 use Rattle.jsdoc.proofs.import_decl.parse_attributes.Statement.{statement}
 use Rattle.jsdoc.proofs.import_decl.parse_attributes.Tie as tie
 
 returns : tie.Need-returns
 unfolding parseAttributes
-returns c = record { is = rw (← c .before .before .before .before .skip-whitespace .ensures .0, read (c .before .before .word .ensures) (c .enum-told .given .1)); ordered = tt }
+returns c = record {
+  answer = rw (
+    ← c .before .before .before .before .skip-whitespace .ensures .answer,
+    told (c .before .before .word .ensures) (c .enum-told .given .1),
+  );
+  bounds = tt;
+}
 
 block-at-requires : tie.Need-block-at-requires
-block-at-requires c κs = inside (c .before .before .before .word .ensures) (c .before .b .given .1)
+block-at-requires c κs = bounded (c .before .before .before .word .ensures) (c .before .b .given .1)
 
 returns-2 : tie.Need-returns-2
 unfolding parseAttributes
 returns-2 c =
     record {
-      is = rw (← c .before .before .before .before .before .before .skip-whitespace .ensures .0, read (c .before .before .before .before .word .ensures) (c .before .before .b .given .1)) (c .block-at .ensures .is);
-      ordered = c .block-at .ensures .ordered;
+      answer = rw (
+        ← c .before .before .before .before .before .before .skip-whitespace .ensures .answer,
+        told (c .before .before .before .before .word .ensures) (c .before .before .b .given .1),
+      ) (c .block-at .ensures .answer);
+      bounds = c .block-at .ensures .bounds;
     }
 
 pub parse-attributes-spec : {M : Type 1} → statement M

@@ -1,52 +1,52 @@
 use borrow.Author.Needs.{needs}
+use Rattle.laws.proofs.Steps.{told, bounded}
 use Rattle.jsdoc.specs.Reader.{parseJsdocImportDecl}
-use Rattle.jsdoc.proofs.Answered.{read, inside}
 use Rattle.jsdoc.proofs.import_decl.parse_jsdoc_import_decl.Statement.{statement}
 use Rattle.jsdoc.proofs.import_decl.parse_jsdoc_import_decl.Tie as tie
 
 returns : tie.Need-returns
 unfolding parseJsdocImportDecl
-returns c = record { is = rw (read (c .before .before .tag .ensures) (c .enum-told .given .1)); ordered = tt }
+returns c = record { answer = rw (told (c .before .before .tag .ensures) (c .enum-told .given .1)); bounds = tt }
 
 whitespace-requires : tie.Need-whitespace-requires
-whitespace-requires c κs = inside (c .before .before .before .tag .ensures) (c .before .a .given .1)
+whitespace-requires c κs = bounded (c .before .before .before .tag .ensures) (c .before .a .given .1)
 
 returns-2 : tie.Need-returns-2
 unfolding parseJsdocImportDecl
 returns-2 c =
-    record { is = rw (read (c .before .before .before .before .before .before .tag .ensures) (c .before .before .before .before .a .given .1), read (c .before .before .whitespace .ensures) (c .enum-told2 .given .1)); ordered = tt }
+    record { answer = rw (told (c .before .before .before .before .before .before .tag .ensures) (c .before .before .before .before .a .given .1), told (c .before .before .whitespace .ensures) (c .enum-told2 .given .1)); bounds = tt }
 
 skip-clause-requires : tie.Need-skip-clause-requires
-skip-clause-requires c κs = inside (c .before .before .before .whitespace .ensures) (c .before .b .given .1)
+skip-clause-requires c κs = bounded (c .before .before .before .whitespace .ensures) (c .before .b .given .1)
 
 returns-3 : tie.Need-returns-3
 unfolding parseJsdocImportDecl
 returns-3 c =
     record {
-      is =
+      answer =
           rw (
-            read (c .before .before .before .before .before .before .before .before .before .before .tag .ensures) (c .before .before .before .before .before .before .before .before .a .given .1),
-            read (c .before .before .before .before .before .before .whitespace .ensures) (c .before .before .before .before .b .given .1),
-            read (c .before .before .skip-clause .ensures) (c .enum-told3 .given .1),
+            told (c .before .before .before .before .before .before .before .before .before .before .tag .ensures) (c .before .before .before .before .before .before .before .before .a .given .1),
+            told (c .before .before .before .before .before .before .whitespace .ensures) (c .before .before .before .before .b .given .1),
+            told (c .before .before .skip-clause .ensures) (c .enum-told3 .given .1),
           );
-      ordered = tt;
+      bounds = tt;
     }
 
 parse-from-requires : tie.Need-parse-from-requires
-parse-from-requires c κs = inside (c .before .before .before .skip-clause .ensures) (c .before .c .given .1)
+parse-from-requires c κs = bounded (c .before .before .before .skip-clause .ensures) (c .before .c .given .1)
 
 returns-4 : tie.Need-returns-4
 unfolding parseJsdocImportDecl
 returns-4 c =
     record {
-      is =
+      answer =
           rw (
-            read (c .before .before .before .before .before .before .before .before .before .before .before .before .tag .ensures) (c .before .before .before .before .before .before .before .before .before .before .a .given .1),
-            read (c .before .before .before .before .before .before .before .before .whitespace .ensures) (c .before .before .before .before .before .before .b .given .1),
-            read (c .before .before .before .before .skip-clause .ensures) (c .before .before .c .given .1),
+            told (c .before .before .before .before .before .before .before .before .before .before .before .before .tag .ensures) (c .before .before .before .before .before .before .before .before .before .before .a .given .1),
+            told (c .before .before .before .before .before .before .before .before .whitespace .ensures) (c .before .before .before .before .before .before .b .given .1),
+            told (c .before .before .before .before .skip-clause .ensures) (c .before .before .c .given .1),
           )
-          (c .parse-from .ensures .is);
-      ordered = c .parse-from .ensures .ordered;
+          (c .parse-from .ensures .answer);
+      bounds = c .parse-from .ensures .bounds;
     }
 
 pub parse-jsdoc-import-decl-spec : {M : Type 1} → statement M

@@ -33,10 +33,10 @@ loop-again c =
     let b = now (c .before .before .before .before .before .before .before .before .before .before .before .args .body) in
     let l = c .before .before .before .before .before .before .before .before .loop in
     let n = c .before .before .before .before .before .before .before .loop-test .taken in
-    let f = c .next-of .ensures in (
-      f .1,
+    let f = c .next-of .ensures .passed in (
+      f .to,
       rw (c .before .before .before .note .ensures)
-          (declarations-noted-to b (l .i + 1) (c .next-of .result) (f .0) (f .1) (f .2)
+          (declarations-noted-to b (l .i + 1) (c .next-of .result) (f .from) (f .to) (f .each)
           (declaration-noted b (l .i) (l .inv .1) n _ (rw (part-to-end b (l .i)) at (c .before .before .before .before .parse-jsdoc-import-decl .ensures)))),
     )
 
@@ -57,7 +57,7 @@ note-declarations-spec =
     note-requires
     (λ c. search needs)
     (λ c κs. search needs)
-    (λ c. omega (arith, c .next-of .ensures .0, c .next-of .ensures .1))
+    (λ c. omega (arith, c .next-of .ensures .passed .from, c .next-of .ensures .passed .to))
     loop-again
     (λ c. search needs)
     returns)

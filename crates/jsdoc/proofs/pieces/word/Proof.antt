@@ -1,19 +1,19 @@
 use borrow.Author.Needs.{needs}
+use Rattle.laws.proofs.Steps.{told, bounded}
 use Rattle.jsdoc.specs.Reader.{word}
-use Rattle.jsdoc.proofs.Answered.{read, inside}
 use Rattle.jsdoc.proofs.pieces.word.Statement.{statement}
 use Rattle.jsdoc.proofs.pieces.word.Tie as tie
 
 returns : tie.Need-returns
 unfolding word
-returns c = record { is = rw (read (c .before .before .tag .ensures) (c .enum-told .given .1)); ordered = tt }
+returns c = record { answer = rw (told (c .before .before .tag .ensures) (c .enum-told .given .1)); bounds = tt }
 
 skip-whitespace-requires : tie.Need-skip-whitespace-requires
-skip-whitespace-requires c κs = inside (c .before .before .before .tag .ensures) (c .before .past .given .1)
+skip-whitespace-requires c κs = bounded (c .before .before .before .tag .ensures) (c .before .past .given .1)
 
 returns-2 : tie.Need-returns-2
 unfolding word
-returns-2 c = record { is = rw (read (c .before .before .before .before .tag .ensures) (c .before .before .past .given .1)) (c .skip-whitespace .ensures .0); ordered = c .skip-whitespace .ensures .1 }
+returns-2 c = record { answer = rw (told (c .before .before .before .before .tag .ensures) (c .before .before .past .given .1)) (c .skip-whitespace .ensures .answer); bounds = c .skip-whitespace .ensures .bounds }
 
 pub word-spec : {M : Type 1} → statement M
 word-spec =

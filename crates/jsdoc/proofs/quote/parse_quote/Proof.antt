@@ -1,7 +1,6 @@
 use borrow.Author.Needs.{needs}
 use native.Mathlib.Omega.{arith}
-use Rattle.laws.proofs.Steps.{known}
-use Rattle.jsdoc.proofs.Answered.{read, inside}
+use Rattle.laws.proofs.Steps.{known, told, bounded}
 use Rattle.jsdoc.proofs.Steps.{quote-empty, quote-unmarked, quote-open, quote-long, quote-closed}
 use Rattle.jsdoc.proofs.quote.parse_quote.Statement.{statement}
 use Rattle.jsdoc.proofs.quote.parse_quote.Tie as tie
@@ -10,20 +9,20 @@ returns : tie.Need-returns
 returns c = quote-empty _ (c .if1 .taken)
 
 returns-2 : tie.Need-returns-2
-returns-2 c = quote-open _ (c .before .before .before .before .before .before .if1 .left) (known (c .before .before .before .before .is-mark .ensures) (c .before .before .before .if2 .taken)) (read (c .before .before .up-to .ensures) (c .enum-told .given .1))
+returns-2 c = quote-open _ (c .before .before .before .before .before .before .if1 .left) (known (c .before .before .before .before .is-mark .ensures) (c .before .before .before .if2 .taken)) (told (c .before .before .up-to .ensures) (c .enum-told .given .1))
 
 sub-t10 : tie.Need-sub-t10
 sub-t10 c =
     omega (
       arith,
-      quote-long _ (c .before .before .before .before .before .before .before .if1 .left) (known (c .before .before .before .before .before .is-mark .ensures) (c .before .before .before .before .if2 .taken)) (read (c .before .before .before .up-to .ensures) (c .before .past .given .1))
-          (inside (c .before .before .before .up-to .ensures) (c .before .past .given .1)),
+      quote-long _ (c .before .before .before .before .before .before .before .if1 .left) (known (c .before .before .before .before .before .is-mark .ensures) (c .before .before .before .before .if2 .taken)) (told (c .before .before .before .up-to .ensures) (c .before .past .given .1))
+          (bounded (c .before .before .before .up-to .ensures) (c .before .past .given .1)),
     )
 
 returns-3 : tie.Need-returns-3
 returns-3 c =
-    quote-closed _ (c .before .before .before .before .before .before .before .if1 .left) (known (c .before .before .before .before .before .is-mark .ensures) (c .before .before .before .before .if2 .taken)) (read (c .before .before .before .up-to .ensures) (c .before .past .given .1))
-    (inside (c .before .before .before .up-to .ensures) (c .before .past .given .1))
+    quote-closed _ (c .before .before .before .before .before .before .before .if1 .left) (known (c .before .before .before .before .before .is-mark .ensures) (c .before .before .before .before .if2 .taken)) (told (c .before .before .before .up-to .ensures) (c .before .past .given .1))
+    (bounded (c .before .before .before .up-to .ensures) (c .before .past .given .1))
 
 returns-4 : tie.Need-returns-4
 returns-4 c = quote-unmarked _ (c .before .before .before .if1 .left) (known (c .before .is-mark .ensures) (c .if2 .left))

@@ -21,17 +21,26 @@ returns c =
     let start = c .before .before .before .before .before .before .before .before .before .before .before .before .before .before .before .before .before .before .before .before .before .before in
     let held = start .pre .0 in
     let media : isJavaScript (start .args .media) ≡ true = known (c .before .before .before .before .before .before .before .before .before .before .before .before .before .before .before .before .is-javascript .ensures) (c .before .before .before .before .before .before .before .before .before .before .before .before .before .before .before .if1 .taken) in
-    let marks = c .before .before .before .before .before .before .before .before .before .before .before .before .before .mark-comments .ensures in (
-      rw (encode-all _ _ (start .args .media) (held .fit) (held .utf8) media, wrote-append, ← marks, ← c .before .before .before .before .before .before .before .before .count-marks .ensures, ← c .before .before .before .before .before .before .before .put-number .ensures)
-          (c .before .before .put-imports .ensures),
-      rw media marks,
-    )
+    let marks = c .before .before .before .before .before .before .before .before .before .before .before .before .before .mark-comments .ensures in record {
+      answer = rw (
+        encode-all _ _ (start .args .media) (held .fit) (held .utf8) media,
+        wrote-append,
+        ← marks,
+        ← c .before .before .before .before .before .before .before .before .count-marks .ensures,
+        ← c .before .before .before .before .before .before .before .put-number .ensures,
+      )
+          (c .before .before .put-imports .ensures);
+      beside = rw media marks;
+    }
 
 returns-2 : tie.Need-returns-2
 returns-2 c =
     let start = c .before .before .before .before .before .before .before .before .before .before .before in
     let media : isJavaScript (start .args .media) ≡ false = known (c .before .before .before .before .before .is-javascript .ensures) (c .before .before .before .before .if1 .left) in
-    (rw (encode-none _ _ (start .args .media) media) (c .before .before .put-number2 .ensures), rw media (start .pre .1))
+    record {
+      answer = rw (encode-none _ _ (start .args .media) media) (c .before .before .put-number2 .ensures);
+      beside = rw media (start .pre .1);
+    }
 
 pub analyze-jsdoc-imports-spec : {M : Type 1} → statement M
 analyze-jsdoc-imports-spec =

@@ -21,7 +21,7 @@ loop-again c =
     let marks = now (c .before .before .before .before .before .before .args .marks) in
     let f = c .next-nonzero .ensures in
     let n = c .before .before .before .loop-test .taken in
-    (omega (arith, l .inv, f .0), f .1, omega (arith, l .inv .2, count-next marks (l .q) n (c .before .if1 .taken), count-skip marks (l .q + 1) (c .next-nonzero .result) (f .0) (f .1) (f .2)))
+    (omega (arith, l .inv, f .from), f .to, omega (arith, l .inv .2, count-next marks (l .q) n (c .before .if1 .taken), count-skip marks (l .q + 1) (c .next-nonzero .result) (f .from) (f .to) (f .each)))
 
 loop-again-2 : tie.Need-loop-again-2 Inv-loop μ-loop
 loop-again-2 c =
@@ -42,7 +42,7 @@ count-marks-spec =
     (λ c. search needs)
     (λ c. search needs)
     (λ c κs. search needs)
-    (λ c. omega (arith, c .next-nonzero .ensures .0, c .next-nonzero .ensures .1))
+    (λ c. omega (arith, c .next-nonzero .ensures .from, c .next-nonzero .ensures .to))
     loop-again
     (λ c. search needs)
     (λ c. search needs)

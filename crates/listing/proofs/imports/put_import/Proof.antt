@@ -2,7 +2,7 @@ use borrow.Author.Needs.{needs}
 use mathlib.Core.Path.{sym}
 use native.Mathlib.Omega.{arith}
 use denote.Ref.{now}
-use Rattle.jsdoc.proofs.Answered.{read, inside}
+use Rattle.laws.proofs.Steps.{told, bounded}
 use Rattle.report.proofs.Buffers.{wrote-append, wrote-cons, wrote-nil}
 use Rattle.listing.specs.Imports.{importAt}
 use Rattle.listing.proofs.Turns.{encode-import}
@@ -11,20 +11,20 @@ use Rattle.listing.proofs.imports.put_import.Tie as tie
 
 returns : tie.Need-returns
 unfolding importAt
-returns c = rw (read (c .before .before .quote-at .ensures) (c .enum-told .given .1)) (sym (wrote-nil (now (c .before .before .before .before .before .before .args .out)) (c .before .before .before .before .before .before .args .place)))
+returns c = rw (told (c .before .before .quote-at .ensures) (c .enum-told .given .1)) (sym (wrote-nil (now (c .before .before .before .before .before .before .args .out)) (c .before .before .before .before .before .before .args .place)))
 
 sub-put-specifier : tie.Need-sub-put-specifier
-sub-put-specifier c = omega (arith, inside (c .before .before .before .before .before .before .before .before .quote-at .ensures) (c .before .before .before .before .before .before .from .given .1))
+sub-put-specifier c = omega (arith, bounded (c .before .before .before .before .before .before .before .before .quote-at .ensures) (c .before .before .before .before .before .before .from .given .1))
 
 part-put-specifier-start : tie.Need-part-put-specifier-start
-part-put-specifier-start c = omega (arith, inside (c .before .before .before .before .before .before .before .before .quote-at .ensures) (c .before .before .before .before .before .before .from .given .1))
+part-put-specifier-start c = omega (arith, bounded (c .before .before .before .before .before .before .before .before .quote-at .ensures) (c .before .before .before .before .before .before .from .given .1))
 
 part-put-specifier-end : tie.Need-part-put-specifier-end
-part-put-specifier-end c = omega (arith, inside (c .before .before .before .before .before .before .before .before .quote-at .ensures) (c .before .before .before .before .before .before .from .given .1))
+part-put-specifier-end c = omega (arith, bounded (c .before .before .before .before .before .before .before .before .quote-at .ensures) (c .before .before .before .before .before .before .from .given .1))
 
 put-specifier-requires : tie.Need-put-specifier-requires
 put-specifier-requires c κs =
-    let within = inside (c .before .before .before .before .before .before .before .before .before .quote-at .ensures) (c .before .before .before .before .before .before .before .from .given .1) in
+    let within = bounded (c .before .before .before .before .before .before .before .before .before .quote-at .ensures) (c .before .before .before .before .before .before .before .from .given .1) in
     (c .before .before .before .before .before .before .before .before .before .before .before .before .before .pre .0, record { start = omega (arith, within); end = omega (arith, within) })
 
 returns-2 : tie.Need-returns-2
@@ -32,7 +32,7 @@ returns-2 c =
     let text = c .before .before .before .before .before .before .before .before .before .before .before .before .before .before .before .before .quote-at .ensures in
     let found = c .before .before .before .before .before .before .before .before .before .before .before .before .before .before .from .given .0 in
     let part = c .before .before .before .before .before .before .before .before .before .before .before .before .before .before .from .given .1 in
-    rw (encode-import _ _ _ (found .0) (found .1 .0) (found .1 .1 .0) (c .before .before .before .before .before .before .before .before .before .before .before .before .before .before .before .before .before .before .before .before .pre .1 .1) (read text part) (inside text part .2), wrote-cons, wrote-append, ← c .before .before .before .before .before .before .before .before .before .before .before .put .ensures, ← c .before .before .before .before .before .before .put-specifier .ensures) (c .before .before .put2 .ensures)
+    rw (encode-import _ _ _ (found .0) (found .1 .0) (found .1 .1 .0) (c .before .before .before .before .before .before .before .before .before .before .before .before .before .before .before .before .before .before .before .before .pre .1 .1) (told text part) (bounded text part .2), wrote-cons, wrote-append, ← c .before .before .before .before .before .before .before .before .before .before .before .put .ensures, ← c .before .before .before .before .before .before .put-specifier .ensures) (c .before .before .put2 .ensures)
 
 pub put-import-spec : {M : Type 1} → statement M
 put-import-spec =

@@ -26,7 +26,7 @@ loop-again c =
     let f = c .next-nonzero .ensures in (
       l .inv .0,
       l .inv .1
-          ∙ rw (unmarked-next _ _ (l .q) (c .before .before .before .loop-test .taken) (c .before .if1 .taken), unmarked-skip _ (l .q + 1) (c .next-nonzero .result) (f .0) (f .1) (f .2) _),
+          ∙ rw (unmarked-next _ _ (l .q) (c .before .before .before .loop-test .taken) (c .before .if1 .taken), unmarked-skip _ (l .q + 1) (c .next-nonzero .result) (f .from) (f .to) (f .each) _),
     )
 
 put-import-requires : tie.Need-put-import-requires Inv-loop μ-loop
@@ -57,7 +57,7 @@ put-imports-spec =
     (λ c. search needs)
     (λ c. search needs)
     (λ c κs. search needs)
-    (λ c. omega (arith, c .next-nonzero .ensures .0, c .next-nonzero .ensures .1))
+    (λ c. omega (arith, c .next-nonzero .ensures .from, c .next-nonzero .ensures .to))
     loop-again
     (λ c. search needs)
     put-import-requires

@@ -27,7 +27,7 @@ returns : tie.Need-returns
 returns c =
     let start = c .before .before .before .before .before .before .before in
     let index = c .before .before .build-index in
-    indexed-in (now (start .args .tables)) (start .pre .0) (start .pre .1) (index .last .1 .0) (index .kept .1 .0) (index .ensures .0)
+    indexed-in (now (start .args .tables)) (start .pre .0) (start .pre .1) (index .last .1 .0) (index .kept .1 .0) (index .ensures .answer)
 
 pub index-source-spec : {M : Type 1} → statement M
 index-source-spec =

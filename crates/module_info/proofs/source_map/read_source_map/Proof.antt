@@ -24,14 +24,17 @@ locate-requires : tie.Need-locate-requires
 locate-requires c κs =
     let start = c .before .before .before .before .before .before .before .before in
     let (order, inside) = start .pre .accepts .places in
-    ((start .pre .indexed, c .find-reading .ensures .1), omega (arith, part-length (now (start .args .sheet)) (start .args .parts .«source_start») (start .args .parts .«source_end») order inside))
+    ((start .pre .indexed, c .find-reading .ensures .bounds), omega (arith, part-length (now (start .args .sheet)) (start .args .parts .«source_start») (start .args .parts .«source_end») order inside))
 
 returns : tie.Need-returns
 returns c =
     let start = c .before .before .before .before .before .before .before .before .before in
     let a = start .pre .accepts in
-    let l = located-as (now (start .args .sheet)) (start .args .parts .«source_start») (start .args .parts .«source_end») (a .places .0) (a .places .1) (c .before .find-reading .result) (c .before .find-reading .ensures .1) in
-    (λ t e. rw (c .locate .ensures) (l .0 ∙ ap given (map-read (parts-of a e) (c .before .find-reading .result) (c .before .before .end-group .ensures) (c .before .find-reading .ensures .0))), rw (c .locate .ensures) (l .1))
+    let l = located-as (now (start .args .sheet)) (start .args .parts .«source_start») (start .args .parts .«source_end») (a .places .0) (a .places .1) (c .before .find-reading .result) (c .before .find-reading .ensures .bounds) in
+    record {
+      answer = λ t e. rw (c .locate .ensures) (l .0 ∙ ap given (map-read (parts-of a e) (c .before .find-reading .result) (c .before .before .end-group .ensures) (c .before .find-reading .ensures .answer)));
+      bounds = rw (c .locate .ensures) (l .1);
+    }
 
 pub read-source-map-spec : {M : Type 1} → statement M
 read-source-map-spec =

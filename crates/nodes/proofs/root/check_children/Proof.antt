@@ -6,10 +6,9 @@ use native.Mathlib.Omega.{arith}
 use lib.ListN.{length, drop}
 use denote.Ref.{now}
 use Rattle.laws.proofs.Decoding.{refused, onOk-no}
-use Rattle.laws.proofs.Steps.{seen}
+use Rattle.laws.proofs.Steps.{told, bounded}
 use Rattle.sheet.specs.Nodes.{node, nodes}
 use Rattle.nodes.specs.code.Judged.{tallyAll}
-use Rattle.nodes.specs.code.Answers.{checkedAs}
 use Rattle.nodes.proofs.Loops.{nodesFrom, nodes-all, nodes-step, nodes-stop, nodes-end}
 use Rattle.nodes.proofs.Reach.{Reached, reached-first, reached-step, reached-end}
 use Rattle.nodes.proofs.root.check_children.Statement.{statement}
@@ -38,13 +37,13 @@ returns c =
     let inner = node (now (a .source)) (a .levels) in
     let u = drop (a .c .at) s in
     let l = c .before .before .before .before .before .loop in
-    let stop = seen (checkedAs s) (c .before .before .before .check-node .ensures .0) (c .before .r .given .1) in
+    let stop = told (c .before .before .before .check-node .ensures) (c .before .r .given .1) in
     let none-read = sym (nodes-all inner (a .count) u) ∙ l .inv .2 ∙ nodes-stop inner (l .total) (l .left) (drop (l .at .at) s) (c .before .before .before .before .loop-test .taken) stop in
-    (sym none-read, (tt, λ ns t e. absurd (refused (sym (onOk-no tallyAll (nodes inner (a .count) u) none-read) ∙ e))))
+    record { answer = sym none-read; bounds = tt; reach = λ ns t e. absurd (refused (sym (onOk-no tallyAll (nodes inner (a .count) u) none-read) ∙ e)) }
 
 add-requires : tie.Need-add-requires Inv-loop μ-loop
 add-requires c κs =
-    let past = rw (c .before .j .given .1) at (c .before .before .before .check-node .ensures .1) in
+    let past = bounded (c .before .before .before .check-node .ensures) (c .before .j .given .1) in
     omega arith
 
 loop-again : tie.Need-loop-again Inv-loop μ-loop
@@ -55,8 +54,8 @@ loop-again c =
     let l = c .before .before .before .before .before .before .before .loop in
     let v = drop (l .at .at) s in
     let more = c .before .before .before .before .before .before .loop-test .taken in
-    let past = rw (c .before .before .before .j .given .1) at (c .before .before .before .before .before .check-node .ensures .1) in
-    let step = seen (checkedAs s) (c .before .before .before .before .before .check-node .ensures .0) (c .before .before .before .j .given .1) in
+    let past = bounded (c .before .before .before .before .before .check-node .ensures) (c .before .before .before .j .given .1) in
+    let step = told (c .before .before .before .before .before .check-node .ensures) (c .before .before .before .j .given .1) in
     rw (c .further .ensures, c .before .add .ensures)
     (omega arith, past .1, l .inv .2 ∙ nodes-step inner (l .total) (l .left) v more step, omega arith, reached-step inner (a .count) (drop (a .c .at) s) (l .left) (l .reach) v (l .inv .4) more (l .inv .3) step)
 
@@ -68,7 +67,11 @@ returns-2 c =
     let u = drop (a .c .at) s in
     let l = c .before .loop in
     let v = drop (l .at .at) s in
-    (sym (sym (nodes-all inner (a .count) u) ∙ l .inv .2 ∙ nodes-end inner (l .total) (l .left) v (c .loop-test .left)), ((l .inv .1, l .inv .0), reached-end inner (a .count) u (l .left) (l .reach) v (l .inv .4) (c .loop-test .left)))
+    record {
+      answer = sym (sym (nodes-all inner (a .count) u) ∙ l .inv .2 ∙ nodes-end inner (l .total) (l .left) v (c .loop-test .left));
+      bounds = (l .inv .1, l .inv .0);
+      reach = reached-end inner (a .count) u (l .left) (l .reach) v (l .inv .4) (c .loop-test .left);
+    }
 
 pub check-children-spec : {M : Type 1} → statement M
 check-children-spec =

@@ -6,7 +6,7 @@ use Prim.Native.Nat.{_-_}
 use native.Mathlib.Omega.{arith}
 use lib.ListN.{length, drop}
 use denote.Ref.{now}
-use Rattle.laws.proofs.Steps.{seen}
+use Rattle.laws.proofs.Steps.{seen, told, bounded}
 use Rattle.sheet.specs.Tree.{other}
 use Rattle.sheet.specs.Nodes.{node, nodes}
 use Rattle.heads.specs.code.Views.{headAs}
@@ -20,54 +20,60 @@ use Rattle.nodes.proofs.root.check_root.Statement.{statement}
 use Rattle.nodes.proofs.root.check_root.Tie as tie
 
 sub-check-children : tie.Need-sub-check-children
-sub-check-children c = (rw (c .before .before .before .before .head .given .1) at (c .before .before .before .before .before .before .read-head .ensures .1)) .0
+sub-check-children c = bounded (c .before .before .before .before .before .before .read-head .ensures) (c .before .before .before .before .head .given .1) .0
 
 check-children-requires : tie.Need-check-children-requires
-check-children-requires c κs = (rw (c .before .before .before .before .head .given .1) at (c .before .before .before .before .before .before .read-head .ensures .1)) .2
+check-children-requires c κs = bounded (c .before .before .before .before .before .before .read-head .ensures) (c .before .before .before .before .head .given .1) .2
 
 holding-requires : tie.Need-holding-requires
 holding-requires c κs =
-    let past = rw (c .before .before .before .before .before .head .given .1) at (c .before .before .before .before .before .before .before .read-head .ensures .1) in
-    room _ _ 1 (c .check-children .result .tallied) (omega arith) (c .check-children .ensures .1 .0)
+    let past = bounded (c .before .before .before .before .before .before .before .read-head .ensures) (c .before .before .before .before .before .head .given .1) in
+    room _ _ 1 (c .check-children .result .tallied) (omega arith) (c .check-children .ensures .bounds)
 
 returns : tie.Need-returns
 returns c =
     let a = c .before .before .before .before .before .before .args in
     let s = now (a .sheet) in
     let source = now (a .source) in
-    let none-read = seen (headAs s) (c .before .before .before .read-head .ensures .0) (c .before .r .given .1) in
-    (rw (node-by-head source (a .levels) (drop (a .c .at) s), none-read), (tt, λ n t e. absurd (no-head source (a .levels) _ e none-read)))
+    let none-read = told (c .before .before .before .read-head .ensures) (c .before .r .given .1) in
+    record {
+      answer = rw (node-by-head source (a .levels) (drop (a .c .at) s), none-read);
+      bounds = tt;
+      reach = λ n t e. absurd (no-head source (a .levels) _ e none-read);
+    }
 
 returns-2 : tie.Need-returns-2
 returns-2 c =
     let a = c .before .before .before .before .before .before .before .before .before .before .before .args in
     let s = now (a .sheet) in
     let source = now (a .source) in
-    let says = c .before .before .before .before .before .before .before .before .read-head .ensures .0 in
+    let says = c .before .before .before .before .before .before .before .before .read-head .ensures .answer in
     let is = c .before .before .before .before .before .before .head .given .1 in
     let sp = c .before .before .before .before .before .before .head .given .0 .0 in
     let next = c .before .before .before .before .before .before .head .given .0 .1 .1 .0 in
-    let past = rw is at (c .before .before .before .before .before .before .before .before .read-head .ensures .1) in
+    let past = bounded (c .before .before .before .before .before .before .before .before .read-head .ensures) is in
     let count = c .before .before .before .head2 .given .0 .0 in
     let other-is = c .before .before .before .head2 .given .1 in
     let y = c .before .check-children .result .tallied in
-    let said = c .before .check-children .ensures in (
-      rw (node-by-head source (a .levels) (drop (a .c .at) s), seen (headAs s) says is, other-is, c .holding .ensures)
-          (holds-plain s tallyAll (other sp) (nodes (node source (a .levels - 1)) count (drop (next .at) s)) y (said .0) false (λ ns. refl)),
-      (
-        rw (c .holding .ensures)
-            (whole-past (a .c .at) (length s) (next .at) (withOwn false false y) (omega arith)
-            (holding-past (next .at) (length s) (next .at) (omega arith) false false y (said .1 .0))),
-        λ n t e. other-reaches s source (a .c .at) (a .levels) says is e other-is (said .1 .1),
-      ),
-    )
+    let said = c .before .check-children .ensures in record {
+      answer = rw (node-by-head source (a .levels) (drop (a .c .at) s), seen (headAs s) says is, other-is, c .holding .ensures)
+          (holds-plain s tallyAll (other sp) (nodes (node source (a .levels - 1)) count (drop (next .at) s)) y (said .answer) false (λ ns. refl));
+      bounds = rw (c .holding .ensures)
+          (whole-past (a .c .at) (length s) (next .at) (withOwn false false y) (omega arith)
+          (holding-past (next .at) (length s) (next .at) (omega arith) false false y (said .bounds)));
+      reach = λ n t e. other-reaches s source (a .c .at) (a .levels) says is e other-is (said .reach);
+    }
 
 returns-3 : tie.Need-returns-3
 returns-3 c =
     let a = c .before .before .before .before .before .before .before .before .args in
-    let says = c .before .before .before .before .before .read-head .ensures .0 in
+    let says = c .before .before .before .before .before .read-head .ensures .answer in
     let is = c .before .before .before .head .given .1 in
-    (c .check-node .ensures .0, (c .check-node .ensures .1, λ n t e. unlike-reaches (now (a .sheet)) (now (a .source)) (a .c .at) (a .levels) says is e (c .before .match2 .keys2)))
+    record {
+      answer = c .check-node .ensures .answer;
+      bounds = c .check-node .ensures .bounds;
+      reach = λ n t e. unlike-reaches (now (a .sheet)) (now (a .source)) (a .c .at) (a .levels) says is e (c .before .match2 .keys2);
+    }
 
 pub check-root-spec : {M : Type 1} → statement M
 check-root-spec =

@@ -15,7 +15,10 @@ unfolding readBy originBy endOrigins
 returns c =
     let source = now (c .before .before .before .before .before .before .before .before .args .source) in
     let read = c .before .before .before .before .find-reading in
-    rw (optional-each, ← origin-counted SourceMapUrl source (read .result) Last _ (read .ensures .0) SourceMap) (c .before .before .put-reading-origin .ensures)
+    rw (
+      optional-each,
+      ← origin-counted SourceMapUrl source (read .result) Last _ (read .ensures .answer) SourceMap,
+    ) (c .before .before .put-reading-origin .ensures)
 
 pub put-end-origins-spec : {M : Type 1} → statement M
 put-end-origins-spec =

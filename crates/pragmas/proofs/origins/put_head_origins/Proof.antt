@@ -20,11 +20,11 @@ returns c =
     let a = put .before .before .before .before .before .before .before .before .args in
     let source = now (a .source) in
     head-written (a .media) source _ _ (put .put-reference-origins .ensures)
-    (rw (origin-counted rule.TsSelfTypes source (self .result) First _ (self .ensures .0) SelfTypes)
+    (rw (origin-counted rule.TsSelfTypes source (self .result) First _ (self .ensures .answer) SelfTypes)
     at (c .before .before .before .before .before .before .before .before .before .before .put-reading-origin .ensures))
-    (rw (origin-counted rule.JsxImportSource source (jsx .result) First _ (jsx .ensures .0) JsxImportSource)
+    (rw (origin-counted rule.JsxImportSource source (jsx .result) First _ (jsx .ensures .answer) JsxImportSource)
     at (c .before .before .before .before .before .before .put-reading-origin2 .ensures))
-    (rw (origin-counted rule.JsxImportSourceTypes source (types .result) First _ (types .ensures .0) JsxImportSourceTypes)
+    (rw (origin-counted rule.JsxImportSourceTypes source (types .result) First _ (types .ensures .answer) JsxImportSourceTypes)
     at (c .before .before .put-reading-origin3 .ensures))
 
 pub put-head-origins-spec : {M : Type 1} → statement M

@@ -1,34 +1,31 @@
 use borrow.Author.Needs.{needs}
 use mathlib.Core.Path.{sym}
 use denote.Ref.{now}
-use Rattle.laws.proofs.Steps.{seen}
+use Rattle.laws.proofs.Steps.{told}
 use Rattle.report.proofs.Buffers.{wrote-nil}
 use Rattle.pragmas.specs.Origins.{referenceOrigin}
-use Rattle.pragmas.specs.code.Views.{referenceAs}
 use Rattle.pragmas.proofs.origins.put_reference_origin.Statement.{statement}
 use Rattle.pragmas.proofs.origins.put_reference_origin.Tie as tie
 
 returns : tie.Need-returns
 unfolding referenceOrigin
 returns c =
-    let told = c .before .before .before .before in
-    let a = told .before .before .before .before .before .args in
-    let is = seen (referenceAs (now (a .source)) (a .c)) (told .before .before .read-reference .ensures .0) (told .enum-told .given .1) in
+    let found = c .before .before .before .before in
+    let is = told (found .before .before .read-reference .ensures) (found .enum-told .given .1) in
     rw is (c .before .before .put-origin .ensures)
 
 returns-2 : tie.Need-returns-2
 unfolding referenceOrigin
 returns-2 c =
-    let told = c .before .before .before .before in
-    let a = told .before .before .before .before .before .args in
-    let is = seen (referenceAs (now (a .source)) (a .c)) (told .before .before .read-reference .ensures .0) (told .enum-told2 .given .1) in
+    let found = c .before .before .before .before in
+    let is = told (found .before .before .read-reference .ensures) (found .enum-told2 .given .1) in
     rw is (c .before .before .put-origin2 .ensures)
 
 returns-3 : tie.Need-returns-3
 unfolding referenceOrigin
 returns-3 c =
     let a = c .before .before .before .before .before .args in
-    let is = seen (referenceAs (now (a .source)) (a .c)) (c .before .before .read-reference .ensures .0) (c .enum-told3 .given .1) in
+    let is = told (c .before .before .read-reference .ensures) (c .enum-told3 .given .1) in
     rw is (sym (wrote-nil (now (a .out)) (a .place)))
 
 pub put-reference-origin-spec : {M : Type 1} → statement M

@@ -16,7 +16,7 @@ returns c =
     let a = c .before .before .before .before .before .before .before .before .before .args in
     let read = c .before .before .before .before .before .before .read in
     let is = c .before .before .before .before .enum-told .given .1 in
-    let found = origin-one rule.TsTypes (now (a .source)) (read .result) (a .c) (read .ensures .0) TsTypes in
+    let found = origin-one rule.TsTypes (now (a .source)) (read .result) (a .c) (read .ensures .answer) TsTypes in
     rw (← found, is) (rw is at (c .before .before .put-reading-origin .ensures))
 
 returns-2 : tie.Need-returns-2
@@ -26,9 +26,9 @@ returns-2 c =
     let source = now (a .source) in
     let read = c .before .before .before .before .before .before .before .read in
     let other = c .before .before .before .before .read2 in
-    let found = origin-one rule.TsTypes source (read .result) (a .c) (read .ensures .0) TsTypes in
+    let found = origin-one rule.TsTypes source (read .result) (a .c) (read .ensures .answer) TsTypes in
     let none = seen (originAs TsTypes) found (c .before .before .before .before .before .enum-told2 .given .1) in
-    rw (none, ← origin-one rule.DenoTypes source (other .result) (a .c) (other .ensures .0) DenoTypes) (c .before .before .put-reading-origin2 .ensures)
+    rw (none, ← origin-one rule.DenoTypes source (other .result) (a .c) (other .ensures .answer) DenoTypes) (c .before .before .put-reading-origin2 .ensures)
 
 pub put-types-origin-spec : {M : Type 1} → statement M
 put-types-origin-spec =

@@ -15,7 +15,7 @@ returns-4 : tie.Need-returns-4
 returns-4 c = rw (c .before .enum-told4 .given .1) (c .find-source-mapping-url .ensures)
 
 returns-5 : tie.Need-returns-5
-returns-5 c = let found = c .find-source-map .ensures in rw (c .before .enum-told5 .given .1) (found .0, found .1 .1)
+returns-5 c = let found = c .find-source-map .ensures in rw (c .before .enum-told5 .given .1) (record { answer = found .answer .answer; bounds = found .bounds })
 
 returns-6 : tie.Need-returns-6
 returns-6 c = rw (c .before .enum-told6 .given .1) (c .find-ts-types .ensures)

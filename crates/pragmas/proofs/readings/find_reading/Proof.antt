@@ -22,12 +22,15 @@ returns c =
     let found = c .before .before .before .found .given in
     let r = rw (found .1) at (start .pre .1 .1) in
     let read = c .reading-between .ensures in
-    (rw (found .1, group-from (now (start .args .comments)) (start .args .n) (found .0 .0) r) (read .0), read .1)
+    record {
+      answer = rw (found .1, group-from (now (start .args .comments)) (start .args .n) (found .0 .0) r) (read .answer);
+      bounds = read .bounds;
+    }
 
 returns-2 : tie.Need-returns-2
 returns-2 c =
     let a = c .before .before .before .before .args in
-    (rw (c .enum-told .given .1) (sym (counted-nothing (takenBy (a .rule) (now (a .source))) (a .counts))), tt)
+    record { answer = rw (c .enum-told .given .1) (sym (counted-nothing (takenBy (a .rule) (now (a .source))) (a .counts))); bounds = tt }
 
 pub find-reading-spec : {M : Type 1} → statement M
 find-reading-spec =

@@ -6,14 +6,14 @@ use mathlib.Core.List.{List}
 use mathlib.Core.Option.{Option}
 use Prim.Native.Nat.{ℕ, _≤_, _-_}
 use denote.Ref.{now}
-use Rattle.laws.proofs.Steps.{seen}
+use Rattle.laws.proofs.Steps.{told}
 use Rattle.analysis.specs.declared.Capture.{Capture}
 use Rattle.sheet.specs.declared.comments.Comment.{Comment}
 use Rattle.sheet.specs.code.Tables.{commentIn}
 use Rattle.sheet.proofs.Members.{row-placed}
 use Rattle.sheet.proofs.comments.comment_at.Reads as comment-at-reads
 use Rattle.pragmas.specs.Readings.{orElse}
-use Rattle.pragmas.specs.code.Views.{takenBy, counted, takenAs, commentsFrom}
+use Rattle.pragmas.specs.code.Views.{takenBy, counted, commentsFrom}
 use Rattle.pragmas.proofs.Between.{sought, others, counted-next, counted-none}
 use Rattle.pragmas.proofs.readings.read.Reads as read-reads
 use Rattle.pragmas.proofs.readings.reading_between.Reads as reads
@@ -68,25 +68,33 @@ returns : tie.Need-returns Inv-loop μ-loop
 returns c =
     let read = c .before .before .read in
     let step = next (c .before .before .before .before) (c .before .before .before .comment-at .ensures) in
-    (rw (step, ← read .ensures .0, c .enum-told3 .given .1), read .ensures .1)
+    record { answer = rw (step, ← read .ensures .answer, c .enum-told3 .given .1); bounds = read .ensures .bounds }
 
 loop-again : tie.Need-loop-again Inv-loop μ-loop
 loop-again c =
     let read = c .before .before .before .before in
-    let none = seen takenAs (read .read .ensures .0) (c .before .before .enum-told4 .given .1) in
-    (c .before .before .before .before .before .before .before .before .loop .inv .0, next (read .before .before) (read .before .comment-at .ensures) ∙ rw (none, c .enum-told5 .given .1))
+    let none = told (read .read .ensures) (c .before .before .enum-told4 .given .1) in (
+      c .before .before .before .before .before .before .before .before .loop .inv .0,
+      next (read .before .before) (read .before .comment-at .ensures) ∙ rw (
+        none,
+        c .enum-told5 .given .1,
+      ),
+    )
 
 loop-again-2 : tie.Need-loop-again-2 Inv-loop μ-loop
 loop-again-2 c =
     let read = c .before .before .before .before in
-    let none = seen takenAs (read .read .ensures .0) (c .before .before .enum-told4 .given .1) in
+    let none = told (read .read .ensures) (c .before .before .enum-told4 .given .1) in
     (omega arith, next (read .before .before) (read .before .comment-at .ensures) ∙ rw (none, c .enum-told6 .given .1))
 
 returns-2 : tie.Need-returns-2 Inv-loop μ-loop
 returns-2 c =
     let a = c .before .before .before .before .args in
     let l = c .before .loop in
-    (rw (l .inv .1, counted-none (takenBy (a .rule) (now (a .source))) (now (a .comments)) (l .from) (l .to) (a .counts) (c .loop-test .left)), tt)
+    record {
+      answer = rw (l .inv .1, counted-none (takenBy (a .rule) (now (a .source))) (now (a .comments)) (l .from) (l .to) (a .counts) (c .loop-test .left));
+      bounds = tt;
+    }
 
 pub reading-between-spec : {M : Type 1} → statement M
 reading-between-spec =

@@ -41,7 +41,7 @@ loop-again c =
     let source = now (a .source) in
     let (more, most) = listed-length source (c .before .before .comment-at .result) (c .before .read-reference .result) (allOf (reference source) (commentsFrom (now (a .comments)) (l .i + 1) (a .end))) in
     let step = all-next (reference source) (now (a .comments)) (l .i) (a .end) (c .before .before .before .loop-test .taken) (c .before .before .comment-at .ensures) in
-    let here = ap length step ∙ rw (c .before .read-reference .ensures .0, ← c .amount .ensures) at more in
+    let here = ap length step ∙ rw (c .before .read-reference .ensures .answer, ← c .amount .ensures) at more in
     (omega (arith, rw (← c .amount .ensures) at most), omega arith, omega arith)
 
 returns : tie.Need-returns Inv-loop μ-loop

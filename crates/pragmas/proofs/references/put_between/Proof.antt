@@ -31,14 +31,22 @@ read-reference-requires c κs =
     rw (c .comment-at .ensures) (row-placed (now (a .comments)) (a .n) (c .before .before .before .before .before .before .before .pre .0 .fit) (c .before .before .loop .i) (omega arith))
 
 put-reference-requires : tie.Need-put-reference-requires Inv-loop μ-loop
-put-reference-requires c κs = (c .before .before .before .before .before .before .before .before .before .pre .0 .indexed, c .before .read-reference .ensures .1)
+put-reference-requires c κs = (c .before .before .before .before .before .before .before .before .before .pre .0 .indexed, c .before .read-reference .ensures .bounds)
 
 loop-again : tie.Need-loop-again Inv-loop μ-loop
 loop-again c =
     let a = c .before .before .before .before .before .before .before .before .before .before .before .before .args in
     let l = c .before .before .before .before .before .before .before .loop in
-    let step = all-next (reference (now (a .source))) (now (a .comments)) (l .i) (a .end) (c .before .before .before .before .before .before .loop-test .taken) (c .before .before .before .before .before .comment-at .ensures) in
-    (c .before .before .put-reference .kept .1 .1 .1 .1 .0 ∙ l .inv .0, l .inv .1 ∙ rw (step, listed-each, wrote-append, ← c .before .before .before .before .read-reference .ensures .0, ← c .before .before .put-reference .ensures))
+    let step = all-next (reference (now (a .source))) (now (a .comments)) (l .i) (a .end) (c .before .before .before .before .before .before .loop-test .taken) (c .before .before .before .before .before .comment-at .ensures) in (
+      c .before .before .put-reference .kept .1 .1 .1 .1 .0 ∙ l .inv .0,
+      l .inv .1 ∙ rw (
+        step,
+        listed-each,
+        wrote-append,
+        ← c .before .before .before .before .read-reference .ensures .answer,
+        ← c .before .before .put-reference .ensures,
+      ),
+    )
 
 returns : tie.Need-returns Inv-loop μ-loop
 unfolding flatMap

@@ -24,61 +24,73 @@ unfolding readBy reference
 returns c =
     let a = c .before .before .before .args in
     let slashes = isFound (find tripleSlashRow (body (now (a .source)) (a .c))) in
-    (rw (known (c .before .is-block .ensures) (c .if1 .taken)) (sym (neither slashes)), tt)
+    record { answer = rw (known (c .before .is-block .ensures) (c .if1 .taken)) (sym (neither slashes)); bounds = tt }
 
 body-requires : tie.Need-body-requires
 body-requires c κs = let placed = c .before .before .before .pre in (holds-marks _ _ placed, placed-within _ _ placed)
 
 returns-2 : tie.Need-returns-2
 unfolding readBy modeIn reference
-returns-2 c = (
-  rw (
+returns-2 c = record {
+  answer = rw (
     known (c .before .before .before .before .before .before .before .before .before .is-block .ensures) (c .before .before .before .before .before .before .before .before .if1 .left),
     ← c .before .before .before .before .before .before .before .body .ensures,
     known (c .before .before .before .before .before .before .is-comment-triple-slash-reference .ensures) (c .before .before .before .before .before .if2 .taken),
-    known (c .before .before .before .before .find-types-reference .ensures .0) (c .before .before .k .given .1),
+    known (c .before .before .before .before .find-types-reference .ensures .answer) (c .before .before .k .given .1),
     c .resolution-mode .ensures,
     c .before .before .before .before .before .before .before .body .ensures,
-  ),
-  record { placed = c .before .before .before .before .before .before .before .before .before .before .before .pre; inside = rw (c .before .before .k .given .1, c .before .before .before .before .before .before .before .body .ensures) at (c .before .before .before .before .find-types-reference .ensures .1) },
-)
+  );
+  bounds = record {
+    placed = c .before .before .before .before .before .before .before .before .before .before .before .pre;
+    inside = rw (
+      c .before .before .k .given .1,
+      c .before .before .before .before .before .before .before .body .ensures,
+    ) at (c .before .before .before .before .find-types-reference .ensures .bounds);
+  };
+}
 
 returns-3 : tie.Need-returns-3
 unfolding readBy reference
-returns-3 c = (
-  rw (
+returns-3 c = record {
+  answer = rw (
     known (c .before .before .before .before .before .before .before .before .before .before .before .is-block .ensures) (c .before .before .before .before .before .before .before .before .before .before .if1 .left),
     ← c .before .before .before .before .before .before .before .before .before .body .ensures,
     known (c .before .before .before .before .before .before .before .before .is-comment-triple-slash-reference .ensures) (c .before .before .before .before .before .before .before .if2 .taken),
-    known (c .before .before .before .before .before .before .find-types-reference .ensures .0) (c .before .before .before .before .enum-told .given .1),
-    known (c .before .before .before .find-path-reference .ensures .0) (c .before .k2 .given .1),
-  ),
-  record { placed = c .before .before .before .before .before .before .before .before .before .before .before .before .before .pre; inside = rw (c .before .k2 .given .1, c .before .before .before .before .before .before .before .before .before .body .ensures) at (c .before .before .before .find-path-reference .ensures .1) },
-)
+    known (c .before .before .before .before .before .before .find-types-reference .ensures .answer) (c .before .before .before .before .enum-told .given .1),
+    known (c .before .before .before .find-path-reference .ensures .answer) (c .before .k2 .given .1),
+  );
+  bounds = record {
+    placed = c .before .before .before .before .before .before .before .before .before .before .before .before .before .pre;
+    inside = rw (
+      c .before .k2 .given .1,
+      c .before .before .before .before .before .before .before .before .before .body .ensures,
+    ) at (c .before .before .before .find-path-reference .ensures .bounds);
+  };
+}
 
 returns-4 : tie.Need-returns-4
 unfolding readBy reference
-returns-4 c = (
-  rw (
+returns-4 c = record {
+  answer = rw (
     known (c .before .before .before .before .before .before .before .before .before .before .is-block .ensures) (c .before .before .before .before .before .before .before .before .before .if1 .left),
     ← c .before .before .before .before .before .before .before .before .body .ensures,
     known (c .before .before .before .before .before .before .before .is-comment-triple-slash-reference .ensures) (c .before .before .before .before .before .before .if2 .taken),
-    known (c .before .before .before .before .before .find-types-reference .ensures .0) (c .before .before .before .enum-told .given .1),
-    known (c .before .before .find-path-reference .ensures .0) (c .enum-told2 .given .1),
-  ),
-  tt,
-)
+    known (c .before .before .before .before .before .find-types-reference .ensures .answer) (c .before .before .before .enum-told .given .1),
+    known (c .before .before .find-path-reference .ensures .answer) (c .enum-told2 .given .1),
+  );
+  bounds = tt;
+}
 
 returns-5 : tie.Need-returns-5
 unfolding readBy reference
-returns-5 c = (
-  rw (
+returns-5 c = record {
+  answer = rw (
     known (c .before .before .before .before .is-block .ensures) (c .before .before .before .if1 .left),
     ← c .before .before .body .ensures,
     known (c .before .is-comment-triple-slash-reference .ensures) (c .if2 .left),
-  ),
-  tt,
-)
+  );
+  bounds = tt;
+}
 
 pub read-reference-spec : {M : Type 1} → statement M
 read-reference-spec =

@@ -4,13 +4,16 @@ use Rattle.pragmas.proofs.references.resolution_mode.Statement.{stateme
 use Rattle.pragmas.proofs.references.resolution_mode.Tie as tie
 
 returns : tie.Need-returns
-returns c = rw (known (c .before .before .find-resolution-mode .ensures .0) (c .enum-told .given .1))
+returns c = rw (known (c .before .before .find-resolution-mode .ensures .answer) (c .enum-told .given .1))
 
 specifier-requires : tie.Need-specifier-requires
-specifier-requires c κs = rw (c .before .k .given .1) at (c .before .before .before .find-resolution-mode .ensures .1)
+specifier-requires c κs = rw (c .before .k .given .1) at (c .before .before .before .find-resolution-mode .ensures .bounds)
 
 returns-2 : tie.Need-returns-2
-returns-2 c = rw (known (c .before .before .before .before .before .find-resolution-mode .ensures .0) (c .before .before .before .k .given .1), ← c .before .specifier .ensures) (c .from-str .ensures)
+returns-2 c = rw (
+  known (c .before .before .before .before .before .find-resolution-mode .ensures .answer) (c .before .before .before .k .given .1),
+  ← c .before .specifier .ensures,
+) (c .from-str .ensures)
 
 pub resolution-mode-spec : {M : Type 1} → statement M
 resolution-mode-spec =

@@ -18,7 +18,7 @@ returns c =
     let refused = c .before .before .before .before .before .one-if2 .ensures in
     let differ = c .before .before .before .one-if3 .ensures in
     let one-of-two = either-one (c .before .before .before .before .before .before .before .before .args .ran .accepted) in
-    (rw (accepted .0, refused .0, differ .0), λ left h. (omega arith, omega arith))
+    record { answer = rw (accepted .0, refused .0, differ .0); bounds = λ left h. (omega arith, omega arith) }
 
 pub with-spec : {M : Type 1} → statement M
 with-spec = tie.close (tie.spec (λ c κs. search needs) (λ c κs. search needs) (λ c κs. search needs) (λ c. search needs) (λ c. search needs) (λ c. search needs) returns)

@@ -15,22 +15,22 @@ returns c =
     let number = c .before .before .before .before .before .before .before .before .before .read-number in
     let kind = c .before .before .before .before .before .before .before .dependency-kind in
     let given = c .before .before .before .before .before .kind .given in
-    let byte = byte-read (number .ensures) in (
-      elim [
+    let byte = byte-read (number .ensures) in record {
+      answer = elim [
         | static d ↦ λ v t e.
             let (is, e) = byte _ (small (Static (d .kind))) _ e in
             let types = simp append-assoc at e in
-            let (x, e) = c .before .before .before .read-text .ensures .0 (d .specifier .text) (v .specifier .text) _
+            let (x, e) = c .before .before .before .read-text .ensures .answer (d .specifier .text) (v .specifier .text) _
             (c .before .before .before .before .before .before .before .before .skip-optional-specifier .ensures (d .typesSpecifier) (v .typesSpecifier) _ types) in
-            let (_, e) = c .before .before .read-range .ensures .0 (d .specifier .range) (v .specifier .range) _ e in
+            let (_, e) = c .before .before .read-range .ensures .answer (d .specifier .range) (v .specifier .range) _ e in
             let e = flag-read (c .before .read-number2 .ensures) (d .sideEffect) _ e in
             let same = static-told (sym (given .1) ∙ told (kind .ensures) (Static (d .kind)) is) in
             (rw (same, x), c .skip-attributes .ensures (d .importAttributes) (v .importAttributes) t e)
         | dynamic d ↦ λ v t e.
             absurd (apart (sym (given .1) ∙ told (kind .ensures) (Dynamic (d .kind)) (byte _ (small (Dynamic (d .kind))) _ e .0)))
-      ],
-      c .before .before .before .read-text .ensures .1,
-    )
+      ];
+      bounds = c .before .before .before .read-text .ensures .bounds;
+    }
 
 returns-2 : tie.Need-returns-2
 unfolding encodeDependency encodeStatic encodeDynamic
@@ -38,19 +38,19 @@ returns-2 c =
     let number = c .before .before .before .before .before .before .before .read-number in
     let kind = c .before .before .before .before .before .dependency-kind in
     let given = c .before .before .before .enum-told .given in
-    let byte = byte-read (number .ensures) in (
-      elim [
+    let byte = byte-read (number .ensures) in record {
+      answer = elim [
         | static d ↦ λ v t e.
             absurd (apart (sym (told (kind .ensures) (Static (d .kind)) (byte _ (small (Static (d .kind))) _ e .0)) ∙ given .1))
         | dynamic d ↦ λ v t e.
             let types = simp append-assoc at (byte _ (small (Dynamic (d .kind))) _ e .1) in
             let e = c .before .before .skip-argument .ensures (d .argument) (v .argument) _
             (c .before .before .before .before .before .before .skip-optional-specifier .ensures (d .typesSpecifier) (v .typesSpecifier) _ types) in
-            let (_, e) = c .before .read-range2 .ensures .0 (d .argumentRange) (v .argumentRange) _ e in
+            let (_, e) = c .before .read-range2 .ensures .answer (d .argumentRange) (v .argumentRange) _ e in
             (refl, c .skip-attributes2 .ensures (d .importAttributes) (v .importAttributes) t e)
-      ],
-      tt,
-    )
+      ];
+      bounds = tt;
+    }
 
 pub read-dependency-spec : {M : Type 1} → statement M
 read-dependency-spec =

@@ -6,7 +6,7 @@ use Rattle.report_reader.proofs.dependencies.skip_argument.Tie as tie
 returns : tie.Need-returns
 returns c = λ x v t e.
     let (y, p, e) = text-argument (c .before .before .before .read-number .ensures) (c .before .if1 .taken) x t e in
-    c .read-text .ensures .0 y (rw p at v) t e .1
+    c .read-text .ensures .answer y (rw p at v) t e .1
 
 returns-2 : tie.Need-returns-2
 returns-2 c = λ x v t e.

@@ -2,8 +2,7 @@ use borrow.Author.Needs.{needs}
 use native.Mathlib.Omega.{arith}
 use lib.ListN.{length}
 use denote.Ref.{now}
-use Rattle.laws.proofs.Steps.{seen}
-use Rattle.wire.specs.code.Views.{readAs}
+use Rattle.laws.proofs.Steps.{told, bounded}
 use Rattle.wire.proofs.NumberCodec.{number-codec}
 use Rattle.report_reader.proofs.FromBytes.{number-read, number-refused}
 use Rattle.report_reader.proofs.fields.read_number.Statement.{statement}
@@ -15,14 +14,14 @@ returns c =
     let s = now (a .report) in
     let (n, next) = c .before .value .given .0 in
     let found = c .before .value .given .1 in
-    let q = seen (readAs s) (c .before .before .before .number .ensures .0) found in
-    record { small = number-codec .sound _ _ _ q .1; inside = (rw found at (c .before .before .before .number .ensures .1)) .1; read = number-read s (a .at) n (next .0 .at) q }
+    let q = told (c .before .before .before .number .ensures) found in
+    record { small = number-codec .sound _ _ _ q .1; inside = bounded (c .before .before .before .number .ensures) found .1; read = number-read s (a .at) n (next .0 .at) q }
 
 returns-2 : tie.Need-returns-2
 returns-2 c =
     let a = c .before .before .before .before .args in
     let s = now (a .report) in
-    record { small = omega arith; inside = omega arith; read = number-refused s (a .at) 0 (length s) (seen (readAs s) (c .before .before .number .ensures .0) (c .enum-told .given .1)) }
+    record { small = omega arith; inside = omega arith; read = number-refused s (a .at) 0 (length s) (told (c .before .before .number .ensures) (c .enum-told .given .1)) }
 
 pub read-number-spec : {M : Type 1} → statement M
 read-number-spec =

@@ -19,8 +19,8 @@ returns-2 c = λ o v t e.
     let n = c .before .before .before .before .read-number in
     let (x, p, e) = some-there (n .ensures) encodeSpecifier (c .before .before .if1 .left) o t e in
     let v : ValidSpecifier x = rw p at v in
-    let (_, e) = c .before .read-text .ensures .0 (x .text) (v .text) _ (e ∙ append-assoc (encodeText (x .text)) (encodeRange (x .range)) t) in
-    c .read-range .ensures .0 (x .range) (v .range) t e .1
+    let (_, e) = c .before .read-text .ensures .answer (x .text) (v .text) _ (e ∙ append-assoc (encodeText (x .text)) (encodeRange (x .range)) t) in
+    c .read-range .ensures .answer (x .range) (v .range) t e .1
 
 pub skip-optional-specifier-spec : {M : Type 1} → statement M
 skip-optional-specifier-spec =

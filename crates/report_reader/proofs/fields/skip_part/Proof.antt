@@ -12,7 +12,7 @@ unfolding encodeKeyValue
 returns c =
     rw (c .before .before .if1 .taken)
     (λ a v t e.
-    let (_, e) = c .before .read-text .ensures .0 (a .key) (v .key) _ (e ∙ append-assoc (encodeText (a .key)) (encodeOptional encodeText (a .value)) t) in
+    let (_, e) = c .before .read-text .ensures .answer (a .key) (v .key) _ (e ∙ append-assoc (encodeText (a .key)) (encodeOptional encodeText (a .value)) t) in
     c .skip-optional-text .ensures (a .value) (v .value) t e)
 
 returns-2 : tie.Need-returns-2

@@ -1,9 +1,7 @@
 use borrow.Author.Needs.{needs}
 use borrow.Author.Tests.{le-leb, lt-leb}
-use denote.Ref.{now}
-use Rattle.laws.proofs.Steps.{known, seen}
+use Rattle.laws.proofs.Steps.{known, told}
 use Rattle.wire.specs.Fields.{numbered}
-use Rattle.wire.specs.code.Views.{readAs}
 use Rattle.sheet.specs.Comments.{comment}
 use Rattle.sheet.proofs.Judged.{end-codec}
 use Rattle.sheet.proofs.comments.read_comment.Statement.{statement}
@@ -12,53 +10,76 @@ use Rattle.sheet.proofs.comments.read_comment.Tie as tie
 returns : tie.Need-returns
 unfolding comment numbered
 returns c =
-    let s = now (c .before .before .before .before .before .before .before .before .before .before .before .args .sheet) in
-    rw (seen (readAs s) (c .before .before .before .before .before .before .before .before .below .ensures .0) (c .before .before .before .before .before .before .kind .given .1), seen (readAs s) (c .before .before .before .before .read-position .ensures .0) (c .before .before .start .given .1), lt-leb _ _ (c .if1 .taken))
+    rw (
+      told (c .before .before .before .before .before .before .before .before .below .ensures)
+          (c .before .before .before .before .before .before .kind .given .1),
+      told (c .before .before .before .before .read-position .ensures) (c .before .before .start .given .1),
+      lt-leb _ _ (c .if1 .taken),
+    )
 
 sub-is-marked : tie.Need-sub-is-marked
 sub-is-marked c =
-    let a = c .before .before .before .before .before .before .before .before .before .before .before .before .before .before .before .before .args in
-    end-codec _ _ .sound _ _ _ (seen (readAs (now (a .sheet))) (c .before .before .before .before .read-end .ensures .0) (c .before .before .end .given .1)) .1 .1
+    end-codec _ _ .sound _ _ _ (told (c .before .before .before .before .read-end .ensures) (c .before .before .end .given .1)) .1 .1
 
 part-is-marked-start : tie.Need-part-is-marked-start
 part-is-marked-start c =
-    let a = c .before .before .before .before .before .before .before .before .before .before .before .before .before .before .before .before .args in
-    end-codec _ _ .sound _ _ _ (seen (readAs (now (a .sheet))) (c .before .before .before .before .read-end .ensures .0) (c .before .before .end .given .1)) .1 .1
+    end-codec _ _ .sound _ _ _ (told (c .before .before .before .before .read-end .ensures) (c .before .before .end .given .1)) .1 .1
 
 part-is-marked-end : tie.Need-part-is-marked-end
 part-is-marked-end c =
-    let a = c .before .before .before .before .before .before .before .before .before .before .before .before .before .before .before .before .args in
-    end-codec _ _ .sound _ _ _ (seen (readAs (now (a .sheet))) (c .before .before .before .before .read-end .ensures .0) (c .before .before .end .given .1)) .1 .0 .boundary .0
+    end-codec _ _ .sound _ _ _ (told (c .before .before .before .before .read-end .ensures) (c .before .before .end .given .1)) .1 .0 .boundary .0
 
 returns-2 : tie.Need-returns-2
 unfolding comment numbered
 returns-2 c =
-    let s = now (c .before .before .before .before .before .before .args .sheet) in
-    rw (seen (readAs s) (c .before .before .before .below .ensures .0) (c .before .r .given .1))
+    rw (told (c .before .before .before .below .ensures) (c .before .r .given .1))
 
 returns-3 : tie.Need-returns-3
 unfolding comment numbered
 returns-3 c =
-    let s = now (c .before .before .before .before .before .before .before .before .before .before .args .sheet) in
-    rw (seen (readAs s) (c .before .before .before .before .before .before .before .below .ensures .0) (c .before .before .before .before .before .kind .given .1), seen (readAs s) (c .before .before .before .read-position .ensures .0) (c .before .r2 .given .1))
+    rw (
+      told (c .before .before .before .before .before .before .before .below .ensures) (c .before .before .before .before .before .kind .given .1),
+      told (c .before .before .before .read-position .ensures) (c .before .r2 .given .1),
+    )
 
 returns-4 : tie.Need-returns-4
 unfolding comment numbered
 returns-4 c =
-    let s = now (c .before .before .before .before .before .before .before .before .before .before .before .before .before .before .before .args .sheet) in
-    rw (seen (readAs s) (c .before .before .before .before .before .before .before .before .before .before .before .before .below .ensures .0) (c .before .before .before .before .before .before .before .before .before .before .kind .given .1), seen (readAs s) (c .before .before .before .before .before .before .before .before .read-position .ensures .0) (c .before .before .before .before .before .before .start .given .1), le-leb _ _ (c .before .before .before .before .if1 .left), seen (readAs s) (c .before .before .before .read-end .ensures .0) (c .before .r3 .given .1))
+    rw (
+      told (c .before .before .before .before .before .before .before .before .before .before .before .before .below .ensures)
+          (c .before .before .before .before .before .before .before .before .before .before .kind .given .1),
+      told (c .before .before .before .before .before .before .before .before .read-position .ensures)
+          (c .before .before .before .before .before .before .start .given .1),
+      le-leb _ _ (c .before .before .before .before .if1 .left),
+      told (c .before .before .before .read-end .ensures) (c .before .r3 .given .1),
+    )
 
 returns-5 : tie.Need-returns-5
 unfolding comment numbered
 returns-5 c =
-    let s = now (c .before .before .before .before .before .before .before .before .before .before .before .before .before .before .before .before .before .before .before .args .sheet) in
-    rw (seen (readAs s) (c .before .before .before .before .before .before .before .before .before .before .before .before .before .before .before .before .below .ensures .0) (c .before .before .before .before .before .before .before .before .before .before .before .before .before .before .kind .given .1), seen (readAs s) (c .before .before .before .before .before .before .before .before .before .before .before .before .read-position .ensures .0) (c .before .before .before .before .before .before .before .before .before .before .start .given .1), le-leb _ _ (c .before .before .before .before .before .before .before .before .if1 .left), seen (readAs s) (c .before .before .before .before .before .before .before .read-end .ensures .0) (c .before .before .before .before .before .end .given .1), known (rw (c .before .before .before .comment-kind .ensures) at (c .before .is-marked .ensures)) (c .if2 .taken), ← c .before .before .before .comment-kind .ensures)
+    rw (
+      told (c .before .before .before .before .before .before .before .before .before .before .before .before .before .before .before .before .below .ensures)
+          (c .before .before .before .before .before .before .before .before .before .before .before .before .before .before .kind .given .1),
+      told (c .before .before .before .before .before .before .before .before .before .before .before .before .read-position .ensures)
+          (c .before .before .before .before .before .before .before .before .before .before .start .given .1),
+      le-leb _ _ (c .before .before .before .before .before .before .before .before .if1 .left),
+      told (c .before .before .before .before .before .before .before .read-end .ensures) (c .before .before .before .before .before .end .given .1),
+      known (rw (c .before .before .before .comment-kind .ensures) at (c .before .is-marked .ensures)) (c .if2 .taken),
+      ← c .before .before .before .comment-kind .ensures,
+    )
 
 returns-6 : tie.Need-returns-6
 unfolding comment numbered
 returns-6 c =
-    let s = now (c .before .before .before .before .before .before .before .before .before .before .before .before .before .before .before .before .before .before .before .args .sheet) in
-    rw (seen (readAs s) (c .before .before .before .before .before .before .before .before .before .before .before .before .before .before .before .before .below .ensures .0) (c .before .before .before .before .before .before .before .before .before .before .before .before .before .before .kind .given .1), seen (readAs s) (c .before .before .before .before .before .before .before .before .before .before .before .before .read-position .ensures .0) (c .before .before .before .before .before .before .before .before .before .before .start .given .1), le-leb _ _ (c .before .before .before .before .before .before .before .before .if1 .left), seen (readAs s) (c .before .before .before .before .before .before .before .read-end .ensures .0) (c .before .before .before .before .before .end .given .1), known (rw (c .before .before .before .comment-kind .ensures) at (c .before .is-marked .ensures)) (c .if2 .left))
+    rw (
+      told (c .before .before .before .before .before .before .before .before .before .before .before .before .before .before .before .before .below .ensures)
+          (c .before .before .before .before .before .before .before .before .before .before .before .before .before .before .kind .given .1),
+      told (c .before .before .before .before .before .before .before .before .before .before .before .before .read-position .ensures)
+          (c .before .before .before .before .before .before .before .before .before .before .start .given .1),
+      le-leb _ _ (c .before .before .before .before .before .before .before .before .if1 .left),
+      told (c .before .before .before .before .before .before .before .read-end .ensures) (c .before .before .before .before .before .end .given .1),
+      known (rw (c .before .before .before .comment-kind .ensures) at (c .before .is-marked .ensures)) (c .if2 .left),
+    )
 
 pub read-comment-spec : {M : Type 1} → statement M
 read-comment-spec =

@@ -22,7 +22,10 @@ loop-holds c =
 returns : tie.Need-returns Inv-loop μ-loop
 returns c =
     let l = c .before .before .before .before .loop in
-    (sym (pass-stop (l .inv .2) (l .inv .1 (l .i) (c .before .before .before .loop-test .taken)) (c .before .larger .ensures) (omega arith) _ (c .before .before .before .loop-test .taken)), search needs)
+    record {
+      answer = sym (pass-stop (l .inv .2) (l .inv .1 (l .i) (c .before .before .before .loop-test .taken)) (c .before .larger .ensures) (omega arith) _ (c .before .before .before .loop-test .taken));
+      left = search needs;
+    }
 
 loop-again : tie.Need-loop-again Inv-loop μ-loop
 loop-again c =
@@ -32,7 +35,7 @@ loop-again c =
 returns-2 : tie.Need-returns-2 Inv-loop μ-loop
 returns-2 c =
     let all : c .before .loop .i ≡ c .before .before .before .before .before .before .before .before .before .before .before .before .args .n = omega arith in
-    (sym (rw all at (c .before .loop .inv .2 .all)), search needs)
+    record { answer = sym (rw all at (c .before .loop .inv .2 .all)); left = search needs }
 
 pub is-covered-spec : {M : Type 1} → statement M
 is-covered-spec =

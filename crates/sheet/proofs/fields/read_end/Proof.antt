@@ -1,27 +1,27 @@
 use borrow.Author.Needs.{needs}
 use borrow.Author.Tests.{le-leb, lt-leb}
-use denote.Ref.{now}
-use Rattle.laws.proofs.Steps.{seen}
-use Rattle.wire.specs.code.Views.{readAs}
+use Rattle.laws.proofs.Steps.{told, bounded}
 use Rattle.sheet.specs.Fields.{endFrom}
 use Rattle.sheet.proofs.fields.read_end.Statement.{statement}
 use Rattle.sheet.proofs.fields.read_end.Tie as tie
 
 returns : tie.Need-returns
 unfolding endFrom
-returns c = let s = now (c .before .before .before .before .before .before .args .sheet) in (rw (seen (readAs s) (c .before .before .before .read-position .ensures .0) (c .before .r .given .1)), tt)
+returns c = record { answer = rw (told (c .before .before .before .read-position .ensures) (c .before .r .given .1)); bounds = tt }
 
 returns-2 : tie.Need-returns-2
 unfolding endFrom
-returns-2 c =
-    let s = now (c .before .before .before .before .before .before .before .args .sheet) in
-    (rw (seen (readAs s) (c .before .before .before .before .read-position .ensures .0) (c .before .before .end .given .1), le-leb _ _ (c .if1 .taken)), rw (c .before .before .end .given .1) at (c .before .before .before .before .read-position .ensures .1))
+returns-2 c = record {
+  answer = rw (told (c .before .before .before .before .read-position .ensures) (c .before .before .end .given .1), le-leb _ _ (c .if1 .taken));
+  bounds = bounded (c .before .before .before .before .read-position .ensures) (c .before .before .end .given .1);
+}
 
 returns-3 : tie.Need-returns-3
 unfolding endFrom
-returns-3 c =
-    let s = now (c .before .before .before .before .before .before .before .args .sheet) in
-    (rw (seen (readAs s) (c .before .before .before .before .read-position .ensures .0) (c .before .before .end .given .1), lt-leb _ _ (c .if1 .left)), tt)
+returns-3 c = record {
+  answer = rw (told (c .before .before .before .before .read-position .ensures) (c .before .before .end .given .1), lt-leb _ _ (c .if1 .left));
+  bounds = tt;
+}
 
 pub read-end-spec : {M : Type 1} → statement M
 read-end-spec =

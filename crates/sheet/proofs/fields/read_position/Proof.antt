@@ -1,26 +1,32 @@
 use borrow.Author.Needs.{needs}
-use denote.Ref.{now}
-use Rattle.laws.proofs.Steps.{known, seen}
-use Rattle.wire.specs.code.Views.{readAs}
+use Rattle.laws.proofs.Steps.{known, told, bounded}
 use Rattle.sheet.specs.Fields.{position}
 use Rattle.sheet.proofs.fields.read_position.Statement.{statement}
 use Rattle.sheet.proofs.fields.read_position.Tie as tie
 
 returns : tie.Need-returns
 unfolding position
-returns c = let s = now (c .before .before .before .before .before .before .args .sheet) in (rw (seen (readAs s) (c .before .before .before .number .ensures .0) (c .before .r .given .1)), tt)
+returns c = record { answer = rw (told (c .before .before .before .number .ensures) (c .before .r .given .1)); bounds = tt }
 
 returns-2 : tie.Need-returns-2
 unfolding position
-returns-2 c =
-    let s = now (c .before .before .before .before .before .before .before .before .args .sheet) in
-    (rw (seen (readAs s) (c .before .before .before .before .before .number .ensures .0) (c .before .before .before .p .given .1), known (c .before .is-boundary .ensures) (c .if1 .taken)), rw (c .before .before .before .p .given .1) at (c .before .before .before .before .before .number .ensures .1))
+returns-2 c = record {
+  answer = rw (
+    told (c .before .before .before .before .before .number .ensures) (c .before .before .before .p .given .1),
+    known (c .before .is-boundary .ensures) (c .if1 .taken),
+  );
+  bounds = bounded (c .before .before .before .before .before .number .ensures) (c .before .before .before .p .given .1);
+}
 
 returns-3 : tie.Need-returns-3
 unfolding position
-returns-3 c =
-    let s = now (c .before .before .before .before .before .before .before .before .args .sheet) in
-    (rw (seen (readAs s) (c .before .before .before .before .before .number .ensures .0) (c .before .before .before .p .given .1), known (c .before .is-boundary .ensures) (c .if1 .left)), tt)
+returns-3 c = record {
+  answer = rw (
+    told (c .before .before .before .before .before .number .ensures) (c .before .before .before .p .given .1),
+    known (c .before .is-boundary .ensures) (c .if1 .left),
+  );
+  bounds = tt;
+}
 
 pub read-position-spec : {M : Type 1} → statement M
 read-position-spec =

@@ -1,9 +1,7 @@
 use borrow.Author.Needs.{needs}
-use denote.Ref.{now}
 use native.Mathlib.Omega.{arith}
-use Rattle.laws.proofs.Steps.{known, seen}
+use Rattle.laws.proofs.Steps.{known, told}
 use Rattle.wire.specs.Fields.{numbered}
-use Rattle.wire.specs.code.Views.{readAs}
 use Rattle.wire.proofs.NumberCodec.{number-codec}
 use Rattle.sheet.specs.Comments.{group}
 use Rattle.sheet.proofs.groups.read_group.Statement.{statement}
@@ -11,50 +9,86 @@ use Rattle.sheet.proofs.groups.read_group.Tie as tie
 
 reaches-requires : tie.Need-reaches-requires
 reaches-requires c κs =
-    let s = now (c .before .before .before .before .before .before .before .before .before .before .before .before .before .before .before .before .before .before .before .before .before .args .sheet) in
-    (omega (arith, number-codec .sound _ _ _ (seen (readAs s) (c .before .before .before .before .before .before .before .number .ensures .0) (c .before .before .before .before .before .first .given .1)) .1), omega (arith, number-codec .sound _ _ _ (seen (readAs s) (c .before .before .before .number2 .ensures .0) (c .before .count .given .1)) .1))
+    (omega (arith, number-codec .sound _ _ _ (told (c .before .before .before .before .before .before .before .number .ensures) (c .before .before .before .before .before .first .given .1)) .1), omega (arith, number-codec .sound _ _ _ (told (c .before .before .before .number2 .ensures) (c .before .count .given .1)) .1))
 
 returns : tie.Need-returns
 unfolding group numbered
 returns c =
-    let s = now (c .before .before .before .before .before .before .args .sheet) in
-    rw (seen (readAs s) (c .before .before .before .below .ensures .0) (c .before .r .given .1))
+    rw (told (c .before .before .before .below .ensures) (c .before .r .given .1))
 
 returns-2 : tie.Need-returns-2
 unfolding group numbered
 returns-2 c =
-    let s = now (c .before .before .before .before .before .before .before .before .before .before .args .sheet) in
-    rw (seen (readAs s) (c .before .before .before .before .before .before .before .below .ensures .0) (c .before .before .before .before .before .side .given .1), seen (readAs s) (c .before .before .before .read-position .ensures .0) (c .before .r2 .given .1))
+    rw (
+      told (c .before .before .before .before .before .before .before .below .ensures) (c .before .before .before .before .before .side .given .1),
+      told (c .before .before .before .read-position .ensures) (c .before .r2 .given .1),
+    )
 
 returns-3 : tie.Need-returns-3
 unfolding group numbered
 returns-3 c =
-    let s = now (c .before .before .before .before .before .before .before .before .before .before .before .before .before .before .before .before .before .args .sheet) in
-    rw (seen (readAs s) (c .before .before .before .before .before .before .before .before .before .before .before .before .before .before .below .ensures .0) (c .before .before .before .before .before .before .before .before .before .before .before .before .side .given .1), seen (readAs s) (c .before .before .before .before .before .before .before .before .before .before .read-position .ensures .0) (c .before .before .before .before .before .before .before .before .position .given .1), known (rw (c .before .before .before .before .before .before .side-of .ensures) at (c .before .before .before .before .before .may-follow .ensures)) (c .before .before .before .before .if1 .taken), seen (readAs s) (c .before .before .before .number .ensures .0) (c .before .r3 .given .1))
+    rw (
+      told (c .before .before .before .before .before .before .before .before .before .before .before .before .before .before .below .ensures)
+          (c .before .before .before .before .before .before .before .before .before .before .before .before .side .given .1),
+      told (c .before .before .before .before .before .before .before .before .before .before .read-position .ensures)
+          (c .before .before .before .before .before .before .before .before .position .given .1),
+      known (rw (c .before .before .before .before .before .before .side-of .ensures) at (c .before .before .before .before .before .may-follow .ensures)) (c .before .before .before .before .if1 .taken),
+      told (c .before .before .before .number .ensures) (c .before .r3 .given .1),
+    )
 
 returns-4 : tie.Need-returns-4
 unfolding group numbered
 returns-4 c =
-    let s = now (c .before .before .before .before .before .before .before .before .before .before .before .before .before .before .before .before .before .before .before .before .before .args .sheet) in
-    rw (seen (readAs s) (c .before .before .before .before .before .before .before .before .before .before .before .before .before .before .before .before .before .before .below .ensures .0) (c .before .before .before .before .before .before .before .before .before .before .before .before .before .before .before .before .side .given .1), seen (readAs s) (c .before .before .before .before .before .before .before .before .before .before .before .before .before .before .read-position .ensures .0) (c .before .before .before .before .before .before .before .before .before .before .before .before .position .given .1), known (rw (c .before .before .before .before .before .before .before .before .before .before .side-of .ensures) at (c .before .before .before .before .before .before .before .before .before .may-follow .ensures)) (c .before .before .before .before .before .before .before .before .if1 .taken), seen (readAs s) (c .before .before .before .before .before .before .before .number .ensures .0) (c .before .before .before .before .before .first .given .1), seen (readAs s) (c .before .before .before .number2 .ensures .0) (c .before .r4 .given .1))
+    rw (
+      told (c .before .before .before .before .before .before .before .before .before .before .before .before .before .before .before .before .before .before .below .ensures)
+          (c .before .before .before .before .before .before .before .before .before .before .before .before .before .before .before .before .side .given .1),
+      told (c .before .before .before .before .before .before .before .before .before .before .before .before .before .before .read-position .ensures)
+          (c .before .before .before .before .before .before .before .before .before .before .before .before .position .given .1),
+      known (rw (c .before .before .before .before .before .before .before .before .before .before .side-of .ensures) at (c .before .before .before .before .before .before .before .before .before .may-follow .ensures)) (c .before .before .before .before .before .before .before .before .if1 .taken),
+      told (c .before .before .before .before .before .before .before .number .ensures) (c .before .before .before .before .before .first .given .1),
+      told (c .before .before .before .number2 .ensures) (c .before .r4 .given .1),
+    )
 
 returns-5 : tie.Need-returns-5
 unfolding group numbered
 returns-5 c =
-    let s = now (c .before .before .before .before .before .before .before .before .before .before .before .before .before .before .before .before .before .before .before .before .before .before .before .args .sheet) in
-    rw (seen (readAs s) (c .before .before .before .before .before .before .before .before .before .before .before .before .before .before .before .before .before .before .before .before .below .ensures .0) (c .before .before .before .before .before .before .before .before .before .before .before .before .before .before .before .before .before .before .side .given .1), seen (readAs s) (c .before .before .before .before .before .before .before .before .before .before .before .before .before .before .before .before .read-position .ensures .0) (c .before .before .before .before .before .before .before .before .before .before .before .before .before .before .position .given .1), known (rw (c .before .before .before .before .before .before .before .before .before .before .before .before .side-of .ensures) at (c .before .before .before .before .before .before .before .before .before .before .before .may-follow .ensures)) (c .before .before .before .before .before .before .before .before .before .before .if1 .taken), seen (readAs s) (c .before .before .before .before .before .before .before .before .before .number .ensures .0) (c .before .before .before .before .before .before .before .first .given .1), seen (readAs s) (c .before .before .before .before .before .number2 .ensures .0) (c .before .before .before .count .given .1), known (c .before .reaches .ensures) (c .if2 .taken), ← c .before .before .before .before .before .before .before .before .before .before .before .before .side-of .ensures)
+    rw (
+      told (c .before .before .before .before .before .before .before .before .before .before .before .before .before .before .before .before .before .before .before .before .below .ensures)
+          (c .before .before .before .before .before .before .before .before .before .before .before .before .before .before .before .before .before .before .side .given .1),
+      told (c .before .before .before .before .before .before .before .before .before .before .before .before .before .before .before .before .read-position .ensures)
+          (c .before .before .before .before .before .before .before .before .before .before .before .before .before .before .position .given .1),
+      known (rw (c .before .before .before .before .before .before .before .before .before .before .before .before .side-of .ensures) at (c .before .before .before .before .before .before .before .before .before .before .before .may-follow .ensures)) (c .before .before .before .before .before .before .before .before .before .before .if1 .taken),
+      told (c .before .before .before .before .before .before .before .before .before .number .ensures)
+          (c .before .before .before .before .before .before .before .first .given .1),
+      told (c .before .before .before .before .before .number2 .ensures) (c .before .before .before .count .given .1),
+      known (c .before .reaches .ensures) (c .if2 .taken),
+      ← c .before .before .before .before .before .before .before .before .before .before .before .before .side-of .ensures,
+    )
 
 returns-6 : tie.Need-returns-6
 unfolding group numbered
 returns-6 c =
-    let s = now (c .before .before .before .before .before .before .before .before .before .before .before .before .before .before .before .before .before .before .before .before .before .before .before .args .sheet) in
-    rw (seen (readAs s) (c .before .before .before .before .before .before .before .before .before .before .before .before .before .before .before .before .before .before .before .before .below .ensures .0) (c .before .before .before .before .before .before .before .before .before .before .before .before .before .before .before .before .before .before .side .given .1), seen (readAs s) (c .before .before .before .before .before .before .before .before .before .before .before .before .before .before .before .before .read-position .ensures .0) (c .before .before .before .before .before .before .before .before .before .before .before .before .before .before .position .given .1), known (rw (c .before .before .before .before .before .before .before .before .before .before .before .before .side-of .ensures) at (c .before .before .before .before .before .before .before .before .before .before .before .may-follow .ensures)) (c .before .before .before .before .before .before .before .before .before .before .if1 .taken), seen (readAs s) (c .before .before .before .before .before .before .before .before .before .number .ensures .0) (c .before .before .before .before .before .before .before .first .given .1), seen (readAs s) (c .before .before .before .before .before .number2 .ensures .0) (c .before .before .before .count .given .1), known (c .before .reaches .ensures) (c .if2 .left))
+    rw (
+      told (c .before .before .before .before .before .before .before .before .before .before .before .before .before .before .before .before .before .before .before .before .below .ensures)
+          (c .before .before .before .before .before .before .before .before .before .before .before .before .before .before .before .before .before .before .side .given .1),
+      told (c .before .before .before .before .before .before .before .before .before .before .before .before .before .before .before .before .read-position .ensures)
+          (c .before .before .before .before .before .before .before .before .before .before .before .before .before .before .position .given .1),
+      known (rw (c .before .before .before .before .before .before .before .before .before .before .before .before .side-of .ensures) at (c .before .before .before .before .before .before .before .before .before .before .before .may-follow .ensures)) (c .before .before .before .before .before .before .before .before .before .before .if1 .taken),
+      told (c .before .before .before .before .before .before .before .before .before .number .ensures)
+          (c .before .before .before .before .before .before .before .first .given .1),
+      told (c .before .before .before .before .before .number2 .ensures) (c .before .before .before .count .given .1),
+      known (c .before .reaches .ensures) (c .if2 .left),
+    )
 
 returns-7 : tie.Need-returns-7
 unfolding group numbered
 returns-7 c =
-    let s = now (c .before .before .before .before .before .before .before .before .before .before .before .before .before .args .sheet) in
-    rw (seen (readAs s) (c .before .before .before .before .before .before .before .before .before .before .below .ensures .0) (c .before .before .before .before .before .before .before .before .side .given .1), seen (readAs s) (c .before .before .before .before .before .before .read-position .ensures .0) (c .before .before .before .before .position .given .1), known (rw (c .before .before .side-of .ensures) at (c .before .may-follow .ensures)) (c .if1 .left))
+    rw (
+      told (c .before .before .before .before .before .before .before .before .before .before .below .ensures)
+          (c .before .before .before .before .before .before .before .before .side .given .1),
+      told (c .before .before .before .before .before .before .read-position .ensures) (c .before .before .before .before .position .given .1),
+      known (rw (c .before .before .side-of .ensures) at (c .before .may-follow .ensures)) (c .if1 .left),
+    )
 
 pub read-group-spec : {M : Type 1} → statement M
 read-group-spec =

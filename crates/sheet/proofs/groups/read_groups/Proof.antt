@@ -28,7 +28,10 @@ returns : tie.Need-returns Inv-loop μ-loop
 returns c =
     let s = now (c .before .before .before .before .before .before .before .before .before .args .sheet) in
     let f = c .before .before .before .before .before .loop .inv in
-    (sym (fill-stop f (c .before .before .before .before .loop-test .taken) (seen (groupAs s) (c .before .before .before .read-group .ensures) (c .before .r .given .1))), f .kept)
+    record {
+      answer = sym (fill-stop f (c .before .before .before .before .loop-test .taken) (seen (groupAs s) (c .before .before .before .read-group .ensures) (c .before .r .given .1)));
+      left = f .kept;
+    }
 
 put-group-requires : tie.Need-put-group-requires Inv-loop μ-loop
 put-group-requires c κs =
@@ -44,7 +47,7 @@ loop-again c =
     fill-more (l .inv) group-table (c .before .before .before .before .before .before .before .before .before .before .before .before .before .pre) (c .before .before .before .before .before .before .before .before .loop-test .taken) read (c .before .before .put-group .ensures)
 
 returns-2 : tie.Need-returns-2 Inv-loop μ-loop
-returns-2 c = (sym (fill-all (c .before .loop .inv) (c .loop-test .left)), c .before .loop .inv .kept)
+returns-2 c = record { answer = sym (fill-all (c .before .loop .inv) (c .loop-test .left)); left = c .before .loop .inv .kept }
 
 pub read-groups-spec : {M : Type 1} → statement M
 read-groups-spec =

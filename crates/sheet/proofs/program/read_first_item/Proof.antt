@@ -1,7 +1,5 @@
 use borrow.Author.Needs.{needs}
-use denote.Ref.{now}
-use Rattle.laws.proofs.Steps.{seen}
-use Rattle.wire.specs.code.Views.{readAs, flagAs}
+use Rattle.laws.proofs.Steps.{told}
 use Rattle.wire.specs.Optional.{optional}
 use Rattle.sheet.proofs.program.read_first_item.Statement.{statement}
 use Rattle.sheet.proofs.program.read_first_item.Tie as tie
@@ -9,26 +7,32 @@ use Rattle.sheet.proofs.program.read_first_item.Tie as tie
 returns : tie.Need-returns
 unfolding optional
 returns c =
-    let s = now (c .before .before .before .before .before .before .args .sheet) in
-    rw (seen (flagAs s) (c .before .before .before .flag .ensures .0) (c .before .r .given .1))
+    rw (told (c .before .before .before .flag .ensures) (c .before .r .given .1))
 
 returns-2 : tie.Need-returns-2
 unfolding optional
 returns-2 c =
-    let s = now (c .before .before .before .before .before .before .before .before .before .before .before .args .sheet) in
-    rw (seen (flagAs s) (c .before .before .before .before .before .before .before .before .flag .ensures .0) (c .before .before .before .before .before .before .there .given .1), c .before .before .before .before .if1 .taken, seen (readAs s) (c .before .before .before .read-position .ensures .0) (c .before .r2 .given .1))
+    rw (
+      told (c .before .before .before .before .before .before .before .before .flag .ensures)
+          (c .before .before .before .before .before .before .there .given .1),
+      c .before .before .before .before .if1 .taken,
+      told (c .before .before .before .read-position .ensures) (c .before .r2 .given .1),
+    )
 
 returns-3 : tie.Need-returns-3
 unfolding optional
 returns-3 c =
-    let s = now (c .before .before .before .before .before .before .before .before .before .before .before .args .sheet) in
-    rw (seen (flagAs s) (c .before .before .before .before .before .before .before .before .flag .ensures .0) (c .before .before .before .before .before .before .there .given .1), c .before .before .before .before .if1 .taken, seen (readAs s) (c .before .before .before .read-position .ensures .0) (c .before .p .given .1))
+    rw (
+      told (c .before .before .before .before .before .before .before .before .flag .ensures)
+          (c .before .before .before .before .before .before .there .given .1),
+      c .before .before .before .before .if1 .taken,
+      told (c .before .before .before .read-position .ensures) (c .before .p .given .1),
+    )
 
 returns-4 : tie.Need-returns-4
 unfolding optional
 returns-4 c =
-    let s = now (c .before .before .before .before .before .before .before .args .sheet) in
-    rw (seen (flagAs s) (c .before .before .before .before .flag .ensures .0) (c .before .before .there .given .1), c .if1 .left)
+    rw (told (c .before .before .before .before .flag .ensures) (c .before .before .there .given .1), c .if1 .left)
 
 pub read-first-item-spec : {M : Type 1} → statement M
 read-first-item-spec =

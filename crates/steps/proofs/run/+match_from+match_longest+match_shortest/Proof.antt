@@ -102,7 +102,7 @@ from-pass-requires t c κs =
 
 from-returns-3 : (t : ℕ) → from-lts.Need-returns-3 (from-calls t) (from-at t) from.Post from-Inv from-μ
 from-returns-3 t c =
-    arrives (c .before .before .before .before .before .before .before .loop .inv .2) (unpassed (known (c .before .before .before .before .before .before .step-of .ensures) (c .before .before .before .before .plain .given .1)) (c .before .before .pass .ensures .0) (c .enum-told3 .given .1))
+    arrives (c .before .before .before .before .before .before .before .loop .inv .2) (unpassed (known (c .before .before .before .before .before .before .step-of .ensures) (c .before .before .before .before .plain .given .1)) (c .before .before .pass .ensures .answer) (c .enum-told3 .given .1))
 
 from-sub-rest : (t : ℕ) → from-lts.Need-sub-rest (from-calls t) (from-at t) from.Post from-Inv from-μ
 from-sub-rest t c =
@@ -122,7 +122,7 @@ from-loop-less t c =
 
 from-loop-again : (t : ℕ) → from-lts.Need-loop-again (from-calls t) (from-at t) from.Post from-Inv from-μ
 from-loop-again t c =
-    let l = lies (now (c .before .before .before .before .before .before .before .before .before .loop .rest)) (c .before .before .before .before .before .before .before .before .step-of .ensures) (c .before .before .before .before .before .before .plain .given .1) in (rw (c .before .before .e .given .1) at (c .before .before .before .before .pass .ensures .1), omega (arith, c .rest .given .2), rw from-on (onward (c .before .before .before .before .before .before .before .before .before .loop .inv .2) (passed (known (c .before .before .before .before .before .before .before .before .step-of .ensures) (c .before .before .before .before .before .before .plain .given .1)) (c .before .before .before .before .pass .ensures .0) (c .before .before .e .given .1))))
+    let l = lies (now (c .before .before .before .before .before .before .before .before .before .loop .rest)) (c .before .before .before .before .before .before .before .before .step-of .ensures) (c .before .before .before .before .before .before .plain .given .1) in (rw (c .before .before .e .given .1) at (c .before .before .before .before .pass .ensures .bounds), omega (arith, c .rest .given .2), rw from-on (onward (c .before .before .before .before .before .before .before .before .before .loop .inv .2) (passed (known (c .before .before .before .before .before .before .before .before .step-of .ensures) (c .before .before .before .before .before .before .plain .given .1)) (c .before .before .before .before .pass .ensures .answer) (c .before .before .e .given .1))))
 
 from-sub-match-longest : (t : ℕ) → from-lts.Need-sub-match-longest (from-calls t) (from-at t) from.Post from-Inv from-μ
 from-sub-match-longest t c =
@@ -214,31 +214,31 @@ longest-run-end-requires : (t : ℕ) → longest-lts.Need-run-end-requires (long
 longest-run-end-requires t c κs = c .before .before .pre .1
 
 longest-loop-holds : (t : ℕ) → longest-lts.Need-loop-holds (longest-calls t) (longest-at t) longest.Post longest-Inv longest-μ
-longest-loop-holds t c = (omega (arith, c .run-end .ensures .0), c .run-end .ensures .1, λ d l. l)
+longest-loop-holds t c = (omega (arith, c .run-end .ensures .answer), c .run-end .ensures .bounds, λ d l. l)
 
 longest-match-from-requires : (t : ℕ) → longest-lts.Need-match-from-requires (longest-calls t) (longest-at t) longest.Post longest-Inv longest-μ
 longest-match-from-requires t c κs = (omega arith, omega arith)
 
 longest-returns : (t : ℕ) → longest-lts.Need-returns (longest-calls t) (longest-at t) longest.Post longest-Inv longest-μ
 longest-returns t c =
-    long-hit (c .before .before .match-from .ensures) (c .before .before .before .loop .inv .2 (c .before .before .before .before .before .before .before .args .class) (long-all (c .before .before .before .before .run-end .ensures .0))) (c .enum-told .given .1)
+    long-hit (c .before .before .match-from .ensures) (c .before .before .before .loop .inv .2 (c .before .before .before .before .before .before .before .args .class) (long-all (c .before .before .before .before .run-end .ensures .answer))) (c .enum-told .given .1)
 
 longest-returns-2 : (t : ℕ) → longest-lts.Need-returns-2 (longest-calls t) (longest-at t) longest.Post longest-Inv longest-μ
 longest-returns-2 t c =
-    long-stop (c .before .before .before .match-from .ensures) (c .before .before .before .before .loop .inv .2 (c .before .before .before .before .before .before .before .before .args .class) (long-all (c .before .before .before .before .before .run-end .ensures .0))) (c .before .enum-told2 .given .1) (c .if1 .taken)
+    long-stop (c .before .before .before .match-from .ensures) (c .before .before .before .before .loop .inv .2 (c .before .before .before .before .before .before .before .before .args .class) (long-all (c .before .before .before .before .before .run-end .ensures .answer))) (c .before .enum-told2 .given .1) (c .if1 .taken)
 
 longest-char-before-requires : (t : ℕ) → longest-lts.Need-char-before-requires (longest-calls t) (longest-at t) longest.Post longest-Inv longest-μ
 longest-char-before-requires t c κs = (omega arith, c .before .before .before .before .loop .inv .1)
 
 longest-loop-less : (t : ℕ) → longest-lts.Need-loop-less (longest-calls t) (longest-at t) longest.Post longest-Inv longest-μ
-longest-loop-less t c = c .char-before .ensures .0
+longest-loop-less t c = c .char-before .ensures .bounds
 
 longest-loop-again : (t : ℕ) → longest-lts.Need-loop-again (longest-calls t) (longest-at t) longest.Post longest-Inv longest-μ
 longest-loop-again t c =
-    let left = c .before .before .before .before .before .loop .inv .2 (c .before .before .before .before .before .before .before .before .before .args .class) (long-all (c .before .before .before .before .before .before .run-end .ensures .0)) in (
-      long-back (c .before .before .before .before .match-from .ensures) left (c .before .before .enum-told2 .given .1) (c .before .if1 .left) (c .char-before .ensures .1) .0,
-      omega (arith, c .char-before .ensures .0),
-      λ d l. long-back (c .before .before .before .before .match-from .ensures) (c .before .before .before .before .before .loop .inv .2 d l) (c .before .before .enum-told2 .given .1) (c .before .if1 .left) (c .char-before .ensures .1) .1,
+    let left = c .before .before .before .before .before .loop .inv .2 (c .before .before .before .before .before .before .before .before .before .args .class) (long-all (c .before .before .before .before .before .before .run-end .ensures .answer)) in (
+      long-back (c .before .before .before .before .match-from .ensures) left (c .before .before .enum-told2 .given .1) (c .before .if1 .left) (c .char-before .ensures .answer) .0,
+      omega (arith, c .char-before .ensures .bounds),
+      λ d l. long-back (c .before .before .before .before .match-from .ensures) (c .before .before .before .before .before .loop .inv .2 d l) (c .before .before .enum-told2 .given .1) (c .before .if1 .left) (c .char-before .ensures .answer) .1,
     )
 
 shortest-loop-holds : (t : ℕ) → shortest-lts.Need-loop-holds (shortest-calls t) (shortest-at t) shortest.Post shortest-Inv shortest-μ
@@ -256,17 +256,17 @@ shortest-class-at-requires t c κs = c .before .before .before .loop .inv .0
 
 shortest-returns-2 : (t : ℕ) → shortest-lts.Need-returns-2 (shortest-calls t) (shortest-at t) shortest.Post shortest-Inv shortest-μ
 shortest-returns-2 t c =
-    short-stop (c .before .before .before .before .match-from .ensures) (c .before .before .before .before .before .loop .inv .1) (c .before .before .enum-told2 .given .1) (known (c .before .class-at .ensures .0) (c .if1 .taken))
+    short-stop (c .before .before .before .before .match-from .ensures) (c .before .before .before .before .before .loop .inv .1) (c .before .before .enum-told2 .given .1) (known (c .before .class-at .ensures .answer) (c .if1 .taken))
 
 shortest-add-e : (t : ℕ) → shortest-lts.Need-add-e (shortest-calls t) (shortest-at t) shortest.Post shortest-Inv shortest-μ
-shortest-add-e t c = omega (arith, c .before .class-at .ensures .1)
+shortest-add-e t c = omega (arith, c .before .class-at .ensures .bounds)
 
 shortest-loop-less : (t : ℕ) → shortest-lts.Need-loop-less (shortest-calls t) (shortest-at t) shortest.Post shortest-Inv shortest-μ
-shortest-loop-less t c = omega (arith, c .before .class-at .ensures .1)
+shortest-loop-less t c = omega (arith, c .before .class-at .ensures .bounds)
 
 shortest-loop-again : (t : ℕ) → shortest-lts.Need-loop-again (shortest-calls t) (shortest-at t) shortest.Post shortest-Inv shortest-μ
 shortest-loop-again t c =
-    (c .before .class-at .ensures .1, short-on (c .before .before .before .before .match-from .ensures) (c .before .before .before .before .before .loop .inv .1) (c .before .before .enum-told2 .given .1) (c .before .class-at .ensures .0) (c .if1 .left))
+    (c .before .class-at .ensures .bounds, short-on (c .before .before .before .before .match-from .ensures) (c .before .before .before .before .before .loop .inv .1) (c .before .before .enum-told2 .given .1) (c .before .class-at .ensures .answer) (c .if1 .left))
 
 pub +match-from+match-longest+match-shortest-spec : {M : Type 1} → statement M
 +match-from+match-longest+match-shortest-spec =

@@ -22,13 +22,13 @@ returns : tie.Need-returns Inv-loop μ-loop
 returns c =
     let a = c .before .before .before .before .args in
     let l = c .before .before .before .loop in
-    (l .inv .0, precedes (now (a .s)) (a .end) (l .i) (l .inv .1) (λ z x y. omega arith) (l .inv .0))
+    record { answer = precedes (now (a .s)) (a .end) (l .i) (l .inv .1) (λ z x y. omega arith) (l .inv .0); bounds = l .inv .0 }
 
 returns-2 : tie.Need-returns-2 Inv-loop μ-loop
 returns-2 c =
     let a = c .before .before .before .before .before .args in
     let l = c .before .before .before .before .loop in
-    (l .inv .0, precedes (now (a .s)) (a .end) (l .i) (l .inv .1) (λ z x y. omega arith) (l .inv .0))
+    record { answer = precedes (now (a .s)) (a .end) (l .i) (l .inv .1) (λ z x y. omega arith) (l .inv .0); bounds = l .inv .0 }
 
 loop-again : tie.Need-loop-again Inv-loop μ-loop
 loop-again c =
@@ -41,7 +41,7 @@ returns-3 : tie.Need-returns-3 Inv-loop μ-loop
 returns-3 c =
     let a = c .before .before .args in
     let l = c .before .loop in
-    (l .inv .0, precedes (now (a .s)) (a .end) (l .i) (l .inv .1) (λ z x y. omega arith) (l .inv .0))
+    record { answer = precedes (now (a .s)) (a .end) (l .i) (l .inv .1) (λ z x y. omega arith) (l .inv .0); bounds = l .inv .0 }
 
 pub char-before-spec : {M : Type 1} → statement M
 char-before-spec =

@@ -1,15 +1,16 @@
 use borrow.Author.Needs.{needs}
 use native.Mathlib.Omega.{arith}
 use mathlib.Core.Path.{_≡_}
-use Prim.Native.Nat.{ℕ, _-_, _≤_, _<_}
+use Prim.Native.Nat.{_-_}
 use lib.ListN.{length, getD}
 use denote.Ref.{now}
 use Rattle.laws.proofs.Onward.{on-by-block}
+use Rattle.text.specs.code.Places.{Passing}
 use Rattle.text.proofs.bytes.skip_zeros.Statement.{statement}
 use Rattle.text.proofs.bytes.skip_zeros.Tie as tie
 
 abbrev Inv-loop : tie.InvT-loop
-Inv-loop s at i₀ i = (at ≤ i) × (i ≤ length s) × ((k : ℕ) → at ≤ k → k < i → getD s k 0 ≡ 0)
+Inv-loop s at i₀ i = Passing (λ k. getD s k 0 ≡ 0) at (length s) i
 
 abbrev μ-loop : tie.MeasureT-loop
 μ-loop s at i₀ i = length s - i
@@ -25,7 +26,7 @@ loop-again c =
     let a = c .before .before .before .before .args in
     let l = c .before .before .loop in
     let f = c .before .zeros-at .ensures (c .if1 .taken) in
-    (omega arith, f .0, on-by-block (λ k. getD (now (a .s)) k 0 ≡ 0) (a .at) (l .i) 32 (l .inv .2) (f .1))
+    record { from = omega arith; to = f .0; each = on-by-block (λ k. getD (now (a .s)) k 0 ≡ 0) (a .at) (l .i) 32 (l .inv .each) (f .1) }
 
 returns : tie.Need-returns Inv-loop μ-loop
 returns c = c .before .before .loop .inv
@@ -33,4 +34,4 @@ returns c = c .before .before .loop .inv
 pub skip-zeros-spec : {M : Type 1} → statement M
 skip-zeros-spec =
     tie.close
-    (tie.spec Inv-loop μ-loop (λ c. (omega arith, omega arith, λ k g h. absurd (omega arith))) (λ c κs. search needs) add-i loop-less loop-again returns)
+    (tie.spec Inv-loop μ-loop (λ c. record { from = omega arith; to = omega arith; each = λ k g h. absurd (omega arith) }) (λ c κs. search needs) add-i loop-less loop-again returns)

@@ -8,12 +8,18 @@ use Rattle.text.proofs.class.class_at.Tie as tie
 returns-2 : tie.Need-returns-2
 returns-2 c =
     let a = c .before .before .before .before .before .before .args in
-    (rw (c .if3 .taken) at (ascii-class (a .class) (now (a .s)) (a .at) (omega arith) (omega arith) (c .before .in-class .ensures)), omega arith)
+    record {
+      answer = rw (c .if3 .taken) at (ascii-class (a .class) (now (a .s)) (a .at) (omega arith) (omega arith) (c .before .in-class .ensures));
+      bounds = omega arith;
+    }
 
 returns-3 : tie.Need-returns-3
 returns-3 c =
     let a = c .before .before .before .before .before .before .args in
-    (rw (c .if3 .left) at (ascii-class (a .class) (now (a .s)) (a .at) (omega arith) (omega arith) (c .before .in-class .ensures)), omega arith)
+    record {
+      answer = rw (c .if3 .left) at (ascii-class (a .class) (now (a .s)) (a .at) (omega arith) (omega arith) (c .before .in-class .ensures));
+      bounds = omega arith;
+    }
 
 pub class-at-spec : {M : Type 1} → statement M
 class-at-spec =

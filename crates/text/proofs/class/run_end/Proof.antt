@@ -20,13 +20,14 @@ abbrev μ-loop : tie.MeasureT-loop
 returns : tie.Need-returns Inv-loop μ-loop
 returns c =
     let a = c .before .before .before .before .args in
-    omega (arith, run-stops (a .class) (drop (c .before .before .loop .i) (now (a .s))) (known (c .before .class-at .ensures .0) (c .if1 .taken)))
+    let stops = run-stops (a .class) (drop (c .before .before .loop .i) (now (a .s))) (known (c .before .class-at .ensures .answer) (c .if1 .taken)) in
+    record { answer = omega (arith, stops); bounds = omega arith }
 
 loop-again : tie.Need-loop-again Inv-loop μ-loop
 loop-again c =
     let a = c .before .before .before .before .args in
     let i = c .before .before .loop .i in
-    let e = rw drop-drop at (run-goes-on (a .class) (drop i (now (a .s))) (c .before .class-at .ensures .0) (c .if1 .left)) in
+    let e = rw drop-drop at (run-goes-on (a .class) (drop i (now (a .s))) (c .before .class-at .ensures .answer) (c .if1 .left)) in
     (omega (arith, e), omega arith)
 
 pub run-end-spec : {M : Type 1} → statement M

@@ -16,11 +16,11 @@ returns c =
     let t = drop (a .at) (now (a .s)) in
     let e : c .before .before .char-at .result .len ≡ classAt (a .class) t =
     rw (← c .before .before .char-at .ensures, known (c .before .in-class .ensures) (c .if1 .taken)) in
-    (e, omega (arith, class-fits (a .class) t, length-drop (a .at) (now (a .s))))
+    record { answer = e; bounds = omega (arith, class-fits (a .class) t, length-drop (a .at) (now (a .s))) }
 
 returns-2 : tie.Need-returns-2
 unfolding classAt
-returns-2 c = (rw (← c .before .before .char-at .ensures, known (c .before .in-class .ensures) (c .if1 .left)), omega arith)
+returns-2 c = record { answer = rw (← c .before .before .char-at .ensures, known (c .before .in-class .ensures) (c .if1 .left)); bounds = omega arith }
 
 pub wide-class-at-spec : {M : Type 1} → statement M
 wide-class-at-spec = tie.close (tie.spec (λ c κs. search needs) (λ c κs. search needs) returns returns-2)

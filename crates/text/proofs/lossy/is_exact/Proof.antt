@@ -18,13 +18,23 @@ abbrev μ-loop : tie.MeasureT-loop
 μ-loop s i₀ i = length s - i
 
 returns : tie.Need-returns Inv-loop μ-loop
-returns c = (rw (c .before .before .before .loop .inv, marked-count (now (c .before .before .before .before .before .args .s)) (c .before .before .before .loop .i) (c .before .before .loop-test .taken) (known (c .before .surrogate-at .ensures) (c .if1 .taken)), eqb·suc-zero), λ points t. lossy-of t)
+returns c = record {
+  answer = rw (
+    c .before .before .before .loop .inv,
+    marked-count (now (c .before .before .before .before .before .args .s)) (c .before .before .before .loop .i) (c .before .before .loop-test .taken) (known (c .before .surrogate-at .ensures) (c .if1 .taken)),
+    eqb·suc-zero,
+  );
+  meaning = λ points t. lossy-of t;
+}
 
 loop-again : tie.Need-loop-again Inv-loop μ-loop
 loop-again c = c .before .before .before .loop .inv ∙ copied-count (now (c .before .before .before .before .before .args .s)) (c .before .before .before .loop .i) (c .before .before .loop-test .taken) (known (c .before .surrogate-at .ensures) (c .if1 .left))
 
 returns-2 : tie.Need-returns-2 Inv-loop μ-loop
-returns-2 c = (rw (c .before .loop .inv, none-left (now (c .before .before .before .args .s)) (c .before .loop .i) (c .loop-test .left)), λ points t. lossy-of t)
+returns-2 c = record {
+  answer = rw (c .before .loop .inv, none-left (now (c .before .before .before .args .s)) (c .before .loop .i) (c .loop-test .left));
+  meaning = λ points t. lossy-of t;
+}
 
 pub is-exact-spec : {M : Type 1} → statement M
 is-exact-spec =

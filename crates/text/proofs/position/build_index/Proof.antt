@@ -52,7 +52,10 @@ returns c =
     let a = c .before .before .before .before .before .before .before .before .args in
     let past = 2 * (length (now (a .s)) / 64) + 2 in
     let first = rw (← c .before .before .before .before .put .ensures) at (untouched-more (untouched-none (now (a .index)) 0) origin) in
-    (rw e at (c .before .loop .inv .3), (search needs, c .before .loop .inv .4 .from past (omega arith) ∙ first .from past (omega arith)))
+    record {
+      answer = rw e at (c .before .loop .inv .3);
+      left = (search needs, c .before .loop .inv .4 .from past (omega arith) ∙ first .from past (omega arith));
+    }
 
 pub build-index-spec : {M : Type 1} → statement M
 build-index-spec =

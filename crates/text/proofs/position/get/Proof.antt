@@ -13,7 +13,7 @@ cast-column c = omega (arith, c .shared-slice-known2 .given (2 * c .before .befo
 returns : tie.Need-returns
 returns c =
     let k = c .before .before .args .k in
-    (search needs, omega (arith, c .shared-slice-known2 .given (2 * k), c .shared-slice-known2 .given (2 * k + 1)))
+    record { answer = search needs; bounds = omega (arith, c .shared-slice-known2 .given (2 * k), c .shared-slice-known2 .given (2 * k + 1)) }
 
 pub get-spec : {M : Type 1} → statement M
 get-spec =

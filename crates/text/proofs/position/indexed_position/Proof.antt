@@ -6,7 +6,7 @@ use Rattle.text.proofs.position.indexed_position.Tie as tie
 
 returns : tie.Need-returns
 unfolding indexedPosition
-returns c = rw (mod-eq-sub-mul-div, ← c .before .get .ensures .0) (c .scan .ensures)
+returns c = rw (mod-eq-sub-mul-div, ← c .before .get .ensures .answer) (c .scan .ensures)
 
 pub indexed-position-spec : {M : Type 1} → statement M
 indexed-position-spec = tie.close (tie.spec (λ c κs. search needs) (λ c. search needs) (λ c κs. search needs) returns)

@@ -35,7 +35,7 @@ returns : tie.Need-returns Inv-loop μ-loop
 returns c =
     let l = c .before .loop in
     let e : l .i ≡ 64 = omega arith in
-    (rw e at (l .inv .2), omega arith)
+    record { answer = rw e at (l .inv .2); bounds = omega arith }
 
 pub lines-in-spec : {M : Type 1} → statement M
 lines-in-spec =

@@ -11,9 +11,9 @@ returns : tie.Need-returns
 returns c =
     let a = c .before .before .before .before .before .before .before .args in
     let t = take 64 (drop (a .from) (now (a .s))) in
-    let lines = c .before .before .before .before .before .lines-in .ensures .0 in
+    let lines = c .before .before .before .before .before .lines-in .ensures .answer in
     let past = c .before .before .before .before .past-last .ensures in
-    let begun = c .before .before .before .begun-from .ensures .0 in
+    let begun = c .before .before .before .begun-from .ensures .answer in
     let line = walk-line (a .p) t in
     let column = block-unbroken (a .p) (now (a .s)) (a .from) (omega arith) _ (past .0) (past .1) (c .before .if1 .taken) in
     same-place (walk characters (a .p) t) (omega arith) (omega arith)
@@ -22,9 +22,9 @@ returns-2 : tie.Need-returns-2
 returns-2 c =
     let a = c .before .before .before .before .before .before .args in
     let t = take 64 (drop (a .from) (now (a .s))) in
-    let lines = c .before .before .before .before .lines-in .ensures .0 in
+    let lines = c .before .before .before .before .lines-in .ensures .answer in
     let past = c .before .before .before .past-last .ensures in
-    let begun = c .before .before .begun-from .ensures .0 in
+    let begun = c .before .before .begun-from .ensures .answer in
     let line = walk-line (a .p) t in
     let column = block-broken (a .p) (now (a .s)) (a .from) (omega arith) _ (past .0) (past .1) (c .if1 .left) (past .2) in
     same-place (walk characters (a .p) t) (omega arith) (omega arith)

@@ -5,23 +5,23 @@ use Rattle.text.proofs.utf8.code_at.Statement.{statement}
 use Rattle.text.proofs.utf8.code_at.Tie as tie
 
 returns : tie.Need-returns
-returns c = let a = c .before .before .before .args in code1 (now (a .s)) (a .at) (a .n) (c .if1 .taken) (c .before .byte-at .ensures .0)
+returns c = let a = c .before .before .before .args in code1 (now (a .s)) (a .at) (a .n) (c .if1 .taken) (c .before .byte-at .ensures .answer)
 
 returns-2 : tie.Need-returns-2
 returns-2 c =
     let a = c .before .before .before .before .before .args in
-    code2 (now (a .s)) (a .at) (a .n) (c .if2 .taken) (c .before .before .before .byte-at .ensures .0) (c .before .byte-at2 .ensures .0)
+    code2 (now (a .s)) (a .at) (a .n) (c .if2 .taken) (c .before .before .before .byte-at .ensures .answer) (c .before .byte-at2 .ensures .answer)
 
 returns-3 : tie.Need-returns-3
 returns-3 c =
     let a = c .before .before .before .before .before .before .before .args in
-    code3 (now (a .s)) (a .at) (a .n) (c .if3 .taken) (c .before .before .before .before .before .byte-at .ensures .0) (c .before .before .before .byte-at2 .ensures .0) (c .before .byte-at3 .ensures .0)
+    code3 (now (a .s)) (a .at) (a .n) (c .if3 .taken) (c .before .before .before .before .before .byte-at .ensures .answer) (c .before .before .before .byte-at2 .ensures .answer) (c .before .byte-at3 .ensures .answer)
 
 returns-4 : tie.Need-returns-4
 returns-4 c =
     let a = c .before .before .before .before .before .before .before .before .before .args in
-    code4 (now (a .s)) (a .at) (a .n) (c .if4 .taken) (c .before .before .before .before .before .before .before .byte-at .ensures .0) (c .before .before .before .before .before .byte-at2 .ensures .0) (c .before .before .before .byte-at3 .ensures .0)
-    (c .before .byte-at4 .ensures .0)
+    code4 (now (a .s)) (a .at) (a .n) (c .if4 .taken) (c .before .before .before .before .before .before .before .byte-at .ensures .answer) (c .before .before .before .before .before .byte-at2 .ensures .answer) (c .before .before .before .byte-at3 .ensures .answer)
+    (c .before .byte-at4 .ensures .answer)
 
 returns-5 : tie.Need-returns-5
 returns-5 c =

@@ -30,20 +30,20 @@ returns : tie.Need-returns Inv-loop μ-loop
 returns c =
     let a = c .before .before .before .before .before .before .before .args in
     let l = c .before .before .before .before .before .loop in
-    (l .inv .1, omega arith, λ h. stuck (a .encoding) (now (a .s)) (l .i) (omega arith) (c .before .char-length .ensures .0) (c .if2 .taken))
+    (l .inv .1, omega arith, λ h. stuck (a .encoding) (now (a .s)) (l .i) (omega arith) (c .before .char-length .ensures .answer) (c .if2 .taken))
 
 add-i-2 : tie.Need-add-i-2 Inv-loop μ-loop
 add-i-2 c =
     let a = c .before .before .before .before .before .before .before .args in
     let l = c .before .before .before .before .before .loop in
-    omega (arith, fits (a .encoding) (drop (l .i) (now (a .s))), length-drop (l .i) (now (a .s)), c .before .char-length .ensures .0)
+    omega (arith, fits (a .encoding) (drop (l .i) (now (a .s))), length-drop (l .i) (now (a .s)), c .before .char-length .ensures .answer)
 
 loop-again-2 : tie.Need-loop-again-2 Inv-loop μ-loop
 loop-again-2 c =
     let a = c .before .before .before .before .before .before .before .args in
     let l = c .before .before .before .before .before .loop in (
-      omega (arith, fits (a .encoding) (drop (l .i) (now (a .s))), length-drop (l .i) (now (a .s)), c .before .char-length .ensures .0),
-      l .inv .1 ∙ passed (a .encoding) (now (a .s)) (l .i) (omega arith) _ (c .before .char-length .ensures .0) (c .if2 .left),
+      omega (arith, fits (a .encoding) (drop (l .i) (now (a .s))), length-drop (l .i) (now (a .s)), c .before .char-length .ensures .answer),
+      l .inv .1 ∙ passed (a .encoding) (now (a .s)) (l .i) (omega arith) _ (c .before .char-length .ensures .answer) (c .if2 .left),
     )
 
 returns-2 : tie.Need-returns-2 Inv-loop μ-loop

@@ -123,7 +123,7 @@ module _ (t : ℕ) where
       let s = now (a .sheet) in
       let more : 0 < a .left = omega (arith, c .before .before .before .before .if1 .left) in
       let onward = more-groups (a .scale) (a .low) s (a .self .at) (a .left) more (c .before .before .before .if2 .left) (c .before .if3 .left) (c .before .before .shared-slice-known2 .given (a .self .at) .fits) in
-      (c .groups .ensures .0 ∙ sym onward, past-before (a .self .at) (length s) (c .groups .result) (c .groups .ensures .1))
+      (c .groups .ensures .answer ∙ sym onward, past-before (a .self .at) (length s) (c .groups .result) (c .groups .ensures .bounds))
 
 pub +groups-spec : {M : Type 1} → statement M
 +groups-spec = close μ-groups λ t. groups-lts.spec (calls t)

@@ -16,7 +16,10 @@ cast-a c = omega (arith, c .shared-slice-known2 .given (c .before .before .befor
 returns : tie.Need-returns
 returns c =
     let a = c .before .before .before .before .args in
-    (sym (one-group (now (a .sheet)) (a .self .at) (c .before .before .if1 .taken) (c .if2 .taken)), omega (arith, c .before .before .if1 .taken))
+    record {
+      answer = sym (one-group (now (a .sheet)) (a .self .at) (c .before .before .if1 .taken) (c .if2 .taken));
+      bounds = omega (arith, c .before .before .if1 .taken);
+    }
 
 cast-b : tie.Need-cast-b
 cast-b c = omega (arith, c .shared-slice-known3 .given (c .before .before .before .before .before .before .args .self .at + 1))
@@ -29,7 +32,10 @@ returns-2 c =
     let a = c .before .before .before .before .before .before .before .before .args in
     let s = now (a .sheet) in
     let room : a .self .at + 2 < length s = omega (arith, c .before .before .before .if3 .taken) in
-    (sym (two-groups s (a .self .at) room (c .before .before .before .before .if2 .left) (c .before .before .before .before .before .shared-slice-known2 .given (a .self .at) .fits) (c .if5 .taken) (c .before .if4 .taken)), omega (arith, room))
+    record {
+      answer = sym (two-groups s (a .self .at) room (c .before .before .before .before .if2 .left) (c .before .before .before .before .before .shared-slice-known2 .given (a .self .at) .fits) (c .if5 .taken) (c .before .if4 .taken));
+      bounds = omega (arith, room);
+    }
 
 cast-c : tie.Need-cast-c
 cast-c c = omega (arith, c .shared-slice-known4 .given (c .before .before .before .before .before .before .before .before .args .self .at + 2))
@@ -53,11 +59,14 @@ returns-3 c =
     let a = c .before .before .before .before .before .before .before .before .before .before .args in
     let s = now (a .sheet) in
     let room : a .self .at + 2 < length s = omega (arith, c .before .before .before .before .before .if3 .taken) in
-    (sym (three-groups s (a .self .at) room (c .before .before .before .before .before .before .if2 .left) (c .before .before .before .before .before .before .before .shared-slice-known2 .given (a .self .at) .fits) (c .before .before .before .if4 .left) (c .before .before .before .before .shared-slice-known3 .given (a .self .at + 1) .fits) (c .if7 .taken) (c .before .if6 .taken)), omega (arith, room))
+    record {
+      answer = sym (three-groups s (a .self .at) room (c .before .before .before .before .before .before .if2 .left) (c .before .before .before .before .before .before .before .shared-slice-known2 .given (a .self .at) .fits) (c .before .before .before .if4 .left) (c .before .before .before .before .shared-slice-known3 .given (a .self .at + 1) .fits) (c .if7 .taken) (c .before .if6 .taken));
+      bounds = omega (arith, room);
+    }
 
 returns-4 : tie.Need-returns-4
 unfolding number
-returns-4 c = (c .groups .ensures .0, c .groups .ensures .1)
+returns-4 c = record { answer = c .groups .ensures .answer; bounds = c .groups .ensures .bounds }
 
 pub number-spec : {M : Type 1} → statement M
 number-spec =

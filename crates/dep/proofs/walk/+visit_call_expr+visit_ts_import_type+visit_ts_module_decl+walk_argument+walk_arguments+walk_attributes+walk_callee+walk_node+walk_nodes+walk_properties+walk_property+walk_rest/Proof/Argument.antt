@@ -3,9 +3,8 @@ use mathlib.Core.Path.{_∙_}
 use Prim.Native.Nat.{ℕ}
 use lib.ListN.{drop}
 use denote.Ref.{now}
-use Rattle.laws.proofs.Steps.{seen}
+use Rattle.laws.proofs.Steps.{told}
 use Rattle.sheet.specs.Nodes.{node}
-use Rattle.heads.specs.code.Views.{argumentAs}
 use Rattle.heads.proofs.ByHead.{argument-by-head}
 use Rattle.dep.specs.code.Walk.{typesFrom, writtenAs}
 use Rattle.dep.proofs.Arms.{argument-holds}
@@ -18,7 +17,13 @@ returns t c =
     let a = c .before .before .before .before .before .before .before .before .args in
     let s = now (a .sheet) in
     let source = now (a .source) in
-    (rw (argument-by-head (node source (a .levels)) source (drop (a .cursor .at) s), seen (argumentAs s) (c .before .before .before .read-argument .ensures .0) (c .before .r .given .1)), tt)
+    record {
+      answer = rw (
+        argument-by-head (node source (a .levels)) source (drop (a .cursor .at) s),
+        told (c .before .before .before .read-argument .ensures) (c .before .r .given .1),
+      );
+      bounds = tt;
+    }
 
 pub returns-2 : (t : ℕ) → walk-argument-lts.Need-returns-2 (walk-argument-calls t) (walk-argument-at t) walk-argument.Post
 returns-2 t c =
@@ -29,4 +34,11 @@ returns-2 t c =
     let w = writtenAs (now (a .out)) (now (a .notes)) (a .place) in
     let inner = node source (a .levels) in
     let h = c .before .before .before .before .before .before .before .before .next .given .0 in
-    (rw (argument-by-head inner source (drop (a .cursor .at) s), seen (argumentAs s) (c .before .before .before .before .before .before .before .before .before .before .read-argument .ensures .0) (c .before .before .before .before .before .before .before .before .next .given .1)) (c .before .before .before .before .walk-node .ensures .0 ∙ argument-holds source types w (h .0) (h .1 .0) (inner (drop (h .1 .1 .0 .at) s))), c .before .before .before .before .walk-node .ensures .1)
+    record {
+      answer = rw (
+        argument-by-head inner source (drop (a .cursor .at) s),
+        told (c .before .before .before .before .before .before .before .before .before .before .read-argument .ensures)
+            (c .before .before .before .before .before .before .before .before .next .given .1),
+      ) (c .before .before .before .before .walk-node .ensures .answer ∙ argument-holds source types w (h .0) (h .1 .0) (inner (drop (h .1 .1 .0 .at) s)));
+      bounds = c .before .before .before .before .walk-node .ensures .bounds;
+    }

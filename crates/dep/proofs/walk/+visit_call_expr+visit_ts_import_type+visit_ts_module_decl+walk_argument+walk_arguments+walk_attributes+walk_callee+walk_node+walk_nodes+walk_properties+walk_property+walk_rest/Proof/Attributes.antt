@@ -5,11 +5,10 @@ use native.Mathlib.Omega.{arith}
 use lib.ListN.{drop}
 use denote.Ref.{now}
 use Rattle.laws.specs.Decoded.{ok}
-use Rattle.laws.proofs.Steps.{seen}
+use Rattle.laws.proofs.Steps.{told, bounded}
 use Rattle.laws.proofs.Decoding.{built}
 use Rattle.sheet.specs.Tree.{withObject}
 use Rattle.sheet.specs.Nodes.{node, properties}
-use Rattle.heads.specs.code.Views.{attributesAs}
 use Rattle.heads.proofs.ByHead.{attributes-by-head}
 use Rattle.dep.specs.Collect.{noting}
 use Rattle.dep.specs.code.Walk.{typesFrom, writtenAs, afterProperties, afterWith}
@@ -19,11 +18,11 @@ use Rattle.dep.proofs.walk.+visit_call_expr+visit_ts_import_type+visit_
 use Rattle.dep.proofs.walk.+visit_call_expr+visit_ts_import_type+visit_ts_module_decl+walk_argument+walk_arguments+walk_attributes+walk_callee+walk_node+walk_nodes+walk_properties+walk_property+walk_rest.Proof.Calls.{walk-attributes-at, walk-attributes-calls}
 
 pub sub-walk-properties : (t : ℕ) → walk-attributes-lts.Need-sub-walk-properties (walk-attributes-calls t) (walk-attributes-at t) walk-attributes.Post
-sub-walk-properties t c = (rw (c .before .count .given .1) at (c .before .before .before .read-attributes .ensures .1)) .0
+sub-walk-properties t c = bounded (c .before .before .before .read-attributes .ensures) (c .before .count .given .1) .0
 
 pub walk-properties-requires : (t : ℕ) → walk-attributes-lts.Need-walk-properties-requires (walk-attributes-calls t) (walk-attributes-at t) walk-attributes.Post
 walk-properties-requires t c κs =
-    let past = rw (c .before .before .before .count .given .1) at (c .before .before .before .before .before .read-attributes .ensures .1) in
+    let past = bounded (c .before .before .before .before .before .read-attributes .ensures) (c .before .before .before .count .given .1) in
     (omega arith, (c .before .before .before .before .before .before .before .before .before .before .before .pre .1 .0, past .2))
 
 pub returns : (t : ℕ) → walk-attributes-lts.Need-returns (walk-attributes-calls t) (walk-attributes-at t) walk-attributes.Post
@@ -31,7 +30,14 @@ returns t c =
     let a = c .before .before .before .before .before .before .before .before .before .args in
     let s = now (a .sheet) in
     let source = now (a .source) in
-    (rw (c .before .before .before .before .if1 .taken, attributes-by-head source (a .levels) (drop (a .cursor .at) s), seen (attributesAs s) (c .before .before .before .read-attributes .ensures .0) (c .before .r .given .1)), tt)
+    record {
+      answer = rw (
+        c .before .before .before .before .if1 .taken,
+        attributes-by-head source (a .levels) (drop (a .cursor .at) s),
+        told (c .before .before .before .read-attributes .ensures) (c .before .r .given .1),
+      );
+      bounds = tt;
+    }
 
 pub returns-2 : (t : ℕ) → walk-attributes-lts.Need-returns-2 (walk-attributes-calls t) (walk-attributes-at t) walk-attributes.Post
 unfolding noting
@@ -42,11 +48,22 @@ returns-2 t c =
     let types = typesFrom source (now (a .tables)) (a .counts) in
     let w = writtenAs (now (a .out)) (now (a .notes)) (a .place) in
     let h = c .before .before .before .before .before .before .before .before .count .given .0 in
-    (rw (c .before .before .before .before .before .before .before .before .before .before .before .if1 .taken, attributes-by-head source (a .levels) (drop (a .cursor .at) s), seen (attributesAs s) (c .before .before .before .before .before .before .before .before .before .before .read-attributes .ensures .0) (c .before .before .before .before .before .before .before .before .count .given .1)) (c .before .before .before .before .walk-properties .ensures .0 ∙ built (afterProperties source types w) (afterWith source types w) (withObject (h .0)) (λ ps. refl) (properties (node source (a .levels - 1)) (h .1 .0) (drop (h .1 .1 .0 .at) s))), c .before .before .before .before .walk-properties .ensures .1)
+    record {
+      answer = rw (
+        c .before .before .before .before .before .before .before .before .before .before .before .if1 .taken,
+        attributes-by-head source (a .levels) (drop (a .cursor .at) s),
+        told (c .before .before .before .before .before .before .before .before .before .before .read-attributes .ensures)
+            (c .before .before .before .before .before .before .before .before .count .given .1),
+      ) (c .before .before .before .before .walk-properties .ensures .answer ∙ built (afterProperties source types w) (afterWith source types w) (withObject (h .0)) (λ ps. refl) (properties (node source (a .levels - 1)) (h .1 .0) (drop (h .1 .1 .0 .at) s)));
+      bounds = c .before .before .before .before .walk-properties .ensures .bounds;
+    }
 
 pub returns-3 : (t : ℕ) → walk-attributes-lts.Need-returns-3 (walk-attributes-calls t) (walk-attributes-at t) walk-attributes.Post
 unfolding noting
 returns-3 t c =
     let a = c .before .before .before .before .before .args in
     let s = now (a .sheet) in
-    (rw (c .if1 .left) (sym (ap (λ w. ok w (drop (a .cursor .at) s)) (entries-nil (now (a .out)) (now (a .notes)) (a .place)))), c .before .before .before .before .before .pre .1 .1)
+    record {
+      answer = rw (c .if1 .left) (sym (ap (λ w. ok w (drop (a .cursor .at) s)) (entries-nil (now (a .out)) (now (a .notes)) (a .place))));
+      bounds = c .before .before .before .before .before .pre .1 .1;
+    }

@@ -6,12 +6,11 @@ use lib.ListN.{drop}
 use denote.Ref.{now}
 use Rattle.laws.specs.Decoded.{onOk, _>>=_}
 use Rattle.laws.proofs.Decoding.{onOk-no, then-no}
-use Rattle.laws.proofs.Steps.{seen}
+use Rattle.laws.proofs.Steps.{told, bounded}
 use Rattle.wire.specs.Number.{number}
-use Rattle.wire.specs.code.Views.{readAs}
 use Rattle.sheet.specs.Nodes.{node, nodes, arguments, callRest}
 use Rattle.nodes.proofs.Arms.{pair}
-use Rattle.dep.specs.code.Walk.{typesFrom, writtenAs, walkedAs, afterNodes, afterArguments, afterCall}
+use Rattle.dep.specs.code.Walk.{typesFrom, writtenAs, afterNodes, afterArguments, afterCall}
 use Rattle.dep.proofs.Arms.{call-walked}
 use Rattle.dep.proofs.walk.visit_call_expr.Reads as visit-call-expr
 use Rattle.dep.proofs.walk.+visit_call_expr+visit_ts_import_type+visit_ts_module_decl+walk_argument+walk_arguments+walk_attributes+walk_callee+walk_node+walk_nodes+walk_properties+walk_property+walk_rest.Lts-visit_call_expr as visit-call-expr-lts
@@ -19,12 +18,12 @@ use Rattle.dep.proofs.walk.+visit_call_expr+visit_ts_import_type+visit_
 
 pub walk-arguments-requires : (t : ℕ) → visit-call-expr-lts.Need-walk-arguments-requires (visit-call-expr-calls t) (visit-call-expr-at t) visit-call-expr.Post
 walk-arguments-requires t c κs =
-    let past = rw (c .before .before .before .count .given .1) at (c .before .before .before .before .before .number .ensures .1) in
+    let past = bounded (c .before .before .before .before .before .number .ensures) (c .before .before .before .count .given .1) in
     (omega arith, (c .before .before .before .before .before .before .before .before .before .before .pre .1, past .1))
 
 pub walk-nodes-requires : (t : ℕ) → visit-call-expr-lts.Need-walk-nodes-requires (visit-call-expr-calls t) (visit-call-expr-at t) visit-call-expr.Post
 walk-nodes-requires t c κs =
-    let past = rw (c .before .before .before .more .given .1) at (c .before .before .before .before .before .number2 .ensures .1) in
+    let past = bounded (c .before .before .before .before .before .number2 .ensures) (c .before .before .before .more .given .1) in
     let is : 6 * (c .before .before .before .before .before .before .before .before .before .before .before .before .before .before .before .before .before .before .before .before .before .before .before .before .args .levels) + 3 ≡ t = c .before .before .before .before .before .before .before .before .before .before .before .before .before .before .before .before .before .before .before .before .before .before .before .before .pre .0 in
     let less : 6 * (c .before .before .before .before .before .before .before .before .before .before .before .before .before .before .before .before .before .before .before .before .before .before .before .before .args .levels) + 1 < t = omega (arith, is) in
     (less, (c .before .before .before .before .before .before .before .before .before .before .before .before .before .before .before .before .before .before .before .before .before .before .before .before .pre .1, past .1))
@@ -34,10 +33,7 @@ put-call-entry-requires t c κs = c .before .before .before .before .before .bef
 
 pub returns : (t : ℕ) → visit-call-expr-lts.Need-returns (visit-call-expr-calls t) (visit-call-expr-at t) visit-call-expr.Post
 unfolding callRest
-returns t c =
-    let a = c .before .before .before .before .before .before .before .before .args in
-    let s = now (a .sheet) in
-    (rw (seen (readAs s) (c .before .before .before .number .ensures .0) (c .before .r .given .1)), tt)
+returns t c = record { answer = rw (told (c .before .before .before .number .ensures) (c .before .r .given .1)); bounds = tt }
 
 pub returns-2 : (t : ℕ) → visit-call-expr-lts.Need-returns-2 (visit-call-expr-calls t) (visit-call-expr-at t) visit-call-expr.Post
 unfolding callRest
@@ -50,7 +46,14 @@ returns-2 t c =
     let inner = node source (a .levels) in
     let (n, next) = c .before .before .before .before .before .before .before .before .before .before .before .count .given .0 in
     let xs = arguments inner source n (drop (next .0 .at) s) in
-    (rw (seen (readAs s) (c .before .before .before .before .before .before .before .before .before .before .before .before .before .number .ensures .0) (c .before .before .before .before .before .before .before .before .before .before .before .count .given .1), onOk-no (afterArguments source types w) xs (seen (walkedAs s (c .before .before .before .before .before .before .before .walk-arguments .last .1 .1 .1 .1 .1 .1 .1 .0) (c .before .before .before .before .before .before .before .walk-arguments .last .1 .1 .1 .1 .1 .1 .1 .1 .0)) (c .before .before .before .before .before .before .before .walk-arguments .ensures .0) (c .before .r2 .given .1))), tt)
+    record {
+      answer = rw (
+        told (c .before .before .before .before .before .before .before .before .before .before .before .before .before .number .ensures)
+            (c .before .before .before .before .before .before .before .before .before .before .before .count .given .1),
+        onOk-no (afterArguments source types w) xs (told (c .before .before .before .before .before .before .before .walk-arguments .ensures) (c .before .r2 .given .1)),
+      );
+      bounds = tt;
+    }
 
 pub returns-3 : (t : ℕ) → visit-call-expr-lts.Need-returns-3 (visit-call-expr-calls t) (visit-call-expr-at t) visit-call-expr.Post
 unfolding callRest
@@ -63,9 +66,12 @@ returns-3 t c =
     let inner = node source (a .levels) in
     let (n, next) = c .before .before .before .before .before .before .before .before .before .before .before .before .before .before .before .count .given .0 in
     let xs = arguments inner source n (drop (next .0 .at) s) in
-    let cut = seen (readAs s) (c .before .before .before .number2 .ensures .0) (c .before .r4 .given .1) in
-    let none = then-no (afterArguments source types w) xs (seen (walkedAs s (c .before .before .before .before .before .before .before .before .before .before .before .walk-arguments .last .1 .1 .1 .1 .1 .1 .1 .0) (c .before .before .before .before .before .before .before .before .before .before .before .walk-arguments .last .1 .1 .1 .1 .1 .1 .1 .1 .0)) (c .before .before .before .before .before .before .before .before .before .before .before .walk-arguments .ensures .0) (c .before .before .before .before .before .r3 .given .1)) (λ xs. number >>= λ m. nodes inner m >>= pair xs) (c .before .r4 .given .0 .0) (λ xs. rw cut) in
-    (rw (seen (readAs s) (c .before .before .before .before .before .before .before .before .before .before .before .before .before .before .before .before .before .number .ensures .0) (c .before .before .before .before .before .before .before .before .before .before .before .before .before .before .before .count .given .1)) (sym (ap (onOk (afterCall source types (a .call) w)) none)), tt)
+    let cut = told (c .before .before .before .number2 .ensures) (c .before .r4 .given .1) in
+    let none = then-no (afterArguments source types w) xs (told (c .before .before .before .before .before .before .before .before .before .before .before .walk-arguments .ensures) (c .before .before .before .before .before .r3 .given .1)) (λ xs. number >>= λ m. nodes inner m >>= pair xs) (c .before .r4 .given .0 .0) (λ xs. rw cut) in
+    record {
+      answer = rw (told (c .before .before .before .before .before .before .before .before .before .before .before .before .before .before .before .before .before .number .ensures) (c .before .before .before .before .before .before .before .before .before .before .before .before .before .before .before .count .given .1)) (sym (ap (onOk (afterCall source types (a .call) w)) none));
+      bounds = tt;
+    }
 
 pub returns-4 : (t : ℕ) → visit-call-expr-lts.Need-returns-4 (visit-call-expr-calls t) (visit-call-expr-at t) visit-call-expr.Post
 unfolding callRest
@@ -80,9 +86,16 @@ returns-4 t c =
     let xs = arguments inner source n (drop (next .0 .at) s) in
     let (m, after) = c .before .before .before .before .before .before .before .before .before .before .before .more .given .0 in
     let w1 = writtenAs (c .before .before .before .before .before .before .before .before .before .before .before .before .before .before .before .before .before .before .before .before .before .walk-arguments .last .1 .1 .1 .1 .1 .1 .1 .0) (c .before .before .before .before .before .before .before .before .before .before .before .before .before .before .before .before .before .before .before .before .before .walk-arguments .last .1 .1 .1 .1 .1 .1 .1 .1 .0) (c .before .before .before .before .before .before .before .before .before .before .before .before .before .before .before .r3 .given .0 .0) in
-    let cut = onOk-no (afterNodes source types w1) (nodes inner m (drop (after .0 .at) s)) (seen (walkedAs s (c .before .before .before .before .before .before .before .walk-nodes .last .1 .1 .1 .1 .1 .1 .1 .0) (c .before .before .before .before .before .before .before .walk-nodes .last .1 .1 .1 .1 .1 .1 .1 .1 .0)) (c .before .before .before .before .before .before .before .walk-nodes .ensures .0) (c .before .r5 .given .1)) in
-    let none = then-no (afterArguments source types w) xs (seen (walkedAs s (c .before .before .before .before .before .before .before .before .before .before .before .before .before .before .before .before .before .before .before .before .before .walk-arguments .last .1 .1 .1 .1 .1 .1 .1 .0) (c .before .before .before .before .before .before .before .before .before .before .before .before .before .before .before .before .before .before .before .before .before .walk-arguments .last .1 .1 .1 .1 .1 .1 .1 .1 .0)) (c .before .before .before .before .before .before .before .before .before .before .before .before .before .before .before .before .before .before .before .before .before .walk-arguments .ensures .0) (c .before .before .before .before .before .before .before .before .before .before .before .before .before .before .before .r3 .given .1)) (λ xs. number >>= λ m. nodes inner m >>= pair xs) (c .before .r5 .given .0 .0) (λ xs. rw (seen (readAs s) (c .before .before .before .before .before .before .before .before .before .before .before .before .before .number2 .ensures .0) (c .before .before .before .before .before .before .before .before .before .before .before .more .given .1), cut)) in
-    (rw (seen (readAs s) (c .before .before .before .before .before .before .before .before .before .before .before .before .before .before .before .before .before .before .before .before .before .before .before .before .before .before .before .number .ensures .0) (c .before .before .before .before .before .before .before .before .before .before .before .before .before .before .before .before .before .before .before .before .before .before .before .before .before .count .given .1)) (sym (ap (onOk (afterCall source types (a .call) w)) none)), tt)
+    let cut = onOk-no (afterNodes source types w1) (nodes inner m (drop (after .0 .at) s)) (told (c .before .before .before .before .before .before .before .walk-nodes .ensures) (c .before .r5 .given .1)) in
+    let none = then-no (afterArguments source types w) xs (told (c .before .before .before .before .before .before .before .before .before .before .before .before .before .before .before .before .before .before .before .before .before .walk-arguments .ensures) (c .before .before .before .before .before .before .before .before .before .before .before .before .before .before .before .r3 .given .1)) (λ xs. number >>= λ m. nodes inner m >>= pair xs) (c .before .r5 .given .0 .0) (λ xs. rw (
+      told (c .before .before .before .before .before .before .before .before .before .before .before .before .before .number2 .ensures)
+          (c .before .before .before .before .before .before .before .before .before .before .before .more .given .1),
+      cut,
+    )) in
+    record {
+      answer = rw (told (c .before .before .before .before .before .before .before .before .before .before .before .before .before .before .before .before .before .before .before .before .before .before .before .before .before .before .before .number .ensures) (c .before .before .before .before .before .before .before .before .before .before .before .before .before .before .before .before .before .before .before .before .before .before .before .before .before .count .given .1)) (sym (ap (onOk (afterCall source types (a .call) w)) none));
+      bounds = tt;
+    }
 
 pub same-length-7 : (t : ℕ) → visit-call-expr-lts.Need-same-length-7 (visit-call-expr-calls t) (visit-call-expr-at t) visit-call-expr.Post
 same-length-7 t c = c .before .before .before .before .put-call-entry .kept .1 .1 .1 .1 .1 .1 .1 .1 .0 ∙ (c .before .before .before .before .before .before .before .before .before .before .before .before .before .before .walk-nodes .kept .1 .1 .1 .1 .1 .1 .1 .0 ∙ c .before .before .before .before .before .before .before .before .before .before .before .before .before .before .before .before .before .before .before .before .before .before .before .before .before .before .before .before .walk-arguments .kept .1 .1 .1 .1 .1 .1 .1 .0)
@@ -101,5 +114,8 @@ returns-5 t c =
     let inner = node source (a .levels) in
     let (n, next) = c .before .before .before .before .before .before .before .before .before .before .before .before .before .before .before .before .before .before .before .before .before .before .before .before .before .before .before .before .before .before .before .before .count .given .0 in
     let xs = arguments inner source n (drop (next .0 .at) s) in
-    let past = rw (c .before .before .before .before .before .before .before .before .r6 .given .1) at (c .before .before .before .before .before .before .before .before .before .before .before .before .before .before .walk-nodes .ensures .1) in
-    (rw (seen (readAs s) (c .before .before .before .before .before .before .before .before .before .before .before .before .before .before .before .before .before .before .before .before .before .before .before .before .before .before .before .before .before .before .before .before .before .before .number .ensures .0) (c .before .before .before .before .before .before .before .before .before .before .before .before .before .before .before .before .before .before .before .before .before .before .before .before .before .before .before .before .before .before .before .before .count .given .1)) (call-walked source types w (a .call) inner xs (seen (walkedAs s (c .before .before .before .before .before .before .before .before .before .before .before .before .before .before .before .before .before .before .before .before .before .before .before .before .before .before .before .before .walk-arguments .last .1 .1 .1 .1 .1 .1 .1 .0) (c .before .before .before .before .before .before .before .before .before .before .before .before .before .before .before .before .before .before .before .before .before .before .before .before .before .before .before .before .walk-arguments .last .1 .1 .1 .1 .1 .1 .1 .1 .0)) (c .before .before .before .before .before .before .before .before .before .before .before .before .before .before .before .before .before .before .before .before .before .before .before .before .before .before .before .before .walk-arguments .ensures .0) (c .before .before .before .before .before .before .before .before .before .before .before .before .before .before .before .before .before .before .before .before .before .before .r3 .given .1)) (seen (readAs s) (c .before .before .before .before .before .before .before .before .before .before .before .before .before .before .before .before .before .before .before .before .number2 .ensures .0) (c .before .before .before .before .before .before .before .before .before .before .before .before .before .before .before .before .before .before .more .given .1)) (seen (walkedAs s (c .before .before .before .before .before .before .before .before .before .before .before .before .before .before .walk-nodes .last .1 .1 .1 .1 .1 .1 .1 .0) (c .before .before .before .before .before .before .before .before .before .before .before .before .before .before .walk-nodes .last .1 .1 .1 .1 .1 .1 .1 .1 .0)) (c .before .before .before .before .before .before .before .before .before .before .before .before .before .before .walk-nodes .ensures .0) (c .before .before .before .before .before .before .before .before .r6 .given .1)) (c .before .before .before .before .put-call-entry .ensures .0)), past)
+    let past = bounded (c .before .before .before .before .before .before .before .before .before .before .before .before .before .before .walk-nodes .ensures) (c .before .before .before .before .before .before .before .before .r6 .given .1) in
+    record {
+      answer = rw (told (c .before .before .before .before .before .before .before .before .before .before .before .before .before .before .before .before .before .before .before .before .before .before .before .before .before .before .before .before .before .before .before .before .before .before .number .ensures) (c .before .before .before .before .before .before .before .before .before .before .before .before .before .before .before .before .before .before .before .before .before .before .before .before .before .before .before .before .before .before .before .before .count .given .1)) (call-walked source types w (a .call) inner xs (told (c .before .before .before .before .before .before .before .before .before .before .before .before .before .before .before .before .before .before .before .before .before .before .before .before .before .before .before .before .walk-arguments .ensures) (c .before .before .before .before .before .before .before .before .before .before .before .before .before .before .before .before .before .before .before .before .before .before .r3 .given .1)) (told (c .before .before .before .before .before .before .before .before .before .before .before .before .before .before .before .before .before .before .before .before .number2 .ensures) (c .before .before .before .before .before .before .before .before .before .before .before .before .before .before .before .before .before .before .more .given .1)) (told (c .before .before .before .before .before .before .before .before .before .before .before .before .before .before .walk-nodes .ensures) (c .before .before .before .before .before .before .before .before .r6 .given .1)) (c .before .before .before .before .put-call-entry .ensures .answer));
+      bounds = past;
+    }

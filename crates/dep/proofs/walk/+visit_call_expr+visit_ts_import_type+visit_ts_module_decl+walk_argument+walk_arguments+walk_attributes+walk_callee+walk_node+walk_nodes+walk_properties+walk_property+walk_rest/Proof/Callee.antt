@@ -24,7 +24,10 @@ returns t c =
     let s = now (a .sheet) in
     let source = now (a .source) in
     let walked = c .before .before .before .before .before .before .before .walk-nodes in
-    (called-refused source (typesFrom source (now (a .tables)) (a .counts)) (a .levels) (a .span) s (a .head) (c .before .before .before .before .before .before .before .before .before .before .before .call-of .ensures) (entries-nil (now (a .out)) (now (a .notes)) (a .place)) (start .pre .1 .2) (rw (c .before .before .before .before .before .before .before .before .before .before .callees .ensures) at (seen (walkedAs s (walked .last .1 .1 .1 .1 .1 .1 .1 .0) (walked .last .1 .1 .1 .1 .1 .1 .1 .1 .0)) (walked .ensures .0) (c .before .r .given .1))), tt)
+    record {
+      answer = called-refused source (typesFrom source (now (a .tables)) (a .counts)) (a .levels) (a .span) s (a .head) (c .before .before .before .before .before .before .before .before .before .before .before .call-of .ensures) (entries-nil (now (a .out)) (now (a .notes)) (a .place)) (start .pre .1 .2) (rw (c .before .before .before .before .before .before .before .before .before .before .callees .ensures) at (seen (walkedAs s (walked .last .1 .1 .1 .1 .1 .1 .1 .0) (walked .last .1 .1 .1 .1 .1 .1 .1 .1 .0)) (walked .ensures .answer) (c .before .r .given .1)));
+      bounds = tt;
+    }
 
 pub returns-2 : (t : ℕ) → walk-callee-lts.Need-returns-2 (walk-callee-calls t) (walk-callee-at t) walk-callee.Post
 returns-2 t c =
@@ -33,4 +36,7 @@ returns-2 t c =
     let s = now (a .sheet) in
     let source = now (a .source) in
     let walked = c .before .before .before .before .before .before .before .before .before .before .before .before .before .before .walk-nodes in
-    (c .before .before .before .before .visit-call-expr .ensures .0 ∙ called-holds source (typesFrom source (now (a .tables)) (a .counts)) (a .levels) (a .span) s (a .head) (c .before .before .before .before .before .before .before .before .before .before .before .before .before .before .before .before .before .before .call-of .ensures) (entries-nil (now (a .out)) (now (a .notes)) (a .place)) (start .pre .1 .2) (rw (c .before .before .before .before .before .before .before .before .before .before .before .before .before .before .before .before .before .callees .ensures) at (seen (walkedAs s (walked .last .1 .1 .1 .1 .1 .1 .1 .0) (walked .last .1 .1 .1 .1 .1 .1 .1 .1 .0)) (walked .ensures .0) (c .before .before .before .before .before .before .before .before .place .given .1))), c .before .before .before .before .visit-call-expr .ensures .1)
+    record {
+      answer = c .before .before .before .before .visit-call-expr .ensures .answer ∙ called-holds source (typesFrom source (now (a .tables)) (a .counts)) (a .levels) (a .span) s (a .head) (c .before .before .before .before .before .before .before .before .before .before .before .before .before .before .before .before .before .before .call-of .ensures) (entries-nil (now (a .out)) (now (a .notes)) (a .place)) (start .pre .1 .2) (rw (c .before .before .before .before .before .before .before .before .before .before .before .before .before .before .before .before .before .callees .ensures) at (seen (walkedAs s (walked .last .1 .1 .1 .1 .1 .1 .1 .0) (walked .last .1 .1 .1 .1 .1 .1 .1 .1 .0)) (walked .ensures .answer) (c .before .before .before .before .before .before .before .before .place .given .1)));
+      bounds = c .before .before .before .before .visit-call-expr .ensures .bounds;
+    }

@@ -7,17 +7,15 @@ use lib.ListN.{drop}
 use denote.Ref.{now}
 use Rattle.laws.specs.Decoded.{onOk, andThen, _>>=_, return}
 use Rattle.laws.proofs.Decoding.{onOk-no, then-no}
-use Rattle.laws.proofs.Steps.{seen}
-use Rattle.wire.specs.code.Views.{flagAs}
+use Rattle.laws.proofs.Steps.{told, bounded}
 use Rattle.sheet.specs.Tree.{importType}
 use Rattle.sheet.specs.Nodes.{node, nodes, attributes, attributesObject, typeRest}
 use Rattle.heads.specs.code.Views.{quotedOf}
 use Rattle.nodes.specs.code.Judged.{tallyAll}
-use Rattle.nodes.specs.code.Answers.{talliedAs}
 use Rattle.nodes.proofs.Arms.{pair}
 use Rattle.report.specs.declared.names.StaticDependencyKind.the-variants as statics
 use Rattle.dep.specs.declared.entries.StaticDependencyDescriptor.{StaticDependencyDescriptor}
-use Rattle.dep.specs.code.Walk.{typesFrom, writtenAs, walkedAs, afterNode, afterNodes}
+use Rattle.dep.specs.code.Walk.{typesFrom, writtenAs, afterNode, afterNodes}
 use Rattle.dep.proofs.Arms.{typed-walked, typed-holds}
 use Rattle.dep.proofs.walk.visit_ts_import_type.Reads as visit-ts-import-type
 use Rattle.dep.proofs.walk.+visit_call_expr+visit_ts_import_type+visit_ts_module_decl+walk_argument+walk_arguments+walk_attributes+walk_callee+walk_node+walk_nodes+walk_properties+walk_property+walk_rest.Lts-visit_ts_import_type as visit-ts-import-type-lts
@@ -34,7 +32,7 @@ walk-nodes-requires t c κs =
 
 pub walk-attributes-requires : (t : ℕ) → visit-ts-import-type-lts.Need-walk-attributes-requires (visit-ts-import-type-calls t) (visit-ts-import-type-at t) visit-ts-import-type.Post
 walk-attributes-requires t c κs =
-    let past = rw (c .before .before .before .before .before .before .before .before .before .before .before .before .before .before .before .before .before .before .before .before .there .given .1) at (c .before .before .before .before .before .before .before .before .before .before .before .before .before .before .before .before .before .before .before .before .before .before .flag .ensures .1) in
+    let past = bounded (c .before .before .before .before .before .before .before .before .before .before .before .before .before .before .before .before .before .before .before .before .before .before .flag .ensures) (c .before .before .before .before .before .before .before .before .before .before .before .before .before .before .before .before .before .before .before .before .there .given .1) in
     let is : 6 * (c .before .before .before .before .before .before .before .before .before .before .before .before .before .before .before .before .before .before .before .before .before .before .before .before .before .before .before .before .before .before .before .args .levels) + 2 ≡ t = c .before .before .before .before .before .before .before .before .before .before .before .before .before .before .before .before .before .before .before .before .before .before .before .before .before .before .before .before .before .before .before .pre .0 in
     let less : 6 * (c .before .before .before .before .before .before .before .before .before .before .before .before .before .before .before .before .before .before .before .before .before .before .before .before .before .before .before .before .before .before .before .args .levels) < t = omega (arith, is) in
     (less, (c .before .before .before .before .before .before .before .before .before .before .before .before .before .before .before .before .before .before .before .before .before .before .before .before .before .before .before .before .before .before .before .pre .1 .0, past .1))
@@ -47,7 +45,7 @@ returns t c =
     let source = now (a .source) in
     let inner = node source (a .levels) in
     let ns = nodes inner (a .count) (drop (a .cursor .at) s) in
-    (rw (onOk-no tallyAll ns (seen (talliedAs s) (c .before .before .before .check-nodes .ensures .0) (c .before .r .given .1))), tt)
+    record { answer = rw (onOk-no tallyAll ns (told (c .before .before .before .check-nodes .ensures) (c .before .r .given .1))); bounds = tt }
 
 pub returns-2 : (t : ℕ) → visit-ts-import-type-lts.Need-returns-2 (visit-ts-import-type-calls t) (visit-ts-import-type-at t) visit-ts-import-type.Post
 unfolding typeRest attributes
@@ -60,9 +58,12 @@ returns-2 t c =
     let inner = node source (a .levels) in
     let ns = nodes inner (a .count) (drop (a .cursor .at) s) in
     let object′ = attributesObject source (a .levels) in
-    let cut = seen (flagAs s) (c .before .before .before .flag .ensures .0) (c .before .r2 .given .1) in
-    let none = then-no tallyAll ns (seen (talliedAs s) (c .before .before .before .before .before .before .before .check-nodes .ensures .0) (c .before .before .before .before .before .next .given .1)) (λ ns. attributes object′ >>= pair ns) (c .before .r2 .given .0 .0) (λ ns. rw cut) in
-    (sym (ap (λ x. onOk (afterNode source types w) (andThen x (λ p. return (importType (a .span) (quotedOf s (a .specifier)) (p .0) (p .1))))) none), tt)
+    let cut = told (c .before .before .before .flag .ensures) (c .before .r2 .given .1) in
+    let none = then-no tallyAll ns (told (c .before .before .before .before .before .before .before .check-nodes .ensures) (c .before .before .before .before .before .next .given .1)) (λ ns. attributes object′ >>= pair ns) (c .before .r2 .given .0 .0) (λ ns. rw cut) in
+    record {
+      answer = sym (ap (λ x. onOk (afterNode source types w) (andThen x (λ p. return (importType (a .span) (quotedOf s (a .specifier)) (p .0) (p .1))))) none);
+      bounds = tt;
+    }
 
 pub returns-3 : (t : ℕ) → visit-ts-import-type-lts.Need-returns-3 (visit-ts-import-type-calls t) (visit-ts-import-type-at t) visit-ts-import-type.Post
 unfolding typeRest
@@ -74,7 +75,10 @@ returns-3 t c =
     let inner = node source (a .levels) in
     let ns = nodes inner (a .count) (drop (a .cursor .at) s) in
     let w1 = writtenAs (c .before .before .before .before .before .before .before .before .before .before .before .before .before .before .put-with-entry .last .1 .1 .1 .1 .1 .1 .1 .1 .0) (c .before .before .before .before .before .before .before .before .before .before .before .before .before .before .put-with-entry .last .1 .1 .1 .1 .1 .1 .1 .1 .1 .0) (c .before .before .before .before .before .before .before .before .before .before .before .before .before .before .put-with-entry .result) in
-    (rw (onOk-no (afterNodes source types w1) ns (seen (walkedAs s (c .before .before .before .before .before .before .before .walk-nodes .last .1 .1 .1 .1 .1 .1 .1 .0) (c .before .before .before .before .before .before .before .walk-nodes .last .1 .1 .1 .1 .1 .1 .1 .1 .0)) (c .before .before .before .before .before .before .before .walk-nodes .ensures .0) (c .before .r3 .given .1))), tt)
+    record {
+      answer = rw (onOk-no (afterNodes source types w1) ns (told (c .before .before .before .before .before .before .before .walk-nodes .ensures) (c .before .r3 .given .1)));
+      bounds = tt;
+    }
 
 pub same-length-3 : (t : ℕ) → visit-ts-import-type-lts.Need-same-length-3 (visit-ts-import-type-calls t) (visit-ts-import-type-at t) visit-ts-import-type.Post
 same-length-3 t c = c .before .before .before .before .walk-attributes .kept .1 .1 .1 .1 .1 .1 .1 .0 ∙ (c .before .before .before .before .before .before .before .before .before .before .before .before .before .before .walk-nodes .kept .1 .1 .1 .1 .1 .1 .1 .0 ∙ c .before .before .before .before .before .before .before .before .before .before .before .before .before .before .before .before .before .before .before .before .before .put-with-entry .kept .1 .1 .1 .1 .1 .1 .1 .1 .0)
@@ -94,4 +98,7 @@ returns-4 t c =
     let ns = nodes inner (a .count) (drop (a .cursor .at) s) in
     let object′ = attributesObject source (a .levels) in
     let d : StaticDependencyDescriptor = record { kind = statics.ImportType; span = a .span; specifier = a .specifier; «is_side_effect» = false } in
-    (c .before .before .before .before .walk-attributes .ensures .0 ∙ typed-walked source types w s d object′ ns (seen (talliedAs s) (c .before .before .before .before .before .before .before .before .before .before .before .before .before .before .before .before .before .before .before .before .before .before .before .before .before .before .before .before .before .before .before .check-nodes .ensures .0) (c .before .before .before .before .before .before .before .before .before .before .before .before .before .before .before .before .before .before .before .before .before .before .before .before .before .before .before .before .before .next .given .1)) (seen (flagAs s) (c .before .before .before .before .before .before .before .before .before .before .before .before .before .before .before .before .before .before .before .before .before .before .before .before .before .before .before .flag .ensures .0) (c .before .before .before .before .before .before .before .before .before .before .before .before .before .before .before .before .before .before .before .before .before .before .before .before .before .there .given .1)) (c .before .before .before .before .before .before .before .before .before .before .before .before .before .before .before .before .before .before .before .before .before .put-with-entry .ensures .0) (seen (walkedAs s (c .before .before .before .before .before .before .before .before .before .before .before .before .before .before .walk-nodes .last .1 .1 .1 .1 .1 .1 .1 .0) (c .before .before .before .before .before .before .before .before .before .before .before .before .before .before .walk-nodes .last .1 .1 .1 .1 .1 .1 .1 .1 .0)) (c .before .before .before .before .before .before .before .before .before .before .before .before .before .before .walk-nodes .ensures .0) (c .before .before .before .before .before .before .before .before .place .given .1)) ∙ typed-holds source types w s (a .span) (a .specifier) (typeRest inner object′ (a .count) (drop (a .cursor .at) s)), c .before .before .before .before .walk-attributes .ensures .1)
+    record {
+      answer = c .before .before .before .before .walk-attributes .ensures .answer ∙ typed-walked source types w s d object′ ns (told (c .before .before .before .before .before .before .before .before .before .before .before .before .before .before .before .before .before .before .before .before .before .before .before .before .before .before .before .before .before .before .before .check-nodes .ensures) (c .before .before .before .before .before .before .before .before .before .before .before .before .before .before .before .before .before .before .before .before .before .before .before .before .before .before .before .before .before .next .given .1)) (told (c .before .before .before .before .before .before .before .before .before .before .before .before .before .before .before .before .before .before .before .before .before .before .before .before .before .before .before .flag .ensures) (c .before .before .before .before .before .before .before .before .before .before .before .before .before .before .before .before .before .before .before .before .before .before .before .before .before .there .given .1)) (c .before .before .before .before .before .before .before .before .before .before .before .before .before .before .before .before .before .before .before .before .before .put-with-entry .ensures .answer) (told (c .before .before .before .before .before .before .before .before .before .before .before .before .before .before .walk-nodes .ensures) (c .before .before .before .before .before .before .before .before .place .given .1)) ∙ typed-holds source types w s (a .span) (a .specifier) (typeRest inner object′ (a .count) (drop (a .cursor .at) s));
+      bounds = c .before .before .before .before .walk-attributes .ensures .bounds;
+    }

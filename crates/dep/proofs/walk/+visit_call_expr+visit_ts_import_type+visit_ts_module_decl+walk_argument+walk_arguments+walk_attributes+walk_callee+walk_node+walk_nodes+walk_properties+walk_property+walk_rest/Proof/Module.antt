@@ -20,4 +20,7 @@ returns t c =
     let types = typesFrom source (now (a .tables)) (a .counts) in
     let w = writtenAs (now (a .out)) (now (a .notes)) (a .place) in
     let x = nodes (node source (a .levels)) (a .count) (drop (a .cursor .at) s) in
-    (c .before .before .before .before .walk-nodes .ensures .0 ∙ module-holds source types w (a .span) (Option.some (quotedOf s (a .specifier))) (c .before .before .before .before .before .before .before .before .before .before .before .put-module-entry .ensures) x, c .before .before .before .before .walk-nodes .ensures .1)
+    record {
+      answer = c .before .before .before .before .walk-nodes .ensures .answer ∙ module-holds source types w (a .span) (Option.some (quotedOf s (a .specifier))) (c .before .before .before .before .before .before .before .before .before .before .before .put-module-entry .ensures) x;
+      bounds = c .before .before .before .before .walk-nodes .ensures .bounds;
+    }

@@ -3,8 +3,7 @@ use Prim.Native.Nat.{ℕ}
 use native.Mathlib.Omega.{arith}
 use lib.ListN.{drop}
 use denote.Ref.{now}
-use Rattle.laws.proofs.Steps.{seen}
-use Rattle.heads.specs.code.Views.{headAs}
+use Rattle.laws.proofs.Steps.{told, bounded}
 use Rattle.heads.proofs.ByHead.{node-by-head}
 use Rattle.dep.proofs.Spans.{head-spanned}
 use Rattle.dep.proofs.walk.walk_node.Reads as walk-node
@@ -12,26 +11,36 @@ use Rattle.dep.proofs.walk.+visit_call_expr+visit_ts_import_type+visit_
 use Rattle.dep.proofs.walk.+visit_call_expr+visit_ts_import_type+visit_ts_module_decl+walk_argument+walk_arguments+walk_attributes+walk_callee+walk_node+walk_nodes+walk_properties+walk_property+walk_rest.Proof.Calls.{walk-node-at, walk-node-calls}
 
 pub sub-walk-rest : (t : ℕ) → walk-node-lts.Need-sub-walk-rest (walk-node-calls t) (walk-node-at t) walk-node.Post
-sub-walk-rest t c = (rw (c .before .span .given .1) at (c .before .before .before .read-head .ensures .1)) .0
+sub-walk-rest t c = bounded (c .before .before .before .read-head .ensures) (c .before .span .given .1) .0
 
 pub walk-rest-requires : (t : ℕ) → walk-node-lts.Need-walk-rest-requires (walk-node-calls t) (walk-node-at t) walk-node.Post
 walk-rest-requires t c κs =
     let a = c .before .before .before .before .before .before .before .before .before .before .args in
     let s = now (a .sheet) in
     let source = now (a .source) in
-    let past = rw (c .before .before .before .span .given .1) at (c .before .before .before .before .before .read-head .ensures .1) in
-    (omega arith, (c .before .before .before .before .before .before .before .before .before .before .pre .1, (past .2, past .3, head-spanned source (a .levels) (drop (a .cursor .at) s) (seen (headAs s) (c .before .before .before .before .before .read-head .ensures .0) (c .before .before .before .span .given .1)))))
+    let past = bounded (c .before .before .before .before .before .read-head .ensures) (c .before .before .before .span .given .1) in
+    (omega arith, (c .before .before .before .before .before .before .before .before .before .before .pre .1, (past .2, past .3, head-spanned source (a .levels) (drop (a .cursor .at) s) (told (c .before .before .before .before .before .read-head .ensures) (c .before .before .before .span .given .1)))))
 
 pub returns : (t : ℕ) → walk-node-lts.Need-returns (walk-node-calls t) (walk-node-at t) walk-node.Post
 returns t c =
     let a = c .before .before .before .before .before .before .before .before .args in
     let s = now (a .sheet) in
     let source = now (a .source) in
-    (rw (node-by-head source (a .levels) (drop (a .cursor .at) s), seen (headAs s) (c .before .before .before .read-head .ensures .0) (c .before .r .given .1)), tt)
+    record {
+      answer = rw (node-by-head source (a .levels) (drop (a .cursor .at) s), told (c .before .before .before .read-head .ensures) (c .before .r .given .1));
+      bounds = tt;
+    }
 
 pub returns-2 : (t : ℕ) → walk-node-lts.Need-returns-2 (walk-node-calls t) (walk-node-at t) walk-node.Post
 returns-2 t c =
     let a = c .before .before .before .before .before .before .before .before .before .before .before .before .before .before .before .args in
     let s = now (a .sheet) in
     let source = now (a .source) in
-    (rw (node-by-head source (a .levels) (drop (a .cursor .at) s), seen (headAs s) (c .before .before .before .before .before .before .before .before .before .before .read-head .ensures .0) (c .before .before .before .before .before .before .before .before .span .given .1)) (c .before .before .before .before .walk-rest .ensures .0), c .before .before .before .before .walk-rest .ensures .1)
+    record {
+      answer = rw (
+        node-by-head source (a .levels) (drop (a .cursor .at) s),
+        told (c .before .before .before .before .before .before .before .before .before .before .read-head .ensures)
+            (c .before .before .before .before .before .before .before .before .span .given .1),
+      ) (c .before .before .before .before .walk-rest .ensures .answer);
+      bounds = c .before .before .before .before .walk-rest .ensures .bounds;
+    }

@@ -5,9 +5,8 @@ use native.Mathlib.Omega.{arith}
 use lib.ListN.{drop}
 use denote.Ref.{now}
 use Rattle.laws.specs.Decoded.{onOk}
-use Rattle.laws.proofs.Steps.{seen}
+use Rattle.laws.proofs.Steps.{told, bounded}
 use Rattle.sheet.specs.Nodes.{node, nodes}
-use Rattle.heads.specs.code.Views.{propertyAs}
 use Rattle.heads.proofs.ByHead.{property-by-head}
 use Rattle.dep.specs.code.Walk.{typesFrom, writtenAs, afterNodes}
 use Rattle.dep.proofs.Arms.{property-holds}
@@ -17,7 +16,7 @@ use Rattle.dep.proofs.walk.+visit_call_expr+visit_ts_import_type+visit_
 
 pub walk-nodes-requires : (t : ℕ) → walk-property-lts.Need-walk-nodes-requires (walk-property-calls t) (walk-property-at t) walk-property.Post
 walk-nodes-requires t c κs =
-    let past = rw (c .before .before .before .before .property .given .1) at (c .before .before .before .before .before .before .read-property .ensures .1) in
+    let past = bounded (c .before .before .before .before .before .before .read-property .ensures) (c .before .before .before .before .property .given .1) in
     (omega arith, (c .before .before .before .before .before .before .before .before .before .before .before .pre .1, past .1))
 
 pub returns : (t : ℕ) → walk-property-lts.Need-returns (walk-property-calls t) (walk-property-at t) walk-property.Post
@@ -25,7 +24,13 @@ returns t c =
     let a = c .before .before .before .before .before .before .before .before .args in
     let s = now (a .sheet) in
     let source = now (a .source) in
-    (rw (property-by-head (node source (a .levels)) (drop (a .cursor .at) s), seen (propertyAs s) (c .before .before .before .read-property .ensures .0) (c .before .r .given .1)), tt)
+    record {
+      answer = rw (
+        property-by-head (node source (a .levels)) (drop (a .cursor .at) s),
+        told (c .before .before .before .read-property .ensures) (c .before .r .given .1),
+      );
+      bounds = tt;
+    }
 
 pub returns-2 : (t : ℕ) → walk-property-lts.Need-returns-2 (walk-property-calls t) (walk-property-at t) walk-property.Post
 returns-2 t c =
@@ -36,4 +41,11 @@ returns-2 t c =
     let w = writtenAs (now (a .out)) (now (a .notes)) (a .place) in
     let inner = node source (a .levels) in
     let v = drop (c .before .before .before .before .before .before .before .before .before .property .given .0 .1 .0 .at) s in
-    (rw (property-by-head inner (drop (a .cursor .at) s), seen (propertyAs s) (c .before .before .before .before .before .before .before .before .before .before .before .read-property .ensures .0) (c .before .before .before .before .before .before .before .before .before .property .given .1)) (c .before .before .before .before .walk-nodes .ensures .0 ∙ ap (λ k. onOk (afterNodes source types w) (nodes inner k v)) (c .before .before .before .before .before .before .before .nodes-of .ensures) ∙ property-holds source types w inner s (c .before .before .before .before .before .before .before .before .before .property .given .0 .0) v), c .before .before .before .before .walk-nodes .ensures .1)
+    record {
+      answer = rw (
+        property-by-head inner (drop (a .cursor .at) s),
+        told (c .before .before .before .before .before .before .before .before .before .before .before .read-property .ensures)
+            (c .before .before .before .before .before .before .before .before .before .property .given .1),
+      ) (c .before .before .before .before .walk-nodes .ensures .answer ∙ ap (λ k. onOk (afterNodes source types w) (nodes inner k v)) (c .before .before .before .before .before .before .before .nodes-of .ensures) ∙ property-holds source types w inner s (c .before .before .before .before .before .before .before .before .before .property .given .0 .0) v);
+      bounds = c .before .before .before .before .walk-nodes .ensures .bounds;
+    }

@@ -7,8 +7,7 @@ use native.Mathlib.Omega.{arith}
 use lib.ListN.{drop}
 use denote.Ref.{now}
 use Rattle.laws.proofs.Decoding.{onOk-no, built}
-use Rattle.laws.proofs.Steps.{seen}
-use Rattle.wire.specs.code.Views.{flagAs}
+use Rattle.laws.proofs.Steps.{told, bounded}
 use Rattle.sheet.specs.Tree.{other, object}
 use Rattle.sheet.specs.Shape.{anyUncooked}
 use Rattle.sheet.specs.Nodes.{many, piece, node, nodes, properties}
@@ -27,7 +26,7 @@ add-read-pieces t c =
 
 pub walk-nodes-requires-2 : (t : ℕ) → walk-rest-lts.Need-walk-nodes-requires-2 (walk-rest-calls t) (walk-rest-at t) walk-rest.Post
 walk-nodes-requires-2 t c κs =
-    let past = rw (c .before .before .before .next .given .1) at (c .before .before .before .before .before .read-pieces .ensures .1) in
+    let past = bounded (c .before .before .before .before .before .read-pieces .ensures) (c .before .before .before .next .given .1) in
     (omega arith, (c .before .before .before .before .before .before .before .before .before .before .before .before .before .pre .1 .0, past .1))
 
 pub walk-callee-requires : (t : ℕ) → walk-rest-lts.Need-walk-callee-requires (walk-rest-calls t) (walk-rest-at t) walk-rest.Post
@@ -63,7 +62,10 @@ returns t c =
     let w = writtenAs (now (a .out)) (now (a .notes)) (a .place) in
     let inner = node source (a .levels) in
     let u = drop (a .cursor .at) s in
-    (rw (c .before .before .before .before .before .before .before .before .head .given .1) (c .before .before .before .before .walk-nodes .ensures .0 ∙ built (afterNodes source types w) (afterNode source types w) (other (a .span)) (λ ns. refl) (nodes inner (c .before .before .before .before .before .before .before .before .head .given .0 .0) u)), c .before .before .before .before .walk-nodes .ensures .1)
+    record {
+      answer = rw (c .before .before .before .before .before .before .before .before .head .given .1) (c .before .before .before .before .walk-nodes .ensures .answer ∙ built (afterNodes source types w) (afterNode source types w) (other (a .span)) (λ ns. refl) (nodes inner (c .before .before .before .before .before .before .before .before .head .given .0 .0) u));
+      bounds = c .before .before .before .before .walk-nodes .ensures .bounds;
+    }
 
 pub returns-2 : (t : ℕ) → walk-rest-lts.Need-returns-2 (walk-rest-calls t) (walk-rest-at t) walk-rest.Post
 returns-2 t c =
@@ -71,7 +73,10 @@ returns-2 t c =
     let s = now (a .sheet) in
     let source = now (a .source) in
     let types = typesFrom source (now (a .tables)) (a .counts) in
-    (leaf-holds source types s (a .levels) (a .span) (a .head) (c .match .keys2) (entries-nil (now (a .out)) (now (a .notes)) (a .place)) (drop (a .cursor .at) s), c .before .before .before .before .before .pre .1 .1 .0)
+    record {
+      answer = leaf-holds source types s (a .levels) (a .span) (a .head) (c .match .keys2) (entries-nil (now (a .out)) (now (a .notes)) (a .place)) (drop (a .cursor .at) s);
+      bounds = c .before .before .before .before .before .pre .1 .1 .0;
+    }
 
 pub returns-3 : (t : ℕ) → walk-rest-lts.Need-returns-3 (walk-rest-calls t) (walk-rest-at t) walk-rest.Post
 returns-3 t c =
@@ -79,7 +84,13 @@ returns-3 t c =
     let s = now (a .sheet) in
     let u = drop (a .cursor .at) s in
     let pieces = many [] piece (c .before .before .before .before .before .head2 .given .0 .0 + 1) u in
-    (rw (c .before .before .before .before .before .head2 .given .1, onOk-no anyUncooked pieces (seen (flagAs s) (c .before .before .before .read-pieces .ensures .0) (c .before .r .given .1))), tt)
+    record {
+      answer = rw (
+        c .before .before .before .before .before .head2 .given .1,
+        onOk-no anyUncooked pieces (told (c .before .before .before .read-pieces .ensures) (c .before .r .given .1)),
+      );
+      bounds = tt;
+    }
 
 pub returns-4 : (t : ℕ) → walk-rest-lts.Need-returns-4 (walk-rest-calls t) (walk-rest-at t) walk-rest.Post
 returns-4 t c =
@@ -91,7 +102,10 @@ returns-4 t c =
     let inner = node source (a .levels) in
     let u = drop (a .cursor .at) s in
     let n = c .before .before .before .before .before .before .before .before .before .before .before .before .head2 .given .0 .0 in
-    (rw (c .before .before .before .before .before .before .before .before .before .before .before .before .head2 .given .1) (c .before .before .before .before .walk-nodes2 .ensures .0 ∙ template-holds source types w (a .span) inner n (many [] piece (n + 1) u) (seen (flagAs s) (c .before .before .before .before .before .before .before .before .before .before .read-pieces .ensures .0) (c .before .before .before .before .before .before .before .before .next .given .1))), c .before .before .before .before .walk-nodes2 .ensures .1)
+    record {
+      answer = rw (c .before .before .before .before .before .before .before .before .before .before .before .before .head2 .given .1) (c .before .before .before .before .walk-nodes2 .ensures .answer ∙ template-holds source types w (a .span) inner n (many [] piece (n + 1) u) (told (c .before .before .before .before .before .before .before .before .before .before .read-pieces .ensures) (c .before .before .before .before .before .before .before .before .next .given .1)));
+      bounds = c .before .before .before .before .walk-nodes2 .ensures .bounds;
+    }
 
 pub returns-5 : (t : ℕ) → walk-rest-lts.Need-returns-5 (walk-rest-calls t) (walk-rest-at t) walk-rest.Post
 returns-5 t c =
@@ -102,7 +116,10 @@ returns-5 t c =
     let w = writtenAs (now (a .out)) (now (a .notes)) (a .place) in
     let inner = node source (a .levels) in
     let u = drop (a .cursor .at) s in
-    (rw (c .before .before .before .before .before .before .before .enum-told .given .1) (c .before .before .before .before .walk-nodes3 .ensures .0 ∙ binary-holds source types w (a .span) (c .before .before .before .before .before .before .before .enum-told .given .0 .0) inner u), c .before .before .before .before .walk-nodes3 .ensures .1)
+    record {
+      answer = rw (c .before .before .before .before .before .before .before .enum-told .given .1) (c .before .before .before .before .walk-nodes3 .ensures .answer ∙ binary-holds source types w (a .span) (c .before .before .before .before .before .before .before .enum-told .given .0 .0) inner u);
+      bounds = c .before .before .before .before .walk-nodes3 .ensures .bounds;
+    }
 
 pub returns-6 : (t : ℕ) → walk-rest-lts.Need-returns-6 (walk-rest-calls t) (walk-rest-at t) walk-rest.Post
 unfolding noting
@@ -114,25 +131,43 @@ returns-6 t c =
     let w = writtenAs (now (a .out)) (now (a .notes)) (a .place) in
     let inner = node source (a .levels) in
     let u = drop (a .cursor .at) s in
-    (rw (c .before .before .before .before .before .before .before .before .head3 .given .1) (c .before .before .before .before .walk-properties .ensures .0 ∙ built (afterProperties source types w) (afterNode source types w) (object (a .span)) (λ ps. refl) (properties inner (c .before .before .before .before .before .before .before .before .head3 .given .0 .0) u)), c .before .before .before .before .walk-properties .ensures .1)
+    record {
+      answer = rw (c .before .before .before .before .before .before .before .before .head3 .given .1) (c .before .before .before .before .walk-properties .ensures .answer ∙ built (afterProperties source types w) (afterNode source types w) (object (a .span)) (λ ps. refl) (properties inner (c .before .before .before .before .before .before .before .before .head3 .given .0 .0) u));
+      bounds = c .before .before .before .before .walk-properties .ensures .bounds;
+    }
 
 pub returns-7 : (t : ℕ) → walk-rest-lts.Need-returns-7 (walk-rest-calls t) (walk-rest-at t) walk-rest.Post
 returns-7 t c = c .before .before .before .before .walk-callee .ensures
 
 pub returns-8 : (t : ℕ) → walk-rest-lts.Need-returns-8 (walk-rest-calls t) (walk-rest-at t) walk-rest.Post
-returns-8 t c = (rw (c .before .before .before .before .before .before .before .before .head4 .given .1) (c .before .before .before .before .visit-import-decl .ensures .0), c .before .before .before .before .visit-import-decl .ensures .1)
+returns-8 t c = record {
+  answer = rw (c .before .before .before .before .before .before .before .before .head4 .given .1) (c .before .before .before .before .visit-import-decl .ensures .answer);
+  bounds = c .before .before .before .before .visit-import-decl .ensures .bounds;
+}
 
 pub returns-9 : (t : ℕ) → walk-rest-lts.Need-returns-9 (walk-rest-calls t) (walk-rest-at t) walk-rest.Post
-returns-9 t c = (rw (c .before .before .before .before .before .before .before .before .head5 .given .1) (c .before .before .before .before .visit-named-export .ensures .0), c .before .before .before .before .visit-named-export .ensures .1)
+returns-9 t c = record {
+  answer = rw (c .before .before .before .before .before .before .before .before .head5 .given .1) (c .before .before .before .before .visit-named-export .ensures .answer);
+  bounds = c .before .before .before .before .visit-named-export .ensures .bounds;
+}
 
 pub returns-10 : (t : ℕ) → walk-rest-lts.Need-returns-10 (walk-rest-calls t) (walk-rest-at t) walk-rest.Post
-returns-10 t c = (rw (c .before .before .before .before .before .before .before .before .head6 .given .1) (c .before .before .before .before .visit-export-all .ensures .0), c .before .before .before .before .visit-export-all .ensures .1)
+returns-10 t c = record {
+  answer = rw (c .before .before .before .before .before .before .before .before .head6 .given .1) (c .before .before .before .before .visit-export-all .ensures .answer);
+  bounds = c .before .before .before .before .visit-export-all .ensures .bounds;
+}
 
 pub returns-11 : (t : ℕ) → walk-rest-lts.Need-returns-11 (walk-rest-calls t) (walk-rest-at t) walk-rest.Post
-returns-11 t c = (rw (c .before .before .before .before .before .before .before .before .head7 .given .1) (c .before .before .before .before .visit-ts-import-type .ensures .0), c .before .before .before .before .visit-ts-import-type .ensures .1)
+returns-11 t c = record {
+  answer = rw (c .before .before .before .before .before .before .before .before .head7 .given .1) (c .before .before .before .before .visit-ts-import-type .ensures .answer);
+  bounds = c .before .before .before .before .visit-ts-import-type .ensures .bounds;
+}
 
 pub returns-12 : (t : ℕ) → walk-rest-lts.Need-returns-12 (walk-rest-calls t) (walk-rest-at t) walk-rest.Post
-returns-12 t c = (rw (c .before .before .before .before .before .before .before .before .head8 .given .1) (c .before .before .before .before .visit-ts-import-equals-decl .ensures .0), c .before .before .before .before .visit-ts-import-equals-decl .ensures .1)
+returns-12 t c = record {
+  answer = rw (c .before .before .before .before .before .before .before .before .head8 .given .1) (c .before .before .before .before .visit-ts-import-equals-decl .ensures .answer);
+  bounds = c .before .before .before .before .visit-ts-import-equals-decl .ensures .bounds;
+}
 
 pub returns-13 : (t : ℕ) → walk-rest-lts.Need-returns-13 (walk-rest-calls t) (walk-rest-at t) walk-rest.Post
 unfolding moduleEntry
@@ -144,7 +179,13 @@ returns-13 t c =
     let w = writtenAs (now (a .out)) (now (a .notes)) (a .place) in
     let inner = node source (a .levels) in
     let u = drop (a .cursor .at) s in
-    (rw (c .before .before .before .before .before .before .before .before .head9 .given .1) (c .before .before .before .before .walk-nodes4 .ensures .0 ∙ module-holds source types w (a .span) Option.none (sym (entries-nil (now (a .out)) (now (a .notes)) (a .place))) (nodes inner (c .before .before .before .before .before .before .before .before .head9 .given .0 .0) u)), c .before .before .before .before .walk-nodes4 .ensures .1)
+    record {
+      answer = rw (c .before .before .before .before .before .before .before .before .head9 .given .1) (c .before .before .before .before .walk-nodes4 .ensures .answer ∙ module-holds source types w (a .span) Option.none (sym (entries-nil (now (a .out)) (now (a .notes)) (a .place))) (nodes inner (c .before .before .before .before .before .before .before .before .head9 .given .0 .0) u));
+      bounds = c .before .before .before .before .walk-nodes4 .ensures .bounds;
+    }
 
 pub returns-14 : (t : ℕ) → walk-rest-lts.Need-returns-14 (walk-rest-calls t) (walk-rest-at t) walk-rest.Post
-returns-14 t c = (rw (c .before .before .before .before .before .before .before .before .head10 .given .1) (c .before .before .before .before .visit-ts-module-decl .ensures .0), c .before .before .before .before .visit-ts-module-decl .ensures .1)
+returns-14 t c = record {
+  answer = rw (c .before .before .before .before .before .before .before .before .head10 .given .1) (c .before .before .before .before .visit-ts-module-decl .ensures .answer);
+  bounds = c .before .before .before .before .visit-ts-module-decl .ensures .bounds;
+}

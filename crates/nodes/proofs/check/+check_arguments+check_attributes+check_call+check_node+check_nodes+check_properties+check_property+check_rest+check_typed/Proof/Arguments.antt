@@ -4,10 +4,8 @@ use Prim.Native.Nat.{ℕ, _+_, _≤_}
 use native.Mathlib.Omega.{arith}
 use lib.ListN.{length, drop}
 use denote.Ref.{now}
-use Rattle.laws.proofs.Steps.{seen}
+use Rattle.laws.proofs.Steps.{told, bounded}
 use Rattle.sheet.specs.Nodes.{node}
-use Rattle.heads.specs.code.Views.{argumentAs}
-use Rattle.nodes.specs.code.Answers.{checkedAs}
 use Rattle.nodes.proofs.Loops.{argumentsFrom, arguments-all, arguments-step, arguments-stop, arguments-cut, arguments-end}
 use Rattle.nodes.proofs.check.check_arguments.Reads as check-arguments
 use Rattle.nodes.proofs.check.+check_arguments+check_attributes+check_call+check_node+check_nodes+check_properties+check_property+check_rest+check_typed.Lts-check_arguments as check-arguments-lts
@@ -29,8 +27,11 @@ returns t c =
     let source = now (a .source) in
     let inner = node source (a .levels) in
     let l = c .before .before .before .before .before .loop in
-    let cut = seen (argumentAs s) (c .before .before .before .read-argument .ensures .0) (c .before .r .given .1) in
-    (sym (sym (arguments-all inner source (a .count) (drop (a .c .at) s)) ∙ l .inv .2 ∙ arguments-cut inner source (l .total) (l .left) (drop (l .at .at) s) (c .before .before .before .before .loop-test .taken) cut), tt)
+    let cut = told (c .before .before .before .read-argument .ensures) (c .before .r .given .1) in
+    record {
+      answer = sym (sym (arguments-all inner source (a .count) (drop (a .c .at) s)) ∙ l .inv .2 ∙ arguments-cut inner source (l .total) (l .left) (drop (l .at .at) s) (c .before .before .before .before .loop-test .taken) cut);
+      bounds = tt;
+    }
 
 pub returns-2 : (t : ℕ) → check-arguments-lts.Need-returns-2 (check-arguments-calls t) (check-arguments-at t) check-arguments.Post Inv-loop μ-loop
 returns-2 t c =
@@ -39,14 +40,17 @@ returns-2 t c =
     let source = now (a .source) in
     let inner = node source (a .levels) in
     let l = c .before .before .before .before .before .before .before .before .before .loop in
-    let read = seen (argumentAs s) (c .before .before .before .before .before .before .before .read-argument .ensures .0) (c .before .before .before .before .before .next .given .1) in
-    let stop = seen (checkedAs s) (c .before .before .before .check-node .ensures .0) (c .before .r2 .given .1) in
-    (sym (sym (arguments-all inner source (a .count) (drop (a .c .at) s)) ∙ l .inv .2 ∙ arguments-stop inner source (l .total) (l .left) (drop (l .at .at) s) (c .before .before .before .before .before .before .before .before .loop-test .taken) read stop), tt)
+    let read = told (c .before .before .before .before .before .before .before .read-argument .ensures) (c .before .before .before .before .before .next .given .1) in
+    let stop = told (c .before .before .before .check-node .ensures) (c .before .r2 .given .1) in
+    record {
+      answer = sym (sym (arguments-all inner source (a .count) (drop (a .c .at) s)) ∙ l .inv .2 ∙ arguments-stop inner source (l .total) (l .left) (drop (l .at .at) s) (c .before .before .before .before .before .before .before .before .loop-test .taken) read stop);
+      bounds = tt;
+    }
 
 pub add-argument-requires : (t : ℕ) → check-arguments-lts.Need-add-argument-requires (check-arguments-calls t) (check-arguments-at t) check-arguments.Post Inv-loop μ-loop
 add-argument-requires t c κs =
-    let p1 = rw (c .before .before .before .before .before .next .given .1) at (c .before .before .before .before .before .before .before .read-argument .ensures .1) in
-    let p2 = rw (c .before .j .given .1) at (c .before .before .before .check-node .ensures .1) in
+    let p1 = bounded (c .before .before .before .before .before .before .before .read-argument .ensures) (c .before .before .before .before .before .next .given .1) in
+    let p2 = bounded (c .before .before .before .check-node .ensures) (c .before .j .given .1) in
     omega arith
 
 pub loop-again : (t : ℕ) → check-arguments-lts.Need-loop-again (check-arguments-calls t) (check-arguments-at t) check-arguments.Post Inv-loop μ-loop
@@ -56,10 +60,10 @@ loop-again t c =
     let source = now (a .source) in
     let inner = node source (a .levels) in
     let l = c .before .before .before .before .before .before .before .before .before .before .loop in
-    let p1 = rw (c .before .before .before .before .before .before .next .given .1) at (c .before .before .before .before .before .before .before .before .read-argument .ensures .1) in
-    let p2 = rw (c .before .before .j .given .1) at (c .before .before .before .before .check-node .ensures .1) in
-    let read = seen (argumentAs s) (c .before .before .before .before .before .before .before .before .read-argument .ensures .0) (c .before .before .before .before .before .before .next .given .1) in
-    let step = seen (checkedAs s) (c .before .before .before .before .check-node .ensures .0) (c .before .before .j .given .1) in
+    let p1 = bounded (c .before .before .before .before .before .before .before .before .read-argument .ensures) (c .before .before .before .before .before .before .next .given .1) in
+    let p2 = bounded (c .before .before .before .before .check-node .ensures) (c .before .before .j .given .1) in
+    let read = told (c .before .before .before .before .before .before .before .before .read-argument .ensures) (c .before .before .before .before .before .before .next .given .1) in
+    let step = told (c .before .before .before .before .check-node .ensures) (c .before .before .j .given .1) in
     rw (c .add-argument .ensures) (omega arith, p2 .1, l .inv .2 ∙ arguments-step inner source (l .total) (l .left) (drop (l .at .at) s) (c .before .before .before .before .before .before .before .before .before .loop-test .taken) read step)
 
 pub returns-3 : (t : ℕ) → check-arguments-lts.Need-returns-3 (check-arguments-calls t) (check-arguments-at t) check-arguments.Post Inv-loop μ-loop
@@ -69,4 +73,7 @@ returns-3 t c =
     let source = now (a .source) in
     let inner = node source (a .levels) in
     let l = c .before .loop in
-    (sym (sym (arguments-all inner source (a .count) (drop (a .c .at) s)) ∙ l .inv .2 ∙ arguments-end inner source (l .total) (l .left) (drop (l .at .at) s) (c .loop-test .left)), (l .inv .1, l .inv .0))
+    record {
+      answer = sym (sym (arguments-all inner source (a .count) (drop (a .c .at) s)) ∙ l .inv .2 ∙ arguments-end inner source (l .total) (l .left) (drop (l .at .at) s) (c .loop-test .left));
+      bounds = (l .inv .1, l .inv .0);
+    }

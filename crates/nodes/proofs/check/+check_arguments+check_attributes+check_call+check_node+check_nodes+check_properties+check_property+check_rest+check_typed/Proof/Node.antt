@@ -3,8 +3,7 @@ use Prim.Native.Nat.{ℕ}
 use native.Mathlib.Omega.{arith}
 use lib.ListN.{length, drop}
 use denote.Ref.{now}
-use Rattle.laws.proofs.Steps.{seen}
-use Rattle.heads.specs.code.Views.{headAs}
+use Rattle.laws.proofs.Steps.{told, bounded}
 use Rattle.heads.proofs.ByHead.{node-by-head}
 use Rattle.nodes.proofs.Rooms.{whole-past}
 use Rattle.nodes.proofs.check.check_node.Reads as check-node
@@ -12,22 +11,34 @@ use Rattle.nodes.proofs.check.+check_arguments+check_attributes+check_c
 use Rattle.nodes.proofs.check.+check_arguments+check_attributes+check_call+check_node+check_nodes+check_properties+check_property+check_rest+check_typed.Proof.Calls.{check-node-at, check-node-calls}
 
 pub sub-check-rest : (t : ℕ) → check-node-lts.Need-sub-check-rest (check-node-calls t) (check-node-at t) check-node.Post
-sub-check-rest t c = (rw (c .before .head .given .1) at (c .before .before .before .read-head .ensures .1)) .0
+sub-check-rest t c = bounded (c .before .before .before .read-head .ensures) (c .before .head .given .1) .0
 
 pub check-rest-requires : (t : ℕ) → check-node-lts.Need-check-rest-requires (check-node-calls t) (check-node-at t) check-node.Post
 check-rest-requires t c κs =
-    let past = rw (c .before .head .given .1) at (c .before .before .before .read-head .ensures .1) in
+    let past = bounded (c .before .before .before .read-head .ensures) (c .before .head .given .1) in
     (omega arith, (omega arith, past .2, past .3))
 
 pub returns : (t : ℕ) → check-node-lts.Need-returns (check-node-calls t) (check-node-at t) check-node.Post
 returns t c =
     let a = c .before .before .before .before .before .before .args in
     let s = now (a .sheet) in
-    (rw (node-by-head (now (a .source)) (a .levels) (drop (a .c .at) s), seen (headAs s) (c .before .before .before .read-head .ensures .0) (c .before .r .given .1)), tt)
+    record {
+      answer = rw (
+        node-by-head (now (a .source)) (a .levels) (drop (a .c .at) s),
+        told (c .before .before .before .read-head .ensures) (c .before .r .given .1),
+      );
+      bounds = tt;
+    }
 
 pub returns-2 : (t : ℕ) → check-node-lts.Need-returns-2 (check-node-calls t) (check-node-at t) check-node.Post
 returns-2 t c =
     let a = c .before .before .before .before .before .before .before .args in
     let s = now (a .sheet) in
-    let past = rw (c .before .before .head .given .1) at (c .before .before .before .before .read-head .ensures .1) in
-    (rw (node-by-head (now (a .source)) (a .levels) (drop (a .c .at) s), seen (headAs s) (c .before .before .before .before .read-head .ensures .0) (c .before .before .head .given .1)) (c .check-rest .ensures .0 (c .before .before .head .given .0 .0)), whole-past (a .c .at) (length s) _ (c .check-rest .result) (omega arith) (c .check-rest .ensures .1))
+    let past = bounded (c .before .before .before .before .read-head .ensures) (c .before .before .head .given .1) in
+    record {
+      answer = rw (
+        node-by-head (now (a .source)) (a .levels) (drop (a .c .at) s),
+        told (c .before .before .before .before .read-head .ensures) (c .before .before .head .given .1),
+      ) (c .check-rest .ensures .answer (c .before .before .head .given .0 .0));
+      bounds = whole-past (a .c .at) (length s) _ (c .check-rest .result) (omega arith) (c .check-rest .ensures .bounds);
+    }

@@ -4,9 +4,8 @@ use Prim.Native.Nat.{ℕ, _+_, _≤_}
 use native.Mathlib.Omega.{arith}
 use lib.ListN.{length, drop}
 use denote.Ref.{now}
-use Rattle.laws.proofs.Steps.{seen}
+use Rattle.laws.proofs.Steps.{told, bounded}
 use Rattle.sheet.specs.Nodes.{node}
-use Rattle.nodes.specs.code.Answers.{checkedAs}
 use Rattle.nodes.proofs.Loops.{nodesFrom, nodes-all, nodes-step, nodes-stop, nodes-end}
 use Rattle.nodes.proofs.check.check_nodes.Reads as check-nodes
 use Rattle.nodes.proofs.check.+check_arguments+check_attributes+check_call+check_node+check_nodes+check_properties+check_property+check_rest+check_typed.Lts-check_nodes as check-nodes-lts
@@ -27,12 +26,15 @@ returns t c =
     let s = now (a .sheet) in
     let inner = node (now (a .source)) (a .levels) in
     let l = c .before .before .before .before .before .loop in
-    let stop = seen (checkedAs s) (c .before .before .before .check-node .ensures .0) (c .before .r .given .1) in
-    (sym (sym (nodes-all inner (a .count) (drop (a .c .at) s)) ∙ l .inv .2 ∙ nodes-stop inner (l .total) (l .left) (drop (l .at .at) s) (c .before .before .before .before .loop-test .taken) stop), tt)
+    let stop = told (c .before .before .before .check-node .ensures) (c .before .r .given .1) in
+    record {
+      answer = sym (sym (nodes-all inner (a .count) (drop (a .c .at) s)) ∙ l .inv .2 ∙ nodes-stop inner (l .total) (l .left) (drop (l .at .at) s) (c .before .before .before .before .loop-test .taken) stop);
+      bounds = tt;
+    }
 
 pub add-requires : (t : ℕ) → check-nodes-lts.Need-add-requires (check-nodes-calls t) (check-nodes-at t) check-nodes.Post Inv-loop μ-loop
 add-requires t c κs =
-    let past = rw (c .before .j .given .1) at (c .before .before .before .check-node .ensures .1) in
+    let past = bounded (c .before .before .before .check-node .ensures) (c .before .j .given .1) in
     omega arith
 
 pub loop-again : (t : ℕ) → check-nodes-lts.Need-loop-again (check-nodes-calls t) (check-nodes-at t) check-nodes.Post Inv-loop μ-loop
@@ -41,8 +43,8 @@ loop-again t c =
     let s = now (a .sheet) in
     let inner = node (now (a .source)) (a .levels) in
     let l = c .before .before .before .before .before .before .loop in
-    let past = rw (c .before .before .j .given .1) at (c .before .before .before .before .check-node .ensures .1) in
-    let step = seen (checkedAs s) (c .before .before .before .before .check-node .ensures .0) (c .before .before .j .given .1) in
+    let past = bounded (c .before .before .before .before .check-node .ensures) (c .before .before .j .given .1) in
+    let step = told (c .before .before .before .before .check-node .ensures) (c .before .before .j .given .1) in
     rw (c .add .ensures) (omega arith, past .1, l .inv .2 ∙ nodes-step inner (l .total) (l .left) (drop (l .at .at) s) (c .before .before .before .before .before .loop-test .taken) step)
 
 pub returns-2 : (t : ℕ) → check-nodes-lts.Need-returns-2 (check-nodes-calls t) (check-nodes-at t) check-nodes.Post Inv-loop μ-loop
@@ -51,4 +53,7 @@ returns-2 t c =
     let s = now (a .sheet) in
     let inner = node (now (a .source)) (a .levels) in
     let l = c .before .loop in
-    (sym (sym (nodes-all inner (a .count) (drop (a .c .at) s)) ∙ l .inv .2 ∙ nodes-end inner (l .total) (l .left) (drop (l .at .at) s) (c .loop-test .left)), (l .inv .1, l .inv .0))
+    record {
+      answer = sym (sym (nodes-all inner (a .count) (drop (a .c .at) s)) ∙ l .inv .2 ∙ nodes-end inner (l .total) (l .left) (drop (l .at .at) s) (c .loop-test .left));
+      bounds = (l .inv .1, l .inv .0);
+    }

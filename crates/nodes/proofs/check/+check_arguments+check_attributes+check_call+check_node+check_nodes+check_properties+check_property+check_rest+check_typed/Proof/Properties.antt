@@ -4,9 +4,8 @@ use Prim.Native.Nat.{ℕ, _+_, _≤_}
 use native.Mathlib.Omega.{arith}
 use lib.ListN.{length, drop}
 use denote.Ref.{now}
-use Rattle.laws.proofs.Steps.{seen}
+use Rattle.laws.proofs.Steps.{told, bounded}
 use Rattle.sheet.specs.Nodes.{node}
-use Rattle.nodes.specs.code.Answers.{talliedAs}
 use Rattle.nodes.proofs.Loops.{propertiesFrom, properties-all, properties-step, properties-stop, properties-end}
 use Rattle.nodes.proofs.check.check_properties.Reads as check-properties
 use Rattle.nodes.proofs.check.+check_arguments+check_attributes+check_call+check_node+check_nodes+check_properties+check_property+check_rest+check_typed.Lts-check_properties as check-properties-lts
@@ -27,12 +26,15 @@ returns t c =
     let s = now (a .sheet) in
     let inner = node (now (a .source)) (a .levels) in
     let l = c .before .before .before .before .before .loop in
-    let stop = seen (talliedAs s) (c .before .before .before .check-property .ensures .0) (c .before .r .given .1) in
-    (sym (sym (properties-all inner (a .count) (drop (a .c .at) s)) ∙ l .inv .2 ∙ properties-stop inner (l .total) (l .left) (drop (l .at .at) s) (c .before .before .before .before .loop-test .taken) stop), tt)
+    let stop = told (c .before .before .before .check-property .ensures) (c .before .r .given .1) in
+    record {
+      answer = sym (sym (properties-all inner (a .count) (drop (a .c .at) s)) ∙ l .inv .2 ∙ properties-stop inner (l .total) (l .left) (drop (l .at .at) s) (c .before .before .before .before .loop-test .taken) stop);
+      bounds = tt;
+    }
 
 pub add-requires : (t : ℕ) → check-properties-lts.Need-add-requires (check-properties-calls t) (check-properties-at t) check-properties.Post Inv-loop μ-loop
 add-requires t c κs =
-    let past = rw (c .before .t .given .1) at (c .before .before .before .check-property .ensures .1) in
+    let past = bounded (c .before .before .before .check-property .ensures) (c .before .t .given .1) in
     omega arith
 
 pub loop-again : (t : ℕ) → check-properties-lts.Need-loop-again (check-properties-calls t) (check-properties-at t) check-properties.Post Inv-loop μ-loop
@@ -41,8 +43,8 @@ loop-again t c =
     let s = now (a .sheet) in
     let inner = node (now (a .source)) (a .levels) in
     let l = c .before .before .before .before .before .before .loop in
-    let past = rw (c .before .before .t .given .1) at (c .before .before .before .before .check-property .ensures .1) in
-    let step = seen (talliedAs s) (c .before .before .before .before .check-property .ensures .0) (c .before .before .t .given .1) in
+    let past = bounded (c .before .before .before .before .check-property .ensures) (c .before .before .t .given .1) in
+    let step = told (c .before .before .before .before .check-property .ensures) (c .before .before .t .given .1) in
     rw (c .add .ensures) (omega arith, past .0, l .inv .2 ∙ properties-step inner (l .total) (l .left) (drop (l .at .at) s) (c .before .before .before .before .before .loop-test .taken) step)
 
 pub returns-2 : (t : ℕ) → check-properties-lts.Need-returns-2 (check-properties-calls t) (check-properties-at t) check-properties.Post Inv-loop μ-loop
@@ -51,4 +53,7 @@ returns-2 t c =
     let s = now (a .sheet) in
     let inner = node (now (a .source)) (a .levels) in
     let l = c .before .loop in
-    (sym (sym (properties-all inner (a .count) (drop (a .c .at) s)) ∙ l .inv .2 ∙ properties-end inner (l .total) (l .left) (drop (l .at .at) s) (c .loop-test .left)), (l .inv .1, l .inv .0))
+    record {
+      answer = sym (sym (properties-all inner (a .count) (drop (a .c .at) s)) ∙ l .inv .2 ∙ properties-end inner (l .total) (l .left) (drop (l .at .at) s) (c .loop-test .left));
+      bounds = (l .inv .1, l .inv .0);
+    }

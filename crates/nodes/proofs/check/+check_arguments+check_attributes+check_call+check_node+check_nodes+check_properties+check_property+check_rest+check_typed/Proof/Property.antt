@@ -5,9 +5,8 @@ use native.Mathlib.Omega.{arith}
 use lib.ListN.{length, drop}
 use denote.Ref.{now}
 use Rattle.laws.specs.Decoded.{onOk}
-use Rattle.laws.proofs.Steps.{seen}
+use Rattle.laws.proofs.Steps.{told, bounded}
 use Rattle.sheet.specs.Nodes.{node, nodes}
-use Rattle.heads.specs.code.Views.{propertyAs}
 use Rattle.heads.proofs.ByHead.{property-by-head}
 use Rattle.nodes.specs.code.Judged.{tallyAll}
 use Rattle.nodes.proofs.Arms.{property-holds}
@@ -18,14 +17,20 @@ use Rattle.nodes.proofs.check.+check_arguments+check_attributes+check_c
 
 pub check-nodes-requires : (t : ℕ) → check-property-lts.Need-check-nodes-requires (check-property-calls t) (check-property-at t) check-property.Post
 check-nodes-requires t c κs =
-    let past = rw (c .before .before .p .given .1) at (c .before .before .before .before .read-property .ensures .1) in
+    let past = bounded (c .before .before .before .before .read-property .ensures) (c .before .before .p .given .1) in
     (omega arith, past .1)
 
 pub returns : (t : ℕ) → check-property-lts.Need-returns (check-property-calls t) (check-property-at t) check-property.Post
 returns t c =
     let a = c .before .before .before .before .before .before .args in
     let s = now (a .sheet) in
-    (rw (property-by-head (node (now (a .source)) (a .levels)) (drop (a .c .at) s), seen (propertyAs s) (c .before .before .before .read-property .ensures .0) (c .before .r .given .1)), tt)
+    record {
+      answer = rw (
+        property-by-head (node (now (a .source)) (a .levels)) (drop (a .c .at) s),
+        told (c .before .before .before .read-property .ensures) (c .before .r .given .1),
+      );
+      bounds = tt;
+    }
 
 pub returns-2 : (t : ℕ) → check-property-lts.Need-returns-2 (check-property-calls t) (check-property-at t) check-property.Post
 returns-2 t c =
@@ -34,5 +39,11 @@ returns-2 t c =
     let inner = node (now (a .source)) (a .levels) in
     let p = c .before .before .before .p .given .0 .0 in
     let u = drop (c .before .before .before .p .given .0 .1 .0 .at) s in
-    let past = rw (c .before .before .before .p .given .1) at (c .before .before .before .before .before .read-property .ensures .1) in
-    (rw (property-by-head inner (drop (a .c .at) s), seen (propertyAs s) (c .before .before .before .before .before .read-property .ensures .0) (c .before .before .before .p .given .1)) (c .check-nodes .ensures .0 ∙ ap (λ k. onOk tallyAll (nodes inner k u)) (c .before .nodes-of .ensures) ∙ property-holds inner s p u), tally-past (a .c .at) (length s) _ (past .0) (c .check-nodes .result) (c .check-nodes .ensures .1))
+    let past = bounded (c .before .before .before .before .before .read-property .ensures) (c .before .before .before .p .given .1) in
+    record {
+      answer = rw (
+        property-by-head inner (drop (a .c .at) s),
+        told (c .before .before .before .before .before .read-property .ensures) (c .before .before .before .p .given .1),
+      ) (c .check-nodes .ensures .answer ∙ ap (λ k. onOk tallyAll (nodes inner k u)) (c .before .nodes-of .ensures) ∙ property-holds inner s p u);
+      bounds = tally-past (a .c .at) (length s) _ (past .0) (c .check-nodes .result) (c .check-nodes .ensures .bounds);
+    }

@@ -50,10 +50,10 @@ returns : tie.Need-returns Inv-loop μ-loop
 unfolding replacing
 returns c =
     let l = c .before .loop in
-    let s = now (c .before .before .before .before .args .s) in (
-      sym (l .inv .1 ∙ rw (drop-of-length-le s (c .loop-test .left)) (wrote-nil (l .out) (l .p))),
-      omega (arith, l .inv .2, none-left s (l .i) (c .loop-test .left)),
-    )
+    let s = now (c .before .before .before .before .args .s) in record {
+      answer = sym (l .inv .1 ∙ rw (drop-of-length-le s (c .loop-test .left)) (wrote-nil (l .out) (l .p)));
+      replaced = omega (arith, l .inv .2, none-left s (l .i) (c .loop-test .left));
+    }
 
 pub put-lossy-spec : {M : Type 1} → statement M
 put-lossy-spec =

@@ -6,10 +6,13 @@ use Rattle.report.proofs.writer.Place.put_lossy_specifier.Tie as tie
 
 returns : tie.Need-returns
 unfolding encodeSpecifier
-returns c = (
-  rw (wrote-append, ← (c .before .before .before .before .before .before .before .put-lossy-text .ensures .0)) (c .before .before .put-span .ensures),
-  c .before .before .before .before .before .before .before .put-lossy-text .ensures .1,
-)
+returns c = record {
+  answer = rw (
+    wrote-append,
+    ← (c .before .before .before .before .before .before .before .put-lossy-text .ensures .answer),
+  ) (c .before .before .put-span .ensures);
+  replaced = c .before .before .before .before .before .before .before .put-lossy-text .ensures .replaced;
+}
 
 pub put-lossy-specifier-spec : {M : Type 1} → statement M
 put-lossy-specifier-spec =

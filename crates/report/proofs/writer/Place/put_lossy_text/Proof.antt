@@ -8,7 +8,14 @@ use Rattle.report.proofs.writer.Place.put_lossy_text.Tie as tie
 
 returns : tie.Need-returns
 unfolding encodeText
-returns c = (rw (lossy-length (now (c .before .before .before .before .before .before .before .before .before .before .args .s)), wrote-append, ← (c .before .before .before .before .before .before .put-number .ensures)) (c .before .before .put-lossy .ensures .0), c .before .before .put-lossy .ensures .1)
+returns c = record {
+  answer = rw (
+    lossy-length (now (c .before .before .before .before .before .before .before .before .before .before .args .s)),
+    wrote-append,
+    ← (c .before .before .before .before .before .before .put-number .ensures),
+  ) (c .before .before .put-lossy .ensures .answer);
+  replaced = c .before .before .put-lossy .ensures .replaced;
+}
 
 pub put-lossy-text-spec : {M : Type 1} → statement M
 put-lossy-text-spec =

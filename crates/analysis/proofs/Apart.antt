@@ -15,7 +15,7 @@ use Rattle.text.specs.Ranges.{_to_, within}
 use Rattle.text.specs.Utf8.{charAt}
 use Rattle.text.specs.Class.{ranges, outside, member, classAt, runEnd}
 use Rattle.text.proofs.Members.{one-point, together}
-use Rattle.text.proofs.Within.{within-iff}
+use Rattle.text.proofs.WithinRange.{within-iff}
 use Rattle.analysis.specs.declared.Capture.{Capture}
 use Rattle.analysis.specs.Letters.{foldCase, letterAt, wordAt}
 use Rattle.analysis.specs.Row.{Row, word, one, longest, from, either, all}

@@ -2,7 +2,7 @@ pub mod Spelling
 pub mod Ends
 pub mod Apart
 pub mod Search
-pub mod Rows
+pub mod RowSteps
 pub mod Meaning
 pub mod Order
 pub mod Preference

@@ -12,7 +12,7 @@ use Rattle.text.proofs.Characters.{one-stands, one-there}
 use Rattle.analysis.specs.declared.Capture.{Capture}
 use Rattle.analysis.specs.declared.Found.the-variants.{Nothing}
 use Rattle.analysis.specs.Row.{Row, runEnds, all, noCapture, first, places, find}
-use Rattle.analysis.specs.Matches.{Run, Matches, Reading}
+use Rattle.analysis.specs.Matches.{Run, Matches, RowReading}
 use Rattle.analysis.proofs.Ends.{ends-begin, ends-stop, ends-go-on, by-characters}
 use Rattle.analysis.proofs.Spelling.{spelled-word}
 
@@ -82,6 +82,6 @@ unfolding first
 some-first (List·Memᴰ·head p) e = let z : _≡_ {A = ℕ} 0 1 = cc in absurd (omega arith)
 some-first (List·Memᴰ·tail m) e = let z : _≡_ {A = ℕ} 0 1 = cc in absurd (omega arith)
 
-pub reading-found : (r : Row) (s : List ℕ) {k : Capture} → Reading r s k → find r s ≡ Nothing → ⊥
+pub reading-found : (r : Row) (s : List ℕ) {k : Capture} → RowReading r s k → find r s ≡ Nothing → ⊥
 unfolding find
 reading-found r s (at, h, end, i) e = some-first (in-flat (λ at. all r s at noCapture) (in-places s 0 at zero-le (omega arith)) (listed s i)) e

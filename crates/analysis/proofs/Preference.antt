@@ -17,7 +17,7 @@ use Rattle.analysis.specs.declared.Found.{Found}
 use Rattle.analysis.specs.declared.Found.the-variants.{At, Nothing}
 use Rattle.analysis.specs.Letters.{behind, onMatch, wordAt}
 use Rattle.analysis.specs.Row.{Row, done, start, word, one, longest, shortest, from, to, either, runEnds, all, noCapture, first, find}
-use Rattle.analysis.specs.Matches.{Matches, Reading}
+use Rattle.analysis.specs.Matches.{Matches, RowReading}
 use Rattle.analysis.specs.Prefers.{NoMatch, Prefers, Preferred, Finds}
 use Rattle.analysis.proofs.Spelling.{word-spelled, spelled-word}
 use Rattle.analysis.proofs.Meaning.{of-reverse, in-reverse, of-ends, in-ends, listed, of-places, in-places, reading-found}
@@ -147,7 +147,7 @@ module _ (r : Row) (s : List ℕ) where
       let same = one-place (p .at) (q .at) (λ h. q .leftmost (p .at) h _ _ (prefers-matches s (p .prefers))) (λ h. p .leftmost (q .at) h _ _ (prefers-matches s (q .prefers))) in
       one-prefers s (p .prefers) (rw (← same) at (q .prefers)) .1
 
-  pub preferred-reads : {k : Capture} → Preferred r s k → Reading r s k
+  pub preferred-reads : {k : Capture} → Preferred r s k → RowReading r s k
   preferred-reads p = (p .at, p .inside, p .end, prefers-matches s (p .prefers))
 
   pub preferred-found : {k : Capture} → Preferred r s k → find r s ≡ At k
@@ -160,6 +160,6 @@ module _ (r : Row) (s : List ℕ) where
   pub finds : Finds r s (find r s)
   finds = record { some = λ k. (found-preferred, preferred-found); none = (λ e k m. reading-found r s m e, none (find r s) refl) }
     where
-      none : (f : Found) → find r s ≡ f → ((k : Capture) → Reading r s k → ⊥) → f ≡ Nothing
+      none : (f : Found) → find r s ≡ f → ((k : Capture) → RowReading r s k → ⊥) → f ≡ Nothing
       none (At k) e h = absurd (h k (preferred-reads (found-preferred e)))
       none Nothing e h = refl

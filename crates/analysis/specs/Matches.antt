@@ -45,5 +45,5 @@ module _ (s : List ℕ) where
     right : {a b : Row} {at end : ℕ} {k l : Capture} → Matches b at end k l → Matches (Row.either a b) at end k l
 
 -- from some place of the body on the row matches, and captures k
-abbrev pub Reading : Row → List ℕ → Capture → Type 0
-Reading r s k = (at : ℕ) × (at ≤ length s) × (end : ℕ) × Matches s r at end noCapture k
+abbrev pub RowReading : Row → List ℕ → Capture → Type 0
+RowReading r s k = (at : ℕ) × (at ≤ length s) × (end : ℕ) × Matches s r at end noCapture k

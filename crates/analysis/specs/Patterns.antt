@@ -2,7 +2,7 @@
 use mathlib.Core.Bool.{true, false}
 use mathlib.Core.List.{List}
 use Prim.Native.Nat.{ℕ}
-use Rattle.laws.specs.Quoted.{ascii}
+use Rattle.laws.specs.Ascii.{ascii}
 use Rattle.text.specs.declared.class.Class.the-variants.{White, NotWhite, WhiteOrStar, NotLf, Quote, NotQuote, SourceMark}
 use Rattle.analysis.specs.Row.{Row, done, start, word, one, longest, shortest, from, to, either, _▸_}
 

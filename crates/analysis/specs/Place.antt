@@ -27,6 +27,6 @@ pub record Inside (k : Capture) (n : ℕ) : Type 0 where
   pub closes : k .to + markWidth k ≤ n
 
 -- so does what was found
-abbrev pub Within : Found → ℕ → Type 0
-Within (At k) n = Inside k n
-Within Nothing n = Unit {0}
+abbrev pub FoundWithin : Found → ℕ → Type 0
+FoundWithin (At k) n = Inside k n
+FoundWithin Nothing n = Unit {0}

@@ -12,7 +12,7 @@ use Rattle.analysis.specs.declared.Capture.{Capture}
 use Rattle.analysis.specs.declared.Found.{Found}
 use Rattle.analysis.specs.declared.Found.the-variants.{At, Nothing}
 use Rattle.analysis.specs.Row.{Row, noCapture}
-use Rattle.analysis.specs.Matches.{Spelled, Run, Matches, Reading}
+use Rattle.analysis.specs.Matches.{Spelled, Run, Matches, RowReading}
 
 module _ (s : List ℕ) where
   -- the row has no match from the place on
@@ -51,4 +51,4 @@ pub record Preferred (r : Row) (s : List ℕ) (k : Capture) : Type 0 where
 -- the answer is the preferred match, and there is none exactly where the row matches nowhere
 pub record Finds (r : Row) (s : List ℕ) (answer : Found) : Type 0 where
   pub some : (k : Capture) → (answer ≡ At k) ↔ Preferred r s k
-  pub none : (answer ≡ Nothing) ↔ ((k : Capture) → Reading r s k → ⊥)
+  pub none : (answer ≡ Nothing) ↔ ((k : Capture) → RowReading r s k → ⊥)

@@ -19,7 +19,7 @@ ghost use Prim.Native.Nat.{_+_, _≤_, _<_, _^_};
 ghost use lib.ListN.{length};
 ghost use Rattle.laws.specs.code.Told.{Bounded};
 ghost use Rattle.analysis.specs.Row.{find, isFound};
-ghost use Rattle.analysis.specs.Place.{Inside, Within, markWidth, placeOf, textOf};
+ghost use Rattle.analysis.specs.Place.{Inside, FoundWithin, markWidth, placeOf, textOf};
 ghost use Rattle.analysis.specs.Patterns.{tripleSlashRow, pathRow, typesRow, resolutionModeRow, jsxImportSourceRow, jsxImportSourceTypesRow, sourceMappingUrlRow, tsSelfTypesRow, tsTypesRow, denoTypesRow};
 
 // What a match captured: from one place of the body to another, and whether marks stand around it. The Rust's `is_quoteless` is the opposite.
@@ -60,42 +60,42 @@ pub fn is_comment_triple_slash_reference(body: &[u8]) -> bool
 
 // (?i)\spath\s*=\s*["']([^"']*)["']
 pub fn find_path_reference(body: &[u8]) -> Found
-    ensures { λ r. ⌜ Bounded (r ≡ find pathRow (now (body .entry))) (Within r (length (now (body .entry)))) ⌝ }
+    ensures { λ r. ⌜ Bounded (r ≡ find pathRow (now (body .entry))) (FoundWithin r (length (now (body .entry)))) ⌝ }
 {
     find_attribute(body, b"path")
 }
 
 // (?i)\stypes\s*=\s*["']([^"']*)["']
 pub fn find_types_reference(body: &[u8]) -> Found
-    ensures { λ r. ⌜ Bounded (r ≡ find typesRow (now (body .entry))) (Within r (length (now (body .entry)))) ⌝ }
+    ensures { λ r. ⌜ Bounded (r ≡ find typesRow (now (body .entry))) (FoundWithin r (length (now (body .entry)))) ⌝ }
 {
     find_attribute(body, b"types")
 }
 
 // (?i)\sresolution-mode\s*=\s*["']([^"']*)["']
 pub fn find_resolution_mode(body: &[u8]) -> Found
-    ensures { λ r. ⌜ Bounded (r ≡ find resolutionModeRow (now (body .entry))) (Within r (length (now (body .entry)))) ⌝ }
+    ensures { λ r. ⌜ Bounded (r ≡ find resolutionModeRow (now (body .entry))) (FoundWithin r (length (now (body .entry)))) ⌝ }
 {
     find_attribute(body, b"resolution-mode")
 }
 
 // (?i)^[\s*]*@jsxImportSource\s+(\S+)
 pub fn find_jsx_import_source(body: &[u8]) -> Found
-    ensures { λ r. ⌜ Bounded (r ≡ find jsxImportSourceRow (now (body .entry))) (Within r (length (now (body .entry)))) ⌝ }
+    ensures { λ r. ⌜ Bounded (r ≡ find jsxImportSourceRow (now (body .entry))) (FoundWithin r (length (now (body .entry)))) ⌝ }
 {
     find_jsx(body, b"@jsxImportSource")
 }
 
 // (?i)^[\s*]*@jsxImportSourceTypes\s+(\S+)
 pub fn find_jsx_import_source_types(body: &[u8]) -> Found
-    ensures { λ r. ⌜ Bounded (r ≡ find jsxImportSourceTypesRow (now (body .entry))) (Within r (length (now (body .entry)))) ⌝ }
+    ensures { λ r. ⌜ Bounded (r ≡ find jsxImportSourceTypesRow (now (body .entry))) (FoundWithin r (length (now (body .entry)))) ⌝ }
 {
     find_jsx(body, b"@jsxImportSourceTypes")
 }
 
 // (?i)^[#@]\s*sourceMappingURL\s*=\s*(\S+)
 pub fn find_source_mapping_url(body: &[u8]) -> Found
-    ensures { λ r. ⌜ Bounded (r ≡ find sourceMappingUrlRow (now (body .entry))) (Within r (length (now (body .entry)))) ⌝ }
+    ensures { λ r. ⌜ Bounded (r ≡ find sourceMappingUrlRow (now (body .entry))) (FoundWithin r (length (now (body .entry)))) ⌝ }
 {
     let n = class_at(body, 0, Class::SourceMark);
     if n == 0 {
@@ -110,21 +110,21 @@ pub fn find_source_mapping_url(body: &[u8]) -> Found
 
 // (?i)^\s*@ts-self-types\s*=\s*["']([^"']+)["']
 pub fn find_ts_self_types(body: &[u8]) -> Found
-    ensures { λ r. ⌜ Bounded (r ≡ find tsSelfTypesRow (now (body .entry))) (Within r (length (now (body .entry)))) ⌝ }
+    ensures { λ r. ⌜ Bounded (r ≡ find tsSelfTypesRow (now (body .entry))) (FoundWithin r (length (now (body .entry)))) ⌝ }
 {
     find_pragma(body, b"@ts-self-types")
 }
 
 // (?i)^\s*@ts-types\s*=\s*["']([^"']+)["']
 pub fn find_ts_types(body: &[u8]) -> Found
-    ensures { λ r. ⌜ Bounded (r ≡ find tsTypesRow (now (body .entry))) (Within r (length (now (body .entry)))) ⌝ }
+    ensures { λ r. ⌜ Bounded (r ≡ find tsTypesRow (now (body .entry))) (FoundWithin r (length (now (body .entry)))) ⌝ }
 {
     find_pragma(body, b"@ts-types")
 }
 
 // (?i)^\s*@deno-types\s*=\s*(?:["']([^"']+)["']|(\S+))
 pub fn find_deno_types(body: &[u8]) -> Found
-    ensures { λ r. ⌜ Bounded (r ≡ find denoTypesRow (now (body .entry))) (Within r (length (now (body .entry)))) ⌝ }
+    ensures { λ r. ⌜ Bounded (r ≡ find denoTypesRow (now (body .entry))) (FoundWithin r (length (now (body .entry)))) ⌝ }
 {
     let a = run_end(body, 0, Class::White);
     let Matched::At(b) = assigned_at(body, a, b"@deno-types") else {

@@ -13,7 +13,7 @@ ghost use Rattle.laws.specs.code.Told.{Bounded};
 ghost use Rattle.analysis.specs.Letters.{foldCase, letterAt, wordAt};
 ghost use Rattle.analysis.specs.Row.{matchAt, find, isFound};
 ghost use Rattle.analysis.specs.code.Matcher.{assignedAt, EndsBy, BeginsWithAtSign};
-ghost use Rattle.analysis.specs.Place.{Within};
+ghost use Rattle.analysis.specs.Place.{FoundWithin};
 ghost use Rattle.analysis.specs.Patterns.{quoted, quotedSome, bare, referenceEnd, attributeRow, jsxRow, pragmaRow};
 
 // The place that was reached, if any.
@@ -110,7 +110,7 @@ pub fn assigned_at(s: &[u8], at: usize, word: &[u8]) -> Matched
 // ["']([^"']*)["']
 pub fn quoted_at(s: &[u8], at: usize) -> Found
     requires { ⌜ at ≤ length (now s) ⌝ }
-    ensures { λ r. ⌜ Bounded (r ≡ matchAt quoted (now (s .entry)) at) (Within r (length (now (s .entry)))) ⌝ }
+    ensures { λ r. ⌜ Bounded (r ≡ matchAt quoted (now (s .entry)) at) (FoundWithin r (length (now (s .entry)))) ⌝ }
 {
     let n = class_at(s, at, Class::Quote);
     if n == 0 {
@@ -132,7 +132,7 @@ pub fn quoted_at(s: &[u8], at: usize) -> Found
 // ["']([^"']+)["']
 pub fn quoted_some_at(s: &[u8], at: usize) -> Found
     requires { ⌜ at ≤ length (now s) ⌝ }
-    ensures { λ r. ⌜ Bounded (r ≡ matchAt quotedSome (now (s .entry)) at) (Within r (length (now (s .entry)))) ⌝ }
+    ensures { λ r. ⌜ Bounded (r ≡ matchAt quotedSome (now (s .entry)) at) (FoundWithin r (length (now (s .entry)))) ⌝ }
 {
     let n = class_at(s, at, Class::Quote);
     if n == 0 {
@@ -158,7 +158,7 @@ pub fn quoted_some_at(s: &[u8], at: usize) -> Found
 // (\S+)
 pub fn bare_at(s: &[u8], at: usize) -> Found
     requires { ⌜ at ≤ length (now s) ⌝ }
-    ensures { λ r. ⌜ Bounded (r ≡ matchAt bare (now (s .entry)) at) (Within r (length (now (s .entry)))) ⌝ }
+    ensures { λ r. ⌜ Bounded (r ≡ matchAt bare (now (s .entry)) at) (FoundWithin r (length (now (s .entry)))) ⌝ }
 {
     let n = class_at(s, at, Class::NotWhite);
     if n == 0 {
@@ -194,7 +194,7 @@ pub fn reference_ends(s: &[u8], at: usize) -> bool
 fn attribute_at(s: &[u8], at: usize, word: &[u8]) -> Found
     requires { ⌜ at ≤ length (now s) ⌝ }
     ensures { λ r. ⌜ Bounded (r ≡ matchAt (attributeRow (now (word .entry))) (now (s .entry)) at)
-        (Within r (length (now (s .entry)))) ⌝ }
+        (FoundWithin r (length (now (s .entry)))) ⌝ }
 {
     let n = class_at(s, at, Class::White);
     if n == 0 {
@@ -209,7 +209,7 @@ fn attribute_at(s: &[u8], at: usize, word: &[u8]) -> Found
 // The leftmost of these.
 pub fn find_attribute(body: &[u8], word: &[u8]) -> Found
     ensures { λ r. ⌜ Bounded (r ≡ find (attributeRow (now (word .entry))) (now (body .entry)))
-        (Within r (length (now (body .entry)))) ⌝ }
+        (FoundWithin r (length (now (body .entry)))) ⌝ }
 {
     let mut i = 0;
     while i < body.len() {
@@ -226,7 +226,7 @@ pub fn find_attribute(body: &[u8], word: &[u8]) -> Found
 pub fn find_jsx(body: &[u8], word: &[u8]) -> Found
     requires { ⌜ BeginsWithAtSign (now word) ⌝ }
     ensures { λ r. ⌜ Bounded (r ≡ find (jsxRow (now (word .entry))) (now (body .entry)))
-        (Within r (length (now (body .entry)))) ⌝ }
+        (FoundWithin r (length (now (body .entry)))) ⌝ }
 {
     let a = run_end(body, 0, Class::WhiteOrStar);
     let Matched::At(b) = match_word(body, a, word) else {
@@ -244,7 +244,7 @@ pub fn find_jsx(body: &[u8], word: &[u8]) -> Found
 pub fn find_pragma(body: &[u8], word: &[u8]) -> Found
     requires { ⌜ BeginsWithAtSign (now word) ⌝ }
     ensures { λ r. ⌜ Bounded (r ≡ find (pragmaRow (now (word .entry))) (now (body .entry)))
-        (Within r (length (now (body .entry)))) ⌝ }
+        (FoundWithin r (length (now (body .entry)))) ⌝ }
 {
     let a = run_end(body, 0, Class::White);
     let Matched::At(b) = assigned_at(body, a, word) else {

@@ -15,8 +15,8 @@ use Rattle.wire.specs.Text.{encodeText}
 use Rattle.wire.specs.Optional.{encodeOptional}
 use Rattle.sheet.specs.Tree.{Node}
 use Rattle.sheet.specs.Shape.{shape}
-use Rattle.nodes.specs.declared.tally.Judged.{Judged}
-use Rattle.nodes.specs.code.Judged.{judged}
+use Rattle.sheet_nodes.specs.declared.tally.NodeTally.{NodeTally}
+use Rattle.sheet_nodes.specs.code.Tallies.{nodeTally}
 use Rattle.report.specs.ModuleInfo.{DynamicTemplatePart}
 use Rattle.report.specs.Buffer.{Buffer, wrote}
 use Rattle.report.proofs.Buffers.{wrote-append}
@@ -56,8 +56,8 @@ pub no-parts : {o : Option (List DynamicTemplatePart)} {l : List DynamicTemplate
 no-parts e f = let z : _≡_ {A = ℕ} 0 1 = cc in omega arith
 
 -- a node that was read is not refused by its check
-pub checked-refused : {x : Decoded Node} {n : Node} {t : List ℕ} → x ≡ ok n t → {r : ℕ} → onOk judged x ≡ no r → ⊥
-checked-refused is e = refused (sym e ∙ ap (onOk judged) is)
+pub checked-refused : {x : Decoded Node} {n : Node} {t : List ℕ} → x ≡ ok n t → {r : ℕ} → onOk nodeTally x ≡ no r → ⊥
+checked-refused is e = refused (sym e ∙ ap (onOk nodeTally) is)
 
 -- an answer for the node that inner reads
 abbrev Counts : Decoder Node → List ℕ → Counted → Type 0
@@ -98,13 +98,13 @@ module _ {s : List ℕ} {inner : Decoder Node} {next : Cursor} {n : Node} {t : L
     pub at-right : inner v ≡ ok (r .right) t
     at-right = let (l, is, total, past) = has-count (chain (r .left)) (r .between) (f (r .left) (r .between) (r .first)) in ap inner past ∙ r .second
 
-    pub plus-counted : {j : Judged} {w : List ℕ} → onOk judged (inner v) ≡ ok j w → count (k + 1) w ≡ counted (chain n) t
+    pub plus-counted : {j : NodeTally} {w : List ℕ} → onOk nodeTally (inner v) ≡ ok j w → count (k + 1) w ≡ counted (chain n) t
     plus-counted e =
         let (l, is, total, past) = has-count (chain (r .left)) (r .between) (f (r .left) (r .between) (r .first)) in
         let p = operand (shape (r .right)) in
         let whole : chain n ≡ Option.some (l ++ (p ∷ [])) = plus-chain ∙ ap (λ o. appended o p) is in
         let more : k + 1 ≡ length (l ++ (p ∷ [])) = omega (arith, length-append l (p ∷ [])) in
-        rw (whole, more, same-rest judged (inner v) at-right e)
+        rw (whole, more, same-rest nodeTally (inner v) at-right e)
 
   -- the parts of the left side, and the right
   pub plus-parts : {l : List DynamicTemplatePart} → chain n ≡ Option.some l

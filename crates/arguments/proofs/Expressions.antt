@@ -16,19 +16,19 @@ use Rattle.sheet.specs.declared.fields.Span.{Span}
 use Rattle.sheet.specs.Tree.{Node, other, string, name, template, binary, object, importCall, call, importDecl, namedExport, exportFrom, exportAll, importType, importEquals, importRequire, moduleDecl}
 use Rattle.sheet.specs.Nodes.{many, piece, nodes, node}
 use Rattle.sheet.specs.Shape.{anything, shape}
-use Rattle.heads.specs.declared.node.Head.{Head}
-use Rattle.heads.specs.declared.node.Head.the-variants as head
-use Rattle.heads.specs.declared.node.HeadRead.{HeadRead}
-use Rattle.heads.specs.declared.node.HeadRead.the-variants as headRead
-use Rattle.heads.specs.code.Head as heads
-use Rattle.heads.specs.code.Rest.{rest}
-use Rattle.heads.specs.code.Views.{headOf, headAs}
-use Rattle.heads.proofs.ByHead.{behind-head}
-use Rattle.heads.proofs.Shapes.{shape-by-head}
-use Rattle.heads.proofs.node.Head.{the-type}
+use Rattle.sheet_heads.specs.declared.node.Head.{Head}
+use Rattle.sheet_heads.specs.declared.node.Head.the-variants as head
+use Rattle.sheet_heads.specs.declared.node.HeadRead.{HeadRead}
+use Rattle.sheet_heads.specs.declared.node.HeadRead.the-variants as headRead
+use Rattle.sheet_heads.specs.code.Head as heads
+use Rattle.sheet_heads.specs.code.Rest.{rest}
+use Rattle.sheet_heads.specs.code.Views.{headOf, headAs}
+use Rattle.sheet_heads.proofs.ByHead.{behind-head}
+use Rattle.sheet_heads.proofs.Shapes.{shape-by-head}
+use Rattle.sheet_heads.proofs.node.Head.{the-type}
 use Rattle.arguments.specs.declared.expression.Expression.the-variants as expression
 use Rattle.arguments.specs.Argument.{chain, argumentOf}
-use Rattle.arguments.specs.code.Views.{Unknown, Reads}
+use Rattle.arguments.specs.code.Views.{Unknown, ExpressionIs}
 
 -- the variants besides String, Template and Binary
 abbrev others : List ℕ
@@ -60,16 +60,16 @@ module _ (s source : List ℕ) (at levels : ℕ) {r : HeadRead} {sp : Span} {x :
   follows : rest source (levels - 1) (sp, headOf s x) (drop (next .at) s) ≡ ok n t
   follows = behind-head source levels (drop at s) whole (seen (headAs s) says is)
 
-  pub reads-string : {from to : ℕ} → x ≡ head.String from to → Reads s (node source (levels - 1)) (expression.String from to next) n t
+  pub reads-string : {from to : ℕ} → x ≡ head.String from to → ExpressionIs s (node source (levels - 1)) (expression.String from to next) n t
   reads-string h = let e = rw h at follows in record { span = sp; is = cc; past = cc }
 
-  pub reads-template : {holes : ℕ} → x ≡ head.Template holes → Reads s (node source (levels - 1)) (expression.Template holes next) n t
+  pub reads-template : {holes : ℕ} → x ≡ head.Template holes → ExpressionIs s (node source (levels - 1)) (expression.Template holes next) n t
   reads-template {holes} h =
       let (ps, u, pieces, behind) = then-ok (many [] piece (holes + 1) (drop (next .at) s)) _ (rw h at follows) in
       let (ns, v, held, e) = then-ok (nodes (node source (levels - 1)) holes u) _ behind in
       record { span = sp; pieces = ps; nodes = ns; behind = u; is = cc; read = pieces }
 
-  pub reads-plus : {plus : Bool} → x ≡ head.Binary plus → plus ≡ true → Reads s (node source (levels - 1)) (expression.Plus next) n t
+  pub reads-plus : {plus : Bool} → x ≡ head.Binary plus → plus ≡ true → ExpressionIs s (node source (levels - 1)) (expression.Plus next) n t
   reads-plus h on =
       let (l, u, left, behind) = then-ok (node source (levels - 1) (drop (next .at) s)) _ (rw (h, on) at follows) in
       let (m, v, right, e) = then-ok (node source (levels - 1) u) _ behind in

@@ -19,7 +19,7 @@ use Rattle.wire.specs.Optional.{optional}
 use Rattle.sheet.specs.Limits.{textLimit}
 use Rattle.sheet.specs.Tree.{Pieces}
 use Rattle.sheet.specs.Nodes.{many, piece}
-use Rattle.heads.proofs.Many.{many-first, many-next, many-end}
+use Rattle.sheet_heads.proofs.Many.{many-first, many-next, many-end}
 use Rattle.report.specs.ModuleInfo as info
 use Rattle.arguments.specs.code.Views.{holeParts}
 use Rattle.arguments.specs.Argument.{pieceParts, templateParts, ofPieces, onePiece}
@@ -71,7 +71,7 @@ module _ (s : List ℕ) (from to : ℕ) where
   pub no-part : to ≤ from → pieceParts (Option.some (part s from to)) ≡ []
   no-part h = let none : to - from ≡ 0 = omega arith in rw none
 
-pub hole-count : (there : Bool) → length (holeParts there) ≡ one there
+pub hole-count : (hasHole : Bool) → length (holeParts hasHole) ≡ one hasHole
 hole-count true = refl
 hole-count false = refl
 

@@ -6,10 +6,10 @@ use super::expression::Expression;
 use super::expression::read_expression;
 use super::template::count_parts;
 use super::template::put_parts;
-use heads::parts::PieceRead;
-use heads::parts::read_piece;
 use report::writer::Lossy;
-use report::writer::Place;
+use report::writer::Pen;
+use sheet_heads::parts::PieceRead;
+use sheet_heads::parts::read_piece;
 use wire::Cursor;
 ghost use mathlib.Core.Path.{_≡_};
 ghost use mathlib.Core.List.{List, []};
@@ -93,7 +93,7 @@ pub fn put_argument(
     levels: usize,
     a: DynamicArgument,
     out: &mut [u8],
-    place: Place,
+    place: Pen,
 ) -> Lossy
     requires { ⌜ ArgumentWithin (length (now sheet)) a ⌝ }
     ensures { λ r. ⌜ Leaving

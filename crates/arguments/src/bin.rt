@@ -3,9 +3,9 @@ use super::expression::Expression;
 use super::expression::read_expression;
 use super::part::put_expr;
 use super::part::put_string;
-use nodes::check::check_node;
-use nodes::tally::Checked;
-use report::writer::Place;
+use report::writer::Pen;
+use sheet_nodes::check::check_node;
+use sheet_nodes::tally::Checked;
 use wire::Cursor;
 ghost use mathlib.Core.Path.{_≡_};
 ghost use mathlib.Core.List.{List};
@@ -33,7 +33,7 @@ pub enum Parts {
 
 // Where the next part of a chain is written, with the cursor past what was.
 pub struct Written {
-    pub place: Place,
+    pub place: Pen,
     pub next: Cursor,
 }
 
@@ -66,8 +66,8 @@ fn put_operand(
     c: Cursor,
     levels: usize,
     out: &mut [u8],
-    place: Place,
-) -> Place
+    place: Pen,
+) -> Pen
     ensures { λ r. ⌜ ((n : Node) (t : List ℕ) → node (now (source .entry)) levels (drop (c .at) (now (sheet .entry))) ≡ ok n t
         → bufferAs (now (out .exit)) r ≡ wrote (bufferAs (now (out .entry)) place) (encodeOptional encodeText (operand (shape n)))) ⌝ }
 {
@@ -86,7 +86,7 @@ pub fn put_bin(
     c: Cursor,
     levels: usize,
     out: &mut [u8],
-    place: Place,
+    place: Pen,
 ) -> Written
     ensures { λ r. ⌜ Leaving
         ((n : Node) (t : List ℕ) (l : List DynamicTemplatePart)

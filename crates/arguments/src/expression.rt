@@ -1,7 +1,7 @@
 // What an expression is to the argument that it stands in.
-use heads::node::Head;
-use heads::node::HeadRead;
-use heads::node::read_head;
+use sheet_heads::node::Head;
+use sheet_heads::node::HeadRead;
+use sheet_heads::node::read_head;
 use wire::Cursor;
 ghost use mathlib.Core.Path.{_≡_};
 ghost use mathlib.Core.List.{List};
@@ -11,7 +11,7 @@ ghost use Rattle.laws.specs.Decoded.{ok};
 ghost use Rattle.laws.specs.code.Told.{Bounded};
 ghost use Rattle.sheet.specs.Tree.{Node};
 ghost use Rattle.sheet.specs.Nodes.{node};
-ghost use Rattle.arguments.specs.code.Views.{Reads, ExpressionWithin};
+ghost use Rattle.arguments.specs.code.Views.{ExpressionIs, ExpressionWithin};
 
 // A String with its text in the sheet, a Template with its holes, or a Binary that is a plus, with the cursor past the head.
 pub enum Expression {
@@ -30,7 +30,7 @@ pub fn read_expression(sheet: &[u8], source: &[u8], c: Cursor, levels: usize) ->
     ensures { λ r. ⌜ Bounded
         ((n : Node) (t : List ℕ)
         → node (now (source .entry)) levels (drop (c .at) (now (sheet .entry))) ≡ ok n t
-        → Reads (now (sheet .entry)) (node (now (source .entry)) (levels - 1)) r n t)
+        → ExpressionIs (now (sheet .entry)) (node (now (source .entry)) (levels - 1)) r n t)
         (ExpressionWithin (length (now (sheet .entry))) levels r) ⌝ }
 {
     match read_head(sheet, source, c, levels) {

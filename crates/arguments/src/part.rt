@@ -1,5 +1,5 @@
 // The parts of a template, written one by one.
-use report::writer::Place;
+use report::writer::Pen;
 ghost use mathlib.Core.Path.{_≡_};
 ghost use mathlib.Core.Option.{Option};
 ghost use lib.ListN.{length};
@@ -7,11 +7,11 @@ ghost use Rattle.text.specs.Lossy.{lossy};
 ghost use Rattle.text.specs.Bytes.{part};
 ghost use Rattle.wire.specs.Text.{encodeText};
 ghost use Rattle.wire.specs.Optional.{encodeOptional};
-ghost use Rattle.heads.specs.code.Views.{Part};
+ghost use Rattle.sheet_heads.specs.code.Views.{Part};
 ghost use Rattle.report.specs.Buffer.{wrote, bufferAs};
 
 // Writes a part that is a text of the sheet.
-pub fn put_string(sheet: &[u8], from: usize, to: usize, out: &mut [u8], place: Place) -> Place
+pub fn put_string(sheet: &[u8], from: usize, to: usize, out: &mut [u8], place: Pen) -> Pen
     requires { ⌜ Part (length (now sheet)) from to ⌝ }
     ensures { λ r. ⌜ bufferAs (now (out .exit)) r
         ≡ wrote (bufferAs (now (out .entry)) place) (encodeOptional encodeText (Option.some (lossy (part (now (sheet .entry)) from to)))) ⌝ }
@@ -21,7 +21,7 @@ pub fn put_string(sheet: &[u8], from: usize, to: usize, out: &mut [u8], place: P
 }
 
 // Writes a part that is an expression.
-pub fn put_expr(out: &mut [u8], place: Place) -> Place
+pub fn put_expr(out: &mut [u8], place: Pen) -> Pen
     ensures { λ r. ⌜ bufferAs (now (out .exit)) r ≡ wrote (bufferAs (now (out .entry)) place) (encodeOptional encodeText Option.none) ⌝ }
 {
     place.put(out, 0)

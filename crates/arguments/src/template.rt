@@ -1,9 +1,9 @@
 // The pieces of a template.
 use super::part::put_expr;
 use super::part::put_string;
-use heads::parts::PieceRead;
-use heads::parts::read_piece;
-use report::writer::Place;
+use report::writer::Pen;
+use sheet_heads::parts::PieceRead;
+use sheet_heads::parts::read_piece;
 use text::truth::count_one;
 use wire::Cursor;
 ghost use mathlib.Core.Path.{_≡_};
@@ -18,7 +18,7 @@ ghost use Rattle.text.specs.Bytes.{part};
 ghost use Rattle.wire.specs.Number.{largest};
 ghost use Rattle.sheet.specs.Tree.{Pieces};
 ghost use Rattle.sheet.specs.Nodes.{many, piece};
-ghost use Rattle.heads.specs.code.Views.{Part};
+ghost use Rattle.sheet_heads.specs.code.Views.{Part};
 ghost use Rattle.report.specs.Buffer.{wrote, bufferAs};
 ghost use Rattle.arguments.specs.Argument.{pieceParts, templateParts};
 ghost use Rattle.arguments.specs.code.Views.{encodeParts, holeParts};
@@ -62,7 +62,7 @@ pub fn count_parts(sheet: &[u8], c: Cursor, holes: usize) -> usize
 }
 
 // Writes the part of a cooked piece, which has one if it has text.
-fn put_piece(sheet: &[u8], from: usize, to: usize, out: &mut [u8], place: Place) -> Place
+fn put_piece(sheet: &[u8], from: usize, to: usize, out: &mut [u8], place: Pen) -> Pen
     requires { ⌜ Part (length (now sheet)) from to ⌝ }
     ensures { λ r. ⌜ bufferAs (now (out .exit)) r
         ≡ wrote (bufferAs (now (out .entry)) place) (encodeParts (pieceParts (Option.some (part (now (sheet .entry)) from to)))) ⌝ }
@@ -74,17 +74,17 @@ fn put_piece(sheet: &[u8], from: usize, to: usize, out: &mut [u8], place: Place)
 }
 
 // Writes the part of a hole, if there is one.
-fn put_hole(there: bool, out: &mut [u8], place: Place) -> Place
-    ensures { λ r. ⌜ bufferAs (now (out .exit)) r ≡ wrote (bufferAs (now (out .entry)) place) (encodeParts (holeParts there)) ⌝ }
+fn put_hole(has_hole: bool, out: &mut [u8], place: Pen) -> Pen
+    ensures { λ r. ⌜ bufferAs (now (out .exit)) r ≡ wrote (bufferAs (now (out .entry)) place) (encodeParts (holeParts «has_hole»)) ⌝ }
 {
-    if there {
+    if has_hole {
         return put_expr(out, place);
     }
     place
 }
 
 // Writes the parts of the pieces and of the holes between them. Where the bytes are no such pieces, the buffer is left free.
-pub fn put_parts(sheet: &[u8], c: Cursor, holes: usize, out: &mut [u8], place: Place) -> Place
+pub fn put_parts(sheet: &[u8], c: Cursor, holes: usize, out: &mut [u8], place: Pen) -> Pen
     requires { ⌜ holes ≤ largest ⌝ }
     ensures { λ r. ⌜ Leaving
         ((ps : Pieces) (u : List ℕ)

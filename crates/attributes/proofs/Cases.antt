@@ -5,7 +5,7 @@ use mathlib.Core.List.{List, [], _∷_, map}
 use mathlib.Core.Option.{Option}
 use Prim.Native.Nat.{ℕ}
 use Prim.Native.String.{String}
-use Rattle.laws.specs.Quoted.{ascii}
+use Rattle.laws.specs.Ascii.{ascii}
 use Rattle.text.specs.Bytes.{same, order}
 use Rattle.text.specs.Lossy.{surrogates}
 use Rattle.text.specs.Utf8.{admits}

@@ -7,7 +7,7 @@ use native.Mathlib.Omega.{arith}
 use Rattle.text.specs.declared.bytes.Order.the-variants.{Less, Equal, Greater}
 use Rattle.text.specs.Bytes.{order}
 use Rattle.sheet.specs.code.Tables.{rows}
-use Rattle.sheet.proofs.Rows.{rows-first, rows-end}
+use Rattle.sheet.proofs.TableRows.{rows-first, rows-end}
 use Rattle.report.specs.ModuleInfo.{KeyValue}
 use Rattle.attributes.specs.Attributes.{insert}
 use Rattle.attributes.specs.code.Views.{pairIn, pairsFrom, pairsIn, opened, replaced}

@@ -1,4 +1,4 @@
-pub mod Rows
+pub mod PairRows
 pub mod Insertion
 pub mod Shapes
 pub mod Seen
@@ -6,5 +6,5 @@ pub mod Loops
 pub mod Objects
 pub mod Keys
 pub mod Ascending
-pub mod Right
+pub mod ReadingsRight
 pub mod Cases

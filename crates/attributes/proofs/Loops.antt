@@ -6,9 +6,9 @@ use Rattle.laws.specs.Decoded.{Decoded, ok, no, onOk, Decoder}
 use Rattle.laws.proofs.Decoding.{refused, onOk-ok}
 use Rattle.sheet.specs.Tree.{Node, Properties, noProperties}
 use Rattle.sheet.specs.Nodes.{many, propertyItem, properties}
-use Rattle.heads.proofs.Many.{many-next, found, found-step, found-stop, found-end}
+use Rattle.sheet_heads.proofs.Many.{many-next, found, found-step, found-stop, found-end}
 use Rattle.attributes.specs.Attributes.{Prop, props}
-use Rattle.attributes.specs.code.Views.{Reads}
+use Rattle.attributes.specs.code.Views.{SeenAs}
 
 -- `after w es` is the answer, where w was found before the properties es
 module _ {W R : Type 0} (after : W → List Prop → R) (inner : Decoder Node) where
@@ -24,7 +24,7 @@ module _ {W R : Type 0} (after : W → List Prop → R) (inner : Decoder Node) w
 
 module _ {W R : Type 0} {after : W → List Prop → R} {inner : Decoder Node} {w₀ : W} {k₀ : ℕ} {s₀ : List ℕ} {w : W} {k : ℕ} {s : List ℕ} (g : Going after inner w₀ k₀ s₀ w k s) where
   -- one more
-  pub goes-on : {u : List ℕ} {e : Prop} → 0 < k → Reads inner s u e → {w′ : W} → ((es : List Prop) → after w (e ∷ es) ≡ after w′ es)
+  pub goes-on : {u : List ℕ} {e : Prop} → 0 < k → SeenAs inner s u e → {w′ : W} → ((es : List Prop) → after w (e ∷ es) ≡ after w′ es)
       → Going after inner w₀ k₀ s₀ w′ (k - 1) u
   goes-on h x {w′} f =
       record { rest = g .rest ∙ found-step (λ w ps. after w (props ps)) noProperties (propertyItem inner) w w′ k s h (x .item) (λ ps. ap (after w) (x .sees ps) ∙ f (props ps)) }
@@ -46,7 +46,7 @@ module _ {W R : Type 0} {after : W → List Prop → R} {inner : Decoder Node} {
         cc
 
     -- one settles the answer, whatever follows
-    pub settles : {u : List ℕ} {e : Prop} → 0 < k → Reads inner s u e → (r : R) → ((es : List Prop) → after w (e ∷ es) ≡ r) → r ≡ after w₀ (props ps)
+    pub settles : {u : List ℕ} {e : Prop} → 0 < k → SeenAs inner s u e → (r : R) → ((es : List Prop) → after w (e ∷ es) ≡ r) → r ≡ after w₀ (props ps)
     settles h x r f =
         let (qs, many-read, y) = onOk-ok (λ ps. after w (props ps)) (many noProperties (propertyItem inner) k s) all in
         let (others, behind, z) = many-next noProperties (propertyItem inner) k s h (x .item) many-read in

@@ -9,9 +9,9 @@ use Rattle.sheet.specs.declared.fields.Span.{Span}
 use Rattle.sheet.specs.Tree.{Node, Arguments, Properties, Attributes, withObject}
 use Rattle.sheet.specs.Nodes.{arguments, properties, node, attributesObject}
 use Rattle.sheet.specs.Shape.{shape}
-use Rattle.heads.specs.code.Parts.{argumentHead, attributesHead}
-use Rattle.heads.proofs.ByHead.{attributes-by-head}
-use Rattle.heads.proofs.FirstArgument.{first}
+use Rattle.sheet_heads.specs.code.Parts.{argumentHead, attributesHead}
+use Rattle.sheet_heads.proofs.ByHead.{attributes-by-head}
+use Rattle.sheet_heads.proofs.FirstArgument.{first}
 use Rattle.report.specs.ModuleInfo.{none, unknown}
 use Rattle.attributes.specs.Attributes.{ofObject, argumentProperties, dynamicAttributes}
 

@@ -11,17 +11,17 @@ use Rattle.text.specs.Bytes.{part}
 use Rattle.wire.specs.declared.Cursor.{Cursor}
 use Rattle.sheet.specs.Tree.{Node, Properties, spread, otherProperty, childKey, stringKey, nameKey}
 use Rattle.sheet.specs.Nodes.{propertyItem}
-use Rattle.heads.specs.declared.parts.Property.{Property}
-use Rattle.heads.specs.declared.parts.Property.the-variants as property
-use Rattle.heads.specs.code.Parts.{propertyHead}
-use Rattle.heads.specs.code.Views.{propertyOf, WithinProperty}
-use Rattle.heads.proofs.ByHead.{property-by-head, propertyRest}
+use Rattle.sheet_heads.specs.declared.parts.Property.{Property}
+use Rattle.sheet_heads.specs.declared.parts.Property.the-variants as property
+use Rattle.sheet_heads.specs.code.Parts.{propertyHead}
+use Rattle.sheet_heads.specs.code.Views.{propertyOf, PropertyWithin}
+use Rattle.sheet_heads.proofs.ByHead.{property-by-head, propertyRest}
 use Rattle.attributes.specs.declared.props.PropRead.the-variants as propRead
 use Rattle.attributes.specs.Attributes.{Prop, props}
-use Rattle.attributes.specs.code.Views.{propIn, Reads, PropIs, PropWithin}
+use Rattle.attributes.specs.code.Views.{propIn, SeenAs, PropIs, PropWithin}
 
 module _ (inner : Decoder Node) (u : List ℕ) {w : List ℕ} {add : Properties → Properties} (item : propertyItem inner u ≡ ok add w) where
-  seen-as : {e : Prop} (build : Properties → Properties) → build ≡ add → ((ps : Properties) → props (build ps) ≡ e ∷ props ps) → Reads inner u w e
+  seen-as : {e : Prop} (build : Properties → Properties) → build ≡ add → ((ps : Properties) → props (build ps) ≡ e ∷ props ps) → SeenAs inner u w e
   seen-as build is f = record { add = add; item = item; sees = rw is at f }
 
 module _ (inner : Decoder Node) (s : List ℕ) (at : ℕ) (value next : Cursor) {add : Properties → Properties}
@@ -64,7 +64,7 @@ module _ (inner : Decoder Node) (s : List ℕ) (at : ℕ) (value next : Cursor) 
   prop-is p e = by-rest p (rw e at (sym (property-by-head inner (drop at s)) ∙ item))
 
 -- a key is a part of the sheet
-pub prop-within : (m : ℕ) (s : List ℕ) (p : Property) (value next : Cursor) → WithinProperty m p → PropWithin m (propIn s p value next)
+pub prop-within : (m : ℕ) (s : List ℕ) (p : Property) (value next : Cursor) → PropertyWithin m p → PropWithin m (propIn s p value next)
 prop-within m s property.Spread value next w = tt
 prop-within m s property.Other value next w = tt
 prop-within m s property.ChildKey value next w = tt

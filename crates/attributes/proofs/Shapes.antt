@@ -17,16 +17,16 @@ use Rattle.sheet.specs.Tree.{Node, string, object}
 use Rattle.sheet.specs.Nodes.{properties, node}
 use Rattle.sheet.specs.Shape.{Shape, text, named, pieces, operation, anything, shape}
 use Rattle.sheet.specs.Shape as shapes
-use Rattle.heads.specs.declared.node.Head.{Head}
-use Rattle.heads.specs.declared.node.Head.the-variants as head
-use Rattle.heads.specs.declared.node.HeadRead.{HeadRead}
-use Rattle.heads.specs.declared.node.HeadRead.the-variants as headRead
-use Rattle.heads.specs.code.Head as heads
-use Rattle.heads.specs.code.Rest.{rest}
-use Rattle.heads.specs.code.Views.{headOf, headAs}
-use Rattle.heads.proofs.ByHead.{behind-head}
-use Rattle.heads.proofs.Shapes.{shape-by-head}
-use Rattle.heads.proofs.node.Head.{the-type}
+use Rattle.sheet_heads.specs.declared.node.Head.{Head}
+use Rattle.sheet_heads.specs.declared.node.Head.the-variants as head
+use Rattle.sheet_heads.specs.declared.node.HeadRead.{HeadRead}
+use Rattle.sheet_heads.specs.declared.node.HeadRead.the-variants as headRead
+use Rattle.sheet_heads.specs.code.Head as heads
+use Rattle.sheet_heads.specs.code.Rest.{rest}
+use Rattle.sheet_heads.specs.code.Views.{headOf, headAs}
+use Rattle.sheet_heads.proofs.ByHead.{behind-head}
+use Rattle.sheet_heads.proofs.Shapes.{shape-by-head}
+use Rattle.sheet_heads.proofs.node.Head.{the-type}
 use Rattle.report.specs.ModuleInfo.{ImportAttributes, unknown}
 use Rattle.attributes.specs.declared.props.Value.the-variants as value
 use Rattle.attributes.specs.Attributes.{Prop, valueOf, ofObject}

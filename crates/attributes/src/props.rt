@@ -1,13 +1,13 @@
 // The properties of an Object as attributes are read from them.
 use super::pairs::Pair;
-use heads::node::Head;
-use heads::node::HeadRead;
-use heads::node::read_head;
-use heads::parts::Property;
-use heads::parts::PropertyRead;
-use heads::parts::read_property;
-use nodes::check::check_property;
-use nodes::tally::Tallied;
+use sheet_heads::node::Head;
+use sheet_heads::node::HeadRead;
+use sheet_heads::node::read_head;
+use sheet_heads::parts::Property;
+use sheet_heads::parts::PropertyRead;
+use sheet_heads::parts::read_property;
+use sheet_nodes::check::check_property;
+use sheet_nodes::tally::Tallied;
 use text::lossy::is_exact;
 use wire::Cursor;
 ghost use mathlib.Core.Path.{_≡_};
@@ -20,7 +20,7 @@ ghost use Rattle.text.specs.Bytes.{part};
 ghost use Rattle.sheet.specs.Tree.{Node};
 ghost use Rattle.sheet.specs.Nodes.{node};
 ghost use Rattle.sheet.specs.Shape.{shape};
-ghost use Rattle.heads.specs.code.Views.{Part, WithinProperty};
+ghost use Rattle.sheet_heads.specs.code.Views.{Part, PropertyWithin};
 ghost use Rattle.attributes.specs.Attributes.{valueOf};
 ghost use Rattle.attributes.specs.code.Views.{pairAs, PairWithin, ValueIs, ValueWithin, propIn, PropIs, PropWithin};
 
@@ -104,7 +104,7 @@ pub fn read_pair(
 
 // A property from its head, with the cursors at its value and behind it.
 fn prop_of(sheet: &[u8], p: Property, value: Cursor, next: Cursor) -> PropRead
-    requires { ⌜ WithinProperty (length (now sheet)) p ⌝ }
+    requires { ⌜ PropertyWithin (length (now sheet)) p ⌝ }
     ensures { λ r. ⌜ r ≡ propIn (now (sheet .entry)) p value next ⌝ }
 {
     match p {

@@ -6,10 +6,10 @@ use super::props::Value;
 use super::props::read_pair;
 use super::props::read_prop;
 use super::props::read_value;
-use heads::parts::ArgumentRead;
-use heads::parts::AttributesRead;
-use heads::parts::read_argument;
-use heads::parts::read_attributes;
+use sheet_heads::parts::ArgumentRead;
+use sheet_heads::parts::AttributesRead;
+use sheet_heads::parts::read_argument;
+use sheet_heads::parts::read_attributes;
 use text::bytes::equal;
 use wire::Cursor;
 ghost use mathlib.Core.Path.{_≡_};
@@ -18,14 +18,14 @@ ghost use mathlib.Core.List.{List, []};
 ghost use Prim.Native.Nat.{ℕ, _≤_};
 ghost use lib.ListN.{length, drop};
 ghost use Rattle.laws.specs.Decoded.{ok};
-ghost use Rattle.laws.specs.Quoted.{ascii};
+ghost use Rattle.laws.specs.Ascii.{ascii};
 ghost use Rattle.text.specs.Bytes.{same, part};
 ghost use Rattle.sheet.specs.Limits.{propertyLimit, pairNumbers};
 ghost use Rattle.sheet.specs.Tree.{Node, Arguments, Properties, Attributes};
 ghost use Rattle.sheet.specs.Nodes.{node, properties, arguments, attributesObject};
 ghost use Rattle.sheet.specs.Shape.{shape};
-ghost use Rattle.heads.specs.code.Rest.{behind};
-ghost use Rattle.heads.specs.code.Views.{Part};
+ghost use Rattle.sheet_heads.specs.code.Rest.{behind};
+ghost use Rattle.sheet_heads.specs.code.Views.{Part};
 ghost use Rattle.report.specs.ModuleInfo.{none};
 ghost use Rattle.laws.specs.code.Left.{Free};
 ghost use Rattle.laws.specs.code.Told.{Bounded, Lent};
@@ -89,19 +89,19 @@ pub fn parse_import_attributes(
     sheet: &[u8],
     source: &[u8],
     c: Cursor,
-    there: bool,
+    has_object: bool,
     levels: usize,
     pairs: &mut [usize],
 ) -> ImportAttributes
     requires { ⌜ pairNumbers ≤ length (now pairs) ⌝ }
     ensures { λ r. ⌜ Lent
         ((a : Attributes) (t : List ℕ)
-        → behind there (attributesObject (now (source .entry)) levels) (drop (c .at) (now (sheet .entry))) ≡ ok a t
+        → behind «has_object» (attributesObject (now (source .entry)) levels) (drop (c .at) (now (sheet .entry))) ≡ ok a t
         → attributesAs (now (sheet .entry)) (now (pairs .exit)) r ≡ staticAttributes a)
         (AttributesWithin (length (now (sheet .entry))) (now (pairs .exit)) r)
         (Free (now (pairs .entry)) (now (pairs .exit))) ⌝ }
 {
-    if there {
+    if has_object {
         return match read_attributes(sheet, source, c, levels) {
             AttributesRead::Refused(_) => ImportAttributes::Unknown,
             AttributesRead::Is { count, next, .. } => {
@@ -160,19 +160,19 @@ pub fn parse_type_attributes(
     sheet: &[u8],
     source: &[u8],
     c: Cursor,
-    there: bool,
+    has_object: bool,
     levels: usize,
     pairs: &mut [usize],
 ) -> ImportAttributes
     requires { ⌜ pairNumbers ≤ length (now pairs) ⌝ }
     ensures { λ r. ⌜ Lent
         ((a : Attributes) (t : List ℕ)
-        → behind there (attributesObject (now (source .entry)) levels) (drop (c .at) (now (sheet .entry))) ≡ ok a t
+        → behind «has_object» (attributesObject (now (source .entry)) levels) (drop (c .at) (now (sheet .entry))) ≡ ok a t
         → attributesAs (now (sheet .entry)) (now (pairs .exit)) r ≡ typeAttributes a)
         (AttributesWithin (length (now (sheet .entry))) (now (pairs .exit)) r)
         (Free (now (pairs .entry)) (now (pairs .exit))) ⌝ }
 {
-    if there {
+    if has_object {
         return match read_attributes(sheet, source, c, levels) {
             AttributesRead::Refused(_) => ImportAttributes::Unknown,
             AttributesRead::Is { count, next, .. } => {

@@ -2,7 +2,7 @@
 use super::pairs::Pair;
 use super::pairs::pair_at;
 use super::readings::ImportAttributes;
-use report::writer::Place;
+use report::writer::Pen;
 ghost use mathlib.Core.Path.{_≡_};
 ghost use lib.ListN.{length};
 ghost use mathlib.Core.List.{flatMap};
@@ -11,7 +11,7 @@ ghost use Rattle.report.specs.Buffer.{wrote, bufferAs};
 ghost use Rattle.attributes.specs.code.Views.{pairAs, pairsIn, attributesAs, PairWithin, Pairs, AttributesWithin};
 
 // Writes a pair.
-fn put_pair(sheet: &[u8], p: Pair, out: &mut [u8], place: Place) -> Place
+fn put_pair(sheet: &[u8], p: Pair, out: &mut [u8], place: Pen) -> Pen
     requires { ⌜ PairWithin (length (now sheet)) p ⌝ }
     ensures { λ r. ⌜ bufferAs (now (out .exit)) r ≡ wrote (bufferAs (now (out .entry)) place) (encodeKeyValue (pairAs (now (sheet .entry)) p)) ⌝ }
 {
@@ -28,7 +28,7 @@ fn put_pair(sheet: &[u8], p: Pair, out: &mut [u8], place: Place) -> Place
 }
 
 // Writes the first n pairs of a table.
-fn put_pairs(sheet: &[u8], pairs: &[usize], n: usize, out: &mut [u8], place: Place) -> Place
+fn put_pairs(sheet: &[u8], pairs: &[usize], n: usize, out: &mut [u8], place: Pen) -> Pen
     requires { ⌜ Pairs (length (now sheet)) (now pairs) n ⌝ }
     ensures { λ r. ⌜ bufferAs (now (out .exit)) r
         ≡ wrote (bufferAs (now (out .entry)) place) (flatMap encodeKeyValue (pairsIn (now (sheet .entry)) (now (pairs .entry)) n)) ⌝ }
@@ -49,8 +49,8 @@ pub fn put_attributes(
     pairs: &[usize],
     a: ImportAttributes,
     out: &mut [u8],
-    place: Place,
-) -> Place
+    place: Pen,
+) -> Pen
     requires { ⌜ AttributesWithin (length (now sheet)) (now pairs) a ⌝ }
     ensures { λ r. ⌜ bufferAs (now (out .exit)) r
         ≡ wrote (bufferAs (now (out .entry)) place) (encodeAttributes (attributesAs (now (sheet .entry)) (now (pairs .entry)) a)) ⌝ }

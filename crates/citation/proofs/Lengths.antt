@@ -10,7 +10,7 @@ use native.Mathlib.Omega.{arith}
 use lib.Dec.{ltb}
 use lib.ListN.{length, getD, drop, length-append}
 use borrow.Author.Tests.{ltb-true, ltb-false}
-use Rattle.laws.specs.Quoted.{ascii}
+use Rattle.laws.specs.Ascii.{ascii}
 use Rattle.laws.specs.Codec.{IfThere, All}
 use Rattle.laws.proofs.Lists.{flatMap-append}
 use Rattle.text.specs.declared.position.Position.{Position}

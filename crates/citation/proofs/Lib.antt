@@ -1,7 +1,7 @@
 mod Fours
 mod Recounts
 mod Apart
-pub mod Right
+pub mod ColumnsRight
 pub mod Lengths
 pub mod Few
 mod Digits

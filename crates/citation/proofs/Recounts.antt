@@ -11,7 +11,7 @@ use lib.ListN.{take}
 use Rattle.text.specs.declared.position.Position.{Position}
 use Rattle.text.specs.Ranges.{within}
 use Rattle.text.specs.Utf8.{continuation}
-use Rattle.text.specs.Position.{Units, characters, step, walk, origin, positionOf, utf16}
+use Rattle.text.specs.Position.{Units, characters, step, walk, startPosition, positionOf, utf16}
 use Rattle.citation.specs.Columns.{beginsFour, fromLine, foursIn, recounted}
 use Rattle.citation.proofs.Fours.{fours-none, fours-on, fours-next, from-zero, from-on, from-next}
 
@@ -86,7 +86,7 @@ leads (b ∷ s) (suc n) p q = by (eqb b 0x0A) refl (within continuation b) refl 
     by false e false on behind = rw (past-first characters p b e on, past-first utf16 q b e on) (begins b s p q _ _ e on (behind _ _))
 
 -- from the start of the source
-led : (s : List ℕ) {p q : Position} → Leads s origin origin p q → recounted s p ≡ q
+led : (s : List ℕ) {p q : Position} → Leads s startPosition startPosition p q → recounted s p ≡ q
 unfolding recounted
 led s {p} =
     ⊎-elim
@@ -95,4 +95,4 @@ led s {p} =
 
 pub recounts : (s : List ℕ) (at : ℕ) → recounted s (positionOf characters s at) ≡ positionOf utf16 s at
 unfolding positionOf
-recounts s at = led s (leads s at origin origin)
+recounts s at = led s (leads s at startPosition startPosition)

@@ -7,7 +7,7 @@ use native.Mathlib.Omega.{arith}
 use lib.Dec.{eqb}
 use lib.ListN.{length, take}
 use borrow.Author.Tests.{le-leb}
-use Rattle.report.specs.declared.writer.Place.{Place}
+use Rattle.report.specs.declared.writer.Pen.{Pen}
 use Rattle.report.specs.Buffer.{holds, full, wrote, fullPlace, bufferAs}
 
 take-taken : (n : ℕ) (l : List ℕ) → take (length (take n l)) l ≡ take n l
@@ -16,7 +16,7 @@ take-taken (suc n) [] = refl
 take-taken (suc n) (a ∷ l) = ap (a ∷_) (take-taken n l)
 
 -- the bytes begin the buffer, and the place is behind them
-module _ (out : List ℕ) (p : Place) (size : ℕ) (bs : List ℕ) (h : bufferAs out p ≡ wrote (holds size []) bs) (room : length bs ≤ size) where
+module _ (out : List ℕ) (p : Pen) (size : ℕ) (bs : List ℕ) (h : bufferAs out p ≡ wrote (holds size []) bs) (room : length bs ≤ size) where
   begins : take (p .at) out ≡ bs
   unfolding wrote
   begins = by-full (eqb (p .at) fullPlace) (h ∙ rw (le-leb (0 + length bs) size (omega arith)))

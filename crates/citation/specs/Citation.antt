@@ -6,7 +6,7 @@ use Prim.Native.Nat.{ℕ, zero, suc, _+_, _/_, _%_}
 use Prim.Native.Char.{code}
 use lib.Dec.{eqb, ltb}
 use lib.ListN.{length, getD, drop}
-use Rattle.laws.specs.Quoted.{ascii}
+use Rattle.laws.specs.Ascii.{ascii}
 use Rattle.text.specs.declared.position.Position.{Position}
 use Rattle.report.specs.ModuleInfo.{PositionRange, SpecifierWithRange, TypeScriptReference, path, types, JsDocImportInfo, DynamicArgument, expr, string, template, DependencyDescriptor, static, dynamic, ModuleInfo}
 use Rattle.citation.specs.Columns.{recountedRange}

@@ -4,7 +4,7 @@ use super::lines::put_line;
 use super::lines::put_title;
 use report::names::DependencyKind;
 use report::names::dependency_kind;
-use report::writer::Place;
+use report::writer::Pen;
 use report_reader::fields::read_number;
 use report_reader::fields::read_range;
 use report_reader::fields::read_text;
@@ -30,7 +30,7 @@ ghost use Rattle.citation.specs.code.Items.{encodeRanged, ValidRanged, e
 
 // Where the next byte goes in the buffer, how many lines were written, and the place behind what was read of the report.
 pub struct Cited {
-    pub place: Place,
+    pub place: Pen,
     pub lines: usize,
     pub next: usize,
 }
@@ -50,7 +50,7 @@ fn cite_range(
     letter: u8,
     text: &[u8],
     out: &mut [u8],
-    place: Place,
+    place: Pen,
 ) -> Cited
     ensures { λ r. ⌜ Bounded
         (Cites encodeRange ValidRange (now (report .entry)) (now (source .entry)) at (λ range. record { letter = letter; range = range; text = now (text .entry) } ∷ []) (bufferAs (now (out .entry)) place) (now (out .exit)) r)
@@ -71,7 +71,7 @@ fn cite_specifier(
     at: usize,
     letter: u8,
     out: &mut [u8],
-    place: Place,
+    place: Pen,
 ) -> Cited
     ensures { λ r. ⌜ Bounded
         (Cites encodeSpecifier ValidSpecifier (now (report .entry)) (now (source .entry)) at (citeSpecifier letter) (bufferAs (now (out .entry)) place) (now (out .exit)) r)
@@ -90,25 +90,25 @@ fn cite_optional(
     at: usize,
     letter: u8,
     out: &mut [u8],
-    place: Place,
+    place: Pen,
 ) -> Cited
     ensures { λ r. ⌜ Bounded
         (Cites (encodeOptional encodeSpecifier) (IfThere ValidSpecifier) (now (report .entry)) (now (source .entry)) at (citeOptional letter) (bufferAs (now (out .entry)) place) (now (out .exit)) r)
         (r .lines ≤ 1) ⌝ }
 {
-    let there = read_number(report, at);
-    if there.value == 0 {
+    let flag = read_number(report, at);
+    if flag.value == 0 {
         return Cited {
             place,
             lines: 0,
-            next: there.next,
+            next: flag.next,
         };
     }
-    cite_specifier(report, source, there.next, letter, out, place)
+    cite_specifier(report, source, flag.next, letter, out, place)
 }
 
 // Cites a reference: R.
-fn cite_reference(report: &[u8], source: &[u8], at: usize, out: &mut [u8], place: Place) -> Cited
+fn cite_reference(report: &[u8], source: &[u8], at: usize, out: &mut [u8], place: Pen) -> Cited
     ensures { λ r. ⌜ Bounded
         (Cites encodeReference ValidReference (now (report .entry)) (now (source .entry)) at citeReference (bufferAs (now (out .entry)) place) (now (out .exit)) r)
         (r .lines ≤ 1) ⌝ }
@@ -128,7 +128,7 @@ fn cite_reference(report: &[u8], source: &[u8], at: usize, out: &mut [u8], place
 }
 
 // Cites a JSDoc import: J.
-fn cite_jsdoc(report: &[u8], source: &[u8], at: usize, out: &mut [u8], place: Place) -> Cited
+fn cite_jsdoc(report: &[u8], source: &[u8], at: usize, out: &mut [u8], place: Pen) -> Cited
     ensures { λ r. ⌜ Bounded
         (Cites encodeJsDoc ValidJsDoc (now (report .entry)) (now (source .entry)) at citeJsDoc (bufferAs (now (out .entry)) place) (now (out .exit)) r)
         (r .lines ≤ 1) ⌝ }
@@ -151,7 +151,7 @@ fn cite_argument(
     at: usize,
     letter: u8,
     out: &mut [u8],
-    place: Place,
+    place: Pen,
 ) -> Cited
     ensures { λ r. ⌜ Bounded
         (Cites encodeRanged ValidRanged (now (report .entry)) (now (source .entry)) at (λ a. citeArgument letter (a .0) (a .1)) (bufferAs (now (out .entry)) place) (now (out .exit)) r)
@@ -185,7 +185,7 @@ fn cite_dependency(
     at: usize,
     letter: u8,
     out: &mut [u8],
-    place: Place,
+    place: Pen,
 ) -> Cited
     ensures { λ r. ⌜ Bounded
         (Cites encodeDependency ValidDependency (now (report .entry)) (now (source .entry)) at (citeDependency letter) (bufferAs (now (out .entry)) place) (now (out .exit)) r)
@@ -227,7 +227,7 @@ fn cite_item(
     kind: Kind,
     number: usize,
     out: &mut [u8],
-    place: Place,
+    place: Pen,
 ) -> Cited
     ensures { λ r. ⌜ Bounded
         (Cites (encodeItem kind) (ValidItem kind) (now (report .entry)) (now (source .entry)) at (citeItem kind number) (bufferAs (now (out .entry)) place) (now (out .exit)) r)
@@ -266,7 +266,7 @@ fn cite_items(
     count: usize,
     numbers: &[usize],
     out: &mut [u8],
-    place: Place,
+    place: Pen,
 ) -> Cited
     requires { ⌜ count ≤ largest ⌝ }
     ensures { λ r. ⌜ Bounded
@@ -310,7 +310,7 @@ fn cite_list(
     kind: Kind,
     numbers: &[usize],
     out: &mut [u8],
-    place: Place,
+    place: Pen,
 ) -> Cited
     ensures { λ r. ⌜ Bounded
         (Cites (encodeList (encodeItem kind)) (λ l. Short l
@@ -339,13 +339,7 @@ fn total(d: usize, r: usize, s: usize, x: usize, y: usize, j: usize, m: usize) -
 }
 
 // Cites what is in a report: D or d and T, R, S, X, Y, J, M. The numbers are those beside the dependencies; other items have none.
-fn cite_lines(
-    report: &[u8],
-    source: &[u8],
-    numbers: &[usize],
-    out: &mut [u8],
-    place: Place,
-) -> Cited
+fn cite_lines(report: &[u8], source: &[u8], numbers: &[usize], out: &mut [u8], place: Pen) -> Cited
     ensures { λ r. ⌜ Cites encode Valid (now (report .entry)) (now (source .entry)) 0 (lines (now (numbers .entry))) (bufferAs (now (out .entry)) place) (now (out .exit)) r ⌝ }
 {
     let is_script = read_number(report, 0);
@@ -389,7 +383,7 @@ fn cite_lines(
 }
 
 // How many bytes stand before a place.
-pub fn written(out: &[u8], place: Place) -> usize
+pub fn written(out: &[u8], place: Pen) -> usize
     ensures { λ r. ⌜ r ≡ length (take (place .at) (now (out .entry))) ⌝ }
 {
     if place.at < out.len() {
@@ -412,7 +406,7 @@ pub fn cite_report(report: &[u8], source: &[u8], numbers: &[usize], out: &mut [u
         (Free (now (out .entry)) (now (out .exit))) ⌝ }
 {
     let wide = &source[..last_four(source)];
-    let start = Place { at: 0 };
+    let start = Pen { at: 0 };
     let counted = cite_lines(report, wide, numbers, out, start);
     let p = put_title(start, out, b"module ", counted.lines);
     let cited = cite_lines(report, wide, numbers, out, p);
@@ -426,7 +420,7 @@ pub fn cite_refusal(number: u8, out: &mut [u8]) -> usize
         (r ≤ length (now (out .exit)))
         (Free (now (out .entry)) (now (out .exit))) ⌝ }
 {
-    let start = Place { at: 0 };
+    let start = Pen { at: 0 };
     let p = put_title(start, out, b"refused ", number as usize);
     written(out, p)
 }

@@ -1,6 +1,6 @@
 // The writing of lines.
 use super::columns::recounted;
-use report::writer::Place;
+use report::writer::Pen;
 use text::position::Position;
 ghost use mathlib.Core.Path.{_≡_};
 ghost use Prim.Native.Nat.{_<_};
@@ -12,7 +12,7 @@ ghost use Rattle.citation.specs.Citation.{digits, hexDigit, isEscaped, e
 ghost use Rattle.citation.specs.code.Printable.{Printable};
 
 // Writes a number in decimal, in at most so many places.
-pub fn put_digits(place: Place, out: &mut [u8], places: usize, n: usize) -> Place
+pub fn put_digits(place: Pen, out: &mut [u8], places: usize, n: usize) -> Pen
     ensures { λ r. ⌜ bufferAs (now (out .exit)) r ≡ wrote (bufferAs (now (out .entry)) place) (digits places n) ⌝ }
 {
     if places == 0 {
@@ -47,7 +47,7 @@ fn is_escaped(b: u8) -> bool
 }
 
 // Writes a byte of a text.
-fn put_escaped(place: Place, out: &mut [u8], b: u8) -> Place
+fn put_escaped(place: Pen, out: &mut [u8], b: u8) -> Pen
     ensures { λ r. ⌜ bufferAs (now (out .exit)) r ≡ wrote (bufferAs (now (out .entry)) place) (escaped b) ⌝ }
 {
     if is_escaped(b) {
@@ -59,7 +59,7 @@ fn put_escaped(place: Place, out: &mut [u8], b: u8) -> Place
 }
 
 // Writes a text.
-pub fn put_text(place: Place, out: &mut [u8], text: &[u8]) -> Place
+pub fn put_text(place: Pen, out: &mut [u8], text: &[u8]) -> Pen
     ensures { λ r. ⌜ bufferAs (now (out .exit)) r
         ≡ wrote (bufferAs (now (out .entry)) place) (flatMap escaped (now (text .entry))) ⌝ }
 {
@@ -73,7 +73,7 @@ pub fn put_text(place: Place, out: &mut [u8], text: &[u8]) -> Place
 }
 
 // Writes line:column, from 1.
-fn put_position(place: Place, out: &mut [u8], position: Position) -> Place
+fn put_position(place: Pen, out: &mut [u8], position: Position) -> Pen
     requires { ⌜ Printable position ⌝ }
     ensures { λ r. ⌜ bufferAs (now (out .exit)) r ≡ wrote (bufferAs (now (out .entry)) place) (citePosition position) ⌝ }
 {
@@ -83,7 +83,7 @@ fn put_position(place: Place, out: &mut [u8], position: Position) -> Place
 }
 
 // Writes the positions at a range's start and at its end, recounted in UTF-16 code units.
-fn put_range(place: Place, out: &mut [u8], source: &[u8], start: Position, end: Position) -> Place
+fn put_range(place: Pen, out: &mut [u8], source: &[u8], start: Position, end: Position) -> Pen
     requires { ⌜ ValidPosition start × ValidPosition end ⌝ }
     ensures { λ r. ⌜ bufferAs (now (out .exit)) r
         ≡ wrote (bufferAs (now (out .entry)) place)
@@ -97,14 +97,14 @@ fn put_range(place: Place, out: &mut [u8], source: &[u8], start: Position, end: 
 
 // Writes a line: letter, space, range, space, text.
 pub fn put_line(
-    place: Place,
+    place: Pen,
     out: &mut [u8],
     source: &[u8],
     letter: u8,
     start: Position,
     end: Position,
     text: &[u8],
-) -> Place
+) -> Pen
     requires { ⌜ ValidPosition start × ValidPosition end ⌝ }
     ensures { λ r. ⌜ bufferAs (now (out .exit)) r
         ≡ wrote (bufferAs (now (out .entry)) place)
@@ -119,7 +119,7 @@ pub fn put_line(
 }
 
 // Writes a word and a number, on a line of their own.
-pub fn put_title(place: Place, out: &mut [u8], word: &[u8], n: usize) -> Place
+pub fn put_title(place: Pen, out: &mut [u8], word: &[u8], n: usize) -> Pen
     ensures { λ r. ⌜ bufferAs (now (out .exit)) r ≡ wrote (bufferAs (now (out .entry)) place) (title (now (word .entry)) n) ⌝ }
 {
     let p = place.put_bytes(out, word);

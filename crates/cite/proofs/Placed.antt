@@ -28,18 +28,18 @@ use Rattle.report.specs.declared.names.DynamicDependencyKind.the-variants as dy
 use Rattle.report.specs.declared.writer.Outcome.{Outcome}
 use Rattle.report.specs.ModuleInfo.{PositionRange, SpecifierWithRange, TypeScriptReference, path, types, JsDocImportInfo, ImportAttributes, none, DependencyDescriptor, static, dynamic, ModuleInfo}
 use Rattle.report.specs.Range.{RangeAt}
-use Rattle.report.proofs.Places.{range-at}
+use Rattle.report.proofs.RangesApart.{range-at}
 use Rattle.pragmas.specs.Pragmas.{typesAt}
 use Rattle.pragmas.specs.Texts.{ShownInMarks, ShownBare, TypesShown, ReferenceShown, typesOf}
 use Rattle.dep.specs.Collect.{numbersOf, importKind, exportKind, equalsKind, dynamicKind, staticEntry, callEntry, moduleEntry, entryOf}
 use Rattle.dep.proofs.Turns.{turn-member, turns-with}
-use Rattle.dep.proofs.Right.{all-if}
+use Rattle.dep.proofs.EntryAttributes.{all-if}
 use Rattle.module_info.specs.Information.{moduleInfo}
 use Rattle.module_info.specs.Replaced.{noted}
 use Rattle.module_info.specs.Demands.{Demands}
 use Rattle.module_info.proofs.Inside.{walked-fits}
 use Rattle.citation.specs.Citation.{Line, citeOptional, citeDependency, dependencyLetter, citeNoted, citeEach, citeReference, citeJsDoc, lines}
-use Rattle.citation.proofs.Right.{columns-right}
+use Rattle.citation.proofs.ColumnsRight.{columns-right}
 use Rattle.cite.specs.Cited.{EditorColumns}
 
 all-flatMap : {A B : Type 0} (P : B → Type 0) (f : A → List B) (l : List A) → All (λ a. All P (f a)) l → All P (flatMap f l)

@@ -3,7 +3,7 @@ use Rattle.report.specs.declared.writer.Outcome.{Outcome}
 use mathlib.Core.List.{List}
 use Prim.Native.Nat.{ℕ}
 use Rattle.module_info.specs.Demands.{Demands}
-use Rattle.citation.proofs.Right.{printed-same}
+use Rattle.citation.proofs.ColumnsRight.{printed-same}
 use Rattle.cite.specs.Cited.{KeptLines}
 
 pub kept-lines : {s buffer : List ℕ} {size : ℕ} {outcome : Outcome} → Demands s size outcome buffer → KeptLines s

@@ -18,7 +18,7 @@ ghost use Rattle.laws.specs.code.Told.{Bounded, Meant};
 ghost use Rattle.text.specs.Bytes.{part};
 ghost use Rattle.sheet.specs.Sheet.{Sheet};
 ghost use Rattle.sheet_codec.specs.SheetOf.{SheetOf};
-ghost use Rattle.report_reader.specs.code.Reads.{Inside};
+ghost use Rattle.report_reader.specs.code.FromPlace.{Inside};
 ghost use Rattle.cite.specs.Cited.{reportRoom, noteRoom, lineRoom, cited, EditorColumns, KeptLines};
 
 // Where the source of an accepted sheet stands: behind the media byte.

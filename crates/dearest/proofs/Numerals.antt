@@ -90,13 +90,13 @@ one-digit {w} {n} x digit some =
     (λ m. rw is at (next m d (omega arith)))
 
 -- the digits w read up to the place i, with the number n
-pub record Reading (w : List ℕ) (i n : ℕ) : Type 0 where
+pub record ReadUpTo (w : List ℕ) (i n : ℕ) : Type 0 where
   pub inside : i ≤ length w
   pub small : n ≤ longest
   pub so-far : SoFar (take i w) n
   pub goes-on : after 0 w ≡ after n (drop i w)
 
-pub begin : (w : List ℕ) → Reading w 0 0
+pub begin : (w : List ℕ) → ReadUpTo w 0 0
 begin w = record { inside = omega arith; small = omega arith; so-far = inl (refl, refl); goes-on = refl }
 
 -- w has no such digits
@@ -106,7 +106,7 @@ None w = (m : ℕ) → Digits w m → ⊥
 pub empty : (w : List ℕ) → length w ≡ 0 → None w
 empty w e m h = omega (arith, facts (h .0) .some)
 
-module _ {w : List ℕ} {i n : ℕ} (r : Reading w i n) where
+module _ {w : List ℕ} {i n : ℕ} (r : ReadUpTo w i n) where
   pub finished : 0 < length w → length w ≤ i → Digits w n × ((m : ℕ) → Digits w m → m ≡ n)
   finished some end =
       let whole : take i w ≡ w = take-all i w end in
@@ -132,7 +132,7 @@ module _ {w : List ℕ} {i n : ℕ} (r : Reading w i n) where
           let front : take i w ≡ [] → i ≡ 0 = λ none. sym (length-take-le i w (r .inside)) ∙ ap length none in
           ⊎-elim (λ p. facts (h .0) .no-zero (rw (front (p .0)) at zero)) (λ q. omega (arith, facts q .positive)) (r .so-far)
 
-      pub onward : (behind n (getD w i 0) ≡ 0 → ⊥) → behind n (getD w i 0) ≤ longest → Reading w (i + 1) (behind n (getD w i 0))
+      pub onward : (behind n (getD w i 0) ≡ 0 → ⊥) → behind n (getD w i 0) ≤ longest → ReadUpTo w (i + 1) (behind n (getD w i 0))
       onward some short = record {
         inside = omega arith;
         small = short;

@@ -7,7 +7,7 @@ use Prim.Native.Char.{code}
 use native.Mathlib.Omega.{arith}
 use lib.ListN.{length, getD, take, drop, length-append, drop-of-length-le}
 use lib.Seq.{split-at, take-at, getD-at}
-use Rattle.laws.specs.Quoted.{ascii}
+use Rattle.laws.specs.Ascii.{ascii}
 use Rattle.dearest.specs.declared.Request.{Request}
 use Rattle.dearest.specs.declared.Request.the-variants as request
 use Rattle.dearest.specs.Input.{Digits, Asks}

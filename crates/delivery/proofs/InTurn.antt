@@ -90,11 +90,11 @@ all-modules ms h = rw append-nil at (pass-modules [] 0 ms [] h)
 pub late-answered : {ms : List Module} {i j : ℕ} {x : List ℕ} → FirstLate ms i j x → modulesInTurn [] 0 ms ≡ notInOrder i j x
 late-answered {ms} {i} {j} {x} f =
     let names = namesOf (f .before) in
-    let behind = modulesInTurn (names ++ (f .there .name ∷ [])) (i + 1) (f .behind) in
-    let to-module : modulesInTurn [] 0 ms ≡ modulesInTurn names i (f .there ∷ f .behind) =
-    ap (modulesInTurn [] 0) (f .among) ∙ pass-modules [] 0 (f .before) (f .there ∷ f .behind) (f .modules) ∙ rw (zero-add, f .index) in
-    let to-entries : modulesInTurn names i (f .there ∷ f .behind) ≡ entriesInTurn names i 0 (f .first ++ f .entry ∷ f .rest) behind =
-    module-here {m = f .there} {rest = f .behind} refl names i ∙ ap (λ ds. entriesInTurn names i 0 ds behind) (f .entries) in
+    let behind = modulesInTurn (names ++ (f .middle .name ∷ [])) (i + 1) (f .behind) in
+    let to-module : modulesInTurn [] 0 ms ≡ modulesInTurn names i (f .middle ∷ f .behind) =
+    ap (modulesInTurn [] 0) (f .among) ∙ pass-modules [] 0 (f .before) (f .middle ∷ f .behind) (f .modules) ∙ rw (zero-add, f .index) in
+    let to-entries : modulesInTurn names i (f .middle ∷ f .behind) ≡ entriesInTurn names i 0 (f .first ++ f .entry ∷ f .rest) behind =
+    module-here {m = f .middle} {rest = f .behind} refl names i ∙ ap (λ ds. entriesInTurn names i 0 ds behind) (f .entries) in
     let to-entry : entriesInTurn names i 0 (f .first ++ f .entry ∷ f .rest) behind ≡ entriesInTurn names i j (f .entry ∷ f .rest) behind =
     pass-entries names i behind (f .first) (f .entry ∷ f .rest) 0 (f .passed) ∙ rw (zero-add, f .place) in
     to-module ∙ to-entries ∙ to-entry ∙ entry-here {d = f .entry} {rest = f .rest} refl names i j behind (sym (too-late (f .asks) (f .late)))
@@ -102,9 +102,9 @@ late-answered {ms} {i} {j} {x} f =
 -- the first module with an entry that is late, if there is one
 pub data ModulesOr (earlier : List (List ℕ)) (ms : List Module) : Type 0 where
   each : InOrderAfter earlier ms → ModulesOr earlier ms
-  found : (before : List Module) (there : Module) (behind : List Module) → ms ≡ before ++ there ∷ behind → InOrderAfter earlier before
+  found : (before : List Module) (middle : Module) (behind : List Module) → ms ≡ before ++ middle ∷ behind → InOrderAfter earlier before
       → (passed : List DependencyDescriptor) (d : DependencyDescriptor) (rest : List DependencyDescriptor) (x : List ℕ)
-      → entriesOf (there .sheet) ≡ passed ++ d ∷ rest → All (EntryInOrder (earlier ++ namesOf before)) passed → Asks d x → (List·Memᴰ x (earlier ++ namesOf before) → ⊥)
+      → entriesOf (middle .sheet) ≡ passed ++ d ∷ rest → All (EntryInOrder (earlier ++ namesOf before)) passed → Asks d x → (List·Memᴰ x (earlier ++ namesOf before) → ⊥)
       → ModulesOr earlier ms
 
 modules-or : (earlier : List (List ℕ)) (ms : List Module) → ModulesOr earlier ms
@@ -114,20 +114,20 @@ modules-or earlier (m ∷ ms) = by (entries-or earlier (entriesOf (m .sheet))) (
     by : EntriesOr earlier (entriesOf (m .sheet)) → ModulesOr (earlier ++ (m .name ∷ [])) ms → ModulesOr earlier (m ∷ ms)
     by (first passed d rest x is v a l) r = found [] m ms refl (no-modules earlier) passed d rest x is (rw append-nil v) a (rw append-nil l)
     by (all o) (each h) = each (one-before earlier m ms o h)
-    by (all o) (found before there behind is h passed d rest x entries v a l) =
+    by (all o) (found before middle behind is h passed d rest x entries v a l) =
         let names = append-assoc earlier (m .name ∷ []) (namesOf before) in
-        found (m ∷ before) there behind (ap (m ∷_) is) (one-before earlier m before o h) passed d rest x entries (rw names at v) a (rw names at l)
+        found (m ∷ before) middle behind (ap (m ∷_) is) (one-before earlier m before o h) passed d rest x entries (rw names at v) a (rw names at l)
 
 pub first-late-or : (ms : List Module) {P : Type 0} → (InOrder ms → P) → ((i j : ℕ) (x : List ℕ) → FirstLate ms i j x → P) → P
 first-late-or ms {P} o f = by (modules-or [] ms)
   where
     by : ModulesOr [] ms → P
     by (each h) = o h
-    by (found before there behind is h passed d rest x entries v a l) =
+    by (found before middle behind is h passed d rest x entries v a l) =
         f (length before) (length passed) x
         (record {
           before = before;
-          there = there;
+          middle = middle;
           behind = behind;
           among = is;
           index = refl;
@@ -161,13 +161,13 @@ module _ (size : ℕ) (behind : Answer) where
   pub refusal-answered : {ms : List Module} {r i : ℕ} → FirstRefused size ms r i → sheetsInTurn size 0 ms behind ≡ refused r i
   refusal-answered {ms} {r} {i} f =
       ap (λ ms. sheetsInTurn size 0 ms behind) (f .among)
-      ∙ pass-sheets (f .before) (f .there ∷ f .behind) 0 (f .reported)
-      ∙ rw (zero-add, f .index) (refused-here {m = f .there} {rest = f .behind} refl size i behind (f .number) (f .refusal))
+      ∙ pass-sheets (f .before) (f .middle ∷ f .behind) 0 (f .reported)
+      ∙ rw (zero-add, f .index) (refused-here {m = f .middle} {rest = f .behind} refl size i behind (f .number) (f .refusal))
 
 data SheetsOr (size : ℕ) (ms : List Module) : Type 0 where
   reports : All (Reported size) ms → SheetsOr size ms
-  stops : (before : List Module) (there : Module) (behind : List Module) → ms ≡ before ++ there ∷ behind → All (Reported size) before
-      → (numberOf size (there .sheet) ≡ 0 → ⊥) → SheetsOr size ms
+  stops : (before : List Module) (middle : Module) (behind : List Module) → ms ≡ before ++ middle ∷ behind → All (Reported size) before
+      → (numberOf size (middle .sheet) ≡ 0 → ⊥) → SheetsOr size ms
 
 sheets-or : (size : ℕ) (ms : List Module) → SheetsOr size ms
 sheets-or size [] = reports tt
@@ -175,7 +175,7 @@ sheets-or size (m ∷ ms) = by (eqb (numberOf size (m .sheet)) 0) refl (sheets-o
   where
     by : (b : Bool) → eqb (numberOf size (m .sheet)) 0 ≡ b → SheetsOr size ms → SheetsOr size (m ∷ ms)
     by true e (reports v) = reports (eqb-true (numberOf size (m .sheet)) 0 e, v)
-    by true e (stops before there behind is v n) = stops (m ∷ before) there behind (ap (m ∷_) is) (eqb-true (numberOf size (m .sheet)) 0 e, v) n
+    by true e (stops before middle behind is v n) = stops (m ∷ before) middle behind (ap (m ∷_) is) (eqb-true (numberOf size (m .sheet)) 0 e, v) n
     by false e r = stops [] m ms refl tt (λ z. true≢false (sym (eq-eqb (numberOf size (m .sheet)) 0 z) ∙ e))
 
 pub first-refused-or : (size : ℕ) (ms : List Module) {P : Type 0} → (All (Reported size) ms → P) → ((r i : ℕ) → FirstRefused size ms r i → P) → P
@@ -183,6 +183,6 @@ first-refused-or size ms {P} o f = by (sheets-or size ms)
   where
     by : SheetsOr size ms → P
     by (reports v) = o v
-    by (stops before there behind is v n) =
-        f (numberOf size (there .sheet)) (length before)
-        (record { before = before; there = there; behind = behind; among = is; index = refl; reported = v; number = refl; refusal = n })
+    by (stops before middle behind is v n) =
+        f (numberOf size (middle .sheet)) (length before)
+        (record { before = before; middle = middle; behind = behind; among = is; index = refl; reported = v; number = refl; refusal = n })

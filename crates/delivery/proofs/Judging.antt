@@ -7,7 +7,7 @@ use mathlib.Core.Option.{Option}
 use Prim.Native.Nat.{ℕ}
 use native.Mathlib.Omega.{arith}
 use lib.ListN.{drop}
-use Rattle.laws.specs.Quoted.{ascii}
+use Rattle.laws.specs.Ascii.{ascii}
 use Rattle.text.specs.Bytes.{begins, same}
 use Rattle.text.proofs.Words.{begins-sound, begins-complete, same-sound, same-refl}
 use Rattle.report.specs.declared.names.StaticDependencyKind.{StaticDependencyKind}

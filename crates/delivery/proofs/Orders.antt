@@ -124,11 +124,11 @@ module _ (size : ℕ) (ms : List Module) where
   -- no sheet is refused with 11 or 12
   pub not-eleven : answer ≡ refused 11 0 → ⊥
   unfolding oneOf
-  not-eleven e = let f = judged-right .refusals 11 0 .0 e in not-of-sheets (f .there .sheet) size (f .number) (λ z. omega arith) (λ z. omega arith) refl
+  not-eleven e = let f = judged-right .refusals 11 0 .0 e in not-of-sheets (f .middle .sheet) size (f .number) (λ z. omega arith) (λ z. omega arith) refl
 
   pub not-twelve : answer ≡ refused 12 0 → ⊥
   unfolding oneOf
-  not-twelve e = let f = judged-right .refusals 12 0 .0 e in not-of-sheets (f .there .sheet) size (f .number) (λ z. omega arith) (λ z. omega arith) refl
+  not-twelve e = let f = judged-right .refusals 12 0 .0 e in not-of-sheets (f .middle .sheet) size (f .number) (λ z. omega arith) (λ z. omega arith) refl
 
 other-number : refused 12 0 ≡ refused 11 0 → ⊥
 other-number e = let z : _≡_ {A = ℕ} 12 11 = cc in omega arith

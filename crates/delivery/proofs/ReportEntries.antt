@@ -12,7 +12,7 @@ use Rattle.report.specs.declared.names.StaticDependencyKind.{StaticDependencyKi
 use Rattle.report.specs.ModuleInfo.{DependencyDescriptor, static, dynamic, ModuleInfo}
 use Rattle.report.specs.Encode.{encodeList, encodeDependency, encode}
 use Rattle.report.specs.Valid.{ValidDependency, Valid}
-use Rattle.report_reader.specs.code.Reads.{Number}
+use Rattle.report_reader.specs.code.FromPlace.{Number}
 use Rattle.report_reader.specs.code.Dependencies.{Named, namedIn}
 use Rattle.report_reader.proofs.FromBytes.{flag-read}
 use Rattle.report_reader.proofs.Lists.{Stand}

@@ -4,7 +4,7 @@ use mathlib.Core.Bool.{Bool, true, false, _||_}
 use mathlib.Core.Logic.{_⊎_}
 use mathlib.Core.List.{List, _++_}
 use Prim.Native.Nat.{ℕ}
-use Rattle.laws.specs.Quoted.{ascii}
+use Rattle.laws.specs.Ascii.{ascii}
 use Rattle.text.specs.Bytes.{begins}
 use Rattle.report.specs.declared.names.StaticDependencyKind.{StaticDependencyKind}
 use Rattle.report.specs.declared.names.StaticDependencyKind.the-variants as statics

@@ -38,26 +38,26 @@ InOrder ms = (before : List Module) (m : Module) (behind : List Module) → ms �
 -- module i is the first whose sheet is refused, with the number r
 pub record FirstRefused (size : ℕ) (ms : List Module) (r i : ℕ) : Type 0 where
   pub before : List Module
-  pub there : Module
+  pub middle : Module
   pub behind : List Module
-  pub among : ms ≡ before ++ there ∷ behind
+  pub among : ms ≡ before ++ middle ∷ behind
   pub index : length before ≡ i
   pub reported : All (Reported size) before
-  pub number : numberOf size (there .sheet) ≡ r
+  pub number : numberOf size (middle .sheet) ≡ r
   pub refusal : r ≡ 0 → ⊥
 
 -- entry j of module i asks for x, which is no earlier name; every pair before it, in delivery order, is in order
 pub record FirstLate (ms : List Module) (i j : ℕ) (x : List ℕ) : Type 0 where
   pub before : List Module
-  pub there : Module
+  pub middle : Module
   pub behind : List Module
-  pub among : ms ≡ before ++ there ∷ behind
+  pub among : ms ≡ before ++ middle ∷ behind
   pub index : length before ≡ i
   pub modules : InOrder before
   pub first : List DependencyDescriptor
   pub entry : DependencyDescriptor
   pub rest : List DependencyDescriptor
-  pub entries : entriesOf (there .sheet) ≡ first ++ entry ∷ rest
+  pub entries : entriesOf (middle .sheet) ≡ first ++ entry ∷ rest
   pub place : length first ≡ j
   pub passed : All (EntryInOrder (namesOf before)) first
   pub asks : Asks entry x

@@ -13,7 +13,7 @@ ghost use Rattle.laws.specs.code.Told.{Bounded};
 ghost use Rattle.report.specs.ModuleInfo.{ModuleInfo};
 ghost use Rattle.report.specs.Encode.{encode};
 ghost use Rattle.report.specs.Valid.{Valid};
-ghost use Rattle.report_reader.specs.code.Reads.{Inside};
+ghost use Rattle.report_reader.specs.code.FromPlace.{Inside};
 ghost use Rattle.delivery.specs.Delivery.{Module};
 ghost use Rattle.delivery.specs.Asks.{leftOut, relative};
 ghost use Rattle.delivery.specs.Order.{Answer, among, entriesInTurn};

@@ -4,7 +4,7 @@ use text::bytes::equal;
 ghost use mathlib.Core.Path.{_≡_};
 ghost use mathlib.Core.List.{List, []};
 ghost use Prim.Native.Nat.{ℕ};
-ghost use Rattle.report_reader.specs.code.Reads.{Reads, Inside};
+ghost use Rattle.report_reader.specs.code.FromPlace.{ReadsBack, Inside};
 ghost use Rattle.delivery.specs.Delivery.{Module, encodeModule};
 ghost use Rattle.delivery.specs.Order.{among, repeated};
 ghost use Rattle.delivery.specs.Right.{namesOf};

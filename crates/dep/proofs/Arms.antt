@@ -19,18 +19,18 @@ use Rattle.sheet.specs.declared.fields.Span.{Span}
 use Rattle.sheet.specs.Tree.{Quoted, Pieces, Node, template, binary, importCall, call, importType, moduleDecl, Nodes, none, more, spread, otherProperty, childKey, stringKey, nameKey, Arguments, argument, Attributes}
 use Rattle.sheet.specs.Nodes.{many, nodes, attributes, callRest, node}
 use Rattle.sheet.specs.Shape.{shape, isRequire, anyUncooked}
-use Rattle.heads.specs.declared.node.Head.{Head}
-use Rattle.heads.specs.declared.node.Head.the-variants as head
-use Rattle.heads.specs.declared.parts.Property.{Property}
-use Rattle.heads.specs.declared.parts.Property.the-variants as property
-use Rattle.heads.specs.code.Rest.{behind, rest}
-use Rattle.heads.specs.declared.quoted.Quoted as heads
-use Rattle.heads.specs.code.Views.{quotedOf, headOf, propertyOf, nodesOf}
-use Rattle.heads.proofs.node.Head.{the-type, enum}
-use Rattle.heads.proofs.ByHead.{propertyRest}
-use Rattle.nodes.specs.declared.tally.Tally.{Tally}
-use Rattle.nodes.specs.code.Judged.{tallyAll, tallyWith}
-use Rattle.nodes.proofs.Arms.{alike, alike-two, nodes-one, nodes-two, pair}
+use Rattle.sheet_heads.specs.declared.node.Head.{Head}
+use Rattle.sheet_heads.specs.declared.node.Head.the-variants as head
+use Rattle.sheet_heads.specs.declared.parts.Property.{Property}
+use Rattle.sheet_heads.specs.declared.parts.Property.the-variants as property
+use Rattle.sheet_heads.specs.code.Rest.{behind, rest}
+use Rattle.sheet_heads.specs.declared.quoted.Quoted as heads
+use Rattle.sheet_heads.specs.code.Views.{quotedOf, headOf, propertyOf, nodesOf}
+use Rattle.sheet_heads.proofs.node.Head.{the-type, enum}
+use Rattle.sheet_heads.proofs.ByHead.{propertyRest}
+use Rattle.sheet_nodes.specs.declared.tally.Tally.{Tally}
+use Rattle.sheet_nodes.specs.code.Tallies.{tallyAll, tallyWith}
+use Rattle.sheet_nodes.proofs.Arms.{alike, alike-two, nodes-one, nodes-two, pair}
 use Rattle.report.specs.declared.names.StaticDependencyKind.the-variants as statics
 use Rattle.report.specs.declared.names.DynamicDependencyKind.{DynamicDependencyKind}
 use Rattle.report.specs.declared.names.DynamicDependencyKind.the-variants as dynamics
@@ -181,17 +181,17 @@ module _ (source : List ℕ) (types : ℕ → Option SpecifierWithRange) where
 
   -- the entry of an import type, and then its parts
   pub typed-walked : (w : Written) (s : List ℕ) (d : StaticDependencyDescriptor) (object′ : Decoder Attributes) (x : Decoded Nodes) {t : Tally} {t1 : List ℕ} → onOk tallyAll x ≡ ok t t1
-      → {there : Bool} {t2 : List ℕ} → flag t1 ≡ ok there t2
-      → {w1 : Written} → ((a : Attributes) (t : List ℕ) → behind there object′ t2 ≡ ok a t → w1 ≡ wroteEntries w (staticOf source types s d (typeAttributes a)))
+      → {hasObject : Bool} {t2 : List ℕ} → flag t1 ≡ ok hasObject t2
+      → {w1 : Written} → ((a : Attributes) (t : List ℕ) → behind hasObject object′ t2 ≡ ok a t → w1 ≡ wroteEntries w (staticOf source types s d (typeAttributes a)))
       → {w2 : Written} {t3 : List ℕ} → onOk (afterNodes source types w1) x ≡ ok w2 t3
-      → onOk (afterWith source types w2) (behind there object′ t2) ≡ onOk (afterTyped source types s d w) (andThen x (λ ns. attributes object′ >>= pair ns))
+      → onOk (afterWith source types w2) (behind hasObject object′ t2) ≡ onOk (afterTyped source types s d w) (andThen x (λ ns. attributes object′ >>= pair ns))
   unfolding attributes
-  typed-walked w s d object′ (ok ns u) e1 {there} {t2} e2 {w1} f {w2} e3 =
-      let read : flag u ≡ ok there t2 = cc in
+  typed-walked w s d object′ (ok ns u) e1 {hasObject} {t2} e2 {w1} f {w2} e3 =
+      let read : flag u ≡ ok hasObject t2 = cc in
       let gives : afterNodes source types w1 ns ≡ w2 = cc in
-      rw read (go gives (behind there object′ t2) refl)
+      rw read (go gives (behind hasObject object′ t2) refl)
     where
-      go : afterNodes source types w1 ns ≡ w2 → (y : Decoded Attributes) → behind there object′ t2 ≡ y
+      go : afterNodes source types w1 ns ≡ w2 → (y : Decoded Attributes) → behind hasObject object′ t2 ≡ y
           → onOk (afterWith source types w2) y ≡ onOk (afterTyped source types s d w) (andThen y (pair ns))
       go gives (ok a v) e =
           ap (λ w. ok w v)

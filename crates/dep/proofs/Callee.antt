@@ -7,7 +7,7 @@ use types.Run.{OneOf, miss}
 use denote.Enum.Declared.{tagOf}
 use lib.ListN.{drop}
 use Rattle.laws.specs.Decoded.{ok}
-use Rattle.laws.specs.Quoted.{ascii}
+use Rattle.laws.specs.Ascii.{ascii}
 use Rattle.laws.proofs.Steps.{seen}
 use Rattle.text.specs.Bytes.{same, part}
 use Rattle.wire.specs.declared.Cursor.{Cursor}
@@ -15,16 +15,16 @@ use Rattle.sheet.specs.declared.fields.Span.{Span}
 use Rattle.sheet.specs.Tree.{Node, name}
 use Rattle.sheet.specs.Nodes.{node}
 use Rattle.sheet.specs.Shape.{shape, isRequire}
-use Rattle.heads.specs.declared.node.Head.{Head}
-use Rattle.heads.specs.declared.node.Head.the-variants as head
-use Rattle.heads.specs.declared.node.HeadRead.{HeadRead}
-use Rattle.heads.specs.declared.node.HeadRead.the-variants as headRead
-use Rattle.heads.specs.code.Head as heads
-use Rattle.heads.specs.code.Rest.{rest}
-use Rattle.heads.specs.code.Views.{headOf, headAs}
-use Rattle.heads.proofs.ByHead.{behind-head}
-use Rattle.heads.proofs.Shapes.{shape-by-head}
-use Rattle.heads.proofs.node.Head.{the-type}
+use Rattle.sheet_heads.specs.declared.node.Head.{Head}
+use Rattle.sheet_heads.specs.declared.node.Head.the-variants as head
+use Rattle.sheet_heads.specs.declared.node.HeadRead.{HeadRead}
+use Rattle.sheet_heads.specs.declared.node.HeadRead.the-variants as headRead
+use Rattle.sheet_heads.specs.code.Head as heads
+use Rattle.sheet_heads.specs.code.Rest.{rest}
+use Rattle.sheet_heads.specs.code.Views.{headOf, headAs}
+use Rattle.sheet_heads.proofs.ByHead.{behind-head}
+use Rattle.sheet_heads.proofs.Shapes.{shape-by-head}
+use Rattle.sheet_heads.proofs.node.Head.{the-type}
 
 -- the variants besides Name
 abbrev others : List ℕ

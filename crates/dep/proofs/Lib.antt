@@ -1,6 +1,6 @@
 pub mod Wrote
 pub mod Noting
-pub mod Spans
+pub mod HeadSpans
 pub mod Loops
 pub mod Arms
 pub mod Counted
@@ -8,7 +8,7 @@ pub mod Reach
 pub mod Fields
 pub mod Callee
 pub mod Turns
-pub mod Right
+pub mod EntryAttributes
 pub mod Replaced
 mod Cases
 pub mod Revised

@@ -5,14 +5,14 @@ use mathlib.Core.Option.{Option}
 use Prim.Native.Nat.{ℕ, _-_, _≤_, _<_}
 use Rattle.laws.specs.Decoded.{Decoded, ok, no, onOk, Decoder, _>>=_}
 use Rattle.laws.proofs.Decoding.{onOk-ok, onOk-no}
-use Rattle.laws.proofs.Answers.{Reads, ends, behind, changed, anything}
+use Rattle.laws.proofs.Answers.{Yields, ends, behind, changed, anything}
 use Rattle.sheet.specs.Tree.{Node, none, more, noArguments, noProperties}
 use Rattle.sheet.specs.Nodes.{nodes, argumentItem, arguments, propertyItem, properties}
-use Rattle.heads.specs.code.Parts.{PropertyHead, spreadHead, otherPropertyHead, childKeyHead, stringKeyHead, nameKeyHead, propertyHead, argumentHead}
-use Rattle.heads.proofs.ByHead.{argument-by-head, property-by-head, argumentRest, propertyRest}
-use Rattle.heads.proofs.Many.{found, found-step, found-stop, found-end}
-use Rattle.nodes.proofs.Loops.{nodeItem}
-use Rattle.report.specs.declared.writer.Place.{Place}
+use Rattle.sheet_heads.specs.code.Parts.{PropertyHead, spreadHead, otherPropertyHead, childKeyHead, stringKeyHead, nameKeyHead, propertyHead, argumentHead}
+use Rattle.sheet_heads.proofs.ByHead.{argument-by-head, property-by-head, argumentRest, propertyRest}
+use Rattle.sheet_heads.proofs.Many.{found, found-step, found-stop, found-end}
+use Rattle.sheet_nodes.proofs.Loops.{nodeItem}
+use Rattle.report.specs.declared.writer.Pen.{Pen}
 use Rattle.report.specs.ModuleInfo.{SpecifierWithRange}
 use Rattle.dep.specs.Collect.{Noted, noting, collectNoted}
 use Rattle.dep.specs.code.Walk.{Written, writtenAs, wroteEntries, noteAll, noteOf, noteIn, afterNode, afterNodes, afterArgument, afterArguments, afterProperty, afterProperties}
@@ -35,7 +35,7 @@ module _ {L : Type 0} (gather : L → List Noted) (end : L) where
     walkFrom = found after end item
 
     module _ (k : ℕ) (u : List ℕ) where
-      pub walk-step : Reads Adds item → (w : Written) {w′ : Written} {v : List ℕ} → 0 < k → onOk (afterOne w) (item u) ≡ ok w′ v → walkFrom w k u ≡ walkFrom w′ (k - 1) v
+      pub walk-step : Yields Adds item → (w : Written) {w′ : Written} {v : List ℕ} → 0 < k → onOk (afterOne w) (item u) ≡ ok w′ v → walkFrom w k u ≡ walkFrom w′ (k - 1) v
       walk-step each-adds w h e =
           let (add, is, gives) = onOk-ok (afterOne w) (item u) e in
           let adds : Adds add = rw is at (each-adds .at u) in
@@ -45,14 +45,14 @@ module _ {L : Type 0} (gather : L → List Noted) (end : L) where
       pub walk-stop : (w : Written) {r : ℕ} → 0 < k → onOk (afterOne w) (item u) ≡ no r → walkFrom w k u ≡ no r
       walk-stop w h e = found-stop after end item w k u h (onOk-no (afterOne w) (item u) e)
 
-      pub walk-end : gather end ≡ [] → (out notes : List ℕ) (p : Place) → k ≤ 0 → walkFrom (writtenAs out notes p) k u ≡ ok (writtenAs out notes p) u
+      pub walk-end : gather end ≡ [] → (out notes : List ℕ) (p : Pen) → k ≤ 0 → walkFrom (writtenAs out notes p) k u ≡ ok (writtenAs out notes p) u
       walk-end e out notes p h = found-end after end item (writtenAs out notes p) k u h ∙ ap (λ w. ok w u) (ap (wroteEntries (writtenAs out notes p)) e ∙ entries-nil out notes p)
 
 module _ (source : List ℕ) (types : ℕ → Option SpecifierWithRange) (inner : Decoder Node) where
   abbrev pub nodesFrom : Written → ℕ → List ℕ → Decoded Written
   nodesFrom = walkFrom (noteAll source types) none (nodeItem inner)
 
-  node-adds : Reads (Adds (noteAll source types) none) (nodeItem inner)
+  node-adds : Yields (Adds (noteAll source types) none) (nodeItem inner)
   unfolding noting
   node-adds = changed (λ n l. more n l) (anything inner) (λ n h ns. rw (append-nil (collectNoted source types n)))
 
@@ -73,18 +73,18 @@ module _ (source : List ℕ) (types : ℕ → Option SpecifierWithRange) (inner 
     pub nodes-stop : {r : ℕ} → 0 < k → onOk (afterNode source types w) (inner u) ≡ no r → nodesFrom w k u ≡ no r
     nodes-stop h e = walk-stop (noteAll source types) none (nodeItem inner) k u w h (one-node w (inner u) ∙ e)
 
-  pub nodes-end : (k : ℕ) (u out notes : List ℕ) (p : Place) → k ≤ 0 → nodesFrom (writtenAs out notes p) k u ≡ ok (writtenAs out notes p) u
+  pub nodes-end : (k : ℕ) (u out notes : List ℕ) (p : Pen) → k ≤ 0 → nodesFrom (writtenAs out notes p) k u ≡ ok (writtenAs out notes p) u
   unfolding noting
   nodes-end k u = walk-end (noteAll source types) none (nodeItem inner) k u refl
 
   abbrev pub argumentsFrom : Written → ℕ → List ℕ → Decoded Written
   argumentsFrom = walkFrom (noteOf source types) noArguments (argumentItem inner source)
 
-  argument-adds : Reads (Adds (noteOf source types) noArguments) (argumentItem inner source)
+  argument-adds : Yields (Adds (noteOf source types) noArguments) (argumentItem inner source)
   unfolding noting
   argument-adds = record { at = λ u. rw (argument-by-head inner source u) (adds .at u) }
     where
-      adds : Reads (Adds (noteOf source types) noArguments) (argumentHead source >>= argumentRest inner)
+      adds : Yields (Adds (noteOf source types) noArguments) (argumentHead source >>= argumentRest inner)
       adds = behind (argumentHead source) λ a. behind inner λ n. ends λ xs. rw (append-nil (collectNoted source types n))
 
   module _ (w : Written) (k : ℕ) (u : List ℕ) where
@@ -98,14 +98,14 @@ module _ (source : List ℕ) (types : ℕ → Option SpecifierWithRange) (inner 
     pub arguments-stop : {r : ℕ} → 0 < k → onOk (afterArgument source types w) (argumentItem inner source u) ≡ no r → argumentsFrom w k u ≡ no r
     arguments-stop = walk-stop (noteOf source types) noArguments (argumentItem inner source) k u w
 
-  pub arguments-end : (k : ℕ) (u out notes : List ℕ) (p : Place) → k ≤ 0 → argumentsFrom (writtenAs out notes p) k u ≡ ok (writtenAs out notes p) u
+  pub arguments-end : (k : ℕ) (u out notes : List ℕ) (p : Pen) → k ≤ 0 → argumentsFrom (writtenAs out notes p) k u ≡ ok (writtenAs out notes p) u
   unfolding noting
   arguments-end k u = walk-end (noteOf source types) noArguments (argumentItem inner source) k u refl
 
   abbrev pub propertiesFrom : Written → ℕ → List ℕ → Decoded Written
   propertiesFrom = walkFrom (noteIn source types) noProperties (propertyItem inner)
 
-  by-kind : (h : PropertyHead) → Reads (Adds (noteIn source types) noProperties) (propertyRest inner h)
+  by-kind : (h : PropertyHead) → Yields (Adds (noteIn source types) noProperties) (propertyRest inner h)
   unfolding noting
   by-kind spreadHead = behind inner λ n. ends λ ps. rw (append-nil (collectNoted source types n))
   by-kind otherPropertyHead = behind inner λ n. ends λ ps. rw (append-nil (collectNoted source types n))
@@ -113,7 +113,7 @@ module _ (source : List ℕ) (types : ℕ → Option SpecifierWithRange) (inner 
   by-kind (stringKeyHead x) = behind inner λ n. ends λ ps. rw (append-nil (collectNoted source types n))
   by-kind (nameKeyHead x) = behind inner λ n. ends λ ps. rw (append-nil (collectNoted source types n))
 
-  property-adds : Reads (Adds (noteIn source types) noProperties) (propertyItem inner)
+  property-adds : Yields (Adds (noteIn source types) noProperties) (propertyItem inner)
   property-adds = record { at = λ u. rw (property-by-head inner u) (behind propertyHead by-kind .at u) }
 
   module _ (w : Written) (k : ℕ) (u : List ℕ) where
@@ -127,6 +127,6 @@ module _ (source : List ℕ) (types : ℕ → Option SpecifierWithRange) (inner 
     pub properties-stop : {r : ℕ} → 0 < k → onOk (afterProperty source types w) (propertyItem inner u) ≡ no r → propertiesFrom w k u ≡ no r
     properties-stop = walk-stop (noteIn source types) noProperties (propertyItem inner) k u w
 
-  pub properties-end : (k : ℕ) (u out notes : List ℕ) (p : Place) → k ≤ 0 → propertiesFrom (writtenAs out notes p) k u ≡ ok (writtenAs out notes p) u
+  pub properties-end : (k : ℕ) (u out notes : List ℕ) (p : Pen) → k ≤ 0 → propertiesFrom (writtenAs out notes p) k u ≡ ok (writtenAs out notes p) u
   unfolding noting
   properties-end k u = walk-end (noteIn source types) noProperties (propertyItem inner) k u refl

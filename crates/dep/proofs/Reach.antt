@@ -9,9 +9,9 @@ use Rattle.laws.proofs.Decoding.{onOk-ok}
 use Rattle.sheet.specs.declared.fields.Span.{Span}
 use Rattle.sheet.specs.Tree.{Node, other, Nodes, none, more}
 use Rattle.sheet.specs.Nodes.{many, nodes}
-use Rattle.heads.proofs.Many.{many-first}
-use Rattle.nodes.specs.code.Reach.{Reaches, quiet, past}
-use Rattle.nodes.proofs.Loops.{nodeItem}
+use Rattle.sheet_heads.proofs.Many.{many-first}
+use Rattle.sheet_nodes.specs.code.Reach.{Reaches, quiet, past}
+use Rattle.sheet_nodes.proofs.Loops.{nodeItem}
 use Rattle.report.specs.ModuleInfo.{SpecifierWithRange}
 use Rattle.dep.specs.Collect.{noting, collectNoted}
 use Rattle.dep.specs.code.Walk.{Written, wroteEntries, noteAll, afterNode, afterNodes, Answered}

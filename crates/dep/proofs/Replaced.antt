@@ -20,7 +20,7 @@ use Rattle.report.specs.ModuleInfo.{SpecifierWithRange, none, string, DynamicTe
 use Rattle.arguments.specs.Argument.{ofShape, argumentOf, chain, singleText, replacedIn}
 use Rattle.dep.specs.Collect.{textOf, staticEntry, callEntry, moduleEntry, entryOf}
 use Rattle.dep.specs.Replaced.{Replaces, NumberOf}
-use Rattle.dep.proofs.Right.{all-if}
+use Rattle.dep.proofs.EntryAttributes.{all-if}
 
 -- a text that is reported as it is has no surrogate
 as-it-is : (s : List ℕ) → lossy s ≡ s → replaced s ≡ 0

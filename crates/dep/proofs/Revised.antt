@@ -12,7 +12,7 @@ use Rattle.sheet.specs.declared.fields.Span.{Span}
 use Rattle.sheet.specs.Tree.{Node, Arguments, noArguments, argument}
 use Rattle.sheet.specs.Shape.{shape, isRequire}
 use Rattle.sheet.specs.Walk.{Visit, called, importing, expression, imported, exported, typed, required, declared, startOf, visiting, visits}
-use Rattle.sheet.proofs.Spans.{OfFirst, Reported}
+use Rattle.sheet.proofs.VisitSpans.{OfFirst, Reported}
 use Rattle.sheet.proofs.Walks.{walks-related}
 use Rattle.report.specs.declared.names.DynamicDependencyKind.{DynamicDependencyKind}
 use Rattle.report.specs.declared.names.DynamicDependencyKind.the-variants as dynamics

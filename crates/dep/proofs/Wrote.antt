@@ -3,7 +3,7 @@ use mathlib.Core.Path.{_≡_, refl, ap}
 use mathlib.Core.List.{List, [], _∷_, _++_, flatMap}
 use Prim.Native.Nat.{ℕ}
 use Rattle.laws.proofs.Lists.{flatMap-append}
-use Rattle.report.specs.declared.writer.Place.{Place}
+use Rattle.report.specs.declared.writer.Pen.{Pen}
 use Rattle.report.specs.Encode.{encodeDependency}
 use Rattle.report.proofs.Buffers.{wrote-append, wrote-nil}
 use Rattle.dep.specs.Collect.{Noted}
@@ -19,6 +19,6 @@ entries-append w l m =
     let encoded : Noted → List ℕ = λ e. encodeDependency (e .entry) in
     rw (flatMap-append encoded l m, wrote-append (w .0) (flatMap encoded l) (flatMap encoded m), noted-append (w .1) l m)
 
-pub entries-nil : (out notes : List ℕ) (p : Place) → wroteEntries (writtenAs out notes p) [] ≡ writtenAs out notes p
+pub entries-nil : (out notes : List ℕ) (p : Pen) → wroteEntries (writtenAs out notes p) [] ≡ writtenAs out notes p
 unfolding flatMap
 entries-nil out notes p = ap (λ w. (w, notes)) (wrote-nil out p)

@@ -9,24 +9,24 @@ use attributes::readings::parse_dynamic_import_attributes;
 use attributes::readings::parse_import_attributes;
 use attributes::readings::parse_type_attributes;
 use attributes::writer::put_attributes;
-use heads::parts::ArgumentRead;
-use heads::parts::read_argument;
-use heads::quoted::Quoted;
-use heads::texts::declares;
-use nodes::check::check_node;
-use nodes::tally::Checked;
 use pragmas::analyze_ts_or_deno_types;
 use report::names::DynamicDependencyKind;
 use report::names::StaticDependencyKind;
 use report::names::dynamic_number;
 use report::names::static_number;
-use report::writer::Place;
+use report::writer::Pen;
 use sheet::fields::Span;
 use sheet::limits::GROUPS_START;
 use sheet::limits::INDEX_START;
 use sheet::limits::PAIR_NUMBERS;
 use sheet::limits::TABLE_NUMBERS;
 use sheet::names::ImportPhase;
+use sheet_heads::parts::ArgumentRead;
+use sheet_heads::parts::read_argument;
+use sheet_heads::quoted::Quoted;
+use sheet_heads::texts::declares;
+use sheet_nodes::check::check_node;
+use sheet_nodes::tally::Checked;
 use wire::Cursor;
 ghost use mathlib.Core.Path.{_≡_};
 ghost use mathlib.Core.Bool.{Bool, cond};
@@ -41,8 +41,8 @@ ghost use Rattle.wire.specs.Optional.{encodeOptional};
 ghost use Rattle.sheet.specs.Tree.{Node, Attributes, Arguments, argument};
 ghost use Rattle.sheet.specs.Nodes.{node, arguments, attributesObject};
 ghost use Rattle.sheet.specs.Shape.{shape};
-ghost use Rattle.heads.specs.code.Rest.{behind};
-ghost use Rattle.heads.specs.code.Views.{quotedOf};
+ghost use Rattle.sheet_heads.specs.code.Rest.{behind};
+ghost use Rattle.sheet_heads.specs.code.Views.{quotedOf};
 ghost use Rattle.report.specs.ModuleInfo as info;
 ghost use Rattle.report.specs.Encode.{encodeSpecifier};
 ghost use Rattle.report.specs.Range.{InSource};
@@ -143,8 +143,8 @@ fn put_types(
     counts: Counts,
     start: usize,
     out: &mut [u8],
-    place: Place,
-) -> Place
+    place: Pen,
+) -> Pen
     requires { ⌜ HeldIn (now source) (now tables) counts ⌝ }
     ensures { λ r. ⌜ bufferAs (now (out .exit)) r
         ≡ wrote (bufferAs (now (out .entry)) place) (encodeOptional encodeSpecifier (typesFrom (now (source .entry)) (now (tables .entry)) counts start)) ⌝ }
@@ -194,8 +194,8 @@ fn put_static_entry(
     counts: Counts,
     out: &mut [u8],
     notes: &mut [usize],
-    place: Place,
-) -> Place
+    place: Pen,
+) -> Pen
     requires { ⌜ HeldIn (now source) (now tables) counts
         × Quotes (now sheet) (now source) (dependency .specifier)
         × AttributesWithin (length (now sheet)) (now pairs) attributes ⌝ }
@@ -228,26 +228,33 @@ pub fn put_with_entry(
     sheet: &[u8],
     source: &[u8],
     cursor: Cursor,
-    there: bool,
+    has_object: bool,
     levels: usize,
     dependency: StaticDependencyDescriptor,
     tables: &[u32; TABLE_NUMBERS],
     counts: Counts,
     out: &mut [u8],
     notes: &mut [usize],
-    place: Place,
+    place: Pen,
     is_type: bool,
-) -> Place
+) -> Pen
     requires { ⌜ HeldIn (now source) (now tables) counts × Quotes (now sheet) (now source) (dependency .specifier) ⌝ }
     ensures { λ r. ⌜ Leaving
         ((a : Attributes) (t : List ℕ)
-        → behind there (attributesObject (now (source .entry)) levels) (drop (cursor .at) (now (sheet .entry))) ≡ ok a t
+        → behind «has_object» (attributesObject (now (source .entry)) levels) (drop (cursor .at) (now (sheet .entry))) ≡ ok a t
         → writtenAs (now (out .exit)) (now (notes .exit)) r ≡ wroteEntries (writtenAs (now (out .entry)) (now (notes .entry)) place) (staticOf (now (source .entry)) (typesFrom (now (source .entry)) (now (tables .entry)) counts) (now (sheet .entry)) dependency (cond «is_type» (typeAttributes a) (staticAttributes a))))
         (Free (now (out .entry)) (now (out .exit)) × Free (now (notes .entry)) (now (notes .exit))) ⌝ }
 {
     let mut pairs: [usize; PAIR_NUMBERS] = [0; PAIR_NUMBERS];
     if is_type {
-        let attributes = parse_type_attributes(sheet, source, cursor, there, levels, &mut pairs);
+        let attributes = parse_type_attributes(
+            sheet,
+            source,
+            cursor,
+            has_object,
+            levels,
+            &mut pairs,
+        );
         return put_static_entry(
             sheet,
             source,
@@ -261,7 +268,7 @@ pub fn put_with_entry(
             place,
         );
     }
-    let attributes = parse_import_attributes(sheet, source, cursor, there, levels, &mut pairs);
+    let attributes = parse_import_attributes(sheet, source, cursor, has_object, levels, &mut pairs);
     put_static_entry(
         sheet,
         source,
@@ -285,8 +292,8 @@ pub fn put_plain_entry(
     counts: Counts,
     out: &mut [u8],
     notes: &mut [usize],
-    place: Place,
-) -> Place
+    place: Pen,
+) -> Pen
     requires { ⌜ HeldIn (now source) (now tables) counts × Quotes (now sheet) (now source) (dependency .specifier) ⌝ }
     ensures { λ r. ⌜ writtenAs (now (out .exit)) (now (notes .exit)) r
         ≡ wroteEntries (writtenAs (now (out .entry)) (now (notes .entry)) place)
@@ -318,8 +325,8 @@ pub fn put_module_entry(
     counts: Counts,
     out: &mut [u8],
     notes: &mut [usize],
-    place: Place,
-) -> Place
+    place: Pen,
+) -> Pen
     requires { ⌜ HeldIn (now source) (now tables) counts × Quotes (now sheet) (now source) specifier ⌝ }
     ensures { λ r. ⌜ writtenAs (now (out .exit)) (now (notes .exit)) r
         ≡ wroteEntries (writtenAs (now (out .entry)) (now (notes .entry)) place)
@@ -351,8 +358,8 @@ fn put_dynamic_entry(
     counts: Counts,
     out: &mut [u8],
     notes: &mut [usize],
-    place: Place,
-) -> Place
+    place: Pen,
+) -> Pen
     requires { ⌜ HeldIn (now source) (now tables) counts
         × InSource (now source) (dependency .«argument_range»)
         × ArgumentWithin (length (now sheet)) (dependency .argument) ⌝ }
@@ -400,8 +407,8 @@ fn put_argument_entry(
     counts: Counts,
     out: &mut [u8],
     notes: &mut [usize],
-    place: Place,
-) -> Place
+    place: Pen,
+) -> Pen
     requires { ⌜ HeldIn (now source) (now tables) counts × InSource (now source) range ⌝ }
     ensures { λ r. ⌜ ((dots : Bool) (n : Node) (xs : Arguments) (t u : List ℕ)
         → node (now (source .entry)) levels (drop (cursor .at) (now (sheet .entry))) ≡ ok n t
@@ -469,8 +476,8 @@ pub fn put_call_entry(
     counts: Counts,
     out: &mut [u8],
     notes: &mut [usize],
-    place: Place,
-) -> Place
+    place: Pen,
+) -> Pen
     requires { ⌜ HeldIn (now source) (now tables) counts ⌝ }
     ensures { λ r. ⌜ Leaving
         ((xs : Arguments) (t : List ℕ)

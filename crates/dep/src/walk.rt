@@ -14,28 +14,28 @@ use super::entries::put_call_entry;
 use super::entries::put_module_entry;
 use super::entries::put_plain_entry;
 use super::entries::put_with_entry;
-use heads::node::Head;
-use heads::node::HeadRead;
-use heads::node::read_head;
-use heads::parts::ArgumentRead;
-use heads::parts::AttributesRead;
-use heads::parts::PropertyRead;
-use heads::parts::nodes_of;
-use heads::parts::read_argument;
-use heads::parts::read_attributes;
-use heads::parts::read_pieces;
-use heads::parts::read_property;
-use heads::quoted::Quoted;
-use nodes::check::check_attributes;
-use nodes::check::check_nodes;
-use nodes::tally::Tallied;
 use report::names::DynamicDependencyKind;
 use report::names::StaticDependencyKind;
-use report::writer::Place;
+use report::writer::Pen;
 use sheet::fields::Span;
 use sheet::limits::DEPTH_LIMIT;
 use sheet::limits::TABLE_NUMBERS;
 use sheet::names::ImportPhase;
+use sheet_heads::node::Head;
+use sheet_heads::node::HeadRead;
+use sheet_heads::node::read_head;
+use sheet_heads::parts::ArgumentRead;
+use sheet_heads::parts::AttributesRead;
+use sheet_heads::parts::PropertyRead;
+use sheet_heads::parts::nodes_of;
+use sheet_heads::parts::read_argument;
+use sheet_heads::parts::read_attributes;
+use sheet_heads::parts::read_pieces;
+use sheet_heads::parts::read_property;
+use sheet_heads::quoted::Quoted;
+use sheet_nodes::check::check_attributes;
+use sheet_nodes::check::check_nodes;
+use sheet_nodes::tally::Tallied;
 use wire::Cursor;
 use wire::Flag;
 use wire::Read;
@@ -52,10 +52,10 @@ ghost use Rattle.sheet.specs.Tree.{Node, importRequire};
 ghost use Rattle.sheet.specs.Nodes.{node, nodes, argumentItem, arguments, propertyItem, properties, callRest, attributesObject};
 ghost use Rattle.sheet.specs.Shape.{shape, isRequire};
 ghost use Rattle.sheet.specs.Walked.{entries};
-ghost use Rattle.heads.specs.code.Rest.{behind, rest};
-ghost use Rattle.heads.specs.code.Head.{importHead, exportFromHead, exportAllHead, importTypeHead, moduleHead};
-ghost use Rattle.heads.specs.code.Views.{quotedOf, headOf};
-ghost use Rattle.nodes.specs.code.Reach.{ReachesIn};
+ghost use Rattle.sheet_heads.specs.code.Rest.{behind, rest};
+ghost use Rattle.sheet_heads.specs.code.Head.{importHead, exportFromHead, exportAllHead, importTypeHead, moduleHead};
+ghost use Rattle.sheet_heads.specs.code.Views.{quotedOf, headOf};
+ghost use Rattle.sheet_nodes.specs.code.Reach.{ReachesIn};
 ghost use Rattle.report.specs.Encode.{encodeList, encodeDependency};
 ghost use Rattle.report.specs.Buffer.{wrote, bufferAs};
 ghost use Rattle.dep.specs.Collect.{collect, collectNoted};
@@ -64,7 +64,7 @@ ghost use Rattle.dep.specs.code.Walk.{typesFrom, HeldIn, Quotes, PastHea
 
 // The next place in the buffer, with the cursor past what was walked, or a refusal's number.
 pub enum Walked {
-    Is(Place, Cursor),
+    Is(Pen, Cursor),
     Refused(usize),
 }
 
@@ -80,8 +80,8 @@ pub fn analyze_program_dependencies(
     counts: Counts,
     out: &mut [u8],
     notes: &mut [usize],
-    place: Place,
-) -> Place
+    place: Pen,
+) -> Pen
     requires { ⌜ HeldIn (now source) (now tables) counts ⌝ }
     ensures { λ r. ⌜ Leaving
         ((n : Node) (t : List ℕ)
@@ -120,7 +120,7 @@ fn walk_root(
     counts: Counts,
     out: &mut [u8],
     notes: &mut [usize],
-    place: Place,
+    place: Pen,
 ) -> Walked
     requires { ⌜ HeldIn (now source) (now tables) counts ⌝ }
     ensures { λ r. ⌜ ((n : Node) (t : List ℕ)
@@ -170,7 +170,7 @@ fn is_require(sheet: &[u8], source: &[u8], cursor: Cursor, levels: usize) -> boo
     match read_head(sheet, source, cursor, levels) {
         HeadRead::Refused(_) => false,
         HeadRead::Is { head, .. } => match head {
-            Head::Name(start, end) => heads::texts::is_require(&sheet[start..end]),
+            Head::Name(start, end) => sheet_heads::texts::is_require(&sheet[start..end]),
             _ => false,
         },
     }
@@ -187,16 +187,16 @@ fn visit_import_decl(
     phase: ImportPhase,
     is_side_effect: bool,
     specifier: Quoted,
-    there: bool,
+    has_object: bool,
     tables: &[u32; TABLE_NUMBERS],
     counts: Counts,
     out: &mut [u8],
     notes: &mut [usize],
-    place: Place,
+    place: Pen,
 ) -> Walked
     requires { ⌜ HeldIn (now source) (now tables) counts × Quotes (now sheet) (now source) specifier × (cursor .at ≤ length (now sheet)) ⌝ }
     ensures { λ r. ⌜ Told (walkedAs (now (sheet .entry)) (now (out .exit)) (now (notes .exit)))
-        (onOk (afterNode (now (source .entry)) (typesFrom (now (source .entry)) (now (tables .entry)) counts) (writtenAs (now (out .entry)) (now (notes .entry)) place)) (rest (now (source .entry)) levels (span, importHead «type_only» phase «is_side_effect» (quotedOf (now (sheet .entry)) specifier) there) (drop (cursor .at) (now (sheet .entry)))))
+        (onOk (afterNode (now (source .entry)) (typesFrom (now (source .entry)) (now (tables .entry)) counts) (writtenAs (now (out .entry)) (now (notes .entry)) place)) (rest (now (source .entry)) levels (span, importHead «type_only» phase «is_side_effect» (quotedOf (now (sheet .entry)) specifier) «has_object») (drop (cursor .at) (now (sheet .entry)))))
         (PastWalked (length (now (sheet .entry)))) r ⌝ }
 {
     let kind = import_kind(type_only, phase);
@@ -210,7 +210,7 @@ fn visit_import_decl(
         sheet,
         source,
         cursor,
-        there,
+        has_object,
         levels,
         dependency,
         tables,
@@ -230,16 +230,16 @@ fn visit_named_export(
     span: Span,
     type_only: bool,
     specifier: Quoted,
-    there: bool,
+    has_object: bool,
     tables: &[u32; TABLE_NUMBERS],
     counts: Counts,
     out: &mut [u8],
     notes: &mut [usize],
-    place: Place,
+    place: Pen,
 ) -> Walked
     requires { ⌜ HeldIn (now source) (now tables) counts × Quotes (now sheet) (now source) specifier × (cursor .at ≤ length (now sheet)) ⌝ }
     ensures { λ r. ⌜ Told (walkedAs (now (sheet .entry)) (now (out .exit)) (now (notes .exit)))
-        (onOk (afterNode (now (source .entry)) (typesFrom (now (source .entry)) (now (tables .entry)) counts) (writtenAs (now (out .entry)) (now (notes .entry)) place)) (rest (now (source .entry)) levels (span, exportFromHead «type_only» (quotedOf (now (sheet .entry)) specifier) there) (drop (cursor .at) (now (sheet .entry)))))
+        (onOk (afterNode (now (source .entry)) (typesFrom (now (source .entry)) (now (tables .entry)) counts) (writtenAs (now (out .entry)) (now (notes .entry)) place)) (rest (now (source .entry)) levels (span, exportFromHead «type_only» (quotedOf (now (sheet .entry)) specifier) «has_object») (drop (cursor .at) (now (sheet .entry)))))
         (PastWalked (length (now (sheet .entry)))) r ⌝ }
 {
     let kind = export_kind(type_only);
@@ -253,7 +253,7 @@ fn visit_named_export(
         sheet,
         source,
         cursor,
-        there,
+        has_object,
         levels,
         dependency,
         tables,
@@ -273,16 +273,16 @@ fn visit_export_all(
     span: Span,
     type_only: bool,
     specifier: Quoted,
-    there: bool,
+    has_object: bool,
     tables: &[u32; TABLE_NUMBERS],
     counts: Counts,
     out: &mut [u8],
     notes: &mut [usize],
-    place: Place,
+    place: Pen,
 ) -> Walked
     requires { ⌜ HeldIn (now source) (now tables) counts × Quotes (now sheet) (now source) specifier × (cursor .at ≤ length (now sheet)) ⌝ }
     ensures { λ r. ⌜ Told (walkedAs (now (sheet .entry)) (now (out .exit)) (now (notes .exit)))
-        (onOk (afterNode (now (source .entry)) (typesFrom (now (source .entry)) (now (tables .entry)) counts) (writtenAs (now (out .entry)) (now (notes .entry)) place)) (rest (now (source .entry)) levels (span, exportAllHead «type_only» (quotedOf (now (sheet .entry)) specifier) there) (drop (cursor .at) (now (sheet .entry)))))
+        (onOk (afterNode (now (source .entry)) (typesFrom (now (source .entry)) (now (tables .entry)) counts) (writtenAs (now (out .entry)) (now (notes .entry)) place)) (rest (now (source .entry)) levels (span, exportAllHead «type_only» (quotedOf (now (sheet .entry)) specifier) «has_object») (drop (cursor .at) (now (sheet .entry)))))
         (PastWalked (length (now (sheet .entry)))) r ⌝ }
 {
     let kind = export_kind(type_only);
@@ -296,7 +296,7 @@ fn visit_export_all(
         sheet,
         source,
         cursor,
-        there,
+        has_object,
         levels,
         dependency,
         tables,
@@ -320,7 +320,7 @@ fn visit_ts_import_type(
     counts: Counts,
     out: &mut [u8],
     notes: &mut [usize],
-    place: Place,
+    place: Pen,
 ) -> Walked
     requires { ⌜ HeldIn (now source) (now tables) counts × Quotes (now sheet) (now source) specifier × (cursor .at ≤ length (now sheet)) ⌝ }
     ensures { λ r. ⌜ Told (walkedAs (now (sheet .entry)) (now (out .exit)) (now (notes .exit)))
@@ -337,12 +337,12 @@ fn visit_ts_import_type(
         Tallied::Refused(r) => Walked::Refused(r),
         Tallied::Is(_, next) => match next.flag(sheet) {
             Flag::Refused(r) => Walked::Refused(r),
-            Flag::Is(there, at) => {
+            Flag::Is(has_object, at) => {
                 let place = put_with_entry(
                     sheet,
                     source,
                     at,
-                    there,
+                    has_object,
                     levels,
                     dependency,
                     tables,
@@ -370,7 +370,7 @@ fn visit_ts_import_type(
                             sheet,
                             source,
                             at,
-                            there,
+                            has_object,
                             levels,
                             tables,
                             counts,
@@ -396,7 +396,7 @@ fn visit_call_expr(
     counts: Counts,
     out: &mut [u8],
     notes: &mut [usize],
-    place: Place,
+    place: Pen,
 ) -> Walked
     requires { ⌜ HeldIn (now source) (now tables) counts ⌝ }
     ensures { λ r. ⌜ Told (walkedAs (now (sheet .entry)) (now (out .exit)) (now (notes .exit)))
@@ -474,7 +474,7 @@ fn visit_ts_import_equals_decl(
     counts: Counts,
     out: &mut [u8],
     notes: &mut [usize],
-    place: Place,
+    place: Pen,
 ) -> Walked
     requires { ⌜ HeldIn (now source) (now tables) counts × Quotes (now sheet) (now source) specifier × (cursor .at ≤ length (now sheet)) ⌝ }
     ensures { λ r. ⌜ Told (walkedAs (now (sheet .entry)) (now (out .exit)) (now (notes .exit)))
@@ -505,7 +505,7 @@ fn visit_ts_module_decl(
     counts: Counts,
     out: &mut [u8],
     notes: &mut [usize],
-    place: Place,
+    place: Pen,
 ) -> Walked
     requires { ⌜ HeldIn (now source) (now tables) counts × Quotes (now sheet) (now source) specifier × (cursor .at ≤ length (now sheet)) ⌝ }
     ensures { λ r. ⌜ Told (walkedAs (now (sheet .entry)) (now (out .exit)) (now (notes .exit)))
@@ -547,7 +547,7 @@ fn walk_node(
     counts: Counts,
     out: &mut [u8],
     notes: &mut [usize],
-    place: Place,
+    place: Pen,
 ) -> Walked
     requires { ⌜ HeldIn (now source) (now tables) counts ⌝ }
     ensures { λ r. ⌜ Told (walkedAs (now (sheet .entry)) (now (out .exit)) (now (notes .exit)))
@@ -586,7 +586,7 @@ fn walk_rest(
     counts: Counts,
     out: &mut [u8],
     notes: &mut [usize],
-    place: Place,
+    place: Pen,
 ) -> Walked
     requires { ⌜ HeldIn (now source) (now tables) counts × PastHead (now sheet) (now source) (cursor .at) head ⌝ }
     ensures { λ r. ⌜ Told (walkedAs (now (sheet .entry)) (now (out .exit)) (now (notes .exit)))
@@ -675,7 +675,7 @@ fn walk_rest(
             phase,
             side_effect,
             specifier,
-            has_object: there,
+            has_object,
         } => {
             visit_import_decl(
                 sheet,
@@ -687,7 +687,7 @@ fn walk_rest(
                 phase,
                 side_effect,
                 specifier,
-                there,
+                has_object,
                 tables,
                 counts,
                 out,
@@ -698,7 +698,7 @@ fn walk_rest(
         Head::ExportFrom {
             type_only,
             specifier,
-            has_object: there,
+            has_object,
         } => {
             visit_named_export(
                 sheet,
@@ -708,7 +708,7 @@ fn walk_rest(
                 span,
                 type_only,
                 specifier,
-                there,
+                has_object,
                 tables,
                 counts,
                 out,
@@ -719,7 +719,7 @@ fn walk_rest(
         Head::ExportAll {
             type_only,
             specifier,
-            has_object: there,
+            has_object,
         } => {
             visit_export_all(
                 sheet,
@@ -729,7 +729,7 @@ fn walk_rest(
                 span,
                 type_only,
                 specifier,
-                there,
+                has_object,
                 tables,
                 counts,
                 out,
@@ -817,7 +817,7 @@ fn walk_nodes(
     counts: Counts,
     out: &mut [u8],
     notes: &mut [usize],
-    place: Place,
+    place: Pen,
 ) -> Walked
     requires { ⌜ HeldIn (now source) (now tables) counts × (cursor .at ≤ length (now sheet)) ⌝ }
     ensures { λ r. ⌜ Told (walkedAs (now (sheet .entry)) (now (out .exit)) (now (notes .exit)))
@@ -852,7 +852,7 @@ fn walk_argument(
     counts: Counts,
     out: &mut [u8],
     notes: &mut [usize],
-    place: Place,
+    place: Pen,
 ) -> Walked
     requires { ⌜ HeldIn (now source) (now tables) counts ⌝ }
     ensures { λ r. ⌜ Told (walkedAs (now (sheet .entry)) (now (out .exit)) (now (notes .exit)))
@@ -888,7 +888,7 @@ fn walk_arguments(
     counts: Counts,
     out: &mut [u8],
     notes: &mut [usize],
-    place: Place,
+    place: Pen,
 ) -> Walked
     requires { ⌜ HeldIn (now source) (now tables) counts × (cursor .at ≤ length (now sheet)) ⌝ }
     ensures { λ r. ⌜ Told (walkedAs (now (sheet .entry)) (now (out .exit)) (now (notes .exit)))
@@ -923,7 +923,7 @@ fn walk_property(
     counts: Counts,
     out: &mut [u8],
     notes: &mut [usize],
-    place: Place,
+    place: Pen,
 ) -> Walked
     requires { ⌜ HeldIn (now source) (now tables) counts ⌝ }
     ensures { λ r. ⌜ Told (walkedAs (now (sheet .entry)) (now (out .exit)) (now (notes .exit)))
@@ -961,7 +961,7 @@ fn walk_properties(
     counts: Counts,
     out: &mut [u8],
     notes: &mut [usize],
-    place: Place,
+    place: Pen,
 ) -> Walked
     requires { ⌜ HeldIn (now source) (now tables) counts × (cursor .at ≤ length (now sheet)) ⌝ }
     ensures { λ r. ⌜ Told (walkedAs (now (sheet .entry)) (now (out .exit)) (now (notes .exit)))
@@ -991,20 +991,20 @@ fn walk_attributes(
     sheet: &[u8],
     source: &[u8],
     cursor: Cursor,
-    there: bool,
+    has_object: bool,
     levels: usize,
     tables: &[u32; TABLE_NUMBERS],
     counts: Counts,
     out: &mut [u8],
     notes: &mut [usize],
-    place: Place,
+    place: Pen,
 ) -> Walked
     requires { ⌜ HeldIn (now source) (now tables) counts × (cursor .at ≤ length (now sheet)) ⌝ }
     ensures { λ r. ⌜ Told (walkedAs (now (sheet .entry)) (now (out .exit)) (now (notes .exit)))
-        (onOk (afterWith (now (source .entry)) (typesFrom (now (source .entry)) (now (tables .entry)) counts) (writtenAs (now (out .entry)) (now (notes .entry)) place)) (behind there (attributesObject (now (source .entry)) levels) (drop (cursor .at) (now (sheet .entry)))))
+        (onOk (afterWith (now (source .entry)) (typesFrom (now (source .entry)) (now (tables .entry)) counts) (writtenAs (now (out .entry)) (now (notes .entry)) place)) (behind «has_object» (attributesObject (now (source .entry)) levels) (drop (cursor .at) (now (sheet .entry)))))
         (PastWalked (length (now (sheet .entry)))) r ⌝ }
 {
-    if there {
+    if has_object {
         return match read_attributes(sheet, source, cursor, levels) {
             AttributesRead::Refused(r) => Walked::Refused(r),
             AttributesRead::Is { count, next, .. } => {
@@ -1031,31 +1031,31 @@ fn walk_import(
     sheet: &[u8],
     source: &[u8],
     cursor: Cursor,
-    there: bool,
+    has_object: bool,
     levels: usize,
     dependency: StaticDependencyDescriptor,
     tables: &[u32; TABLE_NUMBERS],
     counts: Counts,
     out: &mut [u8],
     notes: &mut [usize],
-    place: Place,
+    place: Pen,
 ) -> Walked
     requires { ⌜ HeldIn (now source) (now tables) counts
         × Quotes (now sheet) (now source) (dependency .specifier)
         × (cursor .at ≤ length (now sheet)) ⌝ }
     ensures { λ r. ⌜ Told (walkedAs (now (sheet .entry)) (now (out .exit)) (now (notes .exit)))
-        (onOk (afterImport (now (source .entry)) (typesFrom (now (source .entry)) (now (tables .entry)) counts) (now (sheet .entry)) dependency (writtenAs (now (out .entry)) (now (notes .entry)) place)) (behind there (attributesObject (now (source .entry)) levels) (drop (cursor .at) (now (sheet .entry)))))
+        (onOk (afterImport (now (source .entry)) (typesFrom (now (source .entry)) (now (tables .entry)) counts) (now (sheet .entry)) dependency (writtenAs (now (out .entry)) (now (notes .entry)) place)) (behind «has_object» (attributesObject (now (source .entry)) levels) (drop (cursor .at) (now (sheet .entry)))))
         (PastWalked (length (now (sheet .entry)))) r ⌝ }
 {
-    if there {
-        return match check_attributes(sheet, source, cursor, there, levels) {
+    if has_object {
+        return match check_attributes(sheet, source, cursor, has_object, levels) {
             Tallied::Refused(r) => Walked::Refused(r),
             Tallied::Is(_, next) => {
                 let place = put_with_entry(
                     sheet,
                     source,
                     cursor,
-                    there,
+                    has_object,
                     levels,
                     dependency,
                     tables,
@@ -1086,7 +1086,7 @@ fn walk_callee(
     counts: Counts,
     out: &mut [u8],
     notes: &mut [usize],
-    place: Place,
+    place: Pen,
 ) -> Walked
     requires { ⌜ HeldIn (now source) (now tables) counts × (cursor .at ≤ length (now sheet)) × Calls head ⌝ }
     ensures { λ r. ⌜ Told (walkedAs (now (sheet .entry)) (now (out .exit)) (now (notes .exit)))

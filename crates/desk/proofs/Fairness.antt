@@ -9,7 +9,7 @@ use borrow.Author.Tests.{eq-eqb}
 use lib.ListN.{length, List·getD-eq-default}
 use Rattle.desk.specs.Desk.{Desk, Call, handIn, turn, Event, served, idle, Done, fresh, queue, lookedAt, step}
 use Rattle.desk.specs.History.{History, events, after, happened, happensNext, waitingOf, turnsIn}
-use Rattle.desk.specs.Fair.{HandInAnswer, TurnAnswer, Within, Freed, Fair}
+use Rattle.desk.specs.Fair.{HandInAnswer, TurnAnswer, ServedWithin, Freed, Fair}
 use Rattle.desk.proofs.Outcomes.{Outcome, outcome, desk-left, accepted-there}
 use Rattle.desk.proofs.Outcomes as outcomes
 use Rattle.desk.proofs.Histories.{Agrees, agrees-fresh, waiting-is, next-below, moves, after-one}
@@ -36,7 +36,7 @@ module _ {h : History} {desk : Desk} (a : Agrees h desk) where
       TurnAnswer.front (record {
         passed = passed;
         few = few;
-        there = ap (λ n. (n + passed) % 16) (sym (a .next-is));
+        reached = ap (λ n. (n + passed) % 16) (sym (a .next-is));
         none-before = λ k low. waiting-is a _ ∙ ap (λ n. queue desk ((n + k) % 16)) (a .next-is) ∙ none k low;
       }) (waiting-is a _ ∙ e)
   turn-right (outcomes.nobody none) = TurnAnswer.nobody (λ d. waiting-is a d ∙ nobody-waits none d)
@@ -46,11 +46,11 @@ module _ {h : History} {desk : Desk} (a : Agrees h desk) where
   distance d = (d + 16 - desk .next) % 16
 
   soon-right : (d s : ℕ) (rest : List ℕ) (more : List Call) → waitingOf d h ≡ s ∷ rest → distance d < turnsIn (events desk more)
-      → Within (suc (distance d)) d s (events desk more)
+      → ServedWithin (suc (distance d)) d s (events desk more)
   soon-right d s rest more e enough =
       let there = sym (waiting-is a d) ∙ e in
       let few = one-of-sixteen desk d (a .sixteen) there in
-      served-soon d s desk (distance d) more (record { long = a .sixteen; few = omega arith; there = looked-at desk d below few; rest = rest; at-front = there }) enough
+      served-soon d s desk (distance d) more (record { long = a .sixteen; few = omega arith; reached = looked-at desk d below few; rest = rest; at-front = there }) enough
 
 idle-exactly : {h : History} {e : Event} → TurnAnswer h e → (e ≡ idle) ↔ ((d : ℕ) → waitingOf d h ≡ [])
 idle-exactly (TurnAnswer.front {d} n w) = (λ e. let z : _≡_ {A = ℕ} 0 1 = cc in absurd (omega arith), λ none. absurd (nil≢cons (sym (none d) ∙ w)))

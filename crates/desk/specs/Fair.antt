@@ -18,7 +18,7 @@ pub data HandInAnswer (h : History) (d s : ℕ) : Event → Type 0 where
 pub record NextWaiting (h : History) (d : ℕ) : Type 0 where
   pub passed : ℕ
   pub few : passed < 16
-  pub there : d ≡ (nextOf h + passed) % 16
+  pub reached : d ≡ (nextOf h + passed) % 16
   pub none-before : (k : ℕ) → k < passed → waitingOf ((nextOf h + k) % 16) h ≡ []
 
 -- what a turn is answered once h has happened
@@ -27,7 +27,7 @@ pub data TurnAnswer (h : History) : Event → Type 0 where
   nobody : ((d : ℕ) → waitingOf d h ≡ []) → TurnAnswer h idle
 
 -- one of the first so many turns serves sheet s to depositor d, and none before it serves d
-pub record Within (turns d s : ℕ) (h : History) : Type 0 where
+pub record ServedWithin (turns d s : ℕ) (h : History) : Type 0 where
   pub before : History
   pub behind : History
   pub split : h ≡ before ++ served d s ∷ behind
@@ -55,7 +55,7 @@ pub record Fair : Type 0 where
   pub idle : (calls : List Call) → (happensNext calls turn ≡ idle) ↔ ((d : ℕ) → waitingOf d (happened calls) ≡ [])
   -- a sheet at the front of its queue is served within 16 turns, whatever calls come between them
   pub soon : (calls more : List Call) (d s : ℕ) (rest : List ℕ) → waitingOf d (happened calls) ≡ s ∷ rest
-      → 16 ≤ turnsIn (happensThen calls more) → Within 16 d s (happensThen calls more)
+      → 16 ≤ turnsIn (happensThen calls more) → ServedWithin 16 d s (happensThen calls more)
   -- a served place is free again
   pub freed : (calls : List Call) (d s : ℕ) → happensNext calls turn ≡ served d s → Freed calls d s
   -- served in the order accepted, each exactly as often as it was accepted and is not still waiting

@@ -9,7 +9,7 @@ use lib.Dec.{eqb}
 use lib.ListN.{length, drop, length-append, length-drop}
 use lib.Seq.{drop-drop}
 use borrow.Author.Tests.{eqb-true, eq-eqb}
-use Rattle.laws.specs.Quoted.{ascii}
+use Rattle.laws.specs.Ascii.{ascii}
 use Rattle.laws.specs.code.Told.{Bounded, Meant}
 use Rattle.text.specs.declared.utf8.Encoding.the-variants.{Utf8}
 use Rattle.text.specs.Ranges.{inRanges}
@@ -20,7 +20,7 @@ use Rattle.text.proofs.Words.{begins-sound, begins-complete}
 use Rattle.analysis.specs.declared.Capture.{Capture}
 use Rattle.analysis.specs.declared.Found.{Found}
 use Rattle.analysis.specs.declared.Found.the-variants.{At, Nothing}
-use Rattle.analysis.specs.Place.{Within}
+use Rattle.analysis.specs.Place.{FoundWithin}
 use Rattle.ecma426.specs.declared.Kind.{Kind}
 use Rattle.ecma426.specs.declared.Kind.the-variants.{Space, NotSpace}
 use Rattle.ecma426.specs.WhiteSpace.{isSpace, isOf}
@@ -28,7 +28,7 @@ use Rattle.ecma426.specs.Grammar.{Row, none, more, Word, Marked, MapRead
 use Rattle.ecma426.specs.Reader.{oneAt, rowEnd, marked, word, runTo, fromWord, findSourceMap}
 use Rattle.ecma426.proofs.WhiteSpace.{either}
 use Rattle.ecma426.proofs.Boundaries.{run-inside}
-use Rattle.ecma426.proofs.Rows.{one-fits, stood, row-is, row-only}
+use Rattle.ecma426.proofs.LongestRow.{one-fits, stood, row-is, row-only}
 
 -- no whitespace stands where the word does, and no character where the text ends
 before-word : (t : List ℕ) → oneAt Space (word ++ t) ≡ 0
@@ -135,9 +135,9 @@ module _ (body : List ℕ) where
       by Nothing e n = e
 
   -- so does every answer that is the reader's
-  pub answered : {r : Found} → r ≡ findSourceMap body → Bounded (Meant (r ≡ findSourceMap body) (FindsMap body r)) (Within r (length body))
+  pub answered : {r : Found} → r ≡ findSourceMap body → Bounded (Meant (r ≡ findSourceMap body) (FindsMap body r)) (FoundWithin r (length body))
   answered {r} e = let finds : FindsMap body r = rw e finds-map in record { answer = record { answer = e; meaning = finds }; bounds = by r refl finds }
     where
-      by : (f : Found) → r ≡ f → FindsMap body r → Within f (length body)
+      by : (f : Found) → r ≡ f → FindsMap body r → FoundWithin f (length body)
       by (At k) i finds = run-inside body (finds .some k .0 i)
       by Nothing i finds = tt

@@ -1,4 +1,4 @@
 pub mod Agrees
 pub mod Boundaries
-pub mod Rows
+pub mod LongestRow
 pub mod WhiteSpace

@@ -11,7 +11,7 @@ use borrow.Author.Tests.{eqb-true}
 use Rattle.laws.specs.code.Told.{Meant}
 use Rattle.text.specs.Ranges.{Range, _to_, within, inRanges}
 use Rattle.text.specs.WhiteSpace as unicode
-use Rattle.text.proofs.Within.{within-iff}
+use Rattle.text.proofs.WithinRange.{within-iff}
 use Rattle.ecma426.specs.WhiteSpace.{whiteSpace, lineTerminator, isSpace, ByUnicode}
 
 pub either : (a b : Bool) → a || b ≡ true → (a ≡ true) ⊎ (b ≡ true)

@@ -11,7 +11,7 @@ ghost use mathlib.Core.Logic.{_↔_};
 ghost use Prim.Native.Nat.{_+_, _≤_};
 ghost use lib.ListN.{length, drop};
 ghost use Rattle.laws.specs.code.Told.{Bounded, Meant};
-ghost use Rattle.analysis.specs.Place.{Within};
+ghost use Rattle.analysis.specs.Place.{FoundWithin};
 ghost use Rattle.ecma426.specs.WhiteSpace.{isSpace, ByUnicode, isOf};
 ghost use Rattle.ecma426.specs.Grammar.{FindsMap};
 ghost use Rattle.ecma426.specs.Reader.{oneAt, rowEnd, marked, findSourceMap};
@@ -87,7 +87,7 @@ fn is_marked(body: &[u8]) -> bool
 // ^[#@]\s*sourceMappingURL=(\S*)\s*$ in ECMAScript's regular expressions. The word is compared byte by byte, its case too.
 pub fn find_source_map(body: &[u8]) -> Found
     ensures { λ r. ⌜ Bounded (Meant (r ≡ findSourceMap (now (body .entry))) (FindsMap (now (body .entry)) r))
-        (Within r (length (now (body .entry)))) ⌝ }
+        (FoundWithin r (length (now (body .entry)))) ⌝ }
 {
     if is_marked(body) {
         let at = row_end(body, 1, Kind::Space);

@@ -1,5 +1,5 @@
 // An input read to its end, where a read that fails is not taken for the end.
-ghost use Rattle.input.specs.code.Within.{Within};
+ghost use Rattle.input.specs.code.InputWithin.{InputWithin};
 
 // What came of reading.
 pub enum Input {
@@ -11,7 +11,7 @@ pub enum Input {
 
 // Reads until the input ends, the buffer is full or a read fails.
 pub fn read_input(fd: i32, buffer: &mut [u8]) -> Input
-    ensures { λ r. ⌜ Within (now (buffer .exit)) r ⌝ }
+    ensures { λ r. ⌜ InputWithin (now (buffer .exit)) r ⌝ }
 {
     let mut done = 0;
     while done < buffer.len() {

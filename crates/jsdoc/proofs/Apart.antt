@@ -9,7 +9,7 @@ use lib.Dec.{ltb}
 use lib.ListN.{length, drop, getD, length-append, length-drop, List·getD-append}
 use lib.Seq.{getD-append-seam, getD-append-add}
 use borrow.Author.Tests.{ltb-true, ltb-false}
-use Rattle.laws.specs.Quoted.{ascii}
+use Rattle.laws.specs.Ascii.{ascii}
 use Rattle.text.specs.declared.class.Class.the-variants.{White}
 use Rattle.text.specs.Ranges.{inRanges}
 use Rattle.text.specs.Class.{outside, ranges, member}

@@ -10,12 +10,12 @@ use native.Mathlib.Omega.{arith}
 use lib.ListN.{length, drop}
 use lib.Dec.{eqb}
 use borrow.Author.Tests.{ne-eqb, eqb-true, eqb-false}
-use Rattle.laws.specs.Quoted.{ascii}
+use Rattle.laws.specs.Ascii.{ascii}
 use Rattle.text.specs.declared.class.Class.the-variants.{White}
 use Rattle.text.specs.Bytes.{begins}
 use Rattle.text.proofs.Words.{begins-sound, begins-complete}
 use Rattle.analysis.specs.Mode.{Mode}
-use Rattle.jsdoc.specs.Grammar.{Bytes, Word, Without, Quote, ToImport, Part, Tail, Brace}
+use Rattle.jsdoc.specs.Grammar.{Bytes, Word, Without, Quote, ToImport, SecondParam, Tail, Brace}
 use Rattle.jsdoc.specs.Parsed.{Parsed, ok, backtrace, onParsed}
 use Rattle.jsdoc.specs.Reader.{skip, skipWhitespace, tag, word, upTo, parseImportAttributeBlockForResolutionMode, secondParamStart, parseSecondParamObjWithLeadingComma, closeCall, parseTail, hit, seek, parseCall, parseJsdocDynamicImport}
 use Rattle.jsdoc.proofs.Chains.{then-ok}
@@ -37,7 +37,7 @@ start-sound s t e =
     let (z3, c, ec, e3) = then-ok (word (ascii "with") b) _ e2 in
     (a, b, c, word-sound (ascii ",") s a ea, word-sound (ascii "{") a b eb, word-sound (ascii "with") b c ec, word-sound (ascii ":") c t e3)
 
-pub part-sound : (m : Mode) (s t : Bytes) → parseSecondParamObjWithLeadingComma s ≡ ok m t → Part m s t
+pub part-sound : (m : Mode) (s t : Bytes) → parseSecondParamObjWithLeadingComma s ≡ ok m t → SecondParam m s t
 unfolding parseSecondParamObjWithLeadingComma skipWhitespace
 part-sound m s t e =
     let (z1, d, ed, e1) = then-ok (secondParamStart s) _ e in
@@ -62,7 +62,7 @@ part-sound m s t e =
       end = word-sound (ascii "}") (skip White x) t et;
     }
 
-pub part-complete : {m : Mode} {s t : Bytes} → Part m s t → parseSecondParamObjWithLeadingComma s ≡ ok m t
+pub part-complete : {m : Mode} {s t : Bytes} → SecondParam m s t → parseSecondParamObjWithLeadingComma s ≡ ok m t
 unfolding parseSecondParamObjWithLeadingComma secondParamStart
 part-complete r =
     rw (
@@ -86,7 +86,7 @@ pub tail-sound : (m : Mode) (s t : Bytes) → parseTail s ≡ ok m t → Tail m 
 unfolding parseTail closeCall skipWhitespace
 tail-sound m s t = go (parseSecondParamObjWithLeadingComma (skip White s)) refl
   where
-    end : (n : Mode) (u : Bytes) → Part n (skip White s) u ⊎ ((n ≡ Option.none) × (skip White s ≡ u)) → closeCall n u ≡ ok m t → Tail m s t
+    end : (n : Mode) (u : Bytes) → SecondParam n (skip White s) u ⊎ ((n ≡ Option.none) × (skip White s ≡ u)) → closeCall n u ≡ ok m t → Tail m s t
     end n u p e =
         let (z1, a, ea, e1) = then-ok (tag (ascii ")") u) _ e in
         let (z2, b, eb, e2) = then-ok (upTo (code "}") a) _ e1 in
@@ -114,7 +114,7 @@ unfolding parseTail closeCall
 tail-complete {m} r =
     rw (white-complete (r .white), taken (r .part), tag-complete (ascii ")") (r .paren), upTo-complete (code "}") (r .run) (r .rest))
   where
-    taken : Part m (r .r1) (r .r2) ⊎ ((m ≡ Option.none) × (r .r1 ≡ r .r2)) → onParsed (parseSecondParamObjWithLeadingComma (r .r1)) ok (ok Option.none (r .r1)) ≡ ok m (r .r2)
+    taken : SecondParam m (r .r1) (r .r2) ⊎ ((m ≡ Option.none) × (r .r1 ≡ r .r2)) → onParsed (parseSecondParamObjWithLeadingComma (r .r1)) ok (ok Option.none (r .r1)) ≡ ok m (r .r2)
     taken (inl p) = rw (part-complete p)
     taken (inr (z, e)) = rw (part-none (e ∙ r .paren)) (cc)
 

@@ -6,7 +6,7 @@ use Prim.Native.Nat.{ℕ, _+_}
 use Prim.Native.String.{String}
 use lib.ListN.{length, set, replicate}
 use Rattle.laws.specs.Codec.{All}
-use Rattle.laws.specs.Quoted.{ascii}
+use Rattle.laws.specs.Ascii.{ascii}
 use Rattle.text.specs.Ranges.{inRanges}
 use Rattle.text.specs.Utf8.{admits, lengthBy, charLength, codeBy, charAt}
 use Rattle.text.specs.Encode.{encode}
@@ -15,10 +15,10 @@ use Rattle.text.specs.Class.{outside, ranges, member, classAt, run}
 use Rattle.text.specs.Bytes.{begins, same}
 use Rattle.analysis.specs.Mode.{import, require, Mode, modeNumber, modeOf}
 use Rattle.jsdoc.specs.Grammar.{Bytes, Listed}
-use Rattle.jsdoc.specs.code.Marks.{Marks}
+use Rattle.jsdoc.specs.code.Ticks.{Ticks}
 use Rattle.jsdoc.specs.Listing.{listing}
 use Rattle.jsdoc.specs.Reader.{skip, skipWhitespace, whitespace, tag, word, upTo, isMark, parseQuote, pastIdent, parseIdent, parseKey, attributeMode, parseAttribute, firstMode, comma, separatedListBy, separatedList, parseImportAttributeBlockForResolutionMode, secondParamStart, parseSecondParamObjWithLeadingComma, closeCall, parseTail, seek, parseCall, parseJsdocDynamicImport, skipNamedImports, skipDefaultImport, skipNamespaceImport, skipClause, parseAttributes, parseFrom, parseJsdocImportDecl}
-use Rattle.jsdoc.proofs.Listing.{listing-marks}
+use Rattle.jsdoc.proofs.Listing.{listing-ticks}
 
 -- an import by the place of its quote and its mode
 data Entry : Type 0 where
@@ -31,12 +31,12 @@ data Case : Type 0 where
 abbrev body : Case → Bytes
 body (row s l) = flatMap encode (ascii s)
 
-abbrev marksAt : ℕ → List Entry → List ℕ
-marksAt n [] = replicate n 0
-marksAt n (entry q m ∷ l) = set (marksAt n l) q (modeNumber m + 1)
+abbrev ticksAt : ℕ → List Entry → List ℕ
+ticksAt n [] = replicate n 0
+ticksAt n (entry q m ∷ l) = set (ticksAt n l) q (modeNumber m + 1)
 
-abbrev marks : Case → List ℕ
-marks (row s l) = marksAt (length (flatMap encode (ascii s))) l
+abbrev ticks : Case → List ℕ
+ticks (row s l) = ticksAt (length (flatMap encode (ascii s))) l
 
 table : List Case
 table =
@@ -68,19 +68,19 @@ table =
     ∷ row "@import\u{85}A\u{3000}from\u{85}\"a\"" (entry 19 none ∷ [])
     ∷ []
 
-computed : map (λ c. listing (body c)) table ≡ map marks table
+computed : map (λ c. listing (body c)) table ≡ map ticks table
 unfolding table listing flatMap alphabetic inRanges admits lengthBy charLength codeBy charAt encode outside ranges member classAt run begins same modeOf skip skipWhitespace whitespace tag word upTo isMark parseQuote pastIdent parseIdent parseKey attributeMode parseAttribute firstMode comma separatedListBy separatedList parseImportAttributeBlockForResolutionMode secondParamStart parseSecondParamObjWithLeadingComma closeCall parseTail seek parseCall parseJsdocDynamicImport skipNamedImports skipDefaultImport skipNamespaceImport skipClause parseAttributes parseFrom parseJsdocImportDecl
 computed = refl
 
 -- just these imports are listed for the body
 abbrev Worked : Case → Type 0
-Worked c = Marks (Listed (body c)) (length (body c)) (marks c)
+Worked c = Ticks (Listed (body c)) (length (body c)) (ticks c)
 
-each : (l : List Case) → map (λ c. listing (body c)) l ≡ map marks l → All Worked l
+each : (l : List Case) → map (λ c. listing (body c)) l ≡ map ticks l → All Worked l
 each [] e = tt
 each (c ∷ l) e =
-    let h : listing (body c) ≡ marks c = cc in
-    (rw h at (listing-marks (body c)), each l (cc))
+    let h : listing (body c) ≡ ticks c = cc in
+    (rw h at (listing-ticks (body c)), each l (cc))
 
 worked : All Worked table
 worked = each table computed

@@ -4,7 +4,7 @@ use mathlib.Core.Logic.{_⊎_, inl, inr}
 use mathlib.Core.Option.{Option}
 use Prim.Native.Char.{code}
 use native.Mathlib.Omega.{arith}
-use Rattle.laws.specs.Quoted.{ascii}
+use Rattle.laws.specs.Ascii.{ascii}
 use Rattle.text.specs.declared.class.Class.the-variants.{White}
 use Rattle.text.specs.Ranges.{inRanges}
 use Rattle.text.specs.Alphabetic.{alphabetic}

@@ -8,13 +8,13 @@ pub mod Characters
 pub mod Declarations
 pub mod Ends
 pub mod Listing
-pub mod Marked
-pub mod Marking
+pub mod Ticked
+pub mod Ticking
 pub mod Moved
 pub mod Noted
 pub mod Noting
 pub mod Openers
-pub mod Places
+pub mod ReadingPlace
 pub mod Searches
 pub mod Skips
 pub mod Steps

@@ -1,4 +1,4 @@
--- The marks that the parsers give at each place of a body are those of the readings that are listed.
+-- The ticks that the parsers give at each place of a body are those of the readings that are listed.
 use mathlib.Core.Path.{_≡_, refl, ap}
 use mathlib.Core.Logic.{_⊎_, ⊎-elim, inl, inr}
 use mathlib.Core.List.{List}
@@ -13,28 +13,28 @@ use Rattle.analysis.proofs.Modes.{found-of}
 use Rattle.jsdoc.specs.Grammar.{Bytes, Brace, Declaration, Reading, From, Listed}
 use Rattle.jsdoc.specs.Parsed.{Parser, value}
 use Rattle.jsdoc.specs.Reader.{Hit, hit}
-use Rattle.jsdoc.specs.code.Answers.{Imports, marked, noted}
+use Rattle.jsdoc.specs.code.Answers.{Imports, ticked, noted}
 use Rattle.jsdoc.specs.declared.answers.JsDocImport.{JsDocImport}
 use Rattle.jsdoc.specs.declared.answers.JsDocImport.the-variants as jsDocImport
-use Rattle.jsdoc.specs.code.Marks.{Marks}
-use Rattle.jsdoc.specs.Listing.{markAt, listingBy, listing}
+use Rattle.jsdoc.specs.code.Ticks.{Ticks}
+use Rattle.jsdoc.specs.Listing.{tickAt, listingBy, listing}
 use Rattle.jsdoc.specs.Origins.{noteOf}
 use Rattle.jsdoc.proofs.Ends.{Ends, ends-trans}
 use Rattle.jsdoc.proofs.Suffixes.{reading-ends}
-use Rattle.jsdoc.proofs.Places.{with-kind}
-use Rattle.jsdoc.proofs.Marked.{marks-iff}
-use Rattle.jsdoc.proofs.Marking.{Kind, Before, braces, declarations, marks-none, marks-turn, from-below}
+use Rattle.jsdoc.proofs.ReadingPlace.{with-kind}
+use Rattle.jsdoc.proofs.Ticked.{ticks-iff}
+use Rattle.jsdoc.proofs.Ticking.{Kind, Before, braces, declarations, ticks-none, ticks-turn, from-below}
 
 ends-at : {s t : Bytes} → Ends s t → drop (length s - length t) s ≡ t
 ends-at {s} {t} (p, e) =
     let n : length s - length t ≡ length p = omega (arith, ap length e, length-append p t) in
     rw n (rw e (drop-append-seam p t))
 
--- an answer of the code that stands for what the parser reads of s, and has its mark and its note
+-- an answer of the code that stands for what the parser reads of s, and has its tick and its note
 pub record Answer (s : Bytes) (o : Option Hit) : Type 0 where
   pub import : JsDocImport
   pub is : Imports s o import
-  pub mark : (i : ℕ) (l : List ℕ) → marked i import l ≡ markAt i s o l
+  pub tick : (i : ℕ) (l : List ℕ) → ticked i import l ≡ tickAt i s o l
   pub note : (i : ℕ) (l : List ℕ) → noted i import l ≡ noteOf i s o l
 
 pub answered : {R : Bytes → Bytes → Bytes → Mode → Type 0} {p : Parser Hit} → Kind R p → (s : Bytes) → Answer s (value (p s))
@@ -47,16 +47,16 @@ answered {p} K s = go (value (p s)) refl
         record {
           import = jsDocImport.Import (length s - length q) (length s - length e) mode;
           is = record { answer = rw (ends-at a, ends-at (ends-trans a b), same); bounds = omega arith };
-          mark = λ i l. rw same;
+          tick = λ i l. rw same;
           note = λ i l. refl;
         }
-    go none h = record { import = jsDocImport.Backtrace; is = record { answer = refl; bounds = tt }; mark = λ i l. refl; note = λ i l. refl }
+    go none h = record { import = jsDocImport.Backtrace; is = record { answer = refl; bounds = tt }; tick = λ i l. refl; note = λ i l. refl }
 
--- so one turn marks what the parser reads
+-- so one turn ticks what the parser reads
 turned : {R : Bytes → Bytes → Bytes → Mode → Type 0} {p : Parser Hit} → Kind R p → (b : Bytes) (n : ℕ) → n < length b → {P : ℕ → Mode → Type 0} {l : List ℕ}
-    → Marks P (length b) l → ((q : ℕ) (m : Mode) → P q m → Listed b q m)
-    → Marks (λ q m. P q m ⊎ From R b n q m) (length b) (markAt n (drop n b) (value (p (drop n b))) l)
-turned K b n h {l = l} k listed = let a = answered K (drop n b) in rw (a .mark n l) at (marks-turn K b n h k listed (a .import) (a .is))
+    → Ticks P (length b) l → ((q : ℕ) (m : Mode) → P q m → Listed b q m)
+    → Ticks (λ q m. P q m ⊎ From R b n q m) (length b) (tickAt n (drop n b) (value (p (drop n b))) l)
+turned K b n h {l = l} k listed = let a = answered K (drop n b) in rw (a .tick n l) at (ticks-turn K b n h k listed (a .import) (a .is))
 
 module _ (b : Bytes) where
   on : (n q : ℕ) (m : Mode) → (Before Reading b n q m ⊎ From Brace b n q m) ⊎ From Declaration b n q m → Before Reading b (suc n) q m
@@ -75,12 +75,12 @@ module _ (b : Bytes) where
       go (yes e) = let g = rw e at f in ⊎-elim (λ r. inl (inr r)) inr (kind g (g .reads))
       go (no e) = inl (inl (k, omega arith, f))
 
-  listing-by : (n : ℕ) → n ≤ length b → Marks (Before Reading b n) (length b) (listingBy n b)
-  listing-by zero h = marks-none b
+  listing-by : (n : ℕ) → n ≤ length b → Ticks (Before Reading b n) (length b) (listingBy n b)
+  listing-by zero h = ticks-none b
   listing-by (suc n) h =
-      marks-iff (on n) (back n)
+      ticks-iff (on n) (back n)
       (turned declarations b n h (turned braces b n h (listing-by n (omega arith)) (λ q m f. (f .0, f .2))) (λ q m f. let g = on n q m (inl f) in (g .0, g .2)))
 
-  pub listing-marks : Marks (Listed b) (length b) (listing b)
+  pub listing-ticks : Ticks (Listed b) (length b) (listing b)
   unfolding listing
-  listing-marks = marks-iff (λ q m f. (f .0, f .2)) (λ q m f. (f .0, from-below (f .1), f .1)) (listing-by (length b) (omega arith))
+  listing-ticks = ticks-iff (λ q m f. (f .0, f .2)) (λ q m f. (f .0, from-below (f .1), f .1)) (listing-by (length b) (omega arith))

@@ -10,7 +10,7 @@ use lib.Seq.{getD-set-same, getD-set-other, ext-getD}
 use borrow.Author.Tests.{eq-eqb, ne-eqb}
 use Rattle.jsdoc.specs.Origins.{noteAt}
 use Rattle.jsdoc.specs.code.Origins.{Origins}
-use Rattle.jsdoc.proofs.Marked.{zeros}
+use Rattle.jsdoc.proofs.Ticked.{zeros}
 
 -- more places that read, and none of them first
 pub origins-more : {P R : ℕ → ℕ → Type 0} {n : ℕ} {l : List ℕ} → ((k q : ℕ) → P k q → R k q) → ((k q : ℕ) → R k q → (j : ℕ) × (j ≤ k) × P j q)

@@ -20,10 +20,10 @@ use Rattle.jsdoc.specs.declared.answers.JsDocImport.{JsDocImport}
 use Rattle.jsdoc.specs.declared.answers.JsDocImport.the-variants as jsDocImport
 use Rattle.jsdoc.specs.declared.answers.Searched.{Searched}
 use Rattle.jsdoc.proofs.Apart.{never-both}
-use Rattle.jsdoc.proofs.Places.{with-kind}
+use Rattle.jsdoc.proofs.ReadingPlace.{with-kind}
 use Rattle.jsdoc.proofs.Searches.{search-goes-on}
 use Rattle.jsdoc.proofs.Noted.{origins-more, origins-note, origins-nothing}
-use Rattle.jsdoc.proofs.Marking.{Kind, braces, declarations, found, only-one, place-below, from-below, passed, searched}
+use Rattle.jsdoc.proofs.Ticking.{Kind, braces, declarations, found, only-one, place-below, from-below, passed, searched}
 use Rattle.jsdoc.proofs.Skips.{no-at}
 
 module _ {R : Bytes → Bytes → Bytes → Mode → Type 0} {p : Parser Hit} (K : Kind R p) (b : Bytes) (i : ℕ) (h : i < length b) where

@@ -12,8 +12,8 @@ use Rattle.jsdoc.specs.Parsed.{Parser, value}
 use Rattle.jsdoc.specs.Reader.{Hit}
 use Rattle.jsdoc.specs.Origins.{noteOf, openersBy, openers}
 use Rattle.jsdoc.specs.code.Origins.{Origins, ReadsBy}
-use Rattle.jsdoc.proofs.Places.{with-kind}
-use Rattle.jsdoc.proofs.Marking.{Kind, braces, declarations, from-below}
+use Rattle.jsdoc.proofs.ReadingPlace.{with-kind}
+use Rattle.jsdoc.proofs.Ticking.{Kind, braces, declarations, from-below}
 use Rattle.jsdoc.proofs.Listing.{answered}
 use Rattle.jsdoc.proofs.Noted.{origins-more}
 use Rattle.jsdoc.proofs.Noting.{Early, early-none, origins-turn}

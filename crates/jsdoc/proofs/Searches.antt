@@ -10,7 +10,7 @@ use lib.ListN.{length, drop, getD, length-drop, drop-of-length-le}
 use lib.Seq.{drop-drop}
 use lib.Dec.{eqb}
 use borrow.Author.Tests.{ne-eqb}
-use Rattle.laws.specs.Quoted.{ascii}
+use Rattle.laws.specs.Ascii.{ascii}
 use Rattle.text.specs.Bytes.{begins}
 use Rattle.jsdoc.specs.Grammar.{Bytes}
 use Rattle.jsdoc.specs.Parsed.{ok, backtrace, value}

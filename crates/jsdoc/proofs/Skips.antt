@@ -12,14 +12,14 @@ use Rattle.jsdoc.specs.Grammar.{Bytes, Brace}
 use Rattle.jsdoc.specs.Parsed.{value}
 use Rattle.jsdoc.specs.Reader.{tag, parseJsdocImportDecl}
 use Rattle.jsdoc.specs.code.Answers.{Imports}
-use Rattle.jsdoc.specs.code.Marks.{Marks}
+use Rattle.jsdoc.specs.code.Ticks.{Ticks}
 use Rattle.jsdoc.specs.declared.answers.JsDocImport.the-variants as jsDocImport
-use Rattle.jsdoc.proofs.Marking.{Before, Besides, no-brace-turn, declaration-turn}
+use Rattle.jsdoc.proofs.Ticking.{Before, Besides, no-brace-turn, declaration-turn}
 use Rattle.jsdoc.proofs.Steps.{cons-at}
 
 module _ (b : Bytes) (i r : ℕ) (l : i ≤ r) (h : r ≤ length b) {t : List ℕ} where
-  pub braces-skip : ((k : ℕ) → i ≤ k → k < r → getD b k 0 ≡ code "{" → ⊥) → Marks (Before Brace b i) (length b) t → Marks (Before Brace b r) (length b) t
-  braces-skip f m = carried-to (λ k. Marks (Before Brace b k) (length b) t) i r l m (λ k g n p. no-brace-turn b k p (omega arith) (f k g n))
+  pub braces-skip : ((k : ℕ) → i ≤ k → k < r → getD b k 0 ≡ code "{" → ⊥) → Ticks (Before Brace b i) (length b) t → Ticks (Before Brace b r) (length b) t
+  braces-skip f m = carried-to (λ k. Ticks (Before Brace b k) (length b) t) i r l m (λ k g n p. no-brace-turn b k p (omega arith) (f k g n))
 
 -- where no `@` stands, no declaration begins
 pub no-at : (b : Bytes) (k : ℕ) → k < length b → (getD b k 0 ≡ code "@" → ⊥)
@@ -28,9 +28,9 @@ unfolding parseJsdocImportDecl tag begins
 no-at b k l n = record { answer = rw (cons-at b k l, ne-eqb (getD b k 0) (code "@") n); bounds = tt }
 
 module _ (b : Bytes) (i r : ℕ) (l : i ≤ r) (h : r ≤ length b) {t : List ℕ} where
-  pub declarations-skip : ((k : ℕ) → i ≤ k → k < r → getD b k 0 ≡ code "@" → ⊥) → Marks (Besides b i) (length b) t → Marks (Besides b r) (length b) t
+  pub declarations-skip : ((k : ℕ) → i ≤ k → k < r → getD b k 0 ≡ code "@" → ⊥) → Ticks (Besides b i) (length b) t → Ticks (Besides b r) (length b) t
   declarations-skip f m =
-      carried-to (λ k. Marks (Besides b k) (length b) t) i r l m
+      carried-to (λ k. Ticks (Besides b k) (length b) t) i r l m
       (λ k g n p.
       let u : k < length b = omega arith in
       declaration-turn b k p u jsDocImport.Backtrace (no-at b k u (f k g n)))

@@ -8,7 +8,7 @@ use mathlib.Core.Option.{Option}
 use Prim.Native.Nat.{ℕ, _≤_, _<_}
 use Prim.Native.Char.{code}
 use lib.ListN.{length, drop}
-use Rattle.laws.specs.Quoted.{ascii}
+use Rattle.laws.specs.Ascii.{ascii}
 use Rattle.text.specs.declared.class.Class.{Class}
 use Rattle.text.specs.declared.class.Class.the-variants.{White, Alphabetic, NameRest}
 use Rattle.text.specs.Characters.{OneOf}
@@ -103,7 +103,7 @@ pub record ToImport (s t : Bytes) : Type 0 where
   pub first : (k : ℕ) → k < length run → (r : Bytes) → drop k s ≡ ascii "import" ++ r → ⊥
 
 -- `,` W* `{` W* `with` W* `:` W* Block W* `}` W*
-pub record Part (mode : Mode) (s t : Bytes) : Type 0 where
+pub record SecondParam (mode : Mode) (s t : Bytes) : Type 0 where
   pub r1 : Bytes
   pub r2 : Bytes
   pub r3 : Bytes
@@ -125,7 +125,7 @@ pub record Tail (mode : Mode) (s t : Bytes) : Type 0 where
   pub r3 : Bytes
   pub run : Bytes
   pub white : W* s r1
-  pub part : Part mode r1 r2 ⊎ ((mode ≡ Option.none) × (r1 ≡ r2))
+  pub part : SecondParam mode r1 r2 ⊎ ((mode ≡ Option.none) × (r1 ≡ r2))
   pub paren : r2 ≡ ascii ")" ++ r3
   pub rest : Upto (code "}") run r3 t
 

@@ -1,4 +1,4 @@
-// The imports of a body, by marks over it.
+// The imports of a body, by ticks over it.
 use super::answers::JsDocImport;
 use super::dynamic_import::parse_jsdoc_dynamic_import;
 use super::import_decl::parse_jsdoc_import_decl;
@@ -7,24 +7,24 @@ use text::bytes::next_of;
 ghost use mathlib.Core.Path.{_≡_};
 ghost use lib.ListN.{length, replicate};
 ghost use Rattle.jsdoc.specs.Grammar.{Brace, ListedBy, Listed};
-ghost use Rattle.jsdoc.specs.code.Marks.{Marks};
-ghost use Rattle.jsdoc.specs.code.Answers.{Room, marked};
+ghost use Rattle.jsdoc.specs.code.Ticks.{Ticks};
+ghost use Rattle.jsdoc.specs.code.Answers.{Room, ticked};
 
-// Clears the marks.
-pub fn clear(marks: &mut [u8])
-    ensures { λ _. ⌜ now (marks .exit) ≡ replicate (length (now (marks .entry))) 0 ⌝ }
+// Clears the ticks.
+pub fn clear(ticks: &mut [u8])
+    ensures { λ _. ⌜ now (ticks .exit) ≡ replicate (length (now (ticks .entry))) 0 ⌝ }
 {
     let mut i = 0;
-    while i < marks.len() {
-        marks[i] = 0;
+    while i < ticks.len() {
+        ticks[i] = 0;
         i += 1;
     }
 }
 
-// Marks the place of an import that was found from `base` on.
-fn mark(marks: &mut [u8], base: usize, found: JsDocImport)
-    requires { ⌜ Room (length (now marks)) base found ⌝ }
-    ensures { λ r. ⌜ now (marks .exit) ≡ marked base found (now (marks .entry)) ⌝ }
+// Ticks the place of an import that was found from `base` on.
+fn tick(ticks: &mut [u8], base: usize, found: JsDocImport)
+    requires { ⌜ Room (length (now ticks)) base found ⌝ }
+    ensures { λ r. ⌜ now (ticks .exit) ≡ ticked base found (now (ticks .entry)) ⌝ }
 {
     match found {
         JsDocImport::Import {
@@ -32,23 +32,23 @@ fn mark(marks: &mut [u8], base: usize, found: JsDocImport)
             end: _,
             mode,
         } => {
-            marks[base + start] = mode_number(mode) + 1;
+            ticks[base + start] = mode_number(mode) + 1;
         }
         JsDocImport::Backtrace => {}
     }
 }
 
-// Marks the readings from the braces. The next brace to look at is the first from where the search ended, so that each byte is searched once.
-fn mark_braces(body: &[u8], marks: &mut [u8])
-    requires { ⌜ now marks ≡ replicate (length (now body)) 0 ⌝ }
-    ensures { λ r. ⌜ Marks (ListedBy Brace (now (body .entry))) (length (now (body .entry))) (now (marks .exit)) ⌝ }
+// Ticks the readings from the braces. The next brace to look at is the first from where the search ended, so that each byte is searched once.
+fn tick_braces(body: &[u8], ticks: &mut [u8])
+    requires { ⌜ now ticks ≡ replicate (length (now body)) 0 ⌝ }
+    ensures { λ r. ⌜ Ticks (ListedBy Brace (now (body .entry))) (length (now (body .entry))) (now (ticks .exit)) ⌝ }
 {
     let mut i = 0;
     while i < body.len() {
         if body[i] == b'{' {
             let read = parse_jsdoc_dynamic_import(&body[i..]);
             let found = read.found;
-            mark(marks, i, found);
+            tick(ticks, i, found);
             i += read.end;
         } else {
             i = next_of(body, i + 1, b'{');
@@ -56,24 +56,24 @@ fn mark_braces(body: &[u8], marks: &mut [u8])
     }
 }
 
-// Marks the readings from each `@import`.
-fn mark_declarations(body: &[u8], marks: &mut [u8])
-    requires { ⌜ Marks (ListedBy Brace (now body)) (length (now body)) (now marks) ⌝ }
-    ensures { λ r. ⌜ Marks (Listed (now (body .entry))) (length (now (body .entry))) (now (marks .exit)) ⌝ }
+// Ticks the readings from each `@import`.
+fn tick_declarations(body: &[u8], ticks: &mut [u8])
+    requires { ⌜ Ticks (ListedBy Brace (now body)) (length (now body)) (now ticks) ⌝ }
+    ensures { λ r. ⌜ Ticks (Listed (now (body .entry))) (length (now (body .entry))) (now (ticks .exit)) ⌝ }
 {
     let mut i = 0;
     while i < body.len() {
-        mark(marks, i, parse_jsdoc_import_decl(&body[i..]));
+        tick(ticks, i, parse_jsdoc_import_decl(&body[i..]));
         i = next_of(body, i + 1, b'@');
     }
 }
 
-// Marks each place of `body` at which the place of a reading begins with 1 + the number of its mode, and each other with 0.
-pub fn mark_imports(body: &[u8], marks: &mut [u8])
-    requires { ⌜ length (now marks) ≡ length (now body) ⌝ }
-    ensures { λ r. ⌜ Marks (Listed (now (body .entry))) (length (now (body .entry))) (now (marks .exit)) ⌝ }
+// Ticks each place of `body` at which the place of a reading begins with 1 + the number of its mode, and each other with 0.
+pub fn tick_imports(body: &[u8], ticks: &mut [u8])
+    requires { ⌜ length (now ticks) ≡ length (now body) ⌝ }
+    ensures { λ r. ⌜ Ticks (Listed (now (body .entry))) (length (now (body .entry))) (now (ticks .exit)) ⌝ }
 {
-    clear(marks);
-    mark_braces(body, marks);
-    mark_declarations(body, marks);
+    clear(ticks);
+    tick_braces(body, ticks);
+    tick_declarations(body, ticks);
 }

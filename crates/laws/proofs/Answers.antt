@@ -62,16 +62,16 @@ answers-kept =
     }
 
 -- of a refusal nothing need hold
-abbrev pub Reads : {A : Type 0} → (A → Type 0) → Decoder A → Type 0
-Reads P d = Answers P (λ r. Unit {0}) d
+abbrev pub Yields : {A : Type 0} → (A → Type 0) → Decoder A → Type 0
+Yields P d = Answers P (λ r. Unit {0}) d
 
 -- nor of a value
-pub anything : {A : Type 0} (d : Decoder A) → Reads (λ (a : A). Unit {0}) d
+pub anything : {A : Type 0} (d : Decoder A) → Yields (λ (a : A). Unit {0}) d
 anything {A} d = record { at = λ s. go (d s) }
   where
     go : (x : Decoded A) → Answer (λ (a : A). Unit {0}) (λ r. Unit {0}) x
     go (ok a t) = tt
     go (no r) = tt
 
-pub behind : {A C : Type 0} {P : A → Type 0} (d : Decoder C) {f : C → Decoder A} → ((c : C) → Reads P (f c)) → Reads P (d >>= f)
+pub behind : {A C : Type 0} {P : A → Type 0} (d : Decoder C) {f : C → Decoder A} → ((c : C) → Yields P (f c)) → Yields P (d >>= f)
 behind d h = with (anything d) (λ c p. h c)

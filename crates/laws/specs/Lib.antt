@@ -1,6 +1,6 @@
 pub mod Codec
 pub mod Decoded
-pub mod Quoted
+pub mod Ascii
 pub mod Ordered
 pub mod Aligned
 pub mod code

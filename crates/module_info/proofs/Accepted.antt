@@ -24,16 +24,16 @@ use Rattle.sheet.specs.Fit.{Fit}
 use Rattle.sheet.specs.Walk.{Visit, startOf, visits}
 use Rattle.sheet.specs.Sheet.{Sheet, accept}
 use Rattle.sheet.specs.Judge.{judge}
-use Rattle.sheet.proofs.Rows.{rows-length}
+use Rattle.sheet.proofs.TableRows.{rows-length}
 use Rattle.sheet.proofs.Reaches.{walk-right}
 use Rattle.sheet_codec.specs.Limits.{FieldsFit}
 use Rattle.sheet_codec.specs.SheetOf.{SheetOf}
 use Rattle.sheet_codec.proofs.Sheets.{accepts-exactly}
 use Rattle.sheet_codec.proofs.Quotations.{strings-quoted}
 use Rattle.sheet_codec.proofs.Refusals.{passes, Decision, decided, cut-off, judged-sheet, judged-refusal}
-use Rattle.accept.specs.declared.check.Parts.{Parts}
-use Rattle.accept.specs.code.Accepts.{Accepts}
-use Rattle.accept.proofs.Lent.{part-length, renewed, part-renewed, front-kept, length-kept}
+use Rattle.sheet_check.specs.declared.check.Parts.{Parts}
+use Rattle.sheet_check.specs.code.Accepts.{Accepts}
+use Rattle.sheet_check.proofs.Lent.{part-length, renewed, part-renewed, front-kept, length-kept}
 use Rattle.report.specs.declared.writer.Outcome.{Outcome}
 use Rattle.report.specs.Range.{IndexOf}
 use Rattle.report.specs.Answer.{outcomeAs, refusedWith, fitted}
@@ -45,12 +45,12 @@ use Rattle.pragmas.specs.Texts.{TypesShown, typesOf, Texts}
 use Rattle.pragmas.specs.code.Held.{Held}
 use Rattle.pragmas.proofs.Present.{present, types-present}
 use Rattle.pragmas.proofs.Texts.{types-shown, texts}
-use Rattle.listing.specs.Demand.{OnlyRight}
-use Rattle.listing.proofs.Right.{only-right}
+use Rattle.jsdoc_list.specs.Demand.{OnlyRight}
+use Rattle.jsdoc_list.proofs.ImportsRight.{only-right}
 use Rattle.dep.specs.Collect.{entryOf}
 use Rattle.dep.specs.InTurn.{InTurn, Worded, EntryOf}
 use Rattle.dep.proofs.Turns.{turn-member, turns-with, collect-turns}
-use Rattle.dep.proofs.Right.{attributes-right}
+use Rattle.dep.proofs.EntryAttributes.{attributes-right}
 use Rattle.module_info.specs.Information.{moduleInfo, defaultInfo, answerOf}
 use Rattle.module_info.specs.code.Pieces.{PartsOf, RootOf, HeldBy, AcceptsIn}
 use Rattle.module_info.specs.Empty.{EmptyRight}

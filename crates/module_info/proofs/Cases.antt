@@ -6,7 +6,7 @@ use mathlib.Core.Option.{Option}
 use Prim.Native.Nat.{ℕ, _+_}
 use Prim.Native.String.{String}
 use lib.ListN.{length}
-use Rattle.laws.specs.Quoted.{ascii}
+use Rattle.laws.specs.Ascii.{ascii}
 use Rattle.text.specs.Ranges.{inRanges}
 use Rattle.text.specs.Utf8.{admits, lengthBy, charLength, codeBy, charAt}
 use Rattle.text.specs.Alphabetic.{alphabetic}
@@ -34,7 +34,7 @@ use Rattle.report.specs.ModuleInfo.{SpecifierWithRange, TypeScriptReference, pa
 use Rattle.report.specs.ModuleInfo as info
 use Rattle.pragmas.specs.Readings.{placeIn, specifierIn, readBy, firstOf, lastOf, allOf}
 use Rattle.pragmas.specs.Pragmas.{headComments, endComments, modeIn, reference, referencesIn, firstBy, lastBy, tsOrDenoTypes, typesIn, typesAt}
-use Rattle.listing.specs.Imports.{markedBy, markedByAll, importAt, importsFrom, jsdocImports}
+use Rattle.jsdoc_list.specs.Imports.{tickedBy, tickedByAll, importAt, importsFrom, jsdocImports}
 use Rattle.module_info.specs.Information.{moduleInfo}
 
 -- a text, from one column of the first line to another
@@ -124,9 +124,9 @@ computed (jsxSource body x) = computedIn Block (jsxSource body x)
 computed (sourceMap body x) = computedIn Line (sourceMap body x)
 
 as-stated : map computed table ≡ table
-unfolding table sheetOf flatMap inRanges admits lengthBy charLength codeBy charAt alphabetic outside ranges member classAt run begins same step walk positionOf modeOf foldCase letterAt wordAt ends all first places find placeOf skip skipWhitespace whitespace tag word upTo isMark parseQuote pastIdent parseIdent parseKey attributeMode parseAttribute firstMode comma separatedListBy separatedList parseImportAttributeBlockForResolutionMode secondParamStart parseSecondParamObjWithLeadingComma closeCall parseTail seek parseCall parseJsdocDynamicImport skipNamedImports skipDefaultImport skipNamespaceImport skipClause parseAttributes parseFrom parseJsdocImportDecl listing groupAt headGroup bodySpan placeIn specifierIn readBy firstOf lastOf allOf headComments endComments modeIn reference referencesIn firstBy lastBy tsOrDenoTypes typesIn markedBy markedByAll importAt importsFrom jsdocImports moduleInfo
+unfolding table sheetOf flatMap inRanges admits lengthBy charLength codeBy charAt alphabetic outside ranges member classAt run begins same step walk positionOf modeOf foldCase letterAt wordAt ends all first places find placeOf skip skipWhitespace whitespace tag word upTo isMark parseQuote pastIdent parseIdent parseKey attributeMode parseAttribute firstMode comma separatedListBy separatedList parseImportAttributeBlockForResolutionMode secondParamStart parseSecondParamObjWithLeadingComma closeCall parseTail seek parseCall parseJsdocDynamicImport skipNamedImports skipDefaultImport skipNamespaceImport skipClause parseAttributes parseFrom parseJsdocImportDecl listing groupAt headGroup bodySpan placeIn specifierIn readBy firstOf lastOf allOf headComments endComments modeIn reference referencesIn firstBy lastBy tsOrDenoTypes typesIn tickedBy tickedByAll importAt importsFrom jsdocImports moduleInfo
 as-stated = refl
 
 html-as-stated : (map (computedIn HtmlOpen) (html 4) ≡ html 4) × (map (computedIn HtmlClose) (html 3) ≡ html 3)
-unfolding html sheetOf flatMap inRanges admits lengthBy charLength codeBy charAt alphabetic outside ranges member classAt run begins same step walk positionOf modeOf foldCase letterAt wordAt ends all first places find placeOf skip skipWhitespace whitespace tag word upTo isMark parseQuote pastIdent parseIdent parseKey attributeMode parseAttribute firstMode comma separatedListBy separatedList parseImportAttributeBlockForResolutionMode secondParamStart parseSecondParamObjWithLeadingComma closeCall parseTail seek parseCall parseJsdocDynamicImport skipNamedImports skipDefaultImport skipNamespaceImport skipClause parseAttributes parseFrom parseJsdocImportDecl listing groupAt headGroup bodySpan placeIn specifierIn readBy firstOf lastOf allOf headComments endComments modeIn reference referencesIn firstBy lastBy tsOrDenoTypes typesIn markedBy markedByAll importAt importsFrom jsdocImports moduleInfo
+unfolding html sheetOf flatMap inRanges admits lengthBy charLength codeBy charAt alphabetic outside ranges member classAt run begins same step walk positionOf modeOf foldCase letterAt wordAt ends all first places find placeOf skip skipWhitespace whitespace tag word upTo isMark parseQuote pastIdent parseIdent parseKey attributeMode parseAttribute firstMode comma separatedListBy separatedList parseImportAttributeBlockForResolutionMode secondParamStart parseSecondParamObjWithLeadingComma closeCall parseTail seek parseCall parseJsdocDynamicImport skipNamedImports skipDefaultImport skipNamespaceImport skipClause parseAttributes parseFrom parseJsdocImportDecl listing groupAt headGroup bodySpan placeIn specifierIn readBy firstOf lastOf allOf headComments endComments modeIn reference referencesIn firstBy lastBy tsOrDenoTypes typesIn tickedBy tickedByAll importAt importsFrom jsdocImports moduleInfo
 html-as-stated = (refl, refl)

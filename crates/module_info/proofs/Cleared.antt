@@ -1,4 +1,4 @@
--- The front of cleared marks.
+-- The front of cleared ticks.
 use mathlib.Core.Path.{_≡_, refl, ap, _∙_}
 use mathlib.Core.List.{List, _∷_}
 use Prim.Native.Nat.{ℕ, zero, suc, _≤_}
@@ -12,5 +12,5 @@ take-zeros n zero h = refl
 take-zeros zero (suc k) h = absurd (omega (arith, h))
 take-zeros (suc n) (suc k) h = ap (0 ∷_) (take-zeros n k (omega (arith, h)))
 
-pub front-cleared : (marks : List ℕ) (k : ℕ) → marks ≡ replicate (length marks) 0 → k ≤ length marks → part marks 0 k ≡ replicate k 0
-front-cleared marks k e h = rw sub-zero (ap (take k) e ∙ take-zeros (length marks) k h)
+pub front-cleared : (ticks : List ℕ) (k : ℕ) → ticks ≡ replicate (length ticks) 0 → k ≤ length ticks → part ticks 0 k ≡ replicate k 0
+front-cleared ticks k e h = rw sub-zero (ap (take k) e ∙ take-zeros (length ticks) k h)

@@ -28,7 +28,7 @@ use Rattle.report.specs.Valid.{Valid}
 use Rattle.report.proofs.ReadBack.{report-back}
 use Rattle.pragmas.specs.Readings.{firstOf, lastOf, allOf}
 use Rattle.pragmas.specs.Pragmas.{headComments, endComments, referencesIn, firstBy, lastBy}
-use Rattle.listing.specs.Imports.{markedByAll, importsFrom, jsdocImports}
+use Rattle.jsdoc_list.specs.Imports.{tickedByAll, importsFrom, jsdocImports}
 use Rattle.dep.specs.Collect.{collector}
 use Rattle.module_info.specs.Information.{moduleInfo, defaultInfo}
 use Rattle.module_info.specs.Empty.{EmptyRight}
@@ -51,7 +51,7 @@ unfolding formed byte below numbered flag bytes lastGroup Rattle.wire.specs.Num
 accepted = refl
 
 its-information : moduleInfo smallest ≡ defaultInfo
-unfolding groupAt headGroup flatMap firstOf lastOf allOf headComments endComments referencesIn firstBy lastBy markedByAll importsFrom jsdocImports collector moduleInfo
+unfolding groupAt headGroup flatMap firstOf lastOf allOf headComments endComments referencesIn firstBy lastBy tickedByAll importsFrom jsdocImports collector moduleInfo
 its-information = refl
 
 -- flag, count, count, flag, flag, flag, count, flag

@@ -3,7 +3,7 @@ use mathlib.Core.Path.{_≡_, refl}
 use mathlib.Core.List.{List, [], _∷_, _++_, flatMap}
 use Prim.Native.Nat.{ℕ, _-_, _≤_}
 use borrow.Author.Tests.{le-leb}
-use Rattle.laws.specs.Quoted.{ascii}
+use Rattle.laws.specs.Ascii.{ascii}
 use Rattle.text.specs.Utf8.{admits, lengthBy, charLength, codeBy, charAt, formed}
 use Rattle.text.specs.Ranges.{inRanges}
 use Rattle.text.specs.Class.{outside, ranges, member, classAt, run}
@@ -26,7 +26,7 @@ use Rattle.report.specs.Encode.{encodeList, encodePosition, encodeRange, encode
 use Rattle.report.specs.Answer.{zeros, fitted}
 use Rattle.pragmas.specs.Readings.{firstOf, lastOf, allOf}
 use Rattle.pragmas.specs.Pragmas.{headComments, endComments, referencesIn, firstBy, lastBy}
-use Rattle.listing.specs.Imports.{markedBy, markedByAll, importAt, importsFrom, jsdocImports}
+use Rattle.jsdoc_list.specs.Imports.{tickedBy, tickedByAll, importAt, importsFrom, jsdocImports}
 use Rattle.dep.specs.Collect.{collector}
 use Rattle.module_info.specs.Information.{moduleInfo, answerOf}
 
@@ -46,7 +46,7 @@ report =
     ∷ 0 ∷ [])  -- no source map
 
 computed : (size : ℕ) → answerOf example size ≡ fitted size report
-unfolding admits lengthBy charLength codeBy charAt formed inRanges outside ranges member classAt run begins step walk positionOf byte below numbered flag bytes lastGroup Rattle.wire.specs.Number.groups number encodeGroups encodeNumber count text encodeText skip skipWhitespace Rattle.jsdoc.specs.Reader.tag word upTo isMark parseQuote secondParamStart parseSecondParamObjWithLeadingComma closeCall parseTail seek parseCall parseJsdocDynamicImport parseJsdocImportDecl listing isBoundary position endFrom span enclosed marked comment group covered chained optional program many Rattle.sheet.specs.Nodes.tag nodes otherFields fields node groupAt headGroup bodySpan sheet decodeSheet accept judge encodeOptional flatMap encodeList encodePosition encodeRange encodeSpecifier encodeJsDoc encode firstOf lastOf allOf headComments endComments referencesIn firstBy lastBy markedBy markedByAll importAt importsFrom jsdocImports collector moduleInfo answerOf
+unfolding admits lengthBy charLength codeBy charAt formed inRanges outside ranges member classAt run begins step walk positionOf byte below numbered flag bytes lastGroup Rattle.wire.specs.Number.groups number encodeGroups encodeNumber count text encodeText skip skipWhitespace Rattle.jsdoc.specs.Reader.tag word upTo isMark parseQuote secondParamStart parseSecondParamObjWithLeadingComma closeCall parseTail seek parseCall parseJsdocDynamicImport parseJsdocImportDecl listing isBoundary position endFrom span enclosed marked comment group covered chained optional program many Rattle.sheet.specs.Nodes.tag nodes otherFields fields node groupAt headGroup bodySpan sheet decodeSheet accept judge encodeOptional flatMap encodeList encodePosition encodeRange encodeSpecifier encodeJsDoc encode firstOf lastOf allOf headComments endComments referencesIn firstBy lastBy tickedBy tickedByAll importAt importsFrom jsdocImports collector moduleInfo answerOf
 computed size = refl
 
 -- in any buffer that can hold it: number 0, the report's length and bytes, and zeros behind them

@@ -31,15 +31,15 @@ use Rattle.report.specs.ModuleInfo as info
 use Rattle.report.specs.Texts.{Reports, PairTexts, AttributeTexts, ArgumentTexts, DependencyTexts, SpecifierText}
 use Rattle.report.specs.Valid.{Short, ValidSpecifier, ValidAttributes, ValidArgument, ValidDependency}
 use Rattle.report.proofs.Ranges.{range-valid}
-use Rattle.report.proofs.Places.{range-at}
+use Rattle.report.proofs.RangesApart.{range-at}
 use Rattle.report.proofs.Stands.{Good}
 use Rattle.attributes.specs.Attributes.{Prop, keyless, keyed, props}
 use Rattle.attributes.specs.Right.{Value, PairsOf, StaticOf, ObjectOf, TypeOf, Holds, SecondOf, DynamicOf}
-use Rattle.attributes.proofs.Right.{last-among, pairs-few, static-right, type-right, dynamic-right}
+use Rattle.attributes.proofs.ReadingsRight.{last-among, pairs-few, static-right, type-right, dynamic-right}
 use Rattle.arguments.specs.Argument.{pieceParts, templateParts, ofPieces, operand, appended, chain, ofChain, ofShape, argumentOf}
 use Rattle.dep.specs.Collect.{importKind, exportKind, equalsKind, dynamicKind, staticEntry, callEntry, moduleEntry, entryOf}
 use Rattle.dep.specs.InTurn.{Specifies, Argues, Worded}
-use Rattle.dep.proofs.Right.{all-if}
+use Rattle.dep.proofs.EntryAttributes.{all-if}
 use Rattle.module_info.proofs.Inside.{walked-fits, walked-bytes}
 
 -- ---- texts

@@ -24,8 +24,8 @@ use Rattle.pragmas.specs.Pragmas.{typesAt}
 use Rattle.pragmas.specs.Present.{Present}
 use Rattle.pragmas.specs.Texts.{ShownInMarks, ShownBare, TypesShown, Texts}
 use Rattle.pragmas.proofs.Valid.{marks-shown, bare-shown, types-shown-good, GoodReference, references-good, references-few}
-use Rattle.listing.specs.Demand.{JsDocRight}
-use Rattle.listing.proofs.Valid.{imports-good, imports-few}
+use Rattle.jsdoc_list.specs.Demand.{JsDocRight}
+use Rattle.jsdoc_list.proofs.Valid.{imports-good, imports-few}
 use Rattle.dep.specs.Collect.{entryOf}
 use Rattle.dep.specs.InTurn.{InTurn, Worded}
 use Rattle.dep.proofs.Turns.{turn-member, turns-few, turns-with}

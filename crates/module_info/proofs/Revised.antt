@@ -20,17 +20,17 @@ use Rattle.sheet.specs.Recorded.{spans}
 use Rattle.sheet.specs.Revision.{Lacks, Revision}
 use Rattle.sheet.specs.Sheet.{Sheet}
 use Rattle.sheet.specs.Walk.{Visit, startOf, visits}
-use Rattle.sheet.proofs.Spans.{Reported, visits-reported}
+use Rattle.sheet.proofs.VisitSpans.{Reported, visits-reported}
 use Rattle.sheet.proofs.Revised.{Alike, Apart, characters-kept, units-kept, spans-apart, others-alike, group-alike}
 use Rattle.sheet_codec.specs.Limits.{FieldsFit}
 use Rattle.report.specs.ModuleInfo.{SpecifierWithRange}
 use Rattle.pragmas.specs.Pragmas.{inGroup, headComments, endComments, typesAt}
 use Rattle.pragmas.proofs.Texts.{comment-index}
 use Rattle.pragmas.proofs.Revised.{references-kept, self-types-kept, jsx-import-source-kept, jsx-import-source-types-kept, head-origins-kept, source-map-kept, end-origins-kept, types-kept, types-origins-kept}
-use Rattle.listing.specs.ByComment.{givenBy}
-use Rattle.listing.specs.Imports.{jsdocImports}
-use Rattle.listing.proofs.ByComment.{by-comment}
-use Rattle.listing.proofs.Revised.{given-kept, origins-kept}
+use Rattle.jsdoc_list.specs.ByComment.{givenBy}
+use Rattle.jsdoc_list.specs.Imports.{jsdocImports}
+use Rattle.jsdoc_list.proofs.ByComment.{by-comment}
+use Rattle.jsdoc_list.proofs.Revised.{given-kept, origins-kept}
 use Rattle.dep.specs.Collect.{entryOf, collect}
 use Rattle.dep.proofs.Revised.{collect-each, SameRange, entry-kept, rows-kept}
 use Rattle.module_info.specs.Information.{moduleInfo}

@@ -8,7 +8,7 @@ use Prim.Native.Nat.{ℕ}
 use Prim.Native.Char.{code}
 use native.Mathlib.Omega.{arith}
 use Rattle.laws.specs.Decoded.{ok}
-use Rattle.laws.specs.Quoted.{ascii}
+use Rattle.laws.specs.Ascii.{ascii}
 use Rattle.text.specs.Utf8.{admits, lengthBy, charLength, codeBy, charAt, formed}
 use Rattle.text.specs.Ranges.{inRanges}
 use Rattle.text.specs.Class.{outside, ranges, member, classAt, run}
@@ -34,7 +34,7 @@ use Rattle.sheet.specs.Revision.{Revision}
 use Rattle.sheet.specs.Sheet.{Sheet, sheet, decodeSheet, accept}
 use Rattle.sheet_codec.proofs.Sheets.{accepts-exactly}
 use Rattle.report.specs.ModuleInfo.{JsDocImportInfo}
-use Rattle.listing.specs.Imports.{markedBy, markedByAll, importAt, importsFrom, jsdocImports}
+use Rattle.jsdoc_list.specs.Imports.{tickedBy, tickedByAll, importAt, importsFrom, jsdocImports}
 use Rattle.module_info.specs.Information.{moduleInfo}
 use Rattle.module_info.specs.Unchanged.{Unchanged}
 use Rattle.module_info.proofs.Revised.{unchanged}
@@ -101,9 +101,9 @@ entry text from to = record {
 
 -- and what comes from it is not
 from-a : moduleInfo (sheetBy (code "a")) .jsdocImports ≡ entry (ascii "./a.ts") 12 20 ∷ entry (ascii "./b.ts") 39 47 ∷ []
-unfolding admits lengthBy charLength codeBy charAt inRanges outside ranges member classAt run begins step walk positionOf skip skipWhitespace Rattle.jsdoc.specs.Reader.tag word upTo isMark parseQuote secondParamStart parseSecondParamObjWithLeadingComma closeCall parseTail seek parseCall parseJsdocDynamicImport parseJsdocImportDecl listing bodySpan markedBy markedByAll importAt importsFrom jsdocImports moduleInfo
+unfolding admits lengthBy charLength codeBy charAt inRanges outside ranges member classAt run begins step walk positionOf skip skipWhitespace Rattle.jsdoc.specs.Reader.tag word upTo isMark parseQuote secondParamStart parseSecondParamObjWithLeadingComma closeCall parseTail seek parseCall parseJsdocDynamicImport parseJsdocImportDecl listing bodySpan tickedBy tickedByAll importAt importsFrom jsdocImports moduleInfo
 from-a = refl
 
 from-c : moduleInfo (sheetBy (code "c")) .jsdocImports ≡ entry (ascii "./c.ts") 12 20 ∷ entry (ascii "./b.ts") 39 47 ∷ []
-unfolding admits lengthBy charLength codeBy charAt inRanges outside ranges member classAt run begins step walk positionOf skip skipWhitespace Rattle.jsdoc.specs.Reader.tag word upTo isMark parseQuote secondParamStart parseSecondParamObjWithLeadingComma closeCall parseTail seek parseCall parseJsdocDynamicImport parseJsdocImportDecl listing bodySpan markedBy markedByAll importAt importsFrom jsdocImports moduleInfo
+unfolding admits lengthBy charLength codeBy charAt inRanges outside ranges member classAt run begins step walk positionOf skip skipWhitespace Rattle.jsdoc.specs.Reader.tag word upTo isMark parseQuote secondParamStart parseSecondParamObjWithLeadingComma closeCall parseTail seek parseCall parseJsdocDynamicImport parseJsdocImportDecl listing bodySpan tickedBy tickedByAll importAt importsFrom jsdocImports moduleInfo
 from-c = refl

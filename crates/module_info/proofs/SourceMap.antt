@@ -27,11 +27,11 @@ use Rattle.sheet.proofs.Bodies.{placed-body}
 use Rattle.sheet_codec.specs.Limits.{FieldsFit}
 use Rattle.sheet_codec.proofs.Sheets.{accepts-exactly}
 use Rattle.sheet_codec.proofs.Refusals.{Decision, decided, judged-sheet, judged-refusal}
-use Rattle.accept.specs.declared.check.Parts.{Parts}
-use Rattle.accept.proofs.Lent.{part-length}
+use Rattle.sheet_check.specs.declared.check.Parts.{Parts}
+use Rattle.sheet_check.proofs.Lent.{part-length}
 use Rattle.report.specs.ModuleInfo.{SpecifierWithRange}
-use Rattle.pragmas.specs.declared.readings.Reading.{Reading}
-use Rattle.pragmas.specs.declared.readings.Reading.the-variants as reading
+use Rattle.pragmas.specs.declared.readings.RuleRead.{RuleRead}
+use Rattle.pragmas.specs.declared.readings.RuleRead.the-variants as reading
 use Rattle.pragmas.specs.declared.readings.Counts.the-variants.{Last}
 use Rattle.pragmas.specs.declared.readings.Rule.the-variants.{StandardSourceMap}
 use Rattle.pragmas.specs.Readings.{specifierIn, lastOf}
@@ -104,7 +104,7 @@ module _ (s : List ℕ) where
     source = part s base end
 
     -- the text of a reading of the source is a part of the sheet
-    pub located-as : (r : Reading) → ReadIn source r → (mapAs s (located source base r) ≡ given (readAs source r)) × TextInside s (located source base r)
+    pub located-as : (r : RuleRead) → ReadIn source r → (mapAs s (located source base r) ≡ given (readAs source r)) × TextInside s (located source base r)
     unfolding specifierIn
     located-as reading.Nothing h = (refl, tt)
     located-as (reading.Of c k) h =
@@ -121,7 +121,7 @@ module _ (s : List ℕ) where
         (rw (size, place, ← in-sheet, ← in-source), (omega arith, omega arith))
 
 -- the last reading in the trailing group at the program's end is that of the sheet
-pub map-read : {t : Sheet} {source comments groups : List ℕ} {p : Parts} → PartsOf t source comments groups p → {f : Option Group} (r : Reading)
+pub map-read : {t : Sheet} {source comments groups : List ℕ} {p : Parts} → PartsOf t source comments groups p → {f : Option Group} (r : RuleRead)
     → f ≡ endGroup (programOf (p .program)) (groupsIn groups (p .groups))
     → takenAs r ≡ lastOf (takenBy StandardSourceMap source) (inGroup (commentsIn comments (p .comments)) f) → readAs source r ≡ standardMap t
 unfolding endComments readStandard standardMapIn

@@ -16,15 +16,15 @@ use Rattle.sheet.specs.Sheet.{Sheet}
 use Rattle.sheet.specs.code.Tables.{commentsIn, groupsIn}
 use Rattle.sheet.specs.code.Views.{programOf}
 use Rattle.sheet.specs.Lookups.{headGroup, endGroup}
-use Rattle.nodes.specs.code.Reach.{ReachesIn}
-use Rattle.accept.specs.declared.check.Parts.{Parts}
+use Rattle.sheet_nodes.specs.code.Reach.{ReachesIn}
+use Rattle.sheet_check.specs.declared.check.Parts.{Parts}
 use Rattle.report.specs.Encode.{encodeList, encodeSpecifier, encodeReference, encodeJsDoc, encodeDependency, encode}
 use Rattle.report.specs.Buffer.{Buffer, wrote}
 use Rattle.report.proofs.Buffers.{wrote-append, wrote-cons}
 use Rattle.pragmas.specs.Asks.{selfTypesRule, jsxImportSourceRule, jsxImportSourceTypesRule, sourceMapUrlRule}
 use Rattle.pragmas.specs.Readings.{readBy, lastOf}
 use Rattle.pragmas.specs.Pragmas.{inGroup, headComments, endComments, referencesIn, firstBy, lastBy, typesIn}
-use Rattle.listing.specs.Imports.{jsdocImports}
+use Rattle.jsdoc_list.specs.Imports.{jsdocImports}
 use Rattle.dep.specs.Collect.{collect, collectNoted}
 use Rattle.dep.specs.code.Notes.{allNoted}
 use Rattle.module_info.specs.Information.{moduleInfo}

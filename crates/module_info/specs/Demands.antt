@@ -17,7 +17,7 @@ use Rattle.report.specs.Encode.{encode}
 use Rattle.report.specs.Answer.{outcomeAs, fitted}
 use Rattle.pragmas.specs.Present.{Present}
 use Rattle.pragmas.specs.Texts.{Texts}
-use Rattle.listing.specs.Demand.{OnlyRight}
+use Rattle.jsdoc_list.specs.Demand.{OnlyRight}
 use Rattle.dep.specs.InTurn.{InTurn, EntryOf}
 use Rattle.module_info.specs.Information.{moduleInfo, answerOf}
 use Rattle.module_info.specs.Numbers.{NumberRight}

@@ -9,7 +9,7 @@ use Rattle.report.specs.ModuleInfo.{ModuleInfo}
 use Rattle.report.specs.Encode.{encode}
 use Rattle.report.specs.Answer.{Answer, refusedWith, fitted}
 use Rattle.pragmas.specs.Pragmas.{tsReferences, selfTypesSpecifier, jsxImportSource, jsxImportSourceTypes, sourceMapUrl, typesAt}
-use Rattle.listing.specs.Imports.{jsdocImports}
+use Rattle.jsdoc_list.specs.Imports.{jsdocImports}
 use Rattle.dep.specs.Collect.{collect}
 
 unfoldable pub moduleInfo : Sheet → ModuleInfo

@@ -15,8 +15,8 @@ use Rattle.report.specs.ModuleInfo.{SpecifierWithRange, DependencyDescriptor, J
 use Rattle.report.specs.Origin.{Origin}
 use Rattle.pragmas.specs.Pragmas.{headComments, endComments, typesAt}
 use Rattle.pragmas.specs.Origins.{headOrigins, endOrigins, typesOrigins}
-use Rattle.listing.specs.ByComment.{givenBy, ByComment}
-use Rattle.listing.specs.Origins.{originsOf}
+use Rattle.jsdoc_list.specs.ByComment.{givenBy, ByComment}
+use Rattle.jsdoc_list.specs.Origins.{originsOf}
 use Rattle.dep.specs.Collect.{numbersOf, entryOf}
 use Rattle.module_info.specs.Information.{moduleInfo}
 use Rattle.module_info.specs.Replaced.{noted}

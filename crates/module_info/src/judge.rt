@@ -1,10 +1,10 @@
 // What bytes are: none, a sheet that is refused, or one that is accepted. Each question that is asked of bytes begins here.
-use accept::check::Parts;
-use accept::check::SheetChecked;
-use accept::check::check_sheet;
 use sheet::limits::COMMENT_LIMIT;
 use sheet::limits::INDEX_START;
 use sheet::limits::TABLE_NUMBERS;
+use sheet_check::check::Parts;
+use sheet_check::check::SheetChecked;
+use sheet_check::check::check_sheet;
 use text::position::build_index;
 ghost use Prim.Native.Nat.{_≤_};
 ghost use lib.ListN.{length};
@@ -12,7 +12,7 @@ ghost use Rattle.laws.specs.code.Left.{Free};
 ghost use Rattle.laws.specs.code.Told.{Leaving};
 ghost use Rattle.sheet.specs.Limits.{tableNumbers};
 ghost use Rattle.sheet.specs.code.Tables.{commentsPart, groupsPart};
-ghost use Rattle.accept.specs.code.Accepts.{Accepts, Judges};
+ghost use Rattle.sheet_check.specs.code.Accepts.{Accepts, Judges};
 ghost use Rattle.module_info.specs.code.Pieces.{AcceptsIn, JudgesIn};
 
 // No bytes; the number of the first refusal that they meet; or the parts of an accepted sheet.

@@ -4,17 +4,16 @@ pub mod source_map;
 
 use self::judge::SheetJudged;
 use self::judge::judge;
-use accept::check::Parts;
 use dep::entries::Counts;
 use dep::walk::analyze_program_dependencies;
-use listing::imports::analyze_jsdoc_imports;
+use jsdoc_list::imports::analyze_jsdoc_imports;
 use pragmas::analyze_first;
 use pragmas::analyze_source_map_url;
 use pragmas::readings::Rule;
 use pragmas::references::analyze_ts_references;
 use report::lent::Writer;
 use report::writer::Outcome;
-use report::writer::Place;
+use report::writer::Pen;
 use report::writer::finish;
 use report::writer::refuse_all;
 use sheet::limits::GROUPS_START;
@@ -23,6 +22,7 @@ use sheet::limits::SOURCE_LIMIT;
 use sheet::limits::TABLE_NUMBERS;
 use sheet::lookups::end_group;
 use sheet::lookups::head_group;
+use sheet_check::check::Parts;
 use wire::Cursor;
 ghost use mathlib.Core.Path.{_≡_};
 ghost use mathlib.Core.List.{List, []};
@@ -49,8 +49,8 @@ fn put_dependencies(
     tables: &[u32; TABLE_NUMBERS],
     out: &mut [u8],
     notes: &mut [usize],
-    place: Place,
-) -> Place
+    place: Pen,
+) -> Pen
     requires { ⌜ HeldBy (now source) (now tables) parts ⌝ }
     ensures { λ r. ⌜ ((t : Sheet) → PartsIn t (now (source .entry)) (now (tables .entry)) parts → RootOf t (now (sheet .entry)) parts
         → (bufferAs (now (out .exit)) r ≡ wrote (bufferAs (now (out .entry)) place) (dependencyBytes t))
@@ -78,7 +78,7 @@ fn put_dependencies(
 }
 
 // What the head group gives: references, self types and both JSX sources.
-fn put_head(source: &[u8], parts: Parts, tables: &[u32], out: &mut [u8], place: Place) -> Place
+fn put_head(source: &[u8], parts: Parts, tables: &[u32], out: &mut [u8], place: Pen) -> Pen
     requires { ⌜ HeldBy (now source) (now tables) parts ⌝ }
     ensures { λ r. ⌜ ((t : Sheet) → PartsIn t (now (source .entry)) (now (tables .entry)) parts
         → bufferAs (now (out .exit)) r ≡ wrote (bufferAs (now (out .entry)) place) (headBytes t)) ⌝ }
@@ -98,18 +98,18 @@ fn put_head(source: &[u8], parts: Parts, tables: &[u32], out: &mut [u8], place: 
     analyze_first(jsx_types, media, source, comments, n, index, head, out, p)
 }
 
-// The JSDoc imports and the source map. `marks` is lent to work in, and comes cleared. Where they are too few, there are more here: marks for the
+// The JSDoc imports and the source map. `ticks` is lent to work in, and comes cleared. Where they are too few, there are more here: ticks for the
 // longest source take longer to clear than many a sheet takes. The compiler inlines no function that calls itself, so these are not on the stack
 // while the tree is walked.
 fn put_rest(
     source: &[u8],
     parts: Parts,
     tables: &[u32],
-    marks: &mut [u8],
+    ticks: &mut [u8],
     out: &mut [u8],
-    place: Place,
-) -> Place
-    requires { ⌜ now marks ≡ replicate (length (now marks)) 0 ⌝ }
+    place: Pen,
+) -> Pen
+    requires { ⌜ now ticks ≡ replicate (length (now ticks)) 0 ⌝ }
     requires { ⌜ HeldBy (now source) (now tables) parts ⌝ }
     ensures { λ r. ⌜ ((t : Sheet) → PartsIn t (now (source .entry)) (now (tables .entry)) parts
         → bufferAs (now (out .exit)) r ≡ wrote (bufferAs (now (out .entry)) place) (restBytes t)) ⌝ }
@@ -117,7 +117,7 @@ fn put_rest(
     let n = parts.comments;
     let media = parts.media;
     let long = source.len();
-    if marks.len() < long {
+    if ticks.len() < long {
         let mut more = [0u8; SOURCE_LIMIT];
         return put_rest(source, parts, tables, &mut more, out, place);
     }
@@ -130,7 +130,7 @@ fn put_rest(
         comments,
         n,
         index,
-        &mut marks[0..long],
+        &mut ticks[0..long],
         out,
         place,
     );
@@ -145,8 +145,8 @@ fn put_noted_report(
     tables: &[u32; TABLE_NUMBERS],
     out: &mut [u8],
     notes: &mut [usize],
-    place: Place,
-) -> Place
+    place: Pen,
+) -> Pen
     requires { ⌜ AcceptsIn (now sheet) (now tables) parts ⌝ }
     ensures { λ r. ⌜ ((t : Sheet) → accept (now (sheet .entry)) ≡ ok t []
         → (bufferAs (now (out .exit)) r ≡ wrote (bufferAs (now (out .entry)) place) (encode (moduleInfo t)))
@@ -158,8 +158,8 @@ fn put_noted_report(
     let p = put_dependencies(sheet, source, parts, tables, out, notes, place);
     let p = put_head(source, parts, tables, out, p);
     if source.len() <= 4096 {
-        let mut marks = [0u8; 4096];
-        return put_rest(source, parts, tables, &mut marks, out, p);
+        let mut ticks = [0u8; 4096];
+        return put_rest(source, parts, tables, &mut ticks, out, p);
     }
     // more are made there
     let mut few = [0u8; 1];
@@ -172,8 +172,8 @@ fn put_report(
     parts: Parts,
     tables: &[u32; TABLE_NUMBERS],
     out: &mut [u8],
-    place: Place,
-) -> Place
+    place: Pen,
+) -> Pen
     requires { ⌜ AcceptsIn (now sheet) (now tables) parts ⌝ }
     ensures { λ r. ⌜ ((t : Sheet) → accept (now (sheet .entry)) ≡ ok t []
         → bufferAs (now (out .exit)) r ≡ wrote (bufferAs (now (out .entry)) place) (encode (moduleInfo t))) ⌝ }
@@ -227,7 +227,7 @@ pub fn write_noted_report(
         → (outcomeAs r (now (buffer .exit)) ≡ fitted (length (now (buffer .entry))) (encode (moduleInfo t)))
         × (now (notes .exit) ≡ notesWith (length (now (notes .entry))) (noted t) (outcomeAs r (now (buffer .exit)) .number))) ⌝ }
 {
-    let start = Place { at: 0 };
+    let start = Pen { at: 0 };
     let place = put_noted_report(sheet, parts, tables, buffer, notes, start);
     match finish(buffer, place) {
         Outcome::Accepted(n) => Outcome::Accepted(n),
@@ -243,7 +243,7 @@ pub fn write_default(buffer: &mut [u8]) -> Outcome
     ensures { λ r. ⌜ outcomeAs r (now (buffer .exit)) ≡ fitted (length (now (buffer .entry))) (encode defaultInfo) ⌝ }
 {
     let bytes = [0u8; 8];
-    let start = Place { at: 0 };
+    let start = Pen { at: 0 };
     let place = start.put_bytes(buffer, &bytes);
     finish(buffer, place)
 }

@@ -1,10 +1,9 @@
 // The source map by ECMA-426: the second question that a sheet can be asked.
 use super::judge::SheetJudged;
 use super::judge::judge;
-use accept::check::Parts;
 use pragmas::readings::Counts;
-use pragmas::readings::Reading;
 use pragmas::readings::Rule;
+use pragmas::readings::RuleRead;
 use pragmas::readings::comment_source_to_span;
 use pragmas::readings::find_reading;
 use sheet::limits::GROUPS_START;
@@ -12,6 +11,7 @@ use sheet::limits::INDEX_START;
 use sheet::limits::TABLE_NUMBERS;
 use sheet::lookups::body_span;
 use sheet::lookups::end_group;
+use sheet_check::check::Parts;
 use text::position::Position;
 use text::position::indexed_position;
 ghost use mathlib.Core.Path.{_≡_};
@@ -42,13 +42,13 @@ pub enum SourceMap {
 }
 
 // Where a reading of the source stands in the sheet, whose source begins at `base`.
-fn locate(source: &[u8], index: &[u32], base: usize, reading: Reading) -> SourceMap
+fn locate(source: &[u8], index: &[u32], base: usize, reading: RuleRead) -> SourceMap
     requires { ⌜ IndexOf (now source) (now index) × ReadIn (now source) reading ⌝ }
     requires { ⌜ base + length (now source) < 2 ^ 64 ⌝ }
     ensures { λ r. ⌜ r ≡ located (now (source .entry)) base reading ⌝ }
 {
     match reading {
-        Reading::Of(c, found) => {
+        RuleRead::Of(c, found) => {
             let span = comment_source_to_span(c, found);
             let body = base + body_span(c).start;
             SourceMap::Found {
@@ -58,7 +58,7 @@ fn locate(source: &[u8], index: &[u32], base: usize, reading: Reading) -> Source
                 end: indexed_position(source, index, span.end),
             }
         }
-        Reading::Nothing => SourceMap::Nothing,
+        RuleRead::Nothing => SourceMap::Nothing,
     }
 }
 

@@ -3,7 +3,7 @@ use mathlib.Core.List.{List, [], _∷_, _++_, flatMap}
 use Prim.Native.Nat.{ℕ, _+_, _*_}
 use Prim.Native.Char.{code}
 use Prim.Native.String.{String}
-use Rattle.laws.specs.Quoted.{ascii}
+use Rattle.laws.specs.Ascii.{ascii}
 use Rattle.citation.specs.Citation.{decimal, escaped}
 use Rattle.delivery.specs.Order.{Answer, inOrder, notInOrder, refused, orderOf}
 

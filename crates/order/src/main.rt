@@ -10,7 +10,7 @@ use input::read_input;
 use libc::STDERR_FILENO;
 use libc::STDIN_FILENO;
 use libc::STDOUT_FILENO;
-use report::writer::Place;
+use report::writer::Pen;
 ghost use mathlib.Core.Path.{_≡_};
 ghost use mathlib.Core.List.{[], _++_};
 ghost use Prim.Native.Nat.{_+_, _*_, _≤_};
@@ -22,7 +22,7 @@ ghost use Rattle.delivery.specs.Order.{notInOrder, refused, orderOf};
 ghost use Rattle.order.specs.Printed.{workRoom, lineRoom, printedAnswer, printedOrder};
 
 // Writes a word and a number.
-fn put_counted(place: Place, line: &mut [u8], word: &[u8], n: usize) -> Place
+fn put_counted(place: Pen, line: &mut [u8], word: &[u8], n: usize) -> Pen
     ensures { λ r. ⌜ bufferAs (now (line .exit)) r ≡ wrote (bufferAs (now (line .entry)) place) (now (word .entry) ++ decimal n) ⌝ }
 {
     let p = place.put_bytes(line, word);
@@ -30,11 +30,11 @@ fn put_counted(place: Place, line: &mut [u8], word: &[u8], n: usize) -> Place
 }
 
 // Writes `module I entry J NAME`.
-fn put_late(line: &mut [u8], index: usize, entry: usize, specifier: &[u8]) -> Place
+fn put_late(line: &mut [u8], index: usize, entry: usize, specifier: &[u8]) -> Pen
     ensures { λ r. ⌜ bufferAs (now (line .exit)) r
         ≡ wrote (holds (length (now (line .entry))) []) (printedAnswer (notInOrder index entry (now (specifier .entry)))) ⌝ }
 {
-    let start = Place { at: 0 };
+    let start = Pen { at: 0 };
     let p = put_counted(start, line, b"module ", index);
     let p = put_counted(p, line, b" entry ", entry);
     let p = p.put(line, b' ');
@@ -43,24 +43,24 @@ fn put_late(line: &mut [u8], index: usize, entry: usize, specifier: &[u8]) -> Pl
 }
 
 // Writes `refused N module I`.
-fn put_refused(line: &mut [u8], number: u8, index: usize) -> Place
+fn put_refused(line: &mut [u8], number: u8, index: usize) -> Pen
     ensures { λ r. ⌜ bufferAs (now (line .exit)) r ≡ wrote (holds (length (now (line .entry))) []) (printedAnswer (refused number index)) ⌝ }
 {
-    let start = Place { at: 0 };
+    let start = Pen { at: 0 };
     let p = put_counted(start, line, b"refused ", number as usize);
     let p = put_counted(p, line, b" module ", index);
     p.put(line, b'\n')
 }
 
 // Writes the line for a delivery.
-fn put_order(delivery: &[u8], work: &mut [u8], line: &mut [u8]) -> Place
+fn put_order(delivery: &[u8], work: &mut [u8], line: &mut [u8]) -> Pen
     ensures { λ r. ⌜ Bounded
         (bufferAs (now (line .exit)) r
         ≡ wrote (holds (length (now (line .entry))) []) (printedAnswer (orderOf (length (now (work .entry))) (now (delivery .entry)))))
         (length (printedAnswer (orderOf (length (now (work .entry))) (now (delivery .entry)))) ≤ 4 * length (now (work .entry)) + 64) ⌝ }
 {
     match judge(delivery, work) {
-        Judgement::InOrder => (Place { at: 0 }).put_bytes(line, b"in order\n"),
+        Judgement::InOrder => (Pen { at: 0 }).put_bytes(line, b"in order\n"),
         Judgement::NotInOrder {
             module,
             entry,

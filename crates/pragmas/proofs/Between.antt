@@ -12,7 +12,7 @@ use Rattle.sheet.specs.declared.groups.Group.{Group}
 use Rattle.sheet.specs.code.Tables.{rows, commentIn, commentsIn}
 use Rattle.sheet.specs.Fit.{Reaching}
 use Rattle.sheet.specs.Lookups.{commentsOf}
-use Rattle.sheet.proofs.Rows.{rows-more}
+use Rattle.sheet.proofs.TableRows.{rows-more}
 use Rattle.sheet.proofs.Members.{group-comments}
 use Rattle.report.specs.ModuleInfo.{TypeScriptReference}
 use Rattle.pragmas.specs.declared.readings.Counts.{Counts}

@@ -4,14 +4,14 @@ use mathlib.Core.Logic.{inr}
 use mathlib.Core.List.{List, [], _∷_}
 use Prim.Native.Nat.{ℕ}
 use native.Mathlib.Omega.{arith}
-use Rattle.laws.specs.Quoted.{ascii}
+use Rattle.laws.specs.Ascii.{ascii}
 use Rattle.text.specs.Position.{step, walk, positionOf}
 use Rattle.sheet.specs.declared.fields.Span.{Span}
 use Rattle.sheet.specs.Comments.{slice}
 use Rattle.sheet.specs.Sheet.{Sheet}
 use Rattle.report.specs.ModuleInfo.{SpecifierWithRange, path}
 use Rattle.report.specs.Stands.{InMarks, StandsAt}
-use Rattle.report.proofs.Places.{range-at}
+use Rattle.report.proofs.RangesApart.{range-at}
 use Rattle.pragmas.specs.Readings.{placeIn}
 use Rattle.pragmas.specs.Texts.{ReferenceShown}
 

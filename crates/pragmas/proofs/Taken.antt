@@ -14,7 +14,7 @@ use Rattle.report.specs.Origin.{Origin}
 use Rattle.pragmas.specs.declared.readings.Counts.{Counts}
 use Rattle.pragmas.specs.declared.readings.Counts.the-variants.{First, Last}
 use Rattle.pragmas.specs.declared.readings.Rule.{Rule}
-use Rattle.pragmas.specs.declared.readings.Reading.{Reading}
+use Rattle.pragmas.specs.declared.readings.RuleRead.{RuleRead}
 use Rattle.pragmas.specs.Readings.{specifierIn, onFound}
 use Rattle.pragmas.specs.Origins.{originOf}
 use Rattle.pragmas.specs.code.Views.{asked, findRule, takenBy, readRule, counted, takenAs, readAs, originAs}
@@ -54,7 +54,7 @@ module _ (rule : Rule) (source : List ℕ) where
   made-counted {f = f} h First cs = both-first (takenBy rule source) f cs (λ c m. h c)
   made-counted {f = f} h Last cs = both-last (takenBy rule source) f cs (λ c m. h c)
 
-  module _ (r : Reading) where
+  module _ (r : RuleRead) where
     -- in one comment
     module _ (c : Comment) (e : takenAs r ≡ takenBy rule source c) where
       pub read-one : readAs source r ≡ readRule rule source c

@@ -27,11 +27,11 @@ use Rattle.sheet.specs.Fit.{Placed, commentOf, Fit}
 use Rattle.sheet.specs.declared.names.Side.the-variants.{Leading}
 use Rattle.sheet.specs.Lookups.{groupAt, headGroup, endGroup, commentsOf, bodySpan, body}
 use Rattle.sheet.specs.Sheet.{Sheet}
-use Rattle.sheet.proofs.Bodies.{Within, placed-body, body-formed, body-boundary}
+use Rattle.sheet.proofs.Bodies.{BodyWithin, placed-body, body-formed, body-boundary}
 use Rattle.report.specs.ModuleInfo.{SpecifierWithRange, TypeScriptReference, ModuleInfo}
 use Rattle.report.specs.Range.{rangeOf}
 use Rattle.report.specs.Stands.{StandsAt}
-use Rattle.report.proofs.Places.{range-at}
+use Rattle.report.proofs.RangesApart.{range-at}
 use Rattle.pragmas.specs.Asks.{Asks, selfTypesRule, jsxImportSourceRule, jsxImportSourceTypesRule}
 use Rattle.pragmas.specs.Readings.{placeIn}
 use Rattle.pragmas.specs.Pragmas.{inGroup, headComments, endComments, givenTo, lastIn, typesAt}
@@ -40,7 +40,7 @@ use Rattle.pragmas.specs.Texts.{writtenIf, ShownInMarks, ShownBare, Show
 use Rattle.pragmas.proofs.Present.{types-present}
 
 module _ (source : List ℕ) (f : formed Utf8 0 source ≡ true) (c : Comment) (h : Placed source c) where
-  within : Within source c
+  within : BodyWithin source c
   within = placed-body source c h
 
   module _ (k : Capture) (w : Whole (body source c) k) where

@@ -9,7 +9,7 @@ use Rattle.analysis.specs.declared.Capture.{Capture}
 use Rattle.analysis.specs.Mode.{Mode, modeOf}
 use Rattle.analysis.specs.Row.{Row}
 use Rattle.analysis.specs.Place.{textOf}
-use Rattle.analysis.specs.Matches.{Reading}
+use Rattle.analysis.specs.Matches.{RowReading}
 use Rattle.analysis.specs.Prefers.{Preferred}
 use Rattle.analysis.specs.Patterns.{tripleSlashRow, resolutionModeRow}
 use Rattle.sheet.specs.declared.comments.Comment.{Comment}
@@ -24,7 +24,7 @@ use Rattle.pragmas.specs.Pragmas.{headComments, endComments, givenTo, la
 
 -- the pattern matches some part of the comment's body
 abbrev pub Matched : Row → List ℕ → Comment → Type 0
-Matched row source c = (k : Capture) × Reading row (body source c) k
+Matched row source c = (k : Capture) × RowReading row (body source c) k
 
 -- the pattern's reading in the comment is x: the text that the preferred match captures, at the range of its place
 pub record Read (row : Row) (source : List ℕ) (c : Comment) (x : SpecifierWithRange) : Type 0 where

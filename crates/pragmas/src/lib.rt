@@ -4,13 +4,13 @@ pub mod readings;
 pub mod references;
 
 use self::readings::Counts;
-use self::readings::Reading;
 use self::readings::Rule;
+use self::readings::RuleRead;
 use self::readings::find_reading;
 use self::readings::first_reading;
 use self::readings::put_reading;
 use self::readings::read;
-use report::writer::Place;
+use report::writer::Pen;
 use sheet::comments::Comment;
 use sheet::comments::comment_at;
 use sheet::lookups::GroupFound;
@@ -41,8 +41,8 @@ pub fn analyze_first(
     index: &[u32],
     found: GroupFound,
     out: &mut [u8],
-    place: Place,
-) -> Place
+    place: Pen,
+) -> Pen
     requires { ⌜ Commented (now source) (now comments) n (now index) ⌝ }
     requires { ⌜ Reached n (foundAs found) ⌝ }
     ensures { λ r. ⌜ bufferAs (now (out .exit)) r
@@ -63,8 +63,8 @@ pub fn analyze_source_map_url(
     index: &[u32],
     found: GroupFound,
     out: &mut [u8],
-    place: Place,
-) -> Place
+    place: Pen,
+) -> Pen
     requires { ⌜ Commented (now source) (now comments) n (now index) ⌝ }
     requires { ⌜ Reached n (foundAs found) ⌝ }
     ensures { λ r. ⌜ bufferAs (now (out .exit)) r
@@ -77,14 +77,14 @@ pub fn analyze_source_map_url(
 }
 
 // What the ts-types pattern reads in a comment, or else the deno-types one.
-fn read_types(source: &[u8], c: Comment) -> Reading
+fn read_types(source: &[u8], c: Comment) -> RuleRead
     requires { ⌜ Placed (now source) c ⌝ }
     ensures { λ r. ⌜ Told (readAs (now (source .entry)))
         (tsOrDenoTypes (now (source .entry)) c)
         (ReadIn (now (source .entry))) r ⌝ }
 {
     let reading = read(source, c, Rule::TsTypes);
-    if let Reading::Of(_, _) = reading {
+    if let RuleRead::Of(_, _) = reading {
         return reading;
     }
     read(source, c, Rule::DenoTypes)
@@ -100,8 +100,8 @@ pub fn analyze_ts_or_deno_types(
     index: &[u32],
     start: usize,
     out: &mut [u8],
-    place: Place,
-) -> Place
+    place: Pen,
+) -> Pen
     requires { ⌜ Commented (now source) (now comments) n (now index) ⌝ }
     requires { ⌜ GroupedIn n (now groups) m ⌝ }
     ensures { λ r. ⌜ bufferAs (now (out .exit)) r

@@ -1,7 +1,7 @@
 // How each reference and pragma was found: the rule that gave it, and where its comment starts.
 use super::readings::Counts;
-use super::readings::Reading;
 use super::readings::Rule;
+use super::readings::RuleRead;
 use super::readings::find_reading;
 use super::readings::first_reading;
 use super::readings::read;
@@ -9,7 +9,7 @@ use super::references::Reference;
 use super::references::read_reference;
 use report::origins::EntryRule;
 use report::origins::put_origin;
-use report::writer::Place;
+use report::writer::Pen;
 use sheet::comments::Comment;
 use sheet::comments::comment_at;
 use sheet::lookups::GroupFound;
@@ -32,18 +32,18 @@ ghost use Rattle.pragmas.specs.Origins.{referenceOrigin, headOrigins, en
 ghost use Rattle.pragmas.specs.code.Views.{originAs, commentsFrom, encodeAny};
 
 // Writes the rule and the comment of a reading, if there is one.
-fn put_reading_origin(entry: EntryRule, reading: Reading, out: &mut [u8], place: Place) -> Place
+fn put_reading_origin(entry: EntryRule, reading: RuleRead, out: &mut [u8], place: Pen) -> Pen
     ensures { λ r. ⌜ bufferAs (now (out .exit)) r
         ≡ wrote (bufferAs (now (out .entry)) place) (encodeAny encodeOrigin (originAs entry reading)) ⌝ }
 {
     match reading {
-        Reading::Of(c, _) => put_origin(entry, c.span.start, out, place),
-        Reading::Nothing => place,
+        RuleRead::Of(c, _) => put_origin(entry, c.span.start, out, place),
+        RuleRead::Nothing => place,
     }
 }
 
 // Writes those of a comment's reference, if it has one.
-fn put_reference_origin(source: &[u8], c: Comment, out: &mut [u8], place: Place) -> Place
+fn put_reference_origin(source: &[u8], c: Comment, out: &mut [u8], place: Pen) -> Pen
     requires { ⌜ Placed (now source) c ⌝ }
     ensures { λ r. ⌜ bufferAs (now (out .exit)) r
         ≡ wrote (bufferAs (now (out .entry)) place) (encodeAny encodeOrigin (referenceOrigin (now (source .entry)) c)) ⌝ }
@@ -63,8 +63,8 @@ fn put_origins_between(
     start: usize,
     end: usize,
     out: &mut [u8],
-    place: Place,
-) -> Place
+    place: Pen,
+) -> Pen
     requires { ⌜ (3 * n ≤ length (now comments)) × (start ≤ end) × (end ≤ n) ⌝ }
     requires { ⌜ Fit (now source) (commentsIn (now comments) n) ⌝ }
     ensures { λ r. ⌜ bufferAs (now (out .exit)) r
@@ -87,8 +87,8 @@ fn put_reference_origins(
     n: usize,
     found: GroupFound,
     out: &mut [u8],
-    place: Place,
-) -> Place
+    place: Pen,
+) -> Pen
     requires { ⌜ 3 * n ≤ length (now comments) ⌝ }
     requires { ⌜ Fit (now source) (commentsIn (now comments) n) ⌝ }
     requires { ⌜ Reached n (foundAs found) ⌝ }
@@ -112,8 +112,8 @@ pub fn put_head_origins(
     n: usize,
     found: GroupFound,
     out: &mut [u8],
-    place: Place,
-) -> Place
+    place: Pen,
+) -> Pen
     requires { ⌜ 3 * n ≤ length (now comments) ⌝ }
     requires { ⌜ Fit (now source) (commentsIn (now comments) n) ⌝ }
     requires { ⌜ Reached n (foundAs found) ⌝ }
@@ -144,8 +144,8 @@ pub fn put_end_origins(
     n: usize,
     found: GroupFound,
     out: &mut [u8],
-    place: Place,
-) -> Place
+    place: Pen,
+) -> Pen
     requires { ⌜ 3 * n ≤ length (now comments) ⌝ }
     requires { ⌜ Fit (now source) (commentsIn (now comments) n) ⌝ }
     requires { ⌜ Reached n (foundAs found) ⌝ }
@@ -158,13 +158,13 @@ pub fn put_end_origins(
 }
 
 // Writes that of the types that a comment names: by the ts-types pattern, or else by the deno-types one.
-fn put_types_origin(source: &[u8], c: Comment, out: &mut [u8], place: Place) -> Place
+fn put_types_origin(source: &[u8], c: Comment, out: &mut [u8], place: Pen) -> Pen
     requires { ⌜ Placed (now source) c ⌝ }
     ensures { λ r. ⌜ bufferAs (now (out .exit)) r
         ≡ wrote (bufferAs (now (out .entry)) place) (encodeAny encodeOrigin (tsOrDenoOrigin (now (source .entry)) c)) ⌝ }
 {
     let reading = read(source, c, Rule::TsTypes);
-    if let Reading::Of(_, _) = reading {
+    if let RuleRead::Of(_, _) = reading {
         return put_reading_origin(EntryRule::TsTypes, reading, out, place);
     }
     let reading = read(source, c, Rule::DenoTypes);
@@ -180,8 +180,8 @@ pub fn put_types_origins(
     m: usize,
     start: usize,
     out: &mut [u8],
-    place: Place,
-) -> Place
+    place: Pen,
+) -> Pen
     requires { ⌜ (3 * n ≤ length (now comments)) × Fit (now source) (commentsIn (now comments) n) ⌝ }
     requires { ⌜ GroupedIn n (now groups) m ⌝ }
     ensures { λ r. ⌜ bufferAs (now (out .exit)) r

@@ -10,7 +10,7 @@ use analysis::find_ts_types;
 use analysis::place_of;
 use analysis::specifier;
 use ecma426::find_source_map;
-use report::writer::Place;
+use report::writer::Pen;
 use sheet::comments::Comment;
 use sheet::comments::comment_at;
 use sheet::fields::Span;
@@ -27,7 +27,7 @@ ghost use Prim.Native.Nat.{_-_, _*_, _≤_};
 ghost use lib.ListN.{length};
 ghost use Rattle.laws.specs.code.Told.{Bounded, Told};
 ghost use Rattle.wire.specs.Optional.{encodeOptional};
-ghost use Rattle.analysis.specs.Place.{Inside, Within};
+ghost use Rattle.analysis.specs.Place.{Inside, FoundWithin};
 ghost use Rattle.sheet.specs.code.Tables.{commentsIn};
 ghost use Rattle.sheet.specs.Fit.{Placed, Fit};
 ghost use Rattle.sheet.specs.Lookups.{HoldsMarks, bodySpan};
@@ -58,14 +58,14 @@ pub enum Counts {
 }
 
 // A comment that a rule reads, with what is captured in its body.
-pub enum Reading {
+pub enum RuleRead {
     Of(Comment, Capture),
     Nothing,
 }
 
 // The finder of a rule.
 fn find_by(body: &[u8], rule: Rule) -> Found
-    ensures { λ r. ⌜ Bounded (r ≡ findRule rule (now (body .entry))) (Within r (length (now (body .entry)))) ⌝ }
+    ensures { λ r. ⌜ Bounded (r ≡ findRule rule (now (body .entry))) (FoundWithin r (length (now (body .entry)))) ⌝ }
 {
     match rule {
         Rule::TsSelfTypes => find_ts_self_types(body),
@@ -109,18 +109,18 @@ fn asks_media(rule: Rule, media: MediaType) -> bool
 }
 
 // What a rule reads in a comment.
-pub fn read(source: &[u8], c: Comment, rule: Rule) -> Reading
+pub fn read(source: &[u8], c: Comment, rule: Rule) -> RuleRead
     requires { ⌜ Placed (now source) c ⌝ }
     ensures { λ r. ⌜ Told takenAs (takenBy rule (now (source .entry)) c) (ReadIn (now (source .entry))) r ⌝ }
 {
     let kind = c.kind;
     if takes(rule, kind) {
         return match find_by(body(source, c), rule) {
-            Found::At(k) => Reading::Of(c, k),
-            Found::Nothing => Reading::Nothing,
+            Found::At(k) => RuleRead::Of(c, k),
+            Found::Nothing => RuleRead::Nothing,
         };
     }
-    Reading::Nothing
+    RuleRead::Nothing
 }
 
 // The reading that counts among the comments of a table from one row to another, sought from the start or from the end.
@@ -132,7 +132,7 @@ fn reading_between(
     end: usize,
     counts: Counts,
     rule: Rule,
-) -> Reading
+) -> RuleRead
     requires { ⌜ (3 * n ≤ length (now comments)) × (start ≤ end) × (end ≤ n) ⌝ }
     requires { ⌜ Fit (now source) (commentsIn (now comments) n) ⌝ }
     ensures { λ r. ⌜ Told takenAs
@@ -147,7 +147,7 @@ fn reading_between(
             Counts::Last => to - 1,
         };
         let reading = read(source, comment_at(comments, i), rule);
-        if let Reading::Of(_, _) = reading {
+        if let RuleRead::Of(_, _) = reading {
             return reading;
         }
         match counts {
@@ -159,7 +159,7 @@ fn reading_between(
             }
         }
     }
-    Reading::Nothing
+    RuleRead::Nothing
 }
 
 // The reading that counts among the comments of a group.
@@ -170,7 +170,7 @@ pub fn find_reading(
     found: GroupFound,
     counts: Counts,
     rule: Rule,
-) -> Reading
+) -> RuleRead
     requires { ⌜ 3 * n ≤ length (now comments) ⌝ }
     requires { ⌜ Fit (now source) (commentsIn (now comments) n) ⌝ }
     requires { ⌜ Reached n (foundAs found) ⌝ }
@@ -190,7 +190,7 @@ pub fn find_reading(
                 rule,
             )
         }
-        GroupFound::Nothing => Reading::Nothing,
+        GroupFound::Nothing => RuleRead::Nothing,
     }
 }
 
@@ -202,7 +202,7 @@ pub fn first_reading(
     n: usize,
     found: GroupFound,
     rule: Rule,
-) -> Reading
+) -> RuleRead
     requires { ⌜ 3 * n ≤ length (now comments) ⌝ }
     requires { ⌜ Fit (now source) (commentsIn (now comments) n) ⌝ }
     requires { ⌜ Reached n (foundAs found) ⌝ }
@@ -213,7 +213,7 @@ pub fn first_reading(
     if asks_media(rule, media) {
         return find_reading(source, comments, n, found, Counts::First, rule);
     }
-    Reading::Nothing
+    RuleRead::Nothing
 }
 
 // Where a capture in a comment stands in the source, with its marks.
@@ -236,8 +236,8 @@ pub fn put_capture(
     c: Comment,
     found: Capture,
     out: &mut [u8],
-    place: Place,
-) -> Place
+    place: Pen,
+) -> Pen
     requires { ⌜ IndexOf (now source) (now index) × CaptureIn (now source) c found ⌝ }
     ensures { λ r. ⌜ bufferAs (now (out .exit)) r
         ≡ wrote (bufferAs (now (out .entry)) place) (encodeSpecifier (specifierIn (now (source .entry)) c found)) ⌝ }
@@ -251,19 +251,19 @@ pub fn put_capture(
 pub fn put_reading(
     source: &[u8],
     index: &[u32],
-    reading: Reading,
+    reading: RuleRead,
     out: &mut [u8],
-    place: Place,
-) -> Place
+    place: Pen,
+) -> Pen
     requires { ⌜ IndexOf (now source) (now index) × ReadIn (now source) reading ⌝ }
     ensures { λ r. ⌜ bufferAs (now (out .exit)) r
         ≡ wrote (bufferAs (now (out .entry)) place) (encodeOptional encodeSpecifier (readAs (now (source .entry)) reading)) ⌝ }
 {
     match reading {
-        Reading::Of(c, found) => {
+        RuleRead::Of(c, found) => {
             let p = place.put(out, 1);
             put_capture(source, index, c, found, out, p)
         }
-        Reading::Nothing => place.put(out, 0),
+        RuleRead::Nothing => place.put(out, 0),
     }
 }

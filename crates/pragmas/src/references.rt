@@ -10,7 +10,7 @@ use analysis::mode::ModeFound;
 use analysis::mode::from_str;
 use analysis::mode::mode_number;
 use analysis::specifier;
-use report::writer::Place;
+use report::writer::Pen;
 use sheet::comments::Comment;
 use sheet::comments::comment_at;
 use sheet::lookups::GroupFound;
@@ -93,8 +93,8 @@ fn put_reference(
     c: Comment,
     reference: Reference,
     out: &mut [u8],
-    place: Place,
-) -> Place
+    place: Pen,
+) -> Pen
     requires { ⌜ IndexOf (now source) (now index) × ReferenceIn (now source) c reference ⌝ }
     ensures { λ r. ⌜ bufferAs (now (out .exit)) r
         ≡ wrote (bufferAs (now (out .entry)) place) (encodeAny encodeReference (referenceAs (now (source .entry)) c reference)) ⌝ }
@@ -137,8 +137,8 @@ fn put_between(
     start: usize,
     end: usize,
     out: &mut [u8],
-    place: Place,
-) -> Place
+    place: Pen,
+) -> Pen
     requires { ⌜ Commented (now source) (now comments) n (now index) ⌝ }
     requires { ⌜ (start ≤ end) × (end ≤ n) ⌝ }
     ensures { λ r. ⌜ bufferAs (now (out .exit)) r
@@ -164,8 +164,8 @@ pub fn analyze_ts_references(
     index: &[u32],
     found: GroupFound,
     out: &mut [u8],
-    place: Place,
-) -> Place
+    place: Pen,
+) -> Pen
     requires { ⌜ Commented (now source) (now comments) n (now index) ⌝ }
     requires { ⌜ Reached n (foundAs found) ⌝ }
     ensures { λ r. ⌜ bufferAs (now (out .exit)) r

@@ -18,14 +18,14 @@ ghost use Rattle.text.specs.Truth.{one};
 ghost use Rattle.report.specs.Answer.{outcomeAs};
 ghost use Rattle.replay.specs.Stored.{fourBytes, piece, row, storedRows};
 ghost use Rattle.replay.specs.Compared.{padded, storedAnswer, sameAnswer, ranOf, counted, tallyOf};
-ghost use Rattle.replay.specs.code.Views.{partAs, stepAs};
-ghost use Rattle.replay.specs.code.Bounds.{Within, NextWithin, Room, Printable};
+ghost use Rattle.replay.specs.code.Views.{stretchAs, stepAs};
+ghost use Rattle.replay.specs.code.Bounds.{StretchWithin, NextWithin, Room, Printable};
 
 // The bytes that are read at most.
 const SPACE: usize = 131072;
 
 // Bytes of the list, from start up to end, or none that it holds whole.
-enum Part {
+enum Stretch {
     Bytes(usize, usize),
     Missing,
 }
@@ -67,23 +67,23 @@ fn number_at(list: &[u8], at: usize) -> usize
 }
 
 // A length at a place, and so many bytes behind it.
-fn part_at(list: &[u8], at: usize) -> Part
-    ensures { λ r. ⌜ Told (partAs (now (list .entry)))
+fn stretch_at(list: &[u8], at: usize) -> Stretch
+    ensures { λ r. ⌜ Told (stretchAs (now (list .entry)))
         (piece (drop at (now (list .entry))))
-        (Within (length (now (list .entry)))) r ⌝ }
+        (StretchWithin (length (now (list .entry)))) r ⌝ }
 {
     if list.len() < 4 {
-        return Part::Missing;
+        return Stretch::Missing;
     }
     if list.len() - 4 < at {
-        return Part::Missing;
+        return Stretch::Missing;
     }
     let start = at + 4;
     let long = number_at(list, at);
     if list.len() - start < long {
-        return Part::Missing;
+        return Stretch::Missing;
     }
-    Part::Bytes(start, start + long)
+    Stretch::Bytes(start, start + long)
 }
 
 // Puts a byte everywhere.
@@ -160,20 +160,20 @@ fn replay_one(list: &[u8], at: usize, buffer: &mut [u8]) -> Step
         (onOk (ranOf (length (now (buffer .entry)))) (row (drop at (now (list .entry)))))
         (NextWithin (length (now (list .entry)))) r ⌝ }
 {
-    match part_at(list, at) {
-        Part::Bytes(start, end) => {
+    match stretch_at(list, at) {
+        Stretch::Bytes(start, end) => {
             if list.len() <= end {
                 return Step::Short;
             }
-            match part_at(list, end + 1) {
-                Part::Bytes(from, next) => {
+            match stretch_at(list, end + 1) {
+                Stretch::Bytes(from, next) => {
                     let ran = run(&list[start..end], list[end], &list[from..next], buffer);
                     Step::Next(ran, next)
                 }
-                Part::Missing => Step::Short,
+                Stretch::Missing => Step::Short,
             }
         }
-        Part::Missing => Step::Short,
+        Stretch::Missing => Step::Short,
     }
 }
 

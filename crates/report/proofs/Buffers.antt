@@ -10,7 +10,7 @@ use lib.Dec.{eqb, leb}
 use lib.ListN.{length, take, set, length-append, length-take, length-set}
 use lib.Seq.{length-take-le, take-all, take-suc-set}
 use borrow.Author.Tests.{leb-false, le-leb, lt-leb, ne-eqb}
-use Rattle.report.specs.declared.writer.Place.{Place}
+use Rattle.report.specs.declared.writer.Pen.{Pen}
 use Rattle.report.specs.Buffer.{Buffer, holds, full, wrote, fullPlace, bufferAs}
 
 pub wrote-append : (w : Buffer) (a b : List ℕ) → wrote w (a ++ b) ≡ wrote (wrote w a) b
@@ -28,7 +28,7 @@ wrote-append (holds size xs) a b = by-room (leb (length xs + length a) size) ref
 pub wrote-cons : (w : Buffer) (b : ℕ) (bs : List ℕ) → wrote w (b ∷ bs) ≡ wrote (wrote w (b ∷ [])) bs
 wrote-cons w b bs = wrote-append w (b ∷ []) bs
 
-pub wrote-nil : (out : List ℕ) (p : Place) → wrote (bufferAs out p) [] ≡ bufferAs out p
+pub wrote-nil : (out : List ℕ) (p : Pen) → wrote (bufferAs out p) [] ≡ bufferAs out p
 unfolding wrote
 wrote-nil out p = by-full (eqb (p .at) fullPlace)
   where

@@ -27,17 +27,17 @@ use denote.Struct.Laws as LL
 use denote.Struct.Declared.{shape}
 use denote.Triple.Walked.{Stay, Fields, stay-none, gave-slice, stay-struct-at, stay-declared, Goes, FieldsGo, goes-none, goes-gave-slice, goes-struct-at, goes-declared}
 use Rattle.report.specs.declared.lent.Writer.{Writer}
-use Rattle.report.specs.declared.writer.Place.{Place}
+use Rattle.report.specs.declared.writer.Pen.{Pen}
 use Rattle.report.proofs.lent.Writer as T
 use Rattle.report.proofs.lent.Writer.Laws as T′
-use Rattle.report.proofs.writer.Place as P
-use Rattle.report.proofs.writer.Place.Laws as P′
+use Rattle.report.proofs.writer.Pen as P
+use Rattle.report.proofs.writer.Pen.Laws as P′
 
 -- a place, as a field of the struct
 abbrev pub PlaceR : RattleType
 PlaceR = Struct (shape P.the-type)
 
-pub place-again : (p : Place) (v : Val) → Is P.the-row p (v ∷ []) → Is P.the-row p (P′.lowered p ∷ [])
+pub place-again : (p : Pen) (v : Val) → Is P.the-row p (v ∷ []) → Is P.the-row p (P′.lowered p ∷ [])
 place-again p v is = LL.owes P.the-type P′.the-laws p (LL.owed P.the-type P′.the-laws p _ is)
 
 -- the lifetime κ in a struct that is passed, and in one that a local holds
@@ -48,7 +48,7 @@ abbrev pub local : Lft → NamedLft
 local κ = record { mir = erased; lft = κ }
 
 -- the machine value of a writer: that of a slice of so many bytes, and the place's
-abbrev pub writerVal : ℕ × ℕ → ℕ → Place → Val
+abbrev pub writerVal : ℕ × ℕ → ℕ → Pen → Val
 writerVal at n p = vstruct (vcons (sliceVal at n) (vcons (P′.lowered p) vnil))
 
 abbrev pub slots : List (Slot 1)
@@ -74,13 +74,13 @@ module _ {M : Type 1} (𝓤 : URA M) (H : Heap 𝓤) (A : Atoms 𝓤) (W : Given
   abbrev pub place-makes : Makes 𝓤 H A P.the-row (Is P.the-row)
   place-makes = LL.makes P.the-type P′.the-plain 𝓤 H A
 
-  pub place-typed : (p : Place) (v : Val) → Is P.the-row p (v ∷ []) → Holds (hasTy P′.mir v) × WT v
+  pub place-typed : (p : Pen) (v : Val) → Is P.the-row p (v ∷ []) → Holds (hasTy P′.mir v) × WT v
   place-typed p v is = LL.lawful P.the-type P′.the-laws 𝓤 H A W .typed p _ is .0
 
   pub writer-typed : (κ : Lft) (h : Writer) (v : Val) → Is (T.the-row (passing κ)) h (v ∷ []) → Holds (hasTy (T′.mir erased) v) × WT v
   writer-typed κ h v is = LL.lawful (T.the-type (local κ)) (T′.the-laws (local κ)) 𝓤 H A W .typed h _ is .0
 
-  pub writer-made : (at : ℕ × ℕ) (n : ℕ) (p : Place) → Room u8 n → Is P.the-row p (P′.lowered p ∷ []) → Holds (hasTy (T′.mir erased) (writerVal at n p)) × WT (writerVal at n p)
+  pub writer-made : (at : ℕ × ℕ) (n : ℕ) (p : Pen) → Room u8 n → Is P.the-row p (P′.lowered p ∷ []) → Holds (hasTy (T′.mir erased) (writerVal at n p)) × WT (writerVal at n p)
   writer-made at n p room is = (tt, ((tt, (record { fits = room .0 }, tt)), (place-typed p _ is .1, tt)))
 
   held-goes : (k : Kept) (hs : Fields slots k) → FieldsGo 𝓤 H A W 1 slots k hs → Goes 𝓤 H A W 1 WriterS k (held k hs)

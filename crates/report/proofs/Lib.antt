@@ -1,4 +1,4 @@
-pub mod Numbered
+pub mod KindNumbers
 pub mod ReadBack
 pub mod Buffers
 pub mod Answers
@@ -7,6 +7,6 @@ pub mod Modes
 mod Cases
 pub mod Ranges
 pub mod Stands
-pub mod Places
+pub mod RangesApart
 pub mod Again
 pub mod Held

@@ -18,7 +18,7 @@ use Rattle.report.specs.ModuleInfo.{path, types, none, unknown, known, e
 use Rattle.report.specs.Encode.{encodeList, encodePosition, encodeRange, encodeSpecifier, encodeReference, encodeJsDoc, encodeKeyValue, encodeAttributes, encodeArgument, encodeStatic, encodeDynamic, encodeDependency, encode}
 use Rattle.report.specs.Decode.{times, list, text, position, range, specifier, reference, jsDoc, keyValue, attributes, argument, rest, dependency, report}
 use Rattle.report.specs.Valid.{Short, ValidPosition, ValidRange, ValidSpecifier, ValidReference, ValidJsDoc, ValidKeyValue, ValidAttributes, ValidArgument, ValidStatic, ValidDynamic, ValidDependency, Valid}
-use Rattle.report.proofs.Numbered.{dependency-numbers}
+use Rattle.report.proofs.KindNumbers.{dependency-numbers}
 use Rattle.report.proofs.Modes.{mode-numbers}
 
 -- each valid value is decoded from its bytes, whatever follows them

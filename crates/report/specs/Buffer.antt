@@ -4,7 +4,7 @@ use mathlib.Core.List.{List, _++_}
 use Prim.Native.Nat.{ℕ, _+_}
 use lib.Dec.{eqb, leb}
 use lib.ListN.{length, take}
-use Rattle.report.specs.declared.writer.Place.{Place}
+use Rattle.report.specs.declared.writer.Pen.{Pen}
 
 -- how many bytes a buffer has, and those that begin it, what is behind them being left free; or some byte found no room, and all its bytes are left free
 pub data Buffer : Type 0 where
@@ -21,5 +21,5 @@ abbrev pub fullPlace : ℕ
 fullPlace = 18446744073709551615
 
 -- what a buffer with a place in it stands for
-abbrev pub bufferAs : List ℕ → Place → Buffer
+abbrev pub bufferAs : List ℕ → Pen → Buffer
 bufferAs out p = cond (eqb (p .at) fullPlace) (full (length out)) (holds (length out) (take (p .at) out))

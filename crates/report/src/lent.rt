@@ -1,6 +1,6 @@
-// The writer: it holds the lent buffer, and the place in it. Thin functions over those of `Place`.
+// The writer: it holds the lent buffer, and the place in it. Thin functions over those of `Pen`.
 use crate::writer::Outcome;
-use crate::writer::Place;
+use crate::writer::Pen;
 ghost use mathlib.Core.Path.{_≡_};
 ghost use lib.ListN.{length};
 ghost use Rattle.report.specs.Buffer.{bufferAs};
@@ -10,7 +10,7 @@ ghost use Rattle.report.specs.code.Lent.{begun};
 // The lent buffer, and the place in it.
 pub struct Writer<'a> {
     pub out: &'a mut [u8],
-    pub place: Place,
+    pub place: Pen,
 }
 
 // The buffer goes into the writer, and the place is its start.
@@ -19,7 +19,7 @@ pub fn new<'a>(out: &'a mut [u8]) -> Writer<'a>
 {
     Writer {
         out: out,
-        place: Place { at: 0 },
+        place: Pen { at: 0 },
     }
 }
 

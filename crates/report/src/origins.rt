@@ -1,5 +1,5 @@
 // Which rule gave an entry of the report, and where it was read.
-use super::writer::Place;
+use super::writer::Pen;
 ghost use mathlib.Core.Path.{_≡_};
 ghost use Rattle.report.specs.Origin.{ruleNumber, encodeOrigin};
 ghost use Rattle.report.specs.Buffer.{wrote, bufferAs};
@@ -36,7 +36,7 @@ fn rule_number(rule: EntryRule) -> u8
 }
 
 // Writes the rule's number and the place in the source.
-pub fn put_origin(rule: EntryRule, offset: usize, out: &mut [u8], place: Place) -> Place
+pub fn put_origin(rule: EntryRule, offset: usize, out: &mut [u8], place: Pen) -> Pen
     ensures { λ r. ⌜ bufferAs (now (out .exit)) r
         ≡ wrote (bufferAs (now (out .entry)) place) (encodeOrigin (record { rule = rule; offset = offset })) ⌝ }
 {

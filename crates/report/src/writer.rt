@@ -20,14 +20,14 @@ ghost use Rattle.report.specs.code.Lossy.{Replacing};
 // at each call, right after they are stored one by one, and the processor waits for that.
 const FULL: usize = 18446744073709551615;
 
-// The next place in the buffer, or `FULL` once a byte found no room.
-pub struct Place {
+// Where the writer goes on in the buffer, or `FULL` once a byte found no room.
+pub struct Pen {
     pub at: usize,
 }
 
 // The next place behind a text in WTF-8, and how many surrogates U+FFFD stands for in it.
 pub struct Lossy {
-    pub place: Place,
+    pub place: Pen,
     pub replaced: usize,
 }
 
@@ -37,7 +37,7 @@ pub enum Outcome {
     Refused(u8),
 }
 
-impl Place {
+impl Pen {
     // Did a byte find no room?
     pub fn is_full(self) -> bool
         ensures { λ r. ⌜ r ≡ eqb (self .at) fullPlace ⌝ }
@@ -46,19 +46,19 @@ impl Place {
     }
 
     // Writes a byte.
-    pub fn put(self, out: &mut [u8], b: u8) -> Place
+    pub fn put(self, out: &mut [u8], b: u8) -> Pen
         ensures { λ r. ⌜ bufferAs (now (out .exit)) r ≡ wrote (bufferAs (now (out .entry)) self) (b ∷ []) ⌝ }
     {
         let at = self.at;
         if at < out.len() {
             out[at] = b;
-            return Place { at: at + 1 };
+            return Pen { at: at + 1 };
         }
-        Place { at: FULL }
+        Pen { at: FULL }
     }
 
     // Writes a flag.
-    pub fn put_flag(self, out: &mut [u8], b: bool) -> Place
+    pub fn put_flag(self, out: &mut [u8], b: bool) -> Pen
         ensures { λ r. ⌜ bufferAs (now (out .exit)) r ≡ wrote (bufferAs (now (out .entry)) self) (encodeFlag b) ⌝ }
     {
         if b {
@@ -68,7 +68,7 @@ impl Place {
     }
 
     // Writes a number, in at most five groups.
-    pub fn put_number(self, out: &mut [u8], n: usize) -> Place
+    pub fn put_number(self, out: &mut [u8], n: usize) -> Pen
         ensures { λ r. ⌜ bufferAs (now (out .exit)) r ≡ wrote (bufferAs (now (out .entry)) self) (encodeNumber n) ⌝ }
     {
         let mut p = self;
@@ -86,7 +86,7 @@ impl Place {
     }
 
     // Writes bytes.
-    pub fn put_bytes(self, out: &mut [u8], s: &[u8]) -> Place
+    pub fn put_bytes(self, out: &mut [u8], s: &[u8]) -> Pen
         ensures { λ r. ⌜ bufferAs (now (out .exit)) r ≡ wrote (bufferAs (now (out .entry)) self) (now (s .entry)) ⌝ }
     {
         let mut p = self;
@@ -99,7 +99,7 @@ impl Place {
     }
 
     // Writes a text.
-    pub fn put_text(self, out: &mut [u8], s: &[u8]) -> Place
+    pub fn put_text(self, out: &mut [u8], s: &[u8]) -> Pen
         ensures { λ r. ⌜ bufferAs (now (out .exit)) r ≡ wrote (bufferAs (now (out .entry)) self) (encodeText (now (s .entry))) ⌝ }
     {
         let p = self.put_number(out, s.len());
@@ -107,7 +107,7 @@ impl Place {
     }
 
     // Writes U+FFFD.
-    fn put_replacement(self, out: &mut [u8]) -> Place
+    fn put_replacement(self, out: &mut [u8]) -> Pen
         ensures { λ r. ⌜ bufferAs (now (out .exit)) r ≡ wrote (bufferAs (now (out .entry)) self) (0xEF ∷ 0xBF ∷ 0xBD ∷ []) ⌝ }
     {
         let p = self.put(out, 0xEF);
@@ -151,7 +151,7 @@ impl Place {
     }
 
     // Writes a position.
-    fn put_position(self, out: &mut [u8], p: Position) -> Place
+    fn put_position(self, out: &mut [u8], p: Position) -> Pen
         ensures { λ r. ⌜ bufferAs (now (out .exit)) r ≡ wrote (bufferAs (now (out .entry)) self) (encodePosition p) ⌝ }
     {
         let line = p.line;
@@ -161,7 +161,7 @@ impl Place {
     }
 
     // Writes a range.
-    fn put_range(self, out: &mut [u8], start: Position, end: Position) -> Place
+    fn put_range(self, out: &mut [u8], start: Position, end: Position) -> Pen
         ensures { λ r. ⌜ bufferAs (now (out .exit)) r
             ≡ wrote (bufferAs (now (out .entry)) self) (encodeRange (record { start = start; end = end })) ⌝ }
     {
@@ -170,7 +170,7 @@ impl Place {
     }
 
     // Writes the range of a span of the source.
-    pub fn put_span(self, out: &mut [u8], source: &[u8], index: &[u32], span: Span) -> Place
+    pub fn put_span(self, out: &mut [u8], source: &[u8], index: &[u32], span: Span) -> Pen
         requires { ⌜ IndexOf (now source) (now index) × InSource (now source) span ⌝ }
         ensures { λ r. ⌜ bufferAs (now (out .exit)) r
             ≡ wrote (bufferAs (now (out .entry)) self) (encodeRange (rangeOf (now (source .entry)) span)) ⌝ }
@@ -188,7 +188,7 @@ impl Place {
         source: &[u8],
         index: &[u32],
         span: Span,
-    ) -> Place
+    ) -> Pen
         requires { ⌜ IndexOf (now source) (now index) × InSource (now source) span ⌝ }
         ensures { λ r. ⌜ bufferAs (now (out .exit)) r
             ≡ wrote (bufferAs (now (out .entry)) self)
@@ -242,7 +242,7 @@ pub fn refuse_all(out: &mut [u8], number: u8) -> Outcome
 }
 
 // The end of the report: every byte past it is zero; refusal 10 where a byte found no room.
-pub fn finish(out: &mut [u8], place: Place) -> Outcome
+pub fn finish(out: &mut [u8], place: Pen) -> Outcome
     ensures { λ r. ⌜ outcomeAs r (now (out .exit)) ≡ answered (length (now (out .entry))) (bufferAs (now (out .entry)) place) ⌝ }
 {
     let at = place.at;

@@ -20,16 +20,16 @@ use Rattle.wire.proofs.NumberCodec.{number-codec}
 use Rattle.report.specs.ModuleInfo.{DynamicArgument, expr, string, template}
 use Rattle.report.specs.Encode.{encodeList, encodeArgument}
 use Rattle.report.specs.Valid.{Short}
-use Rattle.report_reader.specs.code.Reads.{Reads, Number}
+use Rattle.report_reader.specs.code.FromPlace.{ReadsBack, Number}
 
 -- a number, as the cursor answers it
 module _ (s : List ℕ) (at value next : ℕ) where
-  pub number-read : number (drop at s) ≡ ok value (drop next s) → Reads encodeNumber (λ n. n ≤ largest) s at value next
+  pub number-read : number (drop at s) ≡ ok value (drop next s) → ReadsBack encodeNumber (λ n. n ≤ largest) s at value next
   number-read q n v t e =
       let same : ok value (drop next s) ≡ ok n t = sym q ∙ ap number e ∙ number-codec .complete n v t in
       (cc, cc)
 
-  pub number-refused : {r : ℕ} → number (drop at s) ≡ no r → Reads encodeNumber (λ n. n ≤ largest) s at value next
+  pub number-refused : {r : ℕ} → number (drop at s) ≡ no r → ReadsBack encodeNumber (λ n. n ≤ largest) s at value next
   number-refused q n v t e = absurd (refused (sym q ∙ ap number e ∙ number-codec .complete n v t))
 
 -- what is read by a number first
@@ -78,13 +78,13 @@ module _ {s : List ℕ} {at value next : ℕ} (number : Number s at value next) 
   no-argument h k (template l) t e = absurd (k (byte-read 2 (omega arith) (encodeList (encodeOptional encodeText) l ++ t) e .0))
 
   -- a text, by the number of its bytes
-  pub text-read : value ≤ length s - next → Reads encodeText Short s at (part s next (next + value)) (next + value)
+  pub text-read : value ≤ length s - next → ReadsBack encodeText Short s at (part s next (next + value)) (next + value)
   unfolding encodeText
   text-read h x v t e =
       let (n, d) = number .read (length x) v (x ++ t) (e ∙ append-assoc (encodeNumber (length x)) x t) in
       rw (add-sub-cancel-left next value, ← (drop-drop value next s), n, d) (take-append-seam x t, drop-append-seam x t)
 
-  pub text-short : (y : List ℕ) (to : ℕ) → length s - next < value → Reads encodeText Short s at y to
+  pub text-short : (y : List ℕ) (to : ℕ) → length s - next < value → ReadsBack encodeText Short s at y to
   unfolding encodeText
   text-short y to h x v t e =
       let (n, d) = number .read (length x) v (x ++ t) (e ∙ append-assoc (encodeNumber (length x)) x t) in

@@ -8,7 +8,7 @@ use Rattle.report.specs.declared.names.DynamicDependencyKind.{DynamicDependency
 use Rattle.report.specs.declared.names.DependencyKind.{DependencyKind}
 use Rattle.report.specs.declared.names.DependencyKind.the-variants.{Static, Dynamic}
 use Rattle.report.specs.Names.{dependencyNumber, dependencyKinds}
-use Rattle.report.proofs.Numbered.{dependency-numbers}
+use Rattle.report.proofs.KindNumbers.{dependency-numbers}
 
 -- its number is a byte below 128
 pub small : (kind : DependencyKind) → dependencyNumber kind < 128

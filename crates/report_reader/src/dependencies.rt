@@ -11,7 +11,7 @@ use report::names::dependency_kind;
 ghost use Rattle.laws.specs.code.Told.{Bounded};
 ghost use Rattle.report.specs.Encode.{encodeArgument};
 ghost use Rattle.report.specs.Valid.{ValidArgument};
-ghost use Rattle.report_reader.specs.code.Reads.{Skips};
+ghost use Rattle.report_reader.specs.code.FromPlace.{Skips};
 ghost use Rattle.report_reader.specs.code.Dependencies.{ReadsDependency, InsideOf};
 
 // A static dependency: its kind, where its specifier's text begins and ends, and the place behind all of it; of a dynamic one the place only.

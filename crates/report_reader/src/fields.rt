@@ -12,8 +12,8 @@ ghost use Rattle.wire.specs.Text.{encodeText};
 ghost use Rattle.wire.specs.Optional.{encodeOptional};
 ghost use Rattle.report.specs.Encode.{encodeList, encodeRange, encodeSpecifier, encodeAttributes};
 ghost use Rattle.report.specs.Valid.{Short, ValidPosition, ValidRange, ValidSpecifier, ValidAttributes};
-ghost use Rattle.report_reader.specs.code.Reads.{Reads, Skips, Number, Inside};
-ghost use Rattle.report_reader.specs.code.Parts.{encodePart, ValidPart};
+ghost use Rattle.report_reader.specs.code.FromPlace.{ReadsBack, Skips, Number, Inside};
+ghost use Rattle.report_reader.specs.code.Elements.{encodeElement, ValidElement};
 
 // A number, and the place behind it.
 pub struct NumberRead {
@@ -53,7 +53,7 @@ pub fn read_number(report: &[u8], at: usize) -> NumberRead
 // A text: a number, and as many bytes.
 pub fn read_text(report: &[u8], at: usize) -> TextRead
     ensures { λ r. ⌜ Bounded
-        (Reads encodeText Short (now (report .entry)) at (part (now (report .entry)) (r .from) (r .to)) (r .to))
+        (ReadsBack encodeText Short (now (report .entry)) at (part (now (report .entry)) (r .from) (r .to)) (r .to))
         (Inside (now (report .entry)) (r .from) (r .to)) ⌝ }
 {
     let n = read_number(report, at);
@@ -70,7 +70,7 @@ pub fn read_text(report: &[u8], at: usize) -> TextRead
 // A range: the lines and columns of its start and its end.
 pub fn read_range(report: &[u8], at: usize) -> RangeRead
     ensures { λ r. ⌜ Bounded
-        (Reads encodeRange ValidRange (now (report .entry)) at (record { start = r .start; end = r .end }) (r .next))
+        (ReadsBack encodeRange ValidRange (now (report .entry)) at (record { start = r .start; end = r .end }) (r .next))
         (ValidPosition (r .start) × ValidPosition (r .end)) ⌝ }
 {
     let a = read_number(report, at);
@@ -93,29 +93,29 @@ pub fn read_range(report: &[u8], at: usize) -> RangeRead
 fn skip_optional_text(report: &[u8], at: usize) -> usize
     ensures { λ r. ⌜ Skips (encodeOptional encodeText) (IfThere Short) (now (report .entry)) at r ⌝ }
 {
-    let there = read_number(report, at);
-    if there.value == 0 {
-        return there.next;
+    let flag = read_number(report, at);
+    if flag.value == 0 {
+        return flag.next;
     }
-    let text = read_text(report, there.next);
+    let text = read_text(report, flag.next);
     text.to
 }
 
 pub fn skip_optional_specifier(report: &[u8], at: usize) -> usize
     ensures { λ r. ⌜ Skips (encodeOptional encodeSpecifier) (IfThere ValidSpecifier) (now (report .entry)) at r ⌝ }
 {
-    let there = read_number(report, at);
-    if there.value == 0 {
-        return there.next;
+    let flag = read_number(report, at);
+    if flag.value == 0 {
+        return flag.next;
     }
-    let text = read_text(report, there.next);
+    let text = read_text(report, flag.next);
     let range = read_range(report, text.to);
     range.next
 }
 
 // Skips an attribute, which has a key, or a part of a template.
 fn skip_part(report: &[u8], at: usize, keyed: bool) -> usize
-    ensures { λ r. ⌜ Skips (encodePart keyed) (ValidPart keyed) (now (report .entry)) at r ⌝ }
+    ensures { λ r. ⌜ Skips (encodeElement keyed) (ValidElement keyed) (now (report .entry)) at r ⌝ }
 {
     if keyed {
         let key = read_text(report, at);
@@ -126,7 +126,7 @@ fn skip_part(report: &[u8], at: usize, keyed: bool) -> usize
 
 // Skips so many of them.
 fn skip_parts(report: &[u8], at: usize, keyed: bool, count: usize) -> usize
-    ensures { λ r. ⌜ Skips (flatMap (encodePart keyed)) (λ l. (length l ≡ count) × All (ValidPart keyed) l) (now (report .entry)) at r ⌝ }
+    ensures { λ r. ⌜ Skips (flatMap (encodeElement keyed)) (λ l. (length l ≡ count) × All (ValidElement keyed) l) (now (report .entry)) at r ⌝ }
 {
     let mut place = at;
     let mut left = count;
@@ -139,7 +139,7 @@ fn skip_parts(report: &[u8], at: usize, keyed: bool, count: usize) -> usize
 
 // Skips a list of them.
 pub fn skip_list(report: &[u8], at: usize, keyed: bool) -> usize
-    ensures { λ r. ⌜ Skips (encodeList (encodePart keyed)) (λ l. Short l × All (ValidPart keyed) l) (now (report .entry)) at r ⌝ }
+    ensures { λ r. ⌜ Skips (encodeList (encodeElement keyed)) (λ l. Short l × All (ValidElement keyed) l) (now (report .entry)) at r ⌝ }
 {
     let count = read_number(report, at);
     skip_parts(report, count.next, keyed, count.value)

@@ -20,9 +20,9 @@ use Rattle.sheet.specs.Judge.{judge}
 use Rattle.sheet_codec.specs.SheetOf.{SheetOf}
 use Rattle.sheet_codec.proofs.Sheets.{accepts-exactly}
 use Rattle.sheet_codec.proofs.Refusals.{apart, Decision, decided, cut-off, judged-sheet, judged-refusal}
-use Rattle.accept.specs.declared.check.Parts.{Parts}
-use Rattle.accept.specs.code.Accepts.{Accepts}
-use Rattle.report.specs.declared.writer.Place.{Place}
+use Rattle.sheet_check.specs.declared.check.Parts.{Parts}
+use Rattle.sheet_check.specs.code.Accepts.{Accepts}
+use Rattle.report.specs.declared.writer.Pen.{Pen}
 use Rattle.report.specs.declared.writer.Outcome.{Outcome}
 use Rattle.report.specs.declared.writer.Outcome.the-variants.{Accepted, Refused}
 use Rattle.report.specs.ModuleInfo.{ModuleInfo}
@@ -61,7 +61,7 @@ module _ (size room : ℕ) where
       by false h f = let never : 0 ≡ refusals.buffer = ap (λ (x : Answer). x .number) f in absurd (omega arith)
 
   -- and the rules have none
-  pub second-refused : (a b : List ℕ) {n : ℕ} {buffer : List ℕ} (rules : List ℕ) (p : Place) → outcomeAs (Accepted n) buffer ≡ fitted size a → eqb (p .at) fullPlace ≡ true
+  pub second-refused : (a b : List ℕ) {n : ℕ} {buffer : List ℕ} (rules : List ℕ) (p : Pen) → outcomeAs (Accepted n) buffer ≡ fitted size a → eqb (p .at) fullPlace ≡ true
       → bufferAs rules p ≡ wrote (holds room []) b → refusedBoth refusals.rules size room ≡ bothFitted size room a b
   unfolding bothFitted wrote
   second-refused a b rules p e is-full h = rw (accepted-first a e .0) (by (leb (length b) room) (rw (is-full, zero-add) at h))
@@ -75,7 +75,7 @@ module _ (size room : ℕ) where
       by false f = refl
 
   -- or they have room too
-  pub both-accepted : (a b : List ℕ) {n k : ℕ} {buffer rules′ : List ℕ} (rules : List ℕ) (p : Place) → outcomeAs (Accepted n) buffer ≡ fitted size a → eqb (p .at) fullPlace ≡ false
+  pub both-accepted : (a b : List ℕ) {n k : ℕ} {buffer rules′ : List ℕ} (rules : List ℕ) (p : Pen) → outcomeAs (Accepted n) buffer ≡ fitted size a → eqb (p .at) fullPlace ≡ false
       → bufferAs rules p ≡ wrote (holds room []) b → length rules ≡ room → (o : Outcome) → outcomeAs o rules′ ≡ answered (length rules) (bufferAs rules p)
       → k ≡ outcomeAs o rules′ .written → bothAs (ruled.Accepted n k) buffer rules′ ≡ bothFitted size room a b
   unfolding bothFitted wrote

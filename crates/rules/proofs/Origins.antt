@@ -26,8 +26,8 @@ use Rattle.sheet.specs.code.Tables.{commentsIn, groupsIn}
 use Rattle.sheet.specs.code.Views.{programOf}
 use Rattle.sheet_codec.proofs.Sheets.{accepts-exactly}
 use Rattle.sheet_codec.proofs.EntryBytes.{few-entries}
-use Rattle.accept.specs.declared.check.Parts.{Parts}
-use Rattle.accept.specs.code.Accepts.{Accepts}
+use Rattle.sheet_check.specs.declared.check.Parts.{Parts}
+use Rattle.sheet_check.specs.code.Accepts.{Accepts}
 use Rattle.report.specs.Origin.{encodeOrigin}
 use Rattle.report.specs.Buffer.{Buffer, wrote}
 use Rattle.report.proofs.Buffers.{wrote-append}
@@ -36,8 +36,8 @@ use Rattle.pragmas.specs.Pragmas.{inGroup, headComments, endComments, typesAt}
 use Rattle.pragmas.specs.Texts.{typesOf}
 use Rattle.pragmas.specs.Origins.{typesOrigins, headOrigins, endOrigins}
 use Rattle.pragmas.proofs.GivenFrom.{types-from, references-from, first-from, source-map-from}
-use Rattle.listing.specs.Origins.{jsdocOrigins}
-use Rattle.listing.proofs.Origins.{jsdoc-origins}
+use Rattle.jsdoc_list.specs.Origins.{jsdocOrigins}
+use Rattle.jsdoc_list.proofs.Origins.{jsdoc-origins}
 use Rattle.dep.specs.Collect.{Noted, startsOf}
 use Rattle.dep.proofs.Counted.{counted, noted-first}
 use Rattle.dep.proofs.Turns.{types-at-start}

@@ -22,7 +22,7 @@ use Rattle.pragmas.specs.Pragmas.{headComments, endComments}
 use Rattle.pragmas.specs.Asks.{selfTypesRule, jsxImportSourceRule, jsxImportSourceTypesRule, sourceMapUrlRule}
 use Rattle.pragmas.specs.Texts.{typesOf}
 use Rattle.pragmas.specs.Origins.{typesOrigins, headOrigins, endOrigins, TypesFrom, ReferenceFrom, SpecifierFrom}
-use Rattle.listing.specs.Origins.{jsdocOrigins, JsDocFrom}
+use Rattle.jsdoc_list.specs.Origins.{jsdocOrigins, JsDocFrom}
 use Rattle.dep.specs.Collect.{startsOf}
 use Rattle.rules.specs.declared.Ruled.{Ruled}
 use Rattle.rules.specs.declared.Ruled.the-variants as ruled

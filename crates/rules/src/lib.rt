@@ -1,6 +1,5 @@
 // Each entry with its rule: beside the report, how each types specifier, reference, pragma and JSDoc import was found.
-use accept::check::Parts;
-use listing::notes::put_jsdoc_origins;
+use jsdoc_list::notes::put_jsdoc_origins;
 use module_info::judge::SheetJudged;
 use module_info::judge::judge;
 use module_info::write_default;
@@ -9,7 +8,7 @@ use pragmas::origins::put_end_origins;
 use pragmas::origins::put_head_origins;
 use pragmas::origins::put_types_origins;
 use report::writer::Outcome;
-use report::writer::Place;
+use report::writer::Pen;
 use report::writer::clear_from;
 use report::writer::finish;
 use sheet::limits::ENTRY_LIMIT;
@@ -19,6 +18,7 @@ use sheet::limits::SOURCE_LIMIT;
 use sheet::limits::TABLE_NUMBERS;
 use sheet::lookups::end_group;
 use sheet::lookups::head_group;
+use sheet_check::check::Parts;
 use wire::refusals;
 ghost use mathlib.Core.Path.{_≡_};
 ghost use mathlib.Core.List.{List, [], flatMap};
@@ -58,8 +58,8 @@ fn put_types_rules(
     tables: &[u32],
     notes: &[usize],
     out: &mut [u8],
-    place: Place,
-) -> Place
+    place: Pen,
+) -> Pen
     requires { ⌜ HeldBy (now source) (now tables) parts ⌝ }
     requires { ⌜ 1 + 2 * parts .entries ≤ length (now notes) ⌝ }
     ensures { λ r. ⌜ bufferAs (now (out .exit)) r
@@ -89,8 +89,8 @@ fn put_comment_rules(
     tables: &[u32],
     origins: &mut [u16],
     out: &mut [u8],
-    place: Place,
-) -> Place
+    place: Pen,
+) -> Pen
     requires { ⌜ HeldBy (now source) (now tables) parts ⌝ }
     requires { ⌜ sourceLimit ≤ length (now origins) ⌝ }
     ensures { λ r. ⌜ ((t : Sheet) → PartsIn t (now (source .entry)) (now (tables .entry)) parts
@@ -108,7 +108,7 @@ fn put_comment_rules(
 }
 
 // Writes the rules of an accepted sheet from the front, with the starts of its dependencies' nodes in the notes.
-fn put_rules(sheet: &[u8], parts: Parts, tables: &[u32], notes: &[usize], out: &mut [u8]) -> Place
+fn put_rules(sheet: &[u8], parts: Parts, tables: &[u32], notes: &[usize], out: &mut [u8]) -> Pen
     requires { ⌜ AcceptsIn (now sheet) (now tables) parts ⌝ }
     requires { ⌜ 1 + 2 * parts .entries ≤ length (now notes) ⌝ }
     ensures { λ r. ⌜ ((t : Sheet) → accept (now (sheet .entry)) ≡ ok t []
@@ -119,7 +119,7 @@ fn put_rules(sheet: &[u8], parts: Parts, tables: &[u32], notes: &[usize], out: &
     let start = parts.source_start;
     let end = parts.source_end;
     let source = &sheet[start..end];
-    let first = Place { at: 0 };
+    let first = Pen { at: 0 };
     let p = put_types_rules(source, parts, tables, notes, out, first);
     put_comment_rules(source, parts, tables, &mut origins, out, p)
 }
@@ -145,7 +145,7 @@ fn length_of(outcome: Outcome) -> usize
 }
 
 // The end of the rules beside an accepted report of that length: every byte past them is zero; refusal 16 where a byte found no room.
-fn finish_rules(size: usize, place: Place, buffer: &mut [u8], rules: &mut [u8]) -> Ruled
+fn finish_rules(size: usize, place: Pen, buffer: &mut [u8], rules: &mut [u8]) -> Ruled
     ensures { λ r. ⌜ ((a b : List ℕ) → outcomeAs (Accepted size) (now (buffer .entry)) ≡ fitted (length (now (buffer .entry))) a
         → bufferAs (now (rules .entry)) place ≡ wrote (holds (length (now (rules .entry))) []) b
         → bothAs r (now (buffer .exit)) (now (rules .exit)) ≡ bothFitted (length (now (buffer .entry))) (length (now (rules .entry))) a b) ⌝ }
@@ -191,7 +191,7 @@ fn write_ruled_default(buffer: &mut [u8], rules: &mut [u8]) -> Ruled
     match write_default(buffer) {
         Outcome::Refused(r) => refuse_both(r, buffer, rules),
         Outcome::Accepted(n) => {
-            let none = Place { at: 0 };
+            let none = Pen { at: 0 };
             finish_rules(n, none, buffer, rules)
         }
     }

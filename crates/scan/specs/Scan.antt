@@ -6,7 +6,7 @@ use Prim.Native.Nat.{ℕ, suc, _+_, min}
 use Prim.Native.Char.{code}
 use lib.Dec.{eqb, leb}
 use lib.ListN.{length}
-use Rattle.laws.specs.Quoted.{ascii}
+use Rattle.laws.specs.Ascii.{ascii}
 use Rattle.text.specs.Bytes.{begins}
 
 -- the number of bytes of s up to the first place at which the word w stands; all of them where it stands nowhere

@@ -22,14 +22,14 @@ use Rattle.sheet.proofs.Members.{placed-within}
 use Rattle.sheet.proofs.Marks.{fenced, holds-marks}
 
 -- the body lies within the comment, and the comment within the source
-pub record Within (source : List ℕ) (c : Comment) : Type 0 where
+pub record BodyWithin (source : List ℕ) (c : Comment) : Type 0 where
   pub start : c .span .start ≤ bodySpan c .start
   pub order : bodySpan c .start ≤ bodySpan c .end
   pub end : bodySpan c .end ≤ c .span .end
   pub source-end : c .span .end ≤ length source
   pub long : length (body source c) ≡ bodySpan c .end - bodySpan c .start
 
-pub body-within : (source : List ℕ) (c : Comment) → HoldsMarks c → c .span .end ≤ length source → Within source c
+pub body-within : (source : List ℕ) (c : Comment) → HoldsMarks c → c .span .end ≤ length source → BodyWithin source c
 unfolding bodySpan
 body-within source c room last = record {
   start = omega arith;
@@ -39,11 +39,11 @@ body-within source c room last = record {
   long = omega (arith, length-take (bodySpan c .end - bodySpan c .start) (drop (bodySpan c .start) source), length-drop (bodySpan c .start) source);
 }
 
-pub placed-body : (source : List ℕ) (c : Comment) → Placed source c → Within source c
+pub placed-body : (source : List ℕ) (c : Comment) → Placed source c → BodyWithin source c
 placed-body source c p = body-within source c (holds-marks source c p) (placed-within source c p)
 
 -- the source from a place of the body on is the body from there on, and then what follows the body
-pub body-then : (source : List ℕ) (c : Comment) → Within source c → (j : ℕ) → j ≤ length (body source c)
+pub body-then : (source : List ℕ) (c : Comment) → BodyWithin source c → (j : ℕ) → j ≤ length (body source c)
     → drop (bodySpan c .start + j) source ≡ drop j (body source c) ++ drop (bodySpan c .end - bodySpan c .start) (drop (bodySpan c .start) source)
 body-then source c w j h =
     let rest = drop (bodySpan c .start) source in
@@ -54,7 +54,7 @@ body-then source c w j h =
 part-byte : (s : List ℕ) (p q i : ℕ) → i < q - p → getD (part s p q) i 0 ≡ getD s (p + i) 0
 part-byte s p q i l = getD-take (q - p) (drop p s) i 0 l ∙ getD-drop p s i 0
 
-pub body-byte : (source : List ℕ) (c : Comment) → Within source c → (i : ℕ) → i < length (body source c)
+pub body-byte : (source : List ℕ) (c : Comment) → BodyWithin source c → (i : ℕ) → i < length (body source c)
     → getD (body source c) i 0 ≡ getD source (bodySpan c .start + i) 0
 body-byte source c w i l = part-byte source (bodySpan c .start) (bodySpan c .end) i (omega (arith, w .long))
 

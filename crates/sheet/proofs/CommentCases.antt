@@ -3,7 +3,7 @@ use mathlib.Core.Path.{_≡_, refl}
 use mathlib.Core.List.{List, [], _∷_, _++_, map}
 use Prim.Native.Nat.{ℕ}
 use Rattle.laws.specs.Decoded.{Decoder, _>>=_, _>>_, return, require}
-use Rattle.laws.specs.Quoted.{ascii}
+use Rattle.laws.specs.Ascii.{ascii}
 use Rattle.laws.proofs.Decoding.{refusal}
 use Rattle.text.specs.Bytes.{begins}
 use Rattle.text.specs.Position.{isBoundary}

@@ -15,22 +15,22 @@ use Rattle.sheet.specs.Comments.{comments, encodeComment, endOf, groups,
 use Rattle.sheet.specs.Fit.{Placed, Fit, noComment, Reaching, Precedes, Grouped, noGroup, groupOf}
 use Rattle.sheet.proofs.Chains.{Chained, chained-codec, of-each, of-pairs, chain}
 use Rattle.sheet.proofs.Order.{by-order, in-order, earlier-trans}
-use Rattle.sheet.proofs.Judged.{Judged, comment-codec, Ranged, group-codec}
+use Rattle.sheet.proofs.CommentCodecs.{PlacedBehind, comment-codec, Ranged, group-codec}
 
 module _ (source : List ℕ) where
   -- comments, each behind the one before, are in order and apart
-  chained-fit : (cs : List Comment) → Chained (Judged source) endOf 0 cs → Fit source cs
+  chained-fit : (cs : List Comment) → Chained (PlacedBehind source) endOf 0 cs → Fit source cs
   chained-fit cs c =
       let Apart : Comment → Comment → Type 0 = λ c d. (c .span .end ≤ d .span .start) × (d .span .start ≤ d .span .end) in
       record {
-        each = of-each (Judged source) endOf noComment (Placed source) (λ last c j. j .placed) 0 cs c;
+        each = of-each (PlacedBehind source) endOf noComment (Placed source) (λ last c j. j .placed) 0 cs c;
         apart = λ j k i h.
-            of-pairs (Judged source) endOf noComment Apart (λ c d q. (q .behind, q .placed .order)) (λ a b c x y. (omega arith, y .1)) 0 cs c j k i h .0;
+            of-pairs (PlacedBehind source) endOf noComment Apart (λ c d q. (q .behind, q .placed .order)) (λ a b c x y. (omega arith, y .1)) 0 cs c j k i h .0;
       }
 
-  fit-chained : length source ≤ largest → (cs : List Comment) → Fit source cs → Chained (Judged source) endOf 0 cs
+  fit-chained : length source ≤ largest → (cs : List Comment) → Fit source cs → Chained (PlacedBehind source) endOf 0 cs
   fit-chained small cs f =
-      chain (Judged source) endOf noComment (Placed source) (λ last c. last ≤ c .span .start)
+      chain (PlacedBehind source) endOf noComment (Placed source) (λ last c. last ≤ c .span .start)
       (λ last c p l. record { placed = p; behind = l; small = (omega (arith, p .start .0), omega (arith, p .end .0)) })
       0 cs (f .each) (λ k h. zero-le) (f .apart)
 

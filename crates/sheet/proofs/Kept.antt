@@ -118,7 +118,7 @@ module _ {P : (A : Type 0) → Decoder A → Type 0} (h : OfFields P) where
 
     attributed : {A : Type 0} (f : Attributes → A) → P A (attributes object >>= λ a. return (f a))
     unfolding attributes
-    attributed f = then (then (flag-kept h) (λ there. either kept there q (ends _))) (λ a. ends (f a))
+    attributed f = then (then (flag-kept h) (λ hasObject. either kept hasObject q (ends _))) (λ a. ends (f a))
 
     fields-kept : (t : ℕ) → P Node (fields source levels inner object sp t)
     unfolding fields otherFields stringFields nameFields templateFields binaryFields objectFields callFields importFields namedExportFields exportAllFields importTypeFields typeRest importEqualsFields moduleFields
@@ -134,7 +134,7 @@ module _ {P : (A : Type 0) → Decoder A → Type 0} (h : OfFields P) where
         (next (then (count-kept h propertyLimit) (λ n. then (properties-kept p n) (λ ps. ends _)))
         (next (then (below-kept h 4) (λ callee. either kept (ltb callee 3) (rest-kept _) (then p (λ e. rest-kept _))))
         (next (then flag-first (λ typeOnly. then (numbered-kept h importPhases) (λ phase. then flag-first (λ sideEffect. then x (λ x. attributed _)))))
-        (next (then flag-first (λ typeOnly. then flag-first (λ there. either kept there (then x (λ x. attributed _)) (ends _))))
+        (next (then flag-first (λ typeOnly. then flag-first (λ named. either kept named (then x (λ x. attributed _)) (ends _))))
         (next (then flag-first (λ typeOnly. then x (λ x. attributed _)))
         (next (then x (λ x. then a-number (λ n. then (then (nodes-kept p n) (λ ns. attributed _)) (λ p. ends _))))
         (next (then flag-first (λ external. either kept external (then flag-first (λ typeOnly. then flag-first (λ export. then x (λ x. ends _)))) (ends _)))

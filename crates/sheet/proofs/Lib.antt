@@ -1,10 +1,10 @@
-pub mod Numbered
-pub mod Places
-pub mod Rows
+pub mod EnumNumbers
+pub mod EndBoundary
+pub mod TableRows
 pub mod Stores
 pub mod Chains
 pub mod Filling
-pub mod Judged
+pub mod CommentCodecs
 pub mod Order
 pub mod Decodes
 pub mod Marks
@@ -18,5 +18,5 @@ pub mod NameCases
 pub mod Walks
 pub mod Reaches
 pub mod Kept
-pub mod Spans
+pub mod VisitSpans
 pub mod Revised

@@ -14,7 +14,7 @@ use Rattle.sheet.specs.Fit.{Placed, Fit, Reaching, groupOf, Grouped}
 use Rattle.sheet.specs.declared.names.Side.{Side}
 use Rattle.sheet.specs.declared.names.Side.the-variants.{Leading, Trailing}
 use Rattle.sheet.specs.Lookups.{standsAt, groupAt, headBy, headGroup, commentsOf, lastCommentOf}
-use Rattle.sheet.proofs.Rows.{rows-length, rows-part, rows-last, comment-row}
+use Rattle.sheet.proofs.TableRows.{rows-length, rows-part, rows-last, comment-row}
 
 -- a comment does not reach past the source
 pub placed-within : (source : List ℕ) (c : Comment) → Placed source c → c .span .end ≤ length source

@@ -10,7 +10,7 @@ use Rattle.wire.proofs.Numbered.{one-number}
 use Rattle.sheet.specs.declared.names.Side.{Side}
 use Rattle.sheet.specs.Names.{sideNumber}
 use Rattle.sheet.specs.Comments.{precedes}
-use Rattle.sheet.proofs.Numbered.{side-numbers}
+use Rattle.sheet.proofs.EnumNumbers.{side-numbers}
 
 -- a side and a position come before another side and position
 abbrev pub Earlier : Side → ℕ → Side → ℕ → Type 0

@@ -10,7 +10,7 @@ use lib.Dec.{eqb}
 use lib.ListN.{length, getD, drop, length-drop}
 use lib.Seq.{drop-cons}
 use borrow.Author.Tests.{le-leb, ne-eqb}
-use Rattle.laws.specs.Quoted.{ascii}
+use Rattle.laws.specs.Ascii.{ascii}
 use Rattle.text.specs.Bytes.{Mark, begins}
 use Rattle.sheet.specs.Comments.{enclosed}
 use Rattle.sheet.specs.Quotation.{Quotation, looksQuoted}

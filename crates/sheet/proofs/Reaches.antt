@@ -5,7 +5,7 @@ use mathlib.Core.List.{List, [], _∷_, _++_, append-nil, append-assoc, flatMap,
 use mathlib.Core.Logic.{_↔_, ⊎-elim, _⊎_, inl, inr}
 use mathlib.Core.Option.{Option, Option·none-ne-some}
 use Rattle.laws.specs.Codec.{All}
-use Rattle.laws.specs.Quoted.{ascii}
+use Rattle.laws.specs.Ascii.{ascii}
 use Rattle.laws.proofs.Lists.{flatMap-append, all-append, all-member, of-members, PartOf, part-whole, part-inner, part-member, part-flatMap}
 use Rattle.text.proofs.Words.{same-sound, same-refl}
 use Rattle.sheet.specs.Tree.{Pieces, Node, other, string, name, template, binary, object, importCall, call, importDecl, namedExport, exportFrom, exportAll, importType, importEquals, importRequire, moduleDecl, Nodes, none, more, Arguments, noArguments, argument, Properties, noProperties, spread, otherProperty, childKey, stringKey, nameKey, Attributes, without, withObject}

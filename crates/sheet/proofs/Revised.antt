@@ -21,19 +21,19 @@ use Rattle.sheet.specs.Lookups.{commentsOf, bodySpan, body}
 use Rattle.sheet.specs.Recorded.{startsAndEnds, ofProgram, spans, recorded}
 use Rattle.sheet.specs.Revision.{Outside, SameAt, bodyOf, Revision}
 use Rattle.sheet.specs.Sheet.{Sheet}
-use Rattle.sheet.proofs.Bodies.{Within, placed-body, body-formed}
-use Rattle.sheet.proofs.Spans.{of-ends}
+use Rattle.sheet.proofs.Bodies.{BodyWithin, placed-body, body-formed}
+use Rattle.sheet.proofs.VisitSpans.{of-ends}
 
 -- a comment has the same body in two sources, with the same positions in it
 pub record Alike (s r : List ℕ) (c : Comment) : Type 0 where
   pub size : length s ≡ length r
-  pub within : Within s c
+  pub within : BodyWithin s c
   pub formed-body : formed Utf8 0 (body s c) ≡ true
   pub same-body : body s c ≡ body r c
   pub position : (at : ℕ) → bodySpan c .start ≤ at → at ≤ bodySpan c .end → SameAt characters s r at
 
 -- in the second source too the body lies within the comment
-pub alike-within : {s r : List ℕ} {c : Comment} → Alike s r c → Within r c
+pub alike-within : {s r : List ℕ} {c : Comment} → Alike s r c → BodyWithin r c
 alike-within a =
     let w = a .within in
     record { start = w .start; order = w .order; end = w .end; source-end = rw (← a .size) (w .source-end); long = rw (← a .same-body) (w .long) }
@@ -77,10 +77,10 @@ module _ {t u : Sheet} {k : ℕ} (r : Revision t u k) where
         c : Comment
         c = commentOf (t .comments) i
 
-        v : Within (t .source) (commentOf (t .comments) k)
+        v : BodyWithin (t .source) (commentOf (t .comments) k)
         v = placed-body (t .source) (commentOf (t .comments) k) (fit .each k (r .there))
 
-        w : Within (t .source) c
+        w : BodyWithin (t .source) c
         w = placed-body (t .source) c (fit .each i l)
 
         go : Dec (i < k) → Alike (t .source) (u .source) c

@@ -17,8 +17,8 @@ use Rattle.sheet.specs.Comments.{precedes, mayFollow}
 use Rattle.sheet.specs.code.Tables.{rows, groupIn, groupsIn}
 use Rattle.sheet.specs.Fit.{Ascending}
 use Rattle.sheet.specs.Lookups.{standsAt, groupAt}
-use Rattle.sheet.proofs.Numbered.{side-numbers}
-use Rattle.sheet.proofs.Rows.{rows-length, group-row}
+use Rattle.sheet.proofs.EnumNumbers.{side-numbers}
+use Rattle.sheet.proofs.TableRows.{rows-length, group-row}
 use Rattle.sheet.proofs.Order.{in-order, irreflexive, precedes-trans, otherwise}
 
 module _ (g : Group) (side : Side) (position : ℕ) where

@@ -7,8 +7,8 @@ use native.Mathlib.Omega.{arith}
 use lib.ListN.{length, getD, set, length-set}
 use lib.Seq.{sets, getD-set-same, getD-set-other}
 use Rattle.sheet.specs.code.Tables.{rows, commentRow, commentIn, groupRow, groupIn}
-use Rattle.sheet.proofs.Numbered.{kind-numbers, side-numbers}
-use Rattle.sheet.proofs.Rows.{rows-same, rows-more}
+use Rattle.sheet.proofs.EnumNumbers.{kind-numbers, side-numbers}
+use Rattle.sheet.proofs.TableRows.{rows-same, rows-more}
 
 -- a run of numbers stored from i on: what is outside it stays
 pub outside-sets : (t : List ℕ) (i : ℕ) (vs : List ℕ) (j : ℕ) → (i ≤ j → i + length vs ≤ j) → getD (sets t i vs) j 0 ≡ getD t j 0

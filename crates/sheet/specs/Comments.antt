@@ -5,7 +5,7 @@ use Prim.Native.Nat.{ℕ, zero, suc, _+_, _-_}
 use lib.Dec.{eqb, leb, ltb}
 use lib.ListN.{length, drop}
 use Rattle.laws.specs.Decoded.{Decoder, onOk, _>>=_, _>>_, return, require}
-use Rattle.laws.specs.Quoted.{ascii}
+use Rattle.laws.specs.Ascii.{ascii}
 use Rattle.text.specs.Bytes.{part, begins}
 use Rattle.wire.specs.Refusals as refusals
 use Rattle.wire.specs.Fields.{numbered}

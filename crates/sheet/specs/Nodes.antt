@@ -108,8 +108,8 @@ module _ (node : Decoder Node) where
 -- a flag, and an Object if it is 1
 unfoldable pub attributes : Decoder Attributes → Decoder Attributes
 attributes inner = do
-  there ← flag
-  cond there inner (return without)
+  hasObject ← flag
+  cond hasObject inner (return without)
 
 -- what follows the count of an import type's children: these and the attributes
 unfoldable pub typeRest : Decoder Node → Decoder Attributes → ℕ → Decoder (Nodes × Attributes)
@@ -176,8 +176,8 @@ module _ (source : List ℕ) (levels : ℕ) (node : Decoder Node) (object′ : D
   unfoldable pub namedExportFields : Decoder Node
   namedExportFields = do
     typeOnly ← flag
-    there ← flag
-    cond there (do
+    named ← flag
+    cond named (do
       x ← quoted source levels
       a ← attributes object′
       return (exportFrom sp typeOnly x a))

@@ -43,8 +43,8 @@ fn read_first_item(sheet: &[u8], source: &[u8], c: Cursor) -> FirstRead
 {
     match c.flag(sheet) {
         Flag::Refused(r) => FirstRead::Refused(r),
-        Flag::Is(there, next) => {
-            if there {
+        Flag::Is(has_item, next) => {
+            if has_item {
                 match read_position(sheet, source, next) {
                     Read::Refused(r) => FirstRead::Refused(r),
                     Read::Value(p, next) => FirstRead::Is(FirstItem::At(p), next),

@@ -55,7 +55,7 @@ module _ {E A A′ B : Type 0} {number : E → ℕ} {values : Values E} {e : E �
           × ⊎-elim (λ (p : E × A). Valid (p .1)) Valid′ p
       behind b h u c t true l y =
           let (a, p, j, v) = k (valueOf values b) .sound u c t y in
-          (inl (valueOf values b, a), p, rw (n .there b (ltb-true b limit l)) (ap (b ∷_) j), v)
+          (inl (valueOf values b, a), p, rw (n .forth b (ltb-true b limit l)) (ap (b ∷_) j), v)
       behind b h u c t false l y =
           let (a, p, j, v) = k′ .sound u c t y in
           let same : b ≡ limit = omega (arith, ltb-false b limit l) in

@@ -3,7 +3,7 @@ use mathlib.Core.Path.{_≡_, refl}
 use mathlib.Core.List.{List, [], _∷_, _++_, flatMap}
 use Prim.Native.Nat.{ℕ}
 use Rattle.laws.specs.Decoded.{ok, onOk}
-use Rattle.laws.specs.Quoted.{ascii}
+use Rattle.laws.specs.Ascii.{ascii}
 use Rattle.text.specs.Bytes.{begins}
 use Rattle.text.specs.Utf8.{admits, lengthBy, charLength, formed}
 use Rattle.text.specs.Position.{isBoundary}

@@ -22,7 +22,7 @@ use Rattle.sheet.specs.declared.groups.Group.{Group}
 use Rattle.sheet.specs.Comments.{inSome, covered}
 use Rattle.sheet.specs.Nodes as nodes
 use Rattle.sheet.proofs.Coverings.{covered-iff, in-held}
-use Rattle.sheet_codec.specs.Field.{Byte, media, kind, side, flag, phase, callee, property, key, values, Place, anyNode, aString, anObject, byte, tag, text, everyComment}
+use Rattle.sheet_codec.specs.Field.{Byte, media, kind, side, flag, phase, callee, property, key, values, Allowed, anyNode, aString, anObject, byte, tag, text, everyComment}
 use Rattle.sheet_codec.specs.Breaks.{Allows, Breaks, noByte, noTag, fewBytes, otherByte, otherTag, tooDeep, illFormed, alone}
 use Rattle.sheet_codec.specs.FieldsOf.{aByte, aFlag, aTag}
 use Rattle.sheet_codec.proofs.Strings.{tag-codec}
@@ -69,7 +69,7 @@ pub numbered-field : (b : Byte) {A : Type 0} {number : A → ℕ} {named : wire.
     → FieldsOf (wire.numbered named) Any (λ a. aByte b (number a) ∷ [])
 unfolding wire.numbered
 numbered-field b {named = named} k e =
-    rw (← e) (last (wire.valueOf named) (byte-field b) (λ n l. (tt, ap (λ m. aByte b m ∷ []) (sym (k .there n (rw e at l))))))
+    rw (← e) (last (wire.valueOf named) (byte-field b) (λ n l. (tt, ap (λ m. aByte b m ∷ []) (sym (k .forth n (rw e at l))))))
 
 pub flag-field : FieldsOf wire.flag Any (λ b. aFlag b ∷ [])
 unfolding wire.flag
@@ -81,7 +81,7 @@ flag-field = last (λ x. eqb x 1) (byte-field flag) (λ x l. (tt, bit x l))
     bit (suc (suc x)) l = absurd (omega arith)
 
 -- a tag that a place allows
-module _ (place : Place) (levels : ℕ) (allowed : ℕ → Bool) (sound : (t : ℕ) → allowed t ≡ true → Allows place t) (complete : (t : ℕ) → Allows place t → allowed t ≡ true) where
+module _ (place : Allowed) (levels : ℕ) (allowed : ℕ → Bool) (sound : (t : ℕ) → allowed t ≡ true → Allows place t) (complete : (t : ℕ) → Allows place t → allowed t ≡ true) where
   tag-refuses : (s : List ℕ) (r : ℕ) → nodes.tag allowed levels s ≡ no r
       → Breaks (tag place levels) s r × ((q : ℕ) → q < r → Breaks (tag place levels) s q → ⊥)
   unfolding nodes.tag wire.byte

@@ -19,8 +19,8 @@ module _ {L : Type 0} (size : L → ℕ) (encode : L → List ℕ) (Valid : L �
   Adds f e = (l : L) → (size (f l) ≡ suc (size l)) × (encode (f l) ≡ e ++ encode l) × (Valid l → Valid (f l))
 
   -- what is decoded adds an item, whose bytes are those in front and what was read
-  abbrev pub Reads : List ℕ → Decoder (L → L) → Type 0
-  Reads front d = (s : List ℕ) (f : L → L) (t : List ℕ) → d s ≡ ok f t → (e : List ℕ) × (front ++ s ≡ e ++ t) × Adds f e
+  abbrev pub AddsItem : List ℕ → Decoder (L → L) → Type 0
+  AddsItem front d = (s : List ℕ) (f : L → L) (t : List ℕ) → d s ≡ ok f t → (e : List ℕ) × (front ++ s ≡ e ++ t) × Adds f e
 
   -- a list is the empty one, or an item, which is decoded from its bytes, is added to another
   abbrev pub Opens : L → Decoder (L → L) → L → Type 0
@@ -30,18 +30,18 @@ module _ {L : Type 0} (size : L → ℕ) (encode : L → List ℕ) (Valid : L �
 
   pub record Items (end : L) (item : Decoder (L → L)) : Type 0 where
     pub empty : (size end ≡ 0) × (encode end ≡ []) × Valid end
-    pub reads : Reads [] item
+    pub reads : AddsItem [] item
     pub opens : (l : L) → Valid l → Opens end item l
 
   pub reads-built : {A : Type 0} {d : Decoder (L → L)} {build : A → L → L} {bytes : A → List ℕ} {ValidItem : A → Type 0} → Built d build bytes ValidItem
       → (front : List ℕ)
       → ((a : A) → ValidItem a → Adds (build a) (front ++ bytes a))
-      → Reads front d
+      → AddsItem front d
   reads-built {bytes} k front adds s f t e =
       let (a, p, i, v) = k .sound s f t e in
       rw (← p) (front ++ bytes a, ap (front ++_) i ∙ sym (append-assoc front (bytes a) t), adds a v)
 
-  pub reads-byte : (front : List ℕ) {g : ℕ → Decoder (L → L)} → ((b : ℕ) → Reads (front ++ (b ∷ [])) (g b)) → Reads front (byte >>= g)
+  pub reads-byte : (front : List ℕ) {g : ℕ → Decoder (L → L)} → ((b : ℕ) → AddsItem (front ++ (b ∷ [])) (g b)) → AddsItem front (byte >>= g)
   reads-byte front {g} r s f t e =
       let (b, u, x, e) = then-ok (byte s) g e in
       let (i, v) = byte-codec .sound s b u x in

@@ -56,12 +56,12 @@ number-two s r e = rw e at (number-kept (answers-kept {N = λ r. r ≡ 2}) refl 
     a-byte (b ∷ s) = tt
 
 -- a decoder of a number, and the refusals that a number meets
-pub record Reads (d : Decoder ℕ) (W : ℕ → ℕ → Type 0) : Type 0 where
+pub record RefusesBy (d : Decoder ℕ) (W : ℕ → ℕ → Type 0) : Type 0 where
   pub passes : (s : List ℕ) (n : ℕ) (u : List ℕ) → d s ≡ ok n u → (n ≤ largest) × (s ≡ encodeNumber n ++ u) × ((r : ℕ) → W n r → ⊥)
   pub refuses : (s : List ℕ) (r : ℕ) → d s ≡ no r
       → ((r ≡ 2) × ((n : ℕ) → Shows s n → ⊥)) ⊎ ((n : ℕ) × Shows s n × W n r × ((q : ℕ) → q < r → W n q → ⊥))
 
-reads-number : Reads wire.number (λ n r. ⊥)
+reads-number : RefusesBy wire.number (λ n r. ⊥)
 reads-number = record {
   passes = λ s n u e. let (i, l) = number-codec .sound s n u e in (l, i, λ r w. w);
   refuses = λ s r e. inl (number-two s r e, λ n h. refused (sym e ∙ shown h));
@@ -72,9 +72,9 @@ abbrev Fails : ℕ → (ℕ → Bool) → ℕ → ℕ → Type 0
 Fails r test n q = (q ≡ r) × (test n ≡ false)
 
 -- a test more, whose number is not lower
-module _ {d : Decoder ℕ} {W W′ : ℕ → ℕ → Type 0} (k : Reads d W) (test : ℕ → Bool) (r : ℕ) (low : (n q : ℕ) → W n q → q ≤ r)
+module _ {d : Decoder ℕ} {W W′ : ℕ → ℕ → Type 0} (k : RefusesBy d W) (test : ℕ → Bool) (r : ℕ) (low : (n q : ℕ) → W n q → q ≤ r)
     (to : (n q : ℕ) → W n q ⊎ Fails r test n q → W′ n q) (from : (n q : ℕ) → W′ n q → W n q ⊎ Fails r test n q) where
-  reads-test : Reads (d >>= λ n. require (test n) r >> return n) W′
+  reads-test : RefusesBy (d >>= λ n. require (test n) r >> return n) W′
   reads-test = record { passes = passes; refuses = λ s q e. ⊎-elim (first s q) (λ (n, u, x, y). second s q n u x (test n) refl y) (then-refused (d s) (λ n. require (test n) r >> return n) e) }
     where
       neither : (n q : ℕ) → (W n q → ⊥) → test n ≡ true → W′ n q → ⊥
@@ -170,7 +170,7 @@ wrong-failing (empty {total = total} {first = first} {n = n} e) = (refl, rw e)
 wrong-failing (beyond {total = total} {first = first} {n = n} h) = (refl, is-false (ltb 0 n && leb (first + n) total) (λ i. true≢false (sym (and-eq-true-iff (ltb 0 n) (leb (first + n) total) .0 i .1) ∙ lt-leb (first + n) total h)))
 
 -- a field that is a number
-module _ (f : Number) {d : Decoder ℕ} (k : Reads d (Failing f)) where
+module _ (f : Number) {d : Decoder ℕ} (k : RefusesBy d (Failing f)) where
   number-field : FieldsOf d Any (λ n. aNumber f n ∷ [])
   number-field = field (number f) encodeNumber 0 tt passes (λ s r e. by s r (k .refuses s r e))
     where
@@ -210,11 +210,11 @@ group-count-field total first =
     (reads-test reads-number (λ n. ltb 0 n && leb (first + n) total) 7 (λ n q w. absurd w) (λ n q w. ⊎-elim (λ v. absurd v) (λ v. v) w) (λ n q w. inr w))
 
 module _ (source : List ℕ) where
-  reads-position : Reads (sheet.position source) (Fails 6 (isBoundary source))
+  reads-position : RefusesBy (sheet.position source) (Fails 6 (isBoundary source))
   unfolding sheet.position
   reads-position = reads-test reads-number (isBoundary source) 6 (λ n q w. absurd w) (λ n q w. ⊎-elim (λ v. absurd v) (λ v. v) w) (λ n q w. inr w)
 
-  reads-end : (from : ℕ) → Reads (endFrom source from) (λ n q. Fails 6 (isBoundary source) n q ⊎ Fails 6 (leb from) n q)
+  reads-end : (from : ℕ) → RefusesBy (endFrom source from) (λ n q. Fails 6 (isBoundary source) n q ⊎ Fails 6 (leb from) n q)
   unfolding endFrom
   reads-end from = reads-test reads-position (leb from) 6 (λ n q w. omega (arith, w .0)) (λ n q w. w) (λ n q w. w)
 
@@ -233,7 +233,7 @@ module _ (source : List ℕ) where
 
   -- an end with a test more, whose number is not lower
   reads-end-test : (from : ℕ) (test : ℕ → Bool) (r : ℕ) → 6 ≤ r
-      → Reads (endFrom source from >>= λ n. require (test n) r >> return n) (λ n q. Fails 6 (isBoundary source) n q ⊎ (Fails 6 (leb from) n q ⊎ Fails r test n q))
+      → RefusesBy (endFrom source from >>= λ n. require (test n) r >> return n) (λ n q. Fails 6 (isBoundary source) n q ⊎ (Fails 6 (leb from) n q ⊎ Fails r test n q))
   reads-end-test from test r high =
       reads-test (reads-end from) test r
       (λ n q w. ⊎-elim (λ v. omega (arith, v .0)) (λ v. omega (arith, v .0)) w)

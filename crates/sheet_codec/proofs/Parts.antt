@@ -12,7 +12,7 @@ use Rattle.wire.proofs.TextCodec.{flag-codec}
 use Rattle.wire.proofs.OptionalCodec.{optional-codec}
 use Rattle.sheet.specs.Fields.{span, encodeSpan}
 use Rattle.sheet.specs.Program.{program}
-use Rattle.sheet.proofs.Judged.{At, position-codec, end-codec}
+use Rattle.sheet.proofs.CommentCodecs.{At, position-codec, end-codec}
 use Rattle.sheet_codec.specs.Encode.{encodeProgram}
 use Rattle.sheet_codec.specs.Limits.{SpanFits, ProgramFits}
 

@@ -20,7 +20,7 @@ use Rattle.sheet.specs.Comments.{slice, marked, chained, comment, comments, end
 use Rattle.sheet.specs.Quotation.{looksQuoted}
 use Rattle.sheet.specs.Program.{program}
 use Rattle.sheet.specs.Nodes.{many, stringText}
-use Rattle.sheet.proofs.Numbered.{kind-numbers, side-numbers}
+use Rattle.sheet.proofs.EnumNumbers.{kind-numbers, side-numbers}
 use Rattle.sheet_codec.specs.Field as field
 use Rattle.sheet_codec.specs.Field.{Count, limit, Entry}
 use Rattle.sheet_codec.specs.FieldsOf.{aFlag, textFields, optionalFields, chainFields, spanFields, commentFields, groupFields, programFields, stringFields}

@@ -3,7 +3,7 @@ use mathlib.Core.Path.{refl}
 use Rattle.text.specs.declared.utf8.Encoding.the-variants.{Utf8}
 use Rattle.sheet.specs.Limits.{depthLimit}
 use Rattle.sheet.specs.Sheet.{sheet}
-use Rattle.sheet.proofs.Numbered.{media-numbers}
+use Rattle.sheet.proofs.EnumNumbers.{media-numbers}
 use Rattle.sheet_codec.specs.Field.{media, sourceLength, comments, groups}
 use Rattle.sheet_codec.specs.FieldsOf.{fieldsOf}
 use Rattle.sheet_codec.proofs.Fields.{FieldsOf, Any, then, last}

@@ -21,7 +21,7 @@ use Rattle.sheet.specs.Limits.{sheetLimit, sourceLimit, commentLimit, groupLimi
 use Rattle.sheet.specs.Comments.{covered}
 use Rattle.sheet.specs.Sheet.{Sheet, sheet, ending, decodeSheet, accept}
 use Rattle.sheet.specs.Walked.{uncooked}
-use Rattle.sheet.proofs.Numbered.{media-numbers}
+use Rattle.sheet.proofs.EnumNumbers.{media-numbers}
 use Rattle.sheet.proofs.Coverings.{covered-iff}
 use Rattle.sheet.proofs.Decodes.{comments-codec, groups-codec}
 use Rattle.sheet.proofs.Reaches.{nine-exactly}

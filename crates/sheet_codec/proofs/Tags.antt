@@ -26,7 +26,7 @@ use Rattle.sheet.specs.declared.names.ImportPhase.{ImportPhase}
 use Rattle.sheet.specs.Tree.{Quoted, Pieces, Node, other, string, name, template, binary, object, importCall, call, importDecl, namedExport, exportFrom, exportAll, importType, importEquals, importRequire, moduleDecl, Nodes, Arguments, Properties, Attributes, without, withObject}
 use Rattle.sheet.specs.Nodes.{callRest, attributes, typeRest, otherFields, stringFields, nameFields, templateFields, binaryFields, objectFields, callFields, importFields, namedExportFields, exportAllFields, importTypeFields, importEqualsFields, moduleFields, fields}
 use Rattle.sheet.specs.Fields.{encodeSpan}
-use Rattle.sheet.proofs.Numbered.{phase-numbers}
+use Rattle.sheet.proofs.EnumNumbers.{phase-numbers}
 use Rattle.sheet_codec.specs.Encode.{nodesIn, argumentsIn, propertiesIn, encodeNode, encodeNodes, encodeArguments, encodeProperties, encodeAttributes}
 use Rattle.sheet_codec.specs.Limits.{TextFits, SpanFits, PlaceFits, NodeFits, NodesFit, ArgumentsFit, AttributesFit}
 use Rattle.sheet_codec.proofs.Building.{built-below, limit-codec, built-counted, built-counted-end, done, next, at-index}

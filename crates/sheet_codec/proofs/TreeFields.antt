@@ -18,7 +18,7 @@ use Rattle.sheet.specs.Names.{importPhases}
 use Rattle.sheet.specs.Fields.{span}
 use Rattle.sheet.specs.Tree.{Node, other, string, name, template, binary, object, importCall, call, importDecl, namedExport, exportFrom, exportAll, importType, importEquals, importRequire, moduleDecl, none, more, argument, Properties, noProperties, spread, otherProperty, childKey, stringKey, nameKey, Attributes, without, withObject}
 use Rattle.sheet.specs.Nodes.{many, tag, quoted, piece, nodes, argumentItem, arguments, keyedItem, propertyItem, properties, callRest, attributes, typeRest, otherFields, stringFields, nameFields, templateFields, binaryFields, objectFields, callFields, importFields, namedExportFields, exportAllFields, importTypeFields, importEqualsFields, moduleFields, fields, node, attributesObject}
-use Rattle.sheet.proofs.Numbered.{phase-numbers}
+use Rattle.sheet.proofs.EnumNumbers.{phase-numbers}
 use Rattle.sheet_codec.specs.Encode.{nodesIn, argumentsIn, propertiesIn}
 use Rattle.sheet_codec.specs.Field as field
 use Rattle.sheet_codec.specs.Field.{Byte, values, textLength, anyNode, anObject, Entry}
@@ -139,7 +139,7 @@ module _ (source : List ℕ) where
               (callRest inner source >>= λ p. return (importCall sp (valueOf importPhases callee) (p .0) (p .1)))
               (inner >>= λ e. callRest inner source >>= λ p. return (call sp e (p .0) (p .1))))
           by callee l true i =
-              last (λ p. importCall sp (valueOf importPhases callee) (p .0) (p .1)) rest-fields (λ p a. (tt, rw (phase-numbers .there callee (ltb-true callee 3 i))))
+              last (λ p. importCall sp (valueOf importPhases callee) (p .0) (p .1)) rest-fields (λ p a. (tt, rw (phase-numbers .forth callee (ltb-true callee 3 i))))
           by callee l false i =
               let three : callee ≡ 3 = omega (arith, ltb-false callee 3 i) in
               then k (λ e a. last (λ p. call sp e (p .0) (p .1)) rest-fields (λ p b. (tt, rw three)))

@@ -22,7 +22,7 @@ use Rattle.sheet.specs.Fields.{encodeSpan}
 use Rattle.sheet_codec.specs.Encode.{nodesIn, argumentsIn, propertiesIn, encodeNode, encodeNodes, encodeArguments, encodeProperties}
 use Rattle.sheet_codec.specs.Limits.{TextFits, NodeFits, NodesFit, ArgumentsFit, PropertiesFit}
 use Rattle.sheet_codec.proofs.Building.{done, next, at-index}
-use Rattle.sheet_codec.proofs.Lists.{Reads, Opens, reads-built, reads-byte, many-codec}
+use Rattle.sheet_codec.proofs.Lists.{AddsItem, Opens, reads-built, reads-byte, many-codec}
 use Rattle.sheet_codec.proofs.Parts.{span-codec}
 use Rattle.sheet_codec.proofs.Strings.{short-text}
 
@@ -69,8 +69,8 @@ module _ (source : List ℕ) (small : length source ≤ largest) (d : ℕ) (node
         ];
       })
 
-  abbrev ReadsProperty : List ℕ → Decoder (Properties → Properties) → Type 0
-  ReadsProperty = Reads propertiesIn encodeProperties (λ ps. PropertiesFit source ps d)
+  abbrev AddsProperty : List ℕ → Decoder (Properties → Properties) → Type 0
+  AddsProperty = AddsItem propertiesIn encodeProperties (λ ps. PropertiesFit source ps d)
 
   -- a key, and the value
   module _ {A : Type 0} {key : Decoder A} {encode : A → List ℕ} {Valid : A → Type 0} where
@@ -81,9 +81,9 @@ module _ (source : List ℕ) (small : length source ≤ largest) (d : ℕ) (node
         (λ p. Valid (p .0) × NodeFits source (p .1) d)
     with-key add k = built-then k (λ a. built-end node-codec (add a))
 
-  keyed : (kind : ℕ) → ReadsProperty (2 ∷ kind ∷ []) (keyedItem node kind)
+  keyed : (kind : ℕ) → AddsProperty (2 ∷ kind ∷ []) (keyedItem node kind)
   unfolding keyedItem encodeProperties PropertiesFit
-  keyed = at-index (λ kind. ReadsProperty (2 ∷ kind ∷ [])) (λ kind s f t e. absurd (refused e))
+  keyed = at-index (λ kind. AddsProperty (2 ∷ kind ∷ [])) (λ kind s f t e. absurd (refused e))
       (next (reads-built _ _ _ (with-key (λ k v ps. childKey k v ps) node-codec) (2 ∷ 0 ∷ []) (λ p v ps. (refl, refl, λ w. (v, w))))
       (next (reads-built _ _ _ (with-key (λ k v ps. stringKey k v ps) (short-text Wtf8)) (2 ∷ 1 ∷ []) (λ p v ps. (refl, refl, λ w. (v, w))))
       (next (reads-built _ _ _ (with-key (λ k v ps. nameKey k v ps) (short-text Utf8)) (2 ∷ 2 ∷ []) (λ p v ps. (refl, refl, λ w. (v, w))))
@@ -93,7 +93,7 @@ module _ (source : List ℕ) (small : length source ≤ largest) (d : ℕ) (node
   unfolding properties propertyItem keyedItem byte encodeProperties PropertiesFit
   properties-codec = many-codec propertiesIn encodeProperties (λ ps. PropertiesFit source ps d) (record {
     empty = (refl, refl, tt);
-    reads = reads-byte _ _ _ [] (at-index (λ kind. ReadsProperty (kind ∷ [])) (λ kind s f t e. absurd (refused e))
+    reads = reads-byte _ _ _ [] (at-index (λ kind. AddsProperty (kind ∷ [])) (λ kind s f t e. absurd (refused e))
         (next (reads-built _ _ _ (built-end node-codec {B = Properties → Properties} (λ n. spread n)) (0 ∷ []) (λ n v ps. (refl, refl, λ w. (v, w))))
         (next (reads-built _ _ _ (built-end node-codec {B = Properties → Properties} (λ n. otherProperty n)) (1 ∷ []) (λ n v ps. (refl, refl, λ w. (v, w))))
         (next (reads-byte _ _ _ (2 ∷ []) keyed)

@@ -18,7 +18,7 @@ use Rattle.sheet.specs.Names.{sideNumber}
 use Rattle.sheet.specs.Comments.{opening, closing, slice}
 use Rattle.sheet.specs.Quotation.{Quotation}
 use Rattle.sheet.specs.Fit.{HeldBySome}
-use Rattle.sheet_codec.specs.Field.{Byte, values, Count, limit, Position, end, stringEnd, commentStart, commentEnd, groupPosition, Number, limited, position, groupCount, Place, anyNode, aString, anObject, Field, byte, tag, number, text, everyComment, Entry}
+use Rattle.sheet_codec.specs.Field.{Byte, values, Count, limit, Position, end, stringEnd, commentStart, commentEnd, groupPosition, Number, limited, position, groupCount, Allowed, anyNode, aString, anObject, Field, byte, tag, number, text, everyComment, Entry}
 
 -- a number that is not too large stands in front, in its shortest form
 pub record Shows (u : List ℕ) (n : ℕ) : Type 0 where
@@ -27,7 +27,7 @@ pub record Shows (u : List ℕ) (n : ℕ) : Type 0 where
   pub bytes : u ≡ encodeNumber n ++ rest
 
 -- the tags that a place allows
-abbrev pub Allows : Place → ℕ → Type 0
+abbrev pub Allows : Allowed → ℕ → Type 0
 Allows anyNode t = t < 13
 Allows aString t = t ≡ 1
 Allows anObject t = t ≡ 5
@@ -60,14 +60,14 @@ pub data Wrong : Number → ℕ → ℕ → Type 0 where
 pub data Breaks : Field → List ℕ → ℕ → Type 0 where
   -- 2. A field is cut off, or a number is not shortest or too large
   noByte : {b : Byte} → Breaks (byte b) [] refusals.cutOff
-  noTag : {place : Place} {levels : ℕ} → Breaks (tag place levels) [] refusals.cutOff
+  noTag : {place : Allowed} {levels : ℕ} → Breaks (tag place levels) [] refusals.cutOff
   noNumber : {f : Number} {u : List ℕ} → ((n : ℕ) → Shows u n → ⊥) → Breaks (number f) u refusals.cutOff
   fewBytes : {e : Encoding} {n : ℕ} {u : List ℕ} → length u < n → Breaks (text e n) u refusals.cutOff
   -- 3. A byte or flag is outside its stated values, or a node has a tag its place doesn't allow
   otherByte : {b : Byte} {x : ℕ} {u : List ℕ} → values b ≤ x → Breaks (byte b) (x ∷ u) refusals.byte
-  otherTag : {place : Place} {levels t : ℕ} {u : List ℕ} → (Allows place t → ⊥) → Breaks (tag place levels) (t ∷ u) refusals.byte
+  otherTag : {place : Allowed} {levels t : ℕ} {u : List ℕ} → (Allows place t → ⊥) → Breaks (tag place levels) (t ∷ u) refusals.byte
   -- 4. A depth is over its limit
-  tooDeep : {place : Place} {levels : ℕ} {u : List ℕ} → levels ≡ 0 → Breaks (tag place levels) u refusals.limit
+  tooDeep : {place : Allowed} {levels : ℕ} {u : List ℕ} → levels ≡ 0 → Breaks (tag place levels) u refusals.limit
   -- 5. A text is not well-formed
   illFormed : {e : Encoding} {n : ℕ} {u : List ℕ} (x rest : List ℕ) → u ≡ x ++ rest → length x ≡ n → (WellFormed e x → ⊥) → Breaks (text e n) u refusals.text
   -- 4, 6, 7 and 13 of a number

@@ -51,12 +51,12 @@ pub data Number : Type 0 where
   groupCount : ℕ → ℕ → Number  -- how many comments a group has, with the number of all and the index of its first
 
 -- the node that a place allows
-pub data Place : Type 0 where
-  anyNode aString anObject : Place
+pub data Allowed : Type 0 where
+  anyNode aString anObject : Allowed
 
 pub data Field : Type 0 where
   byte : Byte → Field
-  tag : Place → ℕ → Field  -- where so many levels are left
+  tag : Allowed → ℕ → Field  -- where so many levels are left
   number : Number → Field
   text : Encoding → ℕ → Field  -- the bytes of a text, so many
   everyComment : List Group → ℕ → Field  -- judged after the last group, with the groups and the number of comments: no byte

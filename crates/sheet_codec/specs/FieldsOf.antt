@@ -19,7 +19,7 @@ use Rattle.sheet.specs.Tree.{Quoted, Node, other, string, name, template, binar
 use Rattle.sheet.specs.Sheet.{Sheet}
 use Rattle.sheet_codec.specs.Encode.{nodesIn, argumentsIn, propertiesIn}
 use Rattle.sheet_codec.specs.Limits.{under}
-use Rattle.sheet_codec.specs.Field.{Byte, media, kind, side, flag, phase, callee, property, key, Count, sourceLength, textLength, comments, groups, properties, start, end, stringEnd, commentStart, commentEnd, groupPosition, Number, limited, free, position, groupCount, Place, anyNode, aString, anObject, byte, tag, number, text, everyComment, Entry}
+use Rattle.sheet_codec.specs.Field.{Byte, media, kind, side, flag, phase, callee, property, key, Count, sourceLength, textLength, comments, groups, properties, start, end, stringEnd, commentStart, commentEnd, groupPosition, Number, limited, free, position, groupCount, Allowed, anyNode, aString, anObject, byte, tag, number, text, everyComment, Entry}
 
 abbrev pub aByte : Byte → ℕ → Entry
 aByte b x = record { field = byte b; bytes = x ∷ [] }
@@ -31,7 +31,7 @@ abbrev pub aNumber : Number → ℕ → Entry
 aNumber f n = record { field = number f; bytes = encodeNumber n }
 
 -- a tag, where the place allows such a node and so many levels are left
-abbrev pub aTag : Place → ℕ → ℕ → Entry
+abbrev pub aTag : Allowed → ℕ → ℕ → Entry
 aTag place levels t = record { field = tag place levels; bytes = t ∷ [] }
 
 -- a text: a length and bytes

@@ -13,7 +13,7 @@ use Rattle.text.specs.declared.utf8.Encoding.the-variants.{Utf8}
 use Rattle.text.specs.Ranges.{Range, _to_, within}
 use Rattle.text.specs.Utf8.{admits, Row, char, never, lengthBy, rows, charLength}
 use Rattle.text.proofs.Formed.{everyRow, picked}
-use Rattle.text.proofs.Within.{within-iff}
+use Rattle.text.proofs.WithinRange.{within-iff}
 use Rattle.steps.specs.Answers.{Precedes}
 
 -- ranges of which the first has no byte that goes on with a character, and the others have no other

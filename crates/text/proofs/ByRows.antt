@@ -18,7 +18,7 @@ use Rattle.text.specs.Encode.{encode}
 use Rattle.text.specs.ByRows.{rowsWith, ByRows}
 use Rattle.text.proofs.Exact.{exact}
 use Rattle.text.proofs.Reader.{spans, covered, otherwise, reader-sound, reads, pair-unread}
-use Rattle.text.proofs.Within.{within-iff}
+use Rattle.text.proofs.WithinRange.{within-iff}
 
 -- a range lies before or behind each of the others
 abbrev apart : ℕ → ℕ → List Range → Bool

@@ -14,7 +14,7 @@ use Rattle.text.specs.declared.position.Position.{Position}
 use Rattle.text.specs.declared.utf8.Encoding.the-variants.{Utf8}
 use Rattle.text.specs.Encode.{encode}
 use Rattle.text.specs.WellFormed.{WellFormed}
-use Rattle.text.specs.Position.{Units, step, walk, origin, positionOf, pastCharacter, pastCharacters, Counted}
+use Rattle.text.specs.Position.{Units, step, walk, startPosition, positionOf, pastCharacter, pastCharacters, Counted}
 use Rattle.text.proofs.CodePoint.{by-length}
 use Rattle.text.proofs.Cuts.{boundary-iff}
 
@@ -63,5 +63,5 @@ module _ (unit : Units) where
     positions = λ at front back c.
         let front-of : take at s ≡ flatMap encode front =
         rw (c .place, c .text .bytes, flatMap-append) (take-append-seam (flatMap encode front) (flatMap encode back)) in
-        ap (walk unit origin) front-of ∙ row front origin;
+        ap (walk unit startPosition) front-of ∙ row front startPosition;
   }

@@ -14,8 +14,8 @@ use Rattle.text.specs.declared.utf8.Encoding.the-variants.{Utf8, Wtf8}
 use Rattle.text.specs.Ranges.{Range, _to_, within}
 use Rattle.text.specs.Utf8.{admits, continuation, surrogate, leadSurrogate, trailSurrogate, rows, besides}
 use Rattle.text.specs.Encode.{encode, Exact, RowExact}
-use Rattle.text.proofs.Within.{within-iff}
-use Rattle.text.proofs.Rows.{admits-append}
+use Rattle.text.proofs.WithinRange.{within-iff}
+use Rattle.text.proofs.RangesAdmit.{admits-append}
 
 -- one byte of a range
 starts : (lo hi : ℕ) (s : List ℕ) → admits ((lo to hi) ∷ []) s ≡ true → (x : ℕ) × (lo ≤ x) × (x ≤ hi) × (s ≡ x ∷ drop 1 s)

@@ -8,7 +8,7 @@ use lib.ListN.{take, drop}
 use lib.Seq.{take-take, drop-drop}
 use Rattle.laws.proofs.Lists.{part-part}
 use Rattle.text.specs.Bytes.{part}
-use Rattle.text.specs.Position.{Units, walk, origin, positionOf}
+use Rattle.text.specs.Position.{Units, walk, startPosition, positionOf}
 use Rattle.text.proofs.Positions.{onward}
 
 module _ (s r : List ℕ) (a b : ℕ) (front : take a s ≡ take a r) (behind : drop b s ≡ drop b r) where
@@ -23,5 +23,5 @@ module _ (s r : List ℕ) (a b : ℕ) (front : take a s ≡ take a r) (behind : 
 
   pub position-outside : (unit : Units) → positionOf unit s b ≡ positionOf unit r b → (at : ℕ) → (at ≤ a) ⊎ (b ≤ at) → positionOf unit s at ≡ positionOf unit r at
   unfolding positionOf
-  position-outside unit end at (inl l) = ap (walk unit origin) (sym (take-take at a s l) ∙ ap (take at) front ∙ take-take at a r l)
+  position-outside unit end at (inl l) = ap (walk unit startPosition) (sym (take-take at a s l) ∙ ap (take at) front ∙ take-take at a r l)
   position-outside unit end at (inr l) = sym (onward unit s b at l) ∙ rw (end, behind) (onward unit r b at l)

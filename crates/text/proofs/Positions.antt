@@ -13,7 +13,7 @@ use borrow.Author.Count.{below-more}
 use Rattle.text.specs.declared.position.Position.{Position}
 use Rattle.text.specs.Ranges.{within}
 use Rattle.text.specs.Utf8.{continuation}
-use Rattle.text.specs.Position.{Units, characters, step, walk, origin, positionOf, stored, kept, Indexed, indexedPosition}
+use Rattle.text.specs.Position.{Units, characters, step, walk, startPosition, positionOf, stored, kept, Indexed, indexedPosition}
 
 -- a walk goes on where another ends
 pub walk-append : (unit : Units) (p : Position) (s t : List ℕ) → walk unit p (s ++ t) ≡ walk unit (walk unit p s) t
@@ -74,7 +74,7 @@ walk-bounded p (b ∷ s) =
 pub bounded : (s : List ℕ) (at : ℕ) → at ≤ length s → {p : Position} → p ≡ positionOf characters s at → (p .line ≤ at) × (p .column ≤ at)
 unfolding positionOf
 bounded s at h e =
-    let most = walk-bounded origin (take at s) in
+    let most = walk-bounded startPosition (take at s) in
     rw e (omega (arith, length-take-le at s h))
 
 -- what is stored is kept, and what was kept elsewhere stays

@@ -17,8 +17,8 @@ use Rattle.text.specs.Encode.{encode, codePoints, Lead, Trail, Paired, E
 use Rattle.text.proofs.CodePoint.{by-length, round}
 use Rattle.text.proofs.Exact.{exact, leads, trails}
 use Rattle.text.proofs.Formed.{admitted, everyRow, picked}
-use Rattle.text.proofs.Rows.{admits-append}
-use Rattle.text.proofs.Within.{within-iff, merged, swapped}
+use Rattle.text.proofs.RangesAdmit.{admits-append}
+use Rattle.text.proofs.WithinRange.{within-iff, merged, swapped}
 
 -- the code points of a table
 abbrev pub spans : List Row → List Range

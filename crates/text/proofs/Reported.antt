@@ -22,7 +22,7 @@ use Rattle.text.proofs.Exact as rows
 use Rattle.text.proofs.Reader.{bounded, unique, text-only, text-all}
 use Rattle.text.proofs.Replaced.{marked, marked-count}
 use Rattle.text.proofs.WellFormed.{scalars-unpaired}
-use Rattle.text.proofs.Within.{within-iff}
+use Rattle.text.proofs.WithinRange.{within-iff}
 
 abbrev isSurrogate : ℕ → Bool
 isSurrogate p = within (0xD800 to 0xDFFF) p

@@ -37,12 +37,12 @@ unfoldable pub walk : Units → Position → List ℕ → Position
 walk unit p [] = p
 walk unit p (b ∷ s) = walk unit (step unit p b) s
 
-abbrev pub origin : Position
-origin = record { line = 0; column = 0 }
+abbrev pub startPosition : Position
+startPosition = record { line = 0; column = 0 }
 
 -- the position at a place of a text
 unfoldable pub positionOf : Units → List ℕ → ℕ → Position
-positionOf unit s at = walk unit origin (take at s)
+positionOf unit s at = walk unit startPosition (take at s)
 
 -- a place neither past a text nor inside a character; at the end `getD` gives 0, which goes on with none
 abbrev pub Boundary : List ℕ → ℕ → Type 0
@@ -78,7 +78,7 @@ pub record Cut (s : List ℕ) (at : ℕ) (front back : List ℕ) : Type 0 where
 -- in a text the places that are neither past it nor inside a character are those behind a row of its characters, and the position there is the one past that row
 pub record Counted (unit : Units) (s : List ℕ) : Type 0 where
   pub places : (at : ℕ) → Boundary s at ↔ ((front : List ℕ) × (back : List ℕ) × Cut s at front back)
-  pub positions : (at : ℕ) (front back : List ℕ) → Cut s at front back → positionOf unit s at ≡ pastCharacters unit origin front
+  pub positions : (at : ℕ) (front back : List ℕ) → Cut s at front back → positionOf unit s at ≡ pastCharacters unit startPosition front
 
 -- ---- an index of positions
 

@@ -13,7 +13,7 @@ use Rattle.wire.specs.Number.{largest, lastGroup, groups, number}
 use Rattle.wire.specs.code.Views.{Past, PlaceValue}
 use Rattle.wire.specs.declared.Read.{Read}
 use Rattle.wire.specs.declared.Read.the-variants as read
-use Rattle.wire.proofs.Places.{byte-past, byte-at}
+use Rattle.wire.proofs.FieldsAtPlace.{byte-past, byte-at}
 
 module _ (scale low : ℕ) (s : List ℕ) (at : ℕ) where
   pub none-left : (k : ℕ) → k ≤ 0 → groups k scale low (drop at s) ≡ no 2

@@ -1,4 +1,4 @@
-pub mod Places
+pub mod FieldsAtPlace
 pub mod Groups
 pub mod Lengths
 pub mod NumberCodec

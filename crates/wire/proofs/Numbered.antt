@@ -16,7 +16,7 @@ use Rattle.wire.proofs.TextCodec.{below-codec}
 pub record Numbers {A : Type 0} (number : A → ℕ) (values : Values A) : Type 0 where
   pub few : (a : A) → number a < suc (length (values .front))
   pub back : (a : A) → valueOf values (number a) ≡ a
-  pub there : (n : ℕ) → n < suc (length (values .front)) → number (valueOf values n) ≡ n
+  pub forth : (n : ℕ) → n < suc (length (values .front)) → number (valueOf values n) ≡ n
 
 -- so a value is decoded from its number, and from nothing else
 pub numbered-codec : {A : Type 0} {number : A → ℕ} {values : Values A} → Numbers number values → Codec (numbered values) (λ a. number a ∷ []) (λ a. Unit {0})
@@ -24,7 +24,7 @@ unfolding numbered
 numbered-codec {A} {number} {values} k =
     codec-of (built-end (below-codec (suc (length (values .front)))) (valueOf values))
     (λ a v. (number a, k .back a, k .few a))
-    (λ n v. (ap (λ m. m ∷ []) (sym (k .there n v)), tt))
+    (λ n v. (ap (λ m. m ∷ []) (sym (k .forth n v)), tt))
 
 -- and no two values have one number
 pub one-number : {A : Type 0} {number : A → ℕ} {values : Values A} → Numbers number values → {a b : A} → number a ≡ number b → a ≡ b
@@ -54,7 +54,7 @@ module _ {A : Type 0} (number : A → ℕ) where
   numbers values back order =
       let l = values .front in
       let last = values .last in
-      record { few = few; back = back; there = λ n h. omega (arith, at-number l last 0 order n (omega arith)) }
+      record { few = few; back = back; forth = λ n h. omega (arith, at-number l last 0 order n (omega arith)) }
     where
       few : (a : A) → number a < suc (length (values .front))
       few a = by-size (leb (number a) (length (values .front))) refl

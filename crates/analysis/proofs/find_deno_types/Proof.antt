@@ -1,7 +1,7 @@
 use borrow.Author.Needs.{needs}
 use Rattle.laws.proofs.Steps.{known}
 use Rattle.analysis.specs.Row.{all, first, matchAt}
-use Rattle.analysis.proofs.Rows.{deno-types-row}
+use Rattle.analysis.proofs.RowSteps.{deno-types-row}
 use Rattle.analysis.proofs.Search.{first-append}
 use Rattle.analysis.proofs.find_deno_types.Statement.{statement}
 use Rattle.analysis.proofs.find_deno_types.Tie as tie

@@ -3,7 +3,7 @@ use native.Mathlib.Nat.{zero-add}
 use borrow.Author.Tests.{eq-eqb, ne-eqb}
 use Rattle.laws.proofs.Steps.{known}
 use Rattle.analysis.specs.Row.{first, matchAt}
-use Rattle.analysis.proofs.Rows.{source-mapping-row}
+use Rattle.analysis.proofs.RowSteps.{source-mapping-row}
 use Rattle.analysis.proofs.find_source_mapping_url.Statement.{statement}
 use Rattle.analysis.proofs.find_source_mapping_url.Tie as tie
 

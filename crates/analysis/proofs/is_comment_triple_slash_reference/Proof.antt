@@ -2,7 +2,7 @@ use borrow.Author.Needs.{needs}
 use borrow.Author.Tests.{eq-eqb, ne-eqb}
 use Rattle.laws.proofs.Steps.{known}
 use Rattle.analysis.specs.Row.{first, matchAt}
-use Rattle.analysis.proofs.Rows.{triple-slash-row}
+use Rattle.analysis.proofs.RowSteps.{triple-slash-row}
 use Rattle.analysis.proofs.is_comment_triple_slash_reference.Statement.{statement}
 use Rattle.analysis.proofs.is_comment_triple_slash_reference.Tie as tie
 

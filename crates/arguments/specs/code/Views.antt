@@ -16,7 +16,7 @@ use Rattle.sheet.specs.declared.fields.Span.{Span}
 use Rattle.sheet.specs.Tree.{Pieces, Node, Nodes, string, template, binary}
 use Rattle.sheet.specs.Nodes.{many, piece, node}
 use Rattle.sheet.specs.Shape.{shape}
-use Rattle.heads.specs.code.Views.{Part}
+use Rattle.sheet_heads.specs.code.Views.{Part}
 use Rattle.report.specs.ModuleInfo.{DynamicTemplatePart}
 use Rattle.report.specs.ModuleInfo as info
 use Rattle.arguments.specs.Argument.{templateParts, operand, chain, argumentOf, singleText}
@@ -33,7 +33,7 @@ encodeParts = flatMap (encodeOptional encodeText)
 
 -- the part of a hole, if there is one: an expression
 abbrev pub holeParts : Bool → List DynamicTemplatePart
-holeParts there = cond there (Option.none ∷ []) []
+holeParts hasHole = cond hasHole (Option.none ∷ []) []
 
 -- nothing is known of the text of an expression, wherever it stands in an argument
 pub record Unknown (n : Node) : Type 0 where
@@ -68,11 +68,11 @@ pub record IsPlus (s : List ℕ) (inner : Decoder Node) (next : Cursor) (n : Nod
   pub second : inner between ≡ ok right t
 
 -- what was read of an expression is the node n, with t behind it
-abbrev pub Reads : List ℕ → Decoder Node → Expression → Node → List ℕ → Type 0
-Reads s inner (expression.String from to next) n t = IsString s from to next n t
-Reads s inner (expression.Template holes next) n t = IsTemplate s holes next n
-Reads s inner (expression.Plus next) n t = IsPlus s inner next n t
-Reads s inner expression.Other n t = Unknown n
+abbrev pub ExpressionIs : List ℕ → Decoder Node → Expression → Node → List ℕ → Type 0
+ExpressionIs s inner (expression.String from to next) n t = IsString s from to next n t
+ExpressionIs s inner (expression.Template holes next) n t = IsTemplate s holes next n
+ExpressionIs s inner (expression.Plus next) n t = IsPlus s inner next n t
+ExpressionIs s inner expression.Other n t = Unknown n
 
 abbrev pub ExpressionWithin : ℕ → ℕ → Expression → Type 0
 ExpressionWithin n levels (expression.String from to next) = (0 < levels) × Part n from to

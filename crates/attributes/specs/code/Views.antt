@@ -16,9 +16,9 @@ use Rattle.sheet.specs.code.Tables.{rows}
 use Rattle.sheet.specs.Nodes.{node, propertyItem}
 use Rattle.sheet.specs.Nodes as nodes
 use Rattle.sheet.specs.Shape.{Shape, text, named, pieces, operation, properties, anything, shape}
-use Rattle.heads.specs.declared.parts.Property.{Property}
-use Rattle.heads.specs.declared.parts.Property.the-variants as property
-use Rattle.heads.specs.code.Views.{Part}
+use Rattle.sheet_heads.specs.declared.parts.Property.{Property}
+use Rattle.sheet_heads.specs.declared.parts.Property.the-variants as property
+use Rattle.sheet_heads.specs.code.Views.{Part}
 use Rattle.report.specs.ModuleInfo.{KeyValue, none, unknown, known}
 use Rattle.report.specs.ModuleInfo as info
 use Rattle.attributes.specs.declared.pairs.Pair.{Pair}
@@ -127,15 +127,15 @@ propIn s (property.StringKey from to) at next = cond (exact (part s from to)) (p
 propIn s (property.NameKey from to) at next = propRead.Keyed from to at next
 
 -- a property that is read from s, with u behind it, and seen as e
-pub record Reads (inner : Decoder Node) (s u : List ℕ) (e : Prop) : Type 0 where
+pub record SeenAs (inner : Decoder Node) (s u : List ℕ) (e : Prop) : Type 0 where
   pub add : Properties → Properties
   pub item : propertyItem inner s ≡ ok add u
   pub sees : (ps : Properties) → props (add ps) ≡ e ∷ props ps
 
 abbrev pub PropIs : List ℕ → Decoder Node → ℕ → PropRead → Type 0
-PropIs s inner at (propRead.Keyless next) = Reads inner (drop at s) (drop (next .at) s) keyless
+PropIs s inner at (propRead.Keyless next) = SeenAs inner (drop at s) (drop (next .at) s) keyless
 PropIs s inner at (propRead.Keyed from to c next) =
-    (v : Node) × (inner (drop (c .at) s) ≡ ok v (drop (next .at) s)) × Reads inner (drop at s) (drop (next .at) s) (keyed (part s from to) (shape v))
+    (v : Node) × (inner (drop (c .at) s) ≡ ok v (drop (next .at) s)) × SeenAs inner (drop at s) (drop (next .at) s) (keyed (part s from to) (shape v))
 PropIs s inner at (propRead.Refused r) = propertyItem inner (drop at s) ≡ no r
 
 abbrev pub PropWithin : ℕ → PropRead → Type 0

@@ -2,12 +2,12 @@ use borrow.Author.Needs.{needs}
 use native.Mathlib.Omega.{arith}
 use Prim.Native.Nat.{_-_}
 use lib.ListN.{length}
-use Rattle.dearest.proofs.Numerals.{Reading, begin, empty, finished, no-digit, too-large, zero-first, onward}
+use Rattle.dearest.proofs.Numerals.{ReadUpTo, begin, empty, finished, no-digit, too-large, zero-first, onward}
 use Rattle.dearest.proofs.read_numeral.Statement.{statement}
 use Rattle.dearest.proofs.read_numeral.Tie as tie
 
 abbrev Inv-loop : tie.InvT-loop
-Inv-loop digits n₀ i₀ n i = Reading digits i n
+Inv-loop digits n₀ i₀ n i = ReadUpTo digits i n
 
 abbrev μ-loop : tie.MeasureT-loop
 μ-loop digits n₀ i₀ n i = length digits - i

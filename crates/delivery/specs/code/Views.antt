@@ -12,7 +12,7 @@ use Rattle.report.specs.Valid.{Short}
 use Rattle.report.specs.ModuleInfo.{DependencyDescriptor}
 use Rattle.report.specs.Encode.{encodeDependency}
 use Rattle.report.specs.Valid.{ValidDependency}
-use Rattle.report_reader.specs.code.Reads.{Inside, Reads}
+use Rattle.report_reader.specs.code.FromPlace.{Inside, ReadsBack}
 use Rattle.delivery.specs.declared.check.Passed.{Passed}
 use Rattle.delivery.specs.declared.check.Passed.the-variants as passed
 use Rattle.delivery.specs.declared.check.Checked.{Checked}
@@ -95,6 +95,6 @@ JudgementInside work (judgement.Refused r i) = Unit {0}
 
 -- a module read in s from `at` on: its fields, and where its name and its sheet stand
 pub record ModuleIn (s : List ℕ) (at : ℕ) (r : ModuleRead) : Type 0 where
-  pub answer : Reads encodeModule ValidModule s at (moduleAs s r) (r .«sheet_to»)
+  pub answer : ReadsBack encodeModule ValidModule s at (moduleAs s r) (r .«sheet_to»)
   pub name : Inside s (r .«name_from») (r .«name_to»)
   pub sheet : Inside s (r .«sheet_from») (r .«sheet_to»)

@@ -16,14 +16,14 @@ use Rattle.sheet.specs.Nodes.{node}
 use Rattle.sheet.specs.Shape.{shape, isRequire}
 use Rattle.sheet.specs.Walk.{walkAll, walkOf, walkIn, walkWith}
 use Rattle.sheet.specs.code.Tables.{commentsIn, groupsIn, commentsPart, groupsPart, indexPart}
-use Rattle.heads.specs.declared.quoted.Quoted as q
-use Rattle.heads.specs.declared.node.Head as h
-use Rattle.heads.specs.declared.node.Head.the-variants as head
-use Rattle.heads.specs.code.Head.{Head, otherHead, stringHead, nameHead, templateHead, binaryHead, objectHead, importCallHead, callHead, importHead, namedExportHead, exportFromHead, exportAllHead, importTypeHead, importEqualsHead, importRequireHead, moduleHead}
-use Rattle.heads.specs.code.Views.{quotedOf, QuotedPart, headOf, Within}
+use Rattle.sheet_heads.specs.declared.quoted.Quoted as q
+use Rattle.sheet_heads.specs.declared.node.Head as h
+use Rattle.sheet_heads.specs.declared.node.Head.the-variants as head
+use Rattle.sheet_heads.specs.code.Head.{Head, otherHead, stringHead, nameHead, templateHead, binaryHead, objectHead, importCallHead, callHead, importHead, namedExportHead, exportFromHead, exportAllHead, importTypeHead, importEqualsHead, importRequireHead, moduleHead}
+use Rattle.sheet_heads.specs.code.Views.{quotedOf, QuotedPart, headOf, HeadWithin}
 use Rattle.report.specs.declared.names.DynamicDependencyKind.{DynamicDependencyKind}
 use Rattle.report.specs.declared.names.DynamicDependencyKind.the-variants as dynamics
-use Rattle.report.specs.declared.writer.Place.{Place}
+use Rattle.report.specs.declared.writer.Pen.{Pen}
 use Rattle.report.specs.ModuleInfo.{SpecifierWithRange, ImportAttributes, DynamicArgument, dynamic}
 use Rattle.report.specs.Encode.{encodeDependency}
 use Rattle.report.specs.Range.{rangeOf, InSource}
@@ -65,10 +65,10 @@ Spanned source (binaryHead plus) = Unit {0}
 Spanned source (objectHead n) = Unit {0}
 Spanned source (importCallHead phase) = Unit {0}
 Spanned source callHead = Unit {0}
-Spanned source (importHead typeOnly phase sideEffect x there) = InSource source (x .span)
+Spanned source (importHead typeOnly phase sideEffect x hasObject) = InSource source (x .span)
 Spanned source (namedExportHead typeOnly) = Unit {0}
-Spanned source (exportFromHead typeOnly x there) = InSource source (x .span)
-Spanned source (exportAllHead typeOnly x there) = InSource source (x .span)
+Spanned source (exportFromHead typeOnly x hasObject) = InSource source (x .span)
+Spanned source (exportAllHead typeOnly x hasObject) = InSource source (x .span)
 Spanned source (importTypeHead x n) = InSource source (x .span)
 Spanned source importEqualsHead = Unit {0}
 Spanned source (importRequireHead typeOnly export x) = InSource source (x .span)
@@ -77,7 +77,7 @@ Spanned source (moduleHead (Option.some x) n) = InSource source (x .span)
 
 -- a cursor past a head that was read
 abbrev pub PastHead : List ℕ → List ℕ → ℕ → h.Head → Type 0
-PastHead s source at x = (at ≤ length s) × Within (length s) x × Spanned source (headOf s x)
+PastHead s source at x = (at ≤ length s) × HeadWithin (length s) x × Spanned source (headOf s x)
 
 -- the head of a call: an import, or a call of an expression
 abbrev pub Calls : h.Head → Type 0
@@ -100,7 +100,7 @@ calleesOf dynamics.Require = 1
 abbrev pub Written : Type 0
 Written = Buffer × List ℕ
 
-abbrev pub writtenAs : List ℕ → List ℕ → Place → Written
+abbrev pub writtenAs : List ℕ → List ℕ → Pen → Written
 writtenAs out notes p = (bufferAs out p, notes)
 
 abbrev pub walkedAs : List ℕ → List ℕ → List ℕ → Walked → Decoded Written

@@ -5,7 +5,7 @@ use lib.ListN.{drop, length-drop}
 use denote.Ref.{now}
 use Rattle.laws.proofs.Steps.{known}
 use Rattle.ecma426.specs.Reader.{oneAt}
-use Rattle.ecma426.proofs.Rows.{one-fits}
+use Rattle.ecma426.proofs.LongestRow.{one-fits}
 use Rattle.ecma426.proofs.one_at.Statement.{statement}
 use Rattle.ecma426.proofs.one_at.Tie as tie
 

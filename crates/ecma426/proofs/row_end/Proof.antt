@@ -6,7 +6,7 @@ use lib.ListN.{length}
 use denote.Ref.{now}
 use Rattle.laws.proofs.Steps.{known}
 use Rattle.ecma426.specs.Reader.{rowEnd}
-use Rattle.ecma426.proofs.Rows.{row-stops, row-goes-on}
+use Rattle.ecma426.proofs.LongestRow.{row-stops, row-goes-on}
 use Rattle.ecma426.proofs.row_end.Statement.{statement}
 use Rattle.ecma426.proofs.row_end.Tie as tie
 

@@ -107,10 +107,10 @@ abbrev pub Movable : ℕ → Text → Type 0
 Movable i (text.Part a b j) = (a ≤ b) × (b ≤ j) × (i + j < 2 ^ 64)
 Movable i text.Backtrace = Unit {0}
 
--- the mark of an import found from place i on
-abbrev pub marked : ℕ → JsDocImport → List ℕ → List ℕ
-marked i (jsDocImport.Import a b m) l = set l (i + a) (modeNumber (modeAs m) + 1)
-marked i jsDocImport.Backtrace l = l
+-- the tick of an import found from place i on
+abbrev pub ticked : ℕ → JsDocImport → List ℕ → List ℕ
+ticked i (jsDocImport.Import a b m) l = set l (i + a) (modeNumber (modeAs m) + 1)
+ticked i jsDocImport.Backtrace l = l
 
 -- its note
 abbrev pub noted : ℕ → JsDocImport → List ℕ → List ℕ

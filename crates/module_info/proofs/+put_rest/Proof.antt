@@ -8,7 +8,7 @@ use denote.Ref.{now}
 use Rattle.sheet.specs.Limits.{sourceLimit}
 use Rattle.sheet.specs.code.Views.{programOf}
 use Rattle.sheet.proofs.lookups.end_group.Reads as end-group
-use Rattle.listing.proofs.imports.analyze_jsdoc_imports.Reads as analyze-jsdoc-imports
+use Rattle.jsdoc_list.proofs.imports.analyze_jsdoc_imports.Reads as analyze-jsdoc-imports
 use Rattle.pragmas.proofs.Reached.{end-reached}
 use Rattle.pragmas.proofs.analyze_source_map_url.Reads as analyze-source-map-url
 use Rattle.module_info.proofs.Cleared.{front-cleared}
@@ -19,7 +19,7 @@ use Rattle.module_info.proofs.+put_rest.Lts-put_rest as put-rest-lts
 use Rattle.module_info.proofs.+put_rest.{statement}
 use Rattle.module_info.proofs.+put_rest.Tie.{close}
 
--- how many marks are lacking for the longest source
+-- how many ticks are lacking for the longest source
 abbrev μ-put-rest : Measures 4 put-rest-kinds.ps ℕ
 μ-put-rest κs a = sourceLimit - length (now (a .1 .1 .1 .0))
 
@@ -54,7 +54,7 @@ analyze-jsdoc-imports-requires : (t : ℕ) → put-rest-lts.Need-analyze-jsdoc-i
 analyze-jsdoc-imports-requires t c κs =
     let a = c .before .before .before .before .before .before .before .before .before .before .args in
     let pre = c .before .before .before .before .before .before .before .before .before .before .pre .1 in
-    (pre .1 .1 .0, front-cleared (now (a .marks)) (length (now (a .source))) (pre .0) (c .before .before .before .before .before .if1 .left))
+    (pre .1 .1 .0, front-cleared (now (a .ticks)) (length (now (a .source))) (pre .0) (c .before .before .before .before .before .if1 .left))
 
 analyze-source-map-url-requires : (t : ℕ) → put-rest-lts.Need-analyze-source-map-url-requires (calls t) (put-rest-at t) put-rest.Post
 analyze-source-map-url-requires t c κs =

@@ -46,11 +46,11 @@ use denote.Signature.Struct.{makes}
 use Rattle.laws.specs.Decoded.{ok}
 use Rattle.sheet.specs.Limits.{tableNumbers}
 use Rattle.sheet.specs.Sheet.{Sheet, accept}
-use Rattle.accept.specs.declared.check.Parts.{Parts}
-use Rattle.accept.proofs.check.Parts as N
-use Rattle.accept.proofs.check.Parts.Laws as N′
+use Rattle.sheet_check.specs.declared.check.Parts.{Parts}
+use Rattle.sheet_check.proofs.check.Parts as N
+use Rattle.sheet_check.proofs.check.Parts.Laws as N′
 use Rattle.report.specs.declared.lent.Writer.{Writer}
-use Rattle.report.specs.declared.writer.Place.{Place}
+use Rattle.report.specs.declared.writer.Pen.{Pen}
 use Rattle.report.specs.declared.writer.Outcome.{Outcome}
 use Rattle.report.specs.Buffer.{wrote, bufferAs}
 use Rattle.report.specs.Answer.{answered, outcomeAs}
@@ -61,8 +61,8 @@ use Rattle.report.proofs.Answers.{answered-fitted}
 use Rattle.report.proofs.Held.{PlaceR, place-makes, place-again, place-typed, passing, writerVal, writer-typed, writer-made}
 use Rattle.report.proofs.lent.Writer as T
 use Rattle.report.proofs.lent.Writer.Laws as T′
-use Rattle.report.proofs.writer.Place as P
-use Rattle.report.proofs.writer.Place.Laws as P′
+use Rattle.report.proofs.writer.Pen as P
+use Rattle.report.proofs.writer.Pen.Laws as P′
 use Rattle.report.proofs.writer.Outcome as O
 use Rattle.report.proofs.writer.Outcome.Laws as O′
 use Rattle.report.proofs.lent.new as new
@@ -109,10 +109,10 @@ module _ {M : Type 1} (𝓤 : URA M) (H : Heap 𝓤) (A : Atoms 𝓤) (W : Given
   x δ l = record { ptr = (b, o); name = δ; now = l }
 
   -- a writer that holds it, and the place of the first
-  abbrev h : Place → List ℕ → Writer
+  abbrev h : Pen → List ℕ → Writer
   h r zs = record { out = x γ zs; place = r }
 
-  abbrev start : Place
+  abbrev start : Pen
   start = begun (x γ ys) .place
 
   -- the machine values of the slices, of the parts, and of a writer with the place r
@@ -125,7 +125,7 @@ module _ {M : Type 1} (𝓤 : URA M) (H : Heap 𝓤) (A : Atoms 𝓤) (W : Given
   abbrev vₚ : Val
   vₚ = LL.val N.the-type N′.the-laws parts
 
-  abbrev mach : Place → Val
+  abbrev mach : Pen → Val
   mach r = writerVal (b, o) (length ys) r
 
   abbrev own₀ : Fml
@@ -162,13 +162,13 @@ module _ {M : Type 1} (𝓤 : URA M) (H : Heap 𝓤) (A : Atoms 𝓤) (W : Given
       qed W (‵ (flft κ q) ∷ ‵ (MutSlice (named 0) κ u8 .own (x γ ys) (s ∷ [])) ∷ []) ∵ nothing ! $ move ! (2 ∷ 0 ∷ []) $ fjoin ! $
       nothing ! $ move ! (2 ∷ 0 ∷ []) $ join ! $ join ! $ frame ! $ done !
 
-  abbrev passed : GName → RefT (List ℕ) × (Parts × (RefT (List ℕ) × (RefT (List ℕ) × (Place × Unit {0}))))
+  abbrev passed : GName → RefT (List ℕ) × (Parts × (RefT (List ℕ) × (RefT (List ℕ) × (Pen × Unit {0}))))
   passed δ = (x₀, (parts, (x₁, (x δ ys, (start, tt)))))
 
   abbrev to-put : ℕ → GName → Put 𝓤 H A mem run .Ghost
   to-put ν δ = ((lfts (ν ∷ []), (q₀, (q₁, (fullShare, tt))), tt, passed δ, (v₀ ∷ [], (vₚ ∷ [], (ptr-vals x₁, (s ∷ [], (P′.lowered start ∷ [], tt)))))), tt)
 
-  abbrev Said-put : Place → List ℕ → Type 0
+  abbrev Said-put : Pen → List ℕ → Type 0
   Said-put r zs = (t : Sheet) → accept (now x₀) ≡ ok t [] → bufferAs zs r ≡ wrote (bufferAs ys start) (encode (moduleInfo t))
 
   goes-put : (ν : ℕ) (δ : GName) → Is P.the-row start (P′.lowered start ∷ [])
@@ -181,22 +181,22 @@ module _ {M : Type 1} (𝓤 : URA M) (H : Heap 𝓤) (A : Atoms 𝓤) (W : Given
       move ! (1 ∷ []) $ split ! $ move ! (1 ∷ 2 ∷ []) $ fjoin ! $
       owned ! N.the-row (Is N.the-row) (LL.makes N.the-type N′.the-plain 𝓤 H A) parts (vₚ ∷ []) is-parts $ fjoin ! $ move ! (1 ∷ 0 ∷ []) $ fjoin ! $ done !
 
-  abbrev held : Place → List ℕ → List Val × (List Val × Unit {0}) → Fml
+  abbrev held : Pen → List ℕ → List Val × (List Val × Unit {0}) → Fml
   held r zs vss = fsep (MutSlice (named 0) κ u8 .own (x γ zs) (vss .0)) (fsep (P.the-row .own r (vss .1 .0)) ftrue)
 
-  abbrev to-finish : Place → List ℕ → Finish 𝓤 H A mem run .Ghost
+  abbrev to-finish : Pen → List ℕ → Finish 𝓤 H A mem run .Ghost
   to-finish r zs = (((κ, tt), (q, tt), tt, (h r zs, tt), (mach r ∷ [], tt)), tt)
 
-  abbrev Said : Place → List ℕ → Outcome → List ℕ → Type 0
+  abbrev Said : Pen → List ℕ → Outcome → List ℕ → Type 0
   Said r zs t us = outcomeAs t us ≡ answered (length zs) (bufferAs zs r)
 
-  goes-finish : (r : Place) (zs : List ℕ) → Is P.the-row r (P′.lowered r ∷ []) → ent 𝓤 (sep 𝓤 (A .lft κ q) (sem 𝓤 H A (MutSlice (named 0) κ u8 .own (x γ zs) (s ∷ [])))) (Finish 𝓤 H A mem run .pre (to-finish r zs))
+  goes-finish : (r : Pen) (zs : List ℕ) → Is P.the-row r (P′.lowered r ∷ []) → ent 𝓤 (sep 𝓤 (A .lft κ q) (sem 𝓤 H A (MutSlice (named 0) κ u8 .own (x γ zs) (s ∷ [])))) (Finish 𝓤 H A mem run .pre (to-finish r zs))
   goes-finish r zs is =
       qed W (‵ (flft κ q) ∷ ‵ (MutSlice (named 0) κ u8 .own (x γ zs) (s ∷ [])) ∷ []) ∵ nothing ! $ owned ! P.the-row (Is P.the-row) (place-makes 𝓤 H A W) r (P′.lowered r ∷ []) is $ fjoin ! $ move ! (2 ∷ 0 ∷ []) $ fjoin ! $
       use1 W (‵ (T.the-row (passing κ) .own (h r zs) (mach r ∷ []))) (makes 𝓤 H A W (MutSlice (named 0) κ u8 ∷ PlaceR ∷ []) (held r zs) (s ∷ [], (P′.lowered r ∷ [], tt))) $
       nothing ! $ move ! (1 ∷ 0 ∷ []) $ fjoin ! $ nothing ! $ move ! (2 ∷ 0 ∷ []) $ join ! $ join ! $ frame ! $ done !
 
-  exits : (t : Outcome) (w : Val) (r : Place) (zs us : List ℕ) → Said-put r zs → length zs ≡ length ys → Said r zs t us → length us ≡ length zs
+  exits : (t : Outcome) (w : Val) (r : Pen) (zs us : List ℕ) → Said-put r zs → length zs ≡ length ys → Said r zs t us → length us ≡ length zs
       → ent 𝓤 (⋆ 𝓤 H A ((‵ (flft κ q) ⊛ ‵ ftrue) ∷ ‵ (flft κ₁ q₁) ∷ ‵ (flft κ₀ q₀) ∷ ‵ (finally u8 γ us) ∷ ‵ (O.the-row .own t (w ∷ [])) ∷ ‵ own₀ ∷ ‵ own₁ ∷ [])) (Post w)
   exits t w r zs us e l f m =
       qed W ((‵ (flft κ q) ⊛ ‵ ftrue) ∷ ‵ (flft κ₁ q₁) ∷ ‵ (flft κ₀ q₀) ∷ ‵ (finally u8 γ us) ∷ ‵ (O.the-row .own t (w ∷ [])) ∷ ‵ own₀ ∷ ‵ own₁ ∷ []) ∵
@@ -238,7 +238,7 @@ module _ {M : Type 1} (𝓤 : URA M) (H : Heap 𝓤) (A : Atoms 𝓤) (W : Given
         use2 W (later (some (λ (δ : GName). ‵ (MutSlice (named 0) (ν ∷ []) u8 .own (x δ ys) (s ∷ [])) ⊛ ‵ (LentAgain u8 κ (ν ∷ []) q γ b o δ ys)))) (lends-again u8 κ (ν ∷ []) q γ b o 𝓤 H A W (named 0) (named 0) ys) $ await ! tt $ pick ! (λ δ. split ! $
         move ! (10 ∷ 8 ∷ []) $ join ! $ move ! (7 ∷ 3 ∷ []) $ join ! $ move ! (7 ∷ 0 ∷ []) $ join ! $ move ! (0 ∷ 2 ∷ 1 ∷ []) $ use3 W (raw (Put 𝓤 H A mem run .pre (to-put ν δ))) (goes-put ν δ (starts is-w)) $
         calls-at ! fm (Put 𝓤 H A mem run) known-put (to-put ν δ) (and-then ! (load ! (from ! (stop !)) (look ! 37 refl)) (and-then ! (load ! (from ! (stop !)) (look ! 35 refl)) (and-then ! (load ! (from ! (stop !)) (look ! 33 refl)) (and-then ! (load ! (from ! (stop !)) (look ! 17 refl)) (and-then ! (load ! (from ! (stop !)) (look ! 15 refl)) (no-more !)))))) (λ w₁.
-        use1 W (later (some (λ (r : Place). ((‵ (flft κ₀ q₀) ⊛ ‵ (flft κ₁ q₁) ⊛ ‵ (flft (ν ∷ []) fullShare) ⊛ ‵ ftrue) ⊛ ‵ (P.the-row .own r (w₁ ∷ []))) ⊛ raw (ensured 𝓤 H A put.ended (put.clauses 𝓤 H A mem run) (lfts (ν ∷ [])) (passed δ) tt r)))) (id⊢ 𝓤 _) $ await ! tt $ pick ! (λ r.
+        use1 W (later (some (λ (r : Pen). ((‵ (flft κ₀ q₀) ⊛ ‵ (flft κ₁ q₁) ⊛ ‵ (flft (ν ∷ []) fullShare) ⊛ ‵ ftrue) ⊛ ‵ (P.the-row .own r (w₁ ∷ []))) ⊛ raw (ensured 𝓤 H A put.ended (put.clauses 𝓤 H A mem run) (lfts (ν ∷ [])) (passed δ) tt r)))) (id⊢ 𝓤 _) $ await ! tt $ pick ! (λ r.
         split ! $ move ! (1 ∷ []) $ use1 W (some (λ (zs : Unit {0} × (Unit {0} × (Unit {0} × (List ℕ × (Unit {0} × Unit {0}))))). ‵ (lasts put.ended (lfts (ν ∷ [])) (passed δ) zs) ⊛ raw (fact 𝓤 (Said-put r (zs .1 .1 .1 .0))))) (id⊢ 𝓤 _) $ pick ! (λ zs.
         split ! $ move ! (1 ∷ []) $ heard ! (Said-put r (zs .1 .1 .1 .0)) (λ e. fsplit ! $ move ! (1 ∷ []) $ fsplit ! $ move ! (1 ∷ []) $ fsplit ! $ move ! (1 ∷ []) $ fsplit ! $ fsplit ! $ move ! (1 ∷ []) $ feqL ! (λ l.
         move ! (5 ∷ []) $ split ! $ move ! (1 ∷ []) $ peeks ! P.the-row (Is P.the-row) (shows 𝓤 H A P.the-row) r (w₁ ∷ []) (λ is-r.

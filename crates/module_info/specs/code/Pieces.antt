@@ -13,13 +13,13 @@ use Rattle.sheet.specs.Walked.{entries}
 use Rattle.sheet.specs.Sheet.{Sheet, accept}
 use Rattle.sheet.specs.code.Tables.{commentsIn, groupsIn, commentsPart, groupsPart, indexPart}
 use Rattle.sheet.specs.code.Views.{programOf}
-use Rattle.nodes.specs.code.Reach.{ReachesIn}
-use Rattle.accept.specs.declared.check.Parts.{Parts}
-use Rattle.accept.specs.code.Accepts.{Accepts}
+use Rattle.sheet_nodes.specs.code.Reach.{ReachesIn}
+use Rattle.sheet_check.specs.declared.check.Parts.{Parts}
+use Rattle.sheet_check.specs.code.Accepts.{Accepts}
 use Rattle.report.specs.Range.{IndexOf}
 use Rattle.report.specs.Encode.{encodeList, encodeSpecifier, encodeReference, encodeJsDoc, encodeDependency}
 use Rattle.pragmas.specs.Pragmas.{tsReferences, selfTypesSpecifier, jsxImportSource, jsxImportSourceTypes, sourceMapUrl, typesAt}
-use Rattle.listing.specs.Imports.{jsdocImports}
+use Rattle.jsdoc_list.specs.Imports.{jsdocImports}
 use Rattle.dep.specs.Collect.{collect}
 use Rattle.dep.specs.code.Walk.{HeldIn}
 use Rattle.module_info.specs.declared.judge.SheetJudged.{SheetJudged}

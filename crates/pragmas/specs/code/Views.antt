@@ -21,8 +21,8 @@ use Rattle.pragmas.specs.declared.readings.Counts.{Counts}
 use Rattle.pragmas.specs.declared.readings.Counts.the-variants.{First, Last}
 use Rattle.pragmas.specs.declared.readings.Rule.{Rule}
 use Rattle.pragmas.specs.declared.readings.Rule.the-variants.{TsSelfTypes, JsxImportSource, JsxImportSourceTypes, SourceMapUrl, StandardSourceMap, TsTypes, DenoTypes}
-use Rattle.pragmas.specs.declared.readings.Reading.{Reading}
-use Rattle.pragmas.specs.declared.readings.Reading.the-variants as reading
+use Rattle.pragmas.specs.declared.readings.RuleRead.{RuleRead}
+use Rattle.pragmas.specs.declared.readings.RuleRead.the-variants as reading
 use Rattle.pragmas.specs.declared.references.Reference.{Reference}
 use Rattle.pragmas.specs.declared.references.Reference.the-variants as reference
 use Rattle.pragmas.specs.Asks.{Asks, selfTypesRule, jsxImportSourceRule, jsxImportSourceTypesRule, sourceMapUrlRule, tsTypesRule, denoTypesRule}
@@ -70,18 +70,18 @@ pub record CaptureIn (source : List ℕ) (c : Comment) (k : Capture) : Type 0 wh
   pub placed : Placed source c
   pub inside : Inside k (length (body source c))
 
-abbrev pub takenAs : Reading → Option (Comment × Capture)
+abbrev pub takenAs : RuleRead → Option (Comment × Capture)
 takenAs (reading.Of c k) = Option.some (c, k)
 takenAs reading.Nothing = Option.none
 
 -- the specifier there, and how it was found
-abbrev pub readAs : List ℕ → Reading → Option SpecifierWithRange
+abbrev pub readAs : List ℕ → RuleRead → Option SpecifierWithRange
 readAs source r = Option·map (λ t. specifierIn source (t .0) (t .1)) (takenAs r)
 
-abbrev pub originAs : EntryRule → Reading → Option Origin
+abbrev pub originAs : EntryRule → RuleRead → Option Origin
 originAs entry r = Option·map (λ t. originOf entry (t .0)) (takenAs r)
 
-abbrev pub ReadIn : List ℕ → Reading → Type 0
+abbrev pub ReadIn : List ℕ → RuleRead → Type 0
 ReadIn source (reading.Of c k) = CaptureIn source c k
 ReadIn source reading.Nothing = Unit {0}
 

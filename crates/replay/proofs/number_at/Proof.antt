@@ -1,6 +1,6 @@
 use borrow.Author.Needs.{needs}
 use denote.Ref.{now}
-use Rattle.replay.proofs.Rows.{four-at}
+use Rattle.replay.proofs.StoredRows.{four-at}
 use Rattle.replay.proofs.number_at.Statement.{statement}
 use Rattle.replay.proofs.number_at.Tie as tie
 

@@ -9,7 +9,7 @@ use Rattle.laws.proofs.Steps.{seen, told}
 use Rattle.replay.specs.Stored.{rows}
 use Rattle.replay.specs.code.Views.{stepAs}
 use Rattle.replay.specs.code.Bounds.{Room}
-use Rattle.replay.proofs.Rows.{onward, tally-rows, tally-short, row-counted, row-missing, rows-done, bytes-left}
+use Rattle.replay.proofs.StoredRows.{onward, tally-rows, tally-short, row-counted, row-missing, rows-done, bytes-left}
 use Rattle.replay.proofs.replay.Statement.{statement}
 use Rattle.replay.proofs.replay.Tie as tie
 

@@ -1,7 +1,7 @@
 use borrow.Author.Needs.{needs}
 use denote.Ref.{now}
 use Rattle.laws.proofs.Steps.{told, bounded}
-use Rattle.wire.proofs.Places.{byte-past, byte-at}
+use Rattle.wire.proofs.FieldsAtPlace.{byte-past, byte-at}
 use Rattle.replay.specs.Stored.{row}
 use Rattle.replay.proofs.replay_one.Statement.{statement}
 use Rattle.replay.proofs.replay_one.Tie as tie
@@ -12,19 +12,19 @@ returns c =
     let s = now (c .before .before .before .before .before .before .before .args .list) in
     let found = c .before .before .start .given in
     record {
-      answer = rw (told (c .before .before .before .before .part-at .ensures) (found .1), byte-past s (found .0 .1 .0) (c .if1 .taken));
+      answer = rw (told (c .before .before .before .before .stretch-at .ensures) (found .1), byte-past s (found .0 .1 .0) (c .if1 .taken));
       bounds = tt;
     }
 
 -- both parts stand within the list
 sub-run : tie.Need-sub-run
-sub-run c = bounded (c .before .before .before .before .before .before .before .before .part-at .ensures) (c .before .before .before .before .before .before .start .given .1) .0
+sub-run c = bounded (c .before .before .before .before .before .before .before .before .stretch-at .ensures) (c .before .before .before .before .before .before .start .given .1) .0
 
 sub-run-2 : tie.Need-sub-run-2
-sub-run-2 c = bounded (c .before .before .before .before .before .part-at2 .ensures) (c .before .before .before .from .given .1) .0
+sub-run-2 c = bounded (c .before .before .before .before .before .stretch-at2 .ensures) (c .before .before .before .from .given .1) .0
 
 part-run-end-2 : tie.Need-part-run-end-2
-part-run-end-2 c = bounded (c .before .before .before .before .before .part-at2 .ensures) (c .before .before .before .from .given .1) .1
+part-run-end-2 c = bounded (c .before .before .before .before .before .stretch-at2 .ensures) (c .before .before .before .from .given .1) .1
 
 returns-2 : tie.Need-returns-2
 unfolding row
@@ -33,12 +33,12 @@ returns-2 c =
     let sheet = c .before .before .before .before .before .before .before .before .before .before .before .before .before .start .given in
     let report = c .before .before .before .before .before .before .before .before .from .given in record {
       answer = rw (
-        told (c .before .before .before .before .before .before .before .before .before .before .before .before .before .before .before .part-at .ensures) (sheet .1),
+        told (c .before .before .before .before .before .before .before .before .before .before .before .before .before .before .before .stretch-at .ensures) (sheet .1),
         byte-at s (sheet .0 .1 .0) (c .before .before .before .before .before .before .before .before .before .before .before .if1 .left),
-        told (c .before .before .before .before .before .before .before .before .before .before .part-at2 .ensures) (report .1),
+        told (c .before .before .before .before .before .before .before .before .before .before .stretch-at2 .ensures) (report .1),
         c .before .before .run .ensures,
       );
-      bounds = bounded (c .before .before .before .before .before .before .before .before .before .before .part-at2 .ensures) (report .1) .1;
+      bounds = bounded (c .before .before .before .before .before .before .before .before .before .before .stretch-at2 .ensures) (report .1) .1;
     }
 
 returns-3 : tie.Need-returns-3
@@ -47,16 +47,16 @@ returns-3 c =
     let s = now (c .before .before .before .before .before .before .before .before .before .before .args .list) in
     let sheet = c .before .before .before .before .before .start .given in record {
       answer = rw (
-        told (c .before .before .before .before .before .before .before .part-at .ensures) (sheet .1),
+        told (c .before .before .before .before .before .before .before .stretch-at .ensures) (sheet .1),
         byte-at s (sheet .0 .1 .0) (c .before .before .before .if1 .left),
-        told (c .before .before .part-at2 .ensures) (c .enum-told .given .1),
+        told (c .before .before .stretch-at2 .ensures) (c .enum-told .given .1),
       );
       bounds = tt;
     }
 
 returns-4 : tie.Need-returns-4
 unfolding row
-returns-4 c = record { answer = rw (told (c .before .before .part-at .ensures) (c .enum-told2 .given .1)); bounds = tt }
+returns-4 c = record { answer = rw (told (c .before .before .stretch-at .ensures) (c .enum-told2 .given .1)); bounds = tt }
 
 pub replay-one-spec : {M : Type 1} → statement M
 replay-one-spec =

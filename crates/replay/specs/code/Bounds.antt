@@ -1,7 +1,7 @@
 -- The bounds that the functions keep: places within the list, and counts that cannot overflow.
 use Prim.Native.Nat.{ℕ, _+_, _≤_}
-use Rattle.replay.specs.declared.Part.{Part}
-use Rattle.replay.specs.declared.Part.the-variants as part
+use Rattle.replay.specs.declared.Stretch.{Stretch}
+use Rattle.replay.specs.declared.Stretch.the-variants as stretch
 use Rattle.replay.specs.declared.Step.{Step}
 use Rattle.replay.specs.declared.Step.the-variants as step
 use Rattle.replay.specs.declared.Counts.{Counts}
@@ -9,9 +9,9 @@ use Rattle.replay.specs.declared.Tally.{Tally}
 use Rattle.replay.specs.declared.Tally.the-variants as tally
 
 -- a part's bytes stand in a list of so many
-abbrev pub Within : ℕ → Part → Type 0
-Within n (part.Bytes start end) = (start ≤ end) × (end ≤ n)
-Within n part.Missing = Unit {0}
+abbrev pub StretchWithin : ℕ → Stretch → Type 0
+StretchWithin n (stretch.Bytes start end) = (start ≤ end) × (end ≤ n)
+StretchWithin n stretch.Missing = Unit {0}
 
 -- the next row stands in it, or at its end
 abbrev pub NextWithin : ℕ → Step → Type 0

@@ -11,7 +11,7 @@ use Rattle.report.specs.Encode.{encodeDependency}
 use Rattle.report.specs.Valid.{ValidDependency}
 use Rattle.report_reader.specs.declared.dependencies.DependencyRead.{DependencyRead}
 use Rattle.report_reader.specs.declared.dependencies.DependencyRead.the-variants as read
-use Rattle.report_reader.specs.code.Reads.{Inside}
+use Rattle.report_reader.specs.code.FromPlace.{Inside}
 
 -- a kind and a text
 pub record Named : Type 0 where

@@ -8,7 +8,7 @@ use lib.ListN.{length}
 use denote.Ref.{now}
 use Rattle.laws.proofs.Lists.{flatMap-append}
 use Rattle.sheet.specs.code.Tables.{commentsIn, groupsIn, commentsPart, groupsPart}
-use Rattle.accept.specs.declared.check.Parts.{Parts}
+use Rattle.sheet_check.specs.declared.check.Parts.{Parts}
 use Rattle.report.specs.Origin.{encodeOrigin}
 use Rattle.report.specs.Buffer.{wrote, bufferAs}
 use Rattle.report.proofs.Buffers.{wrote-append, wrote-nil}

@@ -4,7 +4,7 @@ use Rattle.sheet.specs.Sheet.{Sheet}
 use Rattle.report.specs.Origin.{Origin}
 use Rattle.pragmas.specs.Origins.{headOrigins, endOrigins}
 use Rattle.pragmas.specs.Pragmas.{headComments, endComments}
-use Rattle.listing.specs.Origins.{jsdocOrigins}
+use Rattle.jsdoc_list.specs.Origins.{jsdocOrigins}
 
 -- the origins of what the comments give besides types
 unfoldable pub commentOrigins : Sheet → List Origin

@@ -8,7 +8,7 @@ use Rattle.laws.proofs.Steps.{known}
 use Rattle.analysis.specs.Row.{find}
 use Rattle.analysis.specs.Patterns.{attributeRow}
 use Rattle.analysis.proofs.Search.{leftFrom, left-starts, left-step, left-ends}
-use Rattle.analysis.proofs.Rows.{attribute-ends}
+use Rattle.analysis.proofs.RowSteps.{attribute-ends}
 use Rattle.analysis.proofs.matcher.find_attribute.Statement.{statement}
 use Rattle.analysis.proofs.matcher.find_attribute.Tie as tie
 

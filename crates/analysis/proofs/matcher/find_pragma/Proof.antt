@@ -1,7 +1,7 @@
 use borrow.Author.Needs.{needs}
 use Rattle.laws.proofs.Steps.{known}
 use Rattle.analysis.specs.Row.{first, matchAt}
-use Rattle.analysis.proofs.Rows.{pragma-row}
+use Rattle.analysis.proofs.RowSteps.{pragma-row}
 use Rattle.analysis.proofs.matcher.find_pragma.Statement.{statement}
 use Rattle.analysis.proofs.matcher.find_pragma.Tie as tie
 

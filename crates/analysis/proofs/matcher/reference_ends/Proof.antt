@@ -7,7 +7,7 @@ use denote.Ref.{now}
 use Rattle.laws.proofs.Steps.{known}
 use Rattle.analysis.specs.Row.{matchAt}
 use Rattle.analysis.specs.Patterns.{referenceEnd}
-use Rattle.analysis.proofs.Rows.{reference-hit, reference-stop, reference-goes-on}
+use Rattle.analysis.proofs.RowSteps.{reference-hit, reference-stop, reference-goes-on}
 use Rattle.analysis.proofs.matcher.reference_ends.Statement.{statement}
 use Rattle.analysis.proofs.matcher.reference_ends.Tie as tie
 

@@ -7,7 +7,7 @@ use lib.ListN.{drop}
 use denote.Ref.{now}
 use Rattle.laws.proofs.Steps.{told, bounded}
 use Rattle.sheet.specs.Nodes.{piece}
-use Rattle.heads.proofs.Many.{many-refused}
+use Rattle.sheet_heads.proofs.Many.{many-refused}
 use Rattle.arguments.specs.Argument.{replacedIn}
 use Rattle.arguments.proofs.Pieces.{one-only, of-parts}
 use Rattle.arguments.proofs.argument.parse_template.Statement.{statement}

@@ -8,8 +8,8 @@ use denote.Ref.{now}
 use Rattle.laws.proofs.Steps.{told}
 use Rattle.laws.proofs.Decoding.{same-rest}
 use Rattle.sheet.specs.Nodes.{node}
-use Rattle.nodes.specs.code.Judged.{judged}
-use Rattle.nodes.proofs.check.check_node.Reads as check-node
+use Rattle.sheet_nodes.specs.code.Tallies.{nodeTally}
+use Rattle.sheet_nodes.proofs.check.check_node.Reads as check-node
 use Rattle.arguments.proofs.Chains.{wrote-parts, encode-one, only-part, no-parts, checked-refused, string-chain, template-chain, plus-parts}
 use Rattle.arguments.proofs.bin.put_bin.Reads as put-bin
 use Rattle.arguments.proofs.bin.put_bin.Kinds as put-bin-kinds
@@ -84,7 +84,7 @@ returns-4 t c = record {
       let left = c .before .before .before .before .before .before .before .before .before .before .before .put-bin .ensures .answer (plus .left) (plus .between) m (plus .first) first in
       let second = ap (node (now (a .source)) (a .levels - 1)) (left .1) ∙ plus .second in (
         rw (← whole, wrote-parts, ← (left .0), encode-one) (c .before .before .before .before .before .before .put-operand .ensures (plus .right) u second),
-        same-rest judged (node (now (a .source)) (a .levels - 1) _) second (told (c .before .before .before .check-node .ensures) (c .before .next3 .given .1)),
+        same-rest nodeTally (node (now (a .source)) (a .levels - 1) _) second (told (c .before .before .before .check-node .ensures) (c .before .next3 .given .1)),
       );
   left = search needs;
 }

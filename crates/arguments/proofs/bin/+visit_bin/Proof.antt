@@ -4,7 +4,7 @@ use borrow.Author.Needs.{needs}
 use borrow.Fn.Kinds.{In}
 use borrow.Fn.PlainCycle.{Measures, is, falls, and}
 use Rattle.laws.proofs.Steps.{told}
-use Rattle.nodes.proofs.check.check_node.Reads as check-node
+use Rattle.sheet_nodes.proofs.check.check_node.Reads as check-node
 use Rattle.arguments.proofs.Chains.{checked-refused, string-counted, template-chain, plus-unknown, at-right, plus-counted}
 use Rattle.arguments.proofs.bin.visit_bin.Reads as visit-bin
 use Rattle.arguments.proofs.bin.visit_bin.Kinds as visit-bin-kinds

@@ -12,7 +12,7 @@ use Rattle.text.proofs.Ones.{one-most}
 use Rattle.wire.specs.Number.{largest}
 use Rattle.sheet.specs.Tree.{Pieces}
 use Rattle.sheet.specs.Nodes.{many, piece}
-use Rattle.heads.proofs.Many.{many-refused, many-end}
+use Rattle.sheet_heads.proofs.Many.{many-refused, many-end}
 use Rattle.arguments.specs.Argument.{templateParts}
 use Rattle.arguments.proofs.Pieces.{piece-next, hole-count}
 use Rattle.arguments.proofs.template.count_parts.Statement.{statement}

@@ -10,7 +10,7 @@ use Rattle.laws.specs.Decoded.{ok}
 use Rattle.laws.proofs.Steps.{told, bounded}
 use Rattle.sheet.specs.Tree.{Pieces}
 use Rattle.sheet.specs.Nodes.{many, piece}
-use Rattle.heads.proofs.Many.{many-refused, many-end}
+use Rattle.sheet_heads.proofs.Many.{many-refused, many-end}
 use Rattle.report.specs.Buffer.{wrote, bufferAs}
 use Rattle.report.proofs.Buffers.{wrote-nil}
 use Rattle.arguments.specs.Argument.{templateParts}

@@ -5,7 +5,7 @@ use native.Mathlib.Omega.{arith}
 use lib.ListN.{length}
 use denote.Ref.{now}
 use Rattle.laws.proofs.Steps.{bounded}
-use Rattle.attributes.proofs.Rows.{stored-replaces, stored-within}
+use Rattle.attributes.proofs.PairRows.{stored-replaces, stored-within}
 use Rattle.attributes.proofs.pairs.insert.Statement.{statement}
 use Rattle.attributes.proofs.pairs.insert.Tie as tie
 

@@ -5,7 +5,7 @@ use Prim.Native.Nat.{ℕ, _+_, _-_, _*_, _≤_}
 use native.Mathlib.Omega.{arith}
 use lib.ListN.{length}
 use Rattle.attributes.specs.code.Views.{pairAs, opened, PairWithin, Pairs}
-use Rattle.attributes.proofs.Rows.{stored-last, stored-carries, stored-within}
+use Rattle.attributes.proofs.PairRows.{stored-last, stored-carries, stored-within}
 use Rattle.attributes.proofs.pairs.insert_before.Statement.{statement}
 use Rattle.attributes.proofs.pairs.insert_before.Tie as tie
 

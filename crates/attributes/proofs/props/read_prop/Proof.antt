@@ -5,8 +5,8 @@ use denote.Ref.{now}
 use Rattle.laws.proofs.Decoding.{onOk-ok, onOk-no}
 use Rattle.laws.proofs.Steps.{told, bounded}
 use Rattle.sheet.specs.Nodes.{node, propertyItem}
-use Rattle.heads.proofs.ByHead.{property-by-head}
-use Rattle.nodes.specs.code.Judged.{gain}
+use Rattle.sheet_heads.proofs.ByHead.{property-by-head}
+use Rattle.sheet_nodes.specs.code.Tallies.{gain}
 use Rattle.attributes.proofs.Seen.{prop-is, prop-within}
 use Rattle.attributes.proofs.props.read_prop.Statement.{statement}
 use Rattle.attributes.proofs.props.read_prop.Tie as tie

@@ -6,7 +6,7 @@ use denote.Ref.{now}
 use Rattle.laws.proofs.Steps.{told}
 use Rattle.sheet.specs.Nodes.{node}
 use Rattle.sheet.specs.Shape.{shape}
-use Rattle.heads.proofs.FirstArgument.{no-first, no-arguments}
+use Rattle.sheet_heads.proofs.FirstArgument.{no-first, no-arguments}
 use Rattle.report.specs.ModuleInfo.{none, unknown}
 use Rattle.attributes.specs.Attributes.{ofObject, argumentProperties, dynamicAttributes}
 use Rattle.attributes.proofs.Objects.{first-argument}

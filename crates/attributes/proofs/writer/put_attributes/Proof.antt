@@ -1,6 +1,6 @@
 use borrow.Author.Needs.{needs}
 use denote.Ref.{now}
-use Rattle.sheet.proofs.Rows.{rows-length}
+use Rattle.sheet.proofs.TableRows.{rows-length}
 use Rattle.report.specs.Encode.{encodeList, encodeAttributes}
 use Rattle.report.proofs.Buffers.{wrote-append, wrote-cons}
 use Rattle.attributes.specs.code.Views.{pairIn}

@@ -7,7 +7,7 @@ use lib.ListN.{length}
 use denote.Ref.{now}
 use mathlib.Core.List.{flatMap}
 use Rattle.sheet.specs.code.Tables.{rows}
-use Rattle.sheet.proofs.Rows.{rows-first}
+use Rattle.sheet.proofs.TableRows.{rows-first}
 use Rattle.report.specs.Encode.{encodeKeyValue}
 use Rattle.report.specs.Buffer.{wrote, bufferAs}
 use Rattle.report.proofs.Buffers.{wrote-append, wrote-nil}

@@ -12,7 +12,7 @@ use Rattle.laws.proofs.Steps.{told}
 use Rattle.sheet.specs.Tree.{Node, Arguments, noArguments}
 use Rattle.sheet.specs.Nodes.{many, node, arguments}
 use Rattle.sheet.specs.Shape.{shape}
-use Rattle.nodes.specs.code.Judged.{judged}
+use Rattle.sheet_nodes.specs.code.Tallies.{nodeTally}
 use Rattle.arguments.specs.Argument.{argumentOf, singleText, replacedIn}
 use Rattle.dep.specs.Collect.{callEntry}
 use Rattle.dep.proofs.entries.put_argument_entry.Statement.{statement}
@@ -38,7 +38,7 @@ returns-2 c =
     let s = now (a .sheet) in
     let source = now (a .source) in
     let x = node source (a .levels) (drop (a .cursor .at) s) in
-    λ dots n xs t u is are. absurd (refused (sym (onOk-no judged x (told (c .before .before .check-node .ensures) (c .enum-told .given .1))) ∙ is))
+    λ dots n xs t u is are. absurd (refused (sym (onOk-no nodeTally x (told (c .before .before .check-node .ensures) (c .enum-told .given .1))) ∙ is))
 
 returns-3 : tie.Need-returns-3
 unfolding callEntry
@@ -49,7 +49,7 @@ returns-3 c =
     let x = node source (a .levels) (drop (a .cursor .at) s) in
     λ dots n xs t u is are.
     c .before .before .before .before .put-dynamic-entry2 .ensures (argumentOf n) (replacedIn (singleText (shape n))) xs u (c .before .before .before .before .before .before .before .before .before .before .before .before .before .parse-argument .ensures .answer n t is)
-    (ap (arguments (node source (a .levels)) source (a .more)) (same-rest judged x is (told (c .before .before .before .before .before .before .before .before .before .before .before .check-node .ensures) (c .before .before .before .before .before .before .before .before .before .next .given .1))) ∙ are)
+    (ap (arguments (node source (a .levels)) source (a .more)) (same-rest nodeTally x is (told (c .before .before .before .before .before .before .before .before .before .before .before .check-node .ensures) (c .before .before .before .before .before .before .before .before .before .next .given .1))) ∙ are)
 
 pub put-argument-entry-spec : {M : Type 1} → statement M
 put-argument-entry-spec =

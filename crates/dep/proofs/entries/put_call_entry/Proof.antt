@@ -5,12 +5,12 @@ use lib.ListN.{drop}
 use denote.Ref.{now}
 use Rattle.laws.proofs.Steps.{told}
 use Rattle.sheet.specs.Nodes.{node}
-use Rattle.heads.proofs.FirstArgument.{first, no-first, no-arguments}
+use Rattle.sheet_heads.proofs.FirstArgument.{first, no-first, no-arguments}
 use Rattle.arguments.specs.Argument.{replacedIn}
 use Rattle.dep.specs.Collect.{firstText, beside, callEntry}
 use Rattle.dep.specs.code.Walk.{typesFrom, writtenAs, wroteEntries}
 use Rattle.dep.proofs.Wrote.{entries-nil}
-use Rattle.dep.proofs.Spans.{argument-spanned}
+use Rattle.dep.proofs.HeadSpans.{argument-spanned}
 use Rattle.dep.proofs.entries.put_call_entry.Statement.{statement}
 use Rattle.dep.proofs.entries.put_call_entry.Tie as tie
 

@@ -6,8 +6,8 @@ use Prim.Native.Nat.{ℕ}
 use native.Mathlib.Omega.{arith}
 use types.Run.{miss}
 use denote.Enum.Declared.{tagOf}
-use Rattle.heads.specs.declared.node.Head.the-variants as head
-use Rattle.heads.proofs.node.Head.{the-type}
+use Rattle.sheet_heads.specs.declared.node.Head.the-variants as head
+use Rattle.sheet_heads.proofs.node.Head.{the-type}
 use Rattle.dep.proofs.walk.call_of.Statement.{statement}
 use Rattle.dep.proofs.walk.call_of.Tie as tie
 

@@ -4,7 +4,7 @@ use mathlib.Core.Path.{_∙_}
 use native.Mathlib.Omega.{arith}
 use denote.Ref.{now}
 use Rattle.laws.proofs.Steps.{told, bounded}
-use Rattle.heads.proofs.ByHead.{no-head}
+use Rattle.sheet_heads.proofs.ByHead.{no-head}
 use Rattle.dep.proofs.Callee.{name-is, other-is}
 use Rattle.dep.proofs.walk.is_require.Statement.{statement}
 use Rattle.dep.proofs.walk.is_require.Tie as tie

@@ -6,8 +6,8 @@ use denote.Ref.{now}
 use Rattle.laws.proofs.Decoding.{built}
 use Rattle.sheet.specs.Tree.{exportAll}
 use Rattle.sheet.specs.Nodes.{attributesObject}
-use Rattle.heads.specs.code.Rest.{behind}
-use Rattle.heads.specs.code.Views.{quotedOf}
+use Rattle.sheet_heads.specs.code.Rest.{behind}
+use Rattle.sheet_heads.specs.code.Views.{quotedOf}
 use Rattle.dep.specs.Collect.{noting}
 use Rattle.dep.specs.code.Walk.{typesFrom, writtenAs, afterNode}
 use Rattle.dep.proofs.walk.visit_export_all.Statement.{statement}
@@ -22,7 +22,7 @@ returns c =
     let types = typesFrom source (now (a .tables)) (a .counts) in
     let w = writtenAs (now (a .out)) (now (a .notes)) (a .place) in
     record {
-      answer = c .before .before .before .before .walk-import .ensures .answer ∙ rw (c .before .before .before .before .before .before .before .export-kind .ensures) (built _ (afterNode source types w) (exportAll (a .span) (a .type-only) (quotedOf s (a .specifier))) (λ b. refl) (behind (a .there) (attributesObject source (a .levels)) (drop (a .cursor .at) s)));
+      answer = c .before .before .before .before .walk-import .ensures .answer ∙ rw (c .before .before .before .before .before .before .before .export-kind .ensures) (built _ (afterNode source types w) (exportAll (a .span) (a .type-only) (quotedOf s (a .specifier))) (λ b. refl) (behind (a .has-object) (attributesObject source (a .levels)) (drop (a .cursor .at) s)));
       bounds = c .before .before .before .before .walk-import .ensures .bounds;
     }
 

@@ -6,8 +6,8 @@ use denote.Ref.{now}
 use Rattle.laws.proofs.Decoding.{built}
 use Rattle.sheet.specs.Tree.{importDecl}
 use Rattle.sheet.specs.Nodes.{attributesObject}
-use Rattle.heads.specs.code.Rest.{behind}
-use Rattle.heads.specs.code.Views.{quotedOf}
+use Rattle.sheet_heads.specs.code.Rest.{behind}
+use Rattle.sheet_heads.specs.code.Views.{quotedOf}
 use Rattle.dep.specs.declared.entries.StaticDependencyDescriptor.{StaticDependencyDescriptor}
 use Rattle.dep.specs.Collect.{noting}
 use Rattle.dep.specs.code.Walk.{typesFrom, writtenAs, afterNode, afterImport}
@@ -24,7 +24,7 @@ returns c =
     let w = writtenAs (now (a .out)) (now (a .notes)) (a .place) in
     let d : StaticDependencyDescriptor = record { kind = c .before .before .before .before .before .before .before .import-kind .result; span = a .span; specifier = a .specifier; «is_side_effect» = a .is-side-effect } in
     record {
-      answer = c .before .before .before .before .walk-import .ensures .answer ∙ built (afterImport source types s d w) (afterNode source types w) (importDecl (a .span) (a .type-only) (a .phase) (a .is-side-effect) (quotedOf s (a .specifier))) (λ b. rw (c .before .before .before .before .before .before .before .import-kind .ensures)) (behind (a .there) (attributesObject source (a .levels)) (drop (a .cursor .at) s));
+      answer = c .before .before .before .before .walk-import .ensures .answer ∙ built (afterImport source types s d w) (afterNode source types w) (importDecl (a .span) (a .type-only) (a .phase) (a .is-side-effect) (quotedOf s (a .specifier))) (λ b. rw (c .before .before .before .before .before .before .before .import-kind .ensures)) (behind (a .has-object) (attributesObject source (a .levels)) (drop (a .cursor .at) s));
       bounds = c .before .before .before .before .walk-import .ensures .bounds;
     }
 

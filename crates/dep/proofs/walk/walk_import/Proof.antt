@@ -7,8 +7,8 @@ use Rattle.laws.specs.Decoded.{ok}
 use Rattle.laws.proofs.Decoding.{onOk-no}
 use Rattle.laws.proofs.Steps.{told, bounded}
 use Rattle.sheet.specs.Nodes.{attributesObject}
-use Rattle.heads.specs.code.Rest.{behind}
-use Rattle.nodes.specs.code.Judged.{tallyWith}
+use Rattle.sheet_heads.specs.code.Rest.{behind}
+use Rattle.sheet_nodes.specs.code.Tallies.{tallyWith}
 use Rattle.attributes.specs.Attributes.{staticAttributes}
 use Rattle.dep.specs.code.Walk.{typesFrom, writtenAs}
 use Rattle.dep.proofs.Arms.{import-written}
@@ -20,7 +20,7 @@ returns c =
     let a = c .before .before .before .before .before .before .before .before .before .args in
     let s = now (a .sheet) in
     let source = now (a .source) in
-    let x = behind (a .there) (attributesObject source (a .levels)) (drop (a .cursor .at) s) in
+    let x = behind (a .has-object) (attributesObject source (a .levels)) (drop (a .cursor .at) s) in
     record {
       answer = rw (onOk-no tallyWith x (told (c .before .before .before .check-attributes .ensures) (c .before .r .given .1)));
       bounds = tt;
@@ -33,7 +33,7 @@ returns-2 c =
     let source = now (a .source) in
     let types = typesFrom source (now (a .tables)) (a .counts) in
     let w = writtenAs (now (a .out)) (now (a .notes)) (a .place) in
-    let x = behind (a .there) (attributesObject source (a .levels)) (drop (a .cursor .at) s) in
+    let x = behind (a .has-object) (attributesObject source (a .levels)) (drop (a .cursor .at) s) in
     let past = bounded (c .before .before .before .before .before .before .before .before .before .before .check-attributes .ensures) (c .before .before .before .before .before .before .before .before .next .given .1) in
     record {
       answer = import-written source types w s (a .dependency) x (told (c .before .before .before .before .before .before .before .before .before .before .check-attributes .ensures) (c .before .before .before .before .before .before .before .before .next .given .1)) (c .before .before .before .before .put-with-entry .ensures .answer);

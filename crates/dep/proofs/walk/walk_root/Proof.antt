@@ -8,8 +8,8 @@ use Rattle.laws.specs.Decoded.{onOk}
 use Rattle.laws.proofs.Steps.{told, bounded}
 use Rattle.sheet.specs.Limits.{depthLimit}
 use Rattle.sheet.specs.Nodes.{node}
-use Rattle.heads.proofs.ByHead.{no-head}
-use Rattle.nodes.proofs.Reach.{children-are}
+use Rattle.sheet_heads.proofs.ByHead.{no-head}
+use Rattle.sheet_nodes.proofs.Reach.{children-are}
 use Rattle.dep.specs.code.Walk.{typesFrom, writtenAs, afterNode}
 use Rattle.dep.proofs.Reach.{children-walked}
 use Rattle.dep.proofs.walk.walk_root.Statement.{statement}

@@ -10,13 +10,13 @@ use Rattle.jsdoc.proofs.imports.clear.Statement.{statement}
 use Rattle.jsdoc.proofs.imports.clear.Tie as tie
 
 abbrev Inv-loop : tie.InvT-loop
-Inv-loop marks₀ i₀ marks i = (i ≤ length marks₀) × (length marks ≡ length marks₀) × (marks ≡ replicate i 0 ++ drop i marks₀)
+Inv-loop ticks₀ i₀ ticks i = (i ≤ length ticks₀) × (length ticks ≡ length ticks₀) × (ticks ≡ replicate i 0 ++ drop i ticks₀)
 
 abbrev μ-loop : tie.MeasureT-loop
-μ-loop marks₀ i₀ marks i = length marks - i
+μ-loop ticks₀ i₀ ticks i = length ticks - i
 
 loop-holds : tie.Need-loop-holds Inv-loop μ-loop
-loop-holds c = (omega arith, refl, fill-none (now (c .args .marks)) 0)
+loop-holds c = (omega arith, refl, fill-none (now (c .args .ticks)) 0)
 
 loop-less : tie.Need-loop-less Inv-loop μ-loop
 loop-less c = simp length-set (omega arith)
@@ -24,15 +24,15 @@ loop-less c = simp length-set (omega arith)
 loop-again : tie.Need-loop-again Inv-loop μ-loop
 loop-again c =
     let l = c .before .loop in
-    (omega arith, simp length-set (l .inv .1), rw (l .inv .2) (fill-more (l .i) 0 (now (c .before .before .args .marks)) (omega arith)))
+    (omega arith, simp length-set (l .inv .1), rw (l .inv .2) (fill-more (l .i) 0 (now (c .before .before .args .ticks)) (omega arith)))
 
 returns : tie.Need-returns Inv-loop μ-loop
 returns c =
     let l = c .before .loop in
-    let marks = now (c .before .before .args .marks) in
-    let all : l .i ≡ length marks = omega arith in
-    let none : length marks ≤ l .i = omega arith in
-    l .inv .2 ∙ rw (drop-of-length-le marks none, append-nil, all)
+    let ticks = now (c .before .before .args .ticks) in
+    let all : l .i ≡ length ticks = omega arith in
+    let none : length ticks ≤ l .i = omega arith in
+    l .inv .2 ∙ rw (drop-of-length-le ticks none, append-nil, all)
 
 pub clear-spec : {M : Type 1} → statement M
 clear-spec =

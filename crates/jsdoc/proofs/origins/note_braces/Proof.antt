@@ -8,7 +8,7 @@ use Rattle.jsdoc.specs.Grammar.{Brace}
 use Rattle.jsdoc.specs.code.Origins.{Origins}
 use Rattle.jsdoc.proofs.Moved.{part-to-end}
 use Rattle.jsdoc.proofs.Searches.{search-goes-on}
-use Rattle.jsdoc.proofs.Marking.{braces, room}
+use Rattle.jsdoc.proofs.Ticking.{braces, room}
 use Rattle.jsdoc.proofs.Noting.{Early, early-none, braces-noted, no-brace-noted, brace-noted, braces-noted-to}
 use Rattle.jsdoc.proofs.origins.note_braces.Statement.{statement}
 use Rattle.jsdoc.proofs.origins.note_braces.Tie as tie

@@ -5,7 +5,7 @@ use lib.ListN.{length}
 use denote.Ref.{now}
 use Rattle.jsdoc.specs.code.Origins.{Origins}
 use Rattle.jsdoc.proofs.Moved.{part-to-end}
-use Rattle.jsdoc.proofs.Marking.{declarations, room}
+use Rattle.jsdoc.proofs.Ticking.{declarations, room}
 use Rattle.jsdoc.proofs.Noting.{Beside, beside-none, readings-noted, declaration-noted, declarations-noted-to}
 use Rattle.jsdoc.proofs.origins.note_declarations.Statement.{statement}
 use Rattle.jsdoc.proofs.origins.note_declarations.Tie as tie

@@ -2,7 +2,7 @@ use borrow.Author.Needs.{needs}
 use native.Mathlib.Omega.{arith}
 use denote.Ref.{now}
 use Rattle.sheet.specs.Limits.{indexStart, tableNumbers}
-use Rattle.accept.proofs.Lent.{part-length}
+use Rattle.sheet_check.proofs.Lent.{part-length}
 use Rattle.module_info.proofs.Accepted.{source-short, indexed-in}
 use Rattle.module_info.proofs.judge.index_source.Statement.{statement}
 use Rattle.module_info.proofs.judge.index_source.Tie as tie

@@ -3,7 +3,7 @@ use native.Mathlib.Omega.{arith}
 use mathlib.Core.Path.{ap, _∙_}
 use denote.Ref.{now}
 use Rattle.sheet.specs.code.Views.{programOf}
-use Rattle.accept.proofs.Lent.{part-length}
+use Rattle.sheet_check.proofs.Lent.{part-length}
 use Rattle.pragmas.proofs.Reached.{end-reached}
 use Rattle.module_info.specs.SourceMap.{given}
 use Rattle.module_info.proofs.Accepted.{held, parts-of}

@@ -35,12 +35,12 @@ use denote.Triple.Spec.{Meets, tripleOf}
 use denote.Triple.Table.{entered}
 use denote.Triple.Walked.{says, Stays, stay-dropped, walkOf, goes-spent-slice, Walks, ends-at, walked, walk-meets}
 use denote.Exit.{no}
-use Rattle.report.specs.declared.writer.Place.{Place}
+use Rattle.report.specs.declared.writer.Pen.{Pen}
 use Rattle.report.specs.code.Lent.{begun}
 use Rattle.report.proofs.lent.Writer as T
 use Rattle.report.proofs.lent.Writer.Laws as T′
-use Rattle.report.proofs.writer.Place as P
-use Rattle.report.proofs.writer.Place.Laws as P′
+use Rattle.report.proofs.writer.Pen as P
+use Rattle.report.proofs.writer.Pen.Laws as P′
 use Rattle.report.proofs.Held.{place-makes, place-typed, passing, writerVal, writer-made}
 use Rattle.report.proofs.lent.new.Key.{name as #report·lent·new}
 use Rattle.report.proofs.lent.new as new
@@ -58,7 +58,7 @@ module _ {M : Type 1} (𝓤 : URA M) (H : Heap 𝓤) (A : Atoms 𝓤) (W : Given
   abbrev v : Val
   v = sliceVal (x .ptr) (length (x .now))
 
-  abbrev start : Place
+  abbrev start : Pen
   start = begun x .place
 
   abbrev u : Val

@@ -3,7 +3,7 @@ use borrow.Author.Tests.{le-leb, lt-leb}
 use Rattle.laws.proofs.Steps.{known, told}
 use Rattle.wire.specs.Fields.{numbered}
 use Rattle.sheet.specs.Comments.{comment}
-use Rattle.sheet.proofs.Judged.{end-codec}
+use Rattle.sheet.proofs.CommentCodecs.{end-codec}
 use Rattle.sheet.proofs.comments.read_comment.Statement.{statement}
 use Rattle.sheet.proofs.comments.read_comment.Tie as tie
 

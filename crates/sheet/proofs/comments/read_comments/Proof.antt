@@ -10,7 +10,7 @@ use Rattle.sheet.specs.code.Tables.{commentIn}
 use Rattle.sheet.specs.code.Views.{commentAs}
 use Rattle.sheet.proofs.Stores.{comment-table}
 use Rattle.sheet.proofs.Filling.{Filling, fill-none, fill-stop, fill-more, fill-all}
-use Rattle.sheet.proofs.Judged.{comment-codec}
+use Rattle.sheet.proofs.CommentCodecs.{comment-codec}
 use Rattle.sheet.proofs.comments.read_comments.Statement.{statement}
 use Rattle.sheet.proofs.comments.read_comments.Tie as tie
 

@@ -4,7 +4,7 @@ use borrow.Author.Tests.{le-leb}
 use lib.ListN.{length}
 use denote.Ref.{now}
 use Rattle.text.specs.Position.{isBoundary}
-use Rattle.sheet.proofs.Places.{at-or-past}
+use Rattle.sheet.proofs.EndBoundary.{at-or-past}
 use Rattle.sheet.proofs.fields.is_boundary.Statement.{statement}
 use Rattle.sheet.proofs.fields.is_boundary.Tie as tie
 

@@ -10,7 +10,7 @@ use Rattle.sheet.specs.code.Tables.{groupIn}
 use Rattle.sheet.specs.code.Views.{afterAs, groupAs}
 use Rattle.sheet.proofs.Stores.{group-table}
 use Rattle.sheet.proofs.Filling.{Filling, fill-none, fill-stop, fill-more, fill-all}
-use Rattle.sheet.proofs.Judged.{group-codec}
+use Rattle.sheet.proofs.CommentCodecs.{group-codec}
 use Rattle.sheet.proofs.groups.read_groups.Statement.{statement}
 use Rattle.sheet.proofs.groups.read_groups.Tie as tie
 

@@ -14,7 +14,7 @@ unfolding optional
 returns-2 c =
     rw (
       told (c .before .before .before .before .before .before .before .before .flag .ensures)
-          (c .before .before .before .before .before .before .there .given .1),
+          (c .before .before .before .before .before .before .has-item .given .1),
       c .before .before .before .before .if1 .taken,
       told (c .before .before .before .read-position .ensures) (c .before .r2 .given .1),
     )
@@ -24,7 +24,7 @@ unfolding optional
 returns-3 c =
     rw (
       told (c .before .before .before .before .before .before .before .before .flag .ensures)
-          (c .before .before .before .before .before .before .there .given .1),
+          (c .before .before .before .before .before .before .has-item .given .1),
       c .before .before .before .before .if1 .taken,
       told (c .before .before .before .read-position .ensures) (c .before .p .given .1),
     )
@@ -32,7 +32,7 @@ returns-3 c =
 returns-4 : tie.Need-returns-4
 unfolding optional
 returns-4 c =
-    rw (told (c .before .before .before .before .flag .ensures) (c .before .before .there .given .1), c .if1 .left)
+    rw (told (c .before .before .before .before .flag .ensures) (c .before .before .has-item .given .1), c .if1 .left)
 
 pub read-first-item-spec : {M : Type 1} → statement M
 read-first-item-spec =

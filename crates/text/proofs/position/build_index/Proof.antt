@@ -4,7 +4,7 @@ use mathlib.Core.Path.{_≡_, refl, _∙_}
 use Prim.Native.Nat.{_+_, _*_, _/_, _-_, _≤_}
 use lib.ListN.{length}
 use denote.Ref.{now}
-use Rattle.text.specs.Position.{characters, walk, origin, positionOf, Indexed}
+use Rattle.text.specs.Position.{characters, walk, startPosition, positionOf, Indexed}
 use Rattle.text.proofs.Positions.{scanned, bounded, index-none, index-more, Untouched, untouched-none, untouched-more}
 use Rattle.text.proofs.position.build_index.Statement.{statement}
 use Rattle.text.proofs.position.build_index.Tie as tie
@@ -51,7 +51,7 @@ returns c =
     let e : c .before .loop .k ≡ length (now (c .before .before .before .before .before .before .before .before .args .s)) / 64 = omega arith in
     let a = c .before .before .before .before .before .before .before .before .args in
     let past = 2 * (length (now (a .s)) / 64) + 2 in
-    let first = rw (← c .before .before .before .before .put .ensures) at (untouched-more (untouched-none (now (a .index)) 0) origin) in
+    let first = rw (← c .before .before .before .before .put .ensures) at (untouched-more (untouched-none (now (a .index)) 0) startPosition) in
     record {
       answer = rw e at (c .before .loop .inv .3);
       left = (search needs, c .before .loop .inv .4 .from past (omega arith) ∙ first .from past (omega arith));

@@ -3,7 +3,7 @@ use native.Mathlib.Omega.{arith}
 use borrow.Author.Tests.{lt-leb, le-leb}
 use denote.Ref.{now}
 use Rattle.text.specs.Ranges.{_to_}
-use Rattle.text.proofs.Rows.{past-end, byte-within}
+use Rattle.text.proofs.RangesAdmit.{past-end, byte-within}
 use Rattle.text.proofs.utf8.inside.Statement.{statement}
 use Rattle.text.proofs.utf8.inside.Tie as tie
 

@@ -1,7 +1,7 @@
 use borrow.Author.Needs.{needs}
 use denote.Ref.{now}
 use Rattle.text.specs.Utf8.{leadSurrogate, trailSurrogate}
-use Rattle.text.proofs.Rows.{more, none}
+use Rattle.text.proofs.RangesAdmit.{more, none}
 use Rattle.text.proofs.utf8.pair_at.Statement.{statement}
 use Rattle.text.proofs.utf8.pair_at.Tie as tie
 

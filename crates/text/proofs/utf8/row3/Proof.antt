@@ -3,7 +3,7 @@ use mathlib.Core.List.{[], _∷_}
 use denote.Ref.{now}
 use Rattle.text.specs.Ranges.{_to_}
 use Rattle.text.specs.Utf8.{continuation}
-use Rattle.text.proofs.Rows.{more, none}
+use Rattle.text.proofs.RangesAdmit.{more, none}
 use Rattle.text.proofs.utf8.row3.Statement.{statement}
 use Rattle.text.proofs.utf8.row3.Tie as tie
 

@@ -3,7 +3,7 @@ use native.Mathlib.Omega.{arith}
 use denote.Ref.{now}
 use Rattle.laws.proofs.Steps.{known, told, bounded}
 use Rattle.wire.specs.Text.{text}
-use Rattle.wire.proofs.Places.{bytes-past, bytes-at}
+use Rattle.wire.proofs.FieldsAtPlace.{bytes-past, bytes-at}
 use Rattle.wire.proofs.Cursor.text.Statement.{statement}
 use Rattle.wire.proofs.Cursor.text.Tie as tie
 

@@ -5,7 +5,7 @@ use lib.ListN.{drop}
 use denote.Ref.{now}
 use Rattle.laws.proofs.Steps.{told}
 use Rattle.sheet.specs.Nodes.{node}
-use Rattle.heads.proofs.ByHead.{argument-by-head}
+use Rattle.sheet_heads.proofs.ByHead.{argument-by-head}
 use Rattle.dep.specs.code.Walk.{typesFrom, writtenAs}
 use Rattle.dep.proofs.Arms.{argument-holds}
 use Rattle.dep.proofs.walk.walk_argument.Reads as walk-argument

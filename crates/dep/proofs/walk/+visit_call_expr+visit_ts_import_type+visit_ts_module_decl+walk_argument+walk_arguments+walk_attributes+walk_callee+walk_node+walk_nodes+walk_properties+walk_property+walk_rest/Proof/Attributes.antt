@@ -9,7 +9,7 @@ use Rattle.laws.proofs.Steps.{told, bounded}
 use Rattle.laws.proofs.Decoding.{built}
 use Rattle.sheet.specs.Tree.{withObject}
 use Rattle.sheet.specs.Nodes.{node, properties}
-use Rattle.heads.proofs.ByHead.{attributes-by-head}
+use Rattle.sheet_heads.proofs.ByHead.{attributes-by-head}
 use Rattle.dep.specs.Collect.{noting}
 use Rattle.dep.specs.code.Walk.{typesFrom, writtenAs, afterProperties, afterWith}
 use Rattle.dep.proofs.Wrote.{entries-nil}

@@ -9,7 +9,7 @@ use Rattle.laws.proofs.Decoding.{onOk-no, then-no}
 use Rattle.laws.proofs.Steps.{told, bounded}
 use Rattle.wire.specs.Number.{number}
 use Rattle.sheet.specs.Nodes.{node, nodes, arguments, callRest}
-use Rattle.nodes.proofs.Arms.{pair}
+use Rattle.sheet_nodes.proofs.Arms.{pair}
 use Rattle.dep.specs.code.Walk.{typesFrom, writtenAs, afterNodes, afterArguments, afterCall}
 use Rattle.dep.proofs.Arms.{call-walked}
 use Rattle.dep.proofs.walk.visit_call_expr.Reads as visit-call-expr

@@ -10,9 +10,9 @@ use Rattle.laws.proofs.Decoding.{onOk-no, then-no}
 use Rattle.laws.proofs.Steps.{told, bounded}
 use Rattle.sheet.specs.Tree.{importType}
 use Rattle.sheet.specs.Nodes.{node, nodes, attributes, attributesObject, typeRest}
-use Rattle.heads.specs.code.Views.{quotedOf}
-use Rattle.nodes.specs.code.Judged.{tallyAll}
-use Rattle.nodes.proofs.Arms.{pair}
+use Rattle.sheet_heads.specs.code.Views.{quotedOf}
+use Rattle.sheet_nodes.specs.code.Tallies.{tallyAll}
+use Rattle.sheet_nodes.proofs.Arms.{pair}
 use Rattle.report.specs.declared.names.StaticDependencyKind.the-variants as statics
 use Rattle.dep.specs.declared.entries.StaticDependencyDescriptor.{StaticDependencyDescriptor}
 use Rattle.dep.specs.code.Walk.{typesFrom, writtenAs, afterNode, afterNodes}
@@ -32,7 +32,7 @@ walk-nodes-requires t c κs =
 
 pub walk-attributes-requires : (t : ℕ) → visit-ts-import-type-lts.Need-walk-attributes-requires (visit-ts-import-type-calls t) (visit-ts-import-type-at t) visit-ts-import-type.Post
 walk-attributes-requires t c κs =
-    let past = bounded (c .before .before .before .before .before .before .before .before .before .before .before .before .before .before .before .before .before .before .before .before .before .before .flag .ensures) (c .before .before .before .before .before .before .before .before .before .before .before .before .before .before .before .before .before .before .before .before .there .given .1) in
+    let past = bounded (c .before .before .before .before .before .before .before .before .before .before .before .before .before .before .before .before .before .before .before .before .before .before .flag .ensures) (c .before .before .before .before .before .before .before .before .before .before .before .before .before .before .before .before .before .before .before .before .has-object .given .1) in
     let is : 6 * (c .before .before .before .before .before .before .before .before .before .before .before .before .before .before .before .before .before .before .before .before .before .before .before .before .before .before .before .before .before .before .before .args .levels) + 2 ≡ t = c .before .before .before .before .before .before .before .before .before .before .before .before .before .before .before .before .before .before .before .before .before .before .before .before .before .before .before .before .before .before .before .pre .0 in
     let less : 6 * (c .before .before .before .before .before .before .before .before .before .before .before .before .before .before .before .before .before .before .before .before .before .before .before .before .before .before .before .before .before .before .before .args .levels) < t = omega (arith, is) in
     (less, (c .before .before .before .before .before .before .before .before .before .before .before .before .before .before .before .before .before .before .before .before .before .before .before .before .before .before .before .before .before .before .before .pre .1 .0, past .1))
@@ -99,6 +99,6 @@ returns-4 t c =
     let object′ = attributesObject source (a .levels) in
     let d : StaticDependencyDescriptor = record { kind = statics.ImportType; span = a .span; specifier = a .specifier; «is_side_effect» = false } in
     record {
-      answer = c .before .before .before .before .walk-attributes .ensures .answer ∙ typed-walked source types w s d object′ ns (told (c .before .before .before .before .before .before .before .before .before .before .before .before .before .before .before .before .before .before .before .before .before .before .before .before .before .before .before .before .before .before .before .check-nodes .ensures) (c .before .before .before .before .before .before .before .before .before .before .before .before .before .before .before .before .before .before .before .before .before .before .before .before .before .before .before .before .before .next .given .1)) (told (c .before .before .before .before .before .before .before .before .before .before .before .before .before .before .before .before .before .before .before .before .before .before .before .before .before .before .before .flag .ensures) (c .before .before .before .before .before .before .before .before .before .before .before .before .before .before .before .before .before .before .before .before .before .before .before .before .before .there .given .1)) (c .before .before .before .before .before .before .before .before .before .before .before .before .before .before .before .before .before .before .before .before .before .put-with-entry .ensures .answer) (told (c .before .before .before .before .before .before .before .before .before .before .before .before .before .before .walk-nodes .ensures) (c .before .before .before .before .before .before .before .before .place .given .1)) ∙ typed-holds source types w s (a .span) (a .specifier) (typeRest inner object′ (a .count) (drop (a .cursor .at) s));
+      answer = c .before .before .before .before .walk-attributes .ensures .answer ∙ typed-walked source types w s d object′ ns (told (c .before .before .before .before .before .before .before .before .before .before .before .before .before .before .before .before .before .before .before .before .before .before .before .before .before .before .before .before .before .before .before .check-nodes .ensures) (c .before .before .before .before .before .before .before .before .before .before .before .before .before .before .before .before .before .before .before .before .before .before .before .before .before .before .before .before .before .next .given .1)) (told (c .before .before .before .before .before .before .before .before .before .before .before .before .before .before .before .before .before .before .before .before .before .before .before .before .before .before .before .flag .ensures) (c .before .before .before .before .before .before .before .before .before .before .before .before .before .before .before .before .before .before .before .before .before .before .before .before .before .has-object .given .1)) (c .before .before .before .before .before .before .before .before .before .before .before .before .before .before .before .before .before .before .before .before .before .put-with-entry .ensures .answer) (told (c .before .before .before .before .before .before .before .before .before .before .before .before .before .before .walk-nodes .ensures) (c .before .before .before .before .before .before .before .before .place .given .1)) ∙ typed-holds source types w s (a .span) (a .specifier) (typeRest inner object′ (a .count) (drop (a .cursor .at) s));
       bounds = c .before .before .before .before .walk-attributes .ensures .bounds;
     }

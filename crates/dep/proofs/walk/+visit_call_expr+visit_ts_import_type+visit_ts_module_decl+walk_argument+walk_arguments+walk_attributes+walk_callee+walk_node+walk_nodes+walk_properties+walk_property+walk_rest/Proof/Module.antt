@@ -5,7 +5,7 @@ use Prim.Native.Nat.{ℕ}
 use lib.ListN.{drop}
 use denote.Ref.{now}
 use Rattle.sheet.specs.Nodes.{node, nodes}
-use Rattle.heads.specs.code.Views.{quotedOf}
+use Rattle.sheet_heads.specs.code.Views.{quotedOf}
 use Rattle.dep.specs.code.Walk.{typesFrom, writtenAs}
 use Rattle.dep.proofs.Arms.{module-holds}
 use Rattle.dep.proofs.walk.visit_ts_module_decl.Reads as visit-ts-module-decl

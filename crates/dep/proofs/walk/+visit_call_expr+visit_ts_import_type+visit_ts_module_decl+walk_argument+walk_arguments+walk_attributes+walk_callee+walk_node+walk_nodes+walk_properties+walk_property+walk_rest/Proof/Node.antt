@@ -4,8 +4,8 @@ use native.Mathlib.Omega.{arith}
 use lib.ListN.{drop}
 use denote.Ref.{now}
 use Rattle.laws.proofs.Steps.{told, bounded}
-use Rattle.heads.proofs.ByHead.{node-by-head}
-use Rattle.dep.proofs.Spans.{head-spanned}
+use Rattle.sheet_heads.proofs.ByHead.{node-by-head}
+use Rattle.dep.proofs.HeadSpans.{head-spanned}
 use Rattle.dep.proofs.walk.walk_node.Reads as walk-node
 use Rattle.dep.proofs.walk.+visit_call_expr+visit_ts_import_type+visit_ts_module_decl+walk_argument+walk_arguments+walk_attributes+walk_callee+walk_node+walk_nodes+walk_properties+walk_property+walk_rest.Lts-walk_node as walk-node-lts
 use Rattle.dep.proofs.walk.+visit_call_expr+visit_ts_import_type+visit_ts_module_decl+walk_argument+walk_arguments+walk_attributes+walk_callee+walk_node+walk_nodes+walk_properties+walk_property+walk_rest.Proof.Calls.{walk-node-at, walk-node-calls}

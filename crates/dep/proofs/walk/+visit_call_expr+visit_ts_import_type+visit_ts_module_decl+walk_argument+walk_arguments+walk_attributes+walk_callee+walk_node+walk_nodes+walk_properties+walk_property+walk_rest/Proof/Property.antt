@@ -7,7 +7,7 @@ use denote.Ref.{now}
 use Rattle.laws.specs.Decoded.{onOk}
 use Rattle.laws.proofs.Steps.{told, bounded}
 use Rattle.sheet.specs.Nodes.{node, nodes}
-use Rattle.heads.proofs.ByHead.{property-by-head}
+use Rattle.sheet_heads.proofs.ByHead.{property-by-head}
 use Rattle.dep.specs.code.Walk.{typesFrom, writtenAs, afterNodes}
 use Rattle.dep.proofs.Arms.{property-holds}
 use Rattle.dep.proofs.walk.walk_property.Reads as walk-property

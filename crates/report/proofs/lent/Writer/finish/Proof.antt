@@ -39,14 +39,14 @@ use denote.Triple.Walked.{says, Stays, walkOf, Walks, ends-at, walked, walk-meet
 use denote.Signature.{namedLft}
 use denote.Signature.Struct.{inStruct, makes}
 use Rattle.report.specs.declared.lent.Writer.{Writer}
-use Rattle.report.specs.declared.writer.Place.{Place}
+use Rattle.report.specs.declared.writer.Pen.{Pen}
 use Rattle.report.specs.declared.writer.Outcome.{Outcome}
 use Rattle.report.specs.Buffer.{bufferAs}
 use Rattle.report.specs.Answer.{answered, outcomeAs}
 use Rattle.report.proofs.lent.Writer as T
 use Rattle.report.proofs.lent.Writer.Laws as T′
-use Rattle.report.proofs.writer.Place as P
-use Rattle.report.proofs.writer.Place.Laws as P′
+use Rattle.report.proofs.writer.Pen as P
+use Rattle.report.proofs.writer.Pen.Laws as P′
 use Rattle.report.proofs.writer.Outcome as O
 use Rattle.report.proofs.writer.Outcome.Laws as O′
 use Rattle.report.proofs.Held.{PlaceR, place-makes, place-typed, passing, writerVal, writer-gave, writer-gave-goes}
@@ -66,7 +66,7 @@ stayed = (writer-gave, tt)
 abbrev AtEnd : {M : Type 1} (𝓤 : URA M) (H : Heap 𝓤) (A : Atoms 𝓤) (mem : Memory → SProp 𝓤) (run : Routine → Fun 𝓤) → Contract 𝓤
 AtEnd 𝓤 H A mem run = tripleOf 𝓤 H A at-end.signature (at-end.spec 𝓤 H A mem run)
 
-module _ {M : Type 1} (𝓤 : URA M) (H : Heap 𝓤) (A : Atoms 𝓤) (W : Given 𝓤 H A) (mem : Memory → SProp 𝓤) (run : Routine → Fun 𝓤) (κ : Lft) (q : Share) (b o : ℕ) (γ : GName) (ys : List ℕ) (p : Place) (is-place : Is P.the-row p (P′.lowered p ∷ [])) where
+module _ {M : Type 1} (𝓤 : URA M) (H : Heap 𝓤) (A : Atoms 𝓤) (W : Given 𝓤 H A) (mem : Memory → SProp 𝓤) (run : Routine → Fun 𝓤) (κ : Lft) (q : Share) (b o : ℕ) (γ : GName) (ys : List ℕ) (p : Pen) (is-place : Is P.the-row p (P′.lowered p ∷ [])) where
   abbrev α : NamedLft
   α = passing κ
 

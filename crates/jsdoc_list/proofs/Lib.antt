@@ -1,0 +1,13 @@
+pub mod StarOpened
+pub mod Ticking
+pub mod Quotes
+pub mod Entries
+pub mod Only
+pub mod ImportsRight
+pub mod Turns
+pub mod Valid
+pub mod Openings
+pub mod ByComment
+pub mod Revised
+pub mod Openers
+pub mod Origins

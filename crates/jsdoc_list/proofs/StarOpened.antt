@@ -1,0 +1,31 @@
+-- Which comments are star-opened.
+use mathlib.Core.Path.{_≡_, refl}
+use mathlib.Core.Bool.{true, and-eq-true-iff, false≢true}
+use mathlib.Core.List.{List}
+use Prim.Native.Nat.{ℕ}
+use lib.ListN.{drop}
+use Rattle.laws.specs.Ascii.{ascii}
+use Rattle.text.specs.Bytes.{begins}
+use Rattle.text.proofs.Words.{begins-sound, begins-complete}
+use Rattle.sheet.specs.declared.comments.Comment.{Comment}
+use Rattle.sheet.specs.declared.names.CommentKind.{CommentKind}
+use Rattle.sheet.specs.declared.names.CommentKind.the-variants.{Line, Block, HtmlOpen, HtmlClose}
+use Rattle.sheet.specs.Comments.{isBlock}
+use Rattle.sheet.specs.Lookups.{body}
+use Rattle.jsdoc_list.specs.Imports.{isStarOpened}
+use Rattle.jsdoc_list.specs.Demand.{StarOpened}
+
+is-block : (kind : CommentKind) → isBlock kind ≡ true → kind ≡ Block
+is-block Block e = refl
+is-block Line e = absurd (false≢true e)
+is-block HtmlOpen e = absurd (false≢true e)
+is-block HtmlClose e = absurd (false≢true e)
+
+module _ (source : List ℕ) (c : Comment) where
+  pub opened-sound : isStarOpened source c ≡ true → StarOpened source c
+  opened-sound e =
+      let (b, s) = and-eq-true-iff (isBlock (c .kind)) (begins (ascii "*") (body source c)) .0 e in
+      record { block = is-block (c .kind) b; rest = drop 1 (body source c); star = begins-sound (ascii "*") (body source c) s }
+
+  pub opened-complete : StarOpened source c → isStarOpened source c ≡ true
+  opened-complete o = rw (o .block, o .star) (begins-complete (ascii "*") (o .rest))

@@ -1,0 +1,11 @@
+use borrow.Author.Needs.{needs}
+use Rattle.report.proofs.Buffers.{wrote-cons}
+use Rattle.report.proofs.writer.Pen.put_replacement.Statement.{statement}
+use Rattle.report.proofs.writer.Pen.put_replacement.Tie as tie
+
+returns : tie.Need-returns
+returns c = rw (wrote-cons, ← (c .before .before .before .before .before .before .before .before .before .before .put .ensures), wrote-cons, ← (c .before .before .before .before .before .before .put2 .ensures)) (c .before .before .put3 .ensures)
+
+pub put-replacement-spec : {M : Type 1} → statement M
+put-replacement-spec =
+    tie.close (tie.spec (λ c κs. search needs) (λ c κs. search needs) (λ c κs. search needs) (λ c. search needs) returns)

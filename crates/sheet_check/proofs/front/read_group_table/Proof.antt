@@ -1,0 +1,71 @@
+use borrow.Author.Needs.{needs}
+use native.Mathlib.Omega.{arith}
+use Rattle.laws.proofs.Steps.{known, told}
+use Rattle.wire.proofs.TextCodec.{count-codec}
+use Rattle.sheet.specs.Limits.{groupLimit}
+use Rattle.sheet_check.specs.code.Pieces.{groupFields}
+use Rattle.sheet_check.proofs.front.read_group_table.Statement.{statement}
+use Rattle.sheet_check.proofs.front.read_group_table.Tie as tie
+
+read-groups-requires : tie.Need-read-groups-requires
+read-groups-requires c κs =
+    omega (arith, count-codec groupLimit .sound _ _ _ (told (c .before .before .before .before .count .ensures) (c .before .before .m .given .1)) .1 .0, c .before .before .before .before .before .before .before .before .before .pre .0)
+
+is-covered-requires : tie.Need-is-covered-requires
+is-covered-requires c κs =
+    (omega (arith, count-codec groupLimit .sound _ _ _ (told (c .before .before .before .before .before .before .before .before .before .before .before .before .count .ensures) (c .before .before .before .before .before .before .before .before .before .before .m .given .1)) .1 .0, c .before .before .before .before .before .before .before .read-groups .kept .1 .1 .1 .1 .1 .0, c .before .before .before .before .before .before .before .before .before .before .before .before .before .before .before .before .before .pre .0), c .before .before .before .before .before .before .before .before .before .before .before .before .before .before .before .before .before .pre .1)
+
+returns : tie.Need-returns
+unfolding groupFields
+returns c =
+    rw (told (c .before .before .before .count .ensures) (c .before .r .given .1))
+
+returns-2 : tie.Need-returns-2
+unfolding groupFields
+returns-2 c =
+    rw (
+      told (c .before .before .before .before .before .before .before .before .before .before .count .ensures)
+          (c .before .before .before .before .before .before .before .before .m .given .1),
+      ← (rw (c .before .r2 .given .1) at (c .before .before .before .before .before .read-groups .ensures .answer)),
+    )
+
+returns-3 : tie.Need-returns-3
+unfolding groupFields
+returns-3 c =
+    rw (
+      told (c .before .before .before .before .before .before .before .before .before .before .before .before .before .before .before .before .count .ensures)
+          (c .before .before .before .before .before .before .before .before .before .before .before .before .before .before .m .given .1),
+      ← (rw (c .before .before .before .before .before .before .before .next .given .1) at (c .before .before .before .before .before .before .before .before .before .before .before .read-groups .ensures .answer)),
+      known (c .before .before .before .is-covered .ensures .answer) (c .if1 .taken),
+    )
+
+returns-4 : tie.Need-returns-4
+unfolding groupFields
+returns-4 c =
+    rw (
+      told (c .before .before .before .before .before .before .before .before .before .before .before .before .before .before .before .before .count .ensures)
+          (c .before .before .before .before .before .before .before .before .before .before .before .before .before .before .m .given .1),
+      ← (rw (c .before .before .before .before .before .before .before .next .given .1) at (c .before .before .before .before .before .before .before .before .before .before .before .read-groups .ensures .answer)),
+      known (c .before .before .before .is-covered .ensures .answer) (c .if1 .left),
+    )
+
+pub read-group-table-spec : {M : Type 1} → statement M
+read-group-table-spec =
+    tie.close
+    (tie.spec
+    (λ c κs. search needs)
+    (λ c. search needs)
+    (λ c. search needs)
+    read-groups-requires
+    (λ c. search needs)
+    (λ c. search needs)
+    is-covered-requires
+    returns
+    (λ c. search needs)
+    returns-2
+    (λ c. search needs)
+    (λ c. search needs)
+    returns-3
+    (λ c. search needs)
+    (λ c. search needs)
+    returns-4)

@@ -1,0 +1,90 @@
+use borrow.Author.Needs.{needs}
+use Rattle.laws.proofs.Steps.{told, bounded}
+use Rattle.wire.specs.Fields.{numbered}
+use Rattle.sheet_heads.specs.code.Head.{importStart}
+use Rattle.sheet_heads.proofs.node.read_import.Statement.{statement}
+use Rattle.sheet_heads.proofs.node.read_import.Tie as tie
+
+returns : tie.Need-returns
+unfolding importStart numbered
+returns c = record { answer = rw (told (c .before .before .before .flag .ensures) (c .before .r .given .1)); bounds = tt }
+
+returns-2 : tie.Need-returns-2
+unfolding importStart numbered
+returns-2 c = record {
+  answer = rw (
+    told (c .before .before .before .before .before .before .before .flag .ensures) (c .before .before .before .before .before .type-only .given .1),
+    told (c .before .before .before .below .ensures) (c .before .r2 .given .1),
+  );
+  bounds = tt;
+}
+
+returns-3 : tie.Need-returns-3
+unfolding importStart numbered
+returns-3 c = record {
+  answer = rw (
+    told (c .before .before .before .before .before .before .before .before .before .before .before .flag .ensures)
+        (c .before .before .before .before .before .before .before .before .before .type-only .given .1),
+    told (c .before .before .before .before .before .before .before .below .ensures) (c .before .before .before .before .before .phase .given .1),
+    told (c .before .before .before .flag2 .ensures) (c .before .r3 .given .1),
+  );
+  bounds = tt;
+}
+
+returns-4 : tie.Need-returns-4
+unfolding importStart numbered
+returns-4 c = record {
+  answer = rw (
+    told (c .before .before .before .before .before .before .before .before .before .before .before .before .before .before .before .flag .ensures)
+        (c .before .before .before .before .before .before .before .before .before .before .before .before .before .type-only .given .1),
+    told (c .before .before .before .before .before .before .before .before .before .before .before .below .ensures)
+        (c .before .before .before .before .before .before .before .before .before .phase .given .1),
+    told (c .before .before .before .before .before .before .before .flag2 .ensures) (c .before .before .before .before .before .side-effect .given .1),
+    told (c .before .before .before .read-specifier .ensures) (c .before .r4 .given .1),
+  );
+  bounds = tt;
+}
+
+returns-5 : tie.Need-returns-5
+unfolding importStart numbered
+returns-5 c =
+    let p1 = bounded (c .before .before .before .before .before .before .before .before .before .before .before .before .before .before .before .before .flag .ensures) (c .before .before .before .before .before .before .before .before .before .before .before .before .before .before .type-only .given .1) in
+    let p2 = bounded (c .before .before .before .before .before .before .before .before .before .before .before .before .below .ensures) (c .before .before .before .before .before .before .before .before .before .before .phase .given .1) in
+    let p3 = bounded (c .before .before .before .before .before .before .before .before .flag2 .ensures) (c .before .before .before .before .before .before .side-effect .given .1) in
+    let p4 = bounded (c .before .before .before .before .read-specifier .ensures) (c .before .before .specifier .given .1) in
+    record {
+      answer = rw (
+        told (c .before .before .before .before .before .before .before .before .before .before .before .before .before .before .before .before .flag .ensures)
+            (c .before .before .before .before .before .before .before .before .before .before .before .before .before .before .type-only .given .1),
+        told (c .before .before .before .before .before .before .before .before .before .before .before .before .below .ensures)
+            (c .before .before .before .before .before .before .before .before .before .before .phase .given .1),
+        told (c .before .before .before .before .before .before .before .before .flag2 .ensures)
+            (c .before .before .before .before .before .before .side-effect .given .1),
+        told (c .before .before .before .before .read-specifier .ensures) (c .before .before .specifier .given .1),
+        c .import-phase .ensures,
+      );
+      bounds = search needs;
+    }
+
+pub read-import-spec : {M : Type 1} → statement M
+read-import-spec =
+    tie.close
+    (tie.spec
+    (λ c κs. search needs)
+    (λ c. search needs)
+    (λ c. search needs)
+    (λ c κs. search needs)
+    (λ c. search needs)
+    (λ c. search needs)
+    (λ c κs. search needs)
+    (λ c. search needs)
+    (λ c. search needs)
+    (λ c κs. search needs)
+    (λ c. search needs)
+    (λ c. search needs)
+    (λ c κs. search needs)
+    returns
+    returns-2
+    returns-3
+    returns-4
+    returns-5)

@@ -1,0 +1,61 @@
+use borrow.Author.Needs.{needs}
+use Rattle.laws.proofs.Steps.{told, bounded}
+use Rattle.wire.specs.Optional.{optional}
+use Rattle.sheet.specs.Nodes.{piece}
+use Rattle.sheet_heads.proofs.parts.read_piece.Statement.{statement}
+use Rattle.sheet_heads.proofs.parts.read_piece.Tie as tie
+
+returns : tie.Need-returns
+unfolding piece optional
+returns c = record {
+  answer = rw (
+    told (c .before .before .before .before .before .before .before .before .flag .ensures)
+        (c .before .before .before .before .before .before .cooked .given .1),
+    c .before .before .before .before .if1 .taken,
+    told (c .before .before .before .text .ensures) (c .before .r2 .given .1),
+  );
+  bounds = tt;
+}
+
+returns-2 : tie.Need-returns-2
+unfolding piece optional
+returns-2 c =
+    let p1 = bounded (c .before .before .before .before .before .before .before .before .flag .ensures) (c .before .before .before .before .before .before .cooked .given .1) in
+    let p2 = bounded (c .before .before .before .text .ensures) (c .before .start .given .1) in
+    record {
+      answer = rw (
+        told (c .before .before .before .before .before .before .before .before .flag .ensures)
+            (c .before .before .before .before .before .before .cooked .given .1),
+        c .before .before .before .before .if1 .taken,
+        told (c .before .before .before .text .ensures) (c .before .start .given .1),
+      );
+      bounds = search needs;
+    }
+
+returns-3 : tie.Need-returns-3
+unfolding piece optional
+returns-3 c = record { answer = rw (told (c .before .before .before .flag .ensures) (c .before .r .given .1)); bounds = tt }
+
+returns-4 : tie.Need-returns-4
+unfolding piece optional
+returns-4 c =
+    let p1 = bounded (c .before .before .before .before .flag .ensures) (c .before .before .cooked .given .1) in
+    record {
+      answer = rw (told (c .before .before .before .before .flag .ensures) (c .before .before .cooked .given .1), c .if1 .left);
+      bounds = search needs;
+    }
+
+pub read-piece-spec : {M : Type 1} → statement M
+read-piece-spec =
+    tie.close
+    (tie.spec
+    (λ c κs. search needs)
+    (λ c. search needs)
+    (λ c. search needs)
+    (λ c κs. search needs)
+    (λ c. search needs)
+    (λ c. search needs)
+    returns
+    returns-2
+    returns-3
+    returns-4)

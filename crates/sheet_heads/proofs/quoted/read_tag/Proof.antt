@@ -1,0 +1,25 @@
+use borrow.Author.Needs.{needs}
+use denote.Ref.{now}
+use Rattle.laws.proofs.Steps.{told, bounded}
+use Rattle.sheet.specs.Nodes.{tag}
+use Rattle.sheet_heads.proofs.quoted.read_tag.Statement.{statement}
+use Rattle.sheet_heads.proofs.quoted.read_tag.Tie as tie
+
+returns : tie.Need-returns
+unfolding tag
+returns c = record { answer = rw (told (c .before .before .before .byte .ensures) (c .before .r .given .1)); bounds = tt }
+
+returns-2 : tie.Need-returns-2
+unfolding tag
+returns-2 c =
+    let s = now (c .before .before .before .before .before .before .args .sheet) in
+    let past = bounded (c .before .before .before .before .byte .ensures) (c .before .before .t .given .1) in
+    record {
+      answer = rw (told (c .before .before .before .before .byte .ensures) (c .before .before .t .given .1)) (c .judge-tag .ensures .answer s);
+      bounds = c .judge-tag .ensures .bounds _ _ (past .0) (past .1);
+    }
+
+pub read-tag-spec : {M : Type 1} → statement M
+read-tag-spec =
+    tie.close
+    (tie.spec (λ c κs. search needs) (λ c. search needs) (λ c. search needs) (λ c κs. search needs) returns returns-2)

@@ -1,0 +1,32 @@
+use borrow.Author.Needs.{needs}
+use Rattle.laws.proofs.Steps.{known}
+use Rattle.sheet_heads.proofs.texts.is_augmentation.Statement.{statement}
+use Rattle.sheet_heads.proofs.texts.is_augmentation.Tie as tie
+
+returns : tie.Need-returns
+returns c = rw (known (c .before .before .before .before .has-star .ensures) (c .before .before .before .if1 .taken), known (c .before .starts-with .ensures) (c .if2 .taken))
+
+returns-2 : tie.Need-returns-2
+returns-2 c = rw (known (c .before .before .before .before .before .before .before .has-star .ensures) (c .before .before .before .before .before .before .if1 .taken), known (c .before .before .before .before .starts-with .ensures) (c .before .before .before .if2 .left), known (c .before .starts-with2 .ensures) (c .if3 .taken))
+
+returns-3 : tie.Need-returns-3
+returns-3 c = rw (known (c .before .before .before .before .before .before .before .before .before .has-star .ensures) (c .before .before .before .before .before .before .before .before .if1 .taken), known (c .before .before .before .before .before .before .starts-with .ensures) (c .before .before .before .before .before .if2 .left), known (c .before .before .before .starts-with2 .ensures) (c .before .before .if3 .left)) (c .starts-with3 .ensures)
+
+returns-4 : tie.Need-returns-4
+returns-4 c = rw (known (c .before .has-star .ensures) (c .if1 .left))
+
+pub is-augmentation-spec : {M : Type 1} → statement M
+is-augmentation-spec =
+    tie.close
+    (tie.spec
+    (λ c κs. search needs)
+    (λ c. search needs)
+    (λ c κs. search needs)
+    returns
+    (λ c. search needs)
+    (λ c κs. search needs)
+    returns-2
+    (λ c. search needs)
+    (λ c κs. search needs)
+    returns-3
+    returns-4)

@@ -1,13 +1,7 @@
 -- Rows that match nowhere before a character of a class. A longest run of the class before such a row goes back nowhere.
-use mathlib.Core.Path.{_≡_, refl, sym, _∙_}
-use mathlib.Core.Bool.{Bool, true, false, not, cond, _&&_, _||_, and-eq-true-iff, false≢true, not-eq-not}
-use mathlib.Core.List.{List, [], _∷_, List·Memᴰ, List·Memᴰ·head, List·Memᴰ·tail, List·Memᴰ·not-nil, List·Memᴰ·cases-cons}
-use mathlib.Core.Logic.{⊎-elim}
-use Prim.Native.Nat.{ℕ, _+_, _-_}
-use native.Mathlib.Omega.{arith}
-use lib.Dec.{eqb}
-use lib.ListN.{drop}
-use borrow.Author.Tests.{eqb-true, not-true}
+use Rattle.laws.proofs.Prelude.{_≡_, refl, sym, _∙_, Bool, true, false, not, cond, _&&_, _||_, and-eq-true-iff, false≢true, List, [], _∷_, List·Memᴰ, List·Memᴰ·head, List·Memᴰ·tail, List·Memᴰ·not-nil, List·Memᴰ·cases-cons, ⊎-elim, ℕ, _+_, _-_, arith, eqb, drop, eqb-true}
+use mathlib.Core.Bool.{not-eq-not}
+use borrow.Author.Tests.{not-true}
 use Rattle.text.specs.declared.class.Class.{Class}
 use Rattle.text.specs.declared.class.Class.the-variants.{White, NotWhite, Quote}
 use Rattle.text.specs.declared.utf8.Encoding.the-variants.{Utf8}

@@ -1,13 +1,6 @@
 -- In a well-formed body the place of what a finder captures begins and ends at character boundaries. It lies in the body, between marks where it is quoted.
-use mathlib.Core.Path.{_≡_, refl, sym, ap, _∙_}
-use mathlib.Core.Bool.{true, false, false≢true}
-use mathlib.Core.List.{List, [], _∷_, _++_, List·Memᴰ·cases-cons, List·Memᴰ·eq-of-singleton}
-use mathlib.Core.Logic.{inl, inr, ⊎-elim}
-use Prim.Native.Nat.{ℕ, _+_, _-_, _≤_}
-use native.Mathlib.Nat.{add-zero, sub-zero}
-use native.Mathlib.Omega.{arith}
-use lib.ListN.{length, getD, drop}
-use lib.Seq.{getD-drop}
+use Rattle.laws.proofs.Prelude.{_≡_, refl, sym, ap, _∙_, true, false, false≢true, List, [], _∷_, _++_, List·Memᴰ·cases-cons, inl, inr, ⊎-elim, ℕ, _+_, _-_, _≤_, add-zero, sub-zero, arith, length, getD, drop, getD-drop}
+use mathlib.Core.List.{List·Memᴰ·eq-of-singleton}
 use Rattle.text.specs.declared.class.Class.{Class}
 use Rattle.text.specs.declared.class.Class.the-variants.{Quote}
 use Rattle.text.specs.declared.utf8.Encoding.the-variants.{Utf8}

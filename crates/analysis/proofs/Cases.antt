@@ -1,9 +1,5 @@
 -- Worked bodies of the ten patterns beside 01's, which stand in module_info. Each is its bytes before the captured text, that text, and the bytes behind it.
-use mathlib.Core.Path.{_≡_, refl}
-use mathlib.Core.Bool.{true, false}
-use mathlib.Core.List.{List, [], _∷_, _++_, map, flatMap}
-use Prim.Native.Nat.{ℕ, _+_}
-use lib.ListN.{length}
+use Rattle.laws.proofs.Prelude.{_≡_, refl, true, false, List, [], _∷_, _++_, map, flatMap, ℕ, _+_, length}
 use Rattle.laws.specs.Ascii.{ascii}
 use Rattle.text.specs.Ranges.{inRanges}
 use Rattle.text.specs.Utf8.{admits, lengthBy, charLength, codeBy, charAt}

@@ -1,12 +1,7 @@
 -- The places where a run can end, from one character to the next. The last of them is where the longest run ends, and it is the only one that
 -- counts where what follows the run matches nowhere before it.
-use mathlib.Core.Path.{_≡_, refl, sym, ap, _∙_}
-use mathlib.Core.List.{List, [], _∷_, _++_, reverse, reverse-cons, append-nil, flatMap}
-use Prim.Native.Nat.{ℕ, zero, suc, _+_, _≤_}
-use native.Mathlib.Nat.{add-zero, not-suc-le-zero, le-of-suc-le-suc}
-use native.Mathlib.Omega.{arith}
-use lib.ListN.{length, drop, length-drop}
-use lib.Seq.{drop-drop}
+use Rattle.laws.proofs.Prelude.{_≡_, refl, sym, ap, _∙_, List, [], _∷_, _++_, append-nil, flatMap, ℕ, zero, suc, _+_, _≤_, add-zero, not-suc-le-zero, le-of-suc-le-suc, arith, length, drop, length-drop, drop-drop}
+use mathlib.Core.List.{reverse, reverse-cons}
 use Rattle.laws.proofs.Lists.{flatMap-append}
 use Rattle.text.specs.declared.class.Class.{Class}
 use Rattle.text.specs.Class.{classAt, runEnd}

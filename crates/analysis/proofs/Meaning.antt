@@ -1,12 +1,7 @@
 -- Each match of a row is among those in order of preference. So where the finder answers nothing, nothing matches.
-use mathlib.Core.Path.{_≡_, refl, sym}
-use mathlib.Core.List.{List, [], _∷_, reverse, reverseAux, reverse-reverse, flatMap, List·Memᴰ, List·Memᴰ·head, List·Memᴰ·tail, List·Memᴰ·not-nil, List·Memᴰ·cases-cons, List·Memᴰ·eq-of-singleton, Memᴰ·append-left, Memᴰ·append-right}
-use mathlib.Core.Logic.{_⊎_, inl, inr, ⊎-elim}
-use Prim.Native.Nat.{ℕ, suc, _+_, _≤_, zero-le}
+use Rattle.laws.proofs.Prelude.{_≡_, refl, sym, List, [], _∷_, flatMap, List·Memᴰ, List·Memᴰ·head, List·Memᴰ·tail, List·Memᴰ·not-nil, List·Memᴰ·cases-cons, _⊎_, inl, inr, ⊎-elim, ℕ, suc, _+_, _≤_, zero-le, arith, length, eq-eqb, ne-eqb}
+use mathlib.Core.List.{reverse, reverseAux, reverse-reverse, List·Memᴰ·eq-of-singleton, Memᴰ·append-left, Memᴰ·append-right}
 use native.Mathlib.Nat.{eq-or-lt-of-le}
-use native.Mathlib.Omega.{arith}
-use lib.ListN.{length}
-use borrow.Author.Tests.{eq-eqb, ne-eqb}
 use Rattle.text.specs.declared.class.Class.{Class}
 use Rattle.text.proofs.Characters.{one-stands, one-there}
 use Rattle.analysis.specs.declared.Capture.{Capture}

@@ -1,8 +1,6 @@
 -- The number of a mode is 0, 1 or 2, and the code has a value for each mode.
-use mathlib.Core.Path.{_≡_, refl}
+use Rattle.laws.proofs.Prelude.{_≡_, refl, _≤_, arith}
 use mathlib.Core.Option.{none, some}
-use Prim.Native.Nat.{_≤_}
-use native.Mathlib.Omega.{arith}
 use Rattle.analysis.specs.declared.mode.ModeFound.{ModeFound}
 use Rattle.analysis.specs.declared.mode.ModeFound.the-variants.{Nothing, Import, Require}
 use Rattle.analysis.specs.Mode.{import, require, Mode, modeNumber}

@@ -1,10 +1,6 @@
 -- Places in an order. Of the matches that they stand for, the first is that of one of them, and those before it have none.
-use mathlib.Core.Path.{_≡_, refl}
-use mathlib.Core.List.{List, [], _∷_, _++_, reverse, reverse-cons, flatMap, List·Memᴰ, List·Memᴰ·head, List·Memᴰ·tail, List·Memᴰ·not-nil, List·Memᴰ·cases-cons, List·Memᴰ·eq-of-singleton, List·Memᴰ·append-cases}
-use mathlib.Core.Logic.{⊎-elim}
-use Prim.Native.Nat.{ℕ, suc, _+_, _≤_, _<_}
-use native.Mathlib.Omega.{arith}
-use lib.ListN.{drop}
+use Rattle.laws.proofs.Prelude.{_≡_, refl, List, [], _∷_, _++_, flatMap, List·Memᴰ, List·Memᴰ·head, List·Memᴰ·tail, List·Memᴰ·not-nil, List·Memᴰ·cases-cons, ⊎-elim, ℕ, suc, _+_, _≤_, _<_, arith, drop}
+use mathlib.Core.List.{reverse, reverse-cons, List·Memᴰ·eq-of-singleton, List·Memᴰ·append-cases}
 use Rattle.text.specs.declared.class.Class.{Class}
 use Rattle.text.specs.Class.{classAt}
 use Rattle.text.proofs.Characters.{stands-length}

@@ -1,13 +1,7 @@
 -- What is preferred, over all rows: it is a match, and one only; the first of the matches in order of preference is it. So the finder answers the
 -- preferred match, and nothing exactly where nothing matches.
-use mathlib.Core.Path.{_≡_, refl, sym, _∙_}
-use mathlib.Core.Bool.{Bool, true, false, cond}
-use mathlib.Core.List.{List, [], _∷_, _++_, List·Memᴰ·not-nil}
-use Prim.Native.Nat.{ℕ, zero, suc, _+_, _<_, zero-le}
-use native.Mathlib.Omega.{arith}
-use lib.Dec.{eqb, eqb·suc-zero, ltb}
-use lib.ListN.{drop}
-use borrow.Author.Tests.{eqb-true, ltb-true, ltb-false}
+use Rattle.laws.proofs.Prelude.{_≡_, refl, sym, _∙_, Bool, true, false, cond, List, [], _∷_, _++_, List·Memᴰ·not-nil, ℕ, zero, suc, _+_, _<_, zero-le, arith, eqb, ltb, drop, eqb-true, ltb-true, ltb-false}
+use lib.Dec.{eqb·suc-zero}
 use Rattle.text.specs.Class.{classAt}
 use Rattle.text.proofs.Characters.{one-stands, one-there}
 use Rattle.analysis.specs.declared.matcher.Matched.{Matched}

@@ -1,11 +1,5 @@
 -- What each row matches, step by step, as its finder goes through it.
-use mathlib.Core.Path.{_≡_, refl, ap, _∙_}
-use mathlib.Core.Bool.{true, false}
-use mathlib.Core.List.{List, [], _∷_, flatMap}
-use Prim.Native.Nat.{ℕ, _+_, _≤_}
-use native.Mathlib.Omega.{arith}
-use lib.ListN.{length, drop, length-drop}
-use borrow.Author.Tests.{eq-eqb}
+use Rattle.laws.proofs.Prelude.{_≡_, refl, ap, _∙_, true, false, List, [], _∷_, flatMap, ℕ, _+_, _≤_, arith, length, drop, length-drop, eq-eqb}
 use Rattle.laws.specs.Ascii.{ascii}
 use Rattle.text.specs.declared.class.Class.the-variants.{White, NotWhite, WhiteOrStar, NotLf, Quote, NotQuote, SourceMark}
 use Rattle.text.specs.Ranges.{inRanges}

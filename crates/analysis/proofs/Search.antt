@@ -1,11 +1,6 @@
 -- The match in a body: that of an anchored row is the one at the start; else it is looked for from one place to the next.
-use mathlib.Core.Path.{_≡_, refl, ap}
-use mathlib.Core.List.{List, [], _∷_, _++_, append-nil, flatMap}
-use Prim.Native.Nat.{ℕ, suc, _+_, _≤_, _<_}
-use native.Mathlib.Numerals.{add-one}
+use Rattle.laws.proofs.Prelude.{_≡_, refl, ap, List, [], _∷_, _++_, append-nil, flatMap, ℕ, suc, _+_, _≤_, _<_, add-one, length, drop, drop-of-length-le, drop-cons}
 use lib.Dec.{eqb·suc-zero}
-use lib.ListN.{length, drop, drop-of-length-le}
-use lib.Seq.{drop-cons}
 use Rattle.analysis.specs.declared.Capture.{Capture}
 use Rattle.analysis.specs.declared.Found.{Found}
 use Rattle.analysis.specs.declared.Found.the-variants.{At, Nothing}

@@ -1,15 +1,6 @@
 -- A letter ends in the text, and a word goes on from one of its letters to the next. `wordAt` answers where the letters that `Spelled` asks for end.
-use mathlib.Core.Path.{_≡_, refl}
-use mathlib.Core.Bool.{cond}
-use mathlib.Core.List.{List, [], _∷_}
-use Prim.Native.Nat.{ℕ, zero, suc, _+_, _≤_, _<_}
-use native.Mathlib.Nat.{add-zero}
-use native.Mathlib.Numerals.{add-one}
-use native.Mathlib.Omega.{arith}
-use lib.Dec.{eqb, eqb·suc-zero}
-use lib.ListN.{length, getD, drop, drop-of-length-le}
-use lib.Seq.{drop-cons, getD-drop}
-use borrow.Author.Tests.{eqb-true, eq-eqb, ne-eqb}
+use Rattle.laws.proofs.Prelude.{_≡_, refl, cond, List, [], _∷_, ℕ, zero, suc, _+_, _≤_, _<_, add-zero, add-one, arith, eqb, length, getD, drop, drop-of-length-le, drop-cons, getD-drop, eqb-true, eq-eqb, ne-eqb}
+use lib.Dec.{eqb·suc-zero}
 use Rattle.text.specs.declared.utf8.Encoding.the-variants.{Utf8}
 use Rattle.text.specs.Utf8.{codeBy, charAt}
 use Rattle.text.specs.Characters.{Stands}

@@ -1,9 +1,5 @@
 -- The value at which each row ends, and whether marks stand around what it captures.
-use mathlib.Core.Path.{_≡_, refl}
-use mathlib.Core.Bool.{true, false}
-use mathlib.Core.Logic.{_⊎_, inl, inr}
-use mathlib.Core.List.{List}
-use Prim.Native.Nat.{ℕ}
+use Rattle.laws.proofs.Prelude.{_≡_, refl, true, false, _⊎_, inl, inr, List, ℕ}
 use Rattle.analysis.specs.declared.Capture.{Capture}
 use Rattle.analysis.specs.Row.{Row}
 use Rattle.analysis.specs.Matches.{Matches}

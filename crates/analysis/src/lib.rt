@@ -20,7 +20,8 @@ ghost use lib.ListN.{length};
 ghost use Rattle.laws.specs.code.Told.{Bounded};
 ghost use Rattle.analysis.specs.Row.{find, isFound};
 ghost use Rattle.analysis.specs.Place.{Inside, FoundWithin, markWidth, placeOf, textOf};
-ghost use Rattle.analysis.specs.Patterns.{tripleSlashRow, pathRow, typesRow, resolutionModeRow, jsxImportSourceRow, jsxImportSourceTypesRow, sourceMappingUrlRow, tsSelfTypesRow, tsTypesRow, denoTypesRow};
+ghost use Rattle.analysis.specs.Patterns.{tripleSlashRow, pathRow, typesRow, resolutionModeRow, jsxImportSourceRow, jsxImportSourceTypesRow};
+ghost use Rattle.analysis.specs.Patterns.{sourceMappingUrlRow, tsSelfTypesRow, tsTypesRow, denoTypesRow};
 
 // What a match captured: from one place of the body to another, and whether marks stand around it. The Rust's `is_quoteless` is the opposite.
 pub struct Capture {

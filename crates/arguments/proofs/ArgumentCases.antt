@@ -1,9 +1,5 @@
 -- Arguments in a source that is an empty string, as the definitions compute.
-use mathlib.Core.Path.{_≡_, refl}
-use mathlib.Core.List.{List, [], _∷_, _++_, map}
-use mathlib.Core.Option.{Option}
-use Prim.Native.Nat.{ℕ}
-use lib.ListN.{length}
+use Rattle.laws.proofs.Prelude.{_≡_, refl, List, [], _∷_, _++_, map, Option, ℕ, length}
 use Rattle.laws.specs.Decoded.{Decoded, ok, onOk}
 use Rattle.laws.specs.Ascii.{ascii}
 use Rattle.text.specs.Bytes.{begins}

@@ -1,8 +1,5 @@
 -- The argument that an expression is, from what was read of it.
-use mathlib.Core.Path.{_≡_, refl}
-use mathlib.Core.List.{List}
-use mathlib.Core.Option.{Option}
-use Prim.Native.Nat.{ℕ}
+use Rattle.laws.proofs.Prelude.{_≡_, refl, List, Option, ℕ}
 use Rattle.laws.specs.Decoded.{Decoder}
 use Rattle.text.specs.Lossy.{lossy, replaced}
 use Rattle.text.specs.Bytes.{part}

@@ -1,10 +1,5 @@
 -- The parts of a chain of pluses, from what was read of its expression.
-use mathlib.Core.Path.{_≡_, refl, sym, ap, _∙_}
-use mathlib.Core.List.{List, [], _∷_, _++_, append-nil, flatMap}
-use mathlib.Core.Option.{Option}
-use Prim.Native.Nat.{ℕ, _+_}
-use native.Mathlib.Omega.{arith}
-use lib.ListN.{length, drop, length-append}
+use Rattle.laws.proofs.Prelude.{_≡_, refl, sym, ap, _∙_, List, [], _∷_, _++_, append-nil, flatMap, Option, ℕ, _+_, arith, length, drop, length-append}
 use Rattle.laws.specs.Decoded.{Decoded, ok, no, onOk, Decoder}
 use Rattle.laws.proofs.Lists.{flatMap-append}
 use Rattle.laws.proofs.Decoding.{refused, same-rest}

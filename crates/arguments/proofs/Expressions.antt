@@ -1,15 +1,8 @@
 -- What stands behind the head of an expression, by the head.
-use mathlib.Core.Path.{_≡_, refl}
-use mathlib.Core.Bool.{Bool, true, false}
-use mathlib.Core.List.{List, [], _∷_}
-use mathlib.Core.Option.{Option}
-use Prim.Native.Nat.{ℕ, _-_, _+_}
-use native.Mathlib.Omega.{arith}
+use Rattle.laws.proofs.Prelude.{_≡_, refl, Bool, true, false, List, [], _∷_, Option, ℕ, _-_, _+_, arith, drop, seen}
 use types.Run.{OneOf, miss}
 use denote.Enum.Declared.{tagOf}
-use lib.ListN.{drop}
 use Rattle.laws.specs.Decoded.{ok}
-use Rattle.laws.proofs.Steps.{seen}
 use Rattle.laws.proofs.Decoding.{then-ok}
 use Rattle.wire.specs.declared.Cursor.{Cursor}
 use Rattle.sheet.specs.declared.fields.Span.{Span}

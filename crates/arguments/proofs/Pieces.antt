@@ -1,13 +1,5 @@
 -- Pieces of a template read one after the other, and the parts that they give.
-use mathlib.Core.Path.{_≡_, refl, sym, ap, _∙_}
-use mathlib.Core.Bool.{Bool, true, false}
-use mathlib.Core.List.{List, [], _∷_, _++_, append-nil}
-use mathlib.Core.Option.{Option}
-use Prim.Native.Nat.{ℕ, zero, suc, _+_, _-_, _≤_, _<_}
-use native.Mathlib.Omega.{arith}
-use lib.Dec.{ltb}
-use lib.ListN.{length, length-take, length-drop}
-use borrow.Author.Tests.{lt-ltb}
+use Rattle.laws.proofs.Prelude.{_≡_, refl, sym, ap, _∙_, Bool, true, false, List, [], _∷_, _++_, append-nil, Option, ℕ, zero, suc, _+_, _-_, _≤_, _<_, arith, ltb, length, length-take, length-drop, lt-ltb}
 use Rattle.laws.specs.Decoded.{ok}
 use Rattle.laws.proofs.Decoding.{then-ok}
 use Rattle.text.specs.declared.utf8.Encoding.the-variants.{Wtf8}

@@ -4,7 +4,8 @@ use mathlib.Core.List.{List, [], _∷_, _++_}
 use mathlib.Core.Option.{Option}
 use Prim.Native.Nat.{ℕ}
 use Rattle.text.specs.Lossy.{lossy, replaced}
-use Rattle.sheet.specs.Tree.{Pieces, Node, other, string, name, template, binary, object, importCall, call, importDecl, namedExport, exportFrom, exportAll, importType, importEquals, importRequire, moduleDecl}
+use Rattle.sheet.specs.Tree.{Pieces, Node, other, string, name, template, binary, object, importCall, call, importDecl, namedExport, exportFrom}
+use Rattle.sheet.specs.Tree.{exportAll, importType, importEquals, importRequire, moduleDecl}
 use Rattle.sheet.specs.Shape.{Shape, text, named, pieces, operation, properties, anything, shape}
 use Rattle.report.specs.ModuleInfo.{DynamicTemplatePart, DynamicArgument}
 use Rattle.report.specs.ModuleInfo as info

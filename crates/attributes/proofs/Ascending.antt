@@ -1,12 +1,5 @@
 -- Keys in the order of their bytes, and a pair put in its place among them.
-use mathlib.Core.Path.{_≡_, refl, sym, ap, _∙_}
-use mathlib.Core.Bool.{Bool, true, false, cond}
-use mathlib.Core.Logic.{_⊎_, inl, inr, ⊎-elim, _↔_}
-use mathlib.Core.List.{List, [], _∷_, List·Memᴰ, List·Memᴰ·head, List·Memᴰ·tail, List·Memᴰ·not-nil, List·Memᴰ·cases-cons}
-use Prim.Native.Nat.{ℕ, _<_}
-use native.Mathlib.Omega.{arith}
-use lib.Dec.{ltb}
-use borrow.Author.Tests.{ltb-true, ltb-false, lt-ltb, le-ltb}
+use Rattle.laws.proofs.Prelude.{_≡_, refl, sym, ap, _∙_, Bool, true, false, cond, _⊎_, inl, inr, ⊎-elim, _↔_, List, [], _∷_, List·Memᴰ, List·Memᴰ·head, List·Memᴰ·tail, List·Memᴰ·not-nil, List·Memᴰ·cases-cons, ℕ, _<_, arith, ltb, ltb-true, ltb-false, lt-ltb, le-ltb}
 use Rattle.text.specs.declared.bytes.Order.{Order}
 use Rattle.text.specs.declared.bytes.Order.the-variants.{Less, Equal, Greater}
 use Rattle.text.specs.Bytes.{order}

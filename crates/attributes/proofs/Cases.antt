@@ -1,9 +1,5 @@
 -- Properties with the attributes that each reading gives, as the definitions compute.
-use mathlib.Core.Path.{_≡_, refl}
-use mathlib.Core.Bool.{true, false}
-use mathlib.Core.List.{List, [], _∷_, map}
-use mathlib.Core.Option.{Option}
-use Prim.Native.Nat.{ℕ}
+use Rattle.laws.proofs.Prelude.{_≡_, refl, true, false, List, [], _∷_, map, Option, ℕ}
 use Prim.Native.String.{String}
 use Rattle.laws.specs.Ascii.{ascii}
 use Rattle.text.specs.Bytes.{same, order}

@@ -1,9 +1,5 @@
 -- The search for a pair's place: each key before it is less.
-use mathlib.Core.Path.{_≡_, sym, _∙_}
-use mathlib.Core.List.{List, _∷_, _++_, append-assoc}
-use Prim.Native.Nat.{ℕ, _+_, _-_, _≤_, _<_}
-use native.Mathlib.Nat.{sub-zero}
-use native.Mathlib.Omega.{arith}
+use Rattle.laws.proofs.Prelude.{_≡_, sym, _∙_, List, _∷_, _++_, append-assoc, ℕ, _+_, _-_, _≤_, _<_, sub-zero, arith}
 use Rattle.text.specs.declared.bytes.Order.the-variants.{Less, Equal, Greater}
 use Rattle.text.specs.Bytes.{order}
 use Rattle.sheet.specs.code.Tables.{rows}

@@ -1,8 +1,5 @@
 -- A property of the second argument, by its key.
-use mathlib.Core.Path.{_≡_}
-use mathlib.Core.Bool.{Bool, true, false}
-use mathlib.Core.List.{List, [], _∷_}
-use Prim.Native.Nat.{ℕ}
+use Rattle.laws.proofs.Prelude.{_≡_, Bool, true, false, List, [], _∷_, ℕ}
 use Rattle.laws.specs.Ascii.{ascii}
 use Rattle.text.specs.Bytes.{same}
 use Rattle.sheet.specs.Shape.{Shape}

@@ -1,7 +1,5 @@
 -- A loop over the properties of an Object: going on from what was found so far gives what going through all of them gives.
-use mathlib.Core.Path.{_≡_, refl, sym, ap, _∙_}
-use mathlib.Core.List.{List, [], _∷_}
-use Prim.Native.Nat.{ℕ, _-_, _≤_, _<_}
+use Rattle.laws.proofs.Prelude.{_≡_, refl, sym, ap, _∙_, List, [], _∷_, ℕ, _-_, _≤_, _<_}
 use Rattle.laws.specs.Decoded.{Decoded, ok, no, onOk, Decoder}
 use Rattle.laws.proofs.Decoding.{refused, onOk-ok}
 use Rattle.sheet.specs.Tree.{Node, Properties, noProperties}

@@ -1,8 +1,5 @@
 -- Where the readings begin: an Object that holds attributes, and the first of some arguments.
-use mathlib.Core.Path.{_≡_, sym, ap, _∙_}
-use mathlib.Core.Bool.{Bool, false, cond}
-use mathlib.Core.List.{List}
-use Prim.Native.Nat.{ℕ, _-_, _<_}
+use Rattle.laws.proofs.Prelude.{_≡_, sym, ap, _∙_, Bool, false, cond, List, ℕ, _-_, _<_}
 use Rattle.laws.specs.Decoded.{ok, no, Decoder, return}
 use Rattle.laws.proofs.Decoding.{refused, then-ok}
 use Rattle.sheet.specs.declared.fields.Span.{Span}

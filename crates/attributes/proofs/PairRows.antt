@@ -1,13 +1,8 @@
 -- Pairs in the rows of a table: one stored, and the others moved up by one row.
-use mathlib.Core.Path.{_≡_, refl, ap, ap₂, _∙_}
-use mathlib.Core.Bool.{Bool, true, false, cond}
-use mathlib.Core.List.{List, [], _∷_, _++_, append-assoc}
-use Prim.Native.Nat.{ℕ, _+_, _-_, _*_, _≤_, _<_}
-use native.Mathlib.Omega.{arith}
-use lib.Dec.{eqb}
-use lib.ListN.{length}
+use Rattle.laws.proofs.Prelude.{_≡_, refl, ap, _∙_, Bool, true, false, cond, List, [], _∷_, _++_, append-assoc, ℕ, _+_, _-_, _*_, _≤_, _<_, arith, eqb, length, eqb-true}
+use mathlib.Core.Path.{ap₂}
 use lib.Seq.{sets}
-use borrow.Author.Tests.{eqb-true, eqb-false}
+use borrow.Author.Tests.{eqb-false}
 use Rattle.sheet.specs.code.Tables.{rows}
 use Rattle.sheet.proofs.TableRows.{rows-same, rows-first, rows-end, rows-two}
 use Rattle.sheet.proofs.Stores.{outside-sets, in-sets, Table}

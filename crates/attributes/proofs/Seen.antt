@@ -1,9 +1,5 @@
 -- A property, by its head, as the readings see it.
-use mathlib.Core.Path.{_≡_, refl, sym, _∙_}
-use mathlib.Core.Bool.{Bool, true, false, cond}
-use mathlib.Core.List.{List, _∷_}
-use Prim.Native.Nat.{ℕ}
-use lib.ListN.{drop}
+use Rattle.laws.proofs.Prelude.{_≡_, refl, sym, _∙_, Bool, true, false, cond, List, _∷_, ℕ, drop}
 use Rattle.laws.specs.Decoded.{ok, Decoder, _>>=_, return}
 use Rattle.laws.proofs.Decoding.{then-ok}
 use Rattle.text.specs.Lossy.{exact}

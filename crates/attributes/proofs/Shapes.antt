@@ -1,14 +1,8 @@
 -- What a node is to an attribute, by its head.
-use mathlib.Core.Path.{_≡_, refl, sym, ap}
-use mathlib.Core.Bool.{true, false≢true}
-use mathlib.Core.Option.{Option}
-use mathlib.Core.List.{List, [], _∷_}
-use Prim.Native.Nat.{ℕ, _-_}
+use Rattle.laws.proofs.Prelude.{_≡_, refl, sym, ap, true, false≢true, Option, List, [], _∷_, ℕ, _-_, drop, seen}
 use types.Run.{OneOf, miss}
 use denote.Enum.Declared.{tagOf}
-use lib.ListN.{drop}
 use Rattle.laws.specs.Decoded.{ok, return}
-use Rattle.laws.proofs.Steps.{seen}
 use Rattle.laws.proofs.Decoding.{then-ok}
 use Rattle.text.specs.Bytes.{part}
 use Rattle.wire.specs.declared.Cursor.{Cursor}

@@ -8,7 +8,8 @@ use Rattle.text.specs.declared.bytes.Order.{Order}
 use Rattle.text.specs.declared.bytes.Order.the-variants.{Less, Equal, Greater}
 use Rattle.text.specs.Bytes.{same, order}
 use Rattle.text.specs.Lossy.{exact}
-use Rattle.sheet.specs.Tree.{Arguments, noArguments, argument, Properties, noProperties, spread, otherProperty, childKey, stringKey, nameKey, Attributes, without, withObject}
+use Rattle.sheet.specs.Tree.{Arguments, noArguments, argument, Properties, noProperties, spread, otherProperty, childKey, stringKey, nameKey}
+use Rattle.sheet.specs.Tree.{Attributes, without, withObject}
 use Rattle.sheet.specs.Shape.{Shape, text, named, pieces, operation, properties, anything, shape}
 use Rattle.report.specs.ModuleInfo.{ImportAttribute, KeyValue, ImportAttributes, none, unknown, known}
 

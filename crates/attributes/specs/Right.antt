@@ -98,6 +98,8 @@ pub data SecondOf (es : List Prop) : ImportAttributes → Type 0 where
 pub data DynamicOf : Arguments → ImportAttributes → Type 0 where
   noSecond : DynamicOf noArguments none
   spread : {dots : Bool} {at : Span} {n : Node} {xs : Arguments} → dots ≡ true → DynamicOf (argument dots at n xs) unknown
-  noObject : {dots : Bool} {at : Span} {n : Node} {xs : Arguments} → ((ps : Properties) → shape n ≡ properties ps → ⊥) → DynamicOf (argument dots at n xs) unknown
-  object : {dots : Bool} {at : Span} {n : Node} {xs : Arguments} {ps : Properties} {a : ImportAttributes} → dots ≡ false → shape n ≡ properties ps → SecondOf (props ps) a
+  noObject : {dots : Bool} {at : Span} {n : Node} {xs : Arguments} → ((ps : Properties) → shape n ≡ properties ps → ⊥)
+      → DynamicOf (argument dots at n xs) unknown
+  object : {dots : Bool} {at : Span} {n : Node} {xs : Arguments} {ps : Properties} {a : ImportAttributes} → dots ≡ false → shape n ≡ properties ps
+      → SecondOf (props ps) a
       → DynamicOf (argument dots at n xs) a

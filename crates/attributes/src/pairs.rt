@@ -132,7 +132,8 @@ pub fn insert(sheet: &[u8], pairs: &mut [usize], n: usize, p: Pair) -> usize
 pub fn insert_known(sheet: &[u8], pairs: &mut [usize], n: usize, p: Pair) -> usize
     requires { ⌜ (n < propertyLimit) × Pairs (length (now sheet)) (now pairs) n × PairWithin (length (now sheet)) p ⌝ }
     ensures { λ r. ⌜ Bounded
-        (pairsIn (now (sheet .entry)) (now (pairs .exit)) r ≡ insertKnown (pairAs (now (sheet .entry)) p .key) (pairAs (now (sheet .entry)) p .value) (pairsIn (now (sheet .entry)) (now (pairs .entry)) n))
+        (pairsIn (now (sheet .entry)) (now (pairs .exit)) r
+        ≡ insertKnown (pairAs (now (sheet .entry)) p .key) (pairAs (now (sheet .entry)) p .value) (pairsIn (now (sheet .entry)) (now (pairs .entry)) n))
         ((r ≤ n + 1) × Pairs (length (now (sheet .entry))) (now (pairs .exit)) r × Free (now (pairs .entry)) (now (pairs .exit))) ⌝ }
 {
     if p.known {

@@ -29,7 +29,8 @@ ghost use Rattle.sheet_heads.specs.code.Views.{Part};
 ghost use Rattle.report.specs.ModuleInfo.{none};
 ghost use Rattle.laws.specs.code.Left.{Free};
 ghost use Rattle.laws.specs.code.Told.{Bounded, Lent};
-ghost use Rattle.attributes.specs.Attributes.{props, staticPairs, staticAttributes, objectAttributes, typeAttributes, ofObject, argumentProperties, dynamicAttributes, isAttributesKey};
+ghost use Rattle.attributes.specs.Attributes.{props, staticPairs, staticAttributes, objectAttributes, typeAttributes, ofObject};
+ghost use Rattle.attributes.specs.Attributes.{argumentProperties, dynamicAttributes, isAttributesKey};
 ghost use Rattle.attributes.specs.code.Views.{pairsIn, attributesAs, Pairs, AttributesWithin};
 
 pub enum ImportAttributes {

@@ -1,13 +1,7 @@
 -- Two ranges that print alike are one.
-use mathlib.Core.Path.{_≡_, refl, ap, sym, _∙_}
-use mathlib.Core.Bool.{Bool, true, false, cond}
-use mathlib.Core.List.{List, [], _∷_, _++_}
-use Prim.Native.Nat.{ℕ, zero, suc, _+_, _-_, _*_, _/_, _%_, _^_, _≤_, _<_}
-use Prim.Native.Char.{code}
+use Rattle.laws.proofs.Prelude.{_≡_, refl, ap, sym, _∙_, Bool, true, false, cond, List, [], _∷_, _++_, ℕ, zero, suc, _+_, _-_, _*_, _/_, _%_, _≤_, _<_, code, arith, ltb, ltb-true}
+use Prim.Native.Nat.{_^_}
 use native.Mathlib.Nat.{pow-suc}
-use native.Mathlib.Omega.{arith}
-use lib.Dec.{ltb}
-use borrow.Author.Tests.{ltb-true}
 use Rattle.laws.specs.Codec.{All}
 use Rattle.laws.proofs.Lists.{all-append}
 use Rattle.text.specs.declared.position.Position.{Position}

@@ -1,7 +1,5 @@
 -- Sources and reports byte by byte, with the lines that are printed for them.
-use mathlib.Core.Path.{_≡_, refl}
-use mathlib.Core.List.{List, [], _∷_, _++_, map, flatMap}
-use Prim.Native.Nat.{ℕ}
+use Rattle.laws.proofs.Prelude.{_≡_, refl, List, [], _∷_, _++_, map, flatMap, ℕ}
 use Prim.Native.String.{String}
 use Rattle.laws.specs.Decoded.{ok, onOk}
 use Rattle.laws.specs.Ascii.{ascii}

@@ -1,14 +1,6 @@
 -- The columns that are printed are right.
-use mathlib.Core.Path.{_≡_, sym, ap, _∙_}
-use mathlib.Core.Bool.{Bool, true, false, cond}
-use mathlib.Core.Logic.{_↔_, ⊎-elim}
-use mathlib.Core.List.{List, [], _∷_}
-use Prim.Native.Nat.{ℕ, _+_, _/_, _≤_, _<_}
+use Rattle.laws.proofs.Prelude.{_≡_, sym, ap, _∙_, Bool, true, false, cond, _↔_, ⊎-elim, List, [], _∷_, ℕ, _+_, _/_, _≤_, _<_, arith, eqb, length, getD, le-leb, lt-leb}
 use native.Mathlib.Decide.{decLe}
-use native.Mathlib.Omega.{arith}
-use lib.Dec.{eqb}
-use lib.ListN.{length, getD}
-use borrow.Author.Tests.{le-leb, lt-leb}
 use Rattle.laws.specs.Codec.{All}
 use Rattle.text.specs.declared.position.Position.{Position}
 use Rattle.text.specs.declared.utf8.Encoding.the-variants.{Utf8}

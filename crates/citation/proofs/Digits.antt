@@ -1,9 +1,5 @@
 -- A number's decimal digits, the last one first.
-use mathlib.Core.Path.{_≡_, refl}
-use mathlib.Core.List.{[], _∷_, _++_}
-use Prim.Native.Nat.{ℕ, zero, suc, _+_, _-_, _/_, _%_, _≤_, _<_}
-use native.Mathlib.Omega.{arith}
-use borrow.Author.Tests.{lt-ltb, le-ltb}
+use Rattle.laws.proofs.Prelude.{_≡_, refl, [], _∷_, _++_, ℕ, zero, suc, _+_, _-_, _/_, _%_, _≤_, _<_, arith, lt-ltb, le-ltb}
 use Rattle.citation.specs.Citation.{digits}
 
 pub no-digit : (places n : ℕ) → places ≡ 0 → digits places n ≡ []

@@ -1,9 +1,5 @@
 -- A report has at least eight bytes for each of its dependencies.
-use mathlib.Core.List.{List, [], _∷_, flatMap}
-use mathlib.Core.Option.{Option}
-use Prim.Native.Nat.{_*_, _≤_, _<_}
-use native.Mathlib.Omega.{arith}
-use lib.ListN.{length, length-append}
+use Rattle.laws.proofs.Prelude.{List, [], _∷_, flatMap, Option, _*_, _≤_, _<_, arith, length, length-append}
 use Rattle.wire.specs.Text.{encodeText}
 use Rattle.wire.specs.Optional.{encodeOptional}
 use Rattle.wire.proofs.Lengths.{number-long}

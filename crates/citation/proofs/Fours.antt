@@ -1,14 +1,6 @@
 -- Characters of four bytes, counted from the start of a line.
-use mathlib.Core.Path.{_≡_, refl, ap, _∙_}
-use mathlib.Core.Bool.{Bool, true, false, cond}
-use mathlib.Core.List.{List, [], _∷_, _++_}
-use Prim.Native.Nat.{ℕ, zero, suc, _+_, _-_, _≤_, _<_}
-use native.Mathlib.Numerals.{add-one}
-use native.Mathlib.Omega.{arith}
-use lib.Dec.{eqb}
-use lib.ListN.{length, getD, take, drop, take-append-drop, drop-of-length-le}
-use lib.Seq.{drop-cons}
-use borrow.Author.Tests.{eq-eqb, ne-eqb}
+use Rattle.laws.proofs.Prelude.{_≡_, refl, ap, _∙_, Bool, true, false, cond, List, [], _∷_, _++_, ℕ, zero, suc, _+_, _-_, _≤_, _<_, add-one, arith, eqb, length, getD, take, drop, drop-of-length-le, drop-cons, eq-eqb, ne-eqb}
+use lib.ListN.{take-append-drop}
 use Rattle.laws.specs.Codec.{All}
 use Rattle.laws.proofs.Onward.{carried-to}
 use Rattle.text.specs.declared.position.Position.{Position}

@@ -1,15 +1,7 @@
 -- What is printed for a report is at most four times as long as the report.
-use mathlib.Core.Path.{_≡_, refl}
-use mathlib.Core.Bool.{Bool, true, false, cond}
-use mathlib.Core.List.{List, [], _∷_, _++_, flatMap}
-use mathlib.Core.Option.{Option}
-use Prim.Native.Nat.{ℕ, zero, suc, _+_, _*_, _/_, _%_, _^_, _≤_, _<_}
-use Prim.Native.Char.{code}
+use Rattle.laws.proofs.Prelude.{_≡_, refl, Bool, true, false, cond, List, [], _∷_, _++_, flatMap, Option, ℕ, zero, suc, _+_, _*_, _/_, _%_, _≤_, _<_, code, arith, ltb, length, getD, drop, length-append, ltb-true, ltb-false}
+use Prim.Native.Nat.{_^_}
 use native.Mathlib.Nat.{pow-suc, one-le-pow}
-use native.Mathlib.Omega.{arith}
-use lib.Dec.{ltb}
-use lib.ListN.{length, getD, drop, length-append}
-use borrow.Author.Tests.{ltb-true, ltb-false}
 use Rattle.laws.specs.Ascii.{ascii}
 use Rattle.laws.specs.Codec.{IfThere, All}
 use Rattle.laws.proofs.Lists.{flatMap-append}

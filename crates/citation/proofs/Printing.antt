@@ -1,9 +1,5 @@
 -- Lines written one after the other.
-use mathlib.Core.Path.{_≡_, refl, ap}
-use mathlib.Core.List.{List, [], _∷_, _++_, append-assoc, flatMap}
-use Prim.Native.Nat.{ℕ, zero, suc, _+_}
-use lib.ListN.{getD, drop, length-append}
-use lib.Seq.{getD-drop, drop-drop}
+use Rattle.laws.proofs.Prelude.{_≡_, refl, ap, List, [], _∷_, _++_, append-assoc, flatMap, ℕ, zero, suc, _+_, getD, drop, length-append, getD-drop, drop-drop}
 use Rattle.laws.proofs.Lists.{flatMap-append}
 use Rattle.text.specs.declared.position.Position.{Position}
 use Rattle.report.specs.ModuleInfo.{ModuleInfo}

@@ -1,13 +1,5 @@
 -- A position recounted is the position in UTF-16 code units of the same place.
-use mathlib.Core.Path.{_≡_, refl}
-use mathlib.Core.Bool.{Bool, true, false, cond}
-use mathlib.Core.Logic.{_⊎_, inl, inr, ⊎-elim}
-use mathlib.Core.List.{List, [], _∷_}
-use Prim.Native.Nat.{ℕ, zero, suc, _+_}
-use native.Mathlib.Nat.{add-zero}
-use native.Mathlib.Omega.{arith}
-use lib.Dec.{eqb}
-use lib.ListN.{take}
+use Rattle.laws.proofs.Prelude.{_≡_, refl, Bool, true, false, cond, _⊎_, inl, inr, ⊎-elim, List, [], _∷_, ℕ, zero, suc, _+_, add-zero, arith, eqb, take}
 use Rattle.text.specs.declared.position.Position.{Position}
 use Rattle.text.specs.Ranges.{within}
 use Rattle.text.specs.Utf8.{continuation}

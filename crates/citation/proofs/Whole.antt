@@ -1,12 +1,5 @@
 -- All that was written, where the buffer is long enough.
-use mathlib.Core.Path.{_≡_, refl, ap, _∙_}
-use mathlib.Core.Bool.{Bool, true, false, cond}
-use mathlib.Core.List.{List, [], _∷_}
-use Prim.Native.Nat.{ℕ, zero, suc, _+_, _≤_}
-use native.Mathlib.Omega.{arith}
-use lib.Dec.{eqb}
-use lib.ListN.{length, take}
-use borrow.Author.Tests.{le-leb}
+use Rattle.laws.proofs.Prelude.{_≡_, refl, ap, _∙_, Bool, true, false, cond, List, [], _∷_, ℕ, zero, suc, _+_, _≤_, arith, eqb, length, take, le-leb}
 use Rattle.report.specs.declared.writer.Pen.{Pen}
 use Rattle.report.specs.Buffer.{holds, full, wrote, fullPlace, bufferAs}
 

@@ -8,7 +8,8 @@ use lib.Dec.{eqb, ltb}
 use lib.ListN.{length, getD, drop}
 use Rattle.laws.specs.Ascii.{ascii}
 use Rattle.text.specs.declared.position.Position.{Position}
-use Rattle.report.specs.ModuleInfo.{PositionRange, SpecifierWithRange, TypeScriptReference, path, types, JsDocImportInfo, DynamicArgument, expr, string, template, DependencyDescriptor, static, dynamic, ModuleInfo}
+use Rattle.report.specs.ModuleInfo.{PositionRange, SpecifierWithRange, TypeScriptReference, path, types, JsDocImportInfo, DynamicArgument, expr}
+use Rattle.report.specs.ModuleInfo.{string, template, DependencyDescriptor, static, dynamic, ModuleInfo}
 use Rattle.citation.specs.Columns.{recountedRange}
 
 -- the decimal digits of a number, of at most so many places

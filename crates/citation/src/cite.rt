@@ -24,7 +24,8 @@ ghost use Rattle.report.specs.ModuleInfo.{ModuleInfo};
 ghost use Rattle.report.specs.Encode.{encodeList, encodeRange, encodeSpecifier, encodeReference, encodeJsDoc, encodeDependency, encode};
 ghost use Rattle.report.specs.Valid.{Short, ValidRange, ValidSpecifier, ValidReference, ValidJsDoc, ValidDependency, Valid};
 ghost use Rattle.report.specs.Buffer.{bufferAs};
-ghost use Rattle.citation.specs.Citation.{citeSpecifier, citeOptional, citeArgument, citeReference, citeJsDoc, citeDependency, dependencyLetter, citeEach, lines, citation, refusal};
+ghost use Rattle.citation.specs.Citation.{citeSpecifier, citeOptional, citeArgument, citeReference, citeJsDoc, citeDependency};
+ghost use Rattle.citation.specs.Citation.{dependencyLetter, citeEach, lines, citation, refusal};
 ghost use Rattle.citation.specs.code.Cites.{Cites};
 ghost use Rattle.citation.specs.code.Items.{encodeRanged, ValidRanged, encodeItem, ValidItem, citeItem};
 
@@ -53,7 +54,8 @@ fn cite_range(
     place: Pen,
 ) -> Cited
     ensures { λ r. ⌜ Bounded
-        (Cites encodeRange ValidRange (now (report .entry)) (now (source .entry)) at (λ range. record { letter = letter; range = range; text = now (text .entry) } ∷ []) (bufferAs (now (out .entry)) place) (now (out .exit)) r)
+        (Cites encodeRange ValidRange (now (report .entry)) (now (source .entry)) at
+        (λ range. record { letter = letter; range = range; text = now (text .entry) } ∷ []) (bufferAs (now (out .entry)) place) (now (out .exit)) r)
         (r .lines ≤ 1) ⌝ }
 {
     let range = read_range(report, at);
@@ -74,7 +76,8 @@ fn cite_specifier(
     place: Pen,
 ) -> Cited
     ensures { λ r. ⌜ Bounded
-        (Cites encodeSpecifier ValidSpecifier (now (report .entry)) (now (source .entry)) at (citeSpecifier letter) (bufferAs (now (out .entry)) place) (now (out .exit)) r)
+        (Cites encodeSpecifier ValidSpecifier (now (report .entry)) (now (source .entry)) at (citeSpecifier letter)
+        (bufferAs (now (out .entry)) place) (now (out .exit)) r)
         (r .lines ≤ 1) ⌝ }
 {
     let text = read_text(report, at);
@@ -93,7 +96,8 @@ fn cite_optional(
     place: Pen,
 ) -> Cited
     ensures { λ r. ⌜ Bounded
-        (Cites (encodeOptional encodeSpecifier) (IfThere ValidSpecifier) (now (report .entry)) (now (source .entry)) at (citeOptional letter) (bufferAs (now (out .entry)) place) (now (out .exit)) r)
+        (Cites (encodeOptional encodeSpecifier) (IfThere ValidSpecifier) (now (report .entry)) (now (source .entry)) at (citeOptional letter)
+        (bufferAs (now (out .entry)) place) (now (out .exit)) r)
         (r .lines ≤ 1) ⌝ }
 {
     let flag = read_number(report, at);
@@ -110,7 +114,8 @@ fn cite_optional(
 // Cites a reference: R.
 fn cite_reference(report: &[u8], source: &[u8], at: usize, out: &mut [u8], place: Pen) -> Cited
     ensures { λ r. ⌜ Bounded
-        (Cites encodeReference ValidReference (now (report .entry)) (now (source .entry)) at citeReference (bufferAs (now (out .entry)) place) (now (out .exit)) r)
+        (Cites encodeReference ValidReference (now (report .entry)) (now (source .entry)) at citeReference (bufferAs (now (out .entry)) place)
+        (now (out .exit)) r)
         (r .lines ≤ 1) ⌝ }
 {
     let kind = read_number(report, at);
@@ -154,7 +159,8 @@ fn cite_argument(
     place: Pen,
 ) -> Cited
     ensures { λ r. ⌜ Bounded
-        (Cites encodeRanged ValidRanged (now (report .entry)) (now (source .entry)) at (λ a. citeArgument letter (a .0) (a .1)) (bufferAs (now (out .entry)) place) (now (out .exit)) r)
+        (Cites encodeRanged ValidRanged (now (report .entry)) (now (source .entry)) at (λ a. citeArgument letter (a .0) (a .1))
+        (bufferAs (now (out .entry)) place) (now (out .exit)) r)
         (r .lines ≤ 1) ⌝ }
 {
     let kind = read_number(report, at);
@@ -188,7 +194,8 @@ fn cite_dependency(
     place: Pen,
 ) -> Cited
     ensures { λ r. ⌜ Bounded
-        (Cites encodeDependency ValidDependency (now (report .entry)) (now (source .entry)) at (citeDependency letter) (bufferAs (now (out .entry)) place) (now (out .exit)) r)
+        (Cites encodeDependency ValidDependency (now (report .entry)) (now (source .entry)) at (citeDependency letter)
+        (bufferAs (now (out .entry)) place) (now (out .exit)) r)
         (r .lines ≤ 2) ⌝ }
 {
     let kind = read_number(report, at);
@@ -230,7 +237,8 @@ fn cite_item(
     place: Pen,
 ) -> Cited
     ensures { λ r. ⌜ Bounded
-        (Cites (encodeItem kind) (ValidItem kind) (now (report .entry)) (now (source .entry)) at (citeItem kind number) (bufferAs (now (out .entry)) place) (now (out .exit)) r)
+        (Cites (encodeItem kind) (ValidItem kind) (now (report .entry)) (now (source .entry)) at (citeItem kind number)
+        (bufferAs (now (out .entry)) place) (now (out .exit)) r)
         (r .lines ≤ 2) ⌝ }
 {
     match kind {
@@ -271,7 +279,8 @@ fn cite_items(
     requires { ⌜ count ≤ largest ⌝ }
     ensures { λ r. ⌜ Bounded
         (Cites (flatMap (encodeItem kind)) (λ l. (length l ≡ count)
-        × All (ValidItem kind) l) (now (report .entry)) (now (source .entry)) at (citeEach (citeItem kind) (now (numbers .entry))) (bufferAs (now (out .entry)) place) (now (out .exit)) r)
+        × All (ValidItem kind) l) (now (report .entry)) (now (source .entry)) at (citeEach (citeItem kind) (now (numbers .entry)))
+        (bufferAs (now (out .entry)) place) (now (out .exit)) r)
         (r .lines ≤ 2 * count) ⌝ }
 {
     let mut p = place;
@@ -314,7 +323,8 @@ fn cite_list(
 ) -> Cited
     ensures { λ r. ⌜ Bounded
         (Cites (encodeList (encodeItem kind)) (λ l. Short l
-        × All (ValidItem kind) l) (now (report .entry)) (now (source .entry)) at (citeEach (citeItem kind) (now (numbers .entry))) (bufferAs (now (out .entry)) place) (now (out .exit)) r)
+        × All (ValidItem kind) l) (now (report .entry)) (now (source .entry)) at (citeEach (citeItem kind) (now (numbers .entry)))
+        (bufferAs (now (out .entry)) place) (now (out .exit)) r)
         (r .lines ≤ 2 * largest) ⌝ }
 {
     let count = read_number(report, at);
@@ -340,7 +350,8 @@ fn total(d: usize, r: usize, s: usize, x: usize, y: usize, j: usize, m: usize) -
 
 // Cites what is in a report: D or d and T, R, S, X, Y, J, M. The numbers are those beside the dependencies; other items have none.
 fn cite_lines(report: &[u8], source: &[u8], numbers: &[usize], out: &mut [u8], place: Pen) -> Cited
-    ensures { λ r. ⌜ Cites encode Valid (now (report .entry)) (now (source .entry)) 0 (lines (now (numbers .entry))) (bufferAs (now (out .entry)) place) (now (out .exit)) r ⌝ }
+    ensures { λ r. ⌜ Cites encode Valid (now (report .entry)) (now (source .entry)) 0 (lines (now (numbers .entry)))
+        (bufferAs (now (out .entry)) place) (now (out .exit)) r ⌝ }
 {
     let is_script = read_number(report, 0);
     let d = cite_list(

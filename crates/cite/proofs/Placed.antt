@@ -1,13 +1,5 @@
 -- The range of each line of a citation is that of a place of the source.
-use mathlib.Core.Path.{_≡_, refl}
-use mathlib.Core.Bool.{Bool, false}
-use mathlib.Core.Logic.{⊎-elim}
-use mathlib.Core.List.{List, [], _∷_, _++_, flatMap, List·Memᴰ}
-use mathlib.Core.Option.{Option}
-use Prim.Native.Nat.{ℕ}
-use Prim.Native.Char.{code}
-use lib.ListN.{getD, drop}
-use native.Mathlib.Omega.{arith}
+use Rattle.laws.proofs.Prelude.{_≡_, refl, Bool, false, ⊎-elim, List, [], _∷_, _++_, flatMap, List·Memᴰ, Option, ℕ, code, getD, drop, arith}
 use Rattle.laws.specs.Codec.{All, IfThere}
 use Rattle.laws.proofs.Lists.{all-append, of-members, all-member}
 use Rattle.analysis.specs.Patterns.{jsxImportSourceRow, jsxImportSourceTypesRow, sourceMappingUrlRow, tsSelfTypesRow}

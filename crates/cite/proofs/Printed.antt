@@ -1,13 +1,6 @@
 -- What the report function answers is what the citation asks for.
-use mathlib.Core.Path.{_≡_, refl, sym, ap, _∙_}
-use mathlib.Core.Bool.{Bool, true, false}
-use mathlib.Core.List.{List, [], _++_, flatMap}
-use Prim.Native.Nat.{ℕ, _+_, _-_, _*_, _≤_}
-use native.Mathlib.Omega.{arith}
-use lib.Dec.{leb}
-use lib.ListN.{length, take, drop, length-append, length-drop, length-map}
-use lib.Seq.{take-append-seam, take-all}
-use borrow.Author.Tests.{leb-true}
+use Rattle.laws.proofs.Prelude.{_≡_, refl, sym, ap, _∙_, Bool, true, false, List, [], _++_, flatMap, ℕ, _+_, _-_, _*_, _≤_, arith, leb, length, take, drop, length-append, length-drop, take-append-seam, take-all, leb-true}
+use lib.ListN.{length-map}
 use Rattle.wire.specs.Refusals.{ofSheets, oneOf}
 use Rattle.wire.specs.Refusals as refusals
 use Rattle.sheet.specs.Sheet.{Sheet}

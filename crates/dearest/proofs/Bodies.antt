@@ -1,11 +1,6 @@
 -- A star and then only `{`, put byte by byte.
-use mathlib.Core.Path.{_≡_}
-use mathlib.Core.List.{List}
-use Prim.Native.Nat.{ℕ, _+_, _-_, _≤_, _<_}
-use Prim.Native.Char.{code}
-use native.Mathlib.Omega.{arith}
-use native.Mathlib.Numerals.{add-one}
-use lib.ListN.{length, take, set, replicate-append-replicate}
+use Rattle.laws.proofs.Prelude.{_≡_, List, ℕ, _+_, _-_, _≤_, _<_, code, arith, add-one, length, take, set}
+use lib.ListN.{replicate-append-replicate}
 use lib.Seq.{take-suc-set}
 use Rattle.scan.specs.Dearest.{starAndBraces}
 

@@ -1,14 +1,9 @@
 -- Decimal numerals: what holds of each, and how one is read from the front.
-use mathlib.Core.Path.{_≡_, refl, sym, ap, _∙_}
-use mathlib.Core.Logic.{_⊎_, inl, inr, ⊎-elim}
-use mathlib.Core.List.{List, [], _∷_, _++_}
-use Prim.Native.Nat.{ℕ, zero, _+_, _-_, _*_, _^_, _≤_, _<_}
-use Prim.Native.Char.{code}
-use native.Mathlib.Omega.{arith}
-use native.Mathlib.Numerals.{add-one}
+use Rattle.laws.proofs.Prelude.{_≡_, refl, sym, ap, _∙_, _⊎_, inl, inr, ⊎-elim, List, [], _∷_, _++_, ℕ, zero, _+_, _-_, _*_, _≤_, _<_, code, arith, add-one, length, getD, take, drop, length-append, length-take-le, drop-cons, take-all}
+use Prim.Native.Nat.{_^_}
 use native.Mathlib.Nat.{pow-suc, pow-le-pow-right, lt-of-not-le}
-use lib.ListN.{length, getD, take, drop, length-append, List·getD-append}
-use lib.Seq.{length-take-le, drop-cons, take-suc, take-all, getD-append-seam}
+use lib.ListN.{List·getD-append}
+use lib.Seq.{take-suc, getD-append-seam}
 use borrow.Author.Count.{below-none, below-more}
 use Rattle.scan.specs.Scan.{longest}
 use Rattle.dearest.specs.Input.{Numeral, first, next, Digits}

@@ -1,11 +1,5 @@
 -- What an input asks for, by the numeral in it.
-use mathlib.Core.Path.{_≡_, refl, ap, _∙_}
-use mathlib.Core.Logic.{_⊎_, inl, inr, ⊎-elim}
-use mathlib.Core.List.{List, [], _++_}
-use Prim.Native.Nat.{ℕ, suc, _+_, _≤_, _<_}
-use Prim.Native.Char.{code}
-use native.Mathlib.Omega.{arith}
-use lib.ListN.{length, getD, take, drop, length-append, drop-of-length-le}
+use Rattle.laws.proofs.Prelude.{_≡_, refl, ap, _∙_, _⊎_, inl, inr, ⊎-elim, List, [], _++_, ℕ, suc, _+_, _≤_, _<_, code, arith, length, getD, take, drop, length-append, drop-of-length-le}
 use lib.Seq.{split-at, take-at, getD-at}
 use Rattle.laws.specs.Ascii.{ascii}
 use Rattle.dearest.specs.declared.Request.{Request}

@@ -1,9 +1,5 @@
 -- What is written is what the whole input asks for, though only its front was read.
-use mathlib.Core.Path.{_≡_, refl, sym, ap, _∙_}
-use mathlib.Core.List.{List, [], append-nil}
-use Prim.Native.Nat.{ℕ, _<_}
-use native.Mathlib.Omega.{arith}
-use lib.ListN.{length, length-append}
+use Rattle.laws.proofs.Prelude.{_≡_, refl, sym, ap, _∙_, List, [], append-nil, ℕ, _<_, arith, length, length-append}
 use Rattle.scan.specs.Dearest.{starAndBraces}
 use Rattle.scan.proofs.Bounds.{star-and-braces}
 use Rattle.dearest.specs.declared.Request.the-variants as request

@@ -1,9 +1,6 @@
 -- The modules of a delivery, read one after the other.
-use mathlib.Core.Path.{_≡_, refl, sym, ap, _∙_}
-use mathlib.Core.List.{List, [], _∷_, _++_, append-assoc, append-nil, flatMap, map-append}
-use Prim.Native.Nat.{ℕ, _+_, _-_, _≤_, _<_}
-use native.Mathlib.Omega.{arith}
-use lib.ListN.{drop, length-append}
+use Rattle.laws.proofs.Prelude.{_≡_, refl, sym, ap, _∙_, List, [], _∷_, _++_, append-assoc, append-nil, flatMap, ℕ, _+_, _-_, _≤_, _<_, arith, drop, length-append}
+use mathlib.Core.List.{map-append}
 use Rattle.laws.proofs.Lists.{all-append, flatMap-append}
 use Rattle.delivery.specs.Delivery.{Module, encodeModule}
 use Rattle.delivery.specs.Right.{namesOf}

@@ -1,11 +1,5 @@
 -- So many modules, checked one after the other, and nothing behind them.
-use mathlib.Core.Path.{_≡_, refl, ap, _∙_}
-use mathlib.Core.List.{List, [], _∷_}
-use Prim.Native.Nat.{ℕ, zero, suc, _-_, _≤_, _<_}
-use native.Mathlib.Omega.{arith}
-use lib.ListN.{length, drop, drop-of-length-le}
-use lib.Seq.{drop-cons}
-use borrow.Author.Tests.{le-leb, lt-leb}
+use Rattle.laws.proofs.Prelude.{_≡_, refl, ap, _∙_, List, [], _∷_, ℕ, zero, suc, _-_, _≤_, _<_, arith, length, drop, drop-of-length-le, drop-cons, le-leb, lt-leb}
 use Rattle.laws.specs.Decoded.{ok, no, onOk}
 use Rattle.laws.proofs.Decoding.{onOk-ok, onOk-no, map-map}
 use Rattle.wire.specs.Number.{number}

@@ -1,13 +1,5 @@
 -- Just the encodings of deliveries within the limits are decoded.
-use mathlib.Core.Path.{_≡_, refl, sym, ap, _∙_}
-use mathlib.Core.Bool.{Bool, true, false, cond, _&&_}
-use mathlib.Core.Logic.{_↔_}
-use mathlib.Core.List.{List, [], _∷_, _++_, append-assoc, append-nil, flatMap, List·Memᴰ}
-use Prim.Native.Nat.{ℕ, zero, suc, _≤_}
-use native.Mathlib.Omega.{arith}
-use lib.Dec.{leb}
-use lib.ListN.{length, length-append}
-use borrow.Author.Tests.{leb-true, le-leb}
+use Rattle.laws.proofs.Prelude.{_≡_, refl, sym, ap, _∙_, Bool, true, false, cond, _&&_, _↔_, List, [], _∷_, _++_, append-assoc, append-nil, flatMap, List·Memᴰ, ℕ, zero, suc, _≤_, arith, leb, length, length-append, leb-true, le-leb}
 use Rattle.laws.specs.Decoded.{ok, no, Decoder, _>>_, return}
 use Rattle.laws.specs.Codec.{Codec, All}
 use Rattle.laws.proofs.Decoding.{refused, then-ok, onOk-ok, require-ok}

@@ -1,13 +1,5 @@
 -- The passes over modules and entries: what they pass over, and where they stop.
-use mathlib.Core.Path.{_≡_, refl, sym, ap, _∙_}
-use mathlib.Core.List.{List, [], _∷_, _++_, append-assoc, append-nil, List·Memᴰ}
-use mathlib.Core.Bool.{Bool, true, false, true≢false}
-use Prim.Native.Nat.{ℕ, _+_}
-use native.Mathlib.Nat.{add-zero, zero-add}
-use native.Mathlib.Omega.{arith}
-use lib.Dec.{eqb}
-use lib.ListN.{length}
-use borrow.Author.Tests.{eq-eqb, eqb-true}
+use Rattle.laws.proofs.Prelude.{_≡_, refl, sym, ap, _∙_, List, [], _∷_, _++_, append-assoc, append-nil, List·Memᴰ, Bool, true, false, true≢false, ℕ, _+_, add-zero, zero-add, arith, eqb, length, eq-eqb, eqb-true}
 use Rattle.laws.specs.Codec.{All}
 use Rattle.report.specs.ModuleInfo.{DependencyDescriptor}
 use Rattle.delivery.specs.Delivery.{Module}

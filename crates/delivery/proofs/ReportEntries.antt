@@ -1,11 +1,6 @@
 -- The entries of a report, read one after the other.
-use mathlib.Core.Path.{_≡_, refl, sym, ap, _∙_}
-use mathlib.Core.Bool.{Bool, cond, not, _&&_}
-use mathlib.Core.List.{List, append-assoc, flatMap}
-use mathlib.Core.Option.{Option, Option·some-injective, Option·none-ne-some}
-use Prim.Native.Nat.{ℕ, _+_, _-_, _≤_}
-use native.Mathlib.Omega.{arith}
-use lib.ListN.{length, take, length-take}
+use Rattle.laws.proofs.Prelude.{_≡_, refl, sym, ap, _∙_, Bool, cond, not, _&&_, List, append-assoc, flatMap, Option, Option·none-ne-some, ℕ, _+_, _-_, _≤_, arith, length, take, length-take}
+use mathlib.Core.Option.{Option·some-injective}
 use Rattle.laws.proofs.Lists.{part-part}
 use Rattle.wire.specs.Number.{encodeNumber}
 use Rattle.report.specs.declared.names.StaticDependencyKind.{StaticDependencyKind}

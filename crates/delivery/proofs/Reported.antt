@@ -1,12 +1,5 @@
 -- What the report function answers of a sheet: a refusal's number, which is not 0, or a report, which lists the sheet's entries.
-use mathlib.Core.Path.{_≡_, refl, sym, ap, _∙_}
-use mathlib.Core.Bool.{Bool, true, false}
-use mathlib.Core.List.{List, [], _++_}
-use Prim.Native.Nat.{ℕ, _-_, _≤_}
-use native.Mathlib.Omega.{arith}
-use lib.Dec.{leb}
-use lib.ListN.{length, take, length-append}
-use lib.Seq.{take-append-seam}
+use Rattle.laws.proofs.Prelude.{_≡_, refl, sym, ap, _∙_, Bool, true, false, List, [], _++_, ℕ, _-_, _≤_, arith, leb, length, take, length-append, take-append-seam}
 use Rattle.wire.specs.Refusals.{ofSheets, oneOf}
 use Rattle.wire.specs.Refusals as refusals
 use Rattle.sheet.specs.Judge.{judge}

@@ -1,10 +1,5 @@
 -- The definitions' passes, one module or entry at a time.
-use mathlib.Core.Path.{_≡_}
-use mathlib.Core.Bool.{Bool, _||_}
-use mathlib.Core.List.{List, [], _∷_, _++_}
-use mathlib.Core.Option.{Option}
-use Prim.Native.Nat.{ℕ, _+_}
-use borrow.Author.Tests.{ne-eqb}
+use Rattle.laws.proofs.Prelude.{_≡_, Bool, _||_, List, [], _∷_, _++_, Option, ℕ, _+_, ne-eqb}
 use Rattle.text.specs.Bytes.{same}
 use Rattle.report.specs.ModuleInfo.{DependencyDescriptor}
 use Rattle.delivery.specs.Delivery.{Module}

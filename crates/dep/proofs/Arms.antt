@@ -1,10 +1,5 @@
 -- What is written for a node, from what is written for the parts that it holds.
-use mathlib.Core.Path.{_≡_, refl, sym, ap, _∙_}
-use mathlib.Core.Bool.{Bool, true, false}
-use mathlib.Core.List.{List, [], _∷_, _++_, append-nil}
-use mathlib.Core.Logic.{inl, inr}
-use mathlib.Core.Option.{Option}
-use Prim.Native.Nat.{ℕ}
+use Rattle.laws.proofs.Prelude.{_≡_, refl, sym, ap, _∙_, Bool, true, false, List, [], _∷_, _++_, append-nil, inl, inr, Option, ℕ}
 use types.Run.{OneOf}
 use denote.Enum.Declared.{tagOf}
 use borrow.Enum.Known.{lives-at}

@@ -1,14 +1,9 @@
 -- Whether a callee is the Name `require`, by its head.
-use mathlib.Core.Path.{_≡_, refl}
-use mathlib.Core.Bool.{false}
-use mathlib.Core.List.{List, [], _∷_}
-use Prim.Native.Nat.{ℕ, _-_}
+use Rattle.laws.proofs.Prelude.{_≡_, refl, false, List, [], _∷_, ℕ, _-_, drop, seen}
 use types.Run.{OneOf, miss}
 use denote.Enum.Declared.{tagOf}
-use lib.ListN.{drop}
 use Rattle.laws.specs.Decoded.{ok}
 use Rattle.laws.specs.Ascii.{ascii}
-use Rattle.laws.proofs.Steps.{seen}
 use Rattle.text.specs.Bytes.{same, part}
 use Rattle.wire.specs.declared.Cursor.{Cursor}
 use Rattle.sheet.specs.declared.fields.Span.{Span}

@@ -1,9 +1,5 @@
 -- The entries of small trees in an empty source, as the definitions compute: which nodes give one, its kind and its text, and their order.
-use mathlib.Core.Path.{_≡_, refl}
-use mathlib.Core.Bool.{true, false}
-use mathlib.Core.List.{List, [], _∷_, map}
-use mathlib.Core.Option.{Option}
-use Prim.Native.Nat.{ℕ}
+use Rattle.laws.proofs.Prelude.{_≡_, refl, true, false, List, [], _∷_, map, Option, ℕ}
 use Rattle.laws.specs.Ascii.{ascii}
 use Rattle.text.specs.Bytes.{begins, same}
 use Rattle.text.specs.Utf8.{admits}

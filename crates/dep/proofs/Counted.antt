@@ -1,11 +1,6 @@
 -- There are as many dependencies as the check of the tree counts.
-use mathlib.Core.Path.{_≡_, refl, sym, ap, _∙_}
-use mathlib.Core.Bool.{Bool, true, false, cond, _&&_}
-use mathlib.Core.List.{List, [], _∷_, _++_, map, flatMap, map-append}
-use mathlib.Core.Option.{Option}
-use Prim.Native.Nat.{ℕ}
-use native.Mathlib.Omega.{arith}
-use lib.ListN.{length, length-append}
+use Rattle.laws.proofs.Prelude.{_≡_, refl, sym, ap, _∙_, Bool, true, false, cond, _&&_, List, [], _∷_, _++_, map, flatMap, Option, ℕ, arith, length, length-append}
+use mathlib.Core.List.{map-append}
 use Rattle.laws.specs.Decoded.{ok}
 use Rattle.text.specs.Truth.{one}
 use Rattle.wire.specs.Number.{encodeNumber}

@@ -1,9 +1,5 @@
 -- The attributes of each entry are those that its node's properties should give.
-use mathlib.Core.Path.{_≡_, refl}
-use mathlib.Core.Bool.{Bool, true, false, cond}
-use mathlib.Core.List.{List, [], _∷_}
-use mathlib.Core.Option.{Option}
-use Prim.Native.Nat.{ℕ}
+use Rattle.laws.proofs.Prelude.{_≡_, refl, Bool, true, false, cond, List, [], _∷_, Option, ℕ}
 use Rattle.laws.specs.Codec.{All}
 use Rattle.sheet.specs.Tree.{noArguments, argument}
 use Rattle.sheet.specs.Shape.{shape, isRequire, isAugmentation}

@@ -1,7 +1,5 @@
 -- The fields of an entry, written one after the other.
-use mathlib.Core.Path.{_≡_, sym, ap, _∙_}
-use mathlib.Core.List.{List, [], _∷_, _++_, append-nil, flatMap}
-use Prim.Native.Nat.{ℕ}
+use Rattle.laws.proofs.Prelude.{_≡_, sym, ap, _∙_, List, [], _∷_, _++_, append-nil, flatMap, ℕ}
 use Rattle.wire.specs.Fields.{encodeFlag}
 use Rattle.wire.specs.Optional.{encodeOptional}
 use Rattle.report.specs.Names.{staticNumber, dynamicNumber}

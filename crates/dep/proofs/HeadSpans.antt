@@ -1,11 +1,5 @@
 -- The span of a head's String is one of the source; so is that of an argument.
-use mathlib.Core.Path.{_≡_, refl}
-use mathlib.Core.Bool.{Bool}
-use mathlib.Core.List.{List}
-use mathlib.Core.Option.{Option}
-use Prim.Native.Nat.{ℕ, _-_}
-use native.Mathlib.Omega.{arith}
-use lib.Dec.{eqb, ltb}
+use Rattle.laws.proofs.Prelude.{_≡_, refl, Bool, List, Option, ℕ, _-_, arith, eqb, ltb}
 use Rattle.laws.specs.Codec.{IfThere}
 use Rattle.laws.specs.Decoded.{Decoded, ok, no}
 use Rattle.laws.proofs.Answers.{Answer, Yields, done, next, ends, behind, with, changed, either, at-index, anything}

@@ -1,8 +1,5 @@
 -- What the loops over nodes, arguments and properties keep: the entries so far, with those to come, are the entries of all.
-use mathlib.Core.Path.{_≡_, refl, ap, _∙_}
-use mathlib.Core.List.{List, [], _++_, append-assoc, append-nil}
-use mathlib.Core.Option.{Option}
-use Prim.Native.Nat.{ℕ, _-_, _≤_, _<_}
+use Rattle.laws.proofs.Prelude.{_≡_, refl, ap, _∙_, List, [], _++_, append-assoc, append-nil, Option, ℕ, _-_, _≤_, _<_}
 use Rattle.laws.specs.Decoded.{Decoded, ok, no, onOk, Decoder, _>>=_}
 use Rattle.laws.proofs.Decoding.{onOk-ok, onOk-no}
 use Rattle.laws.proofs.Answers.{Yields, ends, behind, changed, anything}

@@ -1,11 +1,5 @@
 -- A row stored behind those that are noted, or left out.
-use mathlib.Core.Path.{_≡_, refl}
-use mathlib.Core.List.{List, [], _∷_}
-use Prim.Native.Nat.{ℕ, suc, _+_, _-_, _≤_, _<_}
-use native.Mathlib.Omega.{arith}
-use native.Mathlib.Numerals.{add-one}
-use lib.ListN.{length, getD, set}
-use borrow.Author.Tests.{lt-ltb, le-ltb}
+use Rattle.laws.proofs.Prelude.{_≡_, refl, List, [], _∷_, ℕ, suc, _+_, _-_, _≤_, _<_, arith, add-one, length, getD, set, lt-ltb, le-ltb}
 use Rattle.dep.specs.code.Notes.{noted}
 
 pub note-stored : (notes : List ℕ) (start number : ℕ) → getD notes 0 0 + 1 < length notes - 1

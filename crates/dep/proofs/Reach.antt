@@ -1,9 +1,5 @@
 -- The entries of a root's children up to the last that has one are those of the root.
-use mathlib.Core.Path.{_≡_, refl, sym, ap, _∙_}
-use mathlib.Core.List.{List, _++_}
-use mathlib.Core.Option.{Option}
-use Prim.Native.Nat.{ℕ, zero, suc, _-_}
-use native.Mathlib.Omega.{arith}
+use Rattle.laws.proofs.Prelude.{_≡_, refl, sym, ap, _∙_, List, _++_, Option, ℕ, zero, suc, _-_, arith}
 use Rattle.laws.specs.Decoded.{Decoded, ok, onOk, Decoder}
 use Rattle.laws.proofs.Decoding.{onOk-ok}
 use Rattle.sheet.specs.declared.fields.Span.{Span}

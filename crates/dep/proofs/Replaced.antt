@@ -1,11 +1,5 @@
 -- The number beside a dependency is that of the surrogates of its one text.
-use mathlib.Core.Path.{_≡_, refl, sym, _∙_}
-use mathlib.Core.Bool.{Bool, true, false}
-use mathlib.Core.List.{List, [], _∷_}
-use mathlib.Core.Option.{Option}
-use Prim.Native.Nat.{ℕ}
-use native.Mathlib.Omega.{arith}
-use borrow.Author.Tests.{eq-eqb}
+use Rattle.laws.proofs.Prelude.{_≡_, refl, sym, _∙_, Bool, true, false, List, [], _∷_, Option, ℕ, arith, eq-eqb}
 use Rattle.laws.specs.Codec.{All}
 use Rattle.text.specs.Utf8.{admits, surrogate}
 use Rattle.text.specs.Lossy.{marking, counting, replacing, surrogates, lossy, replaced}

@@ -1,12 +1,6 @@
 -- The dependencies of a tree are the entries of its visits, one after the other; the entry of a visit goes by the range that it reports and the types at its
 -- start, and the rows beside them by the tree alone.
-use mathlib.Core.Path.{_≡_, refl, sym, ap, _∙_}
-use mathlib.Core.Bool.{cond}
-use mathlib.Core.List.{List, [], _∷_, append-nil, flatMap}
-use mathlib.Core.Option.{Option}
-use Prim.Native.Nat.{ℕ}
-use native.Mathlib.Omega.{arith}
-use lib.ListN.{length}
+use Rattle.laws.proofs.Prelude.{_≡_, refl, sym, ap, _∙_, cond, List, [], _∷_, append-nil, flatMap, Option, ℕ, arith, length}
 use Rattle.laws.proofs.Lists.{flatMap-append}
 use Rattle.sheet.specs.declared.fields.Span.{Span}
 use Rattle.sheet.specs.Tree.{Node, Arguments, noArguments, argument}

@@ -1,12 +1,6 @@
 -- The dependencies of a tree come from the visits in turn, each the entry of its visit.
-use mathlib.Core.Path.{_≡_, refl}
-use mathlib.Core.Bool.{Bool, true, false, cond, _&&_, and-false}
-use mathlib.Core.List.{List, [], _∷_, _++_, List·Memᴰ, List·Memᴰ·head, List·Memᴰ·tail, List·Memᴰ·not-nil, List·Memᴰ·cases-cons}
-use mathlib.Core.Logic.{⊎-elim}
-use mathlib.Core.Option.{Option}
-use Prim.Native.Nat.{ℕ, _≤_}
-use native.Mathlib.Omega.{arith}
-use lib.ListN.{length}
+use Rattle.laws.proofs.Prelude.{_≡_, refl, Bool, true, false, cond, _&&_, List, [], _∷_, _++_, List·Memᴰ, List·Memᴰ·head, List·Memᴰ·tail, List·Memᴰ·not-nil, List·Memᴰ·cases-cons, ⊎-elim, Option, ℕ, _≤_, arith, length}
+use mathlib.Core.Bool.{and-false}
 use Rattle.laws.specs.Codec.{All}
 use Rattle.laws.proofs.Lists.{of-members}
 use Rattle.sheet.specs.declared.fields.Span.{Span}

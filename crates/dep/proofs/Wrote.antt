@@ -1,7 +1,5 @@
 -- Entries written list by list, and their rows noted.
-use mathlib.Core.Path.{_≡_, refl, ap}
-use mathlib.Core.List.{List, [], _∷_, _++_, flatMap}
-use Prim.Native.Nat.{ℕ}
+use Rattle.laws.proofs.Prelude.{_≡_, refl, ap, List, [], _∷_, _++_, flatMap, ℕ}
 use Rattle.laws.proofs.Lists.{flatMap-append}
 use Rattle.report.specs.declared.writer.Pen.{Pen}
 use Rattle.report.specs.Encode.{encodeDependency}

@@ -242,7 +242,10 @@ pub fn put_with_entry(
     ensures { λ r. ⌜ Leaving
         ((a : Attributes) (t : List ℕ)
         → behind «has_object» (attributesObject (now (source .entry)) levels) (drop (cursor .at) (now (sheet .entry))) ≡ ok a t
-        → writtenAs (now (out .exit)) (now (notes .exit)) r ≡ wroteEntries (writtenAs (now (out .entry)) (now (notes .entry)) place) (staticOf (now (source .entry)) (typesFrom (now (source .entry)) (now (tables .entry)) counts) (now (sheet .entry)) dependency (cond «is_type» (typeAttributes a) (staticAttributes a))))
+        → writtenAs (now (out .exit)) (now (notes .exit)) r
+        ≡ wroteEntries (writtenAs (now (out .entry)) (now (notes .entry)) place)
+        (staticOf (now (source .entry)) (typesFrom (now (source .entry)) (now (tables .entry)) counts) (now (sheet .entry)) dependency
+        (cond «is_type» (typeAttributes a) (staticAttributes a))))
         (Free (now (out .entry)) (now (out .exit)) × Free (now (notes .entry)) (now (notes .exit))) ⌝ }
 {
     let mut pairs: [usize; PAIR_NUMBERS] = [0; PAIR_NUMBERS];
@@ -482,7 +485,9 @@ pub fn put_call_entry(
     ensures { λ r. ⌜ Leaving
         ((xs : Arguments) (t : List ℕ)
         → arguments (node (now (source .entry)) levels) (now (source .entry)) count (drop (cursor .at) (now (sheet .entry))) ≡ ok xs t
-        → writtenAs (now (out .exit)) (now (notes .exit)) r ≡ wroteEntries (writtenAs (now (out .entry)) (now (notes .entry)) place) (entryOfCall (now (source .entry)) (typesFrom (now (source .entry)) (now (tables .entry)) counts) call xs))
+        → writtenAs (now (out .exit)) (now (notes .exit)) r
+        ≡ wroteEntries (writtenAs (now (out .entry)) (now (notes .entry)) place)
+        (entryOfCall (now (source .entry)) (typesFrom (now (source .entry)) (now (tables .entry)) counts) call xs))
         (Free (now (out .entry)) (now (out .exit)) × Free (now (notes .entry)) (now (notes .exit))) ⌝ }
 {
     if call.listed {

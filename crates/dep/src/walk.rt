@@ -60,7 +60,9 @@ ghost use Rattle.report.specs.Encode.{encodeList, encodeDependency};
 ghost use Rattle.report.specs.Buffer.{wrote, bufferAs};
 ghost use Rattle.dep.specs.Collect.{collect, collectNoted};
 ghost use Rattle.dep.specs.code.Notes.{allNoted};
-ghost use Rattle.dep.specs.code.Walk.{typesFrom, HeldIn, Quotes, PastHead, Calls, Begins, calleesOf, writtenAs, walkedAs, Answered, PastWalked, afterNode, afterNodes, afterArgument, afterArguments, afterProperties, afterProperty, afterWith, afterImport, afterCall};
+ghost use Rattle.dep.specs.code.Walk.{typesFrom, HeldIn, Quotes, PastHead, Calls, Begins, calleesOf, writtenAs, walkedAs, Answered, PastWalked};
+ghost use Rattle.dep.specs.code.Walk.{afterNode, afterNodes, afterArgument, afterArguments, afterProperties, afterProperty, afterWith};
+ghost use Rattle.dep.specs.code.Walk.{afterImport, afterCall};
 
 // The next place in the buffer, with the cursor past what was walked, or a refusal's number.
 pub enum Walked {
@@ -89,8 +91,10 @@ pub fn analyze_program_dependencies(
         → count ≡ entries n
         → ReachesIn reach n
         → (bufferAs (now (out .exit)) r
-        ≡ wrote (bufferAs (now (out .entry)) place) (encodeList encodeDependency (collect (now (source .entry)) (typesFrom (now (source .entry)) (now (tables .entry)) counts) n)))
-        × (now (notes .exit) ≡ allNoted (now (notes .entry)) (collectNoted (now (source .entry)) (typesFrom (now (source .entry)) (now (tables .entry)) counts) n)))
+        ≡ wrote (bufferAs (now (out .entry)) place) (encodeList encodeDependency
+        (collect (now (source .entry)) (typesFrom (now (source .entry)) (now (tables .entry)) counts) n)))
+        × (now (notes .exit) ≡ allNoted (now (notes .entry))
+        (collectNoted (now (source .entry)) (typesFrom (now (source .entry)) (now (tables .entry)) counts) n)))
         (Free (now (out .entry)) (now (out .exit)) × Free (now (notes .entry)) (now (notes .exit))) ⌝ }
 {
     let place = place.put_number(out, count);
@@ -127,7 +131,8 @@ fn walk_root(
         → node (now (source .entry)) depthLimit (drop (root .at) (now (sheet .entry))) ≡ ok n t
         → ReachesIn reach n
         → Answered (walkedAs (now (sheet .entry)) (now (out .exit)) (now (notes .exit)) r)
-        (afterNode (now (source .entry)) (typesFrom (now (source .entry)) (now (tables .entry)) counts) (writtenAs (now (out .entry)) (now (notes .entry)) place) n)) ⌝ }
+        (afterNode (now (source .entry)) (typesFrom (now (source .entry)) (now (tables .entry)) counts)
+        (writtenAs (now (out .entry)) (now (notes .entry)) place) n)) ⌝ }
 {
     match read_head(sheet, source, root, DEPTH_LIMIT) {
         HeadRead::Refused(r) => Walked::Refused(r),
@@ -165,7 +170,8 @@ fn walk_root(
 
 // Is the callee at the cursor the Name `require`?
 fn is_require(sheet: &[u8], source: &[u8], cursor: Cursor, levels: usize) -> bool
-    ensures { λ r. ⌜ ((n : Node) (t : List ℕ) → node (now (source .entry)) levels (drop (cursor .at) (now (sheet .entry))) ≡ ok n t → r ≡ isRequire (shape n)) ⌝ }
+    ensures { λ r. ⌜ ((n : Node) (t : List ℕ) → node (now (source .entry)) levels (drop (cursor .at) (now (sheet .entry))) ≡ ok n t → r
+        ≡ isRequire (shape n)) ⌝ }
 {
     match read_head(sheet, source, cursor, levels) {
         HeadRead::Refused(_) => false,
@@ -196,7 +202,13 @@ fn visit_import_decl(
 ) -> Walked
     requires { ⌜ HeldIn (now source) (now tables) counts × Quotes (now sheet) (now source) specifier × (cursor .at ≤ length (now sheet)) ⌝ }
     ensures { λ r. ⌜ Told (walkedAs (now (sheet .entry)) (now (out .exit)) (now (notes .exit)))
-        (onOk (afterNode (now (source .entry)) (typesFrom (now (source .entry)) (now (tables .entry)) counts) (writtenAs (now (out .entry)) (now (notes .entry)) place)) (rest (now (source .entry)) levels (span, importHead «type_only» phase «is_side_effect» (quotedOf (now (sheet .entry)) specifier) «has_object») (drop (cursor .at) (now (sheet .entry)))))
+        (onOk (afterNode (now (source .entry)) (typesFrom (now (source .entry)) (now (tables .entry)) counts)
+        (writtenAs (now (out .entry)) (now (notes .entry)) place))
+        (rest (now (source .entry)) levels (
+          span,
+          importHead «type_only» phase «is_side_effect»
+              (quotedOf (now (sheet .entry)) specifier) «has_object»,
+        ) (drop (cursor .at) (now (sheet .entry)))))
         (PastWalked (length (now (sheet .entry)))) r ⌝ }
 {
     let kind = import_kind(type_only, phase);
@@ -239,7 +251,10 @@ fn visit_named_export(
 ) -> Walked
     requires { ⌜ HeldIn (now source) (now tables) counts × Quotes (now sheet) (now source) specifier × (cursor .at ≤ length (now sheet)) ⌝ }
     ensures { λ r. ⌜ Told (walkedAs (now (sheet .entry)) (now (out .exit)) (now (notes .exit)))
-        (onOk (afterNode (now (source .entry)) (typesFrom (now (source .entry)) (now (tables .entry)) counts) (writtenAs (now (out .entry)) (now (notes .entry)) place)) (rest (now (source .entry)) levels (span, exportFromHead «type_only» (quotedOf (now (sheet .entry)) specifier) «has_object») (drop (cursor .at) (now (sheet .entry)))))
+        (onOk (afterNode (now (source .entry)) (typesFrom (now (source .entry)) (now (tables .entry)) counts)
+        (writtenAs (now (out .entry)) (now (notes .entry)) place))
+        (rest (now (source .entry)) levels (span, exportFromHead «type_only» (quotedOf (now (sheet .entry)) specifier) «has_object»)
+        (drop (cursor .at) (now (sheet .entry)))))
         (PastWalked (length (now (sheet .entry)))) r ⌝ }
 {
     let kind = export_kind(type_only);
@@ -282,7 +297,10 @@ fn visit_export_all(
 ) -> Walked
     requires { ⌜ HeldIn (now source) (now tables) counts × Quotes (now sheet) (now source) specifier × (cursor .at ≤ length (now sheet)) ⌝ }
     ensures { λ r. ⌜ Told (walkedAs (now (sheet .entry)) (now (out .exit)) (now (notes .exit)))
-        (onOk (afterNode (now (source .entry)) (typesFrom (now (source .entry)) (now (tables .entry)) counts) (writtenAs (now (out .entry)) (now (notes .entry)) place)) (rest (now (source .entry)) levels (span, exportAllHead «type_only» (quotedOf (now (sheet .entry)) specifier) «has_object») (drop (cursor .at) (now (sheet .entry)))))
+        (onOk (afterNode (now (source .entry)) (typesFrom (now (source .entry)) (now (tables .entry)) counts)
+        (writtenAs (now (out .entry)) (now (notes .entry)) place))
+        (rest (now (source .entry)) levels (span, exportAllHead «type_only» (quotedOf (now (sheet .entry)) specifier) «has_object»)
+        (drop (cursor .at) (now (sheet .entry)))))
         (PastWalked (length (now (sheet .entry)))) r ⌝ }
 {
     let kind = export_kind(type_only);
@@ -324,7 +342,9 @@ fn visit_ts_import_type(
 ) -> Walked
     requires { ⌜ HeldIn (now source) (now tables) counts × Quotes (now sheet) (now source) specifier × (cursor .at ≤ length (now sheet)) ⌝ }
     ensures { λ r. ⌜ Told (walkedAs (now (sheet .entry)) (now (out .exit)) (now (notes .exit)))
-        (onOk (afterNode (now (source .entry)) (typesFrom (now (source .entry)) (now (tables .entry)) counts) (writtenAs (now (out .entry)) (now (notes .entry)) place)) (rest (now (source .entry)) levels (span, importTypeHead (quotedOf (now (sheet .entry)) specifier) count) (drop (cursor .at) (now (sheet .entry)))))
+        (onOk (afterNode (now (source .entry)) (typesFrom (now (source .entry)) (now (tables .entry)) counts)
+        (writtenAs (now (out .entry)) (now (notes .entry)) place))
+        (rest (now (source .entry)) levels (span, importTypeHead (quotedOf (now (sheet .entry)) specifier) count) (drop (cursor .at) (now (sheet .entry)))))
         (PastWalked (length (now (sheet .entry)))) r ⌝ }
 {
     let dependency = StaticDependencyDescriptor {
@@ -400,7 +420,9 @@ fn visit_call_expr(
 ) -> Walked
     requires { ⌜ HeldIn (now source) (now tables) counts ⌝ }
     ensures { λ r. ⌜ Told (walkedAs (now (sheet .entry)) (now (out .exit)) (now (notes .exit)))
-        (onOk (afterCall (now (source .entry)) (typesFrom (now (source .entry)) (now (tables .entry)) counts) call (writtenAs (now (out .entry)) (now (notes .entry)) place)) (callRest (node (now (source .entry)) levels) (now (source .entry)) (drop (cursor .at) (now (sheet .entry)))))
+        (onOk (afterCall (now (source .entry)) (typesFrom (now (source .entry)) (now (tables .entry)) counts) call
+        (writtenAs (now (out .entry)) (now (notes .entry)) place))
+        (callRest (node (now (source .entry)) levels) (now (source .entry)) (drop (cursor .at) (now (sheet .entry)))))
         (PastWalked (length (now (sheet .entry)))) r ⌝ }
 {
     match cursor.number(sheet) {
@@ -478,7 +500,9 @@ fn visit_ts_import_equals_decl(
 ) -> Walked
     requires { ⌜ HeldIn (now source) (now tables) counts × Quotes (now sheet) (now source) specifier × (cursor .at ≤ length (now sheet)) ⌝ }
     ensures { λ r. ⌜ Told (walkedAs (now (sheet .entry)) (now (out .exit)) (now (notes .exit)))
-        (ok (afterNode (now (source .entry)) (typesFrom (now (source .entry)) (now (tables .entry)) counts) (writtenAs (now (out .entry)) (now (notes .entry)) place) (importRequire span «type_only» export (quotedOf (now (sheet .entry)) specifier))) (drop (cursor .at) (now (sheet .entry))))
+        (ok (afterNode (now (source .entry)) (typesFrom (now (source .entry)) (now (tables .entry)) counts)
+        (writtenAs (now (out .entry)) (now (notes .entry)) place) (importRequire span «type_only» export (quotedOf (now (sheet .entry)) specifier)))
+        (drop (cursor .at) (now (sheet .entry))))
         (PastWalked (length (now (sheet .entry)))) r ⌝ }
 {
     let kind = equals_kind(type_only, export);
@@ -509,7 +533,10 @@ fn visit_ts_module_decl(
 ) -> Walked
     requires { ⌜ HeldIn (now source) (now tables) counts × Quotes (now sheet) (now source) specifier × (cursor .at ≤ length (now sheet)) ⌝ }
     ensures { λ r. ⌜ Told (walkedAs (now (sheet .entry)) (now (out .exit)) (now (notes .exit)))
-        (onOk (afterNode (now (source .entry)) (typesFrom (now (source .entry)) (now (tables .entry)) counts) (writtenAs (now (out .entry)) (now (notes .entry)) place)) (rest (now (source .entry)) levels (span, moduleHead (Option.some (quotedOf (now (sheet .entry)) specifier)) count) (drop (cursor .at) (now (sheet .entry)))))
+        (onOk (afterNode (now (source .entry)) (typesFrom (now (source .entry)) (now (tables .entry)) counts)
+        (writtenAs (now (out .entry)) (now (notes .entry)) place))
+        (rest (now (source .entry)) levels (span, moduleHead (Option.some (quotedOf (now (sheet .entry)) specifier)) count)
+        (drop (cursor .at) (now (sheet .entry)))))
         (PastWalked (length (now (sheet .entry)))) r ⌝ }
 {
     let place = put_module_entry(
@@ -551,7 +578,8 @@ fn walk_node(
 ) -> Walked
     requires { ⌜ HeldIn (now source) (now tables) counts ⌝ }
     ensures { λ r. ⌜ Told (walkedAs (now (sheet .entry)) (now (out .exit)) (now (notes .exit)))
-        (onOk (afterNode (now (source .entry)) (typesFrom (now (source .entry)) (now (tables .entry)) counts) (writtenAs (now (out .entry)) (now (notes .entry)) place)) (node (now (source .entry)) levels (drop (cursor .at) (now (sheet .entry)))))
+        (onOk (afterNode (now (source .entry)) (typesFrom (now (source .entry)) (now (tables .entry)) counts)
+        (writtenAs (now (out .entry)) (now (notes .entry)) place)) (node (now (source .entry)) levels (drop (cursor .at) (now (sheet .entry)))))
         (PastWalked (length (now (sheet .entry)))) r ⌝ }
 {
     match read_head(sheet, source, cursor, levels) {
@@ -590,7 +618,9 @@ fn walk_rest(
 ) -> Walked
     requires { ⌜ HeldIn (now source) (now tables) counts × PastHead (now sheet) (now source) (cursor .at) head ⌝ }
     ensures { λ r. ⌜ Told (walkedAs (now (sheet .entry)) (now (out .exit)) (now (notes .exit)))
-        (onOk (afterNode (now (source .entry)) (typesFrom (now (source .entry)) (now (tables .entry)) counts) (writtenAs (now (out .entry)) (now (notes .entry)) place)) (rest (now (source .entry)) levels (span, headOf (now (sheet .entry)) head) (drop (cursor .at) (now (sheet .entry)))))
+        (onOk (afterNode (now (source .entry)) (typesFrom (now (source .entry)) (now (tables .entry)) counts)
+        (writtenAs (now (out .entry)) (now (notes .entry)) place))
+        (rest (now (source .entry)) levels (span, headOf (now (sheet .entry)) head) (drop (cursor .at) (now (sheet .entry)))))
         (PastWalked (length (now (sheet .entry)))) r ⌝ }
 {
     match head {
@@ -821,7 +851,8 @@ fn walk_nodes(
 ) -> Walked
     requires { ⌜ HeldIn (now source) (now tables) counts × (cursor .at ≤ length (now sheet)) ⌝ }
     ensures { λ r. ⌜ Told (walkedAs (now (sheet .entry)) (now (out .exit)) (now (notes .exit)))
-        (onOk (afterNodes (now (source .entry)) (typesFrom (now (source .entry)) (now (tables .entry)) counts) (writtenAs (now (out .entry)) (now (notes .entry)) place)) (nodes (node (now (source .entry)) levels) count (drop (cursor .at) (now (sheet .entry)))))
+        (onOk (afterNodes (now (source .entry)) (typesFrom (now (source .entry)) (now (tables .entry)) counts)
+        (writtenAs (now (out .entry)) (now (notes .entry)) place)) (nodes (node (now (source .entry)) levels) count (drop (cursor .at) (now (sheet .entry)))))
         (PastWalked (length (now (sheet .entry)))) r ⌝ }
 {
     let mut left = count;
@@ -856,7 +887,9 @@ fn walk_argument(
 ) -> Walked
     requires { ⌜ HeldIn (now source) (now tables) counts ⌝ }
     ensures { λ r. ⌜ Told (walkedAs (now (sheet .entry)) (now (out .exit)) (now (notes .exit)))
-        (onOk (afterArgument (now (source .entry)) (typesFrom (now (source .entry)) (now (tables .entry)) counts) (writtenAs (now (out .entry)) (now (notes .entry)) place)) (argumentItem (node (now (source .entry)) levels) (now (source .entry)) (drop (cursor .at) (now (sheet .entry)))))
+        (onOk (afterArgument (now (source .entry)) (typesFrom (now (source .entry)) (now (tables .entry)) counts)
+        (writtenAs (now (out .entry)) (now (notes .entry)) place))
+        (argumentItem (node (now (source .entry)) levels) (now (source .entry)) (drop (cursor .at) (now (sheet .entry)))))
         (PastWalked (length (now (sheet .entry)))) r ⌝ }
 {
     match read_argument(sheet, source, cursor) {
@@ -892,7 +925,9 @@ fn walk_arguments(
 ) -> Walked
     requires { ⌜ HeldIn (now source) (now tables) counts × (cursor .at ≤ length (now sheet)) ⌝ }
     ensures { λ r. ⌜ Told (walkedAs (now (sheet .entry)) (now (out .exit)) (now (notes .exit)))
-        (onOk (afterArguments (now (source .entry)) (typesFrom (now (source .entry)) (now (tables .entry)) counts) (writtenAs (now (out .entry)) (now (notes .entry)) place)) (arguments (node (now (source .entry)) levels) (now (source .entry)) count (drop (cursor .at) (now (sheet .entry)))))
+        (onOk (afterArguments (now (source .entry)) (typesFrom (now (source .entry)) (now (tables .entry)) counts)
+        (writtenAs (now (out .entry)) (now (notes .entry)) place))
+        (arguments (node (now (source .entry)) levels) (now (source .entry)) count (drop (cursor .at) (now (sheet .entry)))))
         (PastWalked (length (now (sheet .entry)))) r ⌝ }
 {
     let mut left = count;
@@ -927,7 +962,8 @@ fn walk_property(
 ) -> Walked
     requires { ⌜ HeldIn (now source) (now tables) counts ⌝ }
     ensures { λ r. ⌜ Told (walkedAs (now (sheet .entry)) (now (out .exit)) (now (notes .exit)))
-        (onOk (afterProperty (now (source .entry)) (typesFrom (now (source .entry)) (now (tables .entry)) counts) (writtenAs (now (out .entry)) (now (notes .entry)) place)) (propertyItem (node (now (source .entry)) levels) (drop (cursor .at) (now (sheet .entry)))))
+        (onOk (afterProperty (now (source .entry)) (typesFrom (now (source .entry)) (now (tables .entry)) counts)
+        (writtenAs (now (out .entry)) (now (notes .entry)) place)) (propertyItem (node (now (source .entry)) levels) (drop (cursor .at) (now (sheet .entry)))))
         (PastWalked (length (now (sheet .entry)))) r ⌝ }
 {
     match read_property(sheet, cursor) {
@@ -965,7 +1001,9 @@ fn walk_properties(
 ) -> Walked
     requires { ⌜ HeldIn (now source) (now tables) counts × (cursor .at ≤ length (now sheet)) ⌝ }
     ensures { λ r. ⌜ Told (walkedAs (now (sheet .entry)) (now (out .exit)) (now (notes .exit)))
-        (onOk (afterProperties (now (source .entry)) (typesFrom (now (source .entry)) (now (tables .entry)) counts) (writtenAs (now (out .entry)) (now (notes .entry)) place)) (properties (node (now (source .entry)) levels) count (drop (cursor .at) (now (sheet .entry)))))
+        (onOk (afterProperties (now (source .entry)) (typesFrom (now (source .entry)) (now (tables .entry)) counts)
+        (writtenAs (now (out .entry)) (now (notes .entry)) place))
+        (properties (node (now (source .entry)) levels) count (drop (cursor .at) (now (sheet .entry)))))
         (PastWalked (length (now (sheet .entry)))) r ⌝ }
 {
     let mut left = count;
@@ -1001,7 +1039,9 @@ fn walk_attributes(
 ) -> Walked
     requires { ⌜ HeldIn (now source) (now tables) counts × (cursor .at ≤ length (now sheet)) ⌝ }
     ensures { λ r. ⌜ Told (walkedAs (now (sheet .entry)) (now (out .exit)) (now (notes .exit)))
-        (onOk (afterWith (now (source .entry)) (typesFrom (now (source .entry)) (now (tables .entry)) counts) (writtenAs (now (out .entry)) (now (notes .entry)) place)) (behind «has_object» (attributesObject (now (source .entry)) levels) (drop (cursor .at) (now (sheet .entry)))))
+        (onOk (afterWith (now (source .entry)) (typesFrom (now (source .entry)) (now (tables .entry)) counts)
+        (writtenAs (now (out .entry)) (now (notes .entry)) place))
+        (behind «has_object» (attributesObject (now (source .entry)) levels) (drop (cursor .at) (now (sheet .entry)))))
         (PastWalked (length (now (sheet .entry)))) r ⌝ }
 {
     if has_object {
@@ -1044,7 +1084,9 @@ fn walk_import(
         × Quotes (now sheet) (now source) (dependency .specifier)
         × (cursor .at ≤ length (now sheet)) ⌝ }
     ensures { λ r. ⌜ Told (walkedAs (now (sheet .entry)) (now (out .exit)) (now (notes .exit)))
-        (onOk (afterImport (now (source .entry)) (typesFrom (now (source .entry)) (now (tables .entry)) counts) (now (sheet .entry)) dependency (writtenAs (now (out .entry)) (now (notes .entry)) place)) (behind «has_object» (attributesObject (now (source .entry)) levels) (drop (cursor .at) (now (sheet .entry)))))
+        (onOk (afterImport (now (source .entry)) (typesFrom (now (source .entry)) (now (tables .entry)) counts) (now (sheet .entry)) dependency
+        (writtenAs (now (out .entry)) (now (notes .entry)) place))
+        (behind «has_object» (attributesObject (now (source .entry)) levels) (drop (cursor .at) (now (sheet .entry)))))
         (PastWalked (length (now (sheet .entry)))) r ⌝ }
 {
     if has_object {
@@ -1090,7 +1132,9 @@ fn walk_callee(
 ) -> Walked
     requires { ⌜ HeldIn (now source) (now tables) counts × (cursor .at ≤ length (now sheet)) × Calls head ⌝ }
     ensures { λ r. ⌜ Told (walkedAs (now (sheet .entry)) (now (out .exit)) (now (notes .exit)))
-        (onOk (afterNode (now (source .entry)) (typesFrom (now (source .entry)) (now (tables .entry)) counts) (writtenAs (now (out .entry)) (now (notes .entry)) place)) (rest (now (source .entry)) levels (span, headOf (now (sheet .entry)) head) (drop (cursor .at) (now (sheet .entry)))))
+        (onOk (afterNode (now (source .entry)) (typesFrom (now (source .entry)) (now (tables .entry)) counts)
+        (writtenAs (now (out .entry)) (now (notes .entry)) place))
+        (rest (now (source .entry)) levels (span, headOf (now (sheet .entry)) head) (drop (cursor .at) (now (sheet .entry)))))
         (PastWalked (length (now (sheet .entry)))) r ⌝ }
 {
     let call = call_of(sheet, source, cursor, levels, span, head);

@@ -1,10 +1,5 @@
 -- What the stores of `append` and `serve` make of the desk that a block stands for.
-use mathlib.Core.Path.{_≡_, refl, sym, _∙_, ap}
-use mathlib.Core.List.{List, [], _∷_, _++_}
-use Prim.Native.Nat.{ℕ, suc, _+_, _-_, _*_, _%_, _<_}
-use native.Mathlib.Omega.{arith}
-use lib.ListN.{length, getD, set, drop, length-set}
-use lib.Seq.{getD-set-same, getD-set-other}
+use Rattle.laws.proofs.Prelude.{_≡_, refl, sym, _∙_, ap, List, [], _∷_, _++_, ℕ, suc, _+_, _-_, _*_, _%_, _<_, arith, length, getD, set, drop, length-set, getD-set-same, getD-set-other}
 use Rattle.desk.specs.Desk.{Desk, queue, withSheet, withoutFront}
 use Rattle.desk.specs.Block.{ring, countIn, queueIn, deskAs}
 use Rattle.desk.proofs.Rings.{ring-round, ring-last, ring-same, queue-same, queue-of, queues-changed}

@@ -1,12 +1,5 @@
 -- What a call on a block does, by the way that the code goes.
-use mathlib.Core.Path.{_≡_, refl, sym, _∙_, ap}
-use mathlib.Core.Bool.{false, true≢false}
-use mathlib.Core.List.{List}
-use mathlib.Core.Option.{Option}
-use Prim.Native.Nat.{ℕ, _≤_, _<_}
-use native.Mathlib.Omega.{arith}
-use borrow.Author.Tests.{lt-ltb, le-ltb, le-leb, lt-leb}
-use lib.ListN.{length, getD}
+use Rattle.laws.proofs.Prelude.{_≡_, refl, sym, _∙_, ap, false, true≢false, List, Option, ℕ, _≤_, _<_, arith, lt-ltb, le-ltb, le-leb, lt-leb, length, getD}
 use Rattle.desk.specs.Desk.{Call, handIn, turn, Event, accepted, refused, served, idle, changes, Done, queue, withSheet, withoutFront, noDepositor, eightWaiting, handedIn, firstWaiting, serve, turned, step}
 use Rattle.desk.specs.Block.{countIn, deskAs, Does}
 use Rattle.desk.proofs.Rings.{length-queue-of}

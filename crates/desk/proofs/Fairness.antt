@@ -1,12 +1,7 @@
 -- What holds over any calls from a fresh desk.
-use mathlib.Core.Path.{_≡_, refl, sym, _∙_, ap}
-use mathlib.Core.Logic.{_↔_}
-use mathlib.Core.List.{List, [], _∷_, _++_, append-nil, nil≢cons}
-use Prim.Native.Nat.{ℕ, suc, _+_, _-_, _%_, _<_}
-use native.Mathlib.Omega.{arith}
+use Rattle.laws.proofs.Prelude.{_≡_, refl, sym, _∙_, ap, _↔_, List, [], _∷_, _++_, append-nil, ℕ, suc, _+_, _-_, _%_, _<_, arith, eq-eqb, length, List·getD-eq-default}
+use mathlib.Core.List.{nil≢cons}
 use native.Mathlib.Decide.{decLe}
-use borrow.Author.Tests.{eq-eqb}
-use lib.ListN.{length, List·getD-eq-default}
 use Rattle.desk.specs.Desk.{Desk, Call, handIn, turn, Event, served, idle, Done, fresh, queue, lookedAt, step}
 use Rattle.desk.specs.History.{History, events, after, happened, happensNext, waitingOf, turnsIn}
 use Rattle.desk.specs.Fair.{HandInAnswer, TurnAnswer, ServedWithin, Freed, Fair}

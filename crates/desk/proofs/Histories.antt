@@ -1,12 +1,6 @@
 -- The desk after some calls, and what was read off what happened until then.
-use mathlib.Core.Path.{_≡_, refl, sym, _∙_, ap}
-use mathlib.Core.List.{List, [], _∷_, _++_, append-nil, append-assoc, flatMap}
-use Prim.Native.Nat.{ℕ, zero, suc, _+_, _%_, _≤_, _<_}
-use native.Mathlib.Omega.{arith}
-use native.Mathlib.Decide.{ℕ-discrete}
-use borrow.Author.Tests.{eq-eqb, ne-eqb}
-use lib.ListN.{length, getD, set, length-set, length-append, replicate}
-use lib.Seq.{getD-set-same, getD-set-other, drop-append-seam, append-snoc}
+use Rattle.laws.proofs.Prelude.{_≡_, refl, sym, _∙_, ap, List, [], _∷_, _++_, append-nil, append-assoc, flatMap, ℕ, zero, suc, _+_, _%_, _≤_, _<_, arith, ℕ-discrete, eq-eqb, ne-eqb, length, getD, set, length-set, length-append, replicate, getD-set-same, getD-set-other, drop-append-seam}
+use lib.Seq.{append-snoc}
 use Rattle.laws.proofs.Lists.{flatMap-append}
 use Rattle.desk.specs.Desk.{Desk, Call, Event, accepted, refused, served, idle, Done, fresh, queue, withSheet, withoutFront, lookedAt, step}
 use Rattle.desk.specs.History.{History, events, after, happened, acceptedBy, servedBy, acceptedOf, servedOf, waitingOf, nextBy, nextFrom, nextOf}

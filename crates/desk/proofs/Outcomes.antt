@@ -1,13 +1,7 @@
 -- The ways in which a call can go, each with what holds where it is taken.
-use mathlib.Core.Path.{_≡_, refl}
-use mathlib.Core.Bool.{false, true≢false}
-use mathlib.Core.List.{List, [], _∷_}
-use Prim.Native.Nat.{ℕ, zero, suc, _+_, _≤_, _<_}
-use native.Mathlib.Omega.{arith}
+use Rattle.laws.proofs.Prelude.{_≡_, refl, false, true≢false, List, [], _∷_, ℕ, zero, suc, _+_, _≤_, _<_, arith, lt-ltb, le-ltb, le-leb, lt-leb, length}
 use native.Mathlib.Decide.{decLe}
 use borrow.Author.Count.{below-none, below-more}
-use borrow.Author.Tests.{lt-ltb, le-ltb, le-leb, lt-leb}
-use lib.ListN.{length}
 use Rattle.desk.specs.Desk.{Desk, Call, handIn, turn, Done, accepted, refused, served, idle, changes, queue, withSheet, withoutFront, noDepositor, eightWaiting, handedIn, turned, lookedAt, firstWaiting, serve, step}
 
 pub data Outcome (desk : Desk) : Call → Done → Type 0 where

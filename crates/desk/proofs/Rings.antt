@@ -1,11 +1,7 @@
 -- The queues of a block, when numbers of it change.
-use mathlib.Core.Path.{_≡_, refl, sym, _∙_, ap, ap₂}
-use mathlib.Core.List.{List, [], _∷_, _++_}
-use Prim.Native.Nat.{ℕ, zero, suc, _+_, _*_, _%_, _<_}
-use native.Mathlib.Omega.{arith}
-use native.Mathlib.Decide.{ℕ-discrete}
-use lib.ListN.{length, getD, set, length-set}
-use lib.Seq.{ext-getD, getD-set-same, getD-set-other}
+use Rattle.laws.proofs.Prelude.{_≡_, refl, sym, _∙_, ap, List, [], _∷_, _++_, ℕ, zero, suc, _+_, _*_, _%_, _<_, arith, ℕ-discrete, length, getD, set, length-set, getD-set-same, getD-set-other}
+use mathlib.Core.Path.{ap₂}
+use lib.Seq.{ext-getD}
 use Rattle.desk.specs.Desk.{queue}
 use Rattle.desk.specs.Block.{ring, countIn, queueIn, queuesIn, deskAs}
 

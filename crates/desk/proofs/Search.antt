@@ -1,11 +1,5 @@
 -- Which depositor a turn finds.
-use mathlib.Core.Path.{_≡_, sym, _∙_}
-use mathlib.Core.List.{List}
-use mathlib.Core.Option.{Option}
-use Prim.Native.Nat.{ℕ, suc, _+_, _-_, _<_, _≤_}
-use native.Mathlib.Omega.{arith}
-use borrow.Author.Tests.{lt-ltb, le-ltb}
-use lib.ListN.{length}
+use Rattle.laws.proofs.Prelude.{_≡_, sym, _∙_, List, Option, ℕ, suc, _+_, _-_, _<_, _≤_, arith, lt-ltb, le-ltb, length}
 use Rattle.desk.specs.Block.{countIn, deskAs}
 use Rattle.desk.proofs.Rings.{length-queue-of}
 use Rattle.desk.specs.Desk.{Desk, queue, lookedAt, firstWaiting}

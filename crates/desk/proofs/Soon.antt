@@ -1,11 +1,8 @@
 -- A sheet at the front of its queue is served soon: each turn that serves another depositor brings its own nearer.
-use mathlib.Core.Path.{_≡_, refl, sym, _∙_, ap, ap₂}
-use mathlib.Core.List.{List, [], _∷_, _++_, head-eq-of-cons-eq, nil≢cons, flatMap}
-use Prim.Native.Nat.{ℕ, suc, _+_, _-_, _%_, _≤_, _<_}
-use native.Mathlib.Omega.{arith}
-use native.Mathlib.Decide.{decLe, ℕ-discrete}
-use borrow.Author.Tests.{ne-eqb}
-use lib.ListN.{length, List·getD-eq-default}
+use Rattle.laws.proofs.Prelude.{_≡_, refl, sym, _∙_, ap, List, [], _∷_, _++_, flatMap, ℕ, suc, _+_, _-_, _%_, _≤_, _<_, arith, ℕ-discrete, ne-eqb, length, List·getD-eq-default}
+use mathlib.Core.Path.{ap₂}
+use mathlib.Core.List.{head-eq-of-cons-eq, nil≢cons}
+use native.Mathlib.Decide.{decLe}
 use Rattle.desk.specs.Desk.{Desk, Call, Event, served, Done, queue, lookedAt, withSheet, withoutFront, step}
 use Rattle.desk.specs.History.{History, events, acceptedBy, servedBy, oneIfTurn, turnsIn}
 use Rattle.desk.specs.Fair.{ServedWithin}

@@ -56,7 +56,8 @@ eightWaiting = 15
 unfoldable pub handedIn : Desk → ℕ → ℕ → Done
 handedIn desk d s =
     cond (ltb 15 d) (record { desk = desk; event = refused d s noDepositor })
-    (cond (leb 8 (length (queue desk d))) (record { desk = desk; event = refused d s eightWaiting }) (record { desk = withSheet desk d s; event = accepted d s }))
+    (cond (leb 8 (length (queue desk d))) (record { desk = desk; event = refused d s eightWaiting })
+    (record { desk = withSheet desk d s; event = accepted d s }))
 
 -- the depositor whom a turn looks at once it has passed so many; after 15 comes 0
 abbrev pub lookedAt : Desk → ℕ → ℕ
@@ -65,7 +66,8 @@ lookedAt desk passed = (desk .next + passed) % 16
 -- the first who has a sheet waiting, once so many were passed and while so many are left
 unfoldable pub firstWaiting : Desk → ℕ → ℕ → Option ℕ
 firstWaiting desk passed zero = Option.none
-firstWaiting desk passed (suc left) = cond (ltb 0 (length (queue desk (lookedAt desk passed)))) (Option.some (lookedAt desk passed)) (firstWaiting desk (passed + 1) left)
+firstWaiting desk passed (suc left) = cond (ltb 0 (length (queue desk (lookedAt desk passed)))) (Option.some (lookedAt desk passed))
+    (firstWaiting desk (passed + 1) left)
 
 -- the front sheet of depositor d goes, and the next turn looks first at the depositor after d
 unfoldable pub withoutFront : Desk → ℕ → Desk

@@ -1,14 +1,5 @@
 -- The grammar and the reader agree: what the reader finds in a body is its reading, of which there is at most one.
-use mathlib.Core.Path.{_≡_, refl, sym, ap, _∙_}
-use mathlib.Core.Bool.{Bool, true, false, cond, not, or-true}
-use mathlib.Core.Logic.{inl, inr, ⊎-elim}
-use mathlib.Core.List.{List, _++_}
-use Prim.Native.Nat.{ℕ, _+_, _≤_, _<_}
-use native.Mathlib.Omega.{arith}
-use lib.Dec.{eqb}
-use lib.ListN.{length, drop, length-append, length-drop}
-use lib.Seq.{drop-drop}
-use borrow.Author.Tests.{eqb-true, eq-eqb}
+use Rattle.laws.proofs.Prelude.{_≡_, refl, sym, ap, _∙_, Bool, true, false, cond, not, or-true, inl, inr, ⊎-elim, List, _++_, ℕ, _+_, _≤_, _<_, arith, eqb, length, drop, length-append, length-drop, drop-drop, eqb-true, eq-eqb}
 use Rattle.laws.specs.Ascii.{ascii}
 use Rattle.laws.specs.code.Told.{Bounded, Meant}
 use Rattle.text.specs.declared.utf8.Encoding.the-variants.{Utf8}

@@ -1,11 +1,5 @@
 -- In a well-formed body the run begins and ends at character boundaries.
-use mathlib.Core.Path.{_≡_, sym, _∙_}
-use mathlib.Core.Bool.{true, false≢true}
-use mathlib.Core.List.{List}
-use Prim.Native.Nat.{ℕ, _≤_}
-use native.Mathlib.Nat.{add-zero, sub-zero}
-use native.Mathlib.Omega.{arith}
-use lib.ListN.{length, List·getD-eq-default}
+use Rattle.laws.proofs.Prelude.{_≡_, sym, _∙_, true, false≢true, List, ℕ, _≤_, add-zero, sub-zero, arith, length, List·getD-eq-default}
 use Rattle.text.specs.declared.utf8.Encoding.the-variants.{Utf8}
 use Rattle.text.specs.Utf8.{formed}
 use Rattle.text.specs.Position.{Boundary}

@@ -1,12 +1,5 @@
 -- The longest row of a kind, from one character to the next; no other row ends where no such character stands.
-use mathlib.Core.Path.{_≡_, refl, sym, ap, _∙_}
-use mathlib.Core.List.{List, [], _∷_}
-use Prim.Native.Nat.{ℕ, zero, suc, _+_, _≤_}
-use native.Mathlib.Nat.{not-suc-le-zero, le-of-suc-le-suc}
-use native.Mathlib.Decide.{ℕ-discrete}
-use native.Mathlib.Omega.{arith}
-use lib.ListN.{length, drop, length-drop}
-use lib.Seq.{drop-drop}
+use Rattle.laws.proofs.Prelude.{_≡_, refl, sym, ap, _∙_, List, [], _∷_, ℕ, zero, suc, _+_, _≤_, not-suc-le-zero, le-of-suc-le-suc, ℕ-discrete, arith, length, drop, length-drop, drop-drop}
 use Rattle.text.specs.declared.utf8.Encoding.the-variants.{Utf8}
 use Rattle.text.specs.Utf8.{charAt}
 use Rattle.text.specs.Characters.{Stands}

@@ -1,13 +1,5 @@
 -- ECMAScript's whitespace beside Unicode's White_Space: U+0085 is not in it, U+FEFF is, and nothing else differs.
-use mathlib.Core.Path.{_≡_, refl, sym}
-use mathlib.Core.Bool.{Bool, true, false, not, _&&_, _||_, and-eq-true-iff, false≢true}
-use mathlib.Core.Logic.{_⊎_, inl, inr, ⊎-elim, _↔_}
-use mathlib.Core.List.{List, [], _∷_, _++_}
-use Prim.Native.Nat.{ℕ, zero, suc, _+_, _-_, _≤_, _<_}
-use native.Mathlib.Omega.{arith}
-use native.Mathlib.Decide.{ℕ-discrete}
-use lib.Dec.{eqb}
-use borrow.Author.Tests.{eqb-true}
+use Rattle.laws.proofs.Prelude.{_≡_, refl, sym, Bool, true, false, not, _&&_, _||_, and-eq-true-iff, false≢true, _⊎_, inl, inr, ⊎-elim, _↔_, List, [], _∷_, _++_, ℕ, zero, suc, _+_, _-_, _≤_, _<_, arith, ℕ-discrete, eqb, eqb-true}
 use Rattle.laws.specs.code.Told.{Meant}
 use Rattle.text.specs.Ranges.{Range, _to_, within, inRanges}
 use Rattle.text.specs.WhiteSpace as unicode

@@ -1,9 +1,6 @@
 -- The grammar and the parsers agree: a parser answers exactly the readings.
-use mathlib.Core.Path.{_≡_}
-use mathlib.Core.Logic.{_↔_}
+use Rattle.laws.proofs.Prelude.{_≡_, _↔_, ℕ, arith}
 use mathlib.Core.Option.{some}
-use Prim.Native.Nat.{ℕ}
-use native.Mathlib.Omega.{arith}
 use Rattle.analysis.specs.Mode.{Mode}
 use Rattle.jsdoc.specs.Grammar.{Bytes, Brace, Declaration}
 use Rattle.jsdoc.specs.Parsed.{Parsed, ok, backtrace, Parser, value}

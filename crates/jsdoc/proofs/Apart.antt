@@ -1,14 +1,7 @@
 -- A Brace reading and a Declaration never have one place: before its white space stands `(`, or the last letter of `from`.
-use mathlib.Core.Path.{_≡_, refl, sym, ap, _∙_}
-use mathlib.Core.Bool.{Bool, true, false}
-use mathlib.Core.List.{[], _∷_, _++_, append-assoc}
-use Prim.Native.Nat.{ℕ, zero, suc, _+_, _-_, _<_}
-use Prim.Native.Char.{code}
-use native.Mathlib.Omega.{arith}
-use lib.Dec.{ltb}
-use lib.ListN.{length, drop, getD, length-append, length-drop, List·getD-append}
+use Rattle.laws.proofs.Prelude.{_≡_, refl, sym, ap, _∙_, Bool, true, false, [], _∷_, _++_, append-assoc, ℕ, zero, suc, _+_, _-_, _<_, code, arith, ltb, length, drop, getD, length-append, length-drop, ltb-true, ltb-false}
+use lib.ListN.{List·getD-append}
 use lib.Seq.{getD-append-seam, getD-append-add}
-use borrow.Author.Tests.{ltb-true, ltb-false}
 use Rattle.laws.specs.Ascii.{ascii}
 use Rattle.text.specs.declared.class.Class.the-variants.{White}
 use Rattle.text.specs.Ranges.{inRanges}

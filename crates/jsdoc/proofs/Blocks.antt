@@ -1,12 +1,5 @@
 -- Attributes and blocks of them: the grammar and the functions agree.
-use mathlib.Core.Path.{_≡_, refl, sym, ap, _∙_}
-use mathlib.Core.Bool.{Bool, true, false, cond}
-use mathlib.Core.Logic.{_⊎_, ⊎-elim, inl, inr}
-use mathlib.Core.List.{List, [], _∷_, _++_}
-use Prim.Native.Nat.{ℕ, zero, suc, _≤_, _<_}
-use Prim.Native.Char.{code}
-use native.Mathlib.Omega.{arith}
-use lib.ListN.{length}
+use Rattle.laws.proofs.Prelude.{_≡_, refl, sym, ap, _∙_, Bool, true, false, cond, _⊎_, ⊎-elim, inl, inr, List, [], _∷_, _++_, ℕ, zero, suc, _≤_, _<_, code, arith, length}
 use Rattle.laws.specs.Ascii.{ascii}
 use Rattle.text.specs.declared.class.Class.the-variants.{White}
 use Rattle.text.specs.Bytes.{same}

@@ -1,10 +1,7 @@
 -- Worked bodies beside 01's, which stand in module_info: just these imports are listed for each, by the place and the mode.
-use mathlib.Core.Path.{_≡_, refl}
-use mathlib.Core.List.{List, [], _∷_, map, flatMap}
+use Rattle.laws.proofs.Prelude.{_≡_, refl, List, [], _∷_, map, flatMap, ℕ, _+_, length, set, replicate}
 use mathlib.Core.Option.{none, some}
-use Prim.Native.Nat.{ℕ, _+_}
 use Prim.Native.String.{String}
-use lib.ListN.{length, set, replicate}
 use Rattle.laws.specs.Codec.{All}
 use Rattle.laws.specs.Ascii.{ascii}
 use Rattle.text.specs.Ranges.{inRanges}

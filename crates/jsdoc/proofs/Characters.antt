@@ -1,13 +1,5 @@
 -- Characters of a class, and the longest runs of them: the grammar and the functions agree.
-use mathlib.Core.Path.{_≡_, refl, sym, ap, _∙_}
-use mathlib.Core.Bool.{true, false, false≢true}
-use mathlib.Core.List.{[], _∷_, _++_}
-use Prim.Native.Nat.{ℕ, zero, suc, _≤_, _<_}
-use native.Mathlib.Omega.{arith}
-use native.Mathlib.Decide.{ℕ-discrete}
-use lib.ListN.{length, drop}
-use lib.Seq.{drop-drop}
-use borrow.Author.Tests.{ne-eqb}
+use Rattle.laws.proofs.Prelude.{_≡_, refl, sym, ap, _∙_, true, false, false≢true, [], _∷_, _++_, ℕ, zero, suc, _≤_, _<_, arith, ℕ-discrete, length, drop, drop-drop, ne-eqb}
 use Rattle.text.specs.declared.class.Class.{Class}
 use Rattle.text.specs.declared.class.Class.the-variants.{White}
 use Rattle.text.specs.Encode.{encode}

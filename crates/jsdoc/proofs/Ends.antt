@@ -1,9 +1,6 @@
 -- A list that ends another.
-use mathlib.Core.Path.{_≡_, sym, ap, _∙_}
-use mathlib.Core.List.{_++_, append-assoc}
-use Prim.Native.Nat.{ℕ, _≤_}
-use native.Mathlib.Omega.{arith}
-use lib.ListN.{length, take, drop, length-append, take-append-drop}
+use Rattle.laws.proofs.Prelude.{_≡_, sym, ap, _∙_, _++_, append-assoc, ℕ, _≤_, arith, length, take, drop, length-append}
+use lib.ListN.{take-append-drop}
 use Rattle.jsdoc.specs.Grammar.{Bytes}
 
 abbrev pub Ends : Bytes → Bytes → Type 0

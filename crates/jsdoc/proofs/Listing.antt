@@ -1,13 +1,6 @@
 -- The ticks that the parsers give at each place of a body are those of the readings that are listed.
-use mathlib.Core.Path.{_≡_, refl, ap}
-use mathlib.Core.Logic.{_⊎_, ⊎-elim, inl, inr}
-use mathlib.Core.List.{List}
-use mathlib.Core.Option.{Option, none, some}
-use Prim.Native.Nat.{ℕ, zero, suc, _-_, _≤_, _<_}
-use native.Mathlib.Omega.{arith}
-use native.Mathlib.Decide.{ℕ-discrete}
-use lib.ListN.{length, drop, length-append}
-use lib.Seq.{drop-append-seam}
+use Rattle.laws.proofs.Prelude.{_≡_, refl, ap, _⊎_, ⊎-elim, inl, inr, List, Option, ℕ, zero, suc, _-_, _≤_, _<_, arith, ℕ-discrete, length, drop, length-append, drop-append-seam}
+use mathlib.Core.Option.{none, some}
 use Rattle.analysis.specs.Mode.{Mode}
 use Rattle.analysis.proofs.Modes.{found-of}
 use Rattle.jsdoc.specs.Grammar.{Bytes, Brace, Declaration, Reading, From, Listed}

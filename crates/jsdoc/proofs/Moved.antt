@@ -1,9 +1,6 @@
 -- What is read of a part of some bytes, by the places of the whole.
-use mathlib.Core.Path.{_≡_, sym}
-use Prim.Native.Nat.{ℕ, _+_, _-_, _^_, _≤_, _<_}
-use native.Mathlib.Omega.{arith}
-use lib.ListN.{length, take, drop, length-drop}
-use lib.Seq.{take-all, drop-drop}
+use Rattle.laws.proofs.Prelude.{_≡_, sym, ℕ, _+_, _-_, _≤_, _<_, arith, length, take, drop, length-drop, take-all, drop-drop}
+use Prim.Native.Nat.{_^_}
 use Rattle.text.specs.Bytes.{part}
 use Rattle.analysis.specs.declared.mode.ModeFound.{ModeFound}
 use Rattle.analysis.specs.Mode.{Mode}

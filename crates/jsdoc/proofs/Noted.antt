@@ -1,13 +1,6 @@
 -- A table of origins, and one note more.
-use mathlib.Core.Path.{_≡_, refl, sym, _∙_}
-use mathlib.Core.Logic.{_⊎_, inl, inr}
-use mathlib.Core.List.{List}
-use Prim.Native.Nat.{ℕ, zero, suc, _+_, _≤_, _<_}
-use native.Mathlib.Omega.{arith}
-use native.Mathlib.Decide.{ℕ-discrete}
-use lib.ListN.{set, getD, replicate, length-set, length-replicate}
-use lib.Seq.{getD-set-same, getD-set-other, ext-getD}
-use borrow.Author.Tests.{eq-eqb, ne-eqb}
+use Rattle.laws.proofs.Prelude.{_≡_, refl, sym, _∙_, _⊎_, inl, inr, List, ℕ, zero, suc, _+_, _≤_, _<_, arith, ℕ-discrete, set, getD, replicate, length-set, length-replicate, getD-set-same, getD-set-other, eq-eqb, ne-eqb}
+use lib.Seq.{ext-getD}
 use Rattle.jsdoc.specs.Origins.{noteAt}
 use Rattle.jsdoc.specs.code.Origins.{Origins}
 use Rattle.jsdoc.proofs.Ticked.{zeros}

@@ -1,13 +1,5 @@
 -- The origins of the readings from the places before one, and what the reading from that place adds.
-use mathlib.Core.Path.{_≡_, refl, _∙_}
-use mathlib.Core.Logic.{_⊎_, ⊎-elim, inl, inr}
-use mathlib.Core.List.{List}
-use mathlib.Core.Option.{Option·none-ne-some}
-use Prim.Native.Nat.{ℕ, _+_, _≤_, _<_}
-use Prim.Native.Char.{code}
-use native.Mathlib.Omega.{arith}
-use native.Mathlib.Decide.{ℕ-discrete}
-use lib.ListN.{length, drop, getD, replicate}
+use Rattle.laws.proofs.Prelude.{_≡_, refl, _∙_, _⊎_, ⊎-elim, inl, inr, List, Option·none-ne-some, ℕ, _+_, _≤_, _<_, code, arith, ℕ-discrete, length, drop, getD, replicate}
 use Rattle.laws.proofs.Onward.{carried-to}
 use Rattle.analysis.specs.Mode.{Mode}
 use Rattle.analysis.specs.code.Mode.{modeAs}

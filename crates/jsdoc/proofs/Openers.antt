@@ -1,11 +1,5 @@
 -- The origins that the parsers give at each place of a body are the first places that read.
-use mathlib.Core.Path.{_≡_}
-use mathlib.Core.Logic.{_⊎_, ⊎-elim, inl, inr}
-use mathlib.Core.List.{List}
-use Prim.Native.Nat.{ℕ, zero, suc, _≤_, _<_}
-use native.Mathlib.Omega.{arith}
-use native.Mathlib.Decide.{ℕ-discrete}
-use lib.ListN.{length, drop}
+use Rattle.laws.proofs.Prelude.{_≡_, _⊎_, ⊎-elim, inl, inr, List, ℕ, zero, suc, _≤_, _<_, arith, ℕ-discrete, length, drop}
 use Rattle.analysis.specs.Mode.{Mode}
 use Rattle.jsdoc.specs.Grammar.{Bytes, Brace, Declaration, Reading, From}
 use Rattle.jsdoc.specs.Parsed.{Parser, value}

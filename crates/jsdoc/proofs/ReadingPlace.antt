@@ -1,13 +1,5 @@
 -- The place of a reading: it has one end and one mode, and it is a quote, which begins and ends at character boundaries.
-use mathlib.Core.Path.{_≡_, sym, ap, _∙_}
-use mathlib.Core.Bool.{true}
-use mathlib.Core.Logic.{inl, inr}
-use mathlib.Core.List.{_∷_, _++_}
-use Prim.Native.Nat.{ℕ, suc, _+_, _<_, _≤_}
-use native.Mathlib.Omega.{arith}
-use native.Mathlib.Nat.{add-zero}
-use lib.ListN.{length, drop, getD, length-drop}
-use lib.Seq.{drop-append-seam, drop-drop, getD-drop}
+use Rattle.laws.proofs.Prelude.{_≡_, sym, ap, _∙_, true, inl, inr, _∷_, _++_, ℕ, suc, _+_, _<_, _≤_, arith, add-zero, length, drop, getD, length-drop, drop-append-seam, drop-drop, getD-drop}
 use Rattle.text.specs.declared.utf8.Encoding.the-variants.{Utf8}
 use Rattle.text.specs.Utf8.{formed}
 use Rattle.text.specs.Position.{Boundary}

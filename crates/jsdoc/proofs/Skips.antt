@@ -1,11 +1,5 @@
 -- Places at which no reading can begin are passed without a look.
-use mathlib.Core.Path.{_≡_}
-use mathlib.Core.List.{List}
-use Prim.Native.Nat.{ℕ, _≤_, _<_}
-use Prim.Native.Char.{code}
-use native.Mathlib.Omega.{arith}
-use lib.ListN.{length, drop, getD}
-use borrow.Author.Tests.{ne-eqb}
+use Rattle.laws.proofs.Prelude.{_≡_, List, ℕ, _≤_, _<_, code, arith, length, drop, getD, ne-eqb}
 use Rattle.text.specs.Bytes.{begins}
 use Rattle.laws.proofs.Onward.{carried-to}
 use Rattle.jsdoc.specs.Grammar.{Bytes, Brace}

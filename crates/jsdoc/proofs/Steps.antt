@@ -1,14 +1,5 @@
 -- The pieces from a place of the bytes on: what is found there, by what stands there.
-use mathlib.Core.Path.{_≡_, refl, ap}
-use mathlib.Core.Bool.{true, false, cond}
-use mathlib.Core.List.{[], _∷_}
-use Prim.Native.Nat.{ℕ, suc, _+_, _-_, _≤_, _<_}
-use native.Mathlib.Numerals.{add-one}
-use native.Mathlib.Nat.{sub-zero}
-use native.Mathlib.Omega.{arith}
-use lib.ListN.{length, drop, getD, length-drop, drop-of-length-le, length-append}
-use lib.Seq.{drop-cons, drop-drop}
-use borrow.Author.Tests.{eq-eqb, ne-eqb}
+use Rattle.laws.proofs.Prelude.{_≡_, refl, ap, true, false, cond, [], _∷_, ℕ, suc, _+_, _-_, _≤_, _<_, add-one, sub-zero, arith, length, drop, getD, length-drop, drop-of-length-le, length-append, drop-cons, drop-drop, eq-eqb, ne-eqb}
 use Rattle.text.specs.declared.class.Class.the-variants.{White, Alphabetic, NameRest}
 use Rattle.text.specs.Bytes.{begins}
 use Rattle.text.specs.Class.{classAt, runLength}

@@ -1,9 +1,5 @@
 -- What is left behind the pieces of a reading ends what it was read from.
-use mathlib.Core.Path.{sym, _∙_}
-use mathlib.Core.Logic.{inl, inr}
-use mathlib.Core.List.{[], _∷_, _++_, append-assoc}
-use Prim.Native.Nat.{ℕ}
-use Prim.Native.Char.{code}
+use Rattle.laws.proofs.Prelude.{sym, _∙_, inl, inr, [], _∷_, _++_, append-assoc, ℕ, code}
 use Rattle.laws.specs.Ascii.{ascii}
 use Rattle.text.specs.declared.class.Class.the-variants.{White}
 use Rattle.text.specs.Encode.{encode}

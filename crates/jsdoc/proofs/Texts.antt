@@ -1,15 +1,7 @@
 -- Words, quotes and names: the grammar and the functions agree.
-use mathlib.Core.Path.{_≡_, refl, ap, _∙_}
-use mathlib.Core.Bool.{Bool, true, false, cond, _||_}
-use mathlib.Core.Logic.{_⊎_, inl, inr}
-use mathlib.Core.List.{[], _∷_, _++_}
-use Prim.Native.Nat.{ℕ, _+_, _-_, _≤_, _<_}
-use Prim.Native.Char.{code}
-use native.Mathlib.Omega.{arith}
-use lib.ListN.{length, drop, length-append}
-use lib.Seq.{drop-append-seam, take-at}
-use lib.Dec.{eqb}
-use borrow.Author.Tests.{eq-eqb, ne-eqb, eqb-true, eqb-false}
+use Rattle.laws.proofs.Prelude.{_≡_, refl, ap, _∙_, Bool, true, false, cond, _||_, _⊎_, inl, inr, [], _∷_, _++_, ℕ, _+_, _-_, _≤_, _<_, code, arith, length, drop, length-append, drop-append-seam, eqb, eq-eqb, ne-eqb, eqb-true}
+use lib.Seq.{take-at}
+use borrow.Author.Tests.{eqb-false}
 use Rattle.text.specs.declared.class.Class.the-variants.{White, Alphabetic, NameRest}
 use Rattle.text.specs.Bytes.{begins, Mark}
 use Rattle.text.specs.Encode.{encode}

@@ -1,14 +1,6 @@
 -- The ticks of the readings from the places before one, and what the reading from that place adds.
-use mathlib.Core.Path.{_≡_, sym, ap, _∙_}
-use mathlib.Core.Logic.{_⊎_, ⊎-elim, inl, inr}
-use mathlib.Core.List.{List}
-use mathlib.Core.Option.{Option·none-ne-some}
-use Prim.Native.Nat.{ℕ, _+_, _≤_, _<_}
-use Prim.Native.Char.{code}
-use native.Mathlib.Omega.{arith}
-use native.Mathlib.Decide.{ℕ-discrete, decLt}
-use lib.ListN.{length, drop, getD, replicate, length-drop}
-use lib.Seq.{drop-drop}
+use Rattle.laws.proofs.Prelude.{_≡_, sym, ap, _∙_, _⊎_, ⊎-elim, inl, inr, List, Option·none-ne-some, ℕ, _+_, _≤_, _<_, code, arith, ℕ-discrete, length, drop, getD, replicate, length-drop, drop-drop}
+use native.Mathlib.Decide.{decLt}
 use Rattle.analysis.specs.declared.mode.ModeFound.{ModeFound}
 use Rattle.analysis.specs.Mode.{Mode}
 use Rattle.analysis.specs.code.Mode.{modeAs}

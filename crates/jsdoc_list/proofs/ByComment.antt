@@ -1,11 +1,6 @@
 -- The JSDoc imports of a sheet are those that its comments give, one comment after the other.
-use mathlib.Core.Path.{_≡_, refl, sym, ap}
-use mathlib.Core.Bool.{Bool, true, false, cond}
-use mathlib.Core.Logic.{_⊎_, ⊎-elim, inl, inr}
-use mathlib.Core.List.{List, [], _∷_, _++_, flatMap, List·Memᴰ, List·Memᴰ·head, List·Memᴰ·tail, List·Memᴰ·not-nil, List·Memᴰ·append-cases, Memᴰ·append-left, Memᴰ·append-right}
-use Prim.Native.Nat.{ℕ, zero, suc, _+_, _≤_, _<_, zero-le, suc-le-suc}
-use native.Mathlib.Omega.{arith}
-use lib.ListN.{length}
+use Rattle.laws.proofs.Prelude.{_≡_, refl, sym, ap, Bool, true, false, cond, _⊎_, ⊎-elim, inl, inr, List, [], _∷_, _++_, flatMap, List·Memᴰ, List·Memᴰ·head, List·Memᴰ·tail, List·Memᴰ·not-nil, ℕ, zero, suc, _+_, _≤_, _<_, zero-le, suc-le-suc, arith, length}
+use mathlib.Core.List.{List·Memᴰ·append-cases, Memᴰ·append-left, Memᴰ·append-right}
 use Rattle.laws.specs.Ordered.{Ordered}
 use Rattle.text.specs.declared.utf8.Encoding.the-variants.{Utf8}
 use Rattle.text.specs.Utf8.{formed}

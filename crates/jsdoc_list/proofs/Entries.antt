@@ -1,13 +1,6 @@
 -- The imports at the places that are ticked: which they are, how many, and in which order.
-use mathlib.Core.Path.{_≡_, refl, ap, sym, _∙_}
-use mathlib.Core.Logic.{⊎-elim}
-use mathlib.Core.List.{List, [], _∷_, List·Memᴰ, List·Memᴰ·head, List·Memᴰ·tail, List·Memᴰ·not-nil, List·Memᴰ·cases-cons}
-use mathlib.Core.Option.{Option}
-use Prim.Native.Nat.{ℕ, zero, suc, _+_, _<_}
-use native.Mathlib.Nat.{add-zero, add-suc, suc-add}
-use native.Mathlib.Numerals.{add-one}
-use native.Mathlib.Omega.{arith}
-use lib.ListN.{length, getD}
+use Rattle.laws.proofs.Prelude.{_≡_, refl, ap, sym, _∙_, ⊎-elim, List, [], _∷_, List·Memᴰ, List·Memᴰ·head, List·Memᴰ·tail, List·Memᴰ·not-nil, List·Memᴰ·cases-cons, Option, ℕ, zero, suc, _+_, _<_, add-zero, add-one, arith, length, getD}
+use native.Mathlib.Nat.{add-suc, suc-add}
 use Rattle.text.specs.Position.{Before}
 use Rattle.text.proofs.PositionsApart.{grows}
 use Rattle.wire.specs.Fields.{valueOf}

@@ -1,13 +1,7 @@
 -- The JSDoc imports of a sheet are those that are demanded.
-use mathlib.Core.Path.{_≡_, refl, sym, ap, subst, _∙_}
-use mathlib.Core.Bool.{Bool, true, false, cond, true≢false}
-use mathlib.Core.List.{List, [], List·Memᴰ, List·Memᴰ·not-nil}
-use mathlib.Core.Option.{Option}
-use Prim.Native.Nat.{ℕ, _+_, _≤_, _<_}
-use native.Mathlib.Nat.{zero-add}
-use native.Mathlib.Omega.{arith}
+use Rattle.laws.proofs.Prelude.{_≡_, refl, sym, ap, _∙_, Bool, true, false, cond, true≢false, List, [], List·Memᴰ, List·Memᴰ·not-nil, Option, ℕ, _+_, _≤_, _<_, zero-add, arith, length, getD}
+use mathlib.Core.Path.{subst}
 use native.Mathlib.Decide.{decLt}
-use lib.ListN.{length, getD}
 use Rattle.text.specs.declared.utf8.Encoding.the-variants.{Utf8}
 use Rattle.text.specs.Utf8.{formed}
 use Rattle.wire.specs.Fields.{valueOf}

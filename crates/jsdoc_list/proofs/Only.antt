@@ -1,9 +1,5 @@
 -- The demand fixes the list: two lists that are right for one sheet are equal.
-use mathlib.Core.Path.{_≡_, refl, sym, _∙_}
-use mathlib.Core.Logic.{inl, inr}
-use mathlib.Core.List.{List, [], List·Memᴰ}
-use Prim.Native.Nat.{ℕ}
-use native.Mathlib.Omega.{arith}
+use Rattle.laws.proofs.Prelude.{_≡_, refl, sym, _∙_, inl, inr, List, [], List·Memᴰ, ℕ, arith}
 use Rattle.laws.proofs.Lists.{same-members}
 use Rattle.text.specs.declared.position.Position.{Position}
 use Rattle.text.specs.Position.{Before}

@@ -1,11 +1,7 @@
 -- The turns of the loops over the openers and over the comments, and the bytes that are written.
-use mathlib.Core.Path.{_≡_, refl, ap, _∙_}
-use mathlib.Core.Bool.{true, false}
-use mathlib.Core.List.{List, [], _∷_, _++_, flatMap}
-use Prim.Native.Nat.{ℕ, zero, suc, _+_, _-_, _^_, _≤_, _<_}
+use Rattle.laws.proofs.Prelude.{_≡_, refl, ap, _∙_, true, false, List, [], _∷_, _++_, flatMap, ℕ, zero, suc, _+_, _-_, _≤_, _<_, arith, length, drop, getD, length-take, length-drop}
+use Prim.Native.Nat.{_^_}
 use native.Mathlib.Nat.{sub-eq-zero-of-le}
-use native.Mathlib.Omega.{arith}
-use lib.ListN.{length, drop, getD, length-take, length-drop}
 use Rattle.laws.proofs.Lists.{flatMap-append}
 use Rattle.text.specs.Bytes.{part}
 use Rattle.jsdoc.specs.Origins.{openers}

@@ -1,12 +1,5 @@
 -- A body has no more ticks than `{` and `@import` together: each of these gives at most one.
-use mathlib.Core.Path.{_≡_, refl}
-use mathlib.Core.Bool.{Bool, true, false, cond}
-use mathlib.Core.List.{List, [], _∷_, _++_}
-use mathlib.Core.Option.{Option}
-use Prim.Native.Nat.{ℕ, zero, suc, _+_, _-_, _≤_, _<_}
-use native.Mathlib.Omega.{arith}
-use lib.ListN.{length, set, take, drop, replicate}
-use lib.Seq.{drop-cons}
+use Rattle.laws.proofs.Prelude.{_≡_, refl, Bool, true, false, cond, List, [], _∷_, _++_, Option, ℕ, zero, suc, _+_, _-_, _≤_, _<_, arith, length, set, take, drop, replicate, drop-cons}
 use Rattle.laws.specs.Ascii.{ascii}
 use Rattle.text.specs.Bytes.{begins}
 use Rattle.text.proofs.Words.{begins-complete}

@@ -1,14 +1,6 @@
 -- Each JSDoc import of a sheet has its origin beside it.
-use mathlib.Core.Path.{_≡_, refl, sym, _∙_}
-use mathlib.Core.Bool.{Bool, true, false, cond}
-use mathlib.Core.Logic.{_⊎_, inl, inr}
-use mathlib.Core.List.{List, [], _∷_, _++_, append-nil, flatMap}
-use mathlib.Core.Option.{Option}
-use Prim.Native.Nat.{ℕ, zero, suc, _+_, _≤_, _<_, zero-le, suc-le-suc}
-use native.Mathlib.Nat.{zero-add, add-zero, add-suc, suc-add}
-use native.Mathlib.Omega.{arith}
-use lib.ListN.{length, take, drop, getD, replicate, length-replicate}
-use lib.Seq.{length-take-le}
+use Rattle.laws.proofs.Prelude.{_≡_, refl, sym, _∙_, Bool, true, false, cond, _⊎_, inl, inr, List, [], _∷_, _++_, append-nil, flatMap, Option, ℕ, zero, suc, _+_, _≤_, _<_, zero-le, suc-le-suc, zero-add, add-zero, arith, length, take, drop, getD, replicate, length-replicate, length-take-le}
+use native.Mathlib.Nat.{add-suc, suc-add}
 use Rattle.laws.specs.Aligned.{Aligned}
 use Rattle.laws.proofs.Aligned.{aligned-map, aligned-append}
 use Rattle.text.specs.declared.utf8.Encoding.the-variants.{Utf8}

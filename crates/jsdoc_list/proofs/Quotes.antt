@@ -1,11 +1,5 @@
 -- The import that is reported of a reading, and where it stands in the source.
-use mathlib.Core.Path.{_≡_, refl, ap, sym, _∙_}
-use mathlib.Core.Bool.{true}
-use mathlib.Core.List.{List, [], _∷_, _++_, append-assoc}
-use mathlib.Core.Option.{Option}
-use Prim.Native.Nat.{ℕ, _+_, _-_, _≤_}
-use native.Mathlib.Omega.{arith}
-use lib.ListN.{length, take, drop, length-append, length-drop}
+use Rattle.laws.proofs.Prelude.{_≡_, refl, ap, sym, _∙_, true, List, [], _∷_, _++_, append-assoc, Option, ℕ, _+_, _-_, _≤_, arith, length, take, drop, length-append, length-drop}
 use lib.Seq.{take-at, append-snoc}
 use Rattle.text.specs.declared.utf8.Encoding.the-variants.{Utf8}
 use Rattle.text.specs.Utf8.{formed}

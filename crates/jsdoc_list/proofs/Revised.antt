@@ -1,12 +1,6 @@
 -- A comment that is alike in two sources gives the same JSDoc imports in both, with the same origins.
-use mathlib.Core.Path.{_≡_, refl, ap, sym, _∙_}
-use mathlib.Core.List.{List, [], _∷_}
-use mathlib.Core.Option.{Option}
-use Prim.Native.Nat.{ℕ, zero, suc, _+_}
-use native.Mathlib.Nat.{zero-add, add-zero, add-suc, suc-add}
-use native.Mathlib.Numerals.{add-one}
-use native.Mathlib.Omega.{arith}
-use lib.ListN.{getD}
+use Rattle.laws.proofs.Prelude.{_≡_, refl, ap, sym, _∙_, List, [], _∷_, Option, ℕ, zero, suc, _+_, zero-add, add-zero, add-one, arith, getD}
+use native.Mathlib.Nat.{add-suc, suc-add}
 use Rattle.wire.specs.Fields.{valueOf}
 use Rattle.analysis.specs.Mode.{Mode}
 use Rattle.jsdoc.specs.Grammar.{Reading, From}

@@ -1,9 +1,5 @@
 -- Which comments are star-opened.
-use mathlib.Core.Path.{_≡_, refl}
-use mathlib.Core.Bool.{true, and-eq-true-iff, false≢true}
-use mathlib.Core.List.{List}
-use Prim.Native.Nat.{ℕ}
-use lib.ListN.{drop}
+use Rattle.laws.proofs.Prelude.{ap, _≡_, refl, true, and-eq-true-iff, false≢true, List, ℕ, drop}
 use Rattle.laws.specs.Ascii.{ascii}
 use Rattle.text.specs.Bytes.{begins}
 use Rattle.text.proofs.Words.{begins-sound, begins-complete}
@@ -28,4 +24,6 @@ module _ (source : List ℕ) (c : Comment) where
       record { block = is-block (c .kind) b; rest = drop 1 (body source c); star = begins-sound (ascii "*") (body source c) s }
 
   pub opened-complete : StarOpened source c → isStarOpened source c ≡ true
-  opened-complete o = rw (o .block, o .star) (begins-complete (ascii "*") (o .rest))
+  opened-complete o =
+      and-eq-true-iff (isBlock (c .kind)) (begins (ascii "*") (body source c)) .1
+      (ap isBlock (o .block), rw (o .star) (begins-complete (ascii "*") (o .rest)))

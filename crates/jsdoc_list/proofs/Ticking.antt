@@ -1,14 +1,8 @@
 -- The ticks of all comments are those of the readings that are listed in them.
-use mathlib.Core.Path.{_≡_, refl, sym, ap, _∙_}
-use mathlib.Core.Bool.{Bool, true, false, cond, true≢false}
-use mathlib.Core.Logic.{_⊎_, ⊎-elim, inl, inr}
-use mathlib.Core.List.{List, [], _∷_, _++_}
-use Prim.Native.Nat.{ℕ, zero, suc, _+_, _-_, _≤_, _<_, zero-le, suc-le-suc}
-use native.Mathlib.Numerals.{add-one}
-use native.Mathlib.Omega.{arith}
+use Rattle.laws.proofs.Prelude.{_≡_, refl, sym, ap, _∙_, Bool, true, false, cond, true≢false, _⊎_, ⊎-elim, inl, inr, List, [], _∷_, _++_, ℕ, zero, suc, _+_, _-_, _≤_, _<_, zero-le, suc-le-suc, add-one, arith, length, take, drop, getD, length-append, length-drop, List·getD-eq-default, drop-drop, length-take-le, getD-drop}
 use native.Mathlib.Decide.{decLt}
-use lib.ListN.{length, take, drop, getD, length-append, length-drop, List·getD-append, List·getD-eq-default}
-use lib.Seq.{drop-drop, length-take-le, getD-append-add, getD-take, getD-drop}
+use lib.ListN.{List·getD-append}
+use lib.Seq.{getD-append-add, getD-take}
 use Rattle.analysis.specs.Mode.{Mode, modeNumber}
 use Rattle.analysis.proofs.Modes.{number-small}
 use Rattle.jsdoc.specs.Grammar.{Listed}

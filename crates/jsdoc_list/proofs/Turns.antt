@@ -1,12 +1,5 @@
 -- The turns of the loops over the ticks, and the bytes that are written.
-use mathlib.Core.Path.{_≡_, refl, ap, sym, _∙_}
-use mathlib.Core.Bool.{true, false}
-use mathlib.Core.List.{List, [], _∷_, _++_, append-nil, flatMap}
-use Prim.Native.Nat.{ℕ, suc, _+_, _-_, _≤_, _<_}
-use native.Mathlib.Numerals.{add-one}
-use native.Mathlib.Omega.{arith}
-use lib.ListN.{length, drop, getD, length-drop}
-use lib.Seq.{drop-cons}
+use Rattle.laws.proofs.Prelude.{_≡_, refl, ap, sym, _∙_, true, false, List, [], _∷_, _++_, append-nil, flatMap, ℕ, suc, _+_, _-_, _≤_, _<_, add-one, arith, length, drop, getD, length-drop, drop-cons}
 use Rattle.text.specs.declared.utf8.Encoding.the-variants.{Utf8}
 use Rattle.text.specs.Utf8.{formed}
 use Rattle.text.specs.Bytes.{part}

@@ -1,11 +1,5 @@
 -- The JSDoc imports of a sheet can be written, and there are no more of them than bytes of its source.
-use mathlib.Core.Path.{ap, _∙_}
-use mathlib.Core.Bool.{Bool, true, false, cond}
-use mathlib.Core.List.{List, [], _∷_}
-use mathlib.Core.Option.{Option}
-use Prim.Native.Nat.{ℕ, zero, suc, _≤_}
-use native.Mathlib.Omega.{arith}
-use lib.ListN.{length}
+use Rattle.laws.proofs.Prelude.{ap, _∙_, Bool, true, false, cond, List, [], _∷_, Option, ℕ, zero, suc, _≤_, arith, length}
 use Rattle.laws.specs.Codec.{All}
 use Rattle.laws.proofs.Lists.{of-members}
 use Rattle.text.specs.declared.utf8.Encoding.the-variants.{Utf8}

@@ -1,12 +1,5 @@
 -- What the judge says of an accepted sheet is what the writers ask, and what demand 3 is shown from.
-use mathlib.Core.Path.{_≡_, refl, sym, ap, _∙_}
-use mathlib.Core.Bool.{true}
-use mathlib.Core.List.{List, [], _∷_}
-use Prim.Native.Nat.{ℕ, _+_, _/_, _≤_, _<_}
-use native.Mathlib.Omega.{arith}
-use lib.Dec.{ltb}
-use lib.ListN.{length}
-use borrow.Author.Tests.{ltb-true}
+use Rattle.laws.proofs.Prelude.{_≡_, refl, sym, ap, _∙_, true, List, [], _∷_, ℕ, _+_, _/_, _≤_, _<_, arith, ltb, length, ltb-true}
 use Rattle.laws.specs.Decoded.{Decoded, ok, no}
 use Rattle.laws.specs.Codec.{All, IfThere}
 use Rattle.laws.proofs.Decoding.{refused}

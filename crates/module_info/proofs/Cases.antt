@@ -1,11 +1,6 @@
 -- The proved cases of document 01: what the report says of a comment with each body, as the definitions compute.
-use mathlib.Core.Path.{_≡_, refl}
-use mathlib.Core.Bool.{false}
-use mathlib.Core.List.{List, [], _∷_, _++_, map, flatMap}
-use mathlib.Core.Option.{Option}
-use Prim.Native.Nat.{ℕ, _+_}
+use Rattle.laws.proofs.Prelude.{_≡_, refl, false, List, [], _∷_, _++_, map, flatMap, Option, ℕ, _+_, length}
 use Prim.Native.String.{String}
-use lib.ListN.{length}
 use Rattle.laws.specs.Ascii.{ascii}
 use Rattle.text.specs.Ranges.{inRanges}
 use Rattle.text.specs.Utf8.{admits, lengthBy, charLength, codeBy, charAt}

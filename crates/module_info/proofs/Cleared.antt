@@ -1,10 +1,5 @@
 -- The front of cleared ticks.
-use mathlib.Core.Path.{_≡_, refl, ap, _∙_}
-use mathlib.Core.List.{List, _∷_}
-use Prim.Native.Nat.{ℕ, zero, suc, _≤_}
-use native.Mathlib.Nat.{sub-zero}
-use native.Mathlib.Omega.{arith}
-use lib.ListN.{length, take, replicate}
+use Rattle.laws.proofs.Prelude.{_≡_, refl, ap, _∙_, List, _∷_, ℕ, zero, suc, _≤_, sub-zero, arith, length, take, replicate}
 use Rattle.text.specs.Bytes.{part}
 
 take-zeros : (n k : ℕ) → k ≤ n → take k (replicate {A = ℕ} n 0) ≡ replicate k 0

@@ -1,10 +1,5 @@
 -- What no bytes get, and the information of the smallest sheet.
-use mathlib.Core.Path.{_≡_, refl}
-use mathlib.Core.Bool.{false}
-use mathlib.Core.List.{[], flatMap}
-use mathlib.Core.Option.{Option}
-use Prim.Native.Nat.{ℕ}
-use native.Mathlib.Omega.{arith}
+use Rattle.laws.proofs.Prelude.{_≡_, refl, false, [], flatMap, Option, ℕ, arith}
 use Rattle.laws.specs.Decoded.{ok}
 use Rattle.text.specs.Utf8.{formed}
 use Rattle.text.specs.Position.{isBoundary}

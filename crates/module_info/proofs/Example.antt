@@ -1,8 +1,5 @@
 -- Document 01's example: the bytes of its sheet, and the answer to them, as the definitions compute.
-use mathlib.Core.Path.{_≡_, refl}
-use mathlib.Core.List.{List, [], _∷_, _++_, flatMap}
-use Prim.Native.Nat.{ℕ, _-_, _≤_}
-use borrow.Author.Tests.{le-leb}
+use Rattle.laws.proofs.Prelude.{_≡_, refl, List, [], _∷_, _++_, flatMap, ℕ, _-_, _≤_, le-leb}
 use Rattle.laws.specs.Ascii.{ascii}
 use Rattle.text.specs.Utf8.{admits, lengthBy, charLength, codeBy, charAt, formed}
 use Rattle.text.specs.Ranges.{inRanges}

@@ -1,11 +1,5 @@
 -- The entries of a node within the limits can be written, and their texts are well-formed.
-use mathlib.Core.Path.{_≡_, refl}
-use mathlib.Core.Bool.{Bool, true, false, cond}
-use mathlib.Core.List.{List, [], _∷_, map, flatMap, List·Memᴰ}
-use mathlib.Core.Option.{Option}
-use Prim.Native.Nat.{ℕ, _+_, _≤_}
-use native.Mathlib.Omega.{arith}
-use lib.ListN.{length, length-append}
+use Rattle.laws.proofs.Prelude.{_≡_, refl, Bool, true, false, cond, List, [], _∷_, map, flatMap, List·Memᴰ, Option, ℕ, _+_, _≤_, arith, length, length-append}
 use Rattle.laws.specs.Codec.{All, IfThere}
 use Rattle.laws.proofs.Lists.{all-member, all-append, of-members}
 use Rattle.text.specs.declared.utf8.Encoding.the-variants.{Utf8, Wtf8}

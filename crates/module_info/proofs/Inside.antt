@@ -1,11 +1,5 @@
 -- The walked nodes of a sheet within the limits: they are within them too, and there are no more visits than bytes.
-use mathlib.Core.Bool.{Bool, true, false, cond}
-use mathlib.Core.Path.{ap}
-use mathlib.Core.List.{List, [], _∷_, _++_, flatMap}
-use mathlib.Core.Option.{Option}
-use Prim.Native.Nat.{ℕ, suc, _≤_}
-use native.Mathlib.Omega.{arith}
-use lib.ListN.{length, length-append}
+use Rattle.laws.proofs.Prelude.{Bool, true, false, cond, ap, List, [], _∷_, _++_, flatMap, Option, ℕ, suc, _≤_, arith, length, length-append}
 use Rattle.laws.specs.Codec.{All}
 use Rattle.laws.proofs.Lists.{flatMap-append, all-member, all-append, part-flatMap}
 use Rattle.sheet.specs.Tree.{Node, other, string, name, template, binary, object, importCall, call, importDecl, namedExport, exportFrom, exportAll, importType, importEquals, importRequire, moduleDecl, Nodes, none, more, Arguments, noArguments, argument, Properties, noProperties, spread, otherProperty, childKey, stringKey, nameKey, Attributes, without, withObject}

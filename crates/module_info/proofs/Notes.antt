@@ -1,15 +1,6 @@
 -- What cleared notes hold once rows are noted in them.
-use mathlib.Core.Path.{_≡_, refl, sym, ap, _∙_}
-use mathlib.Core.Bool.{Bool, true, false, cond}
-use mathlib.Core.List.{List, [], _∷_, _++_, append-nil, append-assoc, flatMap}
-use Prim.Native.Nat.{ℕ, zero, suc, _+_, _-_, _*_, _/_, _≤_, _<_}
-use native.Mathlib.Nat.{sub-zero}
-use native.Mathlib.Numerals.{add-one}
-use native.Mathlib.Omega.{arith}
-use lib.Dec.{eqb, leb, ltb}
-use lib.ListN.{length, getD, take, set, length-append, length-replicate}
-use lib.Seq.{take-all, take-append-le, length-take-le}
-use borrow.Author.Tests.{ltb-true, ltb-false, lt-ltb, le-ltb}
+use Rattle.laws.proofs.Prelude.{_≡_, refl, sym, ap, _∙_, Bool, true, false, cond, List, [], _∷_, _++_, append-nil, append-assoc, flatMap, ℕ, zero, suc, _+_, _-_, _*_, _/_, _≤_, _<_, sub-zero, add-one, arith, eqb, leb, ltb, length, getD, take, set, length-append, length-replicate, take-all, length-take-le, ltb-true, ltb-false, lt-ltb, le-ltb}
+use lib.Seq.{take-append-le}
 use Rattle.laws.specs.Decoded.{ok, no}
 use Rattle.laws.proofs.Lists.{flatMap-append}
 use Rattle.wire.specs.Refusals as refusals

@@ -1,12 +1,5 @@
 -- What the number of an answer says.
-use mathlib.Core.Path.{_≡_, refl, sym, _∙_}
-use mathlib.Core.Bool.{Bool, true, false, cond}
-use mathlib.Core.Logic.{_⊎_, inl, inr, ⊎-elim, _↔_}
-use mathlib.Core.List.{List, [], _++_}
-use Prim.Native.Nat.{ℕ, _<_}
-use native.Mathlib.Omega.{arith}
-use lib.Dec.{leb}
-use lib.ListN.{length, length-append}
+use Rattle.laws.proofs.Prelude.{_≡_, refl, sym, _∙_, Bool, true, false, cond, _⊎_, inl, inr, ⊎-elim, _↔_, List, [], _++_, ℕ, _<_, arith, leb, length, length-append}
 use Rattle.laws.specs.Decoded.{Decoded, ok, no}
 use Rattle.laws.proofs.Decoding.{refused}
 use Rattle.wire.specs.Refusals.{atFields, ofSheets, oneOf}

@@ -1,8 +1,6 @@
 -- Request #104 beside the rule before it: of a sheet's information only the references can differ, and they do exactly where both patterns read a comment of
 -- the head group.
-use mathlib.Core.Path.{_≡_, ap}
-use mathlib.Core.Logic.{_↔_}
-use mathlib.Core.List.{List·Memᴰ}
+use Rattle.laws.proofs.Prelude.{_≡_, ap, _↔_, List·Memᴰ}
 use Rattle.sheet.specs.declared.comments.Comment.{Comment}
 use Rattle.sheet.specs.Sheet.{Sheet}
 use Rattle.report.specs.ModuleInfo.{ModuleInfo}

@@ -1,10 +1,5 @@
 -- The report of a sheet within the limits can be written and read back, and its texts are well-formed.
-use mathlib.Core.Path.{_≡_, refl}
-use mathlib.Core.List.{[], _∷_, List·Memᴰ}
-use mathlib.Core.Option.{Option}
-use Prim.Native.Nat.{ℕ, _≤_}
-use native.Mathlib.Omega.{arith}
-use lib.ListN.{length, length-append}
+use Rattle.laws.proofs.Prelude.{_≡_, refl, [], _∷_, List·Memᴰ, Option, ℕ, _≤_, arith, length, length-append}
 use Rattle.laws.specs.Codec.{All, IfThere}
 use Rattle.laws.proofs.Lists.{all-member, of-members}
 use Rattle.analysis.specs.Row.{Row}

@@ -1,11 +1,6 @@
 -- Where one comment is reworded, all that does not come from it stays.
-use mathlib.Core.Path.{_≡_, refl, sym, subst, _∙_}
-use mathlib.Core.Bool.{true}
-use mathlib.Core.List.{List, [], _∷_, flatMap, List·Memᴰ, List·Memᴰ·head, List·Memᴰ·tail}
-use mathlib.Core.Option.{Option}
-use Prim.Native.Nat.{ℕ, _<_}
-use native.Mathlib.Decide.{ℕ-discrete}
-use lib.ListN.{length}
+use Rattle.laws.proofs.Prelude.{_≡_, refl, sym, _∙_, true, List, [], _∷_, flatMap, List·Memᴰ, List·Memᴰ·head, List·Memᴰ·tail, Option, ℕ, _<_, ℕ-discrete, length}
+use mathlib.Core.Path.{subst}
 use Rattle.laws.specs.Codec.{All}
 use Rattle.laws.proofs.Lists.{all-member, of-members}
 use Rattle.text.specs.declared.utf8.Encoding.the-variants.{Utf8}

@@ -1,12 +1,5 @@
 -- A true revision, as the definitions compute: one letter of a comment is another, and so is the entry from it; the entry from the next comment stays.
-use mathlib.Core.Path.{_≡_, refl}
-use mathlib.Core.Bool.{false}
-use mathlib.Core.Logic.{inl, inr}
-use mathlib.Core.List.{List, [], _∷_, _++_}
-use mathlib.Core.Option.{Option}
-use Prim.Native.Nat.{ℕ}
-use Prim.Native.Char.{code}
-use native.Mathlib.Omega.{arith}
+use Rattle.laws.proofs.Prelude.{_≡_, refl, false, inl, inr, List, [], _∷_, _++_, Option, ℕ, code, arith}
 use Rattle.laws.specs.Decoded.{ok}
 use Rattle.laws.specs.Ascii.{ascii}
 use Rattle.text.specs.Utf8.{admits, lengthBy, charLength, codeBy, charAt, formed}

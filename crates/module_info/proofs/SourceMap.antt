@@ -1,13 +1,5 @@
 -- The source map by ECMA-426: an answer that stands for `sourceMapOf` is right, whatever the bytes.
-use mathlib.Core.Path.{_≡_, refl, sym, _∙_}
-use mathlib.Core.Bool.{true}
-use mathlib.Core.Logic.{_↔_}
-use mathlib.Core.List.{List, []}
-use mathlib.Core.Option.{Option}
-use Prim.Native.Nat.{ℕ, _+_, _-_, _≤_, _<_}
-use native.Mathlib.Omega.{arith}
-use lib.ListN.{length, take, drop}
-use lib.Seq.{drop-drop}
+use Rattle.laws.proofs.Prelude.{_≡_, refl, sym, _∙_, true, _↔_, List, [], Option, ℕ, _+_, _-_, _≤_, _<_, arith, length, take, drop, drop-drop}
 use Rattle.laws.specs.Decoded.{ok, no}
 use Rattle.laws.proofs.Lists.{part-part}
 use Rattle.text.specs.declared.utf8.Encoding.the-variants.{Utf8}

@@ -1,9 +1,5 @@
 -- What the functions write one after the other is the report in pieces, and the pieces are the report.
-use mathlib.Core.Path.{_≡_, sym}
-use mathlib.Core.List.{List, []}
-use mathlib.Core.Option.{Option}
-use Prim.Native.Nat.{ℕ}
-use lib.ListN.{drop}
+use Rattle.laws.proofs.Prelude.{_≡_, sym, List, [], Option, ℕ, drop}
 use Rattle.laws.specs.Decoded.{ok}
 use Rattle.wire.specs.Fields.{encodeFlag}
 use Rattle.wire.specs.Optional.{encodeOptional}

@@ -23,7 +23,8 @@ pub record NumberRight (s : List ℕ) (number : ℕ) : Type 0 where
   -- those at fields, 2 to 7 and 13: at some field, all before which are unbroken, s breaks what 01 asks, and nothing of a lower number
   pub at-field : oneOf atFields number ≡ true → MetAtField s number
   -- all of these but 2 are judged from the front: they stay the answer to every longer sheet that begins with s, up to the limit of 1
-  pub stays : oneOf atFields number ≡ true → (number ≡ refusals.cutOff → ⊥) → (u : List ℕ) → length (s ++ u) ≤ sheetLimit → (size : ℕ) → answerOf (s ++ u) size .number ≡ number
+  pub stays : oneOf atFields number ≡ true → (number ≡ refusals.cutOff → ⊥) → (u : List ℕ) → length (s ++ u) ≤ sheetLimit → (size : ℕ)
+      → answerOf (s ++ u) size .number ≡ number
   -- 8: bytes follow the root node
   pub eight : (number ≡ refusals.trailing) ↔ BytesFollow s
   -- 9: s is the encoding of a sheet within the limits, and a walked call has an uncooked template

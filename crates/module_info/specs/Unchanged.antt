@@ -75,7 +75,8 @@ pub record Unchanged (t u : Sheet) (k : ℕ) : Type 0 where
   -- each whose leading group lacks the comment, or has none, is equal
   pub entry : (v : Visit) → List·Memᴰ v (visits (t .root)) → Lacks k (groupAt (t .groups) Leading (startOf v)) → dependencyOf t v ≡ dependencyOf u v
   -- any other is, but for its types
-  pub but-types : (types : ℕ → Option SpecifierWithRange) (v : Visit) → List·Memᴰ v (visits (t .root)) → entryOf (t .source) types v ≡ entryOf (u .source) types v
+  pub but-types : (types : ℕ → Option SpecifierWithRange) (v : Visit) → List·Memᴰ v (visits (t .root)) → entryOf (t .source) types v
+      ≡ entryOf (u .source) types v
   -- all rows of the notes are equal: where the node of each dependency starts, and how many characters were replaced in its text
   pub rows : numbersOf (noted t) ≡ numbersOf (noted u)
   -- so are the origins of JSDoc entries from other comments, of references and pragmas whose group lacks the comment, and of types at each place whose

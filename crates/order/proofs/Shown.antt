@@ -1,10 +1,5 @@
 -- The line for an answer: written piece by piece, and how long it is.
-use mathlib.Core.Path.{_≡_, sym, ap, _∙_}
-use mathlib.Core.List.{List, [], _∷_, _++_, flatMap}
-use Prim.Native.Nat.{ℕ, _+_, _*_, _-_, _≤_}
-use Prim.Native.Char.{code}
-use native.Mathlib.Omega.{arith}
-use lib.ListN.{length, take, drop, length-append, length-take, length-drop}
+use Rattle.laws.proofs.Prelude.{_≡_, sym, ap, _∙_, List, [], _∷_, _++_, flatMap, ℕ, _+_, _*_, _-_, _≤_, code, arith, length, take, drop, length-append, length-take, length-drop}
 use Rattle.report.specs.Buffer.{Buffer, wrote}
 use Rattle.report.proofs.Buffers.{wrote-append}
 use Rattle.citation.specs.Citation.{escaped}

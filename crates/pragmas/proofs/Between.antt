@@ -1,12 +1,7 @@
 -- The comments of a table from one row to another, row by row, and what a rule answers of them.
-use mathlib.Core.Path.{_≡_, refl, ap}
-use mathlib.Core.List.{List, [], _∷_, _++_, reverse-append, flatMap}
-use mathlib.Core.Option.{Option}
-use Prim.Native.Nat.{ℕ, suc, _+_, _-_, _≤_, _<_}
+use Rattle.laws.proofs.Prelude.{_≡_, refl, ap, List, [], _∷_, _++_, flatMap, Option, ℕ, suc, _+_, _-_, _≤_, _<_, add-one, arith, length}
+use mathlib.Core.List.{reverse-append}
 use native.Mathlib.Nat.{sub-eq-zero-of-le}
-use native.Mathlib.Numerals.{add-one}
-use native.Mathlib.Omega.{arith}
-use lib.ListN.{length}
 use Rattle.sheet.specs.declared.comments.Comment.{Comment}
 use Rattle.sheet.specs.declared.groups.Group.{Group}
 use Rattle.sheet.specs.code.Tables.{rows, commentIn, commentsIn}

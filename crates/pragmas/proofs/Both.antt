@@ -1,8 +1,7 @@
 -- Two rules side by side: what holds of their answers of each comment holds of their first answers, of their last and of all.
-use mathlib.Core.Path.{_≡_, refl, ap}
-use mathlib.Core.Logic.{_⊎_, inl, inr, ⊎-elim}
-use mathlib.Core.List.{List, [], _∷_, reverse, reverseAux, List·Memᴰ, List·Memᴰ·head, List·Memᴰ·tail, List·Memᴰ·not-nil, List·Memᴰ·cases-cons}
-use mathlib.Core.Option.{Option, Option·map}
+use Rattle.laws.proofs.Prelude.{_≡_, refl, ap, _⊎_, inl, inr, ⊎-elim, List, [], _∷_, List·Memᴰ, List·Memᴰ·head, List·Memᴰ·tail, List·Memᴰ·not-nil, List·Memᴰ·cases-cons, Option}
+use mathlib.Core.List.{reverse, reverseAux}
+use mathlib.Core.Option.{Option·map}
 use Rattle.laws.specs.Aligned.{Aligned}
 use Rattle.sheet.specs.declared.comments.Comment.{Comment}
 use Rattle.pragmas.specs.Readings.{orElse, firstOf, lastOf, listed, allOf}

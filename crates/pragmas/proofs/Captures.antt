@@ -1,7 +1,5 @@
 -- Where a capture in the body of a comment stands in the source.
-use mathlib.Core.List.{List}
-use Prim.Native.Nat.{ℕ}
-use native.Mathlib.Omega.{arith}
+use Rattle.laws.proofs.Prelude.{List, ℕ, arith}
 use Rattle.analysis.specs.declared.Capture.{Capture}
 use Rattle.analysis.specs.Place.{placeOf}
 use Rattle.sheet.specs.declared.comments.Comment.{Comment}

@@ -1,9 +1,6 @@
 -- The empty path of `///<reference path='' />` stands at 0:19-0:21, with its marks, and not at 0:20-0:20, between them.
-use mathlib.Core.Path.{_≡_, refl, ap, subst, _∙_}
-use mathlib.Core.Logic.{inr}
-use mathlib.Core.List.{List, [], _∷_}
-use Prim.Native.Nat.{ℕ}
-use native.Mathlib.Omega.{arith}
+use Rattle.laws.proofs.Prelude.{_≡_, refl, ap, _∙_, inr, List, [], _∷_, ℕ, arith}
+use mathlib.Core.Path.{subst}
 use Rattle.laws.specs.Ascii.{ascii}
 use Rattle.text.specs.Position.{step, walk, positionOf}
 use Rattle.sheet.specs.declared.fields.Span.{Span}

@@ -1,9 +1,6 @@
 -- The references and pragmas, each with the rule that gave it and the comment that it was read in.
-use mathlib.Core.Path.{_≡_, refl}
-use mathlib.Core.Logic.{inl, inr}
-use mathlib.Core.List.{List, List·Memᴰ}
-use mathlib.Core.Option.{Option, Option·map}
-use Prim.Native.Nat.{ℕ}
+use Rattle.laws.proofs.Prelude.{_≡_, refl, inl, inr, List, List·Memᴰ, Option, ℕ}
+use mathlib.Core.Option.{Option·map}
 use Rattle.laws.specs.Aligned.{Aligned}
 use Rattle.sheet.specs.declared.comments.Comment.{Comment}
 use Rattle.sheet.specs.declared.groups.Group.{Group}

@@ -1,12 +1,7 @@
 -- Against the rule before request #104, by which the path pattern came first: the two differ exactly in the comments that both patterns read, and there
 -- the answer is the types one.
-use mathlib.Core.Path.{_≡_, refl, sym, ap, _∙_}
-use mathlib.Core.Bool.{Bool, true, false, cond, false≢true}
-use mathlib.Core.Logic.{⊎-elim, _↔_}
-use mathlib.Core.List.{List, [], _∷_, List·Memᴰ, List·Memᴰ·head, List·Memᴰ·tail, List·Memᴰ·cases-cons, List·Memᴰ·not-nil}
-use mathlib.Core.Option.{Option, Option·map}
-use Prim.Native.Nat.{ℕ}
-use native.Mathlib.Omega.{arith}
+use Rattle.laws.proofs.Prelude.{_≡_, refl, sym, ap, _∙_, Bool, true, false, cond, false≢true, ⊎-elim, _↔_, List, [], _∷_, List·Memᴰ, List·Memᴰ·head, List·Memᴰ·tail, List·Memᴰ·cases-cons, List·Memᴰ·not-nil, Option, ℕ, arith}
+use mathlib.Core.Option.{Option·map}
 use Rattle.analysis.specs.Mode.{Mode}
 use Rattle.analysis.specs.Row.{find, isFound}
 use Rattle.analysis.specs.Patterns.{tripleSlashRow}

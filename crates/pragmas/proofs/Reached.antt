@@ -1,8 +1,5 @@
 -- A group that is looked up among groups of n comments is of n comments.
-use mathlib.Core.Path.{_≡_, sym}
-use mathlib.Core.List.{List}
-use mathlib.Core.Option.{Option}
-use Prim.Native.Nat.{ℕ}
+use Rattle.laws.proofs.Prelude.{_≡_, sym, List, Option, ℕ}
 use Rattle.sheet.specs.declared.groups.Group.{Group}
 use Rattle.sheet.specs.Program.{Program}
 use Rattle.sheet.specs.Fit.{Grouped}

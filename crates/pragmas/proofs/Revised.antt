@@ -1,11 +1,6 @@
 -- Comments that are alike in two sources give the same references and pragmas in both, with the same origins.
-use mathlib.Core.Path.{_≡_, refl, ap}
-use mathlib.Core.Bool.{Bool, true, false, cond}
-use mathlib.Core.List.{List, [], _∷_, reverse, getLast?}
-use mathlib.Core.Option.{Option}
-use Prim.Native.Nat.{ℕ}
-use native.Mathlib.Omega.{arith}
-use lib.ListN.{length}
+use Rattle.laws.proofs.Prelude.{_≡_, refl, ap, Bool, true, false, cond, List, [], _∷_, Option, ℕ, arith, length}
+use mathlib.Core.List.{reverse, getLast?}
 use Rattle.laws.specs.Codec.{All}
 use Rattle.laws.proofs.Lists.{all-member, of-members, last-member}
 use Rattle.analysis.specs.declared.Capture.{Capture}

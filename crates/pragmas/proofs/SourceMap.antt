@@ -1,8 +1,5 @@
 -- The source map by ECMA-426: what is answered is exactly the reading of the last comment that reads, and stands in the source at its place.
-use mathlib.Core.Path.{_≡_, refl, sym}
-use mathlib.Core.Bool.{true}
-use mathlib.Core.List.{List}
-use Prim.Native.Nat.{ℕ}
+use Rattle.laws.proofs.Prelude.{_≡_, refl, sym, true, List, ℕ}
 use Rattle.laws.specs.Codec.{IfThere}
 use Rattle.laws.proofs.Lists.{if-there, middle-member}
 use Rattle.text.specs.declared.utf8.Encoding.the-variants.{Utf8}

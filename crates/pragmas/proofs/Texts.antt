@@ -1,14 +1,5 @@
 -- Each reference and pragma stands in the source at its reading's place, in marks or bare, as its rule's row asks.
-use mathlib.Core.Path.{_≡_, refl, sym, _∙_}
-use mathlib.Core.Bool.{Bool, true, false, cond}
-use mathlib.Core.Logic.{inl, inr, ⊎-elim}
-use mathlib.Core.List.{List, [], _∷_, List·Memᴰ, List·Memᴰ·head, List·Memᴰ·tail, List·Memᴰ·not-nil, List·Memᴰ·cases-cons}
-use mathlib.Core.Option.{Option, Option·none-ne-some}
-use Prim.Native.Nat.{ℕ, suc, _+_, _-_, _<_}
-use native.Mathlib.Nat.{add-zero, sub-zero}
-use native.Mathlib.Omega.{arith}
-use lib.ListN.{length, getD, drop}
-use lib.Seq.{drop-drop}
+use Rattle.laws.proofs.Prelude.{_≡_, refl, sym, _∙_, Bool, true, false, cond, inl, inr, ⊎-elim, List, [], _∷_, List·Memᴰ, List·Memᴰ·head, List·Memᴰ·tail, List·Memᴰ·not-nil, List·Memᴰ·cases-cons, Option, Option·none-ne-some, ℕ, suc, _+_, _-_, _<_, add-zero, sub-zero, arith, length, getD, drop, drop-drop}
 use Rattle.laws.specs.Codec.{All, IfThere}
 use Rattle.laws.proofs.Lists.{of-members, if-there, part-part, between-two, front-member, back-member, last-member, middle-member}
 use Rattle.text.specs.declared.utf8.Encoding.the-variants.{Utf8}

@@ -1,11 +1,5 @@
 -- What the rules read in the comments of a well-formed source can be written.
-use mathlib.Core.Bool.{Bool, true, false}
-use mathlib.Core.Logic.{⊎-elim}
-use mathlib.Core.List.{List, [], _∷_}
-use mathlib.Core.Option.{Option}
-use Prim.Native.Nat.{_≤_}
-use native.Mathlib.Omega.{arith}
-use lib.ListN.{length, length-take, length-drop}
+use Rattle.laws.proofs.Prelude.{Bool, true, false, ⊎-elim, List, [], _∷_, Option, _≤_, arith, length, length-take, length-drop}
 use Rattle.laws.specs.Codec.{All}
 use Rattle.text.specs.declared.utf8.Encoding.the-variants.{Utf8}
 use Rattle.text.specs.WellFormed.{WellFormed}

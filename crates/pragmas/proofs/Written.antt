@@ -1,8 +1,5 @@
 -- The origins of the head group, written part by part.
-use mathlib.Core.Path.{_≡_, _∙_}
-use mathlib.Core.List.{List, append-nil, flatMap}
-use mathlib.Core.Option.{Option}
-use Prim.Native.Nat.{ℕ}
+use Rattle.laws.proofs.Prelude.{_≡_, _∙_, List, append-nil, flatMap, Option, ℕ}
 use Rattle.laws.proofs.Lists.{flatMap-append}
 use Rattle.sheet.specs.declared.comments.Comment.{Comment}
 use Rattle.sheet.specs.declared.names.MediaType.{MediaType}

@@ -12,7 +12,8 @@ use Rattle.sheet.specs.Lookups.{groupAt}
 use Rattle.report.specs.ModuleInfo.{SpecifierWithRange, TypeScriptReference, path, types}
 use Rattle.report.specs.declared.origins.EntryRule.{EntryRule}
 use Rattle.report.specs.Origin.{Origin}
-use Rattle.pragmas.specs.Asks.{Asks, pathRule, typesRule, selfTypesRule, jsxImportSourceRule, jsxImportSourceTypesRule, sourceMapUrlRule, tsTypesRule, denoTypesRule}
+use Rattle.pragmas.specs.Asks.{Asks, pathRule, typesRule, selfTypesRule, jsxImportSourceRule, jsxImportSourceTypesRule, sourceMapUrlRule}
+use Rattle.pragmas.specs.Asks.{tsTypesRule, denoTypesRule}
 use Rattle.pragmas.specs.Readings.{readBy, orElse, firstOf, lastOf, allOf, optional}
 use Rattle.pragmas.specs.Pragmas.{reference, givenTo, lastIn}
 use Rattle.pragmas.specs.Present.{Reader, byRule, byPath, byTypes}

@@ -16,7 +16,8 @@ use Rattle.sheet.specs.Sheet.{Sheet}
 use Rattle.sheet.specs.declared.names.MediaType.{MediaType}
 use Rattle.sheet.specs.declared.names.Side.the-variants.{Leading}
 use Rattle.report.specs.ModuleInfo.{SpecifierWithRange, TypeScriptReference, path, types}
-use Rattle.pragmas.specs.Asks.{Asks, pathRule, typesRule, selfTypesRule, jsxImportSourceRule, jsxImportSourceTypesRule, sourceMapUrlRule, tsTypesRule, denoTypesRule}
+use Rattle.pragmas.specs.Asks.{Asks, pathRule, typesRule, selfTypesRule, jsxImportSourceRule, jsxImportSourceTypesRule, sourceMapUrlRule}
+use Rattle.pragmas.specs.Asks.{tsTypesRule, denoTypesRule}
 use Rattle.pragmas.specs.Readings.{readBy, orElse, firstOf, lastOf, allOf}
 
 -- the comments of a group, none if there is no such group

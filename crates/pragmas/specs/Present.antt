@@ -18,7 +18,8 @@ use Rattle.sheet.specs.Sheet.{Sheet}
 use Rattle.sheet.specs.declared.names.Side.the-variants.{Leading}
 use Rattle.report.specs.ModuleInfo.{SpecifierWithRange, TypeScriptReference, path, types, ModuleInfo}
 use Rattle.report.specs.Range.{rangeOf}
-use Rattle.pragmas.specs.Asks.{Asks, pathRule, typesRule, selfTypesRule, jsxImportSourceRule, jsxImportSourceTypesRule, sourceMapUrlRule, tsTypesRule, denoTypesRule}
+use Rattle.pragmas.specs.Asks.{Asks, pathRule, typesRule, selfTypesRule, jsxImportSourceRule, jsxImportSourceTypesRule, sourceMapUrlRule}
+use Rattle.pragmas.specs.Asks.{tsTypesRule, denoTypesRule}
 use Rattle.pragmas.specs.Readings.{placeIn}
 use Rattle.pragmas.specs.Pragmas.{headComments, endComments, givenTo, lastIn}
 

@@ -7,7 +7,8 @@ use Prim.Native.Nat.{ℕ}
 use Rattle.laws.specs.Codec.{All, IfThere}
 use Rattle.analysis.specs.declared.Capture.{Capture}
 use Rattle.analysis.specs.Row.{Row}
-use Rattle.analysis.specs.Patterns.{pathRow, typesRow, jsxImportSourceRow, jsxImportSourceTypesRow, sourceMappingUrlRow, tsSelfTypesRow, tsTypesRow, denoTypesRow}
+use Rattle.analysis.specs.Patterns.{pathRow, typesRow, jsxImportSourceRow, jsxImportSourceTypesRow, sourceMappingUrlRow, tsSelfTypesRow, tsTypesRow}
+use Rattle.analysis.specs.Patterns.{denoTypesRow}
 use Rattle.sheet.specs.declared.comments.Comment.{Comment}
 use Rattle.sheet.specs.Sheet.{Sheet}
 use Rattle.report.specs.ModuleInfo.{SpecifierWithRange, TypeScriptReference, path, types, DependencyDescriptor, static, dynamic, ModuleInfo}

@@ -31,7 +31,8 @@ ghost use Rattle.pragmas.specs.Readings.{readBy, firstOf, lastOf};
 ghost use Rattle.pragmas.specs.Pragmas.{inGroup, givenTo, tsOrDenoTypes, typesIn};
 ghost use Rattle.pragmas.specs.code.Views.{asked, readRule, readAs, ReadIn};
 
-// Self types and the two JSX sources: the first comment that the rule reads, in the media that it asks for.
+// `analyze_ts_self_types`, `analyze_jsx_import_source` and `analyze_jsx_import_source_types`, by the rule: the first comment that it reads, in the
+// media that it asks for.
 pub fn analyze_first(
     rule: Rule,
     media: MediaType,

@@ -1,14 +1,5 @@
 -- A buffer beside a report with zeros behind it: from one place to the next; and what an outcome's answer holds.
-use mathlib.Core.Path.{_≡_, refl, _∙_}
-use mathlib.Core.Bool.{Bool, true, false, _&&_, and-eq-true-iff}
-use mathlib.Core.List.{List, [], _∷_, _++_}
-use Prim.Native.Nat.{ℕ, zero, suc, _+_, _-_, _≤_, _<_}
-use native.Mathlib.Omega.{arith}
-use native.Mathlib.Numerals.{add-one}
-use lib.Dec.{eqb, leb}
-use lib.ListN.{length, getD, drop, drop-of-length-le, length-append, length-replicate}
-use lib.Seq.{drop-cons}
-use borrow.Author.Tests.{leb-true, leb-false, eq-eqb, ne-eqb, eqb-true}
+use Rattle.laws.proofs.Prelude.{_≡_, refl, _∙_, Bool, true, false, _&&_, and-eq-true-iff, List, [], _∷_, _++_, ℕ, zero, suc, _+_, _-_, _≤_, _<_, arith, add-one, eqb, leb, length, getD, drop, drop-of-length-le, length-append, length-replicate, drop-cons, leb-true, leb-false, eq-eqb, ne-eqb, eqb-true}
 use Rattle.text.specs.Bytes.{same}
 use Rattle.text.proofs.Words.{same-sound, same-refl, other-length}
 use Rattle.report.specs.declared.writer.Outcome.{Outcome}

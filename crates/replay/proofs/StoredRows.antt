@@ -1,10 +1,5 @@
 -- Rows of the list at a place of it, and the counts of those that are left.
-use mathlib.Core.Path.{_≡_, refl, ap, _∙_}
-use mathlib.Core.List.{List, [], _∷_}
-use Prim.Native.Nat.{ℕ, zero, suc, _+_, _-_, _*_, _≤_, _<_}
-use native.Mathlib.Omega.{arith}
-use lib.ListN.{length, getD, drop, drop-of-length-le}
-use lib.Seq.{drop-cons}
+use Rattle.laws.proofs.Prelude.{_≡_, refl, ap, _∙_, List, [], _∷_, ℕ, zero, suc, _+_, _-_, _*_, _≤_, _<_, arith, length, getD, drop, drop-of-length-le, drop-cons}
 use Rattle.laws.specs.Decoded.{Decoded, ok, no, onOk, andThen, return}
 use Rattle.laws.proofs.Decoding.{onOk-ok, onOk-no}
 use Rattle.wire.specs.Fields.{byte}

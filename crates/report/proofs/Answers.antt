@@ -1,14 +1,7 @@
 -- The end of a report: what is cleared behind it, and the answer for the bytes that were written.
-use mathlib.Core.Path.{_≡_, refl}
-use mathlib.Core.Bool.{Bool, true, false}
-use mathlib.Core.List.{List, [], append-nil}
-use Prim.Native.Nat.{ℕ, suc, _+_, _-_, _≤_, _<_}
-use native.Mathlib.Nat.{zero-add, sub-eq-zero-of-le}
-use native.Mathlib.Numerals.{add-one}
-use native.Mathlib.Omega.{arith}
-use lib.Dec.{leb}
-use lib.ListN.{length, take, set, length-set}
-use lib.Seq.{length-take-le, take-all, take-suc-set, append-snoc}
+use Rattle.laws.proofs.Prelude.{_≡_, refl, Bool, true, false, List, [], append-nil, ℕ, suc, _+_, _-_, _≤_, _<_, zero-add, add-one, arith, leb, length, take, set, length-set, length-take-le, take-all}
+use native.Mathlib.Nat.{sub-eq-zero-of-le}
+use lib.Seq.{take-suc-set, append-snoc}
 use Rattle.report.specs.Buffer.{Buffer, holds, wrote}
 use Rattle.report.specs.Answer.{clearedFrom, accepted, fitted, answered}
 

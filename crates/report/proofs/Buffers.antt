@@ -1,15 +1,7 @@
 -- Writing into a buffer part by part: a byte has room or not, parts one after the other are written as one, and no byte changes nothing.
-use mathlib.Core.Path.{_≡_, refl}
-use mathlib.Core.Bool.{Bool, true, false, cond}
-use mathlib.Core.List.{List, [], _∷_, _++_, append-assoc, append-nil}
-use Prim.Native.Nat.{ℕ, _+_, _≤_, _<_}
+use Rattle.laws.proofs.Prelude.{_≡_, refl, Bool, true, false, cond, List, [], _∷_, _++_, append-assoc, append-nil, ℕ, _+_, _≤_, _<_, add-one, arith, eqb, leb, length, take, set, length-append, length-take, length-set, length-take-le, take-all, leb-false, le-leb, lt-leb, ne-eqb}
 use native.Mathlib.Nat.{add-assoc}
-use native.Mathlib.Numerals.{add-one}
-use native.Mathlib.Omega.{arith}
-use lib.Dec.{eqb, leb}
-use lib.ListN.{length, take, set, length-append, length-take, length-set}
-use lib.Seq.{length-take-le, take-all, take-suc-set}
-use borrow.Author.Tests.{leb-false, le-leb, lt-leb, ne-eqb}
+use lib.Seq.{take-suc-set}
 use Rattle.report.specs.declared.writer.Pen.{Pen}
 use Rattle.report.specs.Buffer.{Buffer, holds, full, wrote, fullPlace, bufferAs}
 

@@ -1,9 +1,5 @@
 -- Reports byte by byte, as document 01 states them: what the definitions encode and decode.
-use mathlib.Core.Path.{_≡_, refl}
-use mathlib.Core.Bool.{true, false}
-use mathlib.Core.List.{List, [], _∷_, map, flatMap}
-use mathlib.Core.Option.{Option}
-use Prim.Native.Nat.{ℕ}
+use Rattle.laws.proofs.Prelude.{_≡_, refl, true, false, List, [], _∷_, map, flatMap, Option, ℕ}
 use Rattle.laws.specs.Decoded.{ok}
 use Rattle.laws.specs.Ascii.{ascii}
 use Rattle.wire.specs.Fields.{byte, below, numbered, flag, bytes}

@@ -1,5 +1,5 @@
 -- Each kind of a dependency has its own number.
-use mathlib.Core.Path.{_≡_, refl}
+use Rattle.laws.proofs.Prelude.{_≡_, refl}
 use Rattle.wire.specs.Fields.{valueOf}
 use Rattle.wire.proofs.Numbered.{Numbers, numbers}
 use Rattle.report.specs.declared.names.StaticDependencyKind.the-variants as statics

@@ -1,5 +1,5 @@
 -- Each mode has its own number.
-use mathlib.Core.Path.{_≡_, refl}
+use Rattle.laws.proofs.Prelude.{_≡_, refl}
 use mathlib.Core.Option.{none, some}
 use Rattle.wire.specs.Fields.{valueOf}
 use Rattle.wire.proofs.Numbered.{Numbers, numbers}

@@ -1,9 +1,5 @@
 -- The groups of a number one after the other, with so many left.
-use mathlib.Core.Path.{_≡_, refl}
-use mathlib.Core.List.{[], _∷_}
-use Prim.Native.Nat.{ℕ, zero, suc, _+_, _-_, _/_, _%_, _≤_, _<_}
-use native.Mathlib.Omega.{arith}
-use borrow.Author.Tests.{lt-ltb, le-ltb}
+use Rattle.laws.proofs.Prelude.{_≡_, refl, [], _∷_, ℕ, zero, suc, _+_, _-_, _/_, _%_, _≤_, _<_, arith, lt-ltb, le-ltb}
 use Rattle.wire.specs.Number.{encodeGroups}
 
 module _ (n : ℕ) where

@@ -1,11 +1,7 @@
 -- The ranges of a source's spans can be written.
-use mathlib.Core.Path.{_≡_, refl, sym, _∙_}
-use mathlib.Core.List.{List}
-use Prim.Native.Nat.{ℕ, _≤_}
-use native.Mathlib.Omega.{arith}
+use Rattle.laws.proofs.Prelude.{_≡_, refl, sym, _∙_, List, ℕ, _≤_, arith, length, take, take-all}
 use native.Mathlib.Decide.{decLe}
-use lib.ListN.{length, take}
-use lib.Seq.{take-all, take-length}
+use lib.Seq.{take-length}
 use Rattle.text.specs.Position.{characters, positionOf}
 use Rattle.text.proofs.Positions.{bounded}
 use Rattle.wire.specs.Number.{largest}

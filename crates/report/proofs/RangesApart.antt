@@ -1,8 +1,5 @@
 -- No two places of a source have one range.
-use mathlib.Core.Path.{_≡_, sym, ap, _∙_}
-use mathlib.Core.List.{List}
-use Prim.Native.Nat.{ℕ}
-use native.Mathlib.Omega.{arith}
+use Rattle.laws.proofs.Prelude.{_≡_, sym, ap, _∙_, List, ℕ, arith}
 use Rattle.text.specs.Position.{Boundary}
 use Rattle.text.proofs.PositionsApart.{one-place}
 use Rattle.sheet.specs.declared.fields.Span.{Span}

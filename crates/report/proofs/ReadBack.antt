@@ -1,10 +1,5 @@
 -- A valid module's information is read back from its report, so that no two have one report.
-use mathlib.Core.Path.{_≡_, refl}
-use mathlib.Core.Bool.{true, false}
-use mathlib.Core.List.{List, [], _∷_, _++_, append-assoc, flatMap}
-use mathlib.Core.Option.{Option}
-use Prim.Native.Nat.{ℕ}
-use lib.ListN.{length}
+use Rattle.laws.proofs.Prelude.{_≡_, refl, true, false, List, [], _∷_, _++_, append-assoc, flatMap, Option, ℕ, length}
 use Rattle.laws.specs.Decoded.{ok, Decoder}
 use Rattle.laws.specs.Codec.{IfThere, All}
 use Rattle.wire.specs.Fields.{byte}

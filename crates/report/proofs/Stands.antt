@@ -1,14 +1,6 @@
 -- A specifier that stands in a well-formed source can be written, and its text is well-formed.
-use mathlib.Core.Path.{_≡_, refl, ap, _∙_}
-use mathlib.Core.Bool.{Bool, true, false}
-use mathlib.Core.Logic.{⊎-elim}
-use mathlib.Core.List.{List, [], _∷_}
-use Prim.Native.Nat.{ℕ, suc, _+_, _-_, _≤_, _<_}
-use native.Mathlib.Omega.{arith}
-use lib.Dec.{ltb}
-use lib.ListN.{length, getD, length-append, length-take, length-drop}
-use lib.Seq.{getD-at, take-append-seam}
-use borrow.Author.Tests.{ltb-true, ltb-false}
+use Rattle.laws.proofs.Prelude.{_≡_, refl, ap, _∙_, Bool, true, false, ⊎-elim, List, [], _∷_, ℕ, suc, _+_, _-_, _≤_, _<_, arith, ltb, length, getD, length-append, length-take, length-drop, take-append-seam, ltb-true, ltb-false}
+use lib.Seq.{getD-at}
 use Rattle.text.specs.declared.utf8.Encoding.the-variants.{Utf8}
 use Rattle.text.specs.Bytes.{Mark, part}
 use Rattle.text.specs.Utf8.{formed}

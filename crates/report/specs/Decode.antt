@@ -14,7 +14,9 @@ use Rattle.analysis.specs.Mode.{TypeScriptTypesResolutionMode, Mode}
 use Rattle.report.specs.declared.names.DependencyKind.{DependencyKind}
 use Rattle.report.specs.declared.names.DependencyKind.the-variants.{Static, Dynamic}
 use Rattle.report.specs.Names.{dependencyKinds}
-use Rattle.report.specs.ModuleInfo.{PositionRange, SpecifierWithRange, TypeScriptReference, path, types, JsDocImportInfo, KeyValue, ImportAttributes, none, unknown, known, DynamicArgument, expr, string, template, DependencyDescriptor, static, dynamic, ModuleInfo}
+use Rattle.report.specs.ModuleInfo.{PositionRange, SpecifierWithRange, TypeScriptReference, path, types, JsDocImportInfo, KeyValue}
+use Rattle.report.specs.ModuleInfo.{ImportAttributes, none, unknown, known, DynamicArgument, expr, string, template, DependencyDescriptor}
+use Rattle.report.specs.ModuleInfo.{static, dynamic, ModuleInfo}
 
 unfoldable pub times : {A : Type 0} → Decoder A → ℕ → Decoder (List A)
 times f zero = return []

@@ -9,7 +9,9 @@ use Rattle.wire.specs.Text.{encodeText}
 use Rattle.wire.specs.Optional.{encodeOptional}
 use Rattle.analysis.specs.Mode.{modeNumber}
 use Rattle.report.specs.Names.{staticNumber, dynamicNumber}
-use Rattle.report.specs.ModuleInfo.{PositionRange, SpecifierWithRange, TypeScriptReference, path, types, JsDocImportInfo, KeyValue, ImportAttributes, none, unknown, known, DynamicArgument, expr, string, template, StaticDependencyDescriptor, DynamicDependencyDescriptor, DependencyDescriptor, static, dynamic, ModuleInfo}
+use Rattle.report.specs.ModuleInfo.{PositionRange, SpecifierWithRange, TypeScriptReference, path, types, JsDocImportInfo, KeyValue}
+use Rattle.report.specs.ModuleInfo.{ImportAttributes, none, unknown, known, DynamicArgument, expr, string, template, StaticDependencyDescriptor}
+use Rattle.report.specs.ModuleInfo.{DynamicDependencyDescriptor, DependencyDescriptor, static, dynamic, ModuleInfo}
 
 -- a count, then each
 unfoldable pub encodeList : {A : Type 0} → (A → List ℕ) → List A → List ℕ

@@ -3,7 +3,8 @@ use mathlib.Core.List.{List, _∷_}
 use Prim.Native.Nat.{ℕ}
 use Rattle.wire.specs.Number.{encodeNumber}
 use Rattle.report.specs.declared.origins.EntryRule.{EntryRule}
-use Rattle.report.specs.declared.origins.EntryRule.the-variants.{Path, Types, SelfTypes, JsxImportSource, JsxImportSourceTypes, Brace, Declaration, SourceMap, TsTypes, DenoTypes}
+use Rattle.report.specs.declared.origins.EntryRule.the-variants.{Path, Types, SelfTypes, JsxImportSource, JsxImportSourceTypes, Brace}
+use Rattle.report.specs.declared.origins.EntryRule.the-variants.{Declaration, SourceMap, TsTypes, DenoTypes}
 
 -- the number of each rule
 abbrev pub ruleNumber : EntryRule → ℕ

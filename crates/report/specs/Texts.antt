@@ -5,7 +5,8 @@ use Rattle.laws.specs.Codec.{All, IfThere}
 use Rattle.text.specs.declared.utf8.Encoding.the-variants.{Utf8, Wtf8}
 use Rattle.text.specs.WellFormed.{TextOf}
 use Rattle.text.specs.Lossy.{reported}
-use Rattle.report.specs.ModuleInfo.{SpecifierWithRange, TypeScriptReference, path, types, JsDocImportInfo, KeyValue, ImportAttributes, none, unknown, known, DynamicArgument, expr, string, template, DependencyDescriptor, static, dynamic, ModuleInfo}
+use Rattle.report.specs.ModuleInfo.{SpecifierWithRange, TypeScriptReference, path, types, JsDocImportInfo, KeyValue, ImportAttributes, none}
+use Rattle.report.specs.ModuleInfo.{unknown, known, DynamicArgument, expr, string, template, DependencyDescriptor, static, dynamic, ModuleInfo}
 
 -- y is what is reported of the text x of WTF-8: its code points, with U+FFFD for each surrogate, in UTF-8
 pub record Reports (x y : List ℕ) : Type 0 where

@@ -5,7 +5,9 @@ use lib.ListN.{length}
 use Rattle.laws.specs.Codec.{All, IfThere}
 use Rattle.text.specs.declared.position.Position.{Position}
 use Rattle.wire.specs.Number.{largest}
-use Rattle.report.specs.ModuleInfo.{PositionRange, SpecifierWithRange, TypeScriptReference, path, types, JsDocImportInfo, KeyValue, ImportAttributes, none, unknown, known, DynamicArgument, expr, string, template, StaticDependencyDescriptor, DynamicDependencyDescriptor, DependencyDescriptor, static, dynamic, ModuleInfo}
+use Rattle.report.specs.ModuleInfo.{PositionRange, SpecifierWithRange, TypeScriptReference, path, types, JsDocImportInfo, KeyValue}
+use Rattle.report.specs.ModuleInfo.{ImportAttributes, none, unknown, known, DynamicArgument, expr, string, template, StaticDependencyDescriptor}
+use Rattle.report.specs.ModuleInfo.{DynamicDependencyDescriptor, DependencyDescriptor, static, dynamic, ModuleInfo}
 
 -- the length can be written
 abbrev pub Short : {A : Type 0} → List A → Type 0

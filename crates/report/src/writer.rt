@@ -210,7 +210,8 @@ impl Pen {
         requires { ⌜ IndexOf (now source) (now index) × InSource (now source) span ⌝ }
         ensures { λ r. ⌜ Replacing
             (bufferAs (now (out .exit)) (r .place)
-            ≡ wrote (bufferAs (now (out .entry)) self) (encodeSpecifier (record { text = lossy (now (text .entry)); range = rangeOf (now (source .entry)) span })))
+            ≡ wrote (bufferAs (now (out .entry)) self) (encodeSpecifier
+            (record { text = lossy (now (text .entry)); range = rangeOf (now (source .entry)) span })))
             (r .replaced ≡ replaced (now (text .entry))) ⌝ }
     {
         let written = self.put_lossy_text(out, text);

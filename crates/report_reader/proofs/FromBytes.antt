@@ -1,14 +1,6 @@
 -- What a report's fields read as, from the bytes that stand for them.
-use mathlib.Core.Path.{_≡_, refl, sym, ap, _∙_}
-use mathlib.Core.Bool.{Bool, true, false}
-use mathlib.Core.List.{List, _∷_, _++_, append-assoc}
-use mathlib.Core.Option.{Option}
-use Prim.Native.Nat.{ℕ, _+_, _-_, _≤_, _<_}
+use Rattle.laws.proofs.Prelude.{_≡_, refl, sym, ap, _∙_, Bool, true, false, List, _∷_, _++_, append-assoc, Option, ℕ, _+_, _-_, _≤_, _<_, arith, length, drop, length-append, length-drop, drop-drop, take-append-seam, drop-append-seam, lt-ltb}
 use native.Mathlib.Nat.{add-sub-cancel-left}
-use native.Mathlib.Omega.{arith}
-use lib.ListN.{length, drop, length-append, length-drop}
-use lib.Seq.{drop-drop, take-append-seam, drop-append-seam}
-use borrow.Author.Tests.{lt-ltb}
 use Rattle.laws.specs.Decoded.{ok, no}
 use Rattle.laws.proofs.Decoding.{refused}
 use Rattle.text.specs.Bytes.{part}

@@ -1,7 +1,5 @@
 -- The kind of a dependency, read by its number.
-use mathlib.Core.Path.{_≡_, ap, _∙_}
-use Prim.Native.Nat.{ℕ, _<_}
-use native.Mathlib.Omega.{arith}
+use Rattle.laws.proofs.Prelude.{_≡_, ap, _∙_, ℕ, _<_, arith}
 use Rattle.wire.specs.Fields.{valueOf}
 use Rattle.report.specs.declared.names.StaticDependencyKind.{StaticDependencyKind}
 use Rattle.report.specs.declared.names.DynamicDependencyKind.{DynamicDependencyKind}

@@ -1,9 +1,5 @@
 -- Items of a list, read one after the other.
-use mathlib.Core.Path.{_≡_, refl, _∙_}
-use mathlib.Core.List.{List, [], _∷_, _++_, append-assoc, flatMap}
-use Prim.Native.Nat.{ℕ, _-_, _≤_, _<_}
-use native.Mathlib.Omega.{arith}
-use lib.ListN.{length, drop}
+use Rattle.laws.proofs.Prelude.{_≡_, refl, _∙_, List, [], _∷_, _++_, append-assoc, flatMap, ℕ, _-_, _≤_, _<_, arith, length, drop}
 use Rattle.laws.specs.Codec.{All}
 
 module _ {A : Type 0} (encode : A → List ℕ) (Valid : A → Type 0) (s t : List ℕ) where

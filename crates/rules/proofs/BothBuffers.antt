@@ -1,14 +1,5 @@
 -- What is answered of both buffers, the report's and that of the rules, is as demanded.
-use mathlib.Core.Path.{_≡_, refl, sym, ap, _∙_}
-use mathlib.Core.Bool.{Bool, true, false, cond}
-use mathlib.Core.Logic.{_↔_}
-use mathlib.Core.List.{List, [], _++_}
-use Prim.Native.Nat.{ℕ, _≤_, _<_}
-use native.Mathlib.Nat.{zero-add}
-use native.Mathlib.Omega.{arith}
-use lib.Dec.{eqb, leb}
-use lib.ListN.{length, take}
-use borrow.Author.Tests.{leb-true, leb-false, le-leb, lt-leb}
+use Rattle.laws.proofs.Prelude.{_≡_, refl, sym, ap, _∙_, Bool, true, false, cond, _↔_, List, [], _++_, ℕ, _≤_, _<_, zero-add, arith, eqb, leb, length, take, leb-true, leb-false, le-leb, lt-leb}
 use Rattle.laws.specs.Decoded.{ok, no}
 use Rattle.laws.proofs.Decoding.{refused}
 use Rattle.text.specs.declared.utf8.Encoding.the-variants.{Utf8}

@@ -1,14 +1,6 @@
 -- Origins and entries stand one to one, and how the origins are written.
-use mathlib.Core.Path.{_≡_, sym, ap, _∙_}
-use mathlib.Core.Bool.{true}
-use mathlib.Core.Option.{Option}
-use mathlib.Core.List.{List, [], _∷_, map, flatMap}
-use Prim.Native.Nat.{ℕ, zero, suc, _+_, _-_, _*_, _≤_, _<_}
-use native.Mathlib.Nat.{zero-add}
-use native.Mathlib.Omega.{arith}
-use native.Mathlib.Numerals.{add-one}
-use lib.ListN.{length, drop, getD, drop-of-length-le, length-map}
-use lib.Seq.{drop-cons}
+use Rattle.laws.proofs.Prelude.{_≡_, sym, ap, _∙_, true, Option, List, [], _∷_, map, flatMap, ℕ, zero, suc, _+_, _-_, _*_, _≤_, _<_, zero-add, arith, add-one, length, drop, getD, drop-of-length-le, drop-cons}
+use lib.ListN.{length-map}
 use Rattle.laws.specs.Aligned.{Aligned}
 use Rattle.laws.specs.Codec.{All}
 use Rattle.laws.specs.Decoded.{ok}

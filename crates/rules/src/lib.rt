@@ -65,7 +65,8 @@ fn put_types_rules(
     ensures { λ r. ⌜ bufferAs (now (out .exit)) r
         ≡ wrote (bufferAs (now (out .entry)) place)
         (flatMap encodeOrigin (flatMap
-        (typesOrigins (now (source .entry)) (commentsIn (commentsPart (now (tables .entry))) (parts .comments)) (groupsIn (groupsPart (now (tables .entry))) (parts .groups)))
+        (typesOrigins (now (source .entry)) (commentsIn (commentsPart (now (tables .entry))) (parts .comments))
+        (groupsIn (groupsPart (now (tables .entry))) (parts .groups)))
         (startsFrom (now (notes .entry)) 0 (parts .entries)))) ⌝ }
 {
     let comments = &tables[0..GROUPS_START];

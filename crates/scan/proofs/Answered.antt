@@ -1,12 +1,7 @@
 -- What a body is answered: its scan sum within the bound, or none.
-use mathlib.Core.Path.{_≡_, refl, sym}
-use mathlib.Core.Bool.{Bool, true, false, cond, _&&_, and-false}
-use mathlib.Core.List.{List}
-use mathlib.Core.Option.{Option, Option·some-injective, Option·none-ne-some}
-use Prim.Native.Nat.{ℕ, _*_, _≤_, _<_}
-use lib.Dec.{leb}
-use lib.ListN.{length}
-use borrow.Author.Tests.{le-leb, lt-leb, leb-true}
+use Rattle.laws.proofs.Prelude.{_≡_, refl, sym, Bool, true, false, cond, _&&_, List, Option, Option·none-ne-some, ℕ, _*_, _≤_, _<_, leb, length, le-leb, lt-leb, leb-true}
+use mathlib.Core.Bool.{and-false}
+use mathlib.Core.Option.{Option·some-injective}
 use Rattle.scan.specs.declared.ScanSum.the-variants as sum
 use Rattle.scan.specs.Scan.{scanSum, starOpened, longest, scanned}
 use Rattle.scan.specs.Answers.{Counted}

@@ -1,14 +1,7 @@
 -- The scan sum of n bytes is at most n(n − 1), halved; of a star-opened body at most (n − 1)(n − 2), halved, which a star and braces reach.
-use mathlib.Core.Path.{_≡_, refl, ap, _∙_}
-use mathlib.Core.Bool.{Bool, true, false, cond, false≢true, and-eq-true-iff}
-use mathlib.Core.List.{List, [], _∷_}
-use Prim.Native.Nat.{ℕ, zero, suc, _+_, _-_, _*_, _≤_}
-use Prim.Native.Char.{code}
-use native.Mathlib.Omega.{arith}
+use Rattle.laws.proofs.Prelude.{_≡_, refl, ap, _∙_, Bool, true, false, cond, false≢true, and-eq-true-iff, List, [], _∷_, ℕ, zero, suc, _+_, _-_, _*_, _≤_, code, arith, eqb, length, replicate, length-replicate, eqb-true}
 use native.Mathlib.Nat.{mul-suc, suc-mul, mul-le-mul}
-use lib.Dec.{eqb}
-use lib.ListN.{length, replicate, length-replicate}
-use borrow.Author.Tests.{eqb-true, eqb-false}
+use borrow.Author.Tests.{eqb-false}
 use Rattle.text.specs.Bytes.{begins}
 use Rattle.scan.specs.Scan.{scanLength, scanSum, starOpened, longest}
 use Rattle.scan.specs.Dearest.{starAndBraces, Dearest}

@@ -1,8 +1,5 @@
 -- Worked bodies and their answers.
-use mathlib.Core.Path.{_≡_, refl}
-use mathlib.Core.List.{List, [], _∷_, map}
-use mathlib.Core.Option.{Option}
-use Prim.Native.Nat.{ℕ}
+use Rattle.laws.proofs.Prelude.{_≡_, refl, List, [], _∷_, map, Option, ℕ}
 use Prim.Native.String.{String}
 use Rattle.laws.specs.Ascii.{ascii}
 use Rattle.text.specs.Bytes.{begins}

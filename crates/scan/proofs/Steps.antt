@@ -1,15 +1,6 @@
 -- Scan length and scan sum from one byte on, by those from the next byte on.
-use mathlib.Core.Path.{_≡_, refl, sym}
-use mathlib.Core.Bool.{true, false}
-use mathlib.Core.List.{List, [], _∷_}
-use Prim.Native.Nat.{ℕ, suc, _+_, _-_, _≤_, _<_}
-use Prim.Native.Char.{code}
-use native.Mathlib.Omega.{arith}
-use native.Mathlib.Nat.{zero-add, add-comm, zero-min, min-zero, suc-min-suc}
-use native.Mathlib.Numerals.{add-one}
-use lib.ListN.{length, getD, drop}
-use lib.Seq.{drop-cons}
-use borrow.Author.Tests.{eq-eqb, ne-eqb}
+use Rattle.laws.proofs.Prelude.{_≡_, refl, sym, true, false, List, [], _∷_, ℕ, suc, _+_, _-_, _≤_, _<_, code, arith, zero-add, add-one, length, getD, drop, drop-cons, eq-eqb, ne-eqb}
+use native.Mathlib.Nat.{add-comm, zero-min, min-zero, suc-min-suc}
 use Rattle.laws.specs.Ascii.{ascii}
 use Rattle.text.specs.Bytes.{begins}
 use Rattle.scan.specs.Scan.{upTo, scanLength, scanSum}

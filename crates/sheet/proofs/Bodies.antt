@@ -1,14 +1,7 @@
 -- The body of a comment lies within the comment. In a well-formed source it is well-formed, and its boundaries are boundaries of the source.
-use mathlib.Core.Path.{_≡_, refl, sym, ap, _∙_}
-use mathlib.Core.Bool.{Bool, true, false}
-use mathlib.Core.List.{List, [], _∷_, _++_, append-assoc}
-use Prim.Native.Nat.{ℕ, _+_, _-_, _≤_, _<_}
-use native.Mathlib.Nat.{sub-zero}
-use native.Mathlib.Omega.{arith}
-use lib.Dec.{ltb}
-use lib.ListN.{length, getD, take, drop, length-append, length-take, length-drop, take-append-drop, List·getD-append}
-use lib.Seq.{getD-take, getD-drop, getD-at, drop-drop, drop-append-le}
-use borrow.Author.Tests.{ltb-true, ltb-false}
+use Rattle.laws.proofs.Prelude.{_≡_, refl, sym, ap, _∙_, Bool, true, false, List, [], _∷_, _++_, append-assoc, ℕ, _+_, _-_, _≤_, _<_, sub-zero, arith, ltb, length, getD, take, drop, length-append, length-take, length-drop, getD-drop, drop-drop, ltb-true, ltb-false}
+use lib.ListN.{take-append-drop, List·getD-append}
+use lib.Seq.{getD-take, getD-at, drop-append-le}
 use Rattle.text.specs.declared.utf8.Encoding.the-variants.{Utf8}
 use Rattle.text.specs.Bytes.{part}
 use Rattle.text.specs.Utf8.{formed}

@@ -1,10 +1,5 @@
 -- Items one after the other, each judged by what the one before leaves.
-use mathlib.Core.Path.{_≡_, refl, ap}
-use mathlib.Core.List.{List, [], _∷_, flatMap}
-use Prim.Native.Nat.{ℕ, zero, suc, _<_, suc-le-suc, zero-le}
-use native.Mathlib.Nat.{not-suc-le-zero, le-of-suc-le-suc}
-use native.Mathlib.Omega.{arith}
-use lib.ListN.{length, getD}
+use Rattle.laws.proofs.Prelude.{_≡_, refl, ap, List, [], _∷_, flatMap, ℕ, zero, suc, _<_, suc-le-suc, zero-le, not-suc-le-zero, le-of-suc-le-suc, arith, length, getD}
 use Rattle.laws.specs.Decoded.{Decoder}
 use Rattle.laws.specs.Codec.{Codec}
 use Rattle.laws.proofs.Codecs.{built-return, built-map, built-then, codec-of}

@@ -1,7 +1,5 @@
 -- Comments and groups that are refused, and where, as the definitions compute.
-use mathlib.Core.Path.{_≡_, refl}
-use mathlib.Core.List.{List, [], _∷_, _++_, map}
-use Prim.Native.Nat.{ℕ}
+use Rattle.laws.proofs.Prelude.{_≡_, refl, List, [], _∷_, _++_, map, ℕ}
 use Rattle.laws.specs.Decoded.{Decoder, _>>=_, _>>_, return, require}
 use Rattle.laws.specs.Ascii.{ascii}
 use Rattle.laws.proofs.Decoding.{refusal}

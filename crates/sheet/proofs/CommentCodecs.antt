@@ -1,11 +1,5 @@
 -- Codecs of positions, comments and groups: what holds of those that were decoded.
-use mathlib.Core.Path.{_≡_, refl}
-use mathlib.Core.Bool.{Bool, true, _&&_, and-eq-true-iff}
-use mathlib.Core.List.{List, append-nil}
-use Prim.Native.Nat.{ℕ, _+_, _≤_}
-use lib.Dec.{leb, ltb}
-use lib.ListN.{length}
-use borrow.Author.Tests.{ltb-true, leb-true, lt-ltb, le-leb}
+use Rattle.laws.proofs.Prelude.{_≡_, refl, Bool, true, _&&_, and-eq-true-iff, List, append-nil, ℕ, _+_, _≤_, leb, ltb, length, ltb-true, leb-true, lt-ltb, le-leb}
 use Rattle.laws.specs.Decoded.{ok}
 use Rattle.laws.specs.Codec.{Codec}
 use Rattle.laws.proofs.Decoding.{value, then-ok}

@@ -1,16 +1,11 @@
 -- Which comments are in some group, from the longest group that begins at each.
-use mathlib.Core.Path.{_≡_, refl, sym, _∙_}
-use mathlib.Core.Bool.{Bool, true, false, cond, _&&_, _||_, or-assoc, or-true, true≢false, false≢true, and-eq-true-iff}
-use mathlib.Core.Logic.{_⊎_, inl, inr, ⊎-elim, _↔_}
-use mathlib.Core.List.{List, [], _∷_, _++_, List·Memᴰ, List·Memᴰ·head, List·Memᴰ·tail, List·Memᴰ·not-nil, List·Memᴰ·cases-cons}
-use Prim.Native.Nat.{ℕ, zero, suc, _+_, _-_, _≤_, _<_, max, zero-le}
-use native.Mathlib.Nat.{zero-max, max-zero, max-eq-left, max-eq-right, sub-zero, sub-eq-zero-of-le, not-suc-le-zero, le-of-suc-le-suc, eq-or-lt-of-le}
-use native.Mathlib.Numerals.{add-one}
-use native.Mathlib.Omega.{arith}
-use lib.Dec.{eqb, leb, ltb, leb·suc-suc}
-use lib.ListN.{length, getD, set, replicate, length-replicate, getD-replicate, List·getD-append}
-use lib.Seq.{getD-set-same, getD-set-other}
-use borrow.Author.Tests.{leb-true, le-leb, ltb-true, ltb-false, eqb-true, eqb-false, lt-ltb, le-ltb, ne-eqb}
+use Rattle.laws.proofs.Prelude.{_≡_, refl, sym, _∙_, Bool, true, false, cond, _&&_, _||_, or-true, true≢false, false≢true, and-eq-true-iff, _⊎_, inl, inr, ⊎-elim, _↔_, List, [], _∷_, _++_, List·Memᴰ, List·Memᴰ·head, List·Memᴰ·tail, List·Memᴰ·not-nil, List·Memᴰ·cases-cons, ℕ, zero, suc, _+_, _-_, _≤_, _<_, zero-le, sub-zero, not-suc-le-zero, le-of-suc-le-suc, add-one, arith, eqb, leb, ltb, length, getD, set, replicate, length-replicate, getD-set-same, getD-set-other, leb-true, le-leb, ltb-true, ltb-false, eqb-true, lt-ltb, le-ltb, ne-eqb}
+use mathlib.Core.Bool.{or-assoc}
+use Prim.Native.Nat.{max}
+use native.Mathlib.Nat.{zero-max, max-zero, max-eq-left, max-eq-right, sub-eq-zero-of-le, eq-or-lt-of-le}
+use lib.Dec.{leb·suc-suc}
+use lib.ListN.{getD-replicate, List·getD-append}
+use borrow.Author.Tests.{eqb-false}
 use Rattle.sheet.specs.declared.groups.Group.{Group}
 use Rattle.sheet.specs.Comments.{holds, inSome, covered}
 use Rattle.sheet.specs.Fit.{Holds, HeldBySome}

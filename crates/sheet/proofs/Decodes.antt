@@ -1,10 +1,5 @@
 -- The comments and the groups of a sheet: what decodes is what document 01 asks of them, and that decodes.
-use mathlib.Core.Path.{_≡_, refl}
-use mathlib.Core.Bool.{true}
-use mathlib.Core.List.{List, flatMap}
-use Prim.Native.Nat.{ℕ, _≤_, _<_, zero-le}
-use native.Mathlib.Omega.{arith}
-use lib.ListN.{length}
+use Rattle.laws.proofs.Prelude.{_≡_, refl, true, List, flatMap, ℕ, _≤_, _<_, zero-le, arith, length}
 use Rattle.laws.specs.Codec.{Codec}
 use Rattle.laws.proofs.Codecs.{codec-as}
 use Rattle.text.specs.Position.{Boundary}

@@ -1,13 +1,6 @@
 -- Boundaries at the end of a source and past it.
-use mathlib.Core.Path.{_≡_}
-use mathlib.Core.Logic.{_⊎_, inl, inr}
-use mathlib.Core.List.{List}
-use Prim.Native.Nat.{ℕ, _≤_, _<_}
+use Rattle.laws.proofs.Prelude.{_≡_, _⊎_, inl, inr, List, ℕ, _≤_, _<_, arith, eqb, length, List·getD-eq-default, le-leb, lt-leb, eq-eqb, ne-eqb}
 use native.Mathlib.Nat.{eq-or-lt-of-le}
-use native.Mathlib.Omega.{arith}
-use lib.Dec.{eqb}
-use lib.ListN.{length, List·getD-eq-default}
-use borrow.Author.Tests.{le-leb, lt-leb, eq-eqb, ne-eqb}
 use Rattle.text.specs.Position.{isBoundary}
 
 -- of the places that are not before its end only the end itself is a boundary

@@ -1,5 +1,5 @@
 -- Each value of the enums of a sheet has its own number.
-use mathlib.Core.Path.{refl}
+use Rattle.laws.proofs.Prelude.{refl}
 use Rattle.wire.proofs.Numbered.{Numbers, numbers}
 use Rattle.sheet.specs.declared.names.MediaType.the-variants.{JavaScript, Jsx, Mjs, Cjs, TypeScript, Mts, Cts, Dts, Dmts, Dcts, Tsx}
 use Rattle.sheet.specs.declared.names.CommentKind.the-variants.{Line, Block, HtmlOpen, HtmlClose}

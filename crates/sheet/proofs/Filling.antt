@@ -1,11 +1,6 @@
 -- A table filled row by row with items, each judged by the one before.
-use mathlib.Core.Path.{_≡_, refl, _∙_}
-use mathlib.Core.List.{List, [], _++_, append-assoc, append-nil}
-use Prim.Native.Nat.{ℕ, suc, _+_, _-_, _*_, _≤_, _<_, zero-le}
-use native.Mathlib.Nat.{sub-zero, sub-eq-zero-of-le, mul-suc, mul-le-mul-left}
-use native.Mathlib.Numerals.{add-one}
-use native.Mathlib.Omega.{arith}
-use lib.ListN.{length}
+use Rattle.laws.proofs.Prelude.{_≡_, refl, _∙_, List, [], _++_, append-assoc, append-nil, ℕ, suc, _+_, _-_, _*_, _≤_, _<_, zero-le, sub-zero, add-one, arith, length}
+use native.Mathlib.Nat.{sub-eq-zero-of-le, mul-suc, mul-le-mul-left}
 use lib.Seq.{sets, length-sets}
 use Rattle.laws.specs.Decoded.{Decoded, ok, no, onOk, Decoder}
 use Rattle.laws.specs.code.Left.{KeptFrom}

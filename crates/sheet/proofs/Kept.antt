@@ -1,8 +1,5 @@
 -- What holds of bytes, and is kept however decoders are put together, holds of the decoder of a sheet.
-use mathlib.Core.Bool.{Bool, _&&_}
-use mathlib.Core.List.{List, [], _∷_}
-use Prim.Native.Nat.{ℕ, zero, suc, _+_}
-use lib.Dec.{eqb, leb, ltb}
+use Rattle.laws.proofs.Prelude.{Bool, _&&_, List, [], _∷_, ℕ, zero, suc, _+_, eqb, leb, ltb}
 use Rattle.laws.specs.Decoded.{Decoder, _>>=_, return}
 use Rattle.laws.proofs.Kept.{Kept, done, next, test, either, at-index}
 use Rattle.text.specs.declared.utf8.Encoding.the-variants.{Utf8, Wtf8}

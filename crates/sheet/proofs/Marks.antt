@@ -1,14 +1,7 @@
 -- The marks of a comment: what the test for them says, and that a comment is no shorter than they are.
-use mathlib.Core.Path.{_≡_, sym, ap, _∙_}
-use mathlib.Core.Bool.{true, _&&_, and-eq-true-iff}
-use mathlib.Core.List.{List, [], _++_, append-nil, append-assoc}
-use mathlib.Core.Logic.{_↔_}
-use Prim.Native.Nat.{ℕ, _+_, _-_, _≤_, _<_}
-use native.Mathlib.Omega.{arith}
-use lib.Dec.{leb}
-use lib.ListN.{length, getD, take, drop, length-append, length-take, length-drop, take-append-drop, drop-of-length-le}
-use lib.Seq.{length-take-le, drop-drop, take-at, drop-at, drop-append-seam}
-use borrow.Author.Tests.{leb-true, le-leb}
+use Rattle.laws.proofs.Prelude.{_≡_, sym, ap, _∙_, true, _&&_, and-eq-true-iff, List, [], _++_, append-nil, append-assoc, _↔_, ℕ, _+_, _-_, _≤_, _<_, arith, leb, length, getD, take, drop, length-append, length-take, length-drop, drop-of-length-le, length-take-le, drop-drop, drop-append-seam, leb-true, le-leb}
+use lib.ListN.{take-append-drop}
+use lib.Seq.{take-at, drop-at}
 use Rattle.laws.proofs.Lists.{part-part}
 use Rattle.text.specs.Bytes.{begins}
 use Rattle.text.proofs.Words.{begins-sound, begins-complete}

@@ -1,11 +1,6 @@
 -- What is known of a table's comments and groups by their index, of the comments of a group, and of the groups that are looked up.
-use mathlib.Core.Path.{_≡_}
-use mathlib.Core.Bool.{Bool, true, false, cond}
-use mathlib.Core.List.{List, [], _∷_}
-use mathlib.Core.Option.{Option, Option·some-injective, Option·none-ne-some}
-use Prim.Native.Nat.{ℕ, suc, _+_, _-_, _≤_, _<_, zero-le, suc-le-suc}
-use native.Mathlib.Nat.{zero-add}
-use lib.ListN.{length}
+use Rattle.laws.proofs.Prelude.{_≡_, Bool, true, false, cond, List, [], _∷_, Option, Option·none-ne-some, ℕ, suc, _+_, _-_, _≤_, _<_, zero-le, suc-le-suc, zero-add, length}
+use mathlib.Core.Option.{Option·some-injective}
 use Rattle.sheet.specs.declared.comments.Comment.{Comment}
 use Rattle.sheet.specs.declared.groups.Group.{Group}
 use Rattle.sheet.specs.Program.{Program}

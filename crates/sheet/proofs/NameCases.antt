@@ -1,7 +1,5 @@
 -- Which names of module declarations are listed, as the definition computes.
-use mathlib.Core.Path.{_≡_, refl}
-use mathlib.Core.Bool.{Bool, true, false}
-use mathlib.Core.List.{List, [], _∷_, map}
+use Rattle.laws.proofs.Prelude.{_≡_, refl, Bool, true, false, List, [], _∷_, map}
 use Prim.Native.String.{String}
 use Rattle.laws.specs.Ascii.{ascii}
 use Rattle.text.specs.Bytes.{begins}

@@ -1,11 +1,6 @@
 -- The order of groups, by side and then by position.
-use mathlib.Core.Path.{_≡_, refl, sym, ap, _∙_}
-use mathlib.Core.Bool.{Bool, true, false, _&&_, _||_, or-true, true≢false, false≢true}
-use mathlib.Core.Logic.{_⊎_, inl, inr}
-use Prim.Native.Nat.{ℕ, _<_}
-use native.Mathlib.Omega.{arith}
-use lib.Dec.{ltb, eqb}
-use borrow.Author.Tests.{ltb-true, ltb-false, eqb-true, eqb-false, lt-ltb, eq-eqb}
+use Rattle.laws.proofs.Prelude.{_≡_, refl, sym, ap, _∙_, Bool, true, false, _&&_, _||_, or-true, true≢false, false≢true, _⊎_, inl, inr, ℕ, _<_, arith, ltb, eqb, ltb-true, ltb-false, eqb-true, lt-ltb, eq-eqb}
+use borrow.Author.Tests.{eqb-false}
 use Rattle.wire.proofs.Numbered.{one-number}
 use Rattle.sheet.specs.declared.names.Side.{Side}
 use Rattle.sheet.specs.Names.{sideNumber}

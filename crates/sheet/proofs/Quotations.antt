@@ -1,15 +1,6 @@
 -- The test for a quotation says what it should, and what its bytes say of it.
-use mathlib.Core.Path.{_≡_, refl, sym}
-use mathlib.Core.Bool.{Bool, true, false, _&&_, _||_, and-true, or-true, or-false, true≢false}
-use mathlib.Core.List.{List, [], _∷_}
-use mathlib.Core.Logic.{inl, inr, ⊎-elim, _↔_}
-use Prim.Native.Nat.{ℕ, _-_, _≤_, _<_}
-use native.Mathlib.Nat.{not-suc-le-zero}
-use native.Mathlib.Omega.{arith}
-use lib.Dec.{eqb}
-use lib.ListN.{length, getD, drop, length-drop}
-use lib.Seq.{drop-cons}
-use borrow.Author.Tests.{le-leb, ne-eqb}
+use Rattle.laws.proofs.Prelude.{_≡_, refl, sym, Bool, true, false, _&&_, _||_, or-true, true≢false, List, [], _∷_, inl, inr, ⊎-elim, _↔_, ℕ, _-_, _≤_, _<_, not-suc-le-zero, arith, eqb, length, getD, drop, length-drop, drop-cons, le-leb, ne-eqb}
+use mathlib.Core.Bool.{and-true, or-false}
 use Rattle.laws.specs.Ascii.{ascii}
 use Rattle.text.specs.Bytes.{Mark, begins}
 use Rattle.sheet.specs.Comments.{enclosed}

@@ -1,9 +1,6 @@
 -- The walk makes the visits that it should, in their order, and a node is refused by 9 exactly where one of them is a call that meets it.
-use mathlib.Core.Path.{_≡_, refl, sym, ap, _∙_}
-use mathlib.Core.Bool.{Bool, true, false, cond, false≢true, _&&_, _||_, or-true}
-use mathlib.Core.List.{List, [], _∷_, _++_, append-nil, append-assoc, flatMap, List·Memᴰ, List·Memᴰ·head, List·Memᴰ·tail, List·Memᴰ·not-nil, List·Memᴰ·cases-cons, List·Memᴰ·append-cases, List·Memᴰ·eq-of-singleton, Memᴰ·append-right}
-use mathlib.Core.Logic.{_↔_, ⊎-elim, _⊎_, inl, inr}
-use mathlib.Core.Option.{Option, Option·none-ne-some}
+use Rattle.laws.proofs.Prelude.{_≡_, refl, sym, ap, _∙_, Bool, true, false, cond, false≢true, _&&_, _||_, or-true, List, [], _∷_, _++_, append-nil, append-assoc, flatMap, List·Memᴰ, List·Memᴰ·head, List·Memᴰ·tail, List·Memᴰ·not-nil, List·Memᴰ·cases-cons, _↔_, ⊎-elim, _⊎_, inl, inr, Option, Option·none-ne-some}
+use mathlib.Core.List.{List·Memᴰ·append-cases, List·Memᴰ·eq-of-singleton, Memᴰ·append-right}
 use Rattle.laws.specs.Codec.{All}
 use Rattle.laws.specs.Ascii.{ascii}
 use Rattle.laws.proofs.Lists.{flatMap-append, all-append, all-member, of-members, PartOf, part-whole, part-inner, part-member, part-flatMap}

@@ -1,12 +1,6 @@
 -- What a revision leaves as it was: positions outside of the body, the spans of the tree, and the bodies of all other comments.
-use mathlib.Core.Path.{_≡_}
-use mathlib.Core.Bool.{true}
-use mathlib.Core.Logic.{inl, inr}
-use mathlib.Core.List.{List, [], _∷_, map}
-use Prim.Native.Nat.{ℕ, zero, suc, _+_, _≤_, _<_}
-use native.Mathlib.Omega.{arith}
+use Rattle.laws.proofs.Prelude.{_≡_, true, inl, inr, List, [], _∷_, map, ℕ, zero, suc, _+_, _≤_, _<_, arith, length, take, drop}
 use native.Mathlib.Decide.{decLt}
-use lib.ListN.{length, take, drop}
 use Rattle.laws.specs.Codec.{All}
 use Rattle.laws.proofs.Lists.{all-parts}
 use Rattle.text.specs.declared.utf8.Encoding.the-variants.{Utf8}

@@ -1,14 +1,6 @@
 -- The search for the group of a side at a position, in rows that ascend.
-use mathlib.Core.Path.{_≡_, refl}
-use mathlib.Core.Bool.{Bool, true, false, and-eq-true-iff}
-use mathlib.Core.Logic.{_⊎_, inl, inr}
-use mathlib.Core.List.{List}
-use mathlib.Core.Option.{Option}
-use Prim.Native.Nat.{ℕ, zero, suc, _+_, _≤_, _<_, zero-le, suc-le-suc}
-use native.Mathlib.Nat.{add-zero, add-suc, suc-add, zero-add, not-suc-le-zero, le-of-suc-le-suc, eq-or-lt-of-le}
-use native.Mathlib.Omega.{arith}
-use lib.Dec.{eqb, ltb}
-use borrow.Author.Tests.{ltb-true, ltb-false, eqb-true}
+use Rattle.laws.proofs.Prelude.{_≡_, refl, Bool, true, false, and-eq-true-iff, _⊎_, inl, inr, List, Option, ℕ, zero, suc, _+_, _≤_, _<_, zero-le, suc-le-suc, add-zero, zero-add, not-suc-le-zero, le-of-suc-le-suc, arith, eqb, ltb, ltb-true, ltb-false, eqb-true}
+use native.Mathlib.Nat.{add-suc, suc-add, eq-or-lt-of-le}
 use Rattle.wire.proofs.Numbered.{one-number}
 use Rattle.sheet.specs.declared.groups.Group.{Group}
 use Rattle.sheet.specs.declared.names.Side.{Side}

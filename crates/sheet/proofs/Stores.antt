@@ -1,11 +1,7 @@
 -- Rows stored in tables: what is stored in a row is read there, and the other rows stay.
-use mathlib.Core.Path.{_≡_, refl, ap₂, _∙_}
-use mathlib.Core.List.{List, [], _∷_, _++_}
-use Prim.Native.Nat.{ℕ, zero, suc, _+_, _*_, _≤_, _<_}
-use native.Mathlib.Nat.{zero-add, not-suc-le-zero}
-use native.Mathlib.Omega.{arith}
-use lib.ListN.{length, getD, set, length-set}
-use lib.Seq.{sets, getD-set-same, getD-set-other}
+use Rattle.laws.proofs.Prelude.{_≡_, refl, _∙_, List, [], _∷_, _++_, ℕ, zero, suc, _+_, _*_, _≤_, _<_, zero-add, not-suc-le-zero, arith, length, getD, set, length-set, getD-set-same, getD-set-other}
+use mathlib.Core.Path.{ap₂}
+use lib.Seq.{sets}
 use Rattle.sheet.specs.code.Tables.{rows, commentRow, commentIn, groupRow, groupIn}
 use Rattle.sheet.proofs.EnumNumbers.{kind-numbers, side-numbers}
 use Rattle.sheet.proofs.TableRows.{rows-same, rows-more}

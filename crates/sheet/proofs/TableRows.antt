@@ -1,12 +1,7 @@
 -- The rows of a table: how many, which, one more, and parts of them.
-use mathlib.Core.Path.{_≡_, refl, ap, _∙_}
-use mathlib.Core.List.{List, [], _∷_, _++_, getLast?}
-use mathlib.Core.Option.{Option}
-use Prim.Native.Nat.{ℕ, zero, suc, _+_, _-_, _≤_, _<_, zero-le, suc-le-suc}
-use native.Mathlib.Nat.{add-zero, zero-add, add-suc, suc-add, not-suc-le-zero, le-of-suc-le-suc}
-use native.Mathlib.Numerals.{add-one}
-use native.Mathlib.Omega.{arith}
-use lib.ListN.{length, getD, take, drop}
+use Rattle.laws.proofs.Prelude.{_≡_, refl, ap, _∙_, List, [], _∷_, _++_, Option, ℕ, zero, suc, _+_, _-_, _≤_, _<_, zero-le, suc-le-suc, add-zero, zero-add, not-suc-le-zero, le-of-suc-le-suc, add-one, arith, length, getD, take, drop}
+use mathlib.Core.List.{getLast?}
+use native.Mathlib.Nat.{add-suc, suc-add}
 use Rattle.sheet.specs.code.Tables.{rows, commentIn, commentsIn, groupIn, groupsIn}
 use Rattle.sheet.specs.Fit.{noComment, commentOf, noGroup, groupOf}
 

@@ -1,7 +1,5 @@
 -- The spans that a visit reports are among those of its tree.
-use mathlib.Core.List.{List, [], _∷_, _++_}
-use mathlib.Core.Option.{Option}
-use Prim.Native.Nat.{ℕ}
+use Rattle.laws.proofs.Prelude.{List, [], _∷_, _++_, Option, ℕ}
 use Rattle.laws.specs.Codec.{All, IfThere}
 use Rattle.laws.proofs.Lists.{all-append, all-parts}
 use Rattle.sheet.specs.declared.fields.Span.{Span}

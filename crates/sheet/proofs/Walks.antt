@@ -1,7 +1,6 @@
 -- What the walks of two collectors have to do with each other.
-use mathlib.Core.Path.{_≡_, refl, sym, ap, _∙_}
+use Rattle.laws.proofs.Prelude.{_≡_, refl, sym, ap, _∙_, List, [], _∷_, _++_}
 use mathlib.Core.Bool.{or-false, or-assoc}
-use mathlib.Core.List.{List, [], _∷_, _++_}
 use Rattle.sheet.specs.Tree.{Node, other, string, name, template, binary, object, importCall, call, importDecl, namedExport, exportFrom, exportAll, importType, importEquals, importRequire, moduleDecl, Nodes, none, more, Arguments, noArguments, argument, Properties, noProperties, spread, otherProperty, childKey, stringKey, nameKey, Attributes, without, withObject}
 use Rattle.sheet.specs.Walk.{Visit, called, importing, expression, imported, exported, typed, required, declared, Collector, walk, walkAll, walkOf, walkIn, walkWith, total, visiting, visits}
 use Rattle.sheet.specs.Walked.{judging, uncooked}

@@ -14,7 +14,10 @@ use Rattle.wire.specs.Optional.{optional}
 use Rattle.sheet.specs.Limits.{textLimit, propertyLimit}
 use Rattle.sheet.specs.declared.fields.Span.{Span}
 use Rattle.sheet.specs.Names.{importPhases}
-use Rattle.sheet.specs.Tree.{Quoted, Pieces, Node, other, string, name, template, binary, object, importCall, call, importDecl, namedExport, exportFrom, exportAll, importType, importEquals, importRequire, moduleDecl, Nodes, none, more, Arguments, noArguments, argument, Properties, noProperties, spread, otherProperty, childKey, stringKey, nameKey, Attributes, without, withObject}
+use Rattle.sheet.specs.Tree.{Quoted, Pieces, Node, other, string, name, template, binary, object, importCall, call, importDecl, namedExport}
+use Rattle.sheet.specs.Tree.{exportFrom, exportAll, importType, importEquals, importRequire, moduleDecl, Nodes, none, more, Arguments}
+use Rattle.sheet.specs.Tree.{noArguments, argument, Properties, noProperties, spread, otherProperty, childKey, stringKey, nameKey, Attributes}
+use Rattle.sheet.specs.Tree.{without, withObject}
 use Rattle.sheet.specs.Fields.{span}
 use Rattle.sheet.specs.Comments.{slice}
 use Rattle.sheet.specs.Quotation.{looksQuoted}

@@ -6,7 +6,10 @@ use mathlib.Core.Option.{Option}
 use Rattle.laws.specs.Ascii.{ascii}
 use Rattle.sheet.specs.declared.fields.Span.{Span}
 use Rattle.sheet.specs.declared.names.ImportPhase.{ImportPhase}
-use Rattle.sheet.specs.Tree.{Pieces, Node, other, string, name, template, binary, object, importCall, call, importDecl, namedExport, exportFrom, exportAll, importType, importEquals, importRequire, moduleDecl, Nodes, none, more, Arguments, noArguments, argument, Properties, noProperties, spread, otherProperty, childKey, stringKey, nameKey, Attributes, without, withObject}
+use Rattle.sheet.specs.Tree.{Pieces, Node, other, string, name, template, binary, object, importCall, call, importDecl, namedExport, exportFrom}
+use Rattle.sheet.specs.Tree.{exportAll, importType, importEquals, importRequire, moduleDecl, Nodes, none, more, Arguments, noArguments}
+use Rattle.sheet.specs.Tree.{argument, Properties, noProperties, spread, otherProperty, childKey, stringKey, nameKey, Attributes, without}
+use Rattle.sheet.specs.Tree.{withObject}
 use Rattle.sheet.specs.Shape.{shape, named, pieces}
 use Rattle.sheet.specs.Walk.{Visit, called, importing, expression, imported, exported, typed, required, declared}
 
@@ -88,7 +91,8 @@ placed (Option.some v) l = cond (isCall v) (l ++ v ∷ []) (v ∷ l)
 
 -- the first of the arguments is a template with an uncooked piece
 pub data UncookedFirst : Arguments → Type 0 where
-  uncookedFirst : {dots : Bool} {at : Span} {n : Node} {xs : Arguments} (ps : Pieces) → shape n ≡ pieces ps → List·Memᴰ Option.none ps → UncookedFirst (argument dots at n xs)
+  uncookedFirst : {dots : Bool} {at : Span} {n : Node} {xs : Arguments} (ps : Pieces) → shape n ≡ pieces ps → List·Memᴰ Option.none ps
+      → UncookedFirst (argument dots at n xs)
 
 -- a call meets refusal 9: an import of any phase, or one whose expression is the Name `require`
 pub data MeetsNine : Node → Type 0 where

@@ -3,7 +3,10 @@ use mathlib.Core.List.{List, [], _∷_, _++_, map}
 use mathlib.Core.Option.{Option}
 use Prim.Native.Nat.{ℕ}
 use Rattle.sheet.specs.declared.fields.Span.{Span}
-use Rattle.sheet.specs.Tree.{Node, other, string, name, template, binary, object, importCall, call, importDecl, namedExport, exportFrom, exportAll, importType, importEquals, importRequire, moduleDecl, Nodes, none, more, Arguments, noArguments, argument, Properties, noProperties, spread, otherProperty, childKey, stringKey, nameKey, Attributes, without, withObject}
+use Rattle.sheet.specs.Tree.{Node, other, string, name, template, binary, object, importCall, call, importDecl, namedExport, exportFrom}
+use Rattle.sheet.specs.Tree.{exportAll, importType, importEquals, importRequire, moduleDecl, Nodes, none, more, Arguments, noArguments}
+use Rattle.sheet.specs.Tree.{argument, Properties, noProperties, spread, otherProperty, childKey, stringKey, nameKey, Attributes, without}
+use Rattle.sheet.specs.Tree.{withObject}
 use Rattle.sheet.specs.Strings.{stringHeld}
 use Rattle.sheet.specs.Program.{Program}
 use Rattle.sheet.specs.Sheet.{Sheet}

@@ -2,7 +2,10 @@
 use mathlib.Core.List.{List, [], _∷_, _++_}
 use mathlib.Core.Option.{Option}
 use Rattle.sheet.specs.declared.fields.Span.{Span}
-use Rattle.sheet.specs.Tree.{Quoted, Node, other, string, name, template, binary, object, importCall, call, importDecl, namedExport, exportFrom, exportAll, importType, importEquals, importRequire, moduleDecl, Nodes, none, more, Arguments, noArguments, argument, Properties, noProperties, spread, otherProperty, childKey, stringKey, nameKey, Attributes, without, withObject}
+use Rattle.sheet.specs.Tree.{Quoted, Node, other, string, name, template, binary, object, importCall, call, importDecl, namedExport, exportFrom}
+use Rattle.sheet.specs.Tree.{exportAll, importType, importEquals, importRequire, moduleDecl, Nodes, none, more, Arguments, noArguments}
+use Rattle.sheet.specs.Tree.{argument, Properties, noProperties, spread, otherProperty, childKey, stringKey, nameKey, Attributes, without}
+use Rattle.sheet.specs.Tree.{withObject}
 
 abbrev pub stringHeld : Option Quoted → List Span
 stringHeld Option.none = []

@@ -1,7 +1,5 @@
 -- `accept` from the pieces of a sheet.
-use mathlib.Core.Path.{_≡_}
-use mathlib.Core.List.{List}
-use Prim.Native.Nat.{ℕ, _≤_}
+use Rattle.laws.proofs.Prelude.{_≡_, List, ℕ, _≤_}
 use Rattle.laws.specs.Decoded.{ok, andThen, Decoder, _>>=_, return}
 use Rattle.laws.proofs.Decoding.{value, then-ok, then-then}
 use Rattle.wire.specs.Text.{count}

@@ -1,9 +1,5 @@
 -- The ways out of the check of a sheet.
-use mathlib.Core.Path.{_≡_, refl}
-use mathlib.Core.List.{List}
-use Prim.Native.Nat.{ℕ, _≤_, _<_}
-use lib.ListN.{length, drop}
-use borrow.Author.Tests.{le-leb, lt-leb}
+use Rattle.laws.proofs.Prelude.{_≡_, refl, List, ℕ, _≤_, _<_, length, drop, le-leb, lt-leb}
 use Rattle.laws.specs.Decoded.{ok, no}
 use Rattle.text.specs.Bytes.{part}
 use Rattle.sheet.specs.Limits.{sheetLimit}

@@ -1,10 +1,6 @@
 -- A table after a part of it was lent: that part is what came back, what stands in front of it is as it was, and the table is as long.
-use mathlib.Core.Path.{_≡_, sym, ap, _∙_}
-use mathlib.Core.List.{List, _++_}
-use Prim.Native.Nat.{ℕ, _-_, _≤_}
-use native.Mathlib.Omega.{arith}
-use lib.ListN.{length, take, drop, length-append, length-drop}
-use lib.Seq.{length-take-le, take-at, drop-at}
+use Rattle.laws.proofs.Prelude.{_≡_, sym, ap, _∙_, List, _++_, ℕ, _-_, _≤_, arith, length, take, drop, length-append, length-drop, length-take-le}
+use lib.Seq.{take-at, drop-at}
 use Rattle.laws.proofs.Lists.{part-part}
 use Rattle.text.specs.Bytes.{part}
 use Rattle.sheet.specs.Limits.{groupsStart, indexStart}

@@ -1,8 +1,5 @@
 -- Sheets with the first refusal that each meets, as the definitions compute.
-use mathlib.Core.Path.{_≡_, refl}
-use mathlib.Core.List.{List, [], _∷_, _++_, map}
-use Prim.Native.Nat.{ℕ}
-use lib.ListN.{length}
+use Rattle.laws.proofs.Prelude.{_≡_, refl, List, [], _∷_, _++_, map, ℕ, length}
 use Rattle.laws.specs.Ascii.{ascii}
 use Rattle.laws.proofs.Decoding.{refusal}
 use Rattle.text.specs.Bytes.{begins, same}

@@ -1,9 +1,5 @@
 -- The tree of a sheet from its program and what the check of its root found.
-use mathlib.Core.Path.{_≡_, ap, _∙_}
-use mathlib.Core.Bool.{true, false}
-use mathlib.Core.List.{List, [], _∷_}
-use Prim.Native.Nat.{ℕ}
-use lib.ListN.{drop}
+use Rattle.laws.proofs.Prelude.{_≡_, ap, _∙_, true, false, List, [], _∷_, ℕ, drop}
 use Rattle.laws.specs.Decoded.{ok, no, onOk}
 use Rattle.laws.proofs.Decoding.{onOk-ok, onOk-no}
 use Rattle.sheet.specs.Limits.{depthLimit}

@@ -1,14 +1,5 @@
 -- More codecs of fields one after the other.
-use mathlib.Core.Path.{_≡_, refl, sym, ap, _∙_}
-use mathlib.Core.Logic.{_⊎_, inl, inr, ⊎-elim}
-use mathlib.Core.Bool.{Bool, true, false, cond}
-use mathlib.Core.List.{List, [], _∷_, _++_, append-assoc}
-use Prim.Native.Nat.{ℕ, zero, suc, _+_, _≤_, _<_}
-use native.Mathlib.Nat.{zero-add, add-zero}
-use native.Mathlib.Omega.{arith}
-use lib.Dec.{ltb}
-use lib.ListN.{length, getD}
-use borrow.Author.Tests.{ltb-true, ltb-false, lt-ltb, le-ltb}
+use Rattle.laws.proofs.Prelude.{_≡_, refl, sym, ap, _∙_, _⊎_, inl, inr, ⊎-elim, Bool, true, false, cond, List, [], _∷_, _++_, append-assoc, ℕ, zero, suc, _+_, _≤_, _<_, zero-add, add-zero, arith, ltb, length, getD, ltb-true, ltb-false, lt-ltb, le-ltb}
 use Rattle.laws.specs.Decoded.{ok, Decoder, _>>=_, return, refuse}
 use Rattle.laws.specs.Codec.{Codec}
 use Rattle.laws.proofs.Decoding.{then-ok, then-then}

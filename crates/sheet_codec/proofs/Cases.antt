@@ -1,7 +1,5 @@
 -- Document 01's example decodes, and encodes to itself, as the definitions compute.
-use mathlib.Core.Path.{_≡_, refl}
-use mathlib.Core.List.{List, [], _∷_, _++_, flatMap}
-use Prim.Native.Nat.{ℕ}
+use Rattle.laws.proofs.Prelude.{_≡_, refl, List, [], _∷_, _++_, flatMap, ℕ}
 use Rattle.laws.specs.Decoded.{ok, onOk}
 use Rattle.laws.specs.Ascii.{ascii}
 use Rattle.text.specs.Bytes.{begins}

@@ -1,11 +1,5 @@
 -- Each dependency takes at least nine bytes of the sheet, so a sheet has at most `entryLimit` of them.
-use mathlib.Core.Path.{ap}
-use mathlib.Core.Bool.{Bool, true, false, _&&_}
-use mathlib.Core.List.{List}
-use mathlib.Core.Option.{Option}
-use Prim.Native.Nat.{ℕ, _+_, _*_, _≤_}
-use native.Mathlib.Omega.{arith}
-use lib.ListN.{length, length-append}
+use Rattle.laws.proofs.Prelude.{ap, Bool, true, false, _&&_, List, Option, ℕ, _+_, _*_, _≤_, arith, length, length-append}
 use Rattle.text.specs.Truth.{one}
 use Rattle.text.proofs.Ones.{one-most}
 use Rattle.wire.specs.Number.{encodeNumber}

@@ -1,9 +1,5 @@
 -- The bytes of a sheet's fields, one after the other, are the sheet's.
-use mathlib.Core.Path.{_≡_, refl}
-use mathlib.Core.List.{List, [], _∷_, append-assoc, append-nil, flatMap}
-use mathlib.Core.Option.{Option}
-use Prim.Native.Nat.{ℕ}
-use lib.ListN.{length}
+use Rattle.laws.proofs.Prelude.{_≡_, refl, List, [], _∷_, append-assoc, append-nil, flatMap, Option, ℕ, length}
 use Rattle.laws.proofs.Lists.{flatMap-append}
 use Rattle.text.specs.declared.utf8.Encoding.{Encoding}
 use Rattle.text.specs.declared.utf8.Encoding.the-variants.{Wtf8}

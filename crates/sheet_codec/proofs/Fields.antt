@@ -1,9 +1,6 @@
 -- Decoders whose values have fields: a value that is answered has its fields in front of the bytes, unbroken, and a refusal is met at a field of some value.
-use mathlib.Core.Path.{_≡_, refl, sym, ap, subst, _∙_}
-use mathlib.Core.Logic.{⊎-elim}
-use mathlib.Core.Bool.{Bool}
-use mathlib.Core.List.{List, [], _∷_, _++_, append-assoc, flatMap}
-use Prim.Native.Nat.{ℕ, _<_}
+use Rattle.laws.proofs.Prelude.{_≡_, refl, sym, ap, _∙_, ⊎-elim, Bool, List, [], _∷_, _++_, append-assoc, flatMap, ℕ, _<_}
+use mathlib.Core.Path.{subst}
 use Rattle.laws.specs.Decoded.{Decoded, ok, no, andThen, onOk, Decoder, _>>=_, _>>_, return, require}
 use Rattle.laws.specs.Codec.{All}
 use Rattle.laws.proofs.Decoding.{refused, then-ok, then-refused, onOk-ok, onOk-no, then-then}

@@ -1,14 +1,5 @@
 -- What is judged at each field but numbers.
-use mathlib.Core.Path.{_≡_, refl, sym, ap, _∙_}
-use mathlib.Core.Bool.{Bool, true, false, cond, _&&_, true≢false}
-use mathlib.Core.Logic.{⊎-elim}
-use mathlib.Core.List.{List, [], _∷_, _++_, append-nil}
-use Prim.Native.Nat.{ℕ, zero, suc, _≤_, _<_}
-use native.Mathlib.Nat.{not-suc-le-zero}
-use native.Mathlib.Omega.{arith}
-use lib.Dec.{eqb, leb, ltb}
-use lib.ListN.{length, take, drop, replicate, length-replicate, length-append}
-use borrow.Author.Tests.{ltb-true, ltb-false, leb-false, eqb-true, lt-ltb, eq-eqb}
+use Rattle.laws.proofs.Prelude.{_≡_, refl, sym, ap, _∙_, Bool, true, false, cond, _&&_, true≢false, ⊎-elim, List, [], _∷_, _++_, append-nil, ℕ, zero, suc, _≤_, _<_, not-suc-le-zero, arith, eqb, leb, ltb, length, take, drop, replicate, length-replicate, length-append, ltb-true, ltb-false, leb-false, eqb-true, lt-ltb, eq-eqb}
 use Rattle.laws.specs.Decoded.{ok, no, _>>=_, _>>_, return, require}
 use Rattle.laws.proofs.Decoding.{refused, then-ok, then-refused, require-ok}
 use Rattle.text.specs.declared.utf8.Encoding.{Encoding}

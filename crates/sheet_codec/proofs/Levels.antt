@@ -1,11 +1,5 @@
 -- The codec of nodes with so many levels left, by induction on these.
-use mathlib.Core.Path.{ap, _∙_}
-use mathlib.Core.List.{List, _∷_, _++_, append-assoc}
-use Prim.Native.Nat.{ℕ, zero, suc, _≤_, _<_}
-use native.Mathlib.Nat.{not-suc-le-zero}
-use native.Mathlib.Omega.{arith}
-use lib.Dec.{eqb, ltb}
-use lib.ListN.{length}
+use Rattle.laws.proofs.Prelude.{ap, _∙_, List, _∷_, _++_, append-assoc, ℕ, zero, suc, _≤_, _<_, not-suc-le-zero, arith, eqb, ltb, length}
 use Rattle.laws.specs.Codec.{Codec}
 use Rattle.laws.proofs.Decoding.{refused, then-ok}
 use Rattle.laws.proofs.Codecs.{built-then}

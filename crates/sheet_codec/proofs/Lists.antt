@@ -1,9 +1,5 @@
 -- Codecs of items one after the other.
-use mathlib.Core.Path.{_≡_, refl, sym, ap, _∙_}
-use mathlib.Core.Logic.{_⊎_, inl, inr}
-use mathlib.Core.List.{List, [], _∷_, _++_, append-assoc}
-use Prim.Native.Nat.{ℕ, zero, suc}
-use native.Mathlib.Omega.{arith}
+use Rattle.laws.proofs.Prelude.{_≡_, refl, sym, ap, _∙_, _⊎_, inl, inr, List, [], _∷_, _++_, append-assoc, ℕ, zero, suc, arith}
 use Rattle.laws.specs.Decoded.{ok, Decoder, _>>=_}
 use Rattle.laws.specs.Codec.{Codec}
 use Rattle.laws.proofs.Decoding.{then-ok, onOk-ok}

@@ -1,13 +1,5 @@
 -- What is judged at each field that is a number.
-use mathlib.Core.Path.{_≡_, refl, sym, _∙_}
-use mathlib.Core.Bool.{Bool, true, false, _&&_, true≢false, and-eq-true-iff}
-use mathlib.Core.Logic.{_⊎_, inl, inr, ⊎-elim}
-use mathlib.Core.List.{List, [], _∷_, _++_, append-nil}
-use mathlib.Core.Option.{Option}
-use Prim.Native.Nat.{ℕ, zero, suc, _+_, _≤_, _<_}
-use native.Mathlib.Omega.{arith}
-use lib.Dec.{leb, ltb}
-use borrow.Author.Tests.{leb-false, lt-leb, lt-ltb}
+use Rattle.laws.proofs.Prelude.{_≡_, refl, sym, _∙_, Bool, true, false, _&&_, true≢false, and-eq-true-iff, _⊎_, inl, inr, ⊎-elim, List, [], _∷_, _++_, append-nil, Option, ℕ, zero, suc, _+_, _≤_, _<_, arith, leb, ltb, leb-false, lt-leb, lt-ltb}
 use Rattle.laws.specs.Decoded.{ok, no, Decoder, _>>=_, _>>_, return, require}
 use Rattle.laws.proofs.Decoding.{refused, then-ok, then-refused, require-ok}
 use Rattle.laws.proofs.Answers.{Answer, answers-kept}

@@ -1,9 +1,5 @@
 -- Codecs of spans and the program.
-use mathlib.Core.Path.{refl}
-use mathlib.Core.List.{List}
-use Prim.Native.Nat.{ℕ, _≤_}
-use native.Mathlib.Omega.{arith}
-use lib.ListN.{length}
+use Rattle.laws.proofs.Prelude.{refl, List, ℕ, _≤_, arith, length}
 use Rattle.laws.specs.Codec.{Codec}
 use Rattle.laws.proofs.Codecs.{built-then, codec-of, codec-as, built-end, built-free}
 use Rattle.text.specs.Position.{Boundary}

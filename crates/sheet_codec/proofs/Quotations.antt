@@ -1,7 +1,5 @@
 -- Every String of a tree within the limits is a quotation, those that other nodes hold too.
-use mathlib.Core.List.{List, _++_}
-use mathlib.Core.Option.{Option}
-use Prim.Native.Nat.{ℕ}
+use Rattle.laws.proofs.Prelude.{List, _++_, Option, ℕ}
 use Rattle.laws.specs.Codec.{All, IfThere}
 use Rattle.laws.proofs.Lists.{all-append}
 use Rattle.sheet.specs.declared.fields.Span.{Span}

@@ -1,14 +1,6 @@
 -- Where a sheet is refused, what each refusal says, and that those at fields are judged from the front.
-use mathlib.Core.Path.{_≡_, refl, sym, ap, _∙_}
-use mathlib.Core.Bool.{Bool, true, false, true≢false, cond, not, _&&_, _||_}
-use mathlib.Core.List.{List, [], _∷_, _++_}
-use mathlib.Core.Logic.{inl, inr, _↔_}
-use Prim.Native.Nat.{ℕ, _+_, _≤_, _<_}
-use native.Mathlib.Omega.{arith}
-use lib.Dec.{eqb, leb}
-use lib.ListN.{length, take, drop, length-append}
+use Rattle.laws.proofs.Prelude.{_≡_, refl, sym, ap, _∙_, Bool, true, false, true≢false, cond, not, _&&_, _||_, List, [], _∷_, _++_, inl, inr, _↔_, ℕ, _+_, _≤_, _<_, arith, eqb, leb, length, take, drop, length-append, eqb-true, leb-true, leb-false, le-leb, lt-leb}
 use lib.Seq.{take-append-le, drop-append-le}
-use borrow.Author.Tests.{eqb-true, leb-true, leb-false, le-leb, lt-leb}
 use Rattle.laws.specs.Decoded.{Decoded, ok, no, andThen, _>>=_, _>>_, return, require}
 use Rattle.laws.proofs.Decoding.{refused as not-ok}
 use Rattle.laws.proofs.Answers.{Answer, Answers, answers-kept}

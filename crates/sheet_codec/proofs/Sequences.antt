@@ -1,11 +1,5 @@
 -- Fields one after the other: texts, spans, comments, groups, the program, and items that are counted.
-use mathlib.Core.Path.{_≡_, refl, sym, ap, _∙_}
-use mathlib.Core.Bool.{Bool, true, false, cond, _&&_}
-use mathlib.Core.List.{List, [], _∷_, _++_}
-use mathlib.Core.Option.{Option}
-use Prim.Native.Nat.{ℕ, zero, suc, _+_}
-use lib.Dec.{leb, ltb}
-use lib.ListN.{length}
+use Rattle.laws.proofs.Prelude.{_≡_, refl, sym, ap, _∙_, Bool, true, false, cond, _&&_, List, [], _∷_, _++_, Option, ℕ, zero, suc, _+_, leb, ltb, length}
 use Rattle.laws.specs.Decoded.{Decoder, onOk, _>>=_, return}
 use Rattle.laws.proofs.Decoding.{then-then}
 use Rattle.text.specs.declared.utf8.Encoding.{Encoding}

@@ -1,5 +1,5 @@
 -- A refusal 2 to 7 is met at a field of some sheet.
-use mathlib.Core.Path.{refl}
+use Rattle.laws.proofs.Prelude.{refl}
 use Rattle.text.specs.declared.utf8.Encoding.the-variants.{Utf8}
 use Rattle.sheet.specs.Limits.{depthLimit}
 use Rattle.sheet.specs.Sheet.{sheet}

@@ -1,12 +1,5 @@
 -- Codecs of tags, short texts and Strings.
-use mathlib.Core.Path.{_≡_, refl, sym, ap, _∙_}
-use mathlib.Core.Bool.{Bool, true}
-use mathlib.Core.List.{List, [], _∷_, _++_}
-use Prim.Native.Nat.{ℕ, _≤_, _<_}
-use native.Mathlib.Omega.{arith}
-use lib.Dec.{eqb, ltb}
-use lib.ListN.{length}
-use borrow.Author.Tests.{ltb-true, lt-ltb, eqb-true, eq-eqb}
+use Rattle.laws.proofs.Prelude.{_≡_, refl, sym, ap, _∙_, Bool, true, List, [], _∷_, _++_, ℕ, _≤_, _<_, arith, eqb, ltb, length, ltb-true, lt-ltb, eqb-true, eq-eqb}
 use Rattle.laws.specs.Decoded.{Decoder, _>>_}
 use Rattle.laws.specs.Codec.{Codec}
 use Rattle.laws.proofs.Decoding.{then-ok, require-ok}

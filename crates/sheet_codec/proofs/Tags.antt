@@ -1,13 +1,5 @@
 -- The nodes of each tag, from codecs of the nodes one level down.
-use mathlib.Core.Path.{_≡_, refl, sym, ap, _∙_}
-use mathlib.Core.Logic.{_⊎_, inl, inr, ⊎-elim}
-use mathlib.Core.Bool.{Bool, true}
-use mathlib.Core.List.{List, _∷_, _++_, append-assoc, flatMap}
-use mathlib.Core.Option.{Option}
-use Prim.Native.Nat.{ℕ, suc, _+_, _≤_}
-use native.Mathlib.Omega.{arith}
-use lib.Dec.{ltb}
-use lib.ListN.{length}
+use Rattle.laws.proofs.Prelude.{_≡_, refl, sym, ap, _∙_, _⊎_, inl, inr, ⊎-elim, Bool, true, List, _∷_, _++_, append-assoc, flatMap, Option, ℕ, suc, _+_, _≤_, arith, ltb, length}
 use Rattle.laws.specs.Decoded.{ok, Decoder}
 use Rattle.laws.specs.Codec.{Codec, IfThere, All}
 use Rattle.laws.proofs.Decoding.{refused}

@@ -1,14 +1,5 @@
 -- The fields of nodes.
-use mathlib.Core.Path.{_≡_, refl, ap}
-use mathlib.Core.Logic.{⊎-elim}
-use mathlib.Core.Bool.{Bool, true, false, cond}
-use mathlib.Core.List.{List, [], _∷_, _++_, flatMap}
-use Prim.Native.Nat.{ℕ, zero, suc, _+_, _≤_, _<_}
-use native.Mathlib.Nat.{zero-add, add-zero, not-suc-le-zero, le-of-suc-le-suc}
-use native.Mathlib.Omega.{arith}
-use lib.Dec.{eqb, ltb}
-use lib.ListN.{length, getD, List·getD-eq-default}
-use borrow.Author.Tests.{ltb-true, ltb-false}
+use Rattle.laws.proofs.Prelude.{_≡_, refl, ap, ⊎-elim, Bool, true, false, cond, List, [], _∷_, _++_, flatMap, ℕ, zero, suc, _+_, _≤_, _<_, zero-add, add-zero, not-suc-le-zero, le-of-suc-le-suc, arith, eqb, ltb, length, getD, List·getD-eq-default, ltb-true, ltb-false}
 use Rattle.laws.specs.Decoded.{Decoder, _>>=_, _>>_, return, refuse, require}
 use Rattle.laws.proofs.Decoding.{refused, then-ok, then-refused}
 use Rattle.text.specs.declared.utf8.Encoding.the-variants.{Utf8, Wtf8}

@@ -1,9 +1,5 @@
 -- Codecs of nodes, from those of the nodes one level down.
-use mathlib.Core.Path.{_≡_, refl}
-use mathlib.Core.Logic.{inl, inr}
-use mathlib.Core.List.{List, [], _∷_, _++_, flatMap}
-use Prim.Native.Nat.{ℕ, _≤_}
-use lib.ListN.{length}
+use Rattle.laws.proofs.Prelude.{_≡_, refl, inl, inr, List, [], _∷_, _++_, flatMap, ℕ, _≤_, length}
 use Rattle.laws.specs.Decoded.{Decoder, _>>=_, return}
 use Rattle.laws.specs.Codec.{Codec, IfThere, All}
 use Rattle.laws.proofs.Decoding.{refused}

@@ -18,7 +18,9 @@ use Rattle.sheet.specs.Names.{sideNumber}
 use Rattle.sheet.specs.Comments.{opening, closing, slice}
 use Rattle.sheet.specs.Quotation.{Quotation}
 use Rattle.sheet.specs.Fit.{HeldBySome}
-use Rattle.sheet_codec.specs.Field.{Byte, values, Count, limit, Position, end, stringEnd, commentStart, commentEnd, groupPosition, Number, limited, position, groupCount, Allowed, anyNode, aString, anObject, Field, byte, tag, number, text, everyComment, Entry}
+use Rattle.sheet_codec.specs.Field.{Byte, values, Count, limit, Position, end, stringEnd, commentStart, commentEnd, groupPosition, Number}
+use Rattle.sheet_codec.specs.Field.{limited, position, groupCount, Allowed, anyNode, aString, anObject, Field, byte, tag, number, text}
+use Rattle.sheet_codec.specs.Field.{everyComment, Entry}
 
 -- a number that is not too large stands in front, in its shortest form
 pub record Shows (u : List ℕ) (n : ℕ) : Type 0 where
@@ -45,7 +47,8 @@ pub data Wrong : Number → ℕ → ℕ → Type 0 where
   -- 7. A comment starts before the last one's end
   early : {source : List ℕ} {last n : ℕ} → n < last → Wrong (position source (commentStart last)) n refusals.comments
   -- lacks its marks, or is shorter than them
-  unmarked : {source : List ℕ} {kind : CommentKind} {start n : ℕ} → ((body : List ℕ) → slice source (record { start = start; end = n }) ≡ opening kind ++ (body ++ closing kind) → ⊥)
+  unmarked : {source : List ℕ} {kind : CommentKind} {start n : ℕ}
+      → ((body : List ℕ) → slice source (record { start = start; end = n }) ≡ opening kind ++ (body ++ closing kind) → ⊥)
       → Wrong (position source (commentEnd kind start)) n refusals.comments
   -- or a group is out of order
   disordered : {source : List ℕ} {g : Group} {side : Side} {n : ℕ} → ((sideNumber (g .side) < sideNumber side) ⊎ ((g .side ≡ side) × (g .position < n)) → ⊥)
@@ -54,7 +57,8 @@ pub data Wrong : Number → ℕ → ℕ → Type 0 where
   empty : {total first n : ℕ} → n ≡ 0 → Wrong (groupCount total first) n refusals.comments
   beyond : {total first n : ℕ} → total < first + n → Wrong (groupCount total first) n refusals.comments
   -- 13. A String does not begin and end with the same mark
-  unquoted : {source : List ℕ} {start n : ℕ} → (Quotation (slice source (record { start = start; end = n })) → ⊥) → Wrong (position source (stringEnd start)) n refusals.quotation
+  unquoted : {source : List ℕ} {start n : ℕ} → (Quotation (slice source (record { start = start; end = n })) → ⊥)
+      → Wrong (position source (stringEnd start)) n refusals.quotation
 
 -- the bytes u from a field on are refused at it
 pub data Breaks : Field → List ℕ → ℕ → Type 0 where

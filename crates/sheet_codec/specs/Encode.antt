@@ -11,7 +11,9 @@ use Rattle.sheet.specs.Names.{mediaNumber, phaseNumber}
 use Rattle.sheet.specs.Fields.{encodeSpan}
 use Rattle.sheet.specs.Comments.{encodeComment, encodeGroup}
 use Rattle.sheet.specs.Program.{Program}
-use Rattle.sheet.specs.Tree.{Quoted, Node, other, string, name, template, binary, object, importCall, call, importDecl, namedExport, exportFrom, exportAll, importType, importEquals, importRequire, moduleDecl, Nodes, none, more, Arguments, noArguments, argument, Properties, noProperties, spread, otherProperty, childKey, stringKey, nameKey, Attributes, without, withObject}
+use Rattle.sheet.specs.Tree.{Quoted, Node, other, string, name, template, binary, object, importCall, call, importDecl, namedExport, exportFrom}
+use Rattle.sheet.specs.Tree.{exportAll, importType, importEquals, importRequire, moduleDecl, Nodes, none, more, Arguments, noArguments, argument}
+use Rattle.sheet.specs.Tree.{Properties, noProperties, spread, otherProperty, childKey, stringKey, nameKey, Attributes, without, withObject}
 use Rattle.sheet.specs.Sheet.{Sheet}
 
 -- script flag, start, end, shebang flag, first-item flag, then that item's start if the flag is 1

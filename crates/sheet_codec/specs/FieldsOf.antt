@@ -15,11 +15,15 @@ use Rattle.sheet.specs.declared.groups.Group.{Group}
 use Rattle.sheet.specs.Names.{mediaNumber, kindNumber, sideNumber, phaseNumber}
 use Rattle.sheet.specs.Comments.{endOf}
 use Rattle.sheet.specs.Program.{Program}
-use Rattle.sheet.specs.Tree.{Quoted, Node, other, string, name, template, binary, object, importCall, call, importDecl, namedExport, exportFrom, exportAll, importType, importEquals, importRequire, moduleDecl, Nodes, none, more, Arguments, noArguments, argument, Properties, noProperties, spread, otherProperty, childKey, stringKey, nameKey, Attributes, without, withObject}
+use Rattle.sheet.specs.Tree.{Quoted, Node, other, string, name, template, binary, object, importCall, call, importDecl, namedExport, exportFrom}
+use Rattle.sheet.specs.Tree.{exportAll, importType, importEquals, importRequire, moduleDecl, Nodes, none, more, Arguments, noArguments, argument}
+use Rattle.sheet.specs.Tree.{Properties, noProperties, spread, otherProperty, childKey, stringKey, nameKey, Attributes, without, withObject}
 use Rattle.sheet.specs.Sheet.{Sheet}
 use Rattle.sheet_codec.specs.Encode.{nodesIn, argumentsIn, propertiesIn}
 use Rattle.sheet_codec.specs.Limits.{under}
-use Rattle.sheet_codec.specs.Field.{Byte, media, kind, side, flag, phase, callee, property, key, Count, sourceLength, textLength, comments, groups, properties, start, end, stringEnd, commentStart, commentEnd, groupPosition, Number, limited, free, position, groupCount, Allowed, anyNode, aString, anObject, byte, tag, number, text, everyComment, Entry}
+use Rattle.sheet_codec.specs.Field.{Byte, media, kind, side, flag, phase, callee, property, key, Count, sourceLength, textLength, comments}
+use Rattle.sheet_codec.specs.Field.{groups, properties, start, end, stringEnd, commentStart, commentEnd, groupPosition, Number, limited, free}
+use Rattle.sheet_codec.specs.Field.{position, groupCount, Allowed, anyNode, aString, anObject, byte, tag, number, text, everyComment, Entry}
 
 abbrev pub aByte : Byte → ℕ → Entry
 aByte b x = record { field = byte b; bytes = x ∷ [] }
@@ -98,7 +102,8 @@ module _ (source : List ℕ) where
         ∷ (spanFields sp ++ (aNumber free (nodesIn ns) ∷ (flatMap (optionalFields (shortText Wtf8)) ps ++ nodesFields ns (under levels))))
     nodeFields (binary sp plus l r) levels =
         aTag anyNode levels 4 ∷ (spanFields sp ++ (aFlag plus ∷ (nodeFields l (under levels) ++ nodeFields r (under levels))))
-    nodeFields (object sp ps) levels = aTag anyNode levels 5 ∷ (spanFields sp ++ (aNumber (limited properties) (propertiesIn ps) ∷ propertiesFields ps (under levels)))
+    nodeFields (object sp ps) levels = aTag anyNode levels 5 ∷ (spanFields sp ++
+        (aNumber (limited properties) (propertiesIn ps) ∷ propertiesFields ps (under levels)))
     nodeFields (importCall sp phase′ xs ns) levels =
         aTag anyNode levels 6
         ∷ (spanFields sp

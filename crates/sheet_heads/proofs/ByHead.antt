@@ -1,10 +1,5 @@
 -- A node is its head and what follows it; so are a property, an argument and an Object that holds attributes.
-use mathlib.Core.Path.{_≡_, refl, sym, _∙_}
-use mathlib.Core.Bool.{Bool, true, false}
-use mathlib.Core.List.{List}
-use Prim.Native.Nat.{ℕ, zero, suc, _-_}
-use native.Mathlib.Omega.{arith}
-use lib.Dec.{eqb, ltb}
+use Rattle.laws.proofs.Prelude.{_≡_, refl, sym, _∙_, Bool, true, false, List, ℕ, zero, suc, _-_, arith, eqb, ltb}
 use Rattle.laws.specs.Decoded.{Decoded, ok, no, andThen, Decoder, _>>=_, _>>_, return, refuse, require}
 use Rattle.laws.proofs.Decoding.{refused, then-then}
 use Rattle.laws.proofs.Splits.{Splits, ends, first, one, either, done, next, at-index}

@@ -1,8 +1,5 @@
 -- The first of some arguments that were read.
-use mathlib.Core.Path.{_≡_, sym, ap, _∙_}
-use mathlib.Core.Bool.{Bool}
-use mathlib.Core.List.{List}
-use Prim.Native.Nat.{ℕ, _-_, _≤_, _<_}
+use Rattle.laws.proofs.Prelude.{_≡_, sym, ap, _∙_, Bool, List, ℕ, _-_, _≤_, _<_}
 use Rattle.laws.specs.Decoded.{ok, no, andThen, Decoder, return}
 use Rattle.laws.proofs.Decoding.{then-ok}
 use Rattle.sheet.specs.declared.fields.Span.{Span}

@@ -1,8 +1,5 @@
 -- Items read one after the other: what a loop over them keeps, with what was found so far, and what was read if all of them were.
-use mathlib.Core.Path.{_≡_, refl, sym, ap, _∙_}
-use mathlib.Core.List.{List}
-use Prim.Native.Nat.{ℕ, zero, suc, _-_, _≤_, _<_}
-use native.Mathlib.Omega.{arith}
+use Rattle.laws.proofs.Prelude.{_≡_, refl, sym, ap, _∙_, List, ℕ, zero, suc, _-_, _≤_, _<_, arith}
 use Rattle.laws.specs.Decoded.{Decoded, ok, no, onOk, Decoder}
 use Rattle.laws.proofs.Decoding.{refused, then-ok, onOk-ok}
 use Rattle.sheet.specs.Nodes.{many}

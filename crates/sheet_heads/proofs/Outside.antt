@@ -1,8 +1,5 @@
 -- A tag, and the bytes of a property and of its key, outside their values.
-use mathlib.Core.Path.{_≡_}
-use mathlib.Core.List.{List}
-use Prim.Native.Nat.{ℕ}
-use lib.ListN.{List·getD-eq-default}
+use Rattle.laws.proofs.Prelude.{_≡_, List, ℕ, List·getD-eq-default}
 use Rattle.laws.specs.Decoded.{ok, no, refuse}
 use Rattle.wire.specs.Fields.{byte}
 use Rattle.wire.proofs.Numbered.{NoneOf, beyond}

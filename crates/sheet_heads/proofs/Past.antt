@@ -1,6 +1,5 @@
 -- What is past one place is past each place before it.
-use Prim.Native.Nat.{ℕ, _≤_}
-use native.Mathlib.Omega.{arith}
+use Rattle.laws.proofs.Prelude.{ℕ, _≤_, arith}
 use Rattle.sheet_heads.specs.declared.node.FieldsRead.{FieldsRead}
 use Rattle.sheet_heads.specs.declared.node.FieldsRead.the-variants as fieldsRead
 use Rattle.sheet_heads.specs.declared.parts.PropertyRead.{PropertyRead}

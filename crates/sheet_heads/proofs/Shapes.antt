@@ -1,8 +1,5 @@
 -- What holds of each node that a variant of a head may have holds of the node that is read behind it.
-use mathlib.Core.Path.{_≡_, refl}
-use mathlib.Core.Bool.{Bool}
-use mathlib.Core.List.{List, []}
-use Prim.Native.Nat.{ℕ, _+_}
+use Rattle.laws.proofs.Prelude.{_≡_, refl, Bool, List, [], ℕ, _+_}
 use types.Run.{OneOf}
 use denote.Enum.Declared.{tagOf}
 use Rattle.laws.specs.Decoded.{Decoder}

@@ -1,12 +1,5 @@
 -- The byte `*` in what is left of a text.
-use mathlib.Core.Path.{_≡_}
-use mathlib.Core.Bool.{false, _||_}
-use mathlib.Core.List.{List}
-use Prim.Native.Nat.{ℕ, _+_, _≤_, _<_}
-use native.Mathlib.Numerals.{add-one}
-use lib.Dec.{eqb}
-use lib.ListN.{length, getD, drop, drop-of-length-le}
-use lib.Seq.{drop-cons}
+use Rattle.laws.proofs.Prelude.{_≡_, false, _||_, List, ℕ, _+_, _≤_, _<_, add-one, eqb, length, getD, drop, drop-of-length-le, drop-cons}
 use Rattle.sheet.specs.Shape.{hasStar}
 
 module _ (x : List ℕ) (i : ℕ) where

@@ -26,7 +26,9 @@ ghost use Rattle.wire.specs.Number.{number};
 ghost use Rattle.wire.specs.Text.{count, text};
 ghost use Rattle.sheet.specs.Limits.{textLimit, propertyLimit};
 ghost use Rattle.sheet.specs.Nodes.{stringText};
-ghost use Rattle.sheet_heads.specs.code.Head.{otherHead, stringHead, nameHead, templateHead, binaryHead, objectHead, callStart, specifierStart, importStart, namedExportStart, exportAllStart, importTypeStart, importRequireStart, importEqualsStart, moduleStart, start, head};
+ghost use Rattle.sheet_heads.specs.code.Head.{otherHead, stringHead, nameHead, templateHead, binaryHead, objectHead, callStart, specifierStart};
+ghost use Rattle.sheet_heads.specs.code.Head.{importStart, namedExportStart, exportAllStart, importTypeStart, importRequireStart};
+ghost use Rattle.sheet_heads.specs.code.Head.{importEqualsStart, moduleStart, start, head};
 ghost use Rattle.sheet_heads.specs.code.Views.{specifierAs, fieldsAs, headAs, Part, PastSpecifier, PastFields, PastHead};
 
 // What stands before a node's first child. A text is from a place of the sheet to another.

@@ -21,7 +21,8 @@ ghost use Rattle.wire.specs.code.Views.{flagAs};
 ghost use Rattle.sheet.specs.Nodes.{many, piece};
 ghost use Rattle.sheet.specs.Shape.{anyUncooked};
 ghost use Rattle.sheet_heads.specs.code.Parts.{argumentHead, keyHead, propertyHead, attributesHead};
-ghost use Rattle.sheet_heads.specs.code.Views.{pieceAs, argumentAs, nodesOf, propertyAs, attributesAs, PastPiece, PastPieces, PastArgument, PastProperty, PastAttributes};
+ghost use Rattle.sheet_heads.specs.code.Views.{pieceAs, argumentAs, nodesOf, propertyAs, attributesAs, PastPiece, PastPieces, PastArgument};
+ghost use Rattle.sheet_heads.specs.code.Views.{PastProperty, PastAttributes};
 
 // A piece with the cursor past it, or a refusal's number. A cooked piece's text stands from a place up to that cursor.
 pub enum PieceRead {

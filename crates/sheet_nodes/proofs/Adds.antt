@@ -1,8 +1,7 @@
 -- How what is found adds up.
-use mathlib.Core.Path.{_≡_}
-use mathlib.Core.Bool.{Bool, false, not, _&&_, and-false, _||_, or-assoc, or-false, or-true}
-use Prim.Native.Nat.{_+_}
-use native.Mathlib.Nat.{add-assoc, add-zero, zero-add}
+use Rattle.laws.proofs.Prelude.{_≡_, Bool, false, not, _&&_, _||_, or-true, _+_, add-zero, zero-add}
+use mathlib.Core.Bool.{and-false, or-assoc, or-false}
+use native.Mathlib.Nat.{add-assoc}
 use Rattle.sheet.specs.declared.fields.Span.{Span}
 use Rattle.sheet.specs.Tree.{Node, Arguments, noArguments, argument}
 use Rattle.sheet.specs.Shape.{shape, isUncooked}

@@ -1,9 +1,7 @@
 -- What is found in a node, from what is found in the nodes that it holds.
-use mathlib.Core.Path.{_≡_, refl, ap, _∙_}
-use mathlib.Core.Bool.{Bool, true, false, or-false, or-assoc}
-use mathlib.Core.List.{List}
-use Prim.Native.Nat.{ℕ}
-use native.Mathlib.Nat.{add-assoc, add-zero, zero-add}
+use Rattle.laws.proofs.Prelude.{_≡_, refl, ap, _∙_, Bool, true, false, List, ℕ, add-zero, zero-add}
+use mathlib.Core.Bool.{or-false, or-assoc}
+use native.Mathlib.Nat.{add-assoc}
 use Rattle.laws.specs.Decoded.{Decoded, ok, no, andThen, onOk, Decoder, _>>=_, return}
 use Rattle.laws.proofs.Decoding.{refused, map-map, built}
 use Rattle.text.specs.Bytes.{part}

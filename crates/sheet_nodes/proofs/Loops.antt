@@ -1,8 +1,5 @@
 -- What the loops over nodes, arguments and properties keep: what was found so far, with what is to come, is what there is in all.
-use mathlib.Core.Path.{_≡_, sym, ap, _∙_}
-use mathlib.Core.Bool.{Bool}
-use mathlib.Core.List.{List}
-use Prim.Native.Nat.{ℕ, _-_, _≤_, _<_}
+use Rattle.laws.proofs.Prelude.{_≡_, sym, ap, _∙_, Bool, List, ℕ, _-_, _≤_, _<_}
 use Rattle.laws.specs.Decoded.{Decoded, ok, no, onOk, Decoder}
 use Rattle.laws.proofs.Decoding.{onOk-ok, onOk-no, onOk-same}
 use Rattle.laws.proofs.Answers.{Yields, ends, behind}

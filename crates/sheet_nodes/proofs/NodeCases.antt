@@ -1,9 +1,5 @@
 -- Nodes of a source that is an empty string with what is found in them, or the number of their refusal, as the definitions compute.
-use mathlib.Core.Path.{_≡_, refl}
-use mathlib.Core.Bool.{Bool, true, false}
-use mathlib.Core.List.{List, [], _∷_, _++_, map}
-use Prim.Native.Nat.{ℕ}
-use lib.ListN.{length}
+use Rattle.laws.proofs.Prelude.{_≡_, refl, Bool, true, false, List, [], _∷_, _++_, map, ℕ, length}
 use Rattle.laws.specs.Decoded.{Decoded, ok, no, onOk}
 use Rattle.laws.specs.Ascii.{ascii}
 use Rattle.text.specs.Bytes.{begins, same}

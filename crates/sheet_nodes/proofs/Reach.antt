@@ -1,15 +1,10 @@
 -- How far the entries of the root's children reach, child by child.
-use mathlib.Core.Path.{_≡_, refl, sym, ap, _∙_}
-use mathlib.Core.List.{List, [], _∷_}
-use Prim.Native.Nat.{ℕ, zero, suc, _+_, _-_, _≤_, _<_}
-use native.Mathlib.Omega.{arith}
+use Rattle.laws.proofs.Prelude.{_≡_, refl, sym, ap, _∙_, List, [], _∷_, ℕ, zero, suc, _+_, _-_, _≤_, _<_, arith, drop, seen}
 use types.Run.{OneOf, miss}
 use denote.Enum.Declared.{tagOf}
-use lib.ListN.{drop}
 use Rattle.laws.specs.Decoded.{ok, onOk, Decoder}
 use Rattle.laws.proofs.Answers.{Yields, ends, behind}
 use Rattle.laws.proofs.Decoding.{then-ok, onOk-ok}
-use Rattle.laws.proofs.Steps.{seen}
 use Rattle.wire.specs.declared.Cursor.{Cursor}
 use Rattle.sheet.specs.declared.fields.Span.{Span}
 use Rattle.sheet.specs.Tree.{Node, other, Nodes, none, more, Attributes}

@@ -1,8 +1,5 @@
 -- Each entry took a byte at least: the bounds of an answer, from those of the answers that it is made of.
-use mathlib.Core.Bool.{Bool}
-use Prim.Native.Nat.{ℕ, _+_, _≤_}
-use native.Mathlib.Omega.{arith}
-use mathlib.Core.Bool.{_&&_}
+use Rattle.laws.proofs.Prelude.{Bool, ℕ, _+_, _≤_, arith, _&&_}
 use Rattle.text.proofs.Ones.{one-most}
 use Rattle.wire.specs.declared.Cursor.{Cursor}
 use Rattle.sheet_nodes.specs.declared.tally.Tally.{Tally}

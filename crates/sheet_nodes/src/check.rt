@@ -267,7 +267,8 @@ pub fn check_attributes(
 fn check_typed(sheet: &[u8], source: &[u8], c: Cursor, count: usize, levels: usize) -> Tallied
     requires { ⌜ c .at ≤ length (now sheet) ⌝ }
     ensures { λ r. ⌜ Told (talliedAs (now (sheet .entry)))
-        (onOk tallyTyped (typeRest (node (now (source .entry)) levels) (attributesObject (now (source .entry)) levels) count (drop (c .at) (now (sheet .entry)))))
+        (onOk tallyTyped (typeRest (node (now (source .entry)) levels) (attributesObject (now (source .entry)) levels) count
+        (drop (c .at) (now (sheet .entry)))))
         (PastTally (c .at) (length (now (sheet .entry)))) r ⌝ }
 {
     match check_nodes(sheet, source, c, count, levels) {

@@ -1,14 +1,5 @@
 -- The bytes of a character: the first begins it, and each other goes on with it.
-use mathlib.Core.Path.{_≡_, refl}
-use mathlib.Core.Bool.{Bool, true, false, _&&_, _||_, and-eq-true-iff, false≢true}
-use mathlib.Core.List.{List, [], _∷_}
-use Prim.Native.Nat.{ℕ, zero, suc, _+_, _-_, _≤_, _<_}
-use native.Mathlib.Nat.{add-zero}
-use native.Mathlib.Omega.{arith}
-use lib.Dec.{leb, ltb}
-use lib.ListN.{length, getD, drop}
-use lib.Seq.{getD-drop}
-use borrow.Author.Tests.{leb-true, ltb-true, ltb-false}
+use Rattle.laws.proofs.Prelude.{_≡_, refl, Bool, true, false, _&&_, _||_, and-eq-true-iff, false≢true, List, [], _∷_, ℕ, zero, suc, _+_, _-_, _≤_, _<_, add-zero, arith, leb, ltb, length, getD, drop, getD-drop, leb-true, ltb-true, ltb-false}
 use Rattle.text.specs.declared.utf8.Encoding.the-variants.{Utf8}
 use Rattle.text.specs.Ranges.{Range, _to_, within}
 use Rattle.text.specs.Utf8.{admits, Row, char, never, lengthBy, rows, charLength}

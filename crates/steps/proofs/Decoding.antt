@@ -1,13 +1,6 @@
 -- What numbers stand for, by their first step.
-use mathlib.Core.Path.{_≡_, refl, sym, ap, _∙_}
-use mathlib.Core.List.{List}
-use Prim.Native.Nat.{ℕ, zero, suc, _+_, _-_, _≤_, _<_}
-use native.Mathlib.Omega.{arith}
-use lib.Dec.{eqb, ltb}
-use lib.ListN.{length, getD, take, drop, length-take, length-drop}
-use lib.Seq.{take-all}
-use borrow.Author.Tests.{eqb-false, ltb-false}
-use Rattle.laws.proofs.Steps.{known}
+use Rattle.laws.proofs.Prelude.{_≡_, refl, sym, ap, _∙_, List, ℕ, zero, suc, _+_, _-_, _≤_, _<_, arith, eqb, ltb, length, getD, take, drop, length-take, length-drop, take-all, ltb-false, known}
+use borrow.Author.Tests.{eqb-false}
 use Rattle.text.proofs.Formed.{picked}
 use Rattle.text.specs.declared.class.Class.{Class}
 use Rattle.analysis.specs.Row.{Row, longest, shortest, either}

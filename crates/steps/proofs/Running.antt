@@ -1,12 +1,6 @@
 -- What the stepping matcher goes by: the preferred match of a row by its first step, and by the places where a run can end.
-use mathlib.Core.Path.{_≡_, refl, sym, ap, _∙_}
-use mathlib.Core.Bool.{Bool, true, false, cond}
-use mathlib.Core.List.{List, [], _∷_, _++_, reverse, reverse-cons, append-nil, append-assoc, flatMap}
-use Prim.Native.Nat.{ℕ, _+_, _≤_, _<_}
-use native.Mathlib.Nat.{add-zero}
-use native.Mathlib.Omega.{arith}
-use lib.ListN.{take, drop}
-use Rattle.laws.proofs.Steps.{known}
+use Rattle.laws.proofs.Prelude.{_≡_, refl, sym, ap, _∙_, Bool, true, false, cond, List, [], _∷_, _++_, append-nil, append-assoc, flatMap, ℕ, _+_, _≤_, _<_, add-zero, arith, take, drop, known}
+use mathlib.Core.List.{reverse, reverse-cons}
 use Rattle.text.specs.declared.class.Class.{Class}
 use Rattle.text.specs.declared.utf8.Encoding.the-variants.{Utf8}
 use Rattle.text.specs.Utf8.{charLength, charAt}

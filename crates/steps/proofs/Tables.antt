@@ -1,11 +1,5 @@
 -- The ten tables stand for the ten rows; what a table answers.
-use mathlib.Core.Path.{_≡_, refl, sym, ap, _∙_}
-use mathlib.Core.List.{List}
-use Prim.Native.Nat.{ℕ, _+_, _≤_, _<_}
-use native.Mathlib.Omega.{arith}
-use lib.ListN.{length}
-use borrow.Author.Tests.{le-ltb, lt-ltb}
-use Rattle.laws.proofs.Steps.{known}
+use Rattle.laws.proofs.Prelude.{_≡_, refl, sym, ap, _∙_, List, ℕ, _+_, _≤_, _<_, arith, length, le-ltb, lt-ltb, known}
 use Rattle.analysis.specs.declared.Capture.{Capture}
 use Rattle.analysis.specs.declared.Found.{Found}
 use Rattle.analysis.specs.declared.Found.the-variants.{At, Nothing}

@@ -1,13 +1,6 @@
 -- Every row is what the numbers stand for by which it is written.
-use mathlib.Core.Path.{_≡_, refl, ap, _∙_}
-use mathlib.Core.Bool.{true, false}
-use mathlib.Core.List.{List, [], _∷_, _++_}
-use Prim.Native.Nat.{ℕ, suc, _+_, _-_}
-use native.Mathlib.Omega.{arith}
-use lib.Dec.{eqb, eqb·suc-zero, ltb}
-use lib.ListN.{length, drop, length-append}
-use lib.Seq.{take-append-seam, drop-append-seam}
-use borrow.Author.Tests.{ne-eqb, le-ltb}
+use Rattle.laws.proofs.Prelude.{_≡_, refl, ap, _∙_, true, false, List, [], _∷_, _++_, ℕ, suc, _+_, _-_, arith, eqb, ltb, length, drop, length-append, take-append-seam, drop-append-seam, ne-eqb, le-ltb}
+use lib.Dec.{eqb·suc-zero}
 use Rattle.text.specs.declared.class.Class.{Class}
 use Rattle.text.specs.declared.class.Class.the-variants.{White, NotWhite, WhiteOrStar, NotLf, Quote, NotQuote, SourceMark, Alphabetic, NameRest}
 use Rattle.analysis.specs.Row.{Row, done, start, word, one, longest, shortest, from, to, either}

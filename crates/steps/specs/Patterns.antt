@@ -5,10 +5,13 @@ use Prim.Native.String.{String}
 use lib.ListN.{length}
 use Rattle.laws.specs.Ascii.{ascii}
 use Rattle.analysis.specs.Row.{Row}
-use Rattle.analysis.specs.Patterns.{tripleSlashRow, pathRow, typesRow, resolutionModeRow, jsxImportSourceRow, jsxImportSourceTypesRow, sourceMappingUrlRow, tsSelfTypesRow, tsTypesRow, denoTypesRow}
+use Rattle.analysis.specs.Patterns.{tripleSlashRow, pathRow, typesRow, resolutionModeRow, jsxImportSourceRow, jsxImportSourceTypesRow}
+use Rattle.analysis.specs.Patterns.{sourceMappingUrlRow, tsSelfTypesRow, tsTypesRow, denoTypesRow}
 use Rattle.steps.specs.declared.Pattern.{Pattern}
-use Rattle.steps.specs.declared.Pattern.the-variants.{TripleSlash, Path, Types, ResolutionMode, JsxImportSource, JsxImportSourceTypes, SourceMappingUrl, TsSelfTypes, TsTypes, DenoTypes}
-use Rattle.steps.specs.Codes.{START, TO, WORD, ONE, LONGEST, SHORTEST, FROM, EITHER, WHITE, NOT-WHITE, WHITE-OR-STAR, NOT-LF, QUOTE, NOT-QUOTE, SOURCE-MARK, BARE, MARKED}
+use Rattle.steps.specs.declared.Pattern.the-variants.{TripleSlash, Path, Types, ResolutionMode, JsxImportSource, JsxImportSourceTypes}
+use Rattle.steps.specs.declared.Pattern.the-variants.{SourceMappingUrl, TsSelfTypes, TsTypes, DenoTypes}
+use Rattle.steps.specs.Codes.{START, TO, WORD, ONE, LONGEST, SHORTEST, FROM, EITHER, WHITE, NOT-WHITE, WHITE-OR-STAR, NOT-LF, QUOTE, NOT-QUOTE}
+use Rattle.steps.specs.Codes.{SOURCE-MARK, BARE, MARKED}
 
 -- a word, by its letters
 abbrev pub word : String → List ℕ

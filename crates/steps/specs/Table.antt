@@ -13,7 +13,8 @@ use Rattle.steps.specs.declared.table.Plain.{Plain}
 use Rattle.steps.specs.declared.table.Plain.the-variants.{Start, Word, One, From, To}
 use Rattle.steps.specs.declared.table.Step.{Step}
 use Rattle.steps.specs.declared.table.Step.the-variants.{Done, Pass, Longest, Shortest, Either, Bad}
-use Rattle.steps.specs.Codes.{START, TO, WORD, ONE, LONGEST, FROM, EITHER, WHITE, NOT-WHITE, WHITE-OR-STAR, NOT-LF, QUOTE, NOT-QUOTE, SOURCE-MARK, ALPHABETIC, NAME-REST, MARKED}
+use Rattle.steps.specs.Codes.{START, TO, WORD, ONE, LONGEST, FROM, EITHER, WHITE, NOT-WHITE, WHITE-OR-STAR, NOT-LF, QUOTE, NOT-QUOTE}
+use Rattle.steps.specs.Codes.{SOURCE-MARK, ALPHABETIC, NAME-REST, MARKED}
 
 -- the class of a number from WHITE to NAME-REST
 unfoldable pub classOf : ℕ → Class

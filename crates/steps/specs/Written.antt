@@ -6,7 +6,8 @@ use lib.ListN.{length}
 use Rattle.text.specs.declared.class.Class.{Class}
 use Rattle.text.specs.declared.class.Class.the-variants.{White, NotWhite, WhiteOrStar, NotLf, Quote, NotQuote, SourceMark, Alphabetic, NameRest}
 use Rattle.analysis.specs.Row.{Row, done, start, word, one, longest, shortest, from, to, either}
-use Rattle.steps.specs.Codes.{START, TO, WORD, ONE, LONGEST, SHORTEST, FROM, EITHER, WHITE, NOT-WHITE, WHITE-OR-STAR, NOT-LF, QUOTE, NOT-QUOTE, SOURCE-MARK, ALPHABETIC, NAME-REST, BARE, MARKED}
+use Rattle.steps.specs.Codes.{START, TO, WORD, ONE, LONGEST, SHORTEST, FROM, EITHER, WHITE, NOT-WHITE, WHITE-OR-STAR, NOT-LF, QUOTE, NOT-QUOTE}
+use Rattle.steps.specs.Codes.{SOURCE-MARK, ALPHABETIC, NAME-REST, BARE, MARKED}
 
 abbrev pub codeOf : Class → ℕ
 codeOf White = WHITE

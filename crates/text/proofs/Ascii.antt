@@ -1,13 +1,5 @@
 -- A run of ASCII is one character after the other.
-use mathlib.Core.Path.{_≡_, sym, ap, _∙_}
-use mathlib.Core.Bool.{Bool, cond}
-use mathlib.Core.List.{List}
-use Prim.Native.Nat.{ℕ, zero, suc, _+_, _≤_, _<_}
-use native.Mathlib.Omega.{arith}
-use native.Mathlib.Nat.{add-zero}
-use lib.ListN.{length, getD, drop}
-use lib.Seq.{drop-cons, getD-drop}
-use borrow.Author.Tests.{le-leb}
+use Rattle.laws.proofs.Prelude.{_≡_, sym, ap, _∙_, Bool, cond, List, ℕ, zero, suc, _+_, _≤_, _<_, arith, add-zero, length, getD, drop, drop-cons, getD-drop, le-leb}
 use Rattle.text.specs.declared.utf8.Encoding.{Encoding}
 use Rattle.text.specs.declared.utf8.Encoding.the-variants.{Utf8}
 use Rattle.text.specs.declared.class.Class.{Class}

@@ -1,11 +1,6 @@
 -- The test for a boundary of a text.
-use mathlib.Core.Path.{_≡_}
-use mathlib.Core.Bool.{true, not, and-eq-true-iff}
-use mathlib.Core.List.{List}
-use Prim.Native.Nat.{ℕ}
-use lib.Dec.{leb}
-use lib.ListN.{length, getD}
-use borrow.Author.Tests.{leb-true, le-leb, not-true}
+use Rattle.laws.proofs.Prelude.{_≡_, true, not, and-eq-true-iff, List, ℕ, leb, length, getD, leb-true, le-leb}
+use borrow.Author.Tests.{not-true}
 use Rattle.text.specs.Ranges.{within}
 use Rattle.text.specs.Utf8.{continuation}
 use Rattle.text.specs.Position.{Boundary, isBoundary}

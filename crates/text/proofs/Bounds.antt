@@ -1,14 +1,6 @@
 -- The bounds of ranges: what one of them says of the others where they ascend, and what the number of those at most x says of x.
-use mathlib.Core.Path.{_≡_, refl, _∙_, ap}
-use mathlib.Core.Bool.{Bool, true, _&&_, _||_, and-eq-true-iff}
-use mathlib.Core.Logic.{_⊎_, inl, inr}
-use mathlib.Core.List.{List, [], _∷_}
-use Prim.Native.Nat.{ℕ, zero, suc, _+_, _%_, _≤_, _<_, zero-le, suc-le-suc}
-use native.Mathlib.Nat.{eq-or-lt-of-le, le-of-suc-le-suc, not-suc-le-zero}
-use native.Mathlib.Omega.{arith}
-use lib.Dec.{ltb, eqb}
-use lib.ListN.{length, getD, take, drop}
-use borrow.Author.Tests.{ltb-true, le-leb, lt-leb}
+use Rattle.laws.proofs.Prelude.{_≡_, refl, _∙_, ap, Bool, true, _&&_, _||_, and-eq-true-iff, _⊎_, inl, inr, List, [], _∷_, ℕ, zero, suc, _+_, _%_, _≤_, _<_, zero-le, suc-le-suc, le-of-suc-le-suc, not-suc-le-zero, arith, ltb, eqb, length, getD, take, drop, ltb-true, le-leb, lt-leb}
+use native.Mathlib.Nat.{eq-or-lt-of-le}
 use Rattle.text.specs.Ranges.{Range, _to_, within, inRanges, bounds, Ascending, Split}
 
 -- a bound at most x puts those before it at most x, and one above x those after it above x

@@ -1,13 +1,6 @@
 -- Character lengths by the rows: each code point has one row, and what is read is its encoding.
-use mathlib.Core.Path.{_≡_, refl, sym, ap, _∙_}
-use mathlib.Core.Bool.{Bool, true, false, cond, _&&_, _||_, and-eq-true-iff, not-eq-not}
-use mathlib.Core.List.{List, [], _∷_, _++_}
-use Prim.Native.Nat.{ℕ, _+_, _≤_}
-use native.Mathlib.Nat.{zero-add}
-use native.Mathlib.Omega.{arith}
-use lib.Dec.{ltb}
-use lib.ListN.{drop}
-use borrow.Author.Tests.{ltb-true}
+use Rattle.laws.proofs.Prelude.{_≡_, refl, sym, ap, _∙_, Bool, true, false, cond, _&&_, _||_, and-eq-true-iff, List, [], _∷_, _++_, ℕ, _+_, _≤_, zero-add, arith, ltb, drop, ltb-true}
+use mathlib.Core.Bool.{not-eq-not}
 use Rattle.laws.specs.code.Told.{Meant}
 use Rattle.text.specs.declared.utf8.Char.{Char}
 use Rattle.text.specs.declared.utf8.Encoding.{Encoding}

@@ -1,8 +1,5 @@
 -- Texts that are UTF-8 or WTF-8, or neither, as the definitions compute.
-use mathlib.Core.Path.{_≡_, refl}
-use mathlib.Core.Bool.{Bool, true, false}
-use mathlib.Core.List.{List, [], _∷_, map}
-use Prim.Native.Nat.{ℕ}
+use Rattle.laws.proofs.Prelude.{_≡_, refl, Bool, true, false, List, [], _∷_, map, ℕ}
 use Rattle.text.specs.declared.utf8.Encoding.the-variants.{Utf8, Wtf8}
 use Rattle.text.specs.Utf8.{admits, lengthBy, charLength, formed, wellFormed}
 

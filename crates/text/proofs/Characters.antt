@@ -1,12 +1,5 @@
 -- A character whose code point meets a test: the relation and the reader agree, for every list. So do a character of a class and `classAt`.
-use mathlib.Core.Path.{_≡_, refl, sym, ap, _∙_}
-use mathlib.Core.Bool.{Bool, true, false, cond}
-use mathlib.Core.List.{List}
-use mathlib.Core.Logic.{_↔_}
-use Prim.Native.Nat.{ℕ, _+_, _≤_, _<_}
-use native.Mathlib.Omega.{arith}
-use lib.ListN.{length, drop, length-append, length-drop}
-use lib.Seq.{drop-append-seam, drop-drop}
+use Rattle.laws.proofs.Prelude.{_≡_, refl, sym, ap, _∙_, Bool, true, false, cond, List, _↔_, ℕ, _+_, _≤_, _<_, arith, length, drop, length-append, length-drop, drop-append-seam, drop-drop}
 use Rattle.text.specs.declared.class.Class.{Class}
 use Rattle.text.specs.declared.utf8.Char.{Char}
 use Rattle.text.specs.declared.utf8.Encoding.the-variants.{Utf8}

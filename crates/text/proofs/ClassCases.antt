@@ -1,9 +1,6 @@
 -- Worked cases of the classes, which antt computes.
-use mathlib.Core.Path.{_≡_, refl}
-use mathlib.Core.Bool.{Bool, true, _&&_}
-use mathlib.Core.List.{List, [], _∷_, foldr, flatMap}
-use Prim.Native.Nat.{ℕ}
-use lib.Dec.{eqb}
+use Rattle.laws.proofs.Prelude.{_≡_, refl, Bool, true, _&&_, List, [], _∷_, flatMap, ℕ, eqb}
+use mathlib.Core.List.{foldr}
 use Rattle.text.specs.declared.class.Class.{Class}
 use Rattle.text.specs.declared.class.Class.the-variants.{White, Alphabetic}
 use Rattle.text.specs.Ranges.{inRanges}

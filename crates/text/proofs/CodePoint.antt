@@ -1,13 +1,5 @@
 -- The code point of the first bytes of a text, from their bits; that of the encoding of p is p.
-use mathlib.Core.Path.{_≡_, refl}
-use mathlib.Core.List.{List, _++_}
-use Prim.Native.Nat.{ℕ, _+_, _*_, _/_, _%_, _≤_, _<_}
-use native.Mathlib.Nat.{add-zero}
-use native.Mathlib.Omega.{arith}
-use lib.Dec.{ltb}
-use lib.ListN.{length, getD, drop}
-use lib.Seq.{getD-drop}
-use borrow.Author.Tests.{ltb-true, ltb-false, ne-eqb}
+use Rattle.laws.proofs.Prelude.{_≡_, refl, List, _++_, ℕ, _+_, _*_, _/_, _%_, _≤_, _<_, add-zero, arith, ltb, length, getD, drop, getD-drop, ltb-true, ltb-false, ne-eqb}
 use Rattle.text.specs.Utf8.{codeBy}
 use Rattle.text.specs.Encode.{encode1, encode2, encode3, encode4, encode}
 use Rattle.text.proofs.Formed.{picked}

@@ -1,14 +1,5 @@
 -- A position counts characters: past the bytes of a code point stands the position past one character.
-use mathlib.Core.Path.{_≡_, refl, ap, _∙_}
-use mathlib.Core.Bool.{cond}
-use mathlib.Core.List.{List, [], _∷_, _++_, flatMap}
-use Prim.Native.Nat.{ℕ, _+_, _/_, _%_, _≤_, _<_}
-use native.Mathlib.Nat.{add-zero}
-use native.Mathlib.Omega.{arith}
-use lib.Dec.{eqb}
-use lib.ListN.{getD, take}
-use lib.Seq.{take-append-seam}
-use borrow.Author.Tests.{le-leb, lt-leb, ne-eqb}
+use Rattle.laws.proofs.Prelude.{_≡_, refl, ap, _∙_, cond, List, [], _∷_, _++_, flatMap, ℕ, _+_, _/_, _%_, _≤_, _<_, add-zero, arith, eqb, getD, take, take-append-seam, le-leb, lt-leb, ne-eqb}
 use Rattle.laws.proofs.Lists.{flatMap-append}
 use Rattle.text.specs.declared.position.Position.{Position}
 use Rattle.text.specs.declared.utf8.Encoding.the-variants.{Utf8}

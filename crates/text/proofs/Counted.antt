@@ -1,8 +1,5 @@
 -- How many of a block's first places have a property.
-use mathlib.Core.Path.{_≡_}
-use mathlib.Core.Logic.{_⊎_, inl, inr}
-use Prim.Native.Nat.{ℕ, _+_, _≤_, _<_}
-use native.Mathlib.Omega.{arith}
+use Rattle.laws.proofs.Prelude.{_≡_, _⊎_, inl, inr, ℕ, _+_, _≤_, _<_, arith}
 use borrow.Author.Count.{below-more}
 
 -- n of the first i; where it is all of them, each has it

@@ -1,15 +1,6 @@
 -- Where a well-formed text may be cut: at its character boundaries, which are the places behind a row of its characters.
-use mathlib.Core.Path.{_≡_, refl, sym, ap, _∙_}
-use mathlib.Core.Bool.{Bool, true, false, true≢false}
-use mathlib.Core.List.{List, [], _∷_, _++_, append-nil, append-assoc, flatMap}
-use mathlib.Core.Logic.{_↔_}
-use Prim.Native.Nat.{ℕ, zero, suc, _+_, _-_, _/_, _%_, _≤_, _<_}
-use native.Mathlib.Nat.{add-zero}
-use native.Mathlib.Omega.{arith}
-use lib.Dec.{ltb}
-use lib.ListN.{length, getD, take, drop, length-append, length-drop}
-use lib.Seq.{drop-cons, getD-drop, getD-append-add, take-append-seam, drop-append-seam}
-use borrow.Author.Tests.{le-leb, lt-leb, ltb-true, ltb-false}
+use Rattle.laws.proofs.Prelude.{_≡_, refl, sym, ap, _∙_, Bool, true, false, true≢false, List, [], _∷_, _++_, append-nil, append-assoc, flatMap, _↔_, ℕ, zero, suc, _+_, _-_, _/_, _%_, _≤_, _<_, add-zero, arith, ltb, length, getD, take, drop, length-append, length-drop, drop-cons, getD-drop, take-append-seam, drop-append-seam, le-leb, lt-leb, ltb-true, ltb-false}
+use lib.Seq.{getD-append-add}
 use Rattle.laws.specs.Codec.{All}
 use Rattle.laws.proofs.Lists.{flatMap-append, all-parts}
 use Rattle.text.specs.declared.utf8.Char.{Char}

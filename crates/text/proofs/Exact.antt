@@ -1,13 +1,7 @@
 -- The bytes that a row admits are exactly the encodings of its code points. Each row is built byte by byte, and one law adds a byte.
-use mathlib.Core.Path.{_≡_, refl}
-use mathlib.Core.Bool.{true, false≢true, and-eq-true-iff}
-use mathlib.Core.List.{List, [], _∷_, _++_, append-nil, append-assoc}
-use Prim.Native.Nat.{ℕ, zero, suc, _+_, _-_, _*_, _/_, _%_, _≤_, _<_}
-use native.Mathlib.Nat.{zero-add, div-div-eq-div-mul}
-use native.Mathlib.Omega.{arith}
-use lib.ListN.{length, drop, length-append}
-use lib.Seq.{drop-length, drop-at, drop-drop}
-use borrow.Author.Tests.{lt-ltb, le-ltb}
+use Rattle.laws.proofs.Prelude.{_≡_, refl, true, false≢true, and-eq-true-iff, List, [], _∷_, _++_, append-nil, append-assoc, ℕ, zero, suc, _+_, _-_, _*_, _/_, _%_, _≤_, _<_, zero-add, arith, length, drop, length-append, drop-drop, lt-ltb, le-ltb}
+use native.Mathlib.Nat.{div-div-eq-div-mul}
+use lib.Seq.{drop-length, drop-at}
 use Rattle.laws.specs.Codec.{All}
 use Rattle.text.specs.declared.utf8.Encoding.{Encoding}
 use Rattle.text.specs.declared.utf8.Encoding.the-variants.{Utf8, Wtf8}

@@ -1,11 +1,6 @@
 -- A text that is one character after the other, from one character to the next; and what every row of the table says of a length.
-use mathlib.Core.Path.{_≡_, refl, ap, sym, _∙_}
-use mathlib.Core.Bool.{Bool, true, false, cond, _&&_, and-eq-true-iff}
-use mathlib.Core.List.{List, [], _∷_}
-use Prim.Native.Nat.{ℕ, zero, suc, _+_, _≤_, _<_, zero-le, suc-le-suc}
+use Rattle.laws.proofs.Prelude.{_≡_, refl, ap, sym, _∙_, Bool, true, false, cond, _&&_, and-eq-true-iff, List, [], _∷_, ℕ, zero, suc, _+_, _≤_, _<_, zero-le, suc-le-suc, length, drop, drop-of-length-le, drop-cons, drop-drop}
 use native.Mathlib.Nat.{add-suc, suc-add}
-use lib.ListN.{length, drop, drop-of-length-le}
-use lib.Seq.{drop-cons, drop-drop}
 use Rattle.text.specs.declared.utf8.Encoding.{Encoding}
 use Rattle.text.specs.Ranges.{Range, within}
 use Rattle.text.specs.Utf8.{admits, Row, char, never, lengthBy, rows, charLength, formed}

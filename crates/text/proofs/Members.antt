@@ -1,11 +1,6 @@
 -- Which numbers lie in a range of one number, and in ranges put together.
-use mathlib.Core.Path.{_≡_, refl, sym, ap, _∙_}
-use mathlib.Core.Bool.{Bool, true, false, _||_, or-assoc}
-use mathlib.Core.List.{List, [], _∷_, _++_}
-use Prim.Native.Nat.{ℕ}
-use native.Mathlib.Omega.{arith}
-use lib.Dec.{leb, eqb}
-use borrow.Author.Tests.{leb-true, leb-false, eq-eqb, ne-eqb}
+use Rattle.laws.proofs.Prelude.{_≡_, refl, sym, ap, _∙_, Bool, true, false, _||_, List, [], _∷_, _++_, ℕ, arith, leb, eqb, leb-true, leb-false, eq-eqb, ne-eqb}
+use mathlib.Core.Bool.{or-assoc}
 use Rattle.text.specs.Ranges.{Range, _to_, within, inRanges}
 
 pub one-point : (a x : ℕ) → inRanges ((a to a) ∷ []) x ≡ eqb x a

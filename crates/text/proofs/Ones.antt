@@ -1,7 +1,5 @@
 -- A test counts for one at most.
-use mathlib.Core.Bool.{Bool, true, false}
-use Prim.Native.Nat.{_≤_}
-use native.Mathlib.Omega.{arith}
+use Rattle.laws.proofs.Prelude.{Bool, true, false, _≤_, arith}
 use Rattle.text.specs.Truth.{one}
 
 pub one-most : (b : Bool) → one b ≤ 1

@@ -1,11 +1,6 @@
 -- Two texts that are the same but between two places: their parts outside are equal, and so are the positions there if that at the second place is.
-use mathlib.Core.Path.{_≡_, ap, sym, _∙_}
-use mathlib.Core.Logic.{_⊎_, inl, inr}
-use mathlib.Core.List.{List}
-use Prim.Native.Nat.{ℕ, _+_, _-_, _≤_}
-use native.Mathlib.Omega.{arith}
-use lib.ListN.{take, drop}
-use lib.Seq.{take-take, drop-drop}
+use Rattle.laws.proofs.Prelude.{_≡_, ap, sym, _∙_, _⊎_, inl, inr, List, ℕ, _+_, _-_, _≤_, arith, take, drop, drop-drop}
+use lib.Seq.{take-take}
 use Rattle.laws.proofs.Lists.{part-part}
 use Rattle.text.specs.Bytes.{part}
 use Rattle.text.specs.Position.{Units, walk, startPosition, positionOf}

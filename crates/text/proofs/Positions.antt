@@ -1,14 +1,7 @@
 -- Positions from one place of a text to another, how far they go, and an index of them.
-use mathlib.Core.Path.{_≡_, refl, _∙_}
-use mathlib.Core.Bool.{Bool, true, false, cond}
-use mathlib.Core.List.{List, [], _∷_, _++_}
-use Prim.Native.Nat.{ℕ, suc, _+_, _-_, _*_, _/_, _≤_, _<_}
-use native.Mathlib.Nat.{not-suc-le-zero, add-sub-of-le, sub-eq-zero-of-le, mod-eq-sub-mul-div}
-use native.Mathlib.Omega.{arith}
-use native.Mathlib.Numerals.{add-one}
-use lib.Dec.{eqb}
-use lib.ListN.{length, getD, set, take, drop, length-set}
-use lib.Seq.{take-add, drop-cons, length-take-le, getD-set-same, getD-set-other, drop-set-lt}
+use Rattle.laws.proofs.Prelude.{_≡_, refl, _∙_, Bool, true, false, cond, List, [], _∷_, _++_, ℕ, suc, _+_, _-_, _*_, _/_, _≤_, _<_, not-suc-le-zero, arith, add-one, eqb, length, getD, set, take, drop, length-set, drop-cons, length-take-le, getD-set-same, getD-set-other}
+use native.Mathlib.Nat.{add-sub-of-le, sub-eq-zero-of-le, mod-eq-sub-mul-div}
+use lib.Seq.{take-add, drop-set-lt}
 use borrow.Author.Count.{below-more}
 use Rattle.text.specs.declared.position.Position.{Position}
 use Rattle.text.specs.Ranges.{within}

@@ -1,14 +1,5 @@
 -- Positions tell the places of a text apart.
-use mathlib.Core.Path.{_≡_, refl, ap, sym}
-use mathlib.Core.Bool.{Bool, true, false}
-use mathlib.Core.Logic.{inl, inr, ⊎-elim}
-use mathlib.Core.List.{List, [], _∷_}
-use Prim.Native.Nat.{ℕ, suc, _-_, _≤_, _<_}
-use native.Mathlib.Omega.{arith}
-use lib.Dec.{ltb}
-use lib.ListN.{length, getD, take, drop}
-use lib.Seq.{drop-cons}
-use borrow.Author.Tests.{ltb-true, ltb-false}
+use Rattle.laws.proofs.Prelude.{_≡_, refl, ap, sym, Bool, true, false, inl, inr, ⊎-elim, List, [], _∷_, ℕ, suc, _-_, _≤_, _<_, arith, ltb, length, getD, take, drop, drop-cons, ltb-true, ltb-false}
 use Rattle.text.specs.declared.position.Position.{Position}
 use Rattle.text.specs.Ranges.{within}
 use Rattle.text.specs.Utf8.{continuation}

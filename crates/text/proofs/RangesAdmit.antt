@@ -1,10 +1,6 @@
 -- What ranges one after the other admit at a place of a text.
-use mathlib.Core.Path.{_≡_, refl, sym}
-use mathlib.Core.Bool.{Bool, true, false, _&&_, and-true, and-assoc}
-use mathlib.Core.List.{List, [], _∷_, _++_}
-use Prim.Native.Nat.{ℕ, _+_, _≤_, _<_}
-use lib.ListN.{length, getD, drop, drop-of-length-le}
-use lib.Seq.{drop-cons, drop-drop}
+use Rattle.laws.proofs.Prelude.{_≡_, refl, sym, Bool, true, false, _&&_, List, [], _∷_, _++_, ℕ, _+_, _≤_, _<_, length, getD, drop, drop-of-length-le, drop-cons, drop-drop}
+use mathlib.Core.Bool.{and-true, and-assoc}
 use Rattle.text.specs.Ranges.{Range, within}
 use Rattle.text.specs.Utf8.{admits}
 

@@ -1,13 +1,8 @@
 -- The character reader answers a code point exactly where the text begins with its encoding.
-use mathlib.Core.Path.{_≡_, refl, sym, ap, _∙_}
-use mathlib.Core.Bool.{Bool, true, false, cond, _||_, and-false, and-eq-true-iff, not-eq-not, or-true, false≢true}
-use mathlib.Core.List.{List, [], _∷_, _++_}
-use Prim.Native.Nat.{ℕ, zero, suc, _+_, _/_, _≤_, _<_}
-use native.Mathlib.Omega.{arith}
-use lib.Dec.{leb, ltb}
-use lib.ListN.{length, getD, take, drop, take-append-drop}
-use lib.Seq.{length-take-le, take-at, drop-at}
-use borrow.Author.Tests.{leb-true, leb-false, lt-leb, ltb-true, lt-ltb, le-ltb}
+use Rattle.laws.proofs.Prelude.{_≡_, refl, sym, ap, _∙_, Bool, true, false, cond, _||_, and-eq-true-iff, or-true, false≢true, List, [], _∷_, _++_, ℕ, zero, suc, _+_, _/_, _≤_, _<_, arith, leb, ltb, length, getD, take, drop, length-take-le, leb-true, leb-false, lt-leb, ltb-true, lt-ltb, le-ltb}
+use mathlib.Core.Bool.{and-false, not-eq-not}
+use lib.ListN.{take-append-drop}
+use lib.Seq.{take-at, drop-at}
 use Rattle.laws.specs.Codec.{All}
 use Rattle.text.specs.declared.utf8.Encoding.{Encoding}
 use Rattle.text.specs.declared.utf8.Encoding.the-variants.{Utf8, Wtf8}

@@ -1,14 +1,6 @@
 -- The surrogates of a text replaced by U+FFFD: what is left to be written and to be counted from one place to the next; the lossy text is as
 -- long as the text, and is the text itself where there is no surrogate.
-use mathlib.Core.Path.{_≡_, refl, ap, _∙_}
-use mathlib.Core.Bool.{Bool, true, false}
-use mathlib.Core.List.{List, [], _∷_}
-use Prim.Native.Nat.{ℕ, zero, suc, _+_, _≤_, _<_}
-use native.Mathlib.Omega.{arith}
-use native.Mathlib.Numerals.{add-one}
-use lib.ListN.{length, getD, drop, drop-of-length-le}
-use lib.Seq.{drop-cons, drop-drop}
-use borrow.Author.Tests.{eqb-true}
+use Rattle.laws.proofs.Prelude.{_≡_, refl, ap, _∙_, Bool, true, false, List, [], _∷_, ℕ, zero, suc, _+_, _≤_, _<_, arith, add-one, length, getD, drop, drop-of-length-le, drop-cons, drop-drop, eqb-true}
 use Rattle.text.specs.Utf8.{admits, surrogate}
 use Rattle.text.specs.Lossy.{marking, counting, replacing, surrogates, lossy, replaced, exact}
 use Rattle.text.proofs.Formed.{admitted}

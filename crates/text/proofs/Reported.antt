@@ -1,15 +1,7 @@
 -- The lossy text by code points: each surrogate is reported as U+FFFD, and any other code point as itself.
-use mathlib.Core.Path.{_≡_, refl, sym, ap, _∙_}
-use mathlib.Core.Bool.{Bool, true, false, cond, and-false, true≢false, not-eq-not}
-use mathlib.Core.List.{List, [], _∷_, _++_, map, flatMap}
-use mathlib.Core.Logic.{_↔_}
-use Prim.Native.Nat.{ℕ, suc, _+_, _/_, _%_, _≤_, _<_}
-use native.Mathlib.Nat.{zero-add}
-use native.Mathlib.Omega.{arith}
-use lib.Dec.{leb}
-use lib.ListN.{length, drop, length-append}
+use Rattle.laws.proofs.Prelude.{_≡_, refl, sym, ap, _∙_, Bool, true, false, cond, true≢false, List, [], _∷_, _++_, map, flatMap, _↔_, ℕ, suc, _+_, _/_, _%_, _≤_, _<_, zero-add, arith, leb, length, drop, length-append, eqb-true, eq-eqb, le-leb, lt-leb, leb-false}
+use mathlib.Core.Bool.{and-false, not-eq-not}
 use lib.Seq.{drop-at}
-use borrow.Author.Tests.{eqb-true, eq-eqb, le-leb, lt-leb, leb-false}
 use Rattle.laws.specs.Codec.{All}
 use Rattle.text.specs.declared.utf8.Encoding.the-variants.{Utf8, Wtf8}
 use Rattle.text.specs.Ranges.{_to_, within, inRanges}

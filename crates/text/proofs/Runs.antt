@@ -1,10 +1,5 @@
 -- The longest run of a class, from one character to the next.
-use mathlib.Core.Path.{_≡_, refl}
-use mathlib.Core.List.{List, [], _∷_}
-use Prim.Native.Nat.{ℕ, zero, suc, _+_, _≤_}
-use native.Mathlib.Nat.{not-suc-le-zero, le-of-suc-le-suc}
-use native.Mathlib.Omega.{arith}
-use lib.ListN.{length, drop}
+use Rattle.laws.proofs.Prelude.{_≡_, refl, List, [], _∷_, ℕ, zero, suc, _+_, _≤_, not-suc-le-zero, le-of-suc-le-suc, arith, length, drop}
 use Rattle.text.specs.declared.class.Class.{Class}
 use Rattle.text.specs.declared.utf8.Encoding.the-variants.{Utf8}
 use Rattle.text.specs.Utf8.{charAt}

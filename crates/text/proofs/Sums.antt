@@ -1,16 +1,7 @@
 -- What the bytes of a text add up to, byte by byte; and the position past them by it.
-use mathlib.Core.Path.{_≡_, refl, ap, _∙_}
-use mathlib.Core.Bool.{Bool, true, false, cond}
-use mathlib.Core.List.{List, [], _∷_, _++_}
-use Prim.Native.Nat.{ℕ, zero, suc, _+_, _-_, _≤_, _<_}
-use native.Mathlib.Omega.{arith}
+use Rattle.laws.proofs.Prelude.{_≡_, refl, ap, _∙_, Bool, true, false, cond, List, [], _∷_, _++_, ℕ, zero, suc, _+_, _-_, _≤_, _<_, arith, ⊎-elim, add-one, eqb, length, getD, take, drop, length-drop, length-take, drop-drop, getD-drop, lt-leb, eq-eqb, ne-eqb}
 use native.Mathlib.Nat.{eq-or-lt-of-le}
-use mathlib.Core.Logic.{⊎-elim}
-use native.Mathlib.Numerals.{add-one}
-use lib.Dec.{eqb}
-use lib.ListN.{length, getD, take, drop, length-drop, length-take}
-use lib.Seq.{take-suc, take-add, drop-drop, getD-drop, getD-take}
-use borrow.Author.Tests.{lt-leb, eq-eqb, ne-eqb}
+use lib.Seq.{take-suc, take-add, getD-take}
 use Rattle.text.specs.declared.position.Position.{Position}
 use Rattle.text.specs.Ranges.{within}
 use Rattle.text.specs.Utf8.{continuation}

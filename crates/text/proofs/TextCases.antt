@@ -1,7 +1,5 @@
 -- Worked cases of the definitions, which antt computes.
-use mathlib.Core.Path.{_≡_, refl}
-use mathlib.Core.List.{List, [], _∷_, map}
-use Prim.Native.Nat.{ℕ}
+use Rattle.laws.proofs.Prelude.{_≡_, refl, List, [], _∷_, map, ℕ}
 use Rattle.laws.specs.Ascii.{ascii}
 use Rattle.text.specs.declared.bytes.Order.the-variants.{Less, Equal, Greater}
 use Rattle.text.specs.declared.position.Position.{Position}

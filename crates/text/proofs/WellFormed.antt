@@ -1,13 +1,7 @@
 -- A text is well-formed just where the reader finds one character after the other. It is the text of one row of code points only.
-use mathlib.Core.Path.{_≡_, refl, sym, ap, _∙_}
-use mathlib.Core.Bool.{Bool, true, false, false≢true}
-use mathlib.Core.List.{List, [], _∷_, _++_, flatMap, append-cancel-left}
-use mathlib.Core.Logic.{_↔_}
-use Prim.Native.Nat.{ℕ, zero, suc, _≤_}
-use native.Mathlib.Nat.{zero-add}
-use native.Mathlib.Omega.{arith}
-use lib.ListN.{length, drop, length-append}
-use lib.Seq.{drop-nil, drop-append-seam}
+use Rattle.laws.proofs.Prelude.{_≡_, refl, sym, ap, _∙_, Bool, true, false, false≢true, List, [], _∷_, _++_, flatMap, _↔_, ℕ, zero, suc, _≤_, zero-add, arith, length, drop, length-append, drop-append-seam}
+use mathlib.Core.List.{append-cancel-left}
+use lib.Seq.{drop-nil}
 use Rattle.laws.specs.Codec.{All}
 use Rattle.laws.specs.code.Told.{Meant}
 use Rattle.laws.proofs.Lists.{all-parts}

@@ -1,12 +1,6 @@
 -- A number within a range, by its order to the two ends; and within one of several ranges.
-use mathlib.Core.Path.{_≡_, refl}
-use mathlib.Core.Bool.{Bool, true, false, and-eq-true-iff, or-assoc, or-comm}
-use mathlib.Core.List.{List, [], _∷_, _++_}
-use mathlib.Core.Logic.{_↔_}
-use Prim.Native.Nat.{ℕ, _+_, _≤_, _<_}
-use native.Mathlib.Omega.{arith}
-use lib.Dec.{leb}
-use borrow.Author.Tests.{leb-true, leb-false, le-leb, lt-leb}
+use Rattle.laws.proofs.Prelude.{_≡_, refl, Bool, true, false, and-eq-true-iff, List, [], _∷_, _++_, _↔_, ℕ, _+_, _≤_, _<_, arith, leb, leb-true, leb-false, le-leb, lt-leb}
+use mathlib.Core.Bool.{or-assoc, or-comm}
 use Rattle.text.specs.Ranges.{Range, _to_, within, inRanges}
 
 pub within-iff : (lo hi x : ℕ) → (within (lo to hi) x ≡ true) ↔ ((lo ≤ x) × (x ≤ hi))

@@ -1,14 +1,6 @@
 -- Two texts compared byte by byte: what the comparison says of them, and how it goes on from one place to the next.
-use mathlib.Core.Path.{_≡_, refl}
-use mathlib.Core.Bool.{Bool, true, false, cond, and-eq-true-iff, and-false, false≢true}
-use mathlib.Core.List.{List, [], _∷_, _++_}
-use Prim.Native.Nat.{ℕ, _+_, _≤_, _<_}
-use native.Mathlib.Omega.{arith}
-use native.Mathlib.Numerals.{add-one}
-use lib.Dec.{eqb, ltb}
-use lib.ListN.{length, getD, drop, drop-of-length-le}
-use lib.Seq.{drop-cons}
-use borrow.Author.Tests.{eqb-true, eq-eqb, ne-eqb, lt-ltb, le-ltb, ltb-false}
+use Rattle.laws.proofs.Prelude.{_≡_, refl, Bool, true, false, cond, and-eq-true-iff, false≢true, List, [], _∷_, _++_, ℕ, _+_, _≤_, _<_, arith, add-one, eqb, ltb, length, getD, drop, drop-of-length-le, drop-cons, eqb-true, eq-eqb, ne-eqb, lt-ltb, le-ltb, ltb-false}
+use mathlib.Core.Bool.{and-false}
 use Rattle.text.specs.declared.bytes.Order.{Order}
 use Rattle.text.specs.declared.bytes.Order.the-variants.{Less, Equal, Greater}
 use Rattle.text.specs.Bytes.{begins, same, order}

@@ -75,7 +75,8 @@ pub record Cut (s : List ℕ) (at : ℕ) (front back : List ℕ) : Type 0 where
   pub text : TextOf Utf8 (front ++ back) s
   pub place : at ≡ length (flatMap encode front)
 
--- in a text the places that are neither past it nor inside a character are those behind a row of its characters, and the position there is the one past that row
+-- in a text the places that are neither past it nor inside a character are those behind a row of its characters, and the position there is the one
+-- past that row
 pub record Counted (unit : Units) (s : List ℕ) : Type 0 where
   pub places : (at : ℕ) → Boundary s at ↔ ((front : List ℕ) × (back : List ℕ) × Cut s at front back)
   pub positions : (at : ℕ) (front back : List ℕ) → Cut s at front back → positionOf unit s at ≡ pastCharacters unit startPosition front

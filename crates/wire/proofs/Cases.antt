@@ -1,7 +1,5 @@
 -- Numbers and their bytes, and fields that are refused, as the definitions compute.
-use mathlib.Core.Path.{_≡_, refl}
-use mathlib.Core.List.{List, [], _∷_, map}
-use Prim.Native.Nat.{ℕ}
+use Rattle.laws.proofs.Prelude.{_≡_, refl, List, [], _∷_, map, ℕ}
 use Rattle.laws.specs.Decoded.{ok}
 use Rattle.laws.proofs.Decoding.{refusal}
 use Rattle.text.specs.declared.utf8.Encoding.the-variants.{Utf8}

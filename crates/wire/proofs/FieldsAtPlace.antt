@@ -1,12 +1,6 @@
 -- What the fields' decoders answer at a place of a list.
-use mathlib.Core.Path.{_≡_}
-use mathlib.Core.List.{List}
-use Prim.Native.Nat.{ℕ, _+_, _-_, _≤_, _<_}
+use Rattle.laws.proofs.Prelude.{_≡_, List, ℕ, _+_, _-_, _≤_, _<_, add-one, length, getD, drop, drop-of-length-le, length-drop, drop-cons, drop-drop, le-leb, lt-leb}
 use native.Mathlib.Nat.{add-sub-cancel-left}
-use native.Mathlib.Numerals.{add-one}
-use lib.ListN.{length, getD, drop, drop-of-length-le, length-drop}
-use lib.Seq.{drop-cons, drop-drop}
-use borrow.Author.Tests.{le-leb, lt-leb}
 use Rattle.laws.specs.Decoded.{ok, no}
 use Rattle.text.specs.Bytes.{part}
 use Rattle.wire.specs.Fields.{byte, bytes}

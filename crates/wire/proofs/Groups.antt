@@ -1,13 +1,7 @@
 -- A number's groups at a place of a list, and the place values that they have.
-use mathlib.Core.Path.{_≡_, refl, ap, _∙_}
-use mathlib.Core.Bool.{true, cond, _||_}
-use mathlib.Core.List.{List}
-use Prim.Native.Nat.{ℕ, zero, suc, _+_, _-_, _*_, _^_, _≤_, _<_}
+use Rattle.laws.proofs.Prelude.{_≡_, refl, ap, _∙_, true, cond, _||_, List, ℕ, zero, suc, _+_, _-_, _*_, _≤_, _<_, arith, leb, ltb, length, getD, drop, lt-ltb, le-ltb, le-leb}
+use Prim.Native.Nat.{_^_}
 use native.Mathlib.Nat.{mul-le-mul, le-refl, pow-le-pow-right, pow-suc}
-use native.Mathlib.Omega.{arith}
-use lib.Dec.{leb, ltb}
-use lib.ListN.{length, getD, drop}
-use borrow.Author.Tests.{lt-ltb, le-ltb, le-leb}
 use Rattle.laws.specs.Decoded.{ok, no, _>>_, require}
 use Rattle.wire.specs.Number.{largest, lastGroup, groups, number}
 use Rattle.wire.specs.code.Views.{Past, PlaceValue}

@@ -1,10 +1,5 @@
 -- What holds of bytes, and is kept however decoders are put together, holds of all fields that a sheet is made of.
-use mathlib.Core.Path.{_≡_, refl}
-use mathlib.Core.Bool.{Bool, true, _||_}
-use mathlib.Core.List.{List}
-use mathlib.Core.Option.{Option}
-use Prim.Native.Nat.{ℕ, zero, suc, _+_, _-_, _*_}
-use lib.Dec.{eqb, leb, ltb}
+use Rattle.laws.proofs.Prelude.{_≡_, refl, Bool, true, _||_, List, Option, ℕ, zero, suc, _+_, _-_, _*_, eqb, leb, ltb}
 use Rattle.laws.specs.Decoded.{Decoder}
 use Rattle.laws.proofs.Kept.{Kept, test, either}
 use Rattle.text.specs.declared.utf8.Encoding.{Encoding}

@@ -1,10 +1,5 @@
 -- A number takes a byte at least.
-use mathlib.Core.Bool.{Bool, true, false, cond}
-use mathlib.Core.List.{[], _∷_}
-use Prim.Native.Nat.{ℕ, _+_, _/_, _%_, _<_}
-use native.Mathlib.Omega.{arith}
-use lib.Dec.{ltb}
-use lib.ListN.{length}
+use Rattle.laws.proofs.Prelude.{Bool, true, false, cond, [], _∷_, ℕ, _+_, _/_, _%_, _<_, arith, ltb, length}
 use Rattle.wire.specs.Number.{encodeGroups, encodeNumber}
 
 pub number-long : (n : ℕ) → 0 < length (encodeNumber n)

@@ -1,12 +1,5 @@
 -- Values by their numbers.
-use mathlib.Core.Path.{_≡_, refl, sym, ap, _∙_}
-use mathlib.Core.Bool.{Bool, true, false}
-use mathlib.Core.List.{List, [], _∷_, _++_, map}
-use Prim.Native.Nat.{ℕ, zero, suc, _+_, _≤_, _<_}
-use native.Mathlib.Omega.{arith}
-use lib.Dec.{leb}
-use lib.ListN.{length, getD, List·getD-eq-default}
-use borrow.Author.Tests.{leb-true, leb-false}
+use Rattle.laws.proofs.Prelude.{_≡_, refl, sym, ap, _∙_, Bool, true, false, List, [], _∷_, _++_, map, ℕ, zero, suc, _+_, _≤_, _<_, arith, leb, length, getD, List·getD-eq-default, leb-true, leb-false}
 use Rattle.laws.specs.Codec.{Codec}
 use Rattle.laws.proofs.Codecs.{built-end, codec-of}
 use Rattle.wire.specs.Fields.{Values, valueOf, numbered}

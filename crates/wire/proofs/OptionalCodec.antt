@@ -1,9 +1,5 @@
 -- An optional thing is decoded from its bytes, and from nothing else.
-use mathlib.Core.Path.{refl}
-use mathlib.Core.Logic.{inl, inr}
-use mathlib.Core.List.{List}
-use mathlib.Core.Option.{Option}
-use Prim.Native.Nat.{ℕ}
+use Rattle.laws.proofs.Prelude.{refl, inl, inr, List, Option, ℕ}
 use Rattle.laws.specs.Decoded.{Decoder}
 use Rattle.laws.specs.Codec.{Codec, IfThere}
 use Rattle.laws.proofs.Codecs.{built-return, built-map, built-if, codec-of}

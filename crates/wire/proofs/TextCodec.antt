@@ -1,13 +1,6 @@
 -- Bytes, flags, counts and texts are decoded from their bytes, and from nothing else.
-use mathlib.Core.Path.{_≡_, refl, sym}
-use mathlib.Core.Bool.{Bool, true, false, cond}
-use mathlib.Core.List.{List, [], _∷_, _++_, append-nil}
-use Prim.Native.Nat.{ℕ, zero, suc, _+_, _≤_, _<_}
-use native.Mathlib.Omega.{arith}
-use lib.Dec.{eqb, leb, ltb}
-use lib.ListN.{length, take, drop, length-append, take-append-drop}
-use lib.Seq.{length-take-le, take-append-seam, drop-append-seam}
-use borrow.Author.Tests.{ltb-true, leb-true, lt-ltb, le-leb}
+use Rattle.laws.proofs.Prelude.{_≡_, refl, sym, Bool, true, false, cond, List, [], _∷_, _++_, append-nil, ℕ, zero, suc, _+_, _≤_, _<_, arith, eqb, leb, ltb, length, take, drop, length-append, length-take-le, take-append-seam, drop-append-seam, ltb-true, leb-true, lt-ltb, le-leb}
+use lib.ListN.{take-append-drop}
 use Rattle.laws.specs.Decoded.{ok, no}
 use Rattle.laws.specs.Codec.{Codec}
 use Rattle.laws.proofs.Decoding.{refused}

@@ -1,7 +1,4 @@
-use borrow.Author.Needs.{needs}
-use native.Mathlib.Nat.{zero-add}
-use borrow.Author.Tests.{eq-eqb, ne-eqb}
-use Rattle.laws.proofs.Steps.{known}
+use Rattle.laws.proofs.Prelude.{needs, zero-add, eq-eqb, ne-eqb, known}
 use Rattle.analysis.specs.Row.{first, matchAt}
 use Rattle.analysis.proofs.RowSteps.{source-mapping-row}
 use Rattle.analysis.proofs.find_source_mapping_url.Statement.{statement}

@@ -1,6 +1,5 @@
-use native.Mathlib.Omega.{arith}
+use Rattle.laws.proofs.Prelude.{arith, add-zero, sub-zero}
 use Rattle.analysis.specs.Place.{placeOf}
-use native.Mathlib.Nat.{add-zero, sub-zero}
 use Rattle.analysis.proofs.place_of.Statement.{statement}
 use Rattle.analysis.proofs.place_of.Tie as tie
 

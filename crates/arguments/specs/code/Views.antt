@@ -103,7 +103,8 @@ abbrev pub Stands : List ℕ → List ℕ → ℕ → DynamicArgument → info.D
 Stands s source levels argument.Expr v replacements = (v ≡ info.expr) × (replacements ≡ 0)
 Stands s source levels (argument.String from to) v replacements = (v ≡ info.string (lossy (part s from to))) × (replacements ≡ replaced (part s from to))
 Stands s source levels (argument.Template k holes at) v replacements =
-    ((ps : Pieces) × (u : List ℕ) × (many [] piece (holes + 1) (drop at s) ≡ ok ps u) × (length (templateParts ps) ≡ k) × (v ≡ info.template (templateParts ps)))
+    ((ps : Pieces) × (u : List ℕ) × (many [] piece (holes + 1) (drop at s) ≡ ok ps u) × (length (templateParts ps) ≡ k)
+    × (v ≡ info.template (templateParts ps)))
     × (replacements ≡ 0)
 Stands s source levels (argument.Chain k at) v replacements =
     ((n : Node) × (t : List ℕ) × (l : List DynamicTemplatePart)

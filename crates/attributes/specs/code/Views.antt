@@ -48,7 +48,11 @@ rowIn table k =
     }
 
 abbrev pub pairAs : List ℕ → Pair → KeyValue
-pairAs s p = record { key = part s (p .«key_start») (p .«key_end»); value = cond (p .known) (Option.some (part s (p .«value_start») (p .«value_end»))) Option.none }
+pairAs s p = record {
+  key = part s (p .«key_start») (p .«key_end»);
+  value = cond (p .known)
+      (Option.some (part s (p .«value_start») (p .«value_end»))) Option.none;
+}
 
 abbrev pub pairIn : List ℕ → List ℕ → ℕ → KeyValue
 pairIn s table k = pairAs s (rowIn table k)

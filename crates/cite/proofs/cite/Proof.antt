@@ -1,7 +1,4 @@
-use borrow.Author.Needs.{needs}
-use mathlib.Core.Path.{sym}
-use native.Mathlib.Omega.{arith}
-use lib.Seq.{length-take-le}
+use Rattle.laws.proofs.Prelude.{needs, sym, arith, length-take-le}
 use Rattle.cite.proofs.Printed.{reported, refused-lines}
 use Rattle.cite.proofs.Placed.{editor-columns}
 use Rattle.cite.proofs.Revised.{kept-lines}

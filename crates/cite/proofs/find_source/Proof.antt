@@ -1,7 +1,4 @@
-use borrow.Author.Needs.{needs}
-use mathlib.Core.Path.{sym, ap}
-use native.Mathlib.Omega.{arith}
-use lib.ListN.{drop}
+use Rattle.laws.proofs.Prelude.{needs, sym, ap, arith, drop}
 use Rattle.sheet_codec.specs.Encode.{encodeSheet}
 use Rattle.cite.proofs.find_source.Statement.{statement}
 use Rattle.cite.proofs.find_source.Tie as tie

@@ -1,9 +1,4 @@
-use borrow.Author.Needs.{needs}
-use native.Mathlib.Omega.{arith}
-use mathlib.Core.Path.{refl, sym}
-use Prim.Native.Nat.{_≤_}
-use lib.ListN.{length}
-use lib.Seq.{length-take-le}
+use Rattle.laws.proofs.Prelude.{needs, arith, refl, sym, _≤_, length, length-take-le}
 use Rattle.dearest.proofs.Numerals.{facts}
 use Rattle.dearest.proofs.Writing.{writes-body, writes-nothing}
 use Rattle.dearest.proofs.dearest.Statement.{statement}

@@ -1,4 +1,4 @@
-use borrow.Author.Needs.{needs}
+use Rattle.laws.proofs.Prelude.{needs}
 use Rattle.dearest.proofs.main.Statement.{statement}
 use Rattle.dearest.proofs.main.Tie as tie
 

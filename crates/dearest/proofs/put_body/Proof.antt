@@ -1,8 +1,4 @@
-use borrow.Author.Needs.{needs}
-use native.Mathlib.Omega.{arith}
-use mathlib.Core.Path.{_≡_, refl}
-use Prim.Native.Nat.{_-_, _≤_}
-use lib.ListN.{length, take, length-set}
+use Rattle.laws.proofs.Prelude.{needs, arith, _≡_, refl, _-_, _≤_, length, take, length-set}
 use Rattle.scan.specs.Dearest.{starAndBraces}
 use Rattle.dearest.proofs.Bodies.{star, one-brace}
 use Rattle.dearest.proofs.put_body.Statement.{statement}

@@ -1,7 +1,4 @@
-use borrow.Author.Needs.{needs}
-use native.Mathlib.Omega.{arith}
-use Prim.Native.Nat.{_-_}
-use lib.ListN.{length}
+use Rattle.laws.proofs.Prelude.{needs, arith, _-_, length}
 use Rattle.dearest.proofs.Numerals.{ReadUpTo, begin, empty, finished, no-digit, too-large, zero-first, onward}
 use Rattle.dearest.proofs.read_numeral.Statement.{statement}
 use Rattle.dearest.proofs.read_numeral.Tie as tie

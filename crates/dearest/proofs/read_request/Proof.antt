@@ -1,10 +1,4 @@
-use borrow.Author.Needs.{needs}
-use native.Mathlib.Omega.{arith}
-use mathlib.Core.Path.{sym}
-use Prim.Native.Nat.{_-_}
-use lib.ListN.{length}
-use lib.Seq.{length-take-le}
-use denote.Ref.{now}
+use Rattle.laws.proofs.Prelude.{needs, arith, sym, _-_, length, length-take-le, now}
 use Rattle.dearest.proofs.Requests.{asks-some, with-lf, without-lf}
 use Rattle.dearest.proofs.read_request.Statement.{statement}
 use Rattle.dearest.proofs.read_request.Tie as tie

@@ -1,4 +1,4 @@
-use borrow.Author.Needs.{needs}
+use Rattle.laws.proofs.Prelude.{needs}
 use Rattle.delivery.proofs.delivery_order.Statement.{statement}
 use Rattle.delivery.proofs.delivery_order.Tie as tie
 

@@ -1,7 +1,4 @@
-use borrow.Author.Needs.{needs}
-use mathlib.Core.Path.{ap, _∙_}
-use lib.ListN.{length}
-use denote.Ref.{now}
+use Rattle.laws.proofs.Prelude.{needs, ap, _∙_, length, now}
 use Rattle.report.specs.Answer.{zeros}
 use Rattle.delivery.specs.Promise.{orderAs}
 use Rattle.delivery.proofs.Deliveries.{decodes-exactly}

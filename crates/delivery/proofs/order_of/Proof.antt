@@ -1,4 +1,4 @@
-use borrow.Author.Needs.{needs}
+use Rattle.laws.proofs.Prelude.{needs}
 use Rattle.delivery.proofs.order_of.Statement.{statement}
 use Rattle.delivery.proofs.order_of.Tie as tie
 

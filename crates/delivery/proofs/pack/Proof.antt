@@ -1,5 +1,4 @@
-use borrow.Author.Needs.{needs}
-use mathlib.Core.Path.{sym, ap}
+use Rattle.laws.proofs.Prelude.{needs, sym, ap}
 use Rattle.delivery.specs.Promise.{packed}
 use Rattle.delivery.proofs.pack.Statement.{statement}
 use Rattle.delivery.proofs.pack.Tie as tie

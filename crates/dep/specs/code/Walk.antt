@@ -19,7 +19,9 @@ use Rattle.sheet.specs.code.Tables.{commentsIn, groupsIn, commentsPart, groupsP
 use Rattle.sheet_heads.specs.declared.quoted.Quoted as q
 use Rattle.sheet_heads.specs.declared.node.Head as h
 use Rattle.sheet_heads.specs.declared.node.Head.the-variants as head
-use Rattle.sheet_heads.specs.code.Head.{Head, otherHead, stringHead, nameHead, templateHead, binaryHead, objectHead, importCallHead, callHead, importHead, namedExportHead, exportFromHead, exportAllHead, importTypeHead, importEqualsHead, importRequireHead, moduleHead}
+use Rattle.sheet_heads.specs.code.Head.{Head, otherHead, stringHead, nameHead, templateHead, binaryHead, objectHead, importCallHead, callHead}
+use Rattle.sheet_heads.specs.code.Head.{importHead, namedExportHead, exportFromHead, exportAllHead, importTypeHead, importEqualsHead}
+use Rattle.sheet_heads.specs.code.Head.{importRequireHead, moduleHead}
 use Rattle.sheet_heads.specs.code.Views.{quotedOf, QuotedPart, headOf, HeadWithin}
 use Rattle.report.specs.declared.names.DynamicDependencyKind.{DynamicDependencyKind}
 use Rattle.report.specs.declared.names.DynamicDependencyKind.the-variants as dynamics
@@ -138,7 +140,14 @@ module _ (source : List ℕ) (types : ℕ → Option SpecifierWithRange) where
       record {
         entry =
             dynamic
-            (record { kind = d .kind; typesSpecifier = types (d .start); argument = v; argumentRange = rangeOf source (d .«argument_range»); importAttributes = a });
+            (record {
+              kind = d .kind;
+              typesSpecifier = types (d .start);
+              argument = v;
+              argumentRange = rangeOf source
+                  (d .«argument_range»);
+              importAttributes = a;
+            });
         start = d .start;
         number = replacements;
       }

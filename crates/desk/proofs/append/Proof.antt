@@ -1,6 +1,4 @@
-use borrow.Author.Needs.{needs}
-use native.Mathlib.Omega.{arith}
-use lib.ListN.{length-set}
+use Rattle.laws.proofs.Prelude.{needs, arith, length-set}
 use Rattle.desk.proofs.Blocks.{appended}
 use Rattle.desk.proofs.append.Statement.{statement}
 use Rattle.desk.proofs.append.Tie as tie

@@ -1,7 +1,4 @@
-use borrow.Author.Needs.{needs}
-use mathlib.Core.Path.{_≡_, sym, _∙_, ap}
-use Prim.Native.Nat.{_-_, _≤_}
-use native.Mathlib.Omega.{arith}
+use Rattle.laws.proofs.Prelude.{needs, _≡_, sym, _∙_, ap, _-_, _≤_, arith}
 use Rattle.desk.specs.Desk.{firstWaiting}
 use Rattle.desk.specs.Block.{deskAs}
 use Rattle.desk.proofs.Search.{found-here, found-on}

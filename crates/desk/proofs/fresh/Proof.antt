@@ -1,4 +1,4 @@
-use mathlib.Core.Path.{refl}
+use Rattle.laws.proofs.Prelude.{refl}
 use Rattle.desk.specs.History.{after}
 use Rattle.desk.specs.Block.{ring, queuesIn}
 use Rattle.desk.proofs.Fairness.{fair}

@@ -1,5 +1,4 @@
-use borrow.Author.Needs.{needs}
-use native.Mathlib.Omega.{arith}
+use Rattle.laws.proofs.Prelude.{needs, arith}
 use Rattle.desk.proofs.Calls.{refuses-over, refuses-full, accepts}
 use Rattle.desk.proofs.hand_in.Statement.{statement}
 use Rattle.desk.proofs.hand_in.Tie as tie

@@ -1,5 +1,4 @@
-use borrow.Author.Needs.{needs}
-use mathlib.Core.Path.{sym, ap}
+use Rattle.laws.proofs.Prelude.{needs, sym, ap}
 use Rattle.desk.specs.Block.{turnedNumber}
 use Rattle.desk.proofs.pack_turn.Statement.{statement}
 use Rattle.desk.proofs.pack_turn.Tie as tie

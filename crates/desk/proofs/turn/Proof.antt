@@ -1,5 +1,4 @@
-use borrow.Author.Needs.{needs}
-use Rattle.laws.proofs.Steps.{seen}
+use Rattle.laws.proofs.Prelude.{needs, seen}
 use Rattle.desk.specs.Block.{foundAs}
 use Rattle.desk.proofs.Calls.{finds-nobody, found-one, serves}
 use Rattle.desk.proofs.turn.Statement.{statement}

@@ -1,10 +1,4 @@
-use borrow.Author.Needs.{needs}
-use native.Mathlib.Omega.{arith}
-use mathlib.Core.Bool.{false}
-use Prim.Native.Nat.{_+_}
-use denote.Ref.{now}
-use borrow.Author.Tests.{eq-eqb, ne-eqb}
-use Rattle.laws.proofs.Steps.{known}
+use Rattle.laws.proofs.Prelude.{needs, arith, false, _+_, now, eq-eqb, ne-eqb, known}
 use Rattle.analysis.specs.declared.Found.the-variants.{At, Nothing}
 use Rattle.ecma426.specs.Reader.{word, findSourceMap}
 use Rattle.ecma426.proofs.Agrees.{stands, marked-some, answered}

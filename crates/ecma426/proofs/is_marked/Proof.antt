@@ -1,5 +1,4 @@
-use borrow.Author.Needs.{needs}
-use Rattle.laws.proofs.Steps.{known}
+use Rattle.laws.proofs.Prelude.{needs, known}
 use Rattle.ecma426.proofs.is_marked.Statement.{statement}
 use Rattle.ecma426.proofs.is_marked.Tie as tie
 

@@ -1,6 +1,4 @@
-use borrow.Author.Needs.{needs}
-use mathlib.Core.Path.{ap}
-use mathlib.Core.Bool.{not}
+use Rattle.laws.proofs.Prelude.{needs, ap, not}
 use Rattle.ecma426.specs.WhiteSpace.{isOf}
 use Rattle.ecma426.proofs.is_of.Statement.{statement}
 use Rattle.ecma426.proofs.is_of.Tie as tie

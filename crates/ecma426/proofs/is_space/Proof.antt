@@ -1,8 +1,4 @@
-use borrow.Author.Needs.{needs}
-use mathlib.Core.Path.{refl, sym, _∙_}
-use mathlib.Core.Bool.{false≢true}
-use mathlib.Core.Logic.{inl, inr, ⊎-elim}
-use native.Mathlib.Omega.{arith}
+use Rattle.laws.proofs.Prelude.{needs, refl, sym, _∙_, false≢true, inl, inr, ⊎-elim, arith}
 use Rattle.ecma426.proofs.WhiteSpace.{answers}
 use Rattle.ecma426.proofs.is_space.Statement.{statement}
 use Rattle.ecma426.proofs.is_space.Tie as tie

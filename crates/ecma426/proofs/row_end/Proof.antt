@@ -1,10 +1,4 @@
-use borrow.Author.Needs.{needs}
-use native.Mathlib.Omega.{arith}
-use mathlib.Core.Path.{_≡_, sym, _∙_}
-use Prim.Native.Nat.{_-_, _≤_}
-use lib.ListN.{length}
-use denote.Ref.{now}
-use Rattle.laws.proofs.Steps.{known}
+use Rattle.laws.proofs.Prelude.{needs, arith, _≡_, sym, _∙_, _-_, _≤_, length, now, known}
 use Rattle.ecma426.specs.Reader.{rowEnd}
 use Rattle.ecma426.proofs.LongestRow.{row-stops, row-goes-on}
 use Rattle.ecma426.proofs.row_end.Statement.{statement}

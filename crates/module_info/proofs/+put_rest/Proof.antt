@@ -1,10 +1,5 @@
-use Prim.Native.Nat.{ℕ, _<_, _-_}
-use native.Mathlib.Omega.{arith}
-use borrow.Author.Needs.{needs}
-use borrow.Fn.Kinds.{In}
-use borrow.Fn.PlainCycle.{Measures, is, falls, and}
-use lib.ListN.{length}
-use denote.Ref.{now}
+use Rattle.laws.proofs.Prelude.{ℕ, _<_, _-_, arith, needs, In, Measures, length, now}
+use borrow.Fn.PlainCycle.{is, falls, and}
 use Rattle.sheet.specs.Limits.{sourceLimit}
 use Rattle.sheet.specs.code.Views.{programOf}
 use Rattle.sheet.proofs.lookups.end_group.Reads as end-group

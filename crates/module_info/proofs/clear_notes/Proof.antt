@@ -1,9 +1,4 @@
-use borrow.Author.Needs.{needs}
-use mathlib.Core.Path.{_≡_, sym, _∙_}
-use Prim.Native.Nat.{_-_}
-use native.Mathlib.Nat.{sub-zero}
-use denote.Ref.{now}
-use lib.ListN.{length, length-set}
+use Rattle.laws.proofs.Prelude.{needs, _≡_, sym, _∙_, _-_, sub-zero, now, length, length-set}
 use Rattle.report.specs.Answer.{zeros, clearedFrom}
 use Rattle.report.proofs.Answers.{cleared-more, cleared-end}
 use Rattle.module_info.proofs.clear_notes.Statement.{statement}

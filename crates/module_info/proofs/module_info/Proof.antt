@@ -1,4 +1,4 @@
-use borrow.Author.Needs.{needs}
+use Rattle.laws.proofs.Prelude.{needs}
 use Rattle.module_info.proofs.Accepted.{demanded, refusal-demanded, empty-demanded}
 use Rattle.module_info.proofs.module_info.Statement.{statement}
 use Rattle.module_info.proofs.module_info.Tie as tie

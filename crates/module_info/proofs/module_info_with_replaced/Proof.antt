@@ -1,6 +1,4 @@
-use borrow.Author.Needs.{needs}
-use denote.Ref.{now}
-use lib.ListN.{length}
+use Rattle.laws.proofs.Prelude.{needs, now, length}
 use Rattle.module_info.proofs.Accepted.{demanded, refusal-demanded, empty-demanded}
 use Rattle.module_info.proofs.Notes.{empty-notes, refusal-notes, sheet-notes, cleared-whole}
 use Rattle.module_info.proofs.module_info_with_replaced.Statement.{statement}

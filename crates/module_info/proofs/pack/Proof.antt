@@ -1,6 +1,4 @@
-use borrow.Author.Needs.{needs}
-use native.Mathlib.Nat.{zero-add}
-use native.Mathlib.Omega.{arith}
+use Rattle.laws.proofs.Prelude.{needs, zero-add, arith}
 use Rattle.module_info.proofs.pack.Statement.{statement}
 use Rattle.module_info.proofs.pack.Tie as tie
 

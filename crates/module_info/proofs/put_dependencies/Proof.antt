@@ -1,4 +1,4 @@
-use borrow.Author.Needs.{needs}
+use Rattle.laws.proofs.Prelude.{needs}
 use Rattle.module_info.proofs.Written.{dependencies-written, dependencies-noted}
 use Rattle.module_info.proofs.put_dependencies.Statement.{statement}
 use Rattle.module_info.proofs.put_dependencies.Tie as tie

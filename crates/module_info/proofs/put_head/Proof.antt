@@ -1,5 +1,4 @@
-use borrow.Author.Needs.{needs}
-use native.Mathlib.Omega.{arith}
+use Rattle.laws.proofs.Prelude.{needs, arith}
 use Rattle.pragmas.specs.Readings.{readBy}
 use Rattle.pragmas.specs.Pragmas.{firstBy}
 use Rattle.pragmas.proofs.Reached.{head-reached}

@@ -1,4 +1,4 @@
-use borrow.Author.Needs.{needs}
+use Rattle.laws.proofs.Prelude.{needs}
 use Rattle.module_info.proofs.Accepted.{held, parts-of, root-of}
 use Rattle.module_info.proofs.Written.{report-written}
 use Rattle.module_info.proofs.put_noted_report.Statement.{statement}

@@ -1,8 +1,4 @@
-use borrow.Author.Needs.{needs}
-use mathlib.Core.Path.{_≡_, _∙_}
-use mathlib.Core.List.{[]}
-use denote.Ref.{now}
-use lib.ListN.{length}
+use Rattle.laws.proofs.Prelude.{needs, _≡_, _∙_, [], now, length}
 use Rattle.report.specs.Encode.{encode}
 use Rattle.report.specs.Buffer.{holds, wrote, bufferAs}
 use Rattle.report.proofs.Answers.{answered-fitted}

@@ -1,6 +1,4 @@
-use borrow.Author.Needs.{needs}
-use mathlib.Core.Path.{sym}
-use lib.Seq.{length-take-le}
+use Rattle.laws.proofs.Prelude.{needs, sym, length-take-le}
 use Rattle.order.proofs.main.Statement.{statement}
 use Rattle.order.proofs.main.Tie as tie
 

@@ -1,7 +1,4 @@
-use borrow.Author.Needs.{needs}
-use native.Mathlib.Omega.{arith}
-use lib.ListN.{length, length-take}
-use denote.Ref.{now}
+use Rattle.laws.proofs.Prelude.{needs, arith, length, length-take, now}
 use Rattle.citation.proofs.Whole.{all-written}
 use Rattle.order.specs.Printed.{printedOrder}
 use Rattle.order.proofs.print_order.Statement.{statement}

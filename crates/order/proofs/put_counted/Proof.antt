@@ -1,4 +1,4 @@
-use borrow.Author.Needs.{needs}
+use Rattle.laws.proofs.Prelude.{needs}
 use Rattle.report.proofs.Buffers.{wrote-append}
 use Rattle.order.proofs.put_counted.Statement.{statement}
 use Rattle.order.proofs.put_counted.Tie as tie

@@ -1,5 +1,4 @@
-use borrow.Author.Needs.{needs}
-use denote.Ref.{now}
+use Rattle.laws.proofs.Prelude.{needs, now}
 use Rattle.order.proofs.Shown.{late-written}
 use Rattle.order.proofs.put_late.Statement.{statement}
 use Rattle.order.proofs.put_late.Tie as tie

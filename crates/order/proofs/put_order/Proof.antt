@@ -1,6 +1,4 @@
-use borrow.Author.Needs.{needs}
-use native.Mathlib.Omega.{arith}
-use Rattle.laws.proofs.Steps.{seen, bounded}
+use Rattle.laws.proofs.Prelude.{needs, arith, seen, bounded}
 use Rattle.delivery.specs.code.Views.{judgementAs}
 use Rattle.order.specs.Printed.{printedAnswer}
 use Rattle.order.proofs.Shown.{answer-short}

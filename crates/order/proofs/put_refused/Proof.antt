@@ -1,4 +1,4 @@
-use borrow.Author.Needs.{needs}
+use Rattle.laws.proofs.Prelude.{needs}
 use Rattle.order.proofs.Shown.{refused-written}
 use Rattle.order.proofs.put_refused.Statement.{statement}
 use Rattle.order.proofs.put_refused.Tie as tie

@@ -1,5 +1,4 @@
-use borrow.Author.Needs.{needs}
-use denote.Ref.{now}
+use Rattle.laws.proofs.Prelude.{needs, now}
 use Rattle.pragmas.specs.declared.readings.Counts.the-variants.{First}
 use Rattle.pragmas.proofs.Taken.{read-counted}
 use Rattle.pragmas.proofs.analyze_first.Statement.{statement}

@@ -1,5 +1,4 @@
-use borrow.Author.Needs.{needs}
-use denote.Ref.{now}
+use Rattle.laws.proofs.Prelude.{needs, now}
 use Rattle.pragmas.specs.declared.readings.Counts.the-variants.{Last}
 use Rattle.pragmas.specs.declared.readings.Rule.the-variants.{SourceMapUrl}
 use Rattle.pragmas.specs.Readings.{readBy}

@@ -1,7 +1,4 @@
-use borrow.Author.Needs.{needs}
-use native.Mathlib.Omega.{arith}
-use denote.Ref.{now}
-use Rattle.laws.proofs.Steps.{seen}
+use Rattle.laws.proofs.Prelude.{needs, arith, now, seen}
 use Rattle.wire.specs.Optional.{encodeOptional}
 use Rattle.sheet.specs.code.Views.{foundAs}
 use Rattle.sheet.specs.declared.names.Side.the-variants.{Leading}

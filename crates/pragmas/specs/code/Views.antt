@@ -20,7 +20,8 @@ use Rattle.report.specs.Origin.{Origin}
 use Rattle.pragmas.specs.declared.readings.Counts.{Counts}
 use Rattle.pragmas.specs.declared.readings.Counts.the-variants.{First, Last}
 use Rattle.pragmas.specs.declared.readings.Rule.{Rule}
-use Rattle.pragmas.specs.declared.readings.Rule.the-variants.{TsSelfTypes, JsxImportSource, JsxImportSourceTypes, SourceMapUrl, StandardSourceMap, TsTypes, DenoTypes}
+use Rattle.pragmas.specs.declared.readings.Rule.the-variants.{TsSelfTypes, JsxImportSource, JsxImportSourceTypes, SourceMapUrl}
+use Rattle.pragmas.specs.declared.readings.Rule.the-variants.{StandardSourceMap, TsTypes, DenoTypes}
 use Rattle.pragmas.specs.declared.readings.RuleRead.{RuleRead}
 use Rattle.pragmas.specs.declared.readings.RuleRead.the-variants as reading
 use Rattle.pragmas.specs.declared.references.Reference.{Reference}

@@ -1,8 +1,4 @@
-use borrow.Author.Needs.{needs}
-use mathlib.Core.Path.{_≡_, refl, sym, _∙_}
-use Prim.Native.Nat.{_-_}
-use lib.ListN.{length, drop}
-use denote.Ref.{now}
+use Rattle.laws.proofs.Prelude.{needs, _≡_, refl, sym, _∙_, _-_, length, drop, now}
 use Rattle.text.specs.Bytes.{same}
 use Rattle.replay.specs.Compared.{padded}
 use Rattle.replay.proofs.Compared.{held-end, held-differ, held-agree}

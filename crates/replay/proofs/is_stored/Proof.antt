@@ -1,5 +1,4 @@
-use borrow.Author.Needs.{needs}
-use borrow.Author.Tests.{eq-eqb, ne-eqb}
+use Rattle.laws.proofs.Prelude.{needs, eq-eqb, ne-eqb}
 use Rattle.replay.proofs.Compared.{outcome-buffer}
 use Rattle.replay.proofs.is_stored.Statement.{statement}
 use Rattle.replay.proofs.is_stored.Tie as tie

@@ -1,5 +1,4 @@
-use borrow.Author.Needs.{needs}
-use denote.Ref.{now}
+use Rattle.laws.proofs.Prelude.{needs, now}
 use Rattle.replay.proofs.StoredRows.{four-at}
 use Rattle.replay.proofs.number_at.Statement.{statement}
 use Rattle.replay.proofs.number_at.Tie as tie

@@ -1,11 +1,5 @@
 -- The loop goes through the rows: what is left of them gives, with the counts so far, the tally from the start on.
-use borrow.Author.Needs.{needs}
-use native.Mathlib.Omega.{arith}
-use mathlib.Core.Path.{_≡_, refl, sym, ap, _∙_}
-use Prim.Native.Nat.{_-_, _≤_}
-use lib.ListN.{length, drop}
-use denote.Ref.{now}
-use Rattle.laws.proofs.Steps.{seen, told}
+use Rattle.laws.proofs.Prelude.{needs, arith, _≡_, refl, sym, ap, _∙_, _-_, _≤_, length, drop, now, seen, told}
 use Rattle.replay.specs.Stored.{rows}
 use Rattle.replay.specs.code.Views.{stepAs}
 use Rattle.replay.specs.code.Bounds.{Room}

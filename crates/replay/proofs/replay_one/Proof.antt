@@ -1,6 +1,4 @@
-use borrow.Author.Needs.{needs}
-use denote.Ref.{now}
-use Rattle.laws.proofs.Steps.{told, bounded}
+use Rattle.laws.proofs.Prelude.{needs, now, told, bounded}
 use Rattle.wire.proofs.FieldsAtPlace.{byte-past, byte-at}
 use Rattle.replay.specs.Stored.{row}
 use Rattle.replay.proofs.replay_one.Statement.{statement}

@@ -1,8 +1,4 @@
-use borrow.Author.Needs.{needs}
-use mathlib.Core.Path.{_≡_, ap, _∙_}
-use denote.Ref.{now}
-use lib.Dec.{eqb}
-use lib.ListN.{length}
+use Rattle.laws.proofs.Prelude.{needs, _≡_, ap, _∙_, now, eqb, length}
 use Rattle.report.specs.Answer.{Answer, outcomeAs}
 use Rattle.module_info.specs.Information.{answerOf}
 use Rattle.replay.specs.Compared.{sameAnswer, storedAnswer}

@@ -1,8 +1,4 @@
-use borrow.Author.Needs.{needs}
-use native.Mathlib.Omega.{arith}
-use Prim.Native.Nat.{_+_}
-use lib.ListN.{drop, length-drop}
-use denote.Ref.{now}
+use Rattle.laws.proofs.Prelude.{needs, arith, _+_, drop, length-drop, now}
 use Rattle.wire.proofs.FieldsAtPlace.{bytes-past, bytes-at}
 use Rattle.replay.specs.Stored.{piece}
 use Rattle.replay.proofs.StoredRows.{four-short}

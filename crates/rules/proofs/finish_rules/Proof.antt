@@ -1,7 +1,4 @@
-use borrow.Author.Needs.{needs}
-use mathlib.Core.Path.{refl, sym, _∙_}
-use denote.Ref.{now}
-use lib.ListN.{length}
+use Rattle.laws.proofs.Prelude.{needs, refl, sym, _∙_, now, length}
 use Rattle.rules.proofs.BothBuffers.{second-refused, both-accepted}
 use Rattle.rules.proofs.finish_rules.Statement.{statement}
 use Rattle.rules.proofs.finish_rules.Tie as tie

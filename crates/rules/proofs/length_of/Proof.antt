@@ -1,4 +1,4 @@
-use borrow.Author.Needs.{needs}
+use Rattle.laws.proofs.Prelude.{needs}
 use Rattle.rules.proofs.length_of.Statement.{statement}
 use Rattle.rules.proofs.length_of.Tie as tie
 

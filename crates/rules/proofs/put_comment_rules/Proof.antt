@@ -1,5 +1,4 @@
-use borrow.Author.Needs.{needs}
-use native.Mathlib.Omega.{arith}
+use Rattle.laws.proofs.Prelude.{needs, arith}
 use Rattle.sheet.specs.code.Views.{programOf}
 use Rattle.pragmas.proofs.Reached.{head-reached, end-reached}
 use Rattle.rules.proofs.Origins.{comments-written}

@@ -1,4 +1,4 @@
-use borrow.Author.Needs.{needs}
+use Rattle.laws.proofs.Prelude.{needs}
 use Rattle.module_info.proofs.Accepted.{held, parts-of}
 use Rattle.rules.proofs.Origins.{rules-written}
 use Rattle.rules.proofs.put_rules.Statement.{statement}

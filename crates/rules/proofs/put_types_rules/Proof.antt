@@ -1,11 +1,4 @@
-use borrow.Author.Needs.{needs}
-use native.Mathlib.Nat.{sub-zero}
-use native.Mathlib.Omega.{arith}
-use mathlib.Core.Path.{_≡_, refl, sym, _∙_}
-use mathlib.Core.List.{List, flatMap}
-use Prim.Native.Nat.{ℕ, _-_}
-use lib.ListN.{length}
-use denote.Ref.{now}
+use Rattle.laws.proofs.Prelude.{needs, sub-zero, arith, _≡_, refl, sym, _∙_, List, flatMap, ℕ, _-_, length, now}
 use Rattle.laws.proofs.Lists.{flatMap-append}
 use Rattle.sheet.specs.code.Tables.{commentsIn, groupsIn, commentsPart, groupsPart}
 use Rattle.sheet_check.specs.declared.check.Parts.{Parts}

@@ -1,5 +1,4 @@
-use borrow.Author.Needs.{needs}
-use native.Mathlib.Nat.{sub-zero}
+use Rattle.laws.proofs.Prelude.{needs, sub-zero}
 use Rattle.rules.proofs.refuse_both.Statement.{statement}
 use Rattle.rules.proofs.refuse_both.Tie as tie
 

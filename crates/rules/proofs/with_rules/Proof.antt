@@ -1,4 +1,4 @@
-use borrow.Author.Needs.{needs}
+use Rattle.laws.proofs.Prelude.{needs}
 use Rattle.rules.proofs.BothBuffers.{empty-both, refusal-both, sheet-both}
 use Rattle.rules.proofs.with_rules.Statement.{statement}
 use Rattle.rules.proofs.with_rules.Tie as tie

@@ -1,9 +1,5 @@
-use borrow.Author.Needs.{needs}
+use Rattle.laws.proofs.Prelude.{needs, sym, _∙_, [], length, now}
 use Rattle.module_info.specs.Information.{defaultInfo}
-use mathlib.Core.Path.{sym, _∙_}
-use mathlib.Core.List.{[]}
-use lib.ListN.{length}
-use denote.Ref.{now}
 use Rattle.report.specs.Encode.{encode}
 use Rattle.report.proofs.Buffers.{wrote-nil}
 use Rattle.rules.proofs.BothBuffers.{first-refused}

@@ -1,9 +1,4 @@
-use borrow.Author.Needs.{needs}
-use mathlib.Core.Path.{sym, ap, _∙_}
-use mathlib.Core.List.{[]}
-use Prim.Native.Nat.{ℕ, _+_, _*_}
-use lib.ListN.{length, replicate, length-replicate}
-use denote.Ref.{now}
+use Rattle.laws.proofs.Prelude.{needs, sym, ap, _∙_, [], ℕ, _+_, _*_, length, replicate, length-replicate, now}
 use Rattle.sheet.specs.Limits.{entryLimit}
 use Rattle.report.specs.Encode.{encode}
 use Rattle.report.specs.Buffer.{holds, wrote}

@@ -1,9 +1,4 @@
-use native.Mathlib.Omega.{arith}
-use borrow.Author.Needs.{needs}
-use Prim.Native.Nat.{_+_}
-use lib.ListN.{drop, length-drop}
-use denote.Ref.{now}
-use Rattle.laws.proofs.Steps.{known}
+use Rattle.laws.proofs.Prelude.{arith, needs, _+_, drop, length-drop, now, known}
 use Rattle.scan.proofs.Steps.{within, at-close, at-import, at-other}
 use Rattle.scan.proofs.length_at.Statement.{statement}
 use Rattle.scan.proofs.length_at.Tie as tie

@@ -1,7 +1,4 @@
-use borrow.Author.Needs.{needs}
-use native.Mathlib.Omega.{arith}
-use denote.Ref.{now}
-use Rattle.laws.proofs.Steps.{known}
+use Rattle.laws.proofs.Prelude.{needs, arith, now, known}
 use Rattle.scan.proofs.Answered.{counted, too-long, not-opened}
 use Rattle.scan.proofs.scan_sum.Statement.{statement}
 use Rattle.scan.proofs.scan_sum.Tie as tie

@@ -1,6 +1,4 @@
-use native.Mathlib.Omega.{arith}
-use borrow.Author.Needs.{needs}
-use Rattle.laws.proofs.Steps.{seen}
+use Rattle.laws.proofs.Prelude.{arith, needs, seen}
 use Rattle.scan.specs.Answers.{sumAs}
 use Rattle.scan.proofs.Answered.{answered-small}
 use Rattle.scan.proofs.scan_sum_answer.Statement.{statement}

@@ -1,11 +1,5 @@
-use native.Mathlib.Omega.{arith}
-use borrow.Author.Needs.{needs}
-use mathlib.Core.Path.{_≡_, sym}
-use mathlib.Core.Logic.{⊎-elim}
-use Prim.Native.Nat.{_≤_, _<_, _+_, _-_}
-use lib.ListN.{length, drop, length-drop}
+use Rattle.laws.proofs.Prelude.{arith, needs, _≡_, sym, ⊎-elim, _≤_, _<_, _+_, _-_, length, drop, length-drop, now}
 use lib.Seq.{drop-length}
-use denote.Ref.{now}
 use Rattle.scan.specs.Scan.{scanLength, scanSum}
 use Rattle.scan.proofs.Steps.{ends, none, within, back-brace, back-other}
 use Rattle.scan.proofs.Bounds.{small}

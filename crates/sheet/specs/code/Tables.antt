@@ -33,7 +33,13 @@ groupRow g = sideNumber (g .side) ∷ g .position ∷ g .first ∷ g .count ∷ 
 -- the group in the kth row of a table, and those in its first n rows
 abbrev pub groupIn : List ℕ → ℕ → Group
 groupIn table k =
-    record { side = valueOf sides (getD table (4 * k) 0); position = getD table (4 * k + 1) 0; first = getD table (4 * k + 2) 0; count = getD table (4 * k + 3) 0 }
+    record {
+      side = valueOf sides (getD table (4 * k) 0);
+      position = getD table (4 * k + 1) 0;
+      first = getD table (4 * k + 2) 0;
+      count = getD table
+          (4 * k + 3) 0;
+    }
 
 abbrev pub groupsIn : List ℕ → ℕ → List Group
 groupsIn table n = rows (groupIn table) 0 n

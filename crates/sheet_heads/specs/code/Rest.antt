@@ -4,9 +4,12 @@ use mathlib.Core.List.{List, []}
 use Prim.Native.Nat.{ℕ, _+_}
 use Rattle.laws.specs.Decoded.{Decoder, _>>=_, return}
 use Rattle.sheet.specs.declared.fields.Span.{Span}
-use Rattle.sheet.specs.Tree.{Node, other, string, name, template, binary, object, importCall, call, importDecl, namedExport, exportFrom, exportAll, importType, importEquals, importRequire, moduleDecl, Attributes, without}
+use Rattle.sheet.specs.Tree.{Node, other, string, name, template, binary, object, importCall, call, importDecl, namedExport, exportFrom, exportAll}
+use Rattle.sheet.specs.Tree.{importType, importEquals, importRequire, moduleDecl, Attributes, without}
 use Rattle.sheet.specs.Nodes.{many, piece, nodes, properties, callRest, typeRest, node, attributesObject}
-use Rattle.sheet_heads.specs.code.Head.{Head, otherHead, stringHead, nameHead, templateHead, binaryHead, objectHead, importCallHead, callHead, importHead, namedExportHead, exportFromHead, exportAllHead, importTypeHead, importEqualsHead, importRequireHead, moduleHead}
+use Rattle.sheet_heads.specs.code.Head.{Head, otherHead, stringHead, nameHead, templateHead, binaryHead, objectHead, importCallHead, callHead}
+use Rattle.sheet_heads.specs.code.Head.{importHead, namedExportHead, exportFromHead, exportAllHead, importTypeHead, importEqualsHead}
+use Rattle.sheet_heads.specs.code.Head.{importRequireHead, moduleHead}
 
 -- an Object where the flag is 1
 abbrev pub behind : Bool → Decoder Attributes → Decoder Attributes

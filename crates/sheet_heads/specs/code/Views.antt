@@ -14,7 +14,9 @@ use Rattle.wire.specs.declared.Flag.the-variants as flag
 use Rattle.sheet.specs.Limits.{propertyLimit}
 use Rattle.sheet.specs.declared.fields.Span.{Span}
 use Rattle.sheet.specs.Tree.{Quoted, Pieces}
-use Rattle.sheet_heads.specs.code.Head.{Head, otherHead, stringHead, nameHead, templateHead, binaryHead, objectHead, importCallHead, callHead, importHead, namedExportHead, exportFromHead, exportAllHead, importTypeHead, importEqualsHead, importRequireHead, moduleHead}
+use Rattle.sheet_heads.specs.code.Head.{Head, otherHead, stringHead, nameHead, templateHead, binaryHead, objectHead, importCallHead, callHead}
+use Rattle.sheet_heads.specs.code.Head.{importHead, namedExportHead, exportFromHead, exportAllHead, importTypeHead, importEqualsHead}
+use Rattle.sheet_heads.specs.code.Head.{importRequireHead, moduleHead}
 use Rattle.sheet_heads.specs.code.Parts.{PropertyHead, spreadHead, otherPropertyHead, childKeyHead, stringKeyHead, nameKeyHead}
 use Rattle.sheet_heads.specs.declared.quoted.Quoted as q
 use Rattle.sheet_heads.specs.declared.quoted.QuotedRead.{QuotedRead}

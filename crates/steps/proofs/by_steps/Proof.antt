@@ -1,4 +1,4 @@
-use borrow.Author.Needs.{needs}
+use Rattle.laws.proofs.Prelude.{needs}
 use Rattle.steps.specs.declared.Pattern.the-variants.{TripleSlash, Path, Types, ResolutionMode, JsxImportSource, JsxImportSourceTypes, SourceMappingUrl, TsSelfTypes, TsTypes, DenoTypes}
 use Rattle.steps.specs.Patterns.{tableOf, rowOf}
 use Rattle.steps.proofs.Tables.{tables}

@@ -1,9 +1,4 @@
-use borrow.Author.Needs.{needs}
-use native.Mathlib.Omega.{arith}
-use mathlib.Core.Path.{_≡_, sym, _∙_}
-use Prim.Native.Nat.{_≤_, _-_}
-use lib.ListN.{length}
-use denote.Ref.{now}
+use Rattle.laws.proofs.Prelude.{needs, arith, _≡_, sym, _∙_, _≤_, _-_, length, now}
 use Rattle.analysis.specs.Row.{Row, find}
 use Rattle.analysis.proofs.Search.{leftFrom, left-starts}
 use Rattle.steps.specs.Table.{row, rowIn}

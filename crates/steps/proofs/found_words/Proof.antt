@@ -1,4 +1,4 @@
-use borrow.Author.Needs.{needs}
+use Rattle.laws.proofs.Prelude.{needs}
 use Rattle.steps.proofs.found_words.Statement.{statement}
 use Rattle.steps.proofs.found_words.Tie as tie
 

@@ -1,5 +1,4 @@
-use borrow.Author.Needs.{needs}
-use denote.Ref.{now}
+use Rattle.laws.proofs.Prelude.{needs, now}
 use Rattle.steps.proofs.Tables.{too-long, refuses, accepts}
 use Rattle.steps.proofs.match_row.Statement.{statement}
 use Rattle.steps.proofs.match_row.Tie as tie

@@ -1,5 +1,4 @@
-use borrow.Author.Needs.{needs}
-use denote.Ref.{now}
+use Rattle.laws.proofs.Prelude.{needs, now}
 use Rattle.steps.proofs.Tables.{is-found, not-refused}
 use Rattle.steps.proofs.run_table.Statement.{statement}
 use Rattle.steps.proofs.run_table.Tie as tie

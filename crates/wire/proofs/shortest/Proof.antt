@@ -1,4 +1,4 @@
-use borrow.Author.Tests.{le-leb, lt-leb}
+use Rattle.laws.proofs.Prelude.{le-leb, lt-leb}
 use Rattle.wire.proofs.shortest.Statement.{statement}
 use Rattle.wire.proofs.shortest.Tie as tie
 

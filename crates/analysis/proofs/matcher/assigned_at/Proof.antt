@@ -1,5 +1,4 @@
-use borrow.Author.Needs.{needs}
-use Rattle.laws.proofs.Steps.{known}
+use Rattle.laws.proofs.Prelude.{needs, known}
 use Rattle.analysis.specs.code.Matcher.{assignedAt}
 use Rattle.analysis.proofs.matcher.assigned_at.Statement.{statement}
 use Rattle.analysis.proofs.matcher.assigned_at.Tie as tie

@@ -1,6 +1,4 @@
-use borrow.Author.Needs.{needs}
-use native.Mathlib.Omega.{arith}
-use borrow.Author.Tests.{lt-leb, le-leb, eq-eqb, ne-eqb}
+use Rattle.laws.proofs.Prelude.{needs, arith, lt-leb, le-leb, eq-eqb, ne-eqb}
 use Rattle.analysis.specs.Letters.{foldCase}
 use Rattle.analysis.proofs.matcher.fold_case.Statement.{statement}
 use Rattle.analysis.proofs.matcher.fold_case.Tie as tie

@@ -1,7 +1,4 @@
-use borrow.Author.Needs.{needs}
-use native.Mathlib.Omega.{arith}
-use denote.Ref.{now}
-use borrow.Author.Tests.{eq-eqb, ne-eqb}
+use Rattle.laws.proofs.Prelude.{needs, arith, now, eq-eqb, ne-eqb}
 use Rattle.analysis.proofs.Spelling.{ascii-letter}
 use Rattle.analysis.proofs.matcher.letter_at.Statement.{statement}
 use Rattle.analysis.proofs.matcher.letter_at.Tie as tie

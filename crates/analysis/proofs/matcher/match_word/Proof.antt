@@ -1,8 +1,4 @@
-use native.Mathlib.Omega.{arith}
-use mathlib.Core.Path.{_≡_, refl, sym, _∙_}
-use Prim.Native.Nat.{_≤_, _-_}
-use lib.ListN.{length, drop}
-use denote.Ref.{now}
+use Rattle.laws.proofs.Prelude.{arith, _≡_, refl, sym, _∙_, _≤_, _-_, length, drop, now}
 use Rattle.analysis.specs.Letters.{wordAt}
 use Rattle.analysis.proofs.Spelling.{word-misses, word-goes-on, word-ends}
 use Rattle.analysis.proofs.matcher.match_word.Statement.{statement}

@@ -1,9 +1,4 @@
-use borrow.Author.Needs.{needs}
-use native.Mathlib.Omega.{arith}
-use mathlib.Core.Path.{_≡_}
-use lib.ListN.{drop, length-drop}
-use denote.Ref.{now}
-use borrow.Author.Tests.{eq-eqb, ne-eqb}
+use Rattle.laws.proofs.Prelude.{needs, arith, _≡_, drop, length-drop, now, eq-eqb, ne-eqb}
 use Rattle.analysis.specs.Letters.{letterAt}
 use Rattle.analysis.proofs.Spelling.{letter-fits}
 use Rattle.analysis.proofs.matcher.wide_letter_at.Statement.{statement}

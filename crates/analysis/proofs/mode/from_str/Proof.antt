@@ -1,5 +1,4 @@
-use borrow.Author.Needs.{needs}
-use Rattle.laws.proofs.Steps.{known}
+use Rattle.laws.proofs.Prelude.{needs, known}
 use Rattle.analysis.specs.Mode.{modeOf}
 use Rattle.analysis.proofs.mode.from_str.Statement.{statement}
 use Rattle.analysis.proofs.mode.from_str.Tie as tie

@@ -1,6 +1,4 @@
-use mathlib.Core.Path.{sym, ap, _∙_}
-use borrow.Author.Needs.{needs}
-use denote.Ref.{now}
+use Rattle.laws.proofs.Prelude.{sym, ap, _∙_, needs, now}
 use Rattle.arguments.specs.Argument.{chain, ofChain, replacedIn}
 use Rattle.arguments.proofs.Chains.{uncounted, has-count}
 use Rattle.arguments.proofs.Arguments.{string-argument, template-argument, plus-argument}

@@ -1,11 +1,4 @@
-use mathlib.Core.Path.{refl, ap}
-use mathlib.Core.List.{[]}
-use Prim.Native.Nat.{_+_}
-use native.Mathlib.Omega.{arith}
-use borrow.Author.Needs.{needs}
-use lib.ListN.{drop}
-use denote.Ref.{now}
-use Rattle.laws.proofs.Steps.{told, bounded}
+use Rattle.laws.proofs.Prelude.{refl, ap, [], _+_, arith, needs, drop, now, told, bounded}
 use Rattle.sheet.specs.Nodes.{piece}
 use Rattle.sheet_heads.proofs.Many.{many-refused}
 use Rattle.arguments.specs.Argument.{replacedIn}

@@ -1,5 +1,4 @@
-use borrow.Author.Needs.{needs}
-use mathlib.Core.Path.{sym, _∙_}
+use Rattle.laws.proofs.Prelude.{needs, sym, _∙_}
 use Rattle.report.specs.Encode.{encodeList, encodeArgument}
 use Rattle.report.proofs.Buffers.{wrote-append, wrote-cons}
 use Rattle.arguments.proofs.argument.put_argument.Statement.{statement}

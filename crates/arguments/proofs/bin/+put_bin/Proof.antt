@@ -1,11 +1,5 @@
-use mathlib.Core.Path.{ap, _∙_}
-use Prim.Native.Nat.{ℕ, _-_, _<_}
-use native.Mathlib.Omega.{arith}
-use borrow.Author.Needs.{needs}
-use borrow.Fn.Kinds.{In}
-use borrow.Fn.PlainCycle.{Measures, is, falls, and}
-use denote.Ref.{now}
-use Rattle.laws.proofs.Steps.{told}
+use Rattle.laws.proofs.Prelude.{ap, _∙_, ℕ, _-_, _<_, arith, needs, In, Measures, now, told}
+use borrow.Fn.PlainCycle.{is, falls, and}
 use Rattle.laws.proofs.Decoding.{same-rest}
 use Rattle.sheet.specs.Nodes.{node}
 use Rattle.sheet_nodes.specs.code.Tallies.{nodeTally}

@@ -1,9 +1,5 @@
-use Prim.Native.Nat.{ℕ, _<_}
-use native.Mathlib.Omega.{arith}
-use borrow.Author.Needs.{needs}
-use borrow.Fn.Kinds.{In}
-use borrow.Fn.PlainCycle.{Measures, is, falls, and}
-use Rattle.laws.proofs.Steps.{told}
+use Rattle.laws.proofs.Prelude.{ℕ, _<_, arith, needs, In, Measures, told}
+use borrow.Fn.PlainCycle.{is, falls, and}
 use Rattle.sheet_nodes.proofs.check.check_node.Reads as check-node
 use Rattle.arguments.proofs.Chains.{checked-refused, string-counted, template-chain, plus-unknown, at-right, plus-counted}
 use Rattle.arguments.proofs.bin.visit_bin.Reads as visit-bin

@@ -1,4 +1,4 @@
-use borrow.Author.Needs.{needs}
+use Rattle.laws.proofs.Prelude.{needs}
 use Rattle.arguments.proofs.Chains.{string-operand, template-operand, plus-operand}
 use Rattle.arguments.proofs.bin.put_operand.Statement.{statement}
 use Rattle.arguments.proofs.bin.put_operand.Tie as tie

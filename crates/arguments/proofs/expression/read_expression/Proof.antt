@@ -1,6 +1,4 @@
-use borrow.Author.Needs.{needs}
-use denote.Ref.{now}
-use Rattle.laws.proofs.Steps.{told, bounded}
+use Rattle.laws.proofs.Prelude.{needs, now, told, bounded}
 use Rattle.sheet_heads.proofs.ByHead.{no-head}
 use Rattle.arguments.proofs.Expressions.{reads-string, reads-template, reads-plus, reads-minus, reads-other}
 use Rattle.arguments.proofs.expression.read_expression.Statement.{statement}

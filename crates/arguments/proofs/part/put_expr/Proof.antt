@@ -1,4 +1,4 @@
-use borrow.Author.Needs.{needs}
+use Rattle.laws.proofs.Prelude.{needs}
 use Rattle.wire.specs.Optional.{encodeOptional}
 use Rattle.arguments.proofs.part.put_expr.Statement.{statement}
 use Rattle.arguments.proofs.part.put_expr.Tie as tie

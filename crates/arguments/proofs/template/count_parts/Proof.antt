@@ -1,13 +1,5 @@
-use mathlib.Core.Path.{_≡_, ap}
-use mathlib.Core.List.{List, []}
-use Prim.Native.Nat.{ℕ, _+_, _*_, _≤_}
-use native.Mathlib.Omega.{arith}
-use borrow.Author.Needs.{needs}
-use lib.Dec.{ltb}
-use lib.ListN.{length, drop, length-append}
-use denote.Ref.{now}
+use Rattle.laws.proofs.Prelude.{_≡_, ap, List, [], ℕ, _+_, _*_, _≤_, arith, needs, ltb, length, drop, length-append, now, told, bounded}
 use Rattle.laws.specs.Decoded.{ok}
-use Rattle.laws.proofs.Steps.{told, bounded}
 use Rattle.text.proofs.Ones.{one-most}
 use Rattle.wire.specs.Number.{largest}
 use Rattle.sheet.specs.Tree.{Pieces}

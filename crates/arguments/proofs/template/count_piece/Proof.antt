@@ -1,7 +1,4 @@
-use mathlib.Core.Path.{ap}
-use native.Mathlib.Omega.{arith}
-use borrow.Author.Needs.{needs}
-use lib.ListN.{length}
+use Rattle.laws.proofs.Prelude.{ap, arith, needs, length}
 use Rattle.arguments.proofs.Pieces.{text-part, no-part}
 use Rattle.arguments.proofs.template.count_piece.Statement.{statement}
 use Rattle.arguments.proofs.template.count_piece.Tie as tie

@@ -1,13 +1,5 @@
-use mathlib.Core.Path.{_≡_, refl, sym, _∙_}
-use mathlib.Core.List.{List, [], flatMap}
-use Prim.Native.Nat.{ℕ}
-use native.Mathlib.Omega.{arith}
-use borrow.Author.Needs.{needs}
-use lib.Dec.{ltb}
-use lib.ListN.{length, drop}
-use denote.Ref.{now}
+use Rattle.laws.proofs.Prelude.{_≡_, refl, sym, _∙_, List, [], flatMap, ℕ, arith, needs, ltb, length, drop, now, told, bounded}
 use Rattle.laws.specs.Decoded.{ok}
-use Rattle.laws.proofs.Steps.{told, bounded}
 use Rattle.sheet.specs.Tree.{Pieces}
 use Rattle.sheet.specs.Nodes.{many, piece}
 use Rattle.sheet_heads.proofs.Many.{many-refused, many-end}

@@ -1,7 +1,4 @@
-use mathlib.Core.Path.{sym}
-use borrow.Author.Needs.{needs}
-use denote.Ref.{now}
-use mathlib.Core.List.{flatMap}
+use Rattle.laws.proofs.Prelude.{sym, needs, now, flatMap}
 use Rattle.report.proofs.Buffers.{wrote-nil}
 use Rattle.arguments.proofs.Chains.{encode-one}
 use Rattle.arguments.proofs.Pieces.{text-part, no-part}

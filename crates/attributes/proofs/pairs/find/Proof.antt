@@ -1,8 +1,4 @@
-use borrow.Author.Needs.{needs}
-use Prim.Native.Nat.{_-_, _≤_}
-use native.Mathlib.Omega.{arith}
-use denote.Ref.{now}
-use Rattle.laws.proofs.Steps.{known}
+use Rattle.laws.proofs.Prelude.{needs, _-_, _≤_, arith, now, known}
 use Rattle.text.specs.Bytes.{part}
 use Rattle.report.specs.ModuleInfo.{ImportAttribute}
 use Rattle.attributes.specs.code.Views.{pairAs}

@@ -1,10 +1,4 @@
-use borrow.Author.Needs.{needs}
-use mathlib.Core.Path.{_∙_}
-use Prim.Native.Nat.{_+_, _*_, _≤_}
-use native.Mathlib.Omega.{arith}
-use lib.ListN.{length}
-use denote.Ref.{now}
-use Rattle.laws.proofs.Steps.{bounded}
+use Rattle.laws.proofs.Prelude.{needs, _∙_, _+_, _*_, _≤_, arith, length, now, bounded}
 use Rattle.attributes.proofs.PairRows.{stored-replaces, stored-within}
 use Rattle.attributes.proofs.pairs.insert.Statement.{statement}
 use Rattle.attributes.proofs.pairs.insert.Tie as tie

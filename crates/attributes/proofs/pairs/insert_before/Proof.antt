@@ -1,9 +1,4 @@
-use borrow.Author.Needs.{needs}
-use mathlib.Core.Path.{_≡_, refl, _∙_}
-use mathlib.Core.List.{List}
-use Prim.Native.Nat.{ℕ, _+_, _-_, _*_, _≤_}
-use native.Mathlib.Omega.{arith}
-use lib.ListN.{length}
+use Rattle.laws.proofs.Prelude.{needs, _≡_, refl, _∙_, List, ℕ, _+_, _-_, _*_, _≤_, arith, length}
 use Rattle.attributes.specs.code.Views.{pairAs, opened, PairWithin, Pairs}
 use Rattle.attributes.proofs.PairRows.{stored-last, stored-carries, stored-within}
 use Rattle.attributes.proofs.pairs.insert_before.Statement.{statement}

@@ -1,4 +1,4 @@
-use borrow.Author.Needs.{needs}
+use Rattle.laws.proofs.Prelude.{needs}
 use Rattle.attributes.proofs.pairs.insert_known.Statement.{statement}
 use Rattle.attributes.proofs.pairs.insert_known.Tie as tie
 

@@ -1,7 +1,5 @@
-use borrow.Author.Needs.{needs}
-use native.Mathlib.Numerals.{add-one, add-two, add-three, add-four}
-use native.Mathlib.Omega.{arith}
-use lib.ListN.{length-set}
+use Rattle.laws.proofs.Prelude.{needs, add-one, arith, length-set}
+use native.Mathlib.Numerals.{add-two, add-three, add-four}
 use Rattle.attributes.proofs.pairs.store_pair.Statement.{statement}
 use Rattle.attributes.proofs.pairs.store_pair.Tie as tie
 

@@ -1,5 +1,4 @@
-use borrow.Author.Needs.{needs}
-use Rattle.laws.proofs.Steps.{known}
+use Rattle.laws.proofs.Prelude.{needs, known}
 use Rattle.attributes.proofs.props.prop_of.Statement.{statement}
 use Rattle.attributes.proofs.props.prop_of.Tie as tie
 

@@ -1,4 +1,4 @@
-use borrow.Author.Needs.{needs}
+use Rattle.laws.proofs.Prelude.{needs}
 use Rattle.attributes.proofs.Shapes.{other-value}
 use Rattle.attributes.proofs.props.read_pair.Statement.{statement}
 use Rattle.attributes.proofs.props.read_pair.Tie as tie

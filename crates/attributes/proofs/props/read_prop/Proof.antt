@@ -1,9 +1,5 @@
-use borrow.Author.Needs.{needs}
-use mathlib.Core.Path.{_∙_}
-use lib.ListN.{length, drop}
-use denote.Ref.{now}
+use Rattle.laws.proofs.Prelude.{needs, _∙_, length, drop, now, told, bounded}
 use Rattle.laws.proofs.Decoding.{onOk-ok, onOk-no}
-use Rattle.laws.proofs.Steps.{told, bounded}
 use Rattle.sheet.specs.Nodes.{node, propertyItem}
 use Rattle.sheet_heads.proofs.ByHead.{property-by-head}
 use Rattle.sheet_nodes.specs.code.Tallies.{gain}

@@ -1,6 +1,4 @@
-use borrow.Author.Needs.{needs}
-use denote.Ref.{now}
-use Rattle.laws.proofs.Steps.{told, bounded}
+use Rattle.laws.proofs.Prelude.{needs, now, told, bounded}
 use Rattle.sheet_heads.proofs.ByHead.{no-head}
 use Rattle.attributes.proofs.Shapes.{text-is, object-is, other-is}
 use Rattle.attributes.proofs.props.read_value.Statement.{statement}

@@ -1,6 +1,5 @@
-use borrow.Author.Needs.{needs}
+use Rattle.laws.proofs.Prelude.{needs, known}
 use mathlib.Core.Bool.{and-true, and-false}
-use Rattle.laws.proofs.Steps.{known}
 use Rattle.attributes.proofs.readings.is_attributes_key.Statement.{statement}
 use Rattle.attributes.proofs.readings.is_attributes_key.Tie as tie
 

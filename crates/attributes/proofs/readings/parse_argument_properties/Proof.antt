@@ -1,11 +1,4 @@
-use borrow.Author.Needs.{needs}
-use mathlib.Core.Path.{_≡_, refl, sym, _∙_}
-use mathlib.Core.Bool.{Bool, false}
-use mathlib.Core.List.{List}
-use lib.ListN.{length, drop}
-use native.Mathlib.Omega.{arith}
-use denote.Ref.{now}
-use Rattle.laws.proofs.Steps.{known, seen}
+use Rattle.laws.proofs.Prelude.{needs, _≡_, refl, sym, _∙_, Bool, false, List, length, drop, arith, now, known, seen}
 use Rattle.text.specs.Bytes.{part}
 use Rattle.sheet.specs.Nodes.{node}
 use Rattle.sheet.specs.Shape.{shape}

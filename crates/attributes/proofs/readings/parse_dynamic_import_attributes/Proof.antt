@@ -1,9 +1,4 @@
-use borrow.Author.Needs.{needs}
-use mathlib.Core.Path.{sym, ap, _∙_}
-use mathlib.Core.Bool.{false, cond}
-use native.Mathlib.Omega.{arith}
-use denote.Ref.{now}
-use Rattle.laws.proofs.Steps.{told}
+use Rattle.laws.proofs.Prelude.{needs, sym, ap, _∙_, false, cond, arith, now, told}
 use Rattle.sheet.specs.Nodes.{node}
 use Rattle.sheet.specs.Shape.{shape}
 use Rattle.sheet_heads.proofs.FirstArgument.{no-first, no-arguments}

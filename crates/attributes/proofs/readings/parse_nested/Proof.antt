@@ -1,7 +1,4 @@
-use borrow.Author.Needs.{needs}
-use mathlib.Core.Path.{sym, ap, _∙_}
-use mathlib.Core.List.{[]}
-use native.Mathlib.Omega.{arith}
+use Rattle.laws.proofs.Prelude.{needs, sym, ap, _∙_, [], arith}
 use Rattle.sheet.specs.Shape.{shape}
 use Rattle.attributes.specs.Attributes.{objectAttributes, ofObject}
 use Rattle.attributes.proofs.Shapes.{other-unknown}

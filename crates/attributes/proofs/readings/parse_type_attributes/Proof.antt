@@ -1,8 +1,4 @@
-use borrow.Author.Needs.{needs}
-use mathlib.Core.Path.{_≡_, ap, _∙_}
-use native.Mathlib.Omega.{arith}
-use denote.Ref.{now}
-use Rattle.laws.proofs.Steps.{told, bounded}
+use Rattle.laws.proofs.Prelude.{needs, _≡_, ap, _∙_, arith, now, told, bounded}
 use Rattle.sheet.specs.Tree.{without}
 use Rattle.attributes.specs.Attributes.{typeAttributes}
 use Rattle.attributes.proofs.Objects.{behind-attributes, no-attributes}

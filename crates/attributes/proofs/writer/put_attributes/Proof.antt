@@ -1,5 +1,4 @@
-use borrow.Author.Needs.{needs}
-use denote.Ref.{now}
+use Rattle.laws.proofs.Prelude.{needs, now}
 use Rattle.sheet.proofs.TableRows.{rows-length}
 use Rattle.report.specs.Encode.{encodeList, encodeAttributes}
 use Rattle.report.proofs.Buffers.{wrote-append, wrote-cons}

@@ -1,11 +1,4 @@
-use borrow.Author.Needs.{needs}
-use mathlib.Core.Path.{_≡_, refl, sym, _∙_}
-use Prim.Native.Nat.{_+_, _-_}
-use native.Mathlib.Nat.{sub-zero}
-use native.Mathlib.Omega.{arith}
-use lib.ListN.{length}
-use denote.Ref.{now}
-use mathlib.Core.List.{flatMap}
+use Rattle.laws.proofs.Prelude.{needs, _≡_, refl, sym, _∙_, _+_, _-_, sub-zero, arith, length, now, flatMap}
 use Rattle.sheet.specs.code.Tables.{rows}
 use Rattle.sheet.proofs.TableRows.{rows-first}
 use Rattle.report.specs.Encode.{encodeKeyValue}

@@ -1,6 +1,4 @@
-use borrow.Author.Needs.{needs}
-use mathlib.Core.Path.{sym, _∙_}
-use mathlib.Core.List.{append-assoc}
+use Rattle.laws.proofs.Prelude.{needs, sym, _∙_, append-assoc}
 use Rattle.wire.specs.Text.{encodeText}
 use Rattle.report.specs.Encode.{encodeRange, encodeSpecifier, encodeArgument}
 use Rattle.report_reader.proofs.FromBytes.{text-argument, parts-argument, no-argument}

@@ -1,7 +1,4 @@
-use borrow.Author.Needs.{needs}
-use mathlib.Core.Path.{sym, _∙_}
-use mathlib.Core.List.{_++_, append-assoc}
-use native.Mathlib.Omega.{arith}
+use Rattle.laws.proofs.Prelude.{needs, sym, _∙_, _++_, append-assoc, arith}
 use Rattle.report.specs.declared.names.DependencyKind.the-variants.{Static, Dynamic}
 use Rattle.report.specs.ModuleInfo.{static, dynamic}
 use Rattle.report.specs.Encode.{encodeAttributes, encodeStatic, encodeDynamic, encodeDependency}

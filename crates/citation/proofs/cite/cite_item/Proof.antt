@@ -1,5 +1,4 @@
-use borrow.Author.Needs.{needs}
-use native.Mathlib.Omega.{arith}
+use Rattle.laws.proofs.Prelude.{needs, arith}
 use Rattle.citation.proofs.cite.cite_item.Statement.{statement}
 use Rattle.citation.proofs.cite.cite_item.Tie as tie
 

@@ -1,10 +1,4 @@
-use borrow.Author.Needs.{needs}
-use mathlib.Core.Path.{_≡_, refl, sym, _∙_}
-use mathlib.Core.List.{List, [], _++_, append-nil, flatMap}
-use Prim.Native.Nat.{ℕ, _+_, _*_, _≤_}
-use native.Mathlib.Omega.{arith}
-use lib.ListN.{length, getD, drop}
-use denote.Ref.{now}
+use Rattle.laws.proofs.Prelude.{needs, _≡_, refl, sym, _∙_, List, [], _++_, append-nil, flatMap, ℕ, _+_, _*_, _≤_, arith, length, getD, drop, now}
 use Rattle.laws.specs.Codec.{All}
 use Rattle.report.specs.Buffer.{bufferAs}
 use Rattle.report.proofs.Buffers.{wrote-nil}

@@ -1,7 +1,4 @@
-use borrow.Author.Needs.{needs}
-use mathlib.Core.Path.{_∙_}
-use mathlib.Core.List.{append-assoc}
-use denote.Ref.{now}
+use Rattle.laws.proofs.Prelude.{needs, _∙_, append-assoc, now}
 use Rattle.report.specs.Encode.{encode}
 use Rattle.citation.specs.Citation.{citeReference, citeJsDoc, lines}
 use Rattle.report_reader.proofs.FromBytes.{flag-read}

@@ -1,8 +1,4 @@
-use borrow.Author.Needs.{needs}
-use mathlib.Core.Path.{refl, sym}
-use native.Mathlib.Omega.{arith}
-use denote.Ref.{now}
-use mathlib.Core.List.{flatMap}
+use Rattle.laws.proofs.Prelude.{needs, refl, sym, arith, now, flatMap}
 use Rattle.report.specs.Encode.{encodeSpecifier}
 use Rattle.report.proofs.Buffers.{wrote-nil}
 use Rattle.report_reader.proofs.FromBytes.{none-there, some-there}

@@ -1,7 +1,4 @@
-use borrow.Author.Needs.{needs}
-use mathlib.Core.Path.{refl}
-use mathlib.Core.List.{append-nil, flatMap}
-use native.Mathlib.Omega.{arith}
+use Rattle.laws.proofs.Prelude.{needs, refl, append-nil, flatMap, arith}
 use Rattle.citation.proofs.cite.cite_range.Statement.{statement}
 use Rattle.citation.proofs.cite.cite_range.Tie as tie
 

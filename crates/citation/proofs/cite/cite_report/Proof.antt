@@ -1,10 +1,4 @@
-use borrow.Author.Needs.{needs}
-use mathlib.Core.Path.{sym, ap, _∙_}
-use mathlib.Core.List.{[], append-nil}
-use native.Mathlib.Omega.{arith}
-use lib.ListN.{length, take, length-take}
-use lib.Seq.{length-take-le}
-use denote.Ref.{now}
+use Rattle.laws.proofs.Prelude.{needs, sym, ap, _∙_, [], append-nil, arith, length, take, length-take, length-take-le, now}
 use Rattle.report.specs.Encode.{encode}
 use Rattle.report.proofs.Buffers.{wrote-append}
 use Rattle.citation.specs.Citation.{citation}

@@ -1,5 +1,5 @@
 -- `dependency_letter`: by whether the number is 0.
-use borrow.Author.Tests.{eq-eqb, ne-eqb}
+use Rattle.laws.proofs.Prelude.{eq-eqb, ne-eqb}
 use Rattle.citation.proofs.cite.dependency_letter.Statement.{statement}
 use Rattle.citation.proofs.cite.dependency_letter.Tie as tie
 

@@ -1,8 +1,5 @@
 -- `number_at`: past the numbers it is 0.
-use borrow.Author.Needs.{needs}
-use mathlib.Core.Path.{sym}
-use denote.Ref.{now}
-use lib.ListN.{List·getD-eq-default}
+use Rattle.laws.proofs.Prelude.{needs, sym, now, List·getD-eq-default}
 use Rattle.citation.proofs.cite.number_at.Statement.{statement}
 use Rattle.citation.proofs.cite.number_at.Tie as tie
 

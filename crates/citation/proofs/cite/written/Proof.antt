@@ -1,6 +1,4 @@
-use mathlib.Core.Path.{sym}
-use native.Mathlib.Omega.{arith}
-use lib.Seq.{length-take-le, take-all}
+use Rattle.laws.proofs.Prelude.{sym, arith, length-take-le, take-all}
 use Rattle.citation.proofs.cite.written.Statement.{statement}
 use Rattle.citation.proofs.cite.written.Tie as tie
 

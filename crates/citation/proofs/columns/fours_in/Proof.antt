@@ -1,10 +1,4 @@
-use borrow.Author.Needs.{needs}
-use mathlib.Core.Path.{_≡_, ap}
-use mathlib.Core.Logic.{⊎-elim}
-use Prim.Native.Nat.{ℕ, _+_, _-_, _≤_}
-use native.Mathlib.Omega.{arith}
-use lib.ListN.{length, getD, drop, drop-of-length-le}
-use denote.Ref.{now}
+use Rattle.laws.proofs.Prelude.{needs, _≡_, ap, ⊎-elim, ℕ, _+_, _-_, _≤_, arith, length, getD, drop, drop-of-length-le, now}
 use Rattle.citation.specs.Columns.{foursIn}
 use Rattle.citation.proofs.Fours.{fours-none, fours-past, added-few, fours-begun, fours-gone}
 use Rattle.citation.proofs.columns.fours_in.Statement.{statement}

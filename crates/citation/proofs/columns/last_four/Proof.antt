@@ -1,12 +1,5 @@
-use borrow.Author.Needs.{needs}
-use mathlib.Core.Path.{_≡_}
-use mathlib.Core.Bool.{false}
-use Prim.Native.Nat.{ℕ, _-_, _≤_, _<_}
+use Rattle.laws.proofs.Prelude.{needs, _≡_, false, ℕ, _-_, _≤_, _<_, arith, length, getD, lt-leb, now}
 use native.Mathlib.Decide.{decLe}
-use native.Mathlib.Omega.{arith}
-use lib.ListN.{length, getD}
-use borrow.Author.Tests.{lt-leb}
-use denote.Ref.{now}
 use Rattle.citation.specs.Columns.{beginsFour}
 use Rattle.citation.proofs.columns.last_four.Statement.{statement}
 use Rattle.citation.proofs.columns.last_four.Tie as tie

@@ -1,9 +1,4 @@
-use borrow.Author.Needs.{needs}
-use mathlib.Core.Path.{_≡_, refl, sym, _∙_}
-use Prim.Native.Nat.{_≤_, _<_}
-use native.Mathlib.Omega.{arith}
-use lib.ListN.{length, drop}
-use denote.Ref.{now}
+use Rattle.laws.proofs.Prelude.{needs, _≡_, refl, sym, _∙_, _≤_, _<_, arith, length, drop, now}
 use Rattle.citation.specs.Columns.{fromLine}
 use Rattle.citation.proofs.Fours.{from-zero, next-line, no-line}
 use Rattle.citation.proofs.columns.line_start.Statement.{statement}

@@ -1,5 +1,4 @@
-use borrow.Author.Needs.{needs}
-use native.Mathlib.Omega.{arith}
+use Rattle.laws.proofs.Prelude.{needs, arith}
 use Rattle.citation.specs.Columns.{recounted}
 use Rattle.citation.proofs.columns.recounted.Statement.{statement}
 use Rattle.citation.proofs.columns.recounted.Tie as tie

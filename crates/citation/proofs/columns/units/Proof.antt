@@ -1,5 +1,4 @@
-use borrow.Author.Tests.{le-leb, lt-leb}
-use native.Mathlib.Omega.{arith}
+use Rattle.laws.proofs.Prelude.{le-leb, lt-leb, arith}
 use Rattle.citation.proofs.columns.units.Statement.{statement}
 use Rattle.citation.proofs.columns.units.Tie as tie
 

@@ -1,11 +1,6 @@
 -- The number's places fall at each call.
-use borrow.Author.Needs.{needs}
-use mathlib.Core.Path.{sym}
-use Prim.Native.Nat.{ℕ, _<_}
-use native.Mathlib.Omega.{arith}
-use borrow.Fn.Kinds.{In}
-use borrow.Fn.PlainCycle.{Measures, is, falls, and}
-use denote.Ref.{now}
+use Rattle.laws.proofs.Prelude.{needs, sym, ℕ, _<_, arith, In, Measures, now}
+use borrow.Fn.PlainCycle.{is, falls, and}
 use Rattle.report.proofs.Buffers.{wrote-append, wrote-nil}
 use Rattle.report.proofs.writer.Pen.put.Reads as put-reads
 use Rattle.citation.proofs.Digits.{no-digit, one-digit, more-digits}

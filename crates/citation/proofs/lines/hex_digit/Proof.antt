@@ -1,5 +1,4 @@
-use borrow.Author.Needs.{needs}
-use borrow.Author.Tests.{lt-ltb, le-ltb}
+use Rattle.laws.proofs.Prelude.{needs, lt-ltb, le-ltb}
 use Rattle.citation.proofs.lines.hex_digit.Statement.{statement}
 use Rattle.citation.proofs.lines.hex_digit.Tie as tie
 

@@ -1,4 +1,4 @@
-use borrow.Author.Tests.{lt-ltb, le-ltb, eq-eqb, ne-eqb}
+use Rattle.laws.proofs.Prelude.{lt-ltb, le-ltb, eq-eqb, ne-eqb}
 use Rattle.citation.proofs.lines.is_escaped.Statement.{statement}
 use Rattle.citation.proofs.lines.is_escaped.Tie as tie
 

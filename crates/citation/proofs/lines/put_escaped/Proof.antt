@@ -1,7 +1,4 @@
-use borrow.Author.Needs.{needs}
-use mathlib.Core.List.{[], _∷_}
-use denote.Ref.{now}
-use Rattle.laws.proofs.Steps.{known}
+use Rattle.laws.proofs.Prelude.{needs, [], _∷_, now, known}
 use Rattle.report.specs.Buffer.{bufferAs}
 use Rattle.report.proofs.Buffers.{wrote-append, wrote-cons}
 use Rattle.citation.specs.Citation.{escaped}

@@ -1,6 +1,4 @@
-use borrow.Author.Needs.{needs}
-use denote.Ref.{now}
-use Rattle.laws.proofs.Steps.{seen}
+use Rattle.laws.proofs.Prelude.{needs, now, seen}
 use Rattle.delivery.specs.code.Views.{passedAs}
 use Rattle.delivery.proofs.Checks.{bytes-follow, all-checked, not-passed}
 use Rattle.delivery.proofs.check.check_counted.Statement.{statement}

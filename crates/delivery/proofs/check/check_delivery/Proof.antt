@@ -1,7 +1,4 @@
-use borrow.Author.Needs.{needs}
-use native.Mathlib.Omega.{arith}
-use denote.Ref.{now}
-use Rattle.laws.proofs.Steps.{told}
+use Rattle.laws.proofs.Prelude.{needs, arith, now, told}
 use Rattle.delivery.proofs.Checks.{too-long, no-count, none, too-many, as-counted}
 use Rattle.delivery.proofs.check.check_delivery.Statement.{statement}
 use Rattle.delivery.proofs.check.check_delivery.Tie as tie

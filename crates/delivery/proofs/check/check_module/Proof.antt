@@ -1,6 +1,4 @@
-use borrow.Author.Needs.{needs}
-use denote.Ref.{now}
-use Rattle.laws.proofs.Steps.{seen, told}
+use Rattle.laws.proofs.Prelude.{needs, now, seen, told}
 use Rattle.wire.specs.code.Views.{textAs}
 use Rattle.delivery.specs.Delivery.{namedSheet}
 use Rattle.delivery.proofs.check.check_module.Statement.{statement}

@@ -1,9 +1,5 @@
-use borrow.Author.Needs.{needs}
-use mathlib.Core.Path.{_≡_, refl, sym, _∙_}
-use lib.ListN.{drop}
-use denote.Ref.{now}
+use Rattle.laws.proofs.Prelude.{needs, _≡_, refl, sym, _∙_, drop, now, seen}
 use Rattle.laws.specs.Decoded.{onOk}
-use Rattle.laws.proofs.Steps.{seen}
 use Rattle.report.specs.Decode.{times}
 use Rattle.delivery.specs.Delivery.{namedSheet}
 use Rattle.delivery.specs.code.Views.{forget, passedAs}

@@ -1,6 +1,4 @@
-use borrow.Author.Needs.{needs}
-use denote.Ref.{now}
-use Rattle.laws.proofs.Steps.{told, bounded}
+use Rattle.laws.proofs.Prelude.{needs, now, told, bounded}
 use Rattle.wire.proofs.FieldsAtPlace.{bytes-past, bytes-at}
 use Rattle.report.specs.Decode.{text}
 use Rattle.delivery.proofs.check.check_sheet.Statement.{statement}

@@ -1,5 +1,4 @@
-use borrow.Author.Needs.{needs}
-use Rattle.laws.proofs.Steps.{known}
+use Rattle.laws.proofs.Prelude.{needs, known}
 use Rattle.delivery.proofs.entries.is_late.Statement.{statement}
 use Rattle.delivery.proofs.entries.is_late.Tie as tie
 

@@ -1,5 +1,4 @@
-use borrow.Author.Needs.{needs}
-use native.Mathlib.Omega.{arith}
+use Rattle.laws.proofs.Prelude.{needs, arith}
 use Rattle.delivery.specs.Right.{namesOf}
 use Rattle.delivery.proofs.ReportEntries.{static-late, dynamic-late}
 use Rattle.delivery.proofs.entries.judge_entry.Statement.{statement}

@@ -1,9 +1,4 @@
-use borrow.Author.Needs.{needs}
-use mathlib.Core.Path.{_≡_, refl, sym, _∙_}
-use mathlib.Core.List.{List}
-use Prim.Native.Nat.{ℕ, _-_, _≤_, _<_}
-use native.Mathlib.Omega.{arith}
-use denote.Ref.{now}
+use Rattle.laws.proofs.Prelude.{needs, _≡_, refl, sym, _∙_, List, ℕ, _-_, _≤_, _<_, arith, now}
 use Rattle.report.specs.ModuleInfo.{DependencyDescriptor, ModuleInfo}
 use Rattle.report.specs.Encode.{encodeDependency, encode}
 use Rattle.report.specs.Valid.{ValidDependency, Valid}

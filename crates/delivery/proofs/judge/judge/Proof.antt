@@ -1,7 +1,4 @@
-use borrow.Author.Needs.{needs}
-use mathlib.Core.Path.{_∙_}
-use mathlib.Core.List.{[]}
-use Rattle.laws.proofs.Steps.{known}
+use Rattle.laws.proofs.Prelude.{needs, _∙_, [], known}
 use Rattle.delivery.specs.Order.{modulesInTurn, orderOf}
 use Rattle.delivery.proofs.Orders.{none-refused}
 use Rattle.delivery.proofs.judge.judge.Statement.{statement}

@@ -1,6 +1,4 @@
-use borrow.Author.Needs.{needs}
-use mathlib.Core.Path.{sym, _∙_}
-use lib.Seq.{length-take-le}
+use Rattle.laws.proofs.Prelude.{needs, sym, _∙_, length-take-le}
 use Rattle.delivery.specs.Right.{namesOf}
 use Rattle.delivery.proofs.Reported.{reported, refused-number}
 use Rattle.delivery.proofs.ReportEntries.{late-in-module, inside-whole}

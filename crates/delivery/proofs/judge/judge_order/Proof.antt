@@ -1,8 +1,4 @@
-use borrow.Author.Needs.{needs}
-use mathlib.Core.Path.{_≡_, refl, sym, ap, _∙_}
-use mathlib.Core.List.{List, [], _∷_, _++_}
-use Prim.Native.Nat.{ℕ, _+_, _-_}
-use lib.ListN.{length}
+use Rattle.laws.proofs.Prelude.{needs, _≡_, refl, sym, ap, _∙_, List, [], _∷_, _++_, ℕ, _+_, _-_, length}
 use Rattle.laws.specs.Codec.{All}
 use Rattle.laws.proofs.Lists.{all-member, middle-member}
 use Rattle.delivery.specs.Delivery.{Module}

@@ -1,8 +1,4 @@
-use borrow.Author.Needs.{needs}
-use mathlib.Core.Path.{_≡_, refl, sym, ap, _∙_}
-use mathlib.Core.List.{List, [], _∷_, _++_}
-use Prim.Native.Nat.{ℕ, _-_}
-use lib.ListN.{length}
+use Rattle.laws.proofs.Prelude.{needs, _≡_, refl, sym, ap, _∙_, List, [], _∷_, _++_, ℕ, _-_, length}
 use Rattle.delivery.specs.Delivery.{Module}
 use Rattle.delivery.specs.Order.{Answer, sheetsInTurn}
 use Rattle.delivery.specs.code.Views.{Modules}

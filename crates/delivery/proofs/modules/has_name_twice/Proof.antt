@@ -1,8 +1,4 @@
-use borrow.Author.Needs.{needs}
-use mathlib.Core.Path.{_≡_, refl, sym, ap, _∙_}
-use mathlib.Core.List.{List, [], _∷_, _++_}
-use Prim.Native.Nat.{ℕ, _-_}
-use Rattle.laws.proofs.Steps.{known}
+use Rattle.laws.proofs.Prelude.{needs, _≡_, refl, sym, ap, _∙_, List, [], _∷_, _++_, ℕ, _-_, known}
 use Rattle.delivery.specs.Delivery.{Module}
 use Rattle.delivery.specs.Order.{repeated}
 use Rattle.delivery.specs.Right.{namesOf}

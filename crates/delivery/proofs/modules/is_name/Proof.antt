@@ -1,9 +1,4 @@
-use borrow.Author.Needs.{needs}
-use mathlib.Core.Path.{_≡_, refl, sym, ap, _∙_}
-use mathlib.Core.List.{List}
-use Prim.Native.Nat.{ℕ}
-use denote.Ref.{now}
-use Rattle.laws.proofs.Steps.{known}
+use Rattle.laws.proofs.Prelude.{needs, _≡_, refl, sym, ap, _∙_, List, ℕ, now, known}
 use Rattle.delivery.specs.Delivery.{Module}
 use Rattle.delivery.specs.Order.{among}
 use Rattle.delivery.specs.Right.{namesOf}

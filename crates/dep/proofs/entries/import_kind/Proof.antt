@@ -1,5 +1,5 @@
 -- `import_kind`: by the flag, and by the phase.
-use borrow.Author.Needs.{needs}
+use Rattle.laws.proofs.Prelude.{needs}
 use Rattle.dep.proofs.entries.import_kind.Statement.{statement}
 use Rattle.dep.proofs.entries.import_kind.Tie as tie
 

@@ -1,8 +1,5 @@
 -- `note`: the row is stored behind the others, and counted.
-use borrow.Author.Needs.{needs}
-use native.Mathlib.Omega.{arith}
-use lib.ListN.{length-set}
-use denote.Ref.{now}
+use Rattle.laws.proofs.Prelude.{needs, arith, length-set, now}
 use Rattle.dep.proofs.Noting.{note-stored, note-left}
 use Rattle.dep.proofs.entries.note.Statement.{statement}
 use Rattle.dep.proofs.entries.note.Tie as tie

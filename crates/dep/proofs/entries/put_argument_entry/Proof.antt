@@ -1,14 +1,8 @@
 -- `put_argument_entry`: the entry with the argument and the attributes that were read. With no argument behind the first it does not matter where
 -- the first ends.
-use borrow.Author.Needs.{needs}
-use mathlib.Core.Path.{_≡_, sym, ap, _∙_}
-use mathlib.Core.List.{List}
-use Prim.Native.Nat.{ℕ}
-use lib.ListN.{drop}
-use denote.Ref.{now}
+use Rattle.laws.proofs.Prelude.{needs, _≡_, sym, ap, _∙_, List, ℕ, drop, now, told}
 use Rattle.laws.specs.Decoded.{ok, Decoder}
 use Rattle.laws.proofs.Decoding.{refused, onOk-no, same-rest}
-use Rattle.laws.proofs.Steps.{told}
 use Rattle.sheet.specs.Tree.{Node, Arguments, noArguments}
 use Rattle.sheet.specs.Nodes.{many, node, arguments}
 use Rattle.sheet.specs.Shape.{shape}

@@ -1,9 +1,5 @@
 -- `put_call_entry`: the entry by the first argument, if there is one and the call is listed.
-use borrow.Author.Needs.{needs}
-use mathlib.Core.Path.{sym, ap, _∙_}
-use lib.ListN.{drop}
-use denote.Ref.{now}
-use Rattle.laws.proofs.Steps.{told}
+use Rattle.laws.proofs.Prelude.{needs, sym, ap, _∙_, drop, now, told}
 use Rattle.sheet.specs.Nodes.{node}
 use Rattle.sheet_heads.proofs.FirstArgument.{first, no-first, no-arguments}
 use Rattle.arguments.specs.Argument.{replacedIn}

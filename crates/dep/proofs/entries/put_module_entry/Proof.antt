@@ -1,8 +1,5 @@
 -- `put_module_entry`: an entry if the String may be that of an augmentation.
-use borrow.Author.Needs.{needs}
-use mathlib.Core.Path.{sym}
-use denote.Ref.{now}
-use Rattle.laws.proofs.Steps.{known}
+use Rattle.laws.proofs.Prelude.{needs, sym, now, known}
 use Rattle.dep.specs.Collect.{moduleEntry}
 use Rattle.dep.proofs.Wrote.{entries-nil}
 use Rattle.dep.proofs.entries.put_module_entry.Statement.{statement}

@@ -1,5 +1,5 @@
 -- `put_plain_entry`: the entry with no attributes.
-use borrow.Author.Needs.{needs}
+use Rattle.laws.proofs.Prelude.{needs}
 use Rattle.dep.proofs.entries.put_plain_entry.Statement.{statement}
 use Rattle.dep.proofs.entries.put_plain_entry.Tie as tie
 

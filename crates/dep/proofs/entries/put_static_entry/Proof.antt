@@ -1,7 +1,5 @@
 -- `put_static_entry`: the fields of the entry in turn.
-use borrow.Author.Needs.{needs}
-use mathlib.Core.Path.{ap, _∙_}
-use denote.Ref.{now}
+use Rattle.laws.proofs.Prelude.{needs, ap, _∙_, now}
 use Rattle.text.specs.Lossy.{lossy, replaced}
 use Rattle.text.specs.Bytes.{part}
 use Rattle.report.specs.ModuleInfo as info

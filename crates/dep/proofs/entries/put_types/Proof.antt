@@ -1,6 +1,5 @@
 -- `put_types`: the parts of the table are in it.
-use borrow.Author.Needs.{needs}
-use native.Mathlib.Omega.{arith}
+use Rattle.laws.proofs.Prelude.{needs, arith}
 use Rattle.dep.proofs.entries.put_types.Statement.{statement}
 use Rattle.dep.proofs.entries.put_types.Tie as tie
 

@@ -1,7 +1,5 @@
 -- `put_with_entry`: the entry with the attributes that were read.
-use borrow.Author.Needs.{needs}
-use mathlib.Core.Path.{ap, _∙_}
-use denote.Ref.{now}
+use Rattle.laws.proofs.Prelude.{needs, ap, _∙_, now}
 use Rattle.dep.specs.code.Walk.{typesFrom, writtenAs, wroteEntries, staticOf}
 use Rattle.dep.proofs.entries.put_with_entry.Statement.{statement}
 use Rattle.dep.proofs.entries.put_with_entry.Tie as tie

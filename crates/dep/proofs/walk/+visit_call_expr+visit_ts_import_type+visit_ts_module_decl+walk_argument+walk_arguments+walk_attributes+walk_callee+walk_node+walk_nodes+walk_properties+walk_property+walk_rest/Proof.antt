@@ -12,7 +12,7 @@ pub mod Nodes
 pub mod Properties
 pub mod Property
 pub mod Rest
-use borrow.Author.Needs.{needs}
+use Rattle.laws.proofs.Prelude.{needs}
 use Rattle.dep.proofs.walk.walk_argument.Reads as walk-argument
 use Rattle.dep.proofs.walk.+visit_call_expr+visit_ts_import_type+visit_ts_module_decl+walk_argument+walk_arguments+walk_attributes+walk_callee+walk_node+walk_nodes+walk_properties+walk_property+walk_rest.Lts-walk_argument as walk-argument-lts
 use Rattle.dep.proofs.walk.walk_arguments.Reads as walk-arguments

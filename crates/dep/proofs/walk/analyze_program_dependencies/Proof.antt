@@ -1,9 +1,6 @@
 -- `analyze_program_dependencies`: the number of the dependencies, and their entries.
-use mathlib.Core.Path.{sym}
-use borrow.Author.Needs.{needs}
-use denote.Ref.{now}
+use Rattle.laws.proofs.Prelude.{sym, needs, now, seen}
 use Rattle.laws.proofs.Decoding.{refused}
-use Rattle.laws.proofs.Steps.{seen}
 use Rattle.report.specs.Buffer.{bufferAs}
 use Rattle.dep.specs.code.Walk.{typesFrom, walkedAs}
 use Rattle.dep.proofs.Counted.{program-written}

@@ -1,9 +1,5 @@
 -- `call_of`: by the head.
-use borrow.Author.Needs.{needs}
-use mathlib.Core.Path.{_≡_, sym, ap, _∙_}
-use mathlib.Core.List.{List, [], _∷_}
-use Prim.Native.Nat.{ℕ}
-use native.Mathlib.Omega.{arith}
+use Rattle.laws.proofs.Prelude.{needs, _≡_, sym, ap, _∙_, List, [], _∷_, ℕ, arith}
 use types.Run.{miss}
 use denote.Enum.Declared.{tagOf}
 use Rattle.sheet_heads.specs.declared.node.Head.the-variants as head

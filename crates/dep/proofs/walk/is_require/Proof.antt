@@ -1,9 +1,5 @@
 -- `is_require`: what the head of the callee says.
-use borrow.Author.Needs.{needs}
-use mathlib.Core.Path.{_∙_}
-use native.Mathlib.Omega.{arith}
-use denote.Ref.{now}
-use Rattle.laws.proofs.Steps.{told, bounded}
+use Rattle.laws.proofs.Prelude.{needs, _∙_, arith, now, told, bounded}
 use Rattle.sheet_heads.proofs.ByHead.{no-head}
 use Rattle.dep.proofs.Callee.{name-is, other-is}
 use Rattle.dep.proofs.walk.is_require.Statement.{statement}

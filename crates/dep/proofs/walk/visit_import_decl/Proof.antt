@@ -1,8 +1,5 @@
 -- `visit_import_decl`: the entry by the import's kind.
-use borrow.Author.Needs.{needs}
-use mathlib.Core.Path.{_∙_}
-use lib.ListN.{drop}
-use denote.Ref.{now}
+use Rattle.laws.proofs.Prelude.{needs, _∙_, drop, now}
 use Rattle.laws.proofs.Decoding.{built}
 use Rattle.sheet.specs.Tree.{importDecl}
 use Rattle.sheet.specs.Nodes.{attributesObject}

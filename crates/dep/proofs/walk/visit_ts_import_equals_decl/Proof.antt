@@ -1,5 +1,5 @@
 -- `visit_ts_import_equals_decl`: the entry by the declaration's kind, with no attributes.
-use borrow.Author.Needs.{needs}
+use Rattle.laws.proofs.Prelude.{needs}
 use Rattle.dep.specs.Collect.{noting}
 use Rattle.dep.proofs.walk.visit_ts_import_equals_decl.Statement.{statement}
 use Rattle.dep.proofs.walk.visit_ts_import_equals_decl.Tie as tie

@@ -1,11 +1,7 @@
 -- `walk_import`: the entry is that of the attributes that were read, or of none.
-use borrow.Author.Needs.{needs}
-use mathlib.Core.Path.{ap}
-use lib.ListN.{drop}
-use denote.Ref.{now}
+use Rattle.laws.proofs.Prelude.{needs, ap, drop, now, told, bounded}
 use Rattle.laws.specs.Decoded.{ok}
 use Rattle.laws.proofs.Decoding.{onOk-no}
-use Rattle.laws.proofs.Steps.{told, bounded}
 use Rattle.sheet.specs.Nodes.{attributesObject}
 use Rattle.sheet_heads.specs.code.Rest.{behind}
 use Rattle.sheet_nodes.specs.code.Tallies.{tallyWith}

@@ -1,11 +1,6 @@
 -- `walk_root`: the entries of the root, from its children up to the last that has one, or from the root itself.
-use borrow.Author.Needs.{needs}
-use mathlib.Core.Path.{ap, _∙_}
-use Prim.Native.Nat.{_-_}
-use lib.ListN.{drop}
-use denote.Ref.{now}
+use Rattle.laws.proofs.Prelude.{needs, ap, _∙_, _-_, drop, now, told, bounded}
 use Rattle.laws.specs.Decoded.{onOk}
-use Rattle.laws.proofs.Steps.{told, bounded}
 use Rattle.sheet.specs.Limits.{depthLimit}
 use Rattle.sheet.specs.Nodes.{node}
 use Rattle.sheet_heads.proofs.ByHead.{no-head}

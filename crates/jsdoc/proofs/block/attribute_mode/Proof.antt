@@ -1,5 +1,4 @@
-use borrow.Author.Needs.{needs}
-use Rattle.laws.proofs.Steps.{known}
+use Rattle.laws.proofs.Prelude.{needs, known}
 use Rattle.jsdoc.specs.Reader.{attributeMode}
 use Rattle.jsdoc.proofs.block.attribute_mode.Statement.{statement}
 use Rattle.jsdoc.proofs.block.attribute_mode.Tie as tie

@@ -1,9 +1,4 @@
-use borrow.Author.Needs.{needs}
-use native.Mathlib.Omega.{arith}
-use mathlib.Core.Path.{sym}
-use lib.ListN.{length-drop}
-use denote.Ref.{now}
-use Rattle.laws.proofs.Steps.{told, bounded}
+use Rattle.laws.proofs.Prelude.{needs, arith, sym, length-drop, now, told, bounded}
 use Rattle.jsdoc.proofs.Moved.{part-to-end, moved-mode}
 use Rattle.jsdoc.proofs.block.block_at.Statement.{statement}
 use Rattle.jsdoc.proofs.block.block_at.Tie as tie

@@ -1,4 +1,4 @@
-use borrow.Author.Needs.{needs}
+use Rattle.laws.proofs.Prelude.{needs}
 use Rattle.jsdoc.specs.Reader.{comma}
 use Rattle.jsdoc.proofs.block.comma.Statement.{statement}
 use Rattle.jsdoc.proofs.block.comma.Tie as tie

@@ -1,6 +1,4 @@
-use borrow.Author.Needs.{needs}
-use native.Mathlib.Omega.{arith}
-use Rattle.laws.proofs.Steps.{told, bounded}
+use Rattle.laws.proofs.Prelude.{needs, arith, told, bounded}
 use Rattle.jsdoc.specs.Reader.{parseAttribute}
 use Rattle.jsdoc.proofs.block.parse_attribute.Statement.{statement}
 use Rattle.jsdoc.proofs.block.parse_attribute.Tie as tie

@@ -1,5 +1,4 @@
-use borrow.Author.Needs.{needs}
-use Rattle.laws.proofs.Steps.{told, bounded}
+use Rattle.laws.proofs.Prelude.{needs, told, bounded}
 use Rattle.jsdoc.specs.Reader.{parseImportAttributeBlockForResolutionMode}
 use Rattle.jsdoc.proofs.block.parse_import_attribute_block_for_resolution_mode.Statement.{statement}
 use Rattle.jsdoc.proofs.block.parse_import_attribute_block_for_resolution_mode.Tie as tie

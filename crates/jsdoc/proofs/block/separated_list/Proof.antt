@@ -1,10 +1,4 @@
-use borrow.Author.Needs.{needs}
-use native.Mathlib.Omega.{arith}
-use mathlib.Core.Path.{_≡_, refl, sym, _∙_}
-use Prim.Native.Nat.{_≤_, _-_}
-use lib.ListN.{length, drop, length-drop}
-use denote.Ref.{now}
-use Rattle.laws.proofs.Steps.{told, bounded}
+use Rattle.laws.proofs.Prelude.{needs, arith, _≡_, refl, sym, _∙_, _≤_, _-_, length, drop, length-drop, now, told, bounded}
 use Rattle.jsdoc.specs.Reader.{unnamed, separatedList}
 use Rattle.jsdoc.specs.code.Answers.{attributeModeAs}
 use Rattle.jsdoc.proofs.Blocks.{attributes-none, attributes-last, attributes-shorter, attributes-next}

@@ -1,8 +1,4 @@
-use borrow.Author.Needs.{needs}
-use mathlib.Core.Path.{_≡_, refl, _∙_}
-use Prim.Native.Nat.{_≤_, _-_}
-use lib.ListN.{length, drop}
-use Rattle.laws.proofs.Steps.{known, told, bounded}
+use Rattle.laws.proofs.Prelude.{needs, _≡_, refl, _∙_, _≤_, _-_, length, drop, known, told, bounded}
 use Rattle.jsdoc.specs.Reader.{seek}
 use Rattle.jsdoc.proofs.Searches.{search-ended, search-closed, search-found, search-further, no-brace, no-import, call-read}
 use Rattle.jsdoc.proofs.dynamic_import.parse_jsdoc_dynamic_import.Statement.{statement}

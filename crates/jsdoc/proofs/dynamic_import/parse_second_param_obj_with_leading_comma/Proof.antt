@@ -1,5 +1,4 @@
-use borrow.Author.Needs.{needs}
-use Rattle.laws.proofs.Steps.{told, bounded}
+use Rattle.laws.proofs.Prelude.{needs, told, bounded}
 use Rattle.jsdoc.specs.Reader.{parseSecondParamObjWithLeadingComma}
 use Rattle.jsdoc.proofs.dynamic_import.parse_second_param_obj_with_leading_comma.Statement.{statement}
 use Rattle.jsdoc.proofs.dynamic_import.parse_second_param_obj_with_leading_comma.Tie as tie

@@ -1,5 +1,4 @@
-use borrow.Author.Needs.{needs}
-use Rattle.laws.proofs.Steps.{told, bounded}
+use Rattle.laws.proofs.Prelude.{needs, told, bounded}
 use Rattle.jsdoc.specs.Reader.{secondParamStart}
 use Rattle.jsdoc.proofs.dynamic_import.second_param_start.Statement.{statement}
 use Rattle.jsdoc.proofs.dynamic_import.second_param_start.Tie as tie

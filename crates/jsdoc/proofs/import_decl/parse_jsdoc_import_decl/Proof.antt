@@ -1,5 +1,4 @@
-use borrow.Author.Needs.{needs}
-use Rattle.laws.proofs.Steps.{told, bounded}
+use Rattle.laws.proofs.Prelude.{needs, told, bounded}
 use Rattle.jsdoc.specs.Reader.{parseJsdocImportDecl}
 use Rattle.jsdoc.proofs.import_decl.parse_jsdoc_import_decl.Statement.{statement}
 use Rattle.jsdoc.proofs.import_decl.parse_jsdoc_import_decl.Tie as tie

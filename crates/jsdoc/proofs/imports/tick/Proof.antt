@@ -1,6 +1,4 @@
-use borrow.Author.Needs.{needs}
-use Prim.Native.Nat.{_≤_}
-use native.Mathlib.Omega.{arith}
+use Rattle.laws.proofs.Prelude.{needs, _≤_, arith}
 use Rattle.analysis.specs.code.Mode.{modeAs}
 use Rattle.analysis.proofs.Modes.{number-small}
 use Rattle.jsdoc.proofs.imports.tick.Statement.{statement}

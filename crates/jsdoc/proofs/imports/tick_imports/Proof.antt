@@ -1,4 +1,4 @@
-use borrow.Author.Needs.{needs}
+use Rattle.laws.proofs.Prelude.{needs}
 use Rattle.jsdoc.proofs.imports.tick_imports.Statement.{statement}
 use Rattle.jsdoc.proofs.imports.tick_imports.Tie as tie
 

@@ -1,11 +1,5 @@
-use borrow.Author.Needs.{needs}
-use native.Mathlib.Omega.{arith}
-use mathlib.Core.Path.{_≡_, refl, _∙_}
-use mathlib.Core.List.{_++_, append-nil}
-use Prim.Native.Nat.{_-_, _≤_}
-use lib.ListN.{length, drop, replicate, length-set, drop-of-length-le}
+use Rattle.laws.proofs.Prelude.{needs, arith, _≡_, refl, _∙_, _++_, append-nil, _-_, _≤_, length, drop, replicate, length-set, drop-of-length-le, now}
 use borrow.Author.Fill.{fill-none, fill-more}
-use denote.Ref.{now}
 use Rattle.jsdoc.proofs.origins.clear_origins.Statement.{statement}
 use Rattle.jsdoc.proofs.origins.clear_origins.Tie as tie
 

@@ -1,6 +1,4 @@
-use borrow.Author.Needs.{needs}
-use borrow.Author.Tests.{eq-eqb, ne-eqb}
-use native.Mathlib.Omega.{arith}
+use Rattle.laws.proofs.Prelude.{needs, eq-eqb, ne-eqb, arith}
 use Rattle.jsdoc.proofs.origins.note.Statement.{statement}
 use Rattle.jsdoc.proofs.origins.note.Tie as tie
 

@@ -1,9 +1,4 @@
-use borrow.Author.Needs.{needs}
-use native.Mathlib.Omega.{arith}
-use mathlib.Core.Path.{sym, ap, _∙_}
-use Prim.Native.Nat.{_+_, _≤_, _-_}
-use lib.ListN.{length, length-drop, length-replicate}
-use denote.Ref.{now}
+use Rattle.laws.proofs.Prelude.{needs, arith, sym, ap, _∙_, _+_, _≤_, _-_, length, length-drop, length-replicate, now}
 use Rattle.jsdoc.specs.Grammar.{Brace}
 use Rattle.jsdoc.specs.code.Origins.{Origins}
 use Rattle.jsdoc.proofs.Moved.{part-to-end}

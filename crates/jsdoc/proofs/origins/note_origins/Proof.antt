@@ -1,4 +1,4 @@
-use borrow.Author.Needs.{needs}
+use Rattle.laws.proofs.Prelude.{needs}
 use Rattle.jsdoc.proofs.Noted.{origins-unique}
 use Rattle.jsdoc.proofs.Openers.{origins-first}
 use Rattle.jsdoc.proofs.origins.note_origins.Statement.{statement}

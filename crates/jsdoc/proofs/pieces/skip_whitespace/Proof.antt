@@ -1,4 +1,4 @@
-use borrow.Author.Needs.{needs}
+use Rattle.laws.proofs.Prelude.{needs}
 use Rattle.jsdoc.proofs.Steps.{white-skipped}
 use Rattle.jsdoc.proofs.pieces.skip_whitespace.Statement.{statement}
 use Rattle.jsdoc.proofs.pieces.skip_whitespace.Tie as tie

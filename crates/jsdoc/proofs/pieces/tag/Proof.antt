@@ -1,5 +1,4 @@
-use borrow.Author.Needs.{needs}
-use Rattle.laws.proofs.Steps.{known}
+use Rattle.laws.proofs.Prelude.{needs, known}
 use Rattle.jsdoc.proofs.Steps.{tag-found, tag-missing}
 use Rattle.jsdoc.proofs.pieces.tag.Statement.{statement}
 use Rattle.jsdoc.proofs.pieces.tag.Tie as tie

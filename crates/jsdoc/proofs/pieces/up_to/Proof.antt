@@ -1,10 +1,4 @@
-use borrow.Author.Needs.{needs}
-use native.Mathlib.Omega.{arith}
-use mathlib.Core.Path.{_≡_, refl, sym, _∙_}
-use mathlib.Core.List.{List}
-use Prim.Native.Nat.{ℕ, _≤_, _<_}
-use lib.ListN.{length, drop, getD}
-use denote.Ref.{now}
+use Rattle.laws.proofs.Prelude.{needs, arith, _≡_, refl, sym, _∙_, List, ℕ, _≤_, _<_, length, drop, getD, now}
 use Rattle.laws.proofs.Onward.{carried-to}
 use Rattle.jsdoc.specs.Reader.{upTo}
 use Rattle.jsdoc.proofs.Steps.{upTo-ended, upTo-here, upTo-further}

@@ -1,4 +1,4 @@
-use borrow.Author.Needs.{needs}
+use Rattle.laws.proofs.Prelude.{needs}
 use Rattle.jsdoc.proofs.Steps.{white-found, white-missing}
 use Rattle.jsdoc.proofs.pieces.whitespace.Statement.{statement}
 use Rattle.jsdoc.proofs.pieces.whitespace.Tie as tie

@@ -1,5 +1,4 @@
-use borrow.Author.Needs.{needs}
-use native.Mathlib.Omega.{arith}
+use Rattle.laws.proofs.Prelude.{needs, arith}
 use Rattle.jsdoc.proofs.quote.from_place.Statement.{statement}
 use Rattle.jsdoc.proofs.quote.from_place.Tie as tie
 

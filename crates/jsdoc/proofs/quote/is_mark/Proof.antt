@@ -1,4 +1,4 @@
-use borrow.Author.Tests.{eq-eqb, ne-eqb}
+use Rattle.laws.proofs.Prelude.{eq-eqb, ne-eqb}
 use Rattle.jsdoc.specs.Reader.{isMark}
 use Rattle.jsdoc.proofs.quote.is_mark.Statement.{statement}
 use Rattle.jsdoc.proofs.quote.is_mark.Tie as tie

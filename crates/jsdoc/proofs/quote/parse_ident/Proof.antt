@@ -1,4 +1,4 @@
-use borrow.Author.Needs.{needs}
+use Rattle.laws.proofs.Prelude.{needs}
 use Rattle.jsdoc.proofs.Steps.{ident-missing, ident-found}
 use Rattle.jsdoc.proofs.quote.parse_ident.Statement.{statement}
 use Rattle.jsdoc.proofs.quote.parse_ident.Tie as tie

@@ -1,5 +1,4 @@
-use borrow.Author.Needs.{needs}
-use Rattle.laws.proofs.Steps.{told, bounded}
+use Rattle.laws.proofs.Prelude.{needs, told, bounded}
 use Rattle.jsdoc.specs.Reader.{parseKey}
 use Rattle.jsdoc.specs.code.Answers.{keyMark}
 use Rattle.jsdoc.proofs.quote.parse_key.Statement.{statement}

@@ -1,6 +1,4 @@
-use borrow.Author.Needs.{needs}
-use native.Mathlib.Omega.{arith}
-use Rattle.laws.proofs.Steps.{known, told, bounded}
+use Rattle.laws.proofs.Prelude.{needs, arith, known, told, bounded}
 use Rattle.jsdoc.proofs.Steps.{quote-empty, quote-unmarked, quote-open, quote-long, quote-closed}
 use Rattle.jsdoc.proofs.quote.parse_quote.Statement.{statement}
 use Rattle.jsdoc.proofs.quote.parse_quote.Tie as tie

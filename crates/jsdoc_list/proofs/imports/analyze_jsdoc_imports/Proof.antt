@@ -1,8 +1,4 @@
-use borrow.Author.Needs.{needs}
-use mathlib.Core.Path.{_≡_, ap, _∙_}
-use mathlib.Core.Bool.{true, false}
-use lib.ListN.{length, length-replicate}
-use Rattle.laws.proofs.Steps.{known}
+use Rattle.laws.proofs.Prelude.{needs, _≡_, ap, _∙_, true, false, length, length-replicate, known}
 use Rattle.sheet.specs.Media.{isJavaScript}
 use Rattle.report.proofs.Buffers.{wrote-append}
 use Rattle.jsdoc_list.proofs.Ticking.{ticks-small}

@@ -1,9 +1,4 @@
-use borrow.Author.Needs.{needs}
-use mathlib.Core.Path.{_≡_}
-use Prim.Native.Nat.{_+_, _-_, _≤_}
-use native.Mathlib.Omega.{arith}
-use lib.ListN.{length, drop, drop-of-length-le}
-use denote.Ref.{now}
+use Rattle.laws.proofs.Prelude.{needs, _≡_, _+_, _-_, _≤_, arith, length, drop, drop-of-length-le, now}
 use Rattle.jsdoc_list.specs.Imports.{countOf}
 use Rattle.jsdoc_list.proofs.Turns.{count-next, count-one, count-skip}
 use Rattle.jsdoc_list.proofs.imports.count_ticks.Statement.{statement}

@@ -1,5 +1,4 @@
-use borrow.Author.Needs.{needs}
-use Rattle.laws.proofs.Steps.{known}
+use Rattle.laws.proofs.Prelude.{needs, known}
 use Rattle.jsdoc_list.proofs.imports.is_star_opened.Statement.{statement}
 use Rattle.jsdoc_list.proofs.imports.is_star_opened.Tie as tie
 

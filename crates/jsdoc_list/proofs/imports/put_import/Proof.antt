@@ -1,8 +1,4 @@
-use borrow.Author.Needs.{needs}
-use mathlib.Core.Path.{sym}
-use native.Mathlib.Omega.{arith}
-use denote.Ref.{now}
-use Rattle.laws.proofs.Steps.{told, bounded}
+use Rattle.laws.proofs.Prelude.{needs, sym, arith, now, told, bounded}
 use Rattle.report.proofs.Buffers.{wrote-append, wrote-cons, wrote-nil}
 use Rattle.jsdoc_list.specs.Imports.{importAt}
 use Rattle.jsdoc_list.proofs.Turns.{encode-import}

@@ -1,10 +1,4 @@
-use borrow.Author.Needs.{needs}
-use mathlib.Core.Path.{_≡_, sym, _∙_}
-use Prim.Native.Nat.{_+_, _-_}
-use native.Mathlib.Omega.{arith}
-use lib.ListN.{length, drop, drop-of-length-le}
-use denote.Ref.{now}
-use mathlib.Core.List.{flatMap}
+use Rattle.laws.proofs.Prelude.{needs, _≡_, sym, _∙_, _+_, _-_, arith, length, drop, drop-of-length-le, now, flatMap}
 use Rattle.report.specs.Encode.{encodeJsDoc}
 use Rattle.report.specs.Buffer.{wrote, bufferAs}
 use Rattle.report.proofs.Buffers.{wrote-append, wrote-nil}

@@ -1,6 +1,4 @@
-use borrow.Author.Needs.{needs}
-use native.Mathlib.Omega.{arith}
-use Rattle.laws.proofs.Steps.{known}
+use Rattle.laws.proofs.Prelude.{needs, arith, known}
 use Rattle.sheet.specs.Lookups.{bodySpan}
 use Rattle.sheet.proofs.Bodies.{body-within}
 use Rattle.jsdoc_list.proofs.Ticking.{ticked-part, ticked-not}

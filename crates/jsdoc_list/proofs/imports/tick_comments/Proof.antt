@@ -1,10 +1,5 @@
-use borrow.Author.Needs.{needs}
-use mathlib.Core.Path.{_≡_, sym, ap, _∙_}
-use Prim.Native.Nat.{_-_, _≤_}
-use native.Mathlib.Nat.{sub-zero, sub-eq-zero-of-le}
-use native.Mathlib.Omega.{arith}
-use lib.ListN.{length, length-replicate}
-use denote.Ref.{now}
+use Rattle.laws.proofs.Prelude.{needs, _≡_, sym, ap, _∙_, _-_, _≤_, sub-zero, arith, length, length-replicate, now}
+use native.Mathlib.Nat.{sub-eq-zero-of-le}
 use Rattle.sheet.specs.code.Tables.{rows, commentIn, commentsIn}
 use Rattle.sheet.proofs.Marks.{holds-marks}
 use Rattle.sheet.proofs.Members.{placed-within, row-placed}

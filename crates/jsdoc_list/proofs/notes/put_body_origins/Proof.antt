@@ -1,5 +1,4 @@
-use borrow.Author.Needs.{needs}
-use native.Mathlib.Omega.{arith}
+use Rattle.laws.proofs.Prelude.{needs, arith}
 use Rattle.jsdoc_list.proofs.Openers.{openers-within}
 use Rattle.jsdoc_list.proofs.notes.put_body_origins.Statement.{statement}
 use Rattle.jsdoc_list.proofs.notes.put_body_origins.Tie as tie

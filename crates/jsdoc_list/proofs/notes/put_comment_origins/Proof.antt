@@ -1,8 +1,4 @@
-use borrow.Author.Needs.{needs}
-use mathlib.Core.Path.{sym}
-use native.Mathlib.Omega.{arith}
-use denote.Ref.{now}
-use Rattle.laws.proofs.Steps.{known}
+use Rattle.laws.proofs.Prelude.{needs, sym, arith, now, known}
 use Rattle.sheet.specs.Lookups.{bodySpan}
 use Rattle.sheet.proofs.Bodies.{body-within}
 use Rattle.report.proofs.Buffers.{wrote-nil}
@@ -48,12 +44,12 @@ returns : tie.Need-returns
 returns c =
     let read = c .before .before .before .before .before .before .before .before in
     let opened = known (read .before .before .is-star-opened .ensures) (read .before .if1 .taken) in
-    rw (← comment-opened _ _ opened) (rw (read .body-span .ensures) at (c .before .before .before .before .put-body-origins .ensures))
+    rw (← comment-opened _ (read .before .before .before .before .before .before .args .c) opened) (rw (read .body-span .ensures) at (c .before .before .before .before .put-body-origins .ensures))
 
 returns-2 : tie.Need-returns-2
 returns-2 c =
     let args = c .before .before .before .before .before .args in
-    rw (comment-unopened _ _ (known (c .before .is-star-opened .ensures) (c .if1 .left))) (sym (wrote-nil (now (args .out)) (args .place)))
+    rw (comment-unopened _ (args .c) (known (c .before .is-star-opened .ensures) (c .if1 .left))) (sym (wrote-nil (now (args .out)) (args .place)))
 
 pub put-comment-origins-spec : {M : Type 1} → statement M
 put-comment-origins-spec =

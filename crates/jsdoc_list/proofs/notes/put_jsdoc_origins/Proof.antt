@@ -1,8 +1,4 @@
-use borrow.Author.Needs.{needs}
-use mathlib.Core.Path.{sym}
-use mathlib.Core.List.{flatMap}
-use denote.Ref.{now}
-use Rattle.laws.proofs.Steps.{known}
+use Rattle.laws.proofs.Prelude.{needs, sym, flatMap, now, known}
 use Rattle.report.proofs.Buffers.{wrote-nil}
 use Rattle.jsdoc_list.specs.Origins.{jsdocOrigins}
 use Rattle.jsdoc_list.proofs.notes.put_jsdoc_origins.Statement.{statement}

@@ -1,5 +1,4 @@
-use borrow.Author.Needs.{needs}
-use borrow.Author.Tests.{eq-eqb, ne-eqb}
+use Rattle.laws.proofs.Prelude.{needs, eq-eqb, ne-eqb}
 use Rattle.jsdoc_list.proofs.notes.put_opener.Statement.{statement}
 use Rattle.jsdoc_list.proofs.notes.put_opener.Tie as tie
 

@@ -1,11 +1,4 @@
-use borrow.Author.Needs.{needs}
-use mathlib.Core.Path.{_≡_, refl, sym, _∙_}
-use mathlib.Core.List.{flatMap}
-use Prim.Native.Nat.{_-_, _≤_}
-use native.Mathlib.Nat.{sub-zero}
-use native.Mathlib.Omega.{arith}
-use lib.ListN.{length}
-use denote.Ref.{now}
+use Rattle.laws.proofs.Prelude.{needs, _≡_, refl, sym, _∙_, flatMap, _-_, _≤_, sub-zero, arith, length, now}
 use Rattle.sheet.specs.code.Tables.{rows, commentIn, commentsIn}
 use Rattle.sheet.proofs.Marks.{holds-marks}
 use Rattle.sheet.proofs.Members.{placed-within, row-placed}

@@ -1,6 +1,4 @@
-use borrow.Author.Needs.{needs}
-use native.Mathlib.Omega.{arith}
-use denote.Ref.{now}
+use Rattle.laws.proofs.Prelude.{needs, arith, now}
 use Rattle.sheet.specs.Limits.{indexStart, tableNumbers}
 use Rattle.sheet_check.proofs.Lent.{part-length}
 use Rattle.module_info.proofs.Accepted.{source-short, indexed-in}

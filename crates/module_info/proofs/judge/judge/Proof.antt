@@ -1,6 +1,4 @@
-use borrow.Author.Needs.{needs}
-use native.Mathlib.Omega.{arith}
-use lib.ListN.{drop-of-length-le}
+use Rattle.laws.proofs.Prelude.{needs, arith, drop-of-length-le}
 use Rattle.module_info.proofs.Accepted.{refusal-small}
 use Rattle.module_info.proofs.judge.judge.Statement.{statement}
 use Rattle.module_info.proofs.judge.judge.Tie as tie

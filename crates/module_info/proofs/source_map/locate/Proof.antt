@@ -1,6 +1,4 @@
-use borrow.Author.Needs.{needs}
-use native.Mathlib.Omega.{arith}
-use mathlib.Core.Path.{ap, _∙_}
+use Rattle.laws.proofs.Prelude.{needs, arith, ap, _∙_}
 use Rattle.text.proofs.Positions.{indexed}
 use Rattle.sheet.specs.declared.fields.Span.{Span}
 use Rattle.sheet.proofs.Marks.{holds-marks}

@@ -1,4 +1,4 @@
-use borrow.Author.Needs.{needs}
+use Rattle.laws.proofs.Prelude.{needs}
 use Rattle.module_info.proofs.source_map.put_places.Statement.{statement}
 use Rattle.module_info.proofs.source_map.put_places.Tie as tie
 

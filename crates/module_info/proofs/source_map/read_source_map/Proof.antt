@@ -1,7 +1,4 @@
-use borrow.Author.Needs.{needs}
-use native.Mathlib.Omega.{arith}
-use mathlib.Core.Path.{ap, _∙_}
-use denote.Ref.{now}
+use Rattle.laws.proofs.Prelude.{needs, arith, ap, _∙_, now}
 use Rattle.sheet.specs.code.Views.{programOf}
 use Rattle.sheet_check.proofs.Lent.{part-length}
 use Rattle.pragmas.proofs.Reached.{end-reached}

@@ -1,5 +1,4 @@
-use borrow.Author.Needs.{needs}
-use mathlib.Core.Path.{sym, _∙_}
+use Rattle.laws.proofs.Prelude.{needs, sym, _∙_}
 use Rattle.module_info.proofs.SourceMap.{of-sheet, source-map-right, none-right, refusal-right}
 use Rattle.module_info.proofs.source_map.source_map.Statement.{statement}
 use Rattle.module_info.proofs.source_map.source_map.Tie as tie

@@ -1,10 +1,4 @@
-use borrow.Author.Needs.{needs}
-use native.Mathlib.Omega.{arith}
-use mathlib.Core.Path.{_≡_, sym, _∙_}
-use mathlib.Core.List.{flatMap}
-use Prim.Native.Nat.{_-_}
-use lib.ListN.{length}
-use denote.Ref.{now}
+use Rattle.laws.proofs.Prelude.{needs, arith, _≡_, sym, _∙_, flatMap, _-_, length, now}
 use Rattle.sheet.proofs.Members.{row-placed}
 use Rattle.report.specs.Buffer.{wrote, bufferAs}
 use Rattle.report.specs.Origin.{encodeOrigin}

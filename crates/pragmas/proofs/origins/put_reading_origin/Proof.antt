@@ -1,6 +1,4 @@
-use borrow.Author.Needs.{needs}
-use mathlib.Core.Path.{sym}
-use denote.Ref.{now}
+use Rattle.laws.proofs.Prelude.{needs, sym, now}
 use Rattle.report.proofs.Buffers.{wrote-nil}
 use Rattle.pragmas.proofs.origins.put_reading_origin.Statement.{statement}
 use Rattle.pragmas.proofs.origins.put_reading_origin.Tie as tie

@@ -1,7 +1,4 @@
-use borrow.Author.Needs.{needs}
-use mathlib.Core.Path.{sym}
-use denote.Ref.{now}
-use Rattle.laws.proofs.Steps.{told}
+use Rattle.laws.proofs.Prelude.{needs, sym, now, told}
 use Rattle.report.proofs.Buffers.{wrote-nil}
 use Rattle.pragmas.specs.Origins.{referenceOrigin}
 use Rattle.pragmas.proofs.origins.put_reference_origin.Statement.{statement}

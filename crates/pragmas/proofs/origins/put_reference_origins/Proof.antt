@@ -1,8 +1,4 @@
-use borrow.Author.Needs.{needs}
-use native.Mathlib.Omega.{arith}
-use mathlib.Core.Path.{sym}
-use mathlib.Core.List.{flatMap}
-use denote.Ref.{now}
+use Rattle.laws.proofs.Prelude.{needs, arith, sym, flatMap, now}
 use Rattle.report.proofs.Buffers.{wrote-nil}
 use Rattle.pragmas.specs.Readings.{allOf}
 use Rattle.pragmas.proofs.Between.{group-from}

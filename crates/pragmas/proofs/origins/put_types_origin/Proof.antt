@@ -1,6 +1,4 @@
-use borrow.Author.Needs.{needs}
-use denote.Ref.{now}
-use Rattle.laws.proofs.Steps.{seen}
+use Rattle.laws.proofs.Prelude.{needs, now, seen}
 use Rattle.report.specs.declared.origins.EntryRule.the-variants.{TsTypes, DenoTypes}
 use Rattle.pragmas.specs.declared.readings.Rule.the-variants as rule
 use Rattle.pragmas.specs.Readings.{readBy}

@@ -1,6 +1,4 @@
-use borrow.Author.Needs.{needs}
-use native.Mathlib.Omega.{arith}
-use mathlib.Core.Path.{ap}
+use Rattle.laws.proofs.Prelude.{needs, arith, ap}
 use Rattle.analysis.specs.declared.Place.{Place}
 use Rattle.analysis.specs.Place.{placeOf}
 use Rattle.sheet.specs.declared.fields.Span.{Span}

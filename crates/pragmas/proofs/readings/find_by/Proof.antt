@@ -1,4 +1,4 @@
-use borrow.Author.Needs.{needs}
+use Rattle.laws.proofs.Prelude.{needs}
 use Rattle.pragmas.proofs.readings.find_by.Statement.{statement}
 use Rattle.pragmas.proofs.readings.find_by.Tie as tie
 

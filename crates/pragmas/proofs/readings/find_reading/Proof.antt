@@ -1,7 +1,4 @@
-use borrow.Author.Needs.{needs}
-use native.Mathlib.Omega.{arith}
-use mathlib.Core.Path.{sym}
-use denote.Ref.{now}
+use Rattle.laws.proofs.Prelude.{needs, arith, sym, now}
 use Rattle.pragmas.specs.code.Views.{takenBy}
 use Rattle.pragmas.proofs.Between.{group-from, counted-nothing}
 use Rattle.pragmas.proofs.readings.find_reading.Statement.{statement}

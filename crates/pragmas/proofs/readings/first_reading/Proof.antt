@@ -1,5 +1,4 @@
-use borrow.Author.Needs.{needs}
-use Rattle.laws.proofs.Steps.{known}
+use Rattle.laws.proofs.Prelude.{needs, known}
 use Rattle.pragmas.specs.Readings.{firstOf}
 use Rattle.pragmas.proofs.readings.first_reading.Statement.{statement}
 use Rattle.pragmas.proofs.readings.first_reading.Tie as tie

@@ -1,5 +1,4 @@
-use borrow.Author.Needs.{needs}
-use denote.Ref.{now}
+use Rattle.laws.proofs.Prelude.{needs, now}
 use Rattle.sheet.proofs.Members.{placed-within}
 use Rattle.sheet.proofs.Marks.{holds-marks}
 use Rattle.sheet.proofs.Bodies.{placed-body}

@@ -1,5 +1,4 @@
-use borrow.Author.Needs.{needs}
-use Rattle.laws.proofs.Steps.{known}
+use Rattle.laws.proofs.Prelude.{needs, known}
 use Rattle.sheet.proofs.Members.{placed-within}
 use Rattle.sheet.proofs.Marks.{holds-marks}
 use Rattle.pragmas.proofs.readings.read.Statement.{statement}

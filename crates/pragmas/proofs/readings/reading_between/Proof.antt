@@ -1,12 +1,4 @@
-use borrow.Author.Needs.{needs}
-use native.Mathlib.Omega.{arith}
-use mathlib.Core.Path.{_≡_, _∙_}
-use mathlib.Core.Logic.{⊎-elim}
-use mathlib.Core.List.{List}
-use mathlib.Core.Option.{Option}
-use Prim.Native.Nat.{ℕ, _≤_, _-_}
-use denote.Ref.{now}
-use Rattle.laws.proofs.Steps.{told}
+use Rattle.laws.proofs.Prelude.{needs, arith, _≡_, _∙_, ⊎-elim, List, Option, ℕ, _≤_, _-_, now, told}
 use Rattle.analysis.specs.declared.Capture.{Capture}
 use Rattle.sheet.specs.declared.comments.Comment.{Comment}
 use Rattle.sheet.specs.code.Tables.{commentIn}

@@ -1,7 +1,4 @@
-use borrow.Author.Needs.{needs}
-use native.Mathlib.Omega.{arith}
-use denote.Ref.{now}
-use mathlib.Core.List.{flatMap}
+use Rattle.laws.proofs.Prelude.{needs, arith, now, flatMap}
 use Rattle.wire.specs.Number.{encodeGroups, encodeNumber}
 use Rattle.report.specs.Encode.{encodeList}
 use Rattle.report.proofs.Buffers.{wrote-append}

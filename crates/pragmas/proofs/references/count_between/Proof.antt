@@ -1,10 +1,4 @@
-use borrow.Author.Needs.{needs}
-use native.Mathlib.Omega.{arith}
-use mathlib.Core.Path.{_≡_, ap, _∙_}
-use mathlib.Core.List.{[]}
-use Prim.Native.Nat.{_+_, _-_, _≤_}
-use lib.ListN.{length}
-use denote.Ref.{now}
+use Rattle.laws.proofs.Prelude.{needs, arith, _≡_, ap, _∙_, [], _+_, _-_, _≤_, length, now}
 use Rattle.sheet.proofs.Members.{row-placed}
 use Rattle.pragmas.specs.Readings.{allOf}
 use Rattle.pragmas.specs.Pragmas.{reference}

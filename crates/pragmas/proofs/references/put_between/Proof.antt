@@ -1,10 +1,4 @@
-use borrow.Author.Needs.{needs}
-use native.Mathlib.Omega.{arith}
-use mathlib.Core.Path.{_≡_, sym, _∙_}
-use Prim.Native.Nat.{_-_}
-use lib.ListN.{length}
-use denote.Ref.{now}
-use mathlib.Core.List.{flatMap}
+use Rattle.laws.proofs.Prelude.{needs, arith, _≡_, sym, _∙_, _-_, length, now, flatMap}
 use Rattle.sheet.proofs.Members.{row-placed}
 use Rattle.report.specs.Encode.{encodeReference}
 use Rattle.report.specs.Buffer.{wrote, bufferAs}

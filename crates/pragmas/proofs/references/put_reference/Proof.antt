@@ -1,6 +1,4 @@
-use borrow.Author.Needs.{needs}
-use mathlib.Core.Path.{sym}
-use denote.Ref.{now}
+use Rattle.laws.proofs.Prelude.{needs, sym, now}
 use Rattle.report.specs.Encode.{encodeReference}
 use Rattle.report.proofs.Buffers.{wrote-append, wrote-cons, wrote-nil}
 use Rattle.pragmas.proofs.references.put_reference.Statement.{statement}

@@ -1,9 +1,4 @@
-use borrow.Author.Needs.{needs}
-use mathlib.Core.Path.{_≡_, refl, sym}
-use mathlib.Core.Bool.{Bool, true, false, cond}
-use mathlib.Core.Option.{Option}
-use denote.Ref.{now}
-use Rattle.laws.proofs.Steps.{known}
+use Rattle.laws.proofs.Prelude.{needs, _≡_, refl, sym, Bool, true, false, cond, Option, now, known}
 use Rattle.analysis.specs.Row.{find, isFound}
 use Rattle.analysis.specs.Patterns.{tripleSlashRow}
 use Rattle.sheet.specs.Lookups.{body}

@@ -1,5 +1,4 @@
-use borrow.Author.Needs.{needs}
-use Rattle.laws.proofs.Steps.{known}
+use Rattle.laws.proofs.Prelude.{needs, known}
 use Rattle.pragmas.proofs.references.resolution_mode.Statement.{statement}
 use Rattle.pragmas.proofs.references.resolution_mode.Tie as tie
 

@@ -1,9 +1,5 @@
 -- `with`: a sheet is accepted or refused, so that one of the two counts goes up by one.
-use borrow.Author.Needs.{needs}
-use mathlib.Core.Path.{_≡_, refl}
-use mathlib.Core.Bool.{Bool, true, false, not}
-use Prim.Native.Nat.{_+_}
-use native.Mathlib.Omega.{arith}
+use Rattle.laws.proofs.Prelude.{needs, _≡_, refl, Bool, true, false, not, _+_, arith}
 use Rattle.text.specs.Truth.{one}
 use Rattle.replay.proofs.Counts.with.Statement.{statement}
 use Rattle.replay.proofs.Counts.with.Tie as tie

@@ -1,4 +1,4 @@
-use mathlib.Core.Path.{sym}
+use Rattle.laws.proofs.Prelude.{sym}
 use Rattle.wire.proofs.Numbered.{last-value}
 use Rattle.report.specs.Names.{dependencyKinds}
 use Rattle.report.proofs.names.dependency_kind.Statement.{statement}

@@ -1,4 +1,4 @@
-use borrow.Author.Needs.{needs}
+use Rattle.laws.proofs.Prelude.{needs}
 use Rattle.report.specs.Origin.{encodeOrigin}
 use Rattle.report.proofs.Buffers.{wrote-cons}
 use Rattle.report.proofs.origins.put_origin.Statement.{statement}

@@ -1,7 +1,4 @@
-use borrow.Author.Needs.{needs}
-use mathlib.Core.Path.{_≡_, sym, _∙_}
-use Prim.Native.Nat.{_-_}
-use lib.ListN.{length, length-set}
+use Rattle.laws.proofs.Prelude.{needs, _≡_, sym, _∙_, _-_, length, length-set}
 use Rattle.report.specs.Answer.{clearedFrom}
 use Rattle.report.proofs.Answers.{cleared-more, cleared-end}
 use Rattle.report.proofs.writer.clear_from.Statement.{statement}

@@ -1,6 +1,4 @@
-use borrow.Author.Needs.{needs}
-use borrow.Author.Tests.{ne-eqb}
-use denote.Ref.{now}
+use Rattle.laws.proofs.Prelude.{needs, ne-eqb, now}
 use Rattle.report.specs.Buffer.{fullPlace}
 use Rattle.report.proofs.Answers.{accepted-front, accepted-whole}
 use Rattle.report.proofs.writer.finish.Statement.{statement}

@@ -1,5 +1,4 @@
-use borrow.Author.Needs.{needs}
-use native.Mathlib.Nat.{sub-zero}
+use Rattle.laws.proofs.Prelude.{needs, sub-zero}
 use Rattle.report.proofs.writer.refuse_all.Statement.{statement}
 use Rattle.report.proofs.writer.refuse_all.Tie as tie
 

@@ -1,6 +1,4 @@
-use borrow.Author.Needs.{needs}
-use mathlib.Core.Path.{refl, sym, _∙_}
-use mathlib.Core.List.{append-assoc}
+use Rattle.laws.proofs.Prelude.{needs, refl, sym, _∙_, append-assoc}
 use Rattle.report.specs.declared.names.DependencyKind.the-variants.{Static, Dynamic}
 use Rattle.report.specs.ModuleInfo.{static, dynamic}
 use Rattle.report.specs.Encode.{encodeSpecifier, encodeStatic, encodeDynamic, encodeDependency}

@@ -1,4 +1,4 @@
-use borrow.Author.Needs.{needs}
+use Rattle.laws.proofs.Prelude.{needs}
 use Rattle.report_reader.proofs.FromBytes.{text-argument, parts-argument, no-argument}
 use Rattle.report_reader.proofs.dependencies.skip_argument.Statement.{statement}
 use Rattle.report_reader.proofs.dependencies.skip_argument.Tie as tie

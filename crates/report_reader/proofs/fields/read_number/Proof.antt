@@ -1,8 +1,4 @@
-use borrow.Author.Needs.{needs}
-use native.Mathlib.Omega.{arith}
-use lib.ListN.{length}
-use denote.Ref.{now}
-use Rattle.laws.proofs.Steps.{told, bounded}
+use Rattle.laws.proofs.Prelude.{needs, arith, length, now, told, bounded}
 use Rattle.wire.proofs.NumberCodec.{number-codec}
 use Rattle.report_reader.proofs.FromBytes.{number-read, number-refused}
 use Rattle.report_reader.proofs.fields.read_number.Statement.{statement}

@@ -1,5 +1,4 @@
-use borrow.Author.Needs.{needs}
-use mathlib.Core.List.{append-assoc}
+use Rattle.laws.proofs.Prelude.{needs, append-assoc}
 use Rattle.report.specs.Encode.{encodePosition, encodeRange}
 use Rattle.report_reader.proofs.fields.read_range.Statement.{statement}
 use Rattle.report_reader.proofs.fields.read_range.Tie as tie

@@ -1,5 +1,4 @@
-use borrow.Author.Needs.{needs}
-use native.Mathlib.Omega.{arith}
+use Rattle.laws.proofs.Prelude.{needs, arith}
 use Rattle.report_reader.proofs.FromBytes.{text-read, text-short}
 use Rattle.report_reader.proofs.fields.read_text.Statement.{statement}
 use Rattle.report_reader.proofs.fields.read_text.Tie as tie

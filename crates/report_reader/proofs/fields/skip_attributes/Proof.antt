@@ -1,5 +1,4 @@
-use borrow.Author.Needs.{needs}
-use native.Mathlib.Omega.{arith}
+use Rattle.laws.proofs.Prelude.{needs, arith}
 use Rattle.report.specs.ModuleInfo.{none, unknown, known}
 use Rattle.report.specs.Encode.{encodeAttributes}
 use Rattle.report_reader.proofs.FromBytes.{byte-read}

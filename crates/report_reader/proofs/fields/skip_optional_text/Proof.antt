@@ -1,4 +1,4 @@
-use borrow.Author.Needs.{needs}
+use Rattle.laws.proofs.Prelude.{needs}
 use Rattle.wire.specs.Text.{encodeText}
 use Rattle.report_reader.proofs.FromBytes.{none-there, some-there}
 use Rattle.report_reader.proofs.fields.skip_optional_text.Statement.{statement}

@@ -1,9 +1,4 @@
-use borrow.Author.Needs.{needs}
-use mathlib.Core.Path.{_≡_}
-use mathlib.Core.List.{List, _++_, flatMap}
-use Prim.Native.Nat.{ℕ}
-use lib.ListN.{length, drop}
-use denote.Ref.{now}
+use Rattle.laws.proofs.Prelude.{needs, _≡_, List, _++_, flatMap, ℕ, length, drop, now}
 use Rattle.laws.specs.Codec.{All}
 use Rattle.report_reader.specs.code.Elements.{Element, encodeElement, ValidElement}
 use Rattle.report_reader.proofs.Lists.{Stand, next-item, no-item}

@@ -1,6 +1,4 @@
-use borrow.Author.Needs.{needs}
-use borrow.Author.Tests.{le-leb, lt-leb}
-use Rattle.laws.proofs.Steps.{known}
+use Rattle.laws.proofs.Prelude.{needs, le-leb, lt-leb, known}
 use Rattle.sheet.specs.Comments.{enclosed}
 use Rattle.sheet.proofs.comments.is_enclosed.Statement.{statement}
 use Rattle.sheet.proofs.comments.is_enclosed.Tie as tie

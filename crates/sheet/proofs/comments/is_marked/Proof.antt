@@ -1,4 +1,4 @@
-use borrow.Author.Needs.{needs}
+use Rattle.laws.proofs.Prelude.{needs}
 use Rattle.sheet.specs.Comments.{marked}
 use Rattle.sheet.proofs.comments.is_marked.Statement.{statement}
 use Rattle.sheet.proofs.comments.is_marked.Tie as tie

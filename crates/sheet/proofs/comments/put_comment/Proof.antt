@@ -1,7 +1,5 @@
-use borrow.Author.Needs.{needs}
-use lib.ListN.{length-set}
-use native.Mathlib.Omega.{arith}
-use native.Mathlib.Numerals.{add-one, add-two}
+use Rattle.laws.proofs.Prelude.{needs, length-set, arith, add-one}
+use native.Mathlib.Numerals.{add-two}
 use Rattle.sheet.proofs.comments.put_comment.Statement.{statement}
 use Rattle.sheet.proofs.comments.put_comment.Tie as tie
 

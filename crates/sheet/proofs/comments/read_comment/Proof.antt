@@ -1,6 +1,4 @@
-use borrow.Author.Needs.{needs}
-use borrow.Author.Tests.{le-leb, lt-leb}
-use Rattle.laws.proofs.Steps.{known, told}
+use Rattle.laws.proofs.Prelude.{needs, le-leb, lt-leb, known, told}
 use Rattle.wire.specs.Fields.{numbered}
 use Rattle.sheet.specs.Comments.{comment}
 use Rattle.sheet.proofs.CommentCodecs.{end-codec}

@@ -1,11 +1,5 @@
-use borrow.Author.Needs.{needs}
-use native.Mathlib.Omega.{arith}
-use mathlib.Core.Path.{_≡_, refl}
-use mathlib.Core.List.{_++_}
-use Prim.Native.Nat.{_-_, _≤_}
-use lib.ListN.{length, drop, replicate, length-set}
+use Rattle.laws.proofs.Prelude.{needs, arith, _≡_, refl, _++_, _-_, _≤_, length, drop, replicate, length-set, now}
 use borrow.Author.Fill.{fill-none, fill-more}
-use denote.Ref.{now}
 use Rattle.sheet.proofs.covering.clear.Statement.{statement}
 use Rattle.sheet.proofs.covering.clear.Tie as tie
 

@@ -1,8 +1,4 @@
-use borrow.Author.Needs.{needs}
-use native.Mathlib.Omega.{arith}
-use mathlib.Core.Path.{_≡_, sym}
-use Prim.Native.Nat.{ℕ, _-_, _≤_, _<_}
-use lib.ListN.{getD}
+use Rattle.laws.proofs.Prelude.{needs, arith, _≡_, sym, ℕ, _-_, _≤_, _<_, getD}
 use Rattle.sheet.specs.code.Tables.{groupsIn}
 use Rattle.sheet.specs.code.Covering.{longestAt}
 use Rattle.sheet.proofs.Coverings.{Passed, pass-none, pass-more, pass-stop, keep-zeros}

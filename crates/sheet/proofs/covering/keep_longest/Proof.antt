@@ -1,8 +1,4 @@
-use borrow.Author.Needs.{needs}
-use native.Mathlib.Omega.{arith}
-use mathlib.Core.Path.{_≡_, refl, _∙_}
-use Prim.Native.Nat.{_+_, _-_, _*_}
-use lib.ListN.{length}
+use Rattle.laws.proofs.Prelude.{needs, arith, _≡_, refl, _∙_, _+_, _-_, _*_, length}
 use Rattle.sheet.proofs.Coverings.{Keeping, keep-none, keep-more, keep-all}
 use Rattle.sheet.proofs.covering.keep_longest.Statement.{statement}
 use Rattle.sheet.proofs.covering.keep_longest.Tie as tie

@@ -1,7 +1,5 @@
-use borrow.Author.Needs.{needs}
+use Rattle.laws.proofs.Prelude.{needs, arith, now}
 use Rattle.sheet.proofs.Coverings.{raise-set, raise-less, raise-past}
-use native.Mathlib.Omega.{arith}
-use denote.Ref.{now}
 use Rattle.sheet.proofs.covering.raise.Statement.{statement}
 use Rattle.sheet.proofs.covering.raise.Tie as tie
 

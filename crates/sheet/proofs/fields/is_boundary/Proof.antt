@@ -1,8 +1,4 @@
-use borrow.Author.Needs.{needs}
-use native.Mathlib.Omega.{arith}
-use borrow.Author.Tests.{le-leb}
-use lib.ListN.{length}
-use denote.Ref.{now}
+use Rattle.laws.proofs.Prelude.{needs, arith, le-leb, length, now}
 use Rattle.text.specs.Position.{isBoundary}
 use Rattle.sheet.proofs.EndBoundary.{at-or-past}
 use Rattle.sheet.proofs.fields.is_boundary.Statement.{statement}

@@ -1,6 +1,4 @@
-use borrow.Author.Needs.{needs}
-use borrow.Author.Tests.{le-leb, lt-leb}
-use Rattle.laws.proofs.Steps.{told, bounded}
+use Rattle.laws.proofs.Prelude.{needs, le-leb, lt-leb, told, bounded}
 use Rattle.sheet.specs.Fields.{endFrom}
 use Rattle.sheet.proofs.fields.read_end.Statement.{statement}
 use Rattle.sheet.proofs.fields.read_end.Tie as tie

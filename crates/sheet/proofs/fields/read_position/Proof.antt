@@ -1,5 +1,4 @@
-use borrow.Author.Needs.{needs}
-use Rattle.laws.proofs.Steps.{known, told, bounded}
+use Rattle.laws.proofs.Prelude.{needs, known, told, bounded}
 use Rattle.sheet.specs.Fields.{position}
 use Rattle.sheet.proofs.fields.read_position.Statement.{statement}
 use Rattle.sheet.proofs.fields.read_position.Tie as tie

@@ -1,6 +1,4 @@
-use borrow.Author.Needs.{needs}
-use native.Mathlib.Omega.{arith}
-use Rattle.laws.proofs.Steps.{told, bounded}
+use Rattle.laws.proofs.Prelude.{needs, arith, told, bounded}
 use Rattle.sheet.specs.Fields.{span}
 use Rattle.sheet.proofs.fields.read_span.Statement.{statement}
 use Rattle.sheet.proofs.fields.read_span.Tie as tie

@@ -1,4 +1,4 @@
-use borrow.Author.Needs.{needs}
+use Rattle.laws.proofs.Prelude.{needs}
 use Rattle.sheet.proofs.groups.may_follow.Statement.{statement}
 use Rattle.sheet.proofs.groups.may_follow.Tie as tie
 

@@ -1,5 +1,4 @@
-use borrow.Author.Needs.{needs}
-use borrow.Author.Tests.{lt-ltb, le-ltb, eq-eqb, ne-eqb}
+use Rattle.laws.proofs.Prelude.{needs, lt-ltb, le-ltb, eq-eqb, ne-eqb}
 use Rattle.sheet.proofs.groups.precedes.Statement.{statement}
 use Rattle.sheet.proofs.groups.precedes.Tie as tie
 

@@ -1,7 +1,5 @@
-use borrow.Author.Needs.{needs}
-use lib.ListN.{length-set}
-use native.Mathlib.Omega.{arith}
-use native.Mathlib.Numerals.{add-one, add-two, add-three}
+use Rattle.laws.proofs.Prelude.{needs, length-set, arith, add-one}
+use native.Mathlib.Numerals.{add-two, add-three}
 use Rattle.sheet.proofs.groups.put_group.Statement.{statement}
 use Rattle.sheet.proofs.groups.put_group.Tie as tie
 

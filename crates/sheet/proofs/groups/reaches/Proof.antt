@@ -1,5 +1,4 @@
-use borrow.Author.Needs.{needs}
-use borrow.Author.Tests.{lt-ltb, le-ltb}
+use Rattle.laws.proofs.Prelude.{needs, lt-ltb, le-ltb}
 use Rattle.sheet.proofs.groups.reaches.Statement.{statement}
 use Rattle.sheet.proofs.groups.reaches.Tie as tie
 

@@ -1,6 +1,4 @@
-use borrow.Author.Needs.{needs}
-use native.Mathlib.Omega.{arith}
-use Rattle.laws.proofs.Steps.{known, told}
+use Rattle.laws.proofs.Prelude.{needs, arith, known, told}
 use Rattle.wire.specs.Fields.{numbered}
 use Rattle.wire.proofs.NumberCodec.{number-codec}
 use Rattle.sheet.specs.Comments.{group}

@@ -1,5 +1,4 @@
-use borrow.Author.Needs.{needs}
-use native.Mathlib.Omega.{arith}
+use Rattle.laws.proofs.Prelude.{needs, arith}
 use Rattle.sheet.specs.Lookups.{bodySpan}
 use Rattle.sheet.proofs.lookups.body.Statement.{statement}
 use Rattle.sheet.proofs.lookups.body.Tie as tie

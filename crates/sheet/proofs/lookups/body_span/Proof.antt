@@ -1,4 +1,4 @@
-use borrow.Author.Needs.{needs}
+use Rattle.laws.proofs.Prelude.{needs}
 use Rattle.sheet.specs.Lookups.{bodySpan}
 use Rattle.sheet.proofs.lookups.body_span.Statement.{statement}
 use Rattle.sheet.proofs.lookups.body_span.Tie as tie

@@ -1,8 +1,4 @@
-use borrow.Author.Needs.{needs}
-use native.Mathlib.Omega.{arith}
-use mathlib.Core.Path.{sym}
-use Prim.Native.Nat.{_-_}
-use Rattle.laws.proofs.Steps.{known}
+use Rattle.laws.proofs.Prelude.{needs, arith, sym, _-_, known}
 use Rattle.sheet.proofs.Search.{Searched, search-all, search-none, search-found, search-up, search-down}
 use Rattle.sheet.proofs.lookups.find_group.Statement.{statement}
 use Rattle.sheet.proofs.lookups.find_group.Tie as tie

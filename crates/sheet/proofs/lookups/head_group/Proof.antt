@@ -1,4 +1,4 @@
-use borrow.Author.Needs.{needs}
+use Rattle.laws.proofs.Prelude.{needs}
 use Rattle.sheet.specs.Lookups.{headGroup}
 use Rattle.sheet.proofs.lookups.head_group.Statement.{statement}
 use Rattle.sheet.proofs.lookups.head_group.Tie as tie

@@ -1,5 +1,4 @@
-use borrow.Author.Needs.{needs}
-use borrow.Author.Tests.{eq-eqb, ne-eqb}
+use Rattle.laws.proofs.Prelude.{needs, eq-eqb, ne-eqb}
 use Rattle.sheet.proofs.lookups.stands_at.Statement.{statement}
 use Rattle.sheet.proofs.lookups.stands_at.Tie as tie
 

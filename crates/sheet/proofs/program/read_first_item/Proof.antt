@@ -1,5 +1,4 @@
-use borrow.Author.Needs.{needs}
-use Rattle.laws.proofs.Steps.{told}
+use Rattle.laws.proofs.Prelude.{needs, told}
 use Rattle.wire.specs.Optional.{optional}
 use Rattle.sheet.proofs.program.read_first_item.Statement.{statement}
 use Rattle.sheet.proofs.program.read_first_item.Tie as tie

@@ -1,6 +1,4 @@
-use borrow.Author.Needs.{needs}
-use denote.Ref.{now}
-use Rattle.laws.proofs.Steps.{seen, told}
+use Rattle.laws.proofs.Prelude.{needs, now, seen, told}
 use Rattle.sheet.specs.Program.{program}
 use Rattle.sheet.specs.code.Views.{firstAs}
 use Rattle.sheet.proofs.program.read_program.Statement.{statement}

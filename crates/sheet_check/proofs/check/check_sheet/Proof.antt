@@ -1,7 +1,4 @@
-use borrow.Author.Needs.{needs}
-use native.Mathlib.Omega.{arith}
-use mathlib.Core.Path.{sym}
-use denote.Ref.{now}
+use Rattle.laws.proofs.Prelude.{needs, arith, sym, now}
 use Rattle.sheet.specs.code.Tables.{commentsPart, groupsPart}
 use Rattle.sheet_check.proofs.Judging.{too-many, refused-front, refused-tree, accepts}
 use Rattle.sheet_check.proofs.check.check_sheet.Statement.{statement}

@@ -1,6 +1,4 @@
-use borrow.Author.Needs.{needs}
-use native.Mathlib.Omega.{arith}
-use Rattle.laws.proofs.Steps.{told}
+use Rattle.laws.proofs.Prelude.{needs, arith, told}
 use Rattle.wire.proofs.TextCodec.{count-codec}
 use Rattle.sheet.specs.Limits.{commentLimit}
 use Rattle.sheet_check.specs.code.Pieces.{commentFields}

@@ -1,8 +1,4 @@
-use borrow.Author.Needs.{needs}
-use native.Mathlib.Omega.{arith}
-use mathlib.Core.Path.{sym}
-use denote.Ref.{now}
-use Rattle.laws.proofs.Steps.{told, bounded}
+use Rattle.laws.proofs.Prelude.{needs, arith, sym, now, told, bounded}
 use Rattle.sheet.specs.Limits.{groupsStart, indexStart}
 use Rattle.sheet_check.specs.code.Pieces.{front}
 use Rattle.sheet_check.proofs.ByPieces.{few-comments}

@@ -1,6 +1,4 @@
-use borrow.Author.Needs.{needs}
-use native.Mathlib.Omega.{arith}
-use Rattle.laws.proofs.Steps.{known, told}
+use Rattle.laws.proofs.Prelude.{needs, arith, known, told}
 use Rattle.wire.proofs.TextCodec.{count-codec}
 use Rattle.sheet.specs.Limits.{groupLimit}
 use Rattle.sheet_check.specs.code.Pieces.{groupFields}

@@ -1,5 +1,4 @@
-use borrow.Author.Needs.{needs}
-use Rattle.laws.proofs.Steps.{told, bounded}
+use Rattle.laws.proofs.Prelude.{needs, told, bounded}
 use Rattle.wire.specs.Fields.{numbered}
 use Rattle.sheet_check.specs.code.Pieces.{sourceFields}
 use Rattle.sheet_check.proofs.front.read_source.Statement.{statement}

@@ -1,9 +1,4 @@
-use borrow.Author.Needs.{needs}
-use mathlib.Core.Path.{refl}
-use lib.ListN.{drop-of-length-le}
-use lib.Seq.{drop-cons}
-use denote.Ref.{now}
-use Rattle.laws.proofs.Steps.{seen}
+use Rattle.laws.proofs.Prelude.{needs, refl, drop-of-length-le, drop-cons, now, seen}
 use Rattle.sheet.specs.code.Views.{programAs}
 use Rattle.sheet_nodes.specs.code.Answers.{checkedAs}
 use Rattle.sheet_check.specs.code.Pieces.{tree}

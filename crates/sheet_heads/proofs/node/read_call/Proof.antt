@@ -1,6 +1,4 @@
-use borrow.Author.Needs.{needs}
-use borrow.Author.Tests.{lt-ltb, le-ltb}
-use Rattle.laws.proofs.Steps.{told, bounded}
+use Rattle.laws.proofs.Prelude.{needs, lt-ltb, le-ltb, told, bounded}
 use Rattle.sheet_heads.specs.code.Head.{callStart}
 use Rattle.sheet_heads.proofs.node.read_call.Statement.{statement}
 use Rattle.sheet_heads.proofs.node.read_call.Tie as tie

@@ -1,8 +1,5 @@
-use borrow.Author.Needs.{needs}
+use Rattle.laws.proofs.Prelude.{needs, sym, drop, now}
 use Rattle.sheet_heads.specs.code.Head.{start}
-use mathlib.Core.Path.{sym}
-use lib.ListN.{drop}
-use denote.Ref.{now}
 use Rattle.sheet_heads.proofs.Outside.{no-start}
 use Rattle.sheet_heads.proofs.node.read_fields.Statement.{statement}
 use Rattle.sheet_heads.proofs.node.read_fields.Tie as tie

@@ -1,5 +1,4 @@
-use borrow.Author.Needs.{needs}
-use Rattle.laws.proofs.Steps.{told, bounded}
+use Rattle.laws.proofs.Prelude.{needs, told, bounded}
 use Rattle.sheet_heads.specs.code.Head.{head}
 use Rattle.sheet.proofs.CommentCodecs.{span-part}
 use Rattle.sheet_heads.proofs.node.read_head.Statement.{statement}

@@ -1,8 +1,6 @@
-use borrow.Author.Needs.{needs}
-use Rattle.laws.proofs.Steps.{told, bounded}
+use Rattle.laws.proofs.Prelude.{needs, told, bounded, arith}
 use Rattle.sheet_heads.specs.code.Head.{importEqualsStart}
 use Rattle.sheet_heads.proofs.Past.{fields-from}
-use native.Mathlib.Omega.{arith}
 use Rattle.sheet_heads.proofs.node.read_import_equals.Statement.{statement}
 use Rattle.sheet_heads.proofs.node.read_import_equals.Tie as tie
 

@@ -1,5 +1,4 @@
-use borrow.Author.Needs.{needs}
-use Rattle.laws.proofs.Steps.{told, bounded}
+use Rattle.laws.proofs.Prelude.{needs, told, bounded}
 use Rattle.sheet_heads.specs.code.Head.{namedExportStart}
 use Rattle.sheet_heads.proofs.node.read_named_export.Statement.{statement}
 use Rattle.sheet_heads.proofs.node.read_named_export.Tie as tie

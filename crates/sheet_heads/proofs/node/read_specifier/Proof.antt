@@ -1,5 +1,4 @@
-use borrow.Author.Needs.{needs}
-use Rattle.laws.proofs.Steps.{told, bounded}
+use Rattle.laws.proofs.Prelude.{needs, told, bounded}
 use Rattle.sheet_heads.specs.code.Head.{specifierStart}
 use Rattle.sheet_heads.proofs.node.read_specifier.Statement.{statement}
 use Rattle.sheet_heads.proofs.node.read_specifier.Tie as tie

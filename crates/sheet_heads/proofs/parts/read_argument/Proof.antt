@@ -1,5 +1,4 @@
-use borrow.Author.Needs.{needs}
-use Rattle.laws.proofs.Steps.{told, bounded}
+use Rattle.laws.proofs.Prelude.{needs, told, bounded}
 use Rattle.sheet_heads.specs.code.Parts.{argumentHead}
 use Rattle.sheet_heads.proofs.parts.read_argument.Statement.{statement}
 use Rattle.sheet_heads.proofs.parts.read_argument.Tie as tie

@@ -1,10 +1,6 @@
-use borrow.Author.Needs.{needs}
+use Rattle.laws.proofs.Prelude.{needs, now, told, bounded, sym, drop}
 use Rattle.sheet_heads.specs.code.Parts.{keyHead}
-use denote.Ref.{now}
-use Rattle.laws.proofs.Steps.{told, bounded}
-use mathlib.Core.Path.{sym}
 use Rattle.sheet_heads.proofs.Outside.{no-key}
-use lib.ListN.{drop}
 use Rattle.sheet_heads.proofs.parts.read_key.Statement.{statement}
 use Rattle.sheet_heads.proofs.parts.read_key.Tie as tie
 

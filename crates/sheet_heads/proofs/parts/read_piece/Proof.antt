@@ -1,5 +1,4 @@
-use borrow.Author.Needs.{needs}
-use Rattle.laws.proofs.Steps.{told, bounded}
+use Rattle.laws.proofs.Prelude.{needs, told, bounded}
 use Rattle.wire.specs.Optional.{optional}
 use Rattle.sheet.specs.Nodes.{piece}
 use Rattle.sheet_heads.proofs.parts.read_piece.Statement.{statement}

@@ -1,13 +1,6 @@
-use mathlib.Core.Path.{_≡_, refl, sym, ap, _∙_}
-use mathlib.Core.Bool.{Bool, true, _||_, or-true, or-false}
-use mathlib.Core.List.{[]}
-use Prim.Native.Nat.{_≤_}
-use native.Mathlib.Omega.{arith}
-use borrow.Author.Needs.{needs}
-use lib.ListN.{length, drop}
-use denote.Ref.{now}
+use Rattle.laws.proofs.Prelude.{_≡_, refl, sym, ap, _∙_, Bool, true, _||_, or-true, [], _≤_, arith, needs, length, drop, now, told, bounded}
+use mathlib.Core.Bool.{or-false}
 use Rattle.laws.specs.Decoded.{ok}
-use Rattle.laws.proofs.Steps.{told, bounded}
 use Rattle.sheet.specs.Tree.{Pieces}
 use Rattle.sheet.specs.Nodes.{piece}
 use Rattle.sheet.specs.Shape.{anyUncooked}

@@ -1,12 +1,7 @@
-use borrow.Author.Needs.{needs}
+use Rattle.laws.proofs.Prelude.{needs, now, told, bounded, sym, arith, drop}
 use Rattle.sheet_heads.specs.code.Parts.{propertyHead}
-use denote.Ref.{now}
-use Rattle.laws.proofs.Steps.{told, bounded}
-use mathlib.Core.Path.{sym}
-use native.Mathlib.Omega.{arith}
 use Rattle.sheet_heads.proofs.Outside.{no-property}
 use Rattle.sheet_heads.proofs.Past.{property-from}
-use lib.ListN.{drop}
 use Rattle.sheet_heads.proofs.parts.read_property.Statement.{statement}
 use Rattle.sheet_heads.proofs.parts.read_property.Tie as tie
 

@@ -1,4 +1,4 @@
-use borrow.Author.Tests.{lt-ltb, le-ltb}
+use Rattle.laws.proofs.Prelude.{lt-ltb, le-ltb}
 use Rattle.sheet_heads.proofs.quoted.judge_tag.Statement.{statement}
 use Rattle.sheet_heads.proofs.quoted.judge_tag.Tie as tie
 

@@ -1,5 +1,4 @@
-use borrow.Author.Needs.{needs}
-use borrow.Author.Tests.{lt-leb}
+use Rattle.laws.proofs.Prelude.{needs, lt-leb}
 use Rattle.sheet.specs.Comments.{enclosed}
 use Rattle.sheet.specs.Quotation.{looksQuoted}
 use Rattle.sheet.proofs.Quotations.{double-mark, single-mark, no-mark}

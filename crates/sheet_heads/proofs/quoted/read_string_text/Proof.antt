@@ -1,5 +1,4 @@
-use borrow.Author.Needs.{needs}
-use Rattle.laws.proofs.Steps.{known}
+use Rattle.laws.proofs.Prelude.{needs, known}
 use Rattle.sheet.specs.Nodes.{stringText}
 use Rattle.sheet_heads.proofs.quoted.read_string_text.Statement.{statement}
 use Rattle.sheet_heads.proofs.quoted.read_string_text.Tie as tie

@@ -1,9 +1,4 @@
-use mathlib.Core.Path.{_≡_, sym, _∙_}
-use Prim.Native.Nat.{_-_}
-use borrow.Author.Needs.{needs}
-use borrow.Author.Tests.{eq-eqb, ne-eqb}
-use lib.ListN.{length, drop}
-use denote.Ref.{now}
+use Rattle.laws.proofs.Prelude.{_≡_, sym, _∙_, _-_, needs, eq-eqb, ne-eqb, length, drop, now}
 use Rattle.sheet.specs.Shape.{hasStar}
 use Rattle.sheet_heads.proofs.Stars.{star-or-later, no-star-left}
 use Rattle.sheet_heads.proofs.texts.has_star.Statement.{statement}

@@ -1,5 +1,4 @@
-use borrow.Author.Needs.{needs}
-use Rattle.laws.proofs.Steps.{known}
+use Rattle.laws.proofs.Prelude.{needs, known}
 use Rattle.sheet_heads.proofs.texts.is_augmentation.Statement.{statement}
 use Rattle.sheet_heads.proofs.texts.is_augmentation.Tie as tie
 

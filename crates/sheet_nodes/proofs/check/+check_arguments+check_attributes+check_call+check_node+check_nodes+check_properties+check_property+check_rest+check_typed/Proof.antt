@@ -9,7 +9,7 @@ pub mod Properties
 pub mod Property
 pub mod Rest
 pub mod Typed
-use borrow.Author.Needs.{needs}
+use Rattle.laws.proofs.Prelude.{needs}
 use Rattle.sheet_nodes.proofs.check.check_arguments.Reads as check-arguments
 use Rattle.sheet_nodes.proofs.check.+check_arguments+check_attributes+check_call+check_node+check_nodes+check_properties+check_property+check_rest+check_typed.Lts-check_arguments as check-arguments-lts
 use Rattle.sheet_nodes.proofs.check.check_attributes.Reads as check-attributes

@@ -1,12 +1,6 @@
 -- `check_children`: what `check_nodes` keeps, and how far the entries so far reach.
-use borrow.Author.Needs.{needs}
-use mathlib.Core.Path.{_≡_, refl, sym, _∙_}
-use Prim.Native.Nat.{_+_, _≤_}
-use native.Mathlib.Omega.{arith}
-use lib.ListN.{length, drop}
-use denote.Ref.{now}
+use Rattle.laws.proofs.Prelude.{needs, _≡_, refl, sym, _∙_, _+_, _≤_, arith, length, drop, now, told, bounded}
 use Rattle.laws.proofs.Decoding.{refused, onOk-no}
-use Rattle.laws.proofs.Steps.{told, bounded}
 use Rattle.sheet.specs.Nodes.{node, nodes}
 use Rattle.sheet_nodes.specs.code.Tallies.{tallyAll}
 use Rattle.sheet_nodes.proofs.Loops.{nodesFrom, nodes-all, nodes-step, nodes-stop, nodes-end}

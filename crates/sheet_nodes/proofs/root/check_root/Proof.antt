@@ -1,12 +1,5 @@
 -- `check_root`: what `check_node` answers, by the head; of an Other, how far the entries of its children reach.
-use borrow.Author.Needs.{needs}
-use mathlib.Core.Path.{refl}
-use mathlib.Core.Bool.{false}
-use Prim.Native.Nat.{_-_}
-use native.Mathlib.Omega.{arith}
-use lib.ListN.{length, drop}
-use denote.Ref.{now}
-use Rattle.laws.proofs.Steps.{seen, told, bounded}
+use Rattle.laws.proofs.Prelude.{needs, refl, false, _-_, arith, length, drop, now, seen, told, bounded}
 use Rattle.sheet.specs.Tree.{other}
 use Rattle.sheet.specs.Nodes.{node, nodes}
 use Rattle.sheet_heads.specs.code.Views.{headAs}

@@ -1,5 +1,4 @@
-use borrow.Author.Needs.{needs}
-use native.Mathlib.Omega.{arith}
+use Rattle.laws.proofs.Prelude.{needs, arith}
 use Rattle.text.proofs.Ones.{one-most}
 use Rattle.sheet_nodes.proofs.tally.called.Statement.{statement}
 use Rattle.sheet_nodes.proofs.tally.called.Tie as tie

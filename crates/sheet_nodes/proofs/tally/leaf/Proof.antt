@@ -1,4 +1,4 @@
-use borrow.Author.Needs.{needs}
+use Rattle.laws.proofs.Prelude.{needs}
 use Rattle.sheet_nodes.proofs.tally.leaf.Statement.{statement}
 use Rattle.sheet_nodes.proofs.tally.leaf.Tie as tie
 

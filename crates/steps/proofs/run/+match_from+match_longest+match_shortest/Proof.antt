@@ -1,12 +1,5 @@
-use mathlib.Core.Path.{_≡_, refl}
-use Prim.Native.Nat.{ℕ, _+_, _-_, _*_, _≤_, _<_}
-use native.Mathlib.Omega.{arith}
-use lib.ListN.{length}
-use borrow.Author.Needs.{needs}
-use borrow.Fn.Kinds.{In}
-use borrow.Fn.PlainCycle.{Measures, is, falls, and}
-use denote.Ref.{now}
-use Rattle.laws.proofs.Steps.{known}
+use Rattle.laws.proofs.Prelude.{_≡_, refl, ℕ, _+_, _-_, _*_, _≤_, _<_, arith, length, needs, In, Measures, now, known}
+use borrow.Fn.PlainCycle.{is, falls, and}
 use Rattle.text.specs.declared.class.Class.{Class}
 use Rattle.text.proofs.class.class_at.Reads as class-at
 use Rattle.text.proofs.class.run_end.Reads as run-end

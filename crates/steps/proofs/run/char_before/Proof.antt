@@ -1,10 +1,5 @@
-use mathlib.Core.Path.{_≡_}
-use mathlib.Core.Logic.{⊎-elim}
+use Rattle.laws.proofs.Prelude.{_≡_, ⊎-elim, arith, ℕ, _≤_, _<_, getD, now}
 use native.Mathlib.Nat.{eq-or-lt-of-le}
-use native.Mathlib.Omega.{arith}
-use Prim.Native.Nat.{ℕ, _≤_, _<_}
-use lib.ListN.{getD}
-use denote.Ref.{now}
 use Rattle.steps.proofs.Bytes.{precedes}
 use Rattle.steps.proofs.run.char_before.Statement.{statement}
 use Rattle.steps.proofs.run.char_before.Tie as tie

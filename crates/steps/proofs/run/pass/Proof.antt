@@ -1,9 +1,4 @@
-use borrow.Author.Needs.{needs}
-use borrow.Author.Tests.{eq-eqb, ne-eqb}
-use mathlib.Core.Path.{_≡_}
-use Prim.Native.Nat.{_+_, _-_}
-use native.Mathlib.Omega.{arith}
-use Rattle.laws.proofs.Steps.{known}
+use Rattle.laws.proofs.Prelude.{needs, eq-eqb, ne-eqb, _≡_, _+_, _-_, arith, known}
 use Rattle.analysis.specs.Row.{all}
 use Rattle.steps.proofs.run.pass.Statement.{statement}
 use Rattle.steps.proofs.run.pass.Tie as tie

@@ -1,12 +1,5 @@
-use mathlib.Core.Path.{_≡_, refl, sym, ap, _∙_}
-use Prim.Native.Nat.{ℕ, _+_, _-_, _≤_, _<_}
-use native.Mathlib.Omega.{arith}
-use lib.ListN.{length}
-use borrow.Author.Needs.{needs}
-use borrow.Fn.Kinds.{In}
-use borrow.Fn.PlainCycle.{Measures, is, falls, and}
-use denote.Ref.{now}
-use Rattle.laws.proofs.Steps.{known}
+use Rattle.laws.proofs.Prelude.{_≡_, refl, sym, ap, _∙_, ℕ, _+_, _-_, _≤_, _<_, arith, length, needs, In, Measures, now, known}
+use borrow.Fn.PlainCycle.{is, falls, and}
 use Rattle.steps.specs.Table.{rowIn}
 use Rattle.steps.specs.Answers.{verdictOf}
 use Rattle.steps.proofs.Decoding.{lies, row-in, judged-pass, judged-longest, judged-shortest, judged-first, judged-second, from-on}

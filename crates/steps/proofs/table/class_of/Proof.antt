@@ -1,4 +1,4 @@
-use borrow.Author.Tests.{ne-eqb}
+use Rattle.laws.proofs.Prelude.{ne-eqb}
 use Rattle.steps.specs.Table.{classOf}
 use Rattle.steps.proofs.table.class_of.Statement.{statement}
 use Rattle.steps.proofs.table.class_of.Tie as tie

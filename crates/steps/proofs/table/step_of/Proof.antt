@@ -1,5 +1,4 @@
-use borrow.Author.Needs.{needs}
-use borrow.Author.Tests.{eq-eqb, ne-eqb, lt-ltb, le-ltb}
+use Rattle.laws.proofs.Prelude.{needs, eq-eqb, ne-eqb, lt-ltb, le-ltb}
 use Rattle.steps.specs.Table.{stepOf}
 use Rattle.steps.proofs.table.step_of.Statement.{statement}
 use Rattle.steps.proofs.table.step_of.Tie as tie

@@ -1,8 +1,4 @@
-use borrow.Author.Needs.{needs}
-use native.Mathlib.Omega.{arith}
-use mathlib.Core.Path.{refl, sym}
-use lib.ListN.{List·getD-eq-default}
-use denote.Ref.{now}
+use Rattle.laws.proofs.Prelude.{needs, arith, refl, sym, List·getD-eq-default, now}
 use Rattle.text.proofs.bytes.byte_at.Statement.{statement}
 use Rattle.text.proofs.bytes.byte_at.Tie as tie
 

@@ -1,7 +1,4 @@
-use borrow.Author.Needs.{needs}
-use mathlib.Core.Path.{_≡_, refl, sym, _∙_}
-use Prim.Native.Nat.{_-_}
-use lib.ListN.{length, drop}
+use Rattle.laws.proofs.Prelude.{needs, _≡_, refl, sym, _∙_, _-_, length, drop}
 use Rattle.text.specs.Bytes.{order}
 use Rattle.text.proofs.Words.{order-equal, order-prefix, order-longer, order-less, order-greater, order-next}
 use Rattle.text.proofs.bytes.compare.Statement.{statement}

@@ -1,5 +1,4 @@
-use borrow.Author.Needs.{needs}
-use mathlib.Core.Path.{sym, _∙_}
+use Rattle.laws.proofs.Prelude.{needs, sym, _∙_}
 use Rattle.text.proofs.Words.{same-begins, other-length}
 use Rattle.text.proofs.bytes.equal.Statement.{statement}
 use Rattle.text.proofs.bytes.equal.Tie as tie

@@ -1,10 +1,4 @@
-use native.Mathlib.Omega.{arith}
-use native.Mathlib.Nat.{add-zero}
-use borrow.Author.Needs.{needs}
-use mathlib.Core.Path.{_≡_, sym, _∙_}
-use Prim.Native.Nat.{_+_, _-_}
-use lib.ListN.{length, drop}
-use denote.Ref.{now}
+use Rattle.laws.proofs.Prelude.{arith, add-zero, needs, _≡_, sym, _∙_, _+_, _-_, length, drop, now}
 use Rattle.text.specs.Bytes.{begins}
 use Rattle.text.proofs.Words.{begins-end, begins-short, begins-differ, begins-agree}
 use Rattle.text.proofs.bytes.starts_with.Statement.{statement}

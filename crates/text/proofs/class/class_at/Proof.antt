@@ -1,6 +1,4 @@
-use borrow.Author.Needs.{needs}
-use native.Mathlib.Omega.{arith}
-use denote.Ref.{now}
+use Rattle.laws.proofs.Prelude.{needs, arith, now}
 use Rattle.text.proofs.Ascii.{ascii-class}
 use Rattle.text.proofs.class.class_at.Statement.{statement}
 use Rattle.text.proofs.class.class_at.Tie as tie

@@ -1,9 +1,4 @@
-use borrow.Author.Needs.{needs}
-use mathlib.Core.Path.{ap}
-use mathlib.Core.Bool.{not}
-use mathlib.Core.List.{[], _∷_}
-use borrow.Author.Tests.{eq-eqb, ne-eqb}
-use Rattle.laws.proofs.Steps.{known}
+use Rattle.laws.proofs.Prelude.{needs, ap, not, [], _∷_, eq-eqb, ne-eqb, known}
 use Rattle.text.specs.Ranges.{_to_}
 use Rattle.text.specs.WhiteSpace.{whiteSpace}
 use Rattle.text.specs.Class.{ranges, outside, member}

@@ -1,11 +1,4 @@
-use borrow.Author.Needs.{needs}
-use native.Mathlib.Omega.{arith}
-use mathlib.Core.Path.{_≡_}
-use Prim.Native.Nat.{_+_, _-_, _≤_}
-use lib.ListN.{length, drop}
-use lib.Seq.{drop-drop}
-use denote.Ref.{now}
-use Rattle.laws.proofs.Steps.{known}
+use Rattle.laws.proofs.Prelude.{needs, arith, _≡_, _+_, _-_, _≤_, length, drop, drop-drop, now, known}
 use Rattle.text.specs.Class.{runLength}
 use Rattle.text.proofs.Runs.{run-stops, run-goes-on}
 use Rattle.text.proofs.class.run_end.Statement.{statement}

@@ -1,9 +1,4 @@
-use borrow.Author.Needs.{needs}
-use native.Mathlib.Omega.{arith}
-use mathlib.Core.Path.{_≡_}
-use lib.ListN.{drop, length-drop}
-use denote.Ref.{now}
-use Rattle.laws.proofs.Steps.{known}
+use Rattle.laws.proofs.Prelude.{needs, arith, _≡_, drop, length-drop, now, known}
 use Rattle.text.specs.Class.{classAt}
 use Rattle.text.proofs.Runs.{class-fits}
 use Rattle.text.proofs.class.wide_class_at.Statement.{statement}

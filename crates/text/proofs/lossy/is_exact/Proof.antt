@@ -1,10 +1,5 @@
-use borrow.Author.Needs.{needs}
-use mathlib.Core.Path.{_≡_, refl, _∙_}
-use Prim.Native.Nat.{_-_}
+use Rattle.laws.proofs.Prelude.{needs, _≡_, refl, _∙_, _-_, length, drop, now, known}
 use lib.Dec.{eqb·suc-zero}
-use lib.ListN.{length, drop}
-use denote.Ref.{now}
-use Rattle.laws.proofs.Steps.{known}
 use Rattle.text.specs.Lossy.{replaced}
 use Rattle.text.proofs.Replaced.{none-left, marked-count, copied-count}
 use Rattle.text.proofs.Reported.{lossy-of}

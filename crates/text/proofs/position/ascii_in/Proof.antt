@@ -1,9 +1,4 @@
-use Prim.Native.Nat.{ℕ, _+_, _-_, _≤_, _<_}
-use native.Mathlib.Omega.{arith}
-use mathlib.Core.Logic.{inl, inr, ⊎-elim}
-use borrow.Author.Needs.{needs}
-use lib.ListN.{getD}
-use denote.Ref.{now}
+use Rattle.laws.proofs.Prelude.{ℕ, _+_, _-_, _≤_, _<_, arith, inl, inr, ⊎-elim, needs, getD, now}
 use Rattle.text.proofs.Counted.{Counted, counted-none, counted-more}
 use Rattle.text.proofs.position.ascii_in.Statement.{statement}
 use Rattle.text.proofs.position.ascii_in.Tie as tie

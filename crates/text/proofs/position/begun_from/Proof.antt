@@ -1,7 +1,4 @@
-use native.Mathlib.Omega.{arith}
-use mathlib.Core.Path.{sym}
-use borrow.Author.Needs.{needs}
-use denote.Ref.{now}
+use Rattle.laws.proofs.Prelude.{arith, sym, needs, now}
 use Rattle.text.proofs.Sums.{begun-ascii}
 use Rattle.text.proofs.position.begun_from.Statement.{statement}
 use Rattle.text.proofs.position.begun_from.Tie as tie

@@ -1,11 +1,5 @@
-use Prim.Native.Nat.{_+_, _-_, _≤_, _<_}
-use native.Mathlib.Omega.{arith}
-use mathlib.Core.Path.{_≡_, sym, _∙_}
-use mathlib.Core.Logic.{⊎-elim}
-use borrow.Author.Needs.{needs}
+use Rattle.laws.proofs.Prelude.{_+_, _-_, _≤_, _<_, arith, _≡_, sym, _∙_, ⊎-elim, needs, getD, now}
 use borrow.Author.Tests.{not-true, not-false}
-use lib.ListN.{getD}
-use denote.Ref.{now}
 use Rattle.text.specs.code.Totals.{beginsOne}
 use Rattle.text.proofs.Sums.{Begun, begun-none, begun-more, begins, begins-not}
 use Rattle.text.proofs.position.begun_in.Statement.{statement}

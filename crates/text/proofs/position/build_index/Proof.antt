@@ -1,9 +1,4 @@
-use native.Mathlib.Omega.{arith}
-use borrow.Author.Needs.{needs}
-use mathlib.Core.Path.{_≡_, refl, _∙_}
-use Prim.Native.Nat.{_+_, _*_, _/_, _-_, _≤_}
-use lib.ListN.{length}
-use denote.Ref.{now}
+use Rattle.laws.proofs.Prelude.{arith, needs, _≡_, refl, _∙_, _+_, _*_, _/_, _-_, _≤_, length, now}
 use Rattle.text.specs.Position.{characters, walk, startPosition, positionOf, Indexed}
 use Rattle.text.proofs.Positions.{scanned, bounded, index-none, index-more, Untouched, untouched-none, untouched-more}
 use Rattle.text.proofs.position.build_index.Statement.{statement}

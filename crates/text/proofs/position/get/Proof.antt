@@ -1,6 +1,4 @@
-use borrow.Author.Needs.{needs}
-use native.Mathlib.Omega.{arith}
-use Prim.Native.Nat.{_+_, _*_}
+use Rattle.laws.proofs.Prelude.{needs, arith, _+_, _*_}
 use Rattle.text.proofs.position.get.Statement.{statement}
 use Rattle.text.proofs.position.get.Tie as tie
 

@@ -1,4 +1,4 @@
-use borrow.Author.Tests.{lt-leb, le-leb}
+use Rattle.laws.proofs.Prelude.{lt-leb, le-leb}
 use Rattle.text.proofs.position.goes_on.Statement.{statement}
 use Rattle.text.proofs.position.goes_on.Tie as tie
 

@@ -1,4 +1,4 @@
-use borrow.Author.Needs.{needs}
+use Rattle.laws.proofs.Prelude.{needs}
 use native.Mathlib.Nat.{mod-eq-sub-mul-div}
 use Rattle.text.specs.Position.{indexedPosition}
 use Rattle.text.proofs.position.indexed_position.Statement.{statement}

@@ -1,7 +1,4 @@
-use borrow.Author.Needs.{needs}
-use native.Mathlib.Omega.{arith}
-use mathlib.Core.Path.{_∙_}
-use denote.Ref.{now}
+use Rattle.laws.proofs.Prelude.{needs, arith, _∙_, now}
 use Rattle.text.specs.Position.{characters}
 use Rattle.text.proofs.Positions.{scanned, bounded, indexed}
 use Rattle.text.proofs.position.later_position.Statement.{statement}

@@ -1,10 +1,4 @@
-use Prim.Native.Nat.{_+_, _-_, _≤_}
-use native.Mathlib.Omega.{arith}
-use mathlib.Core.Path.{_≡_, refl}
-use mathlib.Core.Logic.{⊎-elim}
-use borrow.Author.Needs.{needs}
-use lib.ListN.{getD, take, drop}
-use denote.Ref.{now}
+use Rattle.laws.proofs.Prelude.{_+_, _-_, _≤_, arith, _≡_, refl, ⊎-elim, needs, getD, take, drop, now}
 use Rattle.text.specs.code.Totals.{total, endsLine}
 use Rattle.text.proofs.Sums.{total-suc, ends, ends-not}
 use Rattle.text.proofs.position.lines_in.Statement.{statement}

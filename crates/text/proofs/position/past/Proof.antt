@@ -1,7 +1,4 @@
-use borrow.Author.Needs.{needs}
-use native.Mathlib.Nat.{add-zero}
-use borrow.Author.Tests.{eq-eqb, ne-eqb}
-use Rattle.laws.proofs.Steps.{known}
+use Rattle.laws.proofs.Prelude.{needs, add-zero, eq-eqb, ne-eqb, known}
 use Rattle.text.specs.Position.{step}
 use Rattle.text.proofs.position.past.Statement.{statement}
 use Rattle.text.proofs.position.past.Tie as tie

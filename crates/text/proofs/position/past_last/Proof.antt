@@ -1,10 +1,4 @@
-use Prim.Native.Nat.{ℕ, _+_, _-_, _≤_, _<_}
-use native.Mathlib.Omega.{arith}
-use mathlib.Core.Path.{_≡_}
-use mathlib.Core.Logic.{⊎-elim}
-use borrow.Author.Needs.{needs}
-use lib.ListN.{getD}
-use denote.Ref.{now}
+use Rattle.laws.proofs.Prelude.{ℕ, _+_, _-_, _≤_, _<_, arith, _≡_, ⊎-elim, needs, getD, now}
 use Rattle.laws.proofs.Onward.{on-by-one}
 use Rattle.text.proofs.position.past_last.Statement.{statement}
 use Rattle.text.proofs.position.past_last.Tie as tie

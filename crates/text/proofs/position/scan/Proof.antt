@@ -1,9 +1,4 @@
-use native.Mathlib.Omega.{arith}
-use borrow.Author.Needs.{needs}
-use mathlib.Core.Path.{_≡_, refl, sym, _∙_}
-use Prim.Native.Nat.{_+_, _-_, _≤_, _<_}
-use lib.ListN.{getD, take, drop}
-use denote.Ref.{now}
+use Rattle.laws.proofs.Prelude.{arith, needs, _≡_, refl, sym, _∙_, _+_, _-_, _≤_, _<_, getD, take, drop, now}
 use Rattle.text.specs.Position.{characters, walk}
 use Rattle.text.proofs.Positions.{walk-next, walk-end, step-bounded}
 use Rattle.text.proofs.position.scan.Statement.{statement}

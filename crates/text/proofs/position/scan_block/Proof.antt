@@ -1,7 +1,4 @@
-use borrow.Author.Needs.{needs}
-use native.Mathlib.Omega.{arith}
-use lib.ListN.{take, drop}
-use denote.Ref.{now}
+use Rattle.laws.proofs.Prelude.{needs, arith, take, drop, now}
 use Rattle.text.specs.Position.{characters, walk}
 use Rattle.text.proofs.Sums.{walk-line, same-place, block-unbroken, block-broken}
 use Rattle.text.proofs.position.scan_block.Statement.{statement}

@@ -1,6 +1,4 @@
-use Prim.Native.Nat.{ℕ, _≤_, _<_, _-_}
-use native.Mathlib.Omega.{arith}
-use lib.ListN.{length, getD}
+use Rattle.laws.proofs.Prelude.{ℕ, _≤_, _<_, _-_, arith, length, getD}
 use Rattle.text.proofs.Bounds.{up, down}
 use Rattle.text.proofs.ranges.at_most.Statement.{statement}
 use Rattle.text.proofs.ranges.at_most.Tie as tie

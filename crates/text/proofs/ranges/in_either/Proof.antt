@@ -1,7 +1,5 @@
-use borrow.Author.Needs.{needs}
-use mathlib.Core.Path.{sym, _∙_}
+use Rattle.laws.proofs.Prelude.{needs, sym, _∙_, known}
 use mathlib.Core.Bool.{or-false}
-use Rattle.laws.proofs.Steps.{known}
 use Rattle.text.specs.Ranges.{inRanges}
 use Rattle.text.proofs.ranges.in_either.Statement.{statement}
 use Rattle.text.proofs.ranges.in_either.Tie as tie

@@ -1,4 +1,4 @@
-use borrow.Author.Tests.{le-leb, lt-leb}
+use Rattle.laws.proofs.Prelude.{le-leb, lt-leb}
 use Rattle.text.proofs.ranges.is_within.Statement.{statement}
 use Rattle.text.proofs.ranges.is_within.Tie as tie
 

@@ -1,4 +1,4 @@
-use borrow.Author.Needs.{needs}
+use Rattle.laws.proofs.Prelude.{needs}
 use Rattle.text.specs.Utf8.{charAt}
 use Rattle.text.proofs.utf8.char_at.Statement.{statement}
 use Rattle.text.proofs.utf8.char_at.Tie as tie

@@ -1,5 +1,4 @@
-use borrow.Author.Needs.{needs}
-use Rattle.laws.proofs.Steps.{known}
+use Rattle.laws.proofs.Prelude.{needs, known}
 use Rattle.text.specs.Utf8.{lengthBy, charLength}
 use Rattle.text.proofs.ByRows.{measured}
 use Rattle.text.proofs.utf8.char_length.Statement.{statement}

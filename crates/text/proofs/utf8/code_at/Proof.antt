@@ -1,5 +1,4 @@
-use borrow.Author.Needs.{needs}
-use denote.Ref.{now}
+use Rattle.laws.proofs.Prelude.{needs, now}
 use Rattle.text.proofs.CodePoint.{code1, code2, code3, code4, no-code}
 use Rattle.text.proofs.utf8.code_at.Statement.{statement}
 use Rattle.text.proofs.utf8.code_at.Tie as tie

@@ -1,7 +1,4 @@
-use borrow.Author.Needs.{needs}
-use native.Mathlib.Omega.{arith}
-use borrow.Author.Tests.{lt-leb, le-leb}
-use denote.Ref.{now}
+use Rattle.laws.proofs.Prelude.{needs, arith, lt-leb, le-leb, now}
 use Rattle.text.specs.Ranges.{_to_}
 use Rattle.text.proofs.RangesAdmit.{past-end, byte-within}
 use Rattle.text.proofs.utf8.inside.Statement.{statement}

@@ -1,6 +1,5 @@
-use borrow.Author.Needs.{needs}
+use Rattle.laws.proofs.Prelude.{needs, known}
 use Rattle.text.specs.Utf8.{lengthBy}
-use Rattle.laws.proofs.Steps.{known}
 use Rattle.text.proofs.utf8.length_besides.Statement.{statement}
 use Rattle.text.proofs.utf8.length_besides.Tie as tie
 

@@ -1,5 +1,4 @@
-use borrow.Author.Needs.{needs}
-use denote.Ref.{now}
+use Rattle.laws.proofs.Prelude.{needs, now}
 use Rattle.text.specs.Utf8.{leadSurrogate, trailSurrogate}
 use Rattle.text.proofs.RangesAdmit.{more, none}
 use Rattle.text.proofs.utf8.pair_at.Statement.{statement}

@@ -1,9 +1,4 @@
-use borrow.Author.Needs.{needs}
-use native.Mathlib.Omega.{arith}
-use mathlib.Core.Path.{_≡_, refl, sym, _∙_}
-use Prim.Native.Nat.{_-_, _≤_}
-use lib.ListN.{length, drop}
-use denote.Ref.{now}
+use Rattle.laws.proofs.Prelude.{needs, arith, _≡_, refl, sym, _∙_, _-_, _≤_, length, drop, now}
 use Rattle.text.specs.Utf8.{formed}
 use Rattle.text.proofs.Formed.{ended}
 use Rattle.text.proofs.Ascii.{ascii-run}

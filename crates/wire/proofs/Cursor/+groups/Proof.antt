@@ -1,14 +1,6 @@
 -- One group, or one and the groups above it: the groups that are left fall at each call.
-use borrow.Author.Needs.{needs}
-use borrow.Author.Tests.{lt-ltb, lt-leb}
-use borrow.Fn.Kinds.{In}
-use borrow.Fn.PlainCycle.{Measures, is, falls, and}
-use native.Mathlib.Omega.{arith}
-use mathlib.Core.Path.{sym, _∙_}
-use Prim.Native.Nat.{ℕ, _-_, _<_}
-use lib.ListN.{length, getD}
-use denote.Ref.{now}
-use Rattle.laws.proofs.Steps.{known}
+use Rattle.laws.proofs.Prelude.{needs, lt-ltb, lt-leb, In, Measures, arith, sym, _∙_, ℕ, _-_, _<_, length, getD, now, known}
+use borrow.Fn.PlainCycle.{is, falls, and}
 use Rattle.wire.specs.Number.{lastGroup}
 use Rattle.wire.proofs.Groups.{none-left, cut-off, next-group, last-group, more-groups, past-before, scale-small, group-small, next-place}
 use Rattle.wire.proofs.shortest.Reads as shortest-reads
@@ -34,12 +26,12 @@ module _ (t : ℕ) where
   returns : groups-lts.Need-returns (calls t) (groups-at t) groups.Post
   returns c =
       let a = c .before .before .args in
-      (sym (none-left (a .scale) (a .low) (now (a .sheet)) (a .self .at) (a .left) (omega (arith, c .if1 .taken))), tt)
+      record { answer = sym (none-left (a .scale) (a .low) (now (a .sheet)) (a .self .at) (a .left) (omega (arith, c .if1 .taken))); bounds = tt }
 
   returns-2 : groups-lts.Need-returns-2 (calls t) (groups-at t) groups.Post
   returns-2 c =
       let a = c .before .before .before .args in
-      (sym (cut-off (a .scale) (a .low) (now (a .sheet)) (a .self .at) (a .left) (c .if2 .taken)), tt)
+      record { answer = sym (cut-off (a .scale) (a .low) (now (a .sheet)) (a .self .at) (a .left) (c .if2 .taken)); bounds = tt }
 
   cast-b : groups-lts.Need-cast-b (calls t) (groups-at t) groups.Post
   cast-b c = omega (arith, c .shared-slice-known2 .given (c .before .before .before .before .args .self .at))
@@ -62,7 +54,7 @@ module _ (t : ℕ) where
       let a = c .before .before .before .before .before .before .before .before .args in
       let more : 0 < a .left = omega (arith, c .before .before .before .before .before .before .if1 .left) in
       let short = known (c .before .before .shortest .ensures) (c .before .if4 .taken) in
-      (sym (last-group (a .scale) (a .low) (now (a .sheet)) (a .self .at) (a .left) more (c .before .before .before .before .before .if2 .left) (c .before .before .before .if3 .taken) short (c .if5 .taken)), omega (arith, c .before .before .before .before .before .if2 .left))
+      record { answer = sym (last-group (a .scale) (a .low) (now (a .sheet)) (a .self .at) (a .left) more (c .before .before .before .before .before .if2 .left) (c .before .before .before .if3 .taken) short (c .if5 .taken)); bounds = omega (arith, c .before .before .before .before .before .if2 .left) }
 
   returns-4 : groups-lts.Need-returns-4 (calls t) (groups-at t) groups.Post
   unfolding lastGroup
@@ -74,7 +66,7 @@ module _ (t : ℕ) where
       let group = next-group (a .scale) (a .low) s (a .self .at) (a .left) more (c .before .before .before .before .before .if2 .left) in
       let small = c .before .before .before .if3 .taken in
       let short = known (c .before .before .shortest .ensures) (c .before .if4 .taken) in
-      (rw (group, lt-ltb b 256 (omega (arith, small)), lt-ltb b 128 small, short, lt-leb _ _ (c .if5 .left)), tt)
+      record { answer = rw (group, lt-ltb b 256 (omega (arith, small)), lt-ltb b 128 small, short, lt-leb _ _ (c .if5 .left)); bounds = tt }
 
   returns-5 : groups-lts.Need-returns-5 (calls t) (groups-at t) groups.Post
   unfolding lastGroup
@@ -86,7 +78,7 @@ module _ (t : ℕ) where
       let group = next-group (a .scale) (a .low) s (a .self .at) (a .left) more (c .before .before .before .before .if2 .left) in
       let small = c .before .before .if3 .taken in
       let longer = known (c .before .shortest .ensures) (c .if4 .left) in
-      (rw (group, lt-ltb b 256 (omega (arith, small)), lt-ltb b 128 small, longer), tt)
+      record { answer = rw (group, lt-ltb b 256 (omega (arith, small)), lt-ltb b 128 small, longer); bounds = tt }
 
   sub-groups : groups-lts.Need-sub-groups (calls t) (groups-at t) groups.Post
   sub-groups c = omega (arith, c .before .before .before .if1 .left)
@@ -123,7 +115,7 @@ module _ (t : ℕ) where
       let s = now (a .sheet) in
       let more : 0 < a .left = omega (arith, c .before .before .before .before .if1 .left) in
       let onward = more-groups (a .scale) (a .low) s (a .self .at) (a .left) more (c .before .before .before .if2 .left) (c .before .if3 .left) (c .before .before .shared-slice-known2 .given (a .self .at) .fits) in
-      (c .groups .ensures .answer ∙ sym onward, past-before (a .self .at) (length s) (c .groups .result) (c .groups .ensures .bounds))
+      record { answer = c .groups .ensures .answer ∙ sym onward; bounds = past-before (a .self .at) (length s) (c .groups .result) (c .groups .ensures .bounds) }
 
 pub +groups-spec : {M : Type 1} → statement M
 +groups-spec = close μ-groups λ t. groups-lts.spec (calls t)

@@ -1,6 +1,4 @@
-use borrow.Author.Needs.{needs}
-use borrow.Author.Tests.{lt-ltb, le-ltb}
-use Rattle.laws.proofs.Steps.{told, bounded}
+use Rattle.laws.proofs.Prelude.{needs, lt-ltb, le-ltb, told, bounded}
 use Rattle.wire.specs.Fields.{below}
 use Rattle.wire.proofs.Cursor.below.Statement.{statement}
 use Rattle.wire.proofs.Cursor.below.Tie as tie

@@ -1,6 +1,4 @@
-use borrow.Author.Needs.{needs}
-use native.Mathlib.Omega.{arith}
-use mathlib.Core.Path.{sym}
+use Rattle.laws.proofs.Prelude.{needs, arith, sym}
 use Rattle.wire.proofs.FieldsAtPlace.{byte-past, byte-at}
 use Rattle.wire.proofs.Cursor.byte.Statement.{statement}
 use Rattle.wire.proofs.Cursor.byte.Tie as tie

@@ -1,6 +1,4 @@
-use borrow.Author.Needs.{needs}
-use borrow.Author.Tests.{le-leb, lt-leb}
-use Rattle.laws.proofs.Steps.{told, bounded}
+use Rattle.laws.proofs.Prelude.{needs, le-leb, lt-leb, told, bounded}
 use Rattle.wire.specs.Text.{count}
 use Rattle.wire.proofs.Cursor.count.Statement.{statement}
 use Rattle.wire.proofs.Cursor.count.Tie as tie

@@ -1,5 +1,4 @@
-use borrow.Author.Needs.{needs}
-use Rattle.laws.proofs.Steps.{told, bounded}
+use Rattle.laws.proofs.Prelude.{needs, told, bounded}
 use Rattle.wire.specs.Fields.{flag}
 use Rattle.wire.proofs.Cursor.flag.Statement.{statement}
 use Rattle.wire.proofs.Cursor.flag.Tie as tie

@@ -1,10 +1,5 @@
 -- One, two or three groups, or the groups in general.
-use borrow.Author.Needs.{needs}
-use native.Mathlib.Omega.{arith}
-use mathlib.Core.Path.{sym}
-use Prim.Native.Nat.{_+_, _<_}
-use lib.ListN.{length}
-use denote.Ref.{now}
+use Rattle.laws.proofs.Prelude.{needs, arith, sym, _+_, _<_, length, now}
 use Rattle.wire.specs.Number.{number}
 use Rattle.wire.proofs.Groups.{one-group, two-groups, three-groups, first-place}
 use Rattle.wire.proofs.Cursor.number.Statement.{statement}

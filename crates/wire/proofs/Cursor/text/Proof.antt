@@ -1,7 +1,4 @@
-use borrow.Author.Needs.{needs}
-use native.Mathlib.Omega.{arith}
-use denote.Ref.{now}
-use Rattle.laws.proofs.Steps.{known, told, bounded}
+use Rattle.laws.proofs.Prelude.{needs, arith, now, known, told, bounded}
 use Rattle.wire.specs.Text.{text}
 use Rattle.wire.proofs.FieldsAtPlace.{bytes-past, bytes-at}
 use Rattle.wire.proofs.Cursor.text.Statement.{statement}

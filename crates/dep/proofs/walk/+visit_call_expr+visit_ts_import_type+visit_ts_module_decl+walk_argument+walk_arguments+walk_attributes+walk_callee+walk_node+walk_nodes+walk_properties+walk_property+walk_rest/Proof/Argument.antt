@@ -1,9 +1,5 @@
 -- `walk_argument`: an argument is its head and its node.
-use mathlib.Core.Path.{_∙_}
-use Prim.Native.Nat.{ℕ}
-use lib.ListN.{drop}
-use denote.Ref.{now}
-use Rattle.laws.proofs.Steps.{told}
+use Rattle.laws.proofs.Prelude.{_∙_, ℕ, drop, now, told}
 use Rattle.sheet.specs.Nodes.{node}
 use Rattle.sheet_heads.proofs.ByHead.{argument-by-head}
 use Rattle.dep.specs.code.Walk.{typesFrom, writtenAs}

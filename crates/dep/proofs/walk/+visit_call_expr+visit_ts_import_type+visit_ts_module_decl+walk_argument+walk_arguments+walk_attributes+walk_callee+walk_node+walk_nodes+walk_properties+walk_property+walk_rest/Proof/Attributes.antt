@@ -1,11 +1,6 @@
 -- `walk_attributes`: an Object that holds attributes is its head and its properties.
-use mathlib.Core.Path.{refl, sym, ap, _∙_}
-use Prim.Native.Nat.{ℕ, _-_}
-use native.Mathlib.Omega.{arith}
-use lib.ListN.{drop}
-use denote.Ref.{now}
+use Rattle.laws.proofs.Prelude.{refl, sym, ap, _∙_, ℕ, _-_, arith, drop, now, told, bounded}
 use Rattle.laws.specs.Decoded.{ok}
-use Rattle.laws.proofs.Steps.{told, bounded}
 use Rattle.laws.proofs.Decoding.{built}
 use Rattle.sheet.specs.Tree.{withObject}
 use Rattle.sheet.specs.Nodes.{node, properties}

@@ -1,12 +1,7 @@
 -- `visit_call_expr`: arguments, further children, and then the call's entry.
-use mathlib.Core.Path.{_≡_, sym, ap, _∙_}
-use Prim.Native.Nat.{ℕ, _+_, _*_, _<_}
-use native.Mathlib.Omega.{arith}
-use lib.ListN.{drop}
-use denote.Ref.{now}
+use Rattle.laws.proofs.Prelude.{_≡_, sym, ap, _∙_, ℕ, _+_, _*_, _<_, arith, drop, now, told, bounded}
 use Rattle.laws.specs.Decoded.{onOk, _>>=_}
 use Rattle.laws.proofs.Decoding.{onOk-no, then-no}
-use Rattle.laws.proofs.Steps.{told, bounded}
 use Rattle.wire.specs.Number.{number}
 use Rattle.sheet.specs.Nodes.{node, nodes, arguments, callRest}
 use Rattle.sheet_nodes.proofs.Arms.{pair}

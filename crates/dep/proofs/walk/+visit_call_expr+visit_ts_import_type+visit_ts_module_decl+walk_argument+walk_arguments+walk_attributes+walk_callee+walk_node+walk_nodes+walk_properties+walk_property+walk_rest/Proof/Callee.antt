@@ -1,9 +1,5 @@
 -- `walk_callee`: a call is its callee, if that is an expression, and what follows it.
-use mathlib.Core.Path.{_∙_}
-use Prim.Native.Nat.{ℕ}
-use native.Mathlib.Omega.{arith}
-use denote.Ref.{now}
-use Rattle.laws.proofs.Steps.{seen}
+use Rattle.laws.proofs.Prelude.{_∙_, ℕ, arith, now, seen}
 use Rattle.dep.specs.code.Walk.{typesFrom, walkedAs}
 use Rattle.dep.proofs.Wrote.{entries-nil}
 use Rattle.dep.proofs.Arms.{called-refused, called-holds}

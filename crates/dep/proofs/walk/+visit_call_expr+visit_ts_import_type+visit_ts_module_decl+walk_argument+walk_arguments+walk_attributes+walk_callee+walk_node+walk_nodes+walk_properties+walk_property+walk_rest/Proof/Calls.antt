@@ -1,9 +1,6 @@
 -- The measures of the members of the cycle, and what the callees of each ask and give.
-use mathlib.Core.Path.{_≡_}
-use mathlib.Core.List.{List}
-use Prim.Native.Nat.{ℕ, _+_, _*_, _<_}
-use borrow.Fn.Kinds.{PK, In}
-use borrow.Fn.PlainCycle.{Measures}
+use Rattle.laws.proofs.Prelude.{_≡_, List, ℕ, _+_, _*_, _<_, In, Measures}
+use borrow.Fn.Kinds.{PK}
 use Rattle.dep.proofs.walk.walk_argument.Reads as walk-argument
 use Rattle.dep.proofs.walk.walk_argument.Kinds as walk-argument-kinds
 use Rattle.dep.proofs.walk.+visit_call_expr+visit_ts_import_type+visit_ts_module_decl+walk_argument+walk_arguments+walk_attributes+walk_callee+walk_node+walk_nodes+walk_properties+walk_property+walk_rest.Lts-walk_argument as walk-argument-lts

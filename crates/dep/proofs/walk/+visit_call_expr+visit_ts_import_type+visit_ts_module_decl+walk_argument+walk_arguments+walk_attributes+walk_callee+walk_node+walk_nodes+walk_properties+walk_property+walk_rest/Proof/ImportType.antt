@@ -1,13 +1,7 @@
 -- `visit_ts_import_type`: the entry of an import type, its children, and what its attributes hold.
-use mathlib.Core.Path.{_≡_, sym, ap, _∙_}
-use mathlib.Core.Bool.{false}
-use Prim.Native.Nat.{ℕ, _+_, _*_, _<_}
-use native.Mathlib.Omega.{arith}
-use lib.ListN.{drop}
-use denote.Ref.{now}
+use Rattle.laws.proofs.Prelude.{_≡_, sym, ap, _∙_, false, ℕ, _+_, _*_, _<_, arith, drop, now, told, bounded}
 use Rattle.laws.specs.Decoded.{onOk, andThen, _>>=_, return}
 use Rattle.laws.proofs.Decoding.{onOk-no, then-no}
-use Rattle.laws.proofs.Steps.{told, bounded}
 use Rattle.sheet.specs.Tree.{importType}
 use Rattle.sheet.specs.Nodes.{node, nodes, attributes, attributesObject, typeRest}
 use Rattle.sheet_heads.specs.code.Views.{quotedOf}

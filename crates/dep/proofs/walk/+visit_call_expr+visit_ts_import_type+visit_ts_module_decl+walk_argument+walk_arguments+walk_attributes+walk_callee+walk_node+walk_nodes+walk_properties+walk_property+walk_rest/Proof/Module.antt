@@ -1,9 +1,5 @@
 -- `visit_ts_module_decl`: the entry of a module declaration, and its children.
-use mathlib.Core.Path.{_∙_}
-use mathlib.Core.Option.{Option}
-use Prim.Native.Nat.{ℕ}
-use lib.ListN.{drop}
-use denote.Ref.{now}
+use Rattle.laws.proofs.Prelude.{_∙_, Option, ℕ, drop, now}
 use Rattle.sheet.specs.Nodes.{node, nodes}
 use Rattle.sheet_heads.specs.code.Views.{quotedOf}
 use Rattle.dep.specs.code.Walk.{typesFrom, writtenAs}

@@ -1,9 +1,5 @@
 -- `walk_node`: a node is its head and what follows it.
-use Prim.Native.Nat.{ℕ}
-use native.Mathlib.Omega.{arith}
-use lib.ListN.{drop}
-use denote.Ref.{now}
-use Rattle.laws.proofs.Steps.{told, bounded}
+use Rattle.laws.proofs.Prelude.{ℕ, arith, drop, now, told, bounded}
 use Rattle.sheet_heads.proofs.ByHead.{node-by-head}
 use Rattle.dep.proofs.HeadSpans.{head-spanned}
 use Rattle.dep.proofs.walk.walk_node.Reads as walk-node

@@ -1,13 +1,6 @@
 -- `walk_rest`: what is written for a node, by its head, from what is written for the nodes that it holds.
-use mathlib.Core.Path.{refl, sym, _∙_}
-use mathlib.Core.List.{[]}
-use mathlib.Core.Option.{Option}
-use Prim.Native.Nat.{ℕ, _+_}
-use native.Mathlib.Omega.{arith}
-use lib.ListN.{drop}
-use denote.Ref.{now}
+use Rattle.laws.proofs.Prelude.{refl, sym, _∙_, [], Option, ℕ, _+_, arith, drop, now, told, bounded}
 use Rattle.laws.proofs.Decoding.{onOk-no, built}
-use Rattle.laws.proofs.Steps.{told, bounded}
 use Rattle.sheet.specs.Tree.{other, object}
 use Rattle.sheet.specs.Shape.{anyUncooked}
 use Rattle.sheet.specs.Nodes.{many, piece, node, nodes, properties}

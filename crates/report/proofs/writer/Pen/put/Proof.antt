@@ -1,6 +1,4 @@
-use borrow.Author.Needs.{needs}
-use native.Mathlib.Omega.{arith}
-use denote.Ref.{now}
+use Rattle.laws.proofs.Prelude.{needs, arith, now}
 use Rattle.report.proofs.Buffers.{put-room, put-none}
 use Rattle.report.proofs.writer.Pen.put.Statement.{statement}
 use Rattle.report.proofs.writer.Pen.put.Tie as tie

@@ -1,4 +1,4 @@
-use borrow.Author.Needs.{needs}
+use Rattle.laws.proofs.Prelude.{needs}
 use Rattle.report.proofs.writer.Pen.put_flag.Statement.{statement}
 use Rattle.report.proofs.writer.Pen.put_flag.Tie as tie
 

@@ -1,11 +1,4 @@
-use borrow.Author.Needs.{needs}
-use mathlib.Core.Path.{_≡_, sym, _∙_}
-use mathlib.Core.List.{[], _∷_}
-use Prim.Native.Nat.{_+_, _-_, _≤_}
-use native.Mathlib.Omega.{arith}
-use lib.ListN.{length, drop, drop-of-length-le}
-use denote.Ref.{now}
-use Rattle.laws.proofs.Steps.{known}
+use Rattle.laws.proofs.Prelude.{needs, _≡_, sym, _∙_, [], _∷_, _+_, _-_, _≤_, arith, length, drop, drop-of-length-le, now, known}
 use Rattle.text.specs.Lossy.{lossy, replacing, replaced}
 use Rattle.text.proofs.Replaced.{marked, marked-count, copied, copied-count, none-left}
 use Rattle.report.specs.Buffer.{wrote, bufferAs}

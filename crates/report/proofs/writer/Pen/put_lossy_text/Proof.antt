@@ -1,5 +1,4 @@
-use borrow.Author.Needs.{needs}
-use denote.Ref.{now}
+use Rattle.laws.proofs.Prelude.{needs, now}
 use Rattle.text.proofs.Replaced.{lossy-length}
 use Rattle.wire.specs.Text.{encodeText}
 use Rattle.report.proofs.Buffers.{wrote-append}

@@ -1,6 +1,4 @@
-use borrow.Author.Needs.{needs}
-use mathlib.Core.Path.{_≡_, sym, _∙_}
-use lib.ListN.{length}
+use Rattle.laws.proofs.Prelude.{needs, _≡_, sym, _∙_, length}
 use Rattle.wire.specs.Number.{encodeGroups, encodeNumber}
 use Rattle.report.specs.Buffer.{wrote, bufferAs}
 use Rattle.report.proofs.Buffers.{wrote-cons, wrote-nil}

@@ -1,4 +1,4 @@
-use borrow.Author.Needs.{needs}
+use Rattle.laws.proofs.Prelude.{needs}
 use Rattle.report.proofs.Buffers.{wrote-cons}
 use Rattle.report.proofs.writer.Pen.put_replacement.Statement.{statement}
 use Rattle.report.proofs.writer.Pen.put_replacement.Tie as tie

@@ -1,6 +1,4 @@
-use borrow.Author.Needs.{needs}
-use mathlib.Core.Path.{_∙_}
-use native.Mathlib.Omega.{arith}
+use Rattle.laws.proofs.Prelude.{needs, _∙_, arith}
 use Rattle.text.proofs.Positions.{indexed}
 use Rattle.report.proofs.writer.Pen.put_span.Statement.{statement}
 use Rattle.report.proofs.writer.Pen.put_span.Tie as tie

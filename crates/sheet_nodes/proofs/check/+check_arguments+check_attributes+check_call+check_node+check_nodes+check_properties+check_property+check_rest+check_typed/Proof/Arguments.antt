@@ -1,10 +1,5 @@
 -- `check_arguments`: what was found so far, with what is found in the arguments to come, is what is found in all.
-use mathlib.Core.Path.{_≡_, sym, _∙_}
-use Prim.Native.Nat.{ℕ, _+_, _≤_}
-use native.Mathlib.Omega.{arith}
-use lib.ListN.{length, drop}
-use denote.Ref.{now}
-use Rattle.laws.proofs.Steps.{told, bounded}
+use Rattle.laws.proofs.Prelude.{_≡_, sym, _∙_, ℕ, _+_, _≤_, arith, length, drop, now, told, bounded}
 use Rattle.sheet.specs.Nodes.{node}
 use Rattle.sheet_nodes.proofs.Loops.{argumentsFrom, arguments-all, arguments-step, arguments-stop, arguments-cut, arguments-end}
 use Rattle.sheet_nodes.proofs.check.check_arguments.Reads as check-arguments

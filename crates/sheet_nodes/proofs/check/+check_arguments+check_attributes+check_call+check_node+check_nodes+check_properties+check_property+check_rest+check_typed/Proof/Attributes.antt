@@ -1,11 +1,5 @@
 -- `check_attributes`: an Object that holds attributes is its head and its properties.
-use mathlib.Core.Path.{_∙_}
-use Prim.Native.Nat.{ℕ, _-_}
-use native.Mathlib.Omega.{arith}
-use borrow.Author.Needs.{needs}
-use lib.ListN.{length, drop}
-use denote.Ref.{now}
-use Rattle.laws.proofs.Steps.{told, bounded}
+use Rattle.laws.proofs.Prelude.{_∙_, ℕ, _-_, arith, needs, length, drop, now, told, bounded}
 use Rattle.sheet.specs.Nodes.{node, properties}
 use Rattle.sheet_heads.proofs.ByHead.{attributes-by-head}
 use Rattle.sheet_nodes.proofs.Arms.{object-holds}

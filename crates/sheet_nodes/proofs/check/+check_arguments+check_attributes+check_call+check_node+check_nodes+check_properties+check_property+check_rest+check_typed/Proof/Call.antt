@@ -1,12 +1,7 @@
 -- `check_call`: what is found in a call besides its callee is what is found in its arguments and in its further children.
-use mathlib.Core.Path.{sym, ap}
-use Prim.Native.Nat.{ℕ}
-use native.Mathlib.Omega.{arith}
-use lib.ListN.{length, drop}
-use denote.Ref.{now}
+use Rattle.laws.proofs.Prelude.{sym, ap, ℕ, arith, length, drop, now, told, bounded}
 use Rattle.laws.specs.Decoded.{onOk, _>>=_}
 use Rattle.laws.proofs.Decoding.{onOk-no, then-no}
-use Rattle.laws.proofs.Steps.{told, bounded}
 use Rattle.wire.specs.Number.{number}
 use Rattle.sheet.specs.Nodes.{node, nodes, arguments, callRest}
 use Rattle.sheet_nodes.specs.code.Tallies.{passed, passedAll}

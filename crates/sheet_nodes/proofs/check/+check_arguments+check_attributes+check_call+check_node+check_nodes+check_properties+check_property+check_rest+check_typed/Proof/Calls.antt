@@ -1,9 +1,6 @@
 -- The measures of the members of the cycle, and what the callees of each ask and give.
-use mathlib.Core.Path.{_≡_}
-use mathlib.Core.List.{List}
-use Prim.Native.Nat.{ℕ, _+_, _*_, _<_}
-use borrow.Fn.Kinds.{PK, In}
-use borrow.Fn.PlainCycle.{Measures}
+use Rattle.laws.proofs.Prelude.{_≡_, List, ℕ, _+_, _*_, _<_, In, Measures}
+use borrow.Fn.Kinds.{PK}
 use Rattle.sheet_nodes.proofs.check.check_arguments.Reads as check-arguments
 use Rattle.sheet_nodes.proofs.check.check_arguments.Kinds as check-arguments-kinds
 use Rattle.sheet_nodes.proofs.check.+check_arguments+check_attributes+check_call+check_node+check_nodes+check_properties+check_property+check_rest+check_typed.Lts-check_arguments as check-arguments-lts

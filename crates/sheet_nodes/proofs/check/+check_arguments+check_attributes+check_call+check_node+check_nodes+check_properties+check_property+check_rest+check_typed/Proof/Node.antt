@@ -1,9 +1,5 @@
 -- `check_node`: a node is its head and what follows it.
-use Prim.Native.Nat.{ℕ}
-use native.Mathlib.Omega.{arith}
-use lib.ListN.{length, drop}
-use denote.Ref.{now}
-use Rattle.laws.proofs.Steps.{told, bounded}
+use Rattle.laws.proofs.Prelude.{ℕ, arith, length, drop, now, told, bounded}
 use Rattle.sheet_heads.proofs.ByHead.{node-by-head}
 use Rattle.sheet_nodes.proofs.Rooms.{whole-past}
 use Rattle.sheet_nodes.proofs.check.check_node.Reads as check-node

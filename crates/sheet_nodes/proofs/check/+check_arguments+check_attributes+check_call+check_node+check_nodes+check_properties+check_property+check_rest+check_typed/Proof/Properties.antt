@@ -1,10 +1,5 @@
 -- `check_properties`: what was found so far, with what is found in the properties to come, is what is found in all.
-use mathlib.Core.Path.{_≡_, sym, _∙_}
-use Prim.Native.Nat.{ℕ, _+_, _≤_}
-use native.Mathlib.Omega.{arith}
-use lib.ListN.{length, drop}
-use denote.Ref.{now}
-use Rattle.laws.proofs.Steps.{told, bounded}
+use Rattle.laws.proofs.Prelude.{_≡_, sym, _∙_, ℕ, _+_, _≤_, arith, length, drop, now, told, bounded}
 use Rattle.sheet.specs.Nodes.{node}
 use Rattle.sheet_nodes.proofs.Loops.{propertiesFrom, properties-all, properties-step, properties-stop, properties-end}
 use Rattle.sheet_nodes.proofs.check.check_properties.Reads as check-properties

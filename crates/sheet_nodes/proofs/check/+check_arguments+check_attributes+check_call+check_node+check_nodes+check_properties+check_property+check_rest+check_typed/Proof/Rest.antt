@@ -1,14 +1,6 @@
 -- `check_rest`: what is found in a node, by its head, from what is found in the nodes that it holds.
-use mathlib.Core.Path.{refl}
-use mathlib.Core.List.{[]}
-use mathlib.Core.Option.{Option}
-use mathlib.Core.Bool.{true, false}
-use Prim.Native.Nat.{ℕ, _+_}
-use native.Mathlib.Omega.{arith}
-use lib.ListN.{length, drop}
-use denote.Ref.{now}
+use Rattle.laws.proofs.Prelude.{refl, [], Option, true, false, ℕ, _+_, arith, length, drop, now, told, bounded}
 use Rattle.laws.proofs.Decoding.{onOk-no}
-use Rattle.laws.proofs.Steps.{told, bounded}
 use Rattle.sheet.specs.Tree.{other, object, importDecl, exportFrom, exportAll, moduleDecl}
 use Rattle.sheet.specs.Shape.{anyUncooked}
 use Rattle.sheet.specs.Nodes.{many, piece, node, nodes, properties, attributesObject}

@@ -1,12 +1,7 @@
 -- `check_typed`: what is found in an import type is what is found in its children and in its attributes.
-use mathlib.Core.Path.{sym, ap}
-use Prim.Native.Nat.{ℕ}
-use native.Mathlib.Omega.{arith}
-use lib.ListN.{length, drop}
-use denote.Ref.{now}
+use Rattle.laws.proofs.Prelude.{sym, ap, ℕ, arith, length, drop, now, told, bounded}
 use Rattle.laws.specs.Decoded.{onOk, _>>=_}
 use Rattle.laws.proofs.Decoding.{onOk-no, then-no}
-use Rattle.laws.proofs.Steps.{told, bounded}
 use Rattle.sheet.specs.Nodes.{node, nodes, attributes, typeRest, attributesObject}
 use Rattle.sheet_nodes.specs.code.Tallies.{tallyAll, tallyTyped}
 use Rattle.sheet_nodes.proofs.Arms.{pair, nodes-attributes}

@@ -23,7 +23,8 @@ use Rattle.report.specs.Range.{RangeAt}
 use Rattle.report.proofs.RangesApart.{range-at}
 use Rattle.pragmas.specs.Pragmas.{typesAt}
 use Rattle.pragmas.specs.Texts.{ShownInMarks, ShownBare, TypesShown, ReferenceShown, typesOf}
-use Rattle.dep.specs.Collect.{numbersOf, importKind, exportKind, equalsKind, dynamicKind, staticEntry, callEntry, moduleEntry, entryOf}
+use Rattle.dep_entries.specs.Entries.{importKind, exportKind, equalsKind, dynamicKind, staticEntry, callEntry, moduleEntry}
+use Rattle.dep.specs.Collect.{numbersOf, entryOf}
 use Rattle.dep.proofs.Turns.{turn-member, turns-with}
 use Rattle.dep.proofs.EntryAttributes.{all-if}
 use Rattle.module_info.specs.Information.{moduleInfo}

@@ -15,7 +15,8 @@ use Rattle.report.specs.Answer.{Answer, zeros, accepted, refusedWith, fitted}
 use Rattle.report.specs.declared.writer.Outcome.{Outcome}
 use Rattle.report.specs.declared.writer.Outcome.the-variants.{Accepted, Refused}
 use Rattle.module_info.specs.Information.{moduleInfo, defaultInfo, answerOf}
-use Rattle.dep.specs.Collect.{Noted, numbersOf}
+use Rattle.dep_entries.specs.Entries.{Noted}
+use Rattle.dep.specs.Collect.{numbersOf}
 use Rattle.module_info.specs.Replaced.{notedIn, held, NotesRight}
 use Rattle.module_info.specs.Replaced as Replaced
 use Rattle.module_info.specs.Demands.{Demands}

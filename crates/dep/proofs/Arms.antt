@@ -31,11 +31,13 @@ use Rattle.report.specs.declared.names.DynamicDependencyKind.{DynamicDependency
 use Rattle.report.specs.declared.names.DynamicDependencyKind.the-variants as dynamics
 use Rattle.report.specs.ModuleInfo.{SpecifierWithRange}
 use Rattle.attributes.specs.Attributes.{staticAttributes, typeAttributes}
-use Rattle.dep.specs.declared.entries.CallHead.{CallHead}
-use Rattle.dep.specs.declared.entries.StaticDependencyDescriptor.{StaticDependencyDescriptor}
-use Rattle.dep.specs.Collect.{dynamicKind, Noted, noting, collectNoted}
-use Rattle.dep.specs.code.Walk.{Calls, Begins, calleesOf, Written, wroteEntries, staticOf, moduleOf, entryOfCall, noteAll, noteOf, noteWith, afterNode, afterNodes, afterArgument, afterArguments, afterProperty, afterWith, afterImport, afterCall, afterTyped}
-use Rattle.dep.proofs.Wrote.{entries-append}
+use Rattle.dep_entries.specs.declared.CallHead.{CallHead}
+use Rattle.dep_entries.specs.declared.StaticDependencyDescriptor.{StaticDependencyDescriptor}
+use Rattle.dep_entries.specs.Entries.{dynamicKind, Noted}
+use Rattle.dep_entries.specs.code.Written.{Written, wroteEntries, staticOf, moduleOf, entryOfCall}
+use Rattle.dep_entries.proofs.Wrote.{entries-append}
+use Rattle.dep.specs.Collect.{noting, collectNoted}
+use Rattle.dep.specs.code.Walk.{Calls, Begins, calleesOf, noteAll, noteOf, noteWith, afterNode, afterNodes, afterArgument, afterArguments, afterProperty, afterWith, afterImport, afterCall, afterTyped}
 
 -- the variants of a call's head
 pub calls : (x : Head) → OneOf (6 ∷ 7 ∷ []) (tagOf the-type x) → Calls x

@@ -14,7 +14,8 @@ use Rattle.report.specs.declared.names.DependencyKind.the-variants.{Static, Dyn
 use Rattle.report.specs.ModuleInfo.{DynamicArgument, DependencyDescriptor, static, dynamic}
 use Rattle.report.specs.ModuleInfo as info
 use Rattle.arguments.specs.Argument.{chain, argumentOf}
-use Rattle.dep.specs.Collect.{staticEntry, callEntry, moduleEntry, collector, collect}
+use Rattle.dep_entries.specs.Entries.{staticEntry, callEntry, moduleEntry}
+use Rattle.dep.specs.Collect.{collector, collect}
 
 abbrev at : Span
 at = record { start = 0; end = 0 }

@@ -19,9 +19,11 @@ use Rattle.report.specs.Encode.{encodeList, encodeDependency}
 use Rattle.report.specs.Buffer.{Buffer, wrote}
 use Rattle.report.proofs.Buffers.{wrote-append}
 use Rattle.arguments.specs.Argument.{replacedIn}
-use Rattle.dep.specs.code.Notes.{allNoted}
-use Rattle.dep.specs.code.Walk.{wroteEntries, afterNode}
-use Rattle.dep.specs.Collect.{dynamicKind, staticEntry, callEntry, moduleEntry, entryOf, collector, collect, textOf, Noted, beside, noting, collectNoted}
+use Rattle.dep_entries.specs.code.Notes.{allNoted}
+use Rattle.dep_entries.specs.code.Written.{wroteEntries}
+use Rattle.dep_entries.specs.Entries.{dynamicKind, staticEntry, callEntry, moduleEntry, Noted, beside}
+use Rattle.dep.specs.code.Walk.{afterNode}
+use Rattle.dep.specs.Collect.{entryOf, collector, collect, textOf, noting, collectNoted}
 
 module _ (source : List ℕ) (types : ℕ → Option SpecifierWithRange) where
   call-one : (kind : DynamicDependencyKind) (sp : Span) (xs : Arguments) → length (callEntry source types kind sp xs) ≡ one (anyArgument xs)

@@ -8,7 +8,8 @@ use Rattle.report.specs.declared.names.StaticDependencyKind.the-variants as sta
 use Rattle.report.specs.declared.names.DynamicDependencyKind.the-variants as dynamics
 use Rattle.report.specs.ModuleInfo.{SpecifierWithRange, none, DependencyDescriptor}
 use Rattle.attributes.proofs.ReadingsRight.{static-right, type-right, dynamic-right}
-use Rattle.dep.specs.Collect.{staticEntry, callEntry, moduleEntry, entryOf}
+use Rattle.dep_entries.specs.Entries.{staticEntry, callEntry, moduleEntry}
+use Rattle.dep.specs.Collect.{entryOf}
 use Rattle.dep.specs.InTurn.{attributesOf, Attributed}
 
 -- a list that is there or not

@@ -1,8 +1,8 @@
--- The span of a head's String is one of the source; so is that of an argument.
-use Rattle.laws.proofs.Prelude.{_≡_, refl, Bool, List, Option, ℕ, _-_, arith, eqb, ltb}
+-- The span of a head's String is one of the source.
+use Rattle.laws.proofs.Prelude.{_≡_, Bool, List, Option, ℕ, _-_, eqb, ltb}
 use Rattle.laws.specs.Codec.{IfThere}
-use Rattle.laws.specs.Decoded.{Decoded, ok, no}
-use Rattle.laws.proofs.Answers.{Answer, Yields, done, next, ends, behind, with, changed, either, at-index, anything}
+use Rattle.laws.specs.Decoded.{ok}
+use Rattle.laws.proofs.Answers.{Yields, done, next, ends, behind, with, changed, either, at-index, anything}
 use Rattle.text.specs.declared.utf8.Encoding.the-variants.{Utf8}
 use Rattle.wire.specs.Fields.{below, numbered, flag}
 use Rattle.wire.specs.Number.{number}
@@ -14,10 +14,9 @@ use Rattle.sheet.specs.declared.fields.Span.{Span}
 use Rattle.sheet.specs.Tree.{Quoted}
 use Rattle.sheet.specs.Fields.{span}
 use Rattle.sheet.specs.Nodes.{tag, stringText, quoted}
-use Rattle.sheet.proofs.CommentCodecs.{span-part}
 use Rattle.sheet_heads.specs.code.Head.{Head, otherHead, stringHead, nameHead, templateHead, binaryHead, objectHead, moduleHead, callStart, specifierStart, importStart, namedExportStart, exportAllStart, importTypeStart, importRequireStart, importEqualsStart, moduleStart, start, head}
-use Rattle.sheet_heads.specs.code.Parts.{argumentHead}
 use Rattle.report.specs.Range.{InSource}
+use Rattle.dep_entries.proofs.ArgumentSpans.{span-within}
 use Rattle.dep.specs.code.Walk.{Spanned}
 
 module _ (source : List ℕ) where
@@ -28,17 +27,10 @@ module _ (source : List ℕ) where
   optional-spanned Option.none n h = tt
   optional-spanned (Option.some x) n h = h
 
-  span-within : Yields (InSource source) (span source)
-  span-within = record { at = λ u. go u (span source u) refl }
-    where
-      go : (u : List ℕ) (x : Decoded Span) → span source u ≡ x → Answer (InSource source) (λ r. Unit {0}) x
-      go u (ok sp t) e = let (order, end) = span-part source u e in record { start = omega arith; end = end }
-      go u (no r) e = tt
-
   module _ (levels : ℕ) where
     quoted-within : Yields QuotedWithin (quoted source levels)
     unfolding quoted
-    quoted-within = behind (tag (eqb 1) levels) λ t. with span-within λ sp h. behind (stringText source sp) λ x. ends h
+    quoted-within = behind (tag (eqb 1) levels) λ t. with (span-within source) λ sp h. behind (stringText source sp) λ x. ends h
 
     optional-within : Yields (IfThere QuotedWithin) (optional (quoted source levels))
     unfolding optional
@@ -96,10 +88,3 @@ module _ (source : List ℕ) where
 
   pub head-spanned : (levels : ℕ) (u : List ℕ) {p : Span × Head} {t : List ℕ} → head source levels u ≡ ok p t → Spanned source (p .1)
   head-spanned levels u e = rw e at (head-within levels .at u)
-
-  argument-within : Yields (λ (p : Bool × Span). InSource source (p .1)) (argumentHead source)
-  unfolding argumentHead
-  argument-within = behind flag λ dots. with span-within λ sp h. ends h
-
-  pub argument-spanned : (u : List ℕ) {p : Bool × Span} {t : List ℕ} → argumentHead source u ≡ ok p t → InSource source (p .1)
-  argument-spanned u e = rw e at (argument-within .at u)

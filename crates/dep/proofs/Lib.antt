@@ -1,11 +1,8 @@
-pub mod Wrote
-pub mod Noting
 pub mod HeadSpans
 pub mod Loops
 pub mod Arms
 pub mod Counted
 pub mod Reach
-pub mod Fields
 pub mod Callee
 pub mod Turns
 pub mod EntryAttributes

@@ -11,9 +11,11 @@ use Rattle.sheet_heads.proofs.Many.{found, found-step, found-stop, found-end}
 use Rattle.sheet_nodes.proofs.Loops.{nodeItem}
 use Rattle.report.specs.declared.writer.Pen.{Pen}
 use Rattle.report.specs.ModuleInfo.{SpecifierWithRange}
-use Rattle.dep.specs.Collect.{Noted, noting, collectNoted}
-use Rattle.dep.specs.code.Walk.{Written, writtenAs, wroteEntries, noteAll, noteOf, noteIn, afterNode, afterNodes, afterArgument, afterArguments, afterProperty, afterProperties}
-use Rattle.dep.proofs.Wrote.{entries-append, entries-nil}
+use Rattle.dep_entries.specs.Entries.{Noted}
+use Rattle.dep_entries.specs.code.Written.{Written, writtenAs, wroteEntries}
+use Rattle.dep_entries.proofs.Wrote.{entries-append, entries-nil}
+use Rattle.dep.specs.Collect.{noting, collectNoted}
+use Rattle.dep.specs.code.Walk.{noteAll, noteOf, noteIn, afterNode, afterNodes, afterArgument, afterArguments, afterProperty, afterProperties}
 
 -- items whose entries are gathered, from an empty list of them
 module _ {L : Type 0} (gather : L → List Noted) (end : L) where

@@ -9,8 +9,9 @@ use Rattle.sheet_heads.proofs.Many.{many-first}
 use Rattle.sheet_nodes.specs.code.Reach.{Reaches, quiet, past}
 use Rattle.sheet_nodes.proofs.Loops.{nodeItem}
 use Rattle.report.specs.ModuleInfo.{SpecifierWithRange}
+use Rattle.dep_entries.specs.code.Written.{Written, wroteEntries}
 use Rattle.dep.specs.Collect.{noting, collectNoted}
-use Rattle.dep.specs.code.Walk.{Written, wroteEntries, noteAll, afterNode, afterNodes, Answered}
+use Rattle.dep.specs.code.Walk.{noteAll, afterNode, afterNodes, Answered}
 use Rattle.dep.proofs.Counted.{noted-none}
 
 module _ (source : List ℕ) (types : ℕ → Option SpecifierWithRange) (inner : Decoder Node) (sp : Span) where

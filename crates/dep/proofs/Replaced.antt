@@ -12,7 +12,8 @@ use Rattle.report.specs.declared.names.StaticDependencyKind.the-variants as sta
 use Rattle.report.specs.declared.names.DynamicDependencyKind.the-variants as dynamics
 use Rattle.report.specs.ModuleInfo.{SpecifierWithRange, none, string, DynamicTemplatePart, DynamicDependencyDescriptor, StaticDependencyDescriptor, DependencyDescriptor, static, dynamic}
 use Rattle.arguments.specs.Argument.{ofShape, argumentOf, chain, singleText, replacedIn}
-use Rattle.dep.specs.Collect.{textOf, staticEntry, callEntry, moduleEntry, entryOf}
+use Rattle.dep_entries.specs.Entries.{staticEntry, callEntry, moduleEntry}
+use Rattle.dep.specs.Collect.{textOf, entryOf}
 use Rattle.dep.specs.Replaced.{Replaces, NumberOf}
 use Rattle.dep.proofs.EntryAttributes.{all-if}
 

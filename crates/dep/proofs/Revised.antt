@@ -13,7 +13,8 @@ use Rattle.report.specs.declared.names.DynamicDependencyKind.the-variants as dy
 use Rattle.report.specs.ModuleInfo.{SpecifierWithRange, DependencyDescriptor}
 use Rattle.report.specs.Range.{rangeOf}
 use Rattle.arguments.specs.Argument.{replacedIn}
-use Rattle.dep.specs.Collect.{dynamicKind, staticEntry, callEntry, moduleEntry, entryOf, collector, collect, textOf, beside, numbersOf, noting, collectNoted}
+use Rattle.dep_entries.specs.Entries.{dynamicKind, staticEntry, callEntry, moduleEntry, beside}
+use Rattle.dep.specs.Collect.{entryOf, collector, collect, textOf, numbersOf, noting, collectNoted}
 use Rattle.dep.proofs.Counted.{entry-one}
 
 pub collect-each : (source : List ℕ) (types : ℕ → Option SpecifierWithRange) (n : Node) → collect source types n ≡ flatMap (entryOf source types) (visits n)

@@ -15,7 +15,8 @@ use Rattle.report.specs.ModuleInfo.{SpecifierWithRange, DependencyDescriptor}
 use Rattle.report.specs.ModuleInfo as info
 use Rattle.pragmas.specs.Texts.{typesOf}
 use Rattle.arguments.specs.Argument.{replacedIn}
-use Rattle.dep.specs.Collect.{textOf, Noted, beside, staticEntry, callEntry, moduleEntry, entryOf, collector, collect, noting, collectNoted}
+use Rattle.dep_entries.specs.Entries.{Noted, beside, staticEntry, callEntry, moduleEntry}
+use Rattle.dep.specs.Collect.{textOf, entryOf, collector, collect, noting, collectNoted}
 use Rattle.dep.specs.InTurn.{InTurn, nothing, entry, passed}
 
 -- what is so of an entry and its visit, with the visit's start and number

@@ -9,7 +9,8 @@ use Rattle.text.specs.WellFormed.{TextOf}
 use Rattle.text.specs.Lossy.{surrogatesAmong}
 use Rattle.sheet.specs.Walk.{Visit, startOf}
 use Rattle.report.specs.ModuleInfo.{string, DependencyDescriptor, static, dynamic}
-use Rattle.dep.specs.Collect.{textOf, Noted}
+use Rattle.dep_entries.specs.Entries.{Noted}
+use Rattle.dep.specs.Collect.{textOf}
 
 -- the one text that a dependency reports: its specifier's, or its argument if that is one text
 abbrev pub Shows : DependencyDescriptor → List ℕ → Type 0

@@ -1,3 +1,2 @@
 // The dependencies of a sheet, in the order of the walk over its tree.
-pub mod entries;
 pub mod walk;

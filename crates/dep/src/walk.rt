@@ -2,18 +2,18 @@
 // of the sheet, and the node's own. tables has the comments, the groups and the index of the source's positions, counts
 // how many comments and groups there are, cursor is in the sheet, and place in the buffer. notes takes for each entry how many characters
 // were replaced in its text.
-use super::entries::CallHead;
-use super::entries::Counts;
-use super::entries::StaticDependencyDescriptor;
-use super::entries::call_head;
-use super::entries::dynamic_kind;
-use super::entries::equals_kind;
-use super::entries::export_kind;
-use super::entries::import_kind;
-use super::entries::put_call_entry;
-use super::entries::put_module_entry;
-use super::entries::put_plain_entry;
-use super::entries::put_with_entry;
+use dep_entries::CallHead;
+use dep_entries::Counts;
+use dep_entries::StaticDependencyDescriptor;
+use dep_entries::call_head;
+use dep_entries::dynamic_kind;
+use dep_entries::equals_kind;
+use dep_entries::export_kind;
+use dep_entries::import_kind;
+use dep_entries::put_call_entry;
+use dep_entries::put_module_entry;
+use dep_entries::put_plain_entry;
+use dep_entries::put_with_entry;
 use report::names::DynamicDependencyKind;
 use report::names::StaticDependencyKind;
 use report::writer::Pen;
@@ -58,9 +58,10 @@ ghost use Rattle.sheet_heads.specs.code.Views.{quotedOf, headOf};
 ghost use Rattle.sheet_nodes.specs.code.Reach.{ReachesIn};
 ghost use Rattle.report.specs.Encode.{encodeList, encodeDependency};
 ghost use Rattle.report.specs.Buffer.{wrote, bufferAs};
+ghost use Rattle.dep_entries.specs.code.Notes.{allNoted};
+ghost use Rattle.dep_entries.specs.code.Written.{typesFrom, HeldIn, Quotes, writtenAs};
 ghost use Rattle.dep.specs.Collect.{collect, collectNoted};
-ghost use Rattle.dep.specs.code.Notes.{allNoted};
-ghost use Rattle.dep.specs.code.Walk.{typesFrom, HeldIn, Quotes, PastHead, Calls, Begins, calleesOf, writtenAs, walkedAs, Answered, PastWalked};
+ghost use Rattle.dep.specs.code.Walk.{PastHead, Calls, Begins, calleesOf, walkedAs, Answered, PastWalked};
 ghost use Rattle.dep.specs.code.Walk.{afterNode, afterNodes, afterArgument, afterArguments, afterProperties, afterProperty, afterWith};
 ghost use Rattle.dep.specs.code.Walk.{afterImport, afterCall};
 

@@ -31,7 +31,8 @@ use Rattle.attributes.specs.Attributes.{Prop, keyless, keyed, props}
 use Rattle.attributes.specs.Right.{Value, PairsOf, StaticOf, ObjectOf, TypeOf, Holds, SecondOf, DynamicOf}
 use Rattle.attributes.proofs.ReadingsRight.{last-among, pairs-few, static-right, type-right, dynamic-right}
 use Rattle.arguments.specs.Argument.{pieceParts, templateParts, ofPieces, operand, appended, chain, ofChain, ofShape, argumentOf}
-use Rattle.dep.specs.Collect.{importKind, exportKind, equalsKind, dynamicKind, staticEntry, callEntry, moduleEntry, entryOf}
+use Rattle.dep_entries.specs.Entries.{importKind, exportKind, equalsKind, dynamicKind, staticEntry, callEntry, moduleEntry}
+use Rattle.dep.specs.Collect.{entryOf}
 use Rattle.dep.specs.InTurn.{Specifies, Argues, Worded}
 use Rattle.dep.proofs.EntryAttributes.{all-if}
 use Rattle.module_info.proofs.Inside.{walked-fits, walked-bytes}

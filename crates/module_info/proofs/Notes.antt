@@ -13,10 +13,11 @@ use Rattle.report.specs.Encode.{encode}
 use Rattle.report.specs.Answer.{Answer, zeros, accepted, refusedWith, fitted, outcomeAs}
 use Rattle.pragmas.specs.Pragmas.{typesAt}
 use Rattle.arguments.specs.Argument.{replacedIn}
-use Rattle.dep.specs.Collect.{textOf, Noted, numbersOf, startsOf}
+use Rattle.dep_entries.specs.Entries.{Noted}
+use Rattle.dep_entries.specs.code.Notes.{allNoted}
+use Rattle.dep_entries.specs.code.Notes as code
+use Rattle.dep.specs.Collect.{textOf, numbersOf, startsOf}
 use Rattle.dep.specs.Replaced.{NumberOf}
-use Rattle.dep.specs.code.Notes.{allNoted}
-use Rattle.dep.specs.code.Notes as code
 use Rattle.dep.proofs.Counted.{noted-first}
 use Rattle.dep.proofs.Turns.{turns-with, noted-turns}
 use Rattle.dep.proofs.Replaced.{number-right}

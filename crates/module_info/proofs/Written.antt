@@ -21,8 +21,8 @@ use Rattle.pragmas.specs.Asks.{selfTypesRule, jsxImportSourceRule, jsxImportSou
 use Rattle.pragmas.specs.Readings.{readBy, lastOf}
 use Rattle.pragmas.specs.Pragmas.{inGroup, headComments, endComments, referencesIn, firstBy, lastBy, typesIn}
 use Rattle.jsdoc_list.specs.Imports.{jsdocImports}
+use Rattle.dep_entries.specs.code.Notes.{allNoted}
 use Rattle.dep.specs.Collect.{collect, collectNoted}
-use Rattle.dep.specs.code.Notes.{allNoted}
 use Rattle.module_info.specs.Information.{moduleInfo}
 use Rattle.module_info.specs.Replaced.{noted}
 use Rattle.module_info.specs.code.Pieces.{dependencyBytes, headBytes, restBytes, PartsOf, RootOf}

@@ -11,7 +11,8 @@ use Rattle.sheet.specs.Judge.{Judged, empty, sheet, refusal, judge}
 use Rattle.sheet_codec.specs.SheetOf.{SheetOf}
 use Rattle.report.specs.Answer.{zeros}
 use Rattle.pragmas.specs.Pragmas.{typesAt}
-use Rattle.dep.specs.Collect.{Noted, numbersOf, collectNoted}
+use Rattle.dep_entries.specs.Entries.{Noted}
+use Rattle.dep.specs.Collect.{numbersOf, collectNoted}
 use Rattle.dep.specs.InTurn.{InTurn}
 use Rattle.dep.specs.Replaced.{NotedOf}
 use Rattle.module_info.specs.Information.{moduleInfo}

@@ -4,8 +4,8 @@ pub mod source_map;
 
 use self::judge::SheetJudged;
 use self::judge::judge;
-use dep::entries::Counts;
 use dep::walk::analyze_program_dependencies;
+use dep_entries::Counts;
 use jsdoc_list::imports::analyze_jsdoc_imports;
 use pragmas::analyze_first;
 use pragmas::analyze_source_map_url;
@@ -35,7 +35,7 @@ ghost use Rattle.report.specs.declared.writer.Outcome.{Outcome};
 ghost use Rattle.report.specs.Buffer.{wrote, bufferAs};
 ghost use Rattle.report.specs.Encode.{encode};
 ghost use Rattle.report.specs.Answer.{zeros, outcomeAs, fitted};
-ghost use Rattle.dep.specs.code.Notes.{allNoted};
+ghost use Rattle.dep_entries.specs.code.Notes.{allNoted};
 ghost use Rattle.module_info.specs.Information.{moduleInfo, defaultInfo, packed};
 ghost use Rattle.module_info.specs.Replaced.{noted, notesWith, NotesRight};
 ghost use Rattle.module_info.specs.code.Pieces.{dependencyBytes, headBytes, restBytes, PartsIn, RootOf, HeldBy, AcceptsIn};

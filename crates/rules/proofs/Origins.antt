@@ -30,7 +30,8 @@ use Rattle.pragmas.specs.Origins.{typesOrigins, headOrigins, endOrigins}
 use Rattle.pragmas.proofs.GivenFrom.{types-from, references-from, first-from, source-map-from}
 use Rattle.jsdoc_list.specs.Origins.{jsdocOrigins}
 use Rattle.jsdoc_list.proofs.Origins.{jsdoc-origins}
-use Rattle.dep.specs.Collect.{Noted, startsOf}
+use Rattle.dep_entries.specs.Entries.{Noted}
+use Rattle.dep.specs.Collect.{startsOf}
 use Rattle.dep.proofs.Counted.{counted, noted-first}
 use Rattle.dep.proofs.Turns.{types-at-start}
 use Rattle.module_info.specs.Information.{moduleInfo}

@@ -3,7 +3,7 @@ use Rattle.report.specs.Encode.{encode}
 use Rattle.report.specs.Answer.{zeros}
 use Rattle.report.specs.Buffer.{holds, wrote, bufferAs}
 use Rattle.report.proofs.Answers.{answered-fitted}
-use Rattle.dep.specs.code.Notes.{allNoted}
+use Rattle.dep_entries.specs.code.Notes.{allNoted}
 use Rattle.module_info.specs.Information.{moduleInfo}
 use Rattle.module_info.specs.Replaced.{noted}
 use Rattle.module_info.proofs.Notes.{accepted-notes, refused-notes}

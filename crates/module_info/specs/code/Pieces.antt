@@ -20,8 +20,8 @@ use Rattle.report.specs.Range.{IndexOf}
 use Rattle.report.specs.Encode.{encodeList, encodeSpecifier, encodeReference, encodeJsDoc, encodeDependency}
 use Rattle.pragmas.specs.Pragmas.{tsReferences, selfTypesSpecifier, jsxImportSource, jsxImportSourceTypes, sourceMapUrl, typesAt}
 use Rattle.jsdoc_list.specs.Imports.{jsdocImports}
+use Rattle.dep_entries.specs.code.Written.{HeldIn}
 use Rattle.dep.specs.Collect.{collect}
-use Rattle.dep.specs.code.Walk.{HeldIn}
 use Rattle.module_info.specs.declared.judge.SheetJudged.{SheetJudged}
 use Rattle.module_info.specs.declared.judge.SheetJudged.the-variants as judged
 

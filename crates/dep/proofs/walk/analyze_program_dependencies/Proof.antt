@@ -2,7 +2,8 @@
 use Rattle.laws.proofs.Prelude.{sym, needs, now, seen}
 use Rattle.laws.proofs.Decoding.{refused}
 use Rattle.report.specs.Buffer.{bufferAs}
-use Rattle.dep.specs.code.Walk.{typesFrom, walkedAs}
+use Rattle.dep_entries.specs.code.Written.{typesFrom}
+use Rattle.dep.specs.code.Walk.{walkedAs}
 use Rattle.dep.proofs.Counted.{program-written}
 use Rattle.dep.proofs.walk.analyze_program_dependencies.Statement.{statement}
 use Rattle.dep.proofs.walk.analyze_program_dependencies.Tie as tie

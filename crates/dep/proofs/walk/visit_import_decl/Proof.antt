@@ -5,9 +5,10 @@ use Rattle.sheet.specs.Tree.{importDecl}
 use Rattle.sheet.specs.Nodes.{attributesObject}
 use Rattle.sheet_heads.specs.code.Rest.{behind}
 use Rattle.sheet_heads.specs.code.Views.{quotedOf}
-use Rattle.dep.specs.declared.entries.StaticDependencyDescriptor.{StaticDependencyDescriptor}
+use Rattle.dep_entries.specs.declared.StaticDependencyDescriptor.{StaticDependencyDescriptor}
+use Rattle.dep_entries.specs.code.Written.{typesFrom, writtenAs}
 use Rattle.dep.specs.Collect.{noting}
-use Rattle.dep.specs.code.Walk.{typesFrom, writtenAs, afterNode, afterImport}
+use Rattle.dep.specs.code.Walk.{afterNode, afterImport}
 use Rattle.dep.proofs.walk.visit_import_decl.Statement.{statement}
 use Rattle.dep.proofs.walk.visit_import_decl.Tie as tie
 

@@ -6,7 +6,7 @@ use Rattle.sheet.specs.Nodes.{attributesObject}
 use Rattle.sheet_heads.specs.code.Rest.{behind}
 use Rattle.sheet_nodes.specs.code.Tallies.{tallyWith}
 use Rattle.attributes.specs.Attributes.{staticAttributes}
-use Rattle.dep.specs.code.Walk.{typesFrom, writtenAs}
+use Rattle.dep_entries.specs.code.Written.{typesFrom, writtenAs}
 use Rattle.dep.proofs.Arms.{import-written}
 use Rattle.dep.proofs.walk.walk_import.Statement.{statement}
 use Rattle.dep.proofs.walk.walk_import.Tie as tie

@@ -5,7 +5,8 @@ use Rattle.sheet.specs.Limits.{depthLimit}
 use Rattle.sheet.specs.Nodes.{node}
 use Rattle.sheet_heads.proofs.ByHead.{no-head}
 use Rattle.sheet_nodes.proofs.Reach.{children-are}
-use Rattle.dep.specs.code.Walk.{typesFrom, writtenAs, afterNode}
+use Rattle.dep_entries.specs.code.Written.{typesFrom, writtenAs}
+use Rattle.dep.specs.code.Walk.{afterNode}
 use Rattle.dep.proofs.Reach.{children-walked}
 use Rattle.dep.proofs.walk.walk_root.Statement.{statement}
 use Rattle.dep.proofs.walk.walk_root.Tie as tie

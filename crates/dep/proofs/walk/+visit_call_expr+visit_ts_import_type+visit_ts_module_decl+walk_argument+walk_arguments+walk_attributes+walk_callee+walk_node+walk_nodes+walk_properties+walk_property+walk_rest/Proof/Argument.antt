@@ -2,7 +2,7 @@
 use Rattle.laws.proofs.Prelude.{_∙_, ℕ, drop, now, told}
 use Rattle.sheet.specs.Nodes.{node}
 use Rattle.sheet_heads.proofs.ByHead.{argument-by-head}
-use Rattle.dep.specs.code.Walk.{typesFrom, writtenAs}
+use Rattle.dep_entries.specs.code.Written.{typesFrom, writtenAs}
 use Rattle.dep.proofs.Arms.{argument-holds}
 use Rattle.dep.proofs.walk.walk_argument.Reads as walk-argument
 use Rattle.dep.proofs.walk.+visit_call_expr+visit_ts_import_type+visit_ts_module_decl+walk_argument+walk_arguments+walk_attributes+walk_callee+walk_node+walk_nodes+walk_properties+walk_property+walk_rest.Lts-walk_argument as walk-argument-lts

@@ -5,9 +5,10 @@ use Rattle.laws.proofs.Decoding.{built}
 use Rattle.sheet.specs.Tree.{withObject}
 use Rattle.sheet.specs.Nodes.{node, properties}
 use Rattle.sheet_heads.proofs.ByHead.{attributes-by-head}
+use Rattle.dep_entries.specs.code.Written.{typesFrom, writtenAs}
+use Rattle.dep_entries.proofs.Wrote.{entries-nil}
 use Rattle.dep.specs.Collect.{noting}
-use Rattle.dep.specs.code.Walk.{typesFrom, writtenAs, afterProperties, afterWith}
-use Rattle.dep.proofs.Wrote.{entries-nil}
+use Rattle.dep.specs.code.Walk.{afterProperties, afterWith}
 use Rattle.dep.proofs.walk.walk_attributes.Reads as walk-attributes
 use Rattle.dep.proofs.walk.+visit_call_expr+visit_ts_import_type+visit_ts_module_decl+walk_argument+walk_arguments+walk_attributes+walk_callee+walk_node+walk_nodes+walk_properties+walk_property+walk_rest.Lts-walk_attributes as walk-attributes-lts
 use Rattle.dep.proofs.walk.+visit_call_expr+visit_ts_import_type+visit_ts_module_decl+walk_argument+walk_arguments+walk_attributes+walk_callee+walk_node+walk_nodes+walk_properties+walk_property+walk_rest.Proof.Calls.{walk-attributes-at, walk-attributes-calls}

@@ -5,7 +5,8 @@ use Rattle.laws.proofs.Decoding.{onOk-no, then-no}
 use Rattle.wire.specs.Number.{number}
 use Rattle.sheet.specs.Nodes.{node, nodes, arguments, callRest}
 use Rattle.sheet_nodes.proofs.Arms.{pair}
-use Rattle.dep.specs.code.Walk.{typesFrom, writtenAs, afterNodes, afterArguments, afterCall}
+use Rattle.dep_entries.specs.code.Written.{typesFrom, writtenAs}
+use Rattle.dep.specs.code.Walk.{afterNodes, afterArguments, afterCall}
 use Rattle.dep.proofs.Arms.{call-walked}
 use Rattle.dep.proofs.walk.visit_call_expr.Reads as visit-call-expr
 use Rattle.dep.proofs.walk.+visit_call_expr+visit_ts_import_type+visit_ts_module_decl+walk_argument+walk_arguments+walk_attributes+walk_callee+walk_node+walk_nodes+walk_properties+walk_property+walk_rest.Lts-visit_call_expr as visit-call-expr-lts

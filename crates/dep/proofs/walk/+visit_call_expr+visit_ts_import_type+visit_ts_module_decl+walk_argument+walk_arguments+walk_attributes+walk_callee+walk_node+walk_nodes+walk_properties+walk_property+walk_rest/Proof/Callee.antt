@@ -1,7 +1,8 @@
 -- `walk_callee`: a call is its callee, if that is an expression, and what follows it.
 use Rattle.laws.proofs.Prelude.{_∙_, ℕ, arith, now, seen}
-use Rattle.dep.specs.code.Walk.{typesFrom, walkedAs}
-use Rattle.dep.proofs.Wrote.{entries-nil}
+use Rattle.dep_entries.specs.code.Written.{typesFrom}
+use Rattle.dep_entries.proofs.Wrote.{entries-nil}
+use Rattle.dep.specs.code.Walk.{walkedAs}
 use Rattle.dep.proofs.Arms.{called-refused, called-holds}
 use Rattle.dep.proofs.walk.walk_callee.Reads as walk-callee
 use Rattle.dep.proofs.walk.+visit_call_expr+visit_ts_import_type+visit_ts_module_decl+walk_argument+walk_arguments+walk_attributes+walk_callee+walk_node+walk_nodes+walk_properties+walk_property+walk_rest.Lts-walk_callee as walk-callee-lts

@@ -43,9 +43,9 @@ use Rattle.sheet_nodes.proofs.check.check_nodes.Reads as check-nodes
 use Rattle.wire.proofs.Cursor.flag.Reads as flag
 use Rattle.sheet_heads.proofs.parts.nodes_of.Reads as nodes-of
 use Rattle.wire.proofs.Cursor.number.Reads as number
-use Rattle.dep.proofs.entries.put_call_entry.Reads as put-call-entry
-use Rattle.dep.proofs.entries.put_module_entry.Reads as put-module-entry
-use Rattle.dep.proofs.entries.put_with_entry.Reads as put-with-entry
+use Rattle.dep_entries.proofs.put_call_entry.Reads as put-call-entry
+use Rattle.dep_entries.proofs.put_module_entry.Reads as put-module-entry
+use Rattle.dep_entries.proofs.put_with_entry.Reads as put-with-entry
 use Rattle.sheet_heads.proofs.parts.read_argument.Reads as read-argument
 use Rattle.sheet_heads.proofs.parts.read_attributes.Reads as read-attributes
 use Rattle.sheet_heads.proofs.node.read_head.Reads as read-head

@@ -8,8 +8,9 @@ use Rattle.sheet_heads.specs.code.Views.{quotedOf}
 use Rattle.sheet_nodes.specs.code.Tallies.{tallyAll}
 use Rattle.sheet_nodes.proofs.Arms.{pair}
 use Rattle.report.specs.declared.names.StaticDependencyKind.the-variants as statics
-use Rattle.dep.specs.declared.entries.StaticDependencyDescriptor.{StaticDependencyDescriptor}
-use Rattle.dep.specs.code.Walk.{typesFrom, writtenAs, afterNode, afterNodes}
+use Rattle.dep_entries.specs.declared.StaticDependencyDescriptor.{StaticDependencyDescriptor}
+use Rattle.dep_entries.specs.code.Written.{typesFrom, writtenAs}
+use Rattle.dep.specs.code.Walk.{afterNode, afterNodes}
 use Rattle.dep.proofs.Arms.{typed-walked, typed-holds}
 use Rattle.dep.proofs.walk.visit_ts_import_type.Reads as visit-ts-import-type
 use Rattle.dep.proofs.walk.+visit_call_expr+visit_ts_import_type+visit_ts_module_decl+walk_argument+walk_arguments+walk_attributes+walk_callee+walk_node+walk_nodes+walk_properties+walk_property+walk_rest.Lts-visit_ts_import_type as visit-ts-import-type-lts

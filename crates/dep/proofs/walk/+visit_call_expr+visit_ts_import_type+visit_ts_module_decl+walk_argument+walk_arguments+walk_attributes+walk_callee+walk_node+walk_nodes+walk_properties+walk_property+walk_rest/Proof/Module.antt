@@ -2,7 +2,7 @@
 use Rattle.laws.proofs.Prelude.{_∙_, Option, ℕ, drop, now}
 use Rattle.sheet.specs.Nodes.{node, nodes}
 use Rattle.sheet_heads.specs.code.Views.{quotedOf}
-use Rattle.dep.specs.code.Walk.{typesFrom, writtenAs}
+use Rattle.dep_entries.specs.code.Written.{typesFrom, writtenAs}
 use Rattle.dep.proofs.Arms.{module-holds}
 use Rattle.dep.proofs.walk.visit_ts_module_decl.Reads as visit-ts-module-decl
 use Rattle.dep.proofs.walk.+visit_call_expr+visit_ts_import_type+visit_ts_module_decl+walk_argument+walk_arguments+walk_attributes+walk_callee+walk_node+walk_nodes+walk_properties+walk_property+walk_rest.Lts-visit_ts_module_decl as visit-ts-module-decl-lts

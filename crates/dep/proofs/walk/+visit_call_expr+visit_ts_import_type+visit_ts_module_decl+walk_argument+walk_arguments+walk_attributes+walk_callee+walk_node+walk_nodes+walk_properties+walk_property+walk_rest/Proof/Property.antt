@@ -3,7 +3,8 @@ use Rattle.laws.proofs.Prelude.{ap, _∙_, ℕ, arith, drop, now, told, bounded
 use Rattle.laws.specs.Decoded.{onOk}
 use Rattle.sheet.specs.Nodes.{node, nodes}
 use Rattle.sheet_heads.proofs.ByHead.{property-by-head}
-use Rattle.dep.specs.code.Walk.{typesFrom, writtenAs, afterNodes}
+use Rattle.dep_entries.specs.code.Written.{typesFrom, writtenAs}
+use Rattle.dep.specs.code.Walk.{afterNodes}
 use Rattle.dep.proofs.Arms.{property-holds}
 use Rattle.dep.proofs.walk.walk_property.Reads as walk-property
 use Rattle.dep.proofs.walk.+visit_call_expr+visit_ts_import_type+visit_ts_module_decl+walk_argument+walk_arguments+walk_attributes+walk_callee+walk_node+walk_nodes+walk_properties+walk_property+walk_rest.Lts-walk_property as walk-property-lts

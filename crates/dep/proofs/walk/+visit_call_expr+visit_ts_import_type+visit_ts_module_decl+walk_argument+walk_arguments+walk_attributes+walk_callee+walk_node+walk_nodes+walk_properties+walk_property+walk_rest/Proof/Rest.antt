@@ -4,9 +4,11 @@ use Rattle.laws.proofs.Decoding.{onOk-no, built}
 use Rattle.sheet.specs.Tree.{other, object}
 use Rattle.sheet.specs.Shape.{anyUncooked}
 use Rattle.sheet.specs.Nodes.{many, piece, node, nodes, properties}
-use Rattle.dep.specs.Collect.{moduleEntry, noting}
-use Rattle.dep.specs.code.Walk.{typesFrom, writtenAs, afterNode, afterNodes, afterProperties}
-use Rattle.dep.proofs.Wrote.{entries-nil}
+use Rattle.dep_entries.specs.Entries.{moduleEntry}
+use Rattle.dep_entries.specs.code.Written.{typesFrom, writtenAs}
+use Rattle.dep_entries.proofs.Wrote.{entries-nil}
+use Rattle.dep.specs.Collect.{noting}
+use Rattle.dep.specs.code.Walk.{afterNode, afterNodes, afterProperties}
 use Rattle.dep.proofs.Arms.{leaf-holds, template-holds, binary-holds, module-holds, calls}
 use Rattle.dep.proofs.walk.walk_rest.Reads as walk-rest
 use Rattle.dep.proofs.walk.+visit_call_expr+visit_ts_import_type+visit_ts_module_decl+walk_argument+walk_arguments+walk_attributes+walk_callee+walk_node+walk_nodes+walk_properties+walk_property+walk_rest.Lts-walk_rest as walk-rest-lts

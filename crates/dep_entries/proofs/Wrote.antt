@@ -4,9 +4,9 @@ use Rattle.laws.proofs.Lists.{flatMap-append}
 use Rattle.report.specs.declared.writer.Pen.{Pen}
 use Rattle.report.specs.Encode.{encodeDependency}
 use Rattle.report.proofs.Buffers.{wrote-append, wrote-nil}
-use Rattle.dep.specs.Collect.{Noted}
-use Rattle.dep.specs.code.Notes.{noted, allNoted}
-use Rattle.dep.specs.code.Walk.{Written, writtenAs, wroteEntries}
+use Rattle.dep_entries.specs.Entries.{Noted}
+use Rattle.dep_entries.specs.code.Notes.{noted, allNoted}
+use Rattle.dep_entries.specs.code.Written.{Written, writtenAs, wroteEntries}
 
 noted-append : (notes : List ℕ) (l m : List Noted) → allNoted notes (l ++ m) ≡ allNoted (allNoted notes l) m
 noted-append notes [] m = refl

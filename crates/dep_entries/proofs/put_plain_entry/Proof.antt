@@ -1,7 +1,7 @@
 -- `put_plain_entry`: the entry with no attributes.
 use Rattle.laws.proofs.Prelude.{needs}
-use Rattle.dep.proofs.entries.put_plain_entry.Statement.{statement}
-use Rattle.dep.proofs.entries.put_plain_entry.Tie as tie
+use Rattle.dep_entries.proofs.put_plain_entry.Statement.{statement}
+use Rattle.dep_entries.proofs.put_plain_entry.Tie as tie
 
 returns : tie.Need-returns
 returns c = c .before .before .before .before .put-static-entry .ensures

@@ -7,8 +7,8 @@ use Rattle.report.specs.ModuleInfo.{StaticDependencyDescriptor, DynamicDependen
 use Rattle.report.specs.Encode.{encodeSpecifier, encodeRange, encodeArgument, encodeAttributes, encodeStatic, encodeDynamic, encodeDependency}
 use Rattle.report.specs.Buffer.{Buffer, wrote}
 use Rattle.report.proofs.Buffers.{wrote-append, wrote-cons}
-use Rattle.dep.specs.code.Notes.{noted}
-use Rattle.dep.specs.code.Walk.{wroteEntries}
+use Rattle.dep_entries.specs.code.Notes.{noted}
+use Rattle.dep_entries.specs.code.Written.{wroteEntries}
 
 -- five fields
 module _ (w : Buffer) (k : ℕ) (a b c d : List ℕ) where

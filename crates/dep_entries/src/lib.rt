@@ -51,9 +51,9 @@ ghost use Rattle.attributes.specs.Attributes.{typeAttributes, staticAttributes,
 ghost use Rattle.attributes.specs.code.Views.{attributesAs, AttributesWithin};
 ghost use Rattle.arguments.specs.Argument.{singleText, replacedIn};
 ghost use Rattle.arguments.specs.code.Views.{Stands, ArgumentWithin};
-ghost use Rattle.dep.specs.Collect.{importKind, exportKind, equalsKind, dynamicKind, callEntry, beside};
-ghost use Rattle.dep.specs.code.Notes.{noted};
-ghost use Rattle.dep.specs.code.Walk.{typesFrom, HeldIn, Quotes, writtenAs, wroteEntries, staticOf, dynamicOf, moduleOf, entryOfCall};
+ghost use Rattle.dep_entries.specs.Entries.{importKind, exportKind, equalsKind, dynamicKind, callEntry, beside};
+ghost use Rattle.dep_entries.specs.code.Notes.{noted};
+ghost use Rattle.dep_entries.specs.code.Written.{typesFrom, HeldIn, Quotes, writtenAs, wroteEntries, staticOf, dynamicOf, moduleOf, entryOfCall};
 
 // How many comments and groups the tables hold.
 pub struct Counts {

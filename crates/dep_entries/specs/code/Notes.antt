@@ -5,7 +5,7 @@ use mathlib.Core.List.{List, [], _∷_}
 use Prim.Native.Nat.{ℕ, _+_}
 use lib.Dec.{ltb}
 use lib.ListN.{length, set}
-use Rattle.dep.specs.Collect.{Noted}
+use Rattle.dep_entries.specs.Entries.{Noted}
 
 -- a row behind those that stand there
 unfoldable pub noted : List ℕ → ℕ → ℕ → List ℕ

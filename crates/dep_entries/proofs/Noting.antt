@@ -1,6 +1,6 @@
 -- A row stored behind those that are noted, or left out.
 use Rattle.laws.proofs.Prelude.{_≡_, refl, List, [], _∷_, ℕ, suc, _+_, _-_, _≤_, _<_, arith, add-one, length, getD, set, lt-ltb, le-ltb}
-use Rattle.dep.specs.code.Notes.{noted}
+use Rattle.dep_entries.specs.code.Notes.{noted}
 
 pub note-stored : (notes : List ℕ) (start number : ℕ) → getD notes 0 0 + 1 < length notes - 1
     → set (set (set notes (getD notes 0 0 + 1) start) (getD notes 0 0 + 2) number) 0 (getD notes 0 0 + 2) ≡ noted notes start number

@@ -1,7 +1,7 @@
 -- `put_types`: the parts of the table are in it.
 use Rattle.laws.proofs.Prelude.{needs, arith}
-use Rattle.dep.proofs.entries.put_types.Statement.{statement}
-use Rattle.dep.proofs.entries.put_types.Tie as tie
+use Rattle.dep_entries.proofs.put_types.Statement.{statement}
+use Rattle.dep_entries.proofs.put_types.Tie as tie
 
 part-comments-end : tie.Need-part-comments-end
 part-comments-end c = let room = c .before .before .before .pre .0 in omega arith

@@ -1,9 +1,9 @@
 -- `put_module_entry`: an entry if the String may be that of an augmentation.
 use Rattle.laws.proofs.Prelude.{needs, sym, now, known}
-use Rattle.dep.specs.Collect.{moduleEntry}
-use Rattle.dep.proofs.Wrote.{entries-nil}
-use Rattle.dep.proofs.entries.put_module_entry.Statement.{statement}
-use Rattle.dep.proofs.entries.put_module_entry.Tie as tie
+use Rattle.dep_entries.specs.Entries.{moduleEntry}
+use Rattle.dep_entries.proofs.Wrote.{entries-nil}
+use Rattle.dep_entries.proofs.put_module_entry.Statement.{statement}
+use Rattle.dep_entries.proofs.put_module_entry.Tie as tie
 
 returns : tie.Need-returns
 unfolding moduleEntry

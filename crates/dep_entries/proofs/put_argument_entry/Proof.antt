@@ -8,9 +8,9 @@ use Rattle.sheet.specs.Nodes.{many, node, arguments}
 use Rattle.sheet.specs.Shape.{shape}
 use Rattle.sheet_nodes.specs.code.Tallies.{nodeTally}
 use Rattle.arguments.specs.Argument.{argumentOf, singleText, replacedIn}
-use Rattle.dep.specs.Collect.{callEntry}
-use Rattle.dep.proofs.entries.put_argument_entry.Statement.{statement}
-use Rattle.dep.proofs.entries.put_argument_entry.Tie as tie
+use Rattle.dep_entries.specs.Entries.{callEntry}
+use Rattle.dep_entries.proofs.put_argument_entry.Statement.{statement}
+use Rattle.dep_entries.proofs.put_argument_entry.Tie as tie
 
 none-anywhere : (inner : Decoder Node) (source t : List ℕ) {u : List ℕ} {xs : Arguments} → arguments inner source 0 t ≡ ok xs u → (s : List ℕ) → arguments inner source 0 s ≡ ok xs s
 unfolding arguments many

@@ -3,12 +3,12 @@ use Rattle.laws.proofs.Prelude.{needs, sym, ap, _∙_, drop, now, told}
 use Rattle.sheet.specs.Nodes.{node}
 use Rattle.sheet_heads.proofs.FirstArgument.{first, no-first, no-arguments}
 use Rattle.arguments.specs.Argument.{replacedIn}
-use Rattle.dep.specs.Collect.{firstText, beside, callEntry}
-use Rattle.dep.specs.code.Walk.{typesFrom, writtenAs, wroteEntries}
-use Rattle.dep.proofs.Wrote.{entries-nil}
-use Rattle.dep.proofs.HeadSpans.{argument-spanned}
-use Rattle.dep.proofs.entries.put_call_entry.Statement.{statement}
-use Rattle.dep.proofs.entries.put_call_entry.Tie as tie
+use Rattle.dep_entries.specs.Entries.{firstText, beside, callEntry}
+use Rattle.dep_entries.specs.code.Written.{typesFrom, writtenAs, wroteEntries}
+use Rattle.dep_entries.proofs.Wrote.{entries-nil}
+use Rattle.dep_entries.proofs.ArgumentSpans.{argument-spanned}
+use Rattle.dep_entries.proofs.put_call_entry.Statement.{statement}
+use Rattle.dep_entries.proofs.put_call_entry.Tie as tie
 
 put-argument-entry-requires : tie.Need-put-argument-entry-requires
 put-argument-entry-requires c κs =

@@ -1,8 +1,8 @@
 -- `note`: the row is stored behind the others, and counted.
 use Rattle.laws.proofs.Prelude.{needs, arith, length-set, now}
-use Rattle.dep.proofs.Noting.{note-stored, note-left}
-use Rattle.dep.proofs.entries.note.Statement.{statement}
-use Rattle.dep.proofs.entries.note.Tie as tie
+use Rattle.dep_entries.proofs.Noting.{note-stored, note-left}
+use Rattle.dep_entries.proofs.note.Statement.{statement}
+use Rattle.dep_entries.proofs.note.Tie as tie
 
 slice-write-notes-2 : tie.Need-slice-write-notes-2
 slice-write-notes-2 c = simp length-set (omega arith)

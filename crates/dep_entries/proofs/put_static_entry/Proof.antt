@@ -6,12 +6,12 @@ use Rattle.report.specs.ModuleInfo as info
 use Rattle.report.specs.Range.{rangeOf}
 use Rattle.report.specs.Buffer.{bufferAs}
 use Rattle.attributes.specs.code.Views.{attributesAs}
-use Rattle.dep.specs.Collect.{staticEntry}
-use Rattle.dep.specs.code.Notes.{noted}
-use Rattle.dep.specs.code.Walk.{typesFrom}
-use Rattle.dep.proofs.Fields.{static-written}
-use Rattle.dep.proofs.entries.put_static_entry.Statement.{statement}
-use Rattle.dep.proofs.entries.put_static_entry.Tie as tie
+use Rattle.dep_entries.specs.Entries.{staticEntry}
+use Rattle.dep_entries.specs.code.Notes.{noted}
+use Rattle.dep_entries.specs.code.Written.{typesFrom}
+use Rattle.dep_entries.proofs.Fields.{static-written}
+use Rattle.dep_entries.proofs.put_static_entry.Statement.{statement}
+use Rattle.dep_entries.proofs.put_static_entry.Tie as tie
 
 part-index-end : tie.Need-part-index-end
 part-index-end c = c .before .before .before .before .before .before .pre .0 .0

@@ -1,8 +1,8 @@
 -- `put_with_entry`: the entry with the attributes that were read.
 use Rattle.laws.proofs.Prelude.{needs, ap, _∙_, now}
-use Rattle.dep.specs.code.Walk.{typesFrom, writtenAs, wroteEntries, staticOf}
-use Rattle.dep.proofs.entries.put_with_entry.Statement.{statement}
-use Rattle.dep.proofs.entries.put_with_entry.Tie as tie
+use Rattle.dep_entries.specs.code.Written.{typesFrom, writtenAs, wroteEntries, staticOf}
+use Rattle.dep_entries.proofs.put_with_entry.Statement.{statement}
+use Rattle.dep_entries.proofs.put_with_entry.Tie as tie
 
 returns : tie.Need-returns
 returns c =

@@ -1,7 +1,7 @@
 -- `import_kind`: by the flag, and by the phase.
 use Rattle.laws.proofs.Prelude.{needs}
-use Rattle.dep.proofs.entries.import_kind.Statement.{statement}
-use Rattle.dep.proofs.entries.import_kind.Tie as tie
+use Rattle.dep_entries.proofs.import_kind.Statement.{statement}
+use Rattle.dep_entries.proofs.import_kind.Tie as tie
 
 returns : tie.Need-returns
 returns c = rw (c .if1 .taken)

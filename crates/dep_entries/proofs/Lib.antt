@@ -1,0 +1,4 @@
+pub mod Wrote
+pub mod Noting
+pub mod ArgumentSpans
+pub mod Fields

@@ -1,19 +1,15 @@
 -- Rows that match nowhere before a character of a class. A longest run of the class before such a row goes back nowhere.
-use Rattle.laws.proofs.Prelude.{_≡_, refl, sym, _∙_, Bool, true, false, not, cond, _&&_, _||_, and-eq-true-iff, false≢true, List, [], _∷_, List·Memᴰ, List·Memᴰ·head, List·Memᴰ·tail, List·Memᴰ·not-nil, List·Memᴰ·cases-cons, ⊎-elim, ℕ, _+_, _-_, arith, eqb, drop, eqb-true}
+use Rattle.laws.proofs.Prelude.{_≡_, refl, sym, _∙_, Bool, true, false, not, cond, _&&_, _||_, and-eq-true-iff, false≢true, List, [], _∷_, List·Memᴰ}
+use Rattle.laws.proofs.Prelude.{List·Memᴰ·head, List·Memᴰ·tail, List·Memᴰ·not-nil, List·Memᴰ·cases-cons, ⊎-elim, ℕ, _+_, _-_, arith, eqb, drop, eqb-true}
 use mathlib.Core.Bool.{not-eq-not}
 use borrow.Author.Tests.{not-true}
-use Rattle.text.specs.declared.class.Class.{Class}
+use Rattle.text.specs.{declared.class.Class.Class, declared.utf8.Encoding.the-variants.Utf8, Ranges._to_, Ranges.within, Utf8.charAt}
 use Rattle.text.specs.declared.class.Class.the-variants.{White, NotWhite, Quote}
-use Rattle.text.specs.declared.utf8.Encoding.the-variants.{Utf8}
-use Rattle.text.specs.Ranges.{_to_, within}
-use Rattle.text.specs.Utf8.{charAt}
 use Rattle.text.specs.Class.{ranges, outside, member, classAt, runEnd}
-use Rattle.text.proofs.Members.{one-point, together}
-use Rattle.text.proofs.WithinRange.{within-iff}
-use Rattle.analysis.specs.declared.Capture.{Capture}
+use Rattle.text.proofs.{Members.one-point, Members.together, WithinRange.within-iff}
+use Rattle.analysis.specs.{declared.Capture.Capture, code.Matcher.BeginsWithAtSign}
 use Rattle.analysis.specs.Letters.{foldCase, letterAt, wordAt}
 use Rattle.analysis.specs.Row.{Row, word, one, longest, from, either, all}
-use Rattle.analysis.specs.code.Matcher.{BeginsWithAtSign}
 use Rattle.analysis.proofs.Ends.{only-longest}
 
 -- the row matches nowhere before a character of the class

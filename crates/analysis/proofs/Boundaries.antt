@@ -1,24 +1,15 @@
 -- In a well-formed body the place of what a finder captures begins and ends at character boundaries. It lies in the body, between marks where it is quoted.
-use Rattle.laws.proofs.Prelude.{_≡_, refl, sym, ap, _∙_, true, false, false≢true, List, [], _∷_, _++_, List·Memᴰ·cases-cons, inl, inr, ⊎-elim, ℕ, _+_, _-_, _≤_, add-zero, sub-zero, arith, length, getD, drop, getD-drop}
+use Rattle.laws.proofs.Prelude.{_≡_, refl, sym, ap, _∙_, true, false, false≢true, List, [], _∷_, _++_, List·Memᴰ·cases-cons, inl, inr, ⊎-elim, ℕ, _+_, _-_}
+use Rattle.laws.proofs.Prelude.{_≤_, add-zero, sub-zero, arith, length, getD, drop, getD-drop}
 use mathlib.Core.List.{List·Memᴰ·eq-of-singleton}
-use Rattle.text.specs.declared.class.Class.{Class}
-use Rattle.text.specs.declared.class.Class.the-variants.{Quote}
-use Rattle.text.specs.declared.utf8.Encoding.the-variants.{Utf8}
-use Rattle.text.specs.Utf8.{formed}
-use Rattle.text.specs.Encode.{encode}
-use Rattle.text.specs.Characters.{OneOf, Stands}
-use Rattle.text.specs.Position.{Boundary}
-use Rattle.text.specs.Bytes.{Mark}
+use Rattle.text.specs.{declared.class.Class.Class, declared.class.Class.the-variants.Quote, declared.utf8.Encoding.the-variants.Utf8, Utf8.formed}
+use Rattle.text.specs.{Encode.encode, Characters.OneOf, Characters.Stands, Position.Boundary, Bytes.Mark}
 use Rattle.text.proofs.Characters.{stands-length, stands-between}
-use Rattle.analysis.specs.declared.Capture.{Capture}
-use Rattle.analysis.specs.declared.Found.the-variants.{At}
+use Rattle.analysis.specs.{declared.Capture.Capture, declared.Found.the-variants.At, Place.placeOf, Place.Inside, Matches.Run, Matches.Matches}
 use Rattle.analysis.specs.Row.{Row, noCapture, find}
-use Rattle.analysis.specs.Place.{placeOf, Inside}
-use Rattle.analysis.specs.Matches.{Run, Matches}
-use Rattle.analysis.specs.Patterns.{quoted, quotedSome, bare, pathRow, typesRow, jsxImportSourceRow, jsxImportSourceTypesRow, sourceMappingUrlRow, tsSelfTypesRow, tsTypesRow, denoTypesRow}
-use Rattle.analysis.proofs.Apart.{quotes}
-use Rattle.analysis.proofs.Order.{run-onward}
-use Rattle.analysis.proofs.Preference.{found-preferred, preferred-reads}
+use Rattle.analysis.specs.Patterns.{quoted, quotedSome, bare, pathRow, typesRow, jsxImportSourceRow, jsxImportSourceTypesRow, sourceMappingUrlRow}
+use Rattle.analysis.specs.Patterns.{tsSelfTypesRow, tsTypesRow, denoTypesRow}
+use Rattle.analysis.proofs.{Apart.quotes, Order.run-onward, Preference.found-preferred, Preference.preferred-reads}
 use Rattle.analysis.proofs.Values.{EndsIn, attribute-value, jsx-value, source-value, pragma-value, deno-value, quoted-marks, some-marks, bare-marks}
 
 -- the place of what is captured begins and ends at character boundaries; the marks stand where they should
@@ -45,7 +36,8 @@ module _ (s : List ℕ) where
   mark-there : {at end : ℕ} → Stands (OneOf Quote) s at end → (end ≡ at + 1) × Mark (getD s at 0)
   unfolding encode
   mark-there {at} {end} x =
-      ⊎-elim (byte 0x22 refl (inl refl)) (λ m. byte 0x27 refl (inr refl) (List·Memᴰ·eq-of-singleton m)) (List·Memᴰ·cases-cons (quotes (x .piece .point) (x .piece .meets)))
+      ⊎-elim (byte 0x22 refl (inl refl)) (λ m. byte 0x27 refl (inr refl) (List·Memᴰ·eq-of-singleton m))
+      (List·Memᴰ·cases-cons (quotes (x .piece .point) (x .piece .meets)))
     where
       byte : (q : ℕ) → encode q ≡ q ∷ [] → Mark q → x .piece .point ≡ q → (end ≡ at + 1) × Mark (getD s at 0)
       byte q one m e =
@@ -64,7 +56,8 @@ module _ (s : List ℕ) (f : formed Utf8 0 s ≡ true) where
   runs (Run.more x r) b = runs r (stands-between s f x .1)
 
   -- a captured text with a mark before it and one behind it
-  marked : {at from to end : ℕ} → Stands (OneOf Quote) s at from → Stands (OneOf Quote) s to end → from ≤ to → Whole s (record { quoted = true; from = from; to = to })
+  marked : {at from to end : ℕ} → Stands (OneOf Quote) s at from → Stands (OneOf Quote) s to end → from ≤ to →
+      Whole s (record { quoted = true; from = from; to = to })
   unfolding placeOf
   marked {at} {from} {to} {end} x y o =
       let (e, m) = mark-there s x in
@@ -79,8 +72,7 @@ module _ (s : List ℕ) (f : formed Utf8 0 s ≡ true) where
 
   -- the values
   quoted-whole : {at end : ℕ} {k l : Capture} → Matches s quoted at end k l → Whole s l
-  quoted-whole (Matches.one x (Matches.from (Matches.longest run (Matches.to (Matches.one y Matches.done))))) =
-      marked x y (run-onward run)
+  quoted-whole (Matches.one x (Matches.from (Matches.longest run (Matches.to (Matches.one y Matches.done))))) = marked x y (run-onward run)
 
   some-whole : {at end : ℕ} {k l : Capture} → Matches s quotedSome at end k l → Whole s l
   some-whole (Matches.one x (Matches.from (Matches.one z (Matches.longest run (Matches.to (Matches.one y Matches.done)))))) =

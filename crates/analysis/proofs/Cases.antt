@@ -1,15 +1,14 @@
 -- Worked bodies of the ten patterns beside 01's, which stand in module_info. Each is its bytes before the captured text, that text, and the bytes behind it.
 use Rattle.laws.proofs.Prelude.{_≡_, refl, true, false, List, [], _∷_, _++_, map, flatMap, ℕ, _+_, length}
 use Rattle.laws.specs.Ascii.{ascii}
-use Rattle.text.specs.Ranges.{inRanges}
+use Rattle.text.specs.{Ranges.inRanges, Encode.encode}
 use Rattle.text.specs.Utf8.{admits, lengthBy, charLength, codeBy, charAt}
-use Rattle.text.specs.Encode.{encode}
 use Rattle.text.specs.Class.{ranges, outside, member, classAt}
-use Rattle.analysis.specs.declared.Found.{Found}
-use Rattle.analysis.specs.declared.Found.the-variants.{At, Nothing}
+use Rattle.analysis.specs.declared.Found.{Found, the-variants.At, the-variants.Nothing}
 use Rattle.analysis.specs.Letters.{foldCase, letterAt, wordAt}
 use Rattle.analysis.specs.Row.{Row, ends, all, noCapture, first, places, find}
-use Rattle.analysis.specs.Patterns.{tripleSlashRow, pathRow, typesRow, resolutionModeRow, jsxImportSourceRow, jsxImportSourceTypesRow, sourceMappingUrlRow, tsSelfTypesRow, tsTypesRow, denoTypesRow}
+use Rattle.analysis.specs.Patterns.{tripleSlashRow, pathRow, typesRow, resolutionModeRow, jsxImportSourceRow, jsxImportSourceTypesRow}
+use Rattle.analysis.specs.Patterns.{sourceMappingUrlRow, tsSelfTypesRow, tsTypesRow, denoTypesRow}
 
 -- what a pattern captures between marks, and without; what it matches, with nothing to capture, and what it does not match
 data Case : Type 0 where
@@ -47,7 +46,8 @@ table =
     ∷ missed tripleSlashRow (ascii " /<reference />")
     ∷ marked pathRow (ascii "/ <reference path='") (ascii "a.ts") (ascii "\" />")
     ∷ marked pathRow (ascii "/ <reference path=\"") [] (ascii "\" path=\"b\" />")
-    ∷ marked pathRow (ascii " xpath=\"a\"" ++ encode 0x2003 ++ ascii "PATH" ++ encode 0x3000 ++ ascii "=" ++ encode 0x85 ++ ascii "\"") (encode 0xE9) (ascii "\"")
+    ∷ marked pathRow
+    (ascii " xpath=\"a\"" ++ encode 0x2003 ++ ascii "PATH" ++ encode 0x3000 ++ ascii "=" ++ encode 0x85 ++ ascii "\"") (encode 0xE9) (ascii "\"")
     ∷ missed pathRow (ascii "path=\"a\"")
     ∷ missed pathRow (ascii " path=\"a")
     ∷ marked typesRow (ascii "/ <reference type" ++ encode 0x17F ++ ascii " = \"") (ascii "./a.d.ts") (ascii "\" />")
@@ -76,5 +76,6 @@ table =
     ∷ []
 
 worked : map (λ t. find (row t) (body t)) table ≡ map answer table
-unfolding table row body answer encode inRanges admits lengthBy charLength codeBy charAt ranges outside member classAt foldCase letterAt wordAt flatMap ends all first places find
+unfolding table row body answer encode inRanges admits lengthBy charLength codeBy charAt ranges outside member classAt foldCase letterAt wordAt flatMap ends
+    all first places find
 worked = refl

@@ -1,13 +1,12 @@
 -- The places where a run can end, from one character to the next. The last of them is where the longest run ends, and it is the only one that
 -- counts where what follows the run matches nowhere before it.
-use Rattle.laws.proofs.Prelude.{_≡_, refl, sym, ap, _∙_, List, [], _∷_, _++_, append-nil, flatMap, ℕ, zero, suc, _+_, _≤_, add-zero, not-suc-le-zero, le-of-suc-le-suc, arith, length, drop, length-drop, drop-drop}
+use Rattle.laws.proofs.Prelude.{_≡_, refl, sym, ap, _∙_, List, [], _∷_, _++_, append-nil, flatMap, ℕ, zero, suc, _+_, _≤_, add-zero, not-suc-le-zero}
+use Rattle.laws.proofs.Prelude.{le-of-suc-le-suc, arith, length, drop, length-drop, drop-drop}
 use mathlib.Core.List.{reverse, reverse-cons}
 use Rattle.laws.proofs.Lists.{flatMap-append}
-use Rattle.text.specs.declared.class.Class.{Class}
-use Rattle.text.specs.Class.{classAt, runEnd}
+use Rattle.text.specs.{declared.class.Class.Class, Class.classAt, Class.runEnd}
 use Rattle.text.proofs.Runs.{class-fits, run-stops, run-goes-on}
-use Rattle.analysis.specs.declared.Capture.{Capture}
-use Rattle.analysis.specs.Row.{ends, runEnds}
+use Rattle.analysis.specs.{declared.Capture.Capture, Row.ends, Row.runEnds}
 
 -- the bytes skipped are in the run
 skipped : (c : Class) (n : ℕ) (t : List ℕ) (at : ℕ) → n ≤ length t → ends c n t at ≡ ends c 0 (drop n t) (at + n)

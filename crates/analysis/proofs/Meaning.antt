@@ -1,11 +1,10 @@
 -- Each match of a row is among those in order of preference. So where the finder answers nothing, nothing matches.
-use Rattle.laws.proofs.Prelude.{_≡_, refl, sym, List, [], _∷_, flatMap, List·Memᴰ, List·Memᴰ·head, List·Memᴰ·tail, List·Memᴰ·not-nil, List·Memᴰ·cases-cons, _⊎_, inl, inr, ⊎-elim, ℕ, suc, _+_, _≤_, zero-le, arith, length, eq-eqb, ne-eqb}
+use Rattle.laws.proofs.Prelude.{_≡_, refl, sym, List, [], _∷_, flatMap, List·Memᴰ, List·Memᴰ·head, List·Memᴰ·tail, List·Memᴰ·not-nil, List·Memᴰ·cases-cons}
+use Rattle.laws.proofs.Prelude.{_⊎_, inl, inr, ⊎-elim, ℕ, suc, _+_, _≤_, zero-le, arith, length, eq-eqb, ne-eqb}
 use mathlib.Core.List.{reverse, reverseAux, reverse-reverse, List·Memᴰ·eq-of-singleton, Memᴰ·append-left, Memᴰ·append-right}
 use native.Mathlib.Nat.{eq-or-lt-of-le}
-use Rattle.text.specs.declared.class.Class.{Class}
-use Rattle.text.proofs.Characters.{one-stands, one-there}
-use Rattle.analysis.specs.declared.Capture.{Capture}
-use Rattle.analysis.specs.declared.Found.the-variants.{Nothing}
+use Rattle.text.{specs.declared.class.Class.Class, proofs.Characters.one-stands, proofs.Characters.one-there}
+use Rattle.analysis.specs.declared.{Capture.Capture, Found.the-variants.Nothing}
 use Rattle.analysis.specs.Row.{Row, runEnds, all, noCapture, first, places, find}
 use Rattle.analysis.specs.Matches.{Run, Matches, RowReading}
 use Rattle.analysis.proofs.Ends.{ends-begin, ends-stop, ends-go-on, by-characters}

@@ -1,10 +1,9 @@
 -- The number of a mode is 0, 1 or 2, and the code has a value for each mode.
 use Rattle.laws.proofs.Prelude.{_≡_, refl, _≤_, arith}
 use mathlib.Core.Option.{none, some}
-use Rattle.analysis.specs.declared.mode.ModeFound.{ModeFound}
+use Rattle.analysis.specs.{declared.mode.ModeFound.ModeFound, code.Mode.modeAs}
 use Rattle.analysis.specs.declared.mode.ModeFound.the-variants.{Nothing, Import, Require}
 use Rattle.analysis.specs.Mode.{import, require, Mode, modeNumber}
-use Rattle.analysis.specs.code.Mode.{modeAs}
 
 pub number-small : (m : Mode) → modeNumber m ≤ 2
 number-small none = omega arith

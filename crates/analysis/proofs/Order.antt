@@ -1,13 +1,10 @@
 -- Places in an order. Of the matches that they stand for, the first is that of one of them, and those before it have none.
-use Rattle.laws.proofs.Prelude.{_≡_, refl, List, [], _∷_, _++_, flatMap, List·Memᴰ, List·Memᴰ·head, List·Memᴰ·tail, List·Memᴰ·not-nil, List·Memᴰ·cases-cons, ⊎-elim, ℕ, suc, _+_, _≤_, _<_, arith, drop}
+use Rattle.laws.proofs.Prelude.{_≡_, refl, List, [], _∷_, _++_, flatMap, List·Memᴰ, List·Memᴰ·head, List·Memᴰ·tail, List·Memᴰ·not-nil, List·Memᴰ·cases-cons}
+use Rattle.laws.proofs.Prelude.{⊎-elim, ℕ, suc, _+_, _≤_, _<_, arith, drop}
 use mathlib.Core.List.{reverse, reverse-cons, List·Memᴰ·eq-of-singleton, List·Memᴰ·append-cases}
-use Rattle.text.specs.declared.class.Class.{Class}
-use Rattle.text.specs.Class.{classAt}
-use Rattle.text.proofs.Characters.{stands-length}
-use Rattle.analysis.specs.declared.Capture.{Capture}
-use Rattle.analysis.specs.declared.Found.the-variants.{At}
+use Rattle.text.{specs.declared.class.Class.Class, specs.Class.classAt, proofs.Characters.stands-length}
+use Rattle.analysis.specs.{declared.Capture.Capture, declared.Found.the-variants.At, Matches.Run}
 use Rattle.analysis.specs.Row.{runEnds, first, places}
-use Rattle.analysis.specs.Matches.{Run}
 use Rattle.analysis.proofs.Ends.{ends-stop, ends-go-on, by-characters}
 use Rattle.analysis.proofs.Meaning.{of-reverse, of-ends, of-places}
 

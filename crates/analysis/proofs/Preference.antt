@@ -1,14 +1,11 @@
 -- What is preferred, over all rows: it is a match, and one only; the first of the matches in order of preference is it. So the finder answers the
 -- preferred match, and nothing exactly where nothing matches.
-use Rattle.laws.proofs.Prelude.{_≡_, refl, sym, _∙_, Bool, true, false, cond, List, [], _∷_, _++_, List·Memᴰ·not-nil, ℕ, zero, suc, _+_, _<_, zero-le, arith, eqb, ltb, drop, eqb-true, ltb-true, ltb-false}
+use Rattle.laws.proofs.Prelude.{_≡_, refl, sym, _∙_, Bool, true, false, cond, List, [], _∷_, _++_, List·Memᴰ·not-nil, ℕ, zero, suc, _+_, _<_, zero-le}
+use Rattle.laws.proofs.Prelude.{arith, eqb, ltb, drop, eqb-true, ltb-true, ltb-false}
 use lib.Dec.{eqb·suc-zero}
-use Rattle.text.specs.Class.{classAt}
-use Rattle.text.proofs.Characters.{one-stands, one-there}
-use Rattle.analysis.specs.declared.matcher.Matched.{Matched}
+use Rattle.text.{specs.Class.classAt, proofs.Characters.one-stands, proofs.Characters.one-there}
+use Rattle.analysis.specs.declared.{matcher.Matched.Matched, Capture.Capture, Found.Found, Found.the-variants.At, Found.the-variants.Nothing}
 use Rattle.analysis.specs.declared.matcher.Matched.the-variants as matched
-use Rattle.analysis.specs.declared.Capture.{Capture}
-use Rattle.analysis.specs.declared.Found.{Found}
-use Rattle.analysis.specs.declared.Found.the-variants.{At, Nothing}
 use Rattle.analysis.specs.Letters.{behind, onMatch, wordAt}
 use Rattle.analysis.specs.Row.{Row, done, start, word, one, longest, shortest, from, to, either, runEnds, all, noCapture, first, find}
 use Rattle.analysis.specs.Matches.{Matches, RowReading}
@@ -117,7 +114,8 @@ module _ (s : List ℕ) where
   first-prefers (either a b) at k {l} e = go (all a s at k) refl (λ f. first-prefers a at k f) (λ f. first-prefers b at k f) e
     where
       go : (x : List Capture) → all a s at k ≡ x → (first (all a s at k) ≡ At l → (end : ℕ) × Prefers s a at end k l)
-          → (first (all b s at k) ≡ At l → (end : ℕ) × Prefers s b at end k l) → first (x ++ all b s at k) ≡ At l → (end : ℕ) × Prefers s (either a b) at end k l
+          → (first (all b s at k) ≡ At l → (end : ℕ) × Prefers s b at end k l) → first (x ++ all b s at k) ≡ At l →
+          (end : ℕ) × Prefers s (either a b) at end k l
       go [] i left right f = let (end, p) = right f in (end, Prefers.right (unmatched a at k i) p)
       go (x ∷ xs) i left right f = let (end, p) = left (rw i f) in (end, Prefers.left p)
 
@@ -138,7 +136,8 @@ module _ (r : Row) (s : List ℕ) where
 
   one-preferred : {k l : Capture} → Preferred r s k → Preferred r s l → k ≡ l
   one-preferred p q =
-      let same = one-place (p .at) (q .at) (λ h. q .leftmost (p .at) h _ _ (prefers-matches s (p .prefers))) (λ h. p .leftmost (q .at) h _ _ (prefers-matches s (q .prefers))) in
+      let same = one-place (p .at) (q .at) (λ h. q .leftmost (p .at) h _ _ (prefers-matches s (p .prefers)))
+      (λ h. p .leftmost (q .at) h _ _ (prefers-matches s (q .prefers))) in
       one-prefers s (p .prefers) (rw (← same) at (q .prefers)) .1
 
   pub preferred-reads : {k : Capture} → Preferred r s k → RowReading r s k

@@ -2,17 +2,15 @@
 use Rattle.laws.proofs.Prelude.{_≡_, refl, ap, _∙_, true, false, List, [], _∷_, flatMap, ℕ, _+_, _≤_, arith, length, drop, length-drop, eq-eqb}
 use Rattle.laws.specs.Ascii.{ascii}
 use Rattle.text.specs.declared.class.Class.the-variants.{White, NotWhite, WhiteOrStar, NotLf, Quote, NotQuote, SourceMark}
-use Rattle.text.specs.Ranges.{inRanges}
+use Rattle.text.{specs.Ranges.inRanges, proofs.Runs.class-fits}
 use Rattle.text.specs.Class.{ranges, outside, member, classAt, runEnd}
-use Rattle.text.proofs.Runs.{class-fits}
-use Rattle.analysis.specs.declared.matcher.Matched.{Matched}
-use Rattle.analysis.specs.declared.matcher.Matched.the-variants.{At, Not}
-use Rattle.analysis.specs.declared.Capture.{Capture}
+use Rattle.analysis.specs.declared.{matcher.Matched.Matched, matcher.Matched.the-variants.At, matcher.Matched.the-variants.Not, Capture.Capture}
 use Rattle.analysis.specs.declared.Found.the-variants as found
 use Rattle.analysis.specs.Letters.{foldCase, onMatch, wordAt}
 use Rattle.analysis.specs.Row.{Row, _▸_, oneAt, done, start, word, one, longest, to, either, all, noCapture, first, matchAt, find}
 use Rattle.analysis.specs.code.Matcher.{assignedAt, BeginsWithAtSign}
-use Rattle.analysis.specs.Patterns.{equals, quoted, quotedSome, bare, referenceEnd, tripleSlashRow, attributeRow, jsxRow, sourceMappingUrlRow, pragmaRow, denoTypesRow}
+use Rattle.analysis.specs.Patterns.{equals, quoted, quotedSome, bare, referenceEnd, tripleSlashRow, attributeRow, jsxRow, sourceMappingUrlRow}
+use Rattle.analysis.specs.Patterns.{pragmaRow, denoTypesRow}
 use Rattle.analysis.proofs.Ends.{ends-begin, ends-stop, ends-go-on, longest-last}
 use Rattle.analysis.proofs.Apart.{Apart, past-run, white-apart, quote-apart, word-apart, at-apart, either-apart, from-apart, to-apart}
 use Rattle.analysis.proofs.Search.{anchored}
@@ -126,8 +124,7 @@ module _ (s : List ℕ) where
   pub triple-slash-row : find tripleSlashRow s ≡ first (onMatch (wordAt (ascii "/") s 0) [] (λ e.
       onMatch (wordAt (ascii "<reference") s (runEnd White s e)) [] (λ d. onMatch (oneAt White s d) [] (λ b. all referenceEnd s b noCapture))))
   unfolding matchAt all
-  triple-slash-row =
-      anchored _ s ∙ ap first (on (wordAt (ascii "/") s 0) λ e. past-run (white-reference (one White ▸ referenceEnd)) s e noCapture)
+  triple-slash-row = anchored _ s ∙ ap first (on (wordAt (ascii "/") s 0) λ e. past-run (white-reference (one White ▸ referenceEnd)) s e noCapture)
 
   pub jsx-row : (w : List ℕ) → BeginsWithAtSign w → find (jsxRow w) s ≡ first (onMatch (wordAt w s (runEnd WhiteOrStar s 0)) [] (λ e.
       onMatch (oneAt White s e) [] (λ d. all bare s (runEnd White s d) noCapture)))

@@ -1,9 +1,8 @@
 -- The match in a body: that of an anchored row is the one at the start; else it is looked for from one place to the next.
-use Rattle.laws.proofs.Prelude.{_≡_, refl, ap, List, [], _∷_, _++_, append-nil, flatMap, ℕ, suc, _+_, _≤_, _<_, add-one, length, drop, drop-of-length-le, drop-cons}
+use Rattle.laws.proofs.Prelude.{_≡_, refl, ap, List, [], _∷_, _++_, append-nil, flatMap, ℕ, suc, _+_, _≤_, _<_, add-one, length, drop, drop-of-length-le}
+use Rattle.laws.proofs.Prelude.{drop-cons}
 use lib.Dec.{eqb·suc-zero}
-use Rattle.analysis.specs.declared.Capture.{Capture}
-use Rattle.analysis.specs.declared.Found.{Found}
-use Rattle.analysis.specs.declared.Found.the-variants.{At, Nothing}
+use Rattle.analysis.specs.declared.{Capture.Capture, Found.Found, Found.the-variants.At, Found.the-variants.Nothing}
 use Rattle.analysis.specs.Row.{Row, start, all, noCapture, first, matchAt, places, find}
 
 -- the first of two answers that is one

@@ -1,15 +1,11 @@
 -- A letter ends in the text, and a word goes on from one of its letters to the next. `wordAt` answers where the letters that `Spelled` asks for end.
-use Rattle.laws.proofs.Prelude.{_≡_, refl, cond, List, [], _∷_, ℕ, zero, suc, _+_, _≤_, _<_, add-zero, add-one, arith, eqb, length, getD, drop, drop-of-length-le, drop-cons, getD-drop, eqb-true, eq-eqb, ne-eqb}
+use Rattle.laws.proofs.Prelude.{_≡_, refl, cond, List, [], _∷_, ℕ, zero, suc, _+_, _≤_, _<_, add-zero, add-one, arith, eqb, length, getD, drop}
+use Rattle.laws.proofs.Prelude.{drop-of-length-le, drop-cons, getD-drop, eqb-true, eq-eqb, ne-eqb}
 use lib.Dec.{eqb·suc-zero}
-use Rattle.text.specs.declared.utf8.Encoding.the-variants.{Utf8}
-use Rattle.text.specs.Utf8.{codeBy, charAt}
-use Rattle.text.specs.Characters.{Stands}
-use Rattle.text.proofs.Ascii.{ascii-one}
-use Rattle.text.proofs.Formed.{fits-if}
-use Rattle.text.proofs.Characters.{stands-sound, stands-complete}
-use Rattle.analysis.specs.declared.matcher.Matched.the-variants.{At, Not}
+use Rattle.text.{specs.declared.utf8.Encoding.the-variants.Utf8, specs.Utf8.codeBy, specs.Utf8.charAt, specs.Characters.Stands, proofs.Ascii.ascii-one}
+use Rattle.text.proofs.{Formed.fits-if, Characters.stands-sound, Characters.stands-complete}
+use Rattle.analysis.specs.{declared.matcher.Matched.the-variants.At, declared.matcher.Matched.the-variants.Not, Matches.Letter, Matches.Spelled}
 use Rattle.analysis.specs.Letters.{foldCase, letterAt, behind, onMatch, wordAt}
-use Rattle.analysis.specs.Matches.{Letter, Spelled}
 
 -- a letter has no more bytes than the text
 pub letter-fits : (w : ℕ) (s : List ℕ) → letterAt w s ≤ length s
@@ -41,13 +37,11 @@ word-ends w s k at h = rw (drop-of-length-le w h)
 module _ (w : ℕ) (s : List ℕ) (at : ℕ) where
   letter-stands : (letterAt w (drop at s) ≡ 0 → ⊥) → Stands (Letter w) s at (at + letterAt w (drop at s))
   unfolding letterAt
-  letter-stands =
-      stands-sound (λ p. eqb (foldCase p) (foldCase w)) (λ p. (eqb-true (foldCase p) (foldCase w), eq-eqb (foldCase p) (foldCase w))) s at
+  letter-stands = stands-sound (λ p. eqb (foldCase p) (foldCase w)) (λ p. (eqb-true (foldCase p) (foldCase w), eq-eqb (foldCase p) (foldCase w))) s at
 
   letter-there : {end : ℕ} → Stands (Letter w) s at end → (letterAt w (drop at s) ≡ 0 → ⊥) × (end ≡ at + letterAt w (drop at s))
   unfolding letterAt
-  letter-there =
-      stands-complete (λ p. eqb (foldCase p) (foldCase w)) (λ p. (eqb-true (foldCase p) (foldCase w), eq-eqb (foldCase p) (foldCase w))) s at
+  letter-there = stands-complete (λ p. eqb (foldCase p) (foldCase w)) (λ p. (eqb-true (foldCase p) (foldCase w), eq-eqb (foldCase p) (foldCase w))) s at
 
 -- and a word
 pub word-spelled : (w s : List ℕ) (at : ℕ) {end : ℕ} → wordAt w s at ≡ At end → Spelled s w at end

@@ -1,8 +1,6 @@
 -- The value at which each row ends, and whether marks stand around what it captures.
 use Rattle.laws.proofs.Prelude.{_≡_, refl, true, false, _⊎_, inl, inr, List, ℕ}
-use Rattle.analysis.specs.declared.Capture.{Capture}
-use Rattle.analysis.specs.Row.{Row}
-use Rattle.analysis.specs.Matches.{Matches}
+use Rattle.analysis.specs.{declared.Capture.Capture, Row.Row, Matches.Matches}
 use Rattle.analysis.specs.Patterns.{quoted, quotedSome, bare, attributeRow, jsxRow, sourceMappingUrlRow, pragmaRow, denoTypesRow}
 
 module _ (s : List ℕ) where
@@ -18,14 +16,17 @@ module _ (s : List ℕ) where
     jsx-value (Matches.start _ (Matches.longest _ (Matches.word _ (Matches.one _ (Matches.longest {e = b} _ m))))) = (b, m)
 
     pub source-value : Matches s sourceMappingUrlRow at end k l → EndsIn bare end k l
-    source-value (Matches.start _ (Matches.one _ (Matches.longest _ (Matches.word _ (Matches.longest _ (Matches.word _ (Matches.longest {e = b} _ m))))))) = (b, m)
+    source-value (Matches.start _ (Matches.one _ (Matches.longest _ (Matches.word _ (Matches.longest _ (Matches.word _ (Matches.longest {e = b} _ m))))))) =
+        (b, m)
 
     pub pragma-value : {w : List ℕ} → Matches s (pragmaRow w) at end k l → EndsIn quotedSome end k l
     pragma-value (Matches.start _ (Matches.longest _ (Matches.word _ (Matches.longest _ (Matches.word _ (Matches.longest {e = b} _ m)))))) = (b, m)
 
     pub deno-value : Matches s denoTypesRow at end k l → EndsIn quotedSome end k l ⊎ EndsIn bare end k l
-    deno-value (Matches.start _ (Matches.longest _ (Matches.word _ (Matches.longest _ (Matches.word _ (Matches.longest {e = b} _ (Matches.left m))))))) = inl (b, m)
-    deno-value (Matches.start _ (Matches.longest _ (Matches.word _ (Matches.longest _ (Matches.word _ (Matches.longest {e = b} _ (Matches.right m))))))) = inr (b, m)
+    deno-value (Matches.start _ (Matches.longest _ (Matches.word _ (Matches.longest _ (Matches.word _ (Matches.longest {e = b} _ (Matches.left m))))))) =
+        inl (b, m)
+    deno-value (Matches.start _ (Matches.longest _ (Matches.word _ (Matches.longest _ (Matches.word _ (Matches.longest {e = b} _ (Matches.right m))))))) =
+        inr (b, m)
 
   -- the values
   pub quoted-marks : {at end : ℕ} {k l : Capture} → Matches s quoted at end k l → l .quoted ≡ true

@@ -2,18 +2,13 @@
 use Rattle.laws.proofs.Prelude.{_≡_, refl, List, [], _∷_, _++_, map, Option, ℕ, length}
 use Rattle.laws.specs.Decoded.{Decoded, ok, onOk}
 use Rattle.laws.specs.Ascii.{ascii}
-use Rattle.text.specs.Bytes.{begins}
+use Rattle.text.specs.{Bytes.begins, Lossy.replacing, Position.isBoundary}
 use Rattle.text.specs.Utf8.{admits, lengthBy, charLength, formed}
-use Rattle.text.specs.Lossy.{replacing}
-use Rattle.text.specs.Position.{isBoundary}
 use Rattle.wire.specs.Fields.{byte, below, flag, bytes}
 use Rattle.wire.specs.Number.{lastGroup, groups, number}
-use Rattle.wire.specs.Text.{count, text}
-use Rattle.wire.specs.Optional.{optional}
-use Rattle.sheet.specs.Limits.{depthLimit}
+use Rattle.wire.specs.{Text.count, Text.text, Optional.optional}
+use Rattle.sheet.specs.{Limits.depthLimit, Comments.enclosed, Quotation.looksQuoted}
 use Rattle.sheet.specs.Fields.{position, endFrom, span}
-use Rattle.sheet.specs.Comments.{enclosed}
-use Rattle.sheet.specs.Quotation.{looksQuoted}
 use Rattle.sheet.specs.Nodes.{many, tag, piece, nodes, stringText, stringFields, nameFields, templateFields, binaryFields, fields, node}
 use Rattle.report.specs.ModuleInfo.{DynamicArgument, expr, string, template}
 use Rattle.arguments.specs.Argument.{chain, argumentOf}
@@ -67,6 +62,7 @@ cases =
     ∷ []
 
 as-stated : map (λ x. (x .0, onOk argumentOf (node (ascii "\"\"") depthLimit (x .0)))) cases ≡ cases
-unfolding byte below flag bytes lastGroup groups number count text admits lengthBy charLength formed replacing begins enclosed looksQuoted isBoundary position endFrom span many tag optional piece nodes stringText stringFields
+unfolding byte below flag bytes lastGroup groups number count text admits lengthBy charLength formed replacing begins enclosed looksQuoted isBoundary
+    position endFrom span many tag optional piece nodes stringText stringFields
     nameFields templateFields binaryFields fields node chain argumentOf
 as-stated = refl

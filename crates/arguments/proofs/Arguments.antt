@@ -1,11 +1,9 @@
 -- The argument that an expression is, from what was read of it.
 use Rattle.laws.proofs.Prelude.{_≡_, refl, List, Option, ℕ}
 use Rattle.laws.specs.Decoded.{Decoder}
-use Rattle.text.specs.Lossy.{lossy, replaced}
-use Rattle.text.specs.Bytes.{part}
+use Rattle.text.specs.{Lossy.lossy, Lossy.replaced, Bytes.part}
 use Rattle.wire.specs.declared.Cursor.{Cursor}
-use Rattle.sheet.specs.Tree.{Node}
-use Rattle.sheet.specs.Shape.{shape}
+use Rattle.sheet.specs.{Tree.Node, Shape.shape}
 use Rattle.report.specs.ModuleInfo as info
 use Rattle.arguments.specs.Argument.{ofPieces, chain, ofChain, argumentOf, onePiece, singleText, replacedIn}
 use Rattle.arguments.specs.code.Views.{IsString, IsTemplate, IsPlus}

@@ -1,20 +1,12 @@
 -- The parts of a chain of pluses, from what was read of its expression.
 use Rattle.laws.proofs.Prelude.{_≡_, refl, sym, ap, _∙_, List, [], _∷_, _++_, append-nil, flatMap, Option, ℕ, _+_, arith, length, drop, length-append}
 use Rattle.laws.specs.Decoded.{Decoded, ok, no, onOk, Decoder}
-use Rattle.laws.proofs.Lists.{flatMap-append}
-use Rattle.laws.proofs.Decoding.{refused, same-rest}
-use Rattle.text.specs.Lossy.{lossy}
-use Rattle.text.specs.Bytes.{part}
-use Rattle.wire.specs.declared.Cursor.{Cursor}
-use Rattle.wire.specs.Text.{encodeText}
-use Rattle.wire.specs.Optional.{encodeOptional}
-use Rattle.sheet.specs.Tree.{Node}
-use Rattle.sheet.specs.Shape.{shape}
-use Rattle.sheet_nodes.specs.declared.tally.NodeTally.{NodeTally}
-use Rattle.sheet_nodes.specs.code.Tallies.{nodeTally}
-use Rattle.report.specs.ModuleInfo.{DynamicTemplatePart}
-use Rattle.report.specs.Buffer.{Buffer, wrote}
-use Rattle.report.proofs.Buffers.{wrote-append}
+use Rattle.laws.proofs.{Lists.flatMap-append, Decoding.refused, Decoding.same-rest}
+use Rattle.text.specs.{Lossy.lossy, Bytes.part}
+use Rattle.wire.specs.{declared.Cursor.Cursor, Text.encodeText, Optional.encodeOptional}
+use Rattle.sheet.specs.{Tree.Node, Shape.shape}
+use Rattle.sheet_nodes.specs.{declared.tally.NodeTally.NodeTally, code.Tallies.nodeTally}
+use Rattle.report.{specs.ModuleInfo.DynamicTemplatePart, specs.Buffer.Buffer, specs.Buffer.wrote, proofs.Buffers.wrote-append}
 use Rattle.arguments.specs.declared.bin.Parts.the-variants as parts
 use Rattle.arguments.specs.Argument.{operand, appended, chain}
 use Rattle.arguments.specs.code.Views.{encodeParts, IsString, IsTemplate, IsPlus, Counted, count, unknown, partsAs, counted}

@@ -2,26 +2,19 @@
 use Rattle.laws.proofs.Prelude.{_≡_, refl, Bool, true, false, List, [], _∷_, Option, ℕ, _-_, _+_, arith, drop, seen}
 use types.Run.{OneOf, miss}
 use denote.Enum.Declared.{tagOf}
-use Rattle.laws.specs.Decoded.{ok}
-use Rattle.laws.proofs.Decoding.{then-ok}
+use Rattle.laws.{specs.Decoded.ok, proofs.Decoding.then-ok}
 use Rattle.wire.specs.declared.Cursor.{Cursor}
-use Rattle.sheet.specs.declared.fields.Span.{Span}
-use Rattle.sheet.specs.Tree.{Node, other, string, name, template, binary, object, importCall, call, importDecl, namedExport, exportFrom, exportAll, importType, importEquals, importRequire, moduleDecl}
+use Rattle.sheet.specs.{declared.fields.Span.Span, Shape.anything, Shape.shape}
+use Rattle.sheet.specs.Tree.{Node, other, string, name, template, binary, object, importCall, call, importDecl, namedExport, exportFrom, exportAll}
+use Rattle.sheet.specs.Tree.{importType, importEquals, importRequire, moduleDecl}
 use Rattle.sheet.specs.Nodes.{many, piece, nodes, node}
-use Rattle.sheet.specs.Shape.{anything, shape}
-use Rattle.sheet_heads.specs.declared.node.Head.{Head}
+use Rattle.sheet_heads.specs.{declared.node.Head.Head, declared.node.HeadRead.HeadRead, code.Rest.rest, code.Views.headOf, code.Views.headAs}
 use Rattle.sheet_heads.specs.declared.node.Head.the-variants as head
-use Rattle.sheet_heads.specs.declared.node.HeadRead.{HeadRead}
 use Rattle.sheet_heads.specs.declared.node.HeadRead.the-variants as headRead
 use Rattle.sheet_heads.specs.code.Head as heads
-use Rattle.sheet_heads.specs.code.Rest.{rest}
-use Rattle.sheet_heads.specs.code.Views.{headOf, headAs}
-use Rattle.sheet_heads.proofs.ByHead.{behind-head}
-use Rattle.sheet_heads.proofs.Shapes.{shape-by-head}
-use Rattle.sheet_heads.proofs.node.Head.{the-type}
+use Rattle.sheet_heads.proofs.{ByHead.behind-head, Shapes.shape-by-head, node.Head.the-type}
 use Rattle.arguments.specs.declared.expression.Expression.the-variants as expression
-use Rattle.arguments.specs.Argument.{chain, argumentOf}
-use Rattle.arguments.specs.code.Views.{Unknown, ExpressionIs}
+use Rattle.arguments.specs.{Argument.chain, Argument.argumentOf, code.Views.Unknown, code.Views.ExpressionIs}
 
 -- the variants besides String, Template and Binary
 abbrev others : List ℕ

@@ -1,16 +1,10 @@
 -- Pieces of a template read one after the other, and the parts that they give.
-use Rattle.laws.proofs.Prelude.{_≡_, refl, sym, ap, _∙_, Bool, true, false, List, [], _∷_, _++_, append-nil, Option, ℕ, zero, suc, _+_, _-_, _≤_, _<_, arith, ltb, length, length-take, length-drop, lt-ltb}
-use Rattle.laws.specs.Decoded.{ok}
-use Rattle.laws.proofs.Decoding.{then-ok}
-use Rattle.text.specs.declared.utf8.Encoding.the-variants.{Wtf8}
-use Rattle.text.specs.Lossy.{lossy}
-use Rattle.text.specs.Bytes.{part}
-use Rattle.text.specs.Truth.{one}
-use Rattle.wire.specs.Text.{text}
-use Rattle.wire.specs.Optional.{optional}
-use Rattle.sheet.specs.Limits.{textLimit}
-use Rattle.sheet.specs.Tree.{Pieces}
-use Rattle.sheet.specs.Nodes.{many, piece}
+use Rattle.laws.proofs.Prelude.{_≡_, refl, sym, ap, _∙_, Bool, true, false, List, [], _∷_, _++_, append-nil, Option, ℕ, zero, suc, _+_, _-_, _≤_, _<_}
+use Rattle.laws.proofs.Prelude.{arith, ltb, length, length-take, length-drop, lt-ltb}
+use Rattle.laws.{specs.Decoded.ok, proofs.Decoding.then-ok}
+use Rattle.text.specs.{declared.utf8.Encoding.the-variants.Wtf8, Lossy.lossy, Bytes.part, Truth.one}
+use Rattle.wire.specs.{Text.text, Optional.optional}
+use Rattle.sheet.specs.{Limits.textLimit, Tree.Pieces, Nodes.many, Nodes.piece}
 use Rattle.sheet_heads.proofs.Many.{many-first, many-next, many-end}
 use Rattle.report.specs.ModuleInfo as info
 use Rattle.arguments.specs.code.Views.{holeParts}
@@ -41,11 +35,13 @@ next-parts p (suc (suc k)) t {ps} {u} h e =
     let (q, qs, v, others, is) = some-piece (suc (suc k) - 1) t (omega arith) e in
     by-first q qs is
   where
-    by-first : (q : Option (List ℕ)) (qs : Pieces) → q ∷ qs ≡ ps → templateParts (p ∷ ps) ≡ pieceParts p ++ (holeParts (ltb 1 (suc (suc k))) ++ templateParts ps)
+    by-first : (q : Option (List ℕ)) (qs : Pieces) → q ∷ qs ≡ ps →
+        templateParts (p ∷ ps) ≡ pieceParts p ++ (holeParts (ltb 1 (suc (suc k))) ++ templateParts ps)
     by-first q qs is = rw (← is, lt-ltb 1 (suc (suc k)) (omega arith))
 
 -- the first of so many pieces, and the others
-pub piece-next : (left : ℕ) (s : List ℕ) {p : Option (List ℕ)} {t : List ℕ} {ps : Pieces} {u : List ℕ} → 0 < left → piece s ≡ ok (p ∷_) t → many [] piece left s ≡ ok ps u
+pub piece-next : (left : ℕ) (s : List ℕ) {p : Option (List ℕ)} {t : List ℕ} {ps : Pieces} {u : List ℕ} → 0 < left → piece s ≡ ok (p ∷_) t →
+    many [] piece left s ≡ ok ps u
     → (qs : Pieces) × (many [] piece (left - 1) t ≡ ok qs u) × (templateParts ps ≡ pieceParts p ++ (holeParts (ltb 1 left) ++ templateParts qs))
 piece-next left s {p} {t} h e f =
     let (qs, behind, is) = many-next [] piece left s h e f in

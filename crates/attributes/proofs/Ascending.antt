@@ -1,11 +1,9 @@
 -- Keys in the order of their bytes, and a pair put in its place among them.
-use Rattle.laws.proofs.Prelude.{_≡_, refl, sym, ap, _∙_, Bool, true, false, cond, _⊎_, inl, inr, ⊎-elim, _↔_, List, [], _∷_, List·Memᴰ, List·Memᴰ·head, List·Memᴰ·tail, List·Memᴰ·not-nil, List·Memᴰ·cases-cons, ℕ, _<_, arith, ltb, ltb-true, ltb-false, lt-ltb, le-ltb}
-use Rattle.text.specs.declared.bytes.Order.{Order}
+use Rattle.laws.proofs.Prelude.{_≡_, refl, sym, ap, _∙_, Bool, true, false, cond, _⊎_, inl, inr, ⊎-elim, _↔_, List, [], _∷_, List·Memᴰ, List·Memᴰ·head}
+use Rattle.laws.proofs.Prelude.{List·Memᴰ·tail, List·Memᴰ·not-nil, List·Memᴰ·cases-cons, ℕ, _<_, arith, ltb, ltb-true, ltb-false, lt-ltb, le-ltb}
+use Rattle.text.{specs.declared.bytes.Order.Order, specs.Bytes.order, proofs.Words.order-flips, proofs.Words.order-same}
 use Rattle.text.specs.declared.bytes.Order.the-variants.{Less, Equal, Greater}
-use Rattle.text.specs.Bytes.{order}
-use Rattle.text.proofs.Words.{order-flips, order-same}
-use Rattle.report.specs.Ascending.{Ascends}
-use Rattle.report.specs.ModuleInfo.{KeyValue}
+use Rattle.report.specs.{Ascending.Ascends, ModuleInfo.KeyValue}
 use Rattle.attributes.specs.Attributes.{placed, insert}
 
 -- ---- the order
@@ -65,7 +63,8 @@ unfolding insert
 insert-member a [] h b = (λ m. ⊎-elim inl (λ i. absurd (List·Memᴰ·not-nil i)) (List·Memᴰ·cases-cons m), ⊎-elim List·Memᴰ·head (λ (i, n). List·Memᴰ·tail i))
 insert-member a (c ∷ l) h b = by-order (order (a .key) (c .key)) refl (insert-member a l (h .1) b)
   where
-    by-order : (o : Order) → order (a .key) (c .key) ≡ o → List·Memᴰ b (insert a l) ↔ InsertedIs a l b → List·Memᴰ b (placed o a c l (insert a l)) ↔ InsertedIs a (c ∷ l) b
+    by-order : (o : Order) → order (a .key) (c .key) ≡ o → List·Memᴰ b (insert a l) ↔ InsertedIs a l b →
+        List·Memᴰ b (placed o a c l (insert a l)) ↔ InsertedIs a (c ∷ l) b
     by-order Less e k = (
       λ m. ⊎-elim inl (λ i. inr (i, λ j. later i (sym j))) (List·Memᴰ·cases-cons m),
       ⊎-elim List·Memᴰ·head (λ (i, n). List·Memᴰ·tail i),
@@ -108,7 +107,8 @@ pub record HasKey (k : List ℕ) (l : List KeyValue) : Type 0 where
 
 pub insert-keys : (a : KeyValue) (l : List KeyValue) → Ascends l → (k : List ℕ) → HasKey k (insert a l) ↔ ((a .key ≡ k) ⊎ HasKey k l)
 insert-keys a l h k = (
-  λ q. ⊎-elim (λ i. inl (sym (ap (λ (b : KeyValue). b .key) i) ∙ q .its-key)) (λ (i, n). inr (record { pair = q .pair; among = i; its-key = q .its-key })) (insert-member a l h (q .pair) .0 (q .among)),
+  λ q. ⊎-elim (λ i. inl (sym (ap (λ (b : KeyValue). b .key) i) ∙ q .its-key)) (λ (i, n). inr (record { pair = q .pair; among = i; its-key = q .its-key }))
+      (insert-member a l h (q .pair) .0 (q .among)),
   ⊎-elim own (λ q. by-order q (order (q .pair .key) (a .key)) refl),
 )
   where

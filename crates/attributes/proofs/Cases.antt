@@ -2,14 +2,13 @@
 use Rattle.laws.proofs.Prelude.{_≡_, refl, true, false, List, [], _∷_, map, Option, ℕ}
 use Prim.Native.String.{String}
 use Rattle.laws.specs.Ascii.{ascii}
-use Rattle.text.specs.Bytes.{same, order}
-use Rattle.text.specs.Lossy.{surrogates}
-use Rattle.text.specs.Utf8.{admits}
+use Rattle.text.specs.{Bytes.same, Bytes.order, Lossy.surrogates, Utf8.admits}
 use Rattle.sheet.specs.declared.fields.Span.{Span}
 use Rattle.sheet.specs.Tree.{Node, other, string, object, Arguments, noArguments, argument, Properties, noProperties, spread, stringKey, nameKey, withObject}
 use Rattle.sheet.specs.Tree as tree
 use Rattle.report.specs.ModuleInfo.{KeyValue, ImportAttributes, none, unknown, known}
-use Rattle.attributes.specs.Attributes.{insert, props, staticPairs, staticAttributes, objectAttributes, typeAttributes, argumentProperties, dynamicAttributes}
+use Rattle.attributes.specs.Attributes.{insert, props, staticPairs, staticAttributes, objectAttributes, typeAttributes, argumentProperties}
+use Rattle.attributes.specs.Attributes.{dynamicAttributes}
 
 abbrev sp : Span
 sp = record { start = 0; end = 0 }

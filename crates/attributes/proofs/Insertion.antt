@@ -2,8 +2,7 @@
 use Rattle.laws.proofs.Prelude.{_≡_, sym, _∙_, List, _∷_, _++_, append-assoc, ℕ, _+_, _-_, _≤_, _<_, sub-zero, arith}
 use Rattle.text.specs.declared.bytes.Order.the-variants.{Less, Equal, Greater}
 use Rattle.text.specs.Bytes.{order}
-use Rattle.sheet.specs.code.Tables.{rows}
-use Rattle.sheet.proofs.TableRows.{rows-first, rows-end}
+use Rattle.sheet.{specs.code.Tables.rows, proofs.TableRows.rows-first, proofs.TableRows.rows-end}
 use Rattle.report.specs.ModuleInfo.{KeyValue}
 use Rattle.attributes.specs.Attributes.{insert}
 use Rattle.attributes.specs.code.Views.{pairIn, pairsFrom, pairsIn, opened, replaced}

@@ -7,7 +7,8 @@ use Rattle.report.specs.ModuleInfo.{ImportAttributes}
 use Rattle.attributes.specs.Attributes.{Prop, keyed, objectAttributes, ofObject, onKnown, isAttributesKey, argumentProperties}
 
 module _ (hadWith : Bool) (found : ImportAttributes) (k : List ℕ) (v : Shape) (es : List Prop) where
-  pub attributes-key : {isWith : Bool} {a : ImportAttributes} → isAttributesKey hadWith k ≡ true → isWith ≡ same k (ascii "with") → a ≡ ofObject (objectAttributes []) v
+  pub attributes-key : {isWith : Bool} {a : ImportAttributes} → isAttributesKey hadWith k ≡ true → isWith ≡ same k (ascii "with") →
+      a ≡ ofObject (objectAttributes []) v
       → argumentProperties hadWith found (keyed k v ∷ es) ≡ onKnown (λ found′. argumentProperties isWith found′ es) a
   unfolding argumentProperties
   attributes-key e f g = rw (e, f, g)

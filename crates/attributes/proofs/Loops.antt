@@ -5,8 +5,7 @@ use Rattle.laws.proofs.Decoding.{refused, onOk-ok}
 use Rattle.sheet.specs.Tree.{Node, Properties, noProperties}
 use Rattle.sheet.specs.Nodes.{many, propertyItem, properties}
 use Rattle.sheet_heads.proofs.Many.{many-next, found, found-step, found-stop, found-end}
-use Rattle.attributes.specs.Attributes.{Prop, props}
-use Rattle.attributes.specs.code.Views.{SeenAs}
+use Rattle.attributes.specs.{Attributes.Prop, Attributes.props, code.Views.SeenAs}
 
 -- `after w es` is the answer, where w was found before the properties es
 module _ {W R : Type 0} (after : W → List Prop → R) (inner : Decoder Node) where
@@ -20,12 +19,16 @@ module _ {W R : Type 0} (after : W → List Prop → R) (inner : Decoder Node) w
   pub begins : (w : W) (k : ℕ) (s : List ℕ) → Going w k s w k s
   begins w k s = record { rest = refl }
 
-module _ {W R : Type 0} {after : W → List Prop → R} {inner : Decoder Node} {w₀ : W} {k₀ : ℕ} {s₀ : List ℕ} {w : W} {k : ℕ} {s : List ℕ} (g : Going after inner w₀ k₀ s₀ w k s) where
+module _ {W R : Type 0} {after : W → List Prop → R} {inner : Decoder Node} {w₀ : W} {k₀ : ℕ} {s₀ : List ℕ} {w : W} {k : ℕ} {s : List ℕ}
+    (g : Going after inner w₀ k₀ s₀ w k s) where
   -- one more
   pub goes-on : {u : List ℕ} {e : Prop} → 0 < k → SeenAs inner s u e → {w′ : W} → ((es : List Prop) → after w (e ∷ es) ≡ after w′ es)
       → Going after inner w₀ k₀ s₀ w′ (k - 1) u
   goes-on h x {w′} f =
-      record { rest = g .rest ∙ found-step (λ w ps. after w (props ps)) noProperties (propertyItem inner) w w′ k s h (x .item) (λ ps. ap (after w) (x .sees ps) ∙ f (props ps)) }
+      record {
+        rest = g .rest ∙
+            found-step (λ w ps. after w (props ps)) noProperties (propertyItem inner) w w′ k s h (x .item) (λ ps. ap (after w) (x .sees ps) ∙ f (props ps));
+      }
 
   module _ (ps : Properties) (t : List ℕ) (e : properties inner k₀ s₀ ≡ ok ps t) where
     all : from after inner w k s ≡ ok (after w₀ (props ps)) t

@@ -2,13 +2,10 @@
 use Rattle.laws.proofs.Prelude.{_≡_, sym, ap, _∙_, Bool, false, cond, List, ℕ, _-_, _<_}
 use Rattle.laws.specs.Decoded.{ok, no, Decoder, return}
 use Rattle.laws.proofs.Decoding.{refused, then-ok}
-use Rattle.sheet.specs.declared.fields.Span.{Span}
+use Rattle.sheet.specs.{declared.fields.Span.Span, Shape.shape}
 use Rattle.sheet.specs.Tree.{Node, Arguments, Properties, Attributes, withObject}
 use Rattle.sheet.specs.Nodes.{arguments, properties, node, attributesObject}
-use Rattle.sheet.specs.Shape.{shape}
-use Rattle.sheet_heads.specs.code.Parts.{argumentHead, attributesHead}
-use Rattle.sheet_heads.proofs.ByHead.{attributes-by-head}
-use Rattle.sheet_heads.proofs.FirstArgument.{first}
+use Rattle.sheet_heads.{specs.code.Parts.argumentHead, specs.code.Parts.attributesHead, proofs.ByHead.attributes-by-head, proofs.FirstArgument.first}
 use Rattle.report.specs.ModuleInfo.{none, unknown}
 use Rattle.attributes.specs.Attributes.{ofObject, argumentProperties, dynamicAttributes}
 
@@ -16,7 +13,8 @@ module _ (source : List ℕ) (levels : ℕ) (u : List ℕ) {a : Attributes} {t :
   pub behind-attributes : {sp : Span} {n : ℕ} {w : List ℕ} → attributesHead source levels u ≡ ok (sp, n) w
       → (ps : Properties) × (properties (node source (levels - 1)) n w ≡ ok ps t) × (withObject sp ps ≡ a)
   behind-attributes {sp} {n} {w} f =
-      let (ps, v, x, y) = then-ok (properties (node source (levels - 1)) n w) (λ ps. return (withObject sp ps)) (rw f at (sym (attributes-by-head source levels u) ∙ e)) in
+      let (ps, v, x, y) = then-ok (properties (node source (levels - 1)) n w) (λ ps. return (withObject sp ps))
+      (rw f at (sym (attributes-by-head source levels u) ∙ e)) in
       (ps, cc, cc)
 
   pub no-attributes : {r : ℕ} → attributesHead source levels u ≡ no r → ⊥

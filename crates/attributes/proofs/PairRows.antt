@@ -1,5 +1,6 @@
 -- Pairs in the rows of a table: one stored, and the others moved up by one row.
-use Rattle.laws.proofs.Prelude.{_≡_, refl, ap, _∙_, Bool, true, false, cond, List, [], _∷_, _++_, append-assoc, ℕ, _+_, _-_, _*_, _≤_, _<_, arith, eqb, length, eqb-true}
+use Rattle.laws.proofs.Prelude.{_≡_, refl, ap, _∙_, Bool, true, false, cond, List, [], _∷_, _++_, append-assoc, ℕ, _+_, _-_, _*_, _≤_, _<_, arith, eqb}
+use Rattle.laws.proofs.Prelude.{length, eqb-true}
 use mathlib.Core.Path.{ap₂}
 use lib.Seq.{sets}
 use borrow.Author.Tests.{eqb-false}
@@ -71,7 +72,8 @@ module _ (t : List ℕ) (k : ℕ) (p : Pair) (fits : 5 * k + 5 ≤ length t) {t�
     pub stored-carries : (n : ℕ) → k < n → opened s t′ n (pairIn s t k) (k + 1) ≡ opened s t n (pairAs s p) k
     stored-carries n h =
         let down : n - k - 1 ≡ n - (k + 1) = omega arith in
-        rw (front, rest (n - (k + 1)), rows-first (pairIn s t) k (n - k) (omega arith), down) (append-assoc (pairsIn s t k) (pairAs s p ∷ []) (pairIn s t k ∷ pairsFrom s t (k + 1) (n - (k + 1))))
+        rw (front, rest (n - (k + 1)), rows-first (pairIn s t) k (n - k) (omega arith), down)
+        (append-assoc (pairsIn s t k) (pairAs s p ∷ []) (pairIn s t k ∷ pairsFrom s t (k + 1) (n - (k + 1))))
 
   -- the texts stay within the sheet
   pub stored-within : (m j : ℕ) → ((j ≡ k → ⊥) → PairWithin m (rowIn t j)) → PairWithin m p → PairWithin m (rowIn t′ j)

@@ -1,16 +1,18 @@
 -- The readings from the front give the attributes that they should.
-use Rattle.laws.proofs.Prelude.{_≡_, refl, sym, ap, _∙_, Bool, true, false, cond, not, _&&_, _||_, false≢true, _⊎_, inl, inr, ⊎-elim, _↔_, List, [], _∷_, _++_, List·Memᴰ, List·Memᴰ·head, List·Memᴰ·tail, List·Memᴰ·not-nil, List·Memᴰ·cases-cons, Option, ℕ, _≤_, arith, length, length-append}
+use Rattle.laws.proofs.Prelude.{_≡_, refl, sym, ap, _∙_, Bool, true, false, cond, not, _&&_, _||_, false≢true, _⊎_, inl, inr, ⊎-elim, _↔_, List, [], _∷_}
+use Rattle.laws.proofs.Prelude.{_++_, List·Memᴰ, List·Memᴰ·head, List·Memᴰ·tail, List·Memᴰ·not-nil, List·Memᴰ·cases-cons, Option, ℕ, _≤_, arith, length}
+use Rattle.laws.proofs.Prelude.{length-append}
 use mathlib.Core.List.{List·Memᴰ·append-cases, Memᴰ·append-left, Memᴰ·append-right}
 use Rattle.laws.proofs.Lists.{middle-member}
-use Rattle.text.specs.Bytes.{same}
-use Rattle.text.specs.Lossy.{exact}
-use Rattle.text.proofs.Words.{same-sound, same-refl}
+use Rattle.text.{specs.Bytes.same, specs.Lossy.exact, proofs.Words.same-sound, proofs.Words.same-refl}
 use Rattle.sheet.specs.Shape.{Shape, text, named, pieces, operation, properties, anything, shape}
 use Rattle.sheet.specs.Tree.{Arguments, noArguments, argument, Properties, Attributes, without, withObject}
 use Rattle.report.specs.Ascending.{Ascends}
 use Rattle.report.specs.ModuleInfo.{ImportAttribute, KeyValue, ImportAttributes, none, unknown, known}
-use Rattle.attributes.specs.Attributes.{insert, valueOf, Prop, keyless, keyed, props, insertKnown, staticPairs, staticAttributes, objectAttributes, typeAttributes, ofObject, onKnown, argumentProperties, dynamicAttributes}
-use Rattle.attributes.specs.Right.{IsString, Any, Value, SomeOf, NoneOf, LastOf, here, behind, PairsOf, StaticOf, ObjectOf, TypeOf, Holds, with′, assert′, Asserted, Counting, Readable, SecondOf, DynamicOf}
+use Rattle.attributes.specs.Attributes.{insert, valueOf, Prop, keyless, keyed, props, insertKnown, staticPairs, staticAttributes, objectAttributes}
+use Rattle.attributes.specs.Attributes.{typeAttributes, ofObject, onKnown, argumentProperties, dynamicAttributes}
+use Rattle.attributes.specs.Right.{IsString, Any, Value, SomeOf, NoneOf, LastOf, here, behind, PairsOf, StaticOf, ObjectOf, TypeOf, Holds, with′}
+use Rattle.attributes.specs.Right.{assert′, Asserted, Counting, Readable, SecondOf, DynamicOf}
 use Rattle.attributes.proofs.Ascending.{less-apart, insert-member, insert-ascends, HasKey, insert-keys}
 
 -- ---- values
@@ -40,7 +42,8 @@ pair-is b e f = rw (← e, ← f)
 -- ---- pairs, from those that were found before
 
 module _ (Counts : Shape → Type 0) where
-  last-cases : {k : List ℕ} {v : Shape} {e : Prop} {es : List Prop} → LastOf Counts k v (e ∷ es) → ((keyed k v ≡ e) × Counts v × NoneOf Counts k es) ⊎ LastOf Counts k v es
+  last-cases : {k : List ℕ} {v : Shape} {e : Prop} {es : List Prop} → LastOf Counts k v (e ∷ es) →
+      ((keyed k v ≡ e) × Counts v × NoneOf Counts k es) ⊎ LastOf Counts k v es
   last-cases (here i c n) = inl (i, c, n)
   last-cases (behind l) = inr l
 
@@ -69,7 +72,8 @@ module _ (Counts : Shape → Type 0) where
     ascend = m .ascend;
     each = λ a. (
       λ i. ⊎-elim (λ (v, x, y). inl (v, behind x, y)) (λ (j, n). inr (j, λ s. n (shorter s))) (m .each a .0 i),
-      λ o. m .each a .1 (⊎-elim (λ (v, x, y). inl (v, ⊎-elim (λ (i, c, n). absurd (unseen (a .key) v c i)) (λ x. x) (last-cases x), y)) (λ (j, n). inr (j, λ s. n (longer s))) o),
+      λ o. m .each a .1 (⊎-elim (λ (v, x, y). inl (v, ⊎-elim (λ (i, c, n). absurd (unseen (a .key) v c i)) (λ x. x) (last-cases x), y))
+          (λ (j, n). inr (j, λ s. n (longer s))) o),
     );
     keys = λ k. (
       λ q. ⊎-elim (λ s. inl (longer s)) (λ q. inr q) (m .keys k .0 q),
@@ -155,10 +159,12 @@ few (a ∷ l) es up in-them =
     let more = few l (front ++ back) (up .1) (λ b i. let (w, j) = in-them b (List·Memᴰ·tail i) in (w, others b v w front back i (rw e at j))) in
     omega (arith, ap length e, length-append front (keyed (a .key) v ∷ back), length-append front back)
   where
-    others : (b : KeyValue) (v w : Shape) (front back : List Prop) → List·Memᴰ b l → List·Memᴰ (keyed (b .key) w) (front ++ keyed (a .key) v ∷ back) → List·Memᴰ (keyed (b .key) w) (front ++ back)
+    others : (b : KeyValue) (v w : Shape) (front back : List Prop) → List·Memᴰ b l → List·Memᴰ (keyed (b .key) w) (front ++ keyed (a .key) v ∷ back) →
+        List·Memᴰ (keyed (b .key) w) (front ++ back)
     others b v w front back i m =
         ⊎-elim (Memᴰ·append-left back)
-        (λ m. ⊎-elim (λ (j : keyed (b .key) w ≡ keyed (a .key) v). absurd (less-apart {a = a .key} {b = b .key} (up .0 b i) (cc))) (Memᴰ·append-right front) (List·Memᴰ·cases-cons m))
+        (λ m. ⊎-elim (λ (j : keyed (b .key) w ≡ keyed (a .key) v). absurd (less-apart {a = a .key} {b = b .key} (up .0 b i) (cc))) (Memᴰ·append-right front)
+        (List·Memᴰ·cases-cons m))
         (List·Memᴰ·append-cases front m)
 
 pub last-among : {Counts : Shape → Type 0} {k : List ℕ} {v : Shape} {es : List Prop} → LastOf Counts k v es → List·Memᴰ (keyed k v) es
@@ -251,7 +257,8 @@ keyless-unknown l (keyed k v ∷ es) i = ⊎-elim (λ (e : keyless ≡ keyed k v
 -- what is unknown is nothing else
 held-unknown : {v : Shape} → Holds v unknown → held v ≡ unknown
 held-unknown {v} (Holds.object {ps = ps} e (ObjectOf.unreadable i)) = rw e (keyless-unknown [] (props ps) i)
-held-unknown {v} (Holds.other n) = of-object (λ v a. ((ps : Properties) → v ≡ properties ps → ⊥) → a ≡ unknown) (objectAttributes []) (λ ps m. absurd (m ps refl)) (λ v m k. refl) v n
+held-unknown {v} (Holds.other n) = of-object (λ v a. ((ps : Properties) → v ≡ properties ps → ⊥) → a ≡ unknown) (objectAttributes [])
+    (λ ps m. absurd (m ps refl)) (λ v m k. refl) v n
 
 never-none : {v : Shape} → Holds v none → ⊥
 never-none (Holds.object e o) = elim o [ ]
@@ -275,7 +282,8 @@ data From (had : Bool) (found : ImportAttributes) (es : List Prop) : ImportAttri
   unknownValue : {v : Shape} → CountingIf had v es → Holds v unknown → From had found es unknown
   kept : ReadableIf had es → NoneOf Any with′ es → (had ≡ false → NoneOf Any assert′ es) → From had found es found
   lastWith : {v : Shape} {l : List KeyValue} → ReadableIf had es → LastOf Any with′ v es → Holds v (known l) → From had found es (known l)
-  lastAssert : {v : Shape} {l : List KeyValue} → ReadableIf had es → had ≡ false → NoneOf Any with′ es → LastOf Any assert′ v es → Holds v (known l) → From had found es (known l)
+  lastAssert : {v : Shape} {l : List KeyValue} → ReadableIf had es → had ≡ false → NoneOf Any with′ es → LastOf Any assert′ v es → Holds v (known l) →
+      From had found es (known l)
 
 -- a property in front
 same-key : {q k : List ℕ} {w v : Shape} → keyed q w ≡ keyed k v → q ≡ k
@@ -291,15 +299,20 @@ module _ {k : List ℕ} {v : Shape} {es : List Prop} where
   asserted-cases : {w : Shape} → Asserted w (keyed k v ∷ es) → (keyed assert′ w ≡ keyed k v) ⊎ ((with′ ≡ k → ⊥) × Asserted w es)
   asserted-cases {w} a = go (a .front) (a .among) (a .no-with)
     where
-      go : (front : List Prop) → keyed k v ∷ es ≡ front ++ keyed assert′ w ∷ a .back → NoneOf Any with′ front → (keyed assert′ w ≡ keyed k v) ⊎ ((with′ ≡ k → ⊥) × Asserted w es)
+      go : (front : List Prop) → keyed k v ∷ es ≡ front ++ keyed assert′ w ∷ a .back → NoneOf Any with′ front →
+          (keyed assert′ w ≡ keyed k v) ⊎ ((with′ ≡ k → ⊥) × Asserted w es)
       go [] i n = inl (cc)
       go (f ∷ front) i n =
           let first : f ≡ keyed k v = cc in
           let rest : es ≡ front ++ keyed assert′ w ∷ a .back = cc in
-          inr (λ j. n (v, tt, List·Memᴰ·head (ap (λ (q : List ℕ). keyed q v) j ∙ sym first)), record { front = front; back = a .back; among = rest; no-with = λ (x, c, m). n (x, c, List·Memᴰ·tail m) })
+          inr (
+            λ j. n (v, tt, List·Memᴰ·head (ap (λ (q : List ℕ). keyed q v) j ∙ sym first)),
+            record { front = front; back = a .back; among = rest; no-with = λ (x, c, m). n (x, c, List·Memᴰ·tail m) },
+          )
 
   asserted-longer : {w : Shape} → (with′ ≡ k → ⊥) → Asserted w es → Asserted w (keyed k v ∷ es)
-  asserted-longer n a = record { front = keyed k v ∷ a .front; back = a .back; among = ap (λ (l : List Prop). keyed k v ∷ l) (a .among); no-with = none-longer n (a .no-with) }
+  asserted-longer n a =
+      record { front = keyed k v ∷ a .front; back = a .back; among = ap (λ (l : List Prop). keyed k v ∷ l) (a .among); no-with = none-longer n (a .no-with) }
 
   -- that is no `with`
   module _ (had : Bool) (n : with′ ≡ k → ⊥) where
@@ -329,7 +342,8 @@ module _ {k : List ℕ} {v : Shape} {es : List Prop} where
         go (From.lastAssert r f p l h) = From.lastAssert (r′ r) f (none-longer n p) (behind l) h
 
 -- an `assert` that no `with` stands before
-asserts : {v : Shape} {es : List Prop} {found : ImportAttributes} (l : List KeyValue) → held v ≡ known l → Holds v (known l) → {x : ImportAttributes} → From false (known l) es x → From false found (keyed assert′ v ∷ es) x
+asserts : {v : Shape} {es : List Prop} {found : ImportAttributes} (l : List KeyValue) → held v ≡ known l → Holds v (known l) → {x : ImportAttributes} →
+    From false (known l) es x → From false found (keyed assert′ v ∷ es) x
 asserts {v} {es} {found} l is h f = go f
   where
     r′ : ReadableIf false es → ReadableIf false (keyed assert′ v ∷ es)
@@ -343,7 +357,8 @@ asserts {v} {es} {found} l is h f = go f
     go (From.lastAssert r e p k u) = From.lastAssert (r′ r) e (none-longer other-keys p) (behind k) u
 
 -- a `with`
-withs : {had : Bool} {v : Shape} {es : List Prop} {found : ImportAttributes} (l : List KeyValue) → held v ≡ known l → Holds v (known l) → {x : ImportAttributes} → From true (known l) es x → From had found (keyed with′ v ∷ es) x
+withs : {had : Bool} {v : Shape} {es : List Prop} {found : ImportAttributes} (l : List KeyValue) → held v ≡ known l → Holds v (known l) →
+    {x : ImportAttributes} → From true (known l) es x → From had found (keyed with′ v ∷ es) x
 withs {had} {v} {es} {found} l is h f = go f
   where
     r′ : ReadableIf true es → ReadableIf had (keyed with′ v ∷ es)
@@ -351,7 +366,8 @@ withs {had} {v} {es} {found} l is h f = go f
       where
         values : (w : Shape) → CountingIf had w (keyed with′ v ∷ es) → Holds w unknown → ⊥
         values w (inl i) u =
-            ⊎-elim (λ (j : keyed with′ w ≡ keyed with′ v). let same : w ≡ v = cc in never-both is (rw same at u)) (λ j. r .values w (inl j) u) (List·Memᴰ·cases-cons i)
+            ⊎-elim (λ (j : keyed with′ w ≡ keyed with′ v). let same : w ≡ v = cc in never-both is (rw same at u)) (λ j. r .values w (inl j) u)
+            (List·Memᴰ·cases-cons i)
         values w (inr (f, a)) u = ⊎-elim (λ (j : keyed assert′ w ≡ keyed with′ v). other-keys (cc)) (λ (n, b). n refl) (asserted-cases a)
 
     go : {x : ImportAttributes} → From true (known l) es x → From had found (keyed with′ v ∷ es) x
@@ -364,7 +380,8 @@ withs {had} {v} {es} {found} l is h f = go f
 
 second-from : (had : Bool) (found : ImportAttributes) (es : List Prop) → From had found es (argumentProperties had found es)
 unfolding argumentProperties
-second-from had found [] = From.kept (record { keys = List·Memᴰ·not-nil; values = none-counts }) (λ (v, c, i). List·Memᴰ·not-nil i) (λ f (v, c, i). List·Memᴰ·not-nil i)
+second-from had found [] = From.kept (record { keys = List·Memᴰ·not-nil; values = none-counts }) (λ (v, c, i). List·Memᴰ·not-nil i)
+    (λ f (v, c, i). List·Memᴰ·not-nil i)
   where
     none-counts : (v : Shape) → CountingIf had v [] → Holds v unknown → ⊥
     none-counts v (inl i) h = List·Memᴰ·not-nil i
@@ -385,7 +402,8 @@ second-from had found (keyed k v ∷ es) = by-with had (same k with′) refl (sa
     differs : (w : List ℕ) → same k w ≡ false → w ≡ k → ⊥
     differs w e i = false≢true (sym e ∙ rw i (same-refl k))
 
-    by-with : (had isWith : Bool) → same k with′ ≡ isWith → (isAssert : Bool) → same k assert′ ≡ isAssert → ((had : Bool) (found : ImportAttributes) → From had found es (rest had found))
+    by-with : (had isWith : Bool) → same k with′ ≡ isWith → (isAssert : Bool) → same k assert′ ≡ isAssert →
+        ((had : Bool) (found : ImportAttributes) → From had found es (rest had found))
         → From had found (keyed k v ∷ es) (cond (isWith || (isAssert && not had)) (onKnown (rest isWith) (held v)) (rest had found))
     by-with had true e isAssert f more =
         let key : k ≡ with′ = same-sound k with′ e in

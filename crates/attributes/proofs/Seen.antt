@@ -2,15 +2,12 @@
 use Rattle.laws.proofs.Prelude.{_≡_, refl, sym, _∙_, Bool, true, false, cond, List, _∷_, ℕ, drop}
 use Rattle.laws.specs.Decoded.{ok, Decoder, _>>=_, return}
 use Rattle.laws.proofs.Decoding.{then-ok}
-use Rattle.text.specs.Lossy.{exact}
-use Rattle.text.specs.Bytes.{part}
+use Rattle.text.specs.{Lossy.exact, Bytes.part}
 use Rattle.wire.specs.declared.Cursor.{Cursor}
 use Rattle.sheet.specs.Tree.{Node, Properties, spread, otherProperty, childKey, stringKey, nameKey}
 use Rattle.sheet.specs.Nodes.{propertyItem}
-use Rattle.sheet_heads.specs.declared.parts.Property.{Property}
+use Rattle.sheet_heads.specs.{declared.parts.Property.Property, code.Parts.propertyHead, code.Views.propertyOf, code.Views.PropertyWithin}
 use Rattle.sheet_heads.specs.declared.parts.Property.the-variants as property
-use Rattle.sheet_heads.specs.code.Parts.{propertyHead}
-use Rattle.sheet_heads.specs.code.Views.{propertyOf, PropertyWithin}
 use Rattle.sheet_heads.proofs.ByHead.{property-by-head, propertyRest}
 use Rattle.attributes.specs.declared.props.PropRead.the-variants as propRead
 use Rattle.attributes.specs.Attributes.{Prop, props}

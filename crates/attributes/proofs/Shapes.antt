@@ -2,25 +2,18 @@
 use Rattle.laws.proofs.Prelude.{_≡_, refl, sym, ap, true, false≢true, Option, List, [], _∷_, ℕ, _-_, drop, seen}
 use types.Run.{OneOf, miss}
 use denote.Enum.Declared.{tagOf}
-use Rattle.laws.specs.Decoded.{ok, return}
-use Rattle.laws.proofs.Decoding.{then-ok}
+use Rattle.laws.{specs.Decoded.ok, specs.Decoded.return, proofs.Decoding.then-ok}
 use Rattle.text.specs.Bytes.{part}
 use Rattle.wire.specs.declared.Cursor.{Cursor}
-use Rattle.sheet.specs.declared.fields.Span.{Span}
+use Rattle.sheet.specs.{declared.fields.Span.Span, Nodes.properties, Nodes.node}
 use Rattle.sheet.specs.Tree.{Node, string, object}
-use Rattle.sheet.specs.Nodes.{properties, node}
 use Rattle.sheet.specs.Shape.{Shape, text, named, pieces, operation, anything, shape}
 use Rattle.sheet.specs.Shape as shapes
-use Rattle.sheet_heads.specs.declared.node.Head.{Head}
+use Rattle.sheet_heads.specs.{declared.node.Head.Head, declared.node.HeadRead.HeadRead, code.Rest.rest, code.Views.headOf, code.Views.headAs}
 use Rattle.sheet_heads.specs.declared.node.Head.the-variants as head
-use Rattle.sheet_heads.specs.declared.node.HeadRead.{HeadRead}
 use Rattle.sheet_heads.specs.declared.node.HeadRead.the-variants as headRead
 use Rattle.sheet_heads.specs.code.Head as heads
-use Rattle.sheet_heads.specs.code.Rest.{rest}
-use Rattle.sheet_heads.specs.code.Views.{headOf, headAs}
-use Rattle.sheet_heads.proofs.ByHead.{behind-head}
-use Rattle.sheet_heads.proofs.Shapes.{shape-by-head}
-use Rattle.sheet_heads.proofs.node.Head.{the-type}
+use Rattle.sheet_heads.proofs.{ByHead.behind-head, Shapes.shape-by-head, node.Head.the-type}
 use Rattle.report.specs.ModuleInfo.{ImportAttributes, unknown}
 use Rattle.attributes.specs.declared.props.Value.the-variants as value
 use Rattle.attributes.specs.Attributes.{Prop, valueOf, ofObject}

@@ -1,9 +1,9 @@
 -- Two ranges that print alike are one.
-use Rattle.laws.proofs.Prelude.{_≡_, refl, ap, sym, _∙_, Bool, true, false, cond, List, [], _∷_, _++_, ℕ, zero, suc, _+_, _-_, _*_, _/_, _%_, _≤_, _<_, code, arith, ltb, ltb-true}
+use Rattle.laws.proofs.Prelude.{_≡_, refl, ap, sym, _∙_, Bool, true, false, cond, List, [], _∷_, _++_, ℕ, zero, suc, _+_, _-_, _*_, _/_, _%_, _≤_, _<_}
+use Rattle.laws.proofs.Prelude.{code, arith, ltb, ltb-true}
 use Prim.Native.Nat.{_^_}
 use native.Mathlib.Nat.{pow-suc}
-use Rattle.laws.specs.Codec.{All}
-use Rattle.laws.proofs.Lists.{all-append}
+use Rattle.laws.{specs.Codec.All, proofs.Lists.all-append}
 use Rattle.text.specs.declared.position.Position.{Position}
 use Rattle.report.specs.ModuleInfo.{PositionRange}
 use Rattle.citation.specs.Citation.{digits, decimal, citePosition, citeRange}
@@ -78,7 +78,8 @@ same-range {r} {q} i j =
     let same : _≡_ {A = PositionRange} (record { start = r .start; end = r .end }) (record { start = q .start; end = q .end }) = rw (i, j) in
     same
 
-pub range-one : {r q : PositionRange} → Printable (r .start) × Printable (r .end) → Printable (q .start) × Printable (q .end) → citeRange r ≡ citeRange q → r ≡ q
+pub range-one : {r q : PositionRange} → Printable (r .start) × Printable (r .end) → Printable (q .start) × Printable (q .end) → citeRange r ≡ citeRange q →
+    r ≡ q
 unfolding citeRange
 range-one {r} {q} a b e =
     let (x, y) = parted (code "-") _ _ _ _ (no-dash (r .start)) (no-dash (q .start)) e in

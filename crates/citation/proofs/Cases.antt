@@ -1,8 +1,7 @@
 -- Sources and reports byte by byte, with the lines that are printed for them.
 use Rattle.laws.proofs.Prelude.{_≡_, refl, List, [], _∷_, _++_, map, flatMap, ℕ}
 use Prim.Native.String.{String}
-use Rattle.laws.specs.Decoded.{ok, onOk}
-use Rattle.laws.specs.Ascii.{ascii}
+use Rattle.laws.specs.{Decoded.ok, Decoded.onOk, Ascii.ascii}
 use Rattle.wire.specs.Fields.{byte, below, numbered, flag, bytes}
 use Rattle.wire.specs.Number.{lastGroup, groups, number}
 use Rattle.wire.specs.Optional.{optional}
@@ -61,6 +60,7 @@ cases =
     ∷ []
 
 as-stated : (map (λ c. onOk (citation (c .0) (c .2)) (report (c .1))) cases ≡ map (λ c. ok (rows (c .3)) []) cases) × (refusal 10 ≡ rows ("refused 10" ∷ []))
-unfolding byte below numbered flag bytes lastGroup groups number flatMap optional times list text position range specifier reference jsDoc keyValue attributes argument rest
+unfolding byte below numbered flag bytes lastGroup groups number flatMap optional times list text position range specifier reference jsDoc keyValue
+    attributes argument rest
     dependency report fromLine foursIn recounted digits escaped citePosition citeRange printed lines title citation refusal
 as-stated = (refl, refl)

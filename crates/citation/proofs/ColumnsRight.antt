@@ -1,28 +1,19 @@
 -- The columns that are printed are right.
-use Rattle.laws.proofs.Prelude.{_≡_, sym, ap, _∙_, Bool, true, false, cond, _↔_, ⊎-elim, List, [], _∷_, ℕ, _+_, _/_, _≤_, _<_, arith, eqb, length, getD, le-leb, lt-leb}
+use Rattle.laws.proofs.Prelude.{_≡_, sym, ap, _∙_, Bool, true, false, cond, _↔_, ⊎-elim, List, [], _∷_, ℕ, _+_, _/_, _≤_, _<_, arith, eqb, length, getD}
+use Rattle.laws.proofs.Prelude.{le-leb, lt-leb}
 use native.Mathlib.Decide.{decLe}
 use Rattle.laws.specs.Codec.{All}
-use Rattle.text.specs.declared.position.Position.{Position}
-use Rattle.text.specs.declared.utf8.Encoding.the-variants.{Utf8}
-use Rattle.text.specs.Encode.{encode}
-use Rattle.text.specs.WellFormed.{WellFormed}
+use Rattle.text.specs.{declared.position.Position.Position, declared.utf8.Encoding.the-variants.Utf8, Encode.encode, WellFormed.WellFormed}
 use Rattle.text.specs.Position.{Units, characters, positionOf, Boundary, Before, utf16}
-use Rattle.text.proofs.CodePoint.{by-length}
-use Rattle.text.proofs.Columns.{counted}
-use Rattle.text.proofs.PositionsApart.{grows, one-place}
+use Rattle.text.proofs.{CodePoint.by-length, Columns.counted, PositionsApart.grows, PositionsApart.one-place}
 use Rattle.wire.specs.Number.{largest}
 use Rattle.sheet.specs.declared.fields.Span.{Span}
-use Rattle.report.specs.ModuleInfo.{PositionRange}
-use Rattle.report.specs.Range.{rangeOf, RangeAt}
-use Rattle.report.specs.Valid.{ValidPosition}
-use Rattle.report.proofs.Ranges.{range-valid}
+use Rattle.report.{specs.ModuleInfo.PositionRange, specs.Range.rangeOf, specs.Range.RangeAt, specs.Valid.ValidPosition, proofs.Ranges.range-valid}
 use Rattle.citation.specs.Columns.{beginsFour, fromLine, recounted}
 use Rattle.citation.specs.Citation.{citeRange, Line, printed}
 use Rattle.citation.specs.Right.{utf16Range, CitedAt, ColumnsRight}
 use Rattle.citation.specs.code.Printable.{Printable}
-use Rattle.citation.proofs.Fours.{fours-most}
-use Rattle.citation.proofs.Recounts.{recounts}
-use Rattle.citation.proofs.Apart.{same-range, range-one}
+use Rattle.citation.proofs.{Fours.fours-most, Recounts.recounts, Apart.same-range, Apart.range-one}
 
 -- ---- units
 
@@ -80,7 +71,8 @@ module _ (source : List ℕ) (short : length source ≤ largest) where
 
   cited-at : (ls : List Line) → All (λ l. (place : Span) × RangeAt source (l .range) place) ls → All (λ l. (place : Span) × CitedAt source l place) ls
   cited-at [] a = tt
-  cited-at (l ∷ ls) ((place, r), a) = ((place, record { range = r; columns = rw (r .is) (same-range (recounts source (place .start)) (recounts source (place .end))) }), cited-at ls a)
+  cited-at (l ∷ ls) ((place, r), a) =
+      ((place, record { range = r; columns = rw (r .is) (same-range (recounts source (place .start)) (recounts source (place .end))) }), cited-at ls a)
 
   pub columns-right : WellFormed Utf8 source → {ls : List Line} → All (λ l. (place : Span) × RangeAt source (l .range) place) ls → ColumnsRight source ls
   columns-right formed {ls} placed = record {
@@ -96,12 +88,14 @@ module _ (source : List ℕ) (short : length source ≤ largest) where
 
 -- a line is printed alike over two sources where both positions of its place are the same, in characters and in UTF-16 code units
 module _ (s t : List ℕ) where
-  position-same : (p : Position) (at : ℕ) → p ≡ positionOf characters s at → positionOf characters s at ≡ positionOf characters t at → positionOf utf16 s at ≡ positionOf utf16 t at
+  position-same : (p : Position) (at : ℕ) → p ≡ positionOf characters s at → positionOf characters s at ≡ positionOf characters t at →
+      positionOf utf16 s at ≡ positionOf utf16 t at
       → recounted s p ≡ recounted t p
   position-same p at is c u = rw is (recounts s at ∙ u ∙ sym (recounts t at) ∙ ap (recounted t) (sym c))
 
   pub printed-same : (l : Line) (place : Span) → l .range ≡ rangeOf s place
-      → positionOf characters s (place .start) ≡ positionOf characters t (place .start) → positionOf characters s (place .end) ≡ positionOf characters t (place .end)
+      → positionOf characters s (place .start) ≡ positionOf characters t (place .start) →
+      positionOf characters s (place .end) ≡ positionOf characters t (place .end)
       → positionOf utf16 s (place .start) ≡ positionOf utf16 t (place .start) → positionOf utf16 s (place .end) ≡ positionOf utf16 t (place .end)
       → printed s l ≡ printed t l
   unfolding printed

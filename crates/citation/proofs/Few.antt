@@ -1,9 +1,8 @@
 -- A report has at least eight bytes for each of its dependencies.
 use Rattle.laws.proofs.Prelude.{List, [], _∷_, flatMap, Option, _*_, _≤_, _<_, arith, length, length-append}
-use Rattle.wire.specs.Text.{encodeText}
-use Rattle.wire.specs.Optional.{encodeOptional}
-use Rattle.wire.proofs.Lengths.{number-long}
-use Rattle.report.specs.ModuleInfo.{SpecifierWithRange, ImportAttributes, none, unknown, known, DynamicArgument, expr, string, template, DependencyDescriptor, static, dynamic, ModuleInfo}
+use Rattle.wire.{specs.Text.encodeText, specs.Optional.encodeOptional, proofs.Lengths.number-long}
+use Rattle.report.specs.ModuleInfo.{SpecifierWithRange, ImportAttributes, none, unknown, known, DynamicArgument, expr, string, template}
+use Rattle.report.specs.ModuleInfo.{DependencyDescriptor, static, dynamic, ModuleInfo}
 use Rattle.report.specs.Encode.{encodeList, encodeSpecifier, encodeAttributes, encodeArgument, encodeStatic, encodeDynamic, encodeDependency, encode}
 use Rattle.citation.proofs.Lengths.{range-long}
 
@@ -27,9 +26,16 @@ argument-long (template l) = omega arith
 dependency-long : (d : DependencyDescriptor) → 8 ≤ length (encodeDependency d)
 unfolding encodeDependency encodeStatic encodeDynamic encodeSpecifier encodeText
 dependency-long (static d) =
-    simp length-append (omega (arith, optional-long (d .typesSpecifier), number-long (length (d .specifier .text)), range-long (d .specifier .range), attributes-long (d .importAttributes)))
+    simp length-append (omega (
+      arith,
+      optional-long (d .typesSpecifier),
+      number-long (length (d .specifier .text)),
+      range-long (d .specifier .range),
+      attributes-long (d .importAttributes),
+    ))
 dependency-long (dynamic d) =
-    simp length-append (omega (arith, optional-long (d .typesSpecifier), argument-long (d .argument), range-long (d .argumentRange), attributes-long (d .importAttributes)))
+    simp length-append
+    (omega (arith, optional-long (d .typesSpecifier), argument-long (d .argument), range-long (d .argumentRange), attributes-long (d .importAttributes)))
 
 all-long : (l : List DependencyDescriptor) → 8 * length l ≤ length (flatMap encodeDependency l)
 unfolding flatMap

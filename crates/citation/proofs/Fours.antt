@@ -1,12 +1,9 @@
 -- Characters of four bytes, counted from the start of a line.
-use Rattle.laws.proofs.Prelude.{_≡_, refl, ap, _∙_, Bool, true, false, cond, List, [], _∷_, _++_, ℕ, zero, suc, _+_, _-_, _≤_, _<_, add-one, arith, eqb, length, getD, take, drop, drop-of-length-le, drop-cons, eq-eqb, ne-eqb}
+use Rattle.laws.proofs.Prelude.{_≡_, refl, ap, _∙_, Bool, true, false, cond, List, [], _∷_, _++_, ℕ, zero, suc, _+_, _-_, _≤_, _<_, add-one, arith, eqb}
+use Rattle.laws.proofs.Prelude.{length, getD, take, drop, drop-of-length-le, drop-cons, eq-eqb, ne-eqb}
 use lib.ListN.{take-append-drop}
-use Rattle.laws.specs.Codec.{All}
-use Rattle.laws.proofs.Onward.{carried-to}
-use Rattle.text.specs.declared.position.Position.{Position}
-use Rattle.text.specs.Ranges.{within}
-use Rattle.text.specs.Utf8.{continuation}
-use Rattle.text.specs.Position.{utf16}
+use Rattle.laws.{specs.Codec.All, proofs.Onward.carried-to}
+use Rattle.text.specs.{declared.position.Position.Position, Ranges.within, Utf8.continuation, Position.utf16}
 use Rattle.citation.specs.Columns.{beginsFour, fromLine, foursIn, recounted}
 
 -- no more of them than characters
@@ -70,7 +67,8 @@ from-end n s at end l h none =
 -- ---- as the code goes
 
 -- past the LF at `end`, or none
-module _ (left : ℕ) (s : List ℕ) (at end : ℕ) (some : 0 < left) (h : end ≤ length s) (l : at ≤ end) (none : (k : ℕ) → at ≤ k → k < end → getD s k 0 ≡ 0x0A → ⊥) where
+module _ (left : ℕ) (s : List ℕ) (at end : ℕ) (some : 0 < left) (h : end ≤ length s) (l : at ≤ end)
+    (none : (k : ℕ) → at ≤ k → k < end → getD s k 0 ≡ 0x0A → ⊥) where
   pub next-line : end < length s → getD s end 0 ≡ 0x0A → fromLine left (drop at s) ≡ fromLine (left - 1) (drop (end + 1) s)
   next-line i e =
       let more : left ≡ suc (left - 1) = omega arith in
@@ -98,7 +96,8 @@ added-few b added e = rw e (by (within continuation b) (beginsFour b))
 begun : (b added : ℕ) → Added b added → 0 < added → (within continuation b ≡ false) × (added - 1 ≡ cond (beginsFour b) 1 0)
 begun b added e some = by (within continuation b) refl (beginsFour b) refl
   where
-    by : (on : Bool) → within continuation b ≡ on → (four : Bool) → beginsFour b ≡ four → (within continuation b ≡ false) × (added - 1 ≡ cond (beginsFour b) 1 0)
+    by : (on : Bool) → within continuation b ≡ on → (four : Bool) → beginsFour b ≡ four →
+        (within continuation b ≡ false) × (added - 1 ≡ cond (beginsFour b) 1 0)
     by true o four f = let none = rw o at e in absurd (omega arith)
     by false o true f = let two = rw (o, f) at e in (o, rw f (omega arith))
     by false o false f = let one = rw (o, f) at e in (o, rw f (omega arith))

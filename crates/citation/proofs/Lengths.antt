@@ -1,22 +1,22 @@
 -- What is printed for a report is at most four times as long as the report.
-use Rattle.laws.proofs.Prelude.{_≡_, refl, Bool, true, false, cond, List, [], _∷_, _++_, flatMap, Option, ℕ, zero, suc, _+_, _*_, _/_, _%_, _≤_, _<_, code, arith, ltb, length, getD, drop, length-append, ltb-true, ltb-false}
+use Rattle.laws.proofs.Prelude.{_≡_, refl, Bool, true, false, cond, List, [], _∷_, _++_, flatMap, Option, ℕ, zero, suc, _+_, _*_, _/_, _%_, _≤_, _<_, code}
+use Rattle.laws.proofs.Prelude.{arith, ltb, length, getD, drop, length-append, ltb-true, ltb-false}
 use Prim.Native.Nat.{_^_}
 use native.Mathlib.Nat.{pow-suc, one-le-pow}
-use Rattle.laws.specs.Ascii.{ascii}
-use Rattle.laws.specs.Codec.{IfThere, All}
-use Rattle.laws.proofs.Lists.{flatMap-append}
+use Rattle.laws.{specs.Ascii.ascii, specs.Codec.IfThere, specs.Codec.All, proofs.Lists.flatMap-append}
 use Rattle.text.specs.declared.position.Position.{Position}
 use Rattle.wire.specs.Number.{largest, encodeGroups, encodeNumber}
-use Rattle.wire.specs.Text.{encodeText}
-use Rattle.wire.specs.Optional.{encodeOptional}
-use Rattle.wire.proofs.Lengths.{number-long}
-use Rattle.report.specs.ModuleInfo.{PositionRange, SpecifierWithRange, DynamicArgument, expr, string, template, path, types, static, dynamic, TypeScriptReference, JsDocImportInfo, DependencyDescriptor, ModuleInfo}
-use Rattle.report.specs.Encode.{encodeList, encodePosition, encodeRange, encodeSpecifier, encodeReference, encodeJsDoc, encodeArgument, encodeStatic, encodeDynamic, encodeDependency, encode}
+use Rattle.wire.{specs.Text.encodeText, specs.Optional.encodeOptional, proofs.Lengths.number-long}
+use Rattle.report.specs.ModuleInfo.{PositionRange, SpecifierWithRange, DynamicArgument, expr, string, template, path, types, static, dynamic}
+use Rattle.report.specs.ModuleInfo.{TypeScriptReference, JsDocImportInfo, DependencyDescriptor, ModuleInfo}
+use Rattle.report.specs.Encode.{encodeList, encodePosition, encodeRange, encodeSpecifier, encodeReference, encodeJsDoc, encodeArgument, encodeStatic}
+use Rattle.report.specs.Encode.{encodeDynamic, encodeDependency, encode}
 use Rattle.report.specs.Valid.{ValidPosition, ValidRange, ValidSpecifier, ValidReference, ValidJsDoc, ValidDependency, Valid}
 use Rattle.citation.specs.Columns.{fromLine, foursIn, recounted, recountedRange}
-use Rattle.citation.specs.Citation.{digits, decimal, hexDigit, isEscaped, escaped, citePosition, citeRange, Line, printed, citeSpecifier, citeOptional, argumentText, citeArgument, citeReference, citeJsDoc, citeDependency, dependencyLetter, citeNoted, citeEach, lines, title, citation, refusal}
-use Rattle.citation.proofs.Fours.{fours-most}
-use Rattle.citation.proofs.Printing.{each-plain}
+use Rattle.citation.specs.Citation.{digits, decimal, hexDigit, isEscaped, escaped, citePosition, citeRange, Line, printed, citeSpecifier}
+use Rattle.citation.specs.Citation.{citeOptional, argumentText, citeArgument, citeReference, citeJsDoc, citeDependency, dependencyLetter, citeNoted}
+use Rattle.citation.specs.Citation.{citeEach, lines, title, citation, refusal}
+use Rattle.citation.proofs.{Fours.fours-most, Printing.each-plain}
 
 digits-short : (k places n : ℕ) → n < 10 ^ suc k → length (digits places n) ≤ suc k
 unfolding digits
@@ -80,7 +80,8 @@ number-short n m v most = first (ltb n 128) refl
 
 pub range-long : (r : PositionRange) → 4 ≤ length (encodeRange r)
 unfolding encodeRange encodePosition
-range-long r = simp length-append (omega (arith, number-long (r .start .line), number-long (r .start .column), number-long (r .end .line), number-long (r .end .column)))
+range-long r = simp length-append
+    (omega (arith, number-long (r .start .line), number-long (r .start .column), number-long (r .end .line), number-long (r .end .column)))
 
 byte-short : (b : ℕ) → length (escaped b) ≤ 4
 unfolding escaped
@@ -105,7 +106,11 @@ module _ (source : List ℕ) where
   unfolding citePosition encodePosition recounted
   position-short p v =
       let fours = fours-most (p .column) (fromLine (p .line) source) in
-      simp length-append (omega (arith, number-short (p .line) (p .line) (v .line) (omega arith), number-short (p .column) (p .column + foursIn (p .column) (fromLine (p .line) source)) (v .column) (omega arith)))
+      simp length-append (omega (
+        arith,
+        number-short (p .line) (p .line) (v .line) (omega arith),
+        number-short (p .column) (p .column + foursIn (p .column) (fromLine (p .line) source)) (v .column) (omega arith),
+      ))
 
   range-short : (r : PositionRange) → ValidRange r → length (citeRange (recountedRange source r)) ≤ 3 * length (encodeRange r) + 3
   unfolding citeRange encodeRange
@@ -160,7 +165,8 @@ module _ (source : List ℕ) where
   unfolding flatMap encodeArgument encodeText
   argument-short letter x r v = by-kind x (line-short (record { letter = letter; range = r; text = argumentText x }) v)
     where
-      by-kind : (x : DynamicArgument) → length (printed source (record { letter = letter; range = r; text = argumentText x })) ≤ 7 + 3 * length (encodeRange r) + 4 * length (argumentText x)
+      by-kind : (x : DynamicArgument) →
+          length (printed source (record { letter = letter; range = r; text = argumentText x })) ≤ 7 + 3 * length (encodeRange r) + 4 * length (argumentText x)
           → length (flatMap (printed source) (citeArgument letter x r)) ≤ 4 * (length (encodeArgument x) + length (encodeRange r) + 1)
       by-kind expr h = simp length-append (omega (arith, range-long r))
       by-kind (string y) h = simp length-append (omega (arith, range-long r))
@@ -170,10 +176,15 @@ module _ (source : List ℕ) where
   unfolding encodeDependency encodeStatic encodeDynamic
   dependency-short letter (static d) v =
       rw (flatMap-append (printed source) (citeSpecifier letter (d .specifier)) (citeOptional (code "T") (d .typesSpecifier)))
-      (simp length-append (omega (arith, specifier-short letter (d .specifier) (v .specifier), optional-short (code "T") (d .typesSpecifier) (v .typesSpecifier))))
+      (simp length-append
+      (omega (arith, specifier-short letter (d .specifier) (v .specifier), optional-short (code "T") (d .typesSpecifier) (v .typesSpecifier))))
   dependency-short letter (dynamic d) v =
       rw (flatMap-append (printed source) (citeArgument letter (d .argument) (d .argumentRange)) (citeOptional (code "T") (d .typesSpecifier)))
-      (simp length-append (omega (arith, argument-short letter (d .argument) (d .argumentRange) (v .argumentRange), optional-short (code "T") (d .typesSpecifier) (v .typesSpecifier))))
+      (simp length-append (omega (
+        arith,
+        argument-short letter (d .argument) (d .argumentRange) (v .argumentRange),
+        optional-short (code "T") (d .typesSpecifier) (v .typesSpecifier),
+      )))
 
   -- every report has eight bytes, a flag, the counts and what stands before each optional thing
   lines-short : (numbers : List ℕ) (m : ModuleInfo) → Valid m → length (flatMap (printed source) (lines numbers m)) + 32 ≤ 4 * length (encode m)
@@ -182,7 +193,8 @@ module _ (source : List ℕ) where
       simp (flatMap-append, length-append)
       (omega (
         arith,
-        each-short citeNoted encodeDependency ValidDependency (λ number. dependency-short (dependencyLetter number)) numbers (m .dependencies) (v .dependencies .1),
+        each-short citeNoted encodeDependency ValidDependency (λ number. dependency-short (dependencyLetter number)) numbers (m .dependencies)
+            (v .dependencies .1),
         list-short citeReference encodeReference ValidReference reference-short (m .tsReferences) (v .tsReferences .1),
         optional-short (code "S") (m .selfTypesSpecifier) (v .selfTypesSpecifier),
         optional-short (code "X") (m .jsxImportSource) (v .jsxImportSource),

@@ -2,19 +2,18 @@
 use Rattle.laws.proofs.Prelude.{_≡_, refl, ap, List, [], _∷_, _++_, append-assoc, flatMap, ℕ, zero, suc, _+_, getD, drop, length-append, getD-drop, drop-drop}
 use Rattle.laws.proofs.Lists.{flatMap-append}
 use Rattle.text.specs.declared.position.Position.{Position}
-use Rattle.report.specs.ModuleInfo.{ModuleInfo}
-use Rattle.report.specs.Answer.{zeros}
-use Rattle.report.specs.Buffer.{Buffer}
-use Rattle.report.proofs.Buffers.{wrote-append}
-use Rattle.citation.specs.code.Cites.{Printed}
-use Rattle.citation.specs.Columns.{recounted}
+use Rattle.report.{specs.ModuleInfo.ModuleInfo, specs.Answer.zeros, specs.Buffer.Buffer, proofs.Buffers.wrote-append}
+use Rattle.citation.specs.{code.Cites.Printed, Columns.recounted}
 use Rattle.citation.specs.Citation.{Line, printed, citeEach, citeNoted, lines, citation}
 
 -- some lines, and then others
 pub both : {source : List ℕ} {a b : List Line} {before between after : Buffer} {m n : ℕ} → Printed source before a between m → Printed source between b after n
     → Printed source before (a ++ b) after (m + n)
 both {source} {a} {b} p q =
-    record { written = rw (flatMap-append (printed source) a b, wrote-append, ← (p .written)) (q .written); counted = rw (length-append, p .counted, q .counted) }
+    record {
+      written = rw (flatMap-append (printed source) a b, wrote-append, ← (p .written)) (q .written);
+      counted = rw (length-append, p .counted, q .counted);
+    }
 
 -- the lines of one item more
 pub cite-next : {A : Type 0} (f : ℕ → A → List Line) (numbers : List ℕ) (row : ℕ) (done : List Line) {a : A} {l l′ : List A} → l ≡ a ∷ l′

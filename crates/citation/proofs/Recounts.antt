@@ -1,8 +1,6 @@
 -- A position recounted is the position in UTF-16 code units of the same place.
 use Rattle.laws.proofs.Prelude.{_≡_, refl, Bool, true, false, cond, _⊎_, inl, inr, ⊎-elim, List, [], _∷_, ℕ, zero, suc, _+_, add-zero, arith, eqb, take}
-use Rattle.text.specs.declared.position.Position.{Position}
-use Rattle.text.specs.Ranges.{within}
-use Rattle.text.specs.Utf8.{continuation}
+use Rattle.text.specs.{declared.position.Position.Position, Ranges.within, Utf8.continuation}
 use Rattle.text.specs.Position.{Units, characters, step, walk, startPosition, positionOf, utf16}
 use Rattle.citation.specs.Columns.{beginsFour, fromLine, foursIn, recounted}
 use Rattle.citation.proofs.Fours.{fours-none, fours-on, fours-next, from-zero, from-on, from-next}

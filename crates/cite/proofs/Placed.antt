@@ -3,34 +3,24 @@ use Rattle.laws.proofs.Prelude.{_≡_, refl, Bool, false, ⊎-elim, List, [], _
 use Rattle.laws.specs.Codec.{All, IfThere}
 use Rattle.laws.proofs.Lists.{all-append, of-members, all-member}
 use Rattle.analysis.specs.Patterns.{jsxImportSourceRow, jsxImportSourceTypesRow, sourceMappingUrlRow, tsSelfTypesRow}
-use Rattle.sheet.specs.Limits.{depthLimit}
-use Rattle.sheet.specs.declared.fields.Span.{Span}
-use Rattle.sheet.specs.Tree.{Quoted, Node, other, string, name, template, binary, object, importCall, call, importDecl, namedExport, exportFrom, exportAll, importType, importEquals, importRequire, moduleDecl, Arguments, noArguments, argument}
+use Rattle.sheet.specs.{Limits.depthLimit, declared.fields.Span.Span, Walk.Visit, Reached.Walked, Reached.ownVisit, Sheet.Sheet}
+use Rattle.sheet.specs.Tree.{Quoted, Node, other, string, name, template, binary, object, importCall, call, importDecl, namedExport, exportFrom, exportAll}
+use Rattle.sheet.specs.Tree.{importType, importEquals, importRequire, moduleDecl, Arguments, noArguments, argument}
 use Rattle.sheet.specs.Shape.{shape, isRequire, isAugmentation}
-use Rattle.sheet.specs.Walk.{Visit}
-use Rattle.sheet.specs.Reached.{Walked, ownVisit}
-use Rattle.sheet.specs.Sheet.{Sheet}
 use Rattle.sheet.proofs.Reaches.{walk-right}
 use Rattle.sheet_codec.specs.Limits.{QuotedFits, under, NodeFits, ArgumentsFit}
 use Rattle.sheet_codec.specs.SheetOf.{SheetOf}
-use Rattle.report.specs.declared.names.StaticDependencyKind.{StaticDependencyKind}
+use Rattle.report.specs.declared.{names.StaticDependencyKind.StaticDependencyKind, names.DynamicDependencyKind.DynamicDependencyKind, writer.Outcome.Outcome}
 use Rattle.report.specs.declared.names.StaticDependencyKind.the-variants as statics
-use Rattle.report.specs.declared.names.DynamicDependencyKind.{DynamicDependencyKind}
 use Rattle.report.specs.declared.names.DynamicDependencyKind.the-variants as dynamics
-use Rattle.report.specs.declared.writer.Outcome.{Outcome}
-use Rattle.report.specs.ModuleInfo.{PositionRange, SpecifierWithRange, TypeScriptReference, path, types, JsDocImportInfo, ImportAttributes, none, DependencyDescriptor, static, dynamic, ModuleInfo}
-use Rattle.report.specs.Range.{RangeAt}
-use Rattle.report.proofs.RangesApart.{range-at}
+use Rattle.report.specs.ModuleInfo.{PositionRange, SpecifierWithRange, TypeScriptReference, path, types, JsDocImportInfo, ImportAttributes, none}
+use Rattle.report.specs.ModuleInfo.{DependencyDescriptor, static, dynamic, ModuleInfo}
+use Rattle.report.{specs.Range.RangeAt, proofs.RangesApart.range-at}
 use Rattle.pragmas.specs.Pragmas.{typesAt}
 use Rattle.pragmas.specs.Texts.{ShownInMarks, ShownBare, TypesShown, ReferenceShown, typesOf}
 use Rattle.dep_entries.specs.Entries.{importKind, exportKind, equalsKind, dynamicKind, staticEntry, callEntry, moduleEntry}
-use Rattle.dep.specs.Collect.{numbersOf, entryOf}
-use Rattle.dep.proofs.Turns.{turn-member, turns-with}
-use Rattle.dep.proofs.EntryAttributes.{all-if}
-use Rattle.module_info.specs.Information.{moduleInfo}
-use Rattle.module_info.specs.Replaced.{noted}
-use Rattle.module_info.specs.Demands.{Demands}
-use Rattle.module_info.proofs.Inside.{walked-fits}
+use Rattle.dep.{specs.Collect.numbersOf, specs.Collect.entryOf, proofs.Turns.turn-member, proofs.Turns.turns-with, proofs.EntryAttributes.all-if}
+use Rattle.module_info.{specs.Information.moduleInfo, specs.Replaced.noted, specs.Demands.Demands, proofs.Inside.walked-fits}
 use Rattle.citation.specs.Citation.{Line, citeOptional, citeDependency, dependencyLetter, citeNoted, citeEach, citeReference, citeJsDoc, lines}
 use Rattle.citation.proofs.ColumnsRight.{columns-right}
 use Rattle.cite.specs.Cited.{EditorColumns}
@@ -40,9 +30,11 @@ unfolding flatMap
 all-flatMap P f [] a = tt
 all-flatMap P f (x ∷ l) a = all-append P (f x) (flatMap f l) (a .0) (all-flatMap P f l (a .1))
 
-all-each : {A : Type 0} (P : Line → Type 0) (f : ℕ → A → List Line) (numbers : List ℕ) (l : List A) → All (λ a. (number : ℕ) → All P (f number a)) l → All P (citeEach f numbers l)
+all-each : {A : Type 0} (P : Line → Type 0) (f : ℕ → A → List Line) (numbers : List ℕ) (l : List A) → All (λ a. (number : ℕ) → All P (f number a)) l →
+    All P (citeEach f numbers l)
 all-each P f numbers [] a = tt
-all-each P f numbers (x ∷ l) a = all-append P (f (getD numbers 1 0) x) (citeEach f (drop 2 numbers) l) (a .0 (getD numbers 1 0)) (all-each P f (drop 2 numbers) l (a .1))
+all-each P f numbers (x ∷ l) a = all-append P (f (getD numbers 1 0) x) (citeEach f (drop 2 numbers) l) (a .0 (getD numbers 1 0))
+    (all-each P f (drop 2 numbers) l (a .1))
 
 module _ (source : List ℕ) where
   abbrev Placed : PositionRange → Type 0
@@ -51,7 +43,8 @@ module _ (source : List ℕ) where
   abbrev Each : List Line → Type 0
   Each = All (λ l. Placed (l .range))
 
-  optional-placed : (letter : ℕ) (P : SpecifierWithRange → Type 0) → ((x : SpecifierWithRange) → P x → Placed (x .range)) → (o : Option SpecifierWithRange) → IfThere P o
+  optional-placed : (letter : ℕ) (P : SpecifierWithRange → Type 0) → ((x : SpecifierWithRange) → P x → Placed (x .range)) →
+      (o : Option SpecifierWithRange) → IfThere P o
       → Each (citeOptional letter o)
   optional-placed letter P f Option.none p = tt
   optional-placed letter P f (Option.some x) p = (f x p, tt)
@@ -69,7 +62,8 @@ module _ (source : List ℕ) where
     unfolding staticEntry
     static-placed kind sp k {x} q sideEffect a = (x .span, range-at (q .place .span .start) (q .place .span .end) refl)
 
-    call-placed : (kind : DynamicDependencyKind) (sp : Span) (xs : Arguments) (k : ℕ) → ArgumentsFit source xs k → All OwnRange (callEntry source types kind sp xs)
+    call-placed : (kind : DynamicDependencyKind) (sp : Span) (xs : Arguments) (k : ℕ) → ArgumentsFit source xs k →
+        All OwnRange (callEntry source types kind sp xs)
     unfolding callEntry ArgumentsFit
     call-placed kind sp noArguments k f = tt
     call-placed kind sp (argument dots at n xs) k f = ((at, range-at (f .0 .0 .start) (f .0 .0 .end) refl), tt)
@@ -88,7 +82,8 @@ module _ (source : List ℕ) where
     own-placed k (binary sp plus l r) f = tt
     own-placed k (object sp ps) f = tt
     own-placed k (importCall sp phase xs ns) f = call-placed (dynamicKind phase) sp xs (under k) (f .1 .0 .1)
-    own-placed k (call sp e xs ns) f = all-if _ (isRequire (shape e)) (callEntry source types dynamics.Require sp xs) (call-placed dynamics.Require sp xs (under k) (f .1 .1 .0 .1))
+    own-placed k (call sp e xs ns) f = all-if _ (isRequire (shape e)) (callEntry source types dynamics.Require sp xs)
+        (call-placed dynamics.Require sp xs (under k) (f .1 .1 .0 .1))
     own-placed k (importDecl sp typeOnly phase sideEffect x a) f = (static-placed (importKind typeOnly phase) sp (under k) (f .1 .0) sideEffect _, tt)
     own-placed k (namedExport sp typeOnly) f = tt
     own-placed k (exportFrom sp typeOnly x a) f = (static-placed (exportKind typeOnly) sp (under k) (f .1 .0) false _, tt)
@@ -97,7 +92,9 @@ module _ (source : List ℕ) where
     own-placed k (importEquals sp) f = tt
     own-placed k (importRequire sp typeOnly export x) f = (static-placed (equalsKind typeOnly export) sp (under k) (f .1) false none, tt)
     own-placed k (moduleDecl sp Option.none ns) f = tt
-    own-placed k (moduleDecl sp (Option.some x) ns) f = all-if _ (isAugmentation (x .text)) (staticEntry source types statics.MaybeTsModuleAugmentation sp x false none ∷ []) (static-placed statics.MaybeTsModuleAugmentation sp (under k) (f .1 .0) false none, tt)
+    own-placed k (moduleDecl sp (Option.some x) ns) f = all-if _ (isAugmentation (x .text))
+        (staticEntry source types statics.MaybeTsModuleAugmentation sp x false none ∷ [])
+        (static-placed statics.MaybeTsModuleAugmentation sp (under k) (f .1 .0) false none, tt)
 
     walked-placed : {root n : Node} {v : Visit} {d : DependencyDescriptor} → Walked root n → ownVisit n ≡ Option.some v → NodeFits source root depthLimit
         → entryOf source types v ≡ d ∷ [] → OwnRange d
@@ -125,7 +122,8 @@ module _ {s buffer : List ℕ} {size : ℕ} {outcome : Outcome} (d : Demands s s
   types-placed : (x : SpecifierWithRange) → TypesShown t x → Placed (t .source) (x .range)
   types-placed x = ⊎-elim (λ h. (_, h .stands .range)) (λ h. (_, h .stands .range))
 
-  dependency-placed : (letter : ℕ) (x : DependencyDescriptor) → OwnRange (t .source) x → IfThere (TypesShown t) (typesOf x) → Each (t .source) (citeDependency letter x)
+  dependency-placed : (letter : ℕ) (x : DependencyDescriptor) → OwnRange (t .source) x → IfThere (TypesShown t) (typesOf x) →
+      Each (t .source) (citeDependency letter x)
   dependency-placed letter (static x) p h = (p, optional-placed (t .source) (code "T") (TypesShown t) types-placed (x .typesSpecifier) h)
   dependency-placed letter (dynamic x) p h = (p, optional-placed (t .source) (code "T") (TypesShown t) types-placed (x .typesSpecifier) h)
 
@@ -149,13 +147,20 @@ module _ {s buffer : List ℕ} {size : ℕ} {outcome : Outcome} (d : Demands s s
       let Y = citeOptional (code "Y") (m .jsxImportSourceTypes) in
       let J = flatMap citeJsDoc (m .jsdocImports) in
       let M = citeOptional (code "M") (m .sourceMapUrl) in
-      let dependencies : All P D = all-each P citeNoted numbers (m .dependencies) (of-members (λ x. (number : ℕ) → All P (citeNoted number x)) (m .dependencies) (λ x i number. dependency-placed (dependencyLetter number) x (own x i) (all-member (λ x. IfThere (TypesShown t) (typesOf x)) (m .dependencies) (texts .types) i))) in
-      let references : All P R = all-flatMap P citeReference (m .tsReferences) (of-members (λ x. All P (citeReference x)) (m .tsReferences) (λ x i. reference-placed x (all-member (ReferenceShown t) (m .tsReferences) (texts .references) i))) in
-      let self : All P S = optional-placed (t .source) (code "S") (ShownInMarks tsSelfTypesRow t) (λ x h. (_, h .stands .range)) (m .selfTypesSpecifier) (texts .self-types) in
-      let jsx : All P X = optional-placed (t .source) (code "X") (ShownBare jsxImportSourceRow t) (λ x h. (_, h .stands .range)) (m .jsxImportSource) (texts .jsx-import-source) in
-      let jsx-types : All P Y = optional-placed (t .source) (code "Y") (ShownBare jsxImportSourceTypesRow t) (λ x h. (_, h .stands .range)) (m .jsxImportSourceTypes) (texts .jsx-import-source-types) in
+      let dependencies : All P D = all-each P citeNoted numbers (m .dependencies) (of-members (λ x. (number : ℕ) → All P
+      (citeNoted number x)) (m .dependencies) (λ x i number. dependency-placed (dependencyLetter number) x (own x i)
+      (all-member (λ x. IfThere (TypesShown t) (typesOf x)) (m .dependencies) (texts .types) i))) in
+      let references : All P R = all-flatMap P citeReference (m .tsReferences) (of-members (λ x. All P (citeReference x)) (m .tsReferences)
+      (λ x i. reference-placed x (all-member (ReferenceShown t) (m .tsReferences) (texts .references) i))) in
+      let self : All P S = optional-placed (t .source) (code "S") (ShownInMarks tsSelfTypesRow t) (λ x h. (_, h .stands .range)) (m .selfTypesSpecifier)
+      (texts .self-types) in
+      let jsx : All P X = optional-placed (t .source) (code "X") (ShownBare jsxImportSourceRow t) (λ x h. (_, h .stands .range)) (m .jsxImportSource)
+      (texts .jsx-import-source) in
+      let jsx-types : All P Y = optional-placed (t .source) (code "Y") (ShownBare jsxImportSourceTypesRow t) (λ x h. (_, h .stands .range))
+      (m .jsxImportSourceTypes) (texts .jsx-import-source-types) in
       let imports : All P J = all-flatMap P citeJsDoc (m .jsdocImports) (of-members (λ x. All P (citeJsDoc x)) (m .jsdocImports) jsdoc-placed) in
-      let map : All P M = optional-placed (t .source) (code "M") (ShownBare sourceMappingUrlRow t) (λ x h. (_, h .stands .range)) (m .sourceMapUrl) (texts .source-map-url) in
+      let map : All P M = optional-placed (t .source) (code "M") (ShownBare sourceMappingUrlRow t) (λ x h. (_, h .stands .range)) (m .sourceMapUrl)
+      (texts .source-map-url) in
       all-append P D (R ++ (S ++ (X ++ (Y ++ (J ++ M))))) dependencies
       (all-append P R (S ++ (X ++ (Y ++ (J ++ M)))) references
       (all-append P S (X ++ (Y ++ (J ++ M))) self

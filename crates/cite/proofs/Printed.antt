@@ -1,29 +1,23 @@
 -- What the report function answers is what the citation asks for.
-use Rattle.laws.proofs.Prelude.{_≡_, refl, sym, ap, _∙_, Bool, true, false, List, [], _++_, flatMap, ℕ, _+_, _-_, _*_, _≤_, arith, leb, length, take, drop, length-append, length-drop, take-append-seam, take-all, leb-true}
+use Rattle.laws.proofs.Prelude.{_≡_, refl, sym, ap, _∙_, Bool, true, false, List, [], _++_, flatMap, ℕ, _+_, _-_, _*_, _≤_, arith, leb, length, take, drop}
+use Rattle.laws.proofs.Prelude.{length-append, length-drop, take-append-seam, take-all, leb-true}
 use lib.ListN.{length-map}
 use Rattle.wire.specs.Refusals.{ofSheets, oneOf}
 use Rattle.wire.specs.Refusals as refusals
-use Rattle.sheet.specs.Sheet.{Sheet}
-use Rattle.sheet.specs.Judge.{judge}
-use Rattle.sheet_codec.specs.SheetOf.{SheetOf}
-use Rattle.sheet_codec.proofs.Sheets.{accepts-exactly}
+use Rattle.sheet.specs.{Sheet.Sheet, Judge.judge}
+use Rattle.sheet_codec.{specs.SheetOf.SheetOf, proofs.Sheets.accepts-exactly}
 use Rattle.sheet_codec.proofs.Refusals.{apart, Decision, decided, judged-sheet, judged-refusal}
-use Rattle.report.specs.ModuleInfo.{ModuleInfo}
-use Rattle.report.specs.Encode.{encode}
-use Rattle.report.specs.Valid.{Valid}
+use Rattle.report.specs.{ModuleInfo.ModuleInfo, Encode.encode, Valid.Valid, declared.writer.Outcome.Outcome}
 use Rattle.report.specs.Answer.{Answer, zeros, accepted, refusedWith, fitted}
-use Rattle.report.specs.declared.writer.Outcome.{Outcome}
 use Rattle.report.specs.declared.writer.Outcome.the-variants.{Accepted, Refused}
 use Rattle.module_info.specs.Information.{moduleInfo, defaultInfo, answerOf}
 use Rattle.dep_entries.specs.Entries.{Noted}
 use Rattle.dep.specs.Collect.{numbersOf}
 use Rattle.module_info.specs.Replaced.{notedIn, held, NotesRight}
 use Rattle.module_info.specs.Replaced as Replaced
-use Rattle.module_info.specs.Demands.{Demands}
-use Rattle.module_info.proofs.Notes.{held-whole}
+use Rattle.module_info.{specs.Demands.Demands, proofs.Notes.held-whole}
 use Rattle.citation.specs.Citation.{lines, citation, refusal}
-use Rattle.citation.proofs.Printing.{citation-padded}
-use Rattle.citation.proofs.Few.{few-dependencies}
+use Rattle.citation.proofs.{Printing.citation-padded, Few.few-dependencies}
 use Rattle.cite.specs.Cited.{reportRoom, noteRoom, lineRoom, citedIn, cited}
 
 -- a report has bytes
@@ -66,7 +60,8 @@ module _ {s buffer notes : List ℕ} where
   question d noted = by (decided s)
     where
       by : Decision s → Question s
-      by (Decision.empty e) = asked (record { info = defaultInfo; noted = []; numbered = rw e; beside = refl; answer = rw e; lines = λ source h. rw e; valid = d .empty e .report .fits })
+      by (Decision.empty e) = asked
+          (record { info = defaultInfo; noted = []; numbered = rw e; beside = refl; answer = rw e; lines = λ source h. rw e; valid = d .empty e .report .fits })
       by (Decision.accepted t e) =
           let is = accepts-exactly s t .0 e in
           asked (record {
@@ -117,7 +112,8 @@ module _ {s buffer notes : List ℕ} where
           absurd (apart ofSheets among (sym none) refl)
 
   -- a refusal that was answered
-  pub refused-lines : {r number : ℕ} (source : List ℕ) → Holds s source → Demands s reportRoom (Refused r) buffer → NotesRight s noteRoom number notes → cited s ≡ refusal r
+  pub refused-lines : {r number : ℕ} (source : List ℕ) → Holds s source → Demands s reportRoom (Refused r) buffer → NotesRight s noteRoom number notes →
+      cited s ≡ refusal r
   unfolding fitted
   refused-lines {r} source o d noted = by (question d noted)
     where

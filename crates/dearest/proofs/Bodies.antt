@@ -1,7 +1,6 @@
 -- A star and then only `{`, put byte by byte.
 use Rattle.laws.proofs.Prelude.{_≡_, List, ℕ, _+_, _-_, _≤_, _<_, code, arith, add-one, length, take, set}
-use lib.ListN.{replicate-append-replicate}
-use lib.Seq.{take-suc-set}
+use lib.{ListN.replicate-append-replicate, Seq.take-suc-set}
 use Rattle.scan.specs.Dearest.{starAndBraces}
 
 pub star : (l : List ℕ) → 0 < length l → take 1 (set l 0 (code "*")) ≡ starAndBraces 1

@@ -1,9 +1,9 @@
 -- Decimal numerals: what holds of each, and how one is read from the front.
-use Rattle.laws.proofs.Prelude.{_≡_, refl, sym, ap, _∙_, _⊎_, inl, inr, ⊎-elim, List, [], _∷_, _++_, ℕ, zero, _+_, _-_, _*_, _≤_, _<_, code, arith, add-one, length, getD, take, drop, length-append, length-take-le, drop-cons, take-all}
+use Rattle.laws.proofs.Prelude.{_≡_, refl, sym, ap, _∙_, _⊎_, inl, inr, ⊎-elim, List, [], _∷_, _++_, ℕ, zero, _+_, _-_, _*_, _≤_, _<_, code, arith, add-one}
+use Rattle.laws.proofs.Prelude.{length, getD, take, drop, length-append, length-take-le, drop-cons, take-all}
 use Prim.Native.Nat.{_^_}
 use native.Mathlib.Nat.{pow-suc, pow-le-pow-right, lt-of-not-le}
-use lib.ListN.{List·getD-append}
-use lib.Seq.{take-suc, getD-append-seam}
+use lib.{ListN.List·getD-append, Seq.take-suc, Seq.getD-append-seam}
 use borrow.Author.Count.{below-none, below-more}
 use Rattle.scan.specs.Scan.{longest}
 use Rattle.dearest.specs.Input.{Numeral, first, next, Digits}

@@ -1,11 +1,10 @@
 -- What an input asks for, by the numeral in it.
-use Rattle.laws.proofs.Prelude.{_≡_, refl, ap, _∙_, _⊎_, inl, inr, ⊎-elim, List, [], _++_, ℕ, suc, _+_, _≤_, _<_, code, arith, length, getD, take, drop, length-append, drop-of-length-le}
+use Rattle.laws.proofs.Prelude.{_≡_, refl, ap, _∙_, _⊎_, inl, inr, ⊎-elim, List, [], _++_, ℕ, suc, _+_, _≤_, _<_, code, arith, length, getD, take, drop}
+use Rattle.laws.proofs.Prelude.{length-append, drop-of-length-le}
 use lib.Seq.{split-at, take-at, getD-at}
 use Rattle.laws.specs.Ascii.{ascii}
-use Rattle.dearest.specs.declared.Request.{Request}
+use Rattle.dearest.specs.{declared.Request.Request, Input.Digits, Input.Asks, code.Answers.Settles}
 use Rattle.dearest.specs.declared.Request.the-variants as request
-use Rattle.dearest.specs.Input.{Digits, Asks}
-use Rattle.dearest.specs.code.Answers.{Settles}
 use Rattle.dearest.proofs.Numerals.{facts, five}
 
 -- an answer to one question answers another that holds of the same numbers

@@ -1,13 +1,9 @@
 -- What is written is what the whole input asks for, though only its front was read.
 use Rattle.laws.proofs.Prelude.{_≡_, refl, sym, ap, _∙_, List, [], append-nil, ℕ, _<_, arith, length, length-append}
-use Rattle.scan.specs.Dearest.{starAndBraces}
-use Rattle.scan.proofs.Bounds.{star-and-braces}
+use Rattle.scan.{specs.Dearest.starAndBraces, proofs.Bounds.star-and-braces}
 use Rattle.dearest.specs.declared.Request.the-variants as request
-use Rattle.dearest.specs.Input.{Asks, ReadOf}
-use Rattle.dearest.specs.Output.{Written}
-use Rattle.dearest.specs.code.Answers.{Settles}
-use Rattle.dearest.proofs.Numerals.{facts}
-use Rattle.dearest.proofs.Requests.{asks-short}
+use Rattle.dearest.specs.{Input.Asks, Input.ReadOf, Output.Written, code.Answers.Settles}
+use Rattle.dearest.proofs.{Numerals.facts, Requests.asks-short}
 
 module _ {input front : List ℕ} (read : ReadOf input front) where
   all-read : length front < 7 → input ≡ front
@@ -29,8 +25,4 @@ module _ {input front : List ℕ} (read : ReadOf input front) where
   pub writes-nothing : Settles (Asks front) request.Nothing → Written input []
   writes-nothing s =
       let none : (m : ℕ) → Asks input m → ⊥ = λ m a. s m (rw (all-read (front-short (asks-short a))) at a) in
-      record {
-        body = λ m a. absurd (none m a);
-        dearest = λ m a. absurd (none m a);
-        nothing = λ asked. refl;
-      }
+      record { body = λ m a. absurd (none m a); dearest = λ m a. absurd (none m a); nothing = λ asked. refl }

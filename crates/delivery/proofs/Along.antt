@@ -1,10 +1,9 @@
 -- The modules of a delivery, read one after the other.
-use Rattle.laws.proofs.Prelude.{_≡_, refl, sym, ap, _∙_, List, [], _∷_, _++_, append-assoc, append-nil, flatMap, ℕ, _+_, _-_, _≤_, _<_, arith, drop, length-append}
+use Rattle.laws.proofs.Prelude.{_≡_, refl, sym, ap, _∙_, List, [], _∷_, _++_, append-assoc, append-nil, flatMap, ℕ, _+_, _-_, _≤_, _<_, arith, drop}
+use Rattle.laws.proofs.Prelude.{length-append}
 use mathlib.Core.List.{map-append}
 use Rattle.laws.proofs.Lists.{all-append, flatMap-append}
-use Rattle.delivery.specs.Delivery.{Module, encodeModule}
-use Rattle.delivery.specs.Right.{namesOf}
-use Rattle.delivery.specs.code.Views.{ValidModule, Modules}
+use Rattle.delivery.specs.{Delivery.Module, Delivery.encodeModule, Right.namesOf, code.Views.ValidModule, code.Views.Modules}
 
 -- i of the modules are passed, and the others stand from a place on
 pub record Along (s t : List ℕ) (first count : ℕ) (ms : List Module) (at i : ℕ) (earlier rest : List Module) : Type 0 where

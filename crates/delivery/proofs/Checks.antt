@@ -1,12 +1,12 @@
 -- So many modules, checked one after the other, and nothing behind them.
-use Rattle.laws.proofs.Prelude.{_≡_, refl, ap, _∙_, List, [], _∷_, ℕ, zero, suc, _-_, _≤_, _<_, arith, length, drop, drop-of-length-le, drop-cons, le-leb, lt-leb}
+use Rattle.laws.proofs.Prelude.{_≡_, refl, ap, _∙_, List, [], _∷_, ℕ, zero, suc, _-_, _≤_, _<_, arith, length, drop, drop-of-length-le, drop-cons, le-leb}
+use Rattle.laws.proofs.Prelude.{lt-leb}
 use Rattle.laws.specs.Decoded.{ok, no, onOk}
 use Rattle.laws.proofs.Decoding.{onOk-ok, onOk-no, map-map}
 use Rattle.wire.specs.Number.{number}
 use Rattle.report.specs.Decode.{times}
 use Rattle.delivery.specs.Delivery.{Module, deliveryLimit, moduleLimit, namedSheet, lastModules, countedModules, decodeDelivery}
-use Rattle.delivery.specs.code.Views.{forget, CheckedAs}
-use Rattle.delivery.specs.declared.check.Checked.{Checked}
+use Rattle.delivery.specs.{code.Views.forget, code.Views.CheckedAs, declared.check.Checked.Checked}
 use Rattle.delivery.specs.declared.check.Checked.the-variants as checked
 use Rattle.delivery.proofs.Deliveries.{stand}
 

@@ -1,23 +1,19 @@
 -- Just the encodings of deliveries within the limits are decoded.
-use Rattle.laws.proofs.Prelude.{_≡_, refl, sym, ap, _∙_, Bool, true, false, cond, _&&_, _↔_, List, [], _∷_, _++_, append-assoc, append-nil, flatMap, List·Memᴰ, ℕ, zero, suc, _≤_, arith, leb, length, length-append, leb-true, le-leb}
+use Rattle.laws.proofs.Prelude.{_≡_, refl, sym, ap, _∙_, Bool, true, false, cond, _&&_, _↔_, List, [], _∷_, _++_, append-assoc, append-nil, flatMap}
+use Rattle.laws.proofs.Prelude.{List·Memᴰ, ℕ, zero, suc, _≤_, arith, leb, length, length-append, leb-true, le-leb}
 use Rattle.laws.specs.Decoded.{ok, no, Decoder, _>>_, return}
 use Rattle.laws.specs.Codec.{Codec, All}
 use Rattle.laws.proofs.Decoding.{refused, then-ok, onOk-ok, require-ok}
 use Rattle.laws.proofs.Codecs.{built-then, codec-of, built-end}
 use Rattle.laws.proofs.Lists.{all-member, of-members, part-flatMap}
 use Rattle.text.specs.declared.utf8.Encoding.the-variants.{Utf8}
-use Rattle.wire.specs.Number.{number, encodeNumber}
-use Rattle.wire.specs.Text.{encodeText}
-use Rattle.wire.specs.Fields.{bytes}
-use Rattle.wire.proofs.NumberCodec.{number-codec}
+use Rattle.wire.{specs.Number.number, specs.Number.encodeNumber, specs.Text.encodeText, specs.Fields.bytes, proofs.NumberCodec.number-codec}
 use Rattle.wire.proofs.TextCodec.{bytes-codec, text-codec}
-use Rattle.sheet.specs.Limits.{textLimit}
-use Rattle.sheet.specs.Sheet.{ending}
-use Rattle.report.specs.Encode.{encodeList}
+use Rattle.sheet.specs.{Limits.textLimit, Sheet.ending}
+use Rattle.report.specs.{Encode.encodeList, Decode.times, Valid.Short}
 use Rattle.report.specs.Decode as report
-use Rattle.report.specs.Decode.{times}
-use Rattle.report.specs.Valid.{Short}
-use Rattle.delivery.specs.Delivery.{Module, deliveryLimit, moduleLimit, encodeModule, encodeDelivery, NameFits, DeliveryOf, namedSheet, lastModules, countedModules, decodeDelivery}
+use Rattle.delivery.specs.Delivery.{Module, deliveryLimit, moduleLimit, encodeModule, encodeDelivery, NameFits, DeliveryOf, namedSheet, lastModules}
+use Rattle.delivery.specs.Delivery.{countedModules, decodeDelivery}
 use Rattle.delivery.specs.code.Views.{ValidModule}
 
 -- so many items

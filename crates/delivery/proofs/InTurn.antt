@@ -1,9 +1,9 @@
 -- The passes over modules and entries: what they pass over, and where they stop.
-use Rattle.laws.proofs.Prelude.{_≡_, refl, sym, ap, _∙_, List, [], _∷_, _++_, append-assoc, append-nil, List·Memᴰ, Bool, true, false, true≢false, ℕ, _+_, add-zero, zero-add, arith, eqb, length, eq-eqb, eqb-true}
+use Rattle.laws.proofs.Prelude.{_≡_, refl, sym, ap, _∙_, List, [], _∷_, _++_, append-assoc, append-nil, List·Memᴰ, Bool, true, false, true≢false, ℕ, _+_}
+use Rattle.laws.proofs.Prelude.{add-zero, zero-add, arith, eqb, length, eq-eqb, eqb-true}
 use Rattle.laws.specs.Codec.{All}
 use Rattle.report.specs.ModuleInfo.{DependencyDescriptor}
-use Rattle.delivery.specs.Delivery.{Module}
-use Rattle.delivery.specs.Asks.{Asks}
+use Rattle.delivery.specs.{Delivery.Module, Asks.Asks}
 use Rattle.delivery.specs.Order.{Answer, inOrder, notInOrder, refused, entriesOf, numberOf, entriesInTurn, modulesInTurn, sheetsInTurn}
 use Rattle.delivery.specs.Right.{Reported, namesOf, EntryInOrder, ModuleInOrder, InOrder, FirstRefused, FirstLate}
 use Rattle.delivery.proofs.Judging.{LateOr, fine, late, late-or, in-time, too-late}
@@ -41,10 +41,10 @@ entries-or earlier (d ∷ ds) = by (late-or earlier d) (entries-or earlier ds)
 
 -- modules in order, behind names that stood before them all
 abbrev InOrderAfter : List (List ℕ) → List Module → Type 0
-InOrderAfter earlier ms =
-    (before : List Module) (m : Module) (behind : List Module) → ms ≡ before ++ m ∷ behind → ModuleInOrder (earlier ++ namesOf before) m
+InOrderAfter earlier ms = (before : List Module) (m : Module) (behind : List Module) → ms ≡ before ++ m ∷ behind → ModuleInOrder (earlier ++ namesOf before) m
 
-no-modules : (earlier : List (List ℕ)) (before : List Module) (m : Module) (behind : List Module) → [] ≡ before ++ m ∷ behind → ModuleInOrder (earlier ++ namesOf before) m
+no-modules : (earlier : List (List ℕ)) (before : List Module) (m : Module) (behind : List Module) → [] ≡ before ++ m ∷ behind →
+    ModuleInOrder (earlier ++ namesOf before) m
 no-modules earlier [] m behind is = let z : _≡_ {A = ℕ} 0 1 = cc in absurd (omega arith)
 no-modules earlier (b ∷ before) m behind is = let z : _≡_ {A = ℕ} 0 1 = cc in absurd (omega arith)
 
@@ -96,7 +96,8 @@ pub data ModulesOr (earlier : List (List ℕ)) (ms : List Module) : Type 0 where
   each : InOrderAfter earlier ms → ModulesOr earlier ms
   found : (before : List Module) (middle : Module) (behind : List Module) → ms ≡ before ++ middle ∷ behind → InOrderAfter earlier before
       → (passed : List DependencyDescriptor) (d : DependencyDescriptor) (rest : List DependencyDescriptor) (x : List ℕ)
-      → entriesOf (middle .sheet) ≡ passed ++ d ∷ rest → All (EntryInOrder (earlier ++ namesOf before)) passed → Asks d x → (List·Memᴰ x (earlier ++ namesOf before) → ⊥)
+      → entriesOf (middle .sheet) ≡ passed ++ d ∷ rest → All (EntryInOrder (earlier ++ namesOf before)) passed → Asks d x →
+      (List·Memᴰ x (earlier ++ namesOf before) → ⊥)
       → ModulesOr earlier ms
 
 modules-or : (earlier : List (List ℕ)) (ms : List Module) → ModulesOr earlier ms

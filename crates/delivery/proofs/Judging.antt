@@ -1,5 +1,6 @@
 -- Which entries are late: the tests and what they say.
-use Rattle.laws.proofs.Prelude.{_≡_, refl, sym, ap, _∙_, Bool, true, false, false≢true, _||_, or-true, _⊎_, inl, inr, ⊎-elim, List, [], _∷_, List·Memᴰ, List·Memᴰ·head, List·Memᴰ·tail, List·Memᴰ·not-nil, List·Memᴰ·cases-cons, Option, ℕ, arith, drop}
+use Rattle.laws.proofs.Prelude.{_≡_, refl, sym, ap, _∙_, Bool, true, false, false≢true, _||_, or-true, _⊎_, inl, inr, ⊎-elim, List, [], _∷_, List·Memᴰ}
+use Rattle.laws.proofs.Prelude.{List·Memᴰ·head, List·Memᴰ·tail, List·Memᴰ·not-nil, List·Memᴰ·cases-cons, Option, ℕ, arith, drop}
 use mathlib.Core.List.{Memᴰ·cast}
 use Rattle.laws.specs.Ascii.{ascii}
 use Rattle.text.specs.Bytes.{begins, same}
@@ -8,8 +9,7 @@ use Rattle.report.specs.declared.names.StaticDependencyKind.{StaticDependencyKi
 use Rattle.report.specs.declared.names.StaticDependencyKind.the-variants as statics
 use Rattle.report.specs.ModuleInfo.{StaticDependencyDescriptor, DependencyDescriptor, static, dynamic}
 use Rattle.delivery.specs.Asks.{LeftOut, Relative, Asks, leftOut, relative}
-use Rattle.delivery.specs.Order.{among, lateIn}
-use Rattle.delivery.specs.Right.{EntryInOrder}
+use Rattle.delivery.specs.{Order.among, Order.lateIn, Right.EntryInOrder}
 
 -- a text is among names exactly when it is a member
 pub among-member : (x : List ℕ) (names : List (List ℕ)) → among x names ≡ true → List·Memᴰ x names
@@ -46,7 +46,8 @@ out-left h = ⊎-elim (λ e. rw e) (λ h. ⊎-elim (λ e. rw e) (λ e. rw e) h) 
 is-relative : (x : List ℕ) → relative x ≡ true → Relative x
 is-relative x e = by (begins (ascii "./") x) refl (begins (ascii "../") x) refl (begins (ascii "/") x) refl e
   where
-    by : (a : Bool) → begins (ascii "./") x ≡ a → (b : Bool) → begins (ascii "../") x ≡ b → (c : Bool) → begins (ascii "/") x ≡ c → (a || b || c) ≡ true → Relative x
+    by : (a : Bool) → begins (ascii "./") x ≡ a → (b : Bool) → begins (ascii "../") x ≡ b → (c : Bool) → begins (ascii "/") x ≡ c → (a || b || c) ≡ true →
+        Relative x
     by true p b q c r e = (drop 2 x, inl (begins-sound (ascii "./") x p))
     by false p true q c r e = (drop 3 x, inr (inl (begins-sound (ascii "../") x q)))
     by false p false q true r e = (drop 1 x, inr (inr (begins-sound (ascii "/") x r)))

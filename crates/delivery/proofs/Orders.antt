@@ -1,5 +1,6 @@
 -- What is answered of a delivery is right.
-use Rattle.laws.proofs.Prelude.{_≡_, refl, sym, ap, _∙_, Bool, true, false, true≢false, false≢true, cond, _||_, ⊎-elim, List, [], _∷_, _++_, List·Memᴰ, List·Memᴰ·head, List·Memᴰ·tail, List·Memᴰ·not-nil, List·Memᴰ·cases-cons, ℕ, arith}
+use Rattle.laws.proofs.Prelude.{_≡_, refl, sym, ap, _∙_, Bool, true, false, true≢false, false≢true, cond, _||_, ⊎-elim, List, [], _∷_, _++_, List·Memᴰ}
+use Rattle.laws.proofs.Prelude.{List·Memᴰ·head, List·Memᴰ·tail, List·Memᴰ·not-nil, List·Memᴰ·cases-cons, ℕ, arith}
 use mathlib.Core.List.{List·Memᴰ·append-cases, List·Memᴰ·eq-of-singleton, Memᴰ·append-left, Memᴰ·append-right, Memᴰ·cast}
 use Rattle.laws.specs.Codec.{All}
 use Rattle.laws.specs.Decoded.{Decoded, ok, no}
@@ -7,9 +8,7 @@ use Rattle.wire.specs.Refusals.{oneOf}
 use Rattle.delivery.specs.Delivery.{Module, DeliveryOf, decodeDelivery}
 use Rattle.delivery.specs.Order.{Answer, inOrder, notInOrder, refused, among, repeated, modulesInTurn, sheetsInTurn, orderIn, orderOf}
 use Rattle.delivery.specs.Right.{NamesDiffer, Reported, InOrder, FirstRefused, FirstLate, JudgedRight, OrderRight}
-use Rattle.delivery.proofs.Deliveries.{decoded, delivered}
-use Rattle.delivery.proofs.Reported.{not-of-sheets}
-use Rattle.delivery.proofs.Judging.{among-member, member-among}
+use Rattle.delivery.proofs.{Deliveries.decoded, Deliveries.delivered, Reported.not-of-sheets, Judging.among-member, Judging.member-among}
 use Rattle.delivery.proofs.InTurn.{all-modules, late-answered, first-late-or, all-sheets, refusal-answered, first-refused-or}
 
 -- no name of the modules is one of those before them

@@ -1,26 +1,23 @@
 -- The entries of a report, read one after the other.
-use Rattle.laws.proofs.Prelude.{_≡_, refl, sym, ap, _∙_, Bool, cond, not, _&&_, List, append-assoc, flatMap, Option, Option·none-ne-some, ℕ, _+_, _-_, _≤_, arith, length, take, length-take}
+use Rattle.laws.proofs.Prelude.{_≡_, refl, sym, ap, _∙_, Bool, cond, not, _&&_, List, append-assoc, flatMap, Option, Option·none-ne-some, ℕ, _+_, _-_, _≤_}
+use Rattle.laws.proofs.Prelude.{arith, length, take, length-take}
 use mathlib.Core.Option.{Option·some-injective}
 use Rattle.laws.proofs.Lists.{part-part}
 use Rattle.wire.specs.Number.{encodeNumber}
-use Rattle.report.specs.declared.names.StaticDependencyKind.{StaticDependencyKind}
+use Rattle.report.specs.{declared.names.StaticDependencyKind.StaticDependencyKind, Valid.ValidDependency, Valid.Valid}
 use Rattle.report.specs.ModuleInfo.{DependencyDescriptor, static, dynamic, ModuleInfo}
 use Rattle.report.specs.Encode.{encodeList, encodeDependency, encode}
-use Rattle.report.specs.Valid.{ValidDependency, Valid}
-use Rattle.report_reader.specs.code.FromPlace.{Number}
-use Rattle.report_reader.specs.code.Dependencies.{Named, namedIn}
-use Rattle.report_reader.proofs.FromBytes.{flag-read}
+use Rattle.report_reader.{specs.code.FromPlace.Number, specs.code.Dependencies.Named, specs.code.Dependencies.namedIn, proofs.FromBytes.flag-read}
 use Rattle.report_reader.proofs.Lists.{Stand}
-use Rattle.delivery.specs.Asks.{leftOut, relative}
+use Rattle.delivery.specs.{Asks.leftOut, Asks.relative, declared.entries.Late.Late, code.Views.lateAs, code.Views.LateInside}
 use Rattle.delivery.specs.Order.{Answer, notInOrder, entriesOf, among, lateIn, entriesInTurn}
-use Rattle.delivery.specs.declared.entries.Late.{Late}
 use Rattle.delivery.specs.declared.entries.Late.the-variants as late
-use Rattle.delivery.specs.code.Views.{lateAs, LateInside}
 use Rattle.delivery.proofs.Reported.{Report}
 
 -- the dependencies stand behind the script flag and their count
 pub entries-start : {report : List ℕ} {info : ModuleInfo} {script behind count next : ℕ} → Valid info → report ≡ encode info
-    → Number report 0 script behind → Number report behind count next → (u : List ℕ) × Stand encodeDependency ValidDependency report u next count (info .dependencies)
+    → Number report 0 script behind → Number report behind count next →
+    (u : List ℕ) × Stand encodeDependency ValidDependency report u next count (info .dependencies)
 unfolding encode encodeList
 entries-start {info = info} valid bytes script counted =
     let e = flag-read script (info .isScript) _ bytes in
@@ -30,7 +27,8 @@ entries-start {info = info} valid bytes script counted =
 
 -- a static dependency is late by its kind and its text, a dynamic one never
 module _ (earlier : List (List ℕ)) where
-  pub static-late : {kind : StaticDependencyKind} {x : List ℕ} {b : Bool} (d : DependencyDescriptor) → Option.some (record { kind = kind; text = x }) ≡ namedIn d
+  pub static-late : {kind : StaticDependencyKind} {x : List ℕ} {b : Bool} (d : DependencyDescriptor) →
+      Option.some (record { kind = kind; text = x }) ≡ namedIn d
       → b ≡ (not (leftOut kind) && (relative x && not (among x earlier))) → cond b (Option.some x) Option.none ≡ lateIn earlier d
   static-late {kind} {x} (static d) named e =
       let same = Option·some-injective (record { kind = kind; text = x }) (record { kind = d .kind; text = d .specifier .text }) named in

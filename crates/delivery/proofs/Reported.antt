@@ -1,17 +1,13 @@
 -- What the report function answers of a sheet: a refusal's number, which is not 0, or a report, which lists the sheet's entries.
-use Rattle.laws.proofs.Prelude.{_≡_, refl, sym, ap, _∙_, Bool, true, false, List, [], _++_, ℕ, _-_, _≤_, arith, leb, length, take, length-append, take-append-seam}
+use Rattle.laws.proofs.Prelude.{_≡_, refl, sym, ap, _∙_, Bool, true, false, List, [], _++_, ℕ, _-_, _≤_, arith, leb, length, take, length-append}
+use Rattle.laws.proofs.Prelude.{take-append-seam}
 use Rattle.wire.specs.Refusals.{ofSheets, oneOf}
 use Rattle.wire.specs.Refusals as refusals
-use Rattle.sheet.specs.Judge.{judge}
-use Rattle.sheet.specs.Sheet.{Sheet}
-use Rattle.sheet_codec.specs.SheetOf.{SheetOf}
-use Rattle.sheet_codec.proofs.Sheets.{accepts-exactly}
+use Rattle.sheet.specs.{Judge.judge, Sheet.Sheet}
+use Rattle.sheet_codec.{specs.SheetOf.SheetOf, proofs.Sheets.accepts-exactly}
 use Rattle.sheet_codec.proofs.Refusals.{apart, Decision, decided, judged-sheet, judged-refusal}
-use Rattle.report.specs.ModuleInfo.{ModuleInfo}
-use Rattle.report.specs.Encode.{encode}
-use Rattle.report.specs.Valid.{Valid}
+use Rattle.report.specs.{ModuleInfo.ModuleInfo, Encode.encode, Valid.Valid, declared.writer.Outcome.Outcome}
 use Rattle.report.specs.Answer.{Answer, zeros, accepted, refusedWith, fitted, outcomeAs}
-use Rattle.report.specs.declared.writer.Outcome.{Outcome}
 use Rattle.report.specs.declared.writer.Outcome.the-variants.{Accepted, Refused}
 use Rattle.module_info.specs.Information.{moduleInfo, defaultInfo, answerOf}
 use Rattle.module_info.specs.Demands.{Demands}

@@ -2,9 +2,8 @@
 use Rattle.laws.proofs.Prelude.{_≡_, Bool, _||_, List, [], _∷_, _++_, Option, ℕ, _+_, ne-eqb}
 use Rattle.text.specs.Bytes.{same}
 use Rattle.report.specs.ModuleInfo.{DependencyDescriptor}
-use Rattle.delivery.specs.Delivery.{Module}
+use Rattle.delivery.specs.{Delivery.Module, Right.namesOf}
 use Rattle.delivery.specs.Order.{Answer, refused, entriesOf, numberOf, among, repeated, lateIn, lateAt, entriesInTurn, modulesInTurn, sheetsInTurn}
-use Rattle.delivery.specs.Right.{namesOf}
 
 module _ {m : Module} {ms rest : List Module} (is : ms ≡ m ∷ rest) where
   -- a text is the first name, or it is not
@@ -35,6 +34,7 @@ module _ {m : Module} {ms rest : List Module} (is : ms ≡ m ∷ rest) where
 
 module _ {d : DependencyDescriptor} {ds rest : List DependencyDescriptor} (is : ds ≡ d ∷ rest) (earlier : List (List ℕ)) (i j : ℕ) (behind : Answer) where
   -- the first entry is late, or it is not
-  pub entry-here : {o : Option (List ℕ)} → o ≡ lateIn earlier d → entriesInTurn earlier i j ds behind ≡ lateAt i j o (entriesInTurn earlier i (j + 1) rest behind)
+  pub entry-here : {o : Option (List ℕ)} → o ≡ lateIn earlier d →
+      entriesInTurn earlier i j ds behind ≡ lateAt i j o (entriesInTurn earlier i (j + 1) rest behind)
   unfolding entriesInTurn
   entry-here h = rw (is, h)

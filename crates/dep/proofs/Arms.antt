@@ -6,38 +6,31 @@ use borrow.Enum.Known.{lives-at}
 use Rattle.laws.specs.Decoded.{Decoded, ok, no, andThen, onOk, Decoder, _>>=_, return}
 use Rattle.laws.proofs.Decoding.{refused, onOk-ok, onOk-no, built}
 use Rattle.text.specs.Bytes.{part}
-use Rattle.wire.specs.Fields.{flag}
-use Rattle.wire.specs.Number.{number}
-use Rattle.sheet.specs.declared.names.ImportPhase.{ImportPhase}
+use Rattle.wire.specs.{Fields.flag, Number.number}
+use Rattle.sheet.specs.declared.{names.ImportPhase.ImportPhase, fields.Span.Span}
 use Rattle.sheet.specs.declared.names.ImportPhase.the-variants.{Evaluation, Source, Defer}
-use Rattle.sheet.specs.declared.fields.Span.{Span}
-use Rattle.sheet.specs.Tree.{Quoted, Pieces, Node, template, binary, importCall, call, importType, moduleDecl, Nodes, none, more, spread, otherProperty, childKey, stringKey, nameKey, Arguments, argument, Attributes}
+use Rattle.sheet.specs.Tree.{Quoted, Pieces, Node, template, binary, importCall, call, importType, moduleDecl, Nodes, none, more, spread, otherProperty}
+use Rattle.sheet.specs.Tree.{childKey, stringKey, nameKey, Arguments, argument, Attributes}
 use Rattle.sheet.specs.Nodes.{many, nodes, attributes, callRest, node}
 use Rattle.sheet.specs.Shape.{shape, isRequire, anyUncooked}
-use Rattle.sheet_heads.specs.declared.node.Head.{Head}
+use Rattle.sheet_heads.specs.{declared.node.Head.Head, declared.parts.Property.Property, code.Rest.behind, code.Rest.rest}
 use Rattle.sheet_heads.specs.declared.node.Head.the-variants as head
-use Rattle.sheet_heads.specs.declared.parts.Property.{Property}
 use Rattle.sheet_heads.specs.declared.parts.Property.the-variants as property
-use Rattle.sheet_heads.specs.code.Rest.{behind, rest}
 use Rattle.sheet_heads.specs.declared.quoted.Quoted as heads
 use Rattle.sheet_heads.specs.code.Views.{quotedOf, headOf, propertyOf, nodesOf}
-use Rattle.sheet_heads.proofs.node.Head.{the-type, enum}
-use Rattle.sheet_heads.proofs.ByHead.{propertyRest}
-use Rattle.sheet_nodes.specs.declared.tally.Tally.{Tally}
-use Rattle.sheet_nodes.specs.code.Tallies.{tallyAll, tallyWith}
+use Rattle.sheet_heads.proofs.{node.Head.the-type, node.Head.enum, ByHead.propertyRest}
+use Rattle.sheet_nodes.specs.{declared.tally.Tally.Tally, code.Tallies.tallyAll, code.Tallies.tallyWith}
 use Rattle.sheet_nodes.proofs.Arms.{alike, alike-two, nodes-one, nodes-two, pair}
 use Rattle.report.specs.declared.names.StaticDependencyKind.the-variants as statics
-use Rattle.report.specs.declared.names.DynamicDependencyKind.{DynamicDependencyKind}
+use Rattle.report.specs.{declared.names.DynamicDependencyKind.DynamicDependencyKind, ModuleInfo.SpecifierWithRange}
 use Rattle.report.specs.declared.names.DynamicDependencyKind.the-variants as dynamics
-use Rattle.report.specs.ModuleInfo.{SpecifierWithRange}
 use Rattle.attributes.specs.Attributes.{staticAttributes, typeAttributes}
-use Rattle.dep_entries.specs.declared.CallHead.{CallHead}
-use Rattle.dep_entries.specs.declared.StaticDependencyDescriptor.{StaticDependencyDescriptor}
-use Rattle.dep_entries.specs.Entries.{dynamicKind, Noted}
+use Rattle.dep_entries.specs.{declared.CallHead.CallHead, declared.StaticDependencyDescriptor.StaticDependencyDescriptor, Entries.dynamicKind, Entries.Noted}
 use Rattle.dep_entries.specs.code.Written.{Written, wroteEntries, staticOf, moduleOf, entryOfCall}
 use Rattle.dep_entries.proofs.Wrote.{entries-append}
 use Rattle.dep.specs.Collect.{noting, collectNoted}
-use Rattle.dep.specs.code.Walk.{Calls, Begins, calleesOf, noteAll, noteOf, noteWith, afterNode, afterNodes, afterArgument, afterArguments, afterProperty, afterWith, afterImport, afterCall, afterTyped}
+use Rattle.dep.specs.code.Walk.{Calls, Begins, calleesOf, noteAll, noteOf, noteWith, afterNode, afterNodes, afterArgument, afterArguments}
+use Rattle.dep.specs.code.Walk.{afterProperty, afterWith, afterImport, afterCall, afterTyped}
 
 -- the variants of a call's head
 pub calls : (x : Head) → OneOf (6 ∷ 7 ∷ []) (tagOf the-type x) → Calls x
@@ -59,17 +52,23 @@ module _ (source : List ℕ) (types : ℕ → Option SpecifierWithRange) where
   pub argument-holds : (w : Written) (dots : Bool) (sp : Span) (x : Decoded Node)
       → onOk (afterNode source types w) x ≡ onOk (afterArgument source types w) (andThen x (λ n. return (argument dots sp n)))
   unfolding noting
-  argument-holds w dots sp = built (afterNode source types w) (afterArgument source types w) (argument dots sp) (λ n. rw (append-nil (collectNoted source types n)))
+  argument-holds w dots sp = built (afterNode source types w) (afterArgument source types w) (argument dots sp)
+      (λ n. rw (append-nil (collectNoted source types n)))
 
   -- a property: one node, or two with a child for its key
   pub property-holds : (w : Written) (inner : Decoder Node) (s : List ℕ) (p : Property) (u : List ℕ)
       → onOk (afterNodes source types w) (nodes inner (nodesOf p) u) ≡ onOk (afterProperty source types w) (propertyRest inner (propertyOf s p) u)
   unfolding noting
-  property-holds w inner s property.Spread u = rw (nodes-one inner u) (alike inner (afterNodes source types w) (afterProperty source types w) (λ n. more n none) spread (λ n. refl) (inner u))
-  property-holds w inner s property.Other u = rw (nodes-one inner u) (alike inner (afterNodes source types w) (afterProperty source types w) (λ n. more n none) otherProperty (λ n. refl) (inner u))
-  property-holds w inner s property.ChildKey u = rw (nodes-two inner u) (alike-two inner (afterNodes source types w) (afterProperty source types w) (λ k v. more k (more v none)) childKey (λ k v. refl) (inner u))
-  property-holds w inner s (property.StringKey from to) u = rw (nodes-one inner u) (alike inner (afterNodes source types w) (afterProperty source types w) (λ n. more n none) (stringKey (part s from to)) (λ n. refl) (inner u))
-  property-holds w inner s (property.NameKey from to) u = rw (nodes-one inner u) (alike inner (afterNodes source types w) (afterProperty source types w) (λ n. more n none) (nameKey (part s from to)) (λ n. refl) (inner u))
+  property-holds w inner s property.Spread u = rw (nodes-one inner u)
+      (alike inner (afterNodes source types w) (afterProperty source types w) (λ n. more n none) spread (λ n. refl) (inner u))
+  property-holds w inner s property.Other u = rw (nodes-one inner u)
+      (alike inner (afterNodes source types w) (afterProperty source types w) (λ n. more n none) otherProperty (λ n. refl) (inner u))
+  property-holds w inner s property.ChildKey u = rw (nodes-two inner u)
+      (alike-two inner (afterNodes source types w) (afterProperty source types w) (λ k v. more k (more v none)) childKey (λ k v. refl) (inner u))
+  property-holds w inner s (property.StringKey from to) u = rw (nodes-one inner u)
+      (alike inner (afterNodes source types w) (afterProperty source types w) (λ n. more n none) (stringKey (part s from to)) (λ n. refl) (inner u))
+  property-holds w inner s (property.NameKey from to) u = rw (nodes-one inner u)
+      (alike inner (afterNodes source types w) (afterProperty source types w) (λ n. more n none) (nameKey (part s from to)) (λ n. refl) (inner u))
 
   -- a node that holds nothing and has no entry: a String, a Name, an export or an import-equals that names no module
   pub leaf-holds : (s : List ℕ) (levels : ℕ) (sp : Span) (x : Head) → OneOf (1 ∷ 2 ∷ 9 ∷ 13 ∷ []) (tagOf the-type x)
@@ -82,7 +81,8 @@ module _ (source : List ℕ) (types : ℕ → Option SpecifierWithRange) where
 
   -- a template, its pieces read
   pub template-holds : (w : Written) (sp : Span) (inner : Decoder Node) (n : ℕ) (x : Decoded Pieces) {b : Bool} {v : List ℕ} → onOk anyUncooked x ≡ ok b v
-      → onOk (afterNodes source types w) (nodes inner n v) ≡ onOk (afterNode source types w) (andThen x (λ ps. nodes inner n >>= λ ns. return (template sp ps ns)))
+      → onOk (afterNodes source types w) (nodes inner n v)
+      ≡ onOk (afterNode source types w) (andThen x (λ ps. nodes inner n >>= λ ns. return (template sp ps ns)))
   unfolding noting
   template-holds w sp inner n x {b} {v} e =
       let (ps, is, gives) = onOk-ok anyUncooked x e in
@@ -94,7 +94,8 @@ module _ (source : List ℕ) (types : ℕ → Option SpecifierWithRange) where
   unfolding noting
   binary-holds w sp plus inner u =
       rw (nodes-two inner u)
-      (alike-two inner (afterNodes source types w) (afterNode source types w) (λ m n. more m (more n none)) (binary sp plus) (λ m n. rw (append-nil (collectNoted source types n))) (inner u))
+      (alike-two inner (afterNodes source types w) (afterNode source types w) (λ m n. more m (more n none)) (binary sp plus)
+      (λ m n. rw (append-nil (collectNoted source types n))) (inner u))
 
   -- a module declaration, its entry written
   pub module-holds : (w : Written) {w′ : Written} (sp : Span) (q : Option Quoted) → w′ ≡ wroteEntries w (moduleOf source types sp q) → (x : Decoded Nodes)
@@ -124,22 +125,26 @@ module _ (source : List ℕ) (types : ℕ → Option SpecifierWithRange) where
         let d : CallHead = record { kind = dynamics.Require; span = sp; listed = isRequire (shape n) } in
         rw (gives, left, f n u refl)
         (built (afterCall source types d (afterNode source types w n)) (afterNode source types w) (λ p. call sp n (p .0) (p .1))
-        (λ p. sym (entries-append w (collectNoted source types n) (noteOf source types (p .0) ++ (noteAll source types (p .1) ++ entryOfCall source types d (p .0)))))
+        (λ p. sym
+        (entries-append w (collectNoted source types n) (noteOf source types (p .0) ++ (noteAll source types (p .1) ++ entryOfCall source types d (p .0)))))
         (callRest inner source u))
     call-of-holds w (no r) e f = absurd (refused e)
 
   -- a call, its callee walked
-  module _ (levels : ℕ) (sp : Span) (s : List ℕ) (x : Head) {d : CallHead} {u : List ℕ} (begins : Begins source levels sp u x d) {w : Written} (same : wroteEntries w [] ≡ w) where
+  module _ (levels : ℕ) (sp : Span) (s : List ℕ) (x : Head) {d : CallHead} {u : List ℕ} (begins : Begins source levels sp u x d) {w : Written}
+      (same : wroteEntries w [] ≡ w) where
     alone : (phase : ImportPhase) → x ≡ head.ImportCall phase → onOk (afterNodes source types w) (nodes (node source levels) (calleesOf (d .kind)) u) ≡ ok w u
     unfolding noting
     alone phase e = rw (begins .import-is phase e, import-alone phase, no-nodes (node source levels) u, same)
 
-    one : x ≡ head.Call → onOk (afterNodes source types w) (nodes (node source levels) (calleesOf (d .kind)) u) ≡ onOk (afterNode source types w) (node source levels u)
+    one : x ≡ head.Call →
+        onOk (afterNodes source types w) (nodes (node source levels) (calleesOf (d .kind)) u) ≡ onOk (afterNode source types w) (node source levels u)
     unfolding noting
     one e =
         ap (λ d. onOk (afterNodes source types w) (nodes (node source levels) (calleesOf (d .kind)) u)) (begins .call-is e)
         ∙ (ap (onOk (afterNodes source types w)) (nodes-one (node source levels) u)
-        ∙ sym (built (afterNode source types w) (afterNodes source types w) (λ n. more n none) (λ n. rw (append-nil (collectNoted source types n))) (node source levels u)))
+        ∙ sym (built (afterNode source types w) (afterNodes source types w) (λ n. more n none) (λ n. rw (append-nil (collectNoted source types n)))
+        (node source levels u)))
 
     pub called-refused : Calls x → {r : ℕ} → onOk (afterNodes source types w) (nodes (node source levels) (calleesOf (d .kind)) u) ≡ no r
         → no r ≡ onOk (afterNode source types w) (rest source levels (sp, headOf s x) u)
@@ -162,7 +167,8 @@ module _ (source : List ℕ) (types : ℕ → Option SpecifierWithRange) where
   in-turn w a b c = sym (entries-append w a (b ++ c) ∙ entries-append (wroteEntries w a) b c)
 
   -- the parts of a call, and then its entry
-  pub call-walked : (w : Written) (d : CallHead) (inner : Decoder Node) (x : Decoded Arguments) {w1 : Written} {t1 : List ℕ} → onOk (afterArguments source types w) x ≡ ok w1 t1
+  pub call-walked : (w : Written) (d : CallHead) (inner : Decoder Node) (x : Decoded Arguments) {w1 : Written} {t1 : List ℕ} →
+      onOk (afterArguments source types w) x ≡ ok w1 t1
       → {m : ℕ} {t2 : List ℕ} → number t1 ≡ ok m t2
       → {w2 : Written} {t3 : List ℕ} → onOk (afterNodes source types w1) (nodes inner m t2) ≡ ok w2 t3
       → {w3 : Written} → ((xs : Arguments) (t : List ℕ) → x ≡ ok xs t → w3 ≡ wroteEntries w2 (entryOfCall source types d xs))
@@ -177,9 +183,11 @@ module _ (source : List ℕ) (types : ℕ → Option SpecifierWithRange) where
       ∙ in-turn w (noteOf source types xs) (noteAll source types ns) (entryOfCall source types d xs)))
 
   -- the entry of an import type, and then its parts
-  pub typed-walked : (w : Written) (s : List ℕ) (d : StaticDependencyDescriptor) (object′ : Decoder Attributes) (x : Decoded Nodes) {t : Tally} {t1 : List ℕ} → onOk tallyAll x ≡ ok t t1
+  pub typed-walked : (w : Written) (s : List ℕ) (d : StaticDependencyDescriptor) (object′ : Decoder Attributes) (x : Decoded Nodes) {t : Tally} {t1 : List ℕ} →
+      onOk tallyAll x ≡ ok t t1
       → {hasObject : Bool} {t2 : List ℕ} → flag t1 ≡ ok hasObject t2
-      → {w1 : Written} → ((a : Attributes) (t : List ℕ) → behind hasObject object′ t2 ≡ ok a t → w1 ≡ wroteEntries w (staticOf source types s d (typeAttributes a)))
+      → {w1 : Written} →
+      ((a : Attributes) (t : List ℕ) → behind hasObject object′ t2 ≡ ok a t → w1 ≡ wroteEntries w (staticOf source types s d (typeAttributes a)))
       → {w2 : Written} {t3 : List ℕ} → onOk (afterNodes source types w1) x ≡ ok w2 t3
       → onOk (afterWith source types w2) (behind hasObject object′ t2) ≡ onOk (afterTyped source types s d w) (andThen x (λ ns. attributes object′ >>= pair ns))
   unfolding attributes

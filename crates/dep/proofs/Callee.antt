@@ -2,24 +2,15 @@
 use Rattle.laws.proofs.Prelude.{_≡_, refl, false, List, [], _∷_, ℕ, _-_, drop, seen}
 use types.Run.{OneOf, miss}
 use denote.Enum.Declared.{tagOf}
-use Rattle.laws.specs.Decoded.{ok}
-use Rattle.laws.specs.Ascii.{ascii}
+use Rattle.laws.specs.{Decoded.ok, Ascii.ascii}
 use Rattle.text.specs.Bytes.{same, part}
 use Rattle.wire.specs.declared.Cursor.{Cursor}
-use Rattle.sheet.specs.declared.fields.Span.{Span}
-use Rattle.sheet.specs.Tree.{Node, name}
-use Rattle.sheet.specs.Nodes.{node}
-use Rattle.sheet.specs.Shape.{shape, isRequire}
-use Rattle.sheet_heads.specs.declared.node.Head.{Head}
+use Rattle.sheet.specs.{declared.fields.Span.Span, Tree.Node, Tree.name, Nodes.node, Shape.shape, Shape.isRequire}
+use Rattle.sheet_heads.specs.{declared.node.Head.Head, declared.node.HeadRead.HeadRead, code.Rest.rest, code.Views.headOf, code.Views.headAs}
 use Rattle.sheet_heads.specs.declared.node.Head.the-variants as head
-use Rattle.sheet_heads.specs.declared.node.HeadRead.{HeadRead}
 use Rattle.sheet_heads.specs.declared.node.HeadRead.the-variants as headRead
 use Rattle.sheet_heads.specs.code.Head as heads
-use Rattle.sheet_heads.specs.code.Rest.{rest}
-use Rattle.sheet_heads.specs.code.Views.{headOf, headAs}
-use Rattle.sheet_heads.proofs.ByHead.{behind-head}
-use Rattle.sheet_heads.proofs.Shapes.{shape-by-head}
-use Rattle.sheet_heads.proofs.node.Head.{the-type}
+use Rattle.sheet_heads.proofs.{ByHead.behind-head, Shapes.shape-by-head, node.Head.the-type}
 
 -- the variants besides Name
 abbrev others : List ℕ

@@ -1,16 +1,15 @@
 -- The entries of small trees in an empty source, as the definitions compute: which nodes give one, its kind and its text, and their order.
 use Rattle.laws.proofs.Prelude.{_≡_, refl, true, false, List, [], _∷_, map, Option, ℕ}
 use Rattle.laws.specs.Ascii.{ascii}
-use Rattle.text.specs.Bytes.{begins, same}
-use Rattle.text.specs.Utf8.{admits}
-use Rattle.text.specs.Lossy.{replacing}
+use Rattle.text.specs.{Bytes.begins, Bytes.same, Utf8.admits, Lossy.replacing}
 use Rattle.sheet.specs.declared.fields.Span.{Span}
 use Rattle.sheet.specs.declared.names.ImportPhase.the-variants.{Evaluation, Source, Defer}
-use Rattle.sheet.specs.Tree.{Quoted, Node, other, string, name, object, importCall, call, importDecl, namedExport, exportFrom, exportAll, importType, importEquals, importRequire, moduleDecl, Nodes, none, more, Arguments, noArguments, argument, noProperties, childKey, nameKey, without, withObject}
+use Rattle.sheet.specs.Tree.{Quoted, Node, other, string, name, object, importCall, call, importDecl, namedExport, exportFrom, exportAll, importType}
+use Rattle.sheet.specs.Tree.{importEquals, importRequire, moduleDecl, Nodes, none, more, Arguments, noArguments, argument, noProperties, childKey, nameKey}
+use Rattle.sheet.specs.Tree.{without, withObject}
 use Rattle.report.specs.declared.names.StaticDependencyKind.the-variants as statics
 use Rattle.report.specs.declared.names.DynamicDependencyKind.the-variants as dynamics
-use Rattle.report.specs.declared.names.DependencyKind.{DependencyKind}
-use Rattle.report.specs.declared.names.DependencyKind.the-variants.{Static, Dynamic}
+use Rattle.report.specs.declared.names.DependencyKind.{DependencyKind, the-variants.Static, the-variants.Dynamic}
 use Rattle.report.specs.ModuleInfo.{DynamicArgument, DependencyDescriptor, static, dynamic}
 use Rattle.report.specs.ModuleInfo as info
 use Rattle.arguments.specs.Argument.{chain, argumentOf}
@@ -91,10 +90,19 @@ kinds =
 abbrev orders : List (Node × List (DependencyKind × List ℕ))
 orders =
     (importCall at Evaluation (of (importing a)) none, (Dynamic dynamics.Import, a) ∷ (Dynamic dynamics.Import, ascii "?") ∷ [])
-    ∷ (importCall at Evaluation (argument false at (string at c) (of (importing a))) (one (importing b)), (Dynamic dynamics.Import, a) ∷ (Dynamic dynamics.Import, b) ∷ (Dynamic dynamics.Import, c) ∷ [])
-    ∷ (call at (importing a) (of (importing b)) (one (importing c)), (Dynamic dynamics.Import, a) ∷ (Dynamic dynamics.Import, b) ∷ (Dynamic dynamics.Import, c) ∷ [])
+    ∷ (
+      importCall at Evaluation (argument false at (string at c) (of (importing a))) (one (importing b)),
+      (Dynamic dynamics.Import, a) ∷ (Dynamic dynamics.Import, b) ∷ (Dynamic dynamics.Import, c) ∷ [],
+    )
+    ∷ (
+      call at (importing a) (of (importing b)) (one (importing c)),
+      (Dynamic dynamics.Import, a) ∷ (Dynamic dynamics.Import, b) ∷ (Dynamic dynamics.Import, c) ∷ [],
+    )
     ∷ (call at (name at (ascii "require")) (of (calling (ascii "require") a)) none, (Dynamic dynamics.Require, a) ∷ (Dynamic dynamics.Require, ascii "?") ∷ [])
-    ∷ (importType at (quoted a) (one (importing b)) (withObject at (nameKey a (importing c) noProperties)), (Static statics.ImportType, a) ∷ (Dynamic dynamics.Import, b) ∷ (Dynamic dynamics.Import, c) ∷ [])
+    ∷ (
+      importType at (quoted a) (one (importing b)) (withObject at (nameKey a (importing c) noProperties)),
+      (Static statics.ImportType, a) ∷ (Dynamic dynamics.Import, b) ∷ (Dynamic dynamics.Import, c) ∷ [],
+    )
     ∷ (moduleDecl at (Option.some (quoted a)) (one (importing b)), (Static statics.MaybeTsModuleAugmentation, a) ∷ (Dynamic dynamics.Import, b) ∷ [])
     ∷ (moduleDecl at (Option.some (quoted (ascii "*"))) (one (importing b)), (Dynamic dynamics.Import, b) ∷ [])
     ∷ (object at (childKey (importing a) (importing b) noProperties), (Dynamic dynamics.Import, a) ∷ (Dynamic dynamics.Import, b) ∷ [])

@@ -1,26 +1,22 @@
 -- There are as many dependencies as the check of the tree counts.
-use Rattle.laws.proofs.Prelude.{_≡_, refl, sym, ap, _∙_, Bool, true, false, cond, _&&_, List, [], _∷_, _++_, map, flatMap, Option, ℕ, arith, length, length-append}
+use Rattle.laws.proofs.Prelude.{_≡_, refl, sym, ap, _∙_, Bool, true, false, cond, _&&_, List, [], _∷_, _++_, map, flatMap, Option, ℕ, arith, length}
+use Rattle.laws.proofs.Prelude.{length-append}
 use mathlib.Core.List.{map-append}
 use Rattle.laws.specs.Decoded.{ok}
 use Rattle.text.specs.Truth.{one}
 use Rattle.wire.specs.Number.{encodeNumber}
-use Rattle.sheet.specs.declared.fields.Span.{Span}
+use Rattle.sheet.{specs.declared.fields.Span.Span, proofs.Walks.walks-related}
 use Rattle.sheet.specs.Tree.{Quoted, Node, Arguments, noArguments, argument}
 use Rattle.sheet.specs.Shape.{shape, isRequire, isAugmentation}
 use Rattle.sheet.specs.Walk.{Visit, called, importing, expression, imported, exported, typed, required, declared, startOf}
 use Rattle.sheet.specs.Walked.{declares, gives, anyArgument, counting, entries}
-use Rattle.sheet.proofs.Walks.{walks-related}
 use Rattle.report.specs.declared.names.StaticDependencyKind.the-variants as statics
-use Rattle.report.specs.declared.names.DynamicDependencyKind.{DynamicDependencyKind}
+use Rattle.report.specs.{declared.names.DynamicDependencyKind.DynamicDependencyKind, ModuleInfo.SpecifierWithRange, ModuleInfo.DependencyDescriptor}
 use Rattle.report.specs.declared.names.DynamicDependencyKind.the-variants as dynamics
-use Rattle.report.specs.ModuleInfo.{SpecifierWithRange, DependencyDescriptor}
 use Rattle.report.specs.ModuleInfo as info
-use Rattle.report.specs.Encode.{encodeList, encodeDependency}
-use Rattle.report.specs.Buffer.{Buffer, wrote}
-use Rattle.report.proofs.Buffers.{wrote-append}
+use Rattle.report.{specs.Encode.encodeList, specs.Encode.encodeDependency, specs.Buffer.Buffer, specs.Buffer.wrote, proofs.Buffers.wrote-append}
 use Rattle.arguments.specs.Argument.{replacedIn}
-use Rattle.dep_entries.specs.code.Notes.{allNoted}
-use Rattle.dep_entries.specs.code.Written.{wroteEntries}
+use Rattle.dep_entries.specs.code.{Notes.allNoted, Written.wroteEntries}
 use Rattle.dep_entries.specs.Entries.{dynamicKind, staticEntry, callEntry, moduleEntry, Noted, beside}
 use Rattle.dep.specs.code.Walk.{afterNode}
 use Rattle.dep.specs.Collect.{entryOf, collector, collect, textOf, noting, collectNoted}
@@ -31,7 +27,8 @@ module _ (source : List ℕ) (types : ℕ → Option SpecifierWithRange) where
   call-one kind sp noArguments = refl
   call-one kind sp (argument dots at n xs) = refl
 
-  listed-one : (b : Bool) (kind : DynamicDependencyKind) (sp : Span) (xs : Arguments) → length (cond b (callEntry source types kind sp xs) []) ≡ one (b && anyArgument xs)
+  listed-one : (b : Bool) (kind : DynamicDependencyKind) (sp : Span) (xs : Arguments) →
+      length (cond b (callEntry source types kind sp xs) []) ≡ one (b && anyArgument xs)
   listed-one true kind sp xs = call-one kind sp xs
   listed-one false kind sp xs = refl
 
@@ -66,7 +63,11 @@ module _ (source : List ℕ) (types : ℕ → Option SpecifierWithRange) where
   pub noted-first : (n : Node) → map (λ e. e .entry) (collectNoted source types n) ≡ collect source types n
   unfolding collector noting
   noted-first = walks-related (λ l m. map (λ e. e .entry) l ≡ m) (noting source types) (collector source types)
-      (record { nothing = refl; both = λ {a} {b} e f. rw (map-append (λ (e : Noted). e .entry) a b, e, f); own = λ v. beside-first (startOf v) (replacedIn (textOf v)) (entryOf source types v) })
+      (record {
+        nothing = refl;
+        both = λ {a} {b} e f. rw (map-append (λ (e : Noted). e .entry) a b, e, f);
+        own = λ v. beside-first (startOf v) (replacedIn (textOf v)) (entryOf source types v);
+      })
 
   -- a node without entries
   pub noted-none : (n : Node) → entries n ≡ 0 → collectNoted source types n ≡ []
@@ -83,7 +84,8 @@ module _ (source : List ℕ) (types : ℕ → Option SpecifierWithRange) where
 
   -- their number, and then their entries
   pub program-written : (w : Buffer) (n : Node) {count : ℕ} → count ≡ entries n
-      → {w1 : Buffer} → w1 ≡ wrote w (encodeNumber count) → (notes : List ℕ) {w2 : Buffer} {notes′ t v : List ℕ} → ok (afterNode source types (w1, notes) n) t ≡ ok (w2, notes′) v
+      → {w1 : Buffer} → w1 ≡ wrote w (encodeNumber count) → (notes : List ℕ) {w2 : Buffer} {notes′ t v : List ℕ} →
+      ok (afterNode source types (w1, notes) n) t ≡ ok (w2, notes′) v
       → (w2 ≡ wrote w (encodeList encodeDependency (collect source types n))) × (notes′ ≡ allNoted notes (collectNoted source types n))
   unfolding encodeList
   program-written w n {count} as-many {w1} number-first notes {w2} {notes′} then-entries =
@@ -91,6 +93,7 @@ module _ (source : List ℕ) (types : ℕ → Option SpecifierWithRange) where
       let bytes = noted-bytes (collectNoted source types n) ∙ ap (flatMap encodeDependency) (noted-first n) in (
         ap (λ p. p .0) last
             ∙ ap (λ w. wrote w (flatMap (λ e. encodeDependency (e .entry)) (collectNoted source types n))) number-first
-            ∙ rw (bytes, as-many, ← counted n) (sym (wrote-append w (encodeNumber (length (collect source types n))) (flatMap encodeDependency (collect source types n)))),
+            ∙ rw (bytes, as-many, ← counted n)
+            (sym (wrote-append w (encodeNumber (length (collect source types n))) (flatMap encodeDependency (collect source types n)))),
         ap (λ p. p .1) last,
       )

@@ -1,20 +1,15 @@
 -- The span of a head's String is one of the source.
 use Rattle.laws.proofs.Prelude.{_≡_, Bool, List, Option, ℕ, _-_, eqb, ltb}
-use Rattle.laws.specs.Codec.{IfThere}
-use Rattle.laws.specs.Decoded.{ok}
+use Rattle.laws.specs.{Codec.IfThere, Decoded.ok}
 use Rattle.laws.proofs.Answers.{Yields, done, next, ends, behind, with, changed, either, at-index, anything}
 use Rattle.text.specs.declared.utf8.Encoding.the-variants.{Utf8}
 use Rattle.wire.specs.Fields.{below, numbered, flag}
-use Rattle.wire.specs.Number.{number}
-use Rattle.wire.specs.Text.{count, text}
-use Rattle.wire.specs.Optional.{optional}
-use Rattle.sheet.specs.Limits.{textLimit, propertyLimit}
-use Rattle.sheet.specs.Names.{importPhases}
-use Rattle.sheet.specs.declared.fields.Span.{Span}
-use Rattle.sheet.specs.Tree.{Quoted}
-use Rattle.sheet.specs.Fields.{span}
+use Rattle.wire.specs.{Number.number, Text.count, Text.text, Optional.optional}
+use Rattle.sheet.specs.{Limits.textLimit, Limits.propertyLimit, Names.importPhases, declared.fields.Span.Span, Tree.Quoted, Fields.span}
 use Rattle.sheet.specs.Nodes.{tag, stringText, quoted}
-use Rattle.sheet_heads.specs.code.Head.{Head, otherHead, stringHead, nameHead, templateHead, binaryHead, objectHead, moduleHead, callStart, specifierStart, importStart, namedExportStart, exportAllStart, importTypeStart, importRequireStart, importEqualsStart, moduleStart, start, head}
+use Rattle.sheet_heads.specs.code.Head.{Head, otherHead, stringHead, nameHead, templateHead, binaryHead, objectHead, moduleHead, callStart, specifierStart}
+use Rattle.sheet_heads.specs.code.Head.{importStart, namedExportStart, exportAllStart, importTypeStart, importRequireStart, importEqualsStart, moduleStart}
+use Rattle.sheet_heads.specs.code.Head.{start, head}
 use Rattle.report.specs.Range.{InSource}
 use Rattle.dep_entries.proofs.ArgumentSpans.{span-within}
 use Rattle.dep.specs.code.Walk.{Spanned}
@@ -58,9 +53,7 @@ module _ (source : List ℕ) where
 
     import-equals-within : Yields (Spanned source) (importEqualsStart source levels)
     unfolding importEqualsStart importRequireStart
-    import-equals-within = behind flag λ external. either external
-        (behind flag λ typeOnly. behind flag λ export. with quoted-within λ x h. ends h)
-        (ends tt)
+    import-equals-within = behind flag λ external. either external (behind flag λ typeOnly. behind flag λ export. with quoted-within λ x h. ends h) (ends tt)
 
     module-within : Yields (Spanned source) (moduleStart source levels)
     unfolding moduleStart
@@ -79,7 +72,8 @@ module _ (source : List ℕ) where
         (next (changed templateHead (anything number) (λ n h. tt))
         (next (changed binaryHead (anything flag) (λ b h. tt))
         (next (changed objectHead (anything (count propertyLimit)) (λ n h. tt))
-        (next call-within (next import-within (next named-export-within (next export-all-within (next import-type-within (next import-equals-within (next module-within done)))))))))))))
+        (next call-within (next import-within
+        (next named-export-within (next export-all-within (next import-type-within (next import-equals-within (next module-within done)))))))))))))
         t 3 tt
 
   head-within : (levels : ℕ) → Yields (λ (p : Span × Head). Spanned source (p .1)) (head source levels)

@@ -9,11 +9,9 @@ use Rattle.sheet_heads.specs.code.Parts.{PropertyHead, spreadHead, otherPropert
 use Rattle.sheet_heads.proofs.ByHead.{argument-by-head, property-by-head, argumentRest, propertyRest}
 use Rattle.sheet_heads.proofs.Many.{found, found-step, found-stop, found-end}
 use Rattle.sheet_nodes.proofs.Loops.{nodeItem}
-use Rattle.report.specs.declared.writer.Pen.{Pen}
-use Rattle.report.specs.ModuleInfo.{SpecifierWithRange}
-use Rattle.dep_entries.specs.Entries.{Noted}
+use Rattle.report.specs.{declared.writer.Pen.Pen, ModuleInfo.SpecifierWithRange}
+use Rattle.dep_entries.{specs.Entries.Noted, proofs.Wrote.entries-append, proofs.Wrote.entries-nil}
 use Rattle.dep_entries.specs.code.Written.{Written, writtenAs, wroteEntries}
-use Rattle.dep_entries.proofs.Wrote.{entries-append, entries-nil}
 use Rattle.dep.specs.Collect.{noting, collectNoted}
 use Rattle.dep.specs.code.Walk.{noteAll, noteOf, noteIn, afterNode, afterNodes, afterArgument, afterArguments, afterProperty, afterProperties}
 
@@ -34,7 +32,8 @@ module _ {L : Type 0} (gather : L → List Noted) (end : L) where
     walkFrom = found after end item
 
     module _ (k : ℕ) (u : List ℕ) where
-      pub walk-step : Yields Adds item → (w : Written) {w′ : Written} {v : List ℕ} → 0 < k → onOk (afterOne w) (item u) ≡ ok w′ v → walkFrom w k u ≡ walkFrom w′ (k - 1) v
+      pub walk-step : Yields Adds item → (w : Written) {w′ : Written} {v : List ℕ} → 0 < k → onOk (afterOne w) (item u) ≡ ok w′ v →
+          walkFrom w k u ≡ walkFrom w′ (k - 1) v
       walk-step each-adds w h e =
           let (add, is, gives) = onOk-ok (afterOne w) (item u) e in
           let adds : Adds add = rw is at (each-adds .at u) in
@@ -45,7 +44,8 @@ module _ {L : Type 0} (gather : L → List Noted) (end : L) where
       walk-stop w h e = found-stop after end item w k u h (onOk-no (afterOne w) (item u) e)
 
       pub walk-end : gather end ≡ [] → (out notes : List ℕ) (p : Pen) → k ≤ 0 → walkFrom (writtenAs out notes p) k u ≡ ok (writtenAs out notes p) u
-      walk-end e out notes p h = found-end after end item (writtenAs out notes p) k u h ∙ ap (λ w. ok w u) (ap (wroteEntries (writtenAs out notes p)) e ∙ entries-nil out notes p)
+      walk-end e out notes p h = found-end after end item (writtenAs out notes p) k u h ∙
+          ap (λ w. ok w u) (ap (wroteEntries (writtenAs out notes p)) e ∙ entries-nil out notes p)
 
 module _ (source : List ℕ) (types : ℕ → Option SpecifierWithRange) (inner : Decoder Node) where
   abbrev pub nodesFrom : Written → ℕ → List ℕ → Decoded Written
@@ -91,7 +91,8 @@ module _ (source : List ℕ) (types : ℕ → Option SpecifierWithRange) (inner 
     unfolding arguments
     arguments-all = refl
 
-    pub arguments-step : {w′ : Written} {v : List ℕ} → 0 < k → onOk (afterArgument source types w) (argumentItem inner source u) ≡ ok w′ v → argumentsFrom w k u ≡ argumentsFrom w′ (k - 1) v
+    pub arguments-step : {w′ : Written} {v : List ℕ} → 0 < k → onOk (afterArgument source types w) (argumentItem inner source u) ≡ ok w′ v →
+        argumentsFrom w k u ≡ argumentsFrom w′ (k - 1) v
     arguments-step = walk-step (noteOf source types) noArguments (argumentItem inner source) k u argument-adds w
 
     pub arguments-stop : {r : ℕ} → 0 < k → onOk (afterArgument source types w) (argumentItem inner source u) ≡ no r → argumentsFrom w k u ≡ no r
@@ -108,7 +109,8 @@ module _ (source : List ℕ) (types : ℕ → Option SpecifierWithRange) (inner 
   unfolding noting
   by-kind spreadHead = behind inner λ n. ends λ ps. rw (append-nil (collectNoted source types n))
   by-kind otherPropertyHead = behind inner λ n. ends λ ps. rw (append-nil (collectNoted source types n))
-  by-kind childKeyHead = behind inner λ n. behind inner λ v. ends λ ps. rw (append-nil (collectNoted source types v), append-assoc (collectNoted source types n) (collectNoted source types v) (noteIn source types ps))
+  by-kind childKeyHead = behind inner λ n. behind inner λ v. ends
+      λ ps. rw (append-nil (collectNoted source types v), append-assoc (collectNoted source types n) (collectNoted source types v) (noteIn source types ps))
   by-kind (stringKeyHead x) = behind inner λ n. ends λ ps. rw (append-nil (collectNoted source types n))
   by-kind (nameKeyHead x) = behind inner λ n. ends λ ps. rw (append-nil (collectNoted source types n))
 
@@ -120,7 +122,8 @@ module _ (source : List ℕ) (types : ℕ → Option SpecifierWithRange) (inner 
     unfolding properties
     properties-all = refl
 
-    pub properties-step : {w′ : Written} {v : List ℕ} → 0 < k → onOk (afterProperty source types w) (propertyItem inner u) ≡ ok w′ v → propertiesFrom w k u ≡ propertiesFrom w′ (k - 1) v
+    pub properties-step : {w′ : Written} {v : List ℕ} → 0 < k → onOk (afterProperty source types w) (propertyItem inner u) ≡ ok w′ v →
+        propertiesFrom w k u ≡ propertiesFrom w′ (k - 1) v
     properties-step = walk-step (noteIn source types) noProperties (propertyItem inner) k u property-adds w
 
     pub properties-stop : {r : ℕ} → 0 < k → onOk (afterProperty source types w) (propertyItem inner u) ≡ no r → propertiesFrom w k u ≡ no r

@@ -2,9 +2,8 @@
 use Rattle.laws.proofs.Prelude.{_≡_, refl, sym, ap, _∙_, List, _++_, Option, ℕ, zero, suc, _-_, arith}
 use Rattle.laws.specs.Decoded.{Decoded, ok, onOk, Decoder}
 use Rattle.laws.proofs.Decoding.{onOk-ok}
-use Rattle.sheet.specs.declared.fields.Span.{Span}
+use Rattle.sheet.specs.{declared.fields.Span.Span, Nodes.many, Nodes.nodes}
 use Rattle.sheet.specs.Tree.{Node, other, Nodes, none, more}
-use Rattle.sheet.specs.Nodes.{many, nodes}
 use Rattle.sheet_heads.proofs.Many.{many-first}
 use Rattle.sheet_nodes.specs.code.Reach.{Reaches, quiet, past}
 use Rattle.sheet_nodes.proofs.Loops.{nodeItem}

@@ -1,20 +1,18 @@
 -- The number beside a dependency is that of the surrogates of its one text.
 use Rattle.laws.proofs.Prelude.{_≡_, refl, sym, _∙_, Bool, true, false, List, [], _∷_, Option, ℕ, arith, eq-eqb}
 use Rattle.laws.specs.Codec.{All}
-use Rattle.text.specs.Utf8.{admits, surrogate}
+use Rattle.text.{specs.Utf8.admits, specs.Utf8.surrogate, proofs.Replaced.exact-lossy, proofs.Reported.lossy-of}
 use Rattle.text.specs.Lossy.{marking, counting, replacing, surrogates, lossy, replaced}
-use Rattle.text.proofs.Replaced.{exact-lossy}
-use Rattle.text.proofs.Reported.{lossy-of}
 use Rattle.sheet.specs.Tree.{Node, noArguments, argument}
 use Rattle.sheet.specs.Shape.{Shape, text, named, pieces, operation, properties, anything, shape, isRequire, isAugmentation}
 use Rattle.sheet.specs.Walk.{Visit, called, importing, expression, imported, exported, typed, required, declared}
 use Rattle.report.specs.declared.names.StaticDependencyKind.the-variants as statics
 use Rattle.report.specs.declared.names.DynamicDependencyKind.the-variants as dynamics
-use Rattle.report.specs.ModuleInfo.{SpecifierWithRange, none, string, DynamicTemplatePart, DynamicDependencyDescriptor, StaticDependencyDescriptor, DependencyDescriptor, static, dynamic}
+use Rattle.report.specs.ModuleInfo.{SpecifierWithRange, none, string, DynamicTemplatePart, DynamicDependencyDescriptor, StaticDependencyDescriptor}
+use Rattle.report.specs.ModuleInfo.{DependencyDescriptor, static, dynamic}
 use Rattle.arguments.specs.Argument.{ofShape, argumentOf, chain, singleText, replacedIn}
 use Rattle.dep_entries.specs.Entries.{staticEntry, callEntry, moduleEntry}
-use Rattle.dep.specs.Collect.{textOf, entryOf}
-use Rattle.dep.specs.Replaced.{Replaces, NumberOf}
+use Rattle.dep.specs.{Collect.textOf, Collect.entryOf, Replaced.Replaces, Replaced.NumberOf}
 use Rattle.dep.proofs.EntryAttributes.{all-if}
 
 -- a text that is reported as it is has no surrogate
@@ -23,7 +21,8 @@ unfolding replacing surrogates admits
 as-it-is [] e = refl
 as-it-is (x ∷ s) e = go (admits surrogate (x ∷ s)) refl e (as-it-is s)
   where
-    go : (b : Bool) → admits surrogate (x ∷ s) ≡ b → marking b x (λ n. replacing n s) ≡ x ∷ s → (lossy s ≡ s → replaced s ≡ 0) → counting b (λ n. surrogates n s) ≡ 0
+    go : (b : Bool) → admits surrogate (x ∷ s) ≡ b → marking b x (λ n. replacing n s) ≡ x ∷ s → (lossy s ≡ s → replaced s ≡ 0) →
+        counting b (λ n. surrogates n s) ≡ 0
     go true a e f =
         let other : 0xEF ≡ x = cc in
         let never : false ≡ true = rw (← other) at a in
@@ -35,7 +34,8 @@ replaces : (x : List ℕ) → Replaces x (lossy x) (replaced x)
 replaces x = record { count = λ points t. lossy-of t .count; exact = (λ z. exact-lossy x (eq-eqb (replaced x) 0 z), as-it-is x) }
 
 -- an argument is one text exactly where it has a single text
-one-text : (s : Shape) (parts : Option (List DynamicTemplatePart)) {y : List ℕ} → ofShape s parts ≡ string y → (x : List ℕ) × (singleText s ≡ Option.some x) × (lossy x ≡ y)
+one-text : (s : Shape) (parts : Option (List DynamicTemplatePart)) {y : List ℕ} → ofShape s parts ≡ string y →
+    (x : List ℕ) × (singleText s ≡ Option.some x) × (lossy x ≡ y)
 one-text (text x) parts {y} e = let same : lossy x ≡ y = cc in (x, refl, same)
 one-text (named x) parts e = let z : _≡_ {A = ℕ} 0 1 = cc in absurd (omega arith)
 one-text (pieces []) parts e = let z : _≡_ {A = ℕ} 0 1 = cc in absurd (omega arith)
@@ -58,7 +58,8 @@ no-text (operation plus l r) parts f = refl
 no-text (properties ps) parts f = refl
 no-text anything parts f = refl
 
-static-number : {v : Visit} (x : List ℕ) {d : StaticDependencyDescriptor} → textOf v ≡ Option.some x → d .specifier .text ≡ lossy x → NumberOf v (static d) (replaced x)
+static-number : {v : Visit} (x : List ℕ) {d : StaticDependencyDescriptor} → textOf v ≡ Option.some x → d .specifier .text ≡ lossy x →
+    NumberOf v (static d) (replaced x)
 static-number x is reported = record { one = λ y e. (x, is, rw (← e, reported) (replaces x)); none = λ f. absurd (f _ refl) }
 
 dynamic-number : {v : Visit} (n : Node) {d : DynamicDependencyDescriptor} → textOf v ≡ singleText (shape n) → d .argument ≡ argumentOf n
@@ -79,13 +80,15 @@ module _ (source : List ℕ) (types : ℕ → Option SpecifierWithRange) where
   each-number (called sp (importing phase) noArguments) = tt
   each-number (called sp (importing phase) (argument dots at n xs)) = (dynamic-number n refl refl, tt)
   each-number (called sp (expression e) noArguments) = all-if _ (isRequire (shape e)) [] tt
-  each-number (called sp (expression e) (argument dots at n xs)) = all-if _ (isRequire (shape e)) (callEntry source types dynamics.Require sp (argument dots at n xs)) (dynamic-number n refl refl, tt)
+  each-number (called sp (expression e) (argument dots at n xs)) = all-if _ (isRequire (shape e))
+      (callEntry source types dynamics.Require sp (argument dots at n xs)) (dynamic-number n refl refl, tt)
   each-number (imported sp typeOnly phase sideEffect x a) = (static-number (x .text) refl refl, tt)
   each-number (exported sp typeOnly x a) = (static-number (x .text) refl refl, tt)
   each-number (typed sp x a) = (static-number (x .text) refl refl, tt)
   each-number (required sp typeOnly export x) = (static-number (x .text) refl refl, tt)
   each-number (declared sp Option.none) = tt
-  each-number (declared sp (Option.some x)) = all-if _ (isAugmentation (x .text)) (staticEntry source types statics.MaybeTsModuleAugmentation sp x false none ∷ []) (static-number (x .text) refl refl, tt)
+  each-number (declared sp (Option.some x)) = all-if _ (isAugmentation (x .text))
+      (staticEntry source types statics.MaybeTsModuleAugmentation sp x false none ∷ []) (static-number (x .text) refl refl, tt)
 
   pub number-right : (v : Visit) {d : DependencyDescriptor} → entryOf source types v ≡ d ∷ [] → NumberOf v d (replacedIn (textOf v))
   number-right v {d} e = let a : All (λ d. NumberOf v d (replacedIn (textOf v))) (d ∷ []) = rw e at (each-number v) in a .0

@@ -2,15 +2,12 @@
 -- start, and the rows beside them by the tree alone.
 use Rattle.laws.proofs.Prelude.{_≡_, refl, sym, ap, _∙_, cond, List, [], _∷_, append-nil, flatMap, Option, ℕ, arith, length}
 use Rattle.laws.proofs.Lists.{flatMap-append}
-use Rattle.sheet.specs.declared.fields.Span.{Span}
+use Rattle.sheet.{specs.declared.fields.Span.Span, specs.Shape.shape, specs.Shape.isRequire, proofs.VisitSpans.OfFirst, proofs.VisitSpans.Reported}
 use Rattle.sheet.specs.Tree.{Node, Arguments, noArguments, argument}
-use Rattle.sheet.specs.Shape.{shape, isRequire}
 use Rattle.sheet.specs.Walk.{Visit, called, importing, expression, imported, exported, typed, required, declared, startOf, visiting, visits}
-use Rattle.sheet.proofs.VisitSpans.{OfFirst, Reported}
 use Rattle.sheet.proofs.Walks.{walks-related}
-use Rattle.report.specs.declared.names.DynamicDependencyKind.{DynamicDependencyKind}
+use Rattle.report.specs.{declared.names.DynamicDependencyKind.DynamicDependencyKind, ModuleInfo.SpecifierWithRange, ModuleInfo.DependencyDescriptor}
 use Rattle.report.specs.declared.names.DynamicDependencyKind.the-variants as dynamics
-use Rattle.report.specs.ModuleInfo.{SpecifierWithRange, DependencyDescriptor}
 use Rattle.report.specs.Range.{rangeOf}
 use Rattle.arguments.specs.Argument.{replacedIn}
 use Rattle.dep_entries.specs.Entries.{dynamicKind, staticEntry, callEntry, moduleEntry, beside}

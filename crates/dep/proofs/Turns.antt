@@ -1,14 +1,12 @@
 -- The dependencies of a tree come from the visits in turn, each the entry of its visit.
-use Rattle.laws.proofs.Prelude.{_≡_, refl, Bool, true, false, cond, _&&_, List, [], _∷_, _++_, List·Memᴰ, List·Memᴰ·head, List·Memᴰ·tail, List·Memᴰ·not-nil, List·Memᴰ·cases-cons, ⊎-elim, Option, ℕ, _≤_, arith, length}
+use Rattle.laws.proofs.Prelude.{_≡_, refl, Bool, true, false, cond, _&&_, List, [], _∷_, _++_, List·Memᴰ, List·Memᴰ·head, List·Memᴰ·tail, List·Memᴰ·not-nil}
+use Rattle.laws.proofs.Prelude.{List·Memᴰ·cases-cons, ⊎-elim, Option, ℕ, _≤_, arith, length}
 use mathlib.Core.Bool.{and-false}
-use Rattle.laws.specs.Codec.{All}
-use Rattle.laws.proofs.Lists.{of-members}
-use Rattle.sheet.specs.declared.fields.Span.{Span}
+use Rattle.laws.{specs.Codec.All, proofs.Lists.of-members}
+use Rattle.sheet.{specs.declared.fields.Span.Span, specs.Walked.anyArgument, proofs.Walks.walks-related}
 use Rattle.sheet.specs.Tree.{Quoted, Node, Arguments, noArguments, argument}
 use Rattle.sheet.specs.Shape.{shape, isRequire, isAugmentation}
 use Rattle.sheet.specs.Walk.{Visit, called, importing, expression, imported, exported, typed, required, declared, startOf, visiting, visits}
-use Rattle.sheet.specs.Walked.{anyArgument}
-use Rattle.sheet.proofs.Walks.{walks-related}
 use Rattle.report.specs.declared.names.StaticDependencyKind.the-variants as statics
 use Rattle.report.specs.declared.names.DynamicDependencyKind.the-variants as dynamics
 use Rattle.report.specs.ModuleInfo.{SpecifierWithRange, DependencyDescriptor}
@@ -92,7 +90,8 @@ module _ (source : List ℕ) (types : ℕ → Option SpecifierWithRange) (P : Vi
 
   pub collect-turns : (n : Node) → InTurn P (visits n) (collect source types n)
   unfolding collector
-  collect-turns = walks-related (λ l vs. InTurn P vs l) (collector source types) visiting (record { nothing = nothing; both = λ p q. turns-append p q; own = own-turn })
+  collect-turns = walks-related (λ l vs. InTurn P vs l) (collector source types) visiting
+      (record { nothing = nothing; both = λ p q. turns-append p q; own = own-turn })
 
   pub noted-turns : (n : Node) → InTurn (BesideTurn P) (visits n) (collectNoted source types n)
   unfolding noting

@@ -3,9 +3,7 @@ use Rattle.laws.proofs.Prelude.{_≡_, refl, Bool, List, ℕ, arith}
 use Rattle.laws.specs.Decoded.{Decoded, ok, no}
 use Rattle.laws.proofs.Answers.{Answer, Yields, ends, behind, with}
 use Rattle.wire.specs.Fields.{flag}
-use Rattle.sheet.specs.declared.fields.Span.{Span}
-use Rattle.sheet.specs.Fields.{span}
-use Rattle.sheet.proofs.CommentCodecs.{span-part}
+use Rattle.sheet.{specs.declared.fields.Span.Span, specs.Fields.span, proofs.CommentCodecs.span-part}
 use Rattle.sheet_heads.specs.code.Parts.{argumentHead}
 use Rattle.report.specs.Range.{InSource}
 

@@ -1,11 +1,8 @@
 -- Entries written list by list, and their rows noted.
 use Rattle.laws.proofs.Prelude.{_≡_, refl, ap, List, [], _∷_, _++_, flatMap, ℕ}
 use Rattle.laws.proofs.Lists.{flatMap-append}
-use Rattle.report.specs.declared.writer.Pen.{Pen}
-use Rattle.report.specs.Encode.{encodeDependency}
-use Rattle.report.proofs.Buffers.{wrote-append, wrote-nil}
-use Rattle.dep_entries.specs.Entries.{Noted}
-use Rattle.dep_entries.specs.code.Notes.{noted, allNoted}
+use Rattle.report.{specs.declared.writer.Pen.Pen, specs.Encode.encodeDependency, proofs.Buffers.wrote-append, proofs.Buffers.wrote-nil}
+use Rattle.dep_entries.specs.{Entries.Noted, code.Notes.noted, code.Notes.allNoted}
 use Rattle.dep_entries.specs.code.Written.{Written, writtenAs, wroteEntries}
 
 noted-append : (notes : List ℕ) (l m : List Noted) → allNoted notes (l ++ m) ≡ allNoted (allNoted notes l) m

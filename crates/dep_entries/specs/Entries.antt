@@ -45,6 +45,7 @@ abbrev pub firstText : Arguments → Option (List ℕ)
 firstText noArguments = Option.none
 firstText (argument dots at n xs) = singleText (shape n)
 
+-- the text of a String, if there is one
 abbrev pub textIn : Option Quoted → Option (List ℕ)
 textIn Option.none = Option.none
 textIn (Option.some x) = Option.some (x .text)

@@ -1,5 +1,6 @@
 -- What the stores of `append` and `serve` make of the desk that a block stands for.
-use Rattle.laws.proofs.Prelude.{_≡_, refl, sym, _∙_, ap, List, [], _∷_, _++_, ℕ, suc, _+_, _-_, _*_, _%_, _<_, arith, length, getD, set, drop, length-set, getD-set-same, getD-set-other}
+use Rattle.laws.proofs.Prelude.{_≡_, refl, sym, _∙_, ap, List, [], _∷_, _++_, ℕ, suc, _+_, _-_, _*_, _%_, _<_, arith, length, getD, set, drop, length-set}
+use Rattle.laws.proofs.Prelude.{getD-set-same, getD-set-other}
 use Rattle.desk.specs.Desk.{Desk, queue, withSheet, withoutFront}
 use Rattle.desk.specs.Block.{ring, countIn, queueIn, deskAs}
 use Rattle.desk.proofs.Rings.{ring-round, ring-last, ring-same, queue-same, queue-of, queues-changed}
@@ -75,7 +76,10 @@ module _ (block : List ℕ) (d count : ℕ) (long : length block ≡ 161) (here 
 
       counted-served : countIn served d ≡ count - 1
       counted-served =
-          rw (getD-set-other moved 160 (10 * d + 9) next 0 (λ e. omega arith), getD-set-same (set block (10 * d + 8) second) (10 * d + 9) fewer 0 (rw length-set (omega arith)))
+          rw (
+            getD-set-other moved 160 (10 * d + 9) next 0 (λ e. omega arith),
+            getD-set-same (set block (10 * d + 8) second) (10 * d + 9) fewer 0 (rw length-set (omega arith)),
+          )
           (omega arith)
 
       served-queue : queueIn served d ≡ drop 1 (queueIn block d)

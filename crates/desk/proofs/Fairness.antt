@@ -1,5 +1,6 @@
 -- What holds over any calls from a fresh desk.
-use Rattle.laws.proofs.Prelude.{_≡_, refl, sym, _∙_, ap, _↔_, List, [], _∷_, _++_, append-nil, ℕ, suc, _+_, _-_, _%_, _<_, arith, eq-eqb, length, List·getD-eq-default}
+use Rattle.laws.proofs.Prelude.{_≡_, refl, sym, _∙_, ap, _↔_, List, [], _∷_, _++_, append-nil, ℕ, suc, _+_, _-_, _%_, _<_, arith, eq-eqb, length}
+use Rattle.laws.proofs.Prelude.{List·getD-eq-default}
 use mathlib.Core.List.{nil≢cons}
 use native.Mathlib.Decide.{decLe}
 use Rattle.desk.specs.Desk.{Desk, Call, handIn, turn, Event, served, idle, Done, fresh, queue, lookedAt, step}
@@ -45,7 +46,8 @@ module _ {h : History} {desk : Desk} (a : Agrees h desk) where
   soon-right d s rest more e enough =
       let there = sym (waiting-is a d) ∙ e in
       let few = one-of-sixteen desk d (a .sixteen) there in
-      served-soon d s desk (distance d) more (record { long = a .sixteen; few = omega arith; reached = looked-at desk d below few; rest = rest; at-front = there }) enough
+      served-soon d s desk (distance d) more
+      (record { long = a .sixteen; few = omega arith; reached = looked-at desk d below few; rest = rest; at-front = there }) enough
 
 idle-exactly : {h : History} {e : Event} → TurnAnswer h e → (e ≡ idle) ↔ ((d : ℕ) → waitingOf d h ≡ [])
 idle-exactly (TurnAnswer.front {d} n w) = (λ e. let z : _≡_ {A = ℕ} 0 1 = cc in absurd (omega arith), λ none. absurd (nil≢cons (sym (none d) ∙ w)))
@@ -54,7 +56,8 @@ idle-exactly (TurnAnswer.nobody none) = (λ e. none, λ n. refl)
 freed-right : (calls : List Call) (d s : ℕ) → happensNext calls turn ≡ served d s → Freed calls d s
 freed-right calls d s e = record {
   rest = waiting-is a d ∙ went ∙ ap (λ q. s ∷ q) (sym (waiting-is (agrees-fresh (calls ++ turn ∷ [])) d));
-  room = λ t. accepted-there (outcome (after fresh (calls ++ turn ∷ [])) (handIn d t)) (one-of-sixteen desk d (a .sixteen) went) (let few = a .few d in let less = ap length went in omega arith);
+  room = λ t. accepted-there (outcome (after fresh (calls ++ turn ∷ [])) (handIn d t)) (one-of-sixteen desk d (a .sixteen) went)
+      (let few = a .few d in let less = ap length went in omega arith);
 }
   where
     desk : Desk

@@ -1,5 +1,7 @@
 -- The desk after some calls, and what was read off what happened until then.
-use Rattle.laws.proofs.Prelude.{_≡_, refl, sym, _∙_, ap, List, [], _∷_, _++_, append-nil, append-assoc, flatMap, ℕ, zero, suc, _+_, _%_, _≤_, _<_, arith, ℕ-discrete, eq-eqb, ne-eqb, length, getD, set, length-set, length-append, replicate, getD-set-same, getD-set-other, drop-append-seam}
+use Rattle.laws.proofs.Prelude.{_≡_, refl, sym, _∙_, ap, List, [], _∷_, _++_, append-nil, append-assoc, flatMap, ℕ, zero, suc, _+_, _%_, _≤_, _<_, arith}
+use Rattle.laws.proofs.Prelude.{ℕ-discrete, eq-eqb, ne-eqb, length, getD, set, length-set, length-append, replicate, getD-set-same, getD-set-other}
+use Rattle.laws.proofs.Prelude.{drop-append-seam}
 use lib.Seq.{append-snoc}
 use Rattle.laws.proofs.Lists.{flatMap-append}
 use Rattle.desk.specs.Desk.{Desk, Call, Event, accepted, refused, served, idle, Done, fresh, queue, withSheet, withoutFront, lookedAt, step}
@@ -37,7 +39,8 @@ changed queues f {q} here own others d = elim (ℕ-discrete f d) [
   | no p ↦ rw (getD-set-other queues f d q [] (λ x. p (sym x))) (stays _ (others d p .0) (others d p .1))
 ]
 
-pub moves : (desk : Desk) (c : Call) (done : Done) → length (desk .queues) ≡ 16 → Outcome desk c done → (d : ℕ) → Moves (queue desk d) (queue (done .desk) d) d (done .event)
+pub moves : (desk : Desk) (c : Call) (done : Done) → length (desk .queues) ≡ 16 → Outcome desk c done → (d : ℕ) →
+    Moves (queue desk d) (queue (done .desk) d) d (done .event)
 unfolding withSheet withoutFront
 moves desk c done long (over h) d = stays _ refl refl
 moves desk c done long (full h e) d = stays _ refl refl
@@ -51,7 +54,8 @@ moves desk c done long (front {s = s} {rest = rest} passed h none e) d =
 moves desk c done long (nobody none) d = stays _ refl refl
 
 -- there are as many queues as before, and the next depositor is the one after a served one
-pub keeps : (desk : Desk) (c : Call) (done : Done) → Outcome desk c done → (length (done .desk .queues) ≡ length (desk .queues)) × (nextFrom (desk .next) (done .event ∷ []) ≡ done .desk .next)
+pub keeps : (desk : Desk) (c : Call) (done : Done) → Outcome desk c done →
+    (length (done .desk .queues) ≡ length (desk .queues)) × (nextFrom (desk .next) (done .event ∷ []) ≡ done .desk .next)
 unfolding withSheet withoutFront nextFrom
 keeps desk c done (over h) = (refl, refl)
 keeps desk c done (full h e) = (refl, refl)

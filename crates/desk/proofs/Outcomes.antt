@@ -2,14 +2,16 @@
 use Rattle.laws.proofs.Prelude.{_≡_, refl, false, true≢false, List, [], _∷_, ℕ, zero, suc, _+_, _≤_, _<_, arith, lt-ltb, le-ltb, le-leb, lt-leb, length}
 use native.Mathlib.Decide.{decLe}
 use borrow.Author.Count.{below-none, below-more}
-use Rattle.desk.specs.Desk.{Desk, Call, handIn, turn, Done, accepted, refused, served, idle, changes, queue, withSheet, withoutFront, noDepositor, eightWaiting, handedIn, turned, lookedAt, firstWaiting, serve, step}
+use Rattle.desk.specs.Desk.{Desk, Call, handIn, turn, Done, accepted, refused, served, idle, changes, queue, withSheet, withoutFront, noDepositor}
+use Rattle.desk.specs.Desk.{eightWaiting, handedIn, turned, lookedAt, firstWaiting, serve, step}
 
 pub data Outcome (desk : Desk) : Call → Done → Type 0 where
   over : {d s : ℕ} → 15 < d → Outcome desk (handIn d s) (record { desk = desk; event = refused d s noDepositor })
   full : {d s : ℕ} → d ≤ 15 → 8 ≤ length (queue desk d) → Outcome desk (handIn d s) (record { desk = desk; event = refused d s eightWaiting })
   room : {d s : ℕ} → d ≤ 15 → length (queue desk d) < 8 → Outcome desk (handIn d s) (record { desk = withSheet desk d s; event = accepted d s })
   front : {s : ℕ} {rest : List ℕ} (passed : ℕ) → passed < 16 → ((k : ℕ) → k < passed → queue desk (lookedAt desk k) ≡ [])
-      → queue desk (lookedAt desk passed) ≡ s ∷ rest → Outcome desk turn (record { desk = withoutFront desk (lookedAt desk passed); event = served (lookedAt desk passed) s })
+      → queue desk (lookedAt desk passed) ≡ s ∷ rest →
+      Outcome desk turn (record { desk = withoutFront desk (lookedAt desk passed); event = served (lookedAt desk passed) s })
   nobody : ((k : ℕ) → k < 16 → queue desk (lookedAt desk k) ≡ []) → Outcome desk turn (record { desk = desk; event = idle })
 
 module _ (desk : Desk) where
@@ -24,10 +26,12 @@ module _ (desk : Desk) where
   ]
 
   -- once so many were passed, and so many are left
-  turn-outcome : (left passed : ℕ) → passed + left ≡ 16 → ((k : ℕ) → k < passed → queue desk (lookedAt desk k) ≡ []) → Outcome desk turn (serve desk (firstWaiting desk passed left))
+  turn-outcome : (left passed : ℕ) → passed + left ≡ 16 → ((k : ℕ) → k < passed → queue desk (lookedAt desk k) ≡ []) →
+      Outcome desk turn (serve desk (firstWaiting desk passed left))
   unfolding firstWaiting
   turn-outcome zero passed all none = nobody (λ k below. none k (omega arith))
-  turn-outcome (suc left) passed all none = look (queue desk (lookedAt desk passed)) refl (λ e. turn-outcome left (passed + 1) (omega arith) (below-more _ passed none e))
+  turn-outcome (suc left) passed all none = look (queue desk (lookedAt desk passed)) refl
+      (λ e. turn-outcome left (passed + 1) (omega arith) (below-more _ passed none e))
     where
       look : (q : List ℕ) → queue desk (lookedAt desk passed) ≡ q
           → (queue desk (lookedAt desk passed) ≡ [] → Outcome desk turn (serve desk (firstWaiting desk (passed + 1) left)))

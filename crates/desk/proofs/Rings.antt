@@ -1,5 +1,6 @@
 -- The queues of a block, when numbers of it change.
-use Rattle.laws.proofs.Prelude.{_≡_, refl, sym, _∙_, ap, List, [], _∷_, _++_, ℕ, zero, suc, _+_, _*_, _%_, _<_, arith, ℕ-discrete, length, getD, set, length-set, getD-set-same, getD-set-other}
+use Rattle.laws.proofs.Prelude.{_≡_, refl, sym, _∙_, ap, List, [], _∷_, _++_, ℕ, zero, suc, _+_, _*_, _%_, _<_, arith, ℕ-discrete, length, getD, set}
+use Rattle.laws.proofs.Prelude.{length-set, getD-set-same, getD-set-other}
 use mathlib.Core.Path.{ap₂}
 use lib.Seq.{ext-getD}
 use Rattle.desk.specs.Desk.{queue}
@@ -45,7 +46,8 @@ length-queue-of block d h = rw (queue-of block d h) (length-ring block d _ _)
 
 module _ (old new : List ℕ) where
   -- a ring of which no number that is read changes
-  pub ring-same : (d place n : ℕ) → ((k : ℕ) → k < n → getD new (10 * d + (place + k) % 8) 0 ≡ getD old (10 * d + (place + k) % 8) 0) → ring new d place n ≡ ring old d place n
+  pub ring-same : (d place n : ℕ) → ((k : ℕ) → k < n → getD new (10 * d + (place + k) % 8) 0 ≡ getD old (10 * d + (place + k) % 8) 0) →
+      ring new d place n ≡ ring old d place n
   unfolding ring
   ring-same d place zero h = refl
   ring-same d place (suc n) h =

@@ -1,7 +1,7 @@
 -- A sheet at the front of its queue is served soon: each turn that serves another depositor brings its own nearer.
-use Rattle.laws.proofs.Prelude.{_≡_, refl, sym, _∙_, ap, List, [], _∷_, _++_, flatMap, ℕ, suc, _+_, _-_, _%_, _≤_, _<_, arith, ℕ-discrete, ne-eqb, length, List·getD-eq-default}
-use mathlib.Core.Path.{ap₂}
-use mathlib.Core.List.{head-eq-of-cons-eq, nil≢cons}
+use Rattle.laws.proofs.Prelude.{_≡_, refl, sym, _∙_, ap, List, [], _∷_, _++_, flatMap, ℕ, suc, _+_, _-_, _%_, _≤_, _<_, arith, ℕ-discrete, ne-eqb, length}
+use Rattle.laws.proofs.Prelude.{List·getD-eq-default}
+use mathlib.Core.{Path.ap₂, List.head-eq-of-cons-eq, List.nil≢cons}
 use native.Mathlib.Decide.{decLe}
 use Rattle.desk.specs.Desk.{Desk, Call, Event, served, Done, queue, lookedAt, withSheet, withoutFront, step}
 use Rattle.desk.specs.History.{History, events, acceptedBy, servedBy, oneIfTurn, turnsIn}
@@ -56,7 +56,8 @@ module _ (d s : ℕ) where
   some-there {desk} near none = nil≢cons (sym none ∙ ap (queue desk) (near .reached) ∙ near .at-front)
 
   -- a call that does not serve d leaves s at the front
-  still : {desk : Desk} {n m : ℕ} {c : Call} {done : Done} → Near desk n → Outcome desk c done → servedBy d (done .event) ≡ [] → m < 16 → lookedAt (done .desk) m ≡ d → Near (done .desk) m
+  still : {desk : Desk} {n m : ℕ} {c : Call} {done : Done} → Near desk n → Outcome desk c done → servedBy d (done .event) ≡ [] → m < 16 →
+      lookedAt (done .desk) m ≡ d → Near (done .desk) m
   still {desk} {c = c} {done = done} near o none few reached = record {
     long = keeps desk c done o .0 ∙ near .long;
     few = few;
@@ -66,15 +67,18 @@ module _ (d s : ℕ) where
   }
 
   -- a turn that serves the depositor it looks at after so many
-  turn-nearer : (desk : Desk) (n passed : ℕ) {t : ℕ} {rest : List ℕ} (h : History) → Near desk n → passed < 16 → ((k : ℕ) → k < passed → queue desk (lookedAt desk k) ≡ [])
+  turn-nearer : (desk : Desk) (n passed : ℕ) {t : ℕ} {rest : List ℕ} (h : History) → Near desk n → passed < 16 →
+      ((k : ℕ) → k < passed → queue desk (lookedAt desk k) ≡ [])
       → queue desk (lookedAt desk passed) ≡ t ∷ rest → n < suc (turnsIn h)
-      → ((m : ℕ) → Near (withoutFront desk (lookedAt desk passed)) m → m < turnsIn h → ServedWithin (suc m) d s h) → ServedWithin (suc n) d s (served (lookedAt desk passed) t ∷ h)
+      → ((m : ℕ) → Near (withoutFront desk (lookedAt desk passed)) m → m < turnsIn h → ServedWithin (suc m) d s h) →
+      ServedWithin (suc n) d s (served (lookedAt desk passed) t ∷ h)
   unfolding turnsIn withoutFront flatMap
   turn-nearer desk n passed {t} h near few none e enough on = elim (ℕ-discrete passed n) [
     | yes p ↦ record {
       before = [];
       behind = h;
-      split = ap₂ (λ f u. served f u ∷ h) (ap (lookedAt desk) p ∙ near .reached) (head-eq-of-cons-eq (sym e ∙ ap (λ k. queue desk (lookedAt desk k)) p ∙ ap (queue desk) (near .reached) ∙ near .at-front));
+      split = ap₂ (λ f u. served f u ∷ h) (ap (lookedAt desk) p ∙ near .reached)
+          (head-eq-of-cons-eq (sym e ∙ ap (λ k. queue desk (lookedAt desk k)) p ∙ ap (queue desk) (near .reached) ∙ near .at-front));
       not-before = refl;
       in-time = omega arith;
     }
@@ -82,7 +86,8 @@ module _ (d s : ℕ) where
       | yes far ↦ absurd (some-there near (none n (omega arith)))
       | no l ↦
           let earlier : passed < n = omega arith in
-          let off : servedBy d (served (lookedAt desk passed) t) ≡ [] = rw (ne-eqb (lookedAt desk passed) d (λ x. apart (desk .next) passed n earlier (near .few) (x ∙ sym (near .reached)))) refl in
+          let off : servedBy d (served (lookedAt desk passed) t)
+          ≡ [] = rw (ne-eqb (lookedAt desk passed) d (λ x. apart (desk .next) passed n earlier (near .few) (x ∙ sym (near .reached)))) refl in
           later _ off (omega arith)
           (on (n - suc passed) (still near (front passed few none e) off (omega arith) (nearer (desk .next) passed n earlier ∙ near .reached)) (omega arith))
     ]
@@ -94,7 +99,8 @@ module _ (d s : ℕ) where
   unfolding turnsIn withSheet
   first-call desk n c done h near (over o) enough on = later _ refl (omega arith) (on n near (omega arith))
   first-call desk n c done h near (full b e) enough on = later _ refl (omega arith) (on n near (omega arith))
-  first-call desk n c done h near (room b l) enough on = later _ refl (omega arith) (on n (still near (room b l) refl (near .few) (near .reached)) (omega arith))
+  first-call desk n c done h near (room b l) enough on = later _ refl (omega arith)
+      (on n (still near (room b l) refl (near .few) (near .reached)) (omega arith))
   first-call desk n c done h near (front passed few none e) enough on = turn-nearer desk n passed h near few none e (omega arith) on
   first-call desk n c done h near (nobody none) enough on = absurd (some-there near (none n (near .few)))
 
@@ -102,4 +108,5 @@ module _ (d s : ℕ) where
   unfolding events turnsIn
   served-soon desk n [] near enough = absurd (omega arith)
   served-soon desk n (c ∷ more) near enough =
-      first-call desk n c (step desk c) (events (step desk c .desk) more) near (outcome desk c) enough (λ m near′ enough′. served-soon (step desk c .desk) m more near′ enough′)
+      first-call desk n c (step desk c) (events (step desk c .desk) more) near (outcome desk c) enough
+      (λ m near′ enough′. served-soon (step desk c .desk) m more near′ enough′)

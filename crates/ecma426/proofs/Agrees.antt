@@ -1,24 +1,17 @@
 -- The grammar and the reader agree: what the reader finds in a body is its reading, of which there is at most one.
-use Rattle.laws.proofs.Prelude.{_≡_, refl, sym, ap, _∙_, Bool, true, false, cond, not, or-true, inl, inr, ⊎-elim, List, _++_, ℕ, _+_, _≤_, _<_, arith, eqb, length, drop, length-append, length-drop, drop-drop, eqb-true, eq-eqb}
-use Rattle.laws.specs.Ascii.{ascii}
-use Rattle.laws.specs.code.Told.{Bounded, Meant}
-use Rattle.text.specs.declared.utf8.Encoding.the-variants.{Utf8}
-use Rattle.text.specs.Ranges.{inRanges}
+use Rattle.laws.proofs.Prelude.{_≡_, refl, sym, ap, _∙_, Bool, true, false, cond, not, or-true, inl, inr, ⊎-elim, List, _++_, ℕ, _+_, _≤_, _<_, arith, eqb}
+use Rattle.laws.proofs.Prelude.{length, drop, length-append, length-drop, drop-drop, eqb-true, eq-eqb}
+use Rattle.laws.specs.{Ascii.ascii, code.Told.Bounded, code.Told.Meant}
+use Rattle.text.specs.{declared.utf8.Encoding.the-variants.Utf8, Ranges.inRanges, Bytes.begins, Characters.Stands}
 use Rattle.text.specs.Utf8.{admits, lengthBy, charLength, codeBy, charAt}
-use Rattle.text.specs.Bytes.{begins}
-use Rattle.text.specs.Characters.{Stands}
 use Rattle.text.proofs.Words.{begins-sound, begins-complete}
-use Rattle.analysis.specs.declared.Capture.{Capture}
-use Rattle.analysis.specs.declared.Found.{Found}
-use Rattle.analysis.specs.declared.Found.the-variants.{At, Nothing}
+use Rattle.analysis.specs.declared.{Capture.Capture, Found.Found, Found.the-variants.At, Found.the-variants.Nothing}
 use Rattle.analysis.specs.Place.{FoundWithin}
-use Rattle.ecma426.specs.declared.Kind.{Kind}
-use Rattle.ecma426.specs.declared.Kind.the-variants.{Space, NotSpace}
+use Rattle.ecma426.specs.declared.Kind.{Kind, the-variants.Space, the-variants.NotSpace}
 use Rattle.ecma426.specs.WhiteSpace.{isSpace, isOf}
 use Rattle.ecma426.specs.Grammar.{Row, none, more, Word, Marked, MapReading, FindsMap}
 use Rattle.ecma426.specs.Reader.{oneAt, rowEnd, marked, word, runTo, fromWord, findSourceMap}
-use Rattle.ecma426.proofs.WhiteSpace.{either}
-use Rattle.ecma426.proofs.Boundaries.{run-inside}
+use Rattle.ecma426.proofs.{WhiteSpace.either, Boundaries.run-inside}
 use Rattle.ecma426.proofs.LongestRow.{one-fits, stood, row-is, row-only}
 
 -- no whitespace stands where the word does, and no character where the text ends
@@ -61,7 +54,8 @@ module _ (body : List ℕ) where
 
   -- the two marks, each by the test for it
   marks : marked body ≡ true → Marked body
-  marks e = ⊎-elim (λ b. inl (stands (ascii "#") (omega arith) b)) (λ b. inr (stands (ascii "@") (omega arith) b)) (either (begins (ascii "#") body) (begins (ascii "@") body) e)
+  marks e = ⊎-elim (λ b. inl (stands (ascii "#") (omega arith) b)) (λ b. inr (stands (ascii "@") (omega arith) b))
+      (either (begins (ascii "#") body) (begins (ascii "@") body) e)
 
   pub marked-some : marked body ≡ true → 1 ≤ length body
   marked-some e = ⊎-elim (λ x. x .inside) (λ x. x .inside) (marks e)

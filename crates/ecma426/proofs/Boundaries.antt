@@ -1,12 +1,8 @@
 -- In a well-formed body the run begins and ends at character boundaries.
 use Rattle.laws.proofs.Prelude.{_≡_, sym, _∙_, true, false≢true, List, ℕ, _≤_, add-zero, sub-zero, arith, length, List·getD-eq-default}
-use Rattle.text.specs.declared.utf8.Encoding.the-variants.{Utf8}
-use Rattle.text.specs.Utf8.{formed}
-use Rattle.text.specs.Position.{Boundary}
+use Rattle.text.specs.{declared.utf8.Encoding.the-variants.Utf8, Utf8.formed, Position.Boundary}
 use Rattle.text.proofs.Characters.{stands-length, stands-between}
-use Rattle.analysis.specs.declared.Capture.{Capture}
-use Rattle.analysis.specs.Place.{placeOf, Inside}
-use Rattle.analysis.proofs.Boundaries.{Whole}
+use Rattle.analysis.{specs.declared.Capture.Capture, specs.Place.placeOf, specs.Place.Inside, proofs.Boundaries.Whole}
 use Rattle.ecma426.specs.declared.Kind.{Kind}
 use Rattle.ecma426.specs.Grammar.{Row, none, more, MapReading}
 
@@ -29,4 +25,9 @@ module _ (s : List ℕ) where
         let end : Boundary s (length s) = (omega arith, rw (List·getD-eq-default s 0 {n = length s} (omega arith))) in
         let to = row-back (r .end) end in
         let from = row-back (r .run) to in
-        record { opens = rw (r .bare, sub-zero) from; closes = rw (r .bare, add-zero) to; inside = run-inside r; marks = λ q. absurd (false≢true (sym (r .bare) ∙ q)) }
+        record {
+          opens = rw (r .bare, sub-zero) from;
+          closes = rw (r .bare, add-zero) to;
+          inside = run-inside r;
+          marks = λ q. absurd (false≢true (sym (r .bare) ∙ q));
+        }

@@ -1,12 +1,9 @@
 -- The longest row of a kind, from one character to the next; no other row ends where no such character stands.
-use Rattle.laws.proofs.Prelude.{_≡_, refl, sym, ap, _∙_, List, [], _∷_, ℕ, zero, suc, _+_, _≤_, not-suc-le-zero, le-of-suc-le-suc, ℕ-discrete, arith, length, drop, length-drop, drop-drop}
-use Rattle.text.specs.declared.utf8.Encoding.the-variants.{Utf8}
-use Rattle.text.specs.Utf8.{charAt}
-use Rattle.text.specs.Characters.{Stands}
-use Rattle.text.proofs.Formed.{fits-if}
+use Rattle.laws.proofs.Prelude.{_≡_, refl, sym, ap, _∙_, List, [], _∷_, ℕ, zero, suc, _+_, _≤_, not-suc-le-zero, le-of-suc-le-suc, ℕ-discrete, arith}
+use Rattle.laws.proofs.Prelude.{length, drop, length-drop, drop-drop}
+use Rattle.text.{specs.declared.utf8.Encoding.the-variants.Utf8, specs.Utf8.charAt, specs.Characters.Stands, proofs.Formed.fits-if}
 use Rattle.text.proofs.Characters.{stands-sound, stands-complete}
-use Rattle.ecma426.specs.declared.Kind.{Kind}
-use Rattle.ecma426.specs.WhiteSpace.{isOf}
+use Rattle.ecma426.specs.{declared.Kind.Kind, WhiteSpace.isOf}
 use Rattle.ecma426.specs.Grammar.{OneOf, Row, none, more}
 use Rattle.ecma426.specs.Reader.{oneAt, row, rowEnd}
 

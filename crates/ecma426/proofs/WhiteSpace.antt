@@ -1,5 +1,6 @@
 -- ECMAScript's whitespace beside Unicode's White_Space: U+0085 is not in it, U+FEFF is, and nothing else differs.
-use Rattle.laws.proofs.Prelude.{_≡_, refl, sym, Bool, true, false, not, _&&_, _||_, and-eq-true-iff, false≢true, _⊎_, inl, inr, ⊎-elim, _↔_, List, [], _∷_, _++_, ℕ, zero, suc, _+_, _-_, _≤_, _<_, arith, ℕ-discrete, eqb, eqb-true}
+use Rattle.laws.proofs.Prelude.{_≡_, refl, sym, Bool, true, false, not, _&&_, _||_, and-eq-true-iff, false≢true, _⊎_, inl, inr, ⊎-elim, _↔_, List, [], _∷_}
+use Rattle.laws.proofs.Prelude.{_++_, ℕ, zero, suc, _+_, _-_, _≤_, _<_, arith, ℕ-discrete, eqb, eqb-true}
 use Rattle.laws.specs.code.Told.{Meant}
 use Rattle.text.specs.Ranges.{Range, _to_, within, inRanges}
 use Rattle.text.specs.WhiteSpace as unicode

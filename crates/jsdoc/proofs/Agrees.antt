@@ -5,8 +5,7 @@ use Rattle.analysis.specs.Mode.{Mode}
 use Rattle.jsdoc.specs.Grammar.{Bytes, Brace, Declaration}
 use Rattle.jsdoc.specs.Parsed.{Parsed, ok, backtrace, Parser, value}
 use Rattle.jsdoc.specs.Reader.{Hit, hit, parseJsdocDynamicImport, parseJsdocImportDecl}
-use Rattle.jsdoc.proofs.Braces.{brace-sound, brace-complete}
-use Rattle.jsdoc.proofs.Declarations.{decl-sound, decl-complete}
+use Rattle.jsdoc.proofs.{Braces.brace-sound, Braces.brace-complete, Declarations.decl-sound, Declarations.decl-complete}
 
 value-some : {A : Type 0} {a : A} (o : Parsed A) → value o ≡ some a → (t : Bytes) × (o ≡ ok a t)
 value-some (ok b t) e = (t, (cc))

@@ -1,16 +1,13 @@
 -- A Brace reading and a Declaration never have one place: before its white space stands `(`, or the last letter of `from`.
-use Rattle.laws.proofs.Prelude.{_≡_, refl, sym, ap, _∙_, Bool, true, false, [], _∷_, _++_, append-assoc, ℕ, zero, suc, _+_, _-_, _<_, code, arith, ltb, length, drop, getD, length-append, length-drop, ltb-true, ltb-false}
-use lib.ListN.{List·getD-append}
-use lib.Seq.{getD-append-seam, getD-append-add}
+use Rattle.laws.proofs.Prelude.{_≡_, refl, sym, ap, _∙_, Bool, true, false, [], _∷_, _++_, append-assoc, ℕ, zero, suc, _+_, _-_, _<_, code, arith, ltb}
+use Rattle.laws.proofs.Prelude.{length, drop, getD, length-append, length-drop, ltb-true, ltb-false}
+use lib.{ListN.List·getD-append, Seq.getD-append-seam, Seq.getD-append-add}
 use Rattle.laws.specs.Ascii.{ascii}
-use Rattle.text.specs.declared.class.Class.the-variants.{White}
-use Rattle.text.specs.Ranges.{inRanges}
+use Rattle.text.specs.{declared.class.Class.the-variants.White, Ranges.inRanges}
 use Rattle.text.specs.Class.{outside, ranges, member}
 use Rattle.analysis.specs.Mode.{Mode}
 use Rattle.jsdoc.specs.Grammar.{Bytes, Without, Quote, Brace, Declaration, From}
-use Rattle.jsdoc.proofs.Ends.{ends-trans, ends-drop}
-use Rattle.jsdoc.proofs.Characters.{run-ends, run-free}
-use Rattle.jsdoc.proofs.Texts.{quote-shorter}
+use Rattle.jsdoc.proofs.{Ends.ends-trans, Ends.ends-drop, Characters.run-ends, Characters.run-free, Texts.quote-shorter}
 use Rattle.jsdoc.proofs.Suffixes.{brace-ends, declaration-ends}
 
 without-at : (m : ℕ) (w : Bytes) → Without m w → (k : ℕ) → k < length w → getD w k 0 ≡ m → ⊥
@@ -73,7 +70,8 @@ module _ {b : Bytes} {k q : ℕ} {m : Mode} where
       let (p, e) = ends-trans (ends-drop k b) (declaration-ends r) in
       let (u, i, w) = r .word2 in
       stands (code "m") (code "(") b (p ++ ascii "fro") (run-ends White w .0) q (quote-there (r .quote))
-      (e ∙ ap (λ (l : Bytes). p ++ l) (i ∙ ap (λ (l : Bytes). ascii "from" ++ l) (run-ends White w .1)) ∙ sym (append-assoc p (ascii "fro") (code "m" ∷ (run-ends White w .0 ++ drop q b))))
+      (e ∙ ap (λ (l : Bytes). p ++ l) (i ∙ ap (λ (l : Bytes). ascii "from" ++ l) (run-ends White w .1)) ∙
+      sym (append-assoc p (ascii "fro") (code "m" ∷ (run-ends White w .0 ++ drop q b))))
       (run-free White (code "(") (omega arith) refl w)
 
 pub never-both : {b : Bytes} {k j q : ℕ} {m n : Mode} → From Brace b k q m → From Declaration b j q n → ⊥

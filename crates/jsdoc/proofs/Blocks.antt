@@ -1,19 +1,18 @@
 -- Attributes and blocks of them: the grammar and the functions agree.
-use Rattle.laws.proofs.Prelude.{_≡_, refl, sym, ap, _∙_, Bool, true, false, cond, _⊎_, ⊎-elim, inl, inr, List, [], _∷_, _++_, ℕ, zero, suc, _≤_, _<_, code, arith, length}
+use Rattle.laws.proofs.Prelude.{_≡_, refl, sym, ap, _∙_, Bool, true, false, cond, _⊎_, ⊎-elim, inl, inr, List, [], _∷_, _++_, ℕ, zero, suc, _≤_, _<_, code}
+use Rattle.laws.proofs.Prelude.{arith, length}
 use Rattle.laws.specs.Ascii.{ascii}
-use Rattle.text.specs.declared.class.Class.the-variants.{White}
-use Rattle.text.specs.Bytes.{same}
-use Rattle.text.specs.Ranges.{inRanges}
-use Rattle.text.specs.Alphabetic.{alphabetic}
+use Rattle.text.specs.{declared.class.Class.the-variants.White, Bytes.same, Ranges.inRanges, Alphabetic.alphabetic, Characters.OneOf}
 use Rattle.text.specs.Class.{outside, ranges, member}
-use Rattle.text.specs.Characters.{OneOf}
 use Rattle.analysis.specs.Mode.{Mode, modeOf}
 use Rattle.jsdoc.specs.Grammar.{Bytes, done, W*, Word, Quote, Name, Attribute, Pair, pair, Attributes, none, last, next, modeIn, Block}
 use Rattle.jsdoc.specs.Parsed.{Parsed, ok, backtrace, onParsed}
-use Rattle.jsdoc.specs.Reader.{skip, skipWhitespace, tag, word, parseQuote, parseKey, ModeNamed, unnamed, attributeMode, parseAttribute, firstMode, comma, separatedListBy, separatedList, parseImportAttributeBlockForResolutionMode}
+use Rattle.jsdoc.specs.Reader.{skip, skipWhitespace, tag, word, parseQuote, parseKey, ModeNamed, unnamed, attributeMode, parseAttribute, firstMode}
+use Rattle.jsdoc.specs.Reader.{comma, separatedListBy, separatedList, parseImportAttributeBlockForResolutionMode}
 use Rattle.jsdoc.proofs.Chains.{never, no-reading, then-ok}
 use Rattle.jsdoc.proofs.Characters.{run-sound, run-complete, run-ended, run-shorter, white-complete}
-use Rattle.jsdoc.proofs.Texts.{tag-sound, tag-complete, tag-other, word-sound, word-complete, word-shorter, quote-sound, quote-complete, quote-shorter, key-sound, key-complete, name-not, name-shorter}
+use Rattle.jsdoc.proofs.Texts.{tag-sound, tag-complete, tag-other, word-sound, word-complete, word-shorter, quote-sound, quote-complete}
+use Rattle.jsdoc.proofs.Texts.{quote-shorter, key-sound, key-complete, name-not, name-shorter}
 
 pub attribute-sound : (s t : Bytes) (n : ModeNamed) → parseAttribute s ≡ ok n t → (k : Bytes) × (v : Bytes) × Attribute k v s t × (n ≡ attributeMode k v)
 unfolding parseAttribute skipWhitespace
@@ -38,16 +37,14 @@ attribute-sound s t n e =
 
 pub attribute-complete : {k v s t : Bytes} → Attribute k v s t → parseAttribute s ≡ ok (attributeMode k v) t
 unfolding parseAttribute
-attribute-complete r =
-    rw (key-complete (r .key), white-complete (r .white), word-complete (ascii ":") (r .colon), quote-complete (r .value))
+attribute-complete r = rw (key-complete (r .key), white-complete (r .white), word-complete (ascii ":") (r .colon), quote-complete (r .value))
 
 key-shorter : {k s t : Bytes} → Quote k s t ⊎ Name k s t → length t < length s
 key-shorter (inl r) = quote-shorter r
 key-shorter (inr r) = name-shorter r
 
 attribute-shorter : {k v s t : Bytes} → Attribute k v s t → length t < length s
-attribute-shorter r =
-    omega (arith, key-shorter (r .key), run-shorter White (r .white), word-shorter (ascii ":") (r .colon), quote-shorter (r .value))
+attribute-shorter r = omega (arith, key-shorter (r .key), run-shorter White (r .white), word-shorter (ascii ":") (r .colon), quote-shorter (r .value))
 
 -- no attribute begins with `}`
 attribute-none : {s t : Bytes} → s ≡ ascii "}" ++ t → parseAttribute s ≡ backtrace

@@ -1,19 +1,17 @@
 -- Brace readings: the grammar and the functions agree.
-use Rattle.laws.proofs.Prelude.{_≡_, refl, sym, ap, _∙_, Bool, true, false, cond, false≢true, _⊎_, inl, inr, [], _∷_, _++_, Option, ℕ, zero, suc, _<_, code, arith, length, drop, eqb, ne-eqb, eqb-true}
+use Rattle.laws.proofs.Prelude.{_≡_, refl, sym, ap, _∙_, Bool, true, false, cond, false≢true, _⊎_, inl, inr, [], _∷_, _++_, Option, ℕ, zero, suc, _<_, code}
+use Rattle.laws.proofs.Prelude.{arith, length, drop, eqb, ne-eqb, eqb-true}
 use mathlib.Core.Bool.{not-eq-not}
 use borrow.Author.Tests.{eqb-false}
 use Rattle.laws.specs.Ascii.{ascii}
-use Rattle.text.specs.declared.class.Class.the-variants.{White}
-use Rattle.text.specs.Bytes.{begins}
-use Rattle.text.proofs.Words.{begins-sound, begins-complete}
+use Rattle.text.{specs.declared.class.Class.the-variants.White, specs.Bytes.begins, proofs.Words.begins-sound, proofs.Words.begins-complete}
 use Rattle.analysis.specs.Mode.{Mode}
 use Rattle.jsdoc.specs.Grammar.{Bytes, Word, Without, Quote, ToImport, SecondParam, Tail, Brace}
 use Rattle.jsdoc.specs.Parsed.{Parsed, ok, backtrace, onParsed}
-use Rattle.jsdoc.specs.Reader.{skip, skipWhitespace, tag, word, upTo, parseImportAttributeBlockForResolutionMode, secondParamStart, parseSecondParamObjWithLeadingComma, closeCall, parseTail, hit, seek, parseCall, parseJsdocDynamicImport}
-use Rattle.jsdoc.proofs.Chains.{then-ok}
-use Rattle.jsdoc.proofs.Characters.{run-sound, white-complete}
+use Rattle.jsdoc.specs.Reader.{skip, skipWhitespace, tag, word, upTo, parseImportAttributeBlockForResolutionMode, secondParamStart}
+use Rattle.jsdoc.specs.Reader.{parseSecondParamObjWithLeadingComma, closeCall, parseTail, hit, seek, parseCall, parseJsdocDynamicImport}
+use Rattle.jsdoc.proofs.{Chains.then-ok, Characters.run-sound, Characters.white-complete, Blocks.block-sound, Blocks.block-complete}
 use Rattle.jsdoc.proofs.Texts.{tag-sound, tag-complete, tag-other, word-sound, word-complete, upTo-sound, upTo-complete, quote-complete, specifier-sound}
-use Rattle.jsdoc.proofs.Blocks.{block-sound, block-complete}
 
 -- ---- the second parameter
 
@@ -85,16 +83,7 @@ tail-sound m s t = go (parseSecondParamObjWithLeadingComma (skip White s)) refl
         let n-is : n ≡ m = cc in
         let et : upTo (code "}") a ≡ ok z2 t = cc in
         let (w, r) = upTo-sound (code "}") a t et in
-        record {
-          r1 = skip White s;
-          r2 = u;
-          r3 = a;
-          run = w;
-          white = run-sound White s;
-          part = rw n-is at p;
-          paren = tag-sound (ascii ")") u a ea;
-          rest = r;
-        }
+        record { r1 = skip White s; r2 = u; r3 = a; run = w; white = run-sound White s; part = rw n-is at p; paren = tag-sound (ascii ")") u a ea; rest = r }
 
     go : (o : Parsed Mode) → parseSecondParamObjWithLeadingComma (skip White s) ≡ o
         → onParsed (onParsed o ok (ok Option.none (skip White s))) closeCall backtrace ≡ ok m t → Tail m s t
@@ -106,7 +95,8 @@ unfolding parseTail closeCall
 tail-complete {m} r =
     rw (white-complete (r .white), taken (r .part), tag-complete (ascii ")") (r .paren), upTo-complete (code "}") (r .run) (r .rest))
   where
-    taken : SecondParam m (r .r1) (r .r2) ⊎ ((m ≡ Option.none) × (r .r1 ≡ r .r2)) → onParsed (parseSecondParamObjWithLeadingComma (r .r1)) ok (ok Option.none (r .r1)) ≡ ok m (r .r2)
+    taken : SecondParam m (r .r1) (r .r2) ⊎ ((m ≡ Option.none) × (r .r1 ≡ r .r2)) →
+        onParsed (parseSecondParamObjWithLeadingComma (r .r1)) ok (ok Option.none (r .r1)) ≡ ok m (r .r2)
     taken (inl p) = rw (part-complete p)
     taken (inr (z, e)) = rw (part-none (e ∙ r .paren)) (cc)
 
@@ -114,12 +104,7 @@ tail-complete {m} r =
 
 -- a byte that is passed
 passed : (x : ℕ) (s : Bytes) → begins (ascii "import") (x ∷ s) ≡ false → {t : Bytes} → (x ≡ code "}" → ⊥) → ToImport s t → ToImport (x ∷ s) t
-passed x s b n r = record {
-  run = x ∷ r .run;
-  free = (n, r .free);
-  all = ap (λ (l : Bytes). x ∷ l) (r .all);
-  first = first;
-}
+passed x s b n r = record { run = x ∷ r .run; free = (n, r .free); all = ap (λ (l : Bytes). x ∷ l) (r .all); first = first }
   where
     first : (k : ℕ) → k < suc (length (r .run)) → (u : Bytes) → drop k (x ∷ s) ≡ ascii "import" ++ u → ⊥
     first zero l u e = false≢true (sym b ∙ ap (begins (ascii "import")) e ∙ begins-complete (ascii "import") u)
@@ -137,7 +122,8 @@ search-sound (x ∷ s) h = go (eqb x (code "}")) refl (begins (ascii "import") (
     go false e true f ih h = record { run = []; free = tt; all = refl; first = λ k l. absurd (omega arith) }
     go false e false f ih h = passed x s f (eqb-false x (code "}") e) (ih h)
 
-search-passes : (w t : Bytes) → Without (code "}") w → ((k : ℕ) → k < length w → (r : Bytes) → drop k (w ++ t) ≡ ascii "import" ++ r → ⊥) → begins (ascii "import") t ≡ true → seek (w ++ t) ≡ t
+search-passes : (w t : Bytes) → Without (code "}") w → ((k : ℕ) → k < length w → (r : Bytes) → drop k (w ++ t) ≡ ascii "import" ++ r → ⊥) →
+    begins (ascii "import") t ≡ true → seek (w ++ t) ≡ t
 unfolding seek begins
 search-passes [] [] f h b = refl
 search-passes [] (x ∷ t) f h b = go (eqb x (code "}")) refl

@@ -2,19 +2,16 @@
 use Rattle.laws.proofs.Prelude.{_≡_, refl, List, [], _∷_, map, flatMap, ℕ, _+_, length, set, replicate}
 use mathlib.Core.Option.{none, some}
 use Prim.Native.String.{String}
-use Rattle.laws.specs.Codec.{All}
-use Rattle.laws.specs.Ascii.{ascii}
-use Rattle.text.specs.Ranges.{inRanges}
+use Rattle.laws.specs.{Codec.All, Ascii.ascii}
+use Rattle.text.specs.{Ranges.inRanges, Encode.encode, Alphabetic.alphabetic, Bytes.begins, Bytes.same}
 use Rattle.text.specs.Utf8.{admits, lengthBy, charLength, codeBy, charAt}
-use Rattle.text.specs.Encode.{encode}
-use Rattle.text.specs.Alphabetic.{alphabetic}
 use Rattle.text.specs.Class.{outside, ranges, member, classAt, run}
-use Rattle.text.specs.Bytes.{begins, same}
 use Rattle.analysis.specs.Mode.{import, require, Mode, modeNumber, modeOf}
-use Rattle.jsdoc.specs.Grammar.{Bytes, Listed}
-use Rattle.jsdoc.specs.code.Ticks.{Ticks}
-use Rattle.jsdoc.specs.Listing.{listing}
-use Rattle.jsdoc.specs.Reader.{skip, skipWhitespace, whitespace, tag, word, upTo, isMark, parseQuote, pastIdent, parseIdent, parseKey, attributeMode, parseAttribute, firstMode, comma, separatedListBy, separatedList, parseImportAttributeBlockForResolutionMode, secondParamStart, parseSecondParamObjWithLeadingComma, closeCall, parseTail, seek, parseCall, parseJsdocDynamicImport, skipNamedImports, skipDefaultImport, skipNamespaceImport, skipClause, parseAttributes, parseFrom, parseJsdocImportDecl}
+use Rattle.jsdoc.specs.{Grammar.Bytes, Grammar.Listed, code.Ticks.Ticks, Listing.listing}
+use Rattle.jsdoc.specs.Reader.{skip, skipWhitespace, whitespace, tag, word, upTo, isMark, parseQuote, pastIdent, parseIdent, parseKey, attributeMode}
+use Rattle.jsdoc.specs.Reader.{parseAttribute, firstMode, comma, separatedListBy, separatedList, parseImportAttributeBlockForResolutionMode}
+use Rattle.jsdoc.specs.Reader.{secondParamStart, parseSecondParamObjWithLeadingComma, closeCall, parseTail, seek, parseCall, parseJsdocDynamicImport}
+use Rattle.jsdoc.specs.Reader.{skipNamedImports, skipDefaultImport, skipNamespaceImport, skipClause, parseAttributes, parseFrom, parseJsdocImportDecl}
 use Rattle.jsdoc.proofs.Listing.{listing-ticks}
 
 -- an import by the place of its quote and its mode
@@ -66,7 +63,10 @@ table =
     ∷ []
 
 computed : map (λ c. listing (body c)) table ≡ map ticks table
-unfolding table listing flatMap alphabetic inRanges admits lengthBy charLength codeBy charAt encode outside ranges member classAt run begins same modeOf skip skipWhitespace whitespace tag word upTo isMark parseQuote pastIdent parseIdent parseKey attributeMode parseAttribute firstMode comma separatedListBy separatedList parseImportAttributeBlockForResolutionMode secondParamStart parseSecondParamObjWithLeadingComma closeCall parseTail seek parseCall parseJsdocDynamicImport skipNamedImports skipDefaultImport skipNamespaceImport skipClause parseAttributes parseFrom parseJsdocImportDecl
+unfolding table listing flatMap alphabetic inRanges admits lengthBy charLength codeBy charAt encode outside ranges member classAt run begins same modeOf
+    skip skipWhitespace whitespace tag word upTo isMark parseQuote pastIdent parseIdent parseKey attributeMode parseAttribute firstMode comma
+    separatedListBy separatedList parseImportAttributeBlockForResolutionMode secondParamStart parseSecondParamObjWithLeadingComma closeCall parseTail seek
+    parseCall parseJsdocDynamicImport skipNamedImports skipDefaultImport skipNamespaceImport skipClause parseAttributes parseFrom parseJsdocImportDecl
 computed = refl
 
 -- just these imports are listed for the body

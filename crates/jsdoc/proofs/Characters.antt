@@ -1,10 +1,8 @@
 -- Characters of a class, and the longest runs of them: the grammar and the functions agree.
-use Rattle.laws.proofs.Prelude.{_≡_, refl, sym, ap, _∙_, true, false, false≢true, [], _∷_, _++_, ℕ, zero, suc, _≤_, _<_, arith, ℕ-discrete, length, drop, drop-drop, ne-eqb}
-use Rattle.text.specs.declared.class.Class.{Class}
-use Rattle.text.specs.declared.class.Class.the-variants.{White}
-use Rattle.text.specs.Encode.{encode}
+use Rattle.laws.proofs.Prelude.{_≡_, refl, sym, ap, _∙_, true, false, false≢true, [], _∷_, _++_, ℕ, zero, suc, _≤_, _<_, arith, ℕ-discrete, length, drop}
+use Rattle.laws.proofs.Prelude.{drop-drop, ne-eqb}
+use Rattle.text.specs.{declared.class.Class.Class, declared.class.Class.the-variants.White, Encode.encode, Characters.OneOf}
 use Rattle.text.specs.Class.{member, classAt, runLength}
-use Rattle.text.specs.Characters.{OneOf}
 use Rattle.text.proofs.CodePoint.{by-length, nonempty}
 use Rattle.text.proofs.Characters.{with-shorter, one-sound, one-complete}
 use Rattle.text.proofs.Runs.{class-fits, run-stops, run-goes-on}
@@ -82,8 +80,7 @@ module _ (c : Class) where
   -- the bytes of a run have none of ASCII that is not of the class
   pub run-free : (x : ℕ) → x < 0x80 → member c x ≡ false → {s t : Bytes} (r : LongestRun c s t) → Without x (run-ends r .0)
   run-free x h f (done k) = tt
-  run-free x h f (more r rest) =
-      without-append x (encode (r .point)) (run-ends rest .0) (free x h f (r .point) (r .meets)) (run-free x h f rest)
+  run-free x h f (more r rest) = without-append x (encode (r .point)) (run-ends rest .0) (free x h f (r .point) (r .meets)) (run-free x h f rest)
 
   pub run-shorter : {s t : Bytes} → LongestRun c s t → length t ≤ length s
   run-shorter r = ends-shorter (run-ends r)

@@ -1,17 +1,17 @@
 -- Declarations: the grammar and the functions agree.
 use Rattle.laws.proofs.Prelude.{_≡_, refl, sym, _∙_, _⊎_, inl, inr, Option, code, arith}
 use Rattle.laws.specs.Ascii.{ascii}
-use Rattle.text.specs.declared.class.Class.the-variants.{White}
-use Rattle.text.specs.Ranges.{inRanges}
-use Rattle.text.specs.Alphabetic.{alphabetic}
+use Rattle.text.specs.{declared.class.Class.the-variants.White, Ranges.inRanges, Alphabetic.alphabetic}
 use Rattle.text.specs.Class.{outside, ranges, member}
 use Rattle.analysis.specs.Mode.{Mode}
 use Rattle.jsdoc.specs.Grammar.{Bytes, W*, Word, Quote, Named, Starred, Braced, Clause, With, Declaration}
 use Rattle.jsdoc.specs.Parsed.{Parsed, ok, backtrace, onParsed, or, return}
-use Rattle.jsdoc.specs.Reader.{skip, skipWhitespace, whitespace, tag, word, parseIdent, hit, skipNamedImports, skipDefaultImport, skipNamespaceImport, skipClause, parseAttributes, parseFrom, parseJsdocImportDecl}
+use Rattle.jsdoc.specs.Reader.{skip, skipWhitespace, whitespace, tag, word, parseIdent, hit, skipNamedImports, skipDefaultImport, skipNamespaceImport}
+use Rattle.jsdoc.specs.Reader.{skipClause, parseAttributes, parseFrom, parseJsdocImportDecl}
 use Rattle.jsdoc.proofs.Chains.{never, no-reading, then-ok}
 use Rattle.jsdoc.proofs.Characters.{run-sound, white-complete, white1-sound, white1-complete}
-use Rattle.jsdoc.proofs.Texts.{tag-sound, tag-complete, word-sound, word-complete, upTo-sound, upTo-complete, quote-complete, specifier-sound, ident-sound, ident-complete, name-not}
+use Rattle.jsdoc.proofs.Texts.{tag-sound, tag-complete, word-sound, word-complete, upTo-sound, upTo-complete, quote-complete, specifier-sound}
+use Rattle.jsdoc.proofs.Texts.{ident-sound, ident-complete, name-not}
 use Rattle.jsdoc.proofs.Blocks.{block-sound, block-complete}
 
 -- ---- the three clauses
@@ -63,7 +63,8 @@ pub clause-sound : (s t : Bytes) {z : Unit {0}} → skipClause s ≡ ok z t → 
 unfolding skipClause
 clause-sound s t {z} = go (skipNamedImports s) (skipNamespaceImport s) refl refl
   where
-    go : (a b : Parsed (Unit {0})) → skipNamedImports s ≡ a → skipNamespaceImport s ≡ b → onParsed a ok (onParsed b ok (skipDefaultImport s)) ≡ ok z t → Clause s t
+    go : (a b : Parsed (Unit {0})) → skipNamedImports s ≡ a → skipNamespaceImport s ≡ b → onParsed a ok (onParsed b ok (skipDefaultImport s)) ≡ ok z t →
+        Clause s t
     go (ok x u) b h k e = inl (braced-sound s t (h ∙ e))
     go backtrace (ok x u) h k e = inr (inl (starred-sound s t (k ∙ e)))
     go backtrace backtrace h k e = inr (inr (named-sound s t e))
@@ -98,13 +99,7 @@ with-sound : (m : Mode) (s t : Bytes) → parseAttributes s ≡ ok m t → With 
 unfolding parseAttributes skipWhitespace
 with-sound m s t e =
     let (z, a, ea, e1) = then-ok (word (ascii "with") (skip White s)) _ e in
-    record {
-      r1 = skip White s;
-      r2 = a;
-      white = run-sound White s;
-      word = word-sound (ascii "with") (skip White s) a ea;
-      block = block-sound m a t e1;
-    }
+    record { r1 = skip White s; r2 = a; white = run-sound White s; word = word-sound (ascii "with") (skip White s) a ea; block = block-sound m a t e1 }
 
 with-complete : {m : Mode} {s t : Bytes} → With m s t → parseAttributes s ≡ ok m t
 unfolding parseAttributes

@@ -1,21 +1,14 @@
 -- The ticks that the parsers give at each place of a body are those of the readings that are listed.
-use Rattle.laws.proofs.Prelude.{_≡_, refl, ap, _⊎_, ⊎-elim, inl, inr, List, Option, ℕ, zero, suc, _-_, _≤_, _<_, arith, ℕ-discrete, length, drop, length-append, drop-append-seam}
+use Rattle.laws.proofs.Prelude.{_≡_, refl, ap, _⊎_, ⊎-elim, inl, inr, List, Option, ℕ, zero, suc, _-_, _≤_, _<_, arith, ℕ-discrete, length, drop}
+use Rattle.laws.proofs.Prelude.{length-append, drop-append-seam}
 use mathlib.Core.Option.{none, some}
-use Rattle.analysis.specs.Mode.{Mode}
-use Rattle.analysis.proofs.Modes.{found-of}
+use Rattle.analysis.{specs.Mode.Mode, proofs.Modes.found-of}
 use Rattle.jsdoc.specs.Grammar.{Bytes, Brace, Declaration, Reading, From, Listed}
-use Rattle.jsdoc.specs.Parsed.{Parser, value}
-use Rattle.jsdoc.specs.Reader.{Hit, hit}
+use Rattle.jsdoc.specs.{Parsed.Parser, Parsed.value, Reader.Hit, Reader.hit, declared.answers.JsDocImport.JsDocImport, code.Ticks.Ticks, Origins.noteOf}
 use Rattle.jsdoc.specs.code.Answers.{Imports, ticked, noted}
-use Rattle.jsdoc.specs.declared.answers.JsDocImport.{JsDocImport}
 use Rattle.jsdoc.specs.declared.answers.JsDocImport.the-variants as jsDocImport
-use Rattle.jsdoc.specs.code.Ticks.{Ticks}
 use Rattle.jsdoc.specs.Listing.{tickAt, listingBy, listing}
-use Rattle.jsdoc.specs.Origins.{noteOf}
-use Rattle.jsdoc.proofs.Ends.{Ends, ends-trans}
-use Rattle.jsdoc.proofs.Suffixes.{reading-ends}
-use Rattle.jsdoc.proofs.ReadingPlace.{with-kind}
-use Rattle.jsdoc.proofs.Ticked.{ticks-iff}
+use Rattle.jsdoc.proofs.{Ends.Ends, Ends.ends-trans, Suffixes.reading-ends, ReadingPlace.with-kind, Ticked.ticks-iff}
 use Rattle.jsdoc.proofs.Ticking.{Kind, Before, braces, declarations, ticks-none, ticks-turn, from-below}
 
 ends-at : {s t : Bytes} → Ends s t → drop (length s - length t) s ≡ t

@@ -2,13 +2,9 @@
 use Rattle.laws.proofs.Prelude.{_≡_, sym, ℕ, _+_, _-_, _≤_, _<_, arith, length, take, drop, length-drop, take-all, drop-drop}
 use Prim.Native.Nat.{_^_}
 use Rattle.text.specs.Bytes.{part}
-use Rattle.analysis.specs.declared.mode.ModeFound.{ModeFound}
-use Rattle.analysis.specs.Mode.{Mode}
-use Rattle.analysis.specs.code.Mode.{modeAs}
-use Rattle.jsdoc.specs.Grammar.{Bytes}
-use Rattle.jsdoc.specs.Parsed.{Parsed, ok}
+use Rattle.analysis.specs.{declared.mode.ModeFound.ModeFound, Mode.Mode, code.Mode.modeAs}
+use Rattle.jsdoc.specs.{Grammar.Bytes, Parsed.Parsed, Parsed.ok, declared.answers.Text.Text}
 use Rattle.jsdoc.specs.code.Answers.{Spells, Gives, moved, Movable}
-use Rattle.jsdoc.specs.declared.answers.Text.{Text}
 use Rattle.jsdoc.specs.declared.answers.Text.the-variants as text
 use Rattle.jsdoc.specs.declared.answers.ModeRead.the-variants as modeRead
 
@@ -28,8 +24,12 @@ module _ (s : Bytes) (i : ℕ) where
     pub moved-text : (mark : ℕ) (o : Parsed Bytes) (r : Text) → Spells (drop i s) 0 mark o r → Spells s i mark o (moved i r)
     moved-text mark o (text.Part a b j) t =
         let (x, y, z, u, v) = t .bounds in
-        record { answer = rw (← part-moved a b, ← drop-drop j i s) (t .answer); bounds = (omega arith, omega arith, omega (arith, length-drop i s), omega arith, omega arith) }
+        record {
+          answer = rw (← part-moved a b, ← drop-drop j i s) (t .answer);
+          bounds = (omega arith, omega arith, omega (arith, length-drop i s), omega arith, omega arith);
+        }
     moved-text mark o text.Backtrace t = record { answer = t .answer; bounds = tt }
 
-    pub moved-mode : {o : Parsed Mode} {m : ModeFound} {j : ℕ} → o ≡ ok (modeAs m) (drop j (drop i s)) → j ≤ length (drop i s) → Gives s o (modeRead.Past m (i + j))
+    pub moved-mode : {o : Parsed Mode} {m : ModeFound} {j : ℕ} → o ≡ ok (modeAs m) (drop j (drop i s)) → j ≤ length (drop i s) →
+        Gives s o (modeRead.Past m (i + j))
     moved-mode {m} {j} e l = record { answer = rw (← drop-drop j i s) (sym e); bounds = omega (arith, length-drop i s) }

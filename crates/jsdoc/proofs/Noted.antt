@@ -1,8 +1,8 @@
 -- A table of origins, and one note more.
-use Rattle.laws.proofs.Prelude.{_≡_, refl, sym, _∙_, _⊎_, inl, inr, List, ℕ, zero, suc, _+_, _≤_, _<_, arith, ℕ-discrete, set, getD, replicate, length-set, length-replicate, getD-set-same, getD-set-other, eq-eqb, ne-eqb}
+use Rattle.laws.proofs.Prelude.{_≡_, refl, sym, _∙_, _⊎_, inl, inr, List, ℕ, zero, suc, _+_, _≤_, _<_, arith, ℕ-discrete, set, getD, replicate, length-set}
+use Rattle.laws.proofs.Prelude.{length-replicate, getD-set-same, getD-set-other, eq-eqb, ne-eqb}
 use lib.Seq.{ext-getD}
-use Rattle.jsdoc.specs.Origins.{noteAt}
-use Rattle.jsdoc.specs.code.Origins.{Origins}
+use Rattle.jsdoc.specs.{Origins.noteAt, code.Origins.Origins}
 use Rattle.jsdoc.proofs.Ticked.{zeros}
 
 -- more places that read, and none of them first

@@ -1,22 +1,16 @@
 -- The origins of the readings from the places before one, and what the reading from that place adds.
-use Rattle.laws.proofs.Prelude.{_≡_, refl, _∙_, _⊎_, ⊎-elim, inl, inr, List, Option·none-ne-some, ℕ, _+_, _≤_, _<_, code, arith, ℕ-discrete, length, drop, getD, replicate}
+use Rattle.laws.proofs.Prelude.{_≡_, refl, _∙_, _⊎_, ⊎-elim, inl, inr, List, Option·none-ne-some, ℕ, _+_, _≤_, _<_, code, arith, ℕ-discrete, length, drop}
+use Rattle.laws.proofs.Prelude.{getD, replicate}
 use Rattle.laws.proofs.Onward.{carried-to}
-use Rattle.analysis.specs.Mode.{Mode}
-use Rattle.analysis.specs.code.Mode.{modeAs}
+use Rattle.analysis.specs.{Mode.Mode, code.Mode.modeAs}
 use Rattle.jsdoc.specs.Grammar.{Bytes, Brace, Declaration, Reading, From}
-use Rattle.jsdoc.specs.Parsed.{Parser, value}
-use Rattle.jsdoc.specs.Reader.{Hit, parseJsdocImportDecl}
+use Rattle.jsdoc.specs.{Parsed.Parser, Parsed.value, Reader.Hit, Reader.parseJsdocImportDecl, code.Origins.Origins, code.Origins.ReadsBy}
 use Rattle.jsdoc.specs.code.Answers.{Imports, noted, Scans}
-use Rattle.jsdoc.specs.code.Origins.{Origins, ReadsBy}
-use Rattle.jsdoc.specs.declared.answers.JsDocImport.{JsDocImport}
+use Rattle.jsdoc.specs.declared.answers.{JsDocImport.JsDocImport, Searched.Searched}
 use Rattle.jsdoc.specs.declared.answers.JsDocImport.the-variants as jsDocImport
-use Rattle.jsdoc.specs.declared.answers.Searched.{Searched}
-use Rattle.jsdoc.proofs.Apart.{never-both}
-use Rattle.jsdoc.proofs.ReadingPlace.{with-kind}
-use Rattle.jsdoc.proofs.Searches.{search-goes-on}
+use Rattle.jsdoc.proofs.{Apart.never-both, ReadingPlace.with-kind, Searches.search-goes-on, Skips.no-at}
 use Rattle.jsdoc.proofs.Noted.{origins-more, origins-note, origins-nothing}
 use Rattle.jsdoc.proofs.Ticking.{Kind, braces, declarations, found, only-one, place-below, from-below, passed, searched}
-use Rattle.jsdoc.proofs.Skips.{no-at}
 
 module _ {R : Bytes → Bytes → Bytes → Mode → Type 0} {p : Parser Hit} (K : Kind R p) (b : Bytes) (i : ℕ) (h : i < length b) where
   -- one turn: the reading from place i, if there is one, is noted
@@ -44,8 +38,7 @@ early-none b = origins-nothing (λ k q r. omega (arith, r .0)) (length b)
 
 module _ (b : Bytes) (i : ℕ) {l : List ℕ} (o : Origins (Early Brace b i) (length b) l) where
   pub braces-noted : length b ≤ i → Origins (ReadsBy Brace b) (length b) l
-  braces-noted h =
-      origins-more (λ k q r. r .1) (λ k q r. (k, omega arith, (omega (arith, from-below (with-kind (r .1) (inl (r .1 .reads)))), r))) o
+  braces-noted h = origins-more (λ k q r. r .1) (λ k q r. (k, omega arith, (omega (arith, from-below (with-kind (r .1) (inl (r .1 .reads)))), r))) o
 
   module _ (h : i < length b) where
     pub no-brace-noted : (getD b i 0 ≡ code "{" → ⊥) → Origins (Early Brace b (i + 1)) (length b) l

@@ -2,14 +2,10 @@
 use Rattle.laws.proofs.Prelude.{_≡_, _⊎_, ⊎-elim, inl, inr, List, ℕ, zero, suc, _≤_, _<_, arith, ℕ-discrete, length, drop}
 use Rattle.analysis.specs.Mode.{Mode}
 use Rattle.jsdoc.specs.Grammar.{Bytes, Brace, Declaration, Reading, From}
-use Rattle.jsdoc.specs.Parsed.{Parser, value}
-use Rattle.jsdoc.specs.Reader.{Hit}
+use Rattle.jsdoc.specs.{Parsed.Parser, Parsed.value, Reader.Hit, code.Origins.Origins, code.Origins.ReadsBy}
 use Rattle.jsdoc.specs.Origins.{noteOf, openersBy, openers}
-use Rattle.jsdoc.specs.code.Origins.{Origins, ReadsBy}
-use Rattle.jsdoc.proofs.ReadingPlace.{with-kind}
+use Rattle.jsdoc.proofs.{ReadingPlace.with-kind, Listing.answered, Noted.origins-more}
 use Rattle.jsdoc.proofs.Ticking.{Kind, braces, declarations, from-below}
-use Rattle.jsdoc.proofs.Listing.{answered}
-use Rattle.jsdoc.proofs.Noted.{origins-more}
 use Rattle.jsdoc.proofs.Noting.{Early, early-none, origins-turn}
 
 -- one turn notes what the parser reads

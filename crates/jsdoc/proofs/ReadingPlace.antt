@@ -1,16 +1,10 @@
 -- The place of a reading: it has one end and one mode, and it is a quote, which begins and ends at character boundaries.
-use Rattle.laws.proofs.Prelude.{_≡_, sym, ap, _∙_, true, inl, inr, _∷_, _++_, ℕ, suc, _+_, _<_, _≤_, arith, add-zero, length, drop, getD, length-drop, drop-append-seam, drop-drop, getD-drop}
-use Rattle.text.specs.declared.utf8.Encoding.the-variants.{Utf8}
-use Rattle.text.specs.Utf8.{formed}
-use Rattle.text.specs.Position.{Boundary}
-use Rattle.text.specs.Bytes.{Mark}
-use Rattle.text.proofs.Cuts.{ascii-between}
+use Rattle.laws.proofs.Prelude.{_≡_, sym, ap, _∙_, true, inl, inr, _∷_, _++_, ℕ, suc, _+_, _<_, _≤_, arith, add-zero, length, drop, getD, length-drop}
+use Rattle.laws.proofs.Prelude.{drop-append-seam, drop-drop, getD-drop}
+use Rattle.text.{specs.declared.utf8.Encoding.the-variants.Utf8, specs.Utf8.formed, specs.Position.Boundary, specs.Bytes.Mark, proofs.Cuts.ascii-between}
 use Rattle.analysis.specs.Mode.{Mode}
 use Rattle.jsdoc.specs.Grammar.{Bytes, Quote, Brace, Declaration, Reading, From}
-use Rattle.jsdoc.proofs.Texts.{quote-complete, mark-small}
-use Rattle.jsdoc.proofs.Braces.{tail-complete}
-use Rattle.jsdoc.proofs.Declarations.{after-complete}
-use Rattle.jsdoc.proofs.Apart.{never-both}
+use Rattle.jsdoc.proofs.{Texts.quote-complete, Texts.mark-small, Braces.tail-complete, Declarations.after-complete, Apart.never-both}
 
 one-end : {k l q e d : Bytes} → Quote k q e → Quote l q d → e ≡ d
 one-end r t = cc (quote-complete r, quote-complete t)
@@ -27,7 +21,8 @@ module _ {s t q e d : Bytes} {m n : Mode} where
       (i, cc (after-complete m e (r .after) .1, after-complete n d (b .after) .1))
 
 -- a reading at the same places, of another kind
-pub with-kind : {R S : Bytes → Bytes → Bytes → Mode → Type 0} {b : Bytes} {k q : ℕ} {m : Mode} (r : From R b k q m) → S (drop k b) (drop q b) (drop (r .end) b) m → From S b k q m
+pub with-kind : {R S : Bytes → Bytes → Bytes → Mode → Type 0} {b : Bytes} {k q : ℕ} {m : Mode} (r : From R b k q m) →
+    S (drop k b) (drop q b) (drop (r .end) b) m → From S b k q m
 with-kind r x = record { end = r .end; inside = r .inside; reads = x }
 
 -- readings with one place have one end and one mode

@@ -1,16 +1,14 @@
 -- The search for `import` from a brace, from one place to the next; and that it ends at one place for all braces before that.
-use Rattle.laws.proofs.Prelude.{_≡_, refl, sym, ap, _∙_, Bool, true, false, cond, _⊎_, ⊎-elim, inl, inr, [], _∷_, _++_, ℕ, zero, suc, _+_, _-_, _≤_, _<_, code, arith, length, drop, getD, length-drop, drop-of-length-le, drop-drop, eqb, ne-eqb}
+use Rattle.laws.proofs.Prelude.{_≡_, refl, sym, ap, _∙_, Bool, true, false, cond, _⊎_, ⊎-elim, inl, inr, [], _∷_, _++_, ℕ, zero, suc, _+_, _-_, _≤_, _<_}
+use Rattle.laws.proofs.Prelude.{code, arith, length, drop, getD, length-drop, drop-of-length-le, drop-drop, eqb, ne-eqb}
 use Rattle.laws.specs.Ascii.{ascii}
 use Rattle.text.specs.Bytes.{begins}
-use Rattle.jsdoc.specs.Grammar.{Bytes}
+use Rattle.jsdoc.specs.{Grammar.Bytes, code.Answers.Imports, code.Answers.Scans, declared.answers.JsDocImport.JsDocImport}
 use Rattle.jsdoc.specs.Parsed.{ok, backtrace, value}
 use Rattle.jsdoc.specs.Reader.{tag, word, seek, sought, parseCall, parseJsdocDynamicImport}
-use Rattle.jsdoc.specs.code.Answers.{Imports, Scans}
-use Rattle.jsdoc.specs.declared.answers.JsDocImport.{JsDocImport}
 use Rattle.jsdoc.specs.declared.answers.JsDocImport.the-variants as jsDocImport
 use Rattle.jsdoc.specs.declared.answers.Searched.{Searched}
-use Rattle.jsdoc.proofs.Texts.{tag-complete}
-use Rattle.jsdoc.proofs.Steps.{cons-at}
+use Rattle.jsdoc.proofs.{Texts.tag-complete, Steps.cons-at}
 
 module _ (s : Bytes) (i : ℕ) where
   pub search-ended : length s ≤ i → (seek (drop i s) ≡ drop i s) × (begins (ascii "import") (drop i s) ≡ false)
@@ -99,7 +97,8 @@ module _ (b : Bytes) (i : ℕ) (l : i < length b) (o : getD b i 0 ≡ code "{") 
       omega (arith, seek-shorter (drop (i + 1) b), ap length end-at, length-drop (i + 1) b, length-drop (i + r .end) b, length-drop i b, t .inside)
 
   -- each brace in between has the same reading
-  pub same-reading : (k : ℕ) {u : Bytes} → i < k → k < i + r .end → drop k b ≡ ascii "{" ++ u → parseJsdocDynamicImport (drop k b) ≡ parseJsdocDynamicImport (drop i b)
+  pub same-reading : (k : ℕ) {u : Bytes} → i < k → k < i + r .end → drop k b ≡ ascii "{" ++ u →
+      parseJsdocDynamicImport (drop k b) ≡ parseJsdocDynamicImport (drop i b)
   same-reading k g h e =
       let n : i + 1 + (k - i) ≡ k + 1 = omega arith in
       let m : i + 1 + (r .end - 1) ≡ i + r .end = omega (arith, search-goes-on) in

@@ -2,11 +2,7 @@
 use Rattle.laws.proofs.Prelude.{_≡_, List, ℕ, _≤_, _<_, code, arith, length, drop, getD, ne-eqb}
 use Rattle.text.specs.Bytes.{begins}
 use Rattle.laws.proofs.Onward.{carried-to}
-use Rattle.jsdoc.specs.Grammar.{Bytes, Brace}
-use Rattle.jsdoc.specs.Parsed.{value}
-use Rattle.jsdoc.specs.Reader.{tag, parseJsdocImportDecl}
-use Rattle.jsdoc.specs.code.Answers.{Imports}
-use Rattle.jsdoc.specs.code.Ticks.{Ticks}
+use Rattle.jsdoc.specs.{Grammar.Bytes, Grammar.Brace, Parsed.value, Reader.tag, Reader.parseJsdocImportDecl, code.Answers.Imports, code.Ticks.Ticks}
 use Rattle.jsdoc.specs.declared.answers.JsDocImport.the-variants as jsDocImport
 use Rattle.jsdoc.proofs.Ticking.{Before, Besides, no-brace-turn, declaration-turn}
 use Rattle.jsdoc.proofs.Steps.{cons-at}

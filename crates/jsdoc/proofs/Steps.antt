@@ -1,9 +1,8 @@
 -- The pieces from a place of the bytes on: what is found there, by what stands there.
-use Rattle.laws.proofs.Prelude.{_≡_, refl, ap, true, false, cond, [], _∷_, ℕ, suc, _+_, _-_, _≤_, _<_, add-one, sub-zero, arith, length, drop, getD, length-drop, drop-of-length-le, length-append, drop-cons, drop-drop, eq-eqb, ne-eqb}
+use Rattle.laws.proofs.Prelude.{_≡_, refl, ap, true, false, cond, [], _∷_, ℕ, suc, _+_, _-_, _≤_, _<_, add-one, sub-zero, arith, length, drop, getD}
+use Rattle.laws.proofs.Prelude.{length-drop, drop-of-length-le, length-append, drop-cons, drop-drop, eq-eqb, ne-eqb}
 use Rattle.text.specs.declared.class.Class.the-variants.{White, Alphabetic, NameRest}
-use Rattle.text.specs.Bytes.{begins}
-use Rattle.text.specs.Class.{classAt, runLength}
-use Rattle.text.proofs.Words.{begins-sound}
+use Rattle.text.{specs.Bytes.begins, specs.Class.classAt, specs.Class.runLength, proofs.Words.begins-sound}
 use Rattle.jsdoc.specs.Grammar.{Bytes}
 use Rattle.jsdoc.specs.Parsed.{ok, backtrace, onParsed}
 use Rattle.jsdoc.specs.Reader.{skip, skipWhitespace, whitespace, tag, upTo, before, isMark, parseQuote, pastIdent, parseIdent}
@@ -20,8 +19,7 @@ module _ (s : Bytes) (i : ℕ) where
   -- a word
   module _ (w : Bytes) where
     word-fits : i ≤ length s → begins w (drop i s) ≡ true → i + length w ≤ length s
-    word-fits h e =
-        omega (arith, length-drop i s, ap length (begins-sound w (drop i s) e), length-append w (drop (length w) (drop i s)))
+    word-fits h e = omega (arith, length-drop i s, ap length (begins-sound w (drop i s) e), length-append w (drop (length w) (drop i s)))
 
     pub tag-found : i ≤ length s → begins w (drop i s) ≡ true → Finds s (tag w (drop i s)) (skipped.At (i + length w))
     unfolding tag
@@ -72,7 +70,10 @@ module _ (s : Bytes) {n : ℕ} (e : n ≡ classAt Alphabetic (drop 0 s)) where
   unfolding parseIdent pastIdent skip
   ident-found z {r} f h =
       let g : length s - length (drop r s) ≡ r = omega (arith, length-drop r s) in
-      record { answer = rw (← e, ne-eqb n 0 z, drop-drop (runLength NameRest (drop n s)) n s, ← f, g, sub-zero); bounds = (omega arith, omega arith, h, omega arith, omega arith) }
+      record {
+        answer = rw (← e, ne-eqb n 0 z, drop-drop (runLength NameRest (drop n s)) n s, ← f, g, sub-zero);
+        bounds = (omega arith, omega arith, h, omega arith, omega arith);
+      }
 
 -- a quote that begins the bytes
 pub quote-empty : (s : Bytes) → length s ≡ 0 → Spells s 0 quoteMark (parseQuote s) text.Backtrace

@@ -1,12 +1,10 @@
 -- What is left behind the pieces of a reading ends what it was read from.
 use Rattle.laws.proofs.Prelude.{sym, _∙_, inl, inr, [], _∷_, _++_, append-assoc, ℕ, code}
 use Rattle.laws.specs.Ascii.{ascii}
-use Rattle.text.specs.declared.class.Class.the-variants.{White}
-use Rattle.text.specs.Encode.{encode}
+use Rattle.text.specs.{declared.class.Class.the-variants.White, Encode.encode}
 use Rattle.analysis.specs.Mode.{Mode}
 use Rattle.jsdoc.specs.Grammar.{Bytes, W+, Word, Upto, Quote, Named, Clause, Brace, Declaration, Reading}
-use Rattle.jsdoc.proofs.Ends.{Ends, ends-trans}
-use Rattle.jsdoc.proofs.Characters.{run-ends}
+use Rattle.jsdoc.proofs.{Ends.Ends, Ends.ends-trans, Characters.run-ends}
 
 word-ends : (w : Bytes) {s t : Bytes} → Word w s t → Ends s t
 word-ends w (u, e, r) = ends-trans (w, e) (run-ends White r)

@@ -1,12 +1,10 @@
 -- Words, quotes and names: the grammar and the functions agree.
-use Rattle.laws.proofs.Prelude.{_≡_, refl, ap, _∙_, Bool, true, false, cond, _||_, _⊎_, inl, inr, [], _∷_, _++_, ℕ, _+_, _-_, _≤_, _<_, code, arith, length, drop, length-append, drop-append-seam, eqb, eq-eqb, ne-eqb, eqb-true}
+use Rattle.laws.proofs.Prelude.{_≡_, refl, ap, _∙_, Bool, true, false, cond, _||_, _⊎_, inl, inr, [], _∷_, _++_, ℕ, _+_, _-_, _≤_, _<_, code, arith, length}
+use Rattle.laws.proofs.Prelude.{drop, length-append, drop-append-seam, eqb, eq-eqb, ne-eqb, eqb-true}
 use lib.Seq.{take-at}
 use borrow.Author.Tests.{eqb-false}
 use Rattle.text.specs.declared.class.Class.the-variants.{White, Alphabetic, NameRest}
-use Rattle.text.specs.Bytes.{begins, Mark}
-use Rattle.text.specs.Encode.{encode}
-use Rattle.text.specs.Ranges.{inRanges}
-use Rattle.text.specs.Alphabetic.{alphabetic}
+use Rattle.text.specs.{Bytes.begins, Bytes.Mark, Encode.encode, Ranges.inRanges, Alphabetic.alphabetic}
 use Rattle.text.specs.Class.{outside, ranges, member, classAt}
 use Rattle.text.proofs.Characters.{with-shorter, one-sound, one-complete}
 use Rattle.text.proofs.Words.{begins-sound, begins-complete}

@@ -1,11 +1,13 @@
 -- A table of ticks, and one tick more.
-use Rattle.laws.proofs.Prelude.{_≡_, refl, sym, _∙_, _⊎_, inl, inr, List, ℕ, zero, suc, _+_, _<_, arith, ℕ-discrete, set, getD, replicate, length-set, length-replicate, getD-set-same, getD-set-other}
+use Rattle.laws.proofs.Prelude.{_≡_, refl, sym, _∙_, _⊎_, inl, inr, List, ℕ, zero, suc, _+_, _<_, arith, ℕ-discrete, set, getD, replicate, length-set}
+use Rattle.laws.proofs.Prelude.{length-replicate, getD-set-same, getD-set-other}
 use lib.Seq.{ext-getD}
 use Rattle.analysis.specs.Mode.{Mode, modeNumber}
 use Rattle.jsdoc.specs.code.Ticks.{Ticks}
 
 -- the same facts in other words
-pub ticks-iff : {P R : ℕ → Mode → Type 0} {n : ℕ} {l : List ℕ} → ((q : ℕ) (m : Mode) → P q m → R q m) → ((q : ℕ) (m : Mode) → R q m → P q m) → Ticks P n l → Ticks R n l
+pub ticks-iff : {P R : ℕ → Mode → Type 0} {n : ℕ} {l : List ℕ} → ((q : ℕ) (m : Mode) → P q m → R q m) → ((q : ℕ) (m : Mode) → R q m → P q m) → Ticks P n l →
+    Ticks R n l
 ticks-iff f g k = record { same = k .same; sound = λ q j e. let (m, i, p) = k .sound q j e in (m, i, f q m p); complete = λ q m r. k .complete q m (g q m r) }
 
 -- the facts settle the table

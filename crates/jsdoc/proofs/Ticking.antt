@@ -1,26 +1,18 @@
 -- The ticks of the readings from the places before one, and what the reading from that place adds.
-use Rattle.laws.proofs.Prelude.{_≡_, sym, ap, _∙_, _⊎_, ⊎-elim, inl, inr, List, Option·none-ne-some, ℕ, _+_, _≤_, _<_, code, arith, ℕ-discrete, length, drop, getD, replicate, length-drop, drop-drop}
+use Rattle.laws.proofs.Prelude.{_≡_, sym, ap, _∙_, _⊎_, ⊎-elim, inl, inr, List, Option·none-ne-some, ℕ, _+_, _≤_, _<_, code, arith, ℕ-discrete, length}
+use Rattle.laws.proofs.Prelude.{drop, getD, replicate, length-drop, drop-drop}
 use native.Mathlib.Decide.{decLt}
-use Rattle.analysis.specs.declared.mode.ModeFound.{ModeFound}
-use Rattle.analysis.specs.Mode.{Mode}
-use Rattle.analysis.specs.code.Mode.{modeAs}
+use Rattle.analysis.specs.{declared.mode.ModeFound.ModeFound, Mode.Mode, code.Mode.modeAs}
 use Rattle.jsdoc.specs.Grammar.{Bytes, Brace, Declaration, Reading, From, ListedBy, Listed}
-use Rattle.jsdoc.specs.Parsed.{Parser, value}
+use Rattle.jsdoc.specs.{Parsed.Parser, Parsed.value, code.Ticks.Ticks, declared.answers.JsDocImport.JsDocImport, declared.answers.Searched.Searched}
 use Rattle.jsdoc.specs.Reader.{Hit, parseJsdocDynamicImport, parseJsdocImportDecl}
 use Rattle.jsdoc.specs.code.Answers.{Imports, ticked, Room, Scans}
-use Rattle.jsdoc.specs.code.Ticks.{Ticks}
-use Rattle.jsdoc.specs.declared.answers.JsDocImport.{JsDocImport}
 use Rattle.jsdoc.specs.declared.answers.JsDocImport.the-variants as jsDocImport
-use Rattle.jsdoc.specs.declared.answers.Searched.{Searched}
-use Rattle.jsdoc.proofs.Texts.{quote-shorter}
+use Rattle.jsdoc.proofs.{Texts.quote-shorter, Braces.brace-sound, Braces.brace-complete, Ends.ends-shorter, Suffixes.reading-ends}
 use Rattle.jsdoc.proofs.Agrees.{Agrees, brace-agrees, declaration-agrees}
-use Rattle.jsdoc.proofs.Braces.{brace-sound, brace-complete}
-use Rattle.jsdoc.proofs.Ends.{ends-shorter}
-use Rattle.jsdoc.proofs.Suffixes.{reading-ends}
 use Rattle.jsdoc.proofs.ReadingPlace.{with-kind, one-place, place-quote}
 use Rattle.jsdoc.proofs.Ticked.{ticks-iff, ticks-set, ticks-nothing}
-use Rattle.jsdoc.proofs.Searches.{search-goes-on, same-reading}
-use Rattle.jsdoc.proofs.Steps.{cons-at}
+use Rattle.jsdoc.proofs.{Searches.search-goes-on, Searches.same-reading, Steps.cons-at}
 
 -- a kind of readings, and the parser that reads them
 pub record Kind (R : Bytes → Bytes → Bytes → Mode → Type 0) (p : Parser Hit) : Type 0 where

@@ -1,33 +1,28 @@
 -- The JSDoc imports of a sheet are those that its comments give, one comment after the other.
-use Rattle.laws.proofs.Prelude.{_≡_, refl, sym, ap, Bool, true, false, cond, _⊎_, ⊎-elim, inl, inr, List, [], _∷_, _++_, flatMap, List·Memᴰ, List·Memᴰ·head, List·Memᴰ·tail, List·Memᴰ·not-nil, ℕ, zero, suc, _+_, _≤_, _<_, zero-le, suc-le-suc, arith, length}
+use Rattle.laws.proofs.Prelude.{_≡_, refl, sym, ap, Bool, true, false, cond, _⊎_, ⊎-elim, inl, inr, List, [], _∷_, _++_, flatMap, List·Memᴰ, List·Memᴰ·head}
+use Rattle.laws.proofs.Prelude.{List·Memᴰ·tail, List·Memᴰ·not-nil, ℕ, zero, suc, _+_, _≤_, _<_, zero-le, suc-le-suc, arith, length}
 use mathlib.Core.List.{List·Memᴰ·append-cases, Memᴰ·append-left, Memᴰ·append-right}
 use Rattle.laws.specs.Ordered.{Ordered}
-use Rattle.text.specs.declared.utf8.Encoding.the-variants.{Utf8}
-use Rattle.text.specs.Utf8.{formed}
-use Rattle.text.specs.Position.{Before}
-use Rattle.text.proofs.PositionsApart.{grows}
+use Rattle.text.{specs.declared.utf8.Encoding.the-variants.Utf8, specs.Utf8.formed, specs.Position.Before, proofs.PositionsApart.grows}
 use Rattle.analysis.specs.Mode.{Mode}
 use Rattle.jsdoc.specs.Grammar.{Reading, From}
-use Rattle.sheet.specs.declared.fields.Span.{Span}
-use Rattle.sheet.specs.declared.comments.Comment.{Comment}
-use Rattle.sheet.specs.declared.names.MediaType.{MediaType}
+use Rattle.sheet.specs.{declared.fields.Span.Span, declared.comments.Comment.Comment, declared.names.MediaType.MediaType, Lookups.bodySpan, Lookups.body}
 use Rattle.sheet.specs.Fit.{commentOf, Placed, Fit}
-use Rattle.sheet.specs.Lookups.{bodySpan, body}
-use Rattle.sheet.specs.Media.{isJavaScript}
-use Rattle.sheet.proofs.Bodies.{placed-body}
+use Rattle.sheet.{specs.Media.isJavaScript, proofs.Bodies.placed-body}
 use Rattle.report.specs.ModuleInfo.{PositionRange, JsDocImportInfo}
 use Rattle.jsdoc_list.specs.Imports.{tickedByAll, ticksOf, importsFrom, jsdocImports}
 use Rattle.jsdoc_list.specs.Demand.{StarOpened, ListedIn, Lists, startOf, JsDocRight}
 use Rattle.jsdoc_list.specs.ByComment.{givenBy, openings, ByComment}
-use Rattle.jsdoc_list.proofs.Ticking.{read-below, fit-tail}
-use Rattle.jsdoc_list.proofs.Entries.{count-all}
-use Rattle.jsdoc_list.proofs.ImportsRight.{standings, only-right}
+use Rattle.jsdoc_list.proofs.{Ticking.read-below, Ticking.fit-tail, Entries.count-all, ImportsRight.standings, ImportsRight.only-right}
 use Rattle.jsdoc_list.proofs.Openings.{ticks-few}
 
-ordered-append : {A : Type 0} (R : A → A → Type 0) (l m : List A) → Ordered R l → Ordered R m → ((a b : A) → List·Memᴰ a l → List·Memᴰ b m → R a b) → Ordered R (l ++ m)
+ordered-append : {A : Type 0} (R : A → A → Type 0) (l m : List A) → Ordered R l → Ordered R m → ((a b : A) → List·Memᴰ a l → List·Memᴰ b m → R a b) →
+    Ordered R (l ++ m)
 ordered-append R [] m o p h = p
-ordered-append R (a ∷ l) m o p h =
-    (λ b i. ⊎-elim (λ j. o .0 b j) (λ j. h a b (List·Memᴰ·head refl) j) (List·Memᴰ·append-cases l i), ordered-append R l m (o .1) p (λ x y i j. h x y (List·Memᴰ·tail i) j))
+ordered-append R (a ∷ l) m o p h = (
+  λ b i. ⊎-elim (λ j. o .0 b j) (λ j. h a b (List·Memᴰ·head refl) j) (List·Memᴰ·append-cases l i),
+  ordered-append R l m (o .1) p (λ x y i j. h x y (List·Memᴰ·tail i) j),
+)
 
 -- one of the comments of a source alone
 pub fit-one : {source : List ℕ} {c : Comment} → Placed source c → Fit source (c ∷ [])
@@ -57,19 +52,31 @@ module _ {source : List ℕ} {c : Comment} {cs : List Comment} {place : Span} {m
   listed-first : ListedIn source (c ∷ []) place mode → ListedIn source (c ∷ cs) place mode
   listed-first x = go (x .k) (x .there) (x .opened) (x .reading) (x .start) (x .end)
     where
-      go : (k : ℕ) → k < length (c ∷ []) → StarOpened source (commentOf (c ∷ []) k) → {from at : ℕ} (r : From Reading (body source (commentOf (c ∷ []) k)) from at mode)
-          → place .start ≡ bodySpan (commentOf (c ∷ []) k) .start + at → place .end ≡ bodySpan (commentOf (c ∷ []) k) .start + r .end → ListedIn source (c ∷ cs) place mode
+      go : (k : ℕ) → k < length (c ∷ []) → StarOpened source (commentOf (c ∷ []) k) →
+          {from at : ℕ} (r : From Reading (body source (commentOf (c ∷ []) k)) from at mode)
+          → place .start ≡ bodySpan (commentOf (c ∷ []) k) .start + at → place .end ≡ bodySpan (commentOf (c ∷ []) k) .start + r .end →
+          ListedIn source (c ∷ cs) place mode
       go zero h o {from} {at} r s e = record { k = 0; there = suc-le-suc zero-le; opened = o; from = from; at = at; reading = r; start = s; end = e }
       go (suc k) h o r s e = absurd (omega arith)
 
   listed-later : ListedIn source cs place mode → ListedIn source (c ∷ cs) place mode
   listed-later x =
-      record { k = suc (x .k); there = suc-le-suc (x .there); opened = x .opened; from = x .from; at = x .at; reading = x .reading; start = x .start; end = x .end }
+      record {
+        k = suc (x .k);
+        there = suc-le-suc (x .there);
+        opened = x .opened;
+        from = x .from;
+        at = x .at;
+        reading = x .reading;
+        start = x .start;
+        end = x .end;
+      }
 
   listed-cases : ListedIn source (c ∷ cs) place mode → ListedIn source (c ∷ []) place mode ⊎ ListedIn source cs place mode
   listed-cases x = go (x .k) (x .there) (x .opened) (x .reading) (x .start) (x .end)
     where
-      go : (k : ℕ) → k < length (c ∷ cs) → StarOpened source (commentOf (c ∷ cs) k) → {from at : ℕ} (r : From Reading (body source (commentOf (c ∷ cs) k)) from at mode)
+      go : (k : ℕ) → k < length (c ∷ cs) → StarOpened source (commentOf (c ∷ cs) k) →
+          {from at : ℕ} (r : From Reading (body source (commentOf (c ∷ cs) k)) from at mode)
           → place .start ≡ bodySpan (commentOf (c ∷ cs) k) .start + at → place .end ≡ bodySpan (commentOf (c ∷ cs) k) .start + r .end
           → ListedIn source (c ∷ []) place mode ⊎ ListedIn source cs place mode
       go zero h o {from} {at} r s e = inl (record { k = 0; there = suc-le-suc zero-le; opened = o; from = from; at = at; reading = r; start = s; end = e })
@@ -79,7 +86,8 @@ module _ {source : List ℕ} {c : Comment} {cs : List Comment} {place : Span} {m
 listed-within : {source : List ℕ} {cs : List Comment} {place : Span} {mode : Mode} → Fit source cs → (x : ListedIn source cs place mode)
     → (bodySpan (commentOf cs (x .k)) .start ≤ place .start) × (place .start < bodySpan (commentOf cs (x .k)) .end)
 listed-within {source} {cs} fit x =
-    read-below (commentOf cs (x .k)) (placed-body source (commentOf cs (x .k)) (fit .each (x .k) (x .there))) (x .opened, x .at, x .start, (x .from, x .reading))
+    read-below (commentOf cs (x .k)) (placed-body source (commentOf cs (x .k)) (fit .each (x .k) (x .there)))
+    (x .opened, x .at, x .start, (x .from, x .reading))
 
 module _ (media : MediaType) {source : List ℕ} (f : formed Utf8 0 source ≡ true) where
   -- the first comment and the others
@@ -96,7 +104,8 @@ module _ (media : MediaType) {source : List ℕ} (f : formed Utf8 0 source ≡ t
     places-rise : {p q : Span} {m n : Mode} → ListedIn source (c ∷ []) p m → ListedIn source cs q n → p .start < q .start
     places-rise {p} {q} x y = go (x .k) (x .there) (listed-within one x)
       where
-        go : (k : ℕ) → k < length (c ∷ []) → (bodySpan (commentOf (c ∷ []) k) .start ≤ p .start) × (p .start < bodySpan (commentOf (c ∷ []) k) .end) → p .start < q .start
+        go : (k : ℕ) → k < length (c ∷ []) → (bodySpan (commentOf (c ∷ []) k) .start ≤ p .start) × (p .start < bodySpan (commentOf (c ∷ []) k) .end) →
+            p .start < q .start
         go zero h l =
             let w = placed-body source c (fit .each 0 (suc-le-suc zero-le)) in
             let v = placed-body source (commentOf cs (y .k)) (fit .each (suc (y .k)) (suc-le-suc (y .there))) in
@@ -115,11 +124,14 @@ module _ (media : MediaType) {source : List ℕ} (f : formed Utf8 0 source ≡ t
     joined-right : JsDocRight media source (c ∷ cs) (givenBy media source c ++ jsdocImports media source cs)
     joined-right = record {
       exactly = λ p m. (
-        λ x. ⊎-elim (λ y. let z = own .exactly p m .0 y in (z .0, listed-first (z .1))) (λ y. let z = rest .exactly p m .0 y in (z .0, listed-later (z .1))) (lists-cases (givenBy media source c) (jsdocImports media source cs) x),
-        λ x. ⊎-elim (λ y. lists-left (givenBy media source c) (jsdocImports media source cs) (own .exactly p m .1 (x .0, y))) (λ y. lists-right (givenBy media source c) (jsdocImports media source cs) (rest .exactly p m .1 (x .0, y))) (listed-cases (x .1)),
+        λ x. ⊎-elim (λ y. let z = own .exactly p m .0 y in (z .0, listed-first (z .1))) (λ y. let z = rest .exactly p m .0 y in (z .0, listed-later (z .1)))
+            (lists-cases (givenBy media source c) (jsdocImports media source cs) x),
+        λ x. ⊎-elim (λ y. lists-left (givenBy media source c) (jsdocImports media source cs) (own .exactly p m .1 (x .0, y)))
+            (λ y. lists-right (givenBy media source c) (jsdocImports media source cs) (rest .exactly p m .1 (x .0, y))) (listed-cases (x .1)),
       );
       placed = λ i a. ⊎-elim (λ m. own .placed i m) (λ m. rest .placed i m) (List·Memᴰ·append-cases (givenBy media source c) a);
-      ascending = ordered-append (λ i j. Before (startOf i) (startOf j)) (givenBy media source c) (jsdocImports media source cs) (own .ascending) (rest .ascending) rises;
+      ascending = ordered-append (λ i j. Before (startOf i) (startOf j)) (givenBy media source c) (jsdocImports media source cs) (own .ascending)
+          (rest .ascending) rises;
       one-mode = only-right fit f media .right .one-mode;
     }
 

@@ -1,11 +1,10 @@
 -- The imports at the places that are ticked: which they are, how many, and in which order.
-use Rattle.laws.proofs.Prelude.{_≡_, refl, ap, sym, _∙_, ⊎-elim, List, [], _∷_, List·Memᴰ, List·Memᴰ·head, List·Memᴰ·tail, List·Memᴰ·not-nil, List·Memᴰ·cases-cons, Option, ℕ, zero, suc, _+_, _<_, add-zero, add-one, arith, length, getD}
+use Rattle.laws.proofs.Prelude.{_≡_, refl, ap, sym, _∙_, ⊎-elim, List, [], _∷_, List·Memᴰ, List·Memᴰ·head, List·Memᴰ·tail, List·Memᴰ·not-nil}
+use Rattle.laws.proofs.Prelude.{List·Memᴰ·cases-cons, Option, ℕ, zero, suc, _+_, _<_, add-zero, add-one, arith, length, getD}
 use native.Mathlib.Nat.{add-suc, suc-add}
-use Rattle.text.specs.Position.{Before}
-use Rattle.text.proofs.PositionsApart.{grows}
+use Rattle.text.{specs.Position.Before, proofs.PositionsApart.grows}
 use Rattle.wire.specs.Fields.{valueOf}
-use Rattle.report.specs.ModuleInfo.{PositionRange, JsDocImportInfo}
-use Rattle.report.specs.Decode.{modes}
+use Rattle.report.specs.{ModuleInfo.PositionRange, ModuleInfo.JsDocImportInfo, Decode.modes}
 use Rattle.pragmas.specs.Readings.{listed}
 use Rattle.jsdoc_list.specs.Imports.{countOf, importAt, importsFrom}
 use Rattle.jsdoc_list.specs.Demand.{startOf, Ascending}
@@ -23,7 +22,8 @@ module _ (source : List ℕ) where
   found (suc n ∷ ticks) q {i} among = go (importAt source q (valueOf modes n)) refl among (found ticks (suc q))
     where
       go : (o : Option JsDocImportInfo) → importAt source q (valueOf modes n) ≡ o → List·Memᴰ i (listed o (importsFrom source (suc q) ticks))
-          → (List·Memᴰ i (importsFrom source (suc q) ticks) → (d m : ℕ) × (getD ticks d 0 ≡ m + 1) × (importAt source (suc q + d) (valueOf modes m) ≡ Option.some i))
+          → (List·Memᴰ i (importsFrom source (suc q) ticks) →
+          (d m : ℕ) × (getD ticks d 0 ≡ m + 1) × (importAt source (suc q + d) (valueOf modes m) ≡ Option.some i))
           → (d m : ℕ) × (getD (suc n ∷ ticks) d 0 ≡ m + 1) × (importAt source (q + d) (valueOf modes m) ≡ Option.some i)
       go Option.none e among more =
           let (d, m, h, is) = more among in
@@ -69,7 +69,8 @@ module _ (source : List ℕ) where
       rw (t .is) (ap suc (count-all ticks (suc q) (onward (suc n) ticks q s)))
 
   -- those that follow start at later places
-  later : (ticks : List ℕ) (q n : ℕ) {e : ℕ} (t : Standing source q e (valueOf modes n)) → Standings ticks (suc q) → (j : JsDocImportInfo) → List·Memᴰ j (importsFrom source (suc q) ticks)
+  later : (ticks : List ℕ) (q n : ℕ) {e : ℕ} (t : Standing source q e (valueOf modes n)) → Standings ticks (suc q) → (j : JsDocImportInfo) →
+      List·Memᴰ j (importsFrom source (suc q) ticks)
       → Before (startOf (t .import)) (startOf j)
   later ticks q n t s j among =
       let (d, m, h, is) = found ticks (suc q) among in

@@ -1,29 +1,20 @@
 -- The JSDoc imports of a sheet are those that are demanded.
-use Rattle.laws.proofs.Prelude.{_≡_, refl, sym, ap, _∙_, Bool, true, false, cond, true≢false, List, [], List·Memᴰ, List·Memᴰ·not-nil, Option, ℕ, _+_, _≤_, _<_, zero-add, arith, length, getD}
+use Rattle.laws.proofs.Prelude.{_≡_, refl, sym, ap, _∙_, Bool, true, false, cond, true≢false, List, [], List·Memᴰ, List·Memᴰ·not-nil, Option, ℕ, _+_, _≤_}
+use Rattle.laws.proofs.Prelude.{_<_, zero-add, arith, length, getD}
 use mathlib.Core.Path.{subst}
 use native.Mathlib.Decide.{decLt}
-use Rattle.text.specs.declared.utf8.Encoding.the-variants.{Utf8}
-use Rattle.text.specs.Utf8.{formed}
+use Rattle.text.specs.{declared.utf8.Encoding.the-variants.Utf8, Utf8.formed}
 use Rattle.wire.specs.Fields.{valueOf}
 use Rattle.analysis.specs.Mode.{Mode, modeNumber}
-use Rattle.jsdoc.specs.Grammar.{Reading, From}
-use Rattle.jsdoc.proofs.ReadingPlace.{one-place}
-use Rattle.sheet.specs.declared.fields.Span.{Span}
-use Rattle.sheet.specs.declared.comments.Comment.{Comment}
-use Rattle.sheet.specs.Fit.{commentOf, Fit}
-use Rattle.sheet.specs.Lookups.{bodySpan, body}
-use Rattle.sheet.specs.declared.names.MediaType.{MediaType}
-use Rattle.sheet.specs.Media.{isJavaScript}
-use Rattle.sheet.proofs.Bodies.{BodyWithin, placed-body}
-use Rattle.report.specs.ModuleInfo.{JsDocImportInfo}
-use Rattle.report.specs.Decode.{modes}
-use Rattle.report.proofs.Modes.{mode-numbers}
+use Rattle.jsdoc.{specs.Grammar.Reading, specs.Grammar.From, proofs.ReadingPlace.one-place}
+use Rattle.sheet.specs.{declared.fields.Span.Span, declared.comments.Comment.Comment, Fit.commentOf, Fit.Fit, Lookups.bodySpan, Lookups.body}
+use Rattle.sheet.{specs.declared.names.MediaType.MediaType, specs.Media.isJavaScript, proofs.Bodies.BodyWithin, proofs.Bodies.placed-body}
+use Rattle.report.{specs.ModuleInfo.JsDocImportInfo, specs.Decode.modes, proofs.Modes.mode-numbers}
 use Rattle.jsdoc_list.specs.Imports.{ticksOf, importAt, importsFrom, jsdocImports}
 use Rattle.jsdoc_list.specs.Demand.{ListedIn, ImportAt, Lists, JsDocRight, OnlyRight}
 use Rattle.jsdoc_list.proofs.Ticking.{ReadIn, read-below, ticks-of}
-use Rattle.jsdoc_list.proofs.Quotes.{Standing, reading-stands}
+use Rattle.jsdoc_list.proofs.{Quotes.Standing, Quotes.reading-stands, Only.one-right}
 use Rattle.jsdoc_list.proofs.Entries.{found, in-list, Standings, ascends}
-use Rattle.jsdoc_list.proofs.Only.{one-right}
 
 module _ {source : List ℕ} {cs : List Comment} where
   -- the place of a reading by its start
@@ -43,7 +34,8 @@ module _ (source : List ℕ) (c : Comment) {i a : ℕ} {m : Mode} (r : From Read
       → (bodySpan c .start + r .end ≡ bodySpan d .start + t .end) × (m ≡ n)
   in-one-comment d e =
       subst
-      (λ (x : Comment). (b : ℕ) (t : From Reading (body source x) j b n) → bodySpan c .start + a ≡ bodySpan x .start + b → (bodySpan c .start + r .end ≡ bodySpan x .start + t .end) × (m ≡ n))
+      (λ (x : Comment). (b : ℕ) (t : From Reading (body source x) j b n) → bodySpan c .start + a ≡ bodySpan x .start + b →
+      (bodySpan c .start + r .end ≡ bodySpan x .start + t .end) × (m ≡ n))
       e
       (λ b t s. let (x, y) = at-one-place b (omega arith) t in (rw x, y))
 
@@ -59,9 +51,11 @@ module _ {source : List ℕ} {cs : List Comment} (fit : Fit source cs) where
       omega (arith, v .end, w .start, fit .apart k j l g)
 
   one-comment : {q p : ℕ} {m n : Mode} (r : ReadIn source cs q m) (t : ReadIn source cs p n) → q ≡ p → r .0 ≡ t .0
-  one-comment {q} {p} (k, h, r) (j, g, t) e = go (read-below (commentOf cs k) (body-within k h) r) (read-below (commentOf cs j) (body-within j g) t) (decLt k j) (decLt j k)
+  one-comment {q} {p} (k, h, r) (j, g, t) e = go (read-below (commentOf cs k) (body-within k h) r) (read-below (commentOf cs j) (body-within j g) t)
+      (decLt k j) (decLt j k)
     where
-      go : (bodySpan (commentOf cs k) .start ≤ q) × (q < bodySpan (commentOf cs k) .end) → (bodySpan (commentOf cs j) .start ≤ p) × (p < bodySpan (commentOf cs j) .end)
+      go : (bodySpan (commentOf cs k) .start ≤ q) × (q < bodySpan (commentOf cs k) .end) →
+          (bodySpan (commentOf cs j) .start ≤ p) × (p < bodySpan (commentOf cs j) .end)
           → Dec (k < j) → Dec (j < k) → k ≡ j
       go x y (yes l) d = absurd (apart k j q h g l (x .1) (omega arith))
       go x y (no l) (yes d) = absurd (apart j k q g h d (omega arith) (x .0))
@@ -71,7 +65,8 @@ module _ {source : List ℕ} {cs : List Comment} (fit : Fit source cs) where
   unfolding read-of
   one-mode p q m n l t e =
       let k : l .k ≡ t .k = one-comment (read-of l) (read-of t) e in
-      let (x, y) = in-one-comment source (commentOf cs (l .k)) (l .reading) (commentOf cs (t .k)) (ap (commentOf cs) k) (t .at) (t .reading) (sym (l .start) ∙ e ∙ t .start) in
+      let (x, y) = in-one-comment source (commentOf cs (l .k)) (l .reading) (commentOf cs (t .k)) (ap (commentOf cs) k) (t .at) (t .reading)
+      (sym (l .start) ∙ e ∙ t .start) in
       (l .end ∙ x ∙ sym (t .end), y)
 
   module _ (f : formed Utf8 0 source ≡ true) where
@@ -117,7 +112,8 @@ module _ {source : List ℕ} {cs : List Comment} (fit : Fit source cs) where
         let t = stands l in
         record {
           import = t .import;
-          among = in-list source (ticksOf source cs) 0 (p .start) (modeNumber m) (ticks-of cs fit .complete (p .start) m (read-of l)) (rw (zero-add, mode-numbers .back m) (t .is));
+          among = in-list source (ticksOf source cs) 0 (p .start) (modeNumber m) (ticks-of cs fit .complete (p .start) m (read-of l))
+              (rw (zero-add, mode-numbers .back m) (t .is));
           stands = t .stands;
           mode-is = t .mode-is;
         }

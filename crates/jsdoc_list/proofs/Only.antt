@@ -1,14 +1,9 @@
 -- The demand fixes the list: two lists that are right for one sheet are equal.
 use Rattle.laws.proofs.Prelude.{_≡_, refl, sym, _∙_, inl, inr, List, [], List·Memᴰ, ℕ, arith}
 use Rattle.laws.proofs.Lists.{same-members}
-use Rattle.text.specs.declared.position.Position.{Position}
-use Rattle.text.specs.Position.{Before}
-use Rattle.jsdoc.specs.Grammar.{Quote}
-use Rattle.jsdoc.specs.Parsed.{ok}
-use Rattle.jsdoc.proofs.Texts.{quote-complete}
-use Rattle.sheet.specs.declared.fields.Span.{Span}
-use Rattle.sheet.specs.declared.comments.Comment.{Comment}
-use Rattle.sheet.specs.declared.names.MediaType.{MediaType}
+use Rattle.text.specs.{declared.position.Position.Position, Position.Before}
+use Rattle.jsdoc.{specs.Grammar.Quote, specs.Parsed.ok, proofs.Texts.quote-complete}
+use Rattle.sheet.specs.declared.{fields.Span.Span, comments.Comment.Comment, names.MediaType.MediaType}
 use Rattle.report.specs.ModuleInfo.{JsDocImportInfo}
 use Rattle.jsdoc_list.specs.Demand.{ImportAt, Lists, startOf, JsDocRight}
 

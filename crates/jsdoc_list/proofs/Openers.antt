@@ -1,22 +1,17 @@
 -- The turns of the loops over the openers and over the comments, and the bytes that are written.
-use Rattle.laws.proofs.Prelude.{_≡_, refl, ap, _∙_, true, false, List, [], _∷_, _++_, flatMap, ℕ, zero, suc, _+_, _-_, _≤_, _<_, arith, length, drop, getD, length-take, length-drop}
+use Rattle.laws.proofs.Prelude.{_≡_, refl, ap, _∙_, true, false, List, [], _∷_, _++_, flatMap, ℕ, zero, suc, _+_, _-_, _≤_, _<_, arith, length, drop, getD}
+use Rattle.laws.proofs.Prelude.{length-take, length-drop}
 use Prim.Native.Nat.{_^_}
 use native.Mathlib.Nat.{sub-eq-zero-of-le}
 use Rattle.laws.proofs.Lists.{flatMap-append}
 use Rattle.text.specs.Bytes.{part}
-use Rattle.jsdoc.specs.Origins.{openers}
-use Rattle.jsdoc.proofs.Ticking.{from-below}
-use Rattle.jsdoc.proofs.Openers.{origins-first}
-use Rattle.sheet.specs.declared.comments.Comment.{Comment}
-use Rattle.sheet.specs.Limits.{sourceLimit}
-use Rattle.sheet.specs.Lookups.{bodySpan, body}
-use Rattle.sheet.specs.code.Tables.{rows}
+use Rattle.jsdoc.{specs.Origins.openers, proofs.Ticking.from-below, proofs.Openers.origins-first}
+use Rattle.sheet.specs.{declared.comments.Comment.Comment, Limits.sourceLimit, Lookups.bodySpan, Lookups.body, code.Tables.rows}
 use Rattle.sheet.proofs.Bodies.{BodyWithin}
 use Rattle.report.specs.Origin.{encodeOrigin}
 use Rattle.jsdoc_list.specs.Imports.{isStarOpened}
 use Rattle.jsdoc_list.specs.Origins.{openerAt, openersFrom, originsOf}
-use Rattle.jsdoc_list.proofs.Ticking.{rows-next}
-use Rattle.jsdoc_list.proofs.Turns.{first-tick, first-mode}
+use Rattle.jsdoc_list.proofs.{Ticking.rows-next, Turns.first-tick, Turns.first-mode}
 
 module _ (body : List ℕ) (start : ℕ) (table : List ℕ) (q : ℕ) (h : q < length table) where
   pub opener-none : getD table q 0 ≡ 0 → openersFrom body start (drop q table) ≡ openersFrom body start (drop (q + 1) table)

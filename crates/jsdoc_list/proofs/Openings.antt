@@ -1,15 +1,13 @@
 -- A body has no more ticks than `{` and `@import` together: each of these gives at most one.
-use Rattle.laws.proofs.Prelude.{_≡_, refl, Bool, true, false, cond, List, [], _∷_, _++_, Option, ℕ, zero, suc, _+_, _-_, _≤_, _<_, arith, length, set, take, drop, replicate, drop-cons}
+use Rattle.laws.proofs.Prelude.{_≡_, refl, Bool, true, false, cond, List, [], _∷_, _++_, Option, ℕ, zero, suc, _+_, _-_, _≤_, _<_, arith, length, set, take}
+use Rattle.laws.proofs.Prelude.{drop, replicate, drop-cons}
 use Rattle.laws.specs.Ascii.{ascii}
-use Rattle.text.specs.Bytes.{begins}
-use Rattle.text.proofs.Words.{begins-complete}
+use Rattle.text.{specs.Bytes.begins, proofs.Words.begins-complete}
 use Rattle.analysis.specs.Mode.{modeNumber}
-use Rattle.jsdoc.specs.Parsed.{value}
+use Rattle.jsdoc.{specs.Parsed.value, proofs.Agrees.brace-agrees, proofs.Agrees.declaration-agrees}
 use Rattle.jsdoc.specs.Reader.{Hit, hit, parseJsdocDynamicImport, parseJsdocImportDecl}
 use Rattle.jsdoc.specs.Listing.{tickAt, listingBy, listing}
-use Rattle.jsdoc.proofs.Agrees.{brace-agrees, declaration-agrees}
-use Rattle.sheet.specs.declared.comments.Comment.{Comment}
-use Rattle.sheet.specs.Lookups.{bodySpan, body}
+use Rattle.sheet.specs.{declared.comments.Comment.Comment, Lookups.bodySpan, Lookups.body}
 use Rattle.jsdoc_list.specs.Imports.{isStarOpened, tickedBy, countOf}
 use Rattle.jsdoc_list.specs.ByComment.{occurrences, openings}
 
@@ -61,7 +59,8 @@ declaration-begins : (s : List ℕ) (h : Hit) → value (parseJsdocImportDecl s)
 declaration-begins s (hit q e m) is = let r = declaration-agrees s q e m .1 is in rw (r .word) (begins-complete (ascii "@import") (r .r1))
 
 module _ (b : List ℕ) where
-  occurrences-next : (word : List ℕ) (n : ℕ) → n < length b → occurrences word (drop n b) ≡ cond (begins word (drop n b)) 1 0 + occurrences word (drop (suc n) b)
+  occurrences-next : (word : List ℕ) (n : ℕ) → n < length b →
+      occurrences word (drop n b) ≡ cond (begins word (drop n b)) 1 0 + occurrences word (drop (suc n) b)
   unfolding occurrences
   occurrences-next word n h = rw (drop-cons b n 0 h)
 
@@ -91,7 +90,8 @@ ticks-few source c = go (isStarOpened source c)
     zeros : List ℕ
     zeros = replicate (length source) 0
 
-    go : (b : Bool) → countOf (cond b (take (bodySpan c .start) zeros ++ (listing (body source c) ++ drop (bodySpan c .end) zeros)) zeros) ≤ openings (body source c)
+    go : (b : Bool) →
+        countOf (cond b (take (bodySpan c .start) zeros ++ (listing (body source c) ++ drop (bodySpan c .end) zeros)) zeros) ≤ openings (body source c)
     go true =
         omega (
           arith,

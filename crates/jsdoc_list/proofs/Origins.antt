@@ -1,37 +1,22 @@
 -- Each JSDoc import of a sheet has its origin beside it.
-use Rattle.laws.proofs.Prelude.{_≡_, refl, sym, _∙_, Bool, true, false, cond, _⊎_, inl, inr, List, [], _∷_, _++_, append-nil, flatMap, Option, ℕ, zero, suc, _+_, _≤_, _<_, zero-le, suc-le-suc, zero-add, add-zero, arith, length, take, drop, getD, replicate, length-replicate, length-take-le}
+use Rattle.laws.proofs.Prelude.{_≡_, refl, sym, _∙_, Bool, true, false, cond, _⊎_, inl, inr, List, [], _∷_, _++_, append-nil, flatMap, Option, ℕ, zero, suc}
+use Rattle.laws.proofs.Prelude.{_+_, _≤_, _<_, zero-le, suc-le-suc, zero-add, add-zero, arith, length, take, drop, getD, replicate, length-replicate}
+use Rattle.laws.proofs.Prelude.{length-take-le}
 use native.Mathlib.Nat.{add-suc, suc-add}
-use Rattle.laws.specs.Aligned.{Aligned}
-use Rattle.laws.proofs.Aligned.{aligned-map, aligned-append}
-use Rattle.text.specs.declared.utf8.Encoding.the-variants.{Utf8}
-use Rattle.text.specs.Utf8.{formed}
+use Rattle.laws.{specs.Aligned.Aligned, proofs.Aligned.aligned-map, proofs.Aligned.aligned-append}
+use Rattle.text.specs.{declared.utf8.Encoding.the-variants.Utf8, Utf8.formed}
 use Rattle.wire.specs.Fields.{valueOf}
 use Rattle.analysis.specs.Mode.{Mode, modeNumber}
 use Rattle.jsdoc.specs.Grammar.{Bytes, Reading, From}
-use Rattle.jsdoc.specs.Listing.{listing}
-use Rattle.jsdoc.specs.Origins.{openers}
-use Rattle.jsdoc.proofs.Listing.{listing-ticks}
-use Rattle.jsdoc.proofs.Openers.{origins-first}
-use Rattle.jsdoc.proofs.ReadingPlace.{head-at}
-use Rattle.sheet.specs.declared.comments.Comment.{Comment}
-use Rattle.sheet.specs.declared.names.MediaType.{MediaType}
-use Rattle.sheet.specs.Fit.{Placed, Fit}
-use Rattle.sheet.specs.Lookups.{bodySpan, body}
-use Rattle.sheet.specs.Media.{isJavaScript}
-use Rattle.sheet.proofs.Bodies.{BodyWithin, placed-body}
-use Rattle.report.specs.Decode.{modes}
-use Rattle.report.specs.ModuleInfo.{JsDocImportInfo}
-use Rattle.report.specs.Origin.{Origin}
-use Rattle.report.proofs.Modes.{mode-numbers}
+use Rattle.jsdoc.{specs.Listing.listing, specs.Origins.openers, proofs.Listing.listing-ticks, proofs.Openers.origins-first, proofs.ReadingPlace.head-at}
+use Rattle.sheet.specs.{declared.comments.Comment.Comment, declared.names.MediaType.MediaType, Fit.Placed, Fit.Fit, Lookups.bodySpan, Lookups.body}
+use Rattle.sheet.{specs.Media.isJavaScript, proofs.Bodies.BodyWithin, proofs.Bodies.placed-body}
+use Rattle.report.{specs.Decode.modes, specs.ModuleInfo.JsDocImportInfo, specs.Origin.Origin, proofs.Modes.mode-numbers}
 use Rattle.pragmas.specs.Readings.{listed}
 use Rattle.jsdoc_list.specs.Imports.{isStarOpened, tickedBy, tickedByAll, ticksOf, importAt, importsFrom, jsdocImports}
-use Rattle.jsdoc_list.specs.Demand.{StarOpened}
-use Rattle.jsdoc_list.specs.ByComment.{givenBy}
+use Rattle.jsdoc_list.specs.{Demand.StarOpened, ByComment.givenBy}
 use Rattle.jsdoc_list.specs.Origins.{ruleAt, openerAt, openersFrom, originsOf, jsdocOrigins, readingBy, JsDocFrom}
-use Rattle.jsdoc_list.proofs.StarOpened.{opened-sound}
-use Rattle.jsdoc_list.proofs.Ticking.{fit-tail}
-use Rattle.jsdoc_list.proofs.Quotes.{reading-stands}
-use Rattle.jsdoc_list.proofs.ByComment.{by-comment}
+use Rattle.jsdoc_list.proofs.{StarOpened.opened-sound, Ticking.fit-tail, Quotes.reading-stands, ByComment.by-comment}
 
 -- ---- the imports of one comment are those of the ticks of its body
 

@@ -1,20 +1,14 @@
 -- The import that is reported of a reading, and where it stands in the source.
-use Rattle.laws.proofs.Prelude.{_≡_, refl, ap, sym, _∙_, true, List, [], _∷_, _++_, append-assoc, Option, ℕ, _+_, _-_, _≤_, arith, length, take, drop, length-append, length-drop}
+use Rattle.laws.proofs.Prelude.{_≡_, refl, ap, sym, _∙_, true, List, [], _∷_, _++_, append-assoc, Option, ℕ, _+_, _-_, _≤_, arith, length, take, drop}
+use Rattle.laws.proofs.Prelude.{length-append, length-drop}
 use lib.Seq.{take-at, append-snoc}
-use Rattle.text.specs.declared.utf8.Encoding.the-variants.{Utf8}
-use Rattle.text.specs.Utf8.{formed}
+use Rattle.text.specs.{declared.utf8.Encoding.the-variants.Utf8, Utf8.formed}
 use Rattle.analysis.specs.Mode.{Mode}
 use Rattle.jsdoc.specs.Grammar.{Quote, Reading, From}
-use Rattle.jsdoc.proofs.Texts.{quote-complete, quote-shorter}
-use Rattle.jsdoc.proofs.ReadingPlace.{place-quote, quote-boundaries}
-use Rattle.sheet.specs.declared.comments.Comment.{Comment}
-use Rattle.sheet.specs.Lookups.{bodySpan, body}
-use Rattle.sheet.proofs.Bodies.{BodyWithin, body-then}
-use Rattle.report.specs.ModuleInfo.{JsDocImportInfo}
-use Rattle.report.specs.Range.{rangeOf}
-use Rattle.report.proofs.RangesApart.{range-at}
-use Rattle.jsdoc_list.specs.Imports.{importAt}
-use Rattle.jsdoc_list.specs.Demand.{ImportAt}
+use Rattle.jsdoc.proofs.{Texts.quote-complete, Texts.quote-shorter, ReadingPlace.place-quote, ReadingPlace.quote-boundaries}
+use Rattle.sheet.{specs.declared.comments.Comment.Comment, specs.Lookups.bodySpan, specs.Lookups.body, proofs.Bodies.BodyWithin, proofs.Bodies.body-then}
+use Rattle.report.{specs.ModuleInfo.JsDocImportInfo, specs.Range.rangeOf, proofs.RangesApart.range-at}
+use Rattle.jsdoc_list.specs.{Imports.importAt, Demand.ImportAt}
 
 -- a quote is one whatever follows it
 quote-then : {k s t : List ℕ} (u : List ℕ) → Quote k s t → Quote k (s ++ u) (t ++ u)
@@ -54,7 +48,8 @@ quote-import source q e mode l r =
     rw (quote-complete r, past)
 
 -- a reading of a body is one of its comment's source
-module _ (source : List ℕ) (c : Comment) (w : BodyWithin source c) {b : List ℕ} (is : body source c ≡ b) {k j : ℕ} {mode : Mode} (r : From Reading b k j mode) where
+module _ (source : List ℕ) (c : Comment) (w : BodyWithin source c) {b : List ℕ} (is : body source c ≡ b) {k j : ℕ} {mode : Mode}
+    (r : From Reading b k j mode) where
   reading-ends : bodySpan c .start + r .end ≤ length source
   reading-ends = omega (arith, r .inside, ap length is, w .long, w .order, w .end, w .source-end)
 

@@ -3,21 +3,14 @@ use Rattle.laws.proofs.Prelude.{_≡_, refl, ap, sym, _∙_, List, [], _∷_, O
 use native.Mathlib.Nat.{add-suc, suc-add}
 use Rattle.wire.specs.Fields.{valueOf}
 use Rattle.analysis.specs.Mode.{Mode}
-use Rattle.jsdoc.specs.Grammar.{Reading, From}
-use Rattle.jsdoc.proofs.ReadingPlace.{place-quote}
-use Rattle.sheet.specs.declared.comments.Comment.{Comment}
-use Rattle.sheet.specs.declared.names.MediaType.{MediaType}
-use Rattle.sheet.specs.Fit.{Placed}
-use Rattle.sheet.specs.Lookups.{bodySpan, body}
+use Rattle.jsdoc.{specs.Grammar.Reading, specs.Grammar.From, proofs.ReadingPlace.place-quote}
+use Rattle.sheet.specs.{declared.comments.Comment.Comment, declared.names.MediaType.MediaType, Fit.Placed, Lookups.bodySpan, Lookups.body}
 use Rattle.sheet.proofs.Revised.{Alike, alike-within}
-use Rattle.report.specs.Decode.{modes}
-use Rattle.report.proofs.Modes.{mode-numbers}
+use Rattle.report.{specs.Decode.modes, proofs.Modes.mode-numbers}
 use Rattle.jsdoc_list.specs.Imports.{tickedBy, tickedByAll, ticksOf, importAt, importsFrom, jsdocImports}
-use Rattle.jsdoc_list.specs.ByComment.{givenBy}
-use Rattle.jsdoc_list.specs.Origins.{originsOf}
-use Rattle.jsdoc_list.proofs.Ticking.{ReadIn, ticks-of}
+use Rattle.jsdoc_list.specs.{ByComment.givenBy, Origins.originsOf}
+use Rattle.jsdoc_list.proofs.{Ticking.ReadIn, Ticking.ticks-of, ByComment.fit-one}
 use Rattle.jsdoc_list.proofs.Quotes.{importOf, reading-starts, reading-import}
-use Rattle.jsdoc_list.proofs.ByComment.{fit-one}
 
 -- ticks whose imports are the same in two sources
 imports-kept : (s r ticks : List ℕ) (q : ℕ) → ((d m : ℕ) → getD ticks d 0 ≡ m + 1 → importAt s (q + d) (valueOf modes m) ≡ importAt r (q + d) (valueOf modes m))
@@ -38,7 +31,8 @@ module _ {s r : List ℕ} {c : Comment} (a : Alike s r c) where
       let rises = reading-starts s c w refl x in
       let from = a .position (start + j) (omega arith) (omega (arith, x .inside, w .long, w .order)) in
       let to = a .position (start + x .end) (omega arith) (omega (arith, x .inside, w .long, w .order)) in
-      let same : importOf s (start + j) (start + x .end) (place-quote (x .reads) .0) mode ≡ importOf r (start + j) (start + x .end) (place-quote (x .reads) .0) mode = rw (from, to) in
+      let same : importOf s (start + j) (start + x .end) (place-quote (x .reads) .0) mode
+      ≡ importOf r (start + j) (start + x .end) (place-quote (x .reads) .0) mode = rw (from, to) in
       reading-import s c w refl x ∙ ap Option.some same ∙ sym (reading-import r c (alike-within a) (sym (a .same-body)) x)
 
   read-in-kept : (q : ℕ) (mode : Mode) → ReadIn s (c ∷ []) q mode → importAt s q mode ≡ importAt r q mode

@@ -1,15 +1,10 @@
 -- Which comments are star-opened.
 use Rattle.laws.proofs.Prelude.{ap, _≡_, refl, true, and-eq-true-iff, false≢true, List, ℕ, drop}
 use Rattle.laws.specs.Ascii.{ascii}
-use Rattle.text.specs.Bytes.{begins}
-use Rattle.text.proofs.Words.{begins-sound, begins-complete}
-use Rattle.sheet.specs.declared.comments.Comment.{Comment}
-use Rattle.sheet.specs.declared.names.CommentKind.{CommentKind}
+use Rattle.text.{specs.Bytes.begins, proofs.Words.begins-sound, proofs.Words.begins-complete}
+use Rattle.sheet.specs.{declared.comments.Comment.Comment, declared.names.CommentKind.CommentKind, Comments.isBlock, Lookups.body}
 use Rattle.sheet.specs.declared.names.CommentKind.the-variants.{Line, Block, HtmlOpen, HtmlClose}
-use Rattle.sheet.specs.Comments.{isBlock}
-use Rattle.sheet.specs.Lookups.{body}
-use Rattle.jsdoc_list.specs.Imports.{isStarOpened}
-use Rattle.jsdoc_list.specs.Demand.{StarOpened}
+use Rattle.jsdoc_list.specs.{Imports.isStarOpened, Demand.StarOpened}
 
 is-block : (kind : CommentKind) → isBlock kind ≡ true → kind ≡ Block
 is-block Block e = refl

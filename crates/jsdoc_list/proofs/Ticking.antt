@@ -1,19 +1,13 @@
 -- The ticks of all comments are those of the readings that are listed in them.
-use Rattle.laws.proofs.Prelude.{_≡_, refl, sym, ap, _∙_, Bool, true, false, cond, true≢false, _⊎_, ⊎-elim, inl, inr, List, [], _∷_, _++_, ℕ, zero, suc, _+_, _-_, _≤_, _<_, zero-le, suc-le-suc, add-one, arith, length, take, drop, getD, length-append, length-drop, List·getD-eq-default, drop-drop, length-take-le, getD-drop}
+use Rattle.laws.proofs.Prelude.{_≡_, refl, sym, ap, _∙_, Bool, true, false, cond, true≢false, _⊎_, ⊎-elim, inl, inr, List, [], _∷_, _++_, ℕ, zero, suc, _+_}
+use Rattle.laws.proofs.Prelude.{_-_, _≤_, _<_, zero-le, suc-le-suc, add-one, arith, length, take, drop, getD, length-append, length-drop}
+use Rattle.laws.proofs.Prelude.{List·getD-eq-default, drop-drop, length-take-le, getD-drop}
 use native.Mathlib.Decide.{decLt}
-use lib.ListN.{List·getD-append}
-use lib.Seq.{getD-append-add, getD-take}
-use Rattle.analysis.specs.Mode.{Mode, modeNumber}
-use Rattle.analysis.proofs.Modes.{number-small}
-use Rattle.jsdoc.specs.Grammar.{Listed}
-use Rattle.jsdoc.specs.code.Ticks.{Ticks}
-use Rattle.jsdoc.specs.Listing.{listing}
+use lib.{ListN.List·getD-append, Seq.getD-append-add, Seq.getD-take}
+use Rattle.analysis.{specs.Mode.Mode, specs.Mode.modeNumber, proofs.Modes.number-small}
+use Rattle.jsdoc.{specs.Grammar.Listed, specs.code.Ticks.Ticks, specs.Listing.listing, proofs.Listing.listing-ticks}
 use Rattle.jsdoc.proofs.Ticked.{ticks-iff, ticks-unique, ticks-nothing}
-use Rattle.jsdoc.proofs.Listing.{listing-ticks}
-use Rattle.sheet.specs.declared.comments.Comment.{Comment}
-use Rattle.sheet.specs.code.Tables.{rows}
-use Rattle.sheet.specs.Fit.{commentOf, Fit}
-use Rattle.sheet.specs.Lookups.{bodySpan, body}
+use Rattle.sheet.specs.{declared.comments.Comment.Comment, code.Tables.rows, Fit.commentOf, Fit.Fit, Lookups.bodySpan, Lookups.body}
 use Rattle.sheet.proofs.Bodies.{BodyWithin, placed-body}
 use Rattle.jsdoc_list.specs.Imports.{isStarOpened, tickedBy, tickedByAll, ticksOf}
 use Rattle.jsdoc_list.specs.Demand.{StarOpened}
@@ -62,7 +56,8 @@ ticks-below {n} {l} k q m r = go (decLt q n)
 -- ticks in place of a part of others that reach up to it
 module _ {P R : ℕ → Mode → Type 0} {n : ℕ} {l p : List ℕ} (a b : ℕ) (h : a ≤ b) (g : b ≤ n) (k : Ticks P n l) (t : Ticks R (b - a) p) where
   ticks-pasted : ((q : ℕ) (m : Mode) → P q m → q < a) → Ticks (λ q m. P q m ⊎ ((j : ℕ) × (q ≡ a + j) × R j m)) n (take a l ++ (p ++ drop b l))
-  ticks-pasted before = record { same = pasted-length a b l p h end (t .same) ∙ k .same; sound = λ q i e. sound q i e (decLt q a) (decLt q b); complete = complete }
+  ticks-pasted before =
+      record { same = pasted-length a b l p h end (t .same) ∙ k .same; sound = λ q i e. sound q i e (decLt q a) (decLt q b); complete = complete }
     where
       end : b ≤ length l
       end = rw (k .same) g
@@ -96,7 +91,8 @@ module _ {source : List ℕ} (c : Comment) (w : BodyWithin source c) where
   ticks-by {P} {l} k before = go (isStarOpened source c) refl
     where
       go : (t : Bool) → isStarOpened source c ≡ t
-          → Ticks (λ q m. P q m ⊎ ReadBy source c q m) (length source) (cond t (take (bodySpan c .start) l ++ (listing (body source c) ++ drop (bodySpan c .end) l)) l)
+          → Ticks (λ q m. P q m ⊎ ReadBy source c q m) (length source)
+          (cond t (take (bodySpan c .start) l ++ (listing (body source c) ++ drop (bodySpan c .end) l)) l)
       go true o =
           ticks-iff (λ q m r. ⊎-elim inl (λ x. inr (opened-sound source c o, x .0, x .1, x .2)) r) (λ q m r. ⊎-elim inl (λ x. inr (x .1, x .2, x .3)) r)
           (ticks-pasted (bodySpan c .start) (bodySpan c .end) (w .order) (omega (arith, w .end, w .source-end)) k body-ticks before)

@@ -1,26 +1,16 @@
 -- The turns of the loops over the ticks, and the bytes that are written.
-use Rattle.laws.proofs.Prelude.{_≡_, refl, ap, sym, _∙_, true, false, List, [], _∷_, _++_, append-nil, flatMap, ℕ, suc, _+_, _-_, _≤_, _<_, add-one, arith, length, drop, getD, length-drop, drop-cons}
-use Rattle.text.specs.declared.utf8.Encoding.the-variants.{Utf8}
-use Rattle.text.specs.Utf8.{formed}
-use Rattle.text.specs.Bytes.{part}
+use Rattle.laws.proofs.Prelude.{_≡_, refl, ap, sym, _∙_, true, false, List, [], _∷_, _++_, append-nil, flatMap, ℕ, suc, _+_, _-_, _≤_, _<_, add-one, arith}
+use Rattle.laws.proofs.Prelude.{length, drop, getD, length-drop, drop-cons}
+use Rattle.text.specs.{declared.utf8.Encoding.the-variants.Utf8, Utf8.formed, Bytes.part}
 use Rattle.laws.proofs.Onward.{carried-to}
-use Rattle.wire.specs.Fields.{valueOf}
-use Rattle.wire.specs.Number.{encodeNumber}
-use Rattle.jsdoc.specs.Parsed.{ok}
-use Rattle.jsdoc.specs.Reader.{parseQuote}
-use Rattle.sheet.specs.declared.comments.Comment.{Comment}
-use Rattle.sheet.specs.Fit.{Fit}
-use Rattle.sheet.specs.declared.names.MediaType.{MediaType}
-use Rattle.sheet.specs.Media.{isJavaScript}
+use Rattle.wire.specs.{Fields.valueOf, Number.encodeNumber}
+use Rattle.jsdoc.specs.{Parsed.ok, Reader.parseQuote}
+use Rattle.sheet.specs.{declared.comments.Comment.Comment, Fit.Fit, declared.names.MediaType.MediaType, Media.isJavaScript}
 use Rattle.report.specs.Encode.{encodeList, encodeSpecifier, encodeJsDoc}
-use Rattle.report.specs.Decode.{modes}
-use Rattle.report.specs.Range.{rangeOf}
-use Rattle.report.proofs.Modes.{mode-numbers}
-use Rattle.pragmas.specs.code.Views.{encodeAny}
-use Rattle.pragmas.proofs.Between.{listed-each}
+use Rattle.report.{specs.Decode.modes, specs.Range.rangeOf, proofs.Modes.mode-numbers}
+use Rattle.pragmas.{specs.code.Views.encodeAny, proofs.Between.listed-each}
 use Rattle.jsdoc_list.specs.Imports.{ticksOf, countOf, importAt, importsFrom, jsdocImports}
-use Rattle.jsdoc_list.proofs.Entries.{count-all}
-use Rattle.jsdoc_list.proofs.ImportsRight.{standings}
+use Rattle.jsdoc_list.proofs.{Entries.count-all, ImportsRight.standings}
 
 -- the ticks from place q on: the first of them, and the others
 pub first-tick : (ticks : List ℕ) (q : ℕ) → q < length ticks → drop q ticks ≡ getD ticks q 0 ∷ drop (q + 1) ticks
@@ -65,7 +55,8 @@ module _ (ticks : List ℕ) (q r : ℕ) (l : q ≤ r) (h : r ≤ length ticks) (
       (λ k g n e. e ∙ unticked-next source ticks k (omega arith) (none k g n))
 
 -- the bytes of an import whose quote was read
-pub encode-import : (source : List ℕ) (at number from to past : ℕ) → number ≤ 2 → parseQuote (drop at source) ≡ ok (part source from to) (drop past source) → past ≤ length source
+pub encode-import : (source : List ℕ) (at number from to past : ℕ) → number ≤ 2 →
+    parseQuote (drop at source) ≡ ok (part source from to) (drop past source) → past ≤ length source
     → encodeAny encodeJsDoc (importAt source at (valueOf modes number))
     ≡ 1 ∷ (encodeSpecifier (record { text = part source from to; range = rangeOf source (record { start = at; end = past }) }) ++ (number ∷ []))
 unfolding importAt encodeJsDoc
@@ -80,6 +71,7 @@ module _ (source : List ℕ) (cs : List Comment) (media : MediaType) where
   encode-none h = rw h (append-nil (encodeNumber 0))
 
   pub encode-all : Fit source cs → formed Utf8 0 source ≡ true → isJavaScript media ≡ true
-      → encodeList encodeJsDoc (jsdocImports media source cs) ≡ encodeNumber (countOf (ticksOf source cs)) ++ flatMap encodeJsDoc (importsFrom source 0 (ticksOf source cs))
+      → encodeList encodeJsDoc (jsdocImports media source cs)
+      ≡ encodeNumber (countOf (ticksOf source cs)) ++ flatMap encodeJsDoc (importsFrom source 0 (ticksOf source cs))
   unfolding jsdocImports encodeList
   encode-all fit f h = rw (h, count-all source (ticksOf source cs) 0 (standings fit f))

@@ -53,13 +53,7 @@ module _ {A : Type 0} {P : A → Type 0} {N : ℕ → Type 0} where
 
 -- what holds of the numbers alone is kept however decoders are put together
 pub answers-kept : {N : ℕ → Type 0} → Kept (λ A d. Answers (λ (a : A). Unit {0}) N d) N
-answers-kept =
-    record {
-      ends = λ a. ends tt;
-      refuses = λ n. refuses n;
-      then = λ p q. with p (λ a h. q a);
-      changed = λ f p. changed f p (λ a h. tt);
-    }
+answers-kept = record { ends = λ a. ends tt; refuses = λ n. refuses n; then = λ p q. with p (λ a h. q a); changed = λ f p. changed f p (λ a h. tt) }
 
 -- of a refusal nothing need hold
 abbrev pub Yields : {A : Type 0} → (A → Type 0) → Decoder A → Type 0

@@ -76,6 +76,7 @@ module _ {A B C : Type 0} where
   built f g build e (no r) = refl
 
   -- a refusal behind what was read
-  pub then-no : (f : A → B) (x : Decoded A) {b : B} {w : List ℕ} → onOk f x ≡ ok b w → (k : A → List ℕ → Decoded C) (r : ℕ) → ((a : A) → k a w ≡ no r) → andThen x k ≡ no r
+  pub then-no : (f : A → B) (x : Decoded A) {b : B} {w : List ℕ} → onOk f x ≡ ok b w → (k : A → List ℕ → Decoded C) (r : ℕ) → ((a : A) → k a w ≡ no r) →
+      andThen x k ≡ no r
   then-no f (ok a t) {b} {w} e k r h = let i : w ≡ t = cc in rw i at (h a)
   then-no f (no q) e k r h = absurd (refused e)

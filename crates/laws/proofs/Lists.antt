@@ -1,14 +1,14 @@
 -- Laws of lists that the library does not have.
 use mathlib.Core.Path.{_≡_, refl, sym, _∙_}
 use mathlib.Core.Logic.{⊎-elim}
-use mathlib.Core.List.{List, [], _∷_, _++_, append-assoc, append-nil, flatMap, getLast?, List·Memᴰ, List·Memᴰ·head, List·Memᴰ·tail, List·Memᴰ·not-nil, List·Memᴰ·cases-cons, Memᴰ·append-left, Memᴰ·append-right}
+use mathlib.Core.List.{List, [], _∷_, _++_, append-assoc, append-nil, flatMap, getLast?, List·Memᴰ, List·Memᴰ·head, List·Memᴰ·tail, List·Memᴰ·not-nil}
+use mathlib.Core.List.{List·Memᴰ·cases-cons, Memᴰ·append-left, Memᴰ·append-right}
 use mathlib.Core.Option.{Option, Option·some-injective, Option·none-ne-some}
 use Prim.Native.Nat.{ℕ, zero, suc, _+_, _-_, _≤_, _<_}
 use native.Mathlib.Omega.{arith}
 use lib.ListN.{length, getD, set, take, drop, length-drop}
 use lib.Seq.{take-take, take-suc, drop-cons, getD-drop, sets, drop-set-lt}
-use Rattle.laws.specs.Codec.{All, IfThere}
-use Rattle.laws.specs.Ordered.{Ordered}
+use Rattle.laws.specs.{Codec.All, Codec.IfThere, Ordered.Ordered}
 
 pub flatMap-append : {A B : Type 0} (f : A → List B) (a b : List A) → flatMap f (a ++ b) ≡ flatMap f a ++ flatMap f b
 unfolding flatMap
@@ -92,7 +92,8 @@ module _ {A : Type 0} where
     inner {a} o on x i =
         ⊎-elim (λ e. let r = rw e at (o .0 x i) in absurd (apart a a r r)) (λ j. j) (List·Memᴰ·cases-cons (on x (List·Memᴰ·tail i)))
 
-    pub same-members : (l m : List A) → Ordered R l → Ordered R m → ((x : A) → List·Memᴰ x l → List·Memᴰ x m) → ((x : A) → List·Memᴰ x m → List·Memᴰ x l) → l ≡ m
+    pub same-members : (l m : List A) → Ordered R l → Ordered R m → ((x : A) → List·Memᴰ x l → List·Memᴰ x m) → ((x : A) → List·Memᴰ x m → List·Memᴰ x l) →
+        l ≡ m
     same-members [] [] o p on back = refl
     same-members [] (b ∷ m) o p on back = absurd (List·Memᴰ·not-nil (back b (List·Memᴰ·head refl)))
     same-members (a ∷ l) [] o p on back = absurd (List·Memᴰ·not-nil (on a (List·Memᴰ·head refl)))

@@ -1,9 +1,7 @@
 -- What holds place by place: of every place passed so far, or of the place itself.
-use mathlib.Core.Path.{_≡_}
-use mathlib.Core.Logic.{⊎-elim}
+use mathlib.Core.{Path._≡_, Logic.⊎-elim}
 use Prim.Native.Nat.{ℕ, zero, suc, _+_, _-_, _≤_, _<_}
-use native.Mathlib.Omega.{arith}
-use native.Mathlib.Nat.{add-zero, eq-or-lt-of-le}
+use native.Mathlib.{Omega.arith, Nat.add-zero, Nat.eq-or-lt-of-le}
 
 -- what holds of each place from `at` up to `i`, and of `i`, holds of each up to `i + 1`
 pub on-by-one : (P : ℕ → Type 0) (at i : ℕ) → ((k : ℕ) → at ≤ k → k < i → P k) → P i → (k : ℕ) → at ≤ k → k < i + 1 → P k
@@ -13,8 +11,7 @@ on-by-one P at i f p k l h = ⊎-elim (λ (e : k ≡ i). rw e p) (λ b. f k l b)
 pub on-by-block : (P : ℕ → Type 0) (at i n : ℕ) → ((k : ℕ) → at ≤ k → k < i → P k) → ((k : ℕ) → k < n → P (i + k))
     → (k : ℕ) → at ≤ k → k < i + n → P k
 on-by-block P at i zero f g k l h = f k l (omega arith)
-on-by-block P at i (suc n) f g k l h =
-    on-by-one P at (i + n) (on-by-block P at i n f (λ m b. g m (omega arith))) (g n (omega arith)) k l (omega arith)
+on-by-block P at i (suc n) f g k l h = on-by-one P at (i + n) (on-by-block P at i n f (λ m b. g m (omega arith))) (g n (omega arith)) k l (omega arith)
 
 -- what holds at a place, and goes on from each place to the next, holds further on
 pub carried : (P : ℕ → Type 0) (i n : ℕ) → P i → ((k : ℕ) → i ≤ k → k < i + n → P k → P (k + 1)) → P (i + n)

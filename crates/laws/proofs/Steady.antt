@@ -1,7 +1,6 @@
 -- Decoders that judge from the front: bytes that follow change no value and no refusal but 2, for which more bytes were needed.
-use mathlib.Core.Path.{_≡_, refl}
+use mathlib.Core.{Path._≡_, Path.refl, List.List, List._++_}
 use mathlib.Core.Logic.{_⊎_, inl, inr}
-use mathlib.Core.List.{List, _++_}
 use Prim.Native.Nat.{ℕ}
 use Rattle.laws.specs.Decoded.{Decoded, ok, no, andThen, onOk, Decoder}
 use Rattle.laws.proofs.Kept.{Kept}

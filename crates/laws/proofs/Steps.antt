@@ -17,3 +17,7 @@ module _ {A B : Type 0} {view : A → B} {value : B} {Bounds : A → Type 0} {x 
 
   pub bounded : Bounds v
   bounded = rw is at (says .bounds)
+
+  -- both: the same is told of v
+  pub told-of : Told view value Bounds v
+  told-of = rw is at says

@@ -1,58 +1,31 @@
 -- What the judge says of an accepted sheet is what the writers ask, and what demand 3 is shown from.
 use Rattle.laws.proofs.Prelude.{_≡_, refl, sym, ap, _∙_, true, List, [], _∷_, ℕ, _+_, _/_, _≤_, _<_, arith, ltb, length, ltb-true}
 use Rattle.laws.specs.Decoded.{Decoded, ok, no}
-use Rattle.laws.specs.Codec.{All, IfThere}
-use Rattle.laws.proofs.Decoding.{refused}
-use Rattle.laws.proofs.Lists.{of-members}
-use Rattle.text.specs.declared.utf8.Encoding.the-variants.{Utf8}
-use Rattle.text.specs.Utf8.{wellFormed}
-use Rattle.text.specs.Position.{characters, Indexed}
-use Rattle.text.specs.Bytes.{part}
-use Rattle.text.proofs.Columns.{counted}
-use Rattle.text.proofs.WellFormed.{well-formed-iff}
+use Rattle.laws.{specs.Codec.All, specs.Codec.IfThere, proofs.Decoding.refused, proofs.Lists.of-members}
+use Rattle.text.specs.{declared.utf8.Encoding.the-variants.Utf8, Utf8.wellFormed, Position.characters, Position.Indexed, Bytes.part}
+use Rattle.text.proofs.{Columns.counted, WellFormed.well-formed-iff}
 use Rattle.wire.specs.Refusals.{ofSheets, oneOf}
 use Rattle.sheet.specs.Limits.{sourceLimit, commentLimit, groupLimit, depthLimit, commentNumbers, groupNumbers, groupsStart, indexStart, tableNumbers}
 use Rattle.sheet.specs.code.Tables.{commentsPart, groupsPart, indexPart}
-use Rattle.sheet.specs.Fit.{Fit}
+use Rattle.sheet.{specs.Fit.Fit, specs.Sheet.Sheet, specs.Sheet.accept, specs.Judge.judge, proofs.TableRows.rows-length, proofs.Reaches.walk-right}
 use Rattle.sheet.specs.Walk.{Visit, startOf, visits}
-use Rattle.sheet.specs.Sheet.{Sheet, accept}
-use Rattle.sheet.specs.Judge.{judge}
-use Rattle.sheet.proofs.TableRows.{rows-length}
-use Rattle.sheet.proofs.Reaches.{walk-right}
-use Rattle.sheet_codec.specs.Limits.{FieldsFit}
-use Rattle.sheet_codec.specs.SheetOf.{SheetOf}
-use Rattle.sheet_codec.proofs.Sheets.{accepts-exactly}
-use Rattle.sheet_codec.proofs.Quotations.{strings-quoted}
+use Rattle.sheet_codec.{specs.Limits.FieldsFit, specs.SheetOf.SheetOf, proofs.Sheets.accepts-exactly, proofs.Quotations.strings-quoted}
 use Rattle.sheet_codec.proofs.Refusals.{passes, Decision, decided, cut-off, judged-sheet, judged-refusal}
-use Rattle.sheet_check.specs.declared.check.Parts.{Parts}
-use Rattle.sheet_check.specs.code.Accepts.{Accepts}
+use Rattle.sheet_check.specs.{declared.check.Parts.Parts, code.Accepts.Accepts}
 use Rattle.sheet_check.proofs.Lent.{part-length, renewed, part-renewed, front-kept, length-kept}
-use Rattle.report.specs.declared.writer.Outcome.{Outcome}
-use Rattle.report.specs.Range.{IndexOf}
+use Rattle.report.specs.{declared.writer.Outcome.Outcome, Range.IndexOf, ModuleInfo.DependencyDescriptor, Encode.encode}
 use Rattle.report.specs.Answer.{outcomeAs, refusedWith, fitted}
-use Rattle.report.specs.ModuleInfo.{DependencyDescriptor}
-use Rattle.report.specs.Encode.{encode}
-use Rattle.pragmas.specs.Pragmas.{typesAt}
-use Rattle.pragmas.specs.Present.{Present}
+use Rattle.pragmas.{specs.Pragmas.typesAt, specs.Present.Present, specs.code.Held.Held, proofs.Present.present, proofs.Present.types-present}
 use Rattle.pragmas.specs.Texts.{TypesShown, typesOf, Texts}
-use Rattle.pragmas.specs.code.Held.{Held}
-use Rattle.pragmas.proofs.Present.{present, types-present}
 use Rattle.pragmas.proofs.Texts.{types-shown, texts}
-use Rattle.jsdoc_list.specs.Demand.{OnlyRight}
-use Rattle.jsdoc_list.proofs.ImportsRight.{only-right}
-use Rattle.dep.specs.Collect.{entryOf}
+use Rattle.jsdoc_list.{specs.Demand.OnlyRight, proofs.ImportsRight.only-right}
+use Rattle.dep.{specs.Collect.entryOf, proofs.EntryAttributes.attributes-right}
 use Rattle.dep.specs.InTurn.{InTurn, Worded, EntryOf}
 use Rattle.dep.proofs.Turns.{turn-member, turns-with, collect-turns}
-use Rattle.dep.proofs.EntryAttributes.{attributes-right}
 use Rattle.module_info.specs.Information.{moduleInfo, defaultInfo, answerOf}
 use Rattle.module_info.specs.code.Pieces.{PartsOf, RootOf, HeldBy, AcceptsIn}
-use Rattle.module_info.specs.Empty.{EmptyRight}
-use Rattle.module_info.specs.Demands.{OfAccepted, Demands}
-use Rattle.module_info.proofs.Numbers.{number-right}
-use Rattle.module_info.proofs.Empty.{empty-right}
-use Rattle.module_info.proofs.Fine.{Fine}
-use Rattle.module_info.proofs.Reports.{entries-fine, report-right}
-use Rattle.module_info.proofs.Revised.{unchanged}
+use Rattle.module_info.specs.{Empty.EmptyRight, Demands.OfAccepted, Demands.Demands}
+use Rattle.module_info.proofs.{Numbers.number-right, Empty.empty-right, Fine.Fine, Reports.entries-fine, Reports.report-right, Revised.unchanged}
 
 -- a dependency of a visit
 record Known (t : Sheet) (v : Visit) (d : DependencyDescriptor) : Type 0 where
@@ -133,7 +106,8 @@ module _ {s comments groups : List ℕ} {p : Parts} (a : Accepts s comments grou
 
       -- each entry with what the limits say of it
       known-turns : InTurn (λ v d. Known t v d × Fine (Worded (t .source) v) d) (visits (t .root)) (moduleInfo t .dependencies)
-      known-turns = entries-fine t (meets .encodes .within) types-there (λ v d k. k .entry) (collect-turns (t .source) (typesAt t) (Known t) (λ v d e i. record { entry = e; types = i }) (t .root))
+      known-turns = entries-fine t (meets .encodes .within) types-there (λ v d k. k .entry)
+          (collect-turns (t .source) (typesAt t) (Known t) (λ v d e i. record { entry = e; types = i }) (t .root))
 
       fine : InTurn (λ v d. Fine (Worded (t .source) v) d) (visits (t .root)) (moduleInfo t .dependencies)
       fine = turns-with known-turns (λ v i d p. p .1)
@@ -141,7 +115,12 @@ module _ {s comments groups : List ℕ} {p : Parts} (a : Accepts s comments grou
       in-turn : InTurn (EntryOf t) (visits (t .root)) (moduleInfo t .dependencies)
       in-turn =
           turns-with known-turns λ v i d (k, f).
-          record { entry = k .entry; types = rw (k .types) (types-present t (startOf v)); attributes = attributes-right (t .source) (typesAt t) v (k .entry); worded = f .worded }
+          record {
+            entry = k .entry;
+            types = rw (k .types) (types-present t (startOf v));
+            attributes = attributes-right (t .source) (typesAt t) v (k .entry);
+            worded = f .worded;
+          }
 
       typed : All (λ d. IfThere (TypesShown (a .sheet)) (typesOf d)) (moduleInfo (a .sheet) .dependencies)
       typed =
@@ -159,7 +138,8 @@ module _ {s comments groups : List ℕ} {p : Parts} (a : Accepts s comments grou
       shown P h t e = rw (same-sheet (accepts-exactly s t .1 e) (a .accepted)) h
 
 -- the index is written into the table, behind its comments and groups
-module _ {s : List ℕ} (table : List ℕ) {p : Parts} (room : tableNumbers ≤ length table) (a : Accepts s (commentsPart table) (groupsPart table) p) (index : List ℕ) (kept : length index ≡ length (indexPart table)) where
+module _ {s : List ℕ} (table : List ℕ) {p : Parts} (room : tableNumbers ≤ length table) (a : Accepts s (commentsPart table) (groupsPart table) p)
+    (index : List ℕ) (kept : length index ≡ length (indexPart table)) where
   pub indexed-in : Indexed characters (part s (p .«source_start») (p .«source_end»)) index (length (part s (p .«source_start») (p .«source_end»)) / 64 + 1)
       → AcceptsIn s (renewed table indexStart tableNumbers index) p
   indexed-in positions =
@@ -167,7 +147,10 @@ module _ {s : List ℕ} (table : List ℕ) {p : Parts} (room : tableNumbers ≤ 
       record {
         room = omega (arith, length-kept table indexStart tableNumbers (omega arith) room index kept);
         accepts =
-            rw (front-kept table indexStart tableNumbers (omega arith) room index kept 0 groupsStart (omega arith) (omega arith), front-kept table indexStart tableNumbers (omega arith) room index kept groupsStart indexStart (omega arith) (omega arith)) a;
+            rw (
+              front-kept table indexStart tableNumbers (omega arith) room index kept 0 groupsStart (omega arith) (omega arith),
+              front-kept table indexStart tableNumbers (omega arith) room index kept groupsStart indexStart (omega arith) (omega arith),
+            ) a;
         indexed =
             rw (part-renewed table indexStart tableNumbers (omega arith) room index kept)
             (record { long = omega (arith, kept, part-length table indexStart tableNumbers (omega arith) room); positions = positions });
@@ -178,7 +161,8 @@ pub held : {s tables : List ℕ} {p : Parts} → AcceptsIn s tables p → HeldBy
 held {tables = tables} a =
     let room = a .room in (
       room,
-      lent (a .accepts) (omega (arith, part-length tables 0 groupsStart (omega arith) (omega arith))) (omega (arith, part-length tables groupsStart indexStart (omega arith) (omega arith))) (a .indexed),
+      lent (a .accepts) (omega (arith, part-length tables 0 groupsStart (omega arith) (omega arith)))
+          (omega (arith, part-length tables groupsStart indexStart (omega arith) (omega arith))) (a .indexed),
     )
 
 -- a refusal fits a byte
@@ -224,5 +208,4 @@ module _ (s : List ℕ) {size : ℕ} {outcome : Outcome} {buffer : List ℕ} whe
 
   pub empty-demanded : s ≡ [] → outcomeAs outcome buffer ≡ fitted size (encode defaultInfo) → Demands s size outcome buffer
   unfolding answerOf judge
-  empty-demanded e default =
-      no-sheet (λ t h. refused (sym cut-off ∙ (rw e at (accepts-exactly s t .1 h)))) (rw e default) (λ f. empty-right default)
+  empty-demanded e default = no-sheet (λ t h. refused (sym cut-off ∙ (rw e at (accepts-exactly s t .1 h)))) (rw e default) (λ f. empty-right default)

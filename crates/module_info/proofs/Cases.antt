@@ -2,29 +2,24 @@
 use Rattle.laws.proofs.Prelude.{_≡_, refl, false, List, [], _∷_, _++_, map, flatMap, Option, ℕ, _+_, length}
 use Prim.Native.String.{String}
 use Rattle.laws.specs.Ascii.{ascii}
-use Rattle.text.specs.Ranges.{inRanges}
+use Rattle.text.specs.{Ranges.inRanges, Alphabetic.alphabetic, Bytes.begins, Bytes.same}
 use Rattle.text.specs.Utf8.{admits, lengthBy, charLength, codeBy, charAt}
-use Rattle.text.specs.Alphabetic.{alphabetic}
 use Rattle.text.specs.Class.{outside, ranges, member, classAt, run}
-use Rattle.text.specs.Bytes.{begins, same}
 use Rattle.text.specs.Position.{step, walk, positionOf}
 use Rattle.analysis.specs.Mode.{TypeScriptTypesResolutionMode, Mode, modeOf}
 use Rattle.analysis.specs.Letters.{foldCase, letterAt, wordAt}
 use Rattle.analysis.specs.Row.{ends, all, first, places, find}
 use Rattle.analysis.specs.Place.{placeOf}
-use Rattle.jsdoc.specs.Reader.{skip, skipWhitespace, whitespace, tag, word, upTo, isMark, parseQuote, pastIdent, parseIdent, parseKey, attributeMode, parseAttribute, firstMode, comma, separatedListBy, separatedList, parseImportAttributeBlockForResolutionMode, secondParamStart, parseSecondParamObjWithLeadingComma, closeCall, parseTail, seek, parseCall, parseJsdocDynamicImport, skipNamedImports, skipDefaultImport, skipNamespaceImport, skipClause, parseAttributes, parseFrom, parseJsdocImportDecl}
+use Rattle.jsdoc.specs.Reader.{skip, skipWhitespace, whitespace, tag, word, upTo, isMark, parseQuote, pastIdent, parseIdent, parseKey, attributeMode}
+use Rattle.jsdoc.specs.Reader.{parseAttribute, firstMode, comma, separatedListBy, separatedList, parseImportAttributeBlockForResolutionMode}
+use Rattle.jsdoc.specs.Reader.{secondParamStart, parseSecondParamObjWithLeadingComma, closeCall, parseTail, seek, parseCall, parseJsdocDynamicImport}
+use Rattle.jsdoc.specs.Reader.{skipNamedImports, skipDefaultImport, skipNamespaceImport, skipClause, parseAttributes, parseFrom, parseJsdocImportDecl}
 use Rattle.jsdoc.specs.Listing.{listing}
-use Rattle.sheet.specs.declared.fields.Span.{Span}
-use Rattle.sheet.specs.declared.groups.Group.{Group}
-use Rattle.sheet.specs.declared.names.CommentKind.{CommentKind}
+use Rattle.sheet.specs.declared.{fields.Span.Span, groups.Group.Group, names.CommentKind.CommentKind, names.MediaType.the-variants.Jsx, names.Side.Side}
 use Rattle.sheet.specs.declared.names.CommentKind.the-variants.{Line, Block, HtmlOpen, HtmlClose}
-use Rattle.sheet.specs.declared.names.MediaType.the-variants.{Jsx}
-use Rattle.sheet.specs.declared.names.Side.{Side}
-use Rattle.sheet.specs.declared.names.Side.the-variants.{Leading, Trailing}
-use Rattle.sheet.specs.Comments.{opening, closing}
+use Rattle.sheet.specs.{declared.names.Side.the-variants.Leading, declared.names.Side.the-variants.Trailing, Comments.opening, Comments.closing}
 use Rattle.sheet.specs.Lookups.{groupAt, headGroup, bodySpan}
-use Rattle.sheet.specs.Tree.{other, none}
-use Rattle.sheet.specs.Sheet.{Sheet}
+use Rattle.sheet.specs.{Tree.other, Tree.none, Sheet.Sheet}
 use Rattle.report.specs.ModuleInfo.{SpecifierWithRange, TypeScriptReference, path, JsDocImportInfo}
 use Rattle.report.specs.ModuleInfo as info
 use Rattle.pragmas.specs.Readings.{placeIn, specifierIn, readBy, firstOf, lastOf, allOf}
@@ -67,7 +62,8 @@ table =
     ∷ references "/ <reference path=\"a\" />" (path (specifier "a" 20 23) ∷ [])
     -- with both a path and types: the types, even where they are empty, and the mode
     ∷ references "/ <reference path=\"a\" types=\"b\" />" (info.types (specifier "b" 30 33) Option.none ∷ [])
-    ∷ references "/ <reference types=\"\" path=\"a\" resolution-mode=\"require\" />" (info.types (specifier "" 21 23) (Option.some TypeScriptTypesResolutionMode.require) ∷ [])
+    ∷ references "/ <reference types=\"\" path=\"a\" resolution-mode=\"require\" />" (info.types (specifier "" 21 23)
+    (Option.some TypeScriptTypesResolutionMode.require) ∷ [])
     ∷ jsxSource "* @jsxImportSource a" (Option.some (specifier "a" 21 22))
     ∷ []
 
@@ -119,9 +115,21 @@ computed (jsxSource body x) = computedIn Block (jsxSource body x)
 computed (sourceMap body x) = computedIn Line (sourceMap body x)
 
 as-stated : map computed table ≡ table
-unfolding table sheetOf flatMap inRanges admits lengthBy charLength codeBy charAt alphabetic outside ranges member classAt run begins same step walk positionOf modeOf foldCase letterAt wordAt ends all first places find placeOf skip skipWhitespace whitespace tag word upTo isMark parseQuote pastIdent parseIdent parseKey attributeMode parseAttribute firstMode comma separatedListBy separatedList parseImportAttributeBlockForResolutionMode secondParamStart parseSecondParamObjWithLeadingComma closeCall parseTail seek parseCall parseJsdocDynamicImport skipNamedImports skipDefaultImport skipNamespaceImport skipClause parseAttributes parseFrom parseJsdocImportDecl listing groupAt headGroup bodySpan placeIn specifierIn readBy firstOf lastOf allOf headComments endComments modeIn reference referencesIn firstBy lastBy tsOrDenoTypes typesIn tickedBy tickedByAll importAt importsFrom jsdocImports moduleInfo
+unfolding table sheetOf flatMap inRanges admits lengthBy charLength codeBy charAt alphabetic outside ranges member classAt run begins same step walk
+    positionOf modeOf foldCase letterAt wordAt ends all first places find placeOf skip skipWhitespace whitespace tag word upTo isMark parseQuote pastIdent
+    parseIdent parseKey attributeMode parseAttribute firstMode comma separatedListBy separatedList parseImportAttributeBlockForResolutionMode
+    secondParamStart parseSecondParamObjWithLeadingComma closeCall parseTail seek parseCall parseJsdocDynamicImport skipNamedImports skipDefaultImport
+    skipNamespaceImport skipClause parseAttributes parseFrom parseJsdocImportDecl listing groupAt headGroup bodySpan placeIn specifierIn readBy firstOf
+    lastOf allOf headComments endComments modeIn reference referencesIn firstBy lastBy tsOrDenoTypes typesIn tickedBy tickedByAll importAt importsFrom
+    jsdocImports moduleInfo
 as-stated = refl
 
 html-as-stated : (map (computedIn HtmlOpen) (html 4) ≡ html 4) × (map (computedIn HtmlClose) (html 3) ≡ html 3)
-unfolding html sheetOf flatMap inRanges admits lengthBy charLength codeBy charAt alphabetic outside ranges member classAt run begins same step walk positionOf modeOf foldCase letterAt wordAt ends all first places find placeOf skip skipWhitespace whitespace tag word upTo isMark parseQuote pastIdent parseIdent parseKey attributeMode parseAttribute firstMode comma separatedListBy separatedList parseImportAttributeBlockForResolutionMode secondParamStart parseSecondParamObjWithLeadingComma closeCall parseTail seek parseCall parseJsdocDynamicImport skipNamedImports skipDefaultImport skipNamespaceImport skipClause parseAttributes parseFrom parseJsdocImportDecl listing groupAt headGroup bodySpan placeIn specifierIn readBy firstOf lastOf allOf headComments endComments modeIn reference referencesIn firstBy lastBy tsOrDenoTypes typesIn tickedBy tickedByAll importAt importsFrom jsdocImports moduleInfo
+unfolding html sheetOf flatMap inRanges admits lengthBy charLength codeBy charAt alphabetic outside ranges member classAt run begins same step walk
+    positionOf modeOf foldCase letterAt wordAt ends all first places find placeOf skip skipWhitespace whitespace tag word upTo isMark parseQuote pastIdent
+    parseIdent parseKey attributeMode parseAttribute firstMode comma separatedListBy separatedList parseImportAttributeBlockForResolutionMode
+    secondParamStart parseSecondParamObjWithLeadingComma closeCall parseTail seek parseCall parseJsdocDynamicImport skipNamedImports skipDefaultImport
+    skipNamespaceImport skipClause parseAttributes parseFrom parseJsdocImportDecl listing groupAt headGroup bodySpan placeIn specifierIn readBy firstOf
+    lastOf allOf headComments endComments modeIn reference referencesIn firstBy lastBy tsOrDenoTypes typesIn tickedBy tickedByAll importAt importsFrom
+    jsdocImports moduleInfo
 html-as-stated = (refl, refl)

@@ -1,32 +1,23 @@
 -- What no bytes get, and the information of the smallest sheet.
 use Rattle.laws.proofs.Prelude.{_≡_, refl, false, [], flatMap, Option, ℕ, arith}
 use Rattle.laws.specs.Decoded.{ok}
-use Rattle.text.specs.Utf8.{formed}
-use Rattle.text.specs.Position.{isBoundary}
+use Rattle.text.specs.{Utf8.formed, Position.isBoundary}
 use Rattle.wire.specs.Fields.{byte, below, numbered, flag, bytes}
 use Rattle.wire.specs.Number.{lastGroup, number, encodeGroups, encodeNumber}
-use Rattle.wire.specs.Text.{count, text}
-use Rattle.wire.specs.Optional.{encodeOptional, optional}
-use Rattle.sheet.specs.declared.fields.Span.{Span}
-use Rattle.sheet.specs.declared.names.MediaType.the-variants.{JavaScript}
+use Rattle.wire.specs.{Text.count, Text.text, Optional.encodeOptional, Optional.optional}
+use Rattle.sheet.specs.{declared.fields.Span.Span, declared.names.MediaType.the-variants.JavaScript, Comments.covered, Comments.chained, Program.program}
 use Rattle.sheet.specs.Fields.{position, endFrom, span}
-use Rattle.sheet.specs.Comments.{covered, chained}
-use Rattle.sheet.specs.Program.{program}
-use Rattle.sheet.specs.Tree.{other, none}
+use Rattle.sheet.specs.{Tree.other, Tree.none, Lookups.groupAt, Lookups.headGroup}
 use Rattle.sheet.specs.Nodes.{many, nodes, otherFields, fields, node}
-use Rattle.sheet.specs.Lookups.{groupAt, headGroup}
 use Rattle.sheet.specs.Sheet.{Sheet, sheet, decodeSheet, accept}
 use Rattle.sheet_codec.proofs.Sheets.{accepts-exactly}
-use Rattle.report.specs.Encode.{encodeList, encode}
+use Rattle.report.{specs.Encode.encodeList, specs.Encode.encode, specs.Valid.Valid, proofs.ReadBack.report-back}
 use Rattle.report.specs.Answer.{Answer, zeros, fitted}
-use Rattle.report.specs.Valid.{Valid}
-use Rattle.report.proofs.ReadBack.{report-back}
 use Rattle.pragmas.specs.Readings.{firstOf, lastOf, allOf}
 use Rattle.pragmas.specs.Pragmas.{headComments, endComments, referencesIn, firstBy, lastBy}
 use Rattle.jsdoc_list.specs.Imports.{tickedByAll, importsFrom, jsdocImports}
 use Rattle.dep.specs.Collect.{collector}
-use Rattle.module_info.specs.Information.{moduleInfo, defaultInfo}
-use Rattle.module_info.specs.Empty.{EmptyRight}
+use Rattle.module_info.specs.{Information.moduleInfo, Information.defaultInfo, Empty.EmptyRight}
 
 -- the sheet of thirteen zero bytes
 abbrev smallest : Sheet
@@ -42,11 +33,13 @@ smallest =
     }
 
 accepted : accept (zeros 13) ≡ ok smallest []
-unfolding formed byte below numbered flag bytes lastGroup Rattle.wire.specs.Number.groups number count text isBoundary position endFrom span covered chained optional program many Rattle.sheet.specs.Nodes.tag nodes otherFields fields node sheet decodeSheet accept
+unfolding formed byte below numbered flag bytes lastGroup Rattle.wire.specs.Number.groups number count text isBoundary position endFrom span covered chained
+    optional program many Rattle.sheet.specs.Nodes.tag nodes otherFields fields node sheet decodeSheet accept
 accepted = refl
 
 its-information : moduleInfo smallest ≡ defaultInfo
-unfolding groupAt headGroup flatMap firstOf lastOf allOf headComments endComments referencesIn firstBy lastBy tickedByAll importsFrom jsdocImports collector moduleInfo
+unfolding groupAt headGroup flatMap firstOf lastOf allOf headComments endComments referencesIn firstBy lastBy tickedByAll importsFrom jsdocImports collector
+    moduleInfo
 its-information = refl
 
 -- flag, count, count, flag, flag, flag, count, flag

@@ -2,23 +2,22 @@
 use Rattle.laws.proofs.Prelude.{_≡_, refl, List, [], _∷_, _++_, flatMap, ℕ, _-_, _≤_, le-leb}
 use Rattle.laws.specs.Ascii.{ascii}
 use Rattle.text.specs.Utf8.{admits, lengthBy, charLength, codeBy, charAt, formed}
-use Rattle.text.specs.Ranges.{inRanges}
+use Rattle.text.specs.{Ranges.inRanges, Bytes.begins}
 use Rattle.text.specs.Class.{outside, ranges, member, classAt, run}
-use Rattle.text.specs.Bytes.{begins}
 use Rattle.text.specs.Position.{step, walk, positionOf, isBoundary}
 use Rattle.wire.specs.Fields.{byte, below, numbered, flag, bytes}
 use Rattle.wire.specs.Number.{lastGroup, number, encodeGroups, encodeNumber}
 use Rattle.wire.specs.Text.{count, text, encodeText}
 use Rattle.wire.specs.Optional.{encodeOptional, optional}
-use Rattle.jsdoc.specs.Reader.{skip, skipWhitespace, word, upTo, isMark, parseQuote, secondParamStart, parseSecondParamObjWithLeadingComma, closeCall, parseTail, seek, parseCall, parseJsdocDynamicImport, parseJsdocImportDecl}
+use Rattle.jsdoc.specs.Reader.{skip, skipWhitespace, word, upTo, isMark, parseQuote, secondParamStart, parseSecondParamObjWithLeadingComma, closeCall}
+use Rattle.jsdoc.specs.Reader.{parseTail, seek, parseCall, parseJsdocDynamicImport, parseJsdocImportDecl}
 use Rattle.jsdoc.specs.Listing.{listing}
 use Rattle.sheet.specs.Fields.{position, endFrom, span}
 use Rattle.sheet.specs.Comments.{enclosed, marked, comment, group, covered, chained}
-use Rattle.sheet.specs.Program.{program}
+use Rattle.sheet.specs.{Program.program, Judge.judge}
 use Rattle.sheet.specs.Nodes.{many, nodes, otherFields, fields, node}
 use Rattle.sheet.specs.Lookups.{groupAt, headGroup, bodySpan}
 use Rattle.sheet.specs.Sheet.{sheet, decodeSheet, accept}
-use Rattle.sheet.specs.Judge.{judge}
 use Rattle.report.specs.Encode.{encodeList, encodePosition, encodeRange, encodeSpecifier, encodeJsDoc, encode}
 use Rattle.report.specs.Answer.{zeros, fitted}
 use Rattle.pragmas.specs.Readings.{firstOf, lastOf, allOf}
@@ -43,7 +42,13 @@ report =
     ∷ 0 ∷ [])  -- no source map
 
 computed : (size : ℕ) → answerOf example size ≡ fitted size report
-unfolding admits lengthBy charLength codeBy charAt formed inRanges outside ranges member classAt run begins step walk positionOf byte below numbered flag bytes lastGroup Rattle.wire.specs.Number.groups number encodeGroups encodeNumber count text encodeText skip skipWhitespace Rattle.jsdoc.specs.Reader.tag word upTo isMark parseQuote secondParamStart parseSecondParamObjWithLeadingComma closeCall parseTail seek parseCall parseJsdocDynamicImport parseJsdocImportDecl listing isBoundary position endFrom span enclosed marked comment group covered chained optional program many Rattle.sheet.specs.Nodes.tag nodes otherFields fields node groupAt headGroup bodySpan sheet decodeSheet accept judge encodeOptional flatMap encodeList encodePosition encodeRange encodeSpecifier encodeJsDoc encode firstOf lastOf allOf headComments endComments referencesIn firstBy lastBy tickedBy tickedByAll importAt importsFrom jsdocImports collector moduleInfo answerOf
+unfolding admits lengthBy charLength codeBy charAt formed inRanges outside ranges member classAt run begins step walk positionOf byte below numbered flag
+    bytes lastGroup Rattle.wire.specs.Number.groups number encodeGroups encodeNumber count text encodeText skip skipWhitespace Rattle.jsdoc.specs.Reader.tag
+    word upTo isMark parseQuote secondParamStart parseSecondParamObjWithLeadingComma closeCall parseTail seek parseCall parseJsdocDynamicImport
+    parseJsdocImportDecl listing isBoundary position endFrom span enclosed marked comment group covered chained optional program many
+    Rattle.sheet.specs.Nodes.tag nodes otherFields fields node groupAt headGroup bodySpan sheet decodeSheet accept judge encodeOptional flatMap encodeList
+    encodePosition encodeRange encodeSpecifier encodeJsDoc encode firstOf lastOf allOf headComments endComments referencesIn firstBy lastBy tickedBy
+    tickedByAll importAt importsFrom jsdocImports collector moduleInfo answerOf
 computed size = refl
 
 -- in any buffer that can hold it: number 0, the report's length and bytes, and zeros behind them

@@ -4,37 +4,33 @@ use Rattle.laws.specs.Codec.{All, IfThere}
 use Rattle.laws.proofs.Lists.{all-member, all-append, of-members}
 use Rattle.text.specs.declared.utf8.Encoding.the-variants.{Utf8, Wtf8}
 use Rattle.text.specs.Lossy.{exact, lossy, reported}
-use Rattle.text.proofs.Replaced.{lossy-length, exact-lossy}
-use Rattle.text.proofs.Reported.{lossy-of}
-use Rattle.wire.specs.Text.{encodeText}
-use Rattle.wire.specs.Optional.{encodeOptional}
+use Rattle.text.proofs.{Replaced.lossy-length, Replaced.exact-lossy, Reported.lossy-of}
+use Rattle.wire.specs.{Text.encodeText, Optional.encodeOptional}
 use Rattle.sheet.specs.Limits.{sheetLimit, sourceLimit, textLimit, depthLimit}
-use Rattle.sheet.specs.declared.fields.Span.{Span}
-use Rattle.sheet.specs.Tree.{Quoted, Pieces, Node, other, string, name, template, binary, object, importCall, call, importDecl, namedExport, exportFrom, exportAll, importType, importEquals, importRequire, moduleDecl, Arguments, noArguments, argument, Properties, noProperties, spread, otherProperty, childKey, stringKey, nameKey, Attributes, withObject}
+use Rattle.sheet.specs.{declared.fields.Span.Span, Reached.Walked, Reached.ownVisit}
+use Rattle.sheet.specs.Tree.{Quoted, Pieces, Node, other, string, name, template, binary, object, importCall, call, importDecl, namedExport, exportFrom}
+use Rattle.sheet.specs.Tree.{exportAll, importType, importEquals, importRequire, moduleDecl, Arguments, noArguments, argument, Properties, noProperties}
+use Rattle.sheet.specs.Tree.{spread, otherProperty, childKey, stringKey, nameKey, Attributes, withObject}
 use Rattle.sheet.specs.Shape.{Shape, text, named, pieces, operation, properties, anything, shape, isRequire, isAugmentation}
 use Rattle.sheet.specs.Walk.{Visit, Callee, called, importing, expression}
-use Rattle.sheet.specs.Reached.{Walked, ownVisit}
 use Rattle.sheet_codec.specs.Encode.{propertiesIn, encodeNode, encodeArguments}
 use Rattle.sheet_codec.specs.Limits.{TextFits, QuotedFits, under, NodeFits, ArgumentsFit, PropertiesFit, AttributesFit}
-use Rattle.report.specs.declared.names.StaticDependencyKind.{StaticDependencyKind}
+use Rattle.report.specs.declared.names.{StaticDependencyKind.StaticDependencyKind, DynamicDependencyKind.DynamicDependencyKind}
 use Rattle.report.specs.declared.names.StaticDependencyKind.the-variants as statics
-use Rattle.report.specs.declared.names.DynamicDependencyKind.{DynamicDependencyKind}
 use Rattle.report.specs.declared.names.DynamicDependencyKind.the-variants as dynamics
-use Rattle.report.specs.ModuleInfo.{SpecifierWithRange, ImportAttribute, KeyValue, ImportAttributes, none, unknown, known, DynamicTemplatePart, DynamicArgument, DependencyDescriptor}
+use Rattle.report.specs.ModuleInfo.{SpecifierWithRange, ImportAttribute, KeyValue, ImportAttributes, none, unknown, known, DynamicTemplatePart}
+use Rattle.report.specs.ModuleInfo.{DynamicArgument, DependencyDescriptor}
 use Rattle.report.specs.ModuleInfo as info
 use Rattle.report.specs.Texts.{Reports, PairTexts, AttributeTexts, ArgumentTexts, DependencyTexts, SpecifierText}
 use Rattle.report.specs.Valid.{Short, ValidSpecifier, ValidAttributes, ValidArgument, ValidDependency}
-use Rattle.report.proofs.Ranges.{range-valid}
-use Rattle.report.proofs.RangesApart.{range-at}
-use Rattle.report.proofs.Stands.{Good}
+use Rattle.report.proofs.{Ranges.range-valid, RangesApart.range-at, Stands.Good}
 use Rattle.attributes.specs.Attributes.{Prop, keyless, keyed, props}
 use Rattle.attributes.specs.Right.{Value, PairsOf, StaticOf, ObjectOf, TypeOf, Holds, SecondOf, DynamicOf}
 use Rattle.attributes.proofs.ReadingsRight.{last-among, pairs-few, static-right, type-right, dynamic-right}
 use Rattle.arguments.specs.Argument.{pieceParts, templateParts, ofPieces, operand, appended, chain, ofChain, ofShape, argumentOf}
 use Rattle.dep_entries.specs.Entries.{importKind, exportKind, equalsKind, dynamicKind, staticEntry, callEntry, moduleEntry}
-use Rattle.dep.specs.Collect.{entryOf}
+use Rattle.dep.{specs.Collect.entryOf, proofs.EntryAttributes.all-if}
 use Rattle.dep.specs.InTurn.{Specifies, Argues, Worded}
-use Rattle.dep.proofs.EntryAttributes.{all-if}
 use Rattle.module_info.proofs.Inside.{walked-fits, walked-bytes}
 
 -- ---- texts
@@ -139,9 +135,13 @@ module _ (source : List ℕ) where
     valid : ValidAttributes a
     texts : AttributeTexts Text a
 
-  pairs-fine : {Counts : Shape → Type 0} (ps : Properties) {l : List KeyValue} → ShapeFits (properties ps) → PairsOf Counts (props ps) l → FineAttributes (known l)
+  pairs-fine : {Counts : Shape → Type 0} (ps : Properties) {l : List KeyValue} → ShapeFits (properties ps) → PairsOf Counts (props ps) l →
+      FineAttributes (known l)
   pairs-fine ps {l} (k, n, f) p = record {
-    valid = (omega (arith, pairs-few p, props-count ps), of-members _ l (λ a i. let (x, y) = pair a i in record { key = short-text x; value = short-there (a .value) y }));
+    valid = (
+      omega (arith, pairs-few p, props-count ps),
+      of-members _ l (λ a i. let (x, y) = pair a i in record { key = short-text x; value = short-there (a .value) y }),
+    );
     texts = of-members _ l pair;
   }
     where
@@ -258,7 +258,8 @@ module _ (source : List ℕ) where
           → IfThere (λ p. (length p ≤ length (encodeNode (binary sp plus l r))) × All (IfThere Text) p) (cond b (appended o (operand (shape r))) Option.none)
       by-plus false o h = tt
       by-plus true Option.none h = tt
-      by-plus true (Option.some p) (n, a) = (simp length-append (omega arith), all-append _ p (operand (shape r) ∷ []) a (operand-text (shape r) (shape-fits (under k) r (f .1 .1)), tt))
+      by-plus true (Option.some p) (n, a) =
+          (simp length-append (omega arith), all-append _ p (operand (shape r) ∷ []) a (operand-text (shape r) (shape-fits (under k) r (f .1 .1)), tt))
   chain-fine k (object sp ps) f = tt
   chain-fine k (importCall sp phase xs ns) f = tt
   chain-fine k (call sp e xs ns) f = tt
@@ -279,7 +280,8 @@ module _ (source : List ℕ) where
   argument-fine k (template sp ps ns) f h = let g = simp length-append at h in pieces-fine ps (f .1 .0 .1) (omega (arith, pieces-bytes ps))
   argument-fine k (binary sp plus l r) f h = by-chain (chain (binary sp plus l r)) (chain-fine k (binary sp plus l r) f)
     where
-      by-chain : (o : Option (List DynamicTemplatePart)) → IfThere (λ p. (length p ≤ length (encodeNode (binary sp plus l r))) × All (IfThere Text) p) o → FineArgument (ofChain o)
+      by-chain : (o : Option (List DynamicTemplatePart)) → IfThere (λ p. (length p ≤ length (encodeNode (binary sp plus l r))) × All (IfThere Text) p) o →
+          FineArgument (ofChain o)
       by-chain Option.none c = fine-expr
       by-chain (Option.some p) (n, a) = fine-template (omega arith) a
   argument-fine k (object sp ps) f h = fine-expr
@@ -305,7 +307,8 @@ module _ (source : List ℕ) where
   argues anything f parts = tt
 
   module _ (short : length source ≤ sourceLimit) (types : ℕ → Option SpecifierWithRange) (typed : (start : ℕ) → IfThere Good (types start)) where
-    static-entry : (kind : StaticDependencyKind) (sp : Span) (k : ℕ) {x : Quoted} → QuotedFits source k x → (sideEffect : Bool) {a : ImportAttributes} → FineAttributes a
+    static-entry : (kind : StaticDependencyKind) (sp : Span) (k : ℕ) {x : Quoted} → QuotedFits source k x → (sideEffect : Bool) {a : ImportAttributes} →
+        FineAttributes a
         → Fine (Specifies source x) (staticEntry source types kind sp x sideEffect a)
     unfolding staticEntry
     static-entry kind sp k {x} q sideEffect a = record {
@@ -315,10 +318,12 @@ module _ (source : List ℕ) where
         importAttributes = a .valid;
       };
       texts = (good-text (types (sp .start)) (typed (sp .start)), (lossy-text (q .text), a .texts));
-      worded = record { text = reports (q .text); stands = record { range = range-at (q .place .span .start) (q .place .span .end) refl; text = q .quotation } };
+      worded =
+          record { text = reports (q .text); stands = record { range = range-at (q .place .span .start) (q .place .span .end) refl; text = q .quotation } };
     }
 
-    call-entry : (kind : DynamicDependencyKind) (sp : Span) (e : Callee) (xs : Arguments) (k : ℕ) → ArgumentsFit source xs k → length (encodeArguments xs) ≤ sheetLimit
+    call-entry : (kind : DynamicDependencyKind) (sp : Span) (e : Callee) (xs : Arguments) (k : ℕ) → ArgumentsFit source xs k →
+        length (encodeArguments xs) ≤ sheetLimit
         → All (Fine (Worded source (called sp e xs))) (callEntry source types kind sp xs)
     unfolding callEntry ArgumentsFit encodeArguments argumentOf
     call-entry kind sp e noArguments k f h = tt
@@ -355,20 +360,27 @@ module _ (source : List ℕ) where
     own-fine k (importCall sp phase xs ns) f h =
         let g = simp length-append at h in call-entry (dynamicKind phase) sp (importing phase) xs (under k) (f .1 .0 .1) (omega arith)
     own-fine k (call sp e xs ns) f h =
-        let g = simp length-append at h in all-if _ (isRequire (shape e)) (callEntry source types dynamics.Require sp xs) (call-entry dynamics.Require sp (expression e) xs (under k) (f .1 .1 .0 .1) (omega arith))
+        let g = simp length-append at h in all-if _ (isRequire (shape e)) (callEntry source types dynamics.Require sp xs)
+        (call-entry dynamics.Require sp (expression e) xs (under k) (f .1 .1 .0 .1) (omega arith))
     own-fine k (importDecl sp typeOnly phase sideEffect x a) f h =
         (static-entry (importKind typeOnly phase) sp (under k) (f .1 .0) sideEffect (static-fine (under k) (f .1 .1) (static-right a)), tt)
     own-fine k (namedExport sp typeOnly) f h = tt
-    own-fine k (exportFrom sp typeOnly x a) f h = (static-entry (exportKind typeOnly) sp (under k) (f .1 .0) false (static-fine (under k) (f .1 .1) (static-right a)), tt)
-    own-fine k (exportAll sp typeOnly x a) f h = (static-entry (exportKind typeOnly) sp (under k) (f .1 .0) false (static-fine (under k) (f .1 .1) (static-right a)), tt)
-    own-fine k (importType sp x ns a) f h = (static-entry statics.ImportType sp (under k) (f .1 .0) false (type-fine (under k) (f .1 .1 .1 .1) (type-right a)), tt)
+    own-fine k (exportFrom sp typeOnly x a) f h =
+        (static-entry (exportKind typeOnly) sp (under k) (f .1 .0) false (static-fine (under k) (f .1 .1) (static-right a)), tt)
+    own-fine k (exportAll sp typeOnly x a) f h =
+        (static-entry (exportKind typeOnly) sp (under k) (f .1 .0) false (static-fine (under k) (f .1 .1) (static-right a)), tt)
+    own-fine k (importType sp x ns a) f h =
+        (static-entry statics.ImportType sp (under k) (f .1 .0) false (type-fine (under k) (f .1 .1 .1 .1) (type-right a)), tt)
     own-fine k (importEquals sp) f h = tt
     own-fine k (importRequire sp typeOnly export x) f h = (static-entry (equalsKind typeOnly export) sp (under k) (f .1) false fine-none, tt)
     own-fine k (moduleDecl sp Option.none ns) f h = tt
-    own-fine k (moduleDecl sp (Option.some x) ns) f h = all-if _ (isAugmentation (x .text)) (staticEntry source types statics.MaybeTsModuleAugmentation sp x false none ∷ []) (static-entry statics.MaybeTsModuleAugmentation sp (under k) (f .1 .0) false fine-none, tt)
+    own-fine k (moduleDecl sp (Option.some x) ns) f h = all-if _ (isAugmentation (x .text))
+        (staticEntry source types statics.MaybeTsModuleAugmentation sp x false none ∷ [])
+        (static-entry statics.MaybeTsModuleAugmentation sp (under k) (f .1 .0) false fine-none, tt)
 
     -- the entry of a walked node's visit
-    pub walked-fine : {root n : Node} {v : Visit} {d : DependencyDescriptor} → Walked root n → ownVisit n ≡ Option.some v → NodeFits source root depthLimit → length (encodeNode root) ≤ sheetLimit
+    pub walked-fine : {root n : Node} {v : Visit} {d : DependencyDescriptor} → Walked root n → ownVisit n ≡ Option.some v →
+        NodeFits source root depthLimit → length (encodeNode root) ≤ sheetLimit
         → entryOf source types v ≡ d ∷ [] → Fine (Worded source v) d
     walked-fine {n = n} {v = v} {d = d} w o f h e =
         let (k, g) = walked-fits source w 64 f in

@@ -2,11 +2,12 @@
 use Rattle.laws.proofs.Prelude.{Bool, true, false, cond, ap, List, [], _∷_, _++_, flatMap, Option, ℕ, suc, _≤_, arith, length, length-append}
 use Rattle.laws.specs.Codec.{All}
 use Rattle.laws.proofs.Lists.{flatMap-append, all-member, all-append, part-flatMap}
-use Rattle.sheet.specs.Tree.{Node, other, string, name, template, binary, object, importCall, call, importDecl, namedExport, exportFrom, exportAll, importType, importEquals, importRequire, moduleDecl, Nodes, none, more, Arguments, noArguments, argument, Properties, noProperties, spread, otherProperty, childKey, stringKey, nameKey, Attributes, without, withObject}
-use Rattle.sheet.specs.Walk.{Visit}
+use Rattle.sheet.specs.Tree.{Node, other, string, name, template, binary, object, importCall, call, importDecl, namedExport, exportFrom, exportAll}
+use Rattle.sheet.specs.Tree.{importType, importEquals, importRequire, moduleDecl, Nodes, none, more, Arguments, noArguments, argument, Properties}
+use Rattle.sheet.specs.Tree.{noProperties, spread, otherProperty, childKey, stringKey, nameKey, Attributes, without, withObject}
+use Rattle.sheet.{specs.Walk.Visit, proofs.Reaches.by-children}
 use Rattle.sheet.specs.Reached.{nodesIn, argumentsIn, propertiesIn, objectIn, children, Walked, itself, child, ownVisit, isCall, placed}
 use Rattle.sheet.specs.WalkRight.{Visited, visited, AllVisited, noNodes, first}
-use Rattle.sheet.proofs.Reaches.{by-children}
 use Rattle.sheet_codec.specs.Encode.{encodeNode, encodeNodes, encodeArguments, encodeProperties, encodeAttributes}
 use Rattle.sheet_codec.specs.Limits.{under, NodeFits, NodesFit, ArgumentsFit, PropertiesFit, AttributesFit}
 
@@ -56,7 +57,8 @@ module _ (source : List ℕ) where
   children-fit k (namedExport sp typeOnly) f = tt
   children-fit k (exportFrom sp typeOnly x a) f = tt
   children-fit k (exportAll sp typeOnly x a) f = tt
-  children-fit k (importType sp x ns a) f = all-append _ (nodesIn ns) (objectIn a) (nodes-fit (under k) ns (f .1 .1 .1 .0)) (object-fits (under k) a (f .1 .1 .1 .1))
+  children-fit k (importType sp x ns a) f = all-append _ (nodesIn ns) (objectIn a) (nodes-fit (under k) ns (f .1 .1 .1 .0))
+      (object-fits (under k) a (f .1 .1 .1 .1))
   children-fit k (importEquals sp) f = tt
   children-fit k (importRequire sp typeOnly export x) f = tt
   children-fit k (moduleDecl sp x ns) f = nodes-fit (under k) ns (f .1 .1 .1)

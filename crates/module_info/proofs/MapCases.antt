@@ -1,26 +1,18 @@
 -- One body for each way in which the report's source map and that of ECMA-426 differ, as the definitions compute.
 use Rattle.laws.proofs.Prelude.{_≡_, refl, false, List, [], _∷_, _++_, map, flatMap, Option, ℕ, _+_, length}
 use Rattle.laws.specs.Ascii.{ascii}
-use Rattle.text.specs.Ranges.{inRanges}
+use Rattle.text.specs.{Ranges.inRanges, Encode.encode, Bytes.begins}
 use Rattle.text.specs.Utf8.{admits, lengthBy, charLength, codeBy, charAt}
-use Rattle.text.specs.Encode.{encode}
 use Rattle.text.specs.Class.{outside, ranges, member, classAt, run}
-use Rattle.text.specs.Bytes.{begins}
 use Rattle.text.specs.Position.{step, walk, positionOf}
 use Rattle.analysis.specs.Letters.{foldCase, letterAt, wordAt}
 use Rattle.analysis.specs.Row.{ends, all, first, places, find}
 use Rattle.analysis.specs.Place.{placeOf}
 use Rattle.ecma426.specs.WhiteSpace.{isSpace, isOf}
 use Rattle.ecma426.specs.Reader.{oneAt, row, rowEnd, findSourceMap}
-use Rattle.sheet.specs.declared.fields.Span.{Span}
-use Rattle.sheet.specs.declared.comments.Comment.{Comment}
-use Rattle.sheet.specs.declared.names.CommentKind.the-variants.{Block}
-use Rattle.sheet.specs.declared.names.MediaType.the-variants.{TypeScript}
-use Rattle.sheet.specs.declared.names.Side.the-variants.{Trailing}
-use Rattle.sheet.specs.Comments.{opening, closing}
-use Rattle.sheet.specs.Lookups.{groupAt, bodySpan}
-use Rattle.sheet.specs.Tree.{other, none}
-use Rattle.sheet.specs.Sheet.{Sheet}
+use Rattle.sheet.specs.declared.{fields.Span.Span, comments.Comment.Comment, names.CommentKind.the-variants.Block, names.MediaType.the-variants.TypeScript}
+use Rattle.sheet.specs.{declared.names.Side.the-variants.Trailing, Comments.opening, Comments.closing, Lookups.groupAt, Lookups.bodySpan}
+use Rattle.sheet.specs.{Tree.other, Tree.none, Sheet.Sheet}
 use Rattle.report.specs.ModuleInfo.{SpecifierWithRange}
 use Rattle.pragmas.specs.Readings.{placeIn, specifierIn, readBy, firstOf, lastOf}
 use Rattle.pragmas.specs.Pragmas.{endComments, lastBy, sourceMapUrl}
@@ -92,5 +84,7 @@ abbrev computed : Case → Case
 computed c = record { bodies = c .bodies; reported = sourceMapUrl (sheetOf (c .bodies)); standard = standardMap (sheetOf (c .bodies)) }
 
 as-stated : map computed table ≡ table
-unfolding table commentsFrom sheetOf flatMap inRanges admits lengthBy charLength codeBy charAt encode outside ranges member classAt run begins step walk positionOf foldCase letterAt wordAt ends all first places find placeOf isSpace isOf oneAt row rowEnd findSourceMap groupAt bodySpan placeIn specifierIn readBy firstOf lastOf endComments lastBy readStandard standardMapIn
+unfolding table commentsFrom sheetOf flatMap inRanges admits lengthBy charLength codeBy charAt encode outside ranges member classAt run begins step walk
+    positionOf foldCase letterAt wordAt ends all first places find placeOf isSpace isOf oneAt row rowEnd findSourceMap groupAt bodySpan placeIn specifierIn
+    readBy firstOf lastOf endComments lastBy readStandard standardMapIn
 as-stated = refl

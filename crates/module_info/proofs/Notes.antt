@@ -1,26 +1,20 @@
 -- What cleared notes hold once rows are noted in them.
-use Rattle.laws.proofs.Prelude.{_≡_, refl, sym, ap, _∙_, Bool, true, false, cond, List, [], _∷_, _++_, append-nil, append-assoc, flatMap, ℕ, zero, suc, _+_, _-_, _*_, _/_, _≤_, _<_, sub-zero, add-one, arith, eqb, leb, ltb, length, getD, take, set, length-append, length-replicate, take-all, length-take-le, ltb-true, ltb-false, lt-ltb, le-ltb}
+use Rattle.laws.proofs.Prelude.{_≡_, refl, sym, ap, _∙_, Bool, true, false, cond, List, [], _∷_, _++_, append-nil, append-assoc, flatMap, ℕ, zero, suc, _+_}
+use Rattle.laws.proofs.Prelude.{_-_, _*_, _/_, _≤_, _<_, sub-zero, add-one, arith, eqb, leb, ltb, length, getD, take, set, length-append, length-replicate}
+use Rattle.laws.proofs.Prelude.{take-all, length-take-le, ltb-true, ltb-false, lt-ltb, le-ltb}
 use lib.Seq.{take-append-le}
-use Rattle.laws.specs.Decoded.{ok, no}
-use Rattle.laws.proofs.Lists.{flatMap-append}
+use Rattle.laws.{specs.Decoded.ok, specs.Decoded.no, proofs.Lists.flatMap-append}
 use Rattle.wire.specs.Refusals as refusals
-use Rattle.sheet.specs.Sheet.{Sheet, accept}
-use Rattle.sheet.specs.Judge.{judge}
+use Rattle.sheet.specs.{Sheet.Sheet, Sheet.accept, Judge.judge}
 use Rattle.sheet_codec.proofs.Refusals.{judged-sheet, judged-refusal}
-use Rattle.report.specs.declared.writer.Outcome.the-variants.{Refused}
-use Rattle.report.specs.ModuleInfo.{ModuleInfo}
-use Rattle.report.specs.Encode.{encode}
+use Rattle.report.specs.{declared.writer.Outcome.the-variants.Refused, ModuleInfo.ModuleInfo, Encode.encode}
 use Rattle.report.specs.Answer.{Answer, zeros, accepted, refusedWith, fitted, outcomeAs}
 use Rattle.pragmas.specs.Pragmas.{typesAt}
 use Rattle.arguments.specs.Argument.{replacedIn}
-use Rattle.dep_entries.specs.Entries.{Noted}
-use Rattle.dep_entries.specs.code.Notes.{allNoted}
+use Rattle.dep_entries.specs.{Entries.Noted, code.Notes.allNoted}
 use Rattle.dep_entries.specs.code.Notes as code
 use Rattle.dep.specs.Collect.{textOf, numbersOf, startsOf}
-use Rattle.dep.specs.Replaced.{NumberOf}
-use Rattle.dep.proofs.Counted.{noted-first}
-use Rattle.dep.proofs.Turns.{turns-with, noted-turns}
-use Rattle.dep.proofs.Replaced.{number-right}
+use Rattle.dep.{specs.Replaced.NumberOf, proofs.Counted.noted-first, proofs.Turns.turns-with, proofs.Turns.noted-turns, proofs.Replaced.number-right}
 use Rattle.module_info.specs.Information.{moduleInfo}
 use Rattle.module_info.specs.Replaced.{noted, notedIn, counted, held, notesWith, NotesRight}
 
@@ -70,7 +64,11 @@ module _ (room : ℕ) where
           let kept = numbersOf (take (room / 2) l) in
           let long : length (kept ++ zeros (room - length kept)) ≡ room =
           simp (length-append, length-replicate) (omega (arith, rows-long (take (room / 2) l), length-take-le (room / 2) l none)) in
-          rw (long, le-ltb (length kept + 1) room (omega (arith, rows-long (take (room / 2) l), length-take-le (room / 2) l none)), take-append-le (room / 2) l (e ∷ []) none)
+          rw (
+            long,
+            le-ltb (length kept + 1) room (omega (arith, rows-long (take (room / 2) l), length-take-le (room / 2) l none)),
+            take-append-le (room / 2) l (e ∷ []) none,
+          )
 
   note-all : (m l : List Noted) → allNoted (filled l) m ≡ filled (l ++ m)
   note-all [] l = rw (append-nil l)
@@ -124,7 +122,8 @@ refused-ten size r buffer m e = by-room (leb (length (encode m)) size) e
 pub accepted-notes : (size : ℕ) {notes : List ℕ} (l : List Noted) → notes ≡ allNoted (zeros size) l → notes ≡ notesWith size l 0
 accepted-notes size l e = e ∙ all-held size l
 
-pub refused-notes : (size room r : ℕ) {notes : List ℕ} (buffer : List ℕ) (l : List Noted) (m : ModuleInfo) → outcomeAs (Refused r) buffer ≡ fitted room (encode m) → notes ≡ zeros size
+pub refused-notes : (size room r : ℕ) {notes : List ℕ} (buffer : List ℕ) (l : List Noted) (m : ModuleInfo) →
+    outcomeAs (Refused r) buffer ≡ fitted room (encode m) → notes ≡ zeros size
     → notes ≡ notesWith size l r
 refused-notes size room r buffer l m e cleared = rw (refused-ten room r buffer m e, none-held size) cleared
 
@@ -143,7 +142,8 @@ notes-right answer = record {
   answer = answer;
   beside = λ t h. noted-first (t .source) (typesAt t) (t .root);
   rows = λ t h.
-      turns-with (noted-turns (t .source) (typesAt t) (λ v d. NumberOf v d (replacedIn (textOf v))) (λ v d e i. number-right (t .source) (typesAt t) v e) (t .root))
+      turns-with
+      (noted-turns (t .source) (typesAt t) (λ v d. NumberOf v d (replacedIn (textOf v))) (λ v d e i. number-right (t .source) (typesAt t) v e) (t .root))
       (λ v i e h. record { start = h .start; number = rw (h .number) (h .own) });
 }
 

@@ -1,13 +1,12 @@
 -- What the number of an answer says.
-use Rattle.laws.proofs.Prelude.{_≡_, refl, sym, _∙_, Bool, true, false, cond, _⊎_, inl, inr, ⊎-elim, _↔_, List, [], _++_, ℕ, _<_, arith, leb, length, length-append}
+use Rattle.laws.proofs.Prelude.{_≡_, refl, sym, _∙_, Bool, true, false, cond, _⊎_, inl, inr, ⊎-elim, _↔_, List, [], _++_, ℕ, _<_, arith, leb, length}
+use Rattle.laws.proofs.Prelude.{length-append}
 use Rattle.laws.specs.Decoded.{Decoded, ok, no}
 use Rattle.laws.proofs.Decoding.{refused}
 use Rattle.wire.specs.Refusals.{atFields, ofSheets, oneOf}
 use Rattle.wire.specs.Refusals as refusals
-use Rattle.sheet.specs.Sheet.{Sheet, accept}
-use Rattle.sheet.specs.Judge.{judge}
-use Rattle.sheet_codec.specs.SheetOf.{SheetOf}
-use Rattle.sheet_codec.proofs.Sheets.{accepts-exactly}
+use Rattle.sheet.specs.{Sheet.Sheet, Sheet.accept, Judge.judge}
+use Rattle.sheet_codec.{specs.SheetOf.SheetOf, proofs.Sheets.accepts-exactly}
 use Rattle.sheet_codec.proofs.Refusals.{passes, apart, Decision, decided, cut-off, judged-sheet, judged-refusal, one, at-field, eight, nine, stays}
 use Rattle.report.specs.Encode.{encode}
 use Rattle.report.specs.Answer.{accepted, refusedWith, fitted}
@@ -19,7 +18,8 @@ report-number : (size : ℕ) (bytes : List ℕ) → (fitted size bytes .number �
 unfolding fitted
 report-number size bytes = go (leb (length bytes) size)
   where
-    go : (b : Bool) → (cond b (accepted size bytes) (refusedWith refusals.buffer size) .number ≡ 0) ⊎ (cond b (accepted size bytes) (refusedWith refusals.buffer size) .number ≡ refusals.buffer)
+    go : (b : Bool) → (cond b (accepted size bytes) (refusedWith refusals.buffer size) .number
+        ≡ 0) ⊎ (cond b (accepted size bytes) (refusedWith refusals.buffer size) .number ≡ refusals.buffer)
     go true = inl refl
     go false = inr refl
 
@@ -43,7 +43,8 @@ unfolding oneOf
 number-refusal s size among = by (decided s)
   where
     neither : (answerOf s size .number ≡ 0) ⊎ (answerOf s size .number ≡ refusals.buffer) → ⊥
-    neither n = ⊎-elim (λ (i : answerOf s size .number ≡ 0). apart ofSheets among i refl) (λ (i : answerOf s size .number ≡ refusals.buffer). apart ofSheets among i refl) n
+    neither n = ⊎-elim (λ (i : answerOf s size .number ≡ 0). apart ofSheets among i refl)
+        (λ (i : answerOf s size .number ≡ refusals.buffer). apart ofSheets among i refl) n
 
     by : Decision s → (0 < length s) × (accept s ≡ no (answerOf s size .number))
     by (Decision.empty e) = absurd (neither (empty-number s size e))

@@ -1,11 +1,9 @@
 -- Request #104 beside the rule before it: of a sheet's information only the references can differ, and they do exactly where both patterns read a comment of
 -- the head group.
 use Rattle.laws.proofs.Prelude.{_≡_, ap, _↔_, List·Memᴰ}
-use Rattle.sheet.specs.declared.comments.Comment.{Comment}
-use Rattle.sheet.specs.Sheet.{Sheet}
+use Rattle.sheet.specs.{declared.comments.Comment.Comment, Sheet.Sheet}
 use Rattle.report.specs.ModuleInfo.{ModuleInfo}
-use Rattle.pragmas.specs.Readings.{allOf}
-use Rattle.pragmas.specs.Pragmas.{headComments, referencesIn}
+use Rattle.pragmas.specs.{Readings.allOf, Pragmas.headComments, Pragmas.referencesIn}
 use Rattle.pragmas.proofs.PathFirst.{pathFirst, BothRead, same-references}
 use Rattle.module_info.specs.Information.{moduleInfo}
 

@@ -1,31 +1,20 @@
 -- The report of a sheet within the limits can be written and read back, and its texts are well-formed.
 use Rattle.laws.proofs.Prelude.{_≡_, refl, [], _∷_, List·Memᴰ, Option, ℕ, _≤_, arith, length, length-append}
-use Rattle.laws.specs.Codec.{All, IfThere}
-use Rattle.laws.proofs.Lists.{all-member, of-members}
+use Rattle.laws.{specs.Codec.All, specs.Codec.IfThere, proofs.Lists.all-member, proofs.Lists.of-members}
 use Rattle.analysis.specs.Row.{Row}
 use Rattle.analysis.specs.Patterns.{jsxImportSourceRow, jsxImportSourceTypesRow, sourceMappingUrlRow, tsSelfTypesRow}
-use Rattle.sheet.specs.Limits.{sheetLimit}
-use Rattle.sheet.specs.Walk.{Visit, visits}
-use Rattle.sheet.specs.Sheet.{Sheet}
-use Rattle.sheet.proofs.Reaches.{walk-right}
-use Rattle.sheet_codec.specs.Encode.{encodeSheet, encodeNode}
-use Rattle.sheet_codec.specs.Limits.{WithinLimits}
+use Rattle.sheet.{specs.Limits.sheetLimit, specs.Walk.Visit, specs.Walk.visits, specs.Sheet.Sheet, proofs.Reaches.walk-right}
+use Rattle.sheet_codec.specs.{Encode.encodeSheet, Encode.encodeNode, Limits.WithinLimits}
 use Rattle.report.specs.ModuleInfo.{SpecifierWithRange, TypeScriptReference, path, types, DependencyDescriptor, ModuleInfo}
-use Rattle.report.specs.Texts.{ReferenceText, EachText}
-use Rattle.report.specs.Valid.{ValidReference, Valid}
-use Rattle.report.proofs.ReadBack.{report-back}
+use Rattle.report.{specs.Texts.ReferenceText, specs.Texts.EachText, specs.Valid.ValidReference, specs.Valid.Valid, proofs.ReadBack.report-back}
 use Rattle.report.proofs.Stands.{Good}
-use Rattle.pragmas.specs.Pragmas.{typesAt}
-use Rattle.pragmas.specs.Present.{Present}
+use Rattle.pragmas.specs.{Pragmas.typesAt, Present.Present}
 use Rattle.pragmas.specs.Texts.{ShownInMarks, ShownBare, TypesShown, Texts}
 use Rattle.pragmas.proofs.Valid.{marks-shown, bare-shown, types-shown-good, GoodReference, references-good, references-few}
-use Rattle.jsdoc_list.specs.Demand.{JsDocRight}
-use Rattle.jsdoc_list.proofs.Valid.{imports-good, imports-few}
-use Rattle.dep.specs.Collect.{entryOf}
-use Rattle.dep.specs.InTurn.{InTurn, Worded}
+use Rattle.jsdoc_list.{specs.Demand.JsDocRight, proofs.Valid.imports-good, proofs.Valid.imports-few}
+use Rattle.dep.specs.{Collect.entryOf, InTurn.InTurn, InTurn.Worded}
 use Rattle.dep.proofs.Turns.{turn-member, turns-few, turns-with}
-use Rattle.module_info.specs.Information.{moduleInfo}
-use Rattle.module_info.specs.Report.{ReportRight}
+use Rattle.module_info.specs.{Information.moduleInfo, Report.ReportRight}
 use Rattle.module_info.proofs.Inside.{visits-few}
 use Rattle.module_info.proofs.Fine.{Text, Fine, walked-fine, good-valid, good-text}
 
@@ -38,19 +27,23 @@ if-good P f Option.none p = tt
 if-good P f (Option.some x) p = f x p
 
 module _ (t : Sheet) (h : WithinLimits t) (typed : (start : ℕ) → IfThere (TypesShown t) (typesAt t start)) where
-  entry-fine : (v : Visit) → List·Memᴰ v (visits (t .root)) → (d : DependencyDescriptor) → entryOf (t .source) (typesAt t) v ≡ d ∷ [] → Fine (Worded (t .source) v) d
+  entry-fine : (v : Visit) → List·Memᴰ v (visits (t .root)) → (d : DependencyDescriptor) → entryOf (t .source) (typesAt t) v ≡ d ∷ [] →
+      Fine (Worded (t .source) v) d
   entry-fine v i d e =
       let (n, w, o) = walk-right (t .root) .of-walked v i in
-      walked-fine (t .source) (h .fields .source .0) (typesAt t) (λ start. if-good (TypesShown t) (λ x s. types-shown-good t (h .fields .source .0) (h .fields .source .1) s) (typesAt t start) (typed start))
+      walked-fine (t .source) (h .fields .source .0) (typesAt t)
+      (λ start. if-good (TypesShown t) (λ x s. types-shown-good t (h .fields .source .0) (h .fields .source .1) s) (typesAt t start) (typed start))
       w o (h .fields .root) (root-bytes t h) e
 
   -- each entry of the visits, in turn
   pub entries-fine : {P : Visit → DependencyDescriptor → Type 0} → ((v : Visit) (d : DependencyDescriptor) → P v d → entryOf (t .source) (typesAt t) v ≡ d ∷ [])
-      → InTurn P (visits (t .root)) (moduleInfo t .dependencies) → InTurn (λ v d. P v d × Fine (Worded (t .source) v) d) (visits (t .root)) (moduleInfo t .dependencies)
+      → InTurn P (visits (t .root)) (moduleInfo t .dependencies) →
+      InTurn (λ v d. P v d × Fine (Worded (t .source) v) d) (visits (t .root)) (moduleInfo t .dependencies)
   entries-fine is turns = turns-with turns (λ v i d p. (p, entry-fine v i d (is v d p)))
 
   module _ (turns : InTurn (λ v d. Fine (Worded (t .source) v) d) (visits (t .root)) (moduleInfo t .dependencies))
-      (present : Present t (moduleInfo t)) (texts : Texts t (moduleInfo t)) (right : JsDocRight (t .media) (t .source) (t .comments) (moduleInfo t .jsdocImports)) where
+      (present : Present t (moduleInfo t)) (texts : Texts t (moduleInfo t))
+      (right : JsDocRight (t .media) (t .source) (t .comments) (moduleInfo t .jsdocImports)) where
     abbrev m : ModuleInfo
     m = moduleInfo t
 
@@ -58,7 +51,8 @@ module _ (t : Sheet) (h : WithinLimits t) (typed : (start : ℕ) → IfThere (Ty
     bare row = if-good (ShownBare row t) (λ x s. bare-shown t (h .fields .source .0) (h .fields .source .1) s)
 
     self-types : IfThere Good (m .selfTypesSpecifier)
-    self-types = if-good (ShownInMarks tsSelfTypesRow t) (λ x s. marks-shown t (h .fields .source .0) (h .fields .source .1) s) (m .selfTypesSpecifier) (texts .self-types)
+    self-types = if-good (ShownInMarks tsSelfTypesRow t) (λ x s. marks-shown t (h .fields .source .0) (h .fields .source .1) s) (m .selfTypesSpecifier)
+        (texts .self-types)
 
     jsx : IfThere Good (m .jsxImportSource)
     jsx = bare jsxImportSourceRow (m .jsxImportSource) (texts .jsx-import-source)

@@ -1,30 +1,21 @@
 -- Where one comment is reworded, all that does not come from it stays.
-use Rattle.laws.proofs.Prelude.{_≡_, refl, sym, _∙_, true, List, [], _∷_, flatMap, List·Memᴰ, List·Memᴰ·head, List·Memᴰ·tail, Option, ℕ, _<_, ℕ-discrete, length}
+use Rattle.laws.proofs.Prelude.{_≡_, refl, sym, _∙_, true, List, [], _∷_, flatMap, List·Memᴰ, List·Memᴰ·head, List·Memᴰ·tail, Option, ℕ, _<_, ℕ-discrete}
+use Rattle.laws.proofs.Prelude.{length}
 use mathlib.Core.Path.{subst}
-use Rattle.laws.specs.Codec.{All}
-use Rattle.laws.proofs.Lists.{all-member, of-members}
-use Rattle.text.specs.declared.utf8.Encoding.the-variants.{Utf8}
-use Rattle.text.specs.Utf8.{formed}
-use Rattle.text.proofs.WellFormed.{well-formed-iff}
-use Rattle.sheet.specs.declared.comments.Comment.{Comment}
-use Rattle.sheet.specs.declared.groups.Group.{Group}
-use Rattle.sheet.specs.declared.names.Side.the-variants.{Leading}
-use Rattle.sheet.specs.Fit.{Fit}
+use Rattle.laws.{specs.Codec.All, proofs.Lists.all-member, proofs.Lists.of-members}
+use Rattle.text.{specs.declared.utf8.Encoding.the-variants.Utf8, specs.Utf8.formed, proofs.WellFormed.well-formed-iff}
+use Rattle.sheet.specs.{declared.comments.Comment.Comment, declared.groups.Group.Group, declared.names.Side.the-variants.Leading, Fit.Fit, Recorded.spans}
 use Rattle.sheet.specs.Lookups.{groupAt, headGroup, endGroup}
-use Rattle.sheet.specs.Recorded.{spans}
-use Rattle.sheet.specs.Revision.{Lacks, Revision}
-use Rattle.sheet.specs.Sheet.{Sheet}
+use Rattle.sheet.{specs.Revision.Lacks, specs.Revision.Revision, specs.Sheet.Sheet, proofs.VisitSpans.Reported, proofs.VisitSpans.visits-reported}
 use Rattle.sheet.specs.Walk.{Visit, startOf, visits}
-use Rattle.sheet.proofs.VisitSpans.{Reported, visits-reported}
 use Rattle.sheet.proofs.Revised.{Alike, Apart, characters-kept, units-kept, spans-apart, others-alike, group-alike}
 use Rattle.sheet_codec.specs.Limits.{FieldsFit}
 use Rattle.report.specs.ModuleInfo.{SpecifierWithRange}
 use Rattle.pragmas.specs.Pragmas.{inGroup, headComments, endComments, typesAt}
 use Rattle.pragmas.proofs.Texts.{comment-index}
-use Rattle.pragmas.proofs.Revised.{references-kept, self-types-kept, jsx-import-source-kept, jsx-import-source-types-kept, head-origins-kept, source-map-kept, end-origins-kept, types-kept, types-origins-kept}
-use Rattle.jsdoc_list.specs.ByComment.{givenBy}
-use Rattle.jsdoc_list.specs.Imports.{jsdocImports}
-use Rattle.jsdoc_list.proofs.ByComment.{by-comment}
+use Rattle.pragmas.proofs.Revised.{references-kept, self-types-kept, jsx-import-source-kept, jsx-import-source-types-kept, head-origins-kept}
+use Rattle.pragmas.proofs.Revised.{source-map-kept, end-origins-kept, types-kept, types-origins-kept}
+use Rattle.jsdoc_list.{specs.ByComment.givenBy, specs.Imports.jsdocImports, proofs.ByComment.by-comment}
 use Rattle.jsdoc_list.proofs.Revised.{given-kept, origins-kept}
 use Rattle.dep.specs.Collect.{entryOf, collect}
 use Rattle.dep.proofs.Revised.{collect-each, SameRange, entry-kept, rows-kept}
@@ -43,7 +34,8 @@ withSource t source = record { media = t .media; source = source; comments = t .
 module _ {t u : Sheet} {k : ℕ} (r : Revision t u k) where
   -- the second sheet is the first with its own source
   with-its-source : withSource t (u .source) ≡ u
-  with-its-source = λ i. record { media = r .media i; source = u .source; comments = r .comments i; groups = r .groups i; program = r .program i; root = r .root i }
+  with-its-source =
+      λ i. record { media = r .media i; source = u .source; comments = r .comments i; groups = r .groups i; program = r .program i; root = r .root i }
 
   -- the ranges that the visits report
   ranges : All (Reported (SameRange (t .source) (u .source))) (visits (t .root))
@@ -57,7 +49,8 @@ module _ {t u : Sheet} {k : ℕ} (r : Revision t u k) where
       → entryOf (t .source) types v ≡ entryOf (u .source) types′ v
   by-types types types′ v m e = entry-kept (t .source) (u .source) types types′ v (all-member _ (visits (t .root)) ranges m) e
 
-  module _ (f : formed Utf8 0 (t .source) ≡ true) (fit : Fit (t .source) (t .comments)) (f′ : formed Utf8 0 (u .source) ≡ true) (fit′ : Fit (u .source) (t .comments)) where
+  module _ (f : formed Utf8 0 (t .source) ≡ true) (fit : Fit (t .source) (t .comments)) (f′ : formed Utf8 0 (u .source) ≡ true)
+      (fit′ : Fit (u .source) (t .comments)) where
     abbrev second : Sheet
     second = withSource t (u .source)
 
@@ -93,7 +86,8 @@ module _ {t u : Sheet} {k : ℕ} (r : Revision t u k) where
     end-origins lacks = end-origins-kept (t .source) (u .source) (endComments t) (in-group (endGroup (t .program) (t .groups)) lacks)
 
     entry : (v : Visit) → List·Memᴰ v (visits (t .root)) → Lacks k (groupAt (t .groups) Leading (startOf v)) → dependencyOf t v ≡ dependencyOf second v
-    entry v m lacks = by-types (typesAt t) (typesAt second) v m (types-kept (t .source) (u .source) (t .comments) (t .groups) (startOf v) (in-group (groupAt (t .groups) Leading (startOf v)) lacks))
+    entry v m lacks = by-types (typesAt t) (typesAt second) v m
+        (types-kept (t .source) (u .source) (t .comments) (t .groups) (startOf v) (in-group (groupAt (t .groups) Leading (startOf v)) lacks))
 
     -- where no rule is given the reworded comment
     module _ (a : Aside t second k) where

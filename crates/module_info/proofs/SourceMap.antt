@@ -1,42 +1,25 @@
 -- The source map by ECMA-426: an answer that stands for `sourceMapOf` is right, whatever the bytes.
 use Rattle.laws.proofs.Prelude.{_≡_, refl, sym, _∙_, true, _↔_, List, [], Option, ℕ, _+_, _-_, _≤_, _<_, arith, length, take, drop, drop-drop}
-use Rattle.laws.specs.Decoded.{ok, no}
-use Rattle.laws.proofs.Lists.{part-part}
-use Rattle.text.specs.declared.utf8.Encoding.the-variants.{Utf8}
-use Rattle.text.specs.Position.{characters}
-use Rattle.text.specs.Bytes.{part}
-use Rattle.text.proofs.Columns.{counted}
+use Rattle.laws.{specs.Decoded.ok, specs.Decoded.no, proofs.Lists.part-part}
+use Rattle.text.{specs.declared.utf8.Encoding.the-variants.Utf8, specs.Position.characters, specs.Bytes.part, proofs.Columns.counted}
 use Rattle.text.proofs.WellFormed.{well-formed-iff}
 use Rattle.wire.specs.Refusals.{ofSheets, oneOf}
 use Rattle.analysis.specs.Place.{textOf}
-use Rattle.sheet.specs.declared.groups.Group.{Group}
-use Rattle.sheet.specs.Sheet.{Sheet, accept}
-use Rattle.sheet.specs.Judge.{judge}
-use Rattle.sheet.specs.code.Tables.{commentsIn, groupsIn}
-use Rattle.sheet.specs.code.Views.{programOf}
+use Rattle.sheet.specs.{declared.groups.Group.Group, Sheet.Sheet, Sheet.accept, Judge.judge, code.Tables.commentsIn, code.Tables.groupsIn}
+use Rattle.sheet.{specs.code.Views.programOf, proofs.Bodies.placed-body}
 use Rattle.sheet.specs.Lookups.{endGroup, bodySpan, body}
-use Rattle.sheet.proofs.Bodies.{placed-body}
-use Rattle.sheet_codec.specs.Limits.{FieldsFit}
-use Rattle.sheet_codec.proofs.Sheets.{accepts-exactly}
+use Rattle.sheet_codec.{specs.Limits.FieldsFit, proofs.Sheets.accepts-exactly}
 use Rattle.sheet_codec.proofs.Refusals.{Decision, decided, judged-sheet, judged-refusal}
-use Rattle.sheet_check.specs.declared.check.Parts.{Parts}
-use Rattle.sheet_check.proofs.Lent.{part-length}
+use Rattle.sheet_check.{specs.declared.check.Parts.Parts, proofs.Lent.part-length}
 use Rattle.report.specs.ModuleInfo.{SpecifierWithRange}
-use Rattle.pragmas.specs.declared.readings.RuleRead.{RuleRead}
+use Rattle.pragmas.specs.declared.readings.{RuleRead.RuleRead, Counts.the-variants.Last, Rule.the-variants.StandardSourceMap}
 use Rattle.pragmas.specs.declared.readings.RuleRead.the-variants as reading
-use Rattle.pragmas.specs.declared.readings.Counts.the-variants.{Last}
-use Rattle.pragmas.specs.declared.readings.Rule.the-variants.{StandardSourceMap}
-use Rattle.pragmas.specs.Readings.{specifierIn, lastOf}
-use Rattle.pragmas.specs.Pragmas.{inGroup, endComments}
+use Rattle.pragmas.specs.{Readings.specifierIn, Readings.lastOf, Pragmas.inGroup, Pragmas.endComments}
 use Rattle.pragmas.specs.SourceMap.{readStandard, standardMapIn, standardMap}
 use Rattle.pragmas.specs.code.Views.{takenBy, takenAs, readAs, ReadIn}
-use Rattle.pragmas.proofs.SourceMap.{standard-present, standard-shown}
-use Rattle.pragmas.proofs.Taken.{read-counted}
-use Rattle.module_info.specs.declared.source_map.SourceMap.{SourceMap}
-use Rattle.module_info.specs.Information.{answerOf}
+use Rattle.pragmas.proofs.{SourceMap.standard-present, SourceMap.standard-shown, Taken.read-counted}
+use Rattle.module_info.specs.{declared.source_map.SourceMap.SourceMap, Information.answerOf, code.Pieces.PartsOf, code.Located.located}
 use Rattle.module_info.specs.SourceMap.{given, refused, sourceMapOf, mapAs, TextInside, MapRight, SourceMapRight}
-use Rattle.module_info.specs.code.Pieces.{PartsOf}
-use Rattle.module_info.specs.code.Located.{located}
 use Rattle.module_info.proofs.Numbers.{refusal-number, number-refusal}
 
 never : {o : Option SpecifierWithRange} {n : ℕ} → given o ≡ refused n → ⊥

@@ -1,30 +1,20 @@
 -- What the functions write one after the other is the report in pieces, and the pieces are the report.
 use Rattle.laws.proofs.Prelude.{_≡_, sym, List, [], Option, ℕ, drop}
 use Rattle.laws.specs.Decoded.{ok}
-use Rattle.wire.specs.Fields.{encodeFlag}
-use Rattle.wire.specs.Optional.{encodeOptional}
-use Rattle.sheet.specs.Limits.{depthLimit}
-use Rattle.sheet.specs.declared.groups.Group.{Group}
-use Rattle.sheet.specs.Tree.{Node}
-use Rattle.sheet.specs.Nodes.{node}
-use Rattle.sheet.specs.Walked.{entries}
-use Rattle.sheet.specs.Sheet.{Sheet}
-use Rattle.sheet.specs.code.Tables.{commentsIn, groupsIn}
-use Rattle.sheet.specs.code.Views.{programOf}
-use Rattle.sheet.specs.Lookups.{headGroup, endGroup}
+use Rattle.wire.specs.{Fields.encodeFlag, Optional.encodeOptional}
+use Rattle.sheet.specs.{Limits.depthLimit, declared.groups.Group.Group, Tree.Node, Nodes.node, Walked.entries, Sheet.Sheet}
+use Rattle.sheet.specs.{code.Tables.commentsIn, code.Tables.groupsIn, code.Views.programOf, Lookups.headGroup, Lookups.endGroup}
 use Rattle.sheet_nodes.specs.code.Reach.{ReachesIn}
 use Rattle.sheet_check.specs.declared.check.Parts.{Parts}
 use Rattle.report.specs.Encode.{encodeList, encodeSpecifier, encodeReference, encodeJsDoc, encodeDependency, encode}
-use Rattle.report.specs.Buffer.{Buffer, wrote}
-use Rattle.report.proofs.Buffers.{wrote-append, wrote-cons}
+use Rattle.report.{specs.Buffer.Buffer, specs.Buffer.wrote, proofs.Buffers.wrote-append, proofs.Buffers.wrote-cons}
 use Rattle.pragmas.specs.Asks.{selfTypesRule, jsxImportSourceRule, jsxImportSourceTypesRule, sourceMapUrlRule}
 use Rattle.pragmas.specs.Readings.{readBy, lastOf}
 use Rattle.pragmas.specs.Pragmas.{inGroup, headComments, endComments, referencesIn, firstBy, lastBy, typesIn}
 use Rattle.jsdoc_list.specs.Imports.{jsdocImports}
 use Rattle.dep_entries.specs.code.Notes.{allNoted}
 use Rattle.dep.specs.Collect.{collect, collectNoted}
-use Rattle.module_info.specs.Information.{moduleInfo}
-use Rattle.module_info.specs.Replaced.{noted}
+use Rattle.module_info.specs.{Information.moduleInfo, Replaced.noted}
 use Rattle.module_info.specs.code.Pieces.{dependencyBytes, headBytes, restBytes, PartsOf, RootOf}
 
 module _ {t : Sheet} {source comments groups : List ℕ} {p : Parts} (o : PartsOf t source comments groups p) where
@@ -53,7 +43,20 @@ module _ {t : Sheet} {source comments groups : List ℕ} {p : Parts} (o : PartsO
         → y ≡ wrote u (headBytes t)
     unfolding headBytes headComments
     head-written u found references self jsx jsxTypes =
-        rw (← o .media, ← o .source-is, ← o .comments-are, ← o .groups-are, ← o .program, ← found, wrote-append, ← references, wrote-append, ← self, wrote-append, ← jsx)
+        rw (
+          ← o .media,
+          ← o .source-is,
+          ← o .comments-are,
+          ← o .groups-are,
+          ← o .program,
+          ← found,
+          wrote-append,
+          ← references,
+          wrote-append,
+          ← self,
+          wrote-append,
+          ← jsx,
+        )
         jsxTypes
 
     pub rest-written : (u : Buffer) {v w : Buffer} → f ≡ endGroup (programOf (p .program)) (groupsIn groups (p .groups))
@@ -61,8 +64,7 @@ module _ {t : Sheet} {source comments groups : List ℕ} {p : Parts} (o : PartsO
         → w ≡ wrote v (encodeOptional encodeSpecifier (lastOf (readBy sourceMapUrlRule source) (inGroup (commentsIn comments (p .comments)) f)))
         → w ≡ wrote u (restBytes t)
     unfolding restBytes endComments lastBy
-    rest-written u found imports map =
-        rw (← o .media, ← o .source-is, ← o .comments-are, ← o .groups-are, ← o .program, ← found, wrote-append, ← imports) map
+    rest-written u found imports map = rw (← o .media, ← o .source-is, ← o .comments-are, ← o .groups-are, ← o .program, ← found, wrote-append, ← imports) map
 
 -- the three pieces are the report
 pub report-written : (t : Sheet) (u : Buffer) {v w x : Buffer} → v ≡ wrote u (dependencyBytes t) → w ≡ wrote v (headBytes t) → x ≡ wrote w (restBytes t)

@@ -1,12 +1,9 @@
 -- The line for an answer: written piece by piece, and how long it is.
-use Rattle.laws.proofs.Prelude.{_≡_, sym, ap, _∙_, List, [], _∷_, _++_, flatMap, ℕ, _+_, _*_, _-_, _≤_, code, arith, length, take, drop, length-append, length-take, length-drop}
-use Rattle.report.specs.Buffer.{Buffer, wrote}
-use Rattle.report.proofs.Buffers.{wrote-append}
-use Rattle.citation.specs.Citation.{escaped}
-use Rattle.citation.proofs.Lengths.{digits-most, text-short}
-use Rattle.delivery.specs.Order.{notInOrder, refused}
-use Rattle.delivery.specs.code.Views.{judgementAs}
-use Rattle.delivery.specs.declared.judge.Judgement.{Judgement}
+use Rattle.laws.proofs.Prelude.{_≡_, sym, ap, _∙_, List, [], _∷_, _++_, flatMap, ℕ, _+_, _*_, _-_, _≤_, code, arith, length, take, drop, length-append}
+use Rattle.laws.proofs.Prelude.{length-take, length-drop}
+use Rattle.report.{specs.Buffer.Buffer, specs.Buffer.wrote, proofs.Buffers.wrote-append}
+use Rattle.citation.{specs.Citation.escaped, proofs.Lengths.digits-most, proofs.Lengths.text-short}
+use Rattle.delivery.specs.{Order.notInOrder, Order.refused, code.Views.judgementAs, declared.judge.Judgement.Judgement}
 use Rattle.delivery.specs.declared.judge.Judgement.the-variants as judgement
 use Rattle.order.specs.Printed.{counted, printedAnswer}
 

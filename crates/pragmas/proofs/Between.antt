@@ -2,16 +2,11 @@
 use Rattle.laws.proofs.Prelude.{_≡_, refl, ap, List, [], _∷_, _++_, flatMap, Option, ℕ, suc, _+_, _-_, _≤_, _<_, add-one, arith, length}
 use mathlib.Core.List.{reverse-append}
 use native.Mathlib.Nat.{sub-eq-zero-of-le}
-use Rattle.sheet.specs.declared.comments.Comment.{Comment}
-use Rattle.sheet.specs.declared.groups.Group.{Group}
+use Rattle.sheet.specs.{declared.comments.Comment.Comment, declared.groups.Group.Group, Fit.Reaching, Lookups.commentsOf}
 use Rattle.sheet.specs.code.Tables.{rows, commentIn, commentsIn}
-use Rattle.sheet.specs.Fit.{Reaching}
-use Rattle.sheet.specs.Lookups.{commentsOf}
-use Rattle.sheet.proofs.TableRows.{rows-more}
-use Rattle.sheet.proofs.Members.{group-comments}
+use Rattle.sheet.proofs.{TableRows.rows-more, Members.group-comments}
 use Rattle.report.specs.ModuleInfo.{TypeScriptReference}
-use Rattle.pragmas.specs.declared.readings.Counts.{Counts}
-use Rattle.pragmas.specs.declared.readings.Counts.the-variants.{First, Last}
+use Rattle.pragmas.specs.declared.readings.Counts.{Counts, the-variants.First, the-variants.Last}
 use Rattle.pragmas.specs.declared.references.Reference.{Reference}
 use Rattle.pragmas.specs.declared.references.Reference.the-variants as reference
 use Rattle.pragmas.specs.Readings.{orElse, firstOf, lastOf, listed, allOf}

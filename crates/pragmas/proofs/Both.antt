@@ -1,7 +1,7 @@
 -- Two rules side by side: what holds of their answers of each comment holds of their first answers, of their last and of all.
-use Rattle.laws.proofs.Prelude.{_≡_, refl, ap, _⊎_, inl, inr, ⊎-elim, List, [], _∷_, List·Memᴰ, List·Memᴰ·head, List·Memᴰ·tail, List·Memᴰ·not-nil, List·Memᴰ·cases-cons, Option}
-use mathlib.Core.List.{reverse, reverseAux}
-use mathlib.Core.Option.{Option·map}
+use Rattle.laws.proofs.Prelude.{_≡_, refl, ap, _⊎_, inl, inr, ⊎-elim, List, [], _∷_, List·Memᴰ, List·Memᴰ·head, List·Memᴰ·tail, List·Memᴰ·not-nil}
+use Rattle.laws.proofs.Prelude.{List·Memᴰ·cases-cons, Option}
+use mathlib.Core.{List.reverse, List.reverseAux, Option.Option·map}
 use Rattle.laws.specs.Aligned.{Aligned}
 use Rattle.sheet.specs.declared.comments.Comment.{Comment}
 use Rattle.pragmas.specs.Readings.{orElse, firstOf, lastOf, listed, allOf}

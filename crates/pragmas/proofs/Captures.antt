@@ -1,12 +1,9 @@
 -- Where a capture in the body of a comment stands in the source.
 use Rattle.laws.proofs.Prelude.{List, ℕ, arith}
-use Rattle.analysis.specs.declared.Capture.{Capture}
-use Rattle.analysis.specs.Place.{placeOf}
-use Rattle.sheet.specs.declared.comments.Comment.{Comment}
-use Rattle.sheet.proofs.Bodies.{placed-body}
+use Rattle.analysis.specs.{declared.Capture.Capture, Place.placeOf}
+use Rattle.sheet.{specs.declared.comments.Comment.Comment, proofs.Bodies.placed-body}
 use Rattle.report.specs.Range.{InSource}
-use Rattle.pragmas.specs.Readings.{placeIn}
-use Rattle.pragmas.specs.code.Views.{CaptureIn}
+use Rattle.pragmas.specs.{Readings.placeIn, code.Views.CaptureIn}
 
 -- the places of the body are places of the source
 pub capture-within : (source : List ℕ) (c : Comment) (k : Capture) → CaptureIn source c k → InSource source (placeIn c k)

@@ -3,14 +3,9 @@ use Rattle.laws.proofs.Prelude.{_≡_, refl, ap, _∙_, inr, List, [], _∷_, �
 use mathlib.Core.Path.{subst}
 use Rattle.laws.specs.Ascii.{ascii}
 use Rattle.text.specs.Position.{step, walk, positionOf}
-use Rattle.sheet.specs.declared.fields.Span.{Span}
-use Rattle.sheet.specs.Comments.{slice}
-use Rattle.sheet.specs.Sheet.{Sheet}
-use Rattle.report.specs.ModuleInfo.{SpecifierWithRange, path}
-use Rattle.report.specs.Stands.{InMarks, StandsAt}
-use Rattle.report.proofs.RangesApart.{range-at}
-use Rattle.pragmas.specs.Readings.{placeIn}
-use Rattle.pragmas.specs.Texts.{ReferenceShown}
+use Rattle.sheet.specs.{declared.fields.Span.Span, Comments.slice, Sheet.Sheet}
+use Rattle.report.{specs.ModuleInfo.SpecifierWithRange, specs.ModuleInfo.path, specs.Stands.InMarks, specs.Stands.StandsAt, proofs.RangesApart.range-at}
+use Rattle.pragmas.specs.{Readings.placeIn, Texts.ReferenceShown}
 
 abbrev source : List ℕ
 source = ascii "///<reference path='' />"
@@ -37,4 +32,5 @@ nowhere place s =
 
 -- no sheet with this source may list it there
 pub without-marks : (t : Sheet) → t .source ≡ source → ReferenceShown t (path (empty 20 20)) → ⊥
-without-marks t e r = nowhere (placeIn (r .comment) (r .read .capture)) (subst (λ (s : List ℕ). StandsAt InMarks s (empty 20 20) (placeIn (r .comment) (r .read .capture))) e (r .stands))
+without-marks t e r = nowhere (placeIn (r .comment) (r .read .capture))
+    (subst (λ (s : List ℕ). StandsAt InMarks s (empty 20 20) (placeIn (r .comment) (r .read .capture))) e (r .stands))

@@ -2,19 +2,16 @@
 use Rattle.laws.proofs.Prelude.{_≡_, refl, inl, inr, List, List·Memᴰ, Option, ℕ}
 use mathlib.Core.Option.{Option·map}
 use Rattle.laws.specs.Aligned.{Aligned}
-use Rattle.sheet.specs.declared.comments.Comment.{Comment}
-use Rattle.sheet.specs.declared.groups.Group.{Group}
-use Rattle.sheet.specs.declared.names.MediaType.{MediaType}
-use Rattle.sheet.specs.declared.names.Side.the-variants.{Leading}
+use Rattle.sheet.specs.declared.{comments.Comment.Comment, groups.Group.Group, names.MediaType.MediaType, names.Side.the-variants.Leading}
 use Rattle.sheet.specs.Lookups.{groupAt}
 use Rattle.report.specs.ModuleInfo.{SpecifierWithRange, TypeScriptReference}
 use Rattle.pragmas.specs.Asks.{Asks, sourceMapUrlRule, tsTypesRule, denoTypesRule}
 use Rattle.pragmas.specs.Readings.{readBy, allOf, optional}
 use Rattle.pragmas.specs.Pragmas.{givenTo, reference, referencesIn, firstBy, lastBy, tsOrDenoTypes, typesBy, lastIn, typesIn}
 use Rattle.pragmas.specs.Present.{byReference}
-use Rattle.pragmas.specs.Origins.{originOf, originBy, ruleOf, referenceOrigin, firstOrigin, endOrigins, tsOrDenoOrigin, typesOrigin, typesOrigins, SpecifierFrom, ReferenceFrom, TypesFrom}
-use Rattle.pragmas.proofs.Present.{ruled, referring}
-use Rattle.pragmas.proofs.Texts.{given-member, last-in}
+use Rattle.pragmas.specs.Origins.{originOf, originBy, ruleOf, referenceOrigin, firstOrigin, endOrigins, tsOrDenoOrigin, typesOrigin, typesOrigins}
+use Rattle.pragmas.specs.Origins.{SpecifierFrom, ReferenceFrom, TypesFrom}
+use Rattle.pragmas.proofs.{Present.ruled, Present.referring, Texts.given-member, Texts.last-in}
 use Rattle.pragmas.proofs.Both.{Both, both-map, both-else, both-optional, both-first, both-last, both-all}
 
 module _ (source : List ℕ) where
@@ -49,7 +46,8 @@ module _ (source : List ℕ) where
         → Aligned (SpecifierFrom rule source cs) (optional (firstBy rule media source cs)) (optional (firstOrigin rule media source cs))
     unfolding firstBy firstOrigin
     first-from rule media =
-        both-optional (both-first (readBy rule source) (originBy rule source) (givenTo rule media cs) (λ c m. answered rule c (given-member (rule .media media) cs m)))
+        both-optional
+        (both-first (readBy rule source) (originBy rule source) (givenTo rule media cs) (λ c m. answered rule c (given-member (rule .media media) cs m)))
 
     pub source-map-from : (media : MediaType)
         → Aligned (SpecifierFrom sourceMapUrlRule source cs) (optional (lastBy sourceMapUrlRule media source cs)) (endOrigins source cs)

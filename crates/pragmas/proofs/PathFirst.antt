@@ -1,16 +1,13 @@
 -- Against the rule before request #104, by which the path pattern came first: the two differ exactly in the comments that both patterns read, and there
 -- the answer is the types one.
-use Rattle.laws.proofs.Prelude.{_≡_, refl, sym, ap, _∙_, Bool, true, false, cond, false≢true, ⊎-elim, _↔_, List, [], _∷_, List·Memᴰ, List·Memᴰ·head, List·Memᴰ·tail, List·Memᴰ·cases-cons, List·Memᴰ·not-nil, Option, ℕ, arith}
+use Rattle.laws.proofs.Prelude.{_≡_, refl, sym, ap, _∙_, Bool, true, false, cond, false≢true, ⊎-elim, _↔_, List, [], _∷_, List·Memᴰ, List·Memᴰ·head}
+use Rattle.laws.proofs.Prelude.{List·Memᴰ·tail, List·Memᴰ·cases-cons, List·Memᴰ·not-nil, Option, ℕ, arith}
 use mathlib.Core.Option.{Option·map}
-use Rattle.analysis.specs.Mode.{Mode}
-use Rattle.analysis.specs.Row.{find, isFound}
-use Rattle.analysis.specs.Patterns.{tripleSlashRow}
-use Rattle.sheet.specs.declared.comments.Comment.{Comment}
-use Rattle.sheet.specs.Lookups.{body}
+use Rattle.analysis.specs.{Mode.Mode, Row.find, Row.isFound, Patterns.tripleSlashRow}
+use Rattle.sheet.specs.{declared.comments.Comment.Comment, Lookups.body}
 use Rattle.report.specs.ModuleInfo.{SpecifierWithRange, TypeScriptReference, path, types}
-use Rattle.pragmas.specs.Asks.{pathRule, typesRule}
+use Rattle.pragmas.specs.{Asks.pathRule, Asks.typesRule, Pragmas.modeIn, Pragmas.reference}
 use Rattle.pragmas.specs.Readings.{readBy, orElse, allOf, listed}
-use Rattle.pragmas.specs.Pragmas.{modeIn, reference}
 use Rattle.pragmas.specs.Present.{Matched, byRule, byTypes}
 use Rattle.pragmas.proofs.Present.{gives-reads, ruled, is-found, by-types}
 

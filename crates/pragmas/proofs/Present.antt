@@ -1,23 +1,21 @@
 -- The references and the pragmas are exactly the readings of their rules.
-use Rattle.laws.proofs.Prelude.{_≡_, refl, sym, ap, _∙_, Bool, true, false, cond, false≢true, _⊎_, inl, inr, ⊎-elim, _↔_, List, [], _∷_, _++_, append-assoc, List·Memᴰ·head, List·Memᴰ·tail, List·Memᴰ·not-nil, List·Memᴰ·cases-cons, Option, Option·none-ne-some, ℕ}
+use Rattle.laws.proofs.Prelude.{_≡_, refl, sym, ap, _∙_, Bool, true, false, cond, false≢true, _⊎_, inl, inr, ⊎-elim, _↔_, List, [], _∷_, _++_, append-assoc}
+use Rattle.laws.proofs.Prelude.{List·Memᴰ·head, List·Memᴰ·tail, List·Memᴰ·not-nil, List·Memᴰ·cases-cons, Option, Option·none-ne-some, ℕ}
 use mathlib.Core.List.{reverse, reverse-cons, reverse-append, reverse-reverse}
 use mathlib.Core.Option.{Option·map, Option·some-injective}
-use Rattle.analysis.specs.declared.Capture.{Capture}
-use Rattle.analysis.specs.declared.Found.{Found}
-use Rattle.analysis.specs.declared.Found.the-variants.{At, Nothing}
+use Rattle.analysis.specs.{declared.Capture.Capture, declared.Found.Found, declared.Found.the-variants.At, declared.Found.the-variants.Nothing, Mode.Mode}
 use Rattle.analysis.specs.Row.{Row, find, isFound}
-use Rattle.analysis.specs.Mode.{Mode}
-use Rattle.analysis.specs.Patterns.{tripleSlashRow, resolutionModeRow}
-use Rattle.analysis.proofs.Preference.{preferred-reads, finds}
-use Rattle.sheet.specs.declared.comments.Comment.{Comment}
-use Rattle.sheet.specs.declared.names.Side.the-variants.{Leading}
-use Rattle.sheet.specs.Lookups.{groupAt, body}
-use Rattle.sheet.specs.Sheet.{Sheet}
+use Rattle.analysis.{specs.Patterns.tripleSlashRow, specs.Patterns.resolutionModeRow, proofs.Preference.preferred-reads, proofs.Preference.finds}
+use Rattle.sheet.specs.{declared.comments.Comment.Comment, declared.names.Side.the-variants.Leading, Lookups.groupAt, Lookups.body, Sheet.Sheet}
 use Rattle.report.specs.ModuleInfo.{SpecifierWithRange, path, types, ModuleInfo}
-use Rattle.pragmas.specs.Asks.{Asks, pathRule, typesRule, selfTypesRule, jsxImportSourceRule, jsxImportSourceTypesRule, sourceMapUrlRule, tsTypesRule, denoTypesRule}
+use Rattle.pragmas.specs.Asks.{Asks, pathRule, typesRule, selfTypesRule, jsxImportSourceRule, jsxImportSourceTypesRule, sourceMapUrlRule, tsTypesRule}
+use Rattle.pragmas.specs.Asks.{denoTypesRule}
 use Rattle.pragmas.specs.Readings.{specifierIn, onFound, readBy, orElse, firstOf, lastOf, listed, allOf}
-use Rattle.pragmas.specs.Pragmas.{headComments, endComments, givenTo, modeIn, modeBy, reference, referencesIn, firstBy, lastBy, tsReferences, selfTypesSpecifier, jsxImportSource, jsxImportSourceTypes, sourceMapUrl, tsOrDenoTypes, typesBy, lastIn, typesIn, typesAt}
-use Rattle.pragmas.specs.Present.{Matched, Read, Reader, only, orElseBy, made, byRule, ModeRead, byPath, byTypes, byReference, byTsOrDenoTypes, NoReading, FirstReading, LastReading, InOrder, Exactly, ExactlyFirst, ExactlyLast, Present, TypesPresent}
+use Rattle.pragmas.specs.Pragmas.{headComments, endComments, givenTo, modeIn, modeBy, reference, referencesIn, firstBy, lastBy, tsReferences}
+use Rattle.pragmas.specs.Pragmas.{selfTypesSpecifier, jsxImportSource, jsxImportSourceTypes, sourceMapUrl, tsOrDenoTypes, typesBy, lastIn, typesIn}
+use Rattle.pragmas.specs.Pragmas.{typesAt}
+use Rattle.pragmas.specs.Present.{Matched, Read, Reader, only, orElseBy, made, byRule, ModeRead, byPath, byTypes, byReference, byTsOrDenoTypes}
+use Rattle.pragmas.specs.Present.{NoReading, FirstReading, LastReading, InOrder, Exactly, ExactlyFirst, ExactlyLast, Present, TypesPresent}
 use Rattle.pragmas.proofs.Both.{of-reverse}
 
 -- what a function answers of a comment is what a rule gives
@@ -191,7 +189,14 @@ module _ {A : Type 0} {f : Comment → Option A} {r : Reader A} (h : Agrees f r)
       go : (x : Option A) → f c ≡ x → orElse x (firstOf f cs) ≡ Option.some a → (firstOf f cs ≡ Option.some a → FirstReading r cs a) → FirstReading r (c ∷ cs) a
       go Option.none i e more =
           let t = more e in
-          record { before = c ∷ t .before; comment = t .comment; behind = t .behind; among = ap (c ∷_) (t .among); unread = unread-here (h .unread c .0 i) (t .unread); gives = t .gives }
+          record {
+            before = c ∷ t .before;
+            comment = t .comment;
+            behind = t .behind;
+            among = ap (c ∷_) (t .among);
+            unread = unread-here (h .unread c .0 i) (t .unread);
+            gives = t .gives;
+          }
       go (Option.some b) i e more =
           record { before = []; comment = c; behind = cs; among = refl; unread = λ d m q. List·Memᴰ·not-nil m; gives = h .gives c a .0 (i ∙ e) }
 
@@ -210,11 +215,11 @@ module _ {A : Type 0} {f : Comment → Option A} {r : Reader A} (h : Agrees f r)
       go Option.none i e more = unread-here (h .unread c .0 i) (more e)
       go (Option.some b) i e more = absurd (Option·none-ne-some _ (sym e))
 
-  first-is : (before : List Comment) (c : Comment) (behind : List Comment) {a : A} → NoReading r before → r .Gives c a → firstOf f (before ++ c ∷ behind) ≡ Option.some a
+  first-is : (before : List Comment) (c : Comment) (behind : List Comment) {a : A} → NoReading r before → r .Gives c a →
+      firstOf f (before ++ c ∷ behind) ≡ Option.some a
   unfolding firstOf
   first-is [] c behind {a} n g = rw (h .gives c a .1 g)
-  first-is (d ∷ before) c behind n g =
-      rw (h .unread d .1 (n d (List·Memᴰ·head refl))) (first-is before c behind (λ e m. n e (List·Memᴰ·tail m)) g)
+  first-is (d ∷ before) c behind n g = rw (h .unread d .1 (n d (List·Memᴰ·head refl))) (first-is before c behind (λ e m. n e (List·Memᴰ·tail m)) g)
 
   firstly : (cs : List Comment) → ExactlyFirst r cs (firstOf f cs)
   firstly cs = record {
@@ -231,7 +236,10 @@ module _ {A : Type 0} {f : Comment → Option A} {r : Reader A} (h : Agrees f r)
 
   pub lastly : (cs : List Comment) → ExactlyLast r cs (lastOf f cs)
   unfolding lastOf
-  lastly cs = record { some = λ a. (λ e. last (first .some a .0 e), λ t. first .some a .1 (back t)); none = (λ e. rw reverse-reverse at (unread-turned (reverse cs) (first .none .0 e)), λ n. first .none .1 (unread-turned cs n)) }
+  lastly cs = record {
+    some = λ a. (λ e. last (first .some a .0 e), λ t. first .some a .1 (back t));
+    none = (λ e. rw reverse-reverse at (unread-turned (reverse cs) (first .none .0 e)), λ n. first .none .1 (unread-turned cs n));
+  }
     where
       first : ExactlyFirst r (reverse cs) (firstOf f (reverse cs))
       first = firstly (reverse cs)

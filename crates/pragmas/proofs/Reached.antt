@@ -1,11 +1,7 @@
 -- A group that is looked up among groups of n comments is of n comments.
 use Rattle.laws.proofs.Prelude.{_≡_, sym, List, Option, ℕ}
-use Rattle.sheet.specs.declared.groups.Group.{Group}
-use Rattle.sheet.specs.Program.{Program}
-use Rattle.sheet.specs.Fit.{Grouped}
-use Rattle.sheet.specs.declared.names.Side.the-variants.{Trailing}
-use Rattle.sheet.specs.Lookups.{headGroup, endGroup}
-use Rattle.sheet.proofs.Members.{found-reaching, head-reaching}
+use Rattle.sheet.specs.{declared.groups.Group.Group, Program.Program, Fit.Grouped, declared.names.Side.the-variants.Trailing}
+use Rattle.sheet.{specs.Lookups.headGroup, specs.Lookups.endGroup, proofs.Members.found-reaching, proofs.Members.head-reaching}
 use Rattle.pragmas.specs.code.Held.{Reached}
 
 module _ {n : ℕ} {gs : List Group} (h : Grouped n gs) (p : Program) where

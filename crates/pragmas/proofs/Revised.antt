@@ -3,20 +3,14 @@ use Rattle.laws.proofs.Prelude.{_≡_, refl, ap, Bool, true, false, cond, List,
 use mathlib.Core.List.{reverse, getLast?}
 use Rattle.laws.specs.Codec.{All}
 use Rattle.laws.proofs.Lists.{all-member, of-members, last-member}
-use Rattle.analysis.specs.declared.Capture.{Capture}
-use Rattle.analysis.specs.declared.Found.{Found}
-use Rattle.analysis.specs.declared.Found.the-variants.{At, Nothing}
-use Rattle.analysis.specs.Row.{Row, find}
-use Rattle.analysis.specs.Place.{Inside, placeOf}
-use Rattle.analysis.proofs.Boundaries.{EachSpecifier, whole}
-use Rattle.sheet.specs.declared.comments.Comment.{Comment}
-use Rattle.sheet.specs.declared.groups.Group.{Group}
-use Rattle.sheet.specs.declared.names.MediaType.{MediaType}
-use Rattle.sheet.specs.declared.names.Side.the-variants.{Leading}
+use Rattle.analysis.specs.declared.{Capture.Capture, Found.Found, Found.the-variants.At, Found.the-variants.Nothing}
+use Rattle.analysis.{specs.Row.Row, specs.Row.find, specs.Place.Inside, specs.Place.placeOf, proofs.Boundaries.EachSpecifier, proofs.Boundaries.whole}
+use Rattle.sheet.specs.declared.{comments.Comment.Comment, groups.Group.Group, names.MediaType.MediaType, names.Side.the-variants.Leading}
 use Rattle.sheet.specs.Lookups.{groupAt, commentsOf, body}
 use Rattle.sheet.proofs.Revised.{Alike}
 use Rattle.report.specs.ModuleInfo.{SpecifierWithRange}
-use Rattle.pragmas.specs.Asks.{Asks, pathRule, typesRule, selfTypesRule, jsxImportSourceRule, jsxImportSourceTypesRule, sourceMapUrlRule, tsTypesRule, denoTypesRule}
+use Rattle.pragmas.specs.Asks.{Asks, pathRule, typesRule, selfTypesRule, jsxImportSourceRule, jsxImportSourceTypesRule, sourceMapUrlRule, tsTypesRule}
+use Rattle.pragmas.specs.Asks.{denoTypesRule}
 use Rattle.pragmas.specs.Readings.{placeIn, specifierIn, onFound, readBy, firstOf, lastOf, allOf, optional}
 use Rattle.pragmas.specs.Pragmas.{inGroup, modeIn, reference, referencesIn, givenTo, firstBy, lastBy, tsOrDenoTypes, typesBy, lastIn, typesIn}
 use Rattle.pragmas.specs.Origins.{originBy, referenceOrigin, firstOrigin, headOrigins, endOrigins, tsOrDenoOrigin, typesOrigin, typesOrigins}

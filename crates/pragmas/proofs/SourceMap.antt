@@ -1,21 +1,10 @@
 -- The source map by ECMA-426: what is answered is exactly the reading of the last comment that reads, and stands in the source at its place.
 use Rattle.laws.proofs.Prelude.{_≡_, refl, sym, true, List, ℕ}
-use Rattle.laws.specs.Codec.{IfThere}
-use Rattle.laws.proofs.Lists.{if-there, middle-member}
-use Rattle.text.specs.declared.utf8.Encoding.the-variants.{Utf8}
-use Rattle.text.specs.Utf8.{formed}
-use Rattle.ecma426.specs.Grammar.{FindsMap}
-use Rattle.ecma426.specs.Reader.{findSourceMap}
-use Rattle.ecma426.proofs.Agrees.{finds-map}
-use Rattle.ecma426.proofs.Boundaries.{run-whole}
-use Rattle.sheet.specs.declared.comments.Comment.{Comment}
-use Rattle.sheet.specs.Fit.{Fit}
-use Rattle.sheet.specs.Lookups.{body}
-use Rattle.sheet.specs.Sheet.{Sheet}
-use Rattle.sheet.proofs.Bodies.{body-formed}
-use Rattle.pragmas.specs.Readings.{specifierIn}
-use Rattle.pragmas.specs.Pragmas.{endComments}
-use Rattle.pragmas.specs.Present.{ExactlyLast}
+use Rattle.laws.{specs.Codec.IfThere, proofs.Lists.if-there, proofs.Lists.middle-member}
+use Rattle.text.specs.{declared.utf8.Encoding.the-variants.Utf8, Utf8.formed}
+use Rattle.ecma426.{specs.Grammar.FindsMap, specs.Reader.findSourceMap, proofs.Agrees.finds-map, proofs.Boundaries.run-whole}
+use Rattle.sheet.{specs.declared.comments.Comment.Comment, specs.Fit.Fit, specs.Lookups.body, specs.Sheet.Sheet, proofs.Bodies.body-formed}
+use Rattle.pragmas.specs.{Readings.specifierIn, Pragmas.endComments, Present.ExactlyLast}
 use Rattle.pragmas.specs.SourceMap.{readStandard, standardMapIn, standardMap, standardRule, MapShown}
 use Rattle.pragmas.proofs.Present.{Agrees, by-finder, lastly}
 use Rattle.pragmas.proofs.Texts.{capture-stands, fit-placed, in-end}

@@ -1,19 +1,11 @@
 -- From the comments that a rule takes, with what is captured there, to the specifiers that it reads and to how these were found.
 use Rattle.laws.proofs.Prelude.{_≡_, refl, ap, _∙_, Bool, true, false, cond, List, Option, ℕ}
 use mathlib.Core.Option.{Option·map}
-use Rattle.analysis.specs.declared.Capture.{Capture}
-use Rattle.analysis.specs.declared.Found.{Found}
-use Rattle.analysis.specs.declared.Found.the-variants.{At, Nothing}
-use Rattle.sheet.specs.declared.comments.Comment.{Comment}
-use Rattle.sheet.specs.Lookups.{body}
-use Rattle.report.specs.declared.origins.EntryRule.{EntryRule}
-use Rattle.report.specs.Origin.{Origin}
-use Rattle.pragmas.specs.declared.readings.Counts.{Counts}
-use Rattle.pragmas.specs.declared.readings.Counts.the-variants.{First, Last}
-use Rattle.pragmas.specs.declared.readings.Rule.{Rule}
-use Rattle.pragmas.specs.declared.readings.RuleRead.{RuleRead}
-use Rattle.pragmas.specs.Readings.{specifierIn, onFound}
-use Rattle.pragmas.specs.Origins.{originOf}
+use Rattle.analysis.specs.declared.{Capture.Capture, Found.Found, Found.the-variants.At, Found.the-variants.Nothing}
+use Rattle.sheet.specs.{declared.comments.Comment.Comment, Lookups.body}
+use Rattle.report.specs.{declared.origins.EntryRule.EntryRule, Origin.Origin}
+use Rattle.pragmas.specs.declared.readings.{Counts.Counts, Counts.the-variants.First, Counts.the-variants.Last, Rule.Rule, RuleRead.RuleRead}
+use Rattle.pragmas.specs.{Readings.specifierIn, Readings.onFound, Origins.originOf}
 use Rattle.pragmas.specs.code.Views.{asked, findRule, takenBy, readRule, counted, takenAs, readAs, originAs}
 use Rattle.pragmas.proofs.Both.{Both, both-made, both-first, both-last}
 

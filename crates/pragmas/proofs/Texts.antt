@@ -1,28 +1,19 @@
 -- Each reference and pragma stands in the source at its reading's place, in marks or bare, as its rule's row asks.
-use Rattle.laws.proofs.Prelude.{_≡_, refl, sym, _∙_, Bool, true, false, cond, inl, inr, ⊎-elim, List, [], _∷_, List·Memᴰ, List·Memᴰ·head, List·Memᴰ·tail, List·Memᴰ·not-nil, List·Memᴰ·cases-cons, Option, Option·none-ne-some, ℕ, suc, _+_, _-_, _<_, add-zero, sub-zero, arith, length, getD, drop, drop-drop}
+use Rattle.laws.proofs.Prelude.{_≡_, refl, sym, _∙_, Bool, true, false, cond, inl, inr, ⊎-elim, List, [], _∷_, List·Memᴰ, List·Memᴰ·head, List·Memᴰ·tail}
+use Rattle.laws.proofs.Prelude.{List·Memᴰ·not-nil, List·Memᴰ·cases-cons, Option, Option·none-ne-some, ℕ, suc, _+_, _-_, _<_, add-zero, sub-zero, arith}
+use Rattle.laws.proofs.Prelude.{length, getD, drop, drop-drop}
 use Rattle.laws.specs.Codec.{All, IfThere}
 use Rattle.laws.proofs.Lists.{of-members, if-there, part-part, between-two, front-member, back-member, last-member, middle-member}
-use Rattle.text.specs.declared.utf8.Encoding.the-variants.{Utf8}
-use Rattle.text.specs.Utf8.{formed}
-use Rattle.text.specs.Bytes.{part}
-use Rattle.analysis.specs.declared.Capture.{Capture}
-use Rattle.analysis.specs.declared.Found.the-variants.{At}
-use Rattle.analysis.specs.Row.{Row, find}
+use Rattle.text.specs.{declared.utf8.Encoding.the-variants.Utf8, Utf8.formed, Bytes.part}
+use Rattle.analysis.{specs.declared.Capture.Capture, specs.declared.Found.the-variants.At, specs.Row.Row, specs.Row.find, proofs.Preference.preferred-found}
 use Rattle.analysis.specs.Place.{markWidth, placeOf, textOf}
 use Rattle.analysis.proofs.Boundaries.{Whole, EachSpecifier, whole}
-use Rattle.analysis.proofs.Preference.{preferred-found}
-use Rattle.sheet.specs.declared.comments.Comment.{Comment}
-use Rattle.sheet.specs.Comments.{slice}
-use Rattle.sheet.specs.declared.groups.Group.{Group}
+use Rattle.sheet.specs.{declared.comments.Comment.Comment, Comments.slice, declared.groups.Group.Group, declared.names.Side.the-variants.Leading, Sheet.Sheet}
 use Rattle.sheet.specs.Fit.{Placed, commentOf, Fit}
-use Rattle.sheet.specs.declared.names.Side.the-variants.{Leading}
 use Rattle.sheet.specs.Lookups.{groupAt, headGroup, endGroup, commentsOf, bodySpan, body}
-use Rattle.sheet.specs.Sheet.{Sheet}
 use Rattle.sheet.proofs.Bodies.{BodyWithin, placed-body, body-formed, body-boundary}
 use Rattle.report.specs.ModuleInfo.{SpecifierWithRange, TypeScriptReference, ModuleInfo}
-use Rattle.report.specs.Range.{rangeOf}
-use Rattle.report.specs.Stands.{StandsAt}
-use Rattle.report.proofs.RangesApart.{range-at}
+use Rattle.report.{specs.Range.rangeOf, specs.Stands.StandsAt, proofs.RangesApart.range-at}
 use Rattle.pragmas.specs.Asks.{Asks, selfTypesRule, jsxImportSourceRule, jsxImportSourceTypesRule}
 use Rattle.pragmas.specs.Readings.{placeIn}
 use Rattle.pragmas.specs.Pragmas.{inGroup, headComments, endComments, givenTo, lastIn, typesAt}
@@ -44,7 +35,8 @@ module _ (source : List ℕ) (f : formed Utf8 0 source ≡ true) (c : Comment) (
         let sp = bodySpan c in
         let from = k .from - markWidth k in
         let size : sp .start + (k .to + markWidth k) - (sp .start + from) ≡ k .to + markWidth k - from = omega arith in
-        rw (size, ← drop-drop from (sp .start) source) (sym (part-part (drop (sp .start) source) (sp .end - sp .start) from (k .to + markWidth k - from) (omega arith)))
+        rw (size, ← drop-drop from (sp .start) source)
+        (sym (part-part (drop (sp .start) source) (sp .end - sp .start) from (k .to + markWidth k - from) (omega arith)))
 
     -- the text and its marks
     written : (q : Bool) → k .quoted ≡ q → writtenIf q (textOf (body source c) k) (slice source (placeIn c k))
@@ -96,7 +88,8 @@ pub given-member : (b : Bool) (cs : List Comment) {c : Comment} → List·Memᴰ
 given-member true cs m = m
 given-member false cs m = absurd (List·Memᴰ·not-nil m)
 
-order-member : {A : Type 0} {r : Reader A} {cs : List Comment} {l : List A} → InOrder r cs l → {a : A} → List·Memᴰ a l → (c : Comment) × List·Memᴰ c cs × r .Gives c a
+order-member : {A : Type 0} {r : Reader A} {cs : List Comment} {l : List A} → InOrder r cs l → {a : A} → List·Memᴰ a l →
+    (c : Comment) × List·Memᴰ c cs × r .Gives c a
 order-member InOrder.none m = absurd (List·Memᴰ·not-nil m)
 order-member (InOrder.reads {c = c} g o) m =
     ⊎-elim (λ e. (c, List·Memᴰ·head refl, rw e g)) (λ i. let (d, n, h) = order-member o i in (d, List·Memᴰ·tail n, h)) (List·Memᴰ·cases-cons m)
@@ -162,13 +155,15 @@ module _ (t : Sheet) (f : formed Utf8 0 (t .source) ≡ true) (fit : Fit (t .sou
   pub texts : (m : ModuleInfo) → Present t m → All (λ d. IfThere (TypesShown t) (typesOf d)) (m .dependencies) → Texts t m
   texts m p types = record {
     types = types;
-    references = of-members _ (m .tsReferences) (λ r i. let (c, j, g) = order-member (p .references (m .tsReferences) .0 refl) i in reference-shown (in-head j) r g);
+    references = of-members _ (m .tsReferences)
+        (λ r i. let (c, j, g) = order-member (p .references (m .tsReferences) .0 refl) i in reference-shown (in-head j) r g);
     self-types = if-there _ (m .selfTypesSpecifier)
         (λ x e. let h = p .self-types .some x .0 e in let i = first-shown selfTypesRule h in in-marks i (each i .ts-self-types) (h .gives .1));
     jsx-import-source = if-there _ (m .jsxImportSource)
         (λ x e. let h = p .jsx-import-source .some x .0 e in let i = first-shown jsxImportSourceRule h in bare i (each i .jsx-import-source) (h .gives .1));
     jsx-import-source-types = if-there _ (m .jsxImportSourceTypes)
-        (λ x e. let h = p .jsx-import-source-types .some x .0 e in let i = first-shown jsxImportSourceTypesRule h in bare i (each i .jsx-import-source-types) (h .gives .1));
+        (λ x e. let h = p .jsx-import-source-types .some x .0 e in let i = first-shown jsxImportSourceTypesRule h in bare i
+        (each i .jsx-import-source-types) (h .gives .1));
     source-map-url = if-there _ (m .sourceMapUrl)
         (λ x e.
         let h = p .source-map-url .some x .0 e in

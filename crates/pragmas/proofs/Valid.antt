@@ -1,14 +1,9 @@
 -- What the rules read in the comments of a well-formed source can be written.
 use Rattle.laws.proofs.Prelude.{Bool, true, false, ⊎-elim, List, [], _∷_, Option, _≤_, arith, length, length-take, length-drop}
 use Rattle.laws.specs.Codec.{All}
-use Rattle.text.specs.declared.utf8.Encoding.the-variants.{Utf8}
-use Rattle.text.specs.WellFormed.{WellFormed}
+use Rattle.text.specs.{declared.utf8.Encoding.the-variants.Utf8, WellFormed.WellFormed}
 use Rattle.analysis.specs.Row.{Row}
-use Rattle.sheet.specs.Limits.{sourceLimit}
-use Rattle.sheet.specs.declared.fields.Span.{Span}
-use Rattle.sheet.specs.declared.comments.Comment.{Comment}
-use Rattle.sheet.specs.declared.groups.Group.{Group}
-use Rattle.sheet.specs.Lookups.{headGroup}
+use Rattle.sheet.specs.{Limits.sourceLimit, declared.fields.Span.Span, declared.comments.Comment.Comment, declared.groups.Group.Group, Lookups.headGroup}
 use Rattle.sheet.specs.Sheet.{Sheet}
 use Rattle.report.specs.ModuleInfo.{SpecifierWithRange, TypeScriptReference, path, types}
 use Rattle.report.specs.Stands.{StandsAt}

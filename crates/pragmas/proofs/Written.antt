@@ -1,15 +1,11 @@
 -- The origins of the head group, written part by part.
 use Rattle.laws.proofs.Prelude.{_≡_, _∙_, List, append-nil, flatMap, Option, ℕ}
 use Rattle.laws.proofs.Lists.{flatMap-append}
-use Rattle.sheet.specs.declared.comments.Comment.{Comment}
-use Rattle.sheet.specs.declared.names.MediaType.{MediaType}
-use Rattle.report.specs.Buffer.{Buffer, wrote}
-use Rattle.report.specs.Origin.{encodeOrigin}
-use Rattle.report.proofs.Buffers.{wrote-append}
+use Rattle.sheet.specs.declared.{comments.Comment.Comment, names.MediaType.MediaType}
+use Rattle.report.{specs.Buffer.Buffer, specs.Buffer.wrote, specs.Origin.encodeOrigin, proofs.Buffers.wrote-append}
 use Rattle.pragmas.specs.Asks.{selfTypesRule, jsxImportSourceRule, jsxImportSourceTypesRule}
-use Rattle.pragmas.specs.Readings.{allOf, optional}
+use Rattle.pragmas.specs.{Readings.allOf, Readings.optional, code.Views.encodeAny}
 use Rattle.pragmas.specs.Origins.{referenceOrigin, firstOrigin, headOrigins}
-use Rattle.pragmas.specs.code.Views.{encodeAny}
 use Rattle.pragmas.proofs.Between.{listed-each}
 
 -- one answer, or none

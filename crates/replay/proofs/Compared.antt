@@ -1,9 +1,10 @@
 -- A buffer beside a report with zeros behind it: from one place to the next; and what an outcome's answer holds.
-use Rattle.laws.proofs.Prelude.{_≡_, refl, _∙_, Bool, true, false, _&&_, and-eq-true-iff, List, [], _∷_, _++_, ℕ, zero, suc, _+_, _-_, _≤_, _<_, arith, add-one, eqb, leb, length, getD, drop, drop-of-length-le, length-append, length-replicate, drop-cons, leb-true, leb-false, eq-eqb, ne-eqb, eqb-true}
+use Rattle.laws.proofs.Prelude.{_≡_, refl, _∙_, Bool, true, false, _&&_, and-eq-true-iff, List, [], _∷_, _++_, ℕ, zero, suc, _+_, _-_, _≤_, _<_, arith}
+use Rattle.laws.proofs.Prelude.{add-one, eqb, leb, length, getD, drop, drop-of-length-le, length-append, length-replicate, drop-cons, leb-true, leb-false}
+use Rattle.laws.proofs.Prelude.{eq-eqb, ne-eqb, eqb-true}
 use Rattle.text.specs.Bytes.{same}
 use Rattle.text.proofs.Words.{same-sound, same-refl, other-length}
-use Rattle.report.specs.declared.writer.Outcome.{Outcome}
-use Rattle.report.specs.declared.writer.Outcome.the-variants.{Accepted, Refused}
+use Rattle.report.specs.declared.writer.Outcome.{Outcome, the-variants.Accepted, the-variants.Refused}
 use Rattle.report.specs.Answer.{Answer, zeros, outcomeAs}
 use Rattle.replay.specs.Compared.{padded, sameAnswer}
 
@@ -37,7 +38,8 @@ module _ (buffer report : List ℕ) (i : ℕ) where
           other-length buffer (padded (length buffer) report) (λ l. omega (arith, padded-length (length buffer) report))
 
   module _ (h : i < length buffer) where
-    heads : same (drop i buffer) (drop i (padded (length buffer) report)) ≡ (eqb (getD buffer i 0) (getD report i 0) && same (drop (i + 1) buffer) (drop (i + 1) (padded (length buffer) report)))
+    heads : same (drop i buffer) (drop i (padded (length buffer) report))
+        ≡ (eqb (getD buffer i 0) (getD report i 0) && same (drop (i + 1) buffer) (drop (i + 1) (padded (length buffer) report)))
     unfolding same
     heads =
         let long : i < length (padded (length buffer) report) = rw (padded-length (length buffer) report) (omega arith) in
@@ -46,7 +48,8 @@ module _ (buffer report : List ℕ) (i : ℕ) where
     pub held-differ : (getD buffer i 0 ≡ getD report i 0 → ⊥) → same (drop i buffer) (drop i (padded (length buffer) report)) ≡ false
     held-differ n = rw (heads, ne-eqb _ _ n)
 
-    pub held-agree : getD buffer i 0 ≡ getD report i 0 → same (drop i buffer) (drop i (padded (length buffer) report)) ≡ same (drop (i + 1) buffer) (drop (i + 1) (padded (length buffer) report))
+    pub held-agree : getD buffer i 0 ≡ getD report i 0 →
+        same (drop i buffer) (drop i (padded (length buffer) report)) ≡ same (drop (i + 1) buffer) (drop (i + 1) (padded (length buffer) report))
     held-agree e = rw (heads, eq-eqb _ _ e)
 
 -- the answer holds what the buffer has

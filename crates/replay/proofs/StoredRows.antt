@@ -1,16 +1,13 @@
 -- Rows of the list at a place of it, and the counts of those that are left.
-use Rattle.laws.proofs.Prelude.{_≡_, refl, ap, _∙_, List, [], _∷_, ℕ, zero, suc, _+_, _-_, _*_, _≤_, _<_, arith, length, getD, drop, drop-of-length-le, drop-cons}
+use Rattle.laws.proofs.Prelude.{_≡_, refl, ap, _∙_, List, [], _∷_, ℕ, zero, suc, _+_, _-_, _*_, _≤_, _<_, arith, length, getD, drop, drop-of-length-le}
+use Rattle.laws.proofs.Prelude.{drop-cons}
 use Rattle.laws.specs.Decoded.{Decoded, ok, no, onOk, andThen, return}
 use Rattle.laws.proofs.Decoding.{onOk-ok, onOk-no}
-use Rattle.wire.specs.Fields.{byte}
-use Rattle.wire.proofs.FieldsAtPlace.{byte-at}
+use Rattle.wire.{specs.Fields.byte, proofs.FieldsAtPlace.byte-at}
 use Rattle.sheet.specs.Sheet.{ending}
 use Rattle.replay.specs.Stored.{Row, fourBytes, row, rows, storedRows}
 use Rattle.replay.specs.Compared.{ranOf, counted, countedAll, noneYet, tallyOf}
-use Rattle.replay.specs.declared.Ran.{Ran}
-use Rattle.replay.specs.declared.Counts.{Counts}
-use Rattle.replay.specs.declared.Tally.{Tally}
-use Rattle.replay.specs.declared.Tally.the-variants.{Whole, Odd}
+use Rattle.replay.specs.declared.{Ran.Ran, Counts.Counts, Tally.Tally, Tally.the-variants.Whole, Tally.the-variants.Odd}
 
 module _ (s : List ℕ) (at : ℕ) where
   pub four-at : at + 4 ≤ length s
@@ -20,7 +17,15 @@ module _ (s : List ℕ) (at : ℕ) where
       let second : at + 1 + 1 ≡ at + 2 = omega arith in
       let third : at + 2 + 1 ≡ at + 3 = omega arith in
       let fourth : at + 3 + 1 ≡ at + 4 = omega arith in
-      rw (byte-at s at (omega arith), byte-at s (at + 1) (omega arith), second, byte-at s (at + 2) (omega arith), third, byte-at s (at + 3) (omega arith), fourth)
+      rw (
+        byte-at s at (omega arith),
+        byte-at s (at + 1) (omega arith),
+        second,
+        byte-at s (at + 2) (omega arith),
+        third,
+        byte-at s (at + 3) (omega arith),
+        fourth,
+      )
 
 pub four-short : (s : List ℕ) → length s < 4 → fourBytes s ≡ no 2
 unfolding fourBytes byte

@@ -1,5 +1,6 @@
 -- The end of a report: what is cleared behind it, and the answer for the bytes that were written.
-use Rattle.laws.proofs.Prelude.{_≡_, refl, Bool, true, false, List, [], append-nil, ℕ, suc, _+_, _-_, _≤_, _<_, zero-add, add-one, arith, leb, length, take, set, length-set, length-take-le, take-all}
+use Rattle.laws.proofs.Prelude.{_≡_, refl, Bool, true, false, List, [], append-nil, ℕ, suc, _+_, _-_, _≤_, _<_, zero-add, add-one, arith, leb, length, take}
+use Rattle.laws.proofs.Prelude.{set, length-set, length-take-le, take-all}
 use native.Mathlib.Nat.{sub-eq-zero-of-le}
 use lib.Seq.{take-suc-set, append-snoc}
 use Rattle.report.specs.Buffer.{Buffer, holds, wrote}

@@ -1,5 +1,6 @@
 -- Writing into a buffer part by part: a byte has room or not, parts one after the other are written as one, and no byte changes nothing.
-use Rattle.laws.proofs.Prelude.{_≡_, refl, Bool, true, false, cond, List, [], _∷_, _++_, append-assoc, append-nil, ℕ, _+_, _≤_, _<_, add-one, arith, eqb, leb, length, take, set, length-append, length-take, length-set, length-take-le, take-all, leb-false, le-leb, lt-leb, ne-eqb}
+use Rattle.laws.proofs.Prelude.{_≡_, refl, Bool, true, false, cond, List, [], _∷_, _++_, append-assoc, append-nil, ℕ, _+_, _≤_, _<_, add-one, arith, eqb}
+use Rattle.laws.proofs.Prelude.{leb, length, take, set, length-append, length-take, length-set, length-take-le, take-all, leb-false, le-leb, lt-leb, ne-eqb}
 use native.Mathlib.Nat.{add-assoc}
 use lib.Seq.{take-suc-set}
 use Rattle.report.specs.declared.writer.Pen.{Pen}
@@ -24,7 +25,8 @@ pub wrote-nil : (out : List ℕ) (p : Pen) → wrote (bufferAs out p) [] ≡ buf
 unfolding wrote
 wrote-nil out p = by-full (eqb (p .at) fullPlace)
   where
-    by-full : (t : Bool) → wrote (cond t (full (length out)) (holds (length out) (take (p .at) out))) [] ≡ cond t (full (length out)) (holds (length out) (take (p .at) out))
+    by-full : (t : Bool) →
+        wrote (cond t (full (length out)) (holds (length out) (take (p .at) out))) [] ≡ cond t (full (length out)) (holds (length out) (take (p .at) out))
     by-full true = refl
     by-full false =
         let room : length (take (p .at) out) + 0 ≤ length out = omega (arith, length-take (p .at) out) in
@@ -32,11 +34,19 @@ wrote-nil out p = by-full (eqb (p .at) fullPlace)
 
 module _ (out : List ℕ) (at b : ℕ) where
   -- no buffer is as long as the largest number
-  pub put-room : length out < 9223372036854775808 → at < length out → bufferAs (set out at b) (record { at = at + 1 }) ≡ wrote (bufferAs out (record { at = at })) (b ∷ [])
+  pub put-room : length out < 9223372036854775808 → at < length out →
+      bufferAs (set out at b) (record { at = at + 1 }) ≡ wrote (bufferAs out (record { at = at })) (b ∷ [])
   unfolding wrote
   put-room l h =
-      rw
-      (ne-eqb (at + 1) fullPlace (λ e. omega (arith, e, l, h)), ne-eqb at fullPlace (λ e. omega (arith, e, l, h)), length-take-le at out (omega arith), le-leb (at + 1) (length out) (omega arith), length-set, add-one, take-suc-set out at b h)
+      rw (
+        ne-eqb (at + 1) fullPlace (λ e. omega (arith, e, l, h)),
+        ne-eqb at fullPlace (λ e. omega (arith, e, l, h)),
+        length-take-le at out (omega arith),
+        le-leb (at + 1) (length out) (omega arith),
+        length-set,
+        add-one,
+        take-suc-set out at b h,
+      )
 
   pub put-none : length out ≤ at → full (length out) ≡ wrote (bufferAs out (record { at = at })) (b ∷ [])
   unfolding wrote

@@ -1,16 +1,16 @@
 -- Reports byte by byte, as document 01 states them: what the definitions encode and decode.
 use Rattle.laws.proofs.Prelude.{_≡_, refl, true, false, List, [], _∷_, map, flatMap, Option, ℕ}
-use Rattle.laws.specs.Decoded.{ok}
-use Rattle.laws.specs.Ascii.{ascii}
+use Rattle.laws.specs.{Decoded.ok, Ascii.ascii}
 use Rattle.wire.specs.Fields.{byte, below, numbered, flag, bytes}
 use Rattle.wire.specs.Number.{lastGroup, groups, number, encodeGroups, encodeNumber}
-use Rattle.wire.specs.Text.{encodeText}
-use Rattle.wire.specs.Optional.{encodeOptional, optional}
+use Rattle.wire.specs.{Text.encodeText, Optional.encodeOptional, Optional.optional}
 use Rattle.analysis.specs.Mode.{import, require}
 use Rattle.report.specs.declared.names.StaticDependencyKind.the-variants as statics
 use Rattle.report.specs.declared.names.DynamicDependencyKind.the-variants as dynamics
-use Rattle.report.specs.ModuleInfo.{PositionRange, SpecifierWithRange, path, types, none, unknown, known, expr, string, template, static, dynamic, ModuleInfo}
-use Rattle.report.specs.Encode.{encodeList, encodePosition, encodeRange, encodeSpecifier, encodeReference, encodeJsDoc, encodeKeyValue, encodeAttributes, encodeArgument, encodeStatic, encodeDynamic, encodeDependency, encode}
+use Rattle.report.specs.ModuleInfo.{PositionRange, SpecifierWithRange, path, types, none, unknown, known, expr, string, template, static, dynamic}
+use Rattle.report.specs.ModuleInfo.{ModuleInfo}
+use Rattle.report.specs.Encode.{encodeList, encodePosition, encodeRange, encodeSpecifier, encodeReference, encodeJsDoc, encodeKeyValue}
+use Rattle.report.specs.Encode.{encodeAttributes, encodeArgument, encodeStatic, encodeDynamic, encodeDependency, encode}
 use Rattle.report.specs.Decode.{times, list, text, position, range, specifier, reference, jsDoc, keyValue, attributes, argument, rest, dependency, report}
 
 -- the range from one column of a line to another, and a text there
@@ -64,7 +64,13 @@ everything = record {
         argumentRange = within 2 8 200;
         importAttributes = unknown;
       })
-      ∷ dynamic (record { kind = dynamics.Import; typesSpecifier = Option.none; argument = string (ascii "b"); argumentRange = within 3 7 10; importAttributes = none })
+      ∷ dynamic (record {
+        kind = dynamics.Import;
+        typesSpecifier = Option.none;
+        argument = string (ascii "b");
+        argumentRange = within 3 7 10;
+        importAttributes = none;
+      })
       ∷ dynamic (record { kind = dynamics.ImportDefer; typesSpecifier = Option.none; argument = expr; argumentRange = within 4 13 14; importAttributes = none })
       ∷ [];
   tsReferences = path (placed (ascii "c") 5 21 24) ∷ types (placed (ascii "d") 6 22 25) (Option.some require) ∷ [];
@@ -120,7 +126,9 @@ cases =
     ∷ []
 
 as-stated : (map (λ c. (c .0, encode (c .0))) cases ≡ cases) × (map (λ c. report (c .1)) cases ≡ map (λ c. ok (c .0) []) cases)
-unfolding byte below numbered flag bytes lastGroup groups number encodeGroups encodeNumber encodeText flatMap encodeOptional encodeList encodePosition encodeRange encodeSpecifier
-    encodeReference encodeJsDoc encodeKeyValue encodeAttributes encodeArgument encodeStatic encodeDynamic encodeDependency encode optional times list text position range
+unfolding byte below numbered flag bytes lastGroup groups number encodeGroups encodeNumber encodeText flatMap encodeOptional encodeList encodePosition
+    encodeRange encodeSpecifier
+    encodeReference encodeJsDoc encodeKeyValue encodeAttributes encodeArgument encodeStatic encodeDynamic encodeDependency encode optional times list text
+    position range
     specifier reference jsDoc keyValue attributes argument rest dependency report
 as-stated = (refl, refl)

@@ -1,11 +1,9 @@
 -- Each kind of a dependency has its own number.
 use Rattle.laws.proofs.Prelude.{_≡_, refl}
-use Rattle.wire.specs.Fields.{valueOf}
-use Rattle.wire.proofs.Numbered.{Numbers, numbers}
+use Rattle.wire.{specs.Fields.valueOf, proofs.Numbered.Numbers, proofs.Numbered.numbers}
 use Rattle.report.specs.declared.names.StaticDependencyKind.the-variants as statics
 use Rattle.report.specs.declared.names.DynamicDependencyKind.the-variants as dynamics
-use Rattle.report.specs.declared.names.DependencyKind.{DependencyKind}
-use Rattle.report.specs.declared.names.DependencyKind.the-variants.{Static, Dynamic}
+use Rattle.report.specs.declared.names.DependencyKind.{DependencyKind, the-variants.Static, the-variants.Dynamic}
 use Rattle.report.specs.Names.{dependencyNumber, dependencyKinds}
 
 of-number : (kind : DependencyKind) → valueOf dependencyKinds (dependencyNumber kind) ≡ kind

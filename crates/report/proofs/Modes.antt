@@ -1,8 +1,7 @@
 -- Each mode has its own number.
 use Rattle.laws.proofs.Prelude.{_≡_, refl}
 use mathlib.Core.Option.{none, some}
-use Rattle.wire.specs.Fields.{valueOf}
-use Rattle.wire.proofs.Numbered.{Numbers, numbers}
+use Rattle.wire.{specs.Fields.valueOf, proofs.Numbered.Numbers, proofs.Numbered.numbers}
 use Rattle.analysis.specs.Mode.{import, require, Mode, modeNumber}
 use Rattle.report.specs.Decode.{modes}
 

@@ -2,12 +2,10 @@
 use Rattle.laws.proofs.Prelude.{_≡_, refl, sym, _∙_, List, ℕ, _≤_, arith, length, take, take-all}
 use native.Mathlib.Decide.{decLe}
 use lib.Seq.{take-length}
-use Rattle.text.specs.Position.{characters, positionOf}
-use Rattle.text.proofs.Positions.{bounded}
+use Rattle.text.{specs.Position.characters, specs.Position.positionOf, proofs.Positions.bounded}
 use Rattle.wire.specs.Number.{largest}
 use Rattle.sheet.specs.declared.fields.Span.{Span}
-use Rattle.report.specs.Range.{rangeOf}
-use Rattle.report.specs.Valid.{ValidRange}
+use Rattle.report.specs.{Range.rangeOf, Valid.ValidRange}
 
 -- neither the line nor the column is past the source's length, wherever the place is
 position-bounded : (s : List ℕ) (at : ℕ) → (positionOf characters s at .line ≤ length s) × (positionOf characters s at .column ≤ length s)

@@ -1,20 +1,17 @@
 -- A valid module's information is read back from its report, so that no two have one report.
 use Rattle.laws.proofs.Prelude.{_≡_, refl, true, false, List, [], _∷_, _++_, append-assoc, flatMap, Option, ℕ, length}
-use Rattle.laws.specs.Decoded.{ok, Decoder}
-use Rattle.laws.specs.Codec.{IfThere, All}
-use Rattle.wire.specs.Fields.{byte}
-use Rattle.wire.specs.Text.{encodeText}
-use Rattle.wire.specs.Optional.{encodeOptional, optional}
-use Rattle.wire.proofs.NumberCodec.{number-codec}
-use Rattle.wire.proofs.TextCodec.{flag-codec, bytes-codec}
-use Rattle.wire.proofs.Numbered.{numbered-codec}
+use Rattle.laws.specs.{Decoded.ok, Decoded.Decoder, Codec.IfThere, Codec.All}
+use Rattle.wire.{specs.Fields.byte, specs.Text.encodeText, specs.Optional.encodeOptional, specs.Optional.optional, proofs.NumberCodec.number-codec}
+use Rattle.wire.proofs.{TextCodec.flag-codec, TextCodec.bytes-codec, Numbered.numbered-codec}
 use Rattle.report.specs.declared.names.DependencyKind.the-variants.{Static, Dynamic}
-use Rattle.report.specs.ModuleInfo.{path, types, none, unknown, known, expr, string, template, StaticDependencyDescriptor, DynamicDependencyDescriptor, static, dynamic}
-use Rattle.report.specs.Encode.{encodeList, encodePosition, encodeRange, encodeSpecifier, encodeReference, encodeJsDoc, encodeKeyValue, encodeAttributes, encodeArgument, encodeStatic, encodeDynamic, encodeDependency, encode}
+use Rattle.report.specs.ModuleInfo.{path, types, none, unknown, known, expr, string, template, StaticDependencyDescriptor}
+use Rattle.report.specs.ModuleInfo.{DynamicDependencyDescriptor, static, dynamic}
+use Rattle.report.specs.Encode.{encodeList, encodePosition, encodeRange, encodeSpecifier, encodeReference, encodeJsDoc, encodeKeyValue}
+use Rattle.report.specs.Encode.{encodeAttributes, encodeArgument, encodeStatic, encodeDynamic, encodeDependency, encode}
 use Rattle.report.specs.Decode.{times, list, text, position, range, specifier, reference, jsDoc, keyValue, attributes, argument, rest, dependency, report}
-use Rattle.report.specs.Valid.{Short, ValidPosition, ValidRange, ValidSpecifier, ValidReference, ValidJsDoc, ValidKeyValue, ValidAttributes, ValidArgument, ValidStatic, ValidDynamic, ValidDependency, Valid}
-use Rattle.report.proofs.KindNumbers.{dependency-numbers}
-use Rattle.report.proofs.Modes.{mode-numbers}
+use Rattle.report.specs.Valid.{Short, ValidPosition, ValidRange, ValidSpecifier, ValidReference, ValidJsDoc, ValidKeyValue, ValidAttributes}
+use Rattle.report.specs.Valid.{ValidArgument, ValidStatic, ValidDynamic, ValidDependency, Valid}
+use Rattle.report.proofs.{KindNumbers.dependency-numbers, Modes.mode-numbers}
 
 -- each valid value is decoded from its bytes, whatever follows them
 pub record ReadBack {A : Type 0} (decode : Decoder A) (encode : A → List ℕ) (Valid : A → Type 0) : Type 0 where

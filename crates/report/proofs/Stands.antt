@@ -1,19 +1,12 @@
 -- A specifier that stands in a well-formed source can be written, and its text is well-formed.
-use Rattle.laws.proofs.Prelude.{_≡_, refl, ap, _∙_, Bool, true, false, ⊎-elim, List, [], _∷_, ℕ, suc, _+_, _-_, _≤_, _<_, arith, ltb, length, getD, length-append, length-take, length-drop, take-append-seam, ltb-true, ltb-false}
+use Rattle.laws.proofs.Prelude.{_≡_, refl, ap, _∙_, Bool, true, false, ⊎-elim, List, [], _∷_, ℕ, suc, _+_, _-_, _≤_, _<_, arith, ltb, length, getD}
+use Rattle.laws.proofs.Prelude.{length-append, length-take, length-drop, take-append-seam, ltb-true, ltb-false}
 use lib.Seq.{getD-at}
-use Rattle.text.specs.declared.utf8.Encoding.the-variants.{Utf8}
-use Rattle.text.specs.Bytes.{Mark, part}
-use Rattle.text.specs.Utf8.{formed}
-use Rattle.text.specs.WellFormed.{WellFormed}
-use Rattle.text.proofs.Cuts.{ascii-between, part-formed}
-use Rattle.text.proofs.WellFormed.{well-formed-iff}
-use Rattle.sheet.specs.Limits.{sourceLimit}
-use Rattle.sheet.specs.declared.fields.Span.{Span}
-use Rattle.sheet.specs.Comments.{slice}
-use Rattle.report.specs.ModuleInfo.{PositionRange, SpecifierWithRange}
-use Rattle.report.specs.Range.{RangeAt}
+use Rattle.text.specs.{declared.utf8.Encoding.the-variants.Utf8, Bytes.Mark, Bytes.part, Utf8.formed, WellFormed.WellFormed}
+use Rattle.text.proofs.{Cuts.ascii-between, Cuts.part-formed, WellFormed.well-formed-iff}
+use Rattle.sheet.specs.{Limits.sourceLimit, declared.fields.Span.Span, Comments.slice}
+use Rattle.report.specs.{ModuleInfo.PositionRange, ModuleInfo.SpecifierWithRange, Range.RangeAt, Valid.ValidSpecifier}
 use Rattle.report.specs.Stands.{Bare, InMarks, StandsAt}
-use Rattle.report.specs.Valid.{ValidSpecifier}
 use Rattle.report.proofs.Ranges.{range-valid}
 
 -- a specifier that can be written, with a well-formed text of at most 32,768 bytes
@@ -39,15 +32,18 @@ between-marks {x} {bytes} f m =
 
 module _ {source : List ℕ} (short : length source ≤ sourceLimit) (w : WellFormed Utf8 source) where
   -- the bytes between two boundaries
-  slice-formed : {r : PositionRange} {place : Span} → RangeAt source r place → (length (slice source place) ≤ length source) × (formed Utf8 0 (slice source place) ≡ true)
+  slice-formed : {r : PositionRange} {place : Span} → RangeAt source r place →
+      (length (slice source place) ≤ length source) × (formed Utf8 0 (slice source place) ≡ true)
   unfolding formed
   slice-formed {place = place} r = (simp (length-take, length-drop) (omega arith), go (ltb (place .end) (place .start)) refl)
     where
       go : (b : Bool) → ltb (place .end) (place .start) ≡ b → formed Utf8 0 (slice source place) ≡ true
       go true e = let none : place .end - place .start ≡ 0 = omega (arith, ltb-true (place .end) (place .start) e) in rw none
-      go false e = part-formed source (well-formed-iff Utf8 source .1 w) (place .start) (place .end) (ltb-false (place .end) (place .start) e) (r .start) (r .end)
+      go false e = part-formed source (well-formed-iff Utf8 source .1 w) (place .start) (place .end) (ltb-false (place .end) (place .start) e) (r .start)
+          (r .end)
 
-  good : {x : SpecifierWithRange} {place : Span} → RangeAt source (x .range) place → (length (x .text) ≤ length source) × (formed Utf8 0 (x .text) ≡ true) → Good x
+  good : {x : SpecifierWithRange} {place : Span} → RangeAt source (x .range) place → (length (x .text) ≤ length source) × (formed Utf8 0 (x .text) ≡ true) →
+      Good x
   good {x} {place} r (l, f) = record {
     valid = record { text = omega arith; range = rw (r .is) (range-valid source place (omega arith)) };
     text = (omega arith, well-formed-iff Utf8 (x .text) .0 f);

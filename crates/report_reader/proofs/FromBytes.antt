@@ -1,17 +1,13 @@
 -- What a report's fields read as, from the bytes that stand for them.
-use Rattle.laws.proofs.Prelude.{_≡_, refl, sym, ap, _∙_, Bool, true, false, List, _∷_, _++_, append-assoc, Option, ℕ, _+_, _-_, _≤_, _<_, arith, length, drop, length-append, length-drop, drop-drop, take-append-seam, drop-append-seam, lt-ltb}
+use Rattle.laws.proofs.Prelude.{_≡_, refl, sym, ap, _∙_, Bool, true, false, List, _∷_, _++_, append-assoc, Option, ℕ, _+_, _-_, _≤_, _<_, arith, length}
+use Rattle.laws.proofs.Prelude.{drop, length-append, length-drop, drop-drop, take-append-seam, drop-append-seam, lt-ltb}
 use native.Mathlib.Nat.{add-sub-cancel-left}
-use Rattle.laws.specs.Decoded.{ok, no}
-use Rattle.laws.proofs.Decoding.{refused}
+use Rattle.laws.{specs.Decoded.ok, specs.Decoded.no, proofs.Decoding.refused}
 use Rattle.text.specs.Bytes.{part}
-use Rattle.wire.specs.Fields.{encodeFlag}
+use Rattle.wire.{specs.Fields.encodeFlag, specs.Text.encodeText, specs.Optional.encodeOptional, proofs.NumberCodec.number-codec}
 use Rattle.wire.specs.Number.{largest, number, encodeGroups, encodeNumber}
-use Rattle.wire.specs.Text.{encodeText}
-use Rattle.wire.specs.Optional.{encodeOptional}
-use Rattle.wire.proofs.NumberCodec.{number-codec}
 use Rattle.report.specs.ModuleInfo.{DynamicArgument, expr, string, template}
-use Rattle.report.specs.Encode.{encodeList, encodeArgument}
-use Rattle.report.specs.Valid.{Short}
+use Rattle.report.specs.{Encode.encodeList, Encode.encodeArgument, Valid.Short}
 use Rattle.report_reader.specs.code.FromPlace.{ReadsBack, Number}
 
 -- a number, as the cursor answers it
@@ -42,7 +38,8 @@ module _ {s : List ℕ} {at value next : ℕ} (number : Number s at value next) 
     none-there z Option.none t e = (refl, byte-read 0 (omega arith) t e .1)
     none-there z (Option.some a) t e = let one = byte-read 1 (omega arith) (f a ++ t) e .0 in absurd (omega arith)
 
-    pub some-there : (value ≡ 0 → ⊥) → (o : Option A) (t : List ℕ) → drop at s ≡ encodeOptional f o ++ t → (a : A) × (o ≡ Option.some a) × (drop next s ≡ f a ++ t)
+    pub some-there : (value ≡ 0 → ⊥) → (o : Option A) (t : List ℕ) → drop at s ≡ encodeOptional f o ++ t →
+        (a : A) × (o ≡ Option.some a) × (drop next s ≡ f a ++ t)
     unfolding encodeOptional
     some-there z Option.none t e = absurd (z (byte-read 0 (omega arith) t e .0))
     some-there z (Option.some a) t e = (a, refl, byte-read 1 (omega arith) (f a ++ t) e .1)

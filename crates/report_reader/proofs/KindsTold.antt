@@ -1,12 +1,9 @@
 -- The kind of a dependency, read by its number.
 use Rattle.laws.proofs.Prelude.{_≡_, ap, _∙_, ℕ, _<_, arith}
 use Rattle.wire.specs.Fields.{valueOf}
-use Rattle.report.specs.declared.names.StaticDependencyKind.{StaticDependencyKind}
-use Rattle.report.specs.declared.names.DynamicDependencyKind.{DynamicDependencyKind}
-use Rattle.report.specs.declared.names.DependencyKind.{DependencyKind}
+use Rattle.report.specs.declared.names.{StaticDependencyKind.StaticDependencyKind, DynamicDependencyKind.DynamicDependencyKind, DependencyKind.DependencyKind}
 use Rattle.report.specs.declared.names.DependencyKind.the-variants.{Static, Dynamic}
-use Rattle.report.specs.Names.{dependencyNumber, dependencyKinds}
-use Rattle.report.proofs.KindNumbers.{dependency-numbers}
+use Rattle.report.{specs.Names.dependencyNumber, specs.Names.dependencyKinds, proofs.KindNumbers.dependency-numbers}
 
 -- its number is a byte below 128
 pub small : (kind : DependencyKind) → dependencyNumber kind < 128

@@ -13,8 +13,7 @@ module _ {A : Type 0} (encode : A → List ℕ) (Valid : A → Type 0) (s t : Li
       × ((next : ℕ) → drop next s ≡ flatMap encode l′ ++ t → Stand next (left - 1) l′)
   unfolding flatMap
   next-item at left [] h p = absurd (omega (arith, p .0))
-  next-item at left (a ∷ l′) h (n, v, e) =
-      (a, l′, refl, v .0, e ∙ append-assoc (encode a) (flatMap encode l′) t, λ next d. (omega (arith, n), v .1, d))
+  next-item at left (a ∷ l′) h (n, v, e) = (a, l′, refl, v .0, e ∙ append-assoc (encode a) (flatMap encode l′) t, λ next d. (omega (arith, n), v .1, d))
 
   pub no-item : (at left : ℕ) (l : List A) → left ≤ 0 → Stand at left l → (l ≡ []) × (drop at s ≡ t)
   unfolding flatMap

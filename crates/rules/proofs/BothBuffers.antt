@@ -1,31 +1,22 @@
 -- What is answered of both buffers, the report's and that of the rules, is as demanded.
-use Rattle.laws.proofs.Prelude.{_≡_, refl, sym, ap, _∙_, Bool, true, false, cond, _↔_, List, [], _++_, ℕ, _≤_, _<_, zero-add, arith, eqb, leb, length, take, leb-true, leb-false, le-leb, lt-leb}
-use Rattle.laws.specs.Decoded.{ok, no}
-use Rattle.laws.proofs.Decoding.{refused}
-use Rattle.text.specs.declared.utf8.Encoding.the-variants.{Utf8}
-use Rattle.text.proofs.WellFormed.{well-formed-iff}
+use Rattle.laws.proofs.Prelude.{_≡_, refl, sym, ap, _∙_, Bool, true, false, cond, _↔_, List, [], _++_, ℕ, _≤_, _<_, zero-add, arith, eqb, leb, length, take}
+use Rattle.laws.proofs.Prelude.{leb-true, leb-false, le-leb, lt-leb}
+use Rattle.laws.{specs.Decoded.ok, specs.Decoded.no, proofs.Decoding.refused}
+use Rattle.text.{specs.declared.utf8.Encoding.the-variants.Utf8, proofs.WellFormed.well-formed-iff}
 use Rattle.wire.specs.Refusals.{ofSheets, oneOf}
 use Rattle.wire.specs.Refusals as refusals
-use Rattle.sheet.specs.Sheet.{Sheet, accept}
-use Rattle.sheet.specs.Judge.{judge}
-use Rattle.sheet_codec.specs.SheetOf.{SheetOf}
-use Rattle.sheet_codec.proofs.Sheets.{accepts-exactly}
+use Rattle.sheet.specs.{Sheet.Sheet, Sheet.accept, Judge.judge}
+use Rattle.sheet_codec.{specs.SheetOf.SheetOf, proofs.Sheets.accepts-exactly}
 use Rattle.sheet_codec.proofs.Refusals.{apart, Decision, decided, cut-off, judged-sheet, judged-refusal}
-use Rattle.sheet_check.specs.declared.check.Parts.{Parts}
-use Rattle.sheet_check.specs.code.Accepts.{Accepts}
-use Rattle.report.specs.declared.writer.Pen.{Pen}
-use Rattle.report.specs.declared.writer.Outcome.{Outcome}
-use Rattle.report.specs.declared.writer.Outcome.the-variants.{Accepted, Refused}
-use Rattle.report.specs.ModuleInfo.{ModuleInfo}
-use Rattle.report.specs.Encode.{encode}
+use Rattle.sheet_check.specs.{declared.check.Parts.Parts, code.Accepts.Accepts}
+use Rattle.report.specs.declared.writer.{Pen.Pen, Outcome.Outcome, Outcome.the-variants.Accepted, Outcome.the-variants.Refused}
+use Rattle.report.specs.{ModuleInfo.ModuleInfo, Encode.encode}
 use Rattle.report.specs.Buffer.{holds, full, wrote, bufferAs, fullPlace}
 use Rattle.report.specs.Answer.{Answer, accepted, refusedWith, fitted, answered, outcomeAs}
 use Rattle.rules.specs.declared.Ruled.{Ruled}
 use Rattle.rules.specs.declared.Ruled.the-variants as ruled
-use Rattle.module_info.specs.Information.{moduleInfo, defaultInfo}
+use Rattle.module_info.{specs.Information.moduleInfo, specs.Information.defaultInfo, specs.Demands.Demands, proofs.Notes.refused-ten}
 use Rattle.rules.specs.Rules.{rulesOf, Answers, refusedBoth, bothFitted, bothOf, bothAs, reportOf, DemandsOfBoth}
-use Rattle.module_info.specs.Demands.{Demands}
-use Rattle.module_info.proofs.Notes.{refused-ten}
 use Rattle.module_info.proofs.Accepted.{demanded, refusal-demanded, empty-demanded}
 use Rattle.rules.proofs.Origins.{rules-right}
 
@@ -37,12 +28,15 @@ module _ (size room : ℕ) where
   first-refused m b {r} {buffer} e = rw (refused-ten size r buffer m e) (by (leb (length (encode m)) size) (rw (refused-ten size r buffer m e) at e))
     where
       by : (x : Bool) → outcomeAs (Refused refusals.buffer) buffer ≡ cond x (accepted size (encode m)) (refusedWith refusals.buffer size)
-          → refusedBoth refusals.buffer size room ≡ cond x (cond (leb (length b) room) (record { report = accepted size (encode m); rules = accepted room b }) (refusedBoth refusals.rules size room)) (refusedBoth refusals.buffer size room)
+          → refusedBoth refusals.buffer size room ≡ cond x
+          (cond (leb (length b) room) (record { report = accepted size (encode m); rules = accepted room b }) (refusedBoth refusals.rules size room))
+          (refusedBoth refusals.buffer size room)
       by true f = let never : refusals.buffer ≡ 0 = ap (λ (x : Answer). x .number) f in absurd (omega arith)
       by false f = refl
 
   -- it has room: its answer is one of acceptance
-  accepted-first : (a : List ℕ) {n : ℕ} {buffer : List ℕ} → outcomeAs (Accepted n) buffer ≡ fitted size a → (leb (length a) size ≡ true) × (outcomeAs (Accepted n) buffer ≡ accepted size a)
+  accepted-first : (a : List ℕ) {n : ℕ} {buffer : List ℕ} → outcomeAs (Accepted n) buffer ≡ fitted size a →
+      (leb (length a) size ≡ true) × (outcomeAs (Accepted n) buffer ≡ accepted size a)
   unfolding fitted
   accepted-first a {n} {buffer} e = by (leb (length a) size) refl e
     where
@@ -52,7 +46,8 @@ module _ (size room : ℕ) where
       by false h f = let never : 0 ≡ refusals.buffer = ap (λ (x : Answer). x .number) f in absurd (omega arith)
 
   -- and the rules have none
-  pub second-refused : (a b : List ℕ) {n : ℕ} {buffer : List ℕ} (rules : List ℕ) (p : Pen) → outcomeAs (Accepted n) buffer ≡ fitted size a → eqb (p .at) fullPlace ≡ true
+  pub second-refused : (a b : List ℕ) {n : ℕ} {buffer : List ℕ} (rules : List ℕ) (p : Pen) → outcomeAs (Accepted n) buffer ≡ fitted size a →
+      eqb (p .at) fullPlace ≡ true
       → bufferAs rules p ≡ wrote (holds room []) b → refusedBoth refusals.rules size room ≡ bothFitted size room a b
   unfolding bothFitted wrote
   second-refused a b rules p e is-full h = rw (accepted-first a e .0) (by (leb (length b) room) (rw (is-full, zero-add) at h))
@@ -66,7 +61,8 @@ module _ (size room : ℕ) where
       by false f = refl
 
   -- or they have room too
-  pub both-accepted : (a b : List ℕ) {n k : ℕ} {buffer rules′ : List ℕ} (rules : List ℕ) (p : Pen) → outcomeAs (Accepted n) buffer ≡ fitted size a → eqb (p .at) fullPlace ≡ false
+  pub both-accepted : (a b : List ℕ) {n k : ℕ} {buffer rules′ : List ℕ} (rules : List ℕ) (p : Pen) → outcomeAs (Accepted n) buffer ≡ fitted size a →
+      eqb (p .at) fullPlace ≡ false
       → bufferAs rules p ≡ wrote (holds room []) b → length rules ≡ room → (o : Outcome) → outcomeAs o rules′ ≡ answered (length rules) (bufferAs rules p)
       → k ≡ outcomeAs o rules′ .written → bothAs (ruled.Accepted n k) buffer rules′ ≡ bothFitted size room a b
   unfolding bothFitted wrote
@@ -78,7 +74,8 @@ module _ (size room : ℕ) where
       held (Refused r) = refl
 
       by : (x : Bool) → holds (length rules) (take (p .at) rules) ≡ cond x (holds room ([] ++ b)) (full room)
-          → bothAs (ruled.Accepted n k) buffer rules′ ≡ cond x (record { report = accepted size a; rules = accepted room b }) (refusedBoth refusals.rules size room)
+          → bothAs (ruled.Accepted n k) buffer rules′
+          ≡ cond x (record { report = accepted size a; rules = accepted room b }) (refusedBoth refusals.rules size room)
       by true f =
           let front : take (p .at) rules ≡ b = cc in
           let second : outcomeAs o rules′ ≡ accepted room b = rw (front, long) at (rw not-full at answer) in
@@ -96,7 +93,8 @@ module _ (size room : ℕ) where
   unfolding fitted bothFitted
   as-before a b {x} e other = by (leb (length a) size) (leb (length b) room) e
     where
-      by : (y z : Bool) → x ≡ cond y (cond z (record { report = accepted size a; rules = accepted room b }) (refusedBoth refusals.rules size room)) (refusedBoth refusals.buffer size room)
+      by : (y z : Bool) → x ≡ cond y (cond z (record { report = accepted size a; rules = accepted room b })
+          (refusedBoth refusals.rules size room)) (refusedBoth refusals.buffer size room)
           → x .report ≡ cond y (accepted size a) (refusedWith refusals.buffer size)
       by true true f = ap (λ (x : Answers). x .report) f
       by true false f = absurd (other (ap (λ (x : Answers). x .report .number) f))
@@ -108,7 +106,8 @@ module _ (size room : ℕ) where
   is-sixteen a b = (λ e. by (leb (length a) size) refl (leb (length b) room) refl e, λ (h, i). rw (le-leb (length a) size h, lt-leb (length b) room i))
     where
       by : (y : Bool) → leb (length a) size ≡ y → (z : Bool) → leb (length b) room ≡ z
-          → cond y (cond z (record { report = accepted size a; rules = accepted room b }) (refusedBoth refusals.rules size room)) (refusedBoth refusals.buffer size room) .report .number ≡ refusals.rules
+          → cond y (cond z (record { report = accepted size a; rules = accepted room b }) (refusedBoth refusals.rules size room))
+          (refusedBoth refusals.buffer size room) .report .number ≡ refusals.rules
           → (length a ≤ size) × (room < length b)
       by true h true i e = absurd (omega (arith, e))
       by true h false i e = (leb-true (length a) size h, leb-false (length b) room i)
@@ -139,14 +138,16 @@ module _ (s : List ℕ) {size room : ℕ} {o : Ruled} {buffer rules : List ℕ} 
   pub empty-both : s ≡ [] → bothAs o buffer rules ≡ bothFitted size room (encode defaultInfo) [] → DemandsOfBoth s size room o buffer rules
   unfolding bothOf judge
   empty-both e answer =
-      let other : outcomeAs (reportOf o) buffer .number ≡ refusals.rules → ⊥ = λ f. omega (arith, is-sixteen size room (encode defaultInfo) [] .0 (sym (number-is o buffer rules answer) ∙ f) .1) in
+      let other : outcomeAs (reportOf o) buffer .number ≡ refusals.rules →
+      ⊥ = λ f. omega (arith, is-sixteen size room (encode defaultInfo) [] .0 (sym (number-is o buffer rules answer) ∙ f) .1) in
       no-sheet (λ t h. refused (sym cut-off ∙ (rw e at (accepts-exactly s t .1 h)))) (rw e answer) other
       (empty-demanded s e (part-of o buffer rules ∙ as-before size room (encode defaultInfo) [] answer (λ f. other (number-is o buffer rules refl ∙ f))))
 
   pub refusal-both : {r : ℕ} → 0 < length s → accept s ≡ no r → bothAs o buffer rules ≡ refusedBoth r size room → DemandsOfBoth s size room o buffer rules
   unfolding bothOf oneOf
   refusal-both {r} some e answer =
-      no-sheet (λ t h. refused (sym e ∙ accepts-exactly s t .1 h)) (rw (judged-refusal s some e) answer) (λ f. by (decided s) (sym (number-is o buffer rules answer) ∙ f))
+      no-sheet (λ t h. refused (sym e ∙ accepts-exactly s t .1 h)) (rw (judged-refusal s some e) answer)
+      (λ f. by (decided s) (sym (number-is o buffer rules answer) ∙ f))
       (refusal-demanded s some e (part-of o buffer rules ∙ ap (λ (x : Answers). x .report) answer))
     where
       by : Decision s → r ≡ refusals.rules → ⊥
@@ -158,7 +159,8 @@ module _ (s : List ℕ) {size room : ℕ} {o : Ruled} {buffer rules : List ℕ} 
           apart ofSheets among same refl
 
   pub sheet-both : {comments groups : List ℕ} {p : Parts} → Accepts s comments groups p
-      → ((t : Sheet) → accept s ≡ ok t [] → bothAs o buffer rules ≡ bothFitted size room (encode (moduleInfo t)) (rulesOf t)) → DemandsOfBoth s size room o buffer rules
+      → ((t : Sheet) → accept s ≡ ok t [] → bothAs o buffer rules ≡ bothFitted size room (encode (moduleInfo t)) (rulesOf t)) →
+      DemandsOfBoth s size room o buffer rules
   unfolding bothOf
   sheet-both a answer = record {
     answer = rw (judged-sheet s (a .accepted)) (answer (a .sheet) (a .accepted));
@@ -169,6 +171,7 @@ module _ (s : List ℕ) {size room : ℕ} {o : Ruled} {buffer rules : List ℕ} 
           (a .sheet, accepts-exactly s (a .sheet) .0 (a .accepted), room-first, none-second),
       λ (t, h, i, j). number-is o buffer rules (answer t (accepts-exactly s t .1 h)) ∙ is-sixteen size room _ _ .1 (i, j),
     );
-    report = λ other. demanded a (λ t e. part-of o buffer rules ∙ as-before size room (encode (moduleInfo t)) (rulesOf t) (answer t e) (λ f. other (number-is o buffer rules refl ∙ f)));
+    report = λ other. demanded a
+        (λ t e. part-of o buffer rules ∙ as-before size room (encode (moduleInfo t)) (rulesOf t) (answer t e) (λ f. other (number-is o buffer rules refl ∙ f)));
     origins = λ t h. rules-right t (well-formed-iff Utf8 (t .source) .1 (h .encodes .within .fields .source .1)) (h .encodes .within .fields .comments .1);
   }

@@ -1,48 +1,27 @@
 -- Origins and entries stand one to one, and how the origins are written.
-use Rattle.laws.proofs.Prelude.{_≡_, sym, ap, _∙_, true, Option, List, [], _∷_, map, flatMap, ℕ, zero, suc, _+_, _-_, _*_, _≤_, _<_, zero-add, arith, add-one, length, drop, getD, drop-of-length-le, drop-cons}
+use Rattle.laws.proofs.Prelude.{_≡_, sym, ap, _∙_, true, Option, List, [], _∷_, map, flatMap, ℕ, zero, suc, _+_, _-_, _*_, _≤_, _<_, zero-add, arith}
+use Rattle.laws.proofs.Prelude.{add-one, length, drop, getD, drop-of-length-le, drop-cons}
 use lib.ListN.{length-map}
-use Rattle.laws.specs.Aligned.{Aligned}
-use Rattle.laws.specs.Codec.{All}
-use Rattle.laws.specs.Decoded.{ok}
-use Rattle.laws.proofs.Aligned.{aligned-append}
-use Rattle.laws.proofs.Lists.{flatMap-append}
-use Rattle.text.specs.declared.utf8.Encoding.the-variants.{Utf8}
-use Rattle.text.specs.Utf8.{formed}
-use Rattle.sheet.specs.Fit.{Fit}
-use Rattle.sheet.specs.Limits.{entryLimit}
-use Rattle.sheet.specs.declared.groups.Group.{Group}
-use Rattle.sheet.specs.Lookups.{headGroup, endGroup}
-use Rattle.sheet.specs.Walked.{entries}
-use Rattle.sheet.specs.Sheet.{Sheet, accept}
-use Rattle.sheet.specs.code.Tables.{commentsIn, groupsIn}
-use Rattle.sheet.specs.code.Views.{programOf}
-use Rattle.sheet_codec.proofs.Sheets.{accepts-exactly}
-use Rattle.sheet_codec.proofs.EntryBytes.{few-entries}
-use Rattle.sheet_check.specs.declared.check.Parts.{Parts}
-use Rattle.sheet_check.specs.code.Accepts.{Accepts}
-use Rattle.report.specs.Origin.{encodeOrigin}
-use Rattle.report.specs.Buffer.{Buffer, wrote}
-use Rattle.report.proofs.Buffers.{wrote-append}
+use Rattle.laws.{specs.Aligned.Aligned, specs.Codec.All, specs.Decoded.ok, proofs.Aligned.aligned-append, proofs.Lists.flatMap-append}
+use Rattle.text.specs.{declared.utf8.Encoding.the-variants.Utf8, Utf8.formed}
+use Rattle.sheet.specs.{Fit.Fit, Limits.entryLimit, declared.groups.Group.Group, Lookups.headGroup, Lookups.endGroup, Walked.entries}
+use Rattle.sheet.specs.{Sheet.Sheet, Sheet.accept, code.Tables.commentsIn, code.Tables.groupsIn, code.Views.programOf}
+use Rattle.sheet_codec.proofs.{Sheets.accepts-exactly, EntryBytes.few-entries}
+use Rattle.sheet_check.specs.{declared.check.Parts.Parts, code.Accepts.Accepts}
+use Rattle.report.{specs.Origin.encodeOrigin, specs.Buffer.Buffer, specs.Buffer.wrote, proofs.Buffers.wrote-append}
 use Rattle.pragmas.specs.Asks.{selfTypesRule, jsxImportSourceRule, jsxImportSourceTypesRule}
 use Rattle.pragmas.specs.Pragmas.{inGroup, headComments, endComments, typesAt}
 use Rattle.pragmas.specs.Texts.{typesOf}
 use Rattle.pragmas.specs.Origins.{typesOrigins, headOrigins, endOrigins}
 use Rattle.pragmas.proofs.GivenFrom.{types-from, references-from, first-from, source-map-from}
-use Rattle.jsdoc_list.specs.Origins.{jsdocOrigins}
-use Rattle.jsdoc_list.proofs.Origins.{jsdoc-origins}
+use Rattle.jsdoc_list.{specs.Origins.jsdocOrigins, proofs.Origins.jsdoc-origins}
 use Rattle.dep_entries.specs.Entries.{Noted}
-use Rattle.dep.specs.Collect.{startsOf}
-use Rattle.dep.proofs.Counted.{counted, noted-first}
-use Rattle.dep.proofs.Turns.{types-at-start}
-use Rattle.module_info.specs.Information.{moduleInfo}
-use Rattle.module_info.specs.Replaced.{noted, notesWith}
-use Rattle.module_info.specs.code.Pieces.{PartsOf}
-use Rattle.rules.specs.code.Pieces.{commentOrigins}
-use Rattle.rules.specs.code.Rows.{startsFrom}
+use Rattle.dep.{specs.Collect.startsOf, proofs.Counted.counted, proofs.Counted.noted-first, proofs.Turns.types-at-start}
+use Rattle.module_info.specs.{Information.moduleInfo, Replaced.noted, Replaced.notesWith, code.Pieces.PartsOf}
+use Rattle.rules.specs.code.{Pieces.commentOrigins, Rows.startsFrom}
 use Rattle.rules.specs.Rules.{typesIn, entriesOf, OriginFor, originsIn, rulesOf}
 use Rattle.rules.specs.Rules as entry
-use Rattle.module_info.proofs.Notes.{held-whole, start-noted}
-use Rattle.module_info.proofs.Accepted.{root-of}
+use Rattle.module_info.proofs.{Notes.held-whole, Notes.start-noted, Accepted.root-of}
 
 -- a relation to what a function gives
 aligned-of : {A B C : Type 0} {P : B → C → Type 0} (f : A → B) {l : List A} {m : List C} → Aligned (λ a. P (f a)) l m → Aligned P (map f l) m
@@ -71,7 +50,8 @@ module _ (t : Sheet) where
       (aligned-append (aligned-of entry.self-types (first-from (t .source) head selfTypesRule (t .media)))
       (aligned-append (aligned-of entry.jsx-import-source (first-from (t .source) head jsxImportSourceRule (t .media)))
       (aligned-of entry.jsx-import-source-types (first-from (t .source) head jsxImportSourceTypesRule (t .media))))))
-      (aligned-append (aligned-of entry.jsdoc (jsdoc-origins (t .media) utf8 fit)) (aligned-of entry.source-map-url (source-map-from (t .source) (endComments t) (t .media)))))
+      (aligned-append (aligned-of entry.jsdoc (jsdoc-origins (t .media) utf8 fit))
+      (aligned-of entry.source-map-url (source-map-from (t .source) (endComments t) (t .media)))))
 
 -- the origins in the pieces that functions write
 module _ {t : Sheet} {source comments groups : List ℕ} {p : Parts} (o : PartsOf t source comments groups p) where
@@ -83,7 +63,21 @@ module _ {t : Sheet} {source comments groups : List ℕ} {p : Parts} (o : PartsO
       → x ≡ wrote u (flatMap encodeOrigin (commentOrigins t))
   unfolding commentOrigins headComments endComments
   comments-written u head end first imports map =
-      rw (← o .media, ← o .source-is, ← o .comments-are, ← o .groups-are, ← o .program, ← head, ← end, flatMap-append, wrote-append, ← first, flatMap-append, wrote-append, ← imports)
+      rw (
+        ← o .media,
+        ← o .source-is,
+        ← o .comments-are,
+        ← o .groups-are,
+        ← o .program,
+        ← head,
+        ← end,
+        flatMap-append,
+        wrote-append,
+        ← first,
+        flatMap-append,
+        wrote-append,
+        ← imports,
+      )
       map
 
   pub rules-written : (u : Buffer) {v w : Buffer} {starts : List ℕ} → starts ≡ startsOf (noted t)
@@ -136,4 +130,5 @@ module _ {s comments groups : List ℕ} {p : Parts} (a : Accepts s comments grou
       let as-many : length (noted t) ≡ p .entries = noted-many t ∙ root-of a e .count in
       let rows = held ∙ held-whole size (noted t) (rw (← as-many) at room) in
       rw (← as-many, rows)
-      (starts-behind _ (startsOf (noted t)) (λ i h. start-noted (noted t) _ _ i (rw (length-map (noted t) (λ (e : Noted). e .start)) at h)) 0 (length (noted t)) (zero-add _ ∙ sym (length-map (noted t) (λ (e : Noted). e .start))))
+      (starts-behind _ (startsOf (noted t)) (λ i h. start-noted (noted t) _ _ i (rw (length-map (noted t) (λ (e : Noted). e .start)) at h)) 0
+      (length (noted t)) (zero-add _ ∙ sym (length-map (noted t) (λ (e : Noted). e .start))))

@@ -1,7 +1,7 @@
 -- What a body is answered: its scan sum within the bound, or none.
-use Rattle.laws.proofs.Prelude.{_≡_, refl, sym, Bool, true, false, cond, _&&_, List, Option, Option·none-ne-some, ℕ, _*_, _≤_, _<_, leb, length, le-leb, lt-leb, leb-true}
-use mathlib.Core.Bool.{and-false}
-use mathlib.Core.Option.{Option·some-injective}
+use Rattle.laws.proofs.Prelude.{_≡_, refl, sym, Bool, true, false, cond, _&&_, List, Option, Option·none-ne-some, ℕ, _*_, _≤_, _<_, leb, length, le-leb}
+use Rattle.laws.proofs.Prelude.{lt-leb, leb-true}
+use mathlib.Core.{Bool.and-false, Option.Option·some-injective}
 use Rattle.scan.specs.declared.ScanSum.the-variants as sum
 use Rattle.scan.specs.Scan.{scanSum, starOpened, longest, scanned}
 use Rattle.scan.specs.Answers.{Counted}

@@ -1,5 +1,6 @@
 -- The scan sum of n bytes is at most n(n − 1), halved; of a star-opened body at most (n − 1)(n − 2), halved, which a star and braces reach.
-use Rattle.laws.proofs.Prelude.{_≡_, refl, ap, _∙_, Bool, true, false, cond, false≢true, and-eq-true-iff, List, [], _∷_, ℕ, zero, suc, _+_, _-_, _*_, _≤_, code, arith, eqb, length, replicate, length-replicate, eqb-true}
+use Rattle.laws.proofs.Prelude.{_≡_, refl, ap, _∙_, Bool, true, false, cond, false≢true, and-eq-true-iff, List, [], _∷_, ℕ, zero, suc, _+_, _-_, _*_, _≤_}
+use Rattle.laws.proofs.Prelude.{code, arith, eqb, length, replicate, length-replicate, eqb-true}
 use native.Mathlib.Nat.{mul-suc, suc-mul, mul-le-mul}
 use borrow.Author.Tests.{eqb-false}
 use Rattle.text.specs.Bytes.{begins}

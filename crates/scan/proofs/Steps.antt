@@ -1,5 +1,6 @@
 -- Scan length and scan sum from one byte on, by those from the next byte on.
-use Rattle.laws.proofs.Prelude.{_≡_, refl, sym, true, false, List, [], _∷_, ℕ, suc, _+_, _-_, _≤_, _<_, code, arith, zero-add, add-one, length, getD, drop, drop-cons, eq-eqb, ne-eqb}
+use Rattle.laws.proofs.Prelude.{_≡_, refl, sym, true, false, List, [], _∷_, ℕ, suc, _+_, _-_, _≤_, _<_, code, arith, zero-add, add-one, length, getD, drop}
+use Rattle.laws.proofs.Prelude.{drop-cons, eq-eqb, ne-eqb}
 use native.Mathlib.Nat.{add-comm, zero-min, min-zero, suc-min-suc}
 use Rattle.laws.specs.Ascii.{ascii}
 use Rattle.text.specs.Bytes.{begins}

@@ -1,18 +1,14 @@
 -- The body of a comment lies within the comment. In a well-formed source it is well-formed, and its boundaries are boundaries of the source.
-use Rattle.laws.proofs.Prelude.{_≡_, refl, sym, ap, _∙_, Bool, true, false, List, [], _∷_, _++_, append-assoc, ℕ, _+_, _-_, _≤_, _<_, sub-zero, arith, ltb, length, getD, take, drop, length-append, length-take, length-drop, getD-drop, drop-drop, ltb-true, ltb-false}
+use Rattle.laws.proofs.Prelude.{_≡_, refl, sym, ap, _∙_, Bool, true, false, List, [], _∷_, _++_, append-assoc, ℕ, _+_, _-_, _≤_, _<_, sub-zero, arith, ltb}
+use Rattle.laws.proofs.Prelude.{length, getD, take, drop, length-append, length-take, length-drop, getD-drop, drop-drop, ltb-true, ltb-false}
 use lib.ListN.{take-append-drop, List·getD-append}
 use lib.Seq.{getD-take, getD-at, drop-append-le}
-use Rattle.text.specs.declared.utf8.Encoding.the-variants.{Utf8}
-use Rattle.text.specs.Bytes.{part}
-use Rattle.text.specs.Utf8.{formed}
-use Rattle.text.specs.Position.{Boundary}
+use Rattle.text.specs.{declared.utf8.Encoding.the-variants.Utf8, Bytes.part, Utf8.formed, Position.Boundary}
 use Rattle.text.proofs.Cuts.{ascii-between, part-formed}
-use Rattle.sheet.specs.declared.comments.Comment.{Comment}
+use Rattle.sheet.specs.{declared.comments.Comment.Comment, Fit.Placed}
 use Rattle.sheet.specs.Comments.{slice, opening, closing}
-use Rattle.sheet.specs.Fit.{Placed}
 use Rattle.sheet.specs.Lookups.{HoldsMarks, bodySpan, body}
-use Rattle.sheet.proofs.Members.{placed-within}
-use Rattle.sheet.proofs.Marks.{fenced, holds-marks}
+use Rattle.sheet.proofs.{Members.placed-within, Marks.fenced, Marks.holds-marks}
 
 -- the body lies within the comment, and the comment within the source
 pub record BodyWithin (source : List ℕ) (c : Comment) : Type 0 where
@@ -87,7 +83,8 @@ module _ (source : List ℕ) (c : Comment) (f : formed Utf8 0 source ≡ true) (
           let end = placed-within source c h in
           let n : length s ≡ c .span .end - c .span .start = simp (length-take, length-drop) (omega arith) in
           let k = length s - length (b ∷ bs) in
-          let all : s ≡ front ++ b ∷ bs = h .marks ∙ ap (λ (t : List ℕ). opening (c .kind) ++ (body source c ++ t)) e ∙ sym (append-assoc (opening (c .kind)) (body source c) (b ∷ bs)) in
+          let all : s ≡ front ++ b ∷ bs = h .marks ∙ ap (λ (t : List ℕ). opening (c .kind) ++ (body source c ++ t)) e ∙
+          sym (append-assoc (opening (c .kind)) (body source c) (b ∷ bs)) in
           let size : length front ≡ k = omega (arith, ap length all ∙ length-append front (b ∷ bs)) in
           let byte : getD s k 0 ≡ b = ap (λ (r : List ℕ). getD r k 0) all ∙ getD-at front b bs 0 k size in
           let there : c .span .start + k ≡ c .span .end - length (b ∷ bs) = omega arith in

@@ -1,7 +1,7 @@
 -- Items one after the other, each judged by what the one before leaves.
-use Rattle.laws.proofs.Prelude.{_≡_, refl, ap, List, [], _∷_, flatMap, ℕ, zero, suc, _<_, suc-le-suc, zero-le, not-suc-le-zero, le-of-suc-le-suc, arith, length, getD}
-use Rattle.laws.specs.Decoded.{Decoder}
-use Rattle.laws.specs.Codec.{Codec}
+use Rattle.laws.proofs.Prelude.{_≡_, refl, ap, List, [], _∷_, flatMap, ℕ, zero, suc, _<_, suc-le-suc, zero-le, not-suc-le-zero, le-of-suc-le-suc, arith}
+use Rattle.laws.proofs.Prelude.{length, getD}
+use Rattle.laws.specs.{Decoded.Decoder, Codec.Codec}
 use Rattle.laws.proofs.Codecs.{built-return, built-map, built-then, codec-of}
 use Rattle.sheet.specs.Comments.{chained}
 
@@ -10,7 +10,8 @@ abbrev pub Chained : {A S : Type 0} → (S → A → Type 0) → (A → S) → S
 Chained P leaves s [] = Unit {0}
 Chained P leaves s (a ∷ l) = P s a × Chained P leaves (leaves a) l
 
-module _ {A S : Type 0} {item : S → Decoder A} {leaves : A → S} {encode : A → List ℕ} {P : S → A → Type 0} (element : (s : S) → Codec (item s) encode (P s)) where
+module _ {A S : Type 0} {item : S → Decoder A} {leaves : A → S} {encode : A → List ℕ} {P : S → A → Type 0}
+    (element : (s : S) → Codec (item s) encode (P s)) where
   pub chained-codec : (s : S) (k : ℕ) → Codec (chained item leaves s k) (flatMap encode) (λ l. (length l ≡ k) × Chained P leaves s l)
   unfolding chained flatMap
   chained-codec s zero =

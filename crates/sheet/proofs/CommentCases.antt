@@ -1,16 +1,11 @@
 -- Comments and groups that are refused, and where, as the definitions compute.
 use Rattle.laws.proofs.Prelude.{_≡_, refl, List, [], _∷_, _++_, map, ℕ}
 use Rattle.laws.specs.Decoded.{Decoder, _>>=_, _>>_, return, require}
-use Rattle.laws.specs.Ascii.{ascii}
-use Rattle.laws.proofs.Decoding.{refusal}
-use Rattle.text.specs.Bytes.{begins}
-use Rattle.text.specs.Position.{isBoundary}
+use Rattle.laws.{specs.Ascii.ascii, proofs.Decoding.refusal}
+use Rattle.text.specs.{Bytes.begins, Position.isBoundary}
 use Rattle.wire.specs.Fields.{byte, below, numbered}
-use Rattle.wire.specs.Number.{lastGroup, number}
-use Rattle.wire.specs.Text.{count}
-use Rattle.sheet.specs.Limits.{commentLimit, groupLimit}
-use Rattle.sheet.specs.declared.groups.Group.{Group}
-use Rattle.sheet.specs.Fields.{position, endFrom}
+use Rattle.wire.specs.{Number.lastGroup, Number.number, Text.count}
+use Rattle.sheet.specs.{Limits.commentLimit, Limits.groupLimit, declared.groups.Group.Group, Fields.position, Fields.endFrom}
 use Rattle.sheet.specs.Comments.{enclosed, marked, comment, comments, group, groups, anywhere, covered, chained}
 
 -- a block comment, whose first three bytes have both its marks; a line comment that touches it, at 5; "é", at 7
@@ -52,5 +47,6 @@ cases =
     ∷ []
 
 as-stated : map (λ c. refusal (fields (c .0))) cases ≡ map (λ c. c .1) cases
-unfolding byte below numbered lastGroup Rattle.wire.specs.Number.groups number count begins isBoundary position endFrom enclosed marked comment group covered chained
+unfolding byte below numbered lastGroup Rattle.wire.specs.Number.groups number count begins isBoundary position endFrom enclosed marked comment group
+    covered chained
 as-stated = refl

@@ -1,23 +1,15 @@
 -- Codecs of positions, comments and groups: what holds of those that were decoded.
-use Rattle.laws.proofs.Prelude.{_≡_, refl, Bool, true, _&&_, and-eq-true-iff, List, append-nil, ℕ, _+_, _≤_, leb, ltb, length, ltb-true, leb-true, lt-ltb, le-leb}
-use Rattle.laws.specs.Decoded.{ok}
-use Rattle.laws.specs.Codec.{Codec}
-use Rattle.laws.proofs.Decoding.{value, then-ok}
+use Rattle.laws.proofs.Prelude.{_≡_, refl, Bool, true, _&&_, and-eq-true-iff, List, append-nil, ℕ, _+_, _≤_, leb, ltb, length, ltb-true, leb-true, lt-ltb}
+use Rattle.laws.proofs.Prelude.{le-leb}
+use Rattle.laws.{specs.Decoded.ok, specs.Codec.Codec, proofs.Decoding.value, proofs.Decoding.then-ok}
 use Rattle.laws.proofs.Codecs.{built-return, built-then, built-require, codec-of, codec-as, tested, built-free}
-use Rattle.text.specs.Position.{Boundary, isBoundary}
-use Rattle.text.proofs.Boundary.{is-boundary-iff}
-use Rattle.wire.specs.Number.{largest, encodeNumber}
-use Rattle.wire.proofs.NumberCodec.{number-codec}
-use Rattle.wire.proofs.Numbered.{numbered-codec}
-use Rattle.sheet.specs.declared.fields.Span.{Span}
-use Rattle.sheet.specs.declared.comments.Comment.{Comment}
-use Rattle.sheet.specs.declared.groups.Group.{Group}
-use Rattle.sheet.specs.declared.names.Side.{Side}
+use Rattle.text.{specs.Position.Boundary, specs.Position.isBoundary, proofs.Boundary.is-boundary-iff}
+use Rattle.wire.{specs.Number.largest, specs.Number.encodeNumber, proofs.NumberCodec.number-codec, proofs.Numbered.numbered-codec}
+use Rattle.sheet.specs.declared.{fields.Span.Span, comments.Comment.Comment, groups.Group.Group, names.Side.Side}
 use Rattle.sheet.specs.Fields.{position, endFrom, span}
 use Rattle.sheet.specs.Comments.{slice, marked, comment, encodeComment, group, encodeGroup}
 use Rattle.sheet.specs.Fit.{Placed, Reaching}
-use Rattle.sheet.proofs.EnumNumbers.{kind-numbers, side-numbers}
-use Rattle.sheet.proofs.Marks.{marked-iff}
+use Rattle.sheet.proofs.{EnumNumbers.kind-numbers, EnumNumbers.side-numbers, Marks.marked-iff}
 
 -- a position
 pub record At (source : List ℕ) (p : ℕ) : Type 0 where
@@ -62,14 +54,18 @@ module _ (source : List ℕ) where
   unfolding comment
   comment-codec last =
       codec-of
-      (built-free (numbered-codec kind-numbers) (λ kind. built-then position-codec (λ start. built-require (leb last start) 7 (built-then (end-codec start) (λ end.
+      (built-free (numbered-codec kind-numbers)
+      (λ kind. built-then position-codec (λ start. built-require (leb last start) 7 (built-then (end-codec start) (λ end.
       built-require (marked kind (slice source (record { start = start; end = end }))) 7
       (built-return (record { kind = kind; span = record { start = start; end = end } })))))))
       (λ c v.
       let w = v .placed in
       let start : At source (c .span .start) = record { boundary = w .start; small = v .small .0 } in
-      let end : At source (c .span .end) = record { boundary = w .end; small = v .small .1 } in
-      ((c .kind, (c .span .start, (c .span .end, tt))), refl, (start, (le-leb last (c .span .start) (v .behind), ((end, w .order), (marked-iff source c (w .order) (w .end .0) .1 (w .marks), tt))))))
+      let end : At source (c .span .end) = record { boundary = w .end; small = v .small .1 } in (
+        (c .kind, (c .span .start, (c .span .end, tt))),
+        refl,
+        (start, (le-leb last (c .span .start) (v .behind), ((end, w .order), (marked-iff source c (w .order) (w .end .0) .1 (w .marks), tt)))),
+      ))
       (λ p v.
       let (start, (behind, ((end, order), (marks, z)))) = v in (
         rw (append-nil (encodeNumber (p .1 .1 .0))),
@@ -84,13 +80,15 @@ module _ (source : List ℕ) where
   unfolding group
   group-codec total after =
       codec-of
-      (built-free (numbered-codec side-numbers) (λ side. built-then position-codec (λ p. built-require (after side p) 7 (built-then number-codec (λ first. built-then number-codec (λ n.
+      (built-free (numbered-codec side-numbers)
+      (λ side. built-then position-codec (λ p. built-require (after side p) 7 (built-then number-codec (λ first. built-then number-codec (λ n.
       built-require (ltb 0 n && leb (first + n) total) 7
       (built-return (record { side = side; position = p; first = first; count = n }))))))))
       (λ g v.
       let w = v .reaching in
       let (position, first, n) = v .small in
-      let reach = and-eq-true-iff (ltb 0 (g .count)) (leb (g .first + g .count) total) .1 (lt-ltb 0 (g .count) (w .some), le-leb (g .first + g .count) total (w .reach)) in
+      let reach = and-eq-true-iff (ltb 0 (g .count)) (leb (g .first + g .count) total) .1
+      (lt-ltb 0 (g .count) (w .some), le-leb (g .first + g .count) total (w .reach)) in
       ((g .side, (g .position, (g .first, (g .count, tt)))), refl, (record { boundary = v .place; small = position }, (v .follows, (first, (n, (reach, tt)))))))
       (λ p v.
       let (at, (follows, (small, (small′, (reach, z))))) = v in

@@ -1,16 +1,17 @@
 -- Which comments are in some group, from the longest group that begins at each.
-use Rattle.laws.proofs.Prelude.{_≡_, refl, sym, _∙_, Bool, true, false, cond, _&&_, _||_, or-true, true≢false, false≢true, and-eq-true-iff, _⊎_, inl, inr, ⊎-elim, _↔_, List, [], _∷_, _++_, List·Memᴰ, List·Memᴰ·head, List·Memᴰ·tail, List·Memᴰ·not-nil, List·Memᴰ·cases-cons, ℕ, zero, suc, _+_, _-_, _≤_, _<_, zero-le, sub-zero, not-suc-le-zero, le-of-suc-le-suc, add-one, arith, eqb, leb, ltb, length, getD, set, replicate, length-replicate, getD-set-same, getD-set-other, leb-true, le-leb, ltb-true, ltb-false, eqb-true, lt-ltb, le-ltb, ne-eqb}
+use Rattle.laws.proofs.Prelude.{_≡_, refl, sym, _∙_, Bool, true, false, cond, _&&_, _||_, or-true, true≢false, false≢true, and-eq-true-iff, _⊎_, inl, inr}
+use Rattle.laws.proofs.Prelude.{⊎-elim, _↔_, List, [], _∷_, _++_, List·Memᴰ, List·Memᴰ·head, List·Memᴰ·tail, List·Memᴰ·not-nil, List·Memᴰ·cases-cons, ℕ}
+use Rattle.laws.proofs.Prelude.{zero, suc, _+_, _-_, _≤_, _<_, zero-le, sub-zero, not-suc-le-zero, le-of-suc-le-suc, add-one, arith, eqb, leb, ltb, length}
+use Rattle.laws.proofs.Prelude.{getD, set, replicate, length-replicate, getD-set-same, getD-set-other, leb-true, le-leb, ltb-true, ltb-false, eqb-true}
+use Rattle.laws.proofs.Prelude.{lt-ltb, le-ltb, ne-eqb}
 use mathlib.Core.Bool.{or-assoc}
 use Prim.Native.Nat.{max}
 use native.Mathlib.Nat.{zero-max, max-zero, max-eq-left, max-eq-right, sub-eq-zero-of-le, eq-or-lt-of-le}
-use lib.Dec.{leb·suc-suc}
-use lib.ListN.{getD-replicate, List·getD-append}
+use lib.{Dec.leb·suc-suc, ListN.getD-replicate, ListN.List·getD-append}
 use borrow.Author.Tests.{eqb-false}
-use Rattle.sheet.specs.declared.groups.Group.{Group}
+use Rattle.sheet.specs.{declared.groups.Group.Group, Fit.Holds, Fit.HeldBySome, code.Covering.longestAt}
 use Rattle.sheet.specs.Comments.{holds, inSome, covered}
-use Rattle.sheet.specs.Fit.{Holds, HeldBySome}
 use Rattle.sheet.specs.code.Tables.{rows, groupIn, groupsIn}
-use Rattle.sheet.specs.code.Covering.{longestAt}
 
 -- a number is below the larger of two just where it is below one of them
 below-max : (j a b : ℕ) → ltb j (max a b) ≡ (ltb j a || ltb j b)
@@ -170,17 +171,15 @@ module _ {table : List ℕ} {m n : ℕ} {longest₀ longest : List ℕ} {k : ℕ
   unfolding rows longestAt
   keep-more {longest′} l raised =
       let left : m - k ≡ suc (m - suc k) = omega arith in
-      record {
-        most = omega arith;
-        rest = λ i x. rw (add-one k) (omega (arith, rw left at (h .rest i x), raised i x));
-      }
+      record { most = omega arith; rest = λ i x. rw (add-one k) (omega (arith, rw left at (h .rest i x), raised i x)) }
 
   pub keep-all : m ≤ k → (i : ℕ) → i < n → getD longest i 0 ≡ max (getD longest₀ i 0) (longestAt (groupsIn table m) i)
   unfolding rows longestAt
   keep-all x i l = rw (sub-eq-zero-of-le x, max-zero) at (h .rest i l)
 
 -- from zeros
-pub keep-zeros : {longest : List ℕ} (n : ℕ) (rest : List ℕ) → longest ≡ replicate n 0 ++ rest → (i : ℕ) → i < n → {x y : ℕ} → x ≡ max (getD longest i 0) y → x ≡ y
+pub keep-zeros : {longest : List ℕ} (n : ℕ) (rest : List ℕ) → longest ≡ replicate n 0 ++ rest → (i : ℕ) → i < n → {x y : ℕ} → x ≡ max (getD longest i 0) y →
+    x ≡ y
 keep-zeros n rest e i l f =
     let zeros : List ℕ = replicate n 0 in
     let h : i < length zeros = rw length-replicate l in

@@ -1,11 +1,9 @@
 -- The comments and the groups of a sheet: what decodes is what document 01 asks of them, and that decodes.
 use Rattle.laws.proofs.Prelude.{_≡_, refl, true, List, flatMap, ℕ, _≤_, _<_, zero-le, arith, length}
-use Rattle.laws.specs.Codec.{Codec}
-use Rattle.laws.proofs.Codecs.{codec-as}
+use Rattle.laws.{specs.Codec.Codec, proofs.Codecs.codec-as}
 use Rattle.text.specs.Position.{Boundary}
 use Rattle.wire.specs.Number.{largest}
-use Rattle.sheet.specs.declared.comments.Comment.{Comment}
-use Rattle.sheet.specs.declared.groups.Group.{Group}
+use Rattle.sheet.specs.declared.{comments.Comment.Comment, groups.Group.Group}
 use Rattle.sheet.specs.Comments.{comments, encodeComment, endOf, groups, encodeGroup, anywhere, mayFollow}
 use Rattle.sheet.specs.Fit.{Placed, Fit, noComment, Reaching, Precedes, Grouped, noGroup, groupOf}
 use Rattle.sheet.proofs.Chains.{Chained, chained-codec, of-each, of-pairs, chain}
@@ -30,7 +28,8 @@ module _ (source : List ℕ) where
       0 cs (f .each) (λ k h. zero-le) (f .apart)
 
   pub comments-codec : length source ≤ largest → (n : ℕ) → Codec (comments source 0 n) (flatMap encodeComment) (λ cs. (length cs ≡ n) × Fit source cs)
-  comments-codec small n = codec-as (chained-codec (comment-codec source) 0 n) (λ cs v. (v .0, fit-chained small cs (v .1))) (λ cs v. (v .0, chained-fit cs (v .1)))
+  comments-codec small n = codec-as (chained-codec (comment-codec source) 0 n) (λ cs v. (v .0, fit-chained small cs (v .1)))
+      (λ cs v. (v .0, chained-fit cs (v .1)))
 
   -- each group is at a boundary
   abbrev pub AtBoundaries : List Group → Type 0

@@ -10,7 +10,19 @@ use Rattle.sheet.specs.Names.{mediaNumber, mediaTypes, kindNumber, comme
 pub media-numbers : Numbers mediaNumber mediaTypes
 media-numbers =
     numbers mediaNumber mediaTypes
-    (elim [ JavaScript ↦ refl | Jsx ↦ refl | Mjs ↦ refl | Cjs ↦ refl | TypeScript ↦ refl | Mts ↦ refl | Cts ↦ refl | Dts ↦ refl | Dmts ↦ refl | Dcts ↦ refl | Tsx ↦ refl ])
+    (elim [
+      | JavaScript ↦ refl
+      | Jsx ↦ refl
+      | Mjs ↦ refl
+      | Cjs ↦ refl
+      | TypeScript ↦ refl
+      | Mts ↦ refl
+      | Cts ↦ refl
+      | Dts ↦ refl
+      | Dmts ↦ refl
+      | Dcts ↦ refl
+      | Tsx ↦ refl
+    ])
     refl
 
 pub kind-numbers : Numbers kindNumber commentKinds

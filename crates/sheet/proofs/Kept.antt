@@ -2,23 +2,21 @@
 use Rattle.laws.proofs.Prelude.{Bool, _&&_, List, [], _∷_, ℕ, zero, suc, _+_, eqb, leb, ltb}
 use Rattle.laws.specs.Decoded.{Decoder, _>>=_, return}
 use Rattle.laws.proofs.Kept.{Kept, done, next, test, either, at-index}
-use Rattle.text.specs.declared.utf8.Encoding.the-variants.{Utf8, Wtf8}
-use Rattle.text.specs.Position.{isBoundary}
+use Rattle.text.specs.{declared.utf8.Encoding.the-variants.Utf8, declared.utf8.Encoding.the-variants.Wtf8, Position.isBoundary}
 use Rattle.wire.specs.Number.{number}
-use Rattle.wire.proofs.Kept.{OfFields, two, three, four, six, seven, thirteen, below-kept, numbered-kept, flag-kept, optional-kept, number-kept, count-kept, text-kept}
+use Rattle.wire.proofs.Kept.{OfFields, two, three, four, six, seven, thirteen, below-kept, numbered-kept, flag-kept, optional-kept, number-kept, count-kept}
+use Rattle.wire.proofs.Kept.{text-kept}
 use Rattle.sheet.specs.Limits.{sourceLimit, textLimit, commentLimit, groupLimit, depthLimit, propertyLimit}
-use Rattle.sheet.specs.declared.fields.Span.{Span}
-use Rattle.sheet.specs.declared.comments.Comment.{Comment}
-use Rattle.sheet.specs.declared.groups.Group.{Group}
-use Rattle.sheet.specs.declared.names.Side.{Side}
+use Rattle.sheet.specs.declared.{fields.Span.Span, comments.Comment.Comment, groups.Group.Group, names.Side.Side}
 use Rattle.sheet.specs.Names.{mediaTypes, commentKinds, sides, importPhases}
 use Rattle.sheet.specs.Tree.{Quoted, Pieces, Node, Nodes, Arguments, Properties, Attributes}
 use Rattle.sheet.specs.Fields.{position, endFrom, span}
 use Rattle.sheet.specs.Comments.{slice, marked, chained, comment, group, anywhere, covered}
-use Rattle.sheet.specs.Quotation.{looksQuoted}
-use Rattle.sheet.specs.Program.{Program, program}
-use Rattle.sheet.specs.Nodes.{many, tag, stringText, quoted, piece, nodes, argumentItem, arguments, keyedItem, propertyItem, properties, callRest, attributes, typeRest, otherFields, stringFields, nameFields, templateFields, binaryFields, objectFields, callFields, importFields, namedExportFields, exportAllFields, importTypeFields, importEqualsFields, moduleFields, fields, node, attributesObject}
-use Rattle.sheet.specs.Sheet.{Sheet, sheet}
+use Rattle.sheet.specs.{Quotation.looksQuoted, Program.Program, Program.program, Sheet.Sheet, Sheet.sheet}
+use Rattle.sheet.specs.Nodes.{many, tag, stringText, quoted, piece, nodes, argumentItem, arguments, keyedItem, propertyItem, properties, callRest}
+use Rattle.sheet.specs.Nodes.{attributes, typeRest, otherFields, stringFields, nameFields, templateFields, binaryFields, objectFields, callFields}
+use Rattle.sheet.specs.Nodes.{importFields, namedExportFields, exportAllFields, importTypeFields, importEqualsFields, moduleFields, fields, node}
+use Rattle.sheet.specs.Nodes.{attributesObject}
 
 module _ {P : (A : Type 0) → Decoder A → Type 0} (h : OfFields P) where
   open OfFields h using (kept, a-byte)
@@ -111,14 +109,16 @@ module _ {P : (A : Type 0) → Decoder A → Type 0} (h : OfFields P) where
   module _ (source : List ℕ) (levels : ℕ) {inner : Decoder Node} {object : Decoder Attributes} (p : P Node inner) (q : P Attributes object) (sp : Span) where
     rest-kept : (build : Arguments × Nodes → Node) → P Node (callRest inner source >>= λ p. return (build p))
     unfolding callRest
-    rest-kept build = then (then a-number (λ n. then (arguments-kept p source n) (λ xs. then a-number (λ m. then (nodes-kept p m) (λ ns. ends _))))) (λ p. ends _)
+    rest-kept build = then (then a-number (λ n. then (arguments-kept p source n) (λ xs. then a-number (λ m. then (nodes-kept p m) (λ ns. ends _)))))
+        (λ p. ends _)
 
     attributed : {A : Type 0} (f : Attributes → A) → P A (attributes object >>= λ a. return (f a))
     unfolding attributes
     attributed f = then (then (flag-kept h) (λ hasObject. either kept hasObject q (ends _))) (λ a. ends (f a))
 
     fields-kept : (t : ℕ) → P Node (fields source levels inner object sp t)
-    unfolding fields otherFields stringFields nameFields templateFields binaryFields objectFields callFields importFields namedExportFields exportAllFields importTypeFields typeRest importEqualsFields moduleFields
+    unfolding fields otherFields stringFields nameFields templateFields binaryFields objectFields callFields importFields namedExportFields exportAllFields
+        importTypeFields typeRest importEqualsFields moduleFields
     fields-kept t =
         let x = quoted-kept source levels in
         let flag-first = flag-kept h in
@@ -150,7 +150,8 @@ module _ {P : (A : Type 0) → Decoder A → Type 0} (h : OfFields P) where
       object-kept : (levels : ℕ) → P Attributes (attributesObject source levels)
       object-kept zero = then (tag-kept (eqb 5) 0) (λ t. refuses four)
       object-kept (suc d) =
-          then (tag-kept (eqb 5) (suc d)) (λ t. then (span-kept source) (λ sp. then (count-kept h propertyLimit) (λ n. then (properties-kept (node-kept d) n) (λ ps. ends _))))
+          then (tag-kept (eqb 5) (suc d))
+          (λ t. then (span-kept source) (λ sp. then (count-kept h propertyLimit) (λ n. then (properties-kept (node-kept d) n) (λ ps. ends _))))
 
   pub sheet-kept : P Sheet sheet
   unfolding sheet

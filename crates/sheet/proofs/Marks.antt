@@ -1,15 +1,13 @@
 -- The marks of a comment: what the test for them says, and that a comment is no shorter than they are.
-use Rattle.laws.proofs.Prelude.{_≡_, sym, ap, _∙_, true, _&&_, and-eq-true-iff, List, [], _++_, append-nil, append-assoc, _↔_, ℕ, _+_, _-_, _≤_, _<_, arith, leb, length, getD, take, drop, length-append, length-take, length-drop, drop-of-length-le, length-take-le, drop-drop, drop-append-seam, leb-true, le-leb}
-use lib.ListN.{take-append-drop}
-use lib.Seq.{take-at, drop-at}
+use Rattle.laws.proofs.Prelude.{_≡_, sym, ap, _∙_, true, _&&_, and-eq-true-iff, List, [], _++_, append-nil, append-assoc, _↔_, ℕ, _+_, _-_, _≤_, _<_, arith}
+use Rattle.laws.proofs.Prelude.{leb, length, getD, take, drop, length-append, length-take, length-drop, drop-of-length-le, length-take-le, drop-drop}
+use Rattle.laws.proofs.Prelude.{drop-append-seam, leb-true, le-leb}
+use lib.{ListN.take-append-drop, Seq.take-at, Seq.drop-at}
 use Rattle.laws.proofs.Lists.{part-part}
-use Rattle.text.specs.Bytes.{begins}
-use Rattle.text.proofs.Words.{begins-sound, begins-complete}
-use Rattle.sheet.specs.declared.comments.Comment.{Comment}
-use Rattle.sheet.specs.declared.names.CommentKind.{CommentKind}
+use Rattle.text.{specs.Bytes.begins, proofs.Words.begins-sound, proofs.Words.begins-complete}
+use Rattle.sheet.specs.{declared.comments.Comment.Comment, declared.names.CommentKind.CommentKind, Fit.Placed}
 use Rattle.sheet.specs.declared.names.CommentKind.the-variants.{Line, Block, HtmlOpen, HtmlClose}
 use Rattle.sheet.specs.Comments.{Marks, marksOf, opening, closing, slice, enclosed, marked}
-use Rattle.sheet.specs.Fit.{Placed}
 use Rattle.sheet.specs.Lookups.{HoldsMarks, bodySpan, body}
 
 -- an opening is not empty, and its last byte is ASCII; a closing is empty, or its first byte is ASCII

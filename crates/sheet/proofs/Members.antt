@@ -1,12 +1,10 @@
 -- What is known of a table's comments and groups by their index, of the comments of a group, and of the groups that are looked up.
-use Rattle.laws.proofs.Prelude.{_≡_, Bool, true, false, cond, List, [], _∷_, Option, Option·none-ne-some, ℕ, suc, _+_, _-_, _≤_, _<_, zero-le, suc-le-suc, zero-add, length}
+use Rattle.laws.proofs.Prelude.{_≡_, Bool, true, false, cond, List, [], _∷_, Option, Option·none-ne-some, ℕ, suc, _+_, _-_, _≤_, _<_, zero-le, suc-le-suc}
+use Rattle.laws.proofs.Prelude.{zero-add, length}
 use mathlib.Core.Option.{Option·some-injective}
-use Rattle.sheet.specs.declared.comments.Comment.{Comment}
-use Rattle.sheet.specs.declared.groups.Group.{Group}
-use Rattle.sheet.specs.Program.{Program}
+use Rattle.sheet.specs.{declared.comments.Comment.Comment, declared.groups.Group.Group, Program.Program, declared.names.Side.Side}
 use Rattle.sheet.specs.code.Tables.{rows, commentIn, commentsIn}
 use Rattle.sheet.specs.Fit.{Placed, Fit, Reaching, groupOf, Grouped}
-use Rattle.sheet.specs.declared.names.Side.{Side}
 use Rattle.sheet.specs.declared.names.Side.the-variants.{Leading, Trailing}
 use Rattle.sheet.specs.Lookups.{standsAt, groupAt, headBy, headGroup, commentsOf, lastCommentOf}
 use Rattle.sheet.proofs.TableRows.{rows-length, rows-part, rows-last, comment-row}

@@ -1,10 +1,10 @@
 -- The test for a quotation says what it should, and what its bytes say of it.
-use Rattle.laws.proofs.Prelude.{_≡_, refl, sym, Bool, true, false, _&&_, _||_, or-true, true≢false, List, [], _∷_, inl, inr, ⊎-elim, _↔_, ℕ, _-_, _≤_, _<_, not-suc-le-zero, arith, eqb, length, getD, drop, length-drop, drop-cons, le-leb, ne-eqb}
+use Rattle.laws.proofs.Prelude.{_≡_, refl, sym, Bool, true, false, _&&_, _||_, or-true, true≢false, List, [], _∷_, inl, inr, ⊎-elim, _↔_, ℕ, _-_, _≤_, _<_}
+use Rattle.laws.proofs.Prelude.{not-suc-le-zero, arith, eqb, length, getD, drop, length-drop, drop-cons, le-leb, ne-eqb}
 use mathlib.Core.Bool.{and-true, or-false}
 use Rattle.laws.specs.Ascii.{ascii}
 use Rattle.text.specs.Bytes.{Mark, begins}
-use Rattle.sheet.specs.Comments.{enclosed}
-use Rattle.sheet.specs.Quotation.{Quotation, looksQuoted}
+use Rattle.sheet.specs.{Comments.enclosed, Quotation.Quotation, Quotation.looksQuoted}
 use Rattle.sheet.proofs.Marks.{enclosed-sound, enclosed-complete}
 
 -- true just where it is one
@@ -15,7 +15,8 @@ looks-quoted-iff bytes = (λ e. there (enclosed (ascii "\"") (ascii "\"") bytes)
     between : (m : ℕ) → Mark m → enclosed (m ∷ []) (m ∷ []) bytes ≡ true → Quotation bytes
     between m h e = let (t, i) = enclosed-sound (m ∷ []) (m ∷ []) bytes e in record { mark = m; inside = t; is-mark = h; all = i }
 
-    there : (a : Bool) → enclosed (ascii "\"") (ascii "\"") bytes ≡ a → (b : Bool) → enclosed (ascii "'") (ascii "'") bytes ≡ b → (a || b) ≡ true → Quotation bytes
+    there : (a : Bool) → enclosed (ascii "\"") (ascii "\"") bytes ≡ a → (b : Bool) → enclosed (ascii "'") (ascii "'") bytes ≡ b → (a || b) ≡ true →
+        Quotation bytes
     there true i b j e = between 0x22 (inl refl) i
     there false i true j e = between 0x27 (inr refl) j
     there false i false j e = absurd (true≢false (sym e))

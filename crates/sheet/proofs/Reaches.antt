@@ -1,15 +1,19 @@
 -- The walk makes the visits that it should, in their order, and a node is refused by 9 exactly where one of them is a call that meets it.
-use Rattle.laws.proofs.Prelude.{_≡_, refl, sym, ap, _∙_, Bool, true, false, cond, false≢true, _&&_, _||_, or-true, List, [], _∷_, _++_, append-nil, append-assoc, flatMap, List·Memᴰ, List·Memᴰ·head, List·Memᴰ·tail, List·Memᴰ·not-nil, List·Memᴰ·cases-cons, _↔_, ⊎-elim, _⊎_, inl, inr, Option, Option·none-ne-some}
+use Rattle.laws.proofs.Prelude.{_≡_, refl, sym, ap, _∙_, Bool, true, false, cond, false≢true, _&&_, _||_, or-true, List, [], _∷_, _++_, append-nil}
+use Rattle.laws.proofs.Prelude.{append-assoc, flatMap, List·Memᴰ, List·Memᴰ·head, List·Memᴰ·tail, List·Memᴰ·not-nil, List·Memᴰ·cases-cons, _↔_, ⊎-elim, _⊎_}
+use Rattle.laws.proofs.Prelude.{inl, inr, Option, Option·none-ne-some}
 use mathlib.Core.List.{List·Memᴰ·append-cases, List·Memᴰ·eq-of-singleton, Memᴰ·append-right}
-use Rattle.laws.specs.Codec.{All}
-use Rattle.laws.specs.Ascii.{ascii}
+use Rattle.laws.specs.{Codec.All, Ascii.ascii}
 use Rattle.laws.proofs.Lists.{flatMap-append, all-append, all-member, of-members, PartOf, part-whole, part-inner, part-member, part-flatMap}
 use Rattle.text.proofs.Words.{same-sound, same-refl}
-use Rattle.sheet.specs.Tree.{Pieces, Node, other, string, name, template, binary, object, importCall, call, importDecl, namedExport, exportFrom, exportAll, importType, importEquals, importRequire, moduleDecl, Nodes, none, more, Arguments, noArguments, argument, Properties, noProperties, spread, otherProperty, childKey, stringKey, nameKey, Attributes, without, withObject}
+use Rattle.sheet.specs.Tree.{Pieces, Node, other, string, name, template, binary, object, importCall, call, importDecl, namedExport, exportFrom}
+use Rattle.sheet.specs.Tree.{exportAll, importType, importEquals, importRequire, moduleDecl, Nodes, none, more, Arguments, noArguments, argument}
+use Rattle.sheet.specs.Tree.{Properties, noProperties, spread, otherProperty, childKey, stringKey, nameKey, Attributes, without, withObject}
 use Rattle.sheet.specs.Walk.{Visit, called, importing, expression, declared, walkAll, walkOf, walkIn, walkWith, total, visiting, visits}
 use Rattle.sheet.specs.Shape.{Shape, text, named, pieces, operation, properties, anything, shape, isRequire, isUncooked, anyUncooked}
 use Rattle.sheet.specs.Walked.{firstUncooked, refused, judging, uncooked}
-use Rattle.sheet.specs.Reached.{nodesIn, argumentsIn, propertiesIn, objectIn, children, Walked, itself, child, ownVisit, isCall, placed, UncookedFirst, uncookedFirst, MeetsNine, ofImport, ofRequire}
+use Rattle.sheet.specs.Reached.{nodesIn, argumentsIn, propertiesIn, objectIn, children, Walked, itself, child, ownVisit, isCall, placed}
+use Rattle.sheet.specs.Reached.{UncookedFirst, uncookedFirst, MeetsNine, ofImport, ofRequire}
 use Rattle.sheet.specs.WalkRight.{Visited, visited, AllVisited, noNodes, first, StandsAmong, WalkRight}
 use Rattle.sheet.proofs.Walks.{uncooked-any}
 
@@ -153,7 +157,8 @@ visit-walked = by-children (λ n. (v : Visit) → List·Memᴰ v (visits n) → 
 visits-within : {n m : Node} → Walked n m → PartOf (visits m) (visits n)
 visits-within {m = m} itself = part-whole (visits m)
 visits-within (child {n = n} w i) =
-    part-inner (part-flatMap visits (children n) i) (part-inner (rw (visits-placed n) (placed-part (ownVisit n) (flatMap visits (children n)))) (visits-within w))
+    part-inner (part-flatMap visits (children n) i)
+    (part-inner (rw (visits-placed n) (placed-part (ownVisit n) (flatMap visits (children n)))) (visits-within w))
 
 walked-visit : {n m : Node} → Walked n m → (v : Visit) → ownVisit m ≡ Option.some v → List·Memᴰ v (visits n)
 walked-visit {m = m} w v e = part-member (visits-within w) (rw (visits-placed m, e) (placed-own v (flatMap visits (children m))))

@@ -1,20 +1,14 @@
 -- What a revision leaves as it was: positions outside of the body, the spans of the tree, and the bodies of all other comments.
 use Rattle.laws.proofs.Prelude.{_≡_, true, inl, inr, List, [], _∷_, map, ℕ, zero, suc, _+_, _≤_, _<_, arith, length, take, drop}
 use native.Mathlib.Decide.{decLt}
-use Rattle.laws.specs.Codec.{All}
-use Rattle.laws.proofs.Lists.{all-parts}
-use Rattle.text.specs.declared.utf8.Encoding.the-variants.{Utf8}
-use Rattle.text.specs.Utf8.{formed}
-use Rattle.text.specs.Position.{characters, utf16}
+use Rattle.laws.{specs.Codec.All, proofs.Lists.all-parts}
+use Rattle.text.specs.{declared.utf8.Encoding.the-variants.Utf8, Utf8.formed, Position.characters, Position.utf16}
 use Rattle.text.proofs.Outside.{part-front, part-behind, position-outside}
-use Rattle.sheet.specs.declared.fields.Span.{Span}
-use Rattle.sheet.specs.declared.comments.Comment.{Comment}
-use Rattle.sheet.specs.declared.groups.Group.{Group}
+use Rattle.sheet.specs.{declared.fields.Span.Span, declared.comments.Comment.Comment, declared.groups.Group.Group, Sheet.Sheet}
 use Rattle.sheet.specs.Fit.{commentOf, Fit, Holds}
 use Rattle.sheet.specs.Lookups.{commentsOf, bodySpan, body}
 use Rattle.sheet.specs.Recorded.{startsAndEnds, ofProgram, spans, recorded}
 use Rattle.sheet.specs.Revision.{Outside, SameAt, bodyOf, Revision}
-use Rattle.sheet.specs.Sheet.{Sheet}
 use Rattle.sheet.proofs.Bodies.{BodyWithin, placed-body, body-formed}
 use Rattle.sheet.proofs.VisitSpans.{of-ends}
 
@@ -33,13 +27,15 @@ alike-within a =
     record { start = w .start; order = w .order; end = w .end; source-end = rw (← a .size) (w .source-end); long = rw (← a .same-body) (w .long) }
 
 -- what holds of the comments from an index on holds of those of a part
-of-part : (P : Comment → Type 0) (cs : List Comment) (from n : ℕ) → ((i : ℕ) → from ≤ i → i < from + n → i < length cs → P (commentOf cs i)) → All P (take n (drop from cs))
+of-part : (P : Comment → Type 0) (cs : List Comment) (from n : ℕ) → ((i : ℕ) → from ≤ i → i < from + n → i < length cs → P (commentOf cs i)) →
+    All P (take n (drop from cs))
 of-part P [] zero zero h = tt
 of-part P [] zero (suc n) h = tt
 of-part P [] (suc from) zero h = tt
 of-part P [] (suc from) (suc n) h = tt
 of-part P (c ∷ cs) zero zero h = tt
-of-part P (c ∷ cs) zero (suc n) h = (h 0 (omega arith) (omega arith) (omega arith), of-part P cs zero n (λ i f l k. h (suc i) (omega arith) (omega arith) (omega arith)))
+of-part P (c ∷ cs) zero (suc n) h =
+    (h 0 (omega arith) (omega arith) (omega arith), of-part P cs zero n (λ i f l k. h (suc i) (omega arith) (omega arith) (omega arith)))
 of-part P (c ∷ cs) (suc from) n h = of-part P cs from n (λ i f l k. h (suc i) (omega arith) (omega arith) (omega arith))
 
 module _ {t u : Sheet} {k : ℕ} (r : Revision t u k) where
@@ -84,7 +80,8 @@ module _ {t u : Sheet} {k : ℕ} (r : Revision t u k) where
               size = r .size;
               within = w;
               formed-body = body-formed (t .source) c f (fit .each i l);
-              same-body = part-front (t .source) (u .source) (bodyOf t k .start) (bodyOf t k .end) (r .front) (r .behind) (bodySpan c .start) (bodySpan c .end) (w .order) before;
+              same-body = part-front (t .source) (u .source) (bodyOf t k .start) (bodyOf t k .end) (r .front) (r .behind) (bodySpan c .start)
+                  (bodySpan c .end) (w .order) before;
               position = λ at x y. characters-kept at (inl (omega arith));
             }
         go (no h) =
@@ -93,7 +90,8 @@ module _ {t u : Sheet} {k : ℕ} (r : Revision t u k) where
               size = r .size;
               within = w;
               formed-body = body-formed (t .source) c f (fit .each i l);
-              same-body = part-behind (t .source) (u .source) (bodyOf t k .start) (bodyOf t k .end) (r .front) (r .behind) (bodySpan c .start) (bodySpan c .end) after;
+              same-body = part-behind (t .source) (u .source) (bodyOf t k .start) (bodyOf t k .end) (r .front) (r .behind) (bodySpan c .start)
+                  (bodySpan c .end) after;
               position = λ at x y. characters-kept at (inr (omega arith));
             }
 

@@ -1,16 +1,12 @@
 -- The search for the group of a side at a position, in rows that ascend.
-use Rattle.laws.proofs.Prelude.{_≡_, refl, Bool, true, false, and-eq-true-iff, _⊎_, inl, inr, List, Option, ℕ, zero, suc, _+_, _≤_, _<_, zero-le, suc-le-suc, add-zero, zero-add, not-suc-le-zero, le-of-suc-le-suc, arith, eqb, ltb, ltb-true, ltb-false, eqb-true}
+use Rattle.laws.proofs.Prelude.{_≡_, refl, Bool, true, false, and-eq-true-iff, _⊎_, inl, inr, List, Option, ℕ, zero, suc, _+_, _≤_, _<_, zero-le}
+use Rattle.laws.proofs.Prelude.{suc-le-suc, add-zero, zero-add, not-suc-le-zero, le-of-suc-le-suc, arith, eqb, ltb, ltb-true, ltb-false, eqb-true}
 use native.Mathlib.Nat.{add-suc, suc-add, eq-or-lt-of-le}
 use Rattle.wire.proofs.Numbered.{one-number}
-use Rattle.sheet.specs.declared.groups.Group.{Group}
-use Rattle.sheet.specs.declared.names.Side.{Side}
-use Rattle.sheet.specs.Names.{sideNumber}
-use Rattle.sheet.specs.Comments.{precedes, mayFollow}
+use Rattle.sheet.specs.{declared.groups.Group.Group, declared.names.Side.Side, Names.sideNumber, Comments.precedes, Comments.mayFollow, Fit.Ascending}
 use Rattle.sheet.specs.code.Tables.{rows, groupIn, groupsIn}
-use Rattle.sheet.specs.Fit.{Ascending}
 use Rattle.sheet.specs.Lookups.{standsAt, groupAt}
-use Rattle.sheet.proofs.EnumNumbers.{side-numbers}
-use Rattle.sheet.proofs.TableRows.{rows-length, group-row}
+use Rattle.sheet.proofs.{EnumNumbers.side-numbers, TableRows.rows-length, TableRows.group-row}
 use Rattle.sheet.proofs.Order.{in-order, irreflexive, precedes-trans, otherwise}
 
 module _ (g : Group) (side : Side) (position : ℕ) where
@@ -49,7 +45,8 @@ module _ (row : ℕ → Group) (side : Side) (position : ℕ) where
   first-there k (suc n) zero l h e = rw add-zero (rw (rw add-zero at e))
   first-there k (suc n) (suc i) l h e =
       let first : standsAt (row k) side position ≡ false = rw add-zero at (h 0 (suc-le-suc zero-le)) in
-      rw (first, add-suc, ← suc-add) (first-there (suc k) n i (le-of-suc-le-suc l) (λ j m. rw (add-suc, ← suc-add) at (h (suc j) (suc-le-suc m))) (rw (add-suc, ← suc-add) at e))
+      rw (first, add-suc, ← suc-add)
+      (first-there (suc k) n i (le-of-suc-le-suc l) (λ j m. rw (add-suc, ← suc-add) at (h (suc j) (suc-le-suc m))) (rw (add-suc, ← suc-add) at e))
 
 -- the rows before lo come before the place sought, and those from hi on behind it
 pub record Searched (table : List ℕ) (m : ℕ) (side : Side) (position lo hi : ℕ) : Type 0 where
@@ -59,7 +56,8 @@ pub record Searched (table : List ℕ) (m : ℕ) (side : Side) (position lo hi :
   pub above : (k : ℕ) → hi ≤ k → k < m → precedes side position (groupIn table k .side) (groupIn table k .position) ≡ true
 
 pub search-all : (table : List ℕ) (m : ℕ) (side : Side) (position : ℕ) → Searched table m side position 0 m
-search-all table m side position = record { order = zero-le; most = omega arith; below = λ k l. absurd (not-suc-le-zero l); above = λ k h l. absurd (omega arith) }
+search-all table m side position =
+    record { order = zero-le; most = omega arith; below = λ k l. absurd (not-suc-le-zero l); above = λ k h l. absurd (omega arith) }
 
 module _ {table : List ℕ} {m : ℕ} {side : Side} {position lo hi : ℕ} (s : Searched table m side position lo hi) where
   -- nothing is left to search
@@ -81,7 +79,8 @@ module _ {table : List ℕ} {m : ℕ} {side : Side} {position lo hi : ℕ} (s : 
     search-found e =
         let (s, p) = stands (groupIn table mid) side position e in
         let there : (j : ℕ) → j < mid → mayFollow (groupIn table j) side position ≡ true = λ j i. rw (s, p) at (rise j mid i l) in
-        rw zero-add at (first-there (groupIn table) side position 0 m mid l (λ j i. rw zero-add (before-other (groupIn table j) side position (there j i))) (rw zero-add e))
+        rw zero-add at (first-there (groupIn table) side position 0 m mid l (λ j i. rw zero-add (before-other (groupIn table j) side position (there j i)))
+        (rw zero-add e))
 
     pub search-up : mayFollow (groupIn table mid) side position ≡ true → mid < hi → Searched table m side position (mid + 1) hi
     search-up e y = record {
@@ -93,20 +92,17 @@ module _ {table : List ℕ} {m : ℕ} {side : Side} {position lo hi : ℕ} (s : 
       where
         go : (k : ℕ) → (k ≡ mid) ⊎ (k < mid) → mayFollow (groupIn table k) side position ≡ true
         go k (inl x) = rw x e
-        go k (inr x) = let g = groupIn table k in let h = groupIn table mid in precedes-trans (g .side) (g .position) (h .side) (h .position) side position (rise k mid x l) e
+        go k (inr x) = let g = groupIn table k in let h = groupIn table mid in precedes-trans (g .side) (g .position) (h .side) (h .position) side position
+            (rise k mid x l) e
 
     pub search-down : standsAt (groupIn table mid) side position ≡ false → mayFollow (groupIn table mid) side position ≡ false → lo ≤ mid
         → Searched table m side position lo mid
-    search-down d e x = record {
-      order = x;
-      most = omega arith;
-      below = s .below;
-      above = λ k h i. go k i (eq-or-lt-of-le h);
-    }
+    search-down d e x = record { order = x; most = omega arith; below = s .below; above = λ k h i. go k i (eq-or-lt-of-le h) }
       where
         behind : precedes side position (groupIn table mid .side) (groupIn table mid .position) ≡ true
         behind = otherwise (groupIn table mid .side) (groupIn table mid .position) side position d e
 
         go : (k : ℕ) → k < m → (mid ≡ k) ⊎ (mid < k) → precedes side position (groupIn table k .side) (groupIn table k .position) ≡ true
         go k i (inl h) = rw (← h) behind
-        go k i (inr h) = let g = groupIn table mid in let n = groupIn table k in precedes-trans side position (g .side) (g .position) (n .side) (n .position) behind (rise mid k h i)
+        go k i (inr h) = let g = groupIn table mid in let n = groupIn table k in precedes-trans side position (g .side) (g .position) (n .side)
+            (n .position) behind (rise mid k h i)

@@ -1,16 +1,17 @@
 -- Rows stored in tables: what is stored in a row is read there, and the other rows stay.
-use Rattle.laws.proofs.Prelude.{_≡_, refl, _∙_, List, [], _∷_, _++_, ℕ, zero, suc, _+_, _*_, _≤_, _<_, zero-add, not-suc-le-zero, arith, length, getD, set, length-set, getD-set-same, getD-set-other}
+use Rattle.laws.proofs.Prelude.{_≡_, refl, _∙_, List, [], _∷_, _++_, ℕ, zero, suc, _+_, _*_, _≤_, _<_, zero-add, not-suc-le-zero, arith, length, getD, set}
+use Rattle.laws.proofs.Prelude.{length-set, getD-set-same, getD-set-other}
 use mathlib.Core.Path.{ap₂}
 use lib.Seq.{sets}
 use Rattle.sheet.specs.code.Tables.{rows, commentRow, commentIn, groupRow, groupIn}
-use Rattle.sheet.proofs.EnumNumbers.{kind-numbers, side-numbers}
-use Rattle.sheet.proofs.TableRows.{rows-same, rows-more}
+use Rattle.sheet.proofs.{EnumNumbers.kind-numbers, EnumNumbers.side-numbers, TableRows.rows-same, TableRows.rows-more}
 
 -- a run of numbers stored from i on: what is outside it stays
 pub outside-sets : (t : List ℕ) (i : ℕ) (vs : List ℕ) (j : ℕ) → (i ≤ j → i + length vs ≤ j) → getD (sets t i vs) j 0 ≡ getD t j 0
 outside-sets t i [] j h = refl
 outside-sets t i (v ∷ vs) j h =
-    outside-sets (set t i v) (suc i) vs j (λ l. let past = h (omega arith) in omega arith) ∙ getD-set-other t i j v 0 (λ e. let past = h (omega arith) in omega arith)
+    outside-sets (set t i v) (suc i) vs j (λ l. let past = h (omega arith) in omega arith) ∙
+    getD-set-other t i j v 0 (λ e. let past = h (omega arith) in omega arith)
 
 -- and the jth of the numbers stands at j
 pub in-sets : (t : List ℕ) (i : ℕ) (vs : List ℕ) → i + length vs ≤ length t → (j n : ℕ) → j < length vs → i + j ≡ n → getD (sets t i vs) n 0 ≡ getD vs j 0
@@ -31,7 +32,12 @@ comment-table =
     record {
       same = λ t k c h.
           let v = in-sets t (3 * k) (commentRow c) h in
-          simp (v 0 (3 * k) (omega arith) (omega arith), v 1 (3 * k + 1) (omega arith) (omega arith), v 2 (3 * k + 2) (omega arith) (omega arith), kind-numbers .back (c .kind));
+          simp (
+            v 0 (3 * k) (omega arith) (omega arith),
+            v 1 (3 * k + 1) (omega arith) (omega arith),
+            v 2 (3 * k + 2) (omega arith) (omega arith),
+            kind-numbers .back (c .kind),
+          );
       other = λ t k c j h.
           let v = outside-sets t (3 * k) (commentRow c) in
           simp (v (3 * j) (λ l. omega arith), v (3 * j + 1) (λ l. omega arith), v (3 * j + 2) (λ l. omega arith));

@@ -1,5 +1,6 @@
 -- The rows of a table: how many, which, one more, and parts of them.
-use Rattle.laws.proofs.Prelude.{_≡_, refl, ap, _∙_, List, [], _∷_, _++_, Option, ℕ, zero, suc, _+_, _-_, _≤_, _<_, zero-le, suc-le-suc, add-zero, zero-add, not-suc-le-zero, le-of-suc-le-suc, add-one, arith, length, getD, take, drop}
+use Rattle.laws.proofs.Prelude.{_≡_, refl, ap, _∙_, List, [], _∷_, _++_, Option, ℕ, zero, suc, _+_, _-_, _≤_, _<_, zero-le, suc-le-suc, add-zero, zero-add}
+use Rattle.laws.proofs.Prelude.{not-suc-le-zero, le-of-suc-le-suc, add-one, arith, length, getD, take, drop}
 use mathlib.Core.List.{getLast?}
 use native.Mathlib.Nat.{add-suc, suc-add}
 use Rattle.sheet.specs.code.Tables.{rows, commentIn, commentsIn, groupIn, groupsIn}

@@ -1,12 +1,13 @@
 -- The spans that a visit reports are among those of its tree.
 use Rattle.laws.proofs.Prelude.{List, [], _∷_, _++_, Option, ℕ}
-use Rattle.laws.specs.Codec.{All, IfThere}
-use Rattle.laws.proofs.Lists.{all-append, all-parts}
-use Rattle.sheet.specs.declared.fields.Span.{Span}
-use Rattle.sheet.specs.Tree.{Quoted, Node, other, string, name, template, binary, object, importCall, call, importDecl, namedExport, exportFrom, exportAll, importType, importEquals, importRequire, moduleDecl, Nodes, none, more, Arguments, noArguments, argument, Properties, noProperties, spread, otherProperty, childKey, stringKey, nameKey, Attributes, without, withObject}
-use Rattle.sheet.specs.Strings.{stringHeld}
+use Rattle.laws.{specs.Codec.All, specs.Codec.IfThere, proofs.Lists.all-append, proofs.Lists.all-parts}
+use Rattle.sheet.specs.{declared.fields.Span.Span, Strings.stringHeld}
+use Rattle.sheet.specs.Tree.{Quoted, Node, other, string, name, template, binary, object, importCall, call, importDecl, namedExport, exportFrom}
+use Rattle.sheet.specs.Tree.{exportAll, importType, importEquals, importRequire, moduleDecl, Nodes, none, more, Arguments, noArguments, argument}
+use Rattle.sheet.specs.Tree.{Properties, noProperties, spread, otherProperty, childKey, stringKey, nameKey, Attributes, without, withObject}
 use Rattle.sheet.specs.Recorded.{spans, spansAll, spansOf, spansIn, spansWith, startsAndEnds}
-use Rattle.sheet.specs.Walk.{Callee, Visit, called, importing, expression, imported, exported, typed, required, declared, visiting, visits, walkAll, walkOf, walkIn, walkWith}
+use Rattle.sheet.specs.Walk.{Callee, Visit, called, importing, expression, imported, exported, typed, required, declared, visiting, visits, walkAll}
+use Rattle.sheet.specs.Walk.{walkOf, walkIn, walkWith}
 
 -- what holds of starts and ends holds of both of each span
 pub of-ends : (P : ℕ → Type 0) (sps : List Span) → All P (startsAndEnds sps) → All (λ sp. P (sp .start) × P (sp .end)) sps

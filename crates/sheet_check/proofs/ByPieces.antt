@@ -2,13 +2,8 @@
 use Rattle.laws.proofs.Prelude.{_≡_, List, ℕ, _≤_}
 use Rattle.laws.specs.Decoded.{ok, andThen, Decoder, _>>=_, return}
 use Rattle.laws.proofs.Decoding.{value, then-ok, then-then}
-use Rattle.wire.specs.Text.{count}
-use Rattle.wire.proofs.TextCodec.{count-codec}
-use Rattle.sheet.specs.Limits.{commentLimit}
-use Rattle.sheet.specs.declared.comments.Comment.{Comment}
-use Rattle.sheet.specs.Comments.{comments}
-use Rattle.sheet.specs.Program.{Program}
-use Rattle.sheet.specs.Tree.{Node}
+use Rattle.wire.{specs.Text.count, proofs.TextCodec.count-codec}
+use Rattle.sheet.specs.{Limits.commentLimit, declared.comments.Comment.Comment, Comments.comments, Program.Program, Tree.Node}
 use Rattle.sheet.specs.Sheet.{Sheet, sheet, sized, decodeSheet, accept}
 use Rattle.sheet_check.specs.code.Pieces.{sourceFields, commentFields, groupFields, Front, front, tree}
 

@@ -2,14 +2,9 @@
 use Rattle.laws.proofs.Prelude.{_≡_, refl, List, ℕ, _≤_, _<_, length, drop, le-leb, lt-leb}
 use Rattle.laws.specs.Decoded.{ok, no}
 use Rattle.text.specs.Bytes.{part}
-use Rattle.sheet.specs.Limits.{sheetLimit}
-use Rattle.sheet.specs.code.Views.{programOf}
-use Rattle.sheet.specs.Sheet.{sized, accept}
+use Rattle.sheet.specs.{Limits.sheetLimit, code.Views.programOf, Sheet.sized, Sheet.accept}
 use Rattle.sheet_check.specs.declared.front.Front as declared
-use Rattle.sheet_check.specs.declared.tree.Tree.{Tree}
-use Rattle.sheet_check.specs.code.Pieces.{front, tree}
-use Rattle.sheet_check.specs.code.Views.{frontOf, Stands}
-use Rattle.sheet_check.specs.code.Accepts.{Accepts}
+use Rattle.sheet_check.specs.{declared.tree.Tree.Tree, code.Pieces.front, code.Pieces.tree, code.Views.frontOf, code.Views.Stands, code.Accepts.Accepts}
 use Rattle.sheet_check.proofs.ByPieces.{whole, accept-by-pieces}
 
 pub too-many : (s : List ℕ) → sheetLimit < length s → accept s ≡ no 1

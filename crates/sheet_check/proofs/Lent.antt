@@ -3,8 +3,7 @@ use Rattle.laws.proofs.Prelude.{_≡_, sym, ap, _∙_, List, _++_, ℕ, _-_, _�
 use lib.Seq.{take-at, drop-at}
 use Rattle.laws.proofs.Lists.{part-part}
 use Rattle.text.specs.Bytes.{part}
-use Rattle.sheet.specs.Limits.{groupsStart, indexStart}
-use Rattle.sheet.specs.code.Tables.{commentsPart, groupsPart}
+use Rattle.sheet.specs.{Limits.groupsStart, Limits.indexStart, code.Tables.commentsPart, code.Tables.groupsPart}
 
 pub part-length : (table : List ℕ) (from to : ℕ) → from ≤ to → to ≤ length table → length (part table from to) ≡ to - from
 part-length table from to some inside = length-take-le (to - from) (drop from table) (omega (arith, length-drop from table))
@@ -34,7 +33,15 @@ module _ (table : List ℕ) (from to : ℕ) (some : from ≤ to) (inside : to �
   pub length-kept : length (renewed table from to new) ≡ length table
   length-kept =
       let behind = drop (to - from) (drop from table) in
-      omega (arith, long, front-long, length-append (take from table) (new ++ behind), length-append new behind, length-drop (to - from) (drop from table), length-drop from table)
+      omega (
+        arith,
+        long,
+        front-long,
+        length-append (take from table) (new ++ behind),
+        length-append new behind,
+        length-drop (to - from) (drop from table),
+        length-drop from table,
+      )
 
 -- the one table, with the comments that were read
 module _ (table : List ℕ) (room : indexStart ≤ length table) (comments : List ℕ) (kept : length comments ≡ length (commentsPart table)) where

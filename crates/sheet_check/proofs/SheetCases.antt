@@ -1,19 +1,17 @@
 -- Sheets with the first refusal that each meets, as the definitions compute.
 use Rattle.laws.proofs.Prelude.{_≡_, refl, List, [], _∷_, _++_, map, ℕ, length}
-use Rattle.laws.specs.Ascii.{ascii}
-use Rattle.laws.proofs.Decoding.{refusal}
-use Rattle.text.specs.Bytes.{begins, same}
+use Rattle.laws.{specs.Ascii.ascii, proofs.Decoding.refusal}
+use Rattle.text.specs.{Bytes.begins, Bytes.same, Position.isBoundary}
 use Rattle.text.specs.Utf8.{admits, lengthBy, charLength, formed}
-use Rattle.text.specs.Position.{isBoundary}
 use Rattle.wire.specs.Fields.{byte, below, numbered, flag, bytes}
-use Rattle.wire.specs.Number.{lastGroup, number}
-use Rattle.wire.specs.Text.{count, text}
-use Rattle.wire.specs.Optional.{optional}
+use Rattle.wire.specs.{Number.lastGroup, Number.number, Text.count, Text.text, Optional.optional}
 use Rattle.sheet.specs.Fields.{position, endFrom, span}
 use Rattle.sheet.specs.Comments.{enclosed, marked, comment, group, covered, chained}
-use Rattle.sheet.specs.Quotation.{looksQuoted}
-use Rattle.sheet.specs.Program.{program}
-use Rattle.sheet.specs.Nodes.{many, tag, stringText, quoted, piece, nodes, argumentItem, arguments, keyedItem, propertyItem, properties, attributes, otherFields, stringFields, nameFields, templateFields, binaryFields, objectFields, callRest, callFields, importFields, namedExportFields, exportAllFields, importTypeFields, typeRest, importEqualsFields, moduleFields, fields, node, attributesObject}
+use Rattle.sheet.specs.{Quotation.looksQuoted, Program.program}
+use Rattle.sheet.specs.Nodes.{many, tag, stringText, quoted, piece, nodes, argumentItem, arguments, keyedItem, propertyItem, properties, attributes}
+use Rattle.sheet.specs.Nodes.{otherFields, stringFields, nameFields, templateFields, binaryFields, objectFields, callRest, callFields, importFields}
+use Rattle.sheet.specs.Nodes.{namedExportFields, exportAllFields, importTypeFields, typeRest, importEqualsFields, moduleFields, fields, node}
+use Rattle.sheet.specs.Nodes.{attributesObject}
 use Rattle.sheet.specs.Sheet.{sheet, decodeSheet, accept}
 
 -- document 01's example: JavaScript, one comment, which is all of the source
@@ -60,5 +58,9 @@ cases =
     ∷ []
 
 as-stated : map (λ c. refusal (accept (c .0))) cases ≡ map (λ c. c .1) cases
-unfolding byte below numbered flag bytes lastGroup Rattle.wire.specs.Number.groups number count text admits lengthBy charLength formed begins same isBoundary position endFrom span enclosed looksQuoted marked comment group covered chained program many tag stringText quoted optional piece nodes argumentItem arguments keyedItem propertyItem properties attributes otherFields stringFields nameFields templateFields binaryFields objectFields callRest callFields importFields namedExportFields exportAllFields importTypeFields typeRest importEqualsFields moduleFields fields node attributesObject sheet decodeSheet accept
+unfolding byte below numbered flag bytes lastGroup Rattle.wire.specs.Number.groups number count text admits lengthBy charLength formed begins same
+    isBoundary position endFrom span enclosed looksQuoted marked comment group covered chained program many tag stringText quoted optional piece nodes
+    argumentItem arguments keyedItem propertyItem properties attributes otherFields stringFields nameFields templateFields binaryFields objectFields
+    callRest callFields importFields namedExportFields exportAllFields importTypeFields typeRest importEqualsFields moduleFields fields node
+    attributesObject sheet decodeSheet accept
 as-stated = refl

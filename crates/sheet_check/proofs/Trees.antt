@@ -2,17 +2,9 @@
 use Rattle.laws.proofs.Prelude.{_≡_, ap, _∙_, true, false, List, [], _∷_, ℕ, drop}
 use Rattle.laws.specs.Decoded.{ok, no, onOk}
 use Rattle.laws.proofs.Decoding.{onOk-ok, onOk-no}
-use Rattle.sheet.specs.Limits.{depthLimit}
-use Rattle.sheet.specs.Tree.{Node}
-use Rattle.sheet.specs.Program.{Program, program}
-use Rattle.sheet.specs.Nodes.{node}
-use Rattle.sheet.specs.code.Views.{programOf}
-use Rattle.sheet_nodes.specs.declared.tally.NodeTally.{NodeTally}
-use Rattle.sheet_nodes.specs.code.Tallies.{nodeTally}
-use Rattle.sheet_nodes.specs.code.Reach.{ReachesIn}
-use Rattle.sheet_check.specs.declared.tree.Tree.{Tree}
-use Rattle.sheet_check.specs.code.Pieces.{tree}
-use Rattle.sheet_check.specs.code.Views.{Stands}
+use Rattle.sheet.specs.{Limits.depthLimit, Tree.Node, Program.Program, Program.program, Nodes.node, code.Views.programOf}
+use Rattle.sheet_nodes.specs.{declared.tally.NodeTally.NodeTally, code.Tallies.nodeTally, code.Reach.ReachesIn}
+use Rattle.sheet_check.specs.{declared.tree.Tree.Tree, code.Pieces.tree, code.Views.Stands}
 
 module _ (source s : List ℕ) {p : Program} {t : List ℕ} (before : program source s ≡ ok p t) where
   pub root-refused : {r : ℕ} → onOk nodeTally (node source depthLimit t) ≡ no r → tree source s ≡ no r

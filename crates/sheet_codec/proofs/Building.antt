@@ -1,13 +1,11 @@
 -- More codecs of fields one after the other.
-use Rattle.laws.proofs.Prelude.{_≡_, refl, sym, ap, _∙_, _⊎_, inl, inr, ⊎-elim, Bool, true, false, cond, List, [], _∷_, _++_, append-assoc, ℕ, zero, suc, _+_, _≤_, _<_, zero-add, add-zero, arith, ltb, length, getD, ltb-true, ltb-false, lt-ltb, le-ltb}
+use Rattle.laws.proofs.Prelude.{_≡_, refl, sym, ap, _∙_, _⊎_, inl, inr, ⊎-elim, Bool, true, false, cond, List, [], _∷_, _++_, append-assoc, ℕ, zero, suc}
+use Rattle.laws.proofs.Prelude.{_+_, _≤_, _<_, zero-add, add-zero, arith, ltb, length, getD, ltb-true, ltb-false, lt-ltb, le-ltb}
 use Rattle.laws.specs.Decoded.{ok, Decoder, _>>=_, return, refuse}
-use Rattle.laws.specs.Codec.{Codec}
-use Rattle.laws.proofs.Decoding.{then-ok, then-then}
+use Rattle.laws.{specs.Codec.Codec, proofs.Decoding.then-ok, proofs.Decoding.then-then}
 use Rattle.laws.proofs.Codecs.{Built, built-then, codec-as, built-end}
 use Rattle.wire.specs.Fields.{below, Values, valueOf}
-use Rattle.wire.specs.Number.{largest, encodeNumber}
-use Rattle.wire.specs.Text.{count}
-use Rattle.wire.proofs.Numbered.{Numbers}
+use Rattle.wire.{specs.Number.largest, specs.Number.encodeNumber, specs.Text.count, proofs.Numbered.Numbers}
 use Rattle.wire.proofs.TextCodec.{below-codec, count-codec}
 
 -- a value by its number, or the number behind the last, and what follows each
@@ -39,7 +37,8 @@ module _ {E A A′ B : Type 0} {number : E → ℕ} {values : Values E} {e : E �
             rw i (behind b h u c t (ltb b limit) refl y);
       }
     where
-      behind : (b : ℕ) → b < suc limit → (u : List ℕ) (c : B) (t : List ℕ) (small : Bool) → ltb b limit ≡ small → cond small (e (valueOf values b)) e′ u ≡ ok c t
+      behind : (b : ℕ) → b < suc limit → (u : List ℕ) (c : B) (t : List ℕ) (small : Bool) → ltb b limit ≡ small →
+          cond small (e (valueOf values b)) e′ u ≡ ok c t
           → (p : (E × A) ⊎ A′)
           × (⊎-elim (λ (p : E × A). build (p .0) (p .1)) build′ p ≡ c)
           × (b ∷ u ≡ ⊎-elim (λ (p : E × A). number (p .0) ∷ encode (p .1)) (λ a. limit ∷ encode′ a) p ++ t)
@@ -72,7 +71,8 @@ module _ {L : Type 0} {d : Decoder ℕ} {ValidCount : ℕ → Type 0} {many : �
       }
 
   -- with the fields behind it, or as the last field
-  pub built-counted : {B : Type 0} {C : L → Type 0} {e : L → Decoder B} {build : (l : L) → C l → B} {rest : (l : L) → C l → List ℕ} {ValidRest : (l : L) → C l → Type 0}
+  pub built-counted : {B : Type 0} {C : L → Type 0} {e : L → Decoder B} {build : (l : L) → C l → B} {rest : (l : L) → C l → List ℕ} {ValidRest : (l : L) →
+      C l → Type 0}
       → ((l : L) → Built (e l) (build l) (rest l) (ValidRest l))
       → Built (d >>= λ n. many n >>= e)
       (λ (p : (l : L) × C l). build (p .0) (p .1))

@@ -1,19 +1,16 @@
 -- Each dependency takes at least nine bytes of the sheet, so a sheet has at most `entryLimit` of them.
 use Rattle.laws.proofs.Prelude.{ap, Bool, true, false, _&&_, List, Option, ℕ, _+_, _*_, _≤_, arith, length, length-append}
-use Rattle.text.specs.Truth.{one}
-use Rattle.text.proofs.Ones.{one-most}
-use Rattle.wire.specs.Number.{encodeNumber}
-use Rattle.wire.specs.Text.{encodeText}
-use Rattle.wire.specs.Optional.{encodeOptional}
-use Rattle.wire.proofs.Lengths.{number-long}
-use Rattle.sheet.specs.Limits.{entryBytes, entryLimit}
-use Rattle.sheet.specs.declared.fields.Span.{Span}
-use Rattle.sheet.specs.Tree.{Quoted, Node, other, string, name, template, binary, object, importCall, call, importDecl, namedExport, exportFrom, exportAll, importType, importEquals, importRequire, moduleDecl, Nodes, none, more, Arguments, noArguments, argument, Properties, noProperties, spread, otherProperty, childKey, stringKey, nameKey, Attributes, without, withObject}
+use Rattle.text.{specs.Truth.one, proofs.Ones.one-most}
+use Rattle.wire.{specs.Number.encodeNumber, specs.Text.encodeText, specs.Optional.encodeOptional, proofs.Lengths.number-long}
+use Rattle.sheet.specs.{Limits.entryBytes, Limits.entryLimit, declared.fields.Span.Span, Sheet.Sheet}
+use Rattle.sheet.specs.Tree.{Quoted, Node, other, string, name, template, binary, object, importCall, call, importDecl, namedExport, exportFrom, exportAll}
+use Rattle.sheet.specs.Tree.{importType, importEquals, importRequire, moduleDecl, Nodes, none, more, Arguments, noArguments, argument, Properties}
+use Rattle.sheet.specs.Tree.{noProperties, spread, otherProperty, childKey, stringKey, nameKey, Attributes, without, withObject}
 use Rattle.sheet.specs.Shape.{shape, isRequire, isAugmentation}
 use Rattle.sheet.specs.Walk.{walkAll, walkOf, walkIn, walkWith}
 use Rattle.sheet.specs.Walked.{anyArgument, declares, counting, entries}
-use Rattle.sheet.specs.Sheet.{Sheet}
-use Rattle.sheet_codec.specs.Encode.{nodesIn, argumentsIn, encodeQuoted, encodeNode, encodeNodes, encodeArguments, encodeProperties, encodeAttributes, encodeSheet}
+use Rattle.sheet_codec.specs.Encode.{nodesIn, argumentsIn, encodeQuoted, encodeNode, encodeNodes, encodeArguments, encodeProperties, encodeAttributes}
+use Rattle.sheet_codec.specs.Encode.{encodeSheet}
 use Rattle.sheet_codec.specs.SheetOf.{SheetOf}
 
 -- a span, a text and a String, as the parts of a node's length
@@ -50,15 +47,7 @@ mutual
   node-entries (object sp ps) = simp length-append (omega (arith, properties-entries ps))
   node-entries (importCall sp phase xs ns) =
       simp length-append
-      (omega (
-        arith,
-        span-long sp,
-        number-long (argumentsIn xs),
-        arguments-entries xs,
-        one-most (anyArgument xs),
-        number-long (nodesIn ns),
-        nodes-entries ns,
-      ))
+      (omega (arith, span-long sp, number-long (argumentsIn xs), arguments-entries xs, one-most (anyArgument xs), number-long (nodesIn ns), nodes-entries ns))
   node-entries (call sp e xs ns) =
       simp length-append
       (omega (

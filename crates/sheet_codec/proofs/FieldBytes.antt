@@ -1,22 +1,18 @@
 -- The bytes of a sheet's fields, one after the other, are the sheet's.
 use Rattle.laws.proofs.Prelude.{_≡_, refl, List, [], _∷_, append-assoc, append-nil, flatMap, Option, ℕ, length}
 use Rattle.laws.proofs.Lists.{flatMap-append}
-use Rattle.text.specs.declared.utf8.Encoding.{Encoding}
-use Rattle.text.specs.declared.utf8.Encoding.the-variants.{Wtf8}
-use Rattle.wire.specs.Number.{encodeNumber}
-use Rattle.wire.specs.Text.{encodeText}
-use Rattle.wire.specs.Optional.{encodeOptional}
-use Rattle.sheet.specs.Limits.{depthLimit}
-use Rattle.sheet.specs.declared.comments.Comment.{Comment}
-use Rattle.sheet.specs.declared.groups.Group.{Group}
+use Rattle.text.specs.declared.utf8.Encoding.{Encoding, the-variants.Wtf8}
+use Rattle.wire.specs.{Number.encodeNumber, Text.encodeText, Optional.encodeOptional}
+use Rattle.sheet.specs.{Limits.depthLimit, declared.comments.Comment.Comment, declared.groups.Group.Group, Sheet.Sheet}
 use Rattle.sheet.specs.Comments.{encodeComment, encodeGroup, endOf}
-use Rattle.sheet.specs.Tree.{Quoted, Pieces, Node, other, string, name, template, binary, object, importCall, call, importDecl, namedExport, exportFrom, exportAll, importType, importEquals, importRequire, moduleDecl, Nodes, none, more, Arguments, noArguments, argument, Properties, noProperties, spread, otherProperty, childKey, stringKey, nameKey, Attributes, without, withObject}
-use Rattle.sheet.specs.Sheet.{Sheet}
+use Rattle.sheet.specs.Tree.{Quoted, Pieces, Node, other, string, name, template, binary, object, importCall, call, importDecl, namedExport, exportFrom}
+use Rattle.sheet.specs.Tree.{exportAll, importType, importEquals, importRequire, moduleDecl, Nodes, none, more, Arguments, noArguments, argument}
+use Rattle.sheet.specs.Tree.{Properties, noProperties, spread, otherProperty, childKey, stringKey, nameKey, Attributes, without, withObject}
 use Rattle.sheet_codec.specs.Encode.{encodeQuoted, encodeNode, encodeNodes, encodeArguments, encodeProperties, encodeAttributes, encodeSheet}
-use Rattle.sheet_codec.specs.Limits.{under}
+use Rattle.sheet_codec.specs.{Limits.under, Breaks.bytesOf}
 use Rattle.sheet_codec.specs.Field.{Count, textLength, start, position, Entry}
-use Rattle.sheet_codec.specs.Breaks.{bytesOf}
-use Rattle.sheet_codec.specs.FieldsOf.{aNumber, textFields, optionalFields, shortText, chainFields, commentFields, groupFields, quotedFields, nodeFields, nodesFields, argumentsFields, propertiesFields, attributesFields, fieldsOf}
+use Rattle.sheet_codec.specs.FieldsOf.{aNumber, textFields, optionalFields, shortText, chainFields, commentFields, groupFields, quotedFields}
+use Rattle.sheet_codec.specs.FieldsOf.{nodeFields, nodesFields, argumentsFields, propertiesFields, attributesFields, fieldsOf}
 
 abbrev bytes : List Entry → List ℕ
 bytes = flatMap bytesOf
@@ -66,7 +62,8 @@ module _ (source : List ℕ) where
   quoted-bytes levels q = simp (append-assoc, append-nil)
 
   mutual
-    unfolding flatMap encodeText nodeFields nodesFields argumentsFields propertiesFields attributesFields encodeNode encodeNodes encodeArguments encodeProperties encodeAttributes
+    unfolding flatMap encodeText nodeFields nodesFields argumentsFields propertiesFields attributesFields encodeNode encodeNodes encodeArguments
+        encodeProperties encodeAttributes
 
     node-bytes : (n : Node) (levels : ℕ) → bytes (nodeFields source n levels) ≡ encodeNode n
     node-bytes (other sp ns) levels = simp (append-assoc, nodes-bytes ns (under levels))
@@ -86,7 +83,12 @@ module _ (source : List ℕ) where
     node-bytes (importEquals sp) levels = simp append-assoc
     node-bytes (importRequire sp typeOnly export x) levels = simp (append-assoc, append-nil)
     node-bytes (moduleDecl sp x ns) levels =
-        simp (append-assoc, flatMap-append, optional-bytes (quotedFields source (under levels)) encodeQuoted (quoted-bytes (under levels)) x, nodes-bytes ns (under levels))
+        simp (
+          append-assoc,
+          flatMap-append,
+          optional-bytes (quotedFields source (under levels)) encodeQuoted (quoted-bytes (under levels)) x,
+          nodes-bytes ns (under levels),
+        )
 
     nodes-bytes : (ns : Nodes) (levels : ℕ) → bytes (nodesFields source ns levels) ≡ encodeNodes ns
     nodes-bytes none levels = refl
@@ -115,7 +117,8 @@ fields-bytes t =
       append-assoc,
       flatMap-append,
       chain-bytes (commentFields (t .source)) endOf encodeComment (comment-bytes (t .source)) 0 (t .comments),
-      chain-bytes (groupFields (t .source) (length (t .comments))) (λ g. Option.some g) encodeGroup (group-bytes (t .source) (length (t .comments))) Option.none (t .groups),
+      chain-bytes (groupFields (t .source) (length (t .comments))) (λ g. Option.some g) encodeGroup (group-bytes (t .source) (length (t .comments)))
+          Option.none (t .groups),
       first-bytes (t .source) (t .program .first),
       node-bytes (t .source) (t .root) depthLimit,
     )

@@ -2,9 +2,8 @@
 use Rattle.laws.proofs.Prelude.{_≡_, refl, sym, ap, _∙_, ⊎-elim, Bool, List, [], _∷_, _++_, append-assoc, flatMap, ℕ, _<_}
 use mathlib.Core.Path.{subst}
 use Rattle.laws.specs.Decoded.{Decoded, ok, no, andThen, onOk, Decoder, _>>=_, _>>_, return, require}
-use Rattle.laws.specs.Codec.{All}
+use Rattle.laws.{specs.Codec.All, proofs.Lists.flatMap-append, proofs.Lists.all-append}
 use Rattle.laws.proofs.Decoding.{refused, then-ok, then-refused, onOk-ok, onOk-no, then-then}
-use Rattle.laws.proofs.Lists.{flatMap-append, all-append}
 use Rattle.sheet_codec.specs.Field.{Field, Entry}
 use Rattle.sheet_codec.specs.Breaks.{Breaks, Unbroken, bytesOf, Meets}
 

@@ -1,19 +1,16 @@
 -- What is judged at each field but numbers.
-use Rattle.laws.proofs.Prelude.{_≡_, refl, sym, ap, _∙_, Bool, true, false, cond, _&&_, true≢false, ⊎-elim, List, [], _∷_, _++_, append-nil, ℕ, zero, suc, _≤_, _<_, not-suc-le-zero, arith, eqb, leb, ltb, length, take, drop, replicate, length-replicate, length-append, ltb-true, ltb-false, leb-false, eqb-true, lt-ltb, eq-eqb}
+use Rattle.laws.proofs.Prelude.{_≡_, refl, sym, ap, _∙_, Bool, true, false, cond, _&&_, true≢false, ⊎-elim, List, [], _∷_, _++_, append-nil, ℕ, zero, suc}
+use Rattle.laws.proofs.Prelude.{_≤_, _<_, not-suc-le-zero, arith, eqb, leb, ltb, length, take, drop, replicate, length-replicate, length-append, ltb-true}
+use Rattle.laws.proofs.Prelude.{ltb-false, leb-false, eqb-true, lt-ltb, eq-eqb}
 use Rattle.laws.specs.Decoded.{ok, no, _>>=_, _>>_, return, require}
 use Rattle.laws.proofs.Decoding.{refused, then-ok, then-refused, require-ok}
-use Rattle.text.specs.declared.utf8.Encoding.{Encoding}
-use Rattle.text.specs.Utf8.{wellFormed}
-use Rattle.text.proofs.WellFormed.{well-formed-iff}
+use Rattle.text.{specs.declared.utf8.Encoding.Encoding, specs.Utf8.wellFormed, proofs.WellFormed.well-formed-iff}
 use Rattle.wire.specs.Fields as wire
-use Rattle.wire.specs.Fields.{below}
-use Rattle.wire.proofs.Numbered.{Numbers}
-use Rattle.wire.proofs.TextCodec.{below-codec, bytes-codec}
-use Rattle.sheet.specs.declared.groups.Group.{Group}
-use Rattle.sheet.specs.Comments.{inSome, covered}
+use Rattle.wire.{specs.Fields.below, proofs.Numbered.Numbers, proofs.TextCodec.below-codec, proofs.TextCodec.bytes-codec}
+use Rattle.sheet.{specs.declared.groups.Group.Group, specs.Comments.inSome, specs.Comments.covered, proofs.Coverings.covered-iff, proofs.Coverings.in-held}
 use Rattle.sheet.specs.Nodes as nodes
-use Rattle.sheet.proofs.Coverings.{covered-iff, in-held}
-use Rattle.sheet_codec.specs.Field.{Byte, media, kind, side, flag, phase, callee, property, key, values, Allowed, anyNode, aString, anObject, byte, tag, text, everyComment}
+use Rattle.sheet_codec.specs.Field.{Byte, media, kind, side, flag, phase, callee, property, key, values, Allowed, anyNode, aString, anObject, byte}
+use Rattle.sheet_codec.specs.Field.{tag, text, everyComment}
 use Rattle.sheet_codec.specs.Breaks.{Allows, Breaks, noByte, noTag, fewBytes, otherByte, otherTag, tooDeep, illFormed, alone}
 use Rattle.sheet_codec.specs.FieldsOf.{aByte, aFlag, aTag}
 use Rattle.sheet_codec.proofs.Strings.{tag-codec}
@@ -72,7 +69,8 @@ flag-field = last (λ x. eqb x 1) (byte-field flag) (λ x l. (tt, bit x l))
     bit (suc (suc x)) l = absurd (omega arith)
 
 -- a tag that a place allows
-module _ (place : Allowed) (levels : ℕ) (allowed : ℕ → Bool) (sound : (t : ℕ) → allowed t ≡ true → Allows place t) (complete : (t : ℕ) → Allows place t → allowed t ≡ true) where
+module _ (place : Allowed) (levels : ℕ) (allowed : ℕ → Bool) (sound : (t : ℕ) → allowed t ≡ true → Allows place t)
+    (complete : (t : ℕ) → Allows place t → allowed t ≡ true) where
   tag-refuses : (s : List ℕ) (r : ℕ) → nodes.tag allowed levels s ≡ no r
       → Breaks (tag place levels) s r × ((q : ℕ) → q < r → Breaks (tag place levels) s q → ⊥)
   unfolding nodes.tag wire.byte
@@ -151,7 +149,8 @@ nothing-left (x ∷ l) e = absurd (omega (arith, e))
 module _ (e : Encoding) (n : ℕ) where
   bytes-refuses : (s : List ℕ) (r : ℕ) → (wire.bytes n >>= λ x. require (wellFormed e x) 5 >> return x) s ≡ no r
       → Breaks (text e n) s r × ((q : ℕ) → q < r → Breaks (text e n) s q → ⊥)
-  bytes-refuses s r q = ⊎-elim cut-off (λ (x, u, i, j). judged x u i (wellFormed e x) refl j) (then-refused (wire.bytes n s) (λ x. require (wellFormed e x) 5 >> return x) q)
+  bytes-refuses s r q = ⊎-elim cut-off (λ (x, u, i, j). judged x u i (wellFormed e x) refl j)
+      (then-refused (wire.bytes n s) (λ x. require (wellFormed e x) 5 >> return x) q)
     where
       few-first : (q : ℕ) → q < 2 → Breaks (text e n) s q → ⊥
       few-first q l (fewBytes h) = omega arith
@@ -173,7 +172,8 @@ module _ (e : Encoding) (n : ℕ) where
           let enough : n ≤ length s = omega (arith, ap length front, length-append x u) in
           rw five (illFormed x u front long (λ w. true≢false (sym (well-formed-iff e x .1 w) ∙ is)), ill-first enough)
 
-  pub bytes-field : FieldsOf (wire.bytes n >>= λ x. require (wellFormed e x) 5 >> return x) (λ x. length x ≡ n) (λ x. record { field = text e n; bytes = x } ∷ [])
+  pub bytes-field : FieldsOf (wire.bytes n >>= λ x. require (wellFormed e x) 5 >> return x) (λ x. length x ≡ n)
+      (λ x. record { field = text e n; bytes = x } ∷ [])
   bytes-field = field (text e n) (λ x. x) (replicate n 0) (length-replicate n 0) passes bytes-refuses
     where
       fits : (x : List ℕ) → length x ≡ n → wellFormed e x ≡ true → (r : ℕ) → Breaks (text e n) x r → ⊥

@@ -1,18 +1,13 @@
 -- The codec of nodes with so many levels left, by induction on these.
 use Rattle.laws.proofs.Prelude.{ap, _∙_, List, _∷_, _++_, append-assoc, ℕ, zero, suc, _≤_, _<_, not-suc-le-zero, arith, eqb, ltb, length}
-use Rattle.laws.specs.Codec.{Codec}
-use Rattle.laws.proofs.Decoding.{refused, then-ok}
-use Rattle.laws.proofs.Codecs.{built-then}
+use Rattle.laws.{specs.Codec.Codec, proofs.Decoding.refused, proofs.Decoding.then-ok, proofs.Codecs.built-then}
 use Rattle.wire.specs.Number.{largest}
-use Rattle.sheet.specs.Limits.{propertyLimit}
-use Rattle.sheet.specs.Tree.{Node, other, string, name, template, binary, object, importCall, call, importDecl, namedExport, exportFrom, exportAll, importType, importEquals, importRequire, moduleDecl, withObject}
-use Rattle.sheet.specs.Fields.{span, encodeSpan}
+use Rattle.sheet.specs.{Limits.propertyLimit, Fields.span, Fields.encodeSpan}
+use Rattle.sheet.specs.Tree.{Node, other, string, name, template, binary, object, importCall, call, importDecl, namedExport, exportFrom, exportAll}
+use Rattle.sheet.specs.Tree.{importType, importEquals, importRequire, moduleDecl, withObject}
 use Rattle.sheet.specs.Nodes.{tag, node, attributesObject}
-use Rattle.sheet_codec.specs.Encode.{encodeNode}
-use Rattle.sheet_codec.specs.Limits.{NodeFits, AttributesFit}
-use Rattle.sheet_codec.proofs.Building.{limit-codec, built-counted-end}
-use Rattle.sheet_codec.proofs.Parts.{span-codec}
-use Rattle.sheet_codec.proofs.Strings.{tag-codec, built-tag}
+use Rattle.sheet_codec.specs.{Encode.encodeNode, Limits.NodeFits, Limits.AttributesFit}
+use Rattle.sheet_codec.proofs.{Building.limit-codec, Building.built-counted-end, Parts.span-codec, Strings.tag-codec, Strings.built-tag}
 use Rattle.sheet_codec.proofs.Trees.{properties-codec}
 use Rattle.sheet_codec.proofs.Tags.{ObjectCodec, fields-sound, fields-complete}
 

@@ -1,11 +1,8 @@
 -- Codecs of items one after the other.
 use Rattle.laws.proofs.Prelude.{_≡_, refl, sym, ap, _∙_, _⊎_, inl, inr, List, [], _∷_, _++_, append-assoc, ℕ, zero, suc, arith}
 use Rattle.laws.specs.Decoded.{ok, Decoder, _>>=_}
-use Rattle.laws.specs.Codec.{Codec}
-use Rattle.laws.proofs.Decoding.{then-ok, onOk-ok}
-use Rattle.laws.proofs.Codecs.{Built}
-use Rattle.wire.specs.Fields.{byte}
-use Rattle.wire.proofs.TextCodec.{byte-codec}
+use Rattle.laws.{specs.Codec.Codec, proofs.Decoding.then-ok, proofs.Decoding.onOk-ok, proofs.Codecs.Built}
+use Rattle.wire.{specs.Fields.byte, proofs.TextCodec.byte-codec}
 use Rattle.sheet.specs.Nodes.{many}
 
 -- lists that are built by items which add to them
@@ -22,7 +19,8 @@ module _ {L : Type 0} (size : L → ℕ) (encode : L → List ℕ) (Valid : L �
   abbrev pub Opens : L → Decoder (L → L) → L → Type 0
   Opens end item l =
       (l ≡ end)
-      ⊎ ((f : L → L) × (k : L) × (e : List ℕ) × (f k ≡ l) × (size l ≡ suc (size k)) × (encode l ≡ e ++ encode k) × Valid k × ((t : List ℕ) → item (e ++ t) ≡ ok f t))
+      ⊎ ((f : L → L) × (k : L) × (e : List ℕ) × (f k ≡ l) × (size l ≡ suc (size k)) × (encode l ≡ e ++ encode k) × Valid k ×
+      ((t : List ℕ) → item (e ++ t) ≡ ok f t))
 
   pub record Items (end : L) (item : Decoder (L → L)) : Type 0 where
     pub empty : (size end ≡ 0) × (encode end ≡ []) × Valid end

@@ -1,28 +1,21 @@
 -- What is judged at each field that is a number.
-use Rattle.laws.proofs.Prelude.{_≡_, refl, sym, _∙_, Bool, true, false, _&&_, true≢false, and-eq-true-iff, _⊎_, inl, inr, ⊎-elim, List, [], _∷_, _++_, append-nil, Option, ℕ, zero, suc, _+_, _≤_, _<_, arith, leb, ltb, leb-false, lt-leb, lt-ltb}
+use Rattle.laws.proofs.Prelude.{_≡_, refl, sym, _∙_, Bool, true, false, _&&_, true≢false, and-eq-true-iff, _⊎_, inl, inr, ⊎-elim, List, [], _∷_, _++_}
+use Rattle.laws.proofs.Prelude.{append-nil, Option, ℕ, zero, suc, _+_, _≤_, _<_, arith, leb, ltb, leb-false, lt-leb, lt-ltb}
 use Rattle.laws.specs.Decoded.{ok, no, Decoder, _>>=_, _>>_, return, require}
 use Rattle.laws.proofs.Decoding.{refused, then-ok, then-refused, require-ok}
 use Rattle.laws.proofs.Answers.{Answer, answers-kept}
-use Rattle.text.specs.Position.{isBoundary}
-use Rattle.text.proofs.Boundary.{is-boundary-iff}
-use Rattle.wire.specs.Fields.{byte}
+use Rattle.text.{specs.Position.isBoundary, proofs.Boundary.is-boundary-iff}
+use Rattle.wire.{specs.Fields.byte, specs.Number.largest, specs.Number.encodeNumber, specs.Text.count, proofs.Kept.number-kept}
 use Rattle.wire.specs.Number as wire
-use Rattle.wire.specs.Number.{largest, encodeNumber}
-use Rattle.wire.specs.Text.{count}
-use Rattle.wire.proofs.Kept.{number-kept}
 use Rattle.wire.proofs.NumberCodec.{number-codec}
-use Rattle.sheet.specs.declared.groups.Group.{Group}
-use Rattle.sheet.specs.declared.names.CommentKind.{CommentKind}
-use Rattle.sheet.specs.declared.names.Side.{Side}
+use Rattle.sheet.specs.{declared.groups.Group.Group, declared.names.CommentKind.CommentKind, declared.names.Side.Side, Fields.endFrom, Quotation.looksQuoted}
 use Rattle.sheet.specs.Fields as sheet
-use Rattle.sheet.specs.Fields.{endFrom}
 use Rattle.sheet.specs.Comments.{opening, closing, slice, marked, anywhere, mayFollow}
-use Rattle.sheet.specs.Quotation.{looksQuoted}
-use Rattle.sheet.proofs.Marks.{enclosed-sound, enclosed-complete}
-use Rattle.sheet.proofs.Quotations.{looks-quoted-iff}
-use Rattle.sheet.proofs.Order.{by-order, in-order}
-use Rattle.sheet_codec.specs.Field.{Count, limit, Position, start, end, stringEnd, commentStart, commentEnd, groupPosition, Number, limited, free, position, groupCount, number}
-use Rattle.sheet_codec.specs.Breaks.{Shows, Wrong, over, outside, reversed, stringReversed, commentReversed, early, unmarked, disordered, empty, beyond, unquoted, Breaks, noNumber, wrong}
+use Rattle.sheet.proofs.{Marks.enclosed-sound, Marks.enclosed-complete, Quotations.looks-quoted-iff, Order.by-order, Order.in-order}
+use Rattle.sheet_codec.specs.Field.{Count, limit, Position, start, end, stringEnd, commentStart, commentEnd, groupPosition, Number, limited, free}
+use Rattle.sheet_codec.specs.Field.{position, groupCount, number}
+use Rattle.sheet_codec.specs.Breaks.{Shows, Wrong, over, outside, reversed, stringReversed, commentReversed, early, unmarked, disordered, empty}
+use Rattle.sheet_codec.specs.Breaks.{beyond, unquoted, Breaks, noNumber, wrong}
 use Rattle.sheet_codec.specs.FieldsOf.{aNumber}
 use Rattle.sheet_codec.proofs.Fields.{FieldsOf, Any, field}
 
@@ -67,7 +60,10 @@ Fails r test n q = (q ≡ r) × (test n ≡ false)
 module _ {d : Decoder ℕ} {W W′ : ℕ → ℕ → Type 0} (k : RefusesBy d W) (test : ℕ → Bool) (r : ℕ) (low : (n q : ℕ) → W n q → q ≤ r)
     (to : (n q : ℕ) → W n q ⊎ Fails r test n q → W′ n q) (from : (n q : ℕ) → W′ n q → W n q ⊎ Fails r test n q) where
   reads-test : RefusesBy (d >>= λ n. require (test n) r >> return n) W′
-  reads-test = record { passes = passes; refuses = λ s q e. ⊎-elim (first s q) (λ (n, u, x, y). second s q n u x (test n) refl y) (then-refused (d s) (λ n. require (test n) r >> return n) e) }
+  reads-test = record {
+    passes = passes;
+    refuses = λ s q e. ⊎-elim (first s q) (λ (n, u, x, y). second s q n u x (test n) refl y) (then-refused (d s) (λ n. require (test n) r >> return n) e);
+  }
     where
       neither : (n q : ℕ) → (W n q → ⊥) → test n ≡ true → W′ n q → ⊥
       neither n q none holds w = ⊎-elim none (λ f. true≢false (sym holds ∙ f .1)) (from n q w)
@@ -83,7 +79,9 @@ module _ {d : Decoder ℕ} {W W′ : ℕ → ℕ → Type 0} (k : RefusesBy d W)
 
       first : (s : List ℕ) (q : ℕ) → d s ≡ no q
           → ((q ≡ 2) × ((n : ℕ) → Shows s n → ⊥)) ⊎ ((n : ℕ) × Shows s n × W′ n q × ((p : ℕ) → p < q → W′ n p → ⊥))
-      first s q x = ⊎-elim (λ two. inl two) (λ (n, h, w, lowest). inr (n, h, to n q (inl w), λ p l v. ⊎-elim (lowest p l) (λ f. let m = low n q w in omega (arith, f .0)) (from n p v))) (k .refuses s q x)
+      first s q x = ⊎-elim (λ two. inl two)
+          (λ (n, h, w, lowest). inr (n, h, to n q (inl w), λ p l v. ⊎-elim (lowest p l) (λ f. let m = low n q w in omega (arith, f .0)) (from n p v)))
+          (k .refuses s q x)
 
       second : (s : List ℕ) (q n : ℕ) (u : List ℕ) → d s ≡ ok n u → (b : Bool) → test n ≡ b → (require b r >> return n) u ≡ no q
           → ((q ≡ 2) × ((n : ℕ) → Shows s n → ⊥)) ⊎ ((n : ℕ) × Shows s n × W′ n q × ((p : ℕ) → p < q → W′ n p → ⊥))
@@ -119,7 +117,8 @@ lacks-marks : (source : List ℕ) (kind : CommentKind) (from n : ℕ) → marked
 unfolding marked
 lacks-marks source kind from n is body e = true≢false (sym (enclosed-complete (opening kind) (closing kind) _ body e) ∙ is)
 
-no-marks : (source : List ℕ) (kind : CommentKind) (from n : ℕ) → ((body : List ℕ) → slice source (record { start = from; end = n }) ≡ opening kind ++ (body ++ closing kind) → ⊥)
+no-marks : (source : List ℕ) (kind : CommentKind) (from n : ℕ) →
+    ((body : List ℕ) → slice source (record { start = from; end = n }) ≡ opening kind ++ (body ++ closing kind) → ⊥)
     → marked kind (slice source (record { start = from; end = n })) ≡ false
 unfolding marked
 no-marks source kind from n h = is-false _ (λ m. let (body, e) = enclosed-sound (opening kind) (closing kind) _ m in h body e)
@@ -155,11 +154,16 @@ wrong-failing (stringReversed {start = from} {n = n} h) = inr (inl (refl, lt-leb
 wrong-failing (commentReversed {start = from} {n = n} h) = inr (inl (refl, lt-leb from n h))
 wrong-failing (early {last = last} {n = n} h) = inr (refl, lt-leb last n h)
 wrong-failing (unmarked {source = source} {kind = kind} {start = from} {n = n} h) = inr (inr (refl, no-marks source kind from n h))
-wrong-failing (unquoted {source = source} {start = from} {n = n} h) = inr (inr (refl, is-false _ (λ i. h (looks-quoted-iff (slice source (record { start = from; end = n })) .0 i))))
+wrong-failing (unquoted {source = source} {start = from} {n = n} h) = inr
+    (inr (refl, is-false _ (λ i. h (looks-quoted-iff (slice source (record { start = from; end = n })) .0 i))))
 wrong-failing (disordered {g = g} {side = side} {n = n} h) =
     inr (refl, is-false (mayFollow g side n) (λ i. h (by-order (g .side) (g .position) side n i)))
 wrong-failing (empty {total = total} {first = first} {n = n} e) = (refl, rw e)
-wrong-failing (beyond {total = total} {first = first} {n = n} h) = (refl, is-false (ltb 0 n && leb (first + n) total) (λ i. true≢false (sym (and-eq-true-iff (ltb 0 n) (leb (first + n) total) .0 i .1) ∙ lt-leb (first + n) total h)))
+wrong-failing (beyond {total = total} {first = first} {n = n} h) = (
+  refl,
+  is-false (ltb 0 n && leb (first + n) total)
+      (λ i. true≢false (sym (and-eq-true-iff (ltb 0 n) (leb (first + n) total) .0 i .1) ∙ lt-leb (first + n) total h)),
+)
 
 -- a field that is a number
 module _ (f : Number) {d : Decoder ℕ} (k : RefusesBy d (Failing f)) where
@@ -194,9 +198,11 @@ free-field = number-field free reads-number
 
 pub count-field : (c : Count) → FieldsOf (count (limit c)) Any (λ n. aNumber (limited c) n ∷ [])
 unfolding count
-count-field c = number-field (limited c) (reads-test reads-number (λ n. leb n (limit c)) 4 (λ n q w. absurd w) (λ n q w. ⊎-elim (λ v. absurd v) (λ v. v) w) (λ n q w. inr w))
+count-field c = number-field (limited c)
+    (reads-test reads-number (λ n. leb n (limit c)) 4 (λ n q w. absurd w) (λ n q w. ⊎-elim (λ v. absurd v) (λ v. v) w) (λ n q w. inr w))
 
-pub group-count-field : (total first : ℕ) → FieldsOf (wire.number >>= λ n. require (ltb 0 n && leb (first + n) total) 7 >> return n) Any (λ n. aNumber (groupCount total first) n ∷ [])
+pub group-count-field : (total first : ℕ) →
+    FieldsOf (wire.number >>= λ n. require (ltb 0 n && leb (first + n) total) 7 >> return n) Any (λ n. aNumber (groupCount total first) n ∷ [])
 group-count-field total first =
     number-field (groupCount total first)
     (reads-test reads-number (λ n. ltb 0 n && leb (first + n) total) 7 (λ n q w. absurd w) (λ n q w. ⊎-elim (λ v. absurd v) (λ v. v) w) (λ n q w. inr w))
@@ -219,13 +225,15 @@ module _ (source : List ℕ) where
   pub end-field : (from : ℕ) → FieldsOf (endFrom source from) Any (λ n. aNumber (position source (end from)) n ∷ [])
   end-field from = number-field (position source (end from)) (reads-end from)
 
-  pub comment-start : (last : ℕ) → FieldsOf (sheet.position source >>= λ n. require (leb last n) 7 >> return n) Any (λ n. aNumber (position source (commentStart last)) n ∷ [])
+  pub comment-start : (last : ℕ) →
+      FieldsOf (sheet.position source >>= λ n. require (leb last n) 7 >> return n) Any (λ n. aNumber (position source (commentStart last)) n ∷ [])
   comment-start last =
       number-field (position source (commentStart last)) (reads-test reads-position (leb last) 7 (λ n q w. omega (arith, w .0)) (λ n q w. w) (λ n q w. w))
 
   -- an end with a test more, whose number is not lower
   reads-end-test : (from : ℕ) (test : ℕ → Bool) (r : ℕ) → 6 ≤ r
-      → RefusesBy (endFrom source from >>= λ n. require (test n) r >> return n) (λ n q. Fails 6 (isBoundary source) n q ⊎ (Fails 6 (leb from) n q ⊎ Fails r test n q))
+      → RefusesBy (endFrom source from >>= λ n. require (test n) r >> return n)
+      (λ n q. Fails 6 (isBoundary source) n q ⊎ (Fails 6 (leb from) n q ⊎ Fails r test n q))
   reads-end-test from test r high =
       reads-test (reads-end from) test r
       (λ n q w. ⊎-elim (λ v. omega (arith, v .0)) (λ v. omega (arith, v .0)) w)
@@ -235,14 +243,18 @@ module _ (source : List ℕ) where
   pub string-end : (from : ℕ)
       → FieldsOf (endFrom source from >>= λ n. require (looksQuoted (slice source (record { start = from; end = n }))) 13 >> return n) Any
       (λ n. aNumber (position source (stringEnd from)) n ∷ [])
-  string-end from = number-field (position source (stringEnd from)) (reads-end-test from (λ n. looksQuoted (slice source (record { start = from; end = n }))) 13 (omega arith))
+  string-end from = number-field (position source (stringEnd from))
+      (reads-end-test from (λ n. looksQuoted (slice source (record { start = from; end = n }))) 13 (omega arith))
 
   pub comment-end : (kind : CommentKind) (from : ℕ)
       → FieldsOf (endFrom source from >>= λ n. require (marked kind (slice source (record { start = from; end = n }))) 7 >> return n) Any
       (λ n. aNumber (position source (commentEnd kind from)) n ∷ [])
-  comment-end kind from = number-field (position source (commentEnd kind from)) (reads-end-test from (λ n. marked kind (slice source (record { start = from; end = n }))) 7 (omega arith))
+  comment-end kind from = number-field (position source (commentEnd kind from))
+      (reads-end-test from (λ n. marked kind (slice source (record { start = from; end = n }))) 7 (omega arith))
 
   pub group-position : (last : Option Group) (side : Side)
-      → FieldsOf (sheet.position source >>= λ n. require (after last side n) 7 >> return n) Any (λ n. aNumber (position source (groupPosition last side)) n ∷ [])
+      → FieldsOf (sheet.position source >>= λ n. require (after last side n) 7 >> return n) Any
+      (λ n. aNumber (position source (groupPosition last side)) n ∷ [])
   group-position last side =
-      number-field (position source (groupPosition last side)) (reads-test reads-position (after last side) 7 (λ n q w. omega (arith, w .0)) (λ n q w. w) (λ n q w. w))
+      number-field (position source (groupPosition last side))
+      (reads-test reads-position (after last side) 7 (λ n q w. omega (arith, w .0)) (λ n q w. w) (λ n q w. w))

@@ -3,14 +3,10 @@ use Rattle.laws.proofs.Prelude.{refl, List, ℕ, _≤_, arith, length}
 use Rattle.laws.specs.Codec.{Codec}
 use Rattle.laws.proofs.Codecs.{built-then, codec-of, codec-as, built-end, built-free}
 use Rattle.text.specs.Position.{Boundary}
-use Rattle.wire.specs.Number.{largest}
-use Rattle.wire.proofs.TextCodec.{flag-codec}
-use Rattle.wire.proofs.OptionalCodec.{optional-codec}
-use Rattle.sheet.specs.Fields.{span, encodeSpan}
-use Rattle.sheet.specs.Program.{program}
+use Rattle.wire.{specs.Number.largest, proofs.TextCodec.flag-codec, proofs.OptionalCodec.optional-codec}
+use Rattle.sheet.specs.{Fields.span, Fields.encodeSpan, Program.program}
 use Rattle.sheet.proofs.CommentCodecs.{At, position-codec, end-codec}
-use Rattle.sheet_codec.specs.Encode.{encodeProgram}
-use Rattle.sheet_codec.specs.Limits.{SpanFits, ProgramFits}
+use Rattle.sheet_codec.specs.{Encode.encodeProgram, Limits.SpanFits, Limits.ProgramFits}
 
 module _ (source : List ℕ) (small : length source ≤ largest) where
   at : {p : ℕ} → Boundary source p → At source p
@@ -27,7 +23,8 @@ module _ (source : List ℕ) (small : length source ≤ largest) where
   unfolding program
   program-codec =
       codec-of
-      (built-free flag-codec (λ script. built-then span-codec (λ sp. built-free flag-codec (λ shebang. built-end (optional-codec (codec-as (position-codec source) (λ p. at) (λ p v. v .boundary))) (λ first.
+      (built-free flag-codec (λ script. built-then span-codec
+      (λ sp. built-free flag-codec (λ shebang. built-end (optional-codec (codec-as (position-codec source) (λ p. at) (λ p v. v .boundary))) (λ first.
       record { script = script; span = sp; shebang = shebang; first = first })))))
       (λ p v. ((p .script, (p .span, (p .shebang, p .first))), refl, (v .span, v .first)))
       (λ q v. (refl, record { span = v .0; first = v .1 }))

@@ -1,11 +1,10 @@
 -- Every String of a tree within the limits is a quotation, those that other nodes hold too.
 use Rattle.laws.proofs.Prelude.{List, _++_, Option, ℕ}
-use Rattle.laws.specs.Codec.{All, IfThere}
-use Rattle.laws.proofs.Lists.{all-append}
-use Rattle.sheet.specs.declared.fields.Span.{Span}
-use Rattle.sheet.specs.Comments.{slice}
-use Rattle.sheet.specs.Quotation.{Quotation}
-use Rattle.sheet.specs.Tree.{Quoted, Node, other, string, name, template, binary, object, importCall, call, importDecl, namedExport, exportFrom, exportAll, importType, importEquals, importRequire, moduleDecl, Nodes, none, more, Arguments, noArguments, argument, Properties, noProperties, spread, otherProperty, childKey, stringKey, nameKey, Attributes, without, withObject}
+use Rattle.laws.{specs.Codec.All, specs.Codec.IfThere, proofs.Lists.all-append}
+use Rattle.sheet.specs.{declared.fields.Span.Span, Comments.slice, Quotation.Quotation}
+use Rattle.sheet.specs.Tree.{Quoted, Node, other, string, name, template, binary, object, importCall, call, importDecl, namedExport, exportFrom, exportAll}
+use Rattle.sheet.specs.Tree.{importType, importEquals, importRequire, moduleDecl, Nodes, none, more, Arguments, noArguments, argument, Properties}
+use Rattle.sheet.specs.Tree.{noProperties, spread, otherProperty, childKey, stringKey, nameKey, Attributes, without, withObject}
 use Rattle.sheet.specs.Strings.{stringHeld, strings, stringsAll, stringsOf, stringsIn, stringsWith}
 use Rattle.sheet_codec.specs.Limits.{QuotedFits, under, NodeFits, NodesFit, ArgumentsFit, PropertiesFit, AttributesFit}
 
@@ -30,7 +29,8 @@ module _ (source : List ℕ) where
     strings-quoted k (template sp ps ns) f = all-quoted (under k) ns (f .1 .1 .1)
     strings-quoted k (binary sp plus l r) f = both (strings l) (strings r) (strings-quoted (under k) l (f .1 .0)) (strings-quoted (under k) r (f .1 .1))
     strings-quoted k (object sp ps) f = in-quoted (under k) ps (f .1 .1)
-    strings-quoted k (importCall sp phase xs ns) f = both (stringsOf xs) (stringsAll ns) (of-quoted (under k) xs (f .1 .0 .1)) (all-quoted (under k) ns (f .1 .1 .1))
+    strings-quoted k (importCall sp phase xs ns) f = both (stringsOf xs) (stringsAll ns) (of-quoted (under k) xs (f .1 .0 .1))
+        (all-quoted (under k) ns (f .1 .1 .1))
     strings-quoted k (call sp e xs ns) f =
         both (strings e) (stringsOf xs ++ stringsAll ns) (strings-quoted (under k) e (f .1 .0))
         (both (stringsOf xs) (stringsAll ns) (of-quoted (under k) xs (f .1 .1 .0 .1)) (all-quoted (under k) ns (f .1 .1 .1 .1)))
@@ -57,7 +57,8 @@ module _ (source : List ℕ) where
     in-quoted k (spread n ps) f = both (strings n) (stringsIn ps) (strings-quoted k n (f .0)) (in-quoted k ps (f .1))
     in-quoted k (otherProperty n ps) f = both (strings n) (stringsIn ps) (strings-quoted k n (f .0)) (in-quoted k ps (f .1))
     in-quoted k (childKey q v ps) f =
-        both (strings q) (strings v ++ stringsIn ps) (strings-quoted k q (f .0 .0)) (both (strings v) (stringsIn ps) (strings-quoted k v (f .0 .1)) (in-quoted k ps (f .1)))
+        both (strings q) (strings v ++ stringsIn ps) (strings-quoted k q (f .0 .0))
+        (both (strings v) (stringsIn ps) (strings-quoted k v (f .0 .1)) (in-quoted k ps (f .1)))
     in-quoted k (stringKey q v ps) f = both (strings v) (stringsIn ps) (strings-quoted k v (f .0 .1)) (in-quoted k ps (f .1))
     in-quoted k (nameKey q v ps) f = both (strings v) (stringsIn ps) (strings-quoted k v (f .0 .1)) (in-quoted k ps (f .1))
 

@@ -1,5 +1,6 @@
 -- Where a sheet is refused, what each refusal says, and that those at fields are judged from the front.
-use Rattle.laws.proofs.Prelude.{_≡_, refl, sym, ap, _∙_, Bool, true, false, true≢false, cond, not, _&&_, _||_, List, [], _∷_, _++_, inl, inr, _↔_, ℕ, _+_, _≤_, _<_, arith, eqb, leb, length, take, drop, length-append, eqb-true, leb-true, leb-false, le-leb, lt-leb}
+use Rattle.laws.proofs.Prelude.{_≡_, refl, sym, ap, _∙_, Bool, true, false, true≢false, cond, not, _&&_, _||_, List, [], _∷_, _++_, inl, inr, _↔_, ℕ, _+_}
+use Rattle.laws.proofs.Prelude.{_≤_, _<_, arith, eqb, leb, length, take, drop, length-append, eqb-true, leb-true, leb-false, le-leb, lt-leb}
 use lib.Seq.{take-append-le, drop-append-le}
 use Rattle.laws.specs.Decoded.{Decoded, ok, no, andThen, _>>=_, _>>_, return, require}
 use Rattle.laws.proofs.Decoding.{refused as not-ok}
@@ -9,17 +10,12 @@ use Rattle.wire.specs.Refusals.{atFields, ofSheets, oneOf}
 use Rattle.wire.specs.Refusals as refusals
 use Rattle.wire.specs.Fields.{byte, below, numbered, bytes}
 use Rattle.wire.proofs.Kept.{AtField, OfFields, two}
-use Rattle.sheet.specs.Limits.{sheetLimit}
-use Rattle.sheet.specs.Walked.{uncooked}
+use Rattle.sheet.{specs.Limits.sheetLimit, specs.Walked.uncooked, specs.Judge.Judged, specs.Judge.judge, proofs.Kept.sheet-kept, proofs.Reaches.nine-exactly}
 use Rattle.sheet.specs.Sheet.{Sheet, sheet, ending, decodeSheet, accept}
-use Rattle.sheet.specs.Judge.{Judged, judge}
-use Rattle.sheet.proofs.Kept.{sheet-kept}
-use Rattle.sheet.proofs.Reaches.{nine-exactly}
 use Rattle.sheet_codec.specs.SheetOf.{Encodes, Uncooked}
 use Rattle.sheet_codec.specs.Refused.{TooLong, MetAtField, BytesFollow}
 use Rattle.sheet_codec.proofs.Sheets.{sheet-codec, encoded, decoded}
-use Rattle.sheet_codec.proofs.FieldBytes.{fields-bytes}
-use Rattle.sheet_codec.proofs.SheetFields.{sheet-fields}
+use Rattle.sheet_codec.proofs.{FieldBytes.fields-bytes, SheetFields.sheet-fields}
 
 -- a test that every number of a list passes
 abbrev every : (ℕ → Bool) → List ℕ → Bool
@@ -45,11 +41,7 @@ apart l h e f = true≢false (sym h ∙ (ap (oneOf l) e ∙ f))
 fields-numbered : OfFields (λ A d. Answers (λ (a : A). Unit {0}) AtField d)
 unfolding byte bytes
 fields-numbered =
-    record {
-      kept = answers-kept;
-      a-byte = record { at = a-byte };
-      some-bytes = λ n. record { at = λ s. some-bytes n s (leb n (length s)) };
-    }
+    record { kept = answers-kept; a-byte = record { at = a-byte }; some-bytes = λ n. record { at = λ s. some-bytes n s (leb n (length s)) } }
   where
     a-byte : (s : List ℕ) → Answer (λ (b : ℕ). Unit {0}) AtField (byte s)
     a-byte [] = two
@@ -74,7 +66,8 @@ fields-steady =
     a-byte (b ∷ s) u = refl
 
     some-bytes : (n : ℕ) (s u : List ℕ) (b : Bool) → leb n (length s) ≡ b
-        → Followed u (cond b (ok (take n s) (drop n s)) (no refusals.cutOff)) (cond (leb n (length (s ++ u))) (ok (take n (s ++ u)) (drop n (s ++ u))) (no refusals.cutOff))
+        → Followed u (cond b (ok (take n s) (drop n s)) (no refusals.cutOff))
+        (cond (leb n (length (s ++ u))) (ok (take n (s ++ u)) (drop n (s ++ u))) (no refusals.cutOff))
     some-bytes n s u true e =
         let l = leb-true n (length s) e in
         rw (length-append, le-leb n (length s + length u) (omega arith), take-append-le, drop-append-le)
@@ -107,7 +100,8 @@ stage s = by-size (leb (length s) sheetLimit) refl
     by-fields few (no r) e h = field h e
 
     by-size : (b : Bool) → leb (length s) sheetLimit ≡ b
-        → Stage s ((require b refusals.sheetLength >> (sheet >>= λ t. ending >> return t) >>= λ t. require (not (uncooked (t .root))) refusals.uncooked >> return t) s)
+        → Stage s ((require b refusals.sheetLength >> (sheet >>= λ t. ending >> return t) >>= λ t. require (not (uncooked (t .root)))
+        refusals.uncooked >> return t) s)
     by-size true i = by-fields (leb-true (length s) sheetLimit i) (sheet s) refl (sheet-kept fields-numbered .at s)
     by-size false i = size (leb-false (length s) sheetLimit i)
 

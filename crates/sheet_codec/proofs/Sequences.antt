@@ -2,25 +2,21 @@
 use Rattle.laws.proofs.Prelude.{_≡_, refl, sym, ap, _∙_, Bool, true, false, cond, _&&_, List, [], _∷_, _++_, Option, ℕ, zero, suc, _+_, leb, ltb, length}
 use Rattle.laws.specs.Decoded.{Decoder, onOk, _>>=_, return}
 use Rattle.laws.proofs.Decoding.{then-then}
-use Rattle.text.specs.declared.utf8.Encoding.{Encoding}
-use Rattle.text.specs.declared.utf8.Encoding.the-variants.{Wtf8}
-use Rattle.wire.specs.Number.{number}
+use Rattle.text.specs.declared.utf8.Encoding.{Encoding, the-variants.Wtf8}
+use Rattle.wire.specs.{Number.number, Optional.optional}
 use Rattle.wire.specs.Text as wire
-use Rattle.wire.specs.Optional.{optional}
-use Rattle.sheet.specs.declared.fields.Span.{Span}
-use Rattle.sheet.specs.declared.groups.Group.{Group}
+use Rattle.sheet.specs.{declared.fields.Span.Span, declared.groups.Group.Group, Quotation.looksQuoted, Program.program, Nodes.many, Nodes.stringText}
 use Rattle.sheet.specs.Fields as sheet
 use Rattle.sheet.specs.Comments.{slice, marked, chained, comment, comments, endOf, group, groups, anywhere, mayFollow}
-use Rattle.sheet.specs.Quotation.{looksQuoted}
-use Rattle.sheet.specs.Program.{program}
-use Rattle.sheet.specs.Nodes.{many, stringText}
 use Rattle.sheet.proofs.EnumNumbers.{kind-numbers, side-numbers}
 use Rattle.sheet_codec.specs.Field as field
 use Rattle.sheet_codec.specs.Field.{Count, limit, Entry}
-use Rattle.sheet_codec.specs.FieldsOf.{aFlag, textFields, optionalFields, chainFields, spanFields, commentFields, groupFields, programFields, stringFields}
+use Rattle.sheet_codec.specs.FieldsOf.{aFlag, textFields, optionalFields, chainFields, spanFields, commentFields, groupFields, programFields}
+use Rattle.sheet_codec.specs.FieldsOf.{stringFields}
 use Rattle.sheet_codec.proofs.Fields.{Judges, FieldsOf, Any, ends, same, has, with, map, then, last, then-tested}
 use Rattle.sheet_codec.proofs.Leaves.{numbered-field, flag-field, bytes-field}
-use Rattle.sheet_codec.proofs.Numbers.{free-field, count-field, group-count-field, start-field, end-field, string-end, comment-start, comment-end, group-position, after}
+use Rattle.sheet_codec.proofs.Numbers.{free-field, count-field, group-count-field, start-field, end-field, string-end, comment-start, comment-end}
+use Rattle.sheet_codec.proofs.Numbers.{group-position, after}
 
 -- a text
 pub text-fields : (c : Count) (e : Encoding) → FieldsOf (wire.text e (limit c)) Any (textFields c e)
@@ -55,7 +51,8 @@ module _ (source : List ℕ) where
   span-fields = then (start-field source) (λ start u. last (λ end. record { start = start; end = end }) (end-field source start) (λ end v. (tt, refl)))
 
   -- a String behind its tag, and what is made of its span and its text
-  pub string-fields : {B : Type 0} {Has : B → List Entry → Type 0} (of : Span → List ℕ → B) → ((sp : Span) (x : List ℕ) → Has (of sp x) (stringFields source sp x))
+  pub string-fields : {B : Type 0} {Has : B → List Entry → Type 0} (of : Span → List ℕ → B) →
+      ((sp : Span) (x : List ℕ) → Has (of sp x) (stringFields source sp x))
       → Judges (sheet.span source >>= λ sp. stringText source sp >>= λ x. return (of sp x)) Has
   unfolding sheet.span stringText
   string-fields of h =
@@ -69,7 +66,8 @@ module _ (source : List ℕ) where
   comment-fields last =
       then (numbered-field field.kind kind-numbers refl) (λ kind l.
       then-tested (sheet.position source) (leb last) 7 (comment-start source last) (λ start u.
-      then-tested (sheet.endFrom source start) (λ end. marked kind (slice source (record { start = start; end = end }))) 7 (comment-end source kind start) (λ end v. ends _ (tt, refl))))
+      then-tested (sheet.endFrom source start) (λ end. marked kind (slice source (record { start = start; end = end }))) 7 (comment-end source kind start)
+      (λ end v. ends _ (tt, refl))))
 
   pub comments-fields : (n : ℕ) → FieldsOf (comments source 0 n) (λ cs. length cs ≡ n) (chainFields (commentFields source) endOf 0)
   comments-fields = chained-fields (comment source) endOf (λ last. last) endOf (λ c. refl) comment-fields 0
@@ -102,5 +100,4 @@ module _ {L : Type 0} (size : L → ℕ) (fields : L → List Entry) where
       → FieldsOf (many end item n) (λ l. size l ≡ n) fields
   unfolding many
   many-fields {end} none k zero = ends end (none .0, sym (none .1))
-  many-fields {end} none k (suc n) =
-      with k (λ add e h. map (many-fields none k n) add (λ l m i. (h l .0 ∙ ap suc (i .0), ap (e ++_) (i .1) ∙ h l .1)))
+  many-fields {end} none k (suc n) = with k (λ add e h. map (many-fields none k n) add (λ l m i. (h l .0 ∙ ap suc (i .0), ap (e ++_) (i .1) ∙ h l .1)))

@@ -1,16 +1,12 @@
 -- A refusal 2 to 7 is met at a field of some sheet.
 use Rattle.laws.proofs.Prelude.{refl}
 use Rattle.text.specs.declared.utf8.Encoding.the-variants.{Utf8}
-use Rattle.sheet.specs.Limits.{depthLimit}
-use Rattle.sheet.specs.Sheet.{sheet}
-use Rattle.sheet.proofs.EnumNumbers.{media-numbers}
+use Rattle.sheet.{specs.Limits.depthLimit, specs.Sheet.sheet, proofs.EnumNumbers.media-numbers}
 use Rattle.sheet_codec.specs.Field.{media, sourceLength, comments, groups}
 use Rattle.sheet_codec.specs.FieldsOf.{fieldsOf}
 use Rattle.sheet_codec.proofs.Fields.{FieldsOf, Any, then, last}
-use Rattle.sheet_codec.proofs.Leaves.{numbered-field, every-comment}
-use Rattle.sheet_codec.proofs.Numbers.{count-field}
+use Rattle.sheet_codec.proofs.{Leaves.numbered-field, Leaves.every-comment, Numbers.count-field, TreeFields.node-fields}
 use Rattle.sheet_codec.proofs.Sequences.{text-fields, comments-fields, groups-fields, program-fields}
-use Rattle.sheet_codec.proofs.TreeFields.{node-fields}
 
 pub sheet-fields : FieldsOf sheet Any fieldsOf
 unfolding sheet fieldsOf

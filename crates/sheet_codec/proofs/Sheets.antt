@@ -1,28 +1,19 @@
 -- Decoding and encoding sheets undo each other: what is decoded is within document 01's limits and stood there as its bytes, and each sheet within these
 -- limits is decoded from its bytes.
-use Rattle.laws.proofs.Prelude.{_≡_, refl, sym, _∙_, Bool, true, false, not, true≢false, List, [], _∷_, append-nil, _↔_, ℕ, _≤_, arith, leb, length, leb-true, le-leb}
+use Rattle.laws.proofs.Prelude.{_≡_, refl, sym, _∙_, Bool, true, false, not, true≢false, List, [], _∷_, append-nil, _↔_, ℕ, _≤_, arith, leb, length}
+use Rattle.laws.proofs.Prelude.{leb-true, le-leb}
 use Rattle.laws.specs.Decoded.{ok, _>>_, return}
 use Rattle.laws.specs.Codec.{Codec}
 use Rattle.laws.proofs.Decoding.{refused, value, then-ok, require-ok}
 use Rattle.laws.proofs.Codecs.{built-given, built-then, built-require, codec-of, built-end, built-free}
 use Rattle.text.specs.declared.utf8.Encoding.the-variants.{Utf8}
-use Rattle.wire.specs.Number.{largest}
-use Rattle.wire.proofs.Numbered.{numbered-codec}
-use Rattle.wire.proofs.TextCodec.{text-codec}
+use Rattle.wire.{specs.Number.largest, proofs.Numbered.numbered-codec, proofs.TextCodec.text-codec}
 use Rattle.sheet.specs.Limits.{sheetLimit, sourceLimit, commentLimit, groupLimit, depthLimit}
-use Rattle.sheet.specs.Comments.{covered}
+use Rattle.sheet.{specs.Comments.covered, specs.Walked.uncooked, proofs.EnumNumbers.media-numbers, proofs.Coverings.covered-iff}
 use Rattle.sheet.specs.Sheet.{Sheet, sheet, ending, decodeSheet, accept}
-use Rattle.sheet.specs.Walked.{uncooked}
-use Rattle.sheet.proofs.EnumNumbers.{media-numbers}
-use Rattle.sheet.proofs.Coverings.{covered-iff}
-use Rattle.sheet.proofs.Decodes.{comments-codec, groups-codec}
-use Rattle.sheet.proofs.Reaches.{nine-exactly}
-use Rattle.sheet_codec.specs.Encode.{encodeSheet}
-use Rattle.sheet_codec.specs.Limits.{FieldsFit}
-use Rattle.sheet_codec.specs.SheetOf.{Encodes, SheetOf}
-use Rattle.sheet_codec.proofs.Building.{limit-codec}
-use Rattle.sheet_codec.proofs.Parts.{program-codec}
-use Rattle.sheet_codec.proofs.Levels.{node-codec}
+use Rattle.sheet.proofs.{Decodes.comments-codec, Decodes.groups-codec, Reaches.nine-exactly}
+use Rattle.sheet_codec.specs.{Encode.encodeSheet, Limits.FieldsFit, SheetOf.Encodes, SheetOf.SheetOf}
+use Rattle.sheet_codec.proofs.{Building.limit-codec, Parts.program-codec, Levels.node-codec}
 
 -- refusals 2 to 7
 pub sheet-codec : Codec sheet encodeSheet FieldsFit
@@ -38,7 +29,16 @@ sheet-codec =
     (λ t v. (
       (t .media, (t .source, (length (t .comments), (t .comments, (length (t .groups), (t .groups, (t .program, t .root))))))),
       refl,
-      (v .source, (v .comments .0, ((refl, v .comments .1), (v .groups .0, ((refl, (v .groups .1, v .places)), (covered-iff (t .groups) (length (t .comments)) .1 (v .grouped), (v .program, v .root))))))),
+      (
+        v .source,
+        (
+          v .comments .0,
+          (
+            (refl, v .comments .1),
+            (v .groups .0, ((refl, (v .groups .1, v .places)), (covered-iff (t .groups) (length (t .comments)) .1 (v .grouped), (v .program, v .root)))),
+          ),
+        ),
+      ),
     ))
     (λ a v.
     let (source, (few, ((long, comments), (few′, ((long′, (groups, places)), (all, (p, root))))))) = v in (
@@ -74,11 +74,7 @@ pub decoded : {s : List ℕ} {t : Sheet} → Encodes s t → decodeSheet s ≡ o
 unfolding decodeSheet
 decoded {s} {t} h =
     let bytes = encodeSheet t in
-    rw (
-      ← h .bytes,
-      le-leb (length bytes) sheetLimit (h .within .bytes),
-      rw append-nil at (sheet-codec .complete t (h .within .fields) []),
-    )
+    rw (← h .bytes, le-leb (length bytes) sheetLimit (h .within .bytes), rw append-nil at (sheet-codec .complete t (h .within .fields) []))
 
 -- what is accepted meets none of refusals 1 to 9, and back
 pub accepts-exactly : (s : List ℕ) (t : Sheet) → (accept s ≡ ok t []) ↔ SheetOf s t

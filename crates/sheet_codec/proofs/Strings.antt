@@ -1,22 +1,14 @@
 -- Codecs of tags, short texts and Strings.
-use Rattle.laws.proofs.Prelude.{_≡_, refl, sym, ap, _∙_, Bool, true, List, [], _∷_, _++_, ℕ, _≤_, _<_, arith, eqb, ltb, length, ltb-true, lt-ltb, eqb-true, eq-eqb}
-use Rattle.laws.specs.Decoded.{Decoder, _>>_}
-use Rattle.laws.specs.Codec.{Codec}
-use Rattle.laws.proofs.Decoding.{then-ok, require-ok}
+use Rattle.laws.proofs.Prelude.{_≡_, refl, sym, ap, _∙_, Bool, true, List, [], _∷_, _++_, ℕ, _≤_, _<_, arith, eqb, ltb, length, ltb-true, lt-ltb, eqb-true}
+use Rattle.laws.proofs.Prelude.{eq-eqb}
+use Rattle.laws.{specs.Decoded.Decoder, specs.Decoded._>>_, specs.Codec.Codec, proofs.Decoding.then-ok, proofs.Decoding.require-ok}
 use Rattle.laws.proofs.Codecs.{Built, built-return, built-then, built-require, codec-of, built-end}
-use Rattle.text.specs.declared.utf8.Encoding.{Encoding}
-use Rattle.text.specs.declared.utf8.Encoding.the-variants.{Wtf8}
-use Rattle.wire.specs.Number.{largest}
-use Rattle.wire.specs.Text.{text, encodeText}
-use Rattle.wire.proofs.TextCodec.{byte-codec, text-codec}
-use Rattle.sheet.specs.Limits.{textLimit}
-use Rattle.sheet.specs.declared.fields.Span.{Span}
-use Rattle.sheet.specs.Comments.{slice}
-use Rattle.sheet.specs.Quotation.{Quotation, looksQuoted}
+use Rattle.text.specs.declared.utf8.Encoding.{Encoding, the-variants.Wtf8}
+use Rattle.wire.{specs.Number.largest, specs.Text.text, specs.Text.encodeText, proofs.TextCodec.byte-codec, proofs.TextCodec.text-codec}
+use Rattle.sheet.specs.{Limits.textLimit, declared.fields.Span.Span, Comments.slice, Quotation.Quotation, Quotation.looksQuoted}
 use Rattle.sheet.specs.Nodes.{tag, stringText, quoted}
 use Rattle.sheet.proofs.Quotations.{looks-quoted-iff}
-use Rattle.sheet_codec.specs.Encode.{encodeQuoted}
-use Rattle.sheet_codec.specs.Limits.{TextFits, QuotedFits}
+use Rattle.sheet_codec.specs.{Encode.encodeQuoted, Limits.TextFits, Limits.QuotedFits}
 use Rattle.sheet_codec.proofs.Parts.{span-codec}
 
 pub tag-codec : (allowed : ℕ → Bool) (levels : ℕ) → Codec (tag allowed levels) (λ t. t ∷ []) (λ t. (allowed t ≡ true) × (0 < levels))

@@ -1,23 +1,17 @@
 -- The nodes of each tag, from codecs of the nodes one level down.
-use Rattle.laws.proofs.Prelude.{_≡_, refl, sym, ap, _∙_, _⊎_, inl, inr, ⊎-elim, Bool, true, List, _∷_, _++_, append-assoc, flatMap, Option, ℕ, suc, _+_, _≤_, arith, ltb, length}
-use Rattle.laws.specs.Decoded.{ok, Decoder}
+use Rattle.laws.proofs.Prelude.{_≡_, refl, sym, ap, _∙_, _⊎_, inl, inr, ⊎-elim, Bool, true, List, _∷_, _++_, append-assoc, flatMap, Option, ℕ, suc, _+_}
+use Rattle.laws.proofs.Prelude.{_≤_, arith, ltb, length}
+use Rattle.laws.{specs.Decoded.ok, specs.Decoded.Decoder, proofs.Decoding.refused}
 use Rattle.laws.specs.Codec.{Codec, IfThere, All}
-use Rattle.laws.proofs.Decoding.{refused}
 use Rattle.laws.proofs.Codecs.{Built, built-return, built-then, built-if, codec-of, each, built-end, built-free}
 use Rattle.text.specs.declared.utf8.Encoding.the-variants.{Utf8, Wtf8}
-use Rattle.wire.specs.Number.{largest, encodeNumber}
-use Rattle.wire.specs.Text.{encodeText}
-use Rattle.wire.specs.Optional.{encodeOptional}
-use Rattle.wire.proofs.NumberCodec.{number-codec}
-use Rattle.wire.proofs.Numbered.{numbered-codec}
-use Rattle.wire.proofs.TextCodec.{flag-codec}
-use Rattle.wire.proofs.OptionalCodec.{optional-codec}
-use Rattle.sheet.specs.Limits.{textLimit, propertyLimit}
-use Rattle.sheet.specs.declared.fields.Span.{Span}
-use Rattle.sheet.specs.declared.names.ImportPhase.{ImportPhase}
-use Rattle.sheet.specs.Tree.{Quoted, Pieces, Node, other, string, name, template, binary, object, importCall, call, importDecl, namedExport, exportFrom, exportAll, importType, importEquals, importRequire, moduleDecl, Nodes, Arguments, Properties, Attributes, without, withObject}
-use Rattle.sheet.specs.Nodes.{callRest, attributes, typeRest, otherFields, stringFields, nameFields, templateFields, binaryFields, objectFields, callFields, importFields, namedExportFields, exportAllFields, importTypeFields, importEqualsFields, moduleFields, fields}
-use Rattle.sheet.specs.Fields.{encodeSpan}
+use Rattle.wire.{specs.Number.largest, specs.Number.encodeNumber, specs.Text.encodeText, specs.Optional.encodeOptional, proofs.NumberCodec.number-codec}
+use Rattle.wire.proofs.{Numbered.numbered-codec, TextCodec.flag-codec, OptionalCodec.optional-codec}
+use Rattle.sheet.specs.{Limits.textLimit, Limits.propertyLimit, declared.fields.Span.Span, declared.names.ImportPhase.ImportPhase, Fields.encodeSpan}
+use Rattle.sheet.specs.Tree.{Quoted, Pieces, Node, other, string, name, template, binary, object, importCall, call, importDecl, namedExport, exportFrom}
+use Rattle.sheet.specs.Tree.{exportAll, importType, importEquals, importRequire, moduleDecl, Nodes, Arguments, Properties, Attributes, without, withObject}
+use Rattle.sheet.specs.Nodes.{callRest, attributes, typeRest, otherFields, stringFields, nameFields, templateFields, binaryFields, objectFields, callFields}
+use Rattle.sheet.specs.Nodes.{importFields, namedExportFields, exportAllFields, importTypeFields, importEqualsFields, moduleFields, fields}
 use Rattle.sheet.proofs.EnumNumbers.{phase-numbers}
 use Rattle.sheet_codec.specs.Encode.{nodesIn, argumentsIn, propertiesIn, encodeNode, encodeNodes, encodeArguments, encodeProperties, encodeAttributes}
 use Rattle.sheet_codec.specs.Limits.{TextFits, SpanFits, PlaceFits, NodeFits, NodesFit, ArgumentsFit, AttributesFit}
@@ -29,7 +23,8 @@ use Rattle.sheet_codec.proofs.Trees.{pieces-codec, nodes-codec, argumen
 pub record Tagged (source : List ℕ) (d t : ℕ) (sp : Span) (f : Decoder Node) {A : Type 0} (build : A → Node) : Type 0 where
   pub complete : (a : A) → NodeFits source (build a) (suc d) → (u : List ℕ)
       → (e : List ℕ) × (encodeNode (build a) ≡ t ∷ (encodeSpan sp ++ e)) × SpanFits source sp × (f (e ++ u) ≡ ok (build a) u)
-  pub sound : SpanFits source sp → (s : List ℕ) (n : Node) (u : List ℕ) → f s ≡ ok n u → (t ∷ (encodeSpan sp ++ s) ≡ encodeNode n ++ u) × NodeFits source n (suc d)
+  pub sound : SpanFits source sp → (s : List ℕ) (n : Node) (u : List ℕ) → f s ≡ ok n u →
+      (t ∷ (encodeSpan sp ++ s) ≡ encodeNode n ++ u) × NodeFits source n (suc d)
 
 module _ {source : List ℕ} {d : ℕ} {sp : Span} {f : Decoder Node} {A : Type 0} {build : A → Node} {encode : A → List ℕ} {Valid : A → Type 0} (t : ℕ) where
   tagged : Built f build encode Valid
@@ -46,8 +41,11 @@ module _ {source : List ℕ} {d : ℕ} {sp : Span} {f : Decoder Node} {A : Type 
         sound = λ place s n u e.
             let (a, p, i, v) = k .sound s n u e in
             let (bytes, fit, fits) = fields a in
-            rw (← p, bytes)
-            (ap (λ x. t ∷ (encodeSpan sp ++ x)) i ∙ ap (t ∷_) (sym (append-assoc (encodeSpan sp) (encode a) u)), fits (record { deep = omega arith; span = place }, v));
+            rw (← p, bytes) (
+              ap (λ x. t ∷ (encodeSpan sp ++ x)) i ∙
+                  ap (t ∷_) (sym (append-assoc (encodeSpan sp) (encode a) u)),
+              fits (record { deep = omega arith; span = place }, v),
+            );
       }
 
 -- an Object that holds attributes
@@ -76,7 +74,8 @@ module _ (source : List ℕ) (small : length source ≤ largest) (d : ℕ) (node
 
       string-fields : Fields 1 (stringFields source d node object′ sp) (string sp)
       unfolding stringFields encodeNode NodeFits
-      string-fields = tagged 1 (built-end (string-text source sp) (string sp)) (λ a. (refl, λ v. (v .place, (v .quotation, v .text)), λ v. record { place = v .0; quotation = v .1 .0; text = v .1 .1 }))
+      string-fields = tagged 1 (built-end (string-text source sp) (string sp))
+          (λ a. (refl, λ v. (v .place, (v .quotation, v .text)), λ v. record { place = v .0; quotation = v .1 .0; text = v .1 .1 }))
 
       name-fields : Fields 2 (nameFields source d node object′ sp) (name sp)
       unfolding nameFields encodeNode NodeFits
@@ -85,10 +84,12 @@ module _ (source : List ℕ) (small : length source ≤ largest) (d : ℕ) (node
       template-built : Built (templateFields source d node object′ sp)
           (λ (p : Pieces × Nodes). template sp (p .0) (p .1))
           (λ p. encodeNumber (nodesIn (p .1)) ++ (flatMap (encodeOptional encodeText) (p .0) ++ encodeNodes (p .1)))
-          (λ p. ((length (p .0) ≡ nodesIn (p .1) + 1) × All (IfThere (TextFits Wtf8 textLimit)) (p .0)) × ((nodesIn (p .1) ≤ largest) × NodesFit source (p .1) d))
+          (λ p. ((length (p .0) ≡ nodesIn (p .1) + 1) × All (IfThere (TextFits Wtf8 textLimit)) (p .0)) ×
+          ((nodesIn (p .1) ≤ largest) × NodesFit source (p .1) d))
       unfolding templateFields
       template-built =
-          let k = built-then number-codec (λ n. built-then (pieces-codec (n + 1)) (λ ps. built-end (nodes-codec source small d node node-codec n) (template sp ps))) in
+          let k = built-then number-codec
+          (λ n. built-then (pieces-codec (n + 1)) (λ ps. built-end (nodes-codec source small d node node-codec n) (template sp ps))) in
           record {
             complete = λ p v t. k .complete (nodesIn (p .1), p) (v .1 .0, (v .0, (refl, v .1 .1))) t;
             sound = λ s b t e.
@@ -108,7 +109,8 @@ module _ (source : List ℕ) (small : length source ≤ largest) (d : ℕ) (node
       object-fields : Fields 5 (objectFields source d node object′ sp) (object sp)
       unfolding objectFields encodeNode NodeFits
       object-fields =
-          tagged 5 (built-counted-end (limit-codec propertyLimit (omega arith)) (properties-codec source small d node node-codec) (object sp)) (λ a. (refl, λ v. v, λ v. v))
+          tagged 5 (built-counted-end (limit-codec propertyLimit (omega arith)) (properties-codec source small d node node-codec) (object sp))
+          (λ a. (refl, λ v. v, λ v. v))
 
       call-rest : Codec (callRest node source)
           (λ p. (encodeNumber (argumentsIn (p .0)) ++ encodeArguments (p .0)) ++ (encodeNumber (nodesIn (p .1)) ++ encodeNodes (p .1)))
@@ -116,15 +118,18 @@ module _ (source : List ℕ) (small : length source ≤ largest) (d : ℕ) (node
       unfolding callRest
       call-rest =
           codec-of
-          (built-counted number-codec (arguments-codec source small d node node-codec) (λ xs. built-counted-end number-codec (nodes-codec source small d node node-codec) (λ ns. (xs, ns))))
+          (built-counted number-codec (arguments-codec source small d node node-codec)
+          (λ xs. built-counted-end number-codec (nodes-codec source small d node node-codec) (λ ns. (xs, ns))))
           (λ p v. (p, refl, v))
           (λ p v. (refl, v))
 
       call-fields : Fields 6 (callFields source d node object′ sp)
-          (⊎-elim (λ (p : ImportPhase × (Arguments × Nodes)). importCall sp (p .0) (p .1 .0) (p .1 .1)) (λ (p : Node × (Arguments × Nodes)). call sp (p .0) (p .1 .0) (p .1 .1)))
+          (⊎-elim (λ (p : ImportPhase × (Arguments × Nodes)). importCall sp (p .0) (p .1 .0) (p .1 .1))
+          (λ (p : Node × (Arguments × Nodes)). call sp (p .0) (p .1 .0) (p .1 .1)))
       unfolding callFields encodeNode NodeFits
       call-fields =
-          tagged 6 (built-below phase-numbers (λ phase. built-end call-rest (λ p. importCall sp phase (p .0) (p .1))) (built-then node-codec (λ e. built-end call-rest (λ p. call sp e (p .0) (p .1)))))
+          tagged 6 (built-below phase-numbers (λ phase. built-end call-rest (λ p. importCall sp phase (p .0) (p .1)))
+          (built-then node-codec (λ e. built-end call-rest (λ p. call sp e (p .0) (p .1)))))
           (elim [ inl p ↦ (refl, λ v. v, λ v. v) | inr p ↦ (refl, λ v. v, λ v. v) ])
 
       import-fields : Fields 7 (importFields source d node object′ sp)
@@ -132,12 +137,14 @@ module _ (source : List ℕ) (small : length source ≤ largest) (d : ℕ) (node
       unfolding importFields encodeNode NodeFits
       import-fields =
           tagged 7
-          (built-free flag-codec (λ typeOnly. built-free (numbered-codec phase-numbers) (λ phase. built-free flag-codec (λ sideEffect. built-then (quoted-codec source small d) (λ x.
+          (built-free flag-codec (λ typeOnly. built-free (numbered-codec phase-numbers)
+          (λ phase. built-free flag-codec (λ sideEffect. built-then (quoted-codec source small d) (λ x.
           built-end attributes-codec (importDecl sp typeOnly phase sideEffect x))))))
           (λ a. (refl, λ v. v, λ v. v))
 
       export-fields : Fields 8 (namedExportFields source d node object′ sp)
-          (λ (p : Bool × ((Quoted × Attributes) ⊎ Unit {0})). ⊎-elim (λ (q : Quoted × Attributes). exportFrom sp (p .0) (q .0) (q .1)) (λ (u : Unit {0}). namedExport sp (p .0)) (p .1))
+          (λ (p : Bool × ((Quoted × Attributes) ⊎ Unit {0})). ⊎-elim (λ (q : Quoted × Attributes). exportFrom sp (p .0) (q .0) (q .1))
+          (λ (u : Unit {0}). namedExport sp (p .0)) (p .1))
       unfolding namedExportFields encodeNode NodeFits
       export-fields =
           tagged 8
@@ -162,7 +169,8 @@ module _ (source : List ℕ) (small : length source ≤ largest) (d : ℕ) (node
           (λ p v. (p, refl, ((v .0, v .1 .0), v .1 .1)))
           (λ p v. (refl, (v .0 .0, (v .0 .1, v .1))))
 
-      import-type-fields : Fields 10 (importTypeFields source d node object′ sp) (λ (p : Quoted × (Nodes × Attributes)). importType sp (p .0) (p .1 .0) (p .1 .1))
+      import-type-fields : Fields 10 (importTypeFields source d node object′ sp)
+          (λ (p : Quoted × (Nodes × Attributes)). importType sp (p .0) (p .1 .0) (p .1 .1))
       unfolding importTypeFields encodeNode NodeFits
       import-type-fields =
           tagged 10
@@ -182,7 +190,8 @@ module _ (source : List ℕ) (small : length source ≤ largest) (d : ℕ) (node
       module-fields : Fields 12 (moduleFields source d node object′ sp) (λ (p : Option Quoted × Nodes). moduleDecl sp (p .0) (p .1))
       unfolding moduleFields encodeNode NodeFits
       module-fields =
-          tagged 12 (built-then (optional-codec (quoted-codec source small d)) (λ x. built-counted-end number-codec (nodes-codec source small d node node-codec) (moduleDecl sp x)))
+          tagged 12 (built-then (optional-codec (quoted-codec source small d))
+          (λ x. built-counted-end number-codec (nodes-codec source small d node node-codec) (moduleDecl sp x)))
           (λ a. (refl, λ v. v, λ v. v))
 
       pub fields-sound : SpanFits source sp → (t : ℕ) (s : List ℕ) (n : Node) (u : List ℕ) → fields source d node object′ sp t s ≡ ok n u

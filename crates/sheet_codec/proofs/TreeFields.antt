@@ -1,22 +1,26 @@
 -- The fields of nodes.
-use Rattle.laws.proofs.Prelude.{_≡_, refl, ap, ⊎-elim, Bool, true, false, cond, List, [], _∷_, _++_, flatMap, ℕ, zero, suc, _+_, _≤_, _<_, zero-add, add-zero, not-suc-le-zero, le-of-suc-le-suc, arith, eqb, ltb, length, getD, List·getD-eq-default, ltb-true, ltb-false}
+use Rattle.laws.proofs.Prelude.{_≡_, refl, ap, ⊎-elim, Bool, true, false, cond, List, [], _∷_, _++_, flatMap, ℕ, zero, suc, _+_, _≤_, _<_, zero-add}
+use Rattle.laws.proofs.Prelude.{add-zero, not-suc-le-zero, le-of-suc-le-suc, arith, eqb, ltb, length, getD, List·getD-eq-default, ltb-true, ltb-false}
 use Rattle.laws.specs.Decoded.{Decoder, _>>=_, _>>_, return, refuse, require}
 use Rattle.laws.proofs.Decoding.{refused, then-ok, then-refused}
 use Rattle.text.specs.declared.utf8.Encoding.the-variants.{Utf8, Wtf8}
 use Rattle.wire.specs.Fields.{byte, below, valueOf, flag}
-use Rattle.sheet.specs.declared.fields.Span.{Span}
-use Rattle.sheet.specs.Names.{importPhases}
-use Rattle.sheet.specs.Fields.{span}
-use Rattle.sheet.specs.Tree.{Node, other, string, name, template, binary, object, importCall, call, importDecl, namedExport, exportFrom, exportAll, importType, importEquals, importRequire, moduleDecl, none, more, argument, Properties, noProperties, spread, otherProperty, childKey, stringKey, nameKey, Attributes, without, withObject}
-use Rattle.sheet.specs.Nodes.{many, tag, quoted, piece, nodes, argumentItem, arguments, keyedItem, propertyItem, properties, callRest, attributes, typeRest, otherFields, stringFields, nameFields, templateFields, binaryFields, objectFields, callFields, importFields, namedExportFields, exportAllFields, importTypeFields, importEqualsFields, moduleFields, fields, node, attributesObject}
-use Rattle.sheet.proofs.EnumNumbers.{phase-numbers}
+use Rattle.sheet.{specs.declared.fields.Span.Span, specs.Names.importPhases, specs.Fields.span, proofs.EnumNumbers.phase-numbers}
+use Rattle.sheet.specs.Tree.{Node, other, string, name, template, binary, object, importCall, call, importDecl, namedExport, exportFrom, exportAll}
+use Rattle.sheet.specs.Tree.{importType, importEquals, importRequire, moduleDecl, none, more, argument, Properties, noProperties, spread, otherProperty}
+use Rattle.sheet.specs.Tree.{childKey, stringKey, nameKey, Attributes, without, withObject}
+use Rattle.sheet.specs.Nodes.{many, tag, quoted, piece, nodes, argumentItem, arguments, keyedItem, propertyItem, properties, callRest, attributes, typeRest}
+use Rattle.sheet.specs.Nodes.{otherFields, stringFields, nameFields, templateFields, binaryFields, objectFields, callFields, importFields}
+use Rattle.sheet.specs.Nodes.{namedExportFields, exportAllFields, importTypeFields, importEqualsFields, moduleFields, fields, node, attributesObject}
 use Rattle.sheet_codec.specs.Encode.{nodesIn, argumentsIn, propertiesIn}
 use Rattle.sheet_codec.specs.Field as field
 use Rattle.sheet_codec.specs.Field.{Byte, values, textLength, anyNode, anObject, Entry}
-use Rattle.sheet_codec.specs.FieldsOf.{aByte, aFlag, aNumber, aTag, shortText, optionalFields, spanFields, quotedFields, nodeFields, nodesFields, argumentsFields, propertiesFields, attributesFields}
+use Rattle.sheet_codec.specs.FieldsOf.{aByte, aFlag, aNumber, aTag, shortText, optionalFields, spanFields, quotedFields, nodeFields, nodesFields}
+use Rattle.sheet_codec.specs.FieldsOf.{argumentsFields, propertiesFields, attributesFields}
 use Rattle.sheet_codec.proofs.Building.{Each, done, next}
 use Rattle.sheet_codec.proofs.Fields.{Judges, FieldsOf, Any, ends, same, has, map, then, last, meets-here}
-use Rattle.sheet_codec.proofs.Leaves.{byte-field, numbered-field, flag-field, no-level, any-tag-refuses, object-tag-refuses, any-tag, string-tag, object-tag}
+use Rattle.sheet_codec.proofs.Leaves.{byte-field, numbered-field, flag-field, no-level, any-tag-refuses, object-tag-refuses, any-tag, string-tag}
+use Rattle.sheet_codec.proofs.Leaves.{object-tag}
 use Rattle.sheet_codec.proofs.Numbers.{free-field, count-field}
 use Rattle.sheet_codec.proofs.Sequences.{text-fields, optional-fields, span-fields, string-fields, Adds, many-fields}
 
@@ -41,7 +45,8 @@ module _ {B : Type 0} (ds : List (Decoder B)) (n : ℕ) (long : length ds ≡ n)
       go true i = refl
       go false i = let past : length ds ≤ x = omega (arith, ltb-false x n i) in ap (λ d. d u) (List·getD-eq-default ds (refuse 3) past)
 
-chosen : {B : Type 0} {Has : B → List Entry → Type 0} {ds : List (Decoder B)} (b : Byte) → Each (λ i d. Judges d (λ x l. Has x (aByte b i ∷ l))) 0 ds → length ds ≡ values b
+chosen : {B : Type 0} {Has : B → List Entry → Type 0} {ds : List (Decoder B)} (b : Byte) → Each (λ i d. Judges d (λ x l. Has x (aByte b i ∷ l))) 0 ds →
+    length ds ≡ values b
     → Judges (byte >>= λ i. getD ds i (refuse 3)) Has
 chosen {Has = Has} {ds = ds} b each long =
     same (by-byte ds (values b) long) (then (byte-field b) (λ i l. at-index (λ i d. Judges d (λ x m. Has x (aByte b i ∷ m))) (refuse 3) each i (rw long l)))
@@ -61,7 +66,8 @@ module _ (source : List ℕ) where
   module _ (d : ℕ) {inner : Decoder Node} (k : FieldsOf inner Any (λ n. nodeFields source n d)) where
     nodes-fields : (n : ℕ) → FieldsOf (nodes inner n) (λ ns. nodesIn ns ≡ n) (λ ns. nodesFields source ns d)
     unfolding nodes nodesFields
-    nodes-fields = many-fields nodesIn (λ ns. nodesFields source ns d) (refl, refl) (map k (λ n l. more n l) (λ n l h ns. (refl, ap (_++ nodesFields source ns d) (h .1))))
+    nodes-fields = many-fields nodesIn (λ ns. nodesFields source ns d) (refl, refl)
+        (map k (λ n l. more n l) (λ n l h ns. (refl, ap (_++ nodesFields source ns d) (h .1))))
 
     arguments-fields : (n : ℕ) → FieldsOf (arguments inner source n) (λ xs. argumentsIn xs ≡ n) (λ xs. argumentsFields source xs d)
     unfolding arguments argumentItem argumentsFields
@@ -107,7 +113,8 @@ module _ (source : List ℕ) where
           by true = has k′ (λ a l h. (tt, h))
           by false = ends without (tt, refl)
 
-      type-fields : (n : ℕ) → FieldsOf (typeRest inner inner′ n) (λ p. nodesIn (p .0) ≡ n) (λ p. nodesFields source (p .0) d ++ attributesFields source (p .1) d)
+      type-fields : (n : ℕ) →
+          FieldsOf (typeRest inner inner′ n) (λ p. nodesIn (p .0) ≡ n) (λ p. nodesFields source (p .0) d ++ attributesFields source (p .1) d)
       unfolding typeRest
       type-fields n = then (nodes-fields n) (λ ns e. last (λ a. (ns, a)) attributes-fields (λ a c. (e, refl)))
 
@@ -116,7 +123,8 @@ module _ (source : List ℕ) where
       Behind t front f = Judges f (λ n l. Unit {0} × (aTag anyNode (suc d) t ∷ (spanFields source sp ++ (front ++ l)) ≡ nodeFields source n (suc d)))
 
       rest-fields : FieldsOf (callRest inner source) Any
-          (λ p. aNumber field.free (argumentsIn (p .0)) ∷ (argumentsFields source (p .0) d ++ (aNumber field.free (nodesIn (p .1)) ∷ nodesFields source (p .1) d)))
+          (λ p. aNumber field.free
+          (argumentsIn (p .0)) ∷ (argumentsFields source (p .0) d ++ (aNumber field.free (nodesIn (p .1)) ∷ nodesFields source (p .1) d)))
       unfolding callRest
       rest-fields =
           then free-field (λ n a. then (arguments-fields n) (λ xs e. then free-field (λ m b. last (λ ns. (xs, ns)) (nodes-fields m) (λ ns f. (tt, rw (e, f))))))
@@ -130,7 +138,8 @@ module _ (source : List ℕ) where
               (callRest inner source >>= λ p. return (importCall sp (valueOf importPhases callee) (p .0) (p .1)))
               (inner >>= λ e. callRest inner source >>= λ p. return (call sp e (p .0) (p .1))))
           by callee l true i =
-              last (λ p. importCall sp (valueOf importPhases callee) (p .0) (p .1)) rest-fields (λ p a. (tt, rw (phase-numbers .forth callee (ltb-true callee 3 i))))
+              last (λ p. importCall sp (valueOf importPhases callee) (p .0) (p .1)) rest-fields
+              (λ p a. (tt, rw (phase-numbers .forth callee (ltb-true callee 3 i))))
           by callee l false i =
               let three : callee ≡ 3 = omega (arith, ltb-false callee 3 i) in
               then k (λ e a. last (λ p. call sp e (p .0) (p .1)) rest-fields (λ p b. (tt, rw three)))
@@ -152,7 +161,8 @@ module _ (source : List ℕ) where
           by : (b : Bool)
               → Behind 11 (aFlag b ∷ [])
               (cond b (flag >>= λ typeOnly. flag >>= λ export. quoted source d >>= λ x. return (importRequire sp typeOnly export x)) (return (importEquals sp)))
-          by true = then flag-field (λ typeOnly a. then flag-field (λ export b. last (λ x. importRequire sp typeOnly export x) (quoted-fields d) (λ x c. (tt, refl))))
+          by true = then flag-field
+              (λ typeOnly a. then flag-field (λ export b. last (λ x. importRequire sp typeOnly export x) (quoted-fields d) (λ x c. (tt, refl))))
           by false = ends (importEquals sp) (tt, refl)
 
       -- where it is no String
@@ -168,13 +178,15 @@ module _ (source : List ℕ) where
           (next (then flag-field (λ plus a. then k (λ l b. last (λ r. binary sp plus l r) k (λ r c. (tt, refl)))))
           (next (then (count-field field.properties) (λ n a. last (λ ps. object sp ps) (properties-fields n) (λ ps e. (tt, rw e))))
           (next call-fields
-          (next (then flag-field (λ typeOnly a. then (numbered-field field.phase phase-numbers refl) (λ phase b. then flag-field (λ sideEffect c. then (quoted-fields d) (λ x e.
+          (next (then flag-field
+          (λ typeOnly a. then (numbered-field field.phase phase-numbers refl) (λ phase b. then flag-field (λ sideEffect c. then (quoted-fields d) (λ x e.
           last (λ a. importDecl sp typeOnly phase sideEffect x a) attributes-fields (λ a f. (tt, refl)))))))
           (next export-fields
           (next (then flag-field (λ typeOnly a. then (quoted-fields d) (λ x b. last (λ a. exportAll sp typeOnly x a) attributes-fields (λ a c. (tt, refl)))))
           (next (then (quoted-fields d) (λ x a. then free-field (λ n b. last (λ p. importType sp x (p .0) (p .1)) (type-fields n) (λ p e. (tt, rw e)))))
           (next equals-fields
-          (next (then (optional-fields (quoted-fields d)) (λ x a. then free-field (λ n b. last (λ ns. moduleDecl sp x ns) (nodes-fields n) (λ ns e. (tt, rw e)))))
+          (next
+          (then (optional-fields (quoted-fields d)) (λ x a. then free-field (λ n b. last (λ ns. moduleDecl sp x ns) (nodes-fields n) (λ ns e. (tt, rw e)))))
           done)))))))))))
           t (omega arith))
 

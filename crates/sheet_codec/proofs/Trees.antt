@@ -5,22 +5,17 @@ use Rattle.laws.specs.Codec.{Codec, IfThere, All}
 use Rattle.laws.proofs.Decoding.{refused}
 use Rattle.laws.proofs.Codecs.{Built, built-map, built-then, built-end, built-free}
 use Rattle.text.specs.declared.utf8.Encoding.the-variants.{Utf8, Wtf8}
-use Rattle.wire.specs.Fields.{byte, encodeFlag}
-use Rattle.wire.specs.Number.{largest}
-use Rattle.wire.specs.Text.{text, encodeText}
-use Rattle.wire.specs.Optional.{optional, encodeOptional}
-use Rattle.wire.proofs.TextCodec.{flag-codec}
-use Rattle.wire.proofs.OptionalCodec.{optional-codec}
-use Rattle.sheet.specs.Limits.{textLimit}
-use Rattle.sheet.specs.Tree.{Pieces, Node, none, more, Arguments, noArguments, argument, Properties, noProperties, spread, otherProperty, childKey, stringKey, nameKey}
+use Rattle.wire.specs.{Fields.byte, Fields.encodeFlag, Number.largest, Text.text, Text.encodeText, Optional.optional, Optional.encodeOptional}
+use Rattle.wire.proofs.{TextCodec.flag-codec, OptionalCodec.optional-codec}
+use Rattle.sheet.specs.{Limits.textLimit, Fields.encodeSpan}
+use Rattle.sheet.specs.Tree.{Pieces, Node, none, more, Arguments, noArguments, argument, Properties, noProperties, spread, otherProperty, childKey}
+use Rattle.sheet.specs.Tree.{stringKey, nameKey}
 use Rattle.sheet.specs.Nodes.{many, piece, nodes, argumentItem, arguments, keyedItem, propertyItem, properties}
-use Rattle.sheet.specs.Fields.{encodeSpan}
 use Rattle.sheet_codec.specs.Encode.{nodesIn, argumentsIn, propertiesIn, encodeNode, encodeNodes, encodeArguments, encodeProperties}
 use Rattle.sheet_codec.specs.Limits.{TextFits, NodeFits, NodesFit, ArgumentsFit, PropertiesFit}
 use Rattle.sheet_codec.proofs.Building.{done, next, at-index}
 use Rattle.sheet_codec.proofs.Lists.{AddsItem, Opens, reads-built, reads-byte, many-codec}
-use Rattle.sheet_codec.proofs.Parts.{span-codec}
-use Rattle.sheet_codec.proofs.Strings.{short-text}
+use Rattle.sheet_codec.proofs.{Parts.span-codec, Strings.short-text}
 
 -- the pieces of a template
 pub pieces-codec : (k : ℕ) → Codec (many [] piece k) (flatMap (encodeOptional encodeText)) (λ ps. (length ps ≡ k) × All (IfThere (TextFits Wtf8 textLimit)) ps)
@@ -34,7 +29,8 @@ pieces-codec = many-codec length (flatMap (encodeOptional encodeText)) (All (IfT
     piece-text : Codec (optional (text Wtf8 textLimit)) (encodeOptional encodeText) (IfThere (TextFits Wtf8 textLimit))
     piece-text = optional-codec (short-text Wtf8)
 
-    opens : (ps : Pieces) → All (IfThere (TextFits Wtf8 textLimit)) ps → Opens length (flatMap (encodeOptional encodeText)) (All (IfThere (TextFits Wtf8 textLimit))) [] piece ps
+    opens : (ps : Pieces) → All (IfThere (TextFits Wtf8 textLimit)) ps →
+        Opens length (flatMap (encodeOptional encodeText)) (All (IfThere (TextFits Wtf8 textLimit))) [] piece ps
     opens [] v = inl refl
     opens (x ∷ ps) v = inr (x ∷_, ps, encodeOptional encodeText x, refl, refl, refl, v .1, λ t. rw (piece-text .complete x (v .0) t))
 
@@ -54,7 +50,8 @@ module _ (source : List ℕ) (small : length source ≤ largest) (d : ℕ) (node
   pub arguments-codec : (k : ℕ) → Codec (arguments node source k) encodeArguments (λ xs. (argumentsIn xs ≡ k) × ArgumentsFit source xs d)
   unfolding arguments argumentItem encodeArguments ArgumentsFit
   arguments-codec =
-      let item = built-free flag-codec (λ dots. built-then (span-codec source small) (λ sp. built-end node-codec {B = Arguments → Arguments} (λ n. argument dots sp n))) in
+      let item = built-free flag-codec
+      (λ dots. built-then (span-codec source small) (λ sp. built-end node-codec {B = Arguments → Arguments} (λ n. argument dots sp n))) in
       many-codec argumentsIn encodeArguments (λ xs. ArgumentsFit source xs d) (record {
         empty = (refl, refl, tt);
         reads = reads-built _ _ _ item [] (λ p v xs. (refl, refl, λ w. (v, w)));
@@ -99,10 +96,37 @@ module _ (source : List ℕ) (small : length source ≤ largest) (d : ℕ) (node
       | spread n ps ↦ λ v. inr (spread n, ps, 0 ∷ encodeNode n, refl, refl, refl, v .1, λ t. rw (node-codec .complete n (v .0) t))
       | otherProperty n ps ↦ λ v. inr (otherProperty n, ps, 1 ∷ encodeNode n, refl, refl, refl, v .1, λ t. rw (node-codec .complete n (v .0) t))
       | childKey k x ps ↦ λ v.
-          inr (childKey k x, ps, 2 ∷ 0 ∷ (encodeNode k ++ encodeNode x), refl, refl, refl, v .1, with-key (λ k v ps. childKey k v ps) node-codec .complete (k, x) (v .0))
+          inr (
+            childKey k x,
+            ps,
+            2 ∷ 0 ∷ (encodeNode k ++ encodeNode x),
+            refl,
+            refl,
+            refl,
+            v .1,
+            with-key (λ k v ps. childKey k v ps) node-codec .complete (k, x) (v .0),
+          )
       | stringKey k x ps ↦ λ v.
-          inr (stringKey k x, ps, 2 ∷ 1 ∷ (encodeText k ++ encodeNode x), refl, refl, refl, v .1, with-key (λ k v ps. stringKey k v ps) (short-text Wtf8) .complete (k, x) (v .0))
+          inr (
+            stringKey k x,
+            ps,
+            2 ∷ 1 ∷ (encodeText k ++ encodeNode x),
+            refl,
+            refl,
+            refl,
+            v .1,
+            with-key (λ k v ps. stringKey k v ps) (short-text Wtf8) .complete (k, x) (v .0),
+          )
       | nameKey k x ps ↦ λ v.
-          inr (nameKey k x, ps, 2 ∷ 2 ∷ (encodeText k ++ encodeNode x), refl, refl, refl, v .1, with-key (λ k v ps. nameKey k v ps) (short-text Utf8) .complete (k, x) (v .0))
+          inr (
+            nameKey k x,
+            ps,
+            2 ∷ 2 ∷ (encodeText k ++ encodeNode x),
+            refl,
+            refl,
+            refl,
+            v .1,
+            with-key (λ k v ps. nameKey k v ps) (short-text Utf8) .complete (k, x) (v .0),
+          )
     ];
   })

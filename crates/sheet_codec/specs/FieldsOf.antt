@@ -166,7 +166,8 @@ fieldsOf t =
     aByte media (mediaNumber (t .media))
     ∷ (textFields sourceLength Utf8 (t .source)
     ++ (aNumber (limited comments) (length (t .comments)) ∷ (chainFields (commentFields (t .source)) endOf 0 (t .comments)
-    ++ (aNumber (limited groups) (length (t .groups)) ∷ (chainFields (groupFields (t .source) (length (t .comments))) (λ g. Option.some g) Option.none (t .groups)
+    ++ (aNumber (limited groups) (length (t .groups)) ∷
+    (chainFields (groupFields (t .source) (length (t .comments))) (λ g. Option.some g) Option.none (t .groups)
     ++ (record { field = everyComment (t .groups) (length (t .comments)); bytes = [] }
     ∷ (programFields (t .source) (t .program)
     ++ nodeFields (t .source) (t .root) depthLimit)))))))

@@ -5,17 +5,18 @@ use Rattle.laws.proofs.Decoding.{refused, then-then}
 use Rattle.laws.proofs.Splits.{Splits, ends, first, one, either, done, next, at-index}
 use Rattle.text.specs.declared.utf8.Encoding.the-variants.{Utf8, Wtf8}
 use Rattle.wire.specs.Fields.{byte, below, numbered, flag}
-use Rattle.wire.specs.Number.{number}
-use Rattle.wire.specs.Text.{count, text}
-use Rattle.wire.specs.Optional.{optional}
-use Rattle.sheet.specs.Limits.{textLimit, propertyLimit}
-use Rattle.sheet.specs.Names.{importPhases}
-use Rattle.sheet.specs.declared.fields.Span.{Span}
-use Rattle.sheet.specs.Tree.{Quoted, Node, importDecl, exportFrom, exportAll, Arguments, argument, Properties, spread, otherProperty, childKey, stringKey, nameKey, Attributes, withObject}
-use Rattle.sheet.specs.Fields.{span}
-use Rattle.sheet.specs.Nodes.{tag, stringText, quoted, properties, attributes, otherFields, stringFields, nameFields, templateFields, binaryFields, objectFields, callFields, importFields, namedExportFields, exportAllFields, importTypeFields, importEqualsFields, moduleFields, fields, argumentItem, keyedItem, propertyItem, node, attributesObject}
-use Rattle.sheet_heads.specs.code.Head.{Head, otherHead, stringHead, nameHead, templateHead, binaryHead, objectHead, importHead, exportFromHead, exportAllHead, callStart, specifierStart, importStart, namedExportStart, exportAllStart, importTypeStart, importRequireStart, importEqualsStart, moduleStart, start, head}
-use Rattle.sheet_heads.specs.code.Parts.{PropertyHead, spreadHead, otherPropertyHead, childKeyHead, stringKeyHead, nameKeyHead, keyHead, propertyHead, argumentHead, attributesHead}
+use Rattle.wire.specs.{Number.number, Text.count, Text.text, Optional.optional}
+use Rattle.sheet.specs.{Limits.textLimit, Limits.propertyLimit, Names.importPhases, declared.fields.Span.Span, Fields.span}
+use Rattle.sheet.specs.Tree.{Quoted, Node, importDecl, exportFrom, exportAll, Arguments, argument, Properties, spread, otherProperty, childKey, stringKey}
+use Rattle.sheet.specs.Tree.{nameKey, Attributes, withObject}
+use Rattle.sheet.specs.Nodes.{tag, stringText, quoted, properties, attributes, otherFields, stringFields, nameFields, templateFields, binaryFields}
+use Rattle.sheet.specs.Nodes.{objectFields, callFields, importFields, namedExportFields, exportAllFields, importTypeFields, importEqualsFields}
+use Rattle.sheet.specs.Nodes.{moduleFields, fields, argumentItem, keyedItem, propertyItem, node, attributesObject}
+use Rattle.sheet_heads.specs.code.Head.{Head, otherHead, stringHead, nameHead, templateHead, binaryHead, objectHead, importHead, exportFromHead}
+use Rattle.sheet_heads.specs.code.Head.{exportAllHead, callStart, specifierStart, importStart, namedExportStart, exportAllStart, importTypeStart}
+use Rattle.sheet_heads.specs.code.Head.{importRequireStart, importEqualsStart, moduleStart, start, head}
+use Rattle.sheet_heads.specs.code.Parts.{PropertyHead, spreadHead, otherPropertyHead, childKeyHead, stringKeyHead, nameKeyHead, keyHead, propertyHead}
+use Rattle.sheet_heads.specs.code.Parts.{argumentHead, attributesHead}
 use Rattle.sheet_heads.specs.code.Rest.{behind, restOf, rest}
 
 -- what follows the head of an Object that holds attributes, where so many levels are left below it, of an argument and of a property
@@ -46,7 +47,8 @@ module _ (source : List ℕ) (levels : ℕ) (inner : Decoder Node) (object′ : 
 
   -- a String with attributes
   by-specifier : (f : Quoted → Attributes → Node) (h : Quoted → Bool → Head)
-      → ((x : Quoted) (hasObject : Bool) (s : List ℕ) → restOf source levels inner object′ sp (h x hasObject) s ≡ (behind hasObject object′ >>= λ a. return (f x a)) s)
+      → ((x : Quoted) (hasObject : Bool) (s : List ℕ) →
+      restOf source levels inner object′ sp (h x hasObject) s ≡ (behind hasObject object′ >>= λ a. return (f x a)) s)
       → From (quoted source levels >>= λ x. attributes object′ >>= λ a. return (f x a)) (specifierStart source levels >>= λ p. return (h (p .0) (p .1)))
   unfolding attributes specifierStart
   by-specifier f h e = record { at = λ s. go (quoted source levels s) }
@@ -65,7 +67,8 @@ module _ (source : List ℕ) (levels : ℕ) (inner : Decoder Node) (object′ : 
 
   by-import : From (importFields source levels inner object′ sp) (importStart source levels)
   unfolding importFields importStart
-  by-import = first flag λ typeOnly. first (numbered importPhases) λ phase. first flag λ sideEffect. by-specifier (importDecl sp typeOnly phase sideEffect) (importHead typeOnly phase sideEffect) (λ x hasObject s. refl)
+  by-import = first flag λ typeOnly. first (numbered importPhases) λ phase. first flag λ sideEffect. by-specifier (importDecl sp typeOnly phase sideEffect)
+      (importHead typeOnly phase sideEffect) (λ x hasObject s. refl)
 
   by-named-export : From (namedExportFields source levels inner object′ sp) (namedExportStart source levels)
   unfolding namedExportFields namedExportStart
@@ -130,7 +133,10 @@ node-by-head source (suc d) s = let down : suc d - 1 ≡ d = omega arith in rw d
         (tag (λ t. ltb t 13) (suc d) >>= λ t. span source >>= λ sp. fields source d (node source d) (attributesObject source d) sp t)
         (tag (λ t. ltb t 13) (suc d) >>= λ t. span source >>= λ sp. start source d sp t >>= λ h. return (sp, h))
     by-parts = first (tag (λ t. ltb t 13) (suc d)) λ t. first (span source) λ sp.
-        record { at = λ s. by-tag source d (node source d) (attributesObject source d) sp t .at s ∙ sym (then-then (start source d sp t s) (λ h. return (sp, h)) (rest source d)) }
+        record {
+          at = λ s. by-tag source d (node source d) (attributesObject source d) sp t .at s ∙
+              sym (then-then (start source d sp t s) (λ h. return (sp, h)) (rest source d));
+        }
 
 -- a node's head, and what is read behind it; without a head there is no node
 module _ (source : List ℕ) (levels : ℕ) (u : List ℕ) {v : Node} {t : List ℕ} (e : node source levels u ≡ ok v t) where
@@ -156,7 +162,8 @@ module _ (inner : Decoder Node) where
   unfolding argumentItem argumentHead
   argument-by-head source s = by-parts .at s
     where
-      by-parts : Splits (argumentRest inner) (flag >>= λ dots. span source >>= λ sp. argumentRest inner (dots, sp)) (flag >>= λ dots. span source >>= λ sp. return (dots, sp))
+      by-parts : Splits (argumentRest inner) (flag >>= λ dots. span source >>= λ sp. argumentRest inner (dots, sp))
+          (flag >>= λ dots. span source >>= λ sp. return (dots, sp))
       by-parts = first flag λ dots. first (span source) λ sp. ends λ s. refl
 
   by-key : (kind : ℕ) → Splits (propertyRest inner) (keyedItem inner kind) (keyHead kind)
@@ -169,8 +176,4 @@ module _ (inner : Decoder Node) where
 
   pub property-by-head : (s : List ℕ) → propertyItem inner s ≡ andThen (propertyHead s) (propertyRest inner)
   unfolding propertyItem propertyHead
-  property-by-head s = (first byte λ kind. at-index
-      (next (ends λ s. refl)
-      (next (ends λ s. refl)
-      (next (first byte by-key) done)))
-      kind 3) .at s
+  property-by-head s = (first byte λ kind. at-index (next (ends λ s. refl) (next (ends λ s. refl) (next (first byte by-key) done))) kind 3) .at s

@@ -2,9 +2,8 @@
 use Rattle.laws.proofs.Prelude.{_≡_, sym, ap, _∙_, Bool, List, ℕ, _-_, _≤_, _<_}
 use Rattle.laws.specs.Decoded.{ok, no, andThen, Decoder, return}
 use Rattle.laws.proofs.Decoding.{then-ok}
-use Rattle.sheet.specs.declared.fields.Span.{Span}
+use Rattle.sheet.specs.{declared.fields.Span.Span, Nodes.argumentItem, Nodes.arguments}
 use Rattle.sheet.specs.Tree.{Node, Arguments, noArguments, argument}
-use Rattle.sheet.specs.Nodes.{argumentItem, arguments}
 use Rattle.sheet_heads.specs.code.Parts.{argumentHead}
 use Rattle.sheet_heads.proofs.ByHead.{argumentRest, argument-by-head}
 use Rattle.sheet_heads.proofs.Many.{many-first, many-refused, many-end}
@@ -27,14 +26,7 @@ module _ (inner : Decoder Node) (source : List ℕ) where
         let (n, x, is, same) = then-ok (inner v) (λ n. return (argument (a .0) (a .1) n)) (rw f at (sym (argument-by-head inner source u) ∙ item)) in
         let left : x ≡ w = cc in
         let adds : argument (a .0) (a .1) n ≡ add = cc in
-        record {
-          node = n;
-          between = w;
-          others = ys;
-          read = rw left at is;
-          behind = others;
-          are = sym gives ∙ ap (λ add. add ys) (sym adds);
-        }
+        record { node = n; between = w; others = ys; read = rw left at is; behind = others; are = sym gives ∙ ap (λ add. add ys) (sym adds) }
 
     pub no-first : 0 < k → arguments inner source k u ≡ ok xs t → {r : ℕ} → argumentHead source u ≡ no r → ⊥
     unfolding arguments

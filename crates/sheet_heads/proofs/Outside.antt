@@ -1,11 +1,9 @@
 -- A tag, and the bytes of a property and of its key, outside their values.
 use Rattle.laws.proofs.Prelude.{_≡_, List, ℕ, List·getD-eq-default}
 use Rattle.laws.specs.Decoded.{ok, no, refuse}
-use Rattle.wire.specs.Fields.{byte}
-use Rattle.wire.proofs.Numbered.{NoneOf, beyond}
+use Rattle.wire.{specs.Fields.byte, proofs.Numbered.NoneOf, proofs.Numbered.beyond}
 use Rattle.sheet.specs.declared.fields.Span.{Span}
-use Rattle.sheet_heads.specs.code.Head.{start}
-use Rattle.sheet_heads.specs.code.Parts.{keyHead, propertyHead}
+use Rattle.sheet_heads.specs.code.{Head.start, Parts.keyHead, Parts.propertyHead}
 
 pub no-start : (source : List ℕ) (levels : ℕ) (sp : Span) (t : ℕ) (s : List ℕ) → NoneOf t 13 → start source levels sp t s ≡ no 3
 unfolding start

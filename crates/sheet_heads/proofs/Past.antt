@@ -1,8 +1,7 @@
 -- What is past one place is past each place before it.
 use Rattle.laws.proofs.Prelude.{ℕ, _≤_, arith}
-use Rattle.sheet_heads.specs.declared.node.FieldsRead.{FieldsRead}
+use Rattle.sheet_heads.specs.declared.{node.FieldsRead.FieldsRead, parts.PropertyRead.PropertyRead}
 use Rattle.sheet_heads.specs.declared.node.FieldsRead.the-variants as fieldsRead
-use Rattle.sheet_heads.specs.declared.parts.PropertyRead.{PropertyRead}
 use Rattle.sheet_heads.specs.declared.parts.PropertyRead.the-variants as propertyRead
 use Rattle.sheet_heads.specs.code.Views.{PastFields, PastProperty}
 

@@ -5,14 +5,11 @@ use denote.Enum.Declared.{tagOf}
 use Rattle.laws.specs.Decoded.{Decoder}
 use Rattle.laws.proofs.Answers.{Yields, ends, behind}
 use Rattle.text.specs.Bytes.{part}
-use Rattle.sheet.specs.declared.fields.Span.{Span}
+use Rattle.sheet.specs.{declared.fields.Span.Span, Shape.anything, Shape.shape}
 use Rattle.sheet.specs.Tree.{Pieces, Node, string, name, template, binary, object, Nodes, Properties, Attributes}
 use Rattle.sheet.specs.Nodes.{many, piece, nodes, properties, callRest, typeRest, node, attributesObject}
-use Rattle.sheet.specs.Shape.{anything, shape}
-use Rattle.sheet_heads.specs.declared.node.Head.{Head}
+use Rattle.sheet_heads.specs.{declared.node.Head.Head, code.Rest.behind as object-behind, code.Rest.rest, code.Views.headOf}
 use Rattle.sheet_heads.specs.declared.node.Head.the-variants as head
-use Rattle.sheet_heads.specs.code.Rest.{behind as object-behind, rest}
-use Rattle.sheet_heads.specs.code.Views.{headOf}
 use Rattle.sheet_heads.proofs.node.Head.{the-type}
 
 -- the variants in question, by their numbers, and what holds of a node of each of them

@@ -2,14 +2,10 @@
 use Rattle.laws.proofs.Prelude.{_≡_, Bool, false, not, _&&_, _||_, or-true, _+_, add-zero, zero-add}
 use mathlib.Core.Bool.{and-false, or-assoc, or-false}
 use native.Mathlib.Nat.{add-assoc}
-use Rattle.sheet.specs.declared.fields.Span.{Span}
+use Rattle.sheet.specs.{declared.fields.Span.Span, Shape.shape, Shape.isUncooked, Walk.walkOf}
 use Rattle.sheet.specs.Tree.{Node, Arguments, noArguments, argument}
-use Rattle.sheet.specs.Shape.{shape, isUncooked}
-use Rattle.sheet.specs.Walk.{walkOf}
 use Rattle.sheet.specs.Walked.{counting, entries, judging, uncooked}
-use Rattle.sheet_nodes.specs.declared.tally.Tally.{Tally}
-use Rattle.sheet_nodes.specs.declared.tally.NodeTally.{NodeTally}
-use Rattle.sheet_nodes.specs.declared.tally.Passed.{Passed}
+use Rattle.sheet_nodes.specs.declared.tally.{Tally.Tally, NodeTally.NodeTally, Passed.Passed}
 use Rattle.sheet_nodes.specs.code.Tallies.{nodeTally, plus, withArgument, passed}
 
 abbrev pub nothing : Tally
@@ -41,7 +37,8 @@ behindPassed p xs =
       template = p .template || (not (p .any) && passed xs .template);
     }
 
-pub one-more : (p : Passed) (dots : Bool) (sp : Span) (n : Node) (xs : Arguments) → behindPassed p (argument dots sp n xs) ≡ behindPassed (withArgument p (nodeTally n)) xs
+pub one-more : (p : Passed) (dots : Bool) (sp : Span) (n : Node) (xs : Arguments) →
+    behindPassed p (argument dots sp n xs) ≡ behindPassed (withArgument p (nodeTally n)) xs
 one-more p dots sp n xs =
     let first : Bool = p .template || (not (p .any) && isUncooked (shape n)) in
     rw (add-assoc (p .entries) (entries n) (walkOf counting xs), or-assoc (p .uncooked) (uncooked n) (walkOf judging xs), or-true (p .any), or-false first)

@@ -5,25 +5,16 @@ use native.Mathlib.Nat.{add-assoc}
 use Rattle.laws.specs.Decoded.{Decoded, ok, no, andThen, onOk, Decoder, _>>=_, return}
 use Rattle.laws.proofs.Decoding.{refused, map-map, built}
 use Rattle.text.specs.Bytes.{part}
-use Rattle.wire.specs.Fields.{flag}
-use Rattle.wire.specs.Number.{number}
-use Rattle.sheet.specs.declared.names.ImportPhase.{ImportPhase}
-use Rattle.sheet.specs.declared.fields.Span.{Span}
-use Rattle.sheet.specs.Tree.{Quoted, Pieces, Node, template, binary, importCall, call, importType, Nodes, none, more, spread, otherProperty, childKey, stringKey, nameKey, Arguments, Properties, Attributes, withObject}
+use Rattle.wire.specs.{Fields.flag, Number.number}
+use Rattle.sheet.specs.{declared.names.ImportPhase.ImportPhase, declared.fields.Span.Span, Shape.anyUncooked, Walked.uncooked}
+use Rattle.sheet.specs.Tree.{Quoted, Pieces, Node, template, binary, importCall, call, importType, Nodes, none, more, spread, otherProperty, childKey}
+use Rattle.sheet.specs.Tree.{stringKey, nameKey, Arguments, Properties, Attributes, withObject}
 use Rattle.sheet.specs.Nodes.{many, nodes, callRest, attributes, typeRest}
-use Rattle.sheet.specs.Shape.{anyUncooked}
-use Rattle.sheet.specs.Walked.{uncooked}
-use Rattle.sheet_heads.specs.declared.parts.Property.{Property}
+use Rattle.sheet_heads.specs.{declared.parts.Property.Property, code.Rest.behind, code.Views.propertyOf, code.Views.nodesOf}
 use Rattle.sheet_heads.specs.declared.parts.Property.the-variants as property
-use Rattle.sheet_heads.specs.code.Rest.{behind}
-use Rattle.sheet_heads.specs.code.Views.{propertyOf, nodesOf}
 use Rattle.sheet_heads.proofs.ByHead.{propertyRest}
-use Rattle.sheet_nodes.specs.declared.tally.Tally.{Tally}
-use Rattle.sheet_nodes.specs.declared.tally.NodeTally.{NodeTally}
-use Rattle.sheet_nodes.specs.declared.tally.Passed.{Passed}
-use Rattle.sheet_nodes.specs.declared.tally.Tallied.{Tallied}
+use Rattle.sheet_nodes.specs.declared.tally.{Tally.Tally, NodeTally.NodeTally, Passed.Passed, Tallied.Tallied, PassedRead.PassedRead}
 use Rattle.sheet_nodes.specs.declared.tally.Tallied.the-variants as tallied
-use Rattle.sheet_nodes.specs.declared.tally.PassedRead.{PassedRead}
 use Rattle.sheet_nodes.specs.declared.tally.PassedRead.the-variants as passedRead
 use Rattle.sheet_nodes.specs.code.Tallies.{nodeTally, tallyAll, tallyIn, tallyWith, passed, gain, plus, importCallee, passedAll, tallyTyped}
 use Rattle.sheet_nodes.specs.code.Answers.{checkedAs, talliedAs, passedAs, holdingOf, withOwn, onlyEntry, joined, plusNodes, withNodes, callOf, calledBy}
@@ -65,7 +56,8 @@ module _ (inner : Decoder Node) where
   unfolding nodes many
   nodes-two u = go (inner u)
     where
-      next : (m : Node) (x : Decoded Node) → onOk (more m) (andThen (onOk (λ n l. more n l) x) (λ add t. onOk add (ok none t))) ≡ andThen x (λ n. return (more m (more n none)))
+      next : (m : Node) (x : Decoded Node) →
+          onOk (more m) (andThen (onOk (λ n l. more n l) x) (λ add t. onOk add (ok none t))) ≡ andThen x (λ n. return (more m (more n none)))
       next m (ok n t) = refl
       next m (no r) = refl
 
@@ -80,8 +72,10 @@ module _ (inner : Decoder Node) where
   property-holds s property.Spread u = rw (nodes-one u) (alike inner tallyAll gain (λ n. more n none) spread (λ n. refl) (inner u))
   property-holds s property.Other u = rw (nodes-one u) (alike inner tallyAll gain (λ n. more n none) otherProperty (λ n. refl) (inner u))
   property-holds s property.ChildKey u = rw (nodes-two u) (alike-two inner tallyAll gain (λ k v. more k (more v none)) childKey (λ k v. refl) (inner u))
-  property-holds s (property.StringKey from to) u = rw (nodes-one u) (alike inner tallyAll gain (λ n. more n none) (stringKey (part s from to)) (λ n. refl) (inner u))
-  property-holds s (property.NameKey from to) u = rw (nodes-one u) (alike inner tallyAll gain (λ n. more n none) (nameKey (part s from to)) (λ n. refl) (inner u))
+  property-holds s (property.StringKey from to) u = rw (nodes-one u)
+      (alike inner tallyAll gain (λ n. more n none) (stringKey (part s from to)) (λ n. refl) (inner u))
+  property-holds s (property.NameKey from to) u = rw (nodes-one u)
+      (alike inner tallyAll gain (λ n. more n none) (nameKey (part s from to)) (λ n. refl) (inner u))
 
 abbrev pub pair : {A B : Type 0} → A → B → Decoder (A × B)
 pair a b = return (a, b)
@@ -110,10 +104,12 @@ module _ (s : List ℕ) where
 
   module _ {A : Type 0} (tally : A → Tally) (build : A → Node) (x : Decoded A) (y : Tallied) (f : talliedAs s y ≡ onOk tally x) where
     -- a node that holds others
-    pub holds : (own raw : Bool) → ((a : A) → holdingOf own raw (tally a) ≡ nodeTally (build a)) → checkedAs s (withOwn own raw y) ≡ onOk nodeTally (andThen x (λ a. return (build a)))
+    pub holds : (own raw : Bool) → ((a : A) → holdingOf own raw (tally a) ≡ nodeTally (build a)) →
+        checkedAs s (withOwn own raw y) ≡ onOk nodeTally (andThen x (λ a. return (build a)))
     holds own raw e = with-own-as own raw y ∙ ap (onOk (holdingOf own raw)) f ∙ found-built (holdingOf own raw) tally nodeTally build e x
 
-    pub holds-plain : (raw : Bool) → ((a : A) → held raw (tally a) ≡ nodeTally (build a)) → checkedAs s (withOwn false raw y) ≡ onOk nodeTally (andThen x (λ a. return (build a)))
+    pub holds-plain : (raw : Bool) → ((a : A) → held raw (tally a) ≡ nodeTally (build a)) →
+        checkedAs s (withOwn false raw y) ≡ onOk nodeTally (andThen x (λ a. return (build a)))
     holds-plain raw e = holds false raw (λ a. no-own (tally a) ∙ e a)
       where
         no-own : (t : Tally) → holdingOf false raw t ≡ held raw t
@@ -141,15 +137,15 @@ module _ (s : List ℕ) where
       ∙ ap (onOk (holdingOf false false)) f
       ∙ map-map (holdingOf false false) tallyAll (nodes inner 2 u)
       ∙ ap (onOk (λ ns. holdingOf false false (tallyAll ns))) (nodes-two inner u)
-      ∙ alike-two inner (λ ns. holdingOf false false (tallyAll ns)) nodeTally (λ m n. more m (more n none)) (binary sp plus) (λ m n. rw (zero-add, add-zero, or-false (uncooked n))) (inner u)
+      ∙ alike-two inner (λ ns. holdingOf false false (tallyAll ns)) nodeTally (λ m n. more m (more n none)) (binary sp plus)
+      (λ m n. rw (zero-add, add-zero, or-false (uncooked n))) (inner u)
 
   -- what follows the callee of a call
   module _ (source : List ℕ) (inner : Decoder Node) (sp : Span) where
     call-holds : (e : NodeTally) (build : Arguments × Nodes → Node) → ((p : Arguments × Nodes) → callOf e (passedAll p) ≡ nodeTally (build p))
         → (u : List ℕ) (y : PassedRead) → passedAs s y ≡ onOk passedAll (callRest inner source u)
         → checkedAs s (calledBy e y) ≡ onOk nodeTally (andThen (callRest inner source u) (λ p. return (build p)))
-    call-holds e build h u y f =
-        called-by-as e y ∙ ap (onOk (callOf e)) f ∙ found-built (callOf e) passedAll nodeTally build h (callRest inner source u)
+    call-holds e build h u y f = called-by-as e y ∙ ap (onOk (callOf e)) f ∙ found-built (callOf e) passedAll nodeTally build h (callRest inner source u)
 
     pub import-call-holds : (phase : ImportPhase) (u : List ℕ) (y : PassedRead) → passedAs s y ≡ onOk passedAll (callRest inner source u)
         → checkedAs s (calledBy importCallee y) ≡ onOk nodeTally (andThen (callRest inner source u) (λ p. return (importCall sp phase (p .0) (p .1))))
@@ -163,7 +159,8 @@ module _ (s : List ℕ) where
         let h : e ≡ nodeTally n = cc in
         let w : v ≡ t = cc in
         rw h
-        (call-holds (nodeTally n) (λ p. call sp n (p .0) (p .1)) (λ p. simp (add-assoc, or-assoc)) t y (f ∙ ap (λ t. onOk passedAll (callRest inner source t)) w))
+        (call-holds (nodeTally n) (λ p. call sp n (p .0) (p .1)) (λ p. simp (add-assoc, or-assoc)) t y
+        (f ∙ ap (λ t. onOk passedAll (callRest inner source t)) w))
     call-of-holds (no r) g y f = absurd (refused g)
 
   -- what follows the head of an import type

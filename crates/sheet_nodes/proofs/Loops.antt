@@ -9,9 +9,7 @@ use Rattle.sheet.specs.Nodes.{many, nodes, argumentItem, arguments, propertyIte
 use Rattle.sheet_heads.specs.code.Parts.{PropertyHead, spreadHead, otherPropertyHead, childKeyHead, stringKeyHead, nameKeyHead, propertyHead, argumentHead}
 use Rattle.sheet_heads.proofs.ByHead.{argument-by-head, property-by-head, propertyRest}
 use Rattle.sheet_heads.proofs.Many.{found, found-step, found-stop, found-end}
-use Rattle.sheet_nodes.specs.declared.tally.Tally.{Tally}
-use Rattle.sheet_nodes.specs.declared.tally.NodeTally.{NodeTally}
-use Rattle.sheet_nodes.specs.declared.tally.Passed.{Passed}
+use Rattle.sheet_nodes.specs.declared.tally.{Tally.Tally, NodeTally.NodeTally, Passed.Passed}
 use Rattle.sheet_nodes.specs.code.Tallies.{nodeTally, tallyAll, tallyIn, gain, plus, withArgument, passed}
 use Rattle.sheet_nodes.proofs.Adds.{nothing, tallyOf, plus-assoc, nothing-plus, plus-nothing, noPassed, behindPassed, one-more, all-passed, none-more}
 
@@ -67,15 +65,19 @@ module _ (inner : Decoder Node) where
     argument-read u e is = rw (argument-by-head inner source u, e, is)
 
     module _ (p : Passed) (k : ℕ) (u : List ℕ) where
-      pub arguments-step : {a : Bool × Span} {v : List ℕ} {j : NodeTally} {w : List ℕ} → 0 < k → argumentHead source u ≡ ok a v → onOk nodeTally (inner v) ≡ ok j w
+      pub arguments-step : {a : Bool × Span} {v : List ℕ} {j : NodeTally} {w : List ℕ} → 0 < k → argumentHead source u ≡ ok a v →
+          onOk nodeTally (inner v) ≡ ok j w
           → argumentsFrom p k u ≡ argumentsFrom (withArgument p j) (k - 1) w
       arguments-step {a} {v} {j} {w} h e f =
           let (n, is, gives) = onOk-ok nodeTally (inner v) f in
           rw (← gives)
-          (found-step behindPassed noArguments (argumentItem inner source) p (withArgument p (nodeTally n)) k u h (argument-read u e is) (one-more p (a .0) (a .1) n))
+          (found-step behindPassed noArguments (argumentItem inner source) p (withArgument p (nodeTally n)) k u h (argument-read u e is)
+          (one-more p (a .0) (a .1) n))
 
-      pub arguments-stop : {a : Bool × Span} {v : List ℕ} {r : ℕ} → 0 < k → argumentHead source u ≡ ok a v → onOk nodeTally (inner v) ≡ no r → argumentsFrom p k u ≡ no r
-      arguments-stop {a} {v} h e f = found-stop behindPassed noArguments (argumentItem inner source) p k u h (rw (argument-by-head inner source u, e, onOk-no nodeTally (inner v) f))
+      pub arguments-stop : {a : Bool × Span} {v : List ℕ} {r : ℕ} → 0 < k → argumentHead source u ≡ ok a v → onOk nodeTally (inner v) ≡ no r →
+          argumentsFrom p k u ≡ no r
+      arguments-stop {a} {v} h e f = found-stop behindPassed noArguments (argumentItem inner source) p k u h
+          (rw (argument-by-head inner source u, e, onOk-no nodeTally (inner v) f))
 
       pub arguments-cut : {r : ℕ} → 0 < k → argumentHead source u ≡ no r → argumentsFrom p k u ≡ no r
       arguments-cut h e = found-stop behindPassed noArguments (argumentItem inner source) p k u h (rw (argument-by-head inner source u, e))
@@ -88,7 +90,8 @@ module _ (inner : Decoder Node) where
   by-kind spreadHead = behind inner λ n. ends λ ps. added (tallyOf (nodeTally n)) (tallyIn ps)
   by-kind otherPropertyHead = behind inner λ n. ends λ ps. added (tallyOf (nodeTally n)) (tallyIn ps)
   by-kind childKeyHead = behind inner λ k. behind inner λ v. ends λ ps.
-      ap (plus (tallyOf (nodeTally k))) (added (tallyOf (nodeTally v)) (tallyIn ps)) ∙ sym (plus-assoc (tallyOf (nodeTally k)) (plus (tallyOf (nodeTally v)) nothing) (tallyIn ps))
+      ap (plus (tallyOf (nodeTally k))) (added (tallyOf (nodeTally v)) (tallyIn ps)) ∙
+      sym (plus-assoc (tallyOf (nodeTally k)) (plus (tallyOf (nodeTally v)) nothing) (tallyIn ps))
   by-kind (stringKeyHead x) = behind inner λ n. ends λ ps. added (tallyOf (nodeTally n)) (tallyIn ps)
   by-kind (nameKeyHead x) = behind inner λ n. ends λ ps. added (tallyOf (nodeTally n)) (tallyIn ps)
 
@@ -103,7 +106,8 @@ module _ (inner : Decoder Node) where
   properties-all k u = onOk-same (λ ps. nothing-plus (tallyIn ps)) (many noProperties (propertyItem inner) k u)
 
   module _ (t : Tally) (k : ℕ) (u : List ℕ) where
-    pub properties-step : {g : Tally} {v : List ℕ} → 0 < k → onOk gain (propertyItem inner u) ≡ ok g v → propertiesFrom t k u ≡ propertiesFrom (plus t g) (k - 1) v
+    pub properties-step : {g : Tally} {v : List ℕ} → 0 < k → onOk gain (propertyItem inner u) ≡ ok g v →
+        propertiesFrom t k u ≡ propertiesFrom (plus t g) (k - 1) v
     properties-step h e =
         let (add, is, gives) = onOk-ok gain (propertyItem inner u) e in
         let adds : Adds add = rw is at (property-adds .at u) in

@@ -2,19 +2,18 @@
 use Rattle.laws.proofs.Prelude.{_≡_, refl, Bool, true, false, List, [], _∷_, _++_, map, ℕ, length}
 use Rattle.laws.specs.Decoded.{Decoded, ok, no, onOk}
 use Rattle.laws.specs.Ascii.{ascii}
-use Rattle.text.specs.Bytes.{begins, same}
+use Rattle.text.specs.{Bytes.begins, Bytes.same, Position.isBoundary}
 use Rattle.text.specs.Utf8.{admits, lengthBy, charLength, formed}
-use Rattle.text.specs.Position.{isBoundary}
 use Rattle.wire.specs.Fields.{byte, below, numbered, flag, bytes}
 use Rattle.wire.specs.Number.{lastGroup, groups, number}
-use Rattle.wire.specs.Text.{count, text}
-use Rattle.wire.specs.Optional.{optional}
+use Rattle.wire.specs.{Text.count, Text.text, Optional.optional}
 use Rattle.sheet.specs.Fields.{position, endFrom, span}
-use Rattle.sheet.specs.Comments.{enclosed}
-use Rattle.sheet.specs.Quotation.{looksQuoted}
-use Rattle.sheet.specs.Nodes.{many, tag, stringText, quoted, piece, nodes, argumentItem, arguments, keyedItem, propertyItem, properties, attributes, otherFields, stringFields, nameFields, templateFields, binaryFields, objectFields, callRest, callFields, importFields, namedExportFields, exportAllFields, importTypeFields, typeRest, importEqualsFields, moduleFields, fields, node, attributesObject}
-use Rattle.sheet_nodes.specs.declared.tally.NodeTally.{NodeTally}
-use Rattle.sheet_nodes.specs.code.Tallies.{nodeTally}
+use Rattle.sheet.specs.{Comments.enclosed, Quotation.looksQuoted}
+use Rattle.sheet.specs.Nodes.{many, tag, stringText, quoted, piece, nodes, argumentItem, arguments, keyedItem, propertyItem, properties, attributes}
+use Rattle.sheet.specs.Nodes.{otherFields, stringFields, nameFields, templateFields, binaryFields, objectFields, callRest, callFields, importFields}
+use Rattle.sheet.specs.Nodes.{namedExportFields, exportAllFields, importTypeFields, typeRest, importEqualsFields, moduleFields, fields, node}
+use Rattle.sheet.specs.Nodes.{attributesObject}
+use Rattle.sheet_nodes.specs.{declared.tally.NodeTally.NodeTally, code.Tallies.nodeTally}
 
 -- the one quotation of the source is all of it
 abbrev source : List ℕ
@@ -104,5 +103,8 @@ abbrev computed : Case → Case
 computed (levels, s, r) = (levels, s, onOk nodeTally (node source levels s))
 
 as-stated : map computed cases ≡ cases
-unfolding byte below numbered flag bytes lastGroup groups number count text admits lengthBy charLength formed begins enclosed looksQuoted same isBoundary position endFrom span many tag stringText quoted optional piece nodes argumentItem arguments keyedItem propertyItem properties attributes otherFields stringFields nameFields templateFields binaryFields objectFields callRest callFields importFields namedExportFields exportAllFields importTypeFields typeRest importEqualsFields moduleFields fields node attributesObject
+unfolding byte below numbered flag bytes lastGroup groups number count text admits lengthBy charLength formed begins enclosed looksQuoted same isBoundary
+    position endFrom span many tag stringText quoted optional piece nodes argumentItem arguments keyedItem propertyItem properties attributes otherFields
+    stringFields nameFields templateFields binaryFields objectFields callRest callFields importFields namedExportFields exportAllFields importTypeFields
+    typeRest importEqualsFields moduleFields fields node attributesObject
 as-stated = refl

@@ -6,23 +6,16 @@ use Rattle.laws.specs.Decoded.{ok, onOk, Decoder}
 use Rattle.laws.proofs.Answers.{Yields, ends, behind}
 use Rattle.laws.proofs.Decoding.{then-ok, onOk-ok}
 use Rattle.wire.specs.declared.Cursor.{Cursor}
-use Rattle.sheet.specs.declared.fields.Span.{Span}
+use Rattle.sheet.specs.{declared.fields.Span.Span, Walk.walkAll, Walked.counting, Walked.entries}
 use Rattle.sheet.specs.Tree.{Node, other, Nodes, none, more, Attributes}
 use Rattle.sheet.specs.Nodes.{many, piece, nodes, properties, callRest, typeRest, node, attributesObject}
-use Rattle.sheet.specs.Walk.{walkAll}
-use Rattle.sheet.specs.Walked.{counting, entries}
-use Rattle.sheet_heads.specs.declared.node.Head.{Head}
+use Rattle.sheet_heads.specs.{declared.node.Head.Head, declared.node.HeadRead.HeadRead, code.Rest.behind as object-behind, code.Rest.rest}
 use Rattle.sheet_heads.specs.declared.node.Head.the-variants as head
-use Rattle.sheet_heads.specs.declared.node.HeadRead.{HeadRead}
 use Rattle.sheet_heads.specs.declared.node.HeadRead.the-variants as headRead
 use Rattle.sheet_heads.specs.code.Head as heads
-use Rattle.sheet_heads.specs.code.Rest.{behind as object-behind, rest}
-use Rattle.sheet_heads.specs.code.Views.{headOf, headAs}
-use Rattle.sheet_heads.proofs.ByHead.{behind-head}
-use Rattle.sheet_heads.proofs.Many.{many-next, many-end}
+use Rattle.sheet_heads.{specs.code.Views.headOf, specs.code.Views.headAs, proofs.ByHead.behind-head, proofs.Many.many-next, proofs.Many.many-end}
 use Rattle.sheet_heads.proofs.node.Head.{the-type}
-use Rattle.sheet_nodes.specs.declared.tally.NodeTally.{NodeTally}
-use Rattle.sheet_nodes.specs.code.Tallies.{nodeTally}
+use Rattle.sheet_nodes.specs.{declared.tally.NodeTally.NodeTally, code.Tallies.nodeTally}
 use Rattle.sheet_nodes.specs.code.Reach.{Reaches, quiet, past, ReachesIn, furthest}
 use Rattle.sheet_nodes.proofs.Loops.{nodeItem}
 

@@ -2,16 +2,12 @@
 use Rattle.laws.proofs.Prelude.{Bool, ℕ, _+_, _≤_, arith, _&&_}
 use Rattle.text.proofs.Ones.{one-most}
 use Rattle.wire.specs.declared.Cursor.{Cursor}
-use Rattle.sheet_nodes.specs.declared.tally.Tally.{Tally}
-use Rattle.sheet_nodes.specs.declared.tally.NodeTally.{NodeTally}
-use Rattle.sheet_nodes.specs.declared.tally.Passed.{Passed}
-use Rattle.sheet_nodes.specs.declared.tally.Checked.{Checked}
+use Rattle.sheet_nodes.specs.declared.tally.{Tally.Tally, NodeTally.NodeTally, Passed.Passed, Checked.Checked, Tallied.Tallied, PassedRead.PassedRead}
 use Rattle.sheet_nodes.specs.declared.tally.Checked.the-variants as checked
-use Rattle.sheet_nodes.specs.declared.tally.Tallied.{Tallied}
 use Rattle.sheet_nodes.specs.declared.tally.Tallied.the-variants as tallied
-use Rattle.sheet_nodes.specs.declared.tally.PassedRead.{PassedRead}
 use Rattle.sheet_nodes.specs.declared.tally.PassedRead.the-variants as passedRead
-use Rattle.sheet_nodes.specs.code.Answers.{leafOf, withOwn, onlyEntry, joined, withNodes, calledBy, Room, RoomPassed, PastChecked, PastRest, PastTally, PastPassed}
+use Rattle.sheet_nodes.specs.code.Answers.{leafOf, withOwn, onlyEntry, joined, withNodes, calledBy, Room, RoomPassed, PastChecked, PastRest}
+use Rattle.sheet_nodes.specs.code.Answers.{PastTally, PastPassed}
 
 module _ (at n : ℕ) where
   pub room : (k : ℕ) (y : Tallied) → k ≤ at → PastTally at n y → Room k y

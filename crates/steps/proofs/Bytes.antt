@@ -1,10 +1,9 @@
 -- The bytes of a character: the first begins it, and each other goes on with it.
-use Rattle.laws.proofs.Prelude.{_≡_, refl, Bool, true, false, _&&_, _||_, and-eq-true-iff, false≢true, List, [], _∷_, ℕ, zero, suc, _+_, _-_, _≤_, _<_, add-zero, arith, leb, ltb, length, getD, drop, getD-drop, leb-true, ltb-true, ltb-false}
-use Rattle.text.specs.declared.utf8.Encoding.the-variants.{Utf8}
+use Rattle.laws.proofs.Prelude.{_≡_, refl, Bool, true, false, _&&_, _||_, and-eq-true-iff, false≢true, List, [], _∷_, ℕ, zero, suc, _+_, _-_, _≤_, _<_}
+use Rattle.laws.proofs.Prelude.{add-zero, arith, leb, ltb, length, getD, drop, getD-drop, leb-true, ltb-true, ltb-false}
+use Rattle.text.{specs.declared.utf8.Encoding.the-variants.Utf8, proofs.Formed.everyRow, proofs.Formed.picked, proofs.WithinRange.within-iff}
 use Rattle.text.specs.Ranges.{Range, _to_, within}
 use Rattle.text.specs.Utf8.{admits, Row, char, never, lengthBy, rows, charLength}
-use Rattle.text.proofs.Formed.{everyRow, picked}
-use Rattle.text.proofs.WithinRange.{within-iff}
 use Rattle.steps.specs.Answers.{Precedes}
 
 -- ranges of which the first has no byte that goes on with a character, and the others have no other

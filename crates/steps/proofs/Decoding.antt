@@ -1,14 +1,11 @@
 -- What numbers stand for, by their first step.
-use Rattle.laws.proofs.Prelude.{_≡_, refl, sym, ap, _∙_, List, ℕ, zero, suc, _+_, _-_, _≤_, _<_, arith, eqb, ltb, length, getD, take, drop, length-take, length-drop, take-all, ltb-false, known}
+use Rattle.laws.proofs.Prelude.{_≡_, refl, sym, ap, _∙_, List, ℕ, zero, suc, _+_, _-_, _≤_, _<_, arith, eqb, ltb, length, getD, take, drop, length-take}
+use Rattle.laws.proofs.Prelude.{length-drop, take-all, ltb-false, known}
 use borrow.Author.Tests.{eqb-false}
-use Rattle.text.proofs.Formed.{picked}
-use Rattle.text.specs.declared.class.Class.{Class}
+use Rattle.text.{proofs.Formed.picked, specs.declared.class.Class.Class}
 use Rattle.analysis.specs.Row.{Row, longest, shortest, either}
-use Rattle.steps.specs.declared.table.Ill.{Ill}
-use Rattle.steps.specs.declared.table.Plain.{Plain}
-use Rattle.steps.specs.declared.table.Verdict.{Verdict}
+use Rattle.steps.specs.declared.table.{Ill.Ill, Plain.Plain, Verdict.Verdict, Step.Step}
 use Rattle.steps.specs.declared.table.Verdict.the-variants as verdict
-use Rattle.steps.specs.declared.table.Step.{Step}
 use Rattle.steps.specs.declared.table.Step.the-variants.{Done, Pass, Longest, Shortest, Either, Bad}
 use Rattle.steps.specs.Codes.{START, TO, WORD, ONE, LONGEST, FROM, EITHER, NAME-REST}
 use Rattle.steps.specs.Table.{Decoded, row, ill, before, between, plain, arguedBy, stepOf, stepwise, rowBy, rowIn}

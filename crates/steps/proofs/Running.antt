@@ -1,22 +1,16 @@
 -- What the stepping matcher goes by: the preferred match of a row by its first step, and by the places where a run can end.
-use Rattle.laws.proofs.Prelude.{_≡_, refl, sym, ap, _∙_, Bool, true, false, cond, List, [], _∷_, _++_, append-nil, append-assoc, flatMap, ℕ, _+_, _≤_, _<_, add-zero, arith, take, drop, known}
+use Rattle.laws.proofs.Prelude.{_≡_, refl, sym, ap, _∙_, Bool, true, false, cond, List, [], _∷_, _++_, append-nil, append-assoc, flatMap, ℕ, _+_, _≤_, _<_}
+use Rattle.laws.proofs.Prelude.{add-zero, arith, take, drop, known}
 use mathlib.Core.List.{reverse, reverse-cons}
-use Rattle.text.specs.declared.class.Class.{Class}
-use Rattle.text.specs.declared.utf8.Encoding.the-variants.{Utf8}
-use Rattle.text.specs.Utf8.{charLength, charAt}
+use Rattle.text.specs.{declared.class.Class.Class, declared.utf8.Encoding.the-variants.Utf8, Utf8.charLength, Utf8.charAt}
 use Rattle.text.specs.Class.{member, classAt, runEnd}
 use Rattle.text.proofs.Runs.{run-stops}
-use Rattle.analysis.specs.declared.Capture.{Capture}
-use Rattle.analysis.specs.declared.Found.{Found}
-use Rattle.analysis.specs.declared.Found.the-variants.{At, Nothing}
+use Rattle.analysis.specs.declared.{Capture.Capture, Found.Found, Found.the-variants.At, Found.the-variants.Nothing}
 use Rattle.analysis.specs.Row.{Row, done, longest, shortest, runEnds, all, first}
 use Rattle.analysis.proofs.Ends.{ends-stop, ends-go-on, ends-begin, by-characters, end-behind}
 use Rattle.analysis.proofs.Search.{first-append}
-use Rattle.steps.specs.declared.table.Ill.{Ill}
-use Rattle.steps.specs.declared.table.Plain.{Plain}
+use Rattle.steps.specs.declared.{table.Ill.Ill, table.Plain.Plain, run.Passed.Passed, run.Passed.the-variants.On, run.Passed.the-variants.Not}
 use Rattle.steps.specs.declared.table.Step.the-variants.{Done, Pass, Longest, Shortest, Either, Bad}
-use Rattle.steps.specs.declared.run.Passed.{Passed}
-use Rattle.steps.specs.declared.run.Passed.the-variants.{On, Not}
 use Rattle.steps.specs.Table.{row, before, stepOf, rowIn}
 use Rattle.steps.specs.Answers.{Passes, Precedes, FirstOf}
 use Rattle.steps.proofs.Decoding.{row-in, before-row, between-rows}

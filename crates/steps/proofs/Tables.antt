@@ -1,24 +1,16 @@
 -- The ten tables stand for the ten rows; what a table answers.
 use Rattle.laws.proofs.Prelude.{_≡_, refl, sym, ap, _∙_, List, ℕ, _+_, _≤_, _<_, arith, length, le-ltb, lt-ltb, known}
-use Rattle.analysis.specs.declared.Capture.{Capture}
-use Rattle.analysis.specs.declared.Found.{Found}
-use Rattle.analysis.specs.declared.Found.the-variants.{At, Nothing}
+use Rattle.analysis.specs.{declared.Capture.Capture, declared.Found.Found, declared.Found.the-variants.At, declared.Found.the-variants.Nothing, Prefers.Finds}
 use Rattle.analysis.specs.Row.{Row, all, noCapture, first, matchAt, find}
-use Rattle.analysis.specs.Prefers.{Finds}
 use Rattle.analysis.proofs.Search.{leftFrom, left-step, left-ends}
 use Rattle.analysis.proofs.Preference.{preferred-found, finds}
-use Rattle.steps.specs.declared.Answer.{Answer}
-use Rattle.steps.specs.declared.Answer.the-variants.{Is, Refused}
-use Rattle.steps.specs.declared.Pattern.{Pattern}
-use Rattle.steps.specs.declared.Pattern.the-variants.{TripleSlash, Path, Types, ResolutionMode, JsxImportSource, JsxImportSourceTypes, SourceMappingUrl, TsSelfTypes, TsTypes, DenoTypes}
-use Rattle.steps.specs.declared.table.Ill.{Ill}
-use Rattle.steps.specs.declared.table.Ill.the-variants.{TooLong}
-use Rattle.steps.specs.declared.table.Verdict.{Verdict}
-use Rattle.steps.specs.declared.table.Verdict.the-variants.{Fine, Bad}
+use Rattle.steps.specs.declared.{Answer.Answer, Answer.the-variants.Is, Answer.the-variants.Refused, Pattern.Pattern, table.Ill.Ill}
+use Rattle.steps.specs.declared.Pattern.the-variants.{TripleSlash, Path, Types, ResolutionMode, JsxImportSource, JsxImportSourceTypes}
+use Rattle.steps.specs.declared.Pattern.the-variants.{SourceMappingUrl, TsSelfTypes, TsTypes, DenoTypes}
+use Rattle.steps.specs.declared.table.{Ill.the-variants.TooLong, Verdict.Verdict, Verdict.the-variants.Fine, Verdict.the-variants.Bad}
 use Rattle.steps.specs.Table.{Decoded, row, ill, classOf, arguedBy, stepOf, rowBy, rowIn, decode}
 use Rattle.steps.specs.Answers.{verdictOf, FindsRow, FindsTable, Runs, Stepped}
-use Rattle.steps.specs.Written.{written}
-use Rattle.steps.specs.Patterns.{tableOf, rowOf}
+use Rattle.steps.specs.{Written.written, Patterns.tableOf, Patterns.rowOf}
 use Rattle.steps.proofs.Written.{stands-for}
 
 pub tables : (p : Pattern) → decode (tableOf p) ≡ row (rowOf p)

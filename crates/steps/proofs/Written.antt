@@ -1,5 +1,6 @@
 -- Every row is what the numbers stand for by which it is written.
-use Rattle.laws.proofs.Prelude.{_≡_, refl, ap, _∙_, true, false, List, [], _∷_, _++_, ℕ, suc, _+_, _-_, arith, eqb, ltb, length, drop, length-append, take-append-seam, drop-append-seam, ne-eqb, le-ltb}
+use Rattle.laws.proofs.Prelude.{_≡_, refl, ap, _∙_, true, false, List, [], _∷_, _++_, ℕ, suc, _+_, _-_, arith, eqb, ltb, length, drop, length-append}
+use Rattle.laws.proofs.Prelude.{take-append-seam, drop-append-seam, ne-eqb, le-ltb}
 use lib.Dec.{eqb·suc-zero}
 use Rattle.text.specs.declared.class.Class.{Class}
 use Rattle.text.specs.declared.class.Class.the-variants.{White, NotWhite, WhiteOrStar, NotLf, Quote, NotQuote, SourceMark, Alphabetic, NameRest}
@@ -58,24 +59,32 @@ stands-for done = row-in [] begins-empty
 stands-for (start r) = row-in (START ∷ written r) (begins-start (written r)) ∙ ap (before start) (stands-for r)
 stands-for (to r) = row-in (TO ∷ written r) (begins-to (written r)) ∙ ap (before to) (stands-for r)
 stands-for (word w r) =
-    row-in (WORD ∷ length w ∷ w ++ written r) {x = Pass (Word (length w)) (2 + length w)} (argued WORD (length w) (w ++ written r) refl refl refl refl ∙ rw (seam w (written r)))
+    row-in (WORD ∷ length w ∷ w ++ written r) {x = Pass (Word (length w)) (2 + length w)}
+    (argued WORD (length w) (w ++ written r) refl refl refl refl ∙ rw (seam w (written r)))
     ∙ ap (λ (v : List ℕ). before (word v) (rowIn (drop (2 + length w) (WORD ∷ length w ∷ w ++ written r)))) (take-append-seam w (written r))
     ∙ ap (λ (v : List ℕ). before (word w) (rowIn v)) (behind-part WORD (length w) w (written r))
     ∙ ap (before (word w)) (stands-for r)
 stands-for (one c r) =
-    row-in (ONE ∷ codeOf c ∷ written r) {x = Pass (One c) 2} (argued ONE (codeOf c) (written r) refl refl refl refl ∙ rw (class-coded c .0, class-coded c .1, class-coded c .2))
+    row-in (ONE ∷ codeOf c ∷ written r) {x = Pass (One c) 2}
+    (argued ONE (codeOf c) (written r) refl refl refl refl ∙ rw (class-coded c .0, class-coded c .1, class-coded c .2))
     ∙ ap (before (one c)) (stands-for r)
 stands-for (longest c r) =
-    row-in (LONGEST ∷ codeOf c ∷ written r) {x = Longest c} (argued LONGEST (codeOf c) (written r) refl refl refl refl ∙ rw (class-coded c .0, class-coded c .1, class-coded c .2))
+    row-in (LONGEST ∷ codeOf c ∷ written r) {x = Longest c}
+    (argued LONGEST (codeOf c) (written r) refl refl refl refl ∙ rw (class-coded c .0, class-coded c .1, class-coded c .2))
     ∙ ap (before (longest c)) (stands-for r)
 stands-for (shortest c r) =
-    row-in (SHORTEST ∷ codeOf c ∷ written r) {x = Shortest c} (argued SHORTEST (codeOf c) (written r) refl refl refl refl ∙ rw (class-coded c .0, class-coded c .1, class-coded c .2))
+    row-in (SHORTEST ∷ codeOf c ∷ written r) {x = Shortest c}
+    (argued SHORTEST (codeOf c) (written r) refl refl refl refl ∙ rw (class-coded c .0, class-coded c .1, class-coded c .2))
     ∙ ap (before (shortest c)) (stands-for r)
-stands-for (from true r) = row-in (FROM ∷ 1 ∷ written r) {x = Pass (From true) 2} (argued FROM 1 (written r) refl refl refl refl) ∙ ap (before (from true)) (stands-for r)
-stands-for (from false r) = row-in (FROM ∷ 0 ∷ written r) {x = Pass (From false) 2} (argued FROM 0 (written r) refl refl refl refl) ∙ ap (before (from false)) (stands-for r)
+stands-for (from true r) = row-in (FROM ∷ 1 ∷ written r) {x = Pass (From true) 2} (argued FROM 1 (written r) refl refl refl refl) ∙
+    ap (before (from true)) (stands-for r)
+stands-for (from false r) = row-in (FROM ∷ 0 ∷ written r) {x = Pass (From false) 2} (argued FROM 0 (written r) refl refl refl refl) ∙
+    ap (before (from false)) (stands-for r)
 stands-for (either a b) =
-    row-in (EITHER ∷ length (written a) ∷ written a ++ written b) {x = Either (length (written a))} (argued EITHER (length (written a)) (written a ++ written b) refl refl refl refl ∙ rw (seam (written a) (written b)))
-    ∙ ap (λ (v : List ℕ). between (rowIn v) (rowIn (drop (2 + length (written a)) (EITHER ∷ length (written a) ∷ written a ++ written b)))) (take-append-seam (written a) (written b))
+    row-in (EITHER ∷ length (written a) ∷ written a ++ written b) {x = Either (length (written a))}
+    (argued EITHER (length (written a)) (written a ++ written b) refl refl refl refl ∙ rw (seam (written a) (written b)))
+    ∙ ap (λ (v : List ℕ). between (rowIn v) (rowIn (drop (2 + length (written a)) (EITHER ∷ length (written a) ∷ written a ++ written b))))
+    (take-append-seam (written a) (written b))
     ∙ ap (λ (v : List ℕ). between (rowIn (written a)) (rowIn v)) (behind-part EITHER (length (written a)) (written a) (written b))
     ∙ ap (λ (d : Decoded). between d (rowIn (written b))) (stands-for a)
     ∙ ap (between (row a)) (stands-for b)

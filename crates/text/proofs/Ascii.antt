@@ -1,8 +1,7 @@
 -- A run of ASCII is one character after the other.
-use Rattle.laws.proofs.Prelude.{_≡_, sym, ap, _∙_, Bool, cond, List, ℕ, zero, suc, _+_, _≤_, _<_, arith, add-zero, length, getD, drop, drop-cons, getD-drop, le-leb}
-use Rattle.text.specs.declared.utf8.Encoding.{Encoding}
-use Rattle.text.specs.declared.utf8.Encoding.the-variants.{Utf8}
-use Rattle.text.specs.declared.class.Class.{Class}
+use Rattle.laws.proofs.Prelude.{_≡_, sym, ap, _∙_, Bool, cond, List, ℕ, zero, suc, _+_, _≤_, _<_, arith, add-zero, length, getD, drop, drop-cons, getD-drop}
+use Rattle.laws.proofs.Prelude.{le-leb}
+use Rattle.text.specs.declared.{utf8.Encoding.Encoding, utf8.Encoding.the-variants.Utf8, class.Class.Class}
 use Rattle.text.specs.Utf8.{admits, lengthBy, charLength, codeBy, charAt, formed}
 use Rattle.text.specs.Class.{member, classAt}
 use Rattle.text.proofs.Formed.{passed}

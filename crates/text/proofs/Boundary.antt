@@ -1,9 +1,7 @@
 -- The test for a boundary of a text.
 use Rattle.laws.proofs.Prelude.{_≡_, true, not, and-eq-true-iff, List, ℕ, leb, length, getD, leb-true, le-leb}
 use borrow.Author.Tests.{not-true}
-use Rattle.text.specs.Ranges.{within}
-use Rattle.text.specs.Utf8.{continuation}
-use Rattle.text.specs.Position.{Boundary, isBoundary}
+use Rattle.text.specs.{Ranges.within, Utf8.continuation, Position.Boundary, Position.isBoundary}
 
 pub is-boundary-iff : (s : List ℕ) (p : ℕ) → (isBoundary s p ≡ true → Boundary s p) × (Boundary s p → isBoundary s p ≡ true)
 unfolding isBoundary

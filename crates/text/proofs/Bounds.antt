@@ -1,5 +1,6 @@
 -- The bounds of ranges: what one of them says of the others where they ascend, and what the number of those at most x says of x.
-use Rattle.laws.proofs.Prelude.{_≡_, refl, _∙_, ap, Bool, true, _&&_, _||_, and-eq-true-iff, _⊎_, inl, inr, List, [], _∷_, ℕ, zero, suc, _+_, _%_, _≤_, _<_, zero-le, suc-le-suc, le-of-suc-le-suc, not-suc-le-zero, arith, ltb, eqb, length, getD, take, drop, ltb-true, le-leb, lt-leb}
+use Rattle.laws.proofs.Prelude.{_≡_, refl, _∙_, ap, Bool, true, _&&_, _||_, and-eq-true-iff, _⊎_, inl, inr, List, [], _∷_, ℕ, zero, suc, _+_, _%_, _≤_, _<_}
+use Rattle.laws.proofs.Prelude.{zero-le, suc-le-suc, le-of-suc-le-suc, not-suc-le-zero, arith, ltb, eqb, length, getD, take, drop, ltb-true, le-leb, lt-leb}
 use native.Mathlib.Nat.{eq-or-lt-of-le}
 use Rattle.text.specs.Ranges.{Range, _to_, within, inRanges, bounds, Ascending, Split}
 

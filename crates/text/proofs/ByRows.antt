@@ -1,17 +1,14 @@
 -- Character lengths by the rows: each code point has one row, and what is read is its encoding.
-use Rattle.laws.proofs.Prelude.{_≡_, refl, sym, ap, _∙_, Bool, true, false, cond, _&&_, _||_, and-eq-true-iff, List, [], _∷_, _++_, ℕ, _+_, _≤_, zero-add, arith, ltb, drop, ltb-true}
+use Rattle.laws.proofs.Prelude.{_≡_, refl, sym, ap, _∙_, Bool, true, false, cond, _&&_, _||_, and-eq-true-iff, List, [], _∷_, _++_, ℕ, _+_, _≤_, zero-add}
+use Rattle.laws.proofs.Prelude.{arith, ltb, drop, ltb-true}
 use mathlib.Core.Bool.{not-eq-not}
 use Rattle.laws.specs.code.Told.{Meant}
-use Rattle.text.specs.declared.utf8.Char.{Char}
-use Rattle.text.specs.declared.utf8.Encoding.{Encoding}
-use Rattle.text.specs.declared.utf8.Encoding.the-variants.{Utf8, Wtf8}
+use Rattle.text.specs.declared.utf8.{Char.Char, Encoding.Encoding, Encoding.the-variants.Utf8, Encoding.the-variants.Wtf8}
 use Rattle.text.specs.Ranges.{Range, _to_, within, inRanges}
 use Rattle.text.specs.Utf8.{Row, char, never, rows, charLength, charAt}
-use Rattle.text.specs.Encode.{encode}
-use Rattle.text.specs.ByRows.{rowsWith, ByRows}
-use Rattle.text.proofs.Exact.{exact}
+use Rattle.text.specs.{Encode.encode, ByRows.rowsWith, ByRows.ByRows}
+use Rattle.text.proofs.{Exact.exact, WithinRange.within-iff}
 use Rattle.text.proofs.Reader.{spans, covered, otherwise, reader-sound, reads, pair-unread}
-use Rattle.text.proofs.WithinRange.{within-iff}
 
 -- a range lies before or behind each of the others
 abbrev apart : ℕ → ℕ → List Range → Bool

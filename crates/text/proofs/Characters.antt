@@ -1,17 +1,11 @@
 -- A character whose code point meets a test: the relation and the reader agree, for every list. So do a character of a class and `classAt`.
-use Rattle.laws.proofs.Prelude.{_≡_, refl, sym, ap, _∙_, Bool, true, false, cond, List, _↔_, ℕ, _+_, _≤_, _<_, arith, length, drop, length-append, length-drop, drop-append-seam, drop-drop}
-use Rattle.text.specs.declared.class.Class.{Class}
-use Rattle.text.specs.declared.utf8.Char.{Char}
-use Rattle.text.specs.declared.utf8.Encoding.the-variants.{Utf8}
+use Rattle.laws.proofs.Prelude.{_≡_, refl, sym, ap, _∙_, Bool, true, false, cond, List, _↔_, ℕ, _+_, _≤_, _<_, arith, length, drop, length-append}
+use Rattle.laws.proofs.Prelude.{length-drop, drop-append-seam, drop-drop}
+use Rattle.text.specs.{declared.class.Class.Class, declared.utf8.Char.Char, declared.utf8.Encoding.the-variants.Utf8, Encode.encode}
 use Rattle.text.specs.Utf8.{charLength, charAt, formed}
-use Rattle.text.specs.Encode.{encode}
-use Rattle.text.specs.Class.{member, classAt}
+use Rattle.text.specs.{Class.member, Class.classAt, Position.Boundary}
 use Rattle.text.specs.Characters.{OneWith, OneOf, Stands}
-use Rattle.text.specs.Position.{Boundary}
-use Rattle.text.proofs.CodePoint.{nonempty}
-use Rattle.text.proofs.Cuts.{between}
-use Rattle.text.proofs.Formed.{fits-if}
-use Rattle.text.proofs.Reader.{reader-sound, reader-complete}
+use Rattle.text.proofs.{CodePoint.nonempty, Cuts.between, Formed.fits-if, Reader.reader-sound, Reader.reader-complete}
 
 module _ {P : ℕ → Type 0} where
   -- a character is more than nothing
@@ -63,10 +57,7 @@ module _ {P : ℕ → Type 0} (test : ℕ → Bool) (meets : (p : ℕ) → (test
 
   -- at a place of a text
   pub stands-sound : (s : List ℕ) (at : ℕ) → (lengthIf test (drop at s) ≡ 0 → ⊥) → Stands (OneWith P) s at (at + lengthIf test (drop at s))
-  stands-sound s at z = record {
-    inside = omega (arith, if-fits test (drop at s), length-drop at s);
-    piece = rw drop-drop at (with-sound (drop at s) z);
-  }
+  stands-sound s at z = record { inside = omega (arith, if-fits test (drop at s), length-drop at s); piece = rw drop-drop at (with-sound (drop at s) z) }
 
   pub stands-complete : (s : List ℕ) (at : ℕ) {end : ℕ} → Stands (OneWith P) s at end
       → (lengthIf test (drop at s) ≡ 0 → ⊥) × (end ≡ at + lengthIf test (drop at s))

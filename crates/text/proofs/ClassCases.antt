@@ -1,12 +1,9 @@
 -- Worked cases of the classes, which antt computes.
 use Rattle.laws.proofs.Prelude.{_≡_, refl, Bool, true, _&&_, List, [], _∷_, flatMap, ℕ, eqb}
 use mathlib.Core.List.{foldr}
-use Rattle.text.specs.declared.class.Class.{Class}
-use Rattle.text.specs.declared.class.Class.the-variants.{White, Alphabetic}
-use Rattle.text.specs.Ranges.{inRanges}
+use Rattle.text.specs.declared.class.Class.{Class, the-variants.White, the-variants.Alphabetic}
+use Rattle.text.specs.{Ranges.inRanges, Encode.encode, Alphabetic.alphabetic}
 use Rattle.text.specs.Utf8.{admits, lengthBy, charLength, codeBy, charAt}
-use Rattle.text.specs.Encode.{encode}
-use Rattle.text.specs.Alphabetic.{alphabetic}
 use Rattle.text.specs.Class.{outside, ranges, member, classAt, run, runLength}
 
 -- the length of the character of a class at a code point's text, and that of the longest run of a class at the text of code points

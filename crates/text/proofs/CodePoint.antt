@@ -1,5 +1,6 @@
 -- The code point of the first bytes of a text, from their bits; that of the encoding of p is p.
-use Rattle.laws.proofs.Prelude.{_≡_, refl, List, _++_, ℕ, _+_, _*_, _/_, _%_, _≤_, _<_, add-zero, arith, ltb, length, getD, drop, getD-drop, ltb-true, ltb-false, ne-eqb}
+use Rattle.laws.proofs.Prelude.{_≡_, refl, List, _++_, ℕ, _+_, _*_, _/_, _%_, _≤_, _<_, add-zero, arith, ltb, length, getD, drop, getD-drop, ltb-true}
+use Rattle.laws.proofs.Prelude.{ltb-false, ne-eqb}
 use Rattle.text.specs.Utf8.{codeBy}
 use Rattle.text.specs.Encode.{encode1, encode2, encode3, encode4, encode}
 use Rattle.text.proofs.Formed.{picked}

@@ -1,13 +1,10 @@
 -- A position counts characters: past the bytes of a code point stands the position past one character.
-use Rattle.laws.proofs.Prelude.{_≡_, refl, ap, _∙_, cond, List, [], _∷_, _++_, flatMap, ℕ, _+_, _/_, _%_, _≤_, _<_, add-zero, arith, eqb, getD, take, take-append-seam, le-leb, lt-leb, ne-eqb}
+use Rattle.laws.proofs.Prelude.{_≡_, refl, ap, _∙_, cond, List, [], _∷_, _++_, flatMap, ℕ, _+_, _/_, _%_, _≤_, _<_, add-zero, arith, eqb, getD, take}
+use Rattle.laws.proofs.Prelude.{take-append-seam, le-leb, lt-leb, ne-eqb}
 use Rattle.laws.proofs.Lists.{flatMap-append}
-use Rattle.text.specs.declared.position.Position.{Position}
-use Rattle.text.specs.declared.utf8.Encoding.the-variants.{Utf8}
-use Rattle.text.specs.Encode.{encode}
-use Rattle.text.specs.WellFormed.{WellFormed}
+use Rattle.text.specs.{declared.position.Position.Position, declared.utf8.Encoding.the-variants.Utf8, Encode.encode, WellFormed.WellFormed}
 use Rattle.text.specs.Position.{Units, step, walk, startPosition, positionOf, pastCharacter, pastCharacters, Counted}
-use Rattle.text.proofs.CodePoint.{by-length}
-use Rattle.text.proofs.Cuts.{boundary-iff}
+use Rattle.text.proofs.{CodePoint.by-length, Cuts.boundary-iff}
 
 module _ (unit : Units) where
   -- a byte that begins a character of several, and one that goes on with it

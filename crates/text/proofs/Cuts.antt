@@ -1,21 +1,14 @@
 -- Where a well-formed text may be cut: at its character boundaries, which are the places behind a row of its characters.
-use Rattle.laws.proofs.Prelude.{_≡_, refl, sym, ap, _∙_, Bool, true, false, true≢false, List, [], _∷_, _++_, append-nil, append-assoc, flatMap, _↔_, ℕ, zero, suc, _+_, _-_, _/_, _%_, _≤_, _<_, add-zero, arith, ltb, length, getD, take, drop, length-append, length-drop, drop-cons, getD-drop, take-append-seam, drop-append-seam, le-leb, lt-leb, ltb-true, ltb-false}
+use Rattle.laws.proofs.Prelude.{_≡_, refl, sym, ap, _∙_, Bool, true, false, true≢false, List, [], _∷_, _++_, append-nil, append-assoc, flatMap, _↔_, ℕ}
+use Rattle.laws.proofs.Prelude.{zero, suc, _+_, _-_, _/_, _%_, _≤_, _<_, add-zero, arith, ltb, length, getD, take, drop, length-append, length-drop}
+use Rattle.laws.proofs.Prelude.{drop-cons, getD-drop, take-append-seam, drop-append-seam, le-leb, lt-leb, ltb-true, ltb-false}
 use lib.Seq.{getD-append-add}
-use Rattle.laws.specs.Codec.{All}
-use Rattle.laws.proofs.Lists.{flatMap-append, all-parts}
-use Rattle.text.specs.declared.utf8.Char.{Char}
-use Rattle.text.specs.declared.utf8.Encoding.{Encoding}
-use Rattle.text.specs.declared.utf8.Encoding.the-variants.{Utf8}
-use Rattle.text.specs.Bytes.{part}
-use Rattle.text.specs.Ranges.{within, inRanges}
+use Rattle.laws.{specs.Codec.All, proofs.Lists.flatMap-append, proofs.Lists.all-parts}
+use Rattle.text.specs.{declared.utf8.Char.Char, declared.utf8.Encoding.Encoding, declared.utf8.Encoding.the-variants.Utf8, Bytes.part}
+use Rattle.text.specs.{Ranges.within, Ranges.inRanges, WellFormed.TextOf, WellFormed.WellFormed, Position.Boundary, Position.Cut}
 use Rattle.text.specs.Utf8.{admits, continuation, lengthBy, charLength, charAt, formed}
 use Rattle.text.specs.Encode.{encode, encode2, encode3, encode4, codePoints}
-use Rattle.text.specs.WellFormed.{TextOf, WellFormed}
-use Rattle.text.specs.Position.{Boundary, Cut}
-use Rattle.text.proofs.CodePoint.{by-length}
-use Rattle.text.proofs.Formed.{fits}
-use Rattle.text.proofs.Reader.{bounded, reader-sound}
-use Rattle.text.proofs.WellFormed.{first-point, well-formed-iff}
+use Rattle.text.proofs.{CodePoint.by-length, Formed.fits, Reader.bounded, Reader.reader-sound, WellFormed.first-point, WellFormed.well-formed-iff}
 
 -- ---- the bytes of a code point
 
@@ -105,7 +98,8 @@ cut-row (p ∷ ps) at b = go (ltb at (length (encode p))) refl at refl (cut-row 
         let l = ltb-false at (length (encode p)) h in
         let n = at - length (encode p) in
         let there : at ≡ length (encode p) + n = omega arith in
-        let byte : within continuation (getD t n 0) ≡ false = sym (ap (within continuation) (ap (λ (i : ℕ). getD (encode p ++ t) i 0) there ∙ getD-append-add (encode p) t n 0)) ∙ b .1 in
+        let byte : within continuation (getD t n 0)
+        ≡ false = sym (ap (within continuation) (ap (λ (i : ℕ). getD (encode p ++ t) i 0) there ∙ getD-append-add (encode p) t n 0)) ∙ b .1 in
         more n there (on n (omega (arith, b .0, length-append (encode p) t), byte))
 
 -- and where it is parted stands a boundary
@@ -150,10 +144,7 @@ module _ {s : List ℕ} {at : ℕ} {front back : List ℕ} (c : Cut s at front b
       boundary-iff s (front ++ back, c .text) (at + length (encode q)) .1 (
         front ++ q ∷ [],
         last,
-        record {
-          text = rw row at (c .text);
-          place = rw (flatMap-append, length-append, ← c .place, append-nil);
-        },
+        record { text = rw row at (c .text); place = rw (flatMap-append, length-append, ← c .place, append-nil) },
       )
 
   -- and what stands between it and a later one is well-formed
@@ -187,8 +178,7 @@ module _ (s : List ℕ) (f : formed Utf8 0 s ≡ true) where
   -- an ASCII byte is a character
   pub ascii-between : (p : ℕ) → p < length s → getD s p 0 < 0x80 → Boundary s p × Boundary s (p + 1)
   unfolding charLength lengthBy admits
-  ascii-between p l a =
-      between p 1 (rw (drop-cons s p 0 l, le-leb 0 (getD s p 0) (omega arith), le-leb (getD s p 0) 0x7F (omega arith))) (λ z. omega arith)
+  ascii-between p l a = between p 1 (rw (drop-cons s p 0 l, le-leb 0 (getD s p 0) (omega arith), le-leb (getD s p 0) 0x7F (omega arith))) (λ z. omega arith)
 
   -- what stands between two boundaries is well-formed
   pub part-formed : (p q : ℕ) → p ≤ q → Boundary s p → Boundary s q → formed Utf8 0 (part s p q) ≡ true

@@ -1,15 +1,14 @@
 -- The bytes that a row admits are exactly the encodings of its code points. Each row is built byte by byte, and one law adds a byte.
-use Rattle.laws.proofs.Prelude.{_≡_, refl, true, false≢true, and-eq-true-iff, List, [], _∷_, _++_, append-nil, append-assoc, ℕ, zero, suc, _+_, _-_, _*_, _/_, _%_, _≤_, _<_, zero-add, arith, length, drop, length-append, drop-drop, lt-ltb, le-ltb}
+use Rattle.laws.proofs.Prelude.{_≡_, refl, true, false≢true, and-eq-true-iff, List, [], _∷_, _++_, append-nil, append-assoc, ℕ, zero, suc, _+_, _-_, _*_}
+use Rattle.laws.proofs.Prelude.{_/_, _%_, _≤_, _<_, zero-add, arith, length, drop, length-append, drop-drop, lt-ltb, le-ltb}
 use native.Mathlib.Nat.{div-div-eq-div-mul}
 use lib.Seq.{drop-length, drop-at}
 use Rattle.laws.specs.Codec.{All}
-use Rattle.text.specs.declared.utf8.Encoding.{Encoding}
-use Rattle.text.specs.declared.utf8.Encoding.the-variants.{Utf8, Wtf8}
+use Rattle.text.specs.declared.utf8.Encoding.{Encoding, the-variants.Utf8, the-variants.Wtf8}
 use Rattle.text.specs.Ranges.{Range, _to_, within}
 use Rattle.text.specs.Utf8.{admits, continuation, surrogate, leadSurrogate, trailSurrogate, rows, besides}
 use Rattle.text.specs.Encode.{encode, Exact, RowExact}
-use Rattle.text.proofs.WithinRange.{within-iff}
-use Rattle.text.proofs.RangesAdmit.{admits-append}
+use Rattle.text.proofs.{WithinRange.within-iff, RangesAdmit.admits-append}
 
 -- one byte of a range
 starts : (lo hi : ℕ) (s : List ℕ) → admits ((lo to hi) ∷ []) s ≡ true → (x : ℕ) × (lo ≤ x) × (x ≤ hi) × (s ≡ x ∷ drop 1 s)

@@ -1,8 +1,8 @@
 -- A text that is one character after the other, from one character to the next; and what every row of the table says of a length.
-use Rattle.laws.proofs.Prelude.{_≡_, refl, ap, sym, _∙_, Bool, true, false, cond, _&&_, and-eq-true-iff, List, [], _∷_, ℕ, zero, suc, _+_, _≤_, _<_, zero-le, suc-le-suc, length, drop, drop-of-length-le, drop-cons, drop-drop}
+use Rattle.laws.proofs.Prelude.{_≡_, refl, ap, sym, _∙_, Bool, true, false, cond, _&&_, and-eq-true-iff, List, [], _∷_, ℕ, zero, suc, _+_, _≤_, _<_}
+use Rattle.laws.proofs.Prelude.{zero-le, suc-le-suc, length, drop, drop-of-length-le, drop-cons, drop-drop}
 use native.Mathlib.Nat.{add-suc, suc-add}
-use Rattle.text.specs.declared.utf8.Encoding.{Encoding}
-use Rattle.text.specs.Ranges.{Range, within}
+use Rattle.text.specs.{declared.utf8.Encoding.Encoding, Ranges.Range, Ranges.within}
 use Rattle.text.specs.Utf8.{admits, Row, char, never, lengthBy, rows, charLength, formed}
 
 -- the bytes skipped are dropped

@@ -1,11 +1,10 @@
 -- Positions from one place of a text to another, how far they go, and an index of them.
-use Rattle.laws.proofs.Prelude.{_≡_, refl, _∙_, Bool, true, false, cond, List, [], _∷_, _++_, ℕ, suc, _+_, _-_, _*_, _/_, _≤_, _<_, not-suc-le-zero, arith, add-one, eqb, length, getD, set, take, drop, length-set, drop-cons, length-take-le, getD-set-same, getD-set-other}
+use Rattle.laws.proofs.Prelude.{_≡_, refl, _∙_, Bool, true, false, cond, List, [], _∷_, _++_, ℕ, suc, _+_, _-_, _*_, _/_, _≤_, _<_, not-suc-le-zero, arith}
+use Rattle.laws.proofs.Prelude.{add-one, eqb, length, getD, set, take, drop, length-set, drop-cons, length-take-le, getD-set-same, getD-set-other}
 use native.Mathlib.Nat.{add-sub-of-le, sub-eq-zero-of-le, mod-eq-sub-mul-div}
 use lib.Seq.{take-add, drop-set-lt}
 use borrow.Author.Count.{below-more}
-use Rattle.text.specs.declared.position.Position.{Position}
-use Rattle.text.specs.Ranges.{within}
-use Rattle.text.specs.Utf8.{continuation}
+use Rattle.text.specs.{declared.position.Position.Position, Ranges.within, Utf8.continuation}
 use Rattle.text.specs.Position.{Units, characters, step, walk, startPosition, positionOf, stored, kept, Indexed, indexedPosition}
 
 -- a walk goes on where another ends
@@ -107,10 +106,12 @@ untouched-none t n = record { from = λ m l. refl }
 
 pub untouched-more : {before after : List ℕ} {n : ℕ} → Untouched before after n → (p : Position) → Untouched before (stored after n p) (n + 1)
 untouched-more {after = t} {n = n} h p = record {
-  from = λ m l. drop-set-lt m (set t (2 * n) (p .line)) (2 * n + 1) (p .column) (omega arith) ∙ drop-set-lt m t (2 * n) (p .line) (omega arith) ∙ h .from m (omega arith);
+  from = λ m l. drop-set-lt m (set t (2 * n) (p .line)) (2 * n + 1) (p .column) (omega arith) ∙ drop-set-lt m t (2 * n) (p .line) (omega arith) ∙
+      h .from m (omega arith);
 }
 
 -- by a right index the position is that of the text
-pub indexed : {unit : Units} {s index : List ℕ} {n : ℕ} → Indexed unit s index n → (at : ℕ) → at / 64 < n → indexedPosition unit s index at ≡ positionOf unit s at
+pub indexed : {unit : Units} {s index : List ℕ} {n : ℕ} → Indexed unit s index n → (at : ℕ) → at / 64 < n →
+    indexedPosition unit s index at ≡ positionOf unit s at
 unfolding indexedPosition
 indexed {unit} {s} h at l = rw (h .right (at / 64) l, mod-eq-sub-mul-div) (onward unit s (64 * (at / 64)) at (omega arith))

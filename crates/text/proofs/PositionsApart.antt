@@ -1,8 +1,7 @@
 -- Positions tell the places of a text apart.
-use Rattle.laws.proofs.Prelude.{_≡_, refl, ap, sym, Bool, true, false, inl, inr, ⊎-elim, List, [], _∷_, ℕ, suc, _-_, _≤_, _<_, arith, ltb, length, getD, take, drop, drop-cons, ltb-true, ltb-false}
-use Rattle.text.specs.declared.position.Position.{Position}
-use Rattle.text.specs.Ranges.{within}
-use Rattle.text.specs.Utf8.{continuation}
+use Rattle.laws.proofs.Prelude.{_≡_, refl, ap, sym, Bool, true, false, inl, inr, ⊎-elim, List, [], _∷_, ℕ, suc, _-_, _≤_, _<_, arith, ltb, length, getD}
+use Rattle.laws.proofs.Prelude.{take, drop, drop-cons, ltb-true, ltb-false}
+use Rattle.text.specs.{declared.position.Position.Position, Ranges.within, Utf8.continuation}
 use Rattle.text.specs.Position.{Units, step, walk, positionOf, Before, Boundary}
 use Rattle.text.proofs.Positions.{onward, by-step}
 

@@ -1,8 +1,8 @@
 -- What ranges one after the other admit at a place of a text.
-use Rattle.laws.proofs.Prelude.{_≡_, refl, sym, Bool, true, false, _&&_, List, [], _∷_, _++_, ℕ, _+_, _≤_, _<_, length, getD, drop, drop-of-length-le, drop-cons, drop-drop}
+use Rattle.laws.proofs.Prelude.{_≡_, refl, sym, Bool, true, false, _&&_, List, [], _∷_, _++_, ℕ, _+_, _≤_, _<_, length, getD, drop, drop-of-length-le}
+use Rattle.laws.proofs.Prelude.{drop-cons, drop-drop}
 use mathlib.Core.Bool.{and-true, and-assoc}
-use Rattle.text.specs.Ranges.{Range, within}
-use Rattle.text.specs.Utf8.{admits}
+use Rattle.text.specs.{Ranges.Range, Ranges.within, Utf8.admits}
 
 -- one range: past the end there is no byte
 module _ (r : Range) (s : List ℕ) (i : ℕ) where

@@ -1,18 +1,17 @@
 -- The character reader answers a code point exactly where the text begins with its encoding.
-use Rattle.laws.proofs.Prelude.{_≡_, refl, sym, ap, _∙_, Bool, true, false, cond, _||_, and-eq-true-iff, or-true, false≢true, List, [], _∷_, _++_, ℕ, zero, suc, _+_, _/_, _≤_, _<_, arith, leb, ltb, length, getD, take, drop, length-take-le, leb-true, leb-false, lt-leb, ltb-true, lt-ltb, le-ltb}
+use Rattle.laws.proofs.Prelude.{_≡_, refl, sym, ap, _∙_, Bool, true, false, cond, _||_, and-eq-true-iff, or-true, false≢true, List, [], _∷_, _++_, ℕ, zero}
+use Rattle.laws.proofs.Prelude.{suc, _+_, _/_, _≤_, _<_, arith, leb, ltb, length, getD, take, drop, length-take-le, leb-true, leb-false, lt-leb, ltb-true}
+use Rattle.laws.proofs.Prelude.{lt-ltb, le-ltb}
 use mathlib.Core.Bool.{and-false, not-eq-not}
-use lib.ListN.{take-append-drop}
-use lib.Seq.{take-at, drop-at}
+use lib.{ListN.take-append-drop, Seq.take-at, Seq.drop-at}
 use Rattle.laws.specs.Codec.{All}
-use Rattle.text.specs.declared.utf8.Encoding.{Encoding}
-use Rattle.text.specs.declared.utf8.Encoding.the-variants.{Utf8, Wtf8}
+use Rattle.text.specs.declared.utf8.Encoding.{Encoding, the-variants.Utf8, the-variants.Wtf8}
 use Rattle.text.specs.Ranges.{Range, _to_, within, inRanges}
 use Rattle.text.specs.Utf8.{admits, Row, char, never, leadSurrogate, trailSurrogate, pair, rows, besides, lengthBy, charLength, codeBy, charAt}
 use Rattle.text.specs.Encode.{encode, codePoints, Lead, Trail, Paired, Exact, RowExact}
-use Rattle.text.proofs.CodePoint.{by-length, round}
+use Rattle.text.proofs.{CodePoint.by-length, CodePoint.round, RangesAdmit.admits-append}
 use Rattle.text.proofs.Exact.{exact, leads, trails}
 use Rattle.text.proofs.Formed.{admitted, everyRow, picked}
-use Rattle.text.proofs.RangesAdmit.{admits-append}
 use Rattle.text.proofs.WithinRange.{within-iff, merged, swapped}
 
 -- the code points of a table
@@ -193,7 +192,8 @@ pair-all : (p q : ℕ) (t : List ℕ) → Lead p → Trail q → admits pair (en
 pair-all p q t l m =
     let s = encode p ++ (encode q ++ t) in
     admits-append leadSurrogate trailSurrogate s
-    ∙ rw (text-all leads p (l .0) (l .1) (encode q ++ t), drop-at (encode p) (encode q ++ t) 3 (leads .all p (l .0) (l .1) .1)) (text-all trails q (m .0) (m .1) t)
+    ∙ rw (text-all leads p (l .0) (l .1) (encode q ++ t), drop-at (encode p) (encode q ++ t) 3 (leads .all p (l .0) (l .1) .1))
+    (text-all trails q (m .0) (m .1) t)
 
 -- a code point's encoding is read with its length, but for a lead surrogate with a trail one right behind it
 pub reads : (e : Encoding) (p : ℕ) (t : List ℕ) → inRanges (codePoints e) p ≡ true → (Paired p t → ⊥)
@@ -224,5 +224,4 @@ unread p t l h = go (charLength Utf8 (encode p ++ t)) refl
 pub pair-unread : (e : Encoding) (p q : ℕ) (t : List ℕ) → Lead p → Trail q → charLength e (encode p ++ (encode q ++ t)) ≡ 0
 unfolding charLength lengthBy
 pair-unread Utf8 p q t l m = unread p (encode q ++ t) (l .0) (omega arith)
-pair-unread Wtf8 p q t l m =
-    passed-over (rows Utf8) (besides Wtf8) _ refl tt (unread p (encode q ++ t) (l .0) (omega arith)) ∙ rw (pair-all p q t l m)
+pair-unread Wtf8 p q t l m = passed-over (rows Utf8) (besides Wtf8) _ refl tt (unread p (encode q ++ t) (l .0) (omega arith)) ∙ rw (pair-all p q t l m)

@@ -1,6 +1,7 @@
 -- The surrogates of a text replaced by U+FFFD: what is left to be written and to be counted from one place to the next; the lossy text is as
 -- long as the text, and is the text itself where there is no surrogate.
-use Rattle.laws.proofs.Prelude.{_≡_, refl, ap, _∙_, Bool, true, false, List, [], _∷_, ℕ, zero, suc, _+_, _≤_, _<_, arith, add-one, length, getD, drop, drop-of-length-le, drop-cons, drop-drop, eqb-true}
+use Rattle.laws.proofs.Prelude.{_≡_, refl, ap, _∙_, Bool, true, false, List, [], _∷_, ℕ, zero, suc, _+_, _≤_, _<_, arith, add-one, length, getD, drop}
+use Rattle.laws.proofs.Prelude.{drop-of-length-le, drop-cons, drop-drop, eqb-true}
 use Rattle.text.specs.Utf8.{admits, surrogate}
 use Rattle.text.specs.Lossy.{marking, counting, replacing, surrogates, lossy, replaced, exact}
 use Rattle.text.proofs.Formed.{admitted}
@@ -55,7 +56,8 @@ length-replacing n [] h = omega arith
 length-replacing (suc n) (x ∷ s) h = let r = length-replacing n s (omega arith) in omega arith
 length-replacing zero (x ∷ s) h = go (admits surrogate (x ∷ s)) refl (length-replacing 2 s) (length-replacing 0 s)
   where
-    go : (b : Bool) → admits surrogate (x ∷ s) ≡ b → (2 ≤ length s → 2 + length (replacing 2 s) ≡ length s) → (0 ≤ length s → 0 + length (replacing 0 s) ≡ length s)
+    go : (b : Bool) → admits surrogate (x ∷ s) ≡ b → (2 ≤ length s → 2 + length (replacing 2 s) ≡ length s) →
+        (0 ≤ length s → 0 + length (replacing 0 s) ≡ length s)
         → 0 + length (marking b x (λ n. replacing n s)) ≡ suc (length s)
     go true e two none =
         let in-text = admitted surrogate (x ∷ s) e in

@@ -1,20 +1,16 @@
 -- The lossy text by code points: each surrogate is reported as U+FFFD, and any other code point as itself.
-use Rattle.laws.proofs.Prelude.{_≡_, refl, sym, ap, _∙_, Bool, true, false, cond, true≢false, List, [], _∷_, _++_, map, flatMap, _↔_, ℕ, suc, _+_, _/_, _%_, _≤_, _<_, zero-add, arith, leb, length, drop, length-append, eqb-true, eq-eqb, le-leb, lt-leb, leb-false}
+use Rattle.laws.proofs.Prelude.{_≡_, refl, sym, ap, _∙_, Bool, true, false, cond, true≢false, List, [], _∷_, _++_, map, flatMap, _↔_, ℕ, suc, _+_, _/_, _%_}
+use Rattle.laws.proofs.Prelude.{_≤_, _<_, zero-add, arith, leb, length, drop, length-append, eqb-true, eq-eqb, le-leb, lt-leb, leb-false}
 use mathlib.Core.Bool.{and-false, not-eq-not}
 use lib.Seq.{drop-at}
 use Rattle.laws.specs.Codec.{All}
-use Rattle.text.specs.declared.utf8.Encoding.the-variants.{Utf8, Wtf8}
+use Rattle.text.specs.{declared.utf8.Encoding.the-variants.Utf8, declared.utf8.Encoding.the-variants.Wtf8, Utf8.admits, Utf8.surrogate}
 use Rattle.text.specs.Ranges.{_to_, within, inRanges}
-use Rattle.text.specs.Utf8.{admits, surrogate}
-use Rattle.text.specs.Encode.{encode, codePoints}
-use Rattle.text.specs.WellFormed.{TextOf}
+use Rattle.text.specs.{Encode.encode, Encode.codePoints, WellFormed.TextOf}
 use Rattle.text.specs.Lossy.{replacing, surrogates, lossy, replaced, reported, surrogatesAmong, LossyOf}
-use Rattle.text.proofs.CodePoint.{by-length}
+use Rattle.text.proofs.{CodePoint.by-length, Replaced.marked, Replaced.marked-count, WellFormed.scalars-unpaired, WithinRange.within-iff}
 use Rattle.text.proofs.Exact as rows
 use Rattle.text.proofs.Reader.{bounded, unique, text-only, text-all}
-use Rattle.text.proofs.Replaced.{marked, marked-count}
-use Rattle.text.proofs.WellFormed.{scalars-unpaired}
-use Rattle.text.proofs.WithinRange.{within-iff}
 
 abbrev isSurrogate : ℕ → Bool
 isSurrogate p = within (0xD800 to 0xDFFF) p
@@ -120,8 +116,5 @@ lossy-of {points} {x} t =
     record {
       text = record { each = all; unpaired = scalars-unpaired (map reported points) all; bytes = ap lossy (t .bytes) ∙ k };
       count = count;
-      exactly = (
-        λ e. none-among points .0 (sym count ∙ eqb-true (replaced x) 0 e),
-        λ a. eq-eqb (replaced x) 0 (count ∙ none-among points .1 a),
-      );
+      exactly = (λ e. none-among points .0 (sym count ∙ eqb-true (replaced x) 0 e), λ a. eq-eqb (replaced x) 0 (count ∙ none-among points .1 a));
     }

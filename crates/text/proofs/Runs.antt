@@ -1,8 +1,6 @@
 -- The longest run of a class, from one character to the next.
 use Rattle.laws.proofs.Prelude.{_≡_, refl, List, [], _∷_, ℕ, zero, suc, _+_, _≤_, not-suc-le-zero, le-of-suc-le-suc, arith, length, drop}
-use Rattle.text.specs.declared.class.Class.{Class}
-use Rattle.text.specs.declared.utf8.Encoding.the-variants.{Utf8}
-use Rattle.text.specs.Utf8.{charAt}
+use Rattle.text.specs.{declared.class.Class.Class, declared.utf8.Encoding.the-variants.Utf8, Utf8.charAt}
 use Rattle.text.specs.Class.{member, classAt, run, runLength}
 use Rattle.text.proofs.Formed.{fits-if}
 

@@ -1,10 +1,9 @@
 -- What the bytes of a text add up to, byte by byte; and the position past them by it.
-use Rattle.laws.proofs.Prelude.{_≡_, refl, ap, _∙_, Bool, true, false, cond, List, [], _∷_, _++_, ℕ, zero, suc, _+_, _-_, _≤_, _<_, arith, ⊎-elim, add-one, eqb, length, getD, take, drop, length-drop, length-take, drop-drop, getD-drop, lt-leb, eq-eqb, ne-eqb}
+use Rattle.laws.proofs.Prelude.{_≡_, refl, ap, _∙_, Bool, true, false, cond, List, [], _∷_, _++_, ℕ, zero, suc, _+_, _-_, _≤_, _<_, arith, ⊎-elim, add-one}
+use Rattle.laws.proofs.Prelude.{eqb, length, getD, take, drop, length-drop, length-take, drop-drop, getD-drop, lt-leb, eq-eqb, ne-eqb}
 use native.Mathlib.Nat.{eq-or-lt-of-le}
 use lib.Seq.{take-suc, take-add, getD-take}
-use Rattle.text.specs.declared.position.Position.{Position}
-use Rattle.text.specs.Ranges.{within}
-use Rattle.text.specs.Utf8.{continuation}
+use Rattle.text.specs.{declared.position.Position.Position, Ranges.within, Utf8.continuation}
 use Rattle.text.specs.Position.{characters, step, walk}
 use Rattle.text.proofs.Positions.{walk-append}
 use Rattle.text.specs.code.Totals.{total, endsLine, beginsOne}
@@ -89,7 +88,8 @@ unfolding step endsLine
 step-line p b = go (eqb b 0x0A)
   where
     go : (t : Bool)
-        → cond {A = Position} t (record { line = p .line + 1; column = 0 }) (record { line = p .line; column = p .column + cond (within continuation b) 0 1 }) .line
+        → cond {A = Position} t (record { line = p .line + 1; column = 0 })
+        (record { line = p .line; column = p .column + cond (within continuation b) 0 1 }) .line
         ≡ p .line + cond t 1 0
     go true = refl
     go false = omega arith

@@ -2,9 +2,7 @@
 use Rattle.laws.proofs.Prelude.{_≡_, refl, List, [], _∷_, map, ℕ}
 use Rattle.laws.specs.Ascii.{ascii}
 use Rattle.text.specs.declared.bytes.Order.the-variants.{Less, Equal, Greater}
-use Rattle.text.specs.declared.position.Position.{Position}
-use Rattle.text.specs.Bytes.{order}
-use Rattle.text.specs.Utf8.{admits}
+use Rattle.text.specs.{declared.position.Position.Position, Bytes.order, Utf8.admits}
 use Rattle.text.specs.Position.{characters, step, walk, positionOf}
 use Rattle.text.specs.Lossy.{replacing, surrogates, lossy, replaced}
 

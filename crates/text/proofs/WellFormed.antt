@@ -1,19 +1,14 @@
 -- A text is well-formed just where the reader finds one character after the other. It is the text of one row of code points only.
-use Rattle.laws.proofs.Prelude.{_≡_, refl, sym, ap, _∙_, Bool, true, false, false≢true, List, [], _∷_, _++_, flatMap, _↔_, ℕ, zero, suc, _≤_, zero-add, arith, length, drop, length-append, drop-append-seam}
+use Rattle.laws.proofs.Prelude.{_≡_, refl, sym, ap, _∙_, Bool, true, false, false≢true, List, [], _∷_, _++_, flatMap, _↔_, ℕ, zero, suc, _≤_, zero-add}
+use Rattle.laws.proofs.Prelude.{arith, length, drop, length-append, drop-append-seam}
 use mathlib.Core.List.{append-cancel-left}
 use lib.Seq.{drop-nil}
-use Rattle.laws.specs.Codec.{All}
-use Rattle.laws.specs.code.Told.{Meant}
-use Rattle.laws.proofs.Lists.{all-parts}
-use Rattle.text.specs.declared.utf8.Char.{Char}
-use Rattle.text.specs.declared.utf8.Encoding.{Encoding}
-use Rattle.text.specs.declared.utf8.Encoding.the-variants.{Utf8}
-use Rattle.text.specs.Ranges.{inRanges}
+use Rattle.laws.{specs.Codec.All, specs.code.Told.Meant, proofs.Lists.all-parts}
+use Rattle.text.specs.{declared.utf8.Char.Char, declared.utf8.Encoding.Encoding, declared.utf8.Encoding.the-variants.Utf8, Ranges.inRanges}
 use Rattle.text.specs.Utf8.{charLength, charAt, past, formed, wellFormed}
 use Rattle.text.specs.Encode.{encode, codePoints, Lead, Trail, Paired}
 use Rattle.text.specs.WellFormed.{Unpaired, WellFormed, Judges}
-use Rattle.text.proofs.CodePoint.{nonempty}
-use Rattle.text.proofs.Formed.{passed}
+use Rattle.text.proofs.{CodePoint.nonempty, Formed.passed}
 use Rattle.text.proofs.Reader.{unique, bounded, reader-sound, reads, no-scalar, pair-unread}
 
 -- a code point more in front of a row without pairs
@@ -81,11 +76,13 @@ module _ (e : Encoding) where
   -- what is one character after the other is the text of a row
   row-of : (s : List ℕ) (skip : ℕ) → formed e skip s ≡ true → WellFormed e (drop skip s)
   unfolding flatMap formed
-  row-of [] skip f = rw drop-nil ([], record { each = tt; unpaired = λ front back p q h. absurd (omega (arith, ap length h, length-append front (p ∷ q ∷ back))); bytes = refl })
+  row-of [] skip f = rw drop-nil
+      ([], record { each = tt; unpaired = λ front back p q h. absurd (omega (arith, ap length h, length-append front (p ∷ q ∷ back))); bytes = refl })
   row-of (x ∷ s) (suc skip) f = row-of s skip f
   row-of (x ∷ s) zero f = go (charLength e (x ∷ s)) refl f (row-of s)
     where
-      go : (n : ℕ) → charLength e (x ∷ s) ≡ n → past n false (λ k. formed e k s) ≡ true → ((k : ℕ) → formed e k s ≡ true → WellFormed e (drop k s)) → WellFormed e (x ∷ s)
+      go : (n : ℕ) → charLength e (x ∷ s) ≡ n → past n false (λ k. formed e k s) ≡ true → ((k : ℕ) → formed e k s ≡ true → WellFormed e (drop k s)) →
+          WellFormed e (x ∷ s)
       go zero i f on = absurd (false≢true f)
       go (suc n) i f on = character-row (x ∷ s) (λ z. omega (arith, i, z)) (rw i (on n f))
 
@@ -107,8 +104,5 @@ module _ (e : Encoding) where
   pub judged : (x : List ℕ) {r : Bool} → r ≡ wellFormed e x → Meant (r ≡ wellFormed e x) (Judges e x r)
   judged x i = record {
     answer = i;
-    meaning = record {
-      exactly = rw i (well-formed-iff x);
-      one-row = λ ps qs t u. same-row ps qs (t .each) (u .each) (sym (t .bytes) ∙ u .bytes);
-    };
+    meaning = record { exactly = rw i (well-formed-iff x); one-row = λ ps qs t u. same-row ps qs (t .each) (u .each) (sym (t .bytes) ∙ u .bytes) };
   }

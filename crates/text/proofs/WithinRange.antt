@@ -1,5 +1,6 @@
 -- A number within a range, by its order to the two ends; and within one of several ranges.
-use Rattle.laws.proofs.Prelude.{_≡_, refl, Bool, true, false, and-eq-true-iff, List, [], _∷_, _++_, _↔_, ℕ, _+_, _≤_, _<_, arith, leb, leb-true, leb-false, le-leb, lt-leb}
+use Rattle.laws.proofs.Prelude.{_≡_, refl, Bool, true, false, and-eq-true-iff, List, [], _∷_, _++_, _↔_, ℕ, _+_, _≤_, _<_, arith, leb, leb-true, leb-false}
+use Rattle.laws.proofs.Prelude.{le-leb, lt-leb}
 use mathlib.Core.Bool.{or-assoc, or-comm}
 use Rattle.text.specs.Ranges.{Range, _to_, within, inRanges}
 

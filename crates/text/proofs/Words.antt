@@ -1,5 +1,6 @@
 -- Two texts compared byte by byte: what the comparison says of them, and how it goes on from one place to the next.
-use Rattle.laws.proofs.Prelude.{_≡_, refl, Bool, true, false, cond, and-eq-true-iff, false≢true, List, [], _∷_, _++_, ℕ, _+_, _≤_, _<_, arith, add-one, eqb, ltb, length, getD, drop, drop-of-length-le, drop-cons, eqb-true, eq-eqb, ne-eqb, lt-ltb, le-ltb, ltb-false}
+use Rattle.laws.proofs.Prelude.{_≡_, refl, Bool, true, false, cond, and-eq-true-iff, false≢true, List, [], _∷_, _++_, ℕ, _+_, _≤_, _<_, arith, add-one, eqb}
+use Rattle.laws.proofs.Prelude.{ltb, length, getD, drop, drop-of-length-le, drop-cons, eqb-true, eq-eqb, ne-eqb, lt-ltb, le-ltb, ltb-false}
 use mathlib.Core.Bool.{and-false}
 use Rattle.text.specs.declared.bytes.Order.{Order}
 use Rattle.text.specs.declared.bytes.Order.the-variants.{Less, Equal, Greater}

@@ -1,7 +1,6 @@
 -- Numbers and their bytes, and fields that are refused, as the definitions compute.
 use Rattle.laws.proofs.Prelude.{_≡_, refl, List, [], _∷_, map, ℕ}
-use Rattle.laws.specs.Decoded.{ok}
-use Rattle.laws.proofs.Decoding.{refusal}
+use Rattle.laws.{specs.Decoded.ok, proofs.Decoding.refusal}
 use Rattle.text.specs.declared.utf8.Encoding.the-variants.{Utf8}
 use Rattle.text.specs.Utf8.{admits, lengthBy, charLength, formed}
 use Rattle.wire.specs.Fields.{byte, below, flag, bytes}

@@ -1,5 +1,6 @@
 -- What the fields' decoders answer at a place of a list.
-use Rattle.laws.proofs.Prelude.{_≡_, List, ℕ, _+_, _-_, _≤_, _<_, add-one, length, getD, drop, drop-of-length-le, length-drop, drop-cons, drop-drop, le-leb, lt-leb}
+use Rattle.laws.proofs.Prelude.{_≡_, List, ℕ, _+_, _-_, _≤_, _<_, add-one, length, getD, drop, drop-of-length-le, length-drop, drop-cons, drop-drop, le-leb}
+use Rattle.laws.proofs.Prelude.{lt-leb}
 use native.Mathlib.Nat.{add-sub-cancel-left}
 use Rattle.laws.specs.Decoded.{ok, no}
 use Rattle.text.specs.Bytes.{part}

@@ -1,11 +1,11 @@
 -- A number's groups at a place of a list, and the place values that they have.
-use Rattle.laws.proofs.Prelude.{_≡_, refl, ap, _∙_, true, cond, _||_, List, ℕ, zero, suc, _+_, _-_, _*_, _≤_, _<_, arith, leb, ltb, length, getD, drop, lt-ltb, le-ltb, le-leb}
+use Rattle.laws.proofs.Prelude.{_≡_, refl, ap, _∙_, true, cond, _||_, List, ℕ, zero, suc, _+_, _-_, _*_, _≤_, _<_, arith, leb, ltb, length, getD, drop}
+use Rattle.laws.proofs.Prelude.{lt-ltb, le-ltb, le-leb}
 use Prim.Native.Nat.{_^_}
 use native.Mathlib.Nat.{mul-le-mul, le-refl, pow-le-pow-right, pow-suc}
 use Rattle.laws.specs.Decoded.{ok, no, _>>_, require}
 use Rattle.wire.specs.Number.{largest, lastGroup, groups, number}
-use Rattle.wire.specs.code.Views.{Past, PlaceValue}
-use Rattle.wire.specs.declared.Read.{Read}
+use Rattle.wire.specs.{code.Views.Past, code.Views.PlaceValue, declared.Read.Read}
 use Rattle.wire.specs.declared.Read.the-variants as read
 use Rattle.wire.proofs.FieldsAtPlace.{byte-past, byte-at}
 

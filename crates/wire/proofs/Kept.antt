@@ -2,14 +2,11 @@
 use Rattle.laws.proofs.Prelude.{_≡_, refl, Bool, true, _||_, List, Option, ℕ, zero, suc, _+_, _-_, _*_, eqb, leb, ltb}
 use Rattle.laws.specs.Decoded.{Decoder}
 use Rattle.laws.proofs.Kept.{Kept, test, either}
-use Rattle.text.specs.declared.utf8.Encoding.{Encoding}
-use Rattle.text.specs.Utf8.{wellFormed}
-use Rattle.wire.specs.Refusals.{atFields, oneOf}
+use Rattle.text.specs.{declared.utf8.Encoding.Encoding, Utf8.wellFormed}
+use Rattle.wire.specs.{Refusals.atFields, Refusals.oneOf, Text.count, Text.text, Optional.optional}
 use Rattle.wire.specs.Refusals as refusals
 use Rattle.wire.specs.Fields.{byte, below, Values, numbered, flag, bytes}
 use Rattle.wire.specs.Number.{largest, lastGroup, groups, number}
-use Rattle.wire.specs.Text.{count, text}
-use Rattle.wire.specs.Optional.{optional}
 
 -- a refusal that is judged at a field
 abbrev pub AtField : ℕ → Type 0
@@ -58,7 +55,8 @@ module _ {P : (A : Type 0) → Decoder A → Type 0} {N : ℕ → Type 0} (kept 
   unfolding groups
   groups-kept zero scale low = kept .refuses two
   groups-kept (suc k) scale low =
-      kept .then a-byte (λ b. test kept (ltb b 256) two (either kept (ltb b 128) (last-kept scale low b) (groups-kept k (scale * 128) (low + scale * (b - 128)))))
+      kept .then a-byte
+      (λ b. test kept (ltb b 256) two (either kept (ltb b 128) (last-kept scale low b) (groups-kept k (scale * 128) (low + scale * (b - 128)))))
 
   pub number-kept : P ℕ number
   unfolding number

@@ -1,11 +1,10 @@
 -- A number's groups are decoded to it, and nothing else is.
-use Rattle.laws.proofs.Prelude.{_≡_, refl, sym, ap, _∙_, Bool, true, false, cond, _||_, or-true, List, [], _∷_, _++_, ℕ, zero, suc, _+_, _-_, _*_, _/_, _%_, _≤_, _<_, arith, leb, ltb, ltb-true, ltb-false, leb-true, lt-ltb, le-ltb, le-leb, lt-leb}
+use Rattle.laws.proofs.Prelude.{_≡_, refl, sym, ap, _∙_, Bool, true, false, cond, _||_, or-true, List, [], _∷_, _++_, ℕ, zero, suc, _+_, _-_, _*_, _/_, _%_}
+use Rattle.laws.proofs.Prelude.{_≤_, _<_, arith, leb, ltb, ltb-true, ltb-false, leb-true, lt-ltb, le-ltb, le-leb, lt-leb}
 use Prim.Native.Nat.{_^_}
 use native.Mathlib.Nat.{mul-add, mul-assoc, div-add-mod, add-sub-cancel-left, one-le-pow}
 use Rattle.laws.specs.Decoded.{ok, _>>_, return, require}
-use Rattle.laws.specs.Codec.{Codec}
-use Rattle.laws.proofs.Decoding.{refused, require-ok}
-use Rattle.laws.proofs.Codecs.{Built, codec-of}
+use Rattle.laws.{specs.Codec.Codec, proofs.Decoding.refused, proofs.Decoding.require-ok, proofs.Codecs.Built, proofs.Codecs.codec-of}
 use Rattle.wire.specs.Fields.{byte}
 use Rattle.wire.specs.Number.{largest, lastGroup, groups, number, encodeGroups, encodeNumber}
 

@@ -1,7 +1,7 @@
 -- Values by their numbers.
-use Rattle.laws.proofs.Prelude.{_≡_, refl, sym, ap, _∙_, Bool, true, false, List, [], _∷_, _++_, map, ℕ, zero, suc, _+_, _≤_, _<_, arith, leb, length, getD, List·getD-eq-default, leb-true, leb-false}
-use Rattle.laws.specs.Codec.{Codec}
-use Rattle.laws.proofs.Codecs.{built-end, codec-of}
+use Rattle.laws.proofs.Prelude.{_≡_, refl, sym, ap, _∙_, Bool, true, false, List, [], _∷_, _++_, map, ℕ, zero, suc, _+_, _≤_, _<_, arith, leb, length, getD}
+use Rattle.laws.proofs.Prelude.{List·getD-eq-default, leb-true, leb-false}
+use Rattle.laws.{specs.Codec.Codec, proofs.Codecs.built-end, proofs.Codecs.codec-of}
 use Rattle.wire.specs.Fields.{Values, valueOf, numbered}
 use Rattle.wire.proofs.TextCodec.{below-codec}
 

@@ -1,7 +1,6 @@
 -- An optional thing is decoded from its bytes, and from nothing else.
 use Rattle.laws.proofs.Prelude.{refl, inl, inr, List, Option, ℕ}
-use Rattle.laws.specs.Decoded.{Decoder}
-use Rattle.laws.specs.Codec.{Codec, IfThere}
+use Rattle.laws.specs.{Decoded.Decoder, Codec.Codec, Codec.IfThere}
 use Rattle.laws.proofs.Codecs.{built-return, built-map, built-if, codec-of}
 use Rattle.wire.specs.Optional.{optional, encodeOptional}
 use Rattle.wire.proofs.TextCodec.{flag-codec}

@@ -1,14 +1,10 @@
 -- Bytes, flags, counts and texts are decoded from their bytes, and from nothing else.
-use Rattle.laws.proofs.Prelude.{_≡_, refl, sym, Bool, true, false, cond, List, [], _∷_, _++_, append-nil, ℕ, zero, suc, _+_, _≤_, _<_, arith, eqb, leb, ltb, length, take, drop, length-append, length-take-le, take-append-seam, drop-append-seam, ltb-true, leb-true, lt-ltb, le-leb}
+use Rattle.laws.proofs.Prelude.{_≡_, refl, sym, Bool, true, false, cond, List, [], _∷_, _++_, append-nil, ℕ, zero, suc, _+_, _≤_, _<_, arith, eqb, leb, ltb}
+use Rattle.laws.proofs.Prelude.{length, take, drop, length-append, length-take-le, take-append-seam, drop-append-seam, ltb-true, leb-true, lt-ltb, le-leb}
 use lib.ListN.{take-append-drop}
-use Rattle.laws.specs.Decoded.{ok, no}
-use Rattle.laws.specs.Codec.{Codec}
-use Rattle.laws.proofs.Decoding.{refused}
+use Rattle.laws.{specs.Decoded.ok, specs.Decoded.no, specs.Codec.Codec, proofs.Decoding.refused}
 use Rattle.laws.proofs.Codecs.{built-return, built-then, built-require, codec-of}
-use Rattle.text.specs.declared.utf8.Encoding.{Encoding}
-use Rattle.text.specs.Utf8.{wellFormed}
-use Rattle.text.specs.WellFormed.{WellFormed}
-use Rattle.text.proofs.WellFormed.{well-formed-iff}
+use Rattle.text.{specs.declared.utf8.Encoding.Encoding, specs.Utf8.wellFormed, specs.WellFormed.WellFormed, proofs.WellFormed.well-formed-iff}
 use Rattle.wire.specs.Fields.{byte, below, flag, encodeFlag, bytes}
 use Rattle.wire.specs.Number.{largest, encodeNumber}
 use Rattle.wire.specs.Text.{count, text, encodeText}

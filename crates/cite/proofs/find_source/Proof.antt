@@ -6,7 +6,8 @@ use Rattle.cite.proofs.find_source.Tie as tie
 returns : tie.Need-returns
 unfolding encodeSheet
 returns c = record {
-  answer = λ t of. c .read-text .ensures .answer (t .source) (omega (arith, of .encodes .within .fields .source .0)) _ (ap (drop 1) (sym (of .encodes .bytes))) .0;
+  answer = λ t of. c .read-text .ensures .answer (t .source) (omega (arith, of .encodes .within .fields .source .0)) _
+      (ap (drop 1) (sym (of .encodes .bytes))) .0;
   bounds = c .read-text .ensures .bounds;
 }
 

@@ -1,7 +1,5 @@
 use Rattle.laws.proofs.Prelude.{needs, arith, refl, sym, _≤_, length, length-take-le}
-use Rattle.dearest.proofs.Numerals.{facts}
-use Rattle.dearest.proofs.Writing.{writes-body, writes-nothing}
-use Rattle.dearest.proofs.dearest.Statement.{statement}
+use Rattle.dearest.proofs.{Numerals.facts, Writing.writes-body, Writing.writes-nothing, dearest.Statement.statement}
 use Rattle.dearest.proofs.dearest.Tie as tie
 
 put-body-requires : tie.Need-put-body-requires
@@ -22,6 +20,4 @@ returns-2 c = record {
 }
 
 pub dearest-spec : {M : Type 1} → statement M
-dearest-spec =
-    tie.close
-    (tie.spec (λ c κs. search needs) (λ c. search needs) put-body-requires (λ c. search needs) returns returns-2)
+dearest-spec = tie.close (tie.spec (λ c κs. search needs) (λ c. search needs) put-body-requires (λ c. search needs) returns returns-2)

@@ -9,12 +9,6 @@ Inv-loop digits n₀ i₀ n i = ReadUpTo digits i n
 abbrev μ-loop : tie.MeasureT-loop
 μ-loop digits n₀ i₀ n i = length digits - i
 
-returns : tie.Need-returns Inv-loop μ-loop
-returns c = empty _ (c .if1 .taken)
-
-loop-holds : tie.Need-loop-holds Inv-loop μ-loop
-loop-holds c = begin _
-
 returns-2 : tie.Need-returns-2 Inv-loop μ-loop
 returns-2 c = no-digit (c .before .before .before .loop .inv) (c .before .before .loop-test .taken) (λ d. omega arith)
 
@@ -23,38 +17,23 @@ returns-3 c = no-digit (c .before .before .before .before .loop .inv) (c .before
 
 returns-4 : tie.Need-returns-4 Inv-loop μ-loop
 returns-4 c =
-    zero-first (c .before .before .before .before .before .loop .inv) (c .before .before .before .before .loop-test .taken)
+    let at-loop = c .before .before .before .before in
+    zero-first (at-loop .before .loop .inv) (at-loop .loop-test .taken)
     (c .before .before .if2 .left, c .before .if3 .left) (c .if4 .taken)
 
 returns-5 : tie.Need-returns-5 Inv-loop μ-loop
 returns-5 c =
-    too-large (c .before .before .before .before .before .before .loop .inv) (c .before .before .before .before .before .loop-test .taken) (omega arith)
+    let at-loop = c .before .before .before .before .before in
+    too-large (at-loop .before .loop .inv) (at-loop .loop-test .taken) (omega arith)
 
 loop-again : tie.Need-loop-again Inv-loop μ-loop
 loop-again c =
-    onward (c .before .before .before .before .before .before .loop .inv) (c .before .before .before .before .before .loop-test .taken)
+    let at-loop = c .before .before .before .before .before in
+    onward (at-loop .before .loop .inv) (at-loop .loop-test .taken)
     (c .before .before .before .if2 .left, c .before .before .if3 .left) (c .before .if4 .left) (omega arith)
 
-returns-6 : tie.Need-returns-6 Inv-loop μ-loop
-returns-6 c = finished (c .before .loop .inv) (omega arith) (c .loop-test .left)
-
 pub read-numeral-spec : {M : Type 1} → statement M
-read-numeral-spec =
-    tie.close
-    (tie.spec
-    Inv-loop
-    μ-loop
-    returns
-    loop-holds
-    (λ c. search needs)
-    returns-2
-    returns-3
-    (λ c. search needs)
-    (λ c. search needs)
-    (λ c. search needs)
-    returns-4
-    returns-5
-    (λ c. search needs)
-    (λ c. search needs)
-    loop-again
-    returns-6)
+read-numeral-spec = tie.close (tie.spec
+    Inv-loop μ-loop (λ c. empty _ (c .if1 .taken)) (λ c. begin _) (λ c. search needs) returns-2 returns-3 (λ c. search needs) (λ c. search needs)
+    (λ c. search needs) returns-4 returns-5 (λ c. search needs) (λ c. search needs) loop-again
+    (λ c. finished (c .before .loop .inv) (omega arith) (c .loop-test .left)))

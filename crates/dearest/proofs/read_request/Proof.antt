@@ -3,9 +3,6 @@ use Rattle.dearest.proofs.Requests.{asks-some, with-lf, without-lf}
 use Rattle.dearest.proofs.read_request.Statement.{statement}
 use Rattle.dearest.proofs.read_request.Tie as tie
 
-returns : tie.Need-returns
-returns c = λ m a. asks-some a (c .if1 .taken)
-
 slice-aggregate-read-numeral : tie.Need-slice-aggregate-read-numeral
 slice-aggregate-read-numeral c =
     let input = now (c .before .before .before .before .before .args .input) in
@@ -13,7 +10,8 @@ slice-aggregate-read-numeral c =
 
 returns-2 : tie.Need-returns-2
 returns-2 c =
-    let input = now (c .before .before .before .before .before .before .args .input) in
+    let start = c .before .before .before .before .before .before in
+    let input = now (start .args .input) in
     with-lf input (length input - 1) (omega arith) (c .before .before .if2 .taken) (c .read-numeral .result) (c .read-numeral .ensures)
 
 returns-3 : tie.Need-returns-3
@@ -22,14 +20,6 @@ returns-3 c =
     without-lf input (length input - 1) (omega arith) (c .before .if2 .left) (c .read-numeral2 .result) (c .read-numeral2 .ensures)
 
 pub read-request-spec : {M : Type 1} → statement M
-read-request-spec =
-    tie.close
-    (tie.spec
-    returns
-    (λ c. search needs)
-    (λ c. search needs)
-    slice-aggregate-read-numeral
-    (λ c κs. search needs)
-    returns-2
-    (λ c κs. search needs)
-    returns-3)
+read-request-spec = tie.close (tie.spec
+    (λ c. λ m a. asks-some a (c .if1 .taken)) (λ c. search needs) (λ c. search needs) slice-aggregate-read-numeral (λ c κs. search needs) returns-2
+    (λ c κs. search needs) returns-3)

@@ -1,10 +1,7 @@
 use Rattle.laws.proofs.Prelude.{needs, ap, _∙_, length, now}
 use Rattle.report.specs.Answer.{zeros}
 use Rattle.delivery.specs.Promise.{orderAs}
-use Rattle.delivery.proofs.Deliveries.{decodes-exactly}
-use Rattle.delivery.proofs.Reported.{cleared}
-use Rattle.delivery.proofs.Orders.{order-right}
-use Rattle.delivery.proofs.order.Statement.{statement}
+use Rattle.delivery.proofs.{Deliveries.decodes-exactly, Reported.cleared, Orders.order-right, order.Statement.statement}
 use Rattle.delivery.proofs.order.Tie as tie
 
 returns : tie.Need-returns
@@ -20,11 +17,4 @@ returns c =
     }
 
 pub order-spec : {M : Type 1} → statement M
-order-spec =
-    tie.close
-    (tie.spec
-    (λ c κs. search needs)
-    (λ c κs. search needs)
-    (λ c κs. search needs)
-    (λ c. search needs)
-    returns)
+order-spec = tie.close (tie.spec (λ c κs. search needs) (λ c κs. search needs) (λ c κs. search needs) (λ c. search needs) returns)

@@ -1,11 +1,7 @@
 -- `note`: the row is stored behind the others, and counted.
 use Rattle.laws.proofs.Prelude.{needs, arith, length-set, now}
-use Rattle.dep_entries.proofs.Noting.{note-stored, note-left}
-use Rattle.dep_entries.proofs.note.Statement.{statement}
+use Rattle.dep_entries.proofs.{Noting.note-stored, Noting.note-left, note.Statement.statement}
 use Rattle.dep_entries.proofs.note.Tie as tie
-
-slice-write-notes-2 : tie.Need-slice-write-notes-2
-slice-write-notes-2 c = simp length-set (omega arith)
 
 returns : tie.Need-returns
 returns c =
@@ -29,19 +25,6 @@ returns-4 c =
 
 pub note-spec : {M : Type 1} → statement M
 note-spec = tie.close (tie.spec
-    (λ c. search needs)
-    (λ c. search needs)
-    (λ c. search needs)
-    (λ c. search needs)
-    (λ c. search needs)
-    (λ c. search needs)
-    (λ c. search needs)
-    (λ c. search needs)
-    slice-write-notes-2
-    (λ c. search needs)
-    (λ c. search needs)
-    (λ c. search needs)
-    returns
-    returns-2
-    returns-3
+    (λ c. search needs) (λ c. search needs) (λ c. search needs) (λ c. search needs) (λ c. search needs) (λ c. search needs) (λ c. search needs)
+    (λ c. search needs) (λ c. simp length-set (omega arith)) (λ c. search needs) (λ c. search needs) (λ c. search needs) returns returns-2 returns-3
     returns-4)

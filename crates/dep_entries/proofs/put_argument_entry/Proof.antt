@@ -12,7 +12,8 @@ use Rattle.dep_entries.specs.Entries.{callEntry}
 use Rattle.dep_entries.proofs.put_argument_entry.Statement.{statement}
 use Rattle.dep_entries.proofs.put_argument_entry.Tie as tie
 
-none-anywhere : (inner : Decoder Node) (source t : List ℕ) {u : List ℕ} {xs : Arguments} → arguments inner source 0 t ≡ ok xs u → (s : List ℕ) → arguments inner source 0 s ≡ ok xs s
+none-anywhere : (inner : Decoder Node) (source t : List ℕ) {u : List ℕ} {xs : Arguments} → arguments inner source 0 t ≡ ok xs u → (s : List ℕ) →
+    arguments inner source 0 s ≡ ok xs s
 unfolding arguments many
 none-anywhere inner source t {u} {xs} e s =
     let read : ok noArguments t ≡ ok xs u = e in
@@ -22,9 +23,12 @@ none-anywhere inner source t {u} {xs} e s =
 returns : tie.Need-returns
 unfolding callEntry
 returns c =
-    let a = c .before .before .before .before .before .before .before .before .before .before .before .before .before .before .args in
+    let at-if1 = c .before .before .before .before .before .before .before .before in
+    let a = at-if1 .before .before .before .before .before .before .args in
     λ dots n xs t u is are.
-    c .before .before .before .before .put-dynamic-entry .ensures (argumentOf n) (replacedIn (singleText (shape n))) xs (drop (a .cursor .at) (now (a .sheet))) (c .before .before .before .before .before .before .before .before .before .parse-argument .ensures .answer n t is) (none-anywhere (node (now (a .source)) (a .levels)) (now (a .source)) t (rw (c .before .before .before .before .before .before .before .before .if1 .taken) at are) (drop (a .cursor .at) (now (a .sheet))))
+    c .before .before .before .before .put-dynamic-entry .ensures (argumentOf n) (replacedIn (singleText (shape n))) xs
+    (drop (a .cursor .at) (now (a .sheet))) (at-if1 .before .parse-argument .ensures .answer n t is)
+    (none-anywhere (node (now (a .source)) (a .levels)) (now (a .source)) t (rw (at-if1 .if1 .taken) at are) (drop (a .cursor .at) (now (a .sheet))))
 
 returns-2 : tie.Need-returns-2
 returns-2 c =
@@ -37,28 +41,18 @@ returns-2 c =
 returns-3 : tie.Need-returns-3
 unfolding callEntry
 returns-3 c =
-    let a = c .before .before .before .before .before .before .before .before .before .before .before .before .before .before .before .before .before .before .args in
+    let at-next = c .before .before .before .before .before .before .before .before .before in
+    let a = at-next .before .before .before .before .before .before .before .before .before .args in
     let s = now (a .sheet) in
     let source = now (a .source) in
     let x = node source (a .levels) (drop (a .cursor .at) s) in
     λ dots n xs t u is are.
-    c .before .before .before .before .put-dynamic-entry2 .ensures (argumentOf n) (replacedIn (singleText (shape n))) xs u (c .before .before .before .before .before .before .before .before .before .before .before .before .before .parse-argument .ensures .answer n t is)
-    (ap (arguments (node source (a .levels)) source (a .more)) (same-rest nodeTally x is (told (c .before .before .before .before .before .before .before .before .before .before .before .check-node .ensures) (c .before .before .before .before .before .before .before .before .before .next .given .1))) ∙ are)
+    c .before .before .before .before .put-dynamic-entry2 .ensures (argumentOf n) (replacedIn (singleText (shape n))) xs u
+    (at-next .before .before .before .before .parse-argument .ensures .answer n t is)
+    (ap (arguments (node source (a .levels)) source (a .more))
+    (same-rest nodeTally x is (told (at-next .before .before .check-node .ensures) (at-next .next .given .1))) ∙ are)
 
 pub put-argument-entry-spec : {M : Type 1} → statement M
-put-argument-entry-spec =
-    tie.close
-    (tie.spec
-    (λ c κs. search needs)
-    (λ c κs. search needs)
-    (λ c. search needs)
-    (λ c. search needs)
-    returns
-    (λ c κs. search needs)
-    (λ c. search needs)
-    (λ c. search needs)
-    (λ c κs. search needs)
-    returns-2
-    (λ c. search needs)
-    (λ c. search needs)
-    returns-3)
+put-argument-entry-spec = tie.close (tie.spec
+    (λ c κs. search needs) (λ c κs. search needs) (λ c. search needs) (λ c. search needs) returns (λ c κs. search needs) (λ c. search needs)
+    (λ c. search needs) (λ c κs. search needs) returns-2 (λ c. search needs) (λ c. search needs) returns-3)

@@ -9,28 +9,8 @@ part-comments-end c = let room = c .before .before .before .pre .0 in omega arit
 part-groups-end : tie.Need-part-groups-end
 part-groups-end c = let room = c .before .before .before .before .pre .0 in omega arith
 
-part-index-end : tie.Need-part-index-end
-part-index-end c = c .before .before .before .before .before .pre .0
-
-analyze-ts-or-deno-types-requires : tie.Need-analyze-ts-or-deno-types-requires
-analyze-ts-or-deno-types-requires c κs = c .before .before .before .before .before .before .before .pre .1
-
-returns : tie.Need-returns
-returns c = c .before .before .analyze-ts-or-deno-types .ensures
-
 pub put-types-spec : {M : Type 1} → statement M
-put-types-spec =
-    tie.close
-    (tie.spec
-    (λ c. search needs)
-    (λ c. search needs)
-    part-comments-end
-    (λ c. search needs)
-    (λ c. search needs)
-    part-groups-end
-    (λ c. search needs)
-    (λ c. search needs)
-    part-index-end
-    analyze-ts-or-deno-types-requires
-    (λ c. search needs)
-    returns)
+put-types-spec = tie.close (tie.spec
+    (λ c. search needs) (λ c. search needs) part-comments-end (λ c. search needs) (λ c. search needs) part-groups-end (λ c. search needs) (λ c. search needs)
+    (λ c. c .before .before .before .before .before .pre .0) (λ c κs. c .before .before .before .before .before .before .before .pre .1) (λ c. search needs)
+    (λ c. c .before .before .analyze-ts-or-deno-types .ensures))

@@ -44,6 +44,7 @@ Quotes s source x = QuotedPart (length s) x × InSource source (x .span)
 abbrev pub Written : Type 0
 Written = Buffer × List ℕ
 
+-- the same as the code has it: the buffer with the pen's place, and the notes
 abbrev pub writtenAs : List ℕ → List ℕ → Pen → Written
 writtenAs out notes p = (bufferAs out p, notes)
 

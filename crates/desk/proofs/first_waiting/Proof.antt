@@ -1,8 +1,6 @@
 use Rattle.laws.proofs.Prelude.{needs, _≡_, sym, _∙_, ap, _-_, _≤_, arith}
-use Rattle.desk.specs.Desk.{firstWaiting}
-use Rattle.desk.specs.Block.{deskAs}
-use Rattle.desk.proofs.Search.{found-here, found-on}
-use Rattle.desk.proofs.first_waiting.Statement.{statement}
+use Rattle.desk.specs.{Desk.firstWaiting, Block.deskAs}
+use Rattle.desk.proofs.{Search.found-here, Search.found-on, first_waiting.Statement.statement}
 use Rattle.desk.proofs.first_waiting.Tie as tie
 
 abbrev Inv-loop : tie.InvT-loop
@@ -22,17 +20,6 @@ unfolding firstWaiting
 returns-2 c = let e : 16 - c .before .loop .passed ≡ 0 = omega arith in sym (c .before .loop .inv .1 ∙ ap (firstWaiting _ _) e)
 
 pub first-waiting-spec : {M : Type 1} → statement M
-first-waiting-spec =
-    tie.close
-    (tie.spec
-    Inv-loop
-    μ-loop
-    (λ c. search needs)
-    (λ c. search needs)
-    (λ c. search needs)
-    (λ c κs. search needs)
-    returns
-    (λ c. search needs)
-    (λ c. search needs)
-    loop-again
-    returns-2)
+first-waiting-spec = tie.close (tie.spec
+    Inv-loop μ-loop (λ c. search needs) (λ c. search needs) (λ c. search needs) (λ c κs. search needs) returns (λ c. search needs) (λ c. search needs)
+    loop-again returns-2)

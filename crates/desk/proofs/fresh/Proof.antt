@@ -1,8 +1,6 @@
 use Rattle.laws.proofs.Prelude.{refl}
-use Rattle.desk.specs.History.{after}
-use Rattle.desk.specs.Block.{ring, queuesIn}
-use Rattle.desk.proofs.Fairness.{fair}
-use Rattle.desk.proofs.fresh.Statement.{statement}
+use Rattle.desk.specs.{History.after, Block.ring, Block.queuesIn}
+use Rattle.desk.proofs.{Fairness.fair, fresh.Statement.statement}
 use Rattle.desk.proofs.fresh.Tie as tie
 
 returns : tie.Need-returns

@@ -3,19 +3,7 @@ use Rattle.desk.specs.Block.{turnedNumber}
 use Rattle.desk.proofs.pack_turn.Statement.{statement}
 use Rattle.desk.proofs.pack_turn.Tie as tie
 
-returns-2 : tie.Need-returns-2
-returns-2 c = sym (ap turnedNumber (c .before .answer .given .1))
-
 pub pack-turn-spec : {M : Type 1} → statement M
-pack-turn-spec =
-    tie.close
-    (tie.spec
-    (λ c. search needs)
-    (λ c. search needs)
-    (λ c. search needs)
-    (λ c. search needs)
-    (λ c. search needs)
-    (λ c. search needs)
-    (λ c. search needs)
-    (λ c. search needs)
-    returns-2)
+pack-turn-spec = tie.close (tie.spec
+    (λ c. search needs) (λ c. search needs) (λ c. search needs) (λ c. search needs) (λ c. search needs) (λ c. search needs) (λ c. search needs)
+    (λ c. search needs) (λ c. sym (ap turnedNumber (c .before .answer .given .1))))

@@ -1,10 +1,6 @@
 use Rattle.laws.proofs.Prelude.{needs, arith, length-set}
-use Rattle.desk.proofs.Blocks.{front-served, front-sheet}
-use Rattle.desk.proofs.serve.Statement.{statement}
+use Rattle.desk.proofs.{Blocks.front-served, Blocks.front-sheet, serve.Statement.statement}
 use Rattle.desk.proofs.serve.Tie as tie
-
-slice-write-block-2 : tie.Need-slice-write-block-2
-slice-write-block-2 c = simp length-set (omega arith)
 
 returns : tie.Need-returns
 returns c =
@@ -16,27 +12,7 @@ returns c =
     }
 
 pub serve-spec : {M : Type 1} → statement M
-serve-spec =
-    tie.close
-    (tie.spec
-    (λ c. search needs)
-    (λ c κs. search needs)
-    (λ c. search needs)
-    (λ c. search needs)
-    (λ c. search needs)
-    (λ c. search needs)
-    (λ c. search needs)
-    (λ c. search needs)
-    (λ c. search needs)
-    (λ c. search needs)
-    (λ c. search needs)
-    (λ c. search needs)
-    (λ c. search needs)
-    (λ c. search needs)
-    (λ c. search needs)
-    (λ c. search needs)
-    slice-write-block-2
-    (λ c. search needs)
-    (λ c. search needs)
-    (λ c. search needs)
-    returns)
+serve-spec = tie.close (tie.spec
+    (λ c. search needs) (λ c κs. search needs) (λ c. search needs) (λ c. search needs) (λ c. search needs) (λ c. search needs) (λ c. search needs)
+    (λ c. search needs) (λ c. search needs) (λ c. search needs) (λ c. search needs) (λ c. search needs) (λ c. search needs) (λ c. search needs)
+    (λ c. search needs) (λ c. search needs) (λ c. simp length-set (omega arith)) (λ c. search needs) (λ c. search needs) (λ c. search needs) returns)

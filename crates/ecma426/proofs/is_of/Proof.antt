@@ -12,12 +12,4 @@ unfolding isOf
 returns-2 c = rw (c .before .enum-told2 .given .1) (ap not (c .is-space2 .ensures .answer))
 
 pub is-of-spec : {M : Type 1} → statement M
-is-of-spec =
-    tie.close
-    (tie.spec
-    (λ c. search needs)
-    (λ c κs. search needs)
-    (λ c. search needs)
-    (λ c κs. search needs)
-    returns
-    returns-2)
+is-of-spec = tie.close (tie.spec (λ c. search needs) (λ c κs. search needs) (λ c. search needs) (λ c κs. search needs) returns returns-2)

@@ -1,7 +1,6 @@
 use Rattle.laws.proofs.Prelude.{needs, arith, _≡_, drop, length-drop, now, known}
 use Rattle.ecma426.specs.Reader.{oneAt}
-use Rattle.ecma426.proofs.LongestRow.{one-fits}
-use Rattle.ecma426.proofs.one_at.Statement.{statement}
+use Rattle.ecma426.proofs.{LongestRow.one-fits, one_at.Statement.statement}
 use Rattle.ecma426.proofs.one_at.Tie as tie
 
 returns : tie.Need-returns

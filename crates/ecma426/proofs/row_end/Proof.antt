@@ -1,7 +1,6 @@
 use Rattle.laws.proofs.Prelude.{needs, arith, _≡_, sym, _∙_, _-_, _≤_, length, now, known}
 use Rattle.ecma426.specs.Reader.{rowEnd}
-use Rattle.ecma426.proofs.LongestRow.{row-stops, row-goes-on}
-use Rattle.ecma426.proofs.row_end.Statement.{statement}
+use Rattle.ecma426.proofs.{LongestRow.row-stops, LongestRow.row-goes-on, row_end.Statement.statement}
 use Rattle.ecma426.proofs.row_end.Tie as tie
 
 abbrev Inv-loop : tie.InvT-loop
@@ -26,6 +25,4 @@ loop-again c =
     (c .before .before .loop .inv .0 ∙ row-goes-on (a .kind) (now (a .s)) i (c .before .one-at .ensures .answer) (c .if1 .left), omega arith, omega arith)
 
 pub row-end-spec : {M : Type 1} → statement M
-row-end-spec =
-    tie.close
-    (tie.spec Inv-loop μ-loop (λ c. search needs) (λ c κs. search needs) returns (λ c. omega arith) (λ c. omega arith) loop-again)
+row-end-spec = tie.close (tie.spec Inv-loop μ-loop (λ c. search needs) (λ c κs. search needs) returns (λ c. omega arith) (λ c. omega arith) loop-again)

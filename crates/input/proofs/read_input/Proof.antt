@@ -1,8 +1,7 @@
 use borrow.Author.Needs.{needs}
 use mathlib.Core.Path.{_≡_, sym}
 use Prim.Native.Nat.{_≤_, _-_}
-use lib.ListN.{length}
-use lib.Seq.{length-take-le}
+use lib.{ListN.length, Seq.length-take-le}
 use Rattle.input.proofs.read_input.Statement.{statement}
 use Rattle.input.proofs.read_input.Tie as tie
 
@@ -12,33 +11,9 @@ Inv-loop fd buffer₀ done₀ buffer done = (done ≤ length buffer) × (length 
 abbrev μ-loop : tie.MeasureT-loop
 μ-loop fd buffer₀ done₀ buffer done = length buffer - done
 
-returns-2 : tie.Need-returns-2 Inv-loop μ-loop
-returns-2 c = (search needs, sym (length-take-le _ _ (search needs)))
-
-returns-3 : tie.Need-returns-3 Inv-loop μ-loop
-returns-3 c = (search needs, sym (length-take-le _ _ (search needs)))
-
 pub read-input-spec : {M : Type 1} → statement M
-read-input-spec =
-    tie.close
-    (tie.spec
-    Inv-loop
-    μ-loop
-    (λ c. search needs)
-    (λ c. search needs)
-    (λ c. search needs)
-    (λ c. search needs)
-    (λ c κs. search needs)
-    (λ c. search needs)
-    (λ c. search needs)
-    (λ c. search needs)
-    (λ c. search needs)
-    (λ c. search needs)
-    (λ c κs. search needs)
-    (λ c. search needs)
-    returns-2
-    (λ c. search needs)
-    (λ c. search needs)
-    (λ c. search needs)
-    (λ c. search needs)
-    returns-3)
+read-input-spec = tie.close (tie.spec
+    Inv-loop μ-loop (λ c. search needs) (λ c. search needs) (λ c. search needs) (λ c. search needs) (λ c κs. search needs) (λ c. search needs)
+    (λ c. search needs) (λ c. search needs) (λ c. search needs) (λ c. search needs) (λ c κs. search needs) (λ c. search needs)
+    (λ c. (search needs, sym (length-take-le _ _ (search needs)))) (λ c. search needs) (λ c. search needs) (λ c. search needs) (λ c. search needs)
+    (λ c. (search needs, sym (length-take-le _ _ (search needs)))))

@@ -1,6 +1,5 @@
 use Rattle.laws.proofs.Prelude.{needs, _≡_, sym, _∙_, _-_, sub-zero, now, length, length-set}
-use Rattle.report.specs.Answer.{zeros, clearedFrom}
-use Rattle.report.proofs.Answers.{cleared-more, cleared-end}
+use Rattle.report.{specs.Answer.zeros, specs.Answer.clearedFrom, proofs.Answers.cleared-more, proofs.Answers.cleared-end}
 use Rattle.module_info.proofs.clear_notes.Statement.{statement}
 use Rattle.module_info.proofs.clear_notes.Tie as tie
 
@@ -9,9 +8,6 @@ Inv-loop notes₀ i₀ notes i = (length notes ≡ length notes₀) × (zeros (l
 
 abbrev μ-loop : tie.MeasureT-loop
 μ-loop notes₀ i₀ notes i = length notes₀ - i
-
-loop-holds : tie.Need-loop-holds Inv-loop μ-loop
-loop-holds c = (search needs, rw (sub-zero (length (now (c .args .notes)))))
 
 loop-again : tie.Need-loop-again Inv-loop μ-loop
 loop-again c =
@@ -24,16 +20,6 @@ returns c =
     sym (l .inv .1 ∙ cleared-end (l .notes) (l .i) (c .loop-test .left))
 
 pub clear-notes-spec : {M : Type 1} → statement M
-clear-notes-spec =
-    tie.close
-    (tie.spec
-    Inv-loop
-    μ-loop
-    loop-holds
-    (λ c. search needs)
-    (λ c. search needs)
-    (λ c. search needs)
-    (λ c. search needs)
-    loop-again
-    (λ c. search needs)
-    returns)
+clear-notes-spec = tie.close (tie.spec
+    Inv-loop μ-loop (λ c. (search needs, rw (sub-zero (length (now (c .args .notes)))))) (λ c. search needs) (λ c. search needs) (λ c. search needs)
+    (λ c. search needs) loop-again (λ c. search needs) returns)

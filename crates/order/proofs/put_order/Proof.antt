@@ -1,15 +1,15 @@
 use Rattle.laws.proofs.Prelude.{needs, arith, seen, bounded}
 use Rattle.delivery.specs.code.Views.{judgementAs}
 use Rattle.order.specs.Printed.{printedAnswer}
-use Rattle.order.proofs.Shown.{answer-short}
-use Rattle.order.proofs.put_order.Statement.{statement}
+use Rattle.order.proofs.{Shown.answer-short, put_order.Statement.statement}
 use Rattle.order.proofs.put_order.Tie as tie
 
 sub-put-late : tie.Need-sub-put-late
 sub-put-late c = bounded (c .before .before .before .before .before .before .judge .ensures) (c .before .before .«module» .given .1) .order
 
 part-put-late-start : tie.Need-part-put-late-start
-part-put-late-start c = bounded (c .before .before .before .before .before .before .before .judge .ensures) (c .before .before .before .«module» .given .1) .order
+part-put-late-start c = bounded (c .before .before .before .before .before .before .before .judge .ensures)
+    (c .before .before .before .«module» .given .1) .order
 
 part-put-late-end : tie.Need-part-put-late-end
 part-put-late-end c = bounded (c .before .before .before .before .before .before .before .judge .ensures) (c .before .before .before .«module» .given .1) .end
@@ -40,26 +40,7 @@ returns-3 c =
     record { answer = rw is (c .before .before .put-refused .ensures); bounds = omega (arith, short, judge .kept .1 .0) }
 
 pub put-order-spec : {M : Type 1} → statement M
-put-order-spec =
-    tie.close
-    (tie.spec
-    (λ c κs. search needs)
-    (λ c. search needs)
-    (λ c. search needs)
-    (λ c κs. search needs)
-    (λ c. search needs)
-    sub-put-late
-    part-put-late-start
-    part-put-late-end
-    (λ c κs. search needs)
-    (λ c. search needs)
-    (λ c κs. search needs)
-    (λ c. search needs)
-    (λ c. search needs)
-    returns
-    (λ c. search needs)
-    (λ c. search needs)
-    returns-2
-    (λ c. search needs)
-    (λ c. search needs)
-    returns-3)
+put-order-spec = tie.close (tie.spec
+    (λ c κs. search needs) (λ c. search needs) (λ c. search needs) (λ c κs. search needs) (λ c. search needs) sub-put-late part-put-late-start
+    part-put-late-end (λ c κs. search needs) (λ c. search needs) (λ c κs. search needs) (λ c. search needs) (λ c. search needs) returns (λ c. search needs)
+    (λ c. search needs) returns-2 (λ c. search needs) (λ c. search needs) returns-3)

@@ -1,6 +1,5 @@
 use Rattle.laws.proofs.Prelude.{needs}
-use Rattle.order.proofs.Shown.{refused-written}
-use Rattle.order.proofs.put_refused.Statement.{statement}
+use Rattle.order.proofs.{Shown.refused-written, put_refused.Statement.statement}
 use Rattle.order.proofs.put_refused.Tie as tie
 
 returns : tie.Need-returns
@@ -15,13 +14,5 @@ returns c =
     (c .before .before .put .ensures)
 
 pub put-refused-spec : {M : Type 1} → statement M
-put-refused-spec =
-    tie.close
-    (tie.spec
-    (λ c. search needs)
-    (λ c κs. search needs)
-    (λ c. search needs)
-    (λ c κs. search needs)
-    (λ c κs. search needs)
-    (λ c. search needs)
-    returns)
+put-refused-spec = tie.close (tie.spec
+    (λ c. search needs) (λ c κs. search needs) (λ c. search needs) (λ c κs. search needs) (λ c κs. search needs) (λ c. search needs) returns)

@@ -1,10 +1,7 @@
 use Rattle.laws.proofs.Prelude.{needs, now, seen}
-use Rattle.pragmas.specs.declared.readings.Rule.the-variants.{TsTypes, DenoTypes}
-use Rattle.pragmas.specs.Readings.{readBy}
-use Rattle.pragmas.specs.Pragmas.{tsOrDenoTypes}
-use Rattle.pragmas.specs.code.Views.{readAs}
-use Rattle.pragmas.proofs.Taken.{read-one}
-use Rattle.pragmas.proofs.read_types.Statement.{statement}
+use Rattle.pragmas.specs.{declared.readings.Rule.the-variants.TsTypes, declared.readings.Rule.the-variants.DenoTypes, Readings.readBy}
+use Rattle.pragmas.specs.{Pragmas.tsOrDenoTypes, code.Views.readAs}
+use Rattle.pragmas.proofs.{Taken.read-one, read_types.Statement.statement}
 use Rattle.pragmas.proofs.read_types.Tie as tie
 
 returns : tie.Need-returns
@@ -24,18 +21,7 @@ returns-2 c =
     let source = now (a .source) in
     let read = c .before .before .before .read in
     let none = seen (readAs source) (read-one TsTypes source (read .result) (a .c) (read .ensures .answer)) (c .before .enum-told2 .given .1) in
-    record {
-      answer = rw none (read-one DenoTypes source (c .read2 .result) (a .c) (c .read2 .ensures .answer));
-      bounds = c .read2 .ensures .bounds;
-    }
+    record { answer = rw none (read-one DenoTypes source (c .read2 .result) (a .c) (c .read2 .ensures .answer)); bounds = c .read2 .ensures .bounds }
 
 pub read-types-spec : {M : Type 1} → statement M
-read-types-spec =
-    tie.close
-    (tie.spec
-    (λ c κs. search needs)
-    (λ c. search needs)
-    returns
-    (λ c. search needs)
-    (λ c κs. search needs)
-    returns-2)
+read-types-spec = tie.close (tie.spec (λ c κs. search needs) (λ c. search needs) returns (λ c. search needs) (λ c κs. search needs) returns-2)

@@ -1,8 +1,6 @@
 -- The loop goes through the rows: what is left of them gives, with the counts so far, the tally from the start on.
 use Rattle.laws.proofs.Prelude.{needs, arith, _≡_, refl, sym, ap, _∙_, _-_, _≤_, length, drop, now, seen, told}
-use Rattle.replay.specs.Stored.{rows}
-use Rattle.replay.specs.code.Views.{stepAs}
-use Rattle.replay.specs.code.Bounds.{Room}
+use Rattle.replay.specs.{Stored.rows, code.Views.stepAs, code.Bounds.Room}
 use Rattle.replay.proofs.StoredRows.{onward, tally-rows, tally-short, row-counted, row-missing, rows-done, bytes-left}
 use Rattle.replay.proofs.replay.Statement.{statement}
 use Rattle.replay.proofs.replay.Tie as tie
@@ -17,33 +15,30 @@ Inv-loop list buffer₀ counts₀ left₀ at₀ buffer counts left at =
 abbrev μ-loop : tie.MeasureT-loop
 μ-loop list buffer₀ counts₀ left₀ at₀ buffer counts left at = left
 
-returns : tie.Need-returns Inv-loop μ-loop
-returns c = record { answer = sym (tally-short _ _ (c .if1 .taken)); bounds = tt }
-
-loop-holds : tie.Need-loop-holds Inv-loop μ-loop
-loop-holds c = (refl, search needs, search needs, refl)
-
 returns-2 : tie.Need-returns-2 Inv-loop μ-loop
 returns-2 c =
-    let a = c .before .before .before .before .before .before .before .before .before .before .before .before .args in
-    let l = c .before .before .before .before .before .before .before .loop in
+    let at-replay-one = c .before .before .before .before in
+    let a = at-replay-one .before .before .before .before .before .before .before .before .args in
+    let l = at-replay-one .before .before .before .loop in
     let s = now (a .list) in
-    let none = rw (l .inv .0) at (told (c .before .before .before .before .replay-one .ensures) (c .enum-told .given .1)) in
+    let none = rw (l .inv .0) at (told (at-replay-one .replay-one .ensures) (c .enum-told .given .1)) in
     record {
-      answer = sym (tally-rows (length (now (a .buffer))) s (c .before .before .before .before .before .before .before .before .number-at .ensures .answer) ∙ l .inv .3 ∙ row-missing (length (now (a .buffer))) (l .counts) (l .left) (drop (l .at) s) (c .before .before .before .before .before .before .loop-test .taken) none);
+      answer = sym (tally-rows (length (now (a .buffer))) s (at-replay-one .before .before .before .before .number-at .ensures .answer) ∙ l .inv .3 ∙
+          row-missing (length (now (a .buffer))) (l .counts) (l .left) (drop (l .at) s) (at-replay-one .before .before .loop-test .taken) none);
       bounds = tt;
     }
 
 loop-again : tie.Need-loop-again Inv-loop μ-loop
 loop-again c =
-    let a = c .before .before .before .before .before .before .before .before .before .before .before .before .before .before .args in
-    let l = c .before .before .before .before .before .before .before .before .before .loop in
+    let at-replay-one = c .before .before .before .before .before .before in
+    let a = at-replay-one .before .before .before .before .before .before .before .before .args in
+    let l = at-replay-one .before .before .before .loop in
     let s = now (a .list) in
     let size = length (now (a .buffer)) in
-    let called = c .before .before .before .before .before .before .replay-one in
+    let called = at-replay-one .replay-one in
     let found = c .before .before .ran .given in
     let next = rw (l .inv .0) at (seen (stepAs s) (called .ensures .answer) (found .1)) in
-    let onto = row-counted size (l .counts) (l .left) (drop (l .at) s) (c .before .before .before .before .before .before .before .before .loop-test .taken) next in (
+    let onto = row-counted size (l .counts) (l .left) (drop (l .at) s) (at-replay-one .before .before .loop-test .taken) next in (
       search needs,
       c .with .ensures .bounds (l .left - 1) (omega arith, omega arith),
       rw (found .1) at (called .ensures .bounds),
@@ -56,7 +51,8 @@ returns-3 c =
     let l = c .before .before .loop in
     let s = now (a .list) in
     let size = length (now (a .buffer)) in record {
-      answer = sym (tally-rows size s (c .before .before .before .number-at .ensures .answer) ∙ l .inv .3 ∙ rows-done size (l .counts) (l .left) s (l .at) (c .before .loop-test .left) (c .if2 .taken));
+      answer = sym (tally-rows size s (c .before .before .before .number-at .ensures .answer) ∙ l .inv .3 ∙
+          rows-done size (l .counts) (l .left) s (l .at) (c .before .loop-test .left) (c .if2 .taken));
       bounds = search needs;
     }
 
@@ -66,29 +62,13 @@ returns-4 c =
     let l = c .before .before .loop in
     let s = now (a .list) in
     let size = length (now (a .buffer)) in record {
-      answer = sym (tally-rows size s (c .before .before .before .number-at .ensures .answer) ∙ l .inv .3 ∙ bytes-left size (l .counts) (l .left) s (l .at) (c .before .loop-test .left) (omega arith));
+      answer = sym (tally-rows size s (c .before .before .before .number-at .ensures .answer) ∙ l .inv .3 ∙
+          bytes-left size (l .counts) (l .left) s (l .at) (c .before .loop-test .left) (omega arith));
       bounds = tt;
     }
 
 pub replay-spec : {M : Type 1} → statement M
-replay-spec =
-    tie.close
-    (tie.spec
-    Inv-loop
-    μ-loop
-    returns
-    (λ c κs. search needs)
-    loop-holds
-    (λ c κs. search needs)
-    (λ c. search needs)
-    (λ c κs. search needs)
-    (λ c. search needs)
-    (λ c. search needs)
-    returns-2
-    (λ c. search needs)
-    (λ c. search needs)
-    loop-again
-    (λ c. search needs)
-    returns-3
-    (λ c. search needs)
-    returns-4)
+replay-spec = tie.close (tie.spec
+    Inv-loop μ-loop (λ c. record { answer = sym (tally-short _ _ (c .if1 .taken)); bounds = tt }) (λ c κs. search needs)
+    (λ c. (refl, search needs, search needs, refl)) (λ c κs. search needs) (λ c. search needs) (λ c κs. search needs) (λ c. search needs)
+    (λ c. search needs) returns-2 (λ c. search needs) (λ c. search needs) loop-again (λ c. search needs) returns-3 (λ c. search needs) returns-4)

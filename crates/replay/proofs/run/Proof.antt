@@ -13,7 +13,8 @@ returns c =
     let kept : length (called .last .1 .0) ≡ length (now (a .buffer)) = search needs in
     let answer = called .ensures .answer ∙ ap (answerOf (now (a .sheet))) filled in
     let accepted = ap (λ n. eqb n 0) (c .before .before .number-of .ensures _ ∙ ap (λ (x : Answer). x .number) answer) in
-    let same = c .is-stored .ensures ∙ ap (λ n. sameAnswer (outcomeAs (called .result) (called .last .1 .0)) (storedAnswer n (a .number) (now (a .report)))) kept in
+    let same = c .is-stored .ensures ∙
+    ap (λ n. sameAnswer (outcomeAs (called .result) (called .last .1 .0)) (storedAnswer n (a .number) (now (a .report)))) kept in
     rw (accepted, same, answer)
 
 pub run-spec : {M : Type 1} → statement M

@@ -1,8 +1,7 @@
 use Rattle.laws.proofs.Prelude.{needs, arith, _+_, drop, length-drop, now}
 use Rattle.wire.proofs.FieldsAtPlace.{bytes-past, bytes-at}
 use Rattle.replay.specs.Stored.{piece}
-use Rattle.replay.proofs.StoredRows.{four-short}
-use Rattle.replay.proofs.stretch_at.Statement.{statement}
+use Rattle.replay.proofs.{StoredRows.four-short, stretch_at.Statement.statement}
 use Rattle.replay.proofs.stretch_at.Tie as tie
 
 returns : tie.Need-returns
@@ -32,15 +31,5 @@ returns-4 c =
     record { answer = rw (long .ensures .answer, bytes-at (now (a .list)) (a .at + 4) (long .result) (c .if3 .left)); bounds = search needs }
 
 pub stretch-at-spec : {M : Type 1} → statement M
-stretch-at-spec =
-    tie.close
-    (tie.spec
-    returns
-    (λ c. search needs)
-    returns-2
-    (λ c. search needs)
-    (λ c κs. search needs)
-    (λ c. search needs)
-    returns-3
-    (λ c. search needs)
-    returns-4)
+stretch-at-spec = tie.close (tie.spec
+    returns (λ c. search needs) returns-2 (λ c. search needs) (λ c κs. search needs) (λ c. search needs) returns-3 (λ c. search needs) returns-4)

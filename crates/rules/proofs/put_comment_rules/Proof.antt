@@ -1,8 +1,7 @@
 use Rattle.laws.proofs.Prelude.{needs, arith}
 use Rattle.sheet.specs.code.Views.{programOf}
 use Rattle.pragmas.proofs.Reached.{head-reached, end-reached}
-use Rattle.rules.proofs.Origins.{comments-written}
-use Rattle.rules.proofs.put_comment_rules.Statement.{statement}
+use Rattle.rules.proofs.{Origins.comments-written, put_comment_rules.Statement.statement}
 use Rattle.rules.proofs.put_comment_rules.Tie as tie
 
 part-comments-end : tie.Need-part-comments-end
@@ -27,33 +26,26 @@ put-jsdoc-origins-requires c κs =
 
 end-group-requires : tie.Need-end-group-requires
 end-group-requires c κs =
-    let held = c .before .before .before .before .before .before .before .before .before .before .before .before .before .before .before .before .before .before .pre .0 .1 in
+    let held = c .before .before .before .before .before .before .before .before .before .before .before .before .before .before .before .before .before
+    .before .pre .0 .1 in
     (held .1 .room, held .1 .grouped .ascending)
 
 put-end-origins-requires : tie.Need-put-end-origins-requires
 put-end-origins-requires c κs =
-    let start = c .before .before .before .before .before .before .before .before .before .before .before .before .before .before .before .before .before .before .before .before in
+    let start = c .before .before .before .before .before .before .before .before .before .before .before .before .before .before .before .before .before
+    .before .before .before in
     let held = start .pre .0 .1 in
     (held .0 .room, (held .0 .fit, end-reached (held .1 .grouped) (programOf (start .args .parts .program)) _ (c .before .end-group .ensures)))
 
 returns : tie.Need-returns
-returns c = λ t o. comments-written o _ (c .before .before .before .before .before .before .before .before .before .before .before .before .before .before .before .before .head-group .ensures) (c .before .before .before .before .end-group .ensures) (c .before .before .before .before .before .before .before .before .before .before .before .before .before .before .put-head-origins .ensures) (c .before .before .before .before .before .before .before .before .before .put-jsdoc-origins .ensures) (c .before .before .put-end-origins .ensures)
+returns c =
+    let at-put-head-origins = c .before .before .before .before .before .before .before .before .before .before .before .before .before .before in
+    λ t o. comments-written o _ (at-put-head-origins .before .before .head-group .ensures) (c .before .before .before .before .end-group .ensures)
+    (at-put-head-origins .put-head-origins .ensures)
+    (c .before .before .before .before .before .before .before .before .before .put-jsdoc-origins .ensures)
+    (c .before .before .put-end-origins .ensures)
 
 pub put-comment-rules-spec : {M : Type 1} → statement M
-put-comment-rules-spec =
-    tie.close
-    (tie.spec
-    (λ c. search needs)
-    (λ c. search needs)
-    part-comments-end
-    (λ c. search needs)
-    (λ c. search needs)
-    part-groups-end
-    (λ c κs. search needs)
-    put-head-origins-requires
-    put-jsdoc-origins-requires
-    end-group-requires
-    put-end-origins-requires
-    (λ c. search needs)
-    (λ c. search needs)
-    returns)
+put-comment-rules-spec = tie.close (tie.spec
+    (λ c. search needs) (λ c. search needs) part-comments-end (λ c. search needs) (λ c. search needs) part-groups-end (λ c κs. search needs)
+    put-head-origins-requires put-jsdoc-origins-requires end-group-requires put-end-origins-requires (λ c. search needs) (λ c. search needs) returns)

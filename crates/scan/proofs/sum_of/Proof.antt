@@ -2,8 +2,7 @@ use Rattle.laws.proofs.Prelude.{arith, needs, _≡_, sym, ⊎-elim, _≤_, _<_,
 use lib.Seq.{drop-length}
 use Rattle.scan.specs.Scan.{scanLength, scanSum}
 use Rattle.scan.proofs.Steps.{ends, none, within, back-brace, back-other}
-use Rattle.scan.proofs.Bounds.{small}
-use Rattle.scan.proofs.sum_of.Statement.{statement}
+use Rattle.scan.proofs.{Bounds.small, sum_of.Statement.statement}
 use Rattle.scan.proofs.sum_of.Tie as tie
 
 -- what stands from `i` on is counted
@@ -12,9 +11,6 @@ Inv-loop body sum₀ ahead₀ i₀ sum ahead i = (i ≤ length body) × (ahead �
 
 abbrev μ-loop : tie.MeasureT-loop
 μ-loop body sum₀ ahead₀ i₀ sum ahead i = i
-
-loop-holds : tie.Need-loop-holds Inv-loop μ-loop
-loop-holds c = (omega arith, rw drop-length (sym ends), rw drop-length (sym none))
 
 add-sum : tie.Need-add-sum Inv-loop μ-loop
 add-sum c =
@@ -31,8 +27,9 @@ length-at-requires c κs =
 
 loop-again : tie.Need-loop-again Inv-loop μ-loop
 loop-again c =
-    let body = now (c .before .before .before .before .before .before .args .body) in
-    let l = c .before .before .before .before .loop in
+    let at-loop = c .before .before .before .before in
+    let body = now (at-loop .before .before .args .body) in
+    let l = at-loop .loop in
     let some : 0 < l .i = c .before .before .before .loop-test .taken in (
       omega arith,
       c .length-at .ensures,
@@ -49,16 +46,6 @@ returns c =
     rw e at (l .inv .2)
 
 pub sum-of-spec : {M : Type 1} → statement M
-sum-of-spec =
-    tie.close
-    (tie.spec
-    Inv-loop
-    μ-loop
-    loop-holds
-    (λ c. search needs)
-    (λ c. search needs)
-    add-sum
-    length-at-requires
-    (λ c. search needs)
-    loop-again
-    returns)
+sum-of-spec = tie.close (tie.spec
+    Inv-loop μ-loop (λ c. (omega arith, rw drop-length (sym ends), rw drop-length (sym none))) (λ c. search needs) (λ c. search needs) add-sum
+    length-at-requires (λ c. search needs) loop-again returns)

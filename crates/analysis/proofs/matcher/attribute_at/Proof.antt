@@ -1,7 +1,6 @@
 use Rattle.laws.proofs.Prelude.{needs, eq-eqb, ne-eqb, known}
 use Rattle.analysis.specs.Row.{first, matchAt}
-use Rattle.analysis.proofs.RowSteps.{attribute-row}
-use Rattle.analysis.proofs.matcher.attribute_at.Statement.{statement}
+use Rattle.analysis.proofs.{RowSteps.attribute-row, matcher.attribute_at.Statement.statement}
 use Rattle.analysis.proofs.matcher.attribute_at.Tie as tie
 
 returns : tie.Need-returns
@@ -20,32 +19,20 @@ returns-2 c = record {
   bounds = tt;
 }
 
-quoted-at-requires : tie.Need-quoted-at-requires
-quoted-at-requires c κs = rw (c .before .b .given .1) at (c .before .before .before .assigned-at .ensures .bounds)
-
 returns-3 : tie.Need-returns-3
 unfolding matchAt
-returns-3 c = record {
-  answer = rw (
-    attribute-row,
-    ← c .before .before .before .before .before .before .class-at .ensures .answer,
-    ne-eqb _ _ (c .before .before .before .before .before .if1 .left),
-    known (c .before .before .before .before .assigned-at .ensures .answer) (c .before .before .b .given .1),
-  )
-      (c .quoted-at .ensures .answer);
-  bounds = c .quoted-at .ensures .bounds;
-}
+returns-3 c =
+    let at-assigned-at = c .before .before .before .before in record {
+      answer = rw (
+        attribute-row,
+        ← at-assigned-at .before .before .class-at .ensures .answer,
+        ne-eqb _ _ (at-assigned-at .before .if1 .left),
+        known (at-assigned-at .assigned-at .ensures .answer) (c .before .before .b .given .1),
+      ) (c .quoted-at .ensures .answer);
+      bounds = c .quoted-at .ensures .bounds;
+    }
 
 pub attribute-at-spec : {M : Type 1} → statement M
-attribute-at-spec =
-    tie.close
-    (tie.spec
-    (λ c κs. search needs)
-    returns
-    (λ c. search needs)
-    (λ c κs. search needs)
-    (λ c. search needs)
-    (λ c. search needs)
-    returns-2
-    quoted-at-requires
-    returns-3)
+attribute-at-spec = tie.close (tie.spec
+    (λ c κs. search needs) returns (λ c. search needs) (λ c κs. search needs) (λ c. search needs) (λ c. search needs) returns-2
+    (λ c κs. rw (c .before .b .given .1) at (c .before .before .before .assigned-at .ensures .bounds)) returns-3)

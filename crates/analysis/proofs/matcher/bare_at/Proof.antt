@@ -1,7 +1,6 @@
 use Rattle.laws.proofs.Prelude.{needs, arith, eq-eqb, ne-eqb}
 use Rattle.analysis.specs.Row.{first}
-use Rattle.analysis.proofs.RowSteps.{bare-row}
-use Rattle.analysis.proofs.matcher.bare_at.Statement.{statement}
+use Rattle.analysis.proofs.{RowSteps.bare-row, matcher.bare_at.Statement.statement}
 use Rattle.analysis.proofs.matcher.bare_at.Tie as tie
 
 returns : tie.Need-returns
@@ -16,5 +15,4 @@ returns-2 c = record {
 }
 
 pub bare-at-spec : {M : Type 1} → statement M
-bare-at-spec =
-    tie.close (tie.spec (λ c κs. search needs) returns (λ c. search needs) (λ c κs. search needs) returns-2)
+bare-at-spec = tie.close (tie.spec (λ c κs. search needs) returns (λ c. search needs) (λ c κs. search needs) returns-2)

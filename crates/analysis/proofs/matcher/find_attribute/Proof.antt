@@ -1,9 +1,7 @@
 use Rattle.laws.proofs.Prelude.{needs, arith, _≡_, sym, _∙_, _≤_, _-_, length, now, known}
-use Rattle.analysis.specs.Row.{find}
-use Rattle.analysis.specs.Patterns.{attributeRow}
+use Rattle.analysis.specs.{Row.find, Patterns.attributeRow}
 use Rattle.analysis.proofs.Search.{leftFrom, left-starts, left-step, left-ends}
-use Rattle.analysis.proofs.RowSteps.{attribute-ends}
-use Rattle.analysis.proofs.matcher.find_attribute.Statement.{statement}
+use Rattle.analysis.proofs.{RowSteps.attribute-ends, matcher.find_attribute.Statement.statement}
 use Rattle.analysis.proofs.matcher.find_attribute.Tie as tie
 
 abbrev Inv-loop : tie.InvT-loop
@@ -17,18 +15,20 @@ loop-holds c = let a = c .before .before .args in (omega arith, sym (left-starts
 
 returns : tie.Need-returns Inv-loop μ-loop
 returns c =
-    let a = c .before .before .before .before .before .before .before .args in
-    let step = left-step (attributeRow (now (a .word))) (now (a .body)) (c .before .before .before .before .loop .i) (c .before .before .before .loop-test .taken) in
+    let at-loop = c .before .before .before .before in
+    let a = at-loop .before .before .before .args in
+    let step = left-step (attributeRow (now (a .word))) (now (a .body)) (at-loop .loop .i) (c .before .before .before .loop-test .taken) in
     record {
-      answer = rw (c .before .before .before .before .loop .inv .1, step, ← c .before .before .attribute-at .ensures .answer, c .enum-told .given .1);
+      answer = rw (at-loop .loop .inv .1, step, ← c .before .before .attribute-at .ensures .answer, c .enum-told .given .1);
       bounds = c .before .before .attribute-at .ensures .bounds;
     }
 
 loop-again : tie.Need-loop-again Inv-loop μ-loop
 loop-again c =
-    let a = c .before .before .before .before .before .before .before .args in
-    let step = left-step (attributeRow (now (a .word))) (now (a .body)) (c .before .before .before .before .loop .i) (c .before .before .before .loop-test .taken) in
-    (omega arith, c .before .before .before .before .loop .inv .1 ∙ step ∙ rw (known (c .before .before .attribute-at .ensures .answer) (c .enum-told2 .given .1)))
+    let at-loop = c .before .before .before .before in
+    let a = at-loop .before .before .before .args in
+    let step = left-step (attributeRow (now (a .word))) (now (a .body)) (at-loop .loop .i) (c .before .before .before .loop-test .taken) in
+    (omega arith, at-loop .loop .inv .1 ∙ step ∙ rw (known (c .before .before .attribute-at .ensures .answer) (c .enum-told2 .given .1)))
 
 returns-2 : tie.Need-returns-2 Inv-loop μ-loop
 returns-2 c =
@@ -44,17 +44,6 @@ returns-2 c =
     }
 
 pub find-attribute-spec : {M : Type 1} → statement M
-find-attribute-spec =
-    tie.close
-    (tie.spec
-    Inv-loop
-    μ-loop
-    loop-holds
-    (λ c κs. omega arith)
-    (λ c. search needs)
-    returns
-    (λ c. search needs)
-    (λ c. omega arith)
-    (λ c. omega arith)
-    loop-again
+find-attribute-spec = tie.close (tie.spec
+    Inv-loop μ-loop loop-holds (λ c κs. omega arith) (λ c. search needs) returns (λ c. search needs) (λ c. omega arith) (λ c. omega arith) loop-again
     returns-2)

@@ -17,11 +17,21 @@ returns-3 c = rw (le-leb _ _ (c .before .before .if1 .left), lt-leb _ _ (c .befo
 
 returns-4 : tie.Need-returns-4
 unfolding foldCase
-returns-4 c = rw (le-leb _ _ (c .before .before .before .if1 .left), lt-leb _ _ (c .before .before .if2 .left), ne-eqb _ _ (c .before .if3 .left), eq-eqb _ _ (c .if4 .taken))
+returns-4 c = rw (
+  le-leb _ _ (c .before .before .before .if1 .left),
+  lt-leb _ _ (c .before .before .if2 .left),
+  ne-eqb _ _ (c .before .if3 .left),
+  eq-eqb _ _ (c .if4 .taken),
+)
 
 returns-5 : tie.Need-returns-5
 unfolding foldCase
-returns-5 c = rw (le-leb _ _ (c .before .before .before .if1 .left), lt-leb _ _ (c .before .before .if2 .left), ne-eqb _ _ (c .before .if3 .left), ne-eqb _ _ (c .if4 .left))
+returns-5 c = rw (
+  le-leb _ _ (c .before .before .before .if1 .left),
+  lt-leb _ _ (c .before .before .if2 .left),
+  ne-eqb _ _ (c .before .if3 .left),
+  ne-eqb _ _ (c .if4 .left),
+)
 
 pub fold-case-spec : {M : Type 1} → statement M
 fold-case-spec = tie.close (tie.spec returns (λ c. search needs) returns-2 returns-3 returns-4 returns-5)

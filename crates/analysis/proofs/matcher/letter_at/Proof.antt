@@ -1,11 +1,11 @@
 use Rattle.laws.proofs.Prelude.{needs, arith, now, eq-eqb, ne-eqb}
-use Rattle.analysis.proofs.Spelling.{ascii-letter}
-use Rattle.analysis.proofs.matcher.letter_at.Statement.{statement}
+use Rattle.analysis.proofs.{Spelling.ascii-letter, matcher.letter_at.Statement.statement}
 use Rattle.analysis.proofs.matcher.letter_at.Tie as tie
 
 returns-2 : tie.Need-returns-2
 returns-2 c =
-    let a = c .before .before .before .before .before .before .before .args in
+    let start = c .before .before .before .before .before .before .before in
+    let a = start .args in
     let letter = ascii-letter (a .letter) (now (a .s)) (a .at) (omega arith) (omega arith) in
     record {
       answer = rw (letter, ← c .before .before .fold-case .ensures, ← c .before .fold-case2 .ensures, eq-eqb _ _ (c .if3 .taken));
@@ -14,7 +14,8 @@ returns-2 c =
 
 returns-3 : tie.Need-returns-3
 returns-3 c =
-    let a = c .before .before .before .before .before .before .before .args in
+    let start = c .before .before .before .before .before .before .before in
+    let a = start .args in
     let letter = ascii-letter (a .letter) (now (a .s)) (a .at) (omega arith) (omega arith) in
     record {
       answer = rw (letter, ← c .before .before .fold-case .ensures, ← c .before .fold-case2 .ensures, ne-eqb _ _ (c .if3 .left));
@@ -22,16 +23,6 @@ returns-3 c =
     }
 
 pub letter-at-spec : {M : Type 1} → statement M
-letter-at-spec =
-    tie.close
-    (tie.spec
-    (λ c κs. search needs)
-    (λ c. search needs)
-    (λ c. search needs)
-    (λ c. search needs)
-    (λ c κs. search needs)
-    (λ c κs. search needs)
-    returns-2
-    returns-3
-    (λ c κs. search needs)
-    (λ c. search needs))
+letter-at-spec = tie.close (tie.spec
+    (λ c κs. search needs) (λ c. search needs) (λ c. search needs) (λ c. search needs) (λ c κs. search needs) (λ c κs. search needs) returns-2 returns-3
+    (λ c κs. search needs) (λ c. search needs))

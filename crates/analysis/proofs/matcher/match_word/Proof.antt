@@ -10,13 +10,11 @@ Inv-loop s at word i₀ k₀ i k = (i ≤ length s) × (k ≤ length word) × (w
 abbrev μ-loop : tie.MeasureT-loop
 μ-loop s at word i₀ k₀ i k = length word - k
 
-loop-holds : tie.Need-loop-holds Inv-loop μ-loop
-loop-holds c = (c .before .before .pre, omega arith, refl)
-
 returns : tie.Need-returns Inv-loop μ-loop
 returns c =
-    let a = c .before .before .before .before .before .before .before .args in
-    let l = c .before .before .before .before .loop in
+    let at-loop = c .before .before .before .before in
+    let a = at-loop .before .before .before .args in
+    let l = at-loop .loop in
     record {
       answer = sym (word-misses (now (a .word)) (now (a .s)) (l .k) (l .i) (omega arith) (c .before .letter-at .ensures .answer) (c .if1 .taken)) ∙ l .inv .2;
       bounds = tt;
@@ -24,9 +22,13 @@ returns c =
 
 loop-again : tie.Need-loop-again Inv-loop μ-loop
 loop-again c =
-    let a = c .before .before .before .before .before .before .before .args in
-    let l = c .before .before .before .before .loop in
-    (omega arith, omega arith, sym (word-goes-on (now (a .word)) (now (a .s)) (l .k) (l .i) (omega arith) (c .before .letter-at .ensures .answer) (c .if1 .left)) ∙ l .inv .2)
+    let at-loop = c .before .before .before .before in
+    let a = at-loop .before .before .before .args in
+    let l = at-loop .loop in (
+      omega arith,
+      omega arith,
+      sym (word-goes-on (now (a .word)) (now (a .s)) (l .k) (l .i) (omega arith) (c .before .letter-at .ensures .answer) (c .if1 .left)) ∙ l .inv .2,
+    )
 
 returns-2 : tie.Need-returns-2 Inv-loop μ-loop
 returns-2 c =
@@ -35,17 +37,6 @@ returns-2 c =
     record { answer = sym (word-ends (now (a .word)) (now (a .s)) (l .k) (l .i) (c .loop-test .left)) ∙ l .inv .2; bounds = l .inv .0 }
 
 pub match-word-spec : {M : Type 1} → statement M
-match-word-spec =
-    tie.close
-    (tie.spec
-    Inv-loop
-    μ-loop
-    loop-holds
-    (λ c. omega arith)
-    (λ c κs. omega arith)
-    returns
-    (λ c. omega arith)
-    (λ c. omega arith)
-    (λ c. omega arith)
-    loop-again
-    returns-2)
+match-word-spec = tie.close (tie.spec
+    Inv-loop μ-loop (λ c. (c .before .before .pre, omega arith, refl)) (λ c. omega arith) (λ c κs. omega arith) returns (λ c. omega arith) (λ c. omega arith)
+    (λ c. omega arith) loop-again returns-2)

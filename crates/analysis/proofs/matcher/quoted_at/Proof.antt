@@ -1,7 +1,6 @@
 use Rattle.laws.proofs.Prelude.{needs, arith, eq-eqb, ne-eqb}
 use Rattle.analysis.specs.Row.{first}
-use Rattle.analysis.proofs.RowSteps.{quoted-row}
-use Rattle.analysis.proofs.matcher.quoted_at.Statement.{statement}
+use Rattle.analysis.proofs.{RowSteps.quoted-row, matcher.quoted_at.Statement.statement}
 use Rattle.analysis.proofs.matcher.quoted_at.Tie as tie
 
 returns : tie.Need-returns
@@ -37,13 +36,4 @@ returns-3 c = record {
 }
 
 pub quoted-at-spec : {M : Type 1} → statement M
-quoted-at-spec =
-    tie.close
-    (tie.spec
-    (λ c κs. search needs)
-    returns
-    (λ c. search needs)
-    (λ c κs. search needs)
-    (λ c κs. search needs)
-    returns-2
-    returns-3)
+quoted-at-spec = tie.close (tie.spec (λ c κs. search needs) returns (λ c. search needs) (λ c κs. search needs) (λ c κs. search needs) returns-2 returns-3)

@@ -1,7 +1,6 @@
 use Rattle.laws.proofs.Prelude.{needs, arith, _≡_, drop, length-drop, now, eq-eqb, ne-eqb}
 use Rattle.analysis.specs.Letters.{letterAt}
-use Rattle.analysis.proofs.Spelling.{letter-fits}
-use Rattle.analysis.proofs.matcher.wide_letter_at.Statement.{statement}
+use Rattle.analysis.proofs.{Spelling.letter-fits, matcher.wide_letter_at.Statement.statement}
 use Rattle.analysis.proofs.matcher.wide_letter_at.Tie as tie
 
 returns : tie.Need-returns
@@ -26,5 +25,4 @@ returns-2 c = record {
 }
 
 pub wide-letter-at-spec : {M : Type 1} → statement M
-wide-letter-at-spec =
-    tie.close (tie.spec (λ c κs. search needs) (λ c κs. search needs) (λ c κs. search needs) returns returns-2)
+wide-letter-at-spec = tie.close (tie.spec (λ c κs. search needs) (λ c κs. search needs) (λ c κs. search needs) returns returns-2)

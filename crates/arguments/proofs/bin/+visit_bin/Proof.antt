@@ -1,23 +1,21 @@
-use Rattle.laws.proofs.Prelude.{ℕ, _<_, arith, needs, In, Measures, told}
-use borrow.Fn.PlainCycle.{is, falls, and}
+use Rattle.laws.proofs.Prelude.{ℕ, arith, needs, In, Measures, told, At, Below}
 use Rattle.sheet_nodes.proofs.check.check_node.Reads as check-node
 use Rattle.arguments.proofs.Chains.{checked-refused, string-counted, template-chain, plus-unknown, at-right, plus-counted}
 use Rattle.arguments.proofs.bin.visit_bin.Reads as visit-bin
 use Rattle.arguments.proofs.bin.visit_bin.Kinds as visit-bin-kinds
 use Rattle.arguments.proofs.bin.+visit_bin.Lts-visit_bin as visit-bin-lts
 use Rattle.arguments.proofs.expression.read_expression.Reads as read-expression
-use Rattle.arguments.proofs.bin.+visit_bin.{statement}
-use Rattle.arguments.proofs.bin.+visit_bin.Tie.{close}
+use Rattle.arguments.proofs.bin.+visit_bin.{statement, Tie.close}
 
 -- the levels that are left
 abbrev μ-visit-bin : Measures 2 visit-bin-kinds.ps ℕ
 μ-visit-bin κs a = a .1 .1 .1 .0
 
 abbrev visit-bin-at : ℕ → In 2 visit-bin-kinds.ps
-visit-bin-at t = and 2 visit-bin-kinds.ps (is 2 visit-bin-kinds.ps μ-visit-bin t) visit-bin.Pre
+visit-bin-at = At 2 visit-bin-kinds.ps μ-visit-bin visit-bin.Pre
 
 abbrev visit-bin-below : ℕ → In 2 visit-bin-kinds.ps
-visit-bin-below t = and 2 visit-bin-kinds.ps (falls 2 visit-bin-kinds.ps _<_ μ-visit-bin t) visit-bin.Pre
+visit-bin-below = Below 2 visit-bin-kinds.ps μ-visit-bin visit-bin.Pre
 
 abbrev calls : ℕ → visit-bin-lts.Claims
 calls t = (read-expression.Asked, read-expression.Learnt, visit-bin-below t, visit-bin.Post, check-node.Asked, check-node.Learnt)
@@ -31,12 +29,15 @@ visit-bin-requires t c κs =
     (omega arith, search needs)
 
 sub-check-node : (t : ℕ) → visit-bin-lts.Need-sub-check-node (calls t) (visit-bin-at t) visit-bin.Post
-sub-check-node t c = (rw (c .before .before .before .before .before .next2 .given .1) at (c .before .before .before .before .before .before .before .read-expression .ensures .bounds))
+sub-check-node t c =
+    let at-next2 = c .before .before .before .before .before in
+    (rw (at-next2 .next2 .given .1) at (at-next2 .before .before .read-expression .ensures .bounds))
 
 add-t18 : (t : ℕ) → visit-bin-lts.Need-add-t18 (calls t) (visit-bin-at t) visit-bin.Post
 add-t18 t c =
-    let past = rw (c .before .before .before .before .before .before .before .before .before .next2 .given .1) at (c .before .before .before .before .before .before .before .before .before .before .before .read-expression .ensures .bounds) in
-    let most = rw (c .before .before .before .before .before .n .given .1) at (c .before .before .before .before .before .before .before .visit-bin .ensures .bounds) in
+    let at-n = c .before .before .before .before .before in let at-next2 = at-n .before .before .before .before in
+    let past = rw (at-next2 .next2 .given .1) at (at-next2 .before .before .read-expression .ensures .bounds) in
+    let most = rw (at-n .n .given .1) at (at-n .before .before .visit-bin .ensures .bounds) in
     omega arith
 
 returns : (t : ℕ) → visit-bin-lts.Need-returns (calls t) (visit-bin-at t) visit-bin.Post
@@ -54,26 +55,32 @@ returns-2 t c = record {
 }
 
 returns-3 : (t : ℕ) → visit-bin-lts.Need-returns-3 (calls t) (visit-bin-at t) visit-bin.Post
-returns-3 t c = record {
-  answer = λ n u e. plus-unknown (rw (c .before .before .before .before .next2 .given .1) at (c .before .before .before .before .before .before .read-expression .ensures .answer n u e)) (rw (c .enum-told2 .given .1) at (c .before .before .visit-bin .ensures .answer));
-  bounds = tt;
-}
+returns-3 t c =
+    let at-next2 = c .before .before .before .before in record {
+      answer = λ n u e. plus-unknown (rw (at-next2 .next2 .given .1) at (at-next2 .before .before .read-expression .ensures .answer n u e))
+          (rw (c .enum-told2 .given .1) at (c .before .before .visit-bin .ensures .answer));
+      bounds = tt;
+    }
 
 returns-4 : (t : ℕ) → visit-bin-lts.Need-returns-4 (calls t) (visit-bin-at t) visit-bin.Post
-returns-4 t c = record {
-  answer = λ n u e.
-      let plus = rw (c .before .before .before .before .before .before .before .before .next2 .given .1) at (c .before .before .before .before .before .before .before .before .before .before .read-expression .ensures .answer n u e) in
-      absurd (checked-refused (at-right plus (rw (c .before .before .before .before .n .given .1) at (c .before .before .before .before .before .before .visit-bin .ensures .answer))) (told (c .before .before .check-node .ensures) (c .enum-told3 .given .1)));
-  bounds = tt;
-}
+returns-4 t c =
+    let at-n = c .before .before .before .before in let at-next2 = at-n .before .before .before .before in record {
+      answer = λ n u e.
+          let plus = rw (at-next2 .next2 .given .1) at (at-next2 .before .before .read-expression .ensures .answer n u e) in
+          absurd (checked-refused (at-right plus (rw (at-n .n .given .1) at (at-n .before .before .visit-bin .ensures .answer)))
+          (told (c .before .before .check-node .ensures) (c .enum-told3 .given .1)));
+      bounds = tt;
+    }
 
 returns-5 : (t : ℕ) → visit-bin-lts.Need-returns-5 (calls t) (visit-bin-at t) visit-bin.Post
 returns-5 t c =
-    let past = rw (c .before .before .before .before .before .before .before .before .before .next2 .given .1) at (c .before .before .before .before .before .before .before .before .before .before .before .read-expression .ensures .bounds) in
-    let most = rw (c .before .before .before .before .before .n .given .1) at (c .before .before .before .before .before .before .before .visit-bin .ensures .bounds) in record {
+    let at-n = c .before .before .before .before .before in let at-next2 = at-n .before .before .before .before in
+    let past = rw (at-next2 .next2 .given .1) at (at-next2 .before .before .read-expression .ensures .bounds) in
+    let most = rw (at-n .n .given .1) at (at-n .before .before .visit-bin .ensures .bounds) in record {
       answer = λ n u e.
-          let plus = rw (c .before .before .before .before .before .before .before .before .before .next2 .given .1) at (c .before .before .before .before .before .before .before .before .before .before .before .read-expression .ensures .answer n u e) in
-          plus-counted plus (rw (c .before .before .before .before .before .n .given .1) at (c .before .before .before .before .before .before .before .visit-bin .ensures .answer)) (told (c .before .before .before .check-node .ensures) (c .before .next3 .given .1));
+          let plus = rw (at-next2 .next2 .given .1) at (at-next2 .before .before .read-expression .ensures .answer n u e) in
+          plus-counted plus (rw (at-n .n .given .1) at (at-n .before .before .visit-bin .ensures .answer))
+          (told (c .before .before .before .check-node .ensures) (c .before .next3 .given .1));
       bounds = omega arith;
     }
 
@@ -85,26 +92,8 @@ returns-6 t c = record {
 
 pub +visit-bin-spec : {M : Type 1} → statement M
 +visit-bin-spec =
-    close
-    μ-visit-bin
+    close μ-visit-bin
     (λ t. visit-bin-lts.spec (calls t) (visit-bin-at t) visit-bin.Post
-    (λ c κs. search needs)
-    (λ c. search needs)
-    (λ c. search needs)
-    (λ c. search needs)
-    (sub-visit-bin t)
-    (visit-bin-requires t)
-    (λ c. search needs)
-    (λ c. search needs)
-    (sub-check-node t)
-    (λ c κs. search needs)
-    (λ c. search needs)
-    (λ c. search needs)
-    (add-t18 t)
-    (λ c. search needs)
-    (returns t)
-    (returns-2 t)
-    (returns-3 t)
-    (returns-4 t)
-    (returns-5 t)
-    (returns-6 t))
+    (λ c κs. search needs) (λ c. search needs) (λ c. search needs) (λ c. search needs) (sub-visit-bin t) (visit-bin-requires t) (λ c. search needs)
+    (λ c. search needs) (sub-check-node t) (λ c κs. search needs) (λ c. search needs) (λ c. search needs) (add-t18 t) (λ c. search needs) (returns t)
+    (returns-2 t) (returns-3 t) (returns-4 t) (returns-5 t) (returns-6 t))

@@ -12,13 +12,5 @@ returns c = rw (
 ) (c .before .before .before .put-lossy-text .ensures .answer)
 
 pub put-string-spec : {M : Type 1} → statement M
-put-string-spec =
-    tie.close
-    (tie.spec
-    (λ c κs. search needs)
-    (λ c. search needs)
-    (λ c. search needs)
-    (λ c. search needs)
-    (λ c κs. search needs)
-    (λ c. search needs)
-    returns)
+put-string-spec = tie.close (tie.spec
+    (λ c κs. search needs) (λ c. search needs) (λ c. search needs) (λ c. search needs) (λ c κs. search needs) (λ c. search needs) returns)

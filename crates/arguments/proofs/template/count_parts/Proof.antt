@@ -2,12 +2,10 @@ use Rattle.laws.proofs.Prelude.{_≡_, ap, List, [], ℕ, _+_, _*_, _≤_, arit
 use Rattle.laws.specs.Decoded.{ok}
 use Rattle.text.proofs.Ones.{one-most}
 use Rattle.wire.specs.Number.{largest}
-use Rattle.sheet.specs.Tree.{Pieces}
-use Rattle.sheet.specs.Nodes.{many, piece}
+use Rattle.sheet.specs.{Tree.Pieces, Nodes.many, Nodes.piece}
 use Rattle.sheet_heads.proofs.Many.{many-refused, many-end}
 use Rattle.arguments.specs.Argument.{templateParts}
-use Rattle.arguments.proofs.Pieces.{piece-next, hole-count}
-use Rattle.arguments.proofs.template.count_parts.Statement.{statement}
+use Rattle.arguments.proofs.{Pieces.piece-next, Pieces.hole-count, template.count_parts.Statement.statement}
 use Rattle.arguments.proofs.template.count_parts.Tie as tie
 
 -- the parts of the pieces that are left, behind those that were counted
@@ -20,44 +18,45 @@ Inv-loop sheet holes left₀ at₀ parts₀ left at parts =
 abbrev μ-loop : tie.MeasureT-loop
 μ-loop sheet holes left₀ at₀ parts₀ left at parts = left
 
-loop-holds : tie.Need-loop-holds Inv-loop μ-loop
-loop-holds c = (omega arith, λ ps u e. (ps, e, omega arith))
-
 returns : tie.Need-returns Inv-loop μ-loop
 returns c ps u e =
-    let s = now (c .before .before .before .before .before .before .args .sheet) in
-    let l = c .before .before .before .before .loop in
+    let at-loop = c .before .before .before .before in
+    let s = now (at-loop .before .before .args .sheet) in
+    let l = at-loop .loop in
     let (qs, read, total) = l .inv .1 ps u e in
-    absurd (many-refused [] piece (l .left) (drop (l .at .at) s) (c .before .before .before .loop-test .taken) (told (c .before .before .read-piece .ensures) (c .enum-told .given .1)) read)
+    absurd (many-refused [] piece (l .left) (drop (l .at .at) s) (c .before .before .before .loop-test .taken)
+    (told (c .before .before .read-piece .ensures) (c .enum-told .given .1)) read)
 
 add-parts-2 : tie.Need-add-parts-2 Inv-loop μ-loop
 add-parts-2 c = omega (arith, one-most (ltb 1 (c .before .before .before .before .before .before .before .loop .left)))
 
 loop-again : tie.Need-loop-again Inv-loop μ-loop
 loop-again c =
-    let s = now (c .before .before .before .before .before .before .before .before .before .args .sheet) in
-    let l = c .before .before .before .before .before .before .before .loop in
-    let is = told (c .before .before .before .before .before .read-piece .ensures) (c .before .before .before .from .given .1) in
-    let past = bounded (c .before .before .before .before .before .read-piece .ensures) (c .before .before .before .from .given .1) in (
-      omega (arith, one-most (ltb 1 (c .before .before .before .before .before .before .before .loop .left))),
+    let at-read-piece = c .before .before .before .before .before in
+    let s = now (at-read-piece .before .before .before .before .args .sheet) in
+    let l = at-read-piece .before .before .loop in
+    let is = told (at-read-piece .read-piece .ensures) (c .before .before .before .from .given .1) in
+    let past = bounded (at-read-piece .read-piece .ensures) (c .before .before .before .from .given .1) in (
+      omega (arith, one-most (ltb 1 (at-read-piece .before .before .loop .left))),
       λ ps u e.
           let (qs, read, total) = l .inv .1 ps u e in
-          let (rs, behind, parts) = piece-next (l .left) (drop (l .at .at) s) (c .before .before .before .before .before .before .loop-test .taken) is read in
-          (rs, behind, omega (arith, simp length-append at (ap length parts), c .before .count-piece .ensures .answer s (past .2), hole-count (ltb 1 (l .left)))),
+          let (rs, behind, parts) = piece-next (l .left) (drop (l .at .at) s) (at-read-piece .before .loop-test .taken) is read in (
+            rs,
+            behind,
+            omega (arith, simp length-append at (ap length parts), c .before .count-piece .ensures .answer s (past .2), hole-count (ltb 1 (l .left))),
+          ),
     )
-
-add-parts-3 : tie.Need-add-parts-3 Inv-loop μ-loop
-add-parts-3 c = omega (arith, one-most (ltb 1 (c .before .before .before .before .before .before .loop .left)))
 
 loop-again-2 : tie.Need-loop-again-2 Inv-loop μ-loop
 loop-again-2 c =
-    let s = now (c .before .before .before .before .before .before .before .before .args .sheet) in
-    let l = c .before .before .before .before .before .before .loop in
-    let is = told (c .before .before .before .before .read-piece .ensures) (c .before .before .next .given .1) in (
-      omega (arith, one-most (ltb 1 (c .before .before .before .before .before .before .loop .left))),
+    let at-read-piece = c .before .before .before .before in
+    let s = now (at-read-piece .before .before .before .before .args .sheet) in
+    let l = at-read-piece .before .before .loop in
+    let is = told (at-read-piece .read-piece .ensures) (c .before .before .next .given .1) in (
+      omega (arith, one-most (ltb 1 (at-read-piece .before .before .loop .left))),
       λ ps u e.
           let (qs, read, total) = l .inv .1 ps u e in
-          let (rs, behind, parts) = piece-next (l .left) (drop (l .at .at) s) (c .before .before .before .before .before .loop-test .taken) is read in
+          let (rs, behind, parts) = piece-next (l .left) (drop (l .at .at) s) (at-read-piece .before .loop-test .taken) is read in
           (rs, behind, omega (arith, simp length-append at (ap length parts), hole-count (ltb 1 (l .left)))),
     )
 
@@ -70,28 +69,8 @@ returns-2 c ps u e =
     omega arith
 
 pub count-parts-spec : {M : Type 1} → statement M
-count-parts-spec =
-    tie.close
-    (tie.spec
-    Inv-loop
-    μ-loop
-    (λ c. search needs)
-    loop-holds
-    (λ c κs. search needs)
-    (λ c. search needs)
-    returns
-    (λ c. search needs)
-    (λ c κs. search needs)
-    (λ c. search needs)
-    (λ c κs. search needs)
-    add-parts-2
-    (λ c. search needs)
-    (λ c. search needs)
-    loop-again
-    (λ c. search needs)
-    (λ c κs. search needs)
-    add-parts-3
-    (λ c. search needs)
-    (λ c. search needs)
-    loop-again-2
-    returns-2)
+count-parts-spec = tie.close (tie.spec
+    Inv-loop μ-loop (λ c. search needs) (λ c. (omega arith, λ ps u e. (ps, e, omega arith))) (λ c κs. search needs) (λ c. search needs) returns
+    (λ c. search needs) (λ c κs. search needs) (λ c. search needs) (λ c κs. search needs) add-parts-2 (λ c. search needs) (λ c. search needs) loop-again
+    (λ c. search needs) (λ c κs. search needs) (λ c. omega (arith, one-most (ltb 1 (c .before .before .before .before .before .before .loop .left))))
+    (λ c. search needs) (λ c. search needs) loop-again-2 returns-2)

@@ -1,6 +1,5 @@
 use Rattle.laws.proofs.Prelude.{ap, arith, needs, length}
-use Rattle.arguments.proofs.Pieces.{text-part, no-part}
-use Rattle.arguments.proofs.template.count_piece.Statement.{statement}
+use Rattle.arguments.proofs.{Pieces.text-part, Pieces.no-part, template.count_piece.Statement.statement}
 use Rattle.arguments.proofs.template.count_piece.Tie as tie
 
 returns : tie.Need-returns

@@ -1,7 +1,6 @@
 use Rattle.laws.proofs.Prelude.{sym, needs, now, flatMap}
 use Rattle.report.proofs.Buffers.{wrote-nil}
-use Rattle.arguments.proofs.Chains.{encode-one}
-use Rattle.arguments.proofs.template.put_hole.Statement.{statement}
+use Rattle.arguments.proofs.{Chains.encode-one, template.put_hole.Statement.statement}
 use Rattle.arguments.proofs.template.put_hole.Tie as tie
 
 returns : tie.Need-returns

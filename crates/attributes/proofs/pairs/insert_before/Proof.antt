@@ -14,16 +14,14 @@ Inv-loop pairs₀ n i k₀ carried₀ pairs k carried =
 abbrev μ-loop : tie.MeasureT-loop
 μ-loop pairs₀ n i k₀ carried₀ pairs k carried = n - k
 
-loop-holds : tie.Need-loop-holds Inv-loop μ-loop
-loop-holds c = (omega arith, refl, (λ s. refl), (λ m h w. (h, w)))
-
 loop-again : tie.Need-loop-again Inv-loop μ-loop
 loop-again c =
-    let l = c .before .before .before .before .before .before .before .loop in
-    let below = c .before .before .before .before .before .before .loop-test .taken in
+    let at-pair-at = c .before .before .before .before in let start = at-pair-at .before .before .before .before .before in
+    let l = at-pair-at .before .before .before .loop in
+    let below = at-pair-at .before .before .loop-test .taken in
     let same : length (l .pairs) ≡ _ = l .inv .1 in
-    let fits : 5 * l .k + 5 ≤ length (l .pairs) = omega (arith, c .before .before .before .before .before .before .before .before .before .pre) in
-    let old = c .before .before .before .before .pair-at .ensures in
+    let fits : 5 * l .k + 5 ≤ length (l .pairs) = omega (arith, start .pre) in
+    let old = at-pair-at .pair-at .ensures in
     let stored = c .before .before .store-pair .ensures in
     let kept = c .before .before .store-pair .kept .0 in (
       omega arith,
@@ -42,11 +40,12 @@ loop-again c =
 
 returns : tie.Need-returns Inv-loop μ-loop
 returns c =
-    let l = c .before .before .before .before .before .loop in
-    let n = c .before .before .before .before .before .before .before .args .n in
-    let all : l .k ≡ n = omega (arith, l .inv .0, c .before .before .before .before .loop-test .left) in
+    let at-loop = c .before .before .before .before in
+    let l = at-loop .before .loop in
+    let n = at-loop .before .before .before .args .n in
+    let all : l .k ≡ n = omega (arith, l .inv .0, at-loop .loop-test .left) in
     let same : length (l .pairs) ≡ _ = l .inv .1 in
-    let fits : 5 * n + 5 ≤ length (l .pairs) = omega (arith, c .before .before .before .before .before .before .before .pre) in
+    let fits : 5 * n + 5 ≤ length (l .pairs) = omega (arith, at-loop .before .before .before .pre) in
     let stored = c .before .before .store-pair2 .ensures in record {
       answer = λ s. stored-last (l .pairs) n (l .carried) fits stored s n refl ∙ (rw all at (l .inv .2 s));
       bounds = λ m h w.
@@ -59,17 +58,6 @@ returns c =
     }
 
 pub insert-before-spec : {M : Type 1} → statement M
-insert-before-spec =
-    tie.close
-    (tie.spec
-    Inv-loop
-    μ-loop
-    loop-holds
-    (λ c κs. search needs)
-    (λ c κs. search needs)
-    (λ c. search needs)
-    (λ c. search needs)
-    loop-again
-    (λ c κs. search needs)
-    (λ c. search needs)
-    returns)
+insert-before-spec = tie.close (tie.spec
+    Inv-loop μ-loop (λ c. (omega arith, refl, (λ s. refl), (λ m h w. (h, w)))) (λ c κs. search needs) (λ c κs. search needs) (λ c. search needs)
+    (λ c. search needs) loop-again (λ c κs. search needs) (λ c. search needs) returns)

@@ -18,21 +18,7 @@ returns-5 : tie.Need-returns-5
 returns-5 c = rw (c .before .before .before .before .p .given .1, known (c .before .is-exact .ensures .answer) (c .if1 .left))
 
 pub prop-of-spec : {M : Type 1} → statement M
-prop-of-spec =
-    tie.close
-    (tie.spec
-    (λ c. search needs)
-    (λ c. search needs)
-    (λ c. search needs)
-    (λ c. search needs)
-    sub-is-exact
-    part-is-exact-start
-    part-is-exact-end
-    (λ c κs. search needs)
-    returns
-    (λ c. search needs)
-    (λ c. rw (c .enum-told .given .1))
-    (λ c. rw (c .enum-told2 .given .1))
-    (λ c. rw (c .enum-told3 .given .1))
-    returns-5
+prop-of-spec = tie.close (tie.spec
+    (λ c. search needs) (λ c. search needs) (λ c. search needs) (λ c. search needs) sub-is-exact part-is-exact-start part-is-exact-end (λ c κs. search needs)
+    returns (λ c. search needs) (λ c. rw (c .enum-told .given .1)) (λ c. rw (c .enum-told2 .given .1)) (λ c. rw (c .enum-told3 .given .1)) returns-5
     (λ c. rw (c .before .p2 .given .1)))

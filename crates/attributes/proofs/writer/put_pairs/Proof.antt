@@ -1,9 +1,6 @@
 use Rattle.laws.proofs.Prelude.{needs, _≡_, refl, sym, _∙_, _+_, _-_, sub-zero, arith, length, now, flatMap}
-use Rattle.sheet.specs.code.Tables.{rows}
-use Rattle.sheet.proofs.TableRows.{rows-first}
-use Rattle.report.specs.Encode.{encodeKeyValue}
-use Rattle.report.specs.Buffer.{wrote, bufferAs}
-use Rattle.report.proofs.Buffers.{wrote-append, wrote-nil}
+use Rattle.sheet.{specs.code.Tables.rows, proofs.TableRows.rows-first}
+use Rattle.report.{specs.Encode.encodeKeyValue, specs.Buffer.wrote, specs.Buffer.bufferAs, proofs.Buffers.wrote-append, proofs.Buffers.wrote-nil}
 use Rattle.attributes.specs.code.Views.{pairIn, pairsFrom, pairsIn}
 use Rattle.attributes.proofs.writer.put_pairs.Statement.{statement}
 use Rattle.attributes.proofs.writer.put_pairs.Tie as tie
@@ -11,13 +8,11 @@ use Rattle.attributes.proofs.writer.put_pairs.Tie as tie
 abbrev Inv-loop : tie.InvT-loop
 Inv-loop sheet pairs n out₀ p₀ k₀ out p k =
     (length out ≡ length out₀)
-    × (wrote (bufferAs out₀ p₀) (flatMap encodeKeyValue (pairsIn sheet pairs n)) ≡ wrote (bufferAs out p) (flatMap encodeKeyValue (pairsFrom sheet pairs k (n - k))))
+    × (wrote (bufferAs out₀ p₀) (flatMap encodeKeyValue (pairsIn sheet pairs n))
+    ≡ wrote (bufferAs out p) (flatMap encodeKeyValue (pairsFrom sheet pairs k (n - k))))
 
 abbrev μ-loop : tie.MeasureT-loop
 μ-loop sheet pairs n out₀ p₀ k₀ out p k = n - k
-
-loop-holds : tie.Need-loop-holds Inv-loop μ-loop
-loop-holds c = (refl, rw sub-zero)
 
 pair-at-requires : tie.Need-pair-at-requires Inv-loop μ-loop
 pair-at-requires c κs =
@@ -25,15 +20,18 @@ pair-at-requires c κs =
     omega (arith, pairs .long, pairs .most)
 
 put-pair-requires : tie.Need-put-pair-requires Inv-loop μ-loop
-put-pair-requires c κs = rw (c .before .pair-at .ensures) (c .before .before .before .before .before .before .before .pre .parts _ (c .before .before .loop-test .taken))
+put-pair-requires c κs =
+    let start = c .before .before .before .before .before .before .before in
+    rw (c .before .pair-at .ensures) (start .pre .parts _ (c .before .before .loop-test .taken))
 
 loop-again : tie.Need-loop-again Inv-loop μ-loop
 unfolding flatMap
 loop-again c =
-    let l = c .before .before .before .before .before .before .loop in
-    let a = c .before .before .before .before .before .before .before .before .before .before .args in
+    let at-pair-at = c .before .before .before .before in let start = at-pair-at .before .before .before .before .before .before in
+    let l = at-pair-at .before .before .loop in
+    let a = start .args in
     let down : a .n - l .k - 1 ≡ a .n - (l .k + 1) = omega arith in
-    let wrote-pair = rw (c .before .before .before .before .pair-at .ensures) at (c .before .before .put-pair .ensures) in (
+    let wrote-pair = rw (at-pair-at .pair-at .ensures) at (c .before .before .put-pair .ensures) in (
       c .before .before .put-pair .kept .1 .1 .0 ∙ l .inv .0,
       l .inv .1 ∙ rw (rows-first (pairIn (now (a .sheet)) (now (a .pairs))) (l .k) (a .n - l .k) (omega arith), down, wrote-append, ← wrote-pair),
     )
@@ -46,16 +44,6 @@ returns c =
     sym (l .inv .1 ∙ rw none (wrote-nil (l .out) (l .p)))
 
 pub put-pairs-spec : {M : Type 1} → statement M
-put-pairs-spec =
-    tie.close
-    (tie.spec
-    Inv-loop
-    μ-loop
-    loop-holds
-    pair-at-requires
-    put-pair-requires
-    (λ c. search needs)
-    (λ c. search needs)
-    loop-again
-    (λ c. search needs)
+put-pairs-spec = tie.close (tie.spec
+    Inv-loop μ-loop (λ c. (refl, rw sub-zero)) pair-at-requires put-pair-requires (λ c. search needs) (λ c. search needs) loop-again (λ c. search needs)
     returns)

@@ -1,13 +1,10 @@
 use Rattle.laws.proofs.Prelude.{needs, _≡_, refl, sym, _∙_, List, [], _++_, append-nil, flatMap, ℕ, _+_, _*_, _≤_, arith, length, getD, drop, now}
 use Rattle.laws.specs.Codec.{All}
-use Rattle.report.specs.Buffer.{bufferAs}
-use Rattle.report.proofs.Buffers.{wrote-nil}
-use Rattle.citation.specs.Citation.{Line, citeEach}
-use Rattle.citation.specs.code.Cites.{Printed}
+use Rattle.report.{specs.Buffer.bufferAs, proofs.Buffers.wrote-nil}
+use Rattle.citation.specs.{Citation.Line, Citation.citeEach, code.Cites.Printed}
 use Rattle.citation.specs.code.Items.{Item, encodeItem, ValidItem, citeItem}
 use Rattle.report_reader.proofs.Lists.{Stand, next-item, no-item}
-use Rattle.citation.proofs.Printing.{both, cite-next}
-use Rattle.citation.proofs.cite.cite_items.Statement.{statement}
+use Rattle.citation.proofs.{Printing.both, Printing.cite-next, cite.cite_items.Statement.statement}
 use Rattle.citation.proofs.cite.cite_items.Tie as tie
 
 abbrev Inv-loop : tie.InvT-loop
@@ -32,23 +29,33 @@ loop-holds c =
 
 loop-again : tie.Need-loop-again Inv-loop μ-loop
 loop-again c =
-    let a = c .before .before .before .before .before .before .before .before .before .before .before .before .before .args in
-    let i = c .before .before .before .before .before .before .before .before .loop in
-    let item = c .before .before .before .before .cite-item in (
+    let at-cite-item = c .before .before .before .before in let at-loop = at-cite-item .before .before .before .before in
+    let start = at-loop .before .before .before .before .before in
+    let a = start .args in
+    let i = at-loop .loop in
+    let item = at-cite-item .cite-item in (
       item .kept .1 .1 .1 .1 .1 .0 ∙ i .inv .0,
-      omega (arith, i .inv .1, item .ensures .bounds, c .before .before .before .before .before .before .before .loop-test .taken),
-      omega (arith, i .inv .2, c .before .before .before .before .before .before .before .loop-test .taken),
+      omega (arith, i .inv .1, item .ensures .bounds, at-cite-item .before .before .before .loop-test .taken),
+      omega (arith, i .inv .2, at-cite-item .before .before .before .loop-test .taken),
       λ l v t e.
           let (l, done, p, q, r) = i .inv .3 l v t e in
-          let (x, l, same, v, e, on) = next-item (encodeItem (a .kind)) (ValidItem (a .kind)) (now (a .report)) t (i .next) (i .left) l (c .before .before .before .before .before .before .before .loop-test .taken) p in
-          let (o, e) = item .ensures .answer x v _ e in
-          (l, done ++ citeItem (a .kind) (getD (now (a .numbers)) (i .row + 1) 0) x, on (item .result .next) e, both q (rw (c .before .before .before .before .before .before .number-at .ensures) at o), r ∙ cite-next (citeItem (a .kind)) (now (a .numbers)) (i .row) done same),
+          let (x, l, same, v, e, on) = next-item (encodeItem (a .kind)) (ValidItem (a .kind)) (now (a .report)) t (i .next) (i .left) l
+          (at-cite-item .before .before .before .loop-test .taken) p in
+          let (o, e) = item .ensures .answer x v _ e in (
+            l,
+            done ++ citeItem (a .kind) (getD (now (a .numbers)) (i .row + 1) 0) x,
+            on (item .result .next) e,
+            both q (rw (at-cite-item .before .before .number-at .ensures) at o),
+            r ∙
+                cite-next (citeItem (a .kind)) (now (a .numbers)) (i .row) done same,
+          ),
     )
 
 returns : tie.Need-returns Inv-loop μ-loop
 unfolding flatMap
 returns c =
-    let a = c .before .before .before .before .before .before .args in
+    let start = c .before .before .before .before .before .before in
+    let a = start .args in
     let i = c .before .loop in record {
       answer = λ l v t e.
           let (l, done, p, q, r) = i .inv .3 l v t e in
@@ -58,19 +65,6 @@ returns c =
     }
 
 pub cite-items-spec : {M : Type 1} → statement M
-cite-items-spec =
-    tie.close
-    (tie.spec
-    Inv-loop
-    μ-loop
-    loop-holds
-    (λ c. search needs)
-    (λ c κs. search needs)
-    (λ c κs. search needs)
-    (λ c. search needs)
-    (λ c. search needs)
-    (λ c. search needs)
-    (λ c. search needs)
-    loop-again
-    (λ c. search needs)
-    returns)
+cite-items-spec = tie.close (tie.spec
+    Inv-loop μ-loop loop-holds (λ c. search needs) (λ c κs. search needs) (λ c κs. search needs) (λ c. search needs) (λ c. search needs) (λ c. search needs)
+    (λ c. search needs) loop-again (λ c. search needs) returns)

@@ -1,6 +1,5 @@
 use Rattle.laws.proofs.Prelude.{needs, _∙_, [], _∷_, append-assoc, arith}
-use Rattle.analysis.specs.Mode.{modeNumber}
-use Rattle.analysis.proofs.Modes.{number-small}
+use Rattle.analysis.{specs.Mode.modeNumber, proofs.Modes.number-small}
 use Rattle.report.specs.Encode.{encodeSpecifier, encodeJsDoc}
 use Rattle.report_reader.proofs.FromBytes.{byte-read}
 use Rattle.citation.proofs.cite.cite_jsdoc.Statement.{statement}
@@ -9,8 +8,9 @@ use Rattle.citation.proofs.cite.cite_jsdoc.Tie as tie
 returns : tie.Need-returns
 unfolding encodeJsDoc
 returns c =
-    let kind = c .before .before .before .before .before .before .read-number in
-    let line = c .before .before .before .before .cite-specifier in
+    let at-cite-specifier = c .before .before .before .before in
+    let kind = at-cite-specifier .before .before .read-number in
+    let line = at-cite-specifier .cite-specifier in
     let mode = c .before .read-number2 in record {
       answer = λ i v t e.
           let (_, e) = byte-read (kind .ensures) 1 (omega arith) _ e in
@@ -20,11 +20,4 @@ returns c =
     }
 
 pub cite-jsdoc-spec : {M : Type 1} → statement M
-cite-jsdoc-spec =
-    tie.close
-    (tie.spec
-    (λ c κs. search needs)
-    (λ c κs. search needs)
-    (λ c κs. search needs)
-    (λ c. search needs)
-    returns)
+cite-jsdoc-spec = tie.close (tie.spec (λ c κs. search needs) (λ c κs. search needs) (λ c κs. search needs) (λ c. search needs) returns)

@@ -12,10 +12,4 @@ returns c = record {
 }
 
 pub cite-range-spec : {M : Type 1} → statement M
-cite-range-spec =
-    tie.close
-    (tie.spec
-    (λ c κs. search needs)
-    (λ c κs. search needs)
-    (λ c. search needs)
-    returns)
+cite-range-spec = tie.close (tie.spec (λ c κs. search needs) (λ c κs. search needs) (λ c. search needs) returns)

@@ -1,8 +1,6 @@
 use Rattle.laws.proofs.Prelude.{needs, _∙_, [], _∷_, append-assoc, arith}
-use Rattle.analysis.specs.Mode.{modeNumber}
-use Rattle.analysis.proofs.Modes.{number-small}
-use Rattle.report.specs.ModuleInfo.{path, types}
-use Rattle.report.specs.Encode.{encodeSpecifier, encodeReference}
+use Rattle.analysis.{specs.Mode.modeNumber, proofs.Modes.number-small}
+use Rattle.report.specs.{ModuleInfo.path, ModuleInfo.types, Encode.encodeSpecifier, Encode.encodeReference}
 use Rattle.report_reader.proofs.FromBytes.{byte-read}
 use Rattle.citation.proofs.cite.cite_reference.Statement.{statement}
 use Rattle.citation.proofs.cite.cite_reference.Tie as tie
@@ -10,21 +8,23 @@ use Rattle.citation.proofs.cite.cite_reference.Tie as tie
 returns : tie.Need-returns
 unfolding encodeReference
 returns c =
-    let kind = c .before .before .before .before .before .before .read-number in
+    let at-cite-specifier = c .before .before .before .before in
+    let kind = at-cite-specifier .before .before .read-number in
     let byte = byte-read (kind .ensures) in record {
       answer = elim [
-        | path s ↦ λ v t e. c .before .before .before .before .cite-specifier .ensures .answer s v t (byte 0 (omega arith) _ e .1)
+        | path s ↦ λ v t e. at-cite-specifier .cite-specifier .ensures .answer s v t (byte 0 (omega arith) _ e .1)
         | types s mode ↦ λ v t e. absurd (omega (arith, byte 1 (omega arith) _ e .0))
       ];
-      bounds = c .before .before .before .before .cite-specifier .ensures .bounds;
+      bounds = at-cite-specifier .cite-specifier .ensures .bounds;
     }
 
 returns-2 : tie.Need-returns-2
 unfolding encodeReference
 returns-2 c =
-    let kind = c .before .before .before .before .before .before .before .before .read-number in
+    let at-cite-specifier = c .before .before .before .before .before .before in
+    let kind = at-cite-specifier .before .before .read-number in
     let byte = byte-read (kind .ensures) in
-    let line = c .before .before .before .before .before .before .cite-specifier in
+    let line = at-cite-specifier .cite-specifier in
     let read = c .before .read-number2 in record {
       answer = elim [
         | path s ↦ λ v t e. absurd (c .before .before .if1 .left (byte 0 (omega arith) _ e .0))
@@ -36,13 +36,5 @@ returns-2 c =
     }
 
 pub cite-reference-spec : {M : Type 1} → statement M
-cite-reference-spec =
-    tie.close
-    (tie.spec
-    (λ c κs. search needs)
-    (λ c κs. search needs)
-    (λ c. search needs)
-    returns
-    (λ c κs. search needs)
-    (λ c. search needs)
-    returns-2)
+cite-reference-spec = tie.close (tie.spec
+    (λ c κs. search needs) (λ c κs. search needs) (λ c. search needs) returns (λ c κs. search needs) (λ c. search needs) returns-2)

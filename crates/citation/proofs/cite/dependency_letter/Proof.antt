@@ -3,11 +3,6 @@ use Rattle.laws.proofs.Prelude.{eq-eqb, ne-eqb}
 use Rattle.citation.proofs.cite.dependency_letter.Statement.{statement}
 use Rattle.citation.proofs.cite.dependency_letter.Tie as tie
 
-returns : tie.Need-returns
-returns c = rw (eq-eqb (c .before .args .number) 0 (c .if1 .taken))
-
-returns-2 : tie.Need-returns-2
-returns-2 c = rw (ne-eqb (c .before .args .number) 0 (c .if1 .left))
-
 pub dependency-letter-spec : {M : Type 1} → statement M
-dependency-letter-spec = tie.close (tie.spec returns returns-2)
+dependency-letter-spec = tie.close
+    (tie.spec (λ c. rw (eq-eqb (c .before .args .number) 0 (c .if1 .taken))) (λ c. rw (ne-eqb (c .before .args .number) 0 (c .if1 .left))))

@@ -12,30 +12,43 @@ abbrev μ-loop : tie.MeasureT-loop
 
 returns : tie.Need-returns Inv-loop μ-loop
 returns c =
-    let l = c .before .before .before .before .before .loop in
-    let none : foursIn (l .left) (drop (l .i) (now (c .before .before .before .before .before .before .before .args .source))) ≡ 0 = rw (c .if2 .taken) (fours-none _) in
+    let at-loop = c .before .before .before .before .before in
+    let l = at-loop .loop in
+    let none : foursIn (l .left) (drop (l .i) (now (at-loop .before .before .args .source))) ≡ 0 = rw (c .if2 .taken) (fours-none _) in
     record { answer = omega (arith, l .inv .1); bounds = omega (arith, l .inv .0) }
 
 add-count : tie.Need-add-count Inv-loop μ-loop
 add-count c =
-    let l = c .before .before .before .before .before .loop in
-    let b = getD (now (c .before .before .before .before .before .before .before .args .source)) (l .i) 0 in
+    let at-loop = c .before .before .before .before .before in
+    let l = at-loop .loop in
+    let b = getD (now (at-loop .before .before .args .source)) (l .i) 0 in
     omega (arith, l .inv .0, added-few b (c .before .before .units .result) (c .before .before .units .ensures))
 
 loop-again : tie.Need-loop-again Inv-loop μ-loop
 loop-again c =
-    let l = c .before .before .before .before .loop in
-    let s = now (c .before .before .before .before .before .before .args .source) in
+    let at-loop = c .before .before .before .before in
+    let l = at-loop .loop in
+    let s = now (at-loop .before .before .args .source) in
     let inside = c .before .before .before .loop-test .taken in
     let units = c .before .units in
     ⊎-elim
     (λ w. (
       omega (arith, l .inv .0, added-few (getD s (l .i) 0) (units .result) (units .ensures), w .0 .taken, w .1 .left),
-      omega (arith, l .inv .1, ap (λ (k : ℕ). foursIn k (drop (l .i + 1) s)) (w .3), fours-begun s (l .i) (units .result) inside (units .ensures) (l .left) (w .0 .taken) (w .1 .left)),
+      omega (
+        arith,
+        l .inv .1,
+        ap (λ (k : ℕ). foursIn k (drop (l .i + 1) s)) (w .3),
+        fours-begun s (l .i) (units .result) inside (units .ensures) (l .left) (w .0 .taken) (w .1 .left),
+      ),
     ))
     (λ w. (
       omega (arith, l .inv .0),
-      omega (arith, l .inv .1, ap (λ (k : ℕ). foursIn k (drop (l .i + 1) s)) (w .2), fours-gone s (l .i) (units .result) inside (units .ensures) (l .left) (w .0 .left)),
+      omega (
+        arith,
+        l .inv .1,
+        ap (λ (k : ℕ). foursIn k (drop (l .i + 1) s)) (w .2),
+        fours-gone s (l .i) (units .result) inside (units .ensures) (l .left) (w .0 .left),
+      ),
     ))
     (c .if1 .came)
 
@@ -47,19 +60,6 @@ returns-2 c =
     record { answer = omega (arith, l .inv .1); bounds = omega (arith, l .inv .0) }
 
 pub fours-in-spec : {M : Type 1} → statement M
-fours-in-spec =
-    tie.close
-    (tie.spec
-    Inv-loop
-    μ-loop
-    (λ c. (omega arith, omega arith))
-    (λ c. search needs)
-    (λ c κs. search needs)
-    returns
-    (λ c. search needs)
-    add-count
-    (λ c. search needs)
-    (λ c. search needs)
-    (λ c. search needs)
-    loop-again
-    returns-2)
+fours-in-spec = tie.close (tie.spec
+    Inv-loop μ-loop (λ c. (omega arith, omega arith)) (λ c. search needs) (λ c κs. search needs) returns (λ c. search needs) add-count (λ c. search needs)
+    (λ c. search needs) (λ c. search needs) loop-again returns-2)

@@ -10,9 +10,6 @@ Inv-loop source end₀ end = (end ≤ length source) × ((k : ℕ) → end ≤ k
 abbrev μ-loop : tie.MeasureT-loop
 μ-loop source end₀ end = end
 
-loop-holds : tie.Need-loop-holds Inv-loop μ-loop
-loop-holds c = (omega arith, λ k l h. absurd (omega arith))
-
 -- what holds from `end` on and right before it
 down : (P : ℕ → Type 0) (end n : ℕ) → ((k : ℕ) → end ≤ k → k < n → P k) → P (end - 1) → (k : ℕ) → end - 1 ≤ k → k < n → P k
 down P end n h p k l i = by (decLe end k)
@@ -28,16 +25,6 @@ loop-again c =
     (omega arith, down (λ k. beginsFour (getD s k 0) ≡ false) (l .end) (length s) (l .inv .1) (lt-leb 0xF0 (getD s (l .end - 1) 0) (c .if1 .left)))
 
 pub last-four-spec : {M : Type 1} → statement M
-last-four-spec =
-    tie.close
-    (tie.spec
-    Inv-loop
-    μ-loop
-    loop-holds
-    (λ c. search needs)
-    (λ c. search needs)
-    (λ c. search needs)
-    (λ c. search needs)
-    (λ c. search needs)
-    loop-again
-    (λ c. search needs))
+last-four-spec = tie.close (tie.spec
+    Inv-loop μ-loop (λ c. (omega arith, λ k l h. absurd (omega arith))) (λ c. search needs) (λ c. search needs) (λ c. search needs) (λ c. search needs)
+    (λ c. search needs) loop-again (λ c. search needs))

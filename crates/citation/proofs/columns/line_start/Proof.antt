@@ -16,7 +16,8 @@ returns c =
     let found = c .before .next-of .ensures in
     let s = now (c .before .before .before .before .before .args .source) in
     record {
-      answer = sym (l .inv .1 ∙ no-line (l .left) s (l .at) (c .before .next-of .result) (c .before .before .loop-test .taken) (found .passed .to) (found .passed .from) (found .passed .each) (c .if1 .taken));
+      answer = sym (l .inv .1 ∙ no-line (l .left) s (l .at) (c .before .next-of .result) (c .before .before .loop-test .taken) (found .passed .to)
+          (found .passed .from) (found .passed .each) (c .if1 .taken));
       bounds = found .passed .to;
     }
 
@@ -25,8 +26,11 @@ loop-again c =
     let l = c .before .before .before .loop in
     let found = c .before .next-of .ensures in
     let s = now (c .before .before .before .before .before .args .source) in
-    let inside : c .before .next-of .result < length s = omega arith in
-    (omega arith, l .inv .1 ∙ next-line (l .left) s (l .at) (c .before .next-of .result) (c .before .before .loop-test .taken) (found .passed .to) (found .passed .from) (found .passed .each) inside (found .there inside))
+    let inside : c .before .next-of .result < length s = omega arith in (
+      omega arith,
+      l .inv .1 ∙ next-line (l .left) s (l .at) (c .before .next-of .result) (c .before .before .loop-test .taken) (found .passed .to)
+          (found .passed .from) (found .passed .each) inside (found .there inside),
+    )
 
 returns-2 : tie.Need-returns-2 Inv-loop μ-loop
 returns-2 c =
@@ -35,16 +39,6 @@ returns-2 c =
     record { answer = sym (l .inv .1 ∙ rw (none, from-zero)); bounds = l .inv .0 }
 
 pub line-start-spec : {M : Type 1} → statement M
-line-start-spec =
-    tie.close
-    (tie.spec
-    Inv-loop
-    μ-loop
-    (λ c. (omega arith, refl))
-    (λ c κs. search needs)
-    returns
-    (λ c. search needs)
-    (λ c. search needs)
-    (λ c. search needs)
-    loop-again
+line-start-spec = tie.close (tie.spec
+    Inv-loop μ-loop (λ c. (omega arith, refl)) (λ c κs. search needs) returns (λ c. search needs) (λ c. search needs) (λ c. search needs) loop-again
     returns-2)

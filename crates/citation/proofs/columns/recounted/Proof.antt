@@ -12,10 +12,4 @@ returns c =
     }
 
 pub recounted-spec : {M : Type 1} → statement M
-recounted-spec =
-    tie.close
-    (tie.spec
-    (λ c κs. search needs)
-    (λ c κs. search needs)
-    (λ c. search needs)
-    returns)
+recounted-spec = tie.close (tie.spec (λ c κs. search needs) (λ c κs. search needs) (λ c. search needs) returns)

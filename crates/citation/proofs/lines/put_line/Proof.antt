@@ -7,29 +7,24 @@ use Rattle.citation.proofs.lines.put_line.Tie as tie
 returns : tie.Need-returns
 unfolding printed
 returns c =
+    let at-put-text = c .before .before .before .before .before .before in
+    let at-put3 = at-put-text .before .before .before .before in let at-put-range = at-put3 .before .before .before .before in
+    let at-put2 = at-put-range .before .before .before .before in let at-put = at-put2 .before .before .before .before in
     rw (
       wrote-cons,
-      ← (c .before .before .before .before .before .before .before .before .before .before .before .before .before .before .before .before .before .before .before .before .before .before .put .ensures),
+      ← (at-put .put .ensures),
       wrote-cons,
-      ← (c .before .before .before .before .before .before .before .before .before .before .before .before .before .before .before .before .before .before .put2 .ensures),
+      ← (at-put2 .put2 .ensures),
       wrote-append,
-      ← (c .before .before .before .before .before .before .before .before .before .before .before .before .before .before .put-range .ensures),
+      ← (at-put-range .put-range .ensures),
       wrote-cons,
-      ← (c .before .before .before .before .before .before .before .before .before .before .put3 .ensures),
+      ← (at-put3 .put3 .ensures),
       wrote-append,
-      ← (c .before .before .before .before .before .before .put-text .ensures),
+      ← (at-put-text .put-text .ensures),
     )
     (c .before .before .put4 .ensures)
 
 pub put-line-spec : {M : Type 1} → statement M
-put-line-spec =
-    tie.close
-    (tie.spec
-    (λ c κs. search needs)
-    (λ c κs. search needs)
-    (λ c κs. search needs)
-    (λ c κs. search needs)
-    (λ c κs. search needs)
-    (λ c κs. search needs)
-    (λ c. search needs)
-    returns)
+put-line-spec = tie.close (tie.spec
+    (λ c κs. search needs) (λ c κs. search needs) (λ c κs. search needs) (λ c κs. search needs) (λ c κs. search needs) (λ c κs. search needs)
+    (λ c. search needs) returns)

@@ -7,24 +7,18 @@ use Rattle.citation.proofs.lines.put_range.Tie as tie
 returns : tie.Need-returns
 unfolding citeRange
 returns c =
+    let at-recounted2 = c .before .before .before .before in
+    let at-put-position = at-recounted2 .before .before .before .before .before .before .before in
     rw (
-      ← (c .before .before .before .before .before .before .before .before .before .before .before .before .recounted .ensures .answer),
+      ← (at-put-position .before .recounted .ensures .answer),
       wrote-append,
-      ← (c .before .before .before .before .before .before .before .before .before .before .before .put-position .ensures),
+      ← (at-put-position .put-position .ensures),
       wrote-cons,
-      ← (c .before .before .before .before .before .before .before .put .ensures),
-      ← (c .before .before .before .before .recounted2 .ensures .answer),
+      ← (at-recounted2 .before .before .before .put .ensures),
+      ← (at-recounted2 .recounted2 .ensures .answer),
     )
     (c .before .before .put-position2 .ensures)
 
 pub put-range-spec : {M : Type 1} → statement M
-put-range-spec =
-    tie.close
-    (tie.spec
-    (λ c κs. search needs)
-    (λ c κs. search needs)
-    (λ c κs. search needs)
-    (λ c κs. search needs)
-    (λ c κs. search needs)
-    (λ c. search needs)
-    returns)
+put-range-spec = tie.close (tie.spec
+    (λ c κs. search needs) (λ c κs. search needs) (λ c κs. search needs) (λ c κs. search needs) (λ c κs. search needs) (λ c. search needs) returns)

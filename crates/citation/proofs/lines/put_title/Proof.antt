@@ -6,14 +6,10 @@ use Rattle.citation.proofs.lines.put_title.Tie as tie
 
 returns : tie.Need-returns
 unfolding title
-returns c = rw (wrote-append, ← (c .before .before .before .before .before .before .before .before .before .before .put-bytes .ensures), wrote-append, ← (c .before .before .before .before .before .before .put-digits .ensures)) (c .before .before .put .ensures)
+returns c =
+    let at-put-digits = c .before .before .before .before .before .before in
+    let at-put-bytes = at-put-digits .before .before .before .before in
+    rw (wrote-append, ← (at-put-bytes .put-bytes .ensures), wrote-append, ← (at-put-digits .put-digits .ensures)) (c .before .before .put .ensures)
 
 pub put-title-spec : {M : Type 1} → statement M
-put-title-spec =
-    tie.close
-    (tie.spec
-    (λ c κs. search needs)
-    (λ c κs. search needs)
-    (λ c κs. search needs)
-    (λ c. search needs)
-    returns)
+put-title-spec = tie.close (tie.spec (λ c κs. search needs) (λ c κs. search needs) (λ c κs. search needs) (λ c. search needs) returns)

@@ -6,15 +6,19 @@ use Rattle.delivery.proofs.check.check_counted.Tie as tie
 
 returns : tie.Need-returns
 returns c =
-    let a = c .before .before .before .before .before .before .before .args in
+    let at-check-modules = c .before .before .before .before .before in
+    let a = at-check-modules .before .before .args in
     let s = now (a .delivery) in
-    bytes-follow s (a .c .at) (a .count) (c .before .before .before .end .given .0 .0 .at) (seen (passedAs s) (c .before .before .before .before .before .check-modules .ensures) (c .before .before .before .end .given .1)) (c .if1 .taken)
+    bytes-follow s (a .c .at) (a .count) (c .before .before .before .end .given .0 .0 .at)
+    (seen (passedAs s) (at-check-modules .check-modules .ensures) (c .before .before .before .end .given .1)) (c .if1 .taken)
 
 returns-2 : tie.Need-returns-2
 returns-2 c =
-    let a = c .before .before .before .before .before .before .before .args in
+    let at-check-modules = c .before .before .before .before .before in
+    let a = at-check-modules .before .before .args in
     let s = now (a .delivery) in
-    all-checked s (a .c .at) (a .count) (c .before .before .before .end .given .0 .0 .at) (seen (passedAs s) (c .before .before .before .before .before .check-modules .ensures) (c .before .before .before .end .given .1)) (c .if1 .left)
+    all-checked s (a .c .at) (a .count) (c .before .before .before .end .given .0 .0 .at)
+    (seen (passedAs s) (at-check-modules .check-modules .ensures) (c .before .before .before .end .given .1)) (c .if1 .left)
 
 returns-3 : tie.Need-returns-3
 returns-3 c =
@@ -23,12 +27,4 @@ returns-3 c =
     not-passed s (a .c .at) (a .count) (seen (passedAs s) (c .before .before .check-modules .ensures) (c .enum-told .given .1))
 
 pub check-counted-spec : {M : Type 1} → statement M
-check-counted-spec =
-    tie.close
-    (tie.spec
-    (λ c κs. search needs)
-    (λ c. search needs)
-    returns
-    (λ c. search needs)
-    returns-2
-    returns-3)
+check-counted-spec = tie.close (tie.spec (λ c κs. search needs) (λ c. search needs) returns (λ c. search needs) returns-2 returns-3)

@@ -1,7 +1,6 @@
 use Rattle.laws.proofs.Prelude.{needs, arith}
 use Rattle.delivery.specs.Right.{namesOf}
-use Rattle.delivery.proofs.ReportEntries.{static-late, dynamic-late}
-use Rattle.delivery.proofs.entries.judge_entry.Statement.{statement}
+use Rattle.delivery.proofs.{ReportEntries.static-late, ReportEntries.dynamic-late, entries.judge_entry.Statement.statement}
 use Rattle.delivery.proofs.entries.judge_entry.Tie as tie
 
 sub-is-late : tie.Need-sub-is-late
@@ -34,15 +33,5 @@ returns-2 c =
     }
 
 pub judge-entry-spec : {M : Type 1} → statement M
-judge-entry-spec =
-    tie.close
-    (tie.spec
-    (λ c κs. search needs)
-    (λ c. search needs)
-    sub-is-late
-    part-is-late-start
-    part-is-late-end
-    (λ c κs. search needs)
-    (λ c. search needs)
-    returns
-    returns-2)
+judge-entry-spec = tie.close (tie.spec
+    (λ c κs. search needs) (λ c. search needs) sub-is-late part-is-late-start part-is-late-end (λ c κs. search needs) (λ c. search needs) returns returns-2)

@@ -1,15 +1,8 @@
 use Rattle.laws.proofs.Prelude.{needs, _≡_, refl, sym, _∙_, List, ℕ, _-_, _≤_, _<_, arith, now}
-use Rattle.report.specs.ModuleInfo.{DependencyDescriptor, ModuleInfo}
-use Rattle.report.specs.Encode.{encodeDependency, encode}
-use Rattle.report.specs.Valid.{ValidDependency, Valid}
+use Rattle.report.specs.{ModuleInfo.DependencyDescriptor, ModuleInfo.ModuleInfo, Encode.encodeDependency, Encode.encode, Valid.ValidDependency, Valid.Valid}
 use Rattle.report_reader.proofs.Lists.{Stand, next-item, no-item}
-use Rattle.delivery.specs.Delivery.{Module}
-use Rattle.delivery.specs.Order.{Answer, entriesInTurn}
-use Rattle.delivery.specs.Right.{namesOf}
-use Rattle.delivery.specs.code.Views.{Modules}
-use Rattle.delivery.proofs.ReportEntries.{entries-start}
-use Rattle.delivery.proofs.Turns.{entry-here}
-use Rattle.delivery.proofs.entries.late_entry.Statement.{statement}
+use Rattle.delivery.specs.{Delivery.Module, Order.Answer, Order.entriesInTurn, Right.namesOf, code.Views.Modules}
+use Rattle.delivery.proofs.{ReportEntries.entries-start, Turns.entry-here, entries.late_entry.Statement.statement}
 use Rattle.delivery.proofs.entries.late_entry.Tie as tie
 
 abbrev Inv-loop : tie.InvT-loop
@@ -29,12 +22,13 @@ loop-holds c = λ ms t p info valid bytes k behind.
 
 returns : tie.Need-returns Inv-loop μ-loop
 returns c =
-    let a = c .before .before .before .before .before .before .before .before .before .args in
-    let i = c .before .before .before .before .loop in
+    let at-loop = c .before .before .before .before in
+    let a = at-loop .before .before .before .before .before .args in
+    let i = at-loop .loop in
     let entry = c .before .judge-entry in record {
       answer = λ ms t p info valid bytes k behind.
           let (l, u, stand, e) = i .inv ms t p info valid bytes k behind in
-          let left : 0 < c .before .before .before .before .before .read-number2 .result .value - i .i = omega (arith, c .before .before .if1 .taken) in
+          let left : 0 < at-loop .before .read-number2 .result .value - i .i = omega (arith, c .before .before .if1 .taken) in
           let (d, rest, is, v, there, on) = next-item encodeDependency ValidDependency (now (a .report)) u (i .at) _ l left stand in
           let late = rw (c .if2 .taken) at (entry .ensures .answer ms t p d v _ there .0) in
           sym (e ∙ entry-here is (namesOf ms) k (i .i) behind late);
@@ -42,11 +36,12 @@ returns c =
     }
 
 loop-again : tie.Need-loop-again Inv-loop μ-loop
-loop-again c = λ ms t p info valid bytes k behind.
-    let a = c .before .before .before .before .before .before .before .before .before .args in
-    let i = c .before .before .before .before .loop in
+loop-again c =
+    let at-loop = c .before .before .before .before in λ ms t p info valid bytes k behind.
+    let a = at-loop .before .before .before .before .before .args in
+    let i = at-loop .loop in
     let (l, u, stand, e) = i .inv ms t p info valid bytes k behind in
-    let left : 0 < c .before .before .before .before .before .read-number2 .result .value - i .i = omega (arith, c .before .before .if1 .taken) in
+    let left : 0 < at-loop .before .read-number2 .result .value - i .i = omega (arith, c .before .before .if1 .taken) in
     let (d, rest, is, v, there, on) = next-item encodeDependency ValidDependency (now (a .report)) u (i .at) _ l left stand in
     let (late, next) = c .before .judge-entry .ensures .answer ms t p d v _ there in
     let (n, v, w) = on (c .before .judge-entry .result .next) next in
@@ -65,17 +60,6 @@ returns-2 c =
     }
 
 pub late-entry-spec : {M : Type 1} → statement M
-late-entry-spec =
-    tie.close
-    (tie.spec
-    Inv-loop
-    μ-loop
-    (λ c κs. search needs)
-    (λ c κs. search needs)
-    loop-holds
-    (λ c κs. search needs)
-    returns
-    (λ c. search needs)
-    (λ c. search needs)
-    loop-again
+late-entry-spec = tie.close (tie.spec
+    Inv-loop μ-loop (λ c κs. search needs) (λ c κs. search needs) loop-holds (λ c κs. search needs) returns (λ c. search needs) (λ c. search needs) loop-again
     returns-2)

@@ -1,13 +1,8 @@
 use Rattle.laws.proofs.Prelude.{needs, _≡_, refl, sym, ap, _∙_, List, [], _∷_, _++_, ℕ, _+_, _-_, length}
-use Rattle.laws.specs.Codec.{All}
-use Rattle.laws.proofs.Lists.{all-member, middle-member}
-use Rattle.delivery.specs.Delivery.{Module}
-use Rattle.delivery.specs.Order.{modulesInTurn}
-use Rattle.delivery.specs.Right.{Reported, namesOf}
-use Rattle.delivery.specs.code.Views.{Modules}
+use Rattle.laws.{specs.Codec.All, proofs.Lists.all-member, proofs.Lists.middle-member}
+use Rattle.delivery.specs.{Delivery.Module, Order.modulesInTurn, Right.Reported, Right.namesOf, code.Views.Modules}
 use Rattle.delivery.proofs.Along.{Along, at-first, one-more, all-passed, name-more}
-use Rattle.delivery.proofs.Turns.{module-here}
-use Rattle.delivery.proofs.judge.judge_order.Statement.{statement}
+use Rattle.delivery.proofs.{Turns.module-here, judge.judge_order.Statement.statement}
 use Rattle.delivery.proofs.judge.judge_order.Tie as tie
 
 abbrev Inv-loop : tie.InvT-loop
@@ -20,49 +15,41 @@ Inv-loop delivery first count work₀ at₀ i₀ work at i =
 abbrev μ-loop : tie.MeasureT-loop
 μ-loop delivery first count work₀ at₀ i₀ work at i = count - i
 
-loop-holds : tie.Need-loop-holds Inv-loop μ-loop
-loop-holds c = (refl, λ ms t p all. ([], ms, at-first p, refl))
-
-sub-judge-module : tie.Need-sub-judge-module Inv-loop μ-loop
-sub-judge-module c = c .read-module .ensures .sheet .order
-
-part-judge-module-start : tie.Need-part-judge-module-start Inv-loop μ-loop
-part-judge-module-start c = c .read-module .ensures .sheet .order
-
-part-judge-module-end : tie.Need-part-judge-module-end Inv-loop μ-loop
-part-judge-module-end c = c .read-module .ensures .sheet .end
-
 returns : tie.Need-returns Inv-loop μ-loop
 returns c =
-    let l = c .before .before .before .before .before .before .before .before .before .before .loop in
+    let at-judge-module = c .before .before .before .before .before in
+    let at-loop = at-judge-module .before .before .before .before in
+    let l = at-loop .before .loop in
     let found = c .before .entry .given .1 in record {
       answer = λ ms t p all.
           let (earlier, rest, along, e) = l .inv .1 ms t p all in
-          let (m, after, is, v, there, on) = one-more (c .before .before .before .before .before .before .before .before .before .loop-test .taken) along in
-          let (read, _) = c .before .before .before .before .before .before .before .before .read-module .ensures .answer m v _ there in
+          let (m, after, is, v, there, on) = one-more (at-loop .loop-test .taken) along in
+          let (read, _) = at-judge-module .before .before .before .read-module .ensures .answer m v _ there in
           let judged = rw (
             l .inv .0,
             ap (λ (m : Module). m .sheet) read,
             found,
-          ) at (c .before .before .before .before .before .judge-module .ensures .answer) in
+          ) at (at-judge-module .judge-module .ensures .answer) in
           let zero = all-member (Reported _) ms all (middle-member earlier after (along .whole ∙ ap (earlier ++_) is)) in
-          judged earlier _ (along .passed) zero (l .i) (modulesInTurn (namesOf earlier ++ (m .name ∷ [])) (l .i + 1) after) ∙ sym (e ∙ module-here is (namesOf earlier) (l .i));
-      bounds = rw found at (c .before .before .before .before .before .judge-module .ensures .bounds);
+          judged earlier _ (along .passed) zero (l .i) (modulesInTurn (namesOf earlier ++ (m .name ∷ [])) (l .i + 1) after) ∙
+          sym (e ∙ module-here is (namesOf earlier) (l .i));
+      bounds = rw found at (at-judge-module .judge-module .ensures .bounds);
     }
 
 loop-again : tie.Need-loop-again Inv-loop μ-loop
 loop-again c =
-    let l = c .before .before .before .before .before .before .before .before .before .loop in (
-      c .before .before .before .before .judge-module .ensures .left ∙ l .inv .0,
+    let at-judge-module = c .before .before .before .before in let at-loop = at-judge-module .before .before .before .before in
+    let l = at-loop .before .loop in (
+      at-judge-module .judge-module .ensures .left ∙ l .inv .0,
       λ ms t p all.
           let (earlier, rest, along, e) = l .inv .1 ms t p all in
-          let (m, after, is, v, there, on) = one-more (c .before .before .before .before .before .before .before .before .loop-test .taken) along in
-          let (read, next) = c .before .before .before .before .before .before .before .read-module .ensures .answer m v _ there in
+          let (m, after, is, v, there, on) = one-more (at-loop .loop-test .taken) along in
+          let (read, next) = at-judge-module .before .before .before .read-module .ensures .answer m v _ there in
           let judged = rw (
             l .inv .0,
             ap (λ (m : Module). m .sheet) read,
             c .enum-told .given .1,
-          ) at (c .before .before .before .before .judge-module .ensures .answer) in
+          ) at (at-judge-module .judge-module .ensures .answer) in
           let zero = all-member (Reported _) ms all (middle-member earlier after (along .whole ∙ ap (earlier ++_) is)) in (
             earlier ++ (m ∷ []),
             after,
@@ -85,23 +72,7 @@ returns-2 c =
     }
 
 pub judge-order-spec : {M : Type 1} → statement M
-judge-order-spec =
-    tie.close
-    (tie.spec
-    Inv-loop
-    μ-loop
-    loop-holds
-    (λ c κs. search needs)
-    sub-judge-module
-    part-judge-module-start
-    part-judge-module-end
-    (λ c κs. search needs)
-    (λ c. search needs)
-    (λ c. search needs)
-    returns
-    (λ c. search needs)
-    (λ c. search needs)
-    (λ c. search needs)
-    loop-again
-    (λ c. search needs)
-    returns-2)
+judge-order-spec = tie.close (tie.spec
+    Inv-loop μ-loop (λ c. (refl, λ ms t p all. ([], ms, at-first p, refl))) (λ c κs. search needs) (λ c. c .read-module .ensures .sheet .order)
+    (λ c. c .read-module .ensures .sheet .order) (λ c. c .read-module .ensures .sheet .end) (λ c κs. search needs)
+    (λ c. search needs) (λ c. search needs) returns (λ c. search needs) (λ c. search needs) (λ c. search needs) loop-again (λ c. search needs) returns-2)

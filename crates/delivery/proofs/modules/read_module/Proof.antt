@@ -16,9 +16,4 @@ returns c = record {
 }
 
 pub read-module-spec : {M : Type 1} → statement M
-read-module-spec =
-    tie.close
-    (tie.spec
-    (λ c κs. search needs)
-    (λ c κs. search needs)
-    returns)
+read-module-spec = tie.close (tie.spec (λ c κs. search needs) (λ c κs. search needs) returns)

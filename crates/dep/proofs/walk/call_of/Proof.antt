@@ -35,13 +35,5 @@ returns-2 c =
     }
 
 pub call-of-spec : {M : Type 1} → statement M
-call-of-spec =
-    tie.close
-    (tie.spec
-    (λ c. search needs)
-    (λ c κs. search needs)
-    (λ c κs. search needs)
-    (λ c κs. search needs)
-    (λ c κs. search needs)
-    returns
-    returns-2)
+call-of-spec = tie.close (tie.spec
+    (λ c. search needs) (λ c κs. search needs) (λ c κs. search needs) (λ c κs. search needs) (λ c κs. search needs) returns returns-2)

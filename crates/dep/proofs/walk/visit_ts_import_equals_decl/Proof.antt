@@ -6,15 +6,11 @@ use Rattle.dep.proofs.walk.visit_ts_import_equals_decl.Tie as tie
 
 returns : tie.Need-returns
 unfolding noting
-returns c = record {
-  answer = rw (c .before .before .before .before .put-plain-entry .ensures, c .before .before .before .before .before .before .before .equals-kind .ensures);
-  bounds = c .before .before .before .before .before .before .before .before .before .before .before .before .pre .2;
-}
+returns c =
+    let at-put-plain-entry = c .before .before .before .before in record {
+      answer = rw (at-put-plain-entry .put-plain-entry .ensures, at-put-plain-entry .before .before .before .equals-kind .ensures);
+      bounds = at-put-plain-entry .before .before .before .before .before .before .before .before .pre .2;
+    }
 
 pub visit-ts-import-equals-decl-spec : {M : Type 1} → statement M
-visit-ts-import-equals-decl-spec = tie.close (tie.spec
-    (λ c κs. search needs)
-    (λ c κs. search needs)
-    (λ c. search needs)
-    (λ c. search needs)
-    returns)
+visit-ts-import-equals-decl-spec = tie.close (tie.spec (λ c κs. search needs) (λ c κs. search needs) (λ c. search needs) (λ c. search needs) returns)

@@ -12,5 +12,4 @@ unfolding attributeMode
 returns-2 c = rw (known (c .before .equal .ensures) (c .if1 .left))
 
 pub attribute-mode-spec : {M : Type 1} → statement M
-attribute-mode-spec =
-    tie.close (tie.spec (λ c. search needs) (λ c κs. search needs) (λ c κs. search needs) returns returns-2)
+attribute-mode-spec = tie.close (tie.spec (λ c. search needs) (λ c κs. search needs) (λ c κs. search needs) returns returns-2)

@@ -9,10 +9,11 @@ close-call-requires c κs = bounded (c .before .before .before .parse-second-par
 returns : tie.Need-returns
 unfolding parseTail
 returns c =
+    let at-parse-second-param-obj-with-leading-comma = c .before .before .before .before in
     record {
       answer = rw (
-        ← c .before .before .before .before .before .skip-whitespace .ensures .answer,
-        told (c .before .before .before .before .parse-second-param-obj-with-leading-comma .ensures) (c .before .before .mode .given .1),
+        ← at-parse-second-param-obj-with-leading-comma .before .skip-whitespace .ensures .answer,
+        told (at-parse-second-param-obj-with-leading-comma .parse-second-param-obj-with-leading-comma .ensures) (c .before .before .mode .given .1),
       ) (c .close-call .ensures .answer);
       bounds = c .close-call .ensures .bounds;
     }
@@ -29,14 +30,5 @@ returns-2 c =
     }
 
 pub parse-tail-spec : {M : Type 1} → statement M
-parse-tail-spec =
-    tie.close
-    (tie.spec
-    (λ c κs. search needs)
-    (λ c κs. search needs)
-    (λ c. search needs)
-    close-call-requires
-    (λ c. search needs)
-    (λ c κs. search needs)
-    returns
-    returns-2)
+parse-tail-spec = tie.close (tie.spec
+    (λ c κs. search needs) (λ c κs. search needs) (λ c. search needs) close-call-requires (λ c. search needs) (λ c κs. search needs) returns returns-2)

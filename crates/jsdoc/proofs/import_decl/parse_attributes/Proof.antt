@@ -6,36 +6,23 @@ use Rattle.jsdoc.proofs.import_decl.parse_attributes.Tie as tie
 returns : tie.Need-returns
 unfolding parseAttributes
 returns c = record {
-  answer = rw (
-    ← c .before .before .before .before .skip-whitespace .ensures .answer,
-    told (c .before .before .word .ensures) (c .enum-told .given .1),
-  );
+  answer = rw (← c .before .before .before .before .skip-whitespace .ensures .answer, told (c .before .before .word .ensures) (c .enum-told .given .1));
   bounds = tt;
 }
-
-block-at-requires : tie.Need-block-at-requires
-block-at-requires c κs = bounded (c .before .before .before .word .ensures) (c .before .b .given .1)
 
 returns-2 : tie.Need-returns-2
 unfolding parseAttributes
 returns-2 c =
+    let at-word = c .before .before .before .before in
     record {
       answer = rw (
-        ← c .before .before .before .before .before .before .skip-whitespace .ensures .answer,
-        told (c .before .before .before .before .word .ensures) (c .before .before .b .given .1),
+        ← at-word .before .before .skip-whitespace .ensures .answer,
+        told (at-word .word .ensures) (c .before .before .b .given .1),
       ) (c .block-at .ensures .answer);
       bounds = c .block-at .ensures .bounds;
     }
 
 pub parse-attributes-spec : {M : Type 1} → statement M
-parse-attributes-spec =
-    tie.close
-    (tie.spec
-    (λ c κs. search needs)
-    (λ c. search needs)
-    (λ c κs. search needs)
-    (λ c. search needs)
-    (λ c. search needs)
-    returns
-    block-at-requires
-    returns-2)
+parse-attributes-spec = tie.close (tie.spec
+    (λ c κs. search needs) (λ c. search needs) (λ c κs. search needs) (λ c. search needs) (λ c. search needs) returns
+    (λ c κs. bounded (c .before .before .before .word .ensures) (c .before .b .given .1)) returns-2)

@@ -7,63 +7,49 @@ returns : tie.Need-returns
 unfolding parseJsdocImportDecl
 returns c = record { answer = rw (told (c .before .before .tag .ensures) (c .enum-told .given .1)); bounds = tt }
 
-whitespace-requires : tie.Need-whitespace-requires
-whitespace-requires c κs = bounded (c .before .before .before .tag .ensures) (c .before .a .given .1)
-
 returns-2 : tie.Need-returns-2
 unfolding parseJsdocImportDecl
 returns-2 c =
-    record { answer = rw (told (c .before .before .before .before .before .before .tag .ensures) (c .before .before .before .before .a .given .1), told (c .before .before .whitespace .ensures) (c .enum-told2 .given .1)); bounds = tt }
-
-skip-clause-requires : tie.Need-skip-clause-requires
-skip-clause-requires c κs = bounded (c .before .before .before .whitespace .ensures) (c .before .b .given .1)
+    let at-a = c .before .before .before .before in
+    record {
+      answer =
+          rw (told (at-a .before .before .tag .ensures) (at-a .a .given .1), told (c .before .before .whitespace .ensures) (c .enum-told2 .given .1));
+      bounds = tt;
+    }
 
 returns-3 : tie.Need-returns-3
 unfolding parseJsdocImportDecl
 returns-3 c =
+    let at-b = c .before .before .before .before in let at-a = at-b .before .before .before .before in
     record {
       answer =
           rw (
-            told (c .before .before .before .before .before .before .before .before .before .before .tag .ensures) (c .before .before .before .before .before .before .before .before .a .given .1),
-            told (c .before .before .before .before .before .before .whitespace .ensures) (c .before .before .before .before .b .given .1),
+            told (at-a .before .before .tag .ensures) (at-a .a .given .1),
+            told (at-b .before .before .whitespace .ensures) (at-b .b .given .1),
             told (c .before .before .skip-clause .ensures) (c .enum-told3 .given .1),
           );
       bounds = tt;
     }
 
-parse-from-requires : tie.Need-parse-from-requires
-parse-from-requires c κs = bounded (c .before .before .before .skip-clause .ensures) (c .before .c .given .1)
-
 returns-4 : tie.Need-returns-4
 unfolding parseJsdocImportDecl
 returns-4 c =
+    let at-skip-clause = c .before .before .before .before in let at-whitespace = at-skip-clause .before .before .before .before in
+    let at-tag = at-whitespace .before .before .before .before in
     record {
       answer =
           rw (
-            told (c .before .before .before .before .before .before .before .before .before .before .before .before .tag .ensures) (c .before .before .before .before .before .before .before .before .before .before .a .given .1),
-            told (c .before .before .before .before .before .before .before .before .whitespace .ensures) (c .before .before .before .before .before .before .b .given .1),
-            told (c .before .before .before .before .skip-clause .ensures) (c .before .before .c .given .1),
+            told (at-tag .tag .ensures) (at-whitespace .before .before .a .given .1),
+            told (at-whitespace .whitespace .ensures) (at-skip-clause .before .before .b .given .1),
+            told (at-skip-clause .skip-clause .ensures) (c .before .before .c .given .1),
           )
           (c .parse-from .ensures .answer);
       bounds = c .parse-from .ensures .bounds;
     }
 
 pub parse-jsdoc-import-decl-spec : {M : Type 1} → statement M
-parse-jsdoc-import-decl-spec =
-    tie.close
-    (tie.spec
-    (λ c. search needs)
-    (λ c κs. search needs)
-    (λ c. search needs)
-    (λ c. search needs)
-    returns
-    whitespace-requires
-    (λ c. search needs)
-    (λ c. search needs)
-    returns-2
-    skip-clause-requires
-    (λ c. search needs)
-    (λ c. search needs)
-    returns-3
-    parse-from-requires
-    returns-4)
+parse-jsdoc-import-decl-spec = tie.close (tie.spec
+    (λ c. search needs) (λ c κs. search needs) (λ c. search needs) (λ c. search needs) returns
+    (λ c κs. bounded (c .before .before .before .tag .ensures) (c .before .a .given .1)) (λ c. search needs) (λ c. search needs) returns-2
+    (λ c κs. bounded (c .before .before .before .whitespace .ensures) (c .before .b .given .1)) (λ c. search needs) (λ c. search needs) returns-3
+    (λ c κs. bounded (c .before .before .before .skip-clause .ensures) (c .before .c .given .1)) returns-4)

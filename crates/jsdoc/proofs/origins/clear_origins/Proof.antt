@@ -9,12 +9,6 @@ Inv-loop origins₀ i₀ origins i = (i ≤ length origins₀) × (length origin
 abbrev μ-loop : tie.MeasureT-loop
 μ-loop origins₀ i₀ origins i = length origins - i
 
-loop-holds : tie.Need-loop-holds Inv-loop μ-loop
-loop-holds c = (omega arith, refl, fill-none (now (c .args .origins)) 0)
-
-loop-less : tie.Need-loop-less Inv-loop μ-loop
-loop-less c = simp length-set (omega arith)
-
 loop-again : tie.Need-loop-again Inv-loop μ-loop
 loop-again c =
     let l = c .before .loop in
@@ -29,16 +23,6 @@ returns c =
     l .inv .2 ∙ rw (drop-of-length-le origins none, append-nil, all)
 
 pub clear-origins-spec : {M : Type 1} → statement M
-clear-origins-spec =
-    tie.close
-    (tie.spec
-    Inv-loop
-    μ-loop
-    loop-holds
-    (λ c. search needs)
-    (λ c. search needs)
-    (λ c. search needs)
-    loop-less
-    loop-again
-    (λ c. search needs)
-    returns)
+clear-origins-spec = tie.close (tie.spec
+    Inv-loop μ-loop (λ c. (omega arith, refl, fill-none (now (c .args .origins)) 0)) (λ c. search needs) (λ c. search needs) (λ c. search needs)
+    (λ c. simp length-set (omega arith)) loop-again (λ c. search needs) returns)

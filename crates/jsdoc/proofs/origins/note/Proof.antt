@@ -17,26 +17,8 @@ mul-origins c = let room = rw (c .before .before .before .found .given .1) at (c
 slice-write-origins : tie.Need-slice-write-origins
 slice-write-origins c = let room = rw (c .before .before .before .found .given .1) at (c .before .before .before .before .before .pre .0) in omega arith
 
-returns : tie.Need-returns
-returns c = rw (c .before .before .before .found .given .1, eq-eqb _ 0 (c .if1 .taken))
-
-returns-2 : tie.Need-returns-2
-returns-2 c = rw (c .before .before .before .found .given .1, ne-eqb _ 0 (c .if1 .left))
-
 pub note-spec : {M : Type 1} → statement M
-note-spec =
-    tie.close
-    (tie.spec
-    (λ c. search needs)
-    add-at
-    mul-noted
-    slice-read-noted
-    (λ c. search needs)
-    (λ c. search needs)
-    mul-origins
-    slice-write-origins
-    (λ c. search needs)
-    (λ c. search needs)
-    returns
-    returns-2
-    (λ c. search needs))
+note-spec = tie.close (tie.spec
+    (λ c. search needs) add-at mul-noted slice-read-noted (λ c. search needs) (λ c. search needs) mul-origins slice-write-origins (λ c. search needs)
+    (λ c. search needs) (λ c. rw (c .before .before .before .found .given .1, eq-eqb _ 0 (c .if1 .taken)))
+    (λ c. rw (c .before .before .before .found .given .1, ne-eqb _ 0 (c .if1 .left))) (λ c. search needs))

@@ -1,6 +1,5 @@
 use Rattle.laws.proofs.Prelude.{needs}
-use Rattle.jsdoc.proofs.Steps.{white-skipped}
-use Rattle.jsdoc.proofs.pieces.skip_whitespace.Statement.{statement}
+use Rattle.jsdoc.proofs.{Steps.white-skipped, pieces.skip_whitespace.Statement.statement}
 use Rattle.jsdoc.proofs.pieces.skip_whitespace.Tie as tie
 
 returns : tie.Need-returns

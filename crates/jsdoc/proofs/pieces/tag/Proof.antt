@@ -1,10 +1,11 @@
 use Rattle.laws.proofs.Prelude.{needs, known}
-use Rattle.jsdoc.proofs.Steps.{tag-found, tag-missing}
-use Rattle.jsdoc.proofs.pieces.tag.Statement.{statement}
+use Rattle.jsdoc.proofs.{Steps.tag-found, Steps.tag-missing, pieces.tag.Statement.statement}
 use Rattle.jsdoc.proofs.pieces.tag.Tie as tie
 
 returns : tie.Need-returns
-returns c = tag-found _ (c .before .before .before .before .args .at) _ (c .before .before .before .before .pre) (known (c .before .starts-with .ensures) (c .if1 .taken))
+returns c =
+    let start = c .before .before .before .before in
+    tag-found _ (start .args .at) _ (start .pre) (known (c .before .starts-with .ensures) (c .if1 .taken))
 
 returns-2 : tie.Need-returns-2
 returns-2 c = tag-missing _ (c .before .before .before .before .args .at) _ (known (c .before .starts-with .ensures) (c .if1 .left))

@@ -15,7 +15,8 @@ returns c =
     let a = c .before .before .before .args in
     let f = c .before .next-of .ensures in
     record {
-      answer = sym (upTo-skip (a .mark) (now (a .s)) (a .at) (c .before .next-of .result) (f .passed .from) (f .passed .to) (f .passed .each) ∙ upTo-here _ _ _ (c .if1 .taken) (f .there (c .if1 .taken)));
+      answer = sym (upTo-skip (a .mark) (now (a .s)) (a .at) (c .before .next-of .result) (f .passed .from) (f .passed .to) (f .passed .each) ∙
+          upTo-here _ _ _ (c .if1 .taken) (f .there (c .if1 .taken)));
       bounds = search needs;
     }
 
@@ -23,7 +24,11 @@ returns-2 : tie.Need-returns-2
 returns-2 c =
     let a = c .before .before .before .args in
     let f = c .before .next-of .ensures in
-    record { answer = sym (upTo-skip (a .mark) (now (a .s)) (a .at) (c .before .next-of .result) (f .passed .from) (f .passed .to) (f .passed .each) ∙ upTo-ended _ _ _ (c .if1 .left)); bounds = tt }
+    record {
+      answer = sym (upTo-skip (a .mark) (now (a .s)) (a .at) (c .before .next-of .result) (f .passed .from) (f .passed .to) (f .passed .each) ∙
+          upTo-ended _ _ _ (c .if1 .left));
+      bounds = tt;
+    }
 
 pub up-to-spec : {M : Type 1} → statement M
 up-to-spec = tie.close (tie.spec (λ c κs. search needs) (λ c. search needs) returns returns-2)

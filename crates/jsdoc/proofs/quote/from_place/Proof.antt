@@ -11,9 +11,5 @@ add-t8 c = let m = rw (c .before .text .given .1) at (c .before .before .before 
 add-t9 : tie.Need-add-t9
 add-t9 c = let m = rw (c .before .text .given .1) at (c .before .before .before .pre) in omega arith
 
-returns : tie.Need-returns
-returns c = rw (c .before .text .given .1)
-
 pub from-place-spec : {M : Type 1} → statement M
-from-place-spec =
-    tie.close (tie.spec (λ c. search needs) add-t7 add-t8 add-t9 (λ c. search needs) returns (λ c. search needs))
+from-place-spec = tie.close (tie.spec (λ c. search needs) add-t7 add-t8 add-t9 (λ c. search needs) (λ c. rw (c .before .text .given .1)) (λ c. search needs))

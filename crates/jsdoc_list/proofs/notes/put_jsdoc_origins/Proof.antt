@@ -14,16 +14,11 @@ returns c =
 returns-2 : tie.Need-returns-2
 unfolding jsdocOrigins flatMap
 returns-2 c =
-    let args = c .before .before .before .before .before .before .args in
+    let start = c .before .before .before .before .before .before in
+    let args = start .args in
     rw (known (c .before .is-javascript .ensures) (c .if1 .left)) (sym (wrote-nil (now (args .out)) (args .place)))
 
 pub put-jsdoc-origins-spec : {M : Type 1} → statement M
-put-jsdoc-origins-spec =
-    tie.close
-    (tie.spec
-    (λ c κs. search needs)
-    (λ c κs. c .before .before .before .before .before .before .before .before .pre)
-    (λ c. search needs)
-    (λ c. search needs)
-    returns
+put-jsdoc-origins-spec = tie.close (tie.spec
+    (λ c κs. search needs) (λ c κs. c .before .before .before .before .before .before .before .before .pre) (λ c. search needs) (λ c. search needs) returns
     returns-2)

@@ -9,15 +9,6 @@ returns-2 : tie.Need-returns-2
 returns-2 c = rw (ne-eqb _ _ (c .before .before .before .before .if1 .left)) (c .before .before .put-origin2 .ensures)
 
 pub put-opener-spec : {M : Type 1} → statement M
-put-opener-spec =
-    tie.close
-    (tie.spec
-    (λ c. search needs)
-    (λ c. search needs)
-    (λ c κs. search needs)
-    (λ c. search needs)
-    returns
-    (λ c. search needs)
-    (λ c κs. search needs)
-    (λ c. search needs)
+put-opener-spec = tie.close (tie.spec
+    (λ c. search needs) (λ c. search needs) (λ c κs. search needs) (λ c. search needs) returns (λ c. search needs) (λ c κs. search needs) (λ c. search needs)
     returns-2)

@@ -1,10 +1,7 @@
 use Rattle.laws.proofs.Prelude.{needs, _≡_, sym, _∙_, flatMap, _-_, arith, length, drop, drop-of-length-le, now}
-use Rattle.report.specs.Buffer.{wrote, bufferAs}
-use Rattle.report.specs.Origin.{encodeOrigin}
-use Rattle.report.proofs.Buffers.{wrote-append, wrote-nil}
+use Rattle.report.{specs.Buffer.wrote, specs.Buffer.bufferAs, specs.Origin.encodeOrigin, proofs.Buffers.wrote-append, proofs.Buffers.wrote-nil}
 use Rattle.jsdoc_list.specs.Origins.{openersFrom}
-use Rattle.jsdoc_list.proofs.Openers.{opener-none, opener-next}
-use Rattle.jsdoc_list.proofs.notes.put_openers.Statement.{statement}
+use Rattle.jsdoc_list.proofs.{Openers.opener-none, Openers.opener-next, notes.put_openers.Statement.statement}
 use Rattle.jsdoc_list.proofs.notes.put_openers.Tie as tie
 
 abbrev Inv-loop : tie.InvT-loop
@@ -23,7 +20,8 @@ loop-again c =
 
 put-opener-requires : tie.Need-put-opener-requires Inv-loop μ-loop
 put-opener-requires c κs =
-    let start = c .before .before .before .before .before .before .before .before in
+    let earlier = c .before .before .before .before .before .before .before .before in
+    let start = earlier in
     let small = start .pre .0 (c .before .before .before .before .loop .q) in
     (omega (arith, small, c .before .if1 .left), start .pre .1)
 
@@ -45,22 +43,7 @@ returns c =
     sym (l .inv .1 ∙ rw (drop-of-length-le origins (c .loop-test .left)) (wrote-nil (l .out) (l .p)))
 
 pub put-openers-spec : {M : Type 1} → statement M
-put-openers-spec =
-    tie.close
-    (tie.spec
-    Inv-loop
-    μ-loop
-    (λ c. search needs)
-    (λ c. search needs)
-    (λ c. search needs)
-    (λ c. omega (arith, c .shared-slice-known3 .given (c .before .before .loop .q)))
-    (λ c. search needs)
-    (λ c. search needs)
-    loop-again
-    (λ c. search needs)
-    put-opener-requires
-    (λ c. search needs)
-    (λ c. search needs)
-    loop-again-2
-    (λ c. search needs)
-    returns)
+put-openers-spec = tie.close (tie.spec
+    Inv-loop μ-loop (λ c. search needs) (λ c. search needs) (λ c. search needs)
+    (λ c. omega (arith, c .shared-slice-known3 .given (c .before .before .loop .q))) (λ c. search needs) (λ c. search needs) loop-again (λ c. search needs)
+    put-opener-requires (λ c. search needs) (λ c. search needs) loop-again-2 (λ c. search needs) returns)

@@ -1,13 +1,9 @@
 use Rattle.laws.proofs.Prelude.{needs, _≡_, refl, sym, _∙_, flatMap, _-_, _≤_, sub-zero, arith, length, now}
 use Rattle.sheet.specs.code.Tables.{rows, commentIn, commentsIn}
-use Rattle.sheet.proofs.Marks.{holds-marks}
-use Rattle.sheet.proofs.Members.{placed-within, row-placed}
-use Rattle.report.specs.Buffer.{wrote, bufferAs}
-use Rattle.report.specs.Origin.{encodeOrigin}
-use Rattle.report.proofs.Buffers.{wrote-append, wrote-nil}
+use Rattle.sheet.proofs.{Marks.holds-marks, Members.placed-within, Members.row-placed}
+use Rattle.report.{specs.Buffer.wrote, specs.Buffer.bufferAs, specs.Origin.encodeOrigin, proofs.Buffers.wrote-append, proofs.Buffers.wrote-nil}
 use Rattle.jsdoc_list.specs.Origins.{originsOf}
-use Rattle.jsdoc_list.proofs.Openers.{comment-next, comments-end}
-use Rattle.jsdoc_list.proofs.notes.put_origins.Statement.{statement}
+use Rattle.jsdoc_list.proofs.{Openers.comment-next, Openers.comments-end, notes.put_origins.Statement.statement}
 use Rattle.jsdoc_list.proofs.notes.put_origins.Tie as tie
 
 abbrev Inv-loop : tie.InvT-loop
@@ -21,12 +17,10 @@ Inv-loop source comments n origins₀ out₀ p₀ k₀ origins out p k =
 abbrev μ-loop : tie.MeasureT-loop
 μ-loop source comments n origins₀ out₀ p₀ k₀ origins out p k = n - k
 
-loop-holds : tie.Need-loop-holds Inv-loop μ-loop
-loop-holds c = (omega arith, refl, refl, rw sub-zero)
-
 put-comment-origins-requires : tie.Need-put-comment-origins-requires Inv-loop μ-loop
 put-comment-origins-requires c κs =
-    let start = c .before .before .before .before .before .before .before .before .before in
+    let earlier = c .before .before .before .before .before .before .before .before .before in
+    let start = earlier in
     let l = c .before .before .before .before .loop in
     let row = c .before .before .comment-at .ensures in
     let p = row-placed (now (start .args .comments)) (start .args .n) (start .pre .1 .0) (l .k) (c .before .before .before .loop-test .taken) in
@@ -53,17 +47,6 @@ returns c =
     sym (l .inv .3 ∙ rw (comments-end _ _ _ (l .k) (c .loop-test .left)) (wrote-nil (l .out) (l .p)))
 
 pub put-origins-spec : {M : Type 1} → statement M
-put-origins-spec =
-    tie.close
-    (tie.spec
-    Inv-loop
-    μ-loop
-    loop-holds
-    (λ c κs. search needs)
-    put-comment-origins-requires
-    (λ c. search needs)
-    (λ c. search needs)
-    loop-again
-    (λ c. c .before .loop .inv .1)
-    (λ c. c .before .loop .inv .2)
-    returns)
+put-origins-spec = tie.close (tie.spec
+    Inv-loop μ-loop (λ c. (omega arith, refl, refl, rw sub-zero)) (λ c κs. search needs) put-comment-origins-requires (λ c. search needs) (λ c. search needs)
+    loop-again (λ c. c .before .loop .inv .1) (λ c. c .before .loop .inv .2) returns)

@@ -1,18 +1,8 @@
 use Rattle.laws.proofs.Prelude.{needs, arith, now}
 use Rattle.sheet.specs.Limits.{indexStart, tableNumbers}
 use Rattle.sheet_check.proofs.Lent.{part-length}
-use Rattle.module_info.proofs.Accepted.{source-short, indexed-in}
-use Rattle.module_info.proofs.judge.index_source.Statement.{statement}
+use Rattle.module_info.proofs.{Accepted.source-short, Accepted.indexed-in, judge.index_source.Statement.statement}
 use Rattle.module_info.proofs.judge.index_source.Tie as tie
-
-sub-build-index : tie.Need-sub-build-index
-sub-build-index c = c .before .before .pre .1 .places .0
-
-part-build-index-start : tie.Need-part-build-index-start
-part-build-index-start c = c .before .before .pre .1 .places .0
-
-part-build-index-end : tie.Need-part-build-index-end
-part-build-index-end c = c .before .before .pre .1 .places .1
 
 build-index-requires : tie.Need-build-index-requires
 build-index-requires c κs =
@@ -28,15 +18,6 @@ returns c =
     indexed-in (now (start .args .tables)) (start .pre .0) (start .pre .1) (index .last .1 .0) (index .kept .1 .0) (index .ensures .answer)
 
 pub index-source-spec : {M : Type 1} → statement M
-index-source-spec =
-    tie.close
-    (tie.spec
-    sub-build-index
-    part-build-index-start
-    part-build-index-end
-    (λ c. search needs)
-    (λ c. search needs)
-    (λ c. search needs)
-    build-index-requires
-    (λ c. search needs)
-    returns)
+index-source-spec = tie.close (tie.spec
+    (λ c. c .before .before .pre .1 .places .0) (λ c. c .before .before .pre .1 .places .0) (λ c. c .before .before .pre .1 .places .1) (λ c. search needs)
+    (λ c. search needs) (λ c. search needs) build-index-requires (λ c. search needs) returns)

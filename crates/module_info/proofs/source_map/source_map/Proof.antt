@@ -3,9 +3,6 @@ use Rattle.module_info.proofs.SourceMap.{of-sheet, source-map-right, no
 use Rattle.module_info.proofs.source_map.source_map.Statement.{statement}
 use Rattle.module_info.proofs.source_map.source_map.Tie as tie
 
-returns : tie.Need-returns
-returns c = none-right _ (rw (c .enum-told .given .1) at (c .before .before .judge .ensures .answer))
-
 read-source-map-requires : tie.Need-read-source-map-requires
 read-source-map-requires c κs = rw (c .before .before .parts .given .1) at (c .before .before .before .before .judge .ensures .answer)
 
@@ -21,15 +18,6 @@ returns-3 c =
     source-map-right _ (read .answer (a .sheet) (a .accepted) ∙ sym (of-sheet _ (a .accepted))) (read .bounds)
 
 pub source-map-spec : {M : Type 1} → statement M
-source-map-spec =
-    tie.close
-    (tie.spec
-    (λ c κs. search needs)
-    (λ c. search needs)
-    (λ c. search needs)
-    (λ c. search needs)
-    (λ c. search needs)
-    read-source-map-requires
-    returns
-    returns-2
-    returns-3)
+source-map-spec = tie.close (tie.spec
+    (λ c κs. search needs) (λ c. search needs) (λ c. search needs) (λ c. search needs) (λ c. search needs) read-source-map-requires
+    (λ c. none-right _ (rw (c .enum-told .given .1) at (c .before .before .judge .ensures .answer))) returns-2 returns-3)

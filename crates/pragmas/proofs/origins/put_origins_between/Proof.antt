@@ -1,11 +1,7 @@
 use Rattle.laws.proofs.Prelude.{needs, arith, _≡_, sym, _∙_, flatMap, _-_, length, now}
 use Rattle.sheet.proofs.Members.{row-placed}
-use Rattle.report.specs.Buffer.{wrote, bufferAs}
-use Rattle.report.specs.Origin.{encodeOrigin}
-use Rattle.report.proofs.Buffers.{wrote-append, wrote-nil}
-use Rattle.pragmas.specs.Readings.{allOf}
-use Rattle.pragmas.specs.Origins.{referenceOrigin}
-use Rattle.pragmas.specs.code.Views.{commentsFrom}
+use Rattle.report.{specs.Buffer.wrote, specs.Buffer.bufferAs, specs.Origin.encodeOrigin, proofs.Buffers.wrote-append, proofs.Buffers.wrote-nil}
+use Rattle.pragmas.specs.{Readings.allOf, Origins.referenceOrigin, code.Views.commentsFrom}
 use Rattle.pragmas.proofs.Between.{all-next, all-none, listed-each}
 use Rattle.pragmas.proofs.origins.put_origins_between.Statement.{statement}
 use Rattle.pragmas.proofs.origins.put_origins_between.Tie as tie
@@ -21,17 +17,20 @@ abbrev μ-loop : tie.MeasureT-loop
 
 put-reference-origin-requires : tie.Need-put-reference-origin-requires Inv-loop μ-loop
 put-reference-origin-requires c κs =
-    let start = c .before .before .before .before .before .before .before in
+    let earlier = c .before .before .before .before .before .before .before in
+    let start = earlier in
     let placed = row-placed (now (start .args .comments)) (start .args .n) (start .pre .1) (c .before .before .before .loop .i) (omega arith) in
     rw (c .before .comment-at .ensures) placed
 
 loop-again : tie.Need-loop-again Inv-loop μ-loop
 loop-again c =
-    let a = c .before .before .before .before .before .before .before .before .before .before .args in
-    let l = c .before .before .before .before .before .before .loop in
+    let at-comment-at = c .before .before .before .before in
+    let entry = at-comment-at .before .before .before .before .before .before in
+    let a = entry .args in
+    let l = at-comment-at .before .before .loop in
     let put = c .before .before .put-reference-origin in
-    let more = c .before .before .before .before .before .loop-test .taken in
-    let here = c .before .before .before .before .comment-at .ensures in
+    let more = at-comment-at .before .loop-test .taken in
+    let here = at-comment-at .comment-at .ensures in
     let step = all-next (referenceOrigin (now (a .source))) (now (a .comments)) (l .i) (a .end) more here in
     (put .kept .1 .1 .0 ∙ l .inv .0, l .inv .1 ∙ rw (step, listed-each, wrote-append, ← put .ensures))
 
@@ -43,16 +42,6 @@ returns c =
     sym (l .inv .1 ∙ rw (all-none (referenceOrigin (now (a .source))) (now (a .comments)) (l .i) (a .end) (c .loop-test .left)) (wrote-nil (l .out) (l .p)))
 
 pub put-origins-between-spec : {M : Type 1} → statement M
-put-origins-between-spec =
-    tie.close
-    (tie.spec
-    Inv-loop
-    μ-loop
-    (λ c. search needs)
-    (λ c κs. search needs)
-    put-reference-origin-requires
-    (λ c. search needs)
-    (λ c. search needs)
-    loop-again
-    (λ c. search needs)
-    returns)
+put-origins-between-spec = tie.close (tie.spec
+    Inv-loop μ-loop (λ c. search needs) (λ c κs. search needs) put-reference-origin-requires (λ c. search needs) (λ c. search needs) loop-again
+    (λ c. search needs) returns)

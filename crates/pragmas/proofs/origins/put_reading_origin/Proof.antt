@@ -12,12 +12,4 @@ returns-2 c =
     rw (c .enum-told .given .1) (sym (wrote-nil (now (a .out)) (a .place)))
 
 pub put-reading-origin-spec : {M : Type 1} → statement M
-put-reading-origin-spec =
-    tie.close
-    (tie.spec
-    (λ c. search needs)
-    (λ c κs. search needs)
-    (λ c. search needs)
-    (λ c. search needs)
-    returns
-    returns-2)
+put-reading-origin-spec = tie.close (tie.spec (λ c. search needs) (λ c κs. search needs) (λ c. search needs) (λ c. search needs) returns returns-2)

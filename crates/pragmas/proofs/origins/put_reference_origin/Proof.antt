@@ -26,17 +26,6 @@ returns-3 c =
     rw is (sym (wrote-nil (now (a .out)) (a .place)))
 
 pub put-reference-origin-spec : {M : Type 1} → statement M
-put-reference-origin-spec =
-    tie.close
-    (tie.spec
-    (λ c κs. search needs)
-    (λ c. search needs)
-    (λ c κs. search needs)
-    (λ c. search needs)
-    (λ c κs. search needs)
-    (λ c. search needs)
-    (λ c. search needs)
-    returns
-    (λ c. search needs)
-    returns-2
-    returns-3)
+put-reference-origin-spec = tie.close (tie.spec
+    (λ c κs. search needs) (λ c. search needs) (λ c κs. search needs) (λ c. search needs) (λ c κs. search needs) (λ c. search needs) (λ c. search needs)
+    returns (λ c. search needs) returns-2 returns-3)

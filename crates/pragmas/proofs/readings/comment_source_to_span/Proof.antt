@@ -1,8 +1,6 @@
 use Rattle.laws.proofs.Prelude.{needs, arith, ap}
-use Rattle.analysis.specs.declared.Place.{Place}
-use Rattle.analysis.specs.Place.{placeOf}
-use Rattle.sheet.specs.declared.fields.Span.{Span}
-use Rattle.sheet.specs.Lookups.{bodySpan}
+use Rattle.analysis.specs.{declared.Place.Place, Place.placeOf}
+use Rattle.sheet.specs.{declared.fields.Span.Span, Lookups.bodySpan}
 use Rattle.pragmas.specs.Readings.{placeIn}
 use Rattle.pragmas.proofs.readings.comment_source_to_span.Statement.{statement}
 use Rattle.pragmas.proofs.readings.comment_source_to_span.Tie as tie
@@ -17,7 +15,8 @@ add-t6 c = omega (arith, ap (λ (s : Span). s .start) (c .before .body-span .ens
 
 add-t7 : tie.Need-add-t7
 unfolding bodySpan placeOf
-add-t7 c = omega (arith, ap (λ (s : Span). s .start) (c .before .before .body-span .ensures), ap (λ (p : Place). p .to) (c .before .before .before .place-of .ensures))
+add-t7 c =
+    omega (arith, ap (λ (s : Span). s .start) (c .before .before .body-span .ensures), ap (λ (p : Place). p .to) (c .before .before .before .place-of .ensures))
 
 returns : tie.Need-returns
 unfolding placeIn

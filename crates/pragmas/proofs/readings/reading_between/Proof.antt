@@ -1,8 +1,6 @@
 use Rattle.laws.proofs.Prelude.{needs, arith, _≡_, _∙_, ⊎-elim, List, Option, ℕ, _≤_, _-_, now, told}
 use Rattle.analysis.specs.declared.Capture.{Capture}
-use Rattle.sheet.specs.declared.comments.Comment.{Comment}
-use Rattle.sheet.specs.code.Tables.{commentIn}
-use Rattle.sheet.proofs.Members.{row-placed}
+use Rattle.sheet.{specs.declared.comments.Comment.Comment, specs.code.Tables.commentIn, proofs.Members.row-placed}
 use Rattle.sheet.proofs.comments.comment_at.Reads as comment-at-reads
 use Rattle.pragmas.specs.Readings.{orElse}
 use Rattle.pragmas.specs.code.Views.{takenBy, counted, commentsFrom}
@@ -47,14 +45,13 @@ module _ (c : Chosen) where
       ⊎-elim (λ w. rw (w .1 .given .1) (w .2)) (λ w. rw (w .1 .given .1) (w .2)) (c .match .came) in
       l .inv .1 ∙ counted-next taken table (l .from) (l .to) (c .before .loop-test .taken) (a .counts) (rw is at e)
 
-comment-at-requires : tie.Need-comment-at-requires Inv-loop μ-loop
-comment-at-requires c κs = ⊎-elim (λ w. omega arith) (λ w. omega arith) (c .match .came)
-
 read-requires : tie.Need-read-requires Inv-loop μ-loop
 read-requires c κs =
-    let start = c .before .before .before .before .before .before in
+    let earlier = c .before .before .before .before .before .before in
+    let start = earlier in
     rw (c .comment-at .ensures)
-    (row-placed (now (start .args .comments)) (start .args .n) (start .pre .1) (c .before .match .i) (⊎-elim (λ w. omega arith) (λ w. omega arith) (c .before .match .came)))
+    (row-placed (now (start .args .comments)) (start .args .n) (start .pre .1) (c .before .match .i)
+    (⊎-elim (λ w. omega arith) (λ w. omega arith) (c .before .match .came)))
 
 returns : tie.Need-returns Inv-loop μ-loop
 returns c =
@@ -64,13 +61,11 @@ returns c =
 
 loop-again : tie.Need-loop-again Inv-loop μ-loop
 loop-again c =
+    let at-loop = c .before .before .before .before .before .before .before .before in
     let read = c .before .before .before .before in
     let none = told (read .read .ensures) (c .before .before .enum-told4 .given .1) in (
-      c .before .before .before .before .before .before .before .before .loop .inv .0,
-      next (read .before .before) (read .before .comment-at .ensures) ∙ rw (
-        none,
-        c .enum-told5 .given .1,
-      ),
+      at-loop .loop .inv .0,
+      next (read .before .before) (read .before .comment-at .ensures) ∙ rw (none, c .enum-told5 .given .1),
     )
 
 loop-again-2 : tie.Need-loop-again-2 Inv-loop μ-loop
@@ -89,26 +84,7 @@ returns-2 c =
     }
 
 pub reading-between-spec : {M : Type 1} → statement M
-reading-between-spec =
-    tie.close
-    (tie.spec
-    Inv-loop
-    μ-loop
-    (λ c. search needs)
-    (λ c. search needs)
-    (λ c. search needs)
-    (λ c. search needs)
-    comment-at-requires
-    read-requires
-    (λ c. search needs)
-    returns
-    (λ c. search needs)
-    (λ c. search needs)
-    (λ c. search needs)
-    (λ c. search needs)
-    loop-again
-    (λ c. search needs)
-    (λ c. search needs)
-    (λ c. search needs)
-    loop-again-2
-    returns-2)
+reading-between-spec = tie.close (tie.spec
+    Inv-loop μ-loop (λ c. search needs) (λ c. search needs) (λ c. search needs) (λ c. search needs)
+    (λ c κs. ⊎-elim (λ w. omega arith) (λ w. omega arith) (c .match .came)) read-requires (λ c. search needs) returns (λ c. search needs) (λ c. search needs)
+    (λ c. search needs) (λ c. search needs) loop-again (λ c. search needs) (λ c. search needs) (λ c. search needs) loop-again-2 returns-2)

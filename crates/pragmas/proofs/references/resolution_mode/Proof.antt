@@ -2,12 +2,6 @@ use Rattle.laws.proofs.Prelude.{needs, known}
 use Rattle.pragmas.proofs.references.resolution_mode.Statement.{statement}
 use Rattle.pragmas.proofs.references.resolution_mode.Tie as tie
 
-returns : tie.Need-returns
-returns c = rw (known (c .before .before .find-resolution-mode .ensures .answer) (c .enum-told .given .1))
-
-specifier-requires : tie.Need-specifier-requires
-specifier-requires c κs = rw (c .before .k .given .1) at (c .before .before .before .find-resolution-mode .ensures .bounds)
-
 returns-2 : tie.Need-returns-2
 returns-2 c = rw (
   known (c .before .before .before .before .before .find-resolution-mode .ensures .answer) (c .before .before .before .k .given .1),
@@ -15,13 +9,7 @@ returns-2 c = rw (
 ) (c .from-str .ensures)
 
 pub resolution-mode-spec : {M : Type 1} → statement M
-resolution-mode-spec =
-    tie.close
-    (tie.spec
-    (λ c κs. search needs)
-    (λ c. search needs)
-    (λ c. search needs)
-    returns
-    specifier-requires
-    (λ c κs. search needs)
-    returns-2)
+resolution-mode-spec = tie.close (tie.spec
+    (λ c κs. search needs) (λ c. search needs) (λ c. search needs)
+    (λ c. rw (known (c .before .before .find-resolution-mode .ensures .answer) (c .enum-told .given .1)))
+    (λ c κs. rw (c .before .k .given .1) at (c .before .before .before .find-resolution-mode .ensures .bounds)) (λ c κs. search needs) returns-2)

@@ -1,7 +1,6 @@
 use Rattle.laws.proofs.Prelude.{needs, _≡_, sym, _∙_, _-_, length, length-set}
 use Rattle.report.specs.Answer.{clearedFrom}
-use Rattle.report.proofs.Answers.{cleared-more, cleared-end}
-use Rattle.report.proofs.writer.clear_from.Statement.{statement}
+use Rattle.report.proofs.{Answers.cleared-more, Answers.cleared-end, writer.clear_from.Statement.statement}
 use Rattle.report.proofs.writer.clear_from.Tie as tie
 
 abbrev Inv-loop : tie.InvT-loop
@@ -21,15 +20,5 @@ returns c =
     sym (l .inv .1 ∙ cleared-end (l .out) (l .i) (c .loop-test .left))
 
 pub clear-from-spec : {M : Type 1} → statement M
-clear-from-spec =
-    tie.close
-    (tie.spec
-    Inv-loop
-    μ-loop
-    (λ c. search needs)
-    (λ c. search needs)
-    (λ c. search needs)
-    (λ c. search needs)
-    loop-again
-    (λ c. search needs)
-    returns)
+clear-from-spec = tie.close (tie.spec
+    Inv-loop μ-loop (λ c. search needs) (λ c. search needs) (λ c. search needs) (λ c. search needs) loop-again (λ c. search needs) returns)

@@ -18,12 +18,4 @@ returns-3 c = λ x v t e.
     no-argument (c .before .before .before .before .read-number .ensures) (c .before .before .if1 .left) (c .if2 .left) x t e .1
 
 pub skip-argument-spec : {M : Type 1} → statement M
-skip-argument-spec =
-    tie.close
-    (tie.spec
-    (λ c κs. search needs)
-    (λ c κs. search needs)
-    returns
-    (λ c κs. search needs)
-    returns-2
-    returns-3)
+skip-argument-spec = tie.close (tie.spec (λ c κs. search needs) (λ c κs. search needs) returns (λ c κs. search needs) returns-2 returns-3)

@@ -19,6 +19,4 @@ returns c = record {
 }
 
 pub read-range-spec : {M : Type 1} → statement M
-read-range-spec =
-    tie.close
-    (tie.spec (λ c κs. search needs) (λ c κs. search needs) (λ c κs. search needs) (λ c κs. search needs) returns)
+read-range-spec = tie.close (tie.spec (λ c κs. search needs) (λ c κs. search needs) (λ c κs. search needs) (λ c κs. search needs) returns)

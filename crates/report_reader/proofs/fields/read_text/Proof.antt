@@ -1,6 +1,5 @@
 use Rattle.laws.proofs.Prelude.{needs, arith}
-use Rattle.report_reader.proofs.FromBytes.{text-read, text-short}
-use Rattle.report_reader.proofs.fields.read_text.Statement.{statement}
+use Rattle.report_reader.proofs.{FromBytes.text-read, FromBytes.text-short, fields.read_text.Statement.statement}
 use Rattle.report_reader.proofs.fields.read_text.Tie as tie
 
 returns : tie.Need-returns

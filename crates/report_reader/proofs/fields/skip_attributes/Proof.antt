@@ -1,8 +1,7 @@
 use Rattle.laws.proofs.Prelude.{needs, arith}
 use Rattle.report.specs.ModuleInfo.{none, unknown, known}
 use Rattle.report.specs.Encode.{encodeAttributes}
-use Rattle.report_reader.proofs.FromBytes.{byte-read}
-use Rattle.report_reader.proofs.fields.skip_attributes.Statement.{statement}
+use Rattle.report_reader.proofs.{FromBytes.byte-read, fields.skip_attributes.Statement.statement}
 use Rattle.report_reader.proofs.fields.skip_attributes.Tie as tie
 
 returns : tie.Need-returns
@@ -28,10 +27,4 @@ returns-2 c =
     ]
 
 pub skip-attributes-spec : {M : Type 1} → statement M
-skip-attributes-spec =
-    tie.close
-    (tie.spec
-    (λ c κs. search needs)
-    (λ c κs. search needs)
-    returns
-    returns-2)
+skip-attributes-spec = tie.close (tie.spec (λ c κs. search needs) (λ c κs. search needs) returns returns-2)

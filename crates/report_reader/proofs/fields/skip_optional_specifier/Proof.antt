@@ -1,9 +1,7 @@
 use Rattle.laws.proofs.Prelude.{needs, _∙_, append-assoc}
 use Rattle.wire.specs.Text.{encodeText}
-use Rattle.report.specs.Encode.{encodeRange, encodeSpecifier}
-use Rattle.report.specs.Valid.{ValidSpecifier}
-use Rattle.report_reader.proofs.FromBytes.{none-there, some-there}
-use Rattle.report_reader.proofs.fields.skip_optional_specifier.Statement.{statement}
+use Rattle.report.specs.{Encode.encodeRange, Encode.encodeSpecifier, Valid.ValidSpecifier}
+use Rattle.report_reader.proofs.{FromBytes.none-there, FromBytes.some-there, fields.skip_optional_specifier.Statement.statement}
 use Rattle.report_reader.proofs.fields.skip_optional_specifier.Tie as tie
 
 returns : tie.Need-returns
@@ -21,5 +19,4 @@ returns-2 c = λ o v t e.
     c .read-range .ensures .answer (x .range) (v .range) t e .1
 
 pub skip-optional-specifier-spec : {M : Type 1} → statement M
-skip-optional-specifier-spec =
-    tie.close (tie.spec (λ c κs. search needs) returns (λ c κs. search needs) (λ c κs. search needs) returns-2)
+skip-optional-specifier-spec = tie.close (tie.spec (λ c κs. search needs) returns (λ c κs. search needs) (λ c κs. search needs) returns-2)

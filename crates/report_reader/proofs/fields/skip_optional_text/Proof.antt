@@ -1,7 +1,6 @@
 use Rattle.laws.proofs.Prelude.{needs}
 use Rattle.wire.specs.Text.{encodeText}
-use Rattle.report_reader.proofs.FromBytes.{none-there, some-there}
-use Rattle.report_reader.proofs.fields.skip_optional_text.Statement.{statement}
+use Rattle.report_reader.proofs.{FromBytes.none-there, FromBytes.some-there, fields.skip_optional_text.Statement.statement}
 use Rattle.report_reader.proofs.fields.skip_optional_text.Tie as tie
 
 returns : tie.Need-returns

@@ -1,6 +1,5 @@
 use Rattle.laws.proofs.Prelude.{needs, _∙_, append-assoc}
-use Rattle.wire.specs.Text.{encodeText}
-use Rattle.wire.specs.Optional.{encodeOptional}
+use Rattle.wire.specs.{Text.encodeText, Optional.encodeOptional}
 use Rattle.report.specs.Encode.{encodeKeyValue}
 use Rattle.report_reader.proofs.fields.skip_part.Statement.{statement}
 use Rattle.report_reader.proofs.fields.skip_part.Tie as tie
@@ -13,9 +12,7 @@ returns c =
     let (_, e) = c .before .read-text .ensures .answer (a .key) (v .key) _ (e ∙ append-assoc (encodeText (a .key)) (encodeOptional encodeText (a .value)) t) in
     c .skip-optional-text .ensures (a .value) (v .value) t e)
 
-returns-2 : tie.Need-returns-2
-returns-2 c = rw (c .before .if1 .left) (c .skip-optional-text2 .ensures)
-
 pub skip-part-spec : {M : Type 1} → statement M
 skip-part-spec =
-    tie.close (tie.spec (λ c κs. search needs) (λ c κs. search needs) returns (λ c κs. search needs) returns-2)
+    tie.close (tie.spec (λ c κs. search needs) (λ c κs. search needs) returns (λ c κs. search needs)
+    (λ c. rw (c .before .if1 .left) (c .skip-optional-text2 .ensures)))

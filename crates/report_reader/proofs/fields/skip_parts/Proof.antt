@@ -13,15 +13,13 @@ Inv-loop report at keyed count place₀ left₀ place left =
 abbrev μ-loop : tie.MeasureT-loop
 μ-loop report at keyed count place₀ left₀ place left = left
 
-loop-holds : tie.Need-loop-holds Inv-loop μ-loop
-loop-holds c = λ l v t e. (l, (v .0, v .1, e))
-
 loop-again : tie.Need-loop-again Inv-loop μ-loop
 loop-again c = λ l v t e.
     let a = c .before .before .before .before .args in
     let i = c .before .before .loop in
     let (l, p) = i .inv l v t e in
-    let (x, l, _, v, e, on) = next-item (encodeElement (a .keyed)) (ValidElement (a .keyed)) (now (a .report)) t (i .place) (i .left) l (c .before .loop-test .taken) p in
+    let (x, l, _, v, e, on) = next-item (encodeElement (a .keyed)) (ValidElement (a .keyed)) (now (a .report)) t (i .place) (i .left) l
+    (c .before .loop-test .taken) p in
     (l, on (c .skip-part .result) (c .skip-part .ensures x v _ e))
 
 returns : tie.Need-returns Inv-loop μ-loop
@@ -32,14 +30,5 @@ returns c = λ l v t e.
     no-item (encodeElement (a .keyed)) (ValidElement (a .keyed)) (now (a .report)) t (i .place) (i .left) l (c .loop-test .left) p .1
 
 pub skip-parts-spec : {M : Type 1} → statement M
-skip-parts-spec =
-    tie.close
-    (tie.spec
-    Inv-loop
-    μ-loop
-    loop-holds
-    (λ c κs. search needs)
-    (λ c. search needs)
-    (λ c. search needs)
-    loop-again
-    returns)
+skip-parts-spec = tie.close
+    (tie.spec Inv-loop μ-loop (λ c. λ l v t e. (l, (v .0, v .1, e))) (λ c κs. search needs) (λ c. search needs) (λ c. search needs) loop-again returns)

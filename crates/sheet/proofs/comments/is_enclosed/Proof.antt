@@ -9,20 +9,12 @@ returns c = rw (lt-leb _ _ (c .if1 .taken))
 
 returns-2 : tie.Need-returns-2
 unfolding enclosed
-returns-2 c = rw (le-leb _ _ (c .before .before .before .if1 .left), known (c .before .before .starts-with .ensures) (c .before .if2 .taken)) (c .starts-with2 .ensures)
+returns-2 c = rw (le-leb _ _ (c .before .before .before .if1 .left), known (c .before .before .starts-with .ensures) (c .before .if2 .taken))
+    (c .starts-with2 .ensures)
 
 returns-3 : tie.Need-returns-3
 unfolding enclosed
 returns-3 c = rw (le-leb _ _ (c .before .before .if1 .left), known (c .before .starts-with .ensures) (c .if2 .left))
 
 pub is-enclosed-spec : {M : Type 1} → statement M
-is-enclosed-spec =
-    tie.close
-    (tie.spec
-    (λ c. search needs)
-    returns
-    (λ c κs. search needs)
-    (λ c. search needs)
-    (λ c κs. search needs)
-    returns-2
-    returns-3)
+is-enclosed-spec = tie.close (tie.spec (λ c. search needs) returns (λ c κs. search needs) (λ c. search needs) (λ c κs. search needs) returns-2 returns-3)

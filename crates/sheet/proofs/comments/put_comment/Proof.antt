@@ -3,27 +3,8 @@ use native.Mathlib.Numerals.{add-two}
 use Rattle.sheet.proofs.comments.put_comment.Statement.{statement}
 use Rattle.sheet.proofs.comments.put_comment.Tie as tie
 
-slice-write-table-2 : tie.Need-slice-write-table-2
-slice-write-table-2 c = simp length-set (omega arith)
-
-returns : tie.Need-returns
-returns c = rw (add-one, add-two, c .before .before .kind-number .ensures)
-
 pub put-comment-spec : {M : Type 1} → statement M
-put-comment-spec =
-    tie.close
-    (tie.spec
-    (λ c. search needs)
-    (λ c κs. search needs)
-    (λ c. search needs)
-    (λ c. search needs)
-    (λ c. search needs)
-    (λ c. search needs)
-    (λ c. search needs)
-    slice-write-table-2
-    (λ c. search needs)
-    (λ c. search needs)
-    (λ c. search needs)
-    (λ c. search needs)
-    (λ c. search needs)
-    returns)
+put-comment-spec = tie.close (tie.spec
+    (λ c. search needs) (λ c κs. search needs) (λ c. search needs) (λ c. search needs) (λ c. search needs) (λ c. search needs) (λ c. search needs)
+    (λ c. simp length-set (omega arith)) (λ c. search needs) (λ c. search needs) (λ c. search needs) (λ c. search needs) (λ c. search needs)
+    (λ c. rw (add-one, add-two, c .before .before .kind-number .ensures)))

@@ -9,9 +9,6 @@ Inv-loop longest₀ n i₀ longest i = (i ≤ n) × (length longest ≡ length l
 abbrev μ-loop : tie.MeasureT-loop
 μ-loop longest₀ n i₀ longest i = n - i
 
-loop-holds : tie.Need-loop-holds Inv-loop μ-loop
-loop-holds c = (omega arith, refl, fill-none (now (c .args .longest)) 0)
-
 loop-again : tie.Need-loop-again Inv-loop μ-loop
 loop-again c =
     let l = c .before .loop in
@@ -23,16 +20,6 @@ returns c =
     rw all at (c .before .loop .inv .2)
 
 pub clear-spec : {M : Type 1} → statement M
-clear-spec =
-    tie.close
-    (tie.spec
-    Inv-loop
-    μ-loop
-    loop-holds
-    (λ c. search needs)
-    (λ c. search needs)
-    (λ c. search needs)
-    (λ c. search needs)
-    loop-again
-    (λ c. search needs)
-    returns)
+clear-spec = tie.close (tie.spec
+    Inv-loop μ-loop (λ c. (omega arith, refl, fill-none (now (c .args .longest)) 0)) (λ c. search needs) (λ c. search needs) (λ c. search needs)
+    (λ c. search needs) loop-again (λ c. search needs) returns)

@@ -9,37 +9,17 @@ Inv-loop table m longest₀ n k₀ longest k = (length longest ≡ length longes
 abbrev μ-loop : tie.MeasureT-loop
 μ-loop table m longest₀ n k₀ longest k = m - k
 
-loop-holds : tie.Need-loop-holds Inv-loop μ-loop
-loop-holds c = (refl, keep-none _ _ _ _)
-
-cast-raise : tie.Need-cast-raise Inv-loop μ-loop
-cast-raise c = omega (arith, c .shared-slice-known2 .given (4 * c .before .before .before .loop .k + 2))
-
 loop-again : tie.Need-loop-again Inv-loop μ-loop
-loop-again c = (c .before .before .raise .kept .0 ∙ c .before .before .before .before .before .before .before .loop .inv .0, keep-more (c .before .before .before .before .before .before .before .loop .inv .1) (c .before .before .before .before .before .before .loop-test .taken) (c .before .before .raise .ensures))
-
-returns : tie.Need-returns Inv-loop μ-loop
-returns c = keep-all (c .before .loop .inv .1) (c .loop-test .left)
+loop-again c =
+    let at-loop = c .before .before .before .before .before .before in (
+      c .before .before .raise .kept .0 ∙
+          at-loop .before .loop .inv .0,
+      keep-more (at-loop .before .loop .inv .1) (at-loop .loop-test .taken) (c .before .before .raise .ensures),
+    )
 
 pub keep-longest-spec : {M : Type 1} → statement M
-keep-longest-spec =
-    tie.close
-    (tie.spec
-    Inv-loop
-    μ-loop
-    loop-holds
-    (λ c. search needs)
-    (λ c. search needs)
-    (λ c. search needs)
-    (λ c. search needs)
-    cast-raise
-    (λ c. search needs)
-    (λ c. search needs)
-    (λ c. search needs)
-    (λ c. search needs)
-    (λ c κs. search needs)
-    (λ c. search needs)
-    (λ c. search needs)
-    loop-again
-    (λ c. search needs)
-    returns)
+keep-longest-spec = tie.close (tie.spec
+    Inv-loop μ-loop (λ c. (refl, keep-none _ _ _ _)) (λ c. search needs) (λ c. search needs) (λ c. search needs) (λ c. search needs)
+    (λ c. omega (arith, c .shared-slice-known2 .given (4 * c .before .before .before .loop .k + 2))) (λ c. search needs) (λ c. search needs)
+    (λ c. search needs) (λ c. search needs) (λ c κs. search needs) (λ c. search needs) (λ c. search needs) loop-again (λ c. search needs)
+    (λ c. keep-all (c .before .loop .inv .1) (c .loop-test .left)))

@@ -13,14 +13,5 @@ returns-3 : tie.Need-returns-3
 returns-3 c = λ i l. let a = c .before .args in raise-past (now (a .longest)) (a .at) (a .count) i (omega arith)
 
 pub raise-spec : {M : Type 1} → statement M
-raise-spec =
-    tie.close
-    (tie.spec
-    (λ c. search needs)
-    (λ c. search needs)
-    (λ c. search needs)
-    (λ c. search needs)
-    (λ c. search needs)
-    returns
-    returns-2
-    returns-3)
+raise-spec = tie.close (tie.spec
+    (λ c. search needs) (λ c. search needs) (λ c. search needs) (λ c. search needs) (λ c. search needs) returns returns-2 returns-3)

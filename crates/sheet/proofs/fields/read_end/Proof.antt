@@ -9,10 +9,11 @@ returns c = record { answer = rw (told (c .before .before .before .read-position
 
 returns-2 : tie.Need-returns-2
 unfolding endFrom
-returns-2 c = record {
-  answer = rw (told (c .before .before .before .before .read-position .ensures) (c .before .before .end .given .1), le-leb _ _ (c .if1 .taken));
-  bounds = bounded (c .before .before .before .before .read-position .ensures) (c .before .before .end .given .1);
-}
+returns-2 c =
+    let at-read-position = c .before .before .before .before in record {
+      answer = rw (told (at-read-position .read-position .ensures) (c .before .before .end .given .1), le-leb _ _ (c .if1 .taken));
+      bounds = bounded (at-read-position .read-position .ensures) (c .before .before .end .given .1);
+    }
 
 returns-3 : tie.Need-returns-3
 unfolding endFrom
@@ -22,6 +23,4 @@ returns-3 c = record {
 }
 
 pub read-end-spec : {M : Type 1} → statement M
-read-end-spec =
-    tie.close
-    (tie.spec (λ c κs. search needs) (λ c. search needs) (λ c. search needs) returns returns-2 returns-3)
+read-end-spec = tie.close (tie.spec (λ c κs. search needs) (λ c. search needs) (λ c. search needs) returns returns-2 returns-3)

@@ -9,13 +9,11 @@ returns c = record { answer = rw (told (c .before .before .before .number .ensur
 
 returns-2 : tie.Need-returns-2
 unfolding position
-returns-2 c = record {
-  answer = rw (
-    told (c .before .before .before .before .before .number .ensures) (c .before .before .before .p .given .1),
-    known (c .before .is-boundary .ensures) (c .if1 .taken),
-  );
-  bounds = bounded (c .before .before .before .before .before .number .ensures) (c .before .before .before .p .given .1);
-}
+returns-2 c =
+    let at-number = c .before .before .before .before .before in record {
+      answer = rw (told (at-number .number .ensures) (c .before .before .before .p .given .1), known (c .before .is-boundary .ensures) (c .if1 .taken));
+      bounds = bounded (at-number .number .ensures) (c .before .before .before .p .given .1);
+    }
 
 returns-3 : tie.Need-returns-3
 unfolding position
@@ -28,13 +26,4 @@ returns-3 c = record {
 }
 
 pub read-position-spec : {M : Type 1} → statement M
-read-position-spec =
-    tie.close
-    (tie.spec
-    (λ c κs. search needs)
-    (λ c. search needs)
-    (λ c. search needs)
-    (λ c κs. search needs)
-    returns
-    returns-2
-    returns-3)
+read-position-spec = tie.close (tie.spec (λ c κs. search needs) (λ c. search needs) (λ c. search needs) (λ c κs. search needs) returns returns-2 returns-3)

@@ -15,9 +15,5 @@ part-result-end : tie.Need-part-result-end
 unfolding bodySpan
 part-result-end c = rw (c .body-span .ensures) (omega arith)
 
-returns : tie.Need-returns
-returns c = rw (c .before .body-span .ensures)
-
 pub body-spec : {M : Type 1} → statement M
-body-spec =
-    tie.close (tie.spec (λ c κs. search needs) sub-result part-result-start part-result-end returns)
+body-spec = tie.close (tie.spec (λ c κs. search needs) sub-result part-result-start part-result-end (λ c. rw (c .before .body-span .ensures)))

@@ -8,5 +8,4 @@ unfolding bodySpan
 returns c = rw (c .before .before .before .opening-length .ensures, c .before .closing-length .ensures)
 
 pub body-span-spec : {M : Type 1} → statement M
-body-span-spec =
-    tie.close (tie.spec (λ c κs. search needs) (λ c. search needs) (λ c κs. search needs) (λ c. search needs) returns)
+body-span-spec = tie.close (tie.spec (λ c κs. search needs) (λ c. search needs) (λ c κs. search needs) (λ c. search needs) returns)

@@ -16,14 +16,5 @@ unfolding headGroup
 returns-3 c = rw (c .before .before .enum-told .given .1, c .before .if1 .left) (c .find-group2 .ensures)
 
 pub head-group-spec : {M : Type 1} → statement M
-head-group-spec =
-    tie.close
-    (tie.spec
-    (λ c. search needs)
-    (λ c κs. search needs)
-    (λ c. search needs)
-    (λ c κs. search needs)
-    (λ c κs. search needs)
-    returns
-    returns-2
-    returns-3)
+head-group-spec = tie.close (tie.spec
+    (λ c. search needs) (λ c κs. search needs) (λ c. search needs) (λ c κs. search needs) (λ c κs. search needs) returns returns-2 returns-3)

@@ -4,8 +4,5 @@ use Rattle.sheet.specs.Names.{commentKinds}
 use Rattle.sheet.proofs.names.comment_kind.Statement.{statement}
 use Rattle.sheet.proofs.names.comment_kind.Tie as tie
 
-returns-4 : tie.Need-returns-4
-returns-4 c = sym (last-value commentKinds _ (c .match .rest))
-
 pub comment-kind-spec : {M : Type 1} → statement M
-comment-kind-spec = tie.close (tie.spec (λ c. search needs) (λ c. search needs) (λ c. search needs) returns-4)
+comment-kind-spec = tie.close (tie.spec (λ c. search needs) (λ c. search needs) (λ c. search needs) (λ c. sym (last-value commentKinds _ (c .match .rest))))

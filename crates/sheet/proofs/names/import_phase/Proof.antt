@@ -4,8 +4,5 @@ use Rattle.sheet.specs.Names.{importPhases}
 use Rattle.sheet.proofs.names.import_phase.Statement.{statement}
 use Rattle.sheet.proofs.names.import_phase.Tie as tie
 
-returns-3 : tie.Need-returns-3
-returns-3 c = sym (last-value importPhases _ (c .match .rest))
-
 pub import-phase-spec : {M : Type 1} → statement M
-import-phase-spec = tie.close (tie.spec (λ c. search needs) (λ c. search needs) returns-3)
+import-phase-spec = tie.close (tie.spec (λ c. search needs) (λ c. search needs) (λ c. sym (last-value importPhases _ (c .match .rest))))

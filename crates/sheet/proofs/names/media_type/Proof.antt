@@ -4,21 +4,7 @@ use Rattle.sheet.specs.Names.{mediaTypes}
 use Rattle.sheet.proofs.names.media_type.Statement.{statement}
 use Rattle.sheet.proofs.names.media_type.Tie as tie
 
-returns-11 : tie.Need-returns-11
-returns-11 c = sym (last-value mediaTypes _ (c .match .rest))
-
 pub media-type-spec : {M : Type 1} → statement M
-media-type-spec =
-    tie.close
-    (tie.spec
-    (λ c. search needs)
-    (λ c. search needs)
-    (λ c. search needs)
-    (λ c. search needs)
-    (λ c. search needs)
-    (λ c. search needs)
-    (λ c. search needs)
-    (λ c. search needs)
-    (λ c. search needs)
-    (λ c. search needs)
-    returns-11)
+media-type-spec = tie.close (tie.spec
+    (λ c. search needs) (λ c. search needs) (λ c. search needs) (λ c. search needs) (λ c. search needs) (λ c. search needs) (λ c. search needs)
+    (λ c. search needs) (λ c. search needs) (λ c. search needs) (λ c. sym (last-value mediaTypes _ (c .match .rest))))

@@ -4,8 +4,5 @@ use Rattle.sheet.specs.Names.{sides}
 use Rattle.sheet.proofs.names.side_of.Statement.{statement}
 use Rattle.sheet.proofs.names.side_of.Tie as tie
 
-returns-2 : tie.Need-returns-2
-returns-2 c = sym (last-value sides _ (c .match .rest))
-
 pub side-of-spec : {M : Type 1} → statement M
-side-of-spec = tie.close (tie.spec (λ c. search needs) returns-2)
+side-of-spec = tie.close (tie.spec (λ c. search needs) (λ c. sym (last-value sides _ (c .match .rest))))

@@ -1,7 +1,6 @@
 use Rattle.laws.proofs.Prelude.{needs, sym, drop, now}
 use Rattle.sheet_heads.specs.code.Head.{start}
-use Rattle.sheet_heads.proofs.Outside.{no-start}
-use Rattle.sheet_heads.proofs.node.read_fields.Statement.{statement}
+use Rattle.sheet_heads.proofs.{Outside.no-start, node.read_fields.Statement.statement}
 use Rattle.sheet_heads.proofs.node.read_fields.Tie as tie
 
 returns : tie.Need-returns
@@ -59,39 +58,11 @@ returns-13 c = record { answer = rw (c .before .match .keys13) (c .read-module .
 returns-14 : tie.Need-returns-14
 returns-14 c =
     let a = c .before .before .before .args in
-    record {
-      answer = sym (no-start (now (a .source)) (a .levels) (a .span) (a .tag) (drop (a .c .at) (now (a .sheet))) (c .match .rest));
-      bounds = tt;
-    }
+    record { answer = sym (no-start (now (a .source)) (a .levels) (a .span) (a .tag) (drop (a .c .at) (now (a .sheet))) (c .match .rest)); bounds = tt }
 
 pub read-fields-spec : {M : Type 1} → statement M
-read-fields-spec =
-    tie.close
-    (tie.spec
-    (λ c κs. search needs)
-    (λ c κs. search needs)
-    (λ c κs. search needs)
-    (λ c κs. search needs)
-    (λ c κs. search needs)
-    (λ c κs. search needs)
-    (λ c κs. search needs)
-    (λ c κs. search needs)
-    (λ c κs. search needs)
-    (λ c κs. search needs)
-    (λ c κs. search needs)
-    (λ c κs. search needs)
-    (λ c κs. search needs)
-    returns
-    returns-2
-    returns-3
-    returns-4
-    returns-5
-    returns-6
-    returns-7
-    returns-8
-    returns-9
-    returns-10
-    returns-11
-    returns-12
-    returns-13
+read-fields-spec = tie.close (tie.spec
+    (λ c κs. search needs) (λ c κs. search needs) (λ c κs. search needs) (λ c κs. search needs) (λ c κs. search needs) (λ c κs. search needs)
+    (λ c κs. search needs) (λ c κs. search needs) (λ c κs. search needs) (λ c κs. search needs) (λ c κs. search needs) (λ c κs. search needs)
+    (λ c κs. search needs) returns returns-2 returns-3 returns-4 returns-5 returns-6 returns-7 returns-8 returns-9 returns-10 returns-11 returns-12 returns-13
     returns-14)

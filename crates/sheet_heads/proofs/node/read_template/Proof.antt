@@ -14,5 +14,4 @@ returns-2 c =
     record { answer = rw is; bounds = search needs }
 
 pub read-template-spec : {M : Type 1} → statement M
-read-template-spec =
-    tie.close (tie.spec (λ c κs. search needs) (λ c. search needs) (λ c. search needs) returns returns-2)
+read-template-spec = tie.close (tie.spec (λ c κs. search needs) (λ c. search needs) (λ c. search needs) returns returns-2)

@@ -8,8 +8,5 @@ returns c = record { answer = λ s. rw (c .before .if1 .taken, lt-ltb _ _ (c .if
 returns-2 : tie.Need-returns-2
 returns-2 c = record { answer = λ s. rw (c .before .if1 .taken, le-ltb _ _ (c .if2 .left)); bounds = λ at n h l. tt }
 
-returns-3 : tie.Need-returns-3
-returns-3 c = record { answer = λ s. rw (c .if1 .left); bounds = λ at n h l. tt }
-
 pub judge-tag-spec : {M : Type 1} → statement M
-judge-tag-spec = tie.close (tie.spec returns returns-2 returns-3)
+judge-tag-spec = tie.close (tie.spec returns returns-2 (λ c. record { answer = λ s. rw (c .if1 .left); bounds = λ at n h l. tt }))

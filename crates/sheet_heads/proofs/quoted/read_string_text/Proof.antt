@@ -16,5 +16,4 @@ returns-2 c = record { answer = rw (known (c .before .looks-quoted .ensures) (c 
 
 pub read-string-text-spec : {M : Type 1} → statement M
 read-string-text-spec =
-    tie.close
-    (tie.spec (λ c. search needs) (λ c. search needs) (λ c. search needs) (λ c κs. search needs) (λ c κs. search needs) returns returns-2)
+    tie.close (tie.spec (λ c. search needs) (λ c. search needs) (λ c. search needs) (λ c κs. search needs) (λ c κs. search needs) returns returns-2)

@@ -1,4 +1,4 @@
-use Rattle.laws.proofs.Prelude.{needs, now, told, bounded}
+use Rattle.laws.proofs.Prelude.{needs, now, told, told-of}
 use Rattle.sheet.specs.Nodes.{tag}
 use Rattle.sheet_heads.proofs.quoted.read_tag.Statement.{statement}
 use Rattle.sheet_heads.proofs.quoted.read_tag.Tie as tie
@@ -10,14 +10,10 @@ returns c = record { answer = rw (told (c .before .before .before .byte .ensures
 returns-2 : tie.Need-returns-2
 unfolding tag
 returns-2 c =
-    let s = now (c .before .before .before .before .before .before .args .sheet) in
-    let past = bounded (c .before .before .before .before .byte .ensures) (c .before .before .t .given .1) in
-    record {
-      answer = rw (told (c .before .before .before .before .byte .ensures) (c .before .before .t .given .1)) (c .judge-tag .ensures .answer s);
-      bounds = c .judge-tag .ensures .bounds _ _ (past .0) (past .1);
-    }
+    let at-byte = c .before .before .before .before in
+    let s = now (at-byte .before .before .args .sheet) in
+    let past = told-of (at-byte .byte .ensures) (c .before .before .t .given .1) in
+    record { answer = rw (← past .answer) (c .judge-tag .ensures .answer s); bounds = c .judge-tag .ensures .bounds _ _ (past .bounds .0) (past .bounds .1) }
 
 pub read-tag-spec : {M : Type 1} → statement M
-read-tag-spec =
-    tie.close
-    (tie.spec (λ c κs. search needs) (λ c. search needs) (λ c. search needs) (λ c κs. search needs) returns returns-2)
+read-tag-spec = tie.close (tie.spec (λ c κs. search needs) (λ c. search needs) (λ c. search needs) (λ c κs. search needs) returns returns-2)

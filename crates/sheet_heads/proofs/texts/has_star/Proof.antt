@@ -1,7 +1,6 @@
 use Rattle.laws.proofs.Prelude.{_≡_, sym, _∙_, _-_, needs, eq-eqb, ne-eqb, length, drop, now}
 use Rattle.sheet.specs.Shape.{hasStar}
-use Rattle.sheet_heads.proofs.Stars.{star-or-later, no-star-left}
-use Rattle.sheet_heads.proofs.texts.has_star.Statement.{statement}
+use Rattle.sheet_heads.proofs.{Stars.star-or-later, Stars.no-star-left, texts.has_star.Statement.statement}
 use Rattle.sheet_heads.proofs.texts.has_star.Tie as tie
 
 abbrev Inv-loop : tie.InvT-loop
@@ -20,19 +19,7 @@ loop-again c =
     let l = c .before .before .before .loop in
     rw (l .inv, star-or-later (now (c .before .before .before .before .args .x)) (l .i) (c .before .before .loop-test .taken), ne-eqb _ _ (c .if1 .left))
 
-returns-2 : tie.Need-returns-2 Inv-loop μ-loop
-returns-2 c = sym (c .before .loop .inv ∙ no-star-left _ _ (c .loop-test .left))
-
 pub has-star-spec : {M : Type 1} → statement M
-has-star-spec =
-    tie.close
-    (tie.spec
-    Inv-loop
-    μ-loop
-    (λ c. search needs)
-    (λ c. search needs)
-    returns
-    (λ c. search needs)
-    (λ c. search needs)
-    loop-again
-    returns-2)
+has-star-spec = tie.close (tie.spec
+    Inv-loop μ-loop (λ c. search needs) (λ c. search needs) returns (λ c. search needs) (λ c. search needs) loop-again
+    (λ c. sym (c .before .loop .inv ∙ no-star-left _ _ (c .loop-test .left))))

@@ -26,13 +26,15 @@ loop-holds c =
 
 returns : tie.Need-returns Inv-loop μ-loop
 returns c =
-    let a = c .before .before .before .before .before .before .before .before .args in
+    let at-loop = c .before .before .before .before in let start = at-loop .before .before .before .before in
+    let a = start .args in
     let s = now (a .sheet) in
     let inner = node (now (a .source)) (a .levels) in
     let u = drop (a .c .at) s in
-    let l = c .before .before .before .before .before .loop in
+    let l = at-loop .before .loop in
     let stop = told (c .before .before .before .check-node .ensures) (c .before .r .given .1) in
-    let none-read = sym (nodes-all inner (a .count) u) ∙ l .inv .2 ∙ nodes-stop inner (l .total) (l .left) (drop (l .at .at) s) (c .before .before .before .before .loop-test .taken) stop in
+    let none-read = sym (nodes-all inner (a .count) u) ∙ l .inv .2 ∙
+    nodes-stop inner (l .total) (l .left) (drop (l .at .at) s) (at-loop .loop-test .taken) stop in
     record { answer = sym none-read; bounds = tt; reach = λ ns t e. absurd (refused (sym (onOk-no tallyAll (nodes inner (a .count) u) none-read) ∙ e)) }
 
 add-requires : tie.Need-add-requires Inv-loop μ-loop
@@ -42,16 +44,23 @@ add-requires c κs =
 
 loop-again : tie.Need-loop-again Inv-loop μ-loop
 loop-again c =
-    let a = c .before .before .before .before .before .before .before .before .before .before .args in
+    let at-check-node = c .before .before .before .before .before in
+    let start = at-check-node .before .before .before .before .before in
+    let a = start .args in
     let s = now (a .sheet) in
     let inner = node (now (a .source)) (a .levels) in
-    let l = c .before .before .before .before .before .before .before .loop in
+    let l = at-check-node .before .before .loop in
     let v = drop (l .at .at) s in
-    let more = c .before .before .before .before .before .before .loop-test .taken in
-    let past = bounded (c .before .before .before .before .before .check-node .ensures) (c .before .before .before .j .given .1) in
-    let step = told (c .before .before .before .before .before .check-node .ensures) (c .before .before .before .j .given .1) in
-    rw (c .further .ensures, c .before .add .ensures)
-    (omega arith, past .1, l .inv .2 ∙ nodes-step inner (l .total) (l .left) v more step, omega arith, reached-step inner (a .count) (drop (a .c .at) s) (l .left) (l .reach) v (l .inv .4) more (l .inv .3) step)
+    let more = at-check-node .before .loop-test .taken in
+    let past = bounded (at-check-node .check-node .ensures) (c .before .before .before .j .given .1) in
+    let step = told (at-check-node .check-node .ensures) (c .before .before .before .j .given .1) in
+    rw (c .further .ensures, c .before .add .ensures) (
+      omega arith,
+      past .1,
+      l .inv .2 ∙ nodes-step inner (l .total) (l .left) v more step,
+      omega arith,
+      reached-step inner (a .count) (drop (a .c .at) s) (l .left) (l .reach) v (l .inv .4) more (l .inv .3) step,
+    )
 
 returns-2 : tie.Need-returns-2 Inv-loop μ-loop
 returns-2 c =
@@ -68,20 +77,6 @@ returns-2 c =
     }
 
 pub check-children-spec : {M : Type 1} → statement M
-check-children-spec =
-    tie.close
-    (tie.spec
-    Inv-loop
-    μ-loop
-    loop-holds
-    (λ c κs. search needs)
-    (λ c. search needs)
-    returns
-    (λ c. search needs)
-    add-requires
-    (λ c. search needs)
-    (λ c. search needs)
-    (λ c κs. search needs)
-    (λ c. search needs)
-    loop-again
-    returns-2)
+check-children-spec = tie.close (tie.spec
+    Inv-loop μ-loop loop-holds (λ c κs. search needs) (λ c. search needs) returns (λ c. search needs) add-requires (λ c. search needs) (λ c. search needs)
+    (λ c κs. search needs) (λ c. search needs) loop-again returns-2)

@@ -1,31 +1,32 @@
 -- `check_root`: what `check_node` answers, by the head; of an Other, how far the entries of its children reach.
 use Rattle.laws.proofs.Prelude.{needs, refl, false, _-_, arith, length, drop, now, seen, told, bounded}
-use Rattle.sheet.specs.Tree.{other}
-use Rattle.sheet.specs.Nodes.{node, nodes}
-use Rattle.sheet_heads.specs.code.Views.{headAs}
-use Rattle.sheet_heads.proofs.ByHead.{node-by-head, no-head}
-use Rattle.sheet_nodes.specs.code.Tallies.{tallyAll}
-use Rattle.sheet_nodes.specs.code.Answers.{withOwn}
-use Rattle.sheet_nodes.proofs.Arms.{holds-plain}
+use Rattle.sheet.specs.{Tree.other, Nodes.node, Nodes.nodes}
+use Rattle.sheet_heads.{specs.code.Views.headAs, proofs.ByHead.node-by-head, proofs.ByHead.no-head}
+use Rattle.sheet_nodes.specs.code.{Tallies.tallyAll, Answers.withOwn}
+use Rattle.sheet_nodes.proofs.{Arms.holds-plain, Reach.other-reaches, Reach.unlike-reaches, root.check_root.Statement.statement}
 use Rattle.sheet_nodes.proofs.Rooms.{room, holding-past, whole-past}
-use Rattle.sheet_nodes.proofs.Reach.{other-reaches, unlike-reaches}
-use Rattle.sheet_nodes.proofs.root.check_root.Statement.{statement}
 use Rattle.sheet_nodes.proofs.root.check_root.Tie as tie
 
 sub-check-children : tie.Need-sub-check-children
-sub-check-children c = bounded (c .before .before .before .before .before .before .read-head .ensures) (c .before .before .before .before .head .given .1) .0
+sub-check-children c =
+    let at-head = c .before .before .before .before in
+    bounded (at-head .before .before .read-head .ensures) (at-head .head .given .1) .0
 
 check-children-requires : tie.Need-check-children-requires
-check-children-requires c κs = bounded (c .before .before .before .before .before .before .read-head .ensures) (c .before .before .before .before .head .given .1) .2
+check-children-requires c κs =
+    let at-head = c .before .before .before .before in
+    bounded (at-head .before .before .read-head .ensures) (at-head .head .given .1) .2
 
 holding-requires : tie.Need-holding-requires
 holding-requires c κs =
-    let past = bounded (c .before .before .before .before .before .before .before .read-head .ensures) (c .before .before .before .before .before .head .given .1) in
+    let at-head = c .before .before .before .before .before in
+    let past = bounded (at-head .before .before .read-head .ensures) (at-head .head .given .1) in
     room _ _ 1 (c .check-children .result .tallied) (omega arith) (c .check-children .ensures .bounds)
 
 returns : tie.Need-returns
 returns c =
-    let a = c .before .before .before .before .before .before .args in
+    let start = c .before .before .before .before .before .before in
+    let a = start .args in
     let s = now (a .sheet) in
     let source = now (a .source) in
     let none-read = told (c .before .before .before .read-head .ensures) (c .before .r .given .1) in
@@ -37,14 +38,15 @@ returns c =
 
 returns-2 : tie.Need-returns-2
 returns-2 c =
-    let a = c .before .before .before .before .before .before .before .before .before .before .before .args in
+    let at-head = c .before .before .before .before .before .before in let start = at-head .before .before .before .before .before in
+    let a = start .args in
     let s = now (a .sheet) in
     let source = now (a .source) in
-    let says = c .before .before .before .before .before .before .before .before .read-head .ensures .answer in
-    let is = c .before .before .before .before .before .before .head .given .1 in
-    let sp = c .before .before .before .before .before .before .head .given .0 .0 in
-    let next = c .before .before .before .before .before .before .head .given .0 .1 .1 .0 in
-    let past = bounded (c .before .before .before .before .before .before .before .before .read-head .ensures) is in
+    let says = at-head .before .before .read-head .ensures .answer in
+    let is = at-head .head .given .1 in
+    let sp = at-head .head .given .0 .0 in
+    let next = at-head .head .given .0 .1 .1 .0 in
+    let past = bounded (at-head .before .before .read-head .ensures) is in
     let count = c .before .before .before .head2 .given .0 .0 in
     let other-is = c .before .before .before .head2 .given .1 in
     let y = c .before .check-children .result .tallied in
@@ -59,8 +61,9 @@ returns-2 c =
 
 returns-3 : tie.Need-returns-3
 returns-3 c =
-    let a = c .before .before .before .before .before .before .before .before .args in
-    let says = c .before .before .before .before .before .read-head .ensures .answer in
+    let at-read-head = c .before .before .before .before .before in
+    let a = at-read-head .before .before .before .args in
+    let says = at-read-head .read-head .ensures .answer in
     let is = c .before .before .before .head .given .1 in
     record {
       answer = c .check-node .ensures .answer;
@@ -69,17 +72,6 @@ returns-3 c =
     }
 
 pub check-root-spec : {M : Type 1} → statement M
-check-root-spec =
-    tie.close
-    (tie.spec
-    (λ c κs. search needs)
-    (λ c. search needs)
-    (λ c. search needs)
-    (λ c. search needs)
-    sub-check-children
-    check-children-requires
-    holding-requires
-    (λ c κs. search needs)
-    returns
-    returns-2
-    returns-3)
+check-root-spec = tie.close (tie.spec
+    (λ c κs. search needs) (λ c. search needs) (λ c. search needs) (λ c. search needs) sub-check-children check-children-requires holding-requires
+    (λ c κs. search needs) returns returns-2 returns-3)

@@ -1,5 +1,4 @@
-use Rattle.sheet_nodes.proofs.Reach.{furthest-here, furthest-kept}
-use Rattle.sheet_nodes.proofs.root.further.Statement.{statement}
+use Rattle.sheet_nodes.proofs.{Reach.furthest-here, Reach.furthest-kept, root.further.Statement.statement}
 use Rattle.sheet_nodes.proofs.root.further.Tie as tie
 
 returns : tie.Need-returns

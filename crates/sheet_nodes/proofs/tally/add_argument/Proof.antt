@@ -2,9 +2,7 @@ use Rattle.laws.proofs.Prelude.{needs}
 use Rattle.sheet_nodes.proofs.tally.add_argument.Statement.{statement}
 use Rattle.sheet_nodes.proofs.tally.add_argument.Tie as tie
 
-returns : tie.Need-returns
-returns c = rw (c .either2 .ensures, c .before .before .before .either .ensures, c .before .both .ensures)
-
 pub add-argument-spec : {M : Type 1} → statement M
 add-argument-spec =
-    tie.close (tie.spec (λ c. search needs) (λ c κs. search needs) (λ c κs. search needs) (λ c κs. search needs) returns)
+    tie.close (tie.spec (λ c. search needs) (λ c κs. search needs) (λ c κs. search needs) (λ c κs. search needs)
+    (λ c. rw (c .either2 .ensures, c .before .before .before .either .ensures, c .before .both .ensures)))

@@ -7,11 +7,6 @@ add-requires c κs =
     let room = rw (c .before .r2 .given .1) at (c .before .before .before .pre) in
     omega arith
 
-returns : tie.Need-returns
-returns c = rw (c .before .r .given .1)
-
-returns-2 : tie.Need-returns-2
-returns-2 c = rw (c .before .before .r2 .given .1, c .add .ensures)
-
 pub join-spec : {M : Type 1} → statement M
-join-spec = tie.close (tie.spec (λ c. search needs) (λ c. search needs) add-requires returns returns-2)
+join-spec = tie.close (tie.spec (λ c. search needs) (λ c. search needs) add-requires (λ c. rw (c .before .r .given .1))
+    (λ c. rw (c .before .before .r2 .given .1, c .add .ensures)))

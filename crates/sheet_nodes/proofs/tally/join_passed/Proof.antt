@@ -7,12 +7,7 @@ add-t7 c =
     let room = rw (c .before .before .before .r2 .given .1) at (c .before .before .before .before .before .pre) in
     omega arith
 
-returns : tie.Need-returns
-returns c = rw (c .before .r .given .1)
-
-returns-2 : tie.Need-returns-2
-returns-2 c = rw (c .before .before .before .before .r2 .given .1, c .either .ensures)
-
 pub join-passed-spec : {M : Type 1} → statement M
 join-passed-spec =
-    tie.close (tie.spec (λ c. search needs) (λ c. search needs) add-t7 (λ c κs. search needs) returns returns-2)
+    tie.close (tie.spec (λ c. search needs) (λ c. search needs) add-t7 (λ c κs. search needs) (λ c. rw (c .before .r .given .1))
+    (λ c. rw (c .before .before .before .before .r2 .given .1, c .either .ensures)))

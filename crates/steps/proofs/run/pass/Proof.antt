@@ -19,13 +19,11 @@ part-match-word-end c = let l = rw (c .before .plain .given .1) at (c .before .b
 returns-2 : tie.Need-returns-2
 unfolding all
 returns-2 c =
-    let n = c .before .before .before .before .before .plain .given .0 .0 in
+    let at-plain = c .before .before .before .before .before in
+    let n = at-plain .plain .given .0 .0 in
     let width : 2 + n - 2 ≡ n = omega arith in
     record {
-      answer = λ q. rw (
-        c .before .before .before .before .before .plain .given .1,
-        rw width at (known (c .before .before .match-word .ensures .answer) (c .enum-told2 .given .1)),
-      );
+      answer = λ q. rw (at-plain .plain .given .1, rw width at (known (c .before .before .match-word .ensures .answer) (c .enum-told2 .given .1)));
       bounds = tt;
     }
 
@@ -43,13 +41,11 @@ returns-4 c = record { answer = λ q. rw (c .before .enum-told .given .1, ne-eqb
 returns-5 : tie.Need-returns-5
 unfolding all
 returns-5 c =
-    let n = c .before .before .before .before .before .before .plain .given .0 .0 in
+    let at-plain = c .before .before .before .before .before .before in
+    let n = at-plain .plain .given .0 .0 in
     let width : 2 + n - 2 ≡ n = omega arith in
     record {
-      answer = λ q. rw (
-        c .before .before .before .before .before .before .plain .given .1,
-        rw width at (known (c .before .before .before .match-word .ensures .answer) (c .before .e .given .1)),
-      );
+      answer = λ q. rw (at-plain .plain .given .1, rw width at (known (c .before .before .before .match-word .ensures .answer) (c .before .e .given .1)));
       bounds = rw (c .before .e .given .1) at (c .before .before .before .match-word .ensures .bounds);
     }
 
@@ -69,28 +65,7 @@ unfolding all
 returns-8 c = record { answer = λ q. rw (c .enum-told3 .given .1); bounds = c .before .before .before .before .pre .0 }
 
 pub pass-spec : {M : Type 1} → statement M
-pass-spec =
-    tie.close
-    (tie.spec
-    (λ c. search needs)
-    returns
-    (λ c. search needs)
-    add-end
-    (λ c. search needs)
-    (λ c. search needs)
-    part-match-word-end
-    (λ c κs. search needs)
-    (λ c. search needs)
-    (λ c. search needs)
-    returns-2
-    (λ c. search needs)
-    (λ c κs. search needs)
-    returns-3
-    (λ c. search needs)
-    (λ c. search needs)
-    (λ c. search needs)
-    returns-4
-    returns-5
-    returns-6
-    returns-7
-    returns-8)
+pass-spec = tie.close (tie.spec
+    (λ c. search needs) returns (λ c. search needs) add-end (λ c. search needs) (λ c. search needs) part-match-word-end (λ c κs. search needs)
+    (λ c. search needs) (λ c. search needs) returns-2 (λ c. search needs) (λ c κs. search needs) returns-3 (λ c. search needs) (λ c. search needs)
+    (λ c. search needs) returns-4 returns-5 returns-6 returns-7 returns-8)

@@ -39,7 +39,16 @@ returns-9 : tie.Need-returns-9
 unfolding classOf
 returns-9 c =
     let none = c .match .rest in
-    rw (ne-eqb _ _ (none .0 .0 .0 .0 .0 .0 .0 .1), ne-eqb _ _ (none .0 .0 .0 .0 .0 .0 .1), ne-eqb _ _ (none .0 .0 .0 .0 .0 .1), ne-eqb _ _ (none .0 .0 .0 .0 .1), ne-eqb _ _ (none .0 .0 .0 .1), ne-eqb _ _ (none .0 .0 .1), ne-eqb _ _ (none .0 .1), ne-eqb _ _ (none .1))
+    rw (
+      ne-eqb _ _ (none .0 .0 .0 .0 .0 .0 .0 .1),
+      ne-eqb _ _ (none .0 .0 .0 .0 .0 .0 .1),
+      ne-eqb _ _ (none .0 .0 .0 .0 .0 .1),
+      ne-eqb _ _ (none .0 .0 .0 .0 .1),
+      ne-eqb _ _ (none .0 .0 .0 .1),
+      ne-eqb _ _ (none .0 .0 .1),
+      ne-eqb _ _ (none .0 .1),
+      ne-eqb _ _ (none .1),
+    )
 
 pub class-of-spec : {M : Type 1} → statement M
 class-of-spec = tie.close (tie.spec returns returns-2 returns-3 returns-4 returns-5 returns-6 returns-7 returns-8 returns-9)

@@ -1,8 +1,6 @@
 use Rattle.laws.proofs.Prelude.{needs, refl}
-use Rattle.text.specs.Alphabetic.{alphabetic}
-use Rattle.text.specs.Ranges.{bounds}
-use Rattle.text.proofs.Bounds.{ascending, odd}
-use Rattle.text.proofs.alphabetic.is_wide_alphabetic.Statement.{statement}
+use Rattle.text.specs.{Alphabetic.alphabetic, Ranges.bounds}
+use Rattle.text.proofs.{Bounds.ascending, Bounds.odd, alphabetic.is_wide_alphabetic.Statement.statement}
 use Rattle.text.proofs.alphabetic.is_wide_alphabetic.Tie as tie
 
 at-most-requires : tie.Need-at-most-requires

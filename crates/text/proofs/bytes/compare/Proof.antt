@@ -14,36 +14,24 @@ returns : tie.Need-returns Inv-loop μ-loop
 returns c = sym (c .before .before .loop .inv ∙ order-longer _ _ _ (c .before .loop-test .taken) (c .if1 .taken))
 
 returns-2 : tie.Need-returns-2 Inv-loop μ-loop
-returns-2 c = sym (c .before .before .before .before .before .loop .inv ∙ order-less _ _ _ (c .before .before .before .before .loop-test .taken) (c .before .before .before .if1 .left) (c .if2 .taken))
+returns-2 c =
+    let at-loop = c .before .before .before .before in
+    sym (at-loop .before .loop .inv ∙ order-less _ _ _ (at-loop .loop-test .taken) (c .before .before .before .if1 .left) (c .if2 .taken))
 
 returns-3 : tie.Need-returns-3 Inv-loop μ-loop
-returns-3 c = sym (c .before .before .before .before .before .before .before .before .loop .inv ∙ order-greater _ _ _ (c .before .before .before .before .before .before .before .loop-test .taken) (c .before .before .before .before .before .before .if1 .left) (c .if3 .taken))
+returns-3 c =
+    let at-if1 = c .before .before .before .before .before .before in
+    sym (at-if1 .before .before .loop .inv ∙ order-greater _ _ _ (at-if1 .before .loop-test .taken) (at-if1 .if1 .left) (c .if3 .taken))
 
 loop-again : tie.Need-loop-again Inv-loop μ-loop
-loop-again c = c .before .before .before .before .before .before .before .before .loop .inv ∙ order-next _ _ _ (c .before .before .before .before .before .before .before .loop-test .taken) (c .before .before .before .before .before .before .if1 .left) (c .before .before .before .if2 .left) (c .if3 .left)
-
-returns-4 : tie.Need-returns-4 Inv-loop μ-loop
-returns-4 c = sym (c .before .before .loop .inv ∙ order-prefix _ _ _ (c .before .loop-test .left) (c .if4 .taken))
-
-returns-5 : tie.Need-returns-5 Inv-loop μ-loop
-returns-5 c = sym (c .before .before .loop .inv ∙ order-equal _ _ _ (c .before .loop-test .left) (c .if4 .left))
+loop-again c =
+    let at-if1 = c .before .before .before .before .before .before in
+    at-if1 .before .before .loop .inv ∙
+    order-next _ _ _ (at-if1 .before .loop-test .taken) (at-if1 .if1 .left) (c .before .before .before .if2 .left) (c .if3 .left)
 
 pub compare-spec : {M : Type 1} → statement M
-compare-spec =
-    tie.close
-    (tie.spec
-    Inv-loop
-    μ-loop
-    (λ c. refl)
-    returns
-    (λ c. search needs)
-    (λ c. search needs)
-    returns-2
-    (λ c. search needs)
-    (λ c. search needs)
-    returns-3
-    (λ c. search needs)
-    (λ c. search needs)
-    loop-again
-    returns-4
-    returns-5)
+compare-spec = tie.close (tie.spec
+    Inv-loop μ-loop (λ c. refl) returns (λ c. search needs) (λ c. search needs) returns-2 (λ c. search needs) (λ c. search needs) returns-3
+    (λ c. search needs) (λ c. search needs) loop-again
+    (λ c. sym (c .before .before .loop .inv ∙ order-prefix _ _ _ (c .before .loop-test .left) (c .if4 .taken)))
+    (λ c. sym (c .before .before .loop .inv ∙ order-equal _ _ _ (c .before .loop-test .left) (c .if4 .left))))

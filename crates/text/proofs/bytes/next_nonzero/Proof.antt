@@ -10,34 +10,14 @@ Inv-loop s at i₀ i = Passing (λ k. getD s k 0 ≡ 0) at (length s) i
 abbrev μ-loop : tie.MeasureT-loop
 μ-loop s at i₀ i = length s - i
 
-loop-holds : tie.Need-loop-holds Inv-loop μ-loop
-loop-holds c = c .skip-zeros .ensures
-
-returns : tie.Need-returns Inv-loop μ-loop
-returns c =
-    c .before .before .before .loop .inv
-
 loop-again : tie.Need-loop-again Inv-loop μ-loop
 loop-again c =
-    let a = c .before .before .before .before .before .before .args in
+    let start = c .before .before .before .before .before .before in
+    let a = start .args in
     let l = c .before .before .before .loop in
     record { from = omega arith; to = omega arith; each = on-by-one (λ k. getD (now (a .s)) k 0 ≡ 0) (a .at) (l .i) (l .inv .each) (c .if1 .left) }
 
-returns-2 : tie.Need-returns-2 Inv-loop μ-loop
-returns-2 c =
-    c .before .loop .inv
-
 pub next-nonzero-spec : {M : Type 1} → statement M
-next-nonzero-spec =
-    tie.close
-    (tie.spec
-    Inv-loop
-    μ-loop
-    (λ c κs. search needs)
-    loop-holds
-    (λ c. search needs)
-    returns
-    (λ c. search needs)
-    (λ c. search needs)
-    loop-again
-    returns-2)
+next-nonzero-spec = tie.close (tie.spec
+    Inv-loop μ-loop (λ c κs. search needs) (λ c. c .skip-zeros .ensures) (λ c. search needs) (λ c. c .before .before .before .loop .inv) (λ c. search needs)
+    (λ c. search needs) loop-again (λ c. c .before .loop .inv))

@@ -10,9 +10,6 @@ Inv-loop s at b i₀ i = Passing (λ k. getD s k 0 ≡ b → ⊥) at (length s) 
 abbrev μ-loop : tie.MeasureT-loop
 μ-loop s at b i₀ i = length s - i
 
-loop-holds : tie.Need-loop-holds Inv-loop μ-loop
-loop-holds c = c .skip-blocks .ensures
-
 returns : tie.Need-returns Inv-loop μ-loop
 returns c =
     let l = c .before .before .before .loop in
@@ -20,7 +17,8 @@ returns c =
 
 loop-again : tie.Need-loop-again Inv-loop μ-loop
 loop-again c =
-    let a = c .before .before .before .before .before .before .args in
+    let start = c .before .before .before .before .before .before in
+    let a = start .args in
     let l = c .before .before .before .loop in
     record { from = omega arith; to = omega arith; each = on-by-one (λ k. getD (now (a .s)) k 0 ≡ a .b → ⊥) (a .at) (l .i) (l .inv .each) (c .if1 .left) }
 
@@ -30,16 +28,6 @@ returns-2 c =
     record { passed = l .inv; there = λ h. absurd (omega arith) }
 
 pub next-of-spec : {M : Type 1} → statement M
-next-of-spec =
-    tie.close
-    (tie.spec
-    Inv-loop
-    μ-loop
-    (λ c κs. search needs)
-    loop-holds
-    (λ c. search needs)
-    returns
-    (λ c. search needs)
-    (λ c. search needs)
-    loop-again
+next-of-spec = tie.close (tie.spec
+    Inv-loop μ-loop (λ c κs. search needs) (λ c. c .skip-blocks .ensures) (λ c. search needs) returns (λ c. search needs) (λ c. search needs) loop-again
     returns-2)

@@ -10,12 +10,6 @@ Inv-loop s at i₀ i = Passing (λ k. getD s k 0 ≡ 0) at (length s) i
 abbrev μ-loop : tie.MeasureT-loop
 μ-loop s at i₀ i = length s - i
 
-add-i : tie.Need-add-i Inv-loop μ-loop
-add-i c = omega (arith, c .before .zeros-at .ensures (c .if1 .taken) .0)
-
-loop-less : tie.Need-loop-less Inv-loop μ-loop
-loop-less c = omega (arith, c .before .zeros-at .ensures (c .if1 .taken) .0)
-
 loop-again : tie.Need-loop-again Inv-loop μ-loop
 loop-again c =
     let a = c .before .before .before .before .args in
@@ -23,10 +17,9 @@ loop-again c =
     let f = c .before .zeros-at .ensures (c .if1 .taken) in
     record { from = omega arith; to = f .0; each = on-by-block (λ k. getD (now (a .s)) k 0 ≡ 0) (a .at) (l .i) 32 (l .inv .each) (f .1) }
 
-returns : tie.Need-returns Inv-loop μ-loop
-returns c = c .before .before .loop .inv
-
 pub skip-zeros-spec : {M : Type 1} → statement M
 skip-zeros-spec =
     tie.close
-    (tie.spec Inv-loop μ-loop (λ c. record { from = omega arith; to = omega arith; each = λ k g h. absurd (omega arith) }) (λ c κs. search needs) add-i loop-less loop-again returns)
+    (tie.spec Inv-loop μ-loop (λ c. record { from = omega arith; to = omega arith; each = λ k g h. absurd (omega arith) }) (λ c κs. search needs)
+    (λ c. omega (arith, c .before .zeros-at .ensures (c .if1 .taken) .0)) (λ c. omega (arith, c .before .zeros-at .ensures (c .if1 .taken) .0))
+    loop-again (λ c. c .before .before .loop .inv))

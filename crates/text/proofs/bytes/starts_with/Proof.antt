@@ -10,9 +10,6 @@ Inv-loop s at word i₀ i = begins word (drop at s) ≡ begins (drop i word) (dr
 abbrev μ-loop : tie.MeasureT-loop
 μ-loop s at word i₀ i = length word - i
 
-loop-holds : tie.Need-loop-holds Inv-loop μ-loop
-loop-holds c = rw add-zero
-
 returns : tie.Need-returns Inv-loop μ-loop
 returns c =
     let a = c .before .before .before .args in
@@ -21,33 +18,19 @@ returns c =
 
 returns-2 : tie.Need-returns-2 Inv-loop μ-loop
 returns-2 c =
-    let a = c .before .before .before .before .before .before .args in
-    let l = c .before .before .before .before .before .loop in
-    sym (l .inv ∙ begins-differ (now (a .word)) (now (a .s)) (a .at) (l .i) (c .before .before .before .before .loop-test .taken) (omega arith) (c .if2 .taken))
+    let at-loop = c .before .before .before .before in
+    let a = at-loop .before .before .args in
+    let l = at-loop .before .loop in
+    sym (l .inv ∙ begins-differ (now (a .word)) (now (a .s)) (a .at) (l .i) (at-loop .loop-test .taken) (omega arith) (c .if2 .taken))
 
 loop-again : tie.Need-loop-again Inv-loop μ-loop
 loop-again c =
-    let a = c .before .before .before .before .before .before .args in
-    let l = c .before .before .before .before .before .loop in
-    l .inv ∙ begins-agree (now (a .word)) (now (a .s)) (a .at) (l .i) (c .before .before .before .before .loop-test .taken) (omega arith) (c .if2 .left)
-
-returns-3 : tie.Need-returns-3 Inv-loop μ-loop
-returns-3 c = sym (c .before .loop .inv ∙ begins-end _ _ _ (c .loop-test .left))
+    let at-loop = c .before .before .before .before in
+    let a = at-loop .before .before .args in
+    let l = at-loop .before .loop in
+    l .inv ∙ begins-agree (now (a .word)) (now (a .s)) (a .at) (l .i) (at-loop .loop-test .taken) (omega arith) (c .if2 .left)
 
 pub starts-with-spec : {M : Type 1} → statement M
-starts-with-spec =
-    tie.close
-    (tie.spec
-    Inv-loop
-    μ-loop
-    loop-holds
-    (λ c. search needs)
-    returns
-    (λ c. search needs)
-    (λ c. search needs)
-    (λ c. search needs)
-    returns-2
-    (λ c. search needs)
-    (λ c. search needs)
-    loop-again
-    returns-3)
+starts-with-spec = tie.close (tie.spec
+    Inv-loop μ-loop (λ c. rw add-zero) (λ c. search needs) returns (λ c. search needs) (λ c. search needs) (λ c. search needs) returns-2 (λ c. search needs)
+    (λ c. search needs) loop-again (λ c. sym (c .before .loop .inv ∙ begins-end _ _ _ (c .loop-test .left))))

@@ -1,15 +1,12 @@
 use Rattle.laws.proofs.Prelude.{needs, ap, not, [], _∷_, eq-eqb, ne-eqb, known}
-use Rattle.text.specs.Ranges.{_to_}
-use Rattle.text.specs.WhiteSpace.{whiteSpace}
+use Rattle.text.specs.{Ranges._to_, WhiteSpace.whiteSpace}
 use Rattle.text.specs.Class.{ranges, outside, member}
-use Rattle.text.proofs.Members.{one-point, together}
-use Rattle.text.proofs.class.in_class.Statement.{statement}
+use Rattle.text.proofs.{Members.one-point, Members.together, class.in_class.Statement.statement}
 use Rattle.text.proofs.class.in_class.Tie as tie
 
 returns : tie.Need-returns
 unfolding ranges outside member
-returns c =
-    rw (c .before .enum-told3 .given .1, together ((0x2A to 0x2A) ∷ []) whiteSpace _, one-point 0x2A _, eq-eqb _ _ (c .if1 .taken))
+returns c = rw (c .before .enum-told3 .given .1, together ((0x2A to 0x2A) ∷ []) whiteSpace _, one-point 0x2A _, eq-eqb _ _ (c .if1 .taken))
 
 returns-2 : tie.Need-returns-2
 unfolding ranges outside member
@@ -65,35 +62,8 @@ returns-11 c =
     (ap not (c .is-white-space4 .ensures))
 
 pub in-class-spec : {M : Type 1} → statement M
-in-class-spec =
-    tie.close
-    (tie.spec
-    (λ c. search needs)
-    (λ c κs. search needs)
-    (λ c. search needs)
-    (λ c κs. search needs)
-    (λ c. search needs)
-    returns
-    (λ c κs. search needs)
-    (λ c. search needs)
-    (λ c. search needs)
-    (λ c κs. search needs)
-    (λ c. search needs)
-    (λ c κs. search needs)
-    (λ c. search needs)
-    (λ c κs. search needs)
-    (λ c. search needs)
-    (λ c κs. search needs)
-    (λ c. search needs)
-    (λ c κs. search needs)
-    returns-2
-    (λ c κs. search needs)
-    returns-3
-    returns-4
-    returns-5
-    returns-6
-    returns-7
-    returns-8
-    returns-9
-    returns-10
-    returns-11)
+in-class-spec = tie.close (tie.spec
+    (λ c. search needs) (λ c κs. search needs) (λ c. search needs) (λ c κs. search needs) (λ c. search needs) returns (λ c κs. search needs)
+    (λ c. search needs) (λ c. search needs) (λ c κs. search needs) (λ c. search needs) (λ c κs. search needs) (λ c. search needs) (λ c κs. search needs)
+    (λ c. search needs) (λ c κs. search needs) (λ c. search needs) (λ c κs. search needs) returns-2 (λ c κs. search needs) returns-3 returns-4 returns-5
+    returns-6 returns-7 returns-8 returns-9 returns-10 returns-11)

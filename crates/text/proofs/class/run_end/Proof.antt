@@ -1,7 +1,6 @@
 use Rattle.laws.proofs.Prelude.{needs, arith, _≡_, _+_, _-_, _≤_, length, drop, drop-drop, now, known}
 use Rattle.text.specs.Class.{runLength}
-use Rattle.text.proofs.Runs.{run-stops, run-goes-on}
-use Rattle.text.proofs.class.run_end.Statement.{statement}
+use Rattle.text.proofs.{Runs.run-stops, Runs.run-goes-on, class.run_end.Statement.statement}
 use Rattle.text.proofs.class.run_end.Tie as tie
 
 abbrev Inv-loop : tie.InvT-loop
@@ -24,6 +23,4 @@ loop-again c =
     (omega (arith, e), omega arith)
 
 pub run-end-spec : {M : Type 1} → statement M
-run-end-spec =
-    tie.close
-    (tie.spec Inv-loop μ-loop (λ c. search needs) (λ c κs. search needs) returns (λ c. omega arith) (λ c. omega arith) loop-again)
+run-end-spec = tie.close (tie.spec Inv-loop μ-loop (λ c. search needs) (λ c κs. search needs) returns (λ c. omega arith) (λ c. omega arith) loop-again)

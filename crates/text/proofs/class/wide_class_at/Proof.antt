@@ -1,7 +1,6 @@
 use Rattle.laws.proofs.Prelude.{needs, arith, _≡_, drop, length-drop, now, known}
 use Rattle.text.specs.Class.{classAt}
-use Rattle.text.proofs.Runs.{class-fits}
-use Rattle.text.proofs.class.wide_class_at.Statement.{statement}
+use Rattle.text.proofs.{Runs.class-fits, class.wide_class_at.Statement.statement}
 use Rattle.text.proofs.class.wide_class_at.Tie as tie
 
 returns : tie.Need-returns

@@ -2,8 +2,7 @@ use Rattle.laws.proofs.Prelude.{needs, _≡_, refl, _∙_, _-_, length, drop, n
 use lib.Dec.{eqb·suc-zero}
 use Rattle.text.specs.Lossy.{replaced}
 use Rattle.text.proofs.Replaced.{none-left, marked-count, copied-count}
-use Rattle.text.proofs.Reported.{lossy-of}
-use Rattle.text.proofs.lossy.is_exact.Statement.{statement}
+use Rattle.text.proofs.{Reported.lossy-of, lossy.is_exact.Statement.statement}
 use Rattle.text.proofs.lossy.is_exact.Tie as tie
 
 abbrev Inv-loop : tie.InvT-loop
@@ -16,14 +15,16 @@ returns : tie.Need-returns Inv-loop μ-loop
 returns c = record {
   answer = rw (
     c .before .before .before .loop .inv,
-    marked-count (now (c .before .before .before .before .before .args .s)) (c .before .before .before .loop .i) (c .before .before .loop-test .taken) (known (c .before .surrogate-at .ensures) (c .if1 .taken)),
+    marked-count (now (c .before .before .before .before .before .args .s)) (c .before .before .before .loop .i) (c .before .before .loop-test .taken)
+        (known (c .before .surrogate-at .ensures) (c .if1 .taken)),
     eqb·suc-zero,
   );
   meaning = λ points t. lossy-of t;
 }
 
 loop-again : tie.Need-loop-again Inv-loop μ-loop
-loop-again c = c .before .before .before .loop .inv ∙ copied-count (now (c .before .before .before .before .before .args .s)) (c .before .before .before .loop .i) (c .before .before .loop-test .taken) (known (c .before .surrogate-at .ensures) (c .if1 .left))
+loop-again c = c .before .before .before .loop .inv ∙ copied-count (now (c .before .before .before .before .before .args .s))
+    (c .before .before .before .loop .i) (c .before .before .loop-test .taken) (known (c .before .surrogate-at .ensures) (c .if1 .left))
 
 returns-2 : tie.Need-returns-2 Inv-loop μ-loop
 returns-2 c = record {
@@ -32,15 +33,4 @@ returns-2 c = record {
 }
 
 pub is-exact-spec : {M : Type 1} → statement M
-is-exact-spec =
-    tie.close
-    (tie.spec
-    Inv-loop
-    μ-loop
-    (λ c. refl)
-    (λ c κs. search needs)
-    returns
-    (λ c. search needs)
-    (λ c. search needs)
-    loop-again
-    returns-2)
+is-exact-spec = tie.close (tie.spec Inv-loop μ-loop (λ c. refl) (λ c κs. search needs) returns (λ c. search needs) (λ c. search needs) loop-again returns-2)

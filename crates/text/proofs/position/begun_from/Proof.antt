@@ -1,6 +1,5 @@
 use Rattle.laws.proofs.Prelude.{arith, sym, needs, now}
-use Rattle.text.proofs.Sums.{begun-ascii}
-use Rattle.text.proofs.position.begun_from.Statement.{statement}
+use Rattle.text.proofs.{Sums.begun-ascii, position.begun_from.Statement.statement}
 use Rattle.text.proofs.position.begun_from.Tie as tie
 
 returns : tie.Need-returns

@@ -11,13 +11,11 @@ Inv-loop s from k n₀ i₀ j₀ n i j = (i ≤ 64) × (j ≡ i) × (n ≤ i) ×
 abbrev μ-loop : tie.MeasureT-loop
 μ-loop s from k n₀ i₀ j₀ n i j = 64 - i
 
-loop-holds : tie.Need-loop-holds Inv-loop μ-loop
-loop-holds c = (omega arith, omega arith, omega arith, begun-none _ _ _)
-
 loop-again : tie.Need-loop-again Inv-loop μ-loop
 loop-again c =
-    let a = c .before .before .before .before .before .before .args in
-    let l = c .before .before .before .before .loop in
+    let at-loop = c .before .before .before .before in
+    let a = at-loop .before .before .args in
+    let l = at-loop .loop in
     let b = getD (now (a .s)) (a .from + l .i) 0 in
     let g = c .before .goes-on .ensures in
     let more : a .k ≤ l .i → c .if1 .n ≡ l .n + beginsOne b =
@@ -40,18 +38,6 @@ returns c =
     (rw e at (l .inv .3 .1 (omega arith)), omega arith)
 
 pub begun-in-spec : {M : Type 1} → statement M
-begun-in-spec =
-    tie.close
-    (tie.spec
-    Inv-loop
-    μ-loop
-    loop-holds
-    (λ c. search needs)
-    (λ c. search needs)
-    (λ c κs. search needs)
-    (λ c. search needs)
-    (λ c. search needs)
-    (λ c. search needs)
-    (λ c. search needs)
-    loop-again
-    returns)
+begun-in-spec = tie.close (tie.spec
+    Inv-loop μ-loop (λ c. (omega arith, omega arith, omega arith, begun-none _ _ _)) (λ c. search needs) (λ c. search needs) (λ c κs. search needs)
+    (λ c. search needs) (λ c. search needs) (λ c. search needs) (λ c. search needs) loop-again returns)

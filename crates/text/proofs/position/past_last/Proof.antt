@@ -8,8 +8,7 @@ abbrev Past : ℕ → (ℕ → ℕ) → ℕ → Type 0
 Past last at i = ((k : ℕ) → last ≤ k → k < i → at k ≡ 0x0A → ⊥) × ((m : ℕ) → last ≡ m + 1 → at m ≡ 0x0A)
 
 abbrev Inv-loop : tie.InvT-loop
-Inv-loop s from last₀ i₀ next₀ last i next =
-    (i ≤ 64) × (next ≡ i + 1) × (last ≤ i) × Past last (λ k. getD s (from + k) 0) i
+Inv-loop s from last₀ i₀ next₀ last i next = (i ≤ 64) × (next ≡ i + 1) × (last ≤ i) × Past last (λ k. getD s (from + k) 0) i
 
 abbrev μ-loop : tie.MeasureT-loop
 μ-loop s from last₀ i₀ next₀ last i next = 64 - i
@@ -26,8 +25,9 @@ missed at i old last h e p = rw e (on-by-one (λ k. at k ≡ 0x0A → ⊥) old i
 
 loop-again : tie.Need-loop-again Inv-loop μ-loop
 loop-again c =
-    let a = c .before .before .before .before .before .args in
-    let l = c .before .before .before .before .loop in
+    let at-loop = c .before .before .before .before in
+    let a = at-loop .before .args in
+    let l = at-loop .loop in
     let at : ℕ → ℕ = λ k. getD (now (a .s)) (a .from + k) 0 in
     let p : Past (c .if2 .last) at (l .i + 1) =
     ⊎-elim
@@ -36,7 +36,8 @@ loop-again c =
     (c .before .if1 .came) in (
       omega arith,
       omega arith,
-      ⊎-elim (λ w. ⊎-elim (λ v. omega arith) (λ v. omega arith) (c .if2 .came)) (λ w. ⊎-elim (λ v. omega arith) (λ v. omega arith) (c .if2 .came)) (c .before .if1 .came),
+      ⊎-elim (λ w. ⊎-elim (λ v. omega arith) (λ v. omega arith) (c .if2 .came)) (λ w. ⊎-elim (λ v. omega arith) (λ v. omega arith) (c .if2 .came))
+          (c .before .if1 .came),
       p,
     )
 
@@ -46,16 +47,5 @@ returns c =
     (omega arith, λ k g h. l .inv .3 .0 k g (omega arith), l .inv .3 .1)
 
 pub past-last-spec : {M : Type 1} → statement M
-past-last-spec =
-    tie.close
-    (tie.spec
-    Inv-loop
-    μ-loop
-    loop-holds
-    (λ c. search needs)
-    (λ c. search needs)
-    (λ c. search needs)
-    (λ c. search needs)
-    (λ c. search needs)
-    loop-again
-    returns)
+past-last-spec = tie.close (tie.spec
+    Inv-loop μ-loop loop-holds (λ c. search needs) (λ c. search needs) (λ c. search needs) (λ c. search needs) (λ c. search needs) loop-again returns)

@@ -12,30 +12,20 @@ Inv-loop s from at p₀ i₀ p i =
 abbrev μ-loop : tie.MeasureT-loop
 μ-loop s from at p₀ i₀ p i = at - i
 
-loop-holds : tie.Need-loop-holds Inv-loop μ-loop
-loop-holds c = (omega arith, omega arith, omega arith, refl)
-
 loop-again : tie.Need-loop-again Inv-loop μ-loop
 loop-again c =
     let a = c .before .before .before .before .before .args in
     let l = c .before .before .before .loop in
     let one = step-bounded (l .p) (getD (now (a .s)) (l .i) 0) in
-    rw (c .past .ensures)
-    (omega arith, omega arith, omega arith, l .inv .3 ∙ walk-next characters (l .p) (now (a .s)) (a .at) (l .i) (c .before .before .loop-test .taken) (omega arith))
-
-returns : tie.Need-returns Inv-loop μ-loop
-returns c = sym (c .before .loop .inv .3 ∙ walk-end _ _ _ _ _ (c .loop-test .left))
+    rw (c .past .ensures) (
+      omega arith,
+      omega arith,
+      omega arith,
+      l .inv .3 ∙
+          walk-next characters (l .p) (now (a .s)) (a .at) (l .i) (c .before .before .loop-test .taken) (omega arith),
+    )
 
 pub scan-spec : {M : Type 1} → statement M
-scan-spec =
-    tie.close
-    (tie.spec
-    Inv-loop
-    μ-loop
-    loop-holds
-    (λ c. search needs)
-    (λ c κs. search needs)
-    (λ c. search needs)
-    (λ c. search needs)
-    loop-again
-    returns)
+scan-spec = tie.close (tie.spec
+    Inv-loop μ-loop (λ c. (omega arith, omega arith, omega arith, refl)) (λ c. search needs) (λ c κs. search needs) (λ c. search needs) (λ c. search needs)
+    loop-again (λ c. sym (c .before .loop .inv .3 ∙ walk-end _ _ _ _ _ (c .loop-test .left))))

@@ -1,7 +1,6 @@
 use Rattle.laws.proofs.Prelude.{needs, known}
 use Rattle.text.specs.Utf8.{lengthBy, charLength}
-use Rattle.text.proofs.ByRows.{measured}
-use Rattle.text.proofs.utf8.char_length.Statement.{statement}
+use Rattle.text.proofs.{ByRows.measured, utf8.char_length.Statement.statement}
 use Rattle.text.proofs.utf8.char_length.Tie as tie
 
 returns : tie.Need-returns

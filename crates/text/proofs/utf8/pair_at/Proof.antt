@@ -1,7 +1,6 @@
 use Rattle.laws.proofs.Prelude.{needs, now}
 use Rattle.text.specs.Utf8.{leadSurrogate, trailSurrogate}
-use Rattle.text.proofs.RangesAdmit.{more, none}
-use Rattle.text.proofs.utf8.pair_at.Statement.{statement}
+use Rattle.text.proofs.{RangesAdmit.more, RangesAdmit.none, utf8.pair_at.Statement.statement}
 use Rattle.text.proofs.utf8.pair_at.Tie as tie
 
 returns : tie.Need-returns

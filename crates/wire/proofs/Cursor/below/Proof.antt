@@ -22,5 +22,4 @@ unfolding below
 returns-3 c = record { answer = rw (told (c .before .before .before .byte .ensures) (c .before .r .given .1)); bounds = tt }
 
 pub below-spec : {M : Type 1} → statement M
-below-spec =
-    tie.close (tie.spec (λ c κs. search needs) (λ c. search needs) (λ c. search needs) returns returns-2 returns-3)
+below-spec = tie.close (tie.spec (λ c κs. search needs) (λ c. search needs) (λ c. search needs) returns returns-2 returns-3)

@@ -22,5 +22,4 @@ unfolding count
 returns-3 c = record { answer = rw (told (c .before .before .before .number .ensures) (c .before .r .given .1)); bounds = tt }
 
 pub count-spec : {M : Type 1} → statement M
-count-spec =
-    tie.close (tie.spec (λ c κs. search needs) (λ c. search needs) (λ c. search needs) returns returns-2 returns-3)
+count-spec = tie.close (tie.spec (λ c κs. search needs) (λ c. search needs) (λ c. search needs) returns returns-2 returns-3)

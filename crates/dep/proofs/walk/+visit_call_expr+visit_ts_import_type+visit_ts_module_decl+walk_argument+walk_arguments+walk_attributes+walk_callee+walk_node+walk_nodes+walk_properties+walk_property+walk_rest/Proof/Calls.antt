@@ -1,42 +1,42 @@
 -- The measures of the members of the cycle, and what the callees of each ask and give.
-use Rattle.laws.proofs.Prelude.{_≡_, List, ℕ, _+_, _*_, _<_, In, Measures}
-use borrow.Fn.Kinds.{PK}
+use Rattle.laws.proofs.Prelude.{ℕ, _+_, _*_, In, Measures, At, Below}
 use Rattle.dep.proofs.walk.walk_argument.Reads as walk-argument
 use Rattle.dep.proofs.walk.walk_argument.Kinds as walk-argument-kinds
-use Rattle.dep.proofs.walk.+visit_call_expr+visit_ts_import_type+visit_ts_module_decl+walk_argument+walk_arguments+walk_attributes+walk_callee+walk_node+walk_nodes+walk_properties+walk_property+walk_rest.Lts-walk_argument as walk-argument-lts
+use Rattle.dep.proofs.walk.+visit_call_expr+visit_ts_import_type+visit_ts_module_decl+walk_argument+walk_arguments+walk_attributes+walk_callee+walk_node+walk_nodes+walk_properties+walk_property+walk_rest as walk-cycle
+use walk-cycle.Lts-walk_argument as walk-argument-lts
 use Rattle.dep.proofs.walk.walk_arguments.Reads as walk-arguments
 use Rattle.dep.proofs.walk.walk_arguments.Kinds as walk-arguments-kinds
-use Rattle.dep.proofs.walk.+visit_call_expr+visit_ts_import_type+visit_ts_module_decl+walk_argument+walk_arguments+walk_attributes+walk_callee+walk_node+walk_nodes+walk_properties+walk_property+walk_rest.Lts-walk_arguments as walk-arguments-lts
+use walk-cycle.Lts-walk_arguments as walk-arguments-lts
 use Rattle.dep.proofs.walk.walk_attributes.Reads as walk-attributes
 use Rattle.dep.proofs.walk.walk_attributes.Kinds as walk-attributes-kinds
-use Rattle.dep.proofs.walk.+visit_call_expr+visit_ts_import_type+visit_ts_module_decl+walk_argument+walk_arguments+walk_attributes+walk_callee+walk_node+walk_nodes+walk_properties+walk_property+walk_rest.Lts-walk_attributes as walk-attributes-lts
+use walk-cycle.Lts-walk_attributes as walk-attributes-lts
 use Rattle.dep.proofs.walk.visit_call_expr.Reads as visit-call-expr
 use Rattle.dep.proofs.walk.visit_call_expr.Kinds as visit-call-expr-kinds
-use Rattle.dep.proofs.walk.+visit_call_expr+visit_ts_import_type+visit_ts_module_decl+walk_argument+walk_arguments+walk_attributes+walk_callee+walk_node+walk_nodes+walk_properties+walk_property+walk_rest.Lts-visit_call_expr as visit-call-expr-lts
+use walk-cycle.Lts-visit_call_expr as visit-call-expr-lts
 use Rattle.dep.proofs.walk.walk_callee.Reads as walk-callee
 use Rattle.dep.proofs.walk.walk_callee.Kinds as walk-callee-kinds
-use Rattle.dep.proofs.walk.+visit_call_expr+visit_ts_import_type+visit_ts_module_decl+walk_argument+walk_arguments+walk_attributes+walk_callee+walk_node+walk_nodes+walk_properties+walk_property+walk_rest.Lts-walk_callee as walk-callee-lts
+use walk-cycle.Lts-walk_callee as walk-callee-lts
 use Rattle.dep.proofs.walk.walk_node.Reads as walk-node
 use Rattle.dep.proofs.walk.walk_node.Kinds as walk-node-kinds
-use Rattle.dep.proofs.walk.+visit_call_expr+visit_ts_import_type+visit_ts_module_decl+walk_argument+walk_arguments+walk_attributes+walk_callee+walk_node+walk_nodes+walk_properties+walk_property+walk_rest.Lts-walk_node as walk-node-lts
+use walk-cycle.Lts-walk_node as walk-node-lts
 use Rattle.dep.proofs.walk.walk_nodes.Reads as walk-nodes
 use Rattle.dep.proofs.walk.walk_nodes.Kinds as walk-nodes-kinds
-use Rattle.dep.proofs.walk.+visit_call_expr+visit_ts_import_type+visit_ts_module_decl+walk_argument+walk_arguments+walk_attributes+walk_callee+walk_node+walk_nodes+walk_properties+walk_property+walk_rest.Lts-walk_nodes as walk-nodes-lts
+use walk-cycle.Lts-walk_nodes as walk-nodes-lts
 use Rattle.dep.proofs.walk.walk_properties.Reads as walk-properties
 use Rattle.dep.proofs.walk.walk_properties.Kinds as walk-properties-kinds
-use Rattle.dep.proofs.walk.+visit_call_expr+visit_ts_import_type+visit_ts_module_decl+walk_argument+walk_arguments+walk_attributes+walk_callee+walk_node+walk_nodes+walk_properties+walk_property+walk_rest.Lts-walk_properties as walk-properties-lts
+use walk-cycle.Lts-walk_properties as walk-properties-lts
 use Rattle.dep.proofs.walk.walk_property.Reads as walk-property
 use Rattle.dep.proofs.walk.walk_property.Kinds as walk-property-kinds
-use Rattle.dep.proofs.walk.+visit_call_expr+visit_ts_import_type+visit_ts_module_decl+walk_argument+walk_arguments+walk_attributes+walk_callee+walk_node+walk_nodes+walk_properties+walk_property+walk_rest.Lts-walk_property as walk-property-lts
+use walk-cycle.Lts-walk_property as walk-property-lts
 use Rattle.dep.proofs.walk.walk_rest.Reads as walk-rest
 use Rattle.dep.proofs.walk.walk_rest.Kinds as walk-rest-kinds
-use Rattle.dep.proofs.walk.+visit_call_expr+visit_ts_import_type+visit_ts_module_decl+walk_argument+walk_arguments+walk_attributes+walk_callee+walk_node+walk_nodes+walk_properties+walk_property+walk_rest.Lts-walk_rest as walk-rest-lts
+use walk-cycle.Lts-walk_rest as walk-rest-lts
 use Rattle.dep.proofs.walk.visit_ts_import_type.Reads as visit-ts-import-type
 use Rattle.dep.proofs.walk.visit_ts_import_type.Kinds as visit-ts-import-type-kinds
-use Rattle.dep.proofs.walk.+visit_call_expr+visit_ts_import_type+visit_ts_module_decl+walk_argument+walk_arguments+walk_attributes+walk_callee+walk_node+walk_nodes+walk_properties+walk_property+walk_rest.Lts-visit_ts_import_type as visit-ts-import-type-lts
+use walk-cycle.Lts-visit_ts_import_type as visit-ts-import-type-lts
 use Rattle.dep.proofs.walk.visit_ts_module_decl.Reads as visit-ts-module-decl
 use Rattle.dep.proofs.walk.visit_ts_module_decl.Kinds as visit-ts-module-decl-kinds
-use Rattle.dep.proofs.walk.+visit_call_expr+visit_ts_import_type+visit_ts_module_decl+walk_argument+walk_arguments+walk_attributes+walk_callee+walk_node+walk_nodes+walk_properties+walk_property+walk_rest.Lts-visit_ts_module_decl as visit-ts-module-decl-lts
+use walk-cycle.Lts-visit_ts_module_decl as visit-ts-module-decl-lts
 use Rattle.dep.proofs.walk.call_of.Reads as call-of
 use Rattle.dep.proofs.walk.callees.Reads as callees
 use Rattle.sheet_nodes.proofs.check.check_nodes.Reads as check-nodes
@@ -93,84 +93,78 @@ abbrev pub μ-visit-ts-import-type : Measures 5 visit-ts-import-type-kinds.ps �
 abbrev pub μ-visit-ts-module-decl : Measures 5 visit-ts-module-decl-kinds.ps ℕ
 μ-visit-ts-module-decl κs a = 6 * (a .1 .1 .1 .1 .0) + 2
 
--- what a member asks, where its measure is t, and where it is below t
-abbrev At : (ps : List (PK 5)) → Measures 5 ps ℕ → In 5 ps → ℕ → In 5 ps
-At ps μ pre t κs a = (μ κs a ≡ t) × pre κs a
-
-abbrev Below : (ps : List (PK 5)) → Measures 5 ps ℕ → In 5 ps → ℕ → In 5 ps
-Below ps μ pre t κs a = (μ κs a < t) × pre κs a
-
+-- what a member is given, where its measure is t, and where it is below t
 abbrev pub walk-argument-at : ℕ → In 5 walk-argument-kinds.ps
-walk-argument-at = At walk-argument-kinds.ps μ-walk-argument walk-argument.Pre
+walk-argument-at = At 5 walk-argument-kinds.ps μ-walk-argument walk-argument.Pre
 
 abbrev pub walk-argument-below : ℕ → In 5 walk-argument-kinds.ps
-walk-argument-below = Below walk-argument-kinds.ps μ-walk-argument walk-argument.Pre
+walk-argument-below = Below 5 walk-argument-kinds.ps μ-walk-argument walk-argument.Pre
 
 abbrev pub walk-arguments-at : ℕ → In 5 walk-arguments-kinds.ps
-walk-arguments-at = At walk-arguments-kinds.ps μ-walk-arguments walk-arguments.Pre
+walk-arguments-at = At 5 walk-arguments-kinds.ps μ-walk-arguments walk-arguments.Pre
 
 abbrev pub walk-arguments-below : ℕ → In 5 walk-arguments-kinds.ps
-walk-arguments-below = Below walk-arguments-kinds.ps μ-walk-arguments walk-arguments.Pre
+walk-arguments-below = Below 5 walk-arguments-kinds.ps μ-walk-arguments walk-arguments.Pre
 
 abbrev pub walk-attributes-at : ℕ → In 5 walk-attributes-kinds.ps
-walk-attributes-at = At walk-attributes-kinds.ps μ-walk-attributes walk-attributes.Pre
+walk-attributes-at = At 5 walk-attributes-kinds.ps μ-walk-attributes walk-attributes.Pre
 
 abbrev pub walk-attributes-below : ℕ → In 5 walk-attributes-kinds.ps
-walk-attributes-below = Below walk-attributes-kinds.ps μ-walk-attributes walk-attributes.Pre
+walk-attributes-below = Below 5 walk-attributes-kinds.ps μ-walk-attributes walk-attributes.Pre
 
 abbrev pub visit-call-expr-at : ℕ → In 5 visit-call-expr-kinds.ps
-visit-call-expr-at = At visit-call-expr-kinds.ps μ-visit-call-expr visit-call-expr.Pre
+visit-call-expr-at = At 5 visit-call-expr-kinds.ps μ-visit-call-expr visit-call-expr.Pre
 
 abbrev pub visit-call-expr-below : ℕ → In 5 visit-call-expr-kinds.ps
-visit-call-expr-below = Below visit-call-expr-kinds.ps μ-visit-call-expr visit-call-expr.Pre
+visit-call-expr-below = Below 5 visit-call-expr-kinds.ps μ-visit-call-expr visit-call-expr.Pre
 
 abbrev pub walk-callee-at : ℕ → In 5 walk-callee-kinds.ps
-walk-callee-at = At walk-callee-kinds.ps μ-walk-callee walk-callee.Pre
+walk-callee-at = At 5 walk-callee-kinds.ps μ-walk-callee walk-callee.Pre
 
 abbrev pub walk-callee-below : ℕ → In 5 walk-callee-kinds.ps
-walk-callee-below = Below walk-callee-kinds.ps μ-walk-callee walk-callee.Pre
+walk-callee-below = Below 5 walk-callee-kinds.ps μ-walk-callee walk-callee.Pre
 
 abbrev pub walk-node-at : ℕ → In 5 walk-node-kinds.ps
-walk-node-at = At walk-node-kinds.ps μ-walk-node walk-node.Pre
+walk-node-at = At 5 walk-node-kinds.ps μ-walk-node walk-node.Pre
 
 abbrev pub walk-node-below : ℕ → In 5 walk-node-kinds.ps
-walk-node-below = Below walk-node-kinds.ps μ-walk-node walk-node.Pre
+walk-node-below = Below 5 walk-node-kinds.ps μ-walk-node walk-node.Pre
 
 abbrev pub walk-nodes-at : ℕ → In 5 walk-nodes-kinds.ps
-walk-nodes-at = At walk-nodes-kinds.ps μ-walk-nodes walk-nodes.Pre
+walk-nodes-at = At 5 walk-nodes-kinds.ps μ-walk-nodes walk-nodes.Pre
 
 abbrev pub walk-nodes-below : ℕ → In 5 walk-nodes-kinds.ps
-walk-nodes-below = Below walk-nodes-kinds.ps μ-walk-nodes walk-nodes.Pre
+walk-nodes-below = Below 5 walk-nodes-kinds.ps μ-walk-nodes walk-nodes.Pre
 
 abbrev pub walk-properties-at : ℕ → In 5 walk-properties-kinds.ps
-walk-properties-at = At walk-properties-kinds.ps μ-walk-properties walk-properties.Pre
+walk-properties-at = At 5 walk-properties-kinds.ps μ-walk-properties walk-properties.Pre
 
 abbrev pub walk-properties-below : ℕ → In 5 walk-properties-kinds.ps
-walk-properties-below = Below walk-properties-kinds.ps μ-walk-properties walk-properties.Pre
+walk-properties-below = Below 5 walk-properties-kinds.ps μ-walk-properties walk-properties.Pre
 
 abbrev pub walk-property-at : ℕ → In 5 walk-property-kinds.ps
-walk-property-at = At walk-property-kinds.ps μ-walk-property walk-property.Pre
+walk-property-at = At 5 walk-property-kinds.ps μ-walk-property walk-property.Pre
 
 abbrev pub walk-property-below : ℕ → In 5 walk-property-kinds.ps
-walk-property-below = Below walk-property-kinds.ps μ-walk-property walk-property.Pre
+walk-property-below = Below 5 walk-property-kinds.ps μ-walk-property walk-property.Pre
 
 abbrev pub walk-rest-at : ℕ → In 5 walk-rest-kinds.ps
-walk-rest-at = At walk-rest-kinds.ps μ-walk-rest walk-rest.Pre
+walk-rest-at = At 5 walk-rest-kinds.ps μ-walk-rest walk-rest.Pre
 
 abbrev pub walk-rest-below : ℕ → In 5 walk-rest-kinds.ps
-walk-rest-below = Below walk-rest-kinds.ps μ-walk-rest walk-rest.Pre
+walk-rest-below = Below 5 walk-rest-kinds.ps μ-walk-rest walk-rest.Pre
 
 abbrev pub visit-ts-import-type-at : ℕ → In 5 visit-ts-import-type-kinds.ps
-visit-ts-import-type-at = At visit-ts-import-type-kinds.ps μ-visit-ts-import-type visit-ts-import-type.Pre
+visit-ts-import-type-at = At 5 visit-ts-import-type-kinds.ps μ-visit-ts-import-type visit-ts-import-type.Pre
 
 abbrev pub visit-ts-import-type-below : ℕ → In 5 visit-ts-import-type-kinds.ps
-visit-ts-import-type-below = Below visit-ts-import-type-kinds.ps μ-visit-ts-import-type visit-ts-import-type.Pre
+visit-ts-import-type-below = Below 5 visit-ts-import-type-kinds.ps μ-visit-ts-import-type visit-ts-import-type.Pre
 
 abbrev pub visit-ts-module-decl-at : ℕ → In 5 visit-ts-module-decl-kinds.ps
-visit-ts-module-decl-at = At visit-ts-module-decl-kinds.ps μ-visit-ts-module-decl visit-ts-module-decl.Pre
+visit-ts-module-decl-at = At 5 visit-ts-module-decl-kinds.ps μ-visit-ts-module-decl visit-ts-module-decl.Pre
 
 abbrev pub visit-ts-module-decl-below : ℕ → In 5 visit-ts-module-decl-kinds.ps
-visit-ts-module-decl-below = Below visit-ts-module-decl-kinds.ps μ-visit-ts-module-decl visit-ts-module-decl.Pre
+visit-ts-module-decl-below = Below 5 visit-ts-module-decl-kinds.ps μ-visit-ts-module-decl visit-ts-module-decl.Pre
 
 -- what the callees of a member ask and give, where its measure is t
 abbrev pub walk-argument-calls : ℕ → walk-argument-lts.Claims
@@ -183,10 +177,12 @@ abbrev pub walk-attributes-calls : ℕ → walk-attributes-lts.Claims
 walk-attributes-calls t = (read-attributes.Asked, read-attributes.Learnt, walk-properties-below t, walk-properties.Post)
 
 abbrev pub visit-call-expr-calls : ℕ → visit-call-expr-lts.Claims
-visit-call-expr-calls t = (number.Asked, number.Learnt, walk-arguments-below t, walk-arguments.Post, walk-nodes-below t, walk-nodes.Post, put-call-entry.Asked, put-call-entry.Learnt)
+visit-call-expr-calls t =
+    (number.Asked, number.Learnt, walk-arguments-below t, walk-arguments.Post, walk-nodes-below t, walk-nodes.Post, put-call-entry.Asked, put-call-entry.Learnt)
 
 abbrev pub walk-callee-calls : ℕ → walk-callee-lts.Claims
-walk-callee-calls t = (call-of.Asked, call-of.Learnt, callees.Asked, callees.Learnt, walk-nodes-below t, walk-nodes.Post, visit-call-expr-below t, visit-call-expr.Post)
+walk-callee-calls t =
+    (call-of.Asked, call-of.Learnt, callees.Asked, callees.Learnt, walk-nodes-below t, walk-nodes.Post, visit-call-expr-below t, visit-call-expr.Post)
 
 abbrev pub walk-node-calls : ℕ → walk-node-lts.Claims
 walk-node-calls t = (read-head.Asked, read-head.Learnt, walk-rest-below t, walk-rest.Post)
@@ -201,10 +197,42 @@ abbrev pub walk-property-calls : ℕ → walk-property-lts.Claims
 walk-property-calls t = (read-property.Asked, read-property.Learnt, nodes-of.Asked, nodes-of.Learnt, walk-nodes-below t, walk-nodes.Post)
 
 abbrev pub walk-rest-calls : ℕ → walk-rest-lts.Claims
-walk-rest-calls t = (walk-nodes-below t, walk-nodes.Post, read-pieces.Asked, read-pieces.Learnt, walk-properties-below t, walk-properties.Post, walk-callee-below t, walk-callee.Post, visit-import-decl.Asked, visit-import-decl.Learnt, visit-named-export.Asked, visit-named-export.Learnt, visit-export-all.Asked, visit-export-all.Learnt, visit-ts-import-type-below t, visit-ts-import-type.Post, visit-ts-import-equals-decl.Asked, visit-ts-import-equals-decl.Learnt, visit-ts-module-decl-below t, visit-ts-module-decl.Post)
+walk-rest-calls t = (
+  walk-nodes-below t,
+  walk-nodes.Post,
+  read-pieces.Asked,
+  read-pieces.Learnt,
+  walk-properties-below t,
+  walk-properties.Post,
+  walk-callee-below t,
+  walk-callee.Post,
+  visit-import-decl.Asked,
+  visit-import-decl.Learnt,
+  visit-named-export.Asked,
+  visit-named-export.Learnt,
+  visit-export-all.Asked,
+  visit-export-all.Learnt,
+  visit-ts-import-type-below t,
+  visit-ts-import-type.Post,
+  visit-ts-import-equals-decl.Asked,
+  visit-ts-import-equals-decl.Learnt,
+  visit-ts-module-decl-below t,
+  visit-ts-module-decl.Post,
+)
 
 abbrev pub visit-ts-import-type-calls : ℕ → visit-ts-import-type-lts.Claims
-visit-ts-import-type-calls t = (check-nodes.Asked, check-nodes.Learnt, flag.Asked, flag.Learnt, put-with-entry.Asked, put-with-entry.Learnt, walk-nodes-below t, walk-nodes.Post, walk-attributes-below t, walk-attributes.Post)
+visit-ts-import-type-calls t = (
+  check-nodes.Asked,
+  check-nodes.Learnt,
+  flag.Asked,
+  flag.Learnt,
+  put-with-entry.Asked,
+  put-with-entry.Learnt,
+  walk-nodes-below t,
+  walk-nodes.Post,
+  walk-attributes-below t,
+  walk-attributes.Post,
+)
 
 abbrev pub visit-ts-module-decl-calls : ℕ → visit-ts-module-decl-lts.Claims
 visit-ts-module-decl-calls t = (put-module-entry.Asked, put-module-entry.Learnt, walk-nodes-below t, walk-nodes.Post)

@@ -1,6 +1,5 @@
 use Rattle.laws.proofs.Prelude.{needs, arith, now}
-use Rattle.report.proofs.Buffers.{put-room, put-none}
-use Rattle.report.proofs.writer.Pen.put.Statement.{statement}
+use Rattle.report.proofs.{Buffers.put-room, Buffers.put-none, writer.Pen.put.Statement.statement}
 use Rattle.report.proofs.writer.Pen.put.Tie as tie
 
 returns : tie.Need-returns

@@ -18,24 +18,26 @@ abbrev μ-loop : tie.MeasureT-loop
 
 loop-again : tie.Need-loop-again Inv-loop μ-loop
 loop-again c =
-    let l = c .before .before .before .before .before .before .before .loop in
-    let s = now (c .before .before .before .before .before .before .before .before .before .before .args .s) in
-    let found = known (c .before .before .before .before .before .surrogate-at .ensures) (c .before .before .before .before .if1 .taken) in
+    let at-if1 = c .before .before .before .before in let start = at-if1 .before .before .before .before .before .before in
+    let l = at-if1 .before .before .before .loop in
+    let s = now (start .args .s) in
+    let found = known (at-if1 .before .surrogate-at .ensures) (at-if1 .if1 .taken) in
     let on = wrote-append (bufferAs (l .out) (l .p)) (0xEF ∷ 0xBF ∷ 0xBD ∷ []) (lossy (drop (l .i + 3) s)) in (
       c .before .before .put-replacement .kept .1 .0 ∙ l .inv .0,
-      l .inv .1 ∙ rw (marked s (l .i) (c .before .before .before .before .before .before .loop-test .taken) found, on, ← (c .before .before .put-replacement .ensures)),
-      omega (arith, l .inv .2, marked-count s (l .i) (c .before .before .before .before .before .before .loop-test .taken) found),
+      l .inv .1 ∙ rw (marked s (l .i) (at-if1 .before .before .loop-test .taken) found, on, ← (c .before .before .put-replacement .ensures)),
+      omega (arith, l .inv .2, marked-count s (l .i) (at-if1 .before .before .loop-test .taken) found),
       search needs,
     )
 
 loop-again-2 : tie.Need-loop-again-2 Inv-loop μ-loop
 loop-again-2 c =
-    let l = c .before .before .before .before .before .before .before .before .loop in
-    let s = now (c .before .before .before .before .before .before .before .before .before .before .before .args .s) in
-    let found = known (c .before .before .before .before .before .before .surrogate-at .ensures) (c .before .before .before .before .before .if1 .left) in (
+    let at-if1 = c .before .before .before .before .before in let start = at-if1 .before .before .before .before .before .before in
+    let l = at-if1 .before .before .before .loop in
+    let s = now (start .args .s) in
+    let found = known (at-if1 .before .surrogate-at .ensures) (at-if1 .if1 .left) in (
       c .before .before .put .kept .1 .0 ∙ l .inv .0,
-      l .inv .1 ∙ rw (copied s (l .i) (c .before .before .before .before .before .before .before .loop-test .taken) found, wrote-cons, ← (c .before .before .put .ensures)),
-      omega (arith, l .inv .2, copied-count s (l .i) (c .before .before .before .before .before .before .before .loop-test .taken) found),
+      l .inv .1 ∙ rw (copied s (l .i) (at-if1 .before .before .loop-test .taken) found, wrote-cons, ← (c .before .before .put .ensures)),
+      omega (arith, l .inv .2, copied-count s (l .i) (at-if1 .before .before .loop-test .taken) found),
       search needs,
     )
 
@@ -49,22 +51,6 @@ returns c =
     }
 
 pub put-lossy-spec : {M : Type 1} → statement M
-put-lossy-spec =
-    tie.close
-    (tie.spec
-    Inv-loop
-    μ-loop
-    (λ c. search needs)
-    (λ c κs. search needs)
-    (λ c κs. search needs)
-    (λ c. search needs)
-    (λ c. search needs)
-    (λ c. search needs)
-    loop-again
-    (λ c. search needs)
-    (λ c κs. search needs)
-    (λ c. search needs)
-    (λ c. search needs)
-    loop-again-2
-    (λ c. search needs)
-    returns)
+put-lossy-spec = tie.close (tie.spec
+    Inv-loop μ-loop (λ c. search needs) (λ c κs. search needs) (λ c κs. search needs) (λ c. search needs) (λ c. search needs) (λ c. search needs) loop-again
+    (λ c. search needs) (λ c κs. search needs) (λ c. search needs) (λ c. search needs) loop-again-2 (λ c. search needs) returns)

@@ -3,8 +3,9 @@ use Rattle.laws.proofs.Prelude.{_≡_, sym, _∙_, ℕ, _+_, _≤_, arith, leng
 use Rattle.sheet.specs.Nodes.{node}
 use Rattle.sheet_nodes.proofs.Loops.{propertiesFrom, properties-all, properties-step, properties-stop, properties-end}
 use Rattle.sheet_nodes.proofs.check.check_properties.Reads as check-properties
-use Rattle.sheet_nodes.proofs.check.+check_arguments+check_attributes+check_call+check_node+check_nodes+check_properties+check_property+check_rest+check_typed.Lts-check_properties as check-properties-lts
-use Rattle.sheet_nodes.proofs.check.+check_arguments+check_attributes+check_call+check_node+check_nodes+check_properties+check_property+check_rest+check_typed.Proof.Calls.{check-properties-at, check-properties-calls}
+use Rattle.sheet_nodes.proofs.check.+check_arguments+check_attributes+check_call+check_node+check_nodes+check_properties+check_property+check_rest+check_typed as check-cycle
+use check-cycle.Lts-check_properties as check-properties-lts
+use check-cycle.Proof.Calls.{check-properties-at, check-properties-calls}
 
 abbrev pub Inv-loop : check-properties-lts.InvT-loop
 Inv-loop sheet source count levels left₀ at₀ total₀ left at total =
@@ -17,13 +18,15 @@ abbrev pub μ-loop : check-properties-lts.MeasureT-loop
 
 pub returns : (t : ℕ) → check-properties-lts.Need-returns (check-properties-calls t) (check-properties-at t) check-properties.Post Inv-loop μ-loop
 returns t c =
-    let a = c .before .before .before .before .before .before .before .before .args in
+    let at-loop = c .before .before .before .before in let start = at-loop .before .before .before .before in
+    let a = start .args in
     let s = now (a .sheet) in
     let inner = node (now (a .source)) (a .levels) in
-    let l = c .before .before .before .before .before .loop in
+    let l = at-loop .before .loop in
     let stop = told (c .before .before .before .check-property .ensures) (c .before .r .given .1) in
     record {
-      answer = sym (sym (properties-all inner (a .count) (drop (a .c .at) s)) ∙ l .inv .2 ∙ properties-stop inner (l .total) (l .left) (drop (l .at .at) s) (c .before .before .before .before .loop-test .taken) stop);
+      answer = sym (sym (properties-all inner (a .count) (drop (a .c .at) s)) ∙ l .inv .2 ∙
+          properties-stop inner (l .total) (l .left) (drop (l .at .at) s) (at-loop .loop-test .taken) stop);
       bounds = tt;
     }
 
@@ -34,13 +37,16 @@ add-requires t c κs =
 
 pub loop-again : (t : ℕ) → check-properties-lts.Need-loop-again (check-properties-calls t) (check-properties-at t) check-properties.Post Inv-loop μ-loop
 loop-again t c =
-    let a = c .before .before .before .before .before .before .before .before .before .args in
+    let at-check-property = c .before .before .before .before in
+    let start = at-check-property .before .before .before .before .before in
+    let a = start .args in
     let s = now (a .sheet) in
     let inner = node (now (a .source)) (a .levels) in
-    let l = c .before .before .before .before .before .before .loop in
-    let past = bounded (c .before .before .before .before .check-property .ensures) (c .before .before .t .given .1) in
-    let step = told (c .before .before .before .before .check-property .ensures) (c .before .before .t .given .1) in
-    rw (c .add .ensures) (omega arith, past .0, l .inv .2 ∙ properties-step inner (l .total) (l .left) (drop (l .at .at) s) (c .before .before .before .before .before .loop-test .taken) step)
+    let l = at-check-property .before .before .loop in
+    let past = bounded (at-check-property .check-property .ensures) (c .before .before .t .given .1) in
+    let step = told (at-check-property .check-property .ensures) (c .before .before .t .given .1) in
+    rw (c .add .ensures)
+    (omega arith, past .0, l .inv .2 ∙ properties-step inner (l .total) (l .left) (drop (l .at .at) s) (at-check-property .before .loop-test .taken) step)
 
 pub returns-2 : (t : ℕ) → check-properties-lts.Need-returns-2 (check-properties-calls t) (check-properties-at t) check-properties.Post Inv-loop μ-loop
 returns-2 t c =
@@ -49,6 +55,7 @@ returns-2 t c =
     let inner = node (now (a .source)) (a .levels) in
     let l = c .before .loop in
     record {
-      answer = sym (sym (properties-all inner (a .count) (drop (a .c .at) s)) ∙ l .inv .2 ∙ properties-end inner (l .total) (l .left) (drop (l .at .at) s) (c .loop-test .left));
+      answer = sym (sym (properties-all inner (a .count) (drop (a .c .at) s)) ∙ l .inv .2 ∙
+          properties-end inner (l .total) (l .left) (drop (l .at .at) s) (c .loop-test .left));
       bounds = (l .inv .1, l .inv .0);
     }

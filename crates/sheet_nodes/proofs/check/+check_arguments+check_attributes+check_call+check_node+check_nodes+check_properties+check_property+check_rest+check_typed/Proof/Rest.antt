@@ -4,14 +4,14 @@ use Rattle.laws.proofs.Decoding.{onOk-no}
 use Rattle.sheet.specs.Tree.{other, object, importDecl, exportFrom, exportAll, moduleDecl}
 use Rattle.sheet.specs.Shape.{anyUncooked}
 use Rattle.sheet.specs.Nodes.{many, piece, node, nodes, properties, attributesObject}
-use Rattle.sheet_heads.specs.code.Rest.{behind}
-use Rattle.sheet_heads.specs.code.Views.{quotedOf}
+use Rattle.sheet_heads.specs.code.{Rest.behind, Views.quotedOf}
 use Rattle.sheet_nodes.specs.code.Tallies.{nodeTally, tallyAll, tallyIn, tallyWith, importCallee}
 use Rattle.sheet_nodes.proofs.Arms.{holds, holds-plain, template-holds, binary-holds, is-entry, import-call-holds, call-of-holds, typed-holds}
 use Rattle.sheet_nodes.proofs.Rooms.{room, room-passed, leaf-past, entry-past, holding-past, called-past}
 use Rattle.sheet_nodes.proofs.check.check_rest.Reads as check-rest
-use Rattle.sheet_nodes.proofs.check.+check_arguments+check_attributes+check_call+check_node+check_nodes+check_properties+check_property+check_rest+check_typed.Lts-check_rest as check-rest-lts
-use Rattle.sheet_nodes.proofs.check.+check_arguments+check_attributes+check_call+check_node+check_nodes+check_properties+check_property+check_rest+check_typed.Proof.Calls.{check-rest-at, check-rest-calls}
+use Rattle.sheet_nodes.proofs.check.+check_arguments+check_attributes+check_call+check_node+check_nodes+check_properties+check_property+check_rest+check_typed as check-cycle
+use check-cycle.Lts-check_rest as check-rest-lts
+use check-cycle.Proof.Calls.{check-rest-at, check-rest-calls}
 
 pub holding-requires : (t : ℕ) → check-rest-lts.Need-holding-requires (check-rest-calls t) (check-rest-at t) check-rest.Post
 holding-requires t c κs = room _ _ 1 (c .check-nodes .result) (omega arith) (c .check-nodes .ensures .bounds)
@@ -74,7 +74,8 @@ holding-requires-7 t c κs = room _ _ 1 (c .check-nodes5 .result) (omega arith) 
 
 pub returns : (t : ℕ) → check-rest-lts.Need-returns (check-rest-calls t) (check-rest-at t) check-rest.Post
 returns t c =
-    let a = c .before .before .before .before .before .before .before .args in
+    let start = c .before .before .before .before .before .before .before in
+    let a = start .args in
     let s = now (a .sheet) in
     let inner = node (now (a .source)) (a .levels) in
     let u = drop (a .c .at) s in
@@ -90,28 +91,32 @@ returns t c =
 
 pub returns-2 : (t : ℕ) → check-rest-lts.Need-returns-2 (check-rest-calls t) (check-rest-at t) check-rest.Post
 returns-2 t c =
-    let a = c .before .before .before .before .before .args in
+    let start = c .before .before .before .before .before in
+    let a = start .args in
     record {
       answer = λ sp. rw (c .before .enum-told .given .1, c .leaf .ensures);
-      bounds = rw (c .leaf .ensures) (leaf-past (a .c .at) (length (now (a .sheet))) false false (a .c) (omega arith) (c .before .before .before .before .before .pre .1 .1));
+      bounds = rw (c .leaf .ensures) (leaf-past (a .c .at) (length (now (a .sheet))) false false (a .c) (omega arith) (start .pre .1 .1));
     }
 
 pub returns-3 : (t : ℕ) → check-rest-lts.Need-returns-3 (check-rest-calls t) (check-rest-at t) check-rest.Post
 returns-3 t c =
-    let a = c .before .before .before .before .before .before .before .before .args in
+    let start = c .before .before .before .before .before .before .before .before in
+    let a = start .args in
     record {
       answer = λ sp. rw (c .before .before .before .before .head2 .given .1, c .leaf2 .ensures, c .before .is-require .ensures);
-      bounds = rw (c .leaf2 .ensures) (leaf-past (a .c .at) (length (now (a .sheet))) false (c .before .is-require .result) (a .c) (omega arith) (c .before .before .before .before .before .before .before .before .pre .1 .1));
+      bounds = rw (c .leaf2 .ensures)
+          (leaf-past (a .c .at) (length (now (a .sheet))) false (c .before .is-require .result) (a .c) (omega arith) (start .pre .1 .1));
     }
 
 pub returns-4 : (t : ℕ) → check-rest-lts.Need-returns-4 (check-rest-calls t) (check-rest-at t) check-rest.Post
 returns-4 t c =
-    let a = c .before .before .before .before .before .before .before .before .before .args in
+    let at-head3 = c .before .before .before .before .before in let start = at-head3 .before .before .before .before in
+    let a = start .args in
     let s = now (a .sheet) in
-    let pieces = many [] piece (c .before .before .before .before .before .head3 .given .0 .0 + 1) (drop (a .c .at) s) in
+    let pieces = many [] piece (at-head3 .head3 .given .0 .0 + 1) (drop (a .c .at) s) in
     record {
       answer = λ sp. rw (
-        c .before .before .before .before .before .head3 .given .1,
+        at-head3 .head3 .given .1,
         onOk-no anyUncooked pieces (told (c .before .before .before .read-pieces .ensures) (c .before .r .given .1)),
       );
       bounds = tt;
@@ -119,24 +124,29 @@ returns-4 t c =
 
 pub returns-5 : (t : ℕ) → check-rest-lts.Need-returns-5 (check-rest-calls t) (check-rest-at t) check-rest.Post
 returns-5 t c =
-    let a = c .before .before .before .before .before .before .before .before .before .before .before .args in
+    let at-read-pieces = c .before .before .before .before .before in
+    let start = at-read-pieces .before .before .before .before .before .before in
+    let a = start .args in
     let s = now (a .sheet) in
     let inner = node (now (a .source)) (a .levels) in
     let u = drop (a .c .at) s in
-    let past = bounded (c .before .before .before .before .before .read-pieces .ensures) (c .before .before .before .b .given .1) in
+    let past = bounded (at-read-pieces .read-pieces .ensures) (c .before .before .before .b .given .1) in
     let y = c .before .check-nodes2 .result in
     let f = c .before .check-nodes2 .ensures .answer in
     record {
       answer = λ sp. rw (
-        c .before .before .before .before .before .before .before .head3 .given .1,
+        at-read-pieces .before .before .head3 .given .1,
         c .holding2 .ensures,
-      ) (template-holds s sp inner (c .before .before .before .before .before .before .before .head3 .given .0 .0) (many [] piece (c .before .before .before .before .before .before .before .head3 .given .0 .0 + 1) u) (told (c .before .before .before .before .before .read-pieces .ensures) (c .before .before .before .b .given .1)) y f);
+      ) (template-holds s sp inner (at-read-pieces .before .before .head3 .given .0 .0)
+          (many [] piece (at-read-pieces .before .before .head3 .given .0 .0 + 1) u)
+          (told (at-read-pieces .read-pieces .ensures) (c .before .before .before .b .given .1)) y f);
       bounds = rw (c .holding2 .ensures) (holding-past (a .c .at) (length s) _ (omega arith) false _ y (c .before .check-nodes2 .ensures .bounds));
     }
 
 pub returns-6 : (t : ℕ) → check-rest-lts.Need-returns-6 (check-rest-calls t) (check-rest-at t) check-rest.Post
 returns-6 t c =
-    let a = c .before .before .before .before .before .before .args in
+    let start = c .before .before .before .before .before .before in
+    let a = start .args in
     let s = now (a .sheet) in
     let inner = node (now (a .source)) (a .levels) in
     let u = drop (a .c .at) s in
@@ -152,7 +162,8 @@ returns-6 t c =
 
 pub returns-7 : (t : ℕ) → check-rest-lts.Need-returns-7 (check-rest-calls t) (check-rest-at t) check-rest.Post
 returns-7 t c =
-    let a = c .before .before .before .before .before .before .before .args in
+    let start = c .before .before .before .before .before .before .before in
+    let a = start .args in
     let s = now (a .sheet) in
     let inner = node (now (a .source)) (a .levels) in
     let u = drop (a .c .at) s in
@@ -163,12 +174,14 @@ returns-7 t c =
         c .before .before .before .head4 .given .1,
         c .holding4 .ensures,
       ) (holds-plain s tallyIn (object sp) (properties inner (c .before .before .before .head4 .given .0 .0) u) y f false (λ ps. refl));
-      bounds = rw (c .holding4 .ensures) (holding-past (a .c .at) (length s) (a .c .at) (omega arith) false false y (c .before .check-properties .ensures .bounds));
+      bounds = rw (c .holding4 .ensures)
+          (holding-past (a .c .at) (length s) (a .c .at) (omega arith) false false y (c .before .check-properties .ensures .bounds));
     }
 
 pub returns-8 : (t : ℕ) → check-rest-lts.Need-returns-8 (check-rest-calls t) (check-rest-at t) check-rest.Post
 returns-8 t c =
-    let a = c .before .before .before .before .before .before .before .args in
+    let start = c .before .before .before .before .before .before .before in
+    let a = start .args in
     let s = now (a .sheet) in
     let source = now (a .source) in
     let y = c .before .check-call .result in
@@ -177,7 +190,8 @@ returns-8 t c =
         c .before .before .before .enum-told3 .given .1,
         c .called .ensures,
         c .before .before .import-callee .ensures,
-      ) (import-call-holds s source (node source (a .levels)) sp (c .before .before .before .enum-told3 .given .0 .0) (drop (a .c .at) s) y (c .before .check-call .ensures .answer));
+      ) (import-call-holds s source (node source (a .levels)) sp (c .before .before .before .enum-told3 .given .0 .0) (drop (a .c .at) s) y
+          (c .before .check-call .ensures .answer));
       bounds = rw (
         c .called .ensures,
         c .before .before .import-callee .ensures,
@@ -186,7 +200,8 @@ returns-8 t c =
 
 pub returns-9 : (t : ℕ) → check-rest-lts.Need-returns-9 (check-rest-calls t) (check-rest-at t) check-rest.Post
 returns-9 t c =
-    let a = c .before .before .before .before .before .before .before .before .args in
+    let start = c .before .before .before .before .before .before .before .before in
+    let a = start .args in
     let s = now (a .sheet) in
     let callee = node (now (a .source)) (a .levels) (drop (a .c .at) s) in
     record {
@@ -199,23 +214,28 @@ returns-9 t c =
 
 pub returns-10 : (t : ℕ) → check-rest-lts.Need-returns-10 (check-rest-calls t) (check-rest-at t) check-rest.Post
 returns-10 t c =
-    let a = c .before .before .before .before .before .before .before .before .before .before .args in
+    let at-check-node = c .before .before .before .before .before in
+    let start = at-check-node .before .before .before .before .before in
+    let a = start .args in
     let s = now (a .sheet) in
     let source = now (a .source) in
     let inner = node source (a .levels) in
-    let past = bounded (c .before .before .before .before .before .check-node .ensures) (c .before .before .before .callee .given .1) in
+    let past = bounded (at-check-node .check-node .ensures) (c .before .before .before .callee .given .1) in
     let y = c .before .check-call2 .result in
     record {
       answer = λ sp. rw (
-        c .before .before .before .before .before .before .enum-told4 .given .1,
+        at-check-node .before .enum-told4 .given .1,
         c .called2 .ensures,
-      ) (call-of-holds s source inner sp (inner (drop (a .c .at) s)) (told (c .before .before .before .before .before .check-node .ensures) (c .before .before .before .callee .given .1)) y (c .before .check-call2 .ensures .answer));
-      bounds = rw (c .called2 .ensures) (called-past (a .c .at) (length s) _ (c .before .before .before .callee .given .0 .0) y (omega arith) (c .before .check-call2 .ensures .bounds));
+      ) (call-of-holds s source inner sp (inner (drop (a .c .at) s))
+          (told (at-check-node .check-node .ensures) (c .before .before .before .callee .given .1)) y (c .before .check-call2 .ensures .answer));
+      bounds = rw (c .called2 .ensures)
+          (called-past (a .c .at) (length s) _ (c .before .before .before .callee .given .0 .0) y (omega arith) (c .before .check-call2 .ensures .bounds));
     }
 
 pub returns-11 : (t : ℕ) → check-rest-lts.Need-returns-11 (check-rest-calls t) (check-rest-at t) check-rest.Post
 returns-11 t c =
-    let a = c .before .before .before .before .before .before .before .args in
+    let start = c .before .before .before .before .before .before .before in
+    let a = start .args in
     let s = now (a .sheet) in
     let h = c .before .before .before .head5 .given .0 in
     let y = c .before .check-attributes .result in
@@ -223,21 +243,25 @@ returns-11 t c =
       answer = λ sp. rw (
         c .before .before .before .head5 .given .1,
         c .entry-only .ensures,
-      ) (is-entry s tallyWith (importDecl sp (h .0) (h .1 .0) (h .1 .1 .0) (quotedOf s (h .1 .1 .1 .0))) (behind (h .1 .1 .1 .1 .0) (attributesObject (now (a .source)) (a .levels)) (drop (a .c .at) s)) y (c .before .check-attributes .ensures .answer) (λ a. refl));
+      ) (is-entry s tallyWith (importDecl sp (h .0) (h .1 .0) (h .1 .1 .0) (quotedOf s (h .1 .1 .1 .0)))
+          (behind (h .1 .1 .1 .1 .0) (attributesObject (now (a .source)) (a .levels)) (drop (a .c .at) s)) y (c .before .check-attributes .ensures .answer)
+          (λ a. refl));
       bounds = rw (c .entry-only .ensures) (entry-past (a .c .at) (length s) y (c .before .check-attributes .ensures .bounds));
     }
 
 pub returns-12 : (t : ℕ) → check-rest-lts.Need-returns-12 (check-rest-calls t) (check-rest-at t) check-rest.Post
 returns-12 t c =
-    let a = c .before .before .before .before .before .args in
+    let start = c .before .before .before .before .before in
+    let a = start .args in
     record {
       answer = λ sp. rw (c .before .enum-told5 .given .1, c .leaf3 .ensures);
-      bounds = rw (c .leaf3 .ensures) (leaf-past (a .c .at) (length (now (a .sheet))) false false (a .c) (omega arith) (c .before .before .before .before .before .pre .1 .1));
+      bounds = rw (c .leaf3 .ensures) (leaf-past (a .c .at) (length (now (a .sheet))) false false (a .c) (omega arith) (start .pre .1 .1));
     }
 
 pub returns-13 : (t : ℕ) → check-rest-lts.Need-returns-13 (check-rest-calls t) (check-rest-at t) check-rest.Post
 returns-13 t c =
-    let a = c .before .before .before .before .before .before .before .args in
+    let start = c .before .before .before .before .before .before .before in
+    let a = start .args in
     let s = now (a .sheet) in
     let h = c .before .before .before .head6 .given .0 in
     let y = c .before .check-attributes2 .result in
@@ -245,13 +269,16 @@ returns-13 t c =
       answer = λ sp. rw (
         c .before .before .before .head6 .given .1,
         c .entry-only2 .ensures,
-      ) (is-entry s tallyWith (exportFrom sp (h .0) (quotedOf s (h .1 .0))) (behind (h .1 .1 .0) (attributesObject (now (a .source)) (a .levels)) (drop (a .c .at) s)) y (c .before .check-attributes2 .ensures .answer) (λ a. refl));
+      ) (is-entry s tallyWith (exportFrom sp (h .0) (quotedOf s (h .1 .0)))
+          (behind (h .1 .1 .0) (attributesObject (now (a .source)) (a .levels)) (drop (a .c .at) s)) y (c .before .check-attributes2 .ensures .answer)
+          (λ a. refl));
       bounds = rw (c .entry-only2 .ensures) (entry-past (a .c .at) (length s) y (c .before .check-attributes2 .ensures .bounds));
     }
 
 pub returns-14 : (t : ℕ) → check-rest-lts.Need-returns-14 (check-rest-calls t) (check-rest-at t) check-rest.Post
 returns-14 t c =
-    let a = c .before .before .before .before .before .before .before .args in
+    let start = c .before .before .before .before .before .before .before in
+    let a = start .args in
     let s = now (a .sheet) in
     let h = c .before .before .before .head7 .given .0 in
     let y = c .before .check-attributes3 .result in
@@ -259,13 +286,16 @@ returns-14 t c =
       answer = λ sp. rw (
         c .before .before .before .head7 .given .1,
         c .entry-only3 .ensures,
-      ) (is-entry s tallyWith (exportAll sp (h .0) (quotedOf s (h .1 .0))) (behind (h .1 .1 .0) (attributesObject (now (a .source)) (a .levels)) (drop (a .c .at) s)) y (c .before .check-attributes3 .ensures .answer) (λ a. refl));
+      ) (is-entry s tallyWith (exportAll sp (h .0) (quotedOf s (h .1 .0)))
+          (behind (h .1 .1 .0) (attributesObject (now (a .source)) (a .levels)) (drop (a .c .at) s)) y (c .before .check-attributes3 .ensures .answer)
+          (λ a. refl));
       bounds = rw (c .entry-only3 .ensures) (entry-past (a .c .at) (length s) y (c .before .check-attributes3 .ensures .bounds));
     }
 
 pub returns-15 : (t : ℕ) → check-rest-lts.Need-returns-15 (check-rest-calls t) (check-rest-at t) check-rest.Post
 returns-15 t c =
-    let a = c .before .before .before .before .before .before .before .args in
+    let start = c .before .before .before .before .before .before .before in
+    let a = start .args in
     let s = now (a .sheet) in
     let inner = node (now (a .source)) (a .levels) in
     let u = drop (a .c .at) s in
@@ -275,29 +305,33 @@ returns-15 t c =
       answer = λ sp. rw (
         c .before .before .before .head8 .given .1,
         c .holding5 .ensures,
-      ) (typed-holds s sp (quotedOf s (c .before .before .before .head8 .given .0 .0)) inner (attributesObject (now (a .source)) (a .levels)) (c .before .before .before .head8 .given .0 .1 .0) u y f);
+      ) (typed-holds s sp (quotedOf s (c .before .before .before .head8 .given .0 .0)) inner (attributesObject (now (a .source)) (a .levels))
+          (c .before .before .before .head8 .given .0 .1 .0) u y f);
       bounds = rw (c .holding5 .ensures) (holding-past (a .c .at) (length s) (a .c .at) (omega arith) true false y (c .before .check-typed .ensures .bounds));
     }
 
 pub returns-16 : (t : ℕ) → check-rest-lts.Need-returns-16 (check-rest-calls t) (check-rest-at t) check-rest.Post
 returns-16 t c =
-    let a = c .before .before .before .before .before .args in
+    let start = c .before .before .before .before .before in
+    let a = start .args in
     record {
       answer = λ sp. rw (c .before .enum-told6 .given .1, c .leaf4 .ensures);
-      bounds = rw (c .leaf4 .ensures) (leaf-past (a .c .at) (length (now (a .sheet))) false false (a .c) (omega arith) (c .before .before .before .before .before .pre .1 .1));
+      bounds = rw (c .leaf4 .ensures) (leaf-past (a .c .at) (length (now (a .sheet))) false false (a .c) (omega arith) (start .pre .1 .1));
     }
 
 pub returns-17 : (t : ℕ) → check-rest-lts.Need-returns-17 (check-rest-calls t) (check-rest-at t) check-rest.Post
 returns-17 t c =
-    let a = c .before .before .before .before .before .args in
+    let start = c .before .before .before .before .before in
+    let a = start .args in
     record {
       answer = λ sp. rw (c .before .enum-told7 .given .1, c .leaf5 .ensures);
-      bounds = rw (c .leaf5 .ensures) (leaf-past (a .c .at) (length (now (a .sheet))) true false (a .c) (omega arith) (c .before .before .before .before .before .pre .1 .1));
+      bounds = rw (c .leaf5 .ensures) (leaf-past (a .c .at) (length (now (a .sheet))) true false (a .c) (omega arith) (start .pre .1 .1));
     }
 
 pub returns-18 : (t : ℕ) → check-rest-lts.Need-returns-18 (check-rest-calls t) (check-rest-at t) check-rest.Post
 returns-18 t c =
-    let a = c .before .before .before .before .before .before .before .args in
+    let start = c .before .before .before .before .before .before .before in
+    let a = start .args in
     let s = now (a .sheet) in
     let inner = node (now (a .source)) (a .levels) in
     let u = drop (a .c .at) s in
@@ -313,7 +347,8 @@ returns-18 t c =
 
 pub returns-19 : (t : ℕ) → check-rest-lts.Need-returns-19 (check-rest-calls t) (check-rest-at t) check-rest.Post
 returns-19 t c =
-    let a = c .before .before .before .before .before .before .before .before .args in
+    let at-head10 = c .before .before .before .before in let start = at-head10 .before .before .before .before in
+    let a = start .args in
     let s = now (a .sheet) in
     let inner = node (now (a .source)) (a .levels) in
     let u = drop (a .c .at) s in
@@ -321,8 +356,9 @@ returns-19 t c =
     let f = c .before .check-nodes5 .ensures .answer in
     record {
       answer = λ sp. rw (
-        c .before .before .before .before .head10 .given .1,
+        at-head10 .head10 .given .1,
         c .holding7 .ensures,
-      ) (holds s tallyAll (moduleDecl sp (Option.some (quotedOf s (c .before .before .before .before .head10 .given .0 .0)))) (nodes inner (c .before .before .before .before .head10 .given .0 .1 .0) u) y f _ false (λ ns. rw (c .before .before .declares .ensures)));
+      ) (holds s tallyAll (moduleDecl sp (Option.some (quotedOf s (at-head10 .head10 .given .0 .0)))) (nodes inner (at-head10 .head10 .given .0 .1 .0) u) y
+          f _ false (λ ns. rw (c .before .before .declares .ensures)));
       bounds = rw (c .holding7 .ensures) (holding-past (a .c .at) (length s) (a .c .at) (omega arith) _ false y (c .before .check-nodes5 .ensures .bounds));
     }

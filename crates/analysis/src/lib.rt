@@ -1,4 +1,5 @@
 // The patterns of src/analysis.rs: references, pragmas and source map comments in the body of a comment.
+#![tactic(auto)]
 pub mod matcher;
 pub mod mode;
 
@@ -16,21 +17,21 @@ use self::matcher::{
 use text::class::{Class, class_at, run_end};
 
 // What a match captured: from one place of the body to another, and whether marks stand around it. The Rust's `is_quoteless` is the opposite.
-#[derive(Drop)]
+#[derive(Clone, Copy)]
 pub struct Capture {
     pub quoted: bool,
     pub from: usize,
     pub to: usize,
 }
 
-#[derive(Drop)]
+#[derive(Clone, Copy)]
 pub enum Found {
     At(Capture),
     Nothing,
 }
 
 // 01's place of what a pattern reads: the range from one byte offset of the body to another.
-#[derive(Drop)]
+#[derive(Clone, Copy)]
 pub struct Place {
     pub from: usize,
     pub to: usize,

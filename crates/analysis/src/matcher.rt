@@ -12,7 +12,7 @@ use text::class::{Class, class_at, run_end};
 use text::utf8::{Encoding, char_at};
 
 // The place that was reached, if any.
-#[derive(Drop)]
+#[derive(Clone, Copy)]
 pub enum Matched {
     At(usize),
     Not,

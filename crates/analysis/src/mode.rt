@@ -6,7 +6,7 @@ ghost use Rattle.analysis.specs.code.Mode.{mode_as};
 use text::bytes::equal;
 
 // A mode, or none.
-#[derive(Drop)]
+#[derive(Clone, Copy)]
 pub enum ModeFound {
     Nothing,
     Import,

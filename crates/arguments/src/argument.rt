@@ -21,7 +21,7 @@ use sheet_heads::parts::{PieceRead, read_piece};
 use wire::Cursor;
 
 // Offsets into the sheet stand for the Rust's `Vec` of parts.
-#[derive(Drop)]
+#[derive(Clone, Copy)]
 pub enum DynamicArgument {
     Expr,
     // A text.

@@ -22,14 +22,14 @@ use sheet_nodes::tally::Checked;
 use wire::Cursor;
 
 // How many parts a chain has, with the cursor past it; or it is none.
-#[derive(Drop)]
+#[derive(Clone, Copy)]
 pub enum Parts {
     Are(usize, Cursor),
     Unknown,
 }
 
 // Where the next part of a chain is written, with the cursor past what was.
-#[derive(Drop)]
+#[derive(Clone, Copy)]
 pub struct Written {
     pub place: Pen,
     pub next: Cursor,

@@ -10,7 +10,7 @@ use sheet_heads::node::{Head, HeadRead, read_head};
 use wire::Cursor;
 
 // A String with its text in the sheet, a Template with its holes, or a Binary that is a plus, with the cursor past the head.
-#[derive(Drop)]
+#[derive(Clone, Copy)]
 pub enum Expression {
     String {
         from: usize,

@@ -1,4 +1,5 @@
 // The argument of a dynamic import, as far as its text is known.
+#![tactic(auto)]
 pub mod argument;
 pub mod bin;
 pub mod expression;

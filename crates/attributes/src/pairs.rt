@@ -11,7 +11,7 @@ use text::bytes::{Order, compare};
 use text::truth::count_one;
 
 // Where a key stands in the sheet, and, if it is known, its value.
-#[derive(Drop)]
+#[derive(Clone, Copy)]
 pub struct Pair {
     pub key_start: usize,
     pub key_end: usize,
@@ -21,7 +21,7 @@ pub struct Pair {
 }
 
 // The row that has the same key, or the one that a key comes before.
-#[derive(Drop)]
+#[derive(Clone, Copy)]
 pub enum Slot {
     Same(usize),
     Before(usize),

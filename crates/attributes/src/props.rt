@@ -19,7 +19,7 @@ use text::lossy::is_exact;
 use wire::Cursor;
 
 // What a node is to an attribute: a text of the sheet; an Object, with the number of its properties and the cursor at them; or anything else.
-#[derive(Drop)]
+#[derive(Clone, Copy)]
 pub enum Value {
     Text(usize, usize),
     Object(usize, Cursor),
@@ -27,7 +27,7 @@ pub enum Value {
 }
 
 // A property with the cursor past it: without a key that can be read, or with a key's text and the cursor at its value; or a refusal's number.
-#[derive(Drop)]
+#[derive(Clone, Copy)]
 pub enum PropRead {
     Keyless(Cursor),
     Keyed {

@@ -22,7 +22,7 @@ use sheet_heads::parts::{ArgumentRead, AttributesRead, read_argument, read_attri
 use text::bytes::equal;
 use wire::Cursor;
 
-#[derive(Drop)]
+#[derive(Clone, Copy)]
 pub enum ImportAttributes {
     None,
     Unknown,

@@ -24,7 +24,7 @@ use report_reader::fields::{
 };
 
 // Where the next byte goes in the buffer, how many lines were written, and the place behind what was read of the report.
-#[derive(Drop)]
+#[derive(Clone, Copy)]
 pub struct Cited {
     pub place: Pen,
     pub lines: usize,
@@ -32,7 +32,7 @@ pub struct Cited {
 }
 
 // The items of the report's lists.
-#[derive(Drop)]
+#[derive(Clone, Copy)]
 pub enum Kind {
     Dependency,
     Reference,

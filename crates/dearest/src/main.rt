@@ -1,4 +1,5 @@
 // Writes the dearest body of as many bytes as standard input says.
+#![tactic(auto)]
 ghost use Rattle.std.specs.Prelude.{◌≡◌, List, ℕ, ◌≤◌, length, take};
 ghost use Rattle.laws.specs.code.Told.{Bounded};
 ghost use Rattle.io.specs.Counts.{IsPrefixLen};
@@ -12,7 +13,7 @@ use libc::{STDERR_FILENO, STDIN_FILENO, STDOUT_FILENO};
 use scan::LONGEST;
 
 // How many bytes are asked for.
-#[derive(Drop)]
+#[derive(Clone, Copy)]
 pub enum Request {
     Bytes(usize),
     Nothing,

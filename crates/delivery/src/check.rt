@@ -17,14 +17,14 @@ pub const DELIVERY_LIMIT: usize = 65536;
 pub const MODULE_LIMIT: usize = 64;
 
 // The cursor past what was checked, or a refusal's number.
-#[derive(Drop)]
+#[derive(Clone, Copy)]
 pub enum Passed {
     To(Cursor),
     Refused(usize),
 }
 
 // How many modules a delivery has and where the first one stands; or it is refused.
-#[derive(Drop)]
+#[derive(Clone, Copy)]
 pub enum Checked {
     Modules { count: usize, first: usize },
     Refused,

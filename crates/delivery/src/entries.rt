@@ -18,7 +18,7 @@ use report_reader::fields::read_number;
 use text::bytes::starts_with;
 
 // Is an entry late? If so, where its specifier begins and ends; and the place behind it.
-#[derive(Drop)]
+#[derive(Clone, Copy)]
 pub struct Entry {
     pub late: bool,
     pub from: usize,
@@ -27,7 +27,7 @@ pub struct Entry {
 }
 
 // The first entry that is late, and where its specifier begins and ends; or there is none.
-#[derive(Drop)]
+#[derive(Clone, Copy)]
 pub enum Late {
     At {
         entry: usize,

@@ -16,7 +16,7 @@ use module_info::module_info;
 use report::writer::Outcome;
 
 // The answer. A specifier that is late stands in the work buffer, from one place to the other.
-#[derive(Drop)]
+#[derive(Clone, Copy)]
 pub enum Judgement {
     InOrder,
     NotInOrder {
@@ -32,7 +32,7 @@ pub enum Judgement {
 }
 
 // The first refused sheet; or each gets its report.
-#[derive(Drop)]
+#[derive(Clone, Copy)]
 pub enum Sheets {
     Refused { number: u8, module: usize },
     Reported,

@@ -1,4 +1,5 @@
 // The load order of a delivery: is each module behind those that it needs?
+#![tactic(auto)]
 pub mod check;
 pub mod entries;
 pub mod judge;
@@ -14,7 +15,7 @@ use crate::judge::{Judgement, judge};
 use report::writer::refuse_all;
 
 // The answer to a delivery. Modules and the entries of a module are counted from 0.
-#[derive(Drop)]
+#[derive(Clone, Copy)]
 pub enum LoadOrder {
     InOrder,
     NotInOrder { module: usize, entry: usize },

@@ -10,7 +10,7 @@ use report_reader::fields::read_text;
 use text::bytes::equal;
 
 // Where a module's name and its sheet begin and end. The next module is behind the sheet.
-#[derive(Drop)]
+#[derive(Clone, Copy)]
 pub struct ModuleRead {
     pub name_from: usize,
     pub name_to: usize,

@@ -45,7 +45,7 @@ use sheet_nodes::tally::Tallied;
 use wire::{Cursor, Flag, Read};
 
 // The next place in the buffer, with the cursor past what was walked, or a refusal's number.
-#[derive(Drop)]
+#[derive(Clone, Copy)]
 pub enum Walked {
     Is(Pen, Cursor),
     Refused(usize),

@@ -1,6 +1,7 @@
 // The entries of dependencies in the report. tables has the comments, the groups and the index of the source's positions, counts
 // how many comments and groups there are, cursor is in the sheet, and place in the buffer. notes takes for each entry where its node starts,
 // and how many characters were replaced in its text.
+#![tactic(auto)]
 ghost use Rattle.std.specs.Prelude.{◌≡◌, Bool, cond, List, ℕ, length, drop};
 ghost use Rattle.std.proofs.Math.Option.{Option};
 ghost use Rattle.laws.specs.Decoded.{ok};
@@ -44,14 +45,14 @@ use sheet_nodes::tally::Checked;
 use wire::Cursor;
 
 // How many comments and groups the tables hold.
-#[derive(Drop)]
+#[derive(Clone, Copy)]
 pub struct Counts {
     pub comments: usize,
     pub groups: usize,
 }
 
 // A static dependency without its attributes: its kind, and the span of its node. Is it for side effects only?
-#[derive(Drop)]
+#[derive(Clone, Copy)]
 pub struct StaticDependencyDescriptor {
     pub span: Span,
     pub specifier: Quoted,
@@ -60,7 +61,7 @@ pub struct StaticDependencyDescriptor {
 }
 
 // A dynamic dependency: where its node starts, and offsets into the sheet for its argument.
-#[derive(Drop)]
+#[derive(Clone, Copy)]
 pub struct DynamicDependencyDescriptor {
     pub kind: DynamicDependencyKind,
     pub start: usize,
@@ -69,7 +70,7 @@ pub struct DynamicDependencyDescriptor {
 }
 
 // A call up to its arguments: its kind, and the span of its node. Is it an import or a require?
-#[derive(Drop)]
+#[derive(Clone, Copy)]
 pub struct CallHead {
     pub kind: DynamicDependencyKind,
     pub span: Span,

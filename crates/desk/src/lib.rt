@@ -1,4 +1,5 @@
 // Turns for depositors: a desk in a block of numbers that the caller lends. specs/Block.antt says what each number is.
+#![tactic(auto)]
 ghost use Rattle.std.specs.Prelude.{◌≡◌, [], ◌<◌, length, get_or};
 ghost use Rattle.laws.specs.code.Told.{Leaving};
 ghost use Rattle.desk.specs.Desk.{hand_in, turn, queue, first_waiting, with_sheet, without_front};
@@ -33,21 +34,21 @@ const NO_DEPOSITOR: u32 = 14;
 const EIGHT_WAITING: u32 = 15;
 
 // What a hand-in is answered.
-#[derive(Drop)]
+#[derive(Clone, Copy)]
 pub enum HandedIn {
     Accepted,
     Refused(u32),
 }
 
 // What a turn is answered.
-#[derive(Drop)]
+#[derive(Clone, Copy)]
 pub enum Turned {
     Idle,
     Served { depositor: u32, sheet: u32 },
 }
 
 // Whom a turn finds.
-#[derive(Drop)]
+#[derive(Clone, Copy)]
 enum Found {
     At(u32),
     Nobody,

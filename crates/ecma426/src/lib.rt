@@ -1,4 +1,5 @@
 // The comment that names a source map, as ECMA-426 has it.
+#![tactic(auto)]
 ghost use Rattle.std.specs.Prelude.{◌≡◌, true, ◌↔◌, ◌+◌, ◌≤◌, length, drop};
 ghost use Rattle.laws.specs.code.Told.{Bounded, Meant};
 ghost use Rattle.analysis.specs.Place.{FoundWithin};
@@ -15,7 +16,7 @@ use text::white_space::is_white_space;
 const WORD_LENGTH: usize = 17;
 
 // Two kinds of characters: whitespace, and any other.
-#[derive(Drop)]
+#[derive(Clone, Copy)]
 pub enum Kind {
     Space,
     NotSpace,

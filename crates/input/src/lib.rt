@@ -1,8 +1,9 @@
 // An input read to its end, where a read that fails is not taken for the end.
+#![tactic(auto)]
 ghost use Rattle.input.specs.code.InputWithin.{InputWithin};
 
 // What came of reading.
-#[derive(Drop)]
+#[derive(Clone, Copy)]
 pub enum Input {
     // The input, or its front where it is longer than the buffer: so many bytes, at the start of the buffer.
     Bytes(usize),

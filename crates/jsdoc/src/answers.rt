@@ -2,42 +2,42 @@
 use analysis::mode::ModeFound;
 
 // The place past what was skipped.
-#[derive(Drop)]
+#[derive(Clone, Copy)]
 pub enum Skipped {
     At(usize),
     Backtrace,
 }
 
 // The text of a quote or a name, and the place past it.
-#[derive(Drop)]
+#[derive(Clone, Copy)]
 pub enum Text {
     Part { from: usize, to: usize, past: usize },
     Backtrace,
 }
 
 // Is there an attribute `resolution-mode`, and the mode of the first such one.
-#[derive(Drop)]
+#[derive(Clone, Copy)]
 pub struct AttributeMode {
     pub named: bool,
     pub mode: ModeFound,
 }
 
 // The mode that attributes name, and the place past them.
-#[derive(Drop)]
+#[derive(Clone, Copy)]
 pub enum AttributesRead {
     Past { mode: AttributeMode, past: usize },
     Backtrace,
 }
 
 // A mode, and the place past what names it.
-#[derive(Drop)]
+#[derive(Clone, Copy)]
 pub enum ModeRead {
     Past { mode: ModeFound, past: usize },
     Backtrace,
 }
 
 // A reading, by the place of its quote, both marks included, and its mode.
-#[derive(Drop)]
+#[derive(Clone, Copy)]
 pub enum JsDocImport {
     Import {
         start: usize,
@@ -48,7 +48,7 @@ pub enum JsDocImport {
 }
 
 // The reading that begins at a brace, and the place at which the search for its `import` ended.
-#[derive(Drop)]
+#[derive(Clone, Copy)]
 pub struct Searched {
     pub found: JsDocImport,
     pub end: usize,

@@ -12,7 +12,7 @@ use sheet_check::check::{Parts, SheetChecked, check_sheet};
 use text::position::build_index;
 
 // No bytes; the number of the first refusal that they meet; or the parts of an accepted sheet.
-#[derive(Drop)]
+#[derive(Clone, Copy)]
 pub enum SheetJudged {
     Empty,
     Refused(u8),

@@ -19,7 +19,7 @@ use sheet_check::check::Parts;
 use text::position::{Position, indexed_position};
 
 // What is answered: from which byte of the sheet to which the specifier stands, and its positions in the source.
-#[derive(Drop)]
+#[derive(Clone, Copy)]
 pub enum SourceMap {
     Found {
         from: usize,

@@ -27,7 +27,7 @@ use sheet::lookups::{GroupFound, body, body_span};
 use sheet::names::{CommentKind, MediaType, is_block, is_javascript, is_jsx};
 
 // The rules that give one specifier.
-#[derive(Drop)]
+#[derive(Clone, Copy)]
 pub enum Rule {
     TsSelfTypes,
     JsxImportSource,
@@ -39,14 +39,14 @@ pub enum Rule {
 }
 
 // Which of the comments that read counts.
-#[derive(Drop)]
+#[derive(Clone, Copy)]
 pub enum Counts {
     First,
     Last,
 }
 
 // A comment that a rule reads, with what is captured in its body.
-#[derive(Drop)]
+#[derive(Clone, Copy)]
 pub enum RuleRead {
     Of(Comment, Capture),
     Nothing,

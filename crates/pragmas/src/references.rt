@@ -28,7 +28,7 @@ use sheet::lookups::{GroupFound, body};
 use sheet::names::is_block;
 
 // A reference of a comment: what is captured there, and of a types reference the mode.
-#[derive(Drop)]
+#[derive(Clone, Copy)]
 pub enum Reference {
     Path(Capture),
     Types(Capture, ModeFound),

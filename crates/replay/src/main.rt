@@ -3,6 +3,7 @@
 //
 // The list: the number of sheets; of each the length and bytes of the sheet, the number of the answer (a byte), and the
 // length and bytes of the report. Numbers take four bytes, low byte first.
+#![tactic(auto)]
 ghost use Rattle.std.specs.Prelude.{◌≡◌, List, ℕ, ◌+◌, ◌≤◌, length, drop};
 ghost use Rattle.laws.specs.Decoded.{ok, on_ok};
 ghost use Rattle.laws.specs.code.Told.{Bounded, Told};
@@ -23,28 +24,28 @@ use text::bytes::byte_at;
 const SPACE: usize = 131072;
 
 // Bytes of the list, from start up to end, or none that it holds whole.
-#[derive(Drop)]
+#[derive(Clone, Copy)]
 enum Stretch {
     Bytes(usize, usize),
     Missing,
 }
 
 // Whether a sheet was accepted, and whether the answer is the stored one.
-#[derive(Drop)]
+#[derive(Clone, Copy)]
 struct Ran {
     accepted: bool,
     same: bool,
 }
 
 // A sheet that ran, and where the next stands; or a list that ends too early.
-#[derive(Drop)]
+#[derive(Clone, Copy)]
 enum Step {
     Next(Ran, usize),
     Short,
 }
 
 // How many sheets were accepted and refused, and how many answers differ.
-#[derive(Drop)]
+#[derive(Clone, Copy)]
 struct Counts {
     accepted: u64,
     refused: u64,
@@ -52,7 +53,7 @@ struct Counts {
 }
 
 // The counts of a list that is read to its end.
-#[derive(Drop)]
+#[derive(Clone, Copy)]
 enum Tally {
     Whole(Counts),
     Odd,

@@ -1,4 +1,5 @@
 // The report: its values, their encoding, and the writer into a lent buffer.
+#![tactic(auto)]
 pub mod lent;
 pub mod names;
 pub mod origins;

@@ -3,7 +3,7 @@ ghost use Rattle.std.specs.Prelude.{◌≡◌};
 ghost use Rattle.wire.specs.Fields.{value_of};
 ghost use Rattle.report.specs.Names.{static_number, dynamic_number, dependency_kinds};
 
-#[derive(Drop)]
+#[derive(Clone, Copy)]
 pub enum StaticDependencyKind {
     Import,
     ImportDefer,
@@ -32,7 +32,7 @@ pub fn static_number(kind: StaticDependencyKind) -> u8
     }
 }
 
-#[derive(Drop)]
+#[derive(Clone, Copy)]
 pub enum DynamicDependencyKind {
     Import,
     ImportDefer,
@@ -52,7 +52,7 @@ pub fn dynamic_number(kind: DynamicDependencyKind) -> u8
 }
 
 // A kind of either enum.
-#[derive(Drop)]
+#[derive(Clone, Copy)]
 pub enum DependencyKind {
     Static(StaticDependencyKind),
     Dynamic(DynamicDependencyKind),

@@ -6,7 +6,7 @@ ghost use Rattle.report.specs.Buffer.{wrote, buffer_as};
 use super::writer::Pen;
 
 // The rules that give references, pragmas and JSDoc imports.
-#[derive(Drop)]
+#[derive(Clone, Copy)]
 pub enum EntryRule {
     Path,
     Types,

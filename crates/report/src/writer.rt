@@ -19,20 +19,20 @@ use wire::refusals;
 const FULL: usize = 18446744073709551615;
 
 // Where the writer goes on in the buffer, or `FULL` once a byte found no room.
-#[derive(Drop)]
+#[derive(Clone, Copy)]
 pub struct Pen {
     pub at: usize,
 }
 
 // The next place behind a text in WTF-8, and how many surrogates U+FFFD stands for in it.
-#[derive(Drop)]
+#[derive(Clone, Copy)]
 pub struct Lossy {
     pub place: Pen,
     pub replaced: usize,
 }
 
 // The report's length, or a refusal's number.
-#[derive(Drop)]
+#[derive(Clone, Copy)]
 pub enum Outcome {
     Accepted(usize),
     Refused(u8),

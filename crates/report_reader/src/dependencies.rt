@@ -11,7 +11,7 @@ use super::fields::{
 use report::names::{DependencyKind, StaticDependencyKind, dependency_kind};
 
 // A static dependency: its kind, where its specifier's text begins and ends, and the place behind all of it; of a dynamic one the place only.
-#[derive(Drop)]
+#[derive(Clone, Copy)]
 pub enum DependencyRead {
     Static {
         kind: StaticDependencyKind,

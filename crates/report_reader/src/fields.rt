@@ -15,21 +15,21 @@ use text::position::Position;
 use wire::{Cursor, Read};
 
 // A number, and the place behind it.
-#[derive(Drop)]
+#[derive(Clone, Copy)]
 pub struct NumberRead {
     pub value: usize,
     pub next: usize,
 }
 
 // Where a text begins and ends.
-#[derive(Drop)]
+#[derive(Clone, Copy)]
 pub struct TextRead {
     pub from: usize,
     pub to: usize,
 }
 
 // A range, and the place behind it.
-#[derive(Drop)]
+#[derive(Clone, Copy)]
 pub struct RangeRead {
     pub start: Position,
     pub end: Position,

@@ -1,4 +1,5 @@
 // Each entry with its rule: beside the report, how each types specifier, reference, pragma and JSDoc import was found.
+#![tactic(auto)]
 ghost use Rattle.std.specs.Prelude.{◌≡◌, ℕ, ◌+◌, ◌*◌, ◌≤◌, length};
 ghost use mathlib.Core.List.{List, [], flat_map};
 ghost use Rattle.laws.specs.Decoded.{ok};
@@ -30,7 +31,7 @@ use sheet_check::check::Parts;
 use wire::refusals;
 
 // Both lengths, or a refusal's number.
-#[derive(Drop)]
+#[derive(Clone, Copy)]
 pub enum Ruled {
     Accepted { report: usize, rules: usize },
     Refused(u8),

@@ -1,4 +1,5 @@
 // The scan sum of a comment's body: how many bytes a search from each `{` goes over, all in all.
+#![tactic(auto)]
 ghost use Rattle.std.specs.Prelude.{◌≡◌, ◌+◌, ◌≤◌, ◌<◌, length, drop};
 ghost use Rattle.scan.specs.Scan.{scan_length, scan_sum, scanned, longest};
 ghost use Rattle.scan.specs.Answers.{Counted, packed};
@@ -9,7 +10,7 @@ use text::bytes::starts_with;
 pub const LONGEST: usize = 32764;
 
 // A scan sum, or none.
-#[derive(Drop)]
+#[derive(Clone, Copy)]
 pub enum ScanSum {
     Bytes(u64),
     Nothing,

@@ -12,21 +12,21 @@ use super::names::{CommentKind, comment_kind, kind_number};
 use wire::{Cursor, Read, refusals};
 
 // A comment: its kind, and its span with the marks.
-#[derive(Drop)]
+#[derive(Clone, Copy)]
 pub struct Comment {
     pub kind: CommentKind,
     pub span: Span,
 }
 
 // A comment with the cursor past it, or a refusal's number.
-#[derive(Drop)]
+#[derive(Clone, Copy)]
 pub enum CommentRead {
     Is(Comment, Cursor),
     Refused(usize),
 }
 
 // A table is filled, and the cursor is past what it holds; or a refusal's number.
-#[derive(Drop)]
+#[derive(Clone, Copy)]
 pub enum Filled {
     To(Cursor),
     Refused(usize),

@@ -10,14 +10,14 @@ use text::position::goes_on;
 use wire::{Cursor, Read, refusals};
 
 // Where something stands in the source: from the start up to the end.
-#[derive(Drop)]
+#[derive(Clone, Copy)]
 pub struct Span {
     pub start: usize,
     pub end: usize,
 }
 
 // A span with the cursor past it, or a refusal's number.
-#[derive(Drop)]
+#[derive(Clone, Copy)]
 pub enum SpanRead {
     Is(Span, Cursor),
     Refused(usize),

@@ -13,7 +13,7 @@ use super::names::{Side, side_number, side_of};
 use wire::{Cursor, Read, refusals};
 
 // A group of comments on a side of a position; the index of its first comment, and their number.
-#[derive(Drop)]
+#[derive(Clone, Copy)]
 pub struct Group {
     pub side: Side,
     pub position: usize,
@@ -22,14 +22,14 @@ pub struct Group {
 }
 
 // A group with the cursor past it, or a refusal's number.
-#[derive(Drop)]
+#[derive(Clone, Copy)]
 pub enum GroupRead {
     Is(Group, Cursor),
     Refused(usize),
 }
 
 // The side and the position of the group before, if there is one.
-#[derive(Drop)]
+#[derive(Clone, Copy)]
 pub enum Before {
     At(Side, usize),
     Nothing,

@@ -12,7 +12,7 @@ use super::groups::{Group, group_at, precedes};
 use super::names::{CommentKind, Side, side_number};
 use super::program::{FirstItem, Program};
 
-#[derive(Drop)]
+#[derive(Clone, Copy)]
 pub enum GroupFound {
     At(Group),
     Nothing,

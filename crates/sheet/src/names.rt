@@ -5,7 +5,7 @@ ghost use Rattle.sheet.specs.Media.{is_java_script, is_jsx};
 ghost use Rattle.sheet.specs.Comments.{is_block};
 ghost use Rattle.sheet.specs.Names.{media_types, kind_number, comment_kinds, side_number, sides, import_phases};
 
-#[derive(Drop)]
+#[derive(Clone, Copy)]
 pub enum MediaType {
     JavaScript,
     Jsx,
@@ -76,7 +76,7 @@ pub fn is_jsx(media: MediaType) -> bool
 }
 
 // The last two are the HTML-like comments of ECMAScript's Annex B.
-#[derive(Drop)]
+#[derive(Clone, Copy)]
 pub enum CommentKind {
     Line,
     Block,
@@ -118,7 +118,7 @@ pub fn is_block(kind: CommentKind) -> bool
 }
 
 // The side of a group at its position.
-#[derive(Drop)]
+#[derive(Clone, Copy)]
 pub enum Side {
     Leading,
     Trailing,
@@ -142,7 +142,7 @@ pub fn side_number(side: Side) -> u32
     }
 }
 
-#[derive(Drop)]
+#[derive(Clone, Copy)]
 pub enum ImportPhase {
     Evaluation,
     Source,

@@ -9,13 +9,13 @@ use super::fields::{Span, SpanRead, read_position, read_span};
 use wire::{Cursor, Flag, Read};
 
 // Where the first item starts, if there is one.
-#[derive(Drop)]
+#[derive(Clone, Copy)]
 pub enum FirstItem {
     At(usize),
     Nothing,
 }
 
-#[derive(Drop)]
+#[derive(Clone, Copy)]
 pub struct Program {
     pub script: bool,
     pub span: Span,
@@ -24,14 +24,14 @@ pub struct Program {
 }
 
 // The first item's start with the cursor past it, or a refusal's number.
-#[derive(Drop)]
+#[derive(Clone, Copy)]
 pub enum FirstRead {
     Is(FirstItem, Cursor),
     Refused(usize),
 }
 
 // A program with the cursor past it, or a refusal's number.
-#[derive(Drop)]
+#[derive(Clone, Copy)]
 pub enum ProgramRead {
     Is(Program, Cursor),
     Refused(usize),

@@ -12,7 +12,7 @@ use sheet::program::Program;
 use wire::refusals;
 
 // What the report is made from: places in the sheet, and how many rows its tables have.
-#[derive(Drop)]
+#[derive(Clone, Copy)]
 pub struct Parts {
     pub media: MediaType,
     pub source_start: usize,
@@ -26,7 +26,7 @@ pub struct Parts {
 }
 
 // A sheet that meets none of refusals 1 to 9, or the number of the first that it meets.
-#[derive(Drop)]
+#[derive(Clone, Copy)]
 pub enum SheetChecked {
     Accepted(Parts),
     Refused(usize),

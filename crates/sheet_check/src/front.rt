@@ -16,7 +16,7 @@ use text::utf8::Encoding;
 use wire::{Cursor, Read, Text, refusals};
 
 // The media byte and where the source starts, with the cursor at its end, or a refusal's number.
-#[derive(Drop)]
+#[derive(Clone, Copy)]
 pub enum SourceRead {
     Is {
         media: MediaType,
@@ -27,14 +27,14 @@ pub enum SourceRead {
 }
 
 // How many rows a table was filled with, and the cursor past them, or a refusal's number.
-#[derive(Drop)]
+#[derive(Clone, Copy)]
 pub enum Counted {
     Is(usize, Cursor),
     Refused(usize),
 }
 
 // The media byte, the source from a place of the sheet to another, and how many rows the tables of comments and groups have.
-#[derive(Drop)]
+#[derive(Clone, Copy)]
 pub struct Front {
     pub media: MediaType,
     pub source_start: usize,
@@ -44,7 +44,7 @@ pub struct Front {
 }
 
 // What stands in front of the program with the cursor past it, or a refusal's number.
-#[derive(Drop)]
+#[derive(Clone, Copy)]
 pub enum FrontRead {
     Is(Front, Cursor),
     Refused(usize),

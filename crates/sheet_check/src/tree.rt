@@ -9,7 +9,7 @@ use wire::{Cursor, refusals};
 
 // The program, where the root stands in the sheet, how many dependencies it gives, and how many of its children there are up to the last that
 // gives one, if it is an Other.
-#[derive(Drop)]
+#[derive(Clone, Copy)]
 pub struct Tree {
     pub program: Program,
     pub root: usize,
@@ -18,7 +18,7 @@ pub struct Tree {
 }
 
 // The tree, behind which the sheet ends, or a refusal's number.
-#[derive(Drop)]
+#[derive(Clone, Copy)]
 pub enum TreeRead {
     Is(Tree),
     Refused(usize),

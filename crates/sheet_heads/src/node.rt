@@ -21,7 +21,7 @@ use text::utf8::Encoding;
 use wire::{Cursor, Flag, Read, Text, refusals};
 
 // What stands before a node's first child. A text is from a place of the sheet to another.
-#[derive(Drop)]
+#[derive(Clone, Copy)]
 pub enum Head {
     // The number of children.
     Other(usize),
@@ -71,14 +71,14 @@ pub enum Head {
 }
 
 // The fields of a head with the cursor past them, or a refusal's number.
-#[derive(Drop)]
+#[derive(Clone, Copy)]
 pub enum FieldsRead {
     Is(Head, Cursor),
     Refused(usize),
 }
 
 // A String and whether an Object follows, with the cursor past them, or a refusal's number.
-#[derive(Drop)]
+#[derive(Clone, Copy)]
 pub enum SpecifierRead {
     Is {
         specifier: Quoted,
@@ -89,7 +89,7 @@ pub enum SpecifierRead {
 }
 
 // A node's span and its head with the cursor past it, or a refusal's number.
-#[derive(Drop)]
+#[derive(Clone, Copy)]
 pub enum HeadRead {
     Is {
         span: Span,

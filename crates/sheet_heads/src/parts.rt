@@ -16,7 +16,7 @@ use text::utf8::Encoding;
 use wire::{Cursor, Flag, Read, Text, refusals};
 
 // A piece with the cursor past it, or a refusal's number. A cooked piece's text stands from a place up to that cursor.
-#[derive(Drop)]
+#[derive(Clone, Copy)]
 pub enum PieceRead {
     Cooked(usize, Cursor),
     Uncooked(Cursor),
@@ -24,7 +24,7 @@ pub enum PieceRead {
 }
 
 // Is an argument spread, and its span, with the cursor past them, or a refusal's number.
-#[derive(Drop)]
+#[derive(Clone, Copy)]
 pub enum ArgumentRead {
     Is {
         spread: bool,
@@ -35,7 +35,7 @@ pub enum ArgumentRead {
 }
 
 // What stands before a property's first node. A key's text is from a place of the sheet to another.
-#[derive(Drop)]
+#[derive(Clone, Copy)]
 pub enum Property {
     Spread,
     Other,
@@ -45,14 +45,14 @@ pub enum Property {
 }
 
 // A property's head with the cursor past it, or a refusal's number.
-#[derive(Drop)]
+#[derive(Clone, Copy)]
 pub enum PropertyRead {
     Is(Property, Cursor),
     Refused(usize),
 }
 
 // The span of an Object that holds attributes and the number of its properties, with the cursor past them, or a refusal's number.
-#[derive(Drop)]
+#[derive(Clone, Copy)]
 pub enum AttributesRead {
     Is {
         span: Span,

@@ -12,7 +12,7 @@ use text::utf8::Encoding;
 use wire::{Cursor, Read, Text, refusals};
 
 // A String: its span in the source, and where its text stands in the sheet.
-#[derive(Drop)]
+#[derive(Clone, Copy)]
 pub struct Quoted {
     pub span: Span,
     pub start: usize,
@@ -20,7 +20,7 @@ pub struct Quoted {
 }
 
 // A String with the cursor past it, or a refusal's number.
-#[derive(Drop)]
+#[derive(Clone, Copy)]
 pub enum QuotedRead {
     Is(Quoted, Cursor),
     Refused(usize),

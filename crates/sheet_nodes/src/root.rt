@@ -14,14 +14,14 @@ use sheet_heads::node::{Head, HeadRead, read_head};
 use wire::Cursor;
 
 // What was found in the root, and how many of its children there are up to the last that has an entry, if it is an Other.
-#[derive(Drop)]
+#[derive(Clone, Copy)]
 pub struct Root {
     pub checked: Checked,
     pub reach: usize,
 }
 
 // What was found in children, and how many there are up to the last that has an entry.
-#[derive(Drop)]
+#[derive(Clone, Copy)]
 pub struct Children {
     pub tallied: Tallied,
     pub reach: usize,

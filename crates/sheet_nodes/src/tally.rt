@@ -7,14 +7,14 @@ use text::truth::{both, count_one, either};
 use wire::Cursor;
 
 // Of nodes: how many dependencies they give, and whether a call in them has an uncooked template for its first argument.
-#[derive(Drop)]
+#[derive(Clone, Copy)]
 pub struct Tally {
     pub entries: usize,
     pub uncooked: bool,
 }
 
 // Of a node also: is it the Name `require`, is it a template with an uncooked piece?
-#[derive(Drop)]
+#[derive(Clone, Copy)]
 pub struct NodeTally {
     pub entries: usize,
     pub uncooked: bool,
@@ -23,7 +23,7 @@ pub struct NodeTally {
 }
 
 // Of arguments also: is there one, is the first a template with an uncooked piece?
-#[derive(Drop)]
+#[derive(Clone, Copy)]
 pub struct Passed {
     pub entries: usize,
     pub uncooked: bool,
@@ -32,21 +32,21 @@ pub struct Passed {
 }
 
 // What was found in a node, with the cursor past it, or a refusal's number.
-#[derive(Drop)]
+#[derive(Clone, Copy)]
 pub enum Checked {
     Is(NodeTally, Cursor),
     Refused(usize),
 }
 
 // What was found in nodes, with the cursor past them, or a refusal's number.
-#[derive(Drop)]
+#[derive(Clone, Copy)]
 pub enum Tallied {
     Is(Tally, Cursor),
     Refused(usize),
 }
 
 // What was found in arguments, with the cursor past them, or a refusal's number.
-#[derive(Drop)]
+#[derive(Clone, Copy)]
 pub enum PassedRead {
     Is(Passed, Cursor),
     Refused(usize),

@@ -1,4 +1,5 @@
 // Patterns as rows of steps: tables of numbers, and a stepping matcher that runs any of them.
+#![tactic(auto)]
 pub mod codes;
 pub mod patterns;
 mod run;
@@ -23,14 +24,14 @@ use analysis::{Capture, Found};
 const LONGEST_TABLE: usize = 255;
 
 // What a row finds, or what is wrong with its table.
-#[derive(Drop)]
+#[derive(Clone, Copy)]
 pub enum Answer {
     Is(Found),
     Refused(Ill),
 }
 
 // The ten patterns.
-#[derive(Drop)]
+#[derive(Clone, Copy)]
 pub enum Pattern {
     TripleSlash,
     Path,

@@ -10,7 +10,7 @@ use analysis::{Capture, Found};
 use text::class::{Class, class_at, run_end};
 
 // Where a plain step ends and what is captured behind it; or it is not passed.
-#[derive(Drop)]
+#[derive(Clone, Copy)]
 pub enum Passed {
     On(usize, Capture),
     Not,

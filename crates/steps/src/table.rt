@@ -7,7 +7,7 @@ use super::codes::{EITHER, FROM, LONGEST, MARKED, NAME_REST, ONE, START, TO, WOR
 use text::class::Class;
 
 // What is wrong with a table.
-#[derive(Drop)]
+#[derive(Clone, Copy)]
 pub enum Ill {
     // it has more than 255 numbers
     TooLong,
@@ -22,7 +22,7 @@ pub enum Ill {
 }
 
 // A step that is passed in one way only, or not at all.
-#[derive(Drop)]
+#[derive(Clone, Copy)]
 pub enum Plain {
     Start,
     Word(usize),
@@ -32,7 +32,7 @@ pub enum Plain {
 }
 
 // What a row goes on with: a plain step and how many numbers it has; a run; how many numbers the first alternative has.
-#[derive(Drop)]
+#[derive(Clone, Copy)]
 pub enum Step {
     Done,
     Pass(Plain, usize),
@@ -43,7 +43,7 @@ pub enum Step {
 }
 
 // Whether numbers stand for a row.
-#[derive(Drop)]
+#[derive(Clone, Copy)]
 pub enum Verdict {
     Fine,
     Bad(Ill),

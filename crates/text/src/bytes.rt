@@ -4,7 +4,7 @@ ghost use Rattle.laws.specs.code.Told.{Bounded};
 ghost use Rattle.text.specs.Bytes.{begins, same, order};
 ghost use Rattle.text.specs.code.Places.{Passing, First};
 
-#[derive(Drop)]
+#[derive(Clone, Copy)]
 pub enum Order {
     Less,
     Equal,

@@ -9,7 +9,7 @@ use super::ranges::in_either;
 use super::utf8::{Encoding, char_at};
 use super::white_space::is_white_space;
 
-#[derive(Drop)]
+#[derive(Clone, Copy)]
 pub enum Class {
     White,
     NotWhite,

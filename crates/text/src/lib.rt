@@ -1,4 +1,6 @@
 // Texts as bytes: characters of UTF-8 and WTF-8, classes of characters, lines and columns, surrogates, comparison; truth values.
+#![tactic(auto)]
+
 pub mod alphabetic;
 mod alphabetic_bounds;
 pub mod bytes;

@@ -7,7 +7,7 @@ ghost use Rattle.text.specs.Utf8.{continuation};
 ghost use Rattle.text.specs.code.Totals.{total, ends_line, begins_one};
 ghost use Rattle.text.specs.Position.{characters, step, walk, position_of, stored, kept, Indexed, indexed_position};
 
-#[derive(Drop)]
+#[derive(Clone, Copy)]
 pub struct Position {
     pub line: usize,
     pub column: usize,

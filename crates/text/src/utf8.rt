@@ -9,14 +9,14 @@ ghost use Rattle.text.specs.WellFormed.{Judges};
 use super::bytes::byte_at;
 
 // UTF-8, or WTF-8, in which a surrogate stands by itself too.
-#[derive(Drop)]
+#[derive(Clone, Copy)]
 pub enum Encoding {
     Utf8,
     Wtf8,
 }
 
 // A character's length in bytes, 0 for none, and its code point.
-#[derive(Drop)]
+#[derive(Clone, Copy)]
 pub struct Char {
     pub len: usize,
     pub code: u32,

@@ -1,4 +1,6 @@
 // Numbers, flags and texts as sheets and reports hold them, read by a cursor.
+#![tactic(auto)]
+
 pub mod refusals;
 
 ghost use Rattle.std.specs.Prelude.{◌≡◌, ◌||◌, leb, ltb, length, drop};
@@ -11,27 +13,27 @@ ghost use Rattle.wire.specs.code.Views.{read_as, flag_as, text_as, Past, PastFla
 use text::utf8::Encoding;
 
 // A place in a sheet: what is read next.
-#[derive(Drop)]
+#[derive(Clone, Copy)]
 pub struct Cursor {
     pub at: usize,
 }
 
 // A number with the cursor past it, or a refusal's number.
-#[derive(Drop)]
+#[derive(Clone, Copy)]
 pub enum Read {
     Value(usize, Cursor),
     Refused(usize),
 }
 
 // A flag with the cursor past it, or a refusal's number.
-#[derive(Drop)]
+#[derive(Clone, Copy)]
 pub enum Flag {
     Is(bool, Cursor),
     Refused(usize),
 }
 
 // Where a text starts, with the cursor at its end, or a refusal's number.
-#[derive(Drop)]
+#[derive(Clone, Copy)]
 pub enum Text {
     From(usize, Cursor),
     Refused(usize),

@@ -1,0 +1,84 @@
+use Rattle.laws.proofs.Prelude.{arith, rules, told}
+use Rattle.arguments.proofs.Chains.{checked_refused, string_counted, template_chain, plus_unknown, at_right, plus_counted}
+use Rattle.arguments.proofs.bin.+visit_bin.{statement, Tie.close}
+use Rattle.arguments.proofs.bin.visit_bin.Reads as visit-bin
+use Rattle.arguments.proofs.bin.+visit_bin.Lts-visit_bin as visit-bin-lts
+use Rattle.arguments.proofs.bin.+visit_bin.Goals as goal
+
+-- measure: abbrev μ-visit-bin : Measures 2 visit-bin-kinds.ps ℕ
+-- μ-visit-bin κs a = a.1.1.1.0
+
+pub overflow_sub-levels : goal.overflow_sub-levels
+overflow_sub-levels t c = (rw c.in-Plus.is at c.read_expression.ensures.bounds)
+
+pub visit_bin-requires : goal.visit_bin-requires
+visit_bin-requires t c =
+    let past = rw c.in-Plus.is at c.read_expression.ensures.bounds in
+    (omega arith, search rules)
+
+pub overflow_sub-levels-in-Are : goal.overflow_sub-levels-in-Are
+overflow_sub-levels-in-Are t c =
+    (rw c.in-Plus.is at c.read_expression.ensures.bounds)
+
+pub overflow_add-result : goal.overflow_add-result
+overflow_add-result t c =
+    let past = rw c.in-Plus.is at c.read_expression.ensures.bounds in
+    let most = rw c.in-Are.is at c.visit_bin.ensures.bounds in
+    omega arith
+
+pub returns-in-String : goal.returns-in-String
+returns-in-String t c =
+    let past = rw c.in-String.is at c.read_expression.ensures.bounds in
+    record {
+      answer = λ n u e. string_counted (rw c.in-String.is at (c.read_expression.ensures.answer n u e));
+      bounds = past.0;
+    }
+
+pub returns-in-Template : goal.returns-in-Template
+returns-in-Template t c = record {
+  answer = λ n u e. rw (template_chain (rw c.in-Template.is at (c.read_expression.ensures.answer n u e)));
+  bounds = tt;
+}
+
+pub returns-in-Unknown : goal.returns-in-Unknown
+returns-in-Unknown t c =
+    record {
+      answer = λ n u e. plus_unknown (rw c.in-Plus.is at (c.read_expression.ensures.answer n u e))
+          (rw c.in-Unknown.is at c.visit_bin.ensures.answer);
+      bounds = tt;
+    }
+
+pub returns-in-Refused : goal.returns-in-Refused
+returns-in-Refused t c =
+    record {
+      answer = λ n u e.
+          let plus = rw c.in-Plus.is at (c.read_expression.ensures.answer n u e) in
+          absurd (checked_refused (at_right plus (rw c.in-Are.is at c.visit_bin.ensures.answer))
+          (told c.check_node.ensures c.in-Refused.is));
+      bounds = tt;
+    }
+
+pub returns-in-Is : goal.returns-in-Is
+returns-in-Is t c =
+    let past = rw c.in-Plus.is at c.read_expression.ensures.bounds in
+    let most = rw c.in-Are.is at c.visit_bin.ensures.bounds in record {
+      answer = λ n u e.
+          let plus = rw c.in-Plus.is at (c.read_expression.ensures.answer n u e) in
+          plus_counted plus (rw c.in-Are.is at c.visit_bin.ensures.answer)
+          (told c.check_node.ensures c.in-Is.is);
+      bounds = omega arith;
+    }
+
+pub returns-in-Other : goal.returns-in-Other
+returns-in-Other t c = record {
+  answer = λ n u e. rw (rw c.in-Other.is at (c.read_expression.ensures.answer n u e)).parts;
+  bounds = tt;
+}
+
+pub +visit-bin-spec : {M : Type 1} → statement M
++visit-bin-spec =
+    close μ-visit-bin
+    (λ t. visit-bin-lts.spec (calls t) (visit-bin-at t) visit-bin.Post
+    (λ c κs. search rules) (λ c. search rules) (λ c. search rules) (λ c. search rules) (sub-visit-bin t) (visit-bin-requires t) (λ c. search rules)
+    (λ c. search rules) (sub-check-node t) (λ c κs. search rules) (λ c. search rules) (λ c. search rules) (add-t18 t) (λ c. search rules) (returns t)
+    (returns-2 t) (returns-3 t) (returns-4 t) (returns-5 t) (returns-6 t))

@@ -1,0 +1,11 @@
+use Rattle.laws.proofs.Prelude.{refl, append-nil, flat_map, arith}
+use Rattle.citation.proofs.cite.cite_range.Goals as goal
+
+pub returns : goal.returns
+unfolding flat_map
+returns c = record {
+  answer = λ r v t e.
+      let (p, e) = c.read_range-range.ensures.answer r v t e in
+      (record { written = rw (append-nil, ← p) c.put_line.ensures; counted = refl }, e);
+  bounds = omega arith;
+}

@@ -1,0 +1,65 @@
+use Rattle.laws.proofs.Prelude.{sym, arith, length-take-le}
+use Rattle.cite.proofs.{Printed.reported, Printed.refused_lines, Placed.editor_columns, Revised.kept_lines}
+use Rattle.cite.proofs.cite.Goals as goal
+
+pub slice_bounds-cite_report-end : goal.slice_bounds-cite_report-end
+slice_bounds-cite_report-end c =
+    (reported (rw (
+      c.requires.report_len,
+      c.in-Accepted.is,
+    ) at c.module_info_with_replaced.ensures.answer) (rw (
+      c.requires.notes_len.0,
+      c.in-Accepted.is,
+    ) at c.module_info_with_replaced.ensures.beside)).within
+
+pub slice_bounds-cite_report-end-in-Accepted : goal.slice_bounds-cite_report-end-in-Accepted
+slice_bounds-cite_report-end-in-Accepted c =
+    sym (length-take-le _ _ (reported (rw (
+      c.requires.report_len,
+      c.in-Accepted.is,
+    ) at c.module_info_with_replaced.ensures.answer) (rw (
+      c.requires.notes_len.0,
+      c.in-Accepted.is,
+    ) at c.module_info_with_replaced.ensures.beside)).within)
+
+pub cite_report-requires : goal.cite_report-requires
+cite_report-requires c =
+    let room = (reported (rw (
+      c.requires.report_len,
+      c.in-Accepted.is,
+    ) at c.module_info_with_replaced.ensures.answer) (rw (
+      c.requires.notes_len.0,
+      c.in-Accepted.is,
+    ) at c.module_info_with_replaced.ensures.beside)).room in
+    omega (arith, c.requires.notes_len.1)
+
+pub returns-in-Refused : goal.returns-in-Refused
+returns-in-Refused c =
+    let demands = rw (
+      c.requires.report_len,
+      c.in-Refused.is,
+    ) at c.module_info_with_replaced.ensures.answer in
+    let cited = c.cite_refusal.ensures in
+    let notes = rw c.requires.notes_len.0 at c.module_info_with_replaced.ensures.beside in
+    let source = c.find_source-source.ensures.answer in
+    record {
+      answer = record { answer = rw (refused_lines _ source demands notes) cited.answer; bounds = cited.bounds };
+      meaning = (editor_columns demands, kept_lines demands);
+    }
+
+pub returns-in-Accepted : goal.returns-in-Accepted
+returns-in-Accepted c =
+    let demands = rw (
+      c.requires.report_len,
+      c.in-Accepted.is,
+    ) at c.module_info_with_replaced.ensures.answer in
+    let found = reported demands (rw (
+      c.requires.notes_len.0,
+      c.in-Accepted.is,
+    ) at c.module_info_with_replaced.ensures.beside) in
+    let cited = c.cite_report.ensures in
+    let source = c.find_source-source.ensures.answer in
+    record {
+      answer = record { answer = rw (found.lines _ source) (cited.answer found.info found.valid found.bytes); bounds = cited.bounds };
+      meaning = (editor_columns demands, kept_lines demands);
+    }

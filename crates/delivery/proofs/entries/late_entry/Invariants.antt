@@ -1,0 +1,15 @@
+use Rattle.laws.proofs.Prelude.{◌≡◌, List, ℕ, ◌-◌}
+use Rattle.report.specs.{ModuleInfo.DependencyDescriptor, ModuleInfo.ModuleInfo, Encode.encode_dependency, Encode.encode, Valid.ValidDependency, Valid.Valid}
+use Rattle.report_reader.proofs.Lists.{Stand}
+use Rattle.delivery.specs.{Delivery.Module, Order.Answer, Order.entries_in_turn, Right.names_of, code.Views.Modules}
+use Rattle.delivery.proofs.entries.late_entry.Given as goal
+
+abbrev pub invariant-loop-i : goal.invariant-loop-i
+invariant-loop-i l =
+    (ms : List Module) (t : List ℕ) → Modules l.delivery l.first l.earlier ms t → (info : ModuleInfo) → Valid info → l.report ≡ encode info
+    → (k : ℕ) (behind : Answer)
+    → (l : List DependencyDescriptor) × (u : List ℕ) × Stand encode_dependency ValidDependency l.report u l.at (l.count.value - l.i) l
+    × (entries_in_turn (names_of ms) k 0 info.dependencies behind ≡ entries_in_turn (names_of ms) k l.i l behind)
+
+abbrev pub decreases-loop-i : goal.decreases-loop-i
+decreases-loop-i l = l.count.value - l.i

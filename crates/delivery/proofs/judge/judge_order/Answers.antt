@@ -1,0 +1,71 @@
+use Rattle.laws.proofs.Prelude.{refl, sym, ap, ◌∙◌, [], ◌∷◌, ◌++◌, ◌+◌, ◌-◌}
+use Rattle.laws.{proofs.Lists.all_member, proofs.Lists.middle_member}
+use Rattle.delivery.specs.{Delivery.Module, Order.modules_in_turn, Right.Reported, Right.names_of}
+use Rattle.delivery.proofs.Along.{at_first, one_more, all_passed, name_more}
+use Rattle.delivery.proofs.{Turns.module_here}
+use Rattle.delivery.proofs.judge.judge_order.Goals as goal
+
+pub returns-in-At : goal.returns-in-At
+returns-in-At c =
+    let l = c.loop-i in
+    let found = c.in-At.is in record {
+      answer = λ ms t p all.
+          let (earlier, rest, along, e) = l.invariant.1 ms t p all in
+          let (m, after, is, v, there, on) = one_more c.loop-i-test.true along in
+          let (read, _) = c.read_module-module.ensures.answer m v _ there in
+          let judged = rw (
+            l.invariant.0,
+            ap (λ (m : Module). m.sheet) read,
+            found,
+          ) at c.judge_module.ensures.answer in
+          let zero = all_member (Reported _) ms all (middle_member earlier after (along.whole ∙ ap (earlier ++◌) is)) in
+          judged earlier _ along.passed zero l.i (modules_in_turn (names_of earlier ++ (m.name ∷ [])) (l.i + 1) after) ∙
+          sym (e ∙ module_here is (names_of earlier) l.i);
+      bounds = rw found at c.judge_module.ensures.bounds;
+    }
+
+pub loop-i-preserved : goal.loop-i-preserved
+loop-i-preserved c =
+    let l = c.loop-i in (
+      c.judge_module.ensures.left ∙ l.invariant.0,
+      λ ms t p all.
+          let (earlier, rest, along, e) = l.invariant.1 ms t p all in
+          let (m, after, is, v, there, on) = one_more c.loop-i-test.true along in
+          let (read, next) = c.read_module-module.ensures.answer m v _ there in
+          let judged = rw (
+            l.invariant.0,
+            ap (λ (m : Module). m.sheet) read,
+            c.in_default.is,
+          ) at c.judge_module.ensures.answer in
+          let zero = all_member (Reported _) ms all (middle_member earlier after (along.whole ∙ ap (earlier ++◌) is)) in (
+            earlier ++ (m ∷ []),
+            after,
+            on _ next,
+            e
+                ∙ module_here is (names_of earlier) l.i
+                ∙ sym (judged earlier _ along.passed zero l.i (modules_in_turn (names_of earlier ++ (m.name ∷ [])) (l.i + 1) after))
+                ∙ ap (λ names. modules_in_turn names (l.i + 1) after) (sym (name_more earlier m)),
+          ),
+    )
+
+pub returns : goal.returns
+unfolding modules_in_turn
+returns c =
+    let l = c.loop-i in record {
+      answer = λ ms t p all.
+          let (earlier, rest, along, e) = l.invariant.1 ms t p all in
+          sym (e ∙ rw (all_passed c.loop-i-test.false along));
+      bounds = tt;
+    }
+
+pub loop-i-init : goal.loop-i-init
+loop-i-init c = (refl, λ ms t p all. ([], ms, at_first p, refl))
+
+pub slice_bounds-judge_module-count : goal.slice_bounds-judge_module-count
+slice_bounds-judge_module-count c = c.read_module-module.ensures.sheet.order
+
+pub slice_bounds-judge_module-start : goal.slice_bounds-judge_module-start
+slice_bounds-judge_module-start c = c.read_module-module.ensures.sheet.order
+
+pub slice_bounds-judge_module-end : goal.slice_bounds-judge_module-end
+slice_bounds-judge_module-end c = c.read_module-module.ensures.sheet.end

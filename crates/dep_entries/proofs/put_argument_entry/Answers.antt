@@ -1,0 +1,52 @@
+use Rattle.laws.proofs.Prelude.{◌≡◌, sym, ap, ◌∙◌, List, ℕ, drop, told}
+use Rattle.laws.specs.Decoded.{ok, Decoder}
+use Rattle.laws.proofs.Decoding.{refused, on_ok_no, same_rest}
+use Rattle.sheet.specs.Tree.{Node, Arguments, no_arguments}
+use Rattle.sheet.specs.Nodes.{many, node, arguments}
+use Rattle.sheet.specs.Shape.{shape}
+use Rattle.sheet_nodes.specs.code.Tallies.{node_tally}
+use Rattle.arguments.specs.Argument.{argument_of, single_text, replaced_in}
+use Rattle.dep_entries.specs.Entries.{call_entry}
+use Rattle.dep_entries.proofs.put_argument_entry.Goals as goal
+
+-- `put_argument_entry`: the entry with the argument and the attributes that were read. With no argument behind the first it does not matter where
+-- the first ends.
+
+
+none-anywhere : (inner : Decoder Node) (source t : List ℕ) {u : List ℕ} {xs : Arguments} → arguments inner source 0 t ≡ ok xs u → (s : List ℕ) →
+    arguments inner source 0 s ≡ ok xs s
+unfolding arguments many
+none-anywhere inner source t {u} {xs} e s =
+    let read : ok no_arguments t ≡ ok xs u = e in
+    let none : no_arguments ≡ xs = cc in
+    ap (λ x. ok x s) none
+
+pub returns-then-more-eq0 : goal.returns-then-more-eq0
+unfolding call_entry
+returns-then-more-eq0 c =
+    let a = c.args in
+    λ dots n xs t u is are.
+    c.put_dynamic_entry.ensures (argument_of n) (replaced_in (single_text (shape n))) xs
+    (drop a.cursor.at a.sheet.now) (c.parse_argument-argument.ensures.answer n t is)
+    (none-anywhere (node a.source.now a.levels) a.source.now t (rw c.if-more-eq0.true at are) (drop a.cursor.at a.sheet.now))
+
+pub returns-in-Refused : goal.returns-in-Refused
+returns-in-Refused c =
+    let a = c.args in
+    let s = a.sheet.now in
+    let source = a.source.now in
+    let x = node source a.levels (drop a.cursor.at s) in
+    λ dots n xs t u is are. absurd (refused (sym (on_ok_no node_tally x (told c.check_node.ensures c.in-Refused.is)) ∙ is))
+
+pub returns-in-Is : goal.returns-in-Is
+unfolding call_entry
+returns-in-Is c =
+    let a = c.args in
+    let s = a.sheet.now in
+    let source = a.source.now in
+    let x = node source a.levels (drop a.cursor.at s) in
+    λ dots n xs t u is are.
+    c.put_dynamic_entry-in-Is.ensures (argument_of n) (replaced_in (single_text (shape n))) xs u
+    (c.parse_argument-argument.ensures.answer n t is)
+    (ap (arguments (node source a.levels) source a.more)
+    (same_rest node_tally x is (told c.check_node.ensures c.in-Is.is)) ∙ are)

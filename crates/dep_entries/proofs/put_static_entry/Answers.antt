@@ -1,0 +1,54 @@
+use Rattle.laws.proofs.Prelude.{ap, ◌∙◌}
+use Rattle.text.specs.{Lossy.lossy, Lossy.replaced, Bytes.part}
+use Rattle.report.specs.{Range.range_of, Buffer.buffer_as}
+use Rattle.attributes.specs.code.Views.{attributes_as}
+use Rattle.dep_entries.specs.{Entries.static_entry, code.Notes.noted, code.Written.types_from}
+use Rattle.dep_entries.proofs.{Fields.static_written}
+use Rattle.report.specs.ModuleInfo as info
+use Rattle.dep_entries.proofs.put_static_entry.Goals as goal
+
+-- unknown fields: pre
+
+-- `put_static_entry`: the fields of the entry in turn.
+
+
+pub put_lossy_specifier-written-requires : goal.put_lossy_specifier-written-requires
+put_lossy_specifier-written-requires c =
+    (c.pre.0.1.0.indexed, c.pre.1.1)
+
+pub put_attributes-requires : goal.put_attributes-requires
+put_attributes-requires c = c.requires.2
+
+pub shape_of-out : goal.shape_of-out
+shape_of-out c =
+    c.put_attributes.auto.out
+    ∙ c.put_flag-place.auto.out
+    ∙ c.put_lossy_specifier-written.auto.out
+    ∙ c.put_types-place.auto.out
+    ∙ c.put-place.auto.out
+
+pub returns : goal.returns
+unfolding static_entry
+returns c =
+    let a = c.args in
+    let s = a.sheet.now in
+    let source = a.source.now in
+    let types = types_from source a.tables.now a.counts in
+    let x = a.dependency.specifier in
+    let d : info.StaticDependencyDescriptor =
+    record {
+      kind = a.dependency.kind;
+      types_specifier = types a.dependency.span.start;
+      specifier = record { text = lossy (part s x.start x.end); range = range_of source x.span };
+      side_effect = a.dependency.is_side_effect;
+      import_attributes = attributes_as s a.pairs.now a.attributes;
+    } in
+    static_written (buffer_as a.out.now a.place) a.notes.now a.dependency.span.start (replaced (part s x.start x.end))
+    (c.note.ensures ∙
+    ap (noted a.notes.now a.dependency.span.start) c.put_lossy_specifier-written.ensures.replaced)
+    d (rw c.static_number-number.ensures at c.put-place.ensures)
+    c.put_types-place.ensures c.put_lossy_specifier-written.ensures.answer
+    c.put_flag-place.ensures c.put_attributes.ensures
+
+pub slice_bounds-index-end : goal.slice_bounds-index-end
+slice_bounds-index-end c = c.requires.0.0

@@ -1,0 +1,40 @@
+use Rattle.laws.proofs.Prelude.{sym, arith, told, bounded}
+use Rattle.report.proofs.Buffers.{wrote_append, wrote_cons, wrote_nil}
+use Rattle.jsdoc_list.specs.Imports.{import_at}
+use Rattle.jsdoc_list.proofs.{Turns.encode_import}
+use Rattle.jsdoc_list.proofs.imports.put_import.Goals as goal
+
+pub returns-in_default : goal.returns-in_default
+unfolding import_at
+returns-in_default c =
+    rw (told c.quote_at.ensures c.in_default.is) (sym (wrote_nil c.args.out.now c.args.place))
+
+pub slice_bounds-put_specifier-count : goal.slice_bounds-put_specifier-count
+slice_bounds-put_specifier-count c =
+    omega (arith, bounded c.quote_at.ensures c.in-Part.is)
+
+pub slice_bounds-put_specifier-start : goal.slice_bounds-put_specifier-start
+slice_bounds-put_specifier-start c =
+    omega (arith, bounded c.quote_at.ensures c.in-Part.is)
+
+pub slice_bounds-put_specifier-end : goal.slice_bounds-put_specifier-end
+slice_bounds-put_specifier-end c =
+    omega (arith, bounded c.quote_at.ensures c.in-Part.is)
+
+pub put_specifier-p-requires : goal.put_specifier-p-requires
+put_specifier-p-requires c =
+    let within = bounded c.quote_at.ensures c.in-Part.is in
+    (c.requires.index_of, record { start = omega (arith, within); end = omega (arith, within) })
+
+pub returns : goal.returns
+returns c =
+    let text = c.quote_at.ensures in
+    let found = c.from-1.given.0 in
+    let part = c.in-Part.is in
+    rw (
+      encode_import _ _ _ found.0 found.1.0 found.1.1.0 c.requires.at_in_bounds.1 (told text part) (bounded text part).2,
+      wrote_cons,
+      wrote_append,
+      ← c.put-p.ensures,
+      ← c.put_specifier-p.ensures,
+    ) c.put.ensures

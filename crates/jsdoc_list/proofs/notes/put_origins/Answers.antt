@@ -1,0 +1,38 @@
+use Rattle.laws.proofs.Prelude.{refl, sym, ◌∙◌, ◌-◌, sub-zero, arith}
+use Rattle.sheet.specs.code.Tables.{comment_in}
+use Rattle.sheet.proofs.{Marks.holds_marks_lem, Members.placed_within, Members.row_placed}
+use Rattle.report.{proofs.Buffers.wrote_append, proofs.Buffers.wrote_nil}
+use Rattle.jsdoc_list.proofs.{Openers.comment_next, Openers.comments_end}
+use Rattle.jsdoc_list.proofs.notes.put_origins.Goals as goal
+
+pub put_comment_origins-p-requires : goal.put_comment_origins-p-requires
+put_comment_origins-p-requires c =
+    let l = c.loop-k in
+    let row = c.comment_at.ensures in
+    let p = row_placed c.args.comments.now c.args.n c.requires.fit.0 l.k c.loop-k-test.true in
+    (rw row (holds_marks_lem _ _ p), (rw row (placed_within _ _ p), (c.requires.fit.1.0, omega (arith, c.requires.fit.1.1, l.invariant.1))))
+
+pub loop-k-preserved : goal.loop-k-preserved
+loop-k-preserved c =
+    let l = c.loop-k in
+    let more = c.loop-k-test.true in
+    let bytes = rw c.comment_at.ensures at c.put_comment_origins-p.ensures in (
+      omega (arith, more),
+      c.put_comment_origins-p.auto.origins ∙ l.invariant.1,
+      c.put_comment_origins-p.auto.out ∙ l.invariant.2,
+      l.invariant.3 ∙ rw (comment_next _ (comment_in c.args.comments.now) c.args.n l.k more, wrote_append, ← bytes),
+    )
+
+pub returns : goal.returns
+returns c =
+    let l = c.loop-k in
+    sym (l.invariant.3 ∙ rw (comments_end _ _ _ l.k c.loop-k-test.false) (wrote_nil l.out l.p))
+
+pub loop-k-init : goal.loop-k-init
+loop-k-init c = (omega arith, refl, refl, rw sub-zero)
+
+pub shape_of-origins : goal.shape_of-origins
+shape_of-origins c = c.loop-k.invariant.1
+
+pub shape_of-out : goal.shape_of-out
+shape_of-out c = c.loop-k.invariant.2

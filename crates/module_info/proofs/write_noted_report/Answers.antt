@@ -1,0 +1,31 @@
+use Rattle.laws.proofs.Prelude.{◌≡◌, ap, ◌∙◌, [], length}
+use Rattle.report.{specs.Encode.encode, specs.Answer.zeros, proofs.Answers.answered_fitted}
+use Rattle.report.specs.Buffer.{holds, wrote, buffer_as}
+use Rattle.dep_entries.specs.code.Notes.{all_noted}
+use Rattle.module_info.specs.{Information.module_info, Replaced.noted}
+use Rattle.module_info.proofs.{Notes.accepted_notes, Notes.refused_notes}
+use Rattle.module_info.proofs.write_noted_report.Goals as goal
+
+pub returns-in-Accepted : goal.returns-in-Accepted
+returns-in-Accepted c =
+    λ t e.
+    let a = c.args in
+    let put = c.put_noted_report-place in
+    let (written, numbered) = put.ensures t e in
+    let whole : buffer_as put.new.1.1.1.0 put.result ≡ wrote (holds (length a.buffer.now) []) (encode (module_info t)) = written in
+    let answer = rw c.in-Accepted.is at c.finish.ensures ∙
+    answered_fitted (encode (module_info t)) put.auto.1.1.1.0 whole in
+    (answer, accepted_notes (length a.notes.now) (noted t) (numbered ∙ ap (λ l. all_noted l (noted t)) c.requires.notes_value))
+
+pub returns-in-Refused : goal.returns-in-Refused
+returns-in-Refused c =
+    λ t e.
+    let a = c.args in
+    let put = c.put_noted_report-place in
+    let (written, numbered) = put.ensures t e in
+    let whole : buffer_as put.new.1.1.1.0 put.result ≡ wrote (holds (length a.buffer.now) []) (encode (module_info t)) = written in
+    let answer = rw c.in-Refused.is at c.finish.ensures ∙ answered_fitted (encode (module_info t)) put.auto.1.1.1.0 whole in (
+      answer,
+      refused_notes (length a.notes.now) (length a.buffer.now) c.in-Refused.r c.finish.new.out (noted t) (module_info t)
+          answer (c.clear_notes.ensures ∙ ap zeros put.auto.1.1.1.1.0),
+    )

@@ -1,0 +1,34 @@
+use Rattle.laws.proofs.Prelude.{arith, sym, flat_map, seen}
+use Rattle.sheet.specs.{code.Views.found_as, declared.names.Side.TheVariants.Leading}
+use Rattle.sheet.proofs.Members.{row_placed, group_last, found_reaching}
+use Rattle.report.proofs.Buffers.{wrote_nil}
+use Rattle.pragmas.specs.Origins.{types_origins}
+use Rattle.pragmas.proofs.{Written.optional_each}
+use Rattle.pragmas.proofs.origins.put_types_origins.Goals as goal
+
+pub comment_at-c-requires : goal.comment_at-c-requires
+comment_at-c-requires c =
+    let found = seen found_as c.find_group.ensures c.in-At.is in
+    let r = found_reaching c.requires.grouped_in.grouped Leading c.args.start found in
+    let room = c.requires.n_in_bounds.0 in
+    omega arith
+
+pub put_types_origin-requires : goal.put_types_origin-requires
+put_types_origin-requires c =
+    let found = seen found_as c.find_group.ensures c.in-At.is in
+    let r = found_reaching c.requires.grouped_in.grouped Leading c.args.start found in
+    rw c.comment_at-c.ensures (row_placed c.args.comments.now c.args.n c.requires.n_in_bounds.1 _ (omega arith))
+
+pub returns-in-At : goal.returns-in-At
+unfolding types_origins
+returns-in-At c =
+    let found = seen found_as c.find_group.ensures c.in-At.is in
+    let r = found_reaching c.requires.grouped_in.grouped Leading c.args.start found in
+    let last = group_last c.args.comments.now c.args.n c.in-At.g r in
+    rw (optional_each, found, last) (rw c.comment_at-c.ensures at c.put_types_origin.ensures)
+
+pub returns-in-Nothing : goal.returns-in-Nothing
+unfolding types_origins flat_map
+returns-in-Nothing c =
+    let a = c.args in
+    rw (seen found_as c.find_group.ensures c.in-Nothing.is) (sym (wrote_nil a.out.now a.place))

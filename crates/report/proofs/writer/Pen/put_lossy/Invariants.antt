@@ -1,0 +1,14 @@
+use Rattle.laws.proofs.Prelude.{◌≡◌, ◌+◌, ◌-◌, ◌≤◌, length, drop}
+use Rattle.text.specs.Lossy.{lossy, replaced}
+use Rattle.report.specs.Buffer.{wrote, buffer_as}
+use Rattle.report.proofs.writer.Pen.put_lossy.Given as goal
+
+abbrev pub invariant-loop-i : goal.invariant-loop-i
+invariant-loop-i l =
+    (length l.out ≡ length l.initial.out)
+    × (wrote (buffer_as l.initial.out l.initial.p) (lossy l.s) ≡ wrote (buffer_as l.out l.p) (lossy (drop l.i l.s)))
+    × (l.count + replaced (drop l.i l.s) ≡ replaced l.s)
+    × (l.count ≤ l.i)
+
+abbrev pub decreases-loop-i : goal.decreases-loop-i
+decreases-loop-i l = length l.s - l.i

@@ -1,0 +1,50 @@
+use Rattle.laws.proofs.Prelude.{refl, sym, ◌∙◌, append_assoc}
+use Rattle.report.specs.declared.names.DependencyKind.TheVariants.{Static, Dynamic}
+use Rattle.report.specs.ModuleInfo.{static, dynamic}
+use Rattle.report.specs.Encode.{encode_specifier, encode_static, encode_dynamic, encode_dependency}
+use Rattle.report_reader.proofs.{FromBytes.byte_read, FromBytes.flag_read}
+use Rattle.report_reader.proofs.KindsTold.{small, told, apart, static_told}
+use Rattle.report_reader.proofs.dependencies.read_dependency.Goals as goal
+
+pub returns-in-Static : goal.returns-in-Static
+unfolding encode_dependency encode_static encode_dynamic encode_specifier
+returns-in-Static c =
+    let number = c.read_number-number in
+    let kind = c.dependency_kind in
+    let given = c.kind-1.given in
+    let byte = byte_read number.ensures in record {
+      answer = elim [
+        | static d ↦ λ v t e.
+            let (is, e) = byte _ (small (Static d.kind)) _ e in
+            let types = simp append_assoc at e in
+            let (x, e) = c.read_text-text.ensures.answer d.specifier.text v.specifier.text _
+            (c.skip_optional_specifier-next.ensures d.types_specifier v.types_specifier _ types) in
+            let (_, e) = c.read_range-range.ensures.answer d.specifier.range v.specifier.range _ e in
+            let e = flag_read c.read_number-side_effect.ensures d.side_effect _ e in
+            let same = static_told (sym given.1 ∙ told kind.ensures (Static d.kind) is) in
+            (rw (same, x), c.skip_attributes.ensures d.import_attributes v.import_attributes t e)
+        | dynamic d ↦ λ v t e.
+            absurd (apart (sym given.1 ∙ told kind.ensures (Dynamic d.kind) (byte _ (small (Dynamic d.kind)) _ e).0))
+      ];
+      bounds = c.read_text-text.ensures.bounds;
+    }
+
+pub returns-in-Dynamic : goal.returns-in-Dynamic
+unfolding encode_dependency encode_static encode_dynamic
+returns-in-Dynamic c =
+    let number = c.read_number-number in
+    let kind = c.dependency_kind in
+    let given = c.enum_told-1.given in
+    let byte = byte_read number.ensures in record {
+      answer = elim [
+        | static d ↦ λ v t e.
+            absurd (apart (sym (told kind.ensures (Static d.kind) (byte _ (small (Static d.kind)) _ e).0) ∙ given.1))
+        | dynamic d ↦ λ v t e.
+            let types = simp append_assoc at (byte _ (small (Dynamic d.kind)) _ e).1 in
+            let e = c.skip_argument.ensures d.argument v.argument _
+            (c.skip_optional_specifier-next.ensures d.types_specifier v.types_specifier _ types) in
+            let (_, e) = c.read_range-range-in-Dynamic.ensures.answer d.argument_range v.argument_range _ e in
+            (refl, c.skip_attributes-in-Dynamic.ensures d.import_attributes v.import_attributes t e)
+      ];
+      bounds = tt;
+    }

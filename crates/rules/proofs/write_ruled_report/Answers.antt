@@ -1,0 +1,36 @@
+use Rattle.laws.proofs.Prelude.{sym, ap, ◌∙◌, [], ℕ, ◌+◌, ◌*◌, length, replicate, length-replicate}
+use Rattle.sheet.specs.Limits.{entry_limit}
+use Rattle.report.specs.{Encode.encode, Buffer.holds, Buffer.wrote}
+use Rattle.module_info.specs.Information.{module_info}
+use Rattle.rules.specs.Rules.{rules_of}
+use Rattle.rules.proofs.{BothBuffers.first_refused, Origins.few_rows, Origins.starts_held}
+use Rattle.rules.proofs.write_ruled_report.Goals as goal
+
+pub put_rules-place-requires : goal.put_rules-place-requires
+put_rules-place-requires c =
+    let written = c.write_noted_report in
+    (c.requires, few_rows c.requires.accepts written.new.1.1.1.1.0 (written.auto.1.1.1.1.0 ∙ length-replicate {A = ℕ} _ 0))
+
+pub returns-in-Refused : goal.returns-in-Refused
+returns-in-Refused c =
+    λ t e.
+    let args = c.args in
+    let refused =
+    rw c.in-Refused.is at (c.write_noted_report.ensures t e).0 in
+    rw c.write_noted_report.auto.buffer at c.refuse_both.ensures ∙
+    first_refused (length args.buffer.now) (length args.rules.now) (module_info t) (rules_of t) refused
+
+pub returns-in-Accepted : goal.returns-in-Accepted
+returns-in-Accepted c =
+    λ t e.
+    let accepts = c.requires.accepts in
+    let written = c.write_noted_report in
+    let (fits, rows) = written.ensures t e in
+    let accepted = rw c.in-Accepted.is at fits in
+    let noted = rw c.in-Accepted.is at rows in
+    let starts = starts_held accepts e _ (few_rows accepts (replicate {A = ℕ} (1 + 2 * entry_limit) 0) (length-replicate {A = ℕ} _ 0)) noted in
+    let put = c.put_rules-place in
+    let kept = written.auto.1.1.1.0 in
+    let kept-too = put.auto.1.1.1.1.0 in
+    rw (kept, kept-too) at (c.finish_rules.ensures (encode (module_info t)) (rules_of t) (rw kept accepted)
+    (put.ensures t e starts ∙ ap (λ n. wrote (holds n []) (rules_of t)) (sym kept-too)))

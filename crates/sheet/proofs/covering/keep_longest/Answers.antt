@@ -1,0 +1,20 @@
+use Rattle.laws.proofs.Prelude.{arith, refl, ◌∙◌, ◌+◌, ◌-◌, ◌*◌}
+use Rattle.sheet.proofs.Coverings.{keep_none, keep_more, keep_all}
+use Rattle.sheet.proofs.covering.keep_longest.Goals as goal
+
+pub loop-k-preserved : goal.loop-k-preserved
+loop-k-preserved c =
+    (
+      c.raise.auto.longest ∙
+          c.loop-k.invariant.0,
+      keep_more c.loop-k.invariant.1 c.loop-k-test.true c.raise.ensures,
+    )
+
+pub loop-k-init : goal.loop-k-init
+loop-k-init c = (refl, keep_none _ _ _ _)
+
+pub overflow_cast-table : goal.overflow_cast-table
+overflow_cast-table c = omega (arith, c.shared_slice_known-in-loop-k-1.given (4 * c.loop-k.k + 2))
+
+pub returns : goal.returns
+returns c = keep_all c.loop-k.invariant.1 c.loop-k-test.false

@@ -1,5 +1,6 @@
 // The patterns of src/analysis.rs: references, pragmas and source map comments in the body of a comment.
 #![tactic(auto)]
+
 pub mod matcher;
 pub mod mode;
 

@@ -1,5 +1,6 @@
 // The argument of a dynamic import, as far as its text is known.
 #![tactic(auto)]
+
 pub mod argument;
 pub mod bin;
 pub mod expression;

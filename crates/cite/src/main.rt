@@ -1,5 +1,6 @@
 // Prints the citation of the sheet on standard input.
 #![tactic(auto)]
+
 ghost use Rattle.std.specs.Prelude.{◌≡◌, ◌≤◌, length, take};
 ghost use Rattle.laws.specs.code.Told.{Bounded, Meant};
 ghost use Rattle.text.specs.Bytes.{part};

@@ -1,5 +1,6 @@
 // Writes the dearest body of as many bytes as standard input says.
 #![tactic(auto)]
+
 ghost use Rattle.std.specs.Prelude.{◌≡◌, List, ℕ, ◌≤◌, length, take};
 ghost use Rattle.laws.specs.code.Told.{Bounded};
 ghost use Rattle.io.specs.Counts.{IsPrefixLen};

@@ -1,5 +1,6 @@
 // The load order of a delivery: is each module behind those that it needs?
 #![tactic(auto)]
+
 pub mod check;
 pub mod entries;
 pub mod judge;

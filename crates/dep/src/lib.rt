@@ -1,3 +1,4 @@
 // The dependencies of a sheet, in the order of the walk over its tree.
 #![tactic(auto)]
+
 pub mod walk;

@@ -269,7 +269,7 @@ fn visit_export_all(
 }
 
 // The entry of an import type, with the attributes behind its children; then its children, and what the attributes hold.
-#[cycle(visit_call_expr_visit_ts_import_type_visit_ts_module_decl_walk_argument_walk_arguments_walk_attributes_walk_callee_walk_node_walk_nodes_walk_properties_walk_property_walk_rest)]
+#[cycle(walk)]
 fn visit_ts_import_type(
     sheet: &[u8],
     source: &[u8],
@@ -323,7 +323,7 @@ fn visit_ts_import_type(
 }
 
 // Behind the callee of a call: arguments and further children; then the call's entry, if it is an import or a require.
-#[cycle(visit_call_expr_visit_ts_import_type_visit_ts_module_decl_walk_argument_walk_arguments_walk_attributes_walk_callee_walk_node_walk_nodes_walk_properties_walk_property_walk_rest)]
+#[cycle(walk)]
 fn visit_call_expr(
     sheet: &[u8],
     source: &[u8],
@@ -408,7 +408,7 @@ fn visit_ts_import_equals_decl(
 }
 
 // The entry of a module declaration with a String, if it may be an augmentation; then its children.
-#[cycle(visit_call_expr_visit_ts_import_type_visit_ts_module_decl_walk_argument_walk_arguments_walk_attributes_walk_callee_walk_node_walk_nodes_walk_properties_walk_property_walk_rest)]
+#[cycle(walk)]
 fn visit_ts_module_decl(
     sheet: &[u8],
     source: &[u8],
@@ -440,7 +440,7 @@ fn visit_ts_module_decl(
 }
 
 // The node at a cursor, with so many levels left, its own among them.
-#[cycle(visit_call_expr_visit_ts_import_type_visit_ts_module_decl_walk_argument_walk_arguments_walk_attributes_walk_callee_walk_node_walk_nodes_walk_properties_walk_property_walk_rest)]
+#[cycle(walk)]
 fn walk_node(
     sheet: &[u8],
     source: &[u8],
@@ -479,7 +479,7 @@ fn walk_node(
 }
 
 // What follows a head, with so many levels left below its node.
-#[cycle(visit_call_expr_visit_ts_import_type_visit_ts_module_decl_walk_argument_walk_arguments_walk_attributes_walk_callee_walk_node_walk_nodes_walk_properties_walk_property_walk_rest)]
+#[cycle(walk)]
 fn walk_rest(
     sheet: &[u8],
     source: &[u8],
@@ -607,7 +607,7 @@ fn walk_rest(
 }
 
 // So many nodes, one after the other.
-#[cycle(visit_call_expr_visit_ts_import_type_visit_ts_module_decl_walk_argument_walk_arguments_walk_attributes_walk_callee_walk_node_walk_nodes_walk_properties_walk_property_walk_rest)]
+#[cycle(walk)]
 fn walk_nodes(
     sheet: &[u8],
     source: &[u8],
@@ -645,7 +645,7 @@ fn walk_nodes(
 }
 
 // An argument: its node.
-#[cycle(visit_call_expr_visit_ts_import_type_visit_ts_module_decl_walk_argument_walk_arguments_walk_attributes_walk_callee_walk_node_walk_nodes_walk_properties_walk_property_walk_rest)]
+#[cycle(walk)]
 fn walk_argument(
     sheet: &[u8],
     source: &[u8],
@@ -675,7 +675,7 @@ fn walk_argument(
 }
 
 // So many arguments.
-#[cycle(visit_call_expr_visit_ts_import_type_visit_ts_module_decl_walk_argument_walk_arguments_walk_attributes_walk_callee_walk_node_walk_nodes_walk_properties_walk_property_walk_rest)]
+#[cycle(walk)]
 fn walk_arguments(
     sheet: &[u8],
     source: &[u8],
@@ -714,7 +714,7 @@ fn walk_arguments(
 }
 
 // A property: its key, if that is a node, and its value.
-#[cycle(visit_call_expr_visit_ts_import_type_visit_ts_module_decl_walk_argument_walk_arguments_walk_attributes_walk_callee_walk_node_walk_nodes_walk_properties_walk_property_walk_rest)]
+#[cycle(walk)]
 fn walk_property(
     sheet: &[u8],
     source: &[u8],
@@ -744,7 +744,7 @@ fn walk_property(
 }
 
 // So many properties.
-#[cycle(visit_call_expr_visit_ts_import_type_visit_ts_module_decl_walk_argument_walk_arguments_walk_attributes_walk_callee_walk_node_walk_nodes_walk_properties_walk_property_walk_rest)]
+#[cycle(walk)]
 fn walk_properties(
     sheet: &[u8],
     source: &[u8],
@@ -783,7 +783,7 @@ fn walk_properties(
 }
 
 // An Object that holds attributes, if there is one.
-#[cycle(visit_call_expr_visit_ts_import_type_visit_ts_module_decl_walk_argument_walk_arguments_walk_attributes_walk_callee_walk_node_walk_nodes_walk_properties_walk_property_walk_rest)]
+#[cycle(walk)]
 fn walk_attributes(
     sheet: &[u8],
     source: &[u8],
@@ -866,7 +866,7 @@ fn walk_import(
 
 // A call: its callee, if that is an expression, and what follows it. Both forms of a call come here: what is called at one place is inlined, so that
 // a level of calls has fewer frames on the stack.
-#[cycle(visit_call_expr_visit_ts_import_type_visit_ts_module_decl_walk_argument_walk_arguments_walk_attributes_walk_callee_walk_node_walk_nodes_walk_properties_walk_property_walk_rest)]
+#[cycle(walk)]
 fn walk_callee(
     sheet: &[u8],
     source: &[u8],

@@ -2,6 +2,7 @@
 // how many comments and groups there are, cursor is in the sheet, and place in the buffer. notes takes for each entry where its node starts,
 // and how many characters were replaced in its text.
 #![tactic(auto)]
+
 ghost use Rattle.std.specs.Prelude.{◌≡◌, Bool, cond, List, ℕ, length, drop};
 ghost use Rattle.std.proofs.Math.Option.{Option};
 ghost use Rattle.laws.specs.Decoded.{ok};

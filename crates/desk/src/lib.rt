@@ -1,5 +1,6 @@
 // Turns for depositors: a desk in a block of numbers that the caller lends. specs/Block.antt says what each number is.
 #![tactic(auto)]
+
 ghost use Rattle.std.specs.Prelude.{◌≡◌, [], ◌<◌, length, get_or};
 ghost use Rattle.laws.specs.code.Told.{Leaving};
 ghost use Rattle.desk.specs.Desk.{hand_in, turn, queue, first_waiting, with_sheet, without_front};

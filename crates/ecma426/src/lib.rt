@@ -1,5 +1,6 @@
 // The comment that names a source map, as ECMA-426 has it.
 #![tactic(auto)]
+
 ghost use Rattle.std.specs.Prelude.{◌≡◌, true, ◌↔◌, ◌+◌, ◌≤◌, length, drop};
 ghost use Rattle.laws.specs.code.Told.{Bounded, Meant};
 ghost use Rattle.analysis.specs.Place.{FoundWithin};

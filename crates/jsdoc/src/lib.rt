@@ -1,5 +1,6 @@
 // JSDoc imports in the body of a comment: `{import("./a.ts").A}` and `@import A from "./a.ts"`.
 #![tactic(auto)]
+
 pub mod answers;
 mod block;
 mod clause;

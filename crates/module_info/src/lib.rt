@@ -1,5 +1,6 @@
 // The module information of a sheet, as a report in a lent buffer.
 #![tactic(auto)]
+
 pub mod judge;
 pub mod source_map;
 

@@ -1,5 +1,6 @@
 // Prints whether the delivery on standard input is in order.
 #![tactic(auto)]
+
 ghost use Rattle.std.specs.Prelude.{◌≡◌, [], ◌++◌, ◌+◌, ◌*◌, ◌≤◌, length, take};
 ghost use Rattle.laws.specs.code.Told.{Bounded};
 ghost use Rattle.report.specs.Buffer.{holds, wrote, buffer_as};

@@ -1,5 +1,6 @@
 // References and pragmas: what the patterns read in the comments that document 01 gives to each rule.
 #![tactic(auto)]
+
 pub mod origins;
 pub mod readings;
 pub mod references;

@@ -4,6 +4,7 @@
 // The list: the number of sheets; of each the length and bytes of the sheet, the number of the answer (a byte), and the
 // length and bytes of the report. Numbers take four bytes, low byte first.
 #![tactic(auto)]
+
 ghost use Rattle.std.specs.Prelude.{◌≡◌, List, ℕ, ◌+◌, ◌≤◌, length, drop};
 ghost use Rattle.laws.specs.Decoded.{ok, on_ok};
 ghost use Rattle.laws.specs.code.Told.{Bounded, Told};

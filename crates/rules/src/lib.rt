@@ -1,5 +1,6 @@
 // Each entry with its rule: beside the report, how each types specifier, reference, pragma and JSDoc import was found.
 #![tactic(auto)]
+
 ghost use Rattle.std.specs.Prelude.{◌≡◌, ℕ, ◌+◌, ◌*◌, ◌≤◌, length};
 ghost use mathlib.Core.List.{List, [], flat_map};
 ghost use Rattle.laws.specs.Decoded.{ok};

@@ -1,5 +1,6 @@
 // The scan sum of a comment's body: how many bytes a search from each `{` goes over, all in all.
 #![tactic(auto)]
+
 ghost use Rattle.std.specs.Prelude.{◌≡◌, ◌+◌, ◌≤◌, ◌<◌, length, drop};
 ghost use Rattle.scan.specs.Scan.{scan_length, scan_sum, scanned, longest};
 ghost use Rattle.scan.specs.Answers.{Counted, packed};

@@ -1,5 +1,6 @@
 // The sheet's positions, comments, groups and program, read field by field; its nodes are read in sheet_heads and sheet_nodes.
 #![tactic(auto)]
+
 pub mod comments;
 pub mod covering;
 pub mod fields;

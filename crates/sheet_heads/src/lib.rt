@@ -1,5 +1,6 @@
 // The heads of nodes, properties and arguments: what stands before their first node.
 #![tactic(auto)]
+
 pub mod node;
 pub mod parts;
 pub mod quoted;

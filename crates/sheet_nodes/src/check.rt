@@ -22,7 +22,7 @@ use sheet_heads::texts::{declares, is_require};
 use wire::{Cursor, Flag, Read};
 
 // The node at a cursor, with so many levels left, its own among them.
-#[cycle(check_arguments_check_attributes_check_call_check_node_check_nodes_check_properties_check_property_check_rest_check_typed)]
+#[cycle(check)]
 pub fn check_node(sheet: &[u8], source: &[u8], c: Cursor, levels: usize) -> Checked
     ensures { Told (checked_as sheet.now)
         (on_ok node_tally (node source.now levels (drop c.at sheet.now)))
@@ -35,7 +35,7 @@ pub fn check_node(sheet: &[u8], source: &[u8], c: Cursor, levels: usize) -> Chec
 }
 
 // What follows a head, with so many levels left below its node.
-#[cycle(check_arguments_check_attributes_check_call_check_node_check_nodes_check_properties_check_property_check_rest_check_typed)]
+#[cycle(check)]
 fn check_rest(sheet: &[u8], source: &[u8], c: Cursor, levels: usize, head: Head) -> Checked
     requires { Begun (length sheet.now) c.at head }
     ensures { Bounded
@@ -81,7 +81,7 @@ fn check_rest(sheet: &[u8], source: &[u8], c: Cursor, levels: usize, head: Head)
 }
 
 // So many nodes, one after the other.
-#[cycle(check_arguments_check_attributes_check_call_check_node_check_nodes_check_properties_check_property_check_rest_check_typed)]
+#[cycle(check)]
 pub fn check_nodes(sheet: &[u8], source: &[u8], c: Cursor, count: usize, levels: usize) -> Tallied
     requires { c.at ≤ length sheet.now }
     ensures { Told (tallied_as sheet.now)
@@ -116,7 +116,7 @@ pub fn check_nodes(sheet: &[u8], source: &[u8], c: Cursor, count: usize, levels:
 }
 
 // So many arguments.
-#[cycle(check_arguments_check_attributes_check_call_check_node_check_nodes_check_properties_check_property_check_rest_check_typed)]
+#[cycle(check)]
 fn check_arguments(
     sheet: &[u8],
     source: &[u8],
@@ -158,7 +158,7 @@ fn check_arguments(
 }
 
 // What follows the callee of a call: arguments and further children.
-#[cycle(check_arguments_check_attributes_check_call_check_node_check_nodes_check_properties_check_property_check_rest_check_typed)]
+#[cycle(check)]
 fn check_call(sheet: &[u8], source: &[u8], c: Cursor, levels: usize) -> PassedRead
     ensures { Told (passed_as sheet.now)
         (on_ok passed_all (call_rest (node source.now levels) source.now (drop c.at sheet.now)))
@@ -179,7 +179,7 @@ fn check_call(sheet: &[u8], source: &[u8], c: Cursor, levels: usize) -> PassedRe
 }
 
 // A property: its key, if that is a node, and its value.
-#[cycle(check_arguments_check_attributes_check_call_check_node_check_nodes_check_properties_check_property_check_rest_check_typed)]
+#[cycle(check)]
 pub fn check_property(sheet: &[u8], source: &[u8], c: Cursor, levels: usize) -> Tallied
     ensures { Told (tallied_as sheet.now)
         (on_ok gain (property_item (node source.now levels) (drop c.at sheet.now)))
@@ -192,7 +192,7 @@ pub fn check_property(sheet: &[u8], source: &[u8], c: Cursor, levels: usize) -> 
 }
 
 // So many properties.
-#[cycle(check_arguments_check_attributes_check_call_check_node_check_nodes_check_properties_check_property_check_rest_check_typed)]
+#[cycle(check)]
 fn check_properties(sheet: &[u8], source: &[u8], c: Cursor, count: usize, levels: usize) -> Tallied
     requires { c.at ≤ length sheet.now }
     ensures { Told (tallied_as sheet.now)
@@ -221,7 +221,7 @@ fn check_properties(sheet: &[u8], source: &[u8], c: Cursor, count: usize, levels
 }
 
 // An Object that holds attributes, if there is one.
-#[cycle(check_arguments_check_attributes_check_call_check_node_check_nodes_check_properties_check_property_check_rest_check_typed)]
+#[cycle(check)]
 pub fn check_attributes(
     sheet: &[u8],
     source: &[u8],
@@ -252,7 +252,7 @@ pub fn check_attributes(
 }
 
 // What follows the head of an import type: children and attributes.
-#[cycle(check_arguments_check_attributes_check_call_check_node_check_nodes_check_properties_check_property_check_rest_check_typed)]
+#[cycle(check)]
 fn check_typed(sheet: &[u8], source: &[u8], c: Cursor, count: usize, levels: usize) -> Tallied
     requires { c.at ≤ length sheet.now }
     ensures { Told (tallied_as sheet.now)

@@ -1,5 +1,6 @@
 // Patterns as rows of steps: tables of numbers, and a stepping matcher that runs any of them.
 #![tactic(auto)]
+
 pub mod codes;
 pub mod patterns;
 mod run;

@@ -89,7 +89,7 @@ fn char_before(s: &[u8], end: usize) -> usize
 }
 
 // A run, the longer ones first, and the steps behind it: one character back at a time.
-#[cycle(match_from_match_longest_match_shortest)]
+#[cycle(run)]
 fn match_longest(steps: &[u8], body: &[u8], at: usize, class: Class, k: Capture) -> Found
     requires { at ≤ length body.now }
     ensures { FirstOf (longest class) steps.now body.now at k result }
@@ -108,7 +108,7 @@ fn match_longest(steps: &[u8], body: &[u8], at: usize, class: Class, k: Capture)
 }
 
 // The shorter ones first.
-#[cycle(match_from_match_longest_match_shortest)]
+#[cycle(run)]
 fn match_shortest(steps: &[u8], body: &[u8], at: usize, class: Class, k: Capture) -> Found
     requires { at ≤ length body.now }
     ensures { FirstOf (shortest class) steps.now body.now at k result }
@@ -128,7 +128,7 @@ fn match_shortest(steps: &[u8], body: &[u8], at: usize, class: Class, k: Capture
 }
 
 // The preferred match from a place on of the row that the numbers stand for.
-#[cycle(match_from_match_longest_match_shortest)]
+#[cycle(run)]
 pub fn match_from(steps: &[u8], body: &[u8], at: usize, k: Capture) -> Found
     requires { at ≤ length body.now }
     ensures { FirstOf (λ q. q) steps.now body.now at k result }

@@ -2,7 +2,6 @@ use Rattle.dep_entries.proofs.import_kind.Goals as goal
 
 -- `import_kind`: by the flag, and by the phase.
 
-
 pub returns-then-typed : goal.returns-then-typed
 returns-then-typed c = rw c.if-typed.true
 

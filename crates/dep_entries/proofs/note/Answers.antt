@@ -4,7 +4,6 @@ use Rattle.dep_entries.proofs.note.Goals as goal
 
 -- `note`: the row is stored behind the others, and counted.
 
-
 pub returns-then-count-room-2 : goal.returns-then-count-room-2
 returns-then-count-room-2 c =
     let a = c.args in

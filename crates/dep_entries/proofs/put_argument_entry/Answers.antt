@@ -12,7 +12,6 @@ use Rattle.dep_entries.proofs.put_argument_entry.Goals as goal
 -- `put_argument_entry`: the entry with the argument and the attributes that were read. With no argument behind the first it does not matter where
 -- the first ends.
 
-
 none-anywhere : (inner : Decoder Node) (source t : List ℕ) {u : List ℕ} {xs : Arguments} → arguments inner source 0 t ≡ ok xs u → (s : List ℕ) →
     arguments inner source 0 s ≡ ok xs s
 unfolding arguments many

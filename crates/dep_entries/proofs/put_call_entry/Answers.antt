@@ -9,7 +9,6 @@ use Rattle.dep_entries.proofs.put_call_entry.Goals as goal
 
 -- `put_call_entry`: the entry by the first argument, if there is one and the call is listed.
 
-
 pub put_argument_entry-requires : goal.put_argument_entry-requires
 put_argument_entry-requires c =
     let a = c.args in

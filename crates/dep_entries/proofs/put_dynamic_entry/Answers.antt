@@ -11,7 +11,6 @@ use Rattle.dep_entries.proofs.put_dynamic_entry.Goals as goal
 
 -- `put_dynamic_entry`: the fields of the entry in turn.
 
-
 pub slice_bounds-index-end : goal.slice_bounds-index-end
 slice_bounds-index-end c = c.requires.0.0
 

@@ -5,7 +5,6 @@ use Rattle.dep_entries.proofs.put_module_entry.Goals as goal
 
 -- `put_module_entry`: an entry if the String may be that of an augmentation.
 
-
 pub returns-then-declares : goal.returns-then-declares
 unfolding module_entry
 returns-then-declares c =

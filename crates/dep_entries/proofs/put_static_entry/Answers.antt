@@ -11,7 +11,6 @@ use Rattle.dep_entries.proofs.put_static_entry.Goals as goal
 
 -- `put_static_entry`: the fields of the entry in turn.
 
-
 pub put_lossy_specifier-written-requires : goal.put_lossy_specifier-written-requires
 put_lossy_specifier-written-requires c =
     (c.pre.0.1.0.indexed, c.pre.1.1)

@@ -3,7 +3,6 @@ use Rattle.dep_entries.proofs.put_types.Goals as goal
 
 -- `put_types`: the parts of the table are in it.
 
-
 pub slice_bounds-comments-end : goal.slice_bounds-comments-end
 slice_bounds-comments-end c = let room = c.requires.0 in omega arith
 

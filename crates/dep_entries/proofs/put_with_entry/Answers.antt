@@ -4,7 +4,6 @@ use Rattle.dep_entries.proofs.put_with_entry.Goals as goal
 
 -- `put_with_entry`: the entry with the attributes that were read.
 
-
 pub returns-then-is_type : goal.returns-then-is_type
 returns-then-is_type c =
     let a = c.args in

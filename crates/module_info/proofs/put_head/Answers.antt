@@ -20,19 +20,17 @@ analyze_first-p-requires c =
     (c.requires.1.0, head_reached c.requires.1.1.grouped _ _ c.head_group-head.ensures)
 
 pub analyze_first-p-requires-2 : goal.analyze_first-p-requires-2
-analyze_first-p-requires-2 c =
-    (
-      c.requires.1.0,
-      head_reached c.requires.1.1.grouped _ _ c.head_group-head.ensures,
-    )
+analyze_first-p-requires-2 c = (
+  c.requires.1.0,
+  head_reached c.requires.1.1.grouped _ _ c.head_group-head.ensures,
+)
 
 pub analyze_first-requires : goal.analyze_first-requires
-analyze_first-requires c =
-    (
-      c.pre.1.0,
-      head_reached c.pre.1.1.grouped _ _
-          c.head_group-head.ensures,
-    )
+analyze_first-requires c = (
+  c.pre.1.0,
+  head_reached c.pre.1.1.grouped _ _
+      c.head_group-head.ensures,
+)
 
 pub returns : goal.returns
 unfolding read_by first_by

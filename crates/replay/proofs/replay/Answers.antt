@@ -5,7 +5,6 @@ use Rattle.replay.proofs.replay.Goals as goal
 
 -- The loop goes through the rows: what is left of them gives, with the counts so far, the tally from the start on.
 
-
 pub returns-in-Short : goal.returns-in-Short
 returns-in-Short c =
     let a = c.args in

@@ -11,12 +11,11 @@ returns-in-At c =
     }
 
 pub loop-i-preserved : goal.loop-i-preserved
-loop-i-preserved c =
-    (
-      omega arith,
-      λ q e. c.loop-i.invariant.1 q e ∙ left_miss q c.args.body.now c.loop-i.i
-          (c.match_from-found.ensures.is q e) c.loop-i-test.true c.in_default.is,
-    )
+loop-i-preserved c = (
+  omega arith,
+  λ q e. c.loop-i.invariant.1 q e ∙ left_miss q c.args.body.now c.loop-i.i
+      (c.match_from-found.ensures.is q e) c.loop-i-test.true c.in_default.is,
+)
 
 pub returns : goal.returns
 returns c =

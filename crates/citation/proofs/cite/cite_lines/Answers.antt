@@ -6,16 +6,15 @@ use Rattle.citation.proofs.{Printing.both, Printing.each_plain}
 use Rattle.citation.proofs.cite.cite_lines.Goals as goal
 
 pub total-requires : goal.total-requires
-total-requires c =
-    (
-      c.cite_list-d.ensures.bounds,
-      c.cite_list-r.ensures.bounds,
-      c.cite_optional-s.ensures.bounds,
-      c.cite_optional-x.ensures.bounds,
-      c.cite_optional-y.ensures.bounds,
-      c.cite_list-j.ensures.bounds,
-      c.cite_optional-m.ensures.bounds,
-    )
+total-requires c = (
+  c.cite_list-d.ensures.bounds,
+  c.cite_list-r.ensures.bounds,
+  c.cite_optional-s.ensures.bounds,
+  c.cite_optional-x.ensures.bounds,
+  c.cite_optional-y.ensures.bounds,
+  c.cite_list-j.ensures.bounds,
+  c.cite_optional-m.ensures.bounds,
+)
 
 pub shape_of-out : goal.shape_of-out
 shape_of-out c =

@@ -3,7 +3,6 @@ use Rattle.citation.proofs.cite.dependency_letter.Goals as goal
 
 -- `dependency_letter`: by whether the number is 0.
 
-
 pub returns-then-number-eq0 : goal.returns-then-number-eq0
 returns-then-number-eq0 c = rw (eq-eqb c.args.number 0 c.if-number-eq0.true)
 

@@ -12,7 +12,6 @@ use Rattle.citation.proofs.lines.+put_digits.Goals as goal
 
 -- The number's places fall at each call.
 
-
 pub returns-then-places-eq0 : goal.returns-then-places-eq0
 returns-then-places-eq0 t c =
     let a = c.args in

@@ -8,7 +8,6 @@ use Rattle.dep.proofs.walk.analyze_program_dependencies.Goals as goal
 
 -- `analyze_program_dependencies`: the number of the dependencies, and their entries.
 
-
 -- the tree decodes, so that the walk does not refuse it
 pub returns-in-Refused : goal.returns-in-Refused
 returns-in-Refused c =

@@ -7,7 +7,6 @@ use Rattle.dep.proofs.walk.call_of.Goals as goal
 
 -- `call_of`: by the head.
 
-
 -- the variants besides ImportCall
 abbrev others : List ℕ
 others = 0 ∷ 1 ∷ 2 ∷ 3 ∷ 4 ∷ 5 ∷ 7 ∷ 8 ∷ 9 ∷ 10 ∷ 11 ∷ 12 ∷ 13 ∷ 14 ∷ 15 ∷ 16 ∷ []

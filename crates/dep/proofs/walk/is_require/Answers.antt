@@ -5,7 +5,6 @@ use Rattle.dep.proofs.walk.is_require.Goals as goal
 
 -- `is_require`: what the head of the callee says.
 
-
 pub slice_bounds-is_require-count : goal.slice_bounds-is_require-count
 slice_bounds-is_require-count c =
     let past = bounded c.read_head.ensures c.in-Is.is in

@@ -8,7 +8,6 @@ use Rattle.dep.proofs.walk.visit_export_all.Goals as goal
 
 -- `visit_export_all`: the entry by the export's kind.
 
-
 pub returns : goal.returns
 unfolding noting
 returns c =

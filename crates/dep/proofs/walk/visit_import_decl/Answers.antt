@@ -8,7 +8,6 @@ use Rattle.dep.proofs.walk.visit_import_decl.Goals as goal
 
 -- `visit_import_decl`: the entry by the import's kind.
 
-
 pub returns : goal.returns
 unfolding noting
 returns c =

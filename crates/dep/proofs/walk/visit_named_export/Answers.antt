@@ -8,7 +8,6 @@ use Rattle.dep.proofs.walk.visit_named_export.Goals as goal
 
 -- `visit_named_export`: the entry by the export's kind.
 
-
 pub returns : goal.returns
 unfolding noting
 returns c =

@@ -3,7 +3,6 @@ use Rattle.dep.proofs.walk.visit_ts_import_equals_decl.Goals as goal
 
 -- `visit_ts_import_equals_decl`: the entry by the declaration's kind, with no attributes.
 
-
 pub returns : goal.returns
 unfolding noting
 returns c =

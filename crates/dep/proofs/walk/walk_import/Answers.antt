@@ -10,7 +10,6 @@ use Rattle.dep.proofs.walk.walk_import.Goals as goal
 
 -- `walk_import`: the entry is that of the attributes that were read, or of none.
 
-
 pub returns-in-Refused : goal.returns-in-Refused
 returns-in-Refused c =
     let a = c.args in

@@ -10,7 +10,6 @@ use Rattle.dep.proofs.walk.walk_root.Goals as goal
 
 -- `walk_root`: the entries of the root, from its children up to the last that has one, or from the root itself.
 
-
 pub walk_nodes-requires : goal.walk_nodes-requires
 walk_nodes-requires c =
     let past = bounded c.read_head.ensures c.in-Is.is in

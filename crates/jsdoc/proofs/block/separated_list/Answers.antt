@@ -39,14 +39,13 @@ loop-n-smaller c =
     )
 
 pub loop-n-preserved : goal.loop-n-preserved
-loop-n-preserved c =
-    (
-      bounded c.comma.ensures c.in-At.is,
-      rw c.first_mode-mode.ensures
-          (c.loop-n.invariant.1 ∙ attributes_next _ _
-          (told c.parse_attribute.ensures c.in-Past.is)
-          (told c.comma.ensures c.in-At.is)),
-    )
+loop-n-preserved c = (
+  bounded c.comma.ensures c.in-At.is,
+  rw c.first_mode-mode.ensures
+      (c.loop-n.invariant.1 ∙ attributes_next _ _
+      (told c.parse_attribute.ensures c.in-Past.is)
+      (told c.comma.ensures c.in-At.is)),
+)
 
 pub loop-n-init : goal.loop-n-init
 loop-n-init c = (search rules, refl)

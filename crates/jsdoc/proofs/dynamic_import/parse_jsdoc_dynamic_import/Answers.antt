@@ -17,12 +17,11 @@ returns-then-rest-i-eq125 c =
     (c.scan.invariant.1 ∙ e) c.scan.invariant.0 b
 
 pub scan-preserved : goal.scan-preserved
-scan-preserved c =
-    (
-      search rules,
-      c.scan.invariant.1 ∙ search_further _ c.scan.i c.if-rest-i.false c.if-rest-i-eq125.false
-          (known c.starts_with.ensures c.if-starts_with.false),
-    )
+scan-preserved c = (
+  search rules,
+  c.scan.invariant.1 ∙ search_further _ c.scan.i c.if-rest-i.false c.if-rest-i-eq125.false
+      (known c.starts_with.ensures c.if-starts_with.false),
+)
 
 pub returns : goal.returns
 returns c =

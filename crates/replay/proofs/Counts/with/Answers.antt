@@ -4,7 +4,6 @@ use Rattle.replay.proofs.Counts.with.Goals as goal
 
 -- `with`: a sheet is accepted or refused, so that one of the two counts goes up by one.
 
-
 either-one : (b : Bool) → one b + one (not b) ≡ 1
 either-one true = refl
 either-one false = refl

@@ -34,7 +34,6 @@ use Rattle.report.proofs.lent.new.Goals as goal
 -- The parameter is spent: the result names its lifetime, so nothing is had of it at exit, and `out.entry` is all that the contract can say.
 -- Assumes nothing.
 
-
 abbrev stayed : Stays (new.ended).signature.params (new.ended).kept
 stayed = (stay_dropped (mut_slice_of (0 ∷ []) tt (plain (λ _. u8))) no, tt)
 

@@ -4,11 +4,10 @@ use Rattle.sheet.specs.Comments.{group}
 use Rattle.sheet.proofs.groups.read_group.Goals as goal
 
 pub reaches-requires : goal.reaches-requires
-reaches-requires c =
-    (
-      omega (arith, (number_codec.sound _ _ _ (told c.number.ensures c.in-Value-number.is)).1),
-      omega (arith, (number_codec.sound _ _ _ (told c.number-in-Value-number.ensures c.in-Value-number-2.is)).1),
-    )
+reaches-requires c = (
+  omega (arith, (number_codec.sound _ _ _ (told c.number.ensures c.in-Value-number.is)).1),
+  omega (arith, (number_codec.sound _ _ _ (told c.number-in-Value-number.ensures c.in-Value-number-2.is)).1),
+)
 
 pub returns-in-Refused : goal.returns-in-Refused
 unfolding group numbered

@@ -8,7 +8,6 @@ use Rattle.sheet_nodes.proofs.root.check_children.Goals as goal
 
 -- `check_children`: what `check_nodes` keeps, and how far the entries so far reach.
 
-
 pub loop-left-init : goal.loop-left-init
 loop-left-init c =
     let a = c.args in

@@ -8,7 +8,6 @@ use Rattle.sheet_nodes.proofs.root.check_root.Goals as goal
 
 -- `check_root`: what `check_node` answers, by the head; of an Other, how far the entries of its children reach.
 
-
 pub overflow_sub-levels : goal.overflow_sub-levels
 overflow_sub-levels c =
     (bounded c.read_head.ensures c.in-Is.is).0

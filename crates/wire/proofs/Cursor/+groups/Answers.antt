@@ -11,7 +11,6 @@ use Rattle.wire.proofs.Cursor.+groups.Goals as goal
 
 -- One group, or one and the groups above it: the groups that are left fall at each call.
 
-
 pub returns-then-left-eq0 : goal.returns-then-left-eq0
 returns-then-left-eq0 t c =
     let a = c.args in

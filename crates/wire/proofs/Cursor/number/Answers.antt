@@ -5,7 +5,6 @@ use Rattle.wire.proofs.Cursor.number.Goals as goal
 
 -- One, two or three groups, or the groups in general.
 
-
 pub returns-then-a-lt128 : goal.returns-then-a-lt128
 returns-then-a-lt128 c =
     let a = c.args in

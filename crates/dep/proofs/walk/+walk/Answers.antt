@@ -9,7 +9,7 @@ use Rattle.dep.proofs.HeadSpans.{head_spanned}
 use Rattle.dep.proofs.Loops.{arguments_all, arguments_step, arguments_stop, arguments_end}
 use Rattle.dep.proofs.Loops.{nodes_all, nodes_step, nodes_stop, nodes_end}
 use Rattle.dep.proofs.Loops.{properties_all, properties_step, properties_stop, properties_end}
-use Rattle.dep.proofs.walk.+visit_call_expr_visit_ts_import_type_visit_ts_module_decl_walk_argument_walk_arguments_walk_attributes_walk_callee_walk_node_walk_nodes_walk_properties_walk_property_walk_rest.Goals as goal
+use Rattle.dep.proofs.walk.+walk.Goals as goal
 use Rattle.dep.proofs.walk.callees.Reads as callees
 use Rattle.dep.proofs.walk.visit_ts_import_type.Reads as visit-ts-import-type
 use Rattle.dep.specs.Collect.{noting}
@@ -62,7 +62,6 @@ use walk-cycle.Proof.Calls.{visit-ts-import-type-at, visit-ts-import-type-calls}
 
 -- unknown fields: pre
 -- `visit_call_expr`: arguments, further children, and then the call's entry.
-
 
 pub visit_call_expr-walk_arguments-r-requires : goal.visit_call_expr-walk_arguments-r-requires
 visit_call_expr-walk_arguments-r-requires t c =
@@ -182,7 +181,6 @@ visit_call_expr-returns-in-Is-r t c =
 
 -- `visit_ts_import_type`: the entry of an import type, its children, and what its attributes hold.
 
-
 pub put-with-entry-requires : (t : ℕ) →
     visit-ts-import-type-lts.Need-put-with-entry-requires (visit-ts-import-type-calls t) (visit-ts-import-type-at t) visit-ts-import-type.Post
 put-with-entry-requires t c κs =
@@ -286,7 +284,6 @@ visit_ts_import_type-returns-in-Is-walk_nodes t c =
 
 -- `visit_ts_module_decl`: the entry of a module declaration, and its children.
 
-
 pub visit_ts_module_decl-returns : goal.visit_ts_module_decl-returns
 visit_ts_module_decl-returns t c =
     let a = c.args in
@@ -302,7 +299,6 @@ visit_ts_module_decl-returns t c =
     }
 
 -- `walk_argument`: an argument is its head and its node.
-
 
 pub walk_argument-returns-in-Refused : goal.walk_argument-returns-in-Refused
 walk_argument-returns-in-Refused t c =
@@ -339,7 +335,6 @@ walk_argument-returns-in-Is t c =
 -- measure: abbrev pub μ-loop : walk-arguments-lts.decreases-loop
 -- μ-loop sheet source count levels tables counts out₀ notes₀ left₀ at₀ place₀ out notes left at place = left
 -- `walk_arguments`: the entries so far, with those of the arguments to come, are the entries of all.
-
 
 pub walk_arguments-returns-in-Refused : goal.walk_arguments-returns-in-Refused
 walk_arguments-returns-in-Refused t c =
@@ -392,7 +387,6 @@ walk_arguments-returns t c =
 -- The measures of the members of the cycle, and what the callees of each ask and give.
 
 -- `walk_attributes`: an Object that holds attributes is its head and its properties.
-
 
 pub walk_attributes-overflow_sub-levels : goal.walk_attributes-overflow_sub-levels
 walk_attributes-overflow_sub-levels t c = (bounded c.read_attributes.ensures c.in-Is.is).0
@@ -449,7 +443,6 @@ walk_attributes-returns t c =
 
 -- `walk_callee`: a call is its callee, if that is an expression, and what follows it.
 
-
 pub walk_callee-walk_nodes-requires : goal.walk_callee-walk_nodes-requires
 walk_callee-walk_nodes-requires t c = let start =
     c in (omega arith, (start.pre.1.0, start.pre.1.1))
@@ -495,7 +488,6 @@ walk_callee-returns-in-Is t c =
 -- The measures of the members of the cycle, and what the callees of each ask and give.
 
 -- `walk_node`: a node is its head and what follows it.
-
 
 pub walk_node-overflow_sub-levels : goal.walk_node-overflow_sub-levels
 walk_node-overflow_sub-levels t c = (bounded c.read_head.ensures c.in-Is.is).0
@@ -545,7 +537,6 @@ walk_node-returns-in-Is t c =
 -- measure: abbrev pub μ-loop : walk-nodes-lts.decreases-loop
 -- μ-loop sheet source count levels tables counts out₀ notes₀ left₀ at₀ place₀ out notes left at place = left
 -- `walk_nodes`: the entries so far, with those of the nodes to come, are the entries of all.
-
 
 pub walk_nodes-returns-in-Refused : goal.walk_nodes-returns-in-Refused
 walk_nodes-returns-in-Refused t c =
@@ -602,7 +593,6 @@ walk_nodes-returns t c =
 -- μ-loop sheet source count levels tables counts out₀ notes₀ left₀ at₀ place₀ out notes left at place = left
 -- `walk_properties`: the entries so far, with those of the properties to come, are the entries of all.
 
-
 pub walk_properties-returns-in-Refused : goal.walk_properties-returns-in-Refused
 walk_properties-returns-in-Refused t c =
     let a = c.args in
@@ -655,7 +645,6 @@ walk_properties-returns t c =
 
 -- `walk_property`: a property is its head and one node, or two.
 
-
 pub walk_property-walk_nodes-requires : goal.walk_property-walk_nodes-requires
 walk_property-walk_nodes-requires t c =
     let past = bounded c.read_property.ensures c.in-Is.is in
@@ -697,7 +686,6 @@ walk_property-returns-in-Is t c =
 
 -- `walk_rest`: what is written for a node, by its head, from what is written for the nodes that it holds.
 
-
 pub walk_rest-overflow_add-count : goal.walk_rest-overflow_add-count
 walk_rest-overflow_add-count t c =
     let w = rw c.in-Template.is at c.requires.1.1.1 in
@@ -713,76 +701,70 @@ walk_rest-walk_callee-requires t c =
     (omega arith, (c.requires.1.0, c.requires.1.1.0, calls c.args.head c.in-Other.keys6))
 
 pub walk_rest-visit_import_decl-requires : goal.walk_rest-visit_import_decl-requires
-walk_rest-visit_import_decl-requires t c =
-    (
-      c.requires.1.0,
-      (
-        rw c.in-Import.is at c.requires.1.1.1,
-        rw c.in-Import.is at c.requires.1.1.2,
-      ),
-      c.requires.1.1.0,
-    )
+walk_rest-visit_import_decl-requires t c = (
+  c.requires.1.0,
+  (
+    rw c.in-Import.is at c.requires.1.1.1,
+    rw c.in-Import.is at c.requires.1.1.2,
+  ),
+  c.requires.1.1.0,
+)
 
 pub walk_rest-visit_named_export-requires : goal.walk_rest-visit_named_export-requires
-walk_rest-visit_named_export-requires t c =
-    (
-      c.requires.1.0,
-      (
-        rw c.in-ExportFrom.is at c.requires.1.1.1,
-        rw c.in-ExportFrom.is at c.requires.1.1.2,
-      ),
-      c.requires.1.1.0,
-    )
+walk_rest-visit_named_export-requires t c = (
+  c.requires.1.0,
+  (
+    rw c.in-ExportFrom.is at c.requires.1.1.1,
+    rw c.in-ExportFrom.is at c.requires.1.1.2,
+  ),
+  c.requires.1.1.0,
+)
 
 pub walk_rest-visit_export_all-requires : goal.walk_rest-visit_export_all-requires
-walk_rest-visit_export_all-requires t c =
-    (
-      c.requires.1.0,
-      (
-        rw c.in-ExportAll.is at c.requires.1.1.1,
-        rw c.in-ExportAll.is at c.requires.1.1.2,
-      ),
-      c.requires.1.1.0,
-    )
+walk_rest-visit_export_all-requires t c = (
+  c.requires.1.0,
+  (
+    rw c.in-ExportAll.is at c.requires.1.1.1,
+    rw c.in-ExportAll.is at c.requires.1.1.2,
+  ),
+  c.requires.1.1.0,
+)
 
 pub walk_rest-visit_ts_import_type-requires : goal.walk_rest-visit_ts_import_type-requires
-walk_rest-visit_ts_import_type-requires t c =
+walk_rest-visit_ts_import_type-requires t c = (
+  omega arith,
+  (
+    c.requires.1.0,
     (
-      omega arith,
-      (
-        c.requires.1.0,
-        (
-          rw c.in-ImportType.is at c.requires.1.1.1,
-          rw c.in-ImportType.is at c.requires.1.1.2,
-        ),
-        c.requires.1.1.0,
-      ),
-    )
+      rw c.in-ImportType.is at c.requires.1.1.1,
+      rw c.in-ImportType.is at c.requires.1.1.2,
+    ),
+    c.requires.1.1.0,
+  ),
+)
 
 pub walk_rest-visit_ts_import_equals_decl-requires : goal.walk_rest-visit_ts_import_equals_decl-requires
-walk_rest-visit_ts_import_equals_decl-requires t c =
-    (
-      c.requires.1.0,
-      (
-        rw c.in-ImportRequire.is at c.requires.1.1.1,
-        rw c.in-ImportRequire.is at c.requires.1.1.2,
-      ),
-      c.requires.1.1.0,
-    )
+walk_rest-visit_ts_import_equals_decl-requires t c = (
+  c.requires.1.0,
+  (
+    rw c.in-ImportRequire.is at c.requires.1.1.1,
+    rw c.in-ImportRequire.is at c.requires.1.1.2,
+  ),
+  c.requires.1.1.0,
+)
 
 pub walk_rest-visit_ts_module_decl-requires : goal.walk_rest-visit_ts_module_decl-requires
-walk_rest-visit_ts_module_decl-requires t c =
+walk_rest-visit_ts_module_decl-requires t c = (
+  omega arith,
+  (
+    c.requires.1.0,
     (
-      omega arith,
-      (
-        c.requires.1.0,
-        (
-          rw c.in-NamedModule.is at c.requires.1.1.1,
-          rw c.in-NamedModule.is at c.requires.1.1.2,
-        ),
-        c.requires.1.1.0,
-      ),
-    )
+      rw c.in-NamedModule.is at c.requires.1.1.1,
+      rw c.in-NamedModule.is at c.requires.1.1.2,
+    ),
+    c.requires.1.1.0,
+  ),
+)
 
 pub walk_rest-returns-in-Other : goal.walk_rest-returns-in-Other
 unfolding noting

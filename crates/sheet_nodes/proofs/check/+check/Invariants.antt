@@ -3,7 +3,7 @@ use Rattle.sheet.specs.Nodes.{node}
 use Rattle.sheet_nodes.proofs.Loops.{arguments_from}
 use Rattle.sheet_nodes.proofs.Loops.{nodes_from}
 use Rattle.sheet_nodes.proofs.Loops.{properties_from}
-use Rattle.sheet_nodes.proofs.check.+check_arguments_check_attributes_check_call_check_node_check_nodes_check_properties_check_property_check_rest_check_typed.Given as goal
+use Rattle.sheet_nodes.proofs.check.+check.Given as goal
 
 abbrev pub invariant-check_arguments-loop-left : goal.invariant-check_arguments-loop-left
 invariant-check_arguments-loop-left l =

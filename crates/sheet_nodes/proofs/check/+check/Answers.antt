@@ -26,7 +26,7 @@ use Rattle.sheet_nodes.proofs.Loops.{nodes_all, nodes_step, nodes_stop, nodes_en
 use Rattle.sheet_nodes.proofs.Loops.{properties_all, properties_step, properties_stop, properties_end}
 use Rattle.sheet_nodes.proofs.Rooms.{room, room_passed, leaf_past, entry_past, holding_past, called_past}
 use Rattle.sheet_nodes.proofs.Rooms.{whole_past}
-use Rattle.sheet_nodes.proofs.check.+check_arguments_check_attributes_check_call_check_node_check_nodes_check_properties_check_property_check_rest_check_typed.Goals as goal
+use Rattle.sheet_nodes.proofs.check.+check.Goals as goal
 use Rattle.sheet_nodes.proofs.check.check_arguments.Reads as check-arguments
 use Rattle.sheet_nodes.proofs.check.check_attributes.Reads as check-attributes
 use Rattle.sheet_nodes.proofs.{Arms.object_holds, Rooms.tally_past}
@@ -46,7 +46,6 @@ use check-cycle.Proof.Calls.{check-attributes-at, check-attributes-calls}
 -- measure: abbrev pub μ-loop : check-arguments-lts.decreases-loop
 -- μ-loop sheet source count levels left₀ at₀ total₀ left at total = left
 -- `check_arguments`: what was found so far, with what is found in the arguments to come, is what is found in all.
-
 
 pub check_arguments-returns-in-Refused : goal.check_arguments-returns-in-Refused
 check_arguments-returns-in-Refused t c =
@@ -120,7 +119,6 @@ check_arguments-returns t c =
 
 -- `check_attributes`: an Object that holds attributes is its head and its properties.
 
-
 pub check_attributes-overflow_sub-levels : goal.check_attributes-overflow_sub-levels
 check_attributes-overflow_sub-levels t c = (bounded c.read_attributes.ensures c.in-Is.is).0
 
@@ -164,7 +162,6 @@ check_attributes-returns t c = record { answer = rw c.if-has_object.false; bound
 -- The measures of the members of the cycle, and what the callees of each ask and give.
 
 -- `check_call`: what is found in a call besides its callee is what is found in its arguments and in its further children.
-
 
 pub check_call-check_arguments-requires : goal.check_call-check_arguments-requires
 check_call-check_arguments-requires t c =
@@ -239,7 +236,6 @@ check_call-returns-in-Value-number t c =
 
 -- `check_node`: a node is its head and what follows it.
 
-
 pub check_node-overflow_sub-levels : goal.check_node-overflow_sub-levels
 check_node-overflow_sub-levels t c = (bounded c.read_head.ensures c.in-Is.is).0
 
@@ -278,7 +274,6 @@ check_node-returns-in-Is t c =
 -- measure: abbrev pub μ-loop : check-nodes-lts.decreases-loop
 -- μ-loop sheet source count levels left₀ at₀ total₀ left at total = left
 -- `check_nodes`: what was found so far, with what is found in the nodes to come, is what is found in all.
-
 
 pub check_nodes-returns-in-Refused : goal.check_nodes-returns-in-Refused
 check_nodes-returns-in-Refused t c =
@@ -327,7 +322,6 @@ check_nodes-returns t c =
 -- μ-loop sheet source count levels left₀ at₀ total₀ left at total = left
 -- `check_properties`: what was found so far, with what is found in the properties to come, is what is found in all.
 
-
 pub check_properties-returns-in-Refused : goal.check_properties-returns-in-Refused
 check_properties-returns-in-Refused t c =
     let a = c.args in
@@ -373,7 +367,6 @@ check_properties-returns t c =
 
 -- `check_property`: a property is its head and one node, or two.
 
-
 pub check_property-check_nodes-requires : goal.check_property-check_nodes-requires
 check_property-check_nodes-requires t c =
     let past = bounded c.read_property.ensures c.in-Is.is in
@@ -410,7 +403,6 @@ check_property-returns-in-Is t c =
 -- The measures of the members of the cycle, and what the callees of each ask and give.
 
 -- `check_rest`: what is found in a node, by its head, from what is found in the nodes that it holds.
-
 
 pub check_rest-holding-requires : goal.check_rest-holding-requires
 check_rest-holding-requires t c = room _ _ 1 c.check_nodes.result (omega arith) c.check_nodes.ensures.bounds
@@ -744,7 +736,6 @@ check_rest-returns-in-NamedModule t c =
 -- The measures of the members of the cycle, and what the callees of each ask and give.
 
 -- `check_typed`: what is found in an import type is what is found in its children and in its attributes.
-
 
 pub check_typed-check_attributes-requires : goal.check_typed-check_attributes-requires
 check_typed-check_attributes-requires t c =

@@ -1,7 +1,7 @@
 use Rattle.dep.proofs.Loops.{arguments_from}
 use Rattle.dep.proofs.Loops.{nodes_from}
 use Rattle.dep.proofs.Loops.{properties_from}
-use Rattle.dep.proofs.walk.+visit_call_expr_visit_ts_import_type_visit_ts_module_decl_walk_argument_walk_arguments_walk_attributes_walk_callee_walk_node_walk_nodes_walk_properties_walk_property_walk_rest.Given as goal
+use Rattle.dep.proofs.walk.+walk.Given as goal
 use Rattle.dep_entries.specs.code.Written.{types_from, written_as}
 use Rattle.laws.proofs.Prelude.{◌≡◌, ◌≤◌, length, drop}
 use Rattle.sheet.specs.Nodes.{node}

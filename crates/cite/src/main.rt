@@ -11,11 +11,12 @@ ghost use Rattle.cite.specs.Cited.{report_room, note_room, line_room, cited, Edi
 
 use citation::cite::{cite_refusal, cite_report};
 use input::{Input, read_input};
-use libc::{STDERR_FILENO, STDIN_FILENO, STDOUT_FILENO};
 use module_info::module_info_with_replaced;
 use report::writer::Outcome;
 use report_reader::fields::{TextRead, read_text};
 use sheet::limits::SHEET_LIMIT;
+use std::io;
+use std::io::Write;
 
 // Where the source of an accepted sheet stands: behind the media byte.
 fn find_source(sheet: &[u8]) -> TextRead
@@ -48,6 +49,12 @@ fn cite(sheet: &[u8], report: &mut [u8], notes: &mut [usize], lines: &mut [u8]) 
 // Room for the two numbers of each dependency of every report of 65,536 bytes, behind how many there are: a dependency has at least eight bytes.
 const NOTE_ROOM: usize = 1 + 65536 / 4;
 
+fn report_buffer() -> [u8; 65536]
+    ensures { report_room ≡ length result }
+{
+    [0; 65536]
+}
+
 fn note_buffer() -> [usize; NOTE_ROOM]
     ensures { length result ≡ note_room }
 {
@@ -67,21 +74,19 @@ fn line_buffer() -> [u8; LINE_ROOM]
 const INPUT_ROOM: usize = SHEET_LIMIT + 1;
 
 // Nothing is cited of what cannot be read.
-fn main() {
+fn main(rt: HostRuntime) -> io::Result<()> {
     let mut sheet = [0u8; INPUT_ROOM];
-    let input = read_input(STDIN_FILENO, &mut sheet);
+    let mut stdin = rt.stdin();
+    let input = read_input(&mut stdin, &mut sheet);
     let Input::Bytes(n) = input else {
-        io::write_all(STDERR_FILENO, b"cite: standard input cannot be read\n");
-        return;
+        return eprintln!(rt; "cite: standard input cannot be read");
     };
-    let mut report = io::large_buffer();
+    let mut report = report_buffer();
     let mut notes = note_buffer();
     let mut lines = line_buffer();
     let length = cite(&sheet[..n], &mut report, &mut notes, &mut lines);
-    if !io::write_all(STDOUT_FILENO, &lines[..length]) {
-        io::write_all(
-            STDERR_FILENO,
-            b"cite: standard output cannot be written to\n",
-        );
+    match rt.stdout().write_all(&lines[..length]) {
+        Ok(()) => Ok(()),
+        Err(_) => eprintln!(rt; "cite: standard output cannot be written to"),
     }
 }

@@ -10,8 +10,9 @@ ghost use Rattle.dearest.specs.Output.{Written};
 ghost use Rattle.dearest.specs.code.Answers.{Settles};
 
 use input::{Input, read_input};
-use libc::{STDERR_FILENO, STDIN_FILENO, STDOUT_FILENO};
 use scan::LONGEST;
+use std::io;
+use std::io::Write;
 
 // How many bytes are asked for.
 #[derive(Clone, Copy)]
@@ -95,19 +96,17 @@ fn dearest(front: &[u8], body: &mut [u8; LONGEST]) -> usize
 
 // Reads one byte more than the longest input that asks for a body, so that a longer one is known to be longer.
 // Nothing is written to an input that cannot be read.
-fn main() {
+fn main(rt: HostRuntime) -> io::Result<()> {
     let mut front = [0u8; 7];
-    let input = read_input(STDIN_FILENO, &mut front);
+    let mut stdin = rt.stdin();
+    let input = read_input(&mut stdin, &mut front);
     let Input::Bytes(read) = input else {
-        io::write_all(STDERR_FILENO, b"dearest: standard input cannot be read\n");
-        return;
+        return eprintln!(rt; "dearest: standard input cannot be read");
     };
     let mut body = [0u8; LONGEST];
     let size = dearest(&front[..read], &mut body);
-    if !io::write_all(STDOUT_FILENO, &body[..size]) {
-        io::write_all(
-            STDERR_FILENO,
-            b"dearest: standard output cannot be written to\n",
-        );
+    match rt.stdout().write_all(&body[..size]) {
+        Ok(()) => Ok(()),
+        Err(_) => eprintln!(rt; "dearest: standard output cannot be written to"),
     }
 }

@@ -1,7 +1,8 @@
 // An input read to its end, where a read that fails is not taken for the end.
 #![tactic(auto)]
-
 ghost use Rattle.input.specs.code.InputWithin.{InputWithin};
+
+use std::io::Read;
 
 // What came of reading.
 #[derive(Clone, Copy)]
@@ -13,20 +14,16 @@ pub enum Input {
 }
 
 // Reads until the input ends, the buffer is full or a read fails.
-pub fn read_input(fd: i32, buffer: &mut [u8]) -> Input
+pub fn read_input<R: Read>(reader: &mut R, buffer: &mut [u8]) -> Input
     ensures { InputWithin buffer.new result }
 {
     let mut done = 0;
     while done < buffer.len() {
-        let got = libc::read(fd, &mut buffer[done..]);
-        if got < 0 {
-            return Input::Failed;
+        match reader.read(&mut buffer[done..]) {
+            Ok(0) => return Input::Bytes(done),
+            Ok(more) => done += more,
+            Err(_) => return Input::Failed,
         }
-        let more = io::count(got, &buffer[done..]);
-        if more == 0 {
-            return Input::Bytes(done);
-        }
-        done += more;
     }
     Input::Bytes(done)
 }

@@ -13,8 +13,9 @@ use citation::lines::{put_digits, put_text};
 use delivery::check::DELIVERY_LIMIT;
 use delivery::judge::{Judgement, judge};
 use input::{Input, read_input};
-use libc::{STDERR_FILENO, STDIN_FILENO, STDOUT_FILENO};
 use report::writer::Pen;
+use std::io;
+use std::io::Write;
 
 // Writes a word and a number.
 fn put_counted(place: Pen, line: &mut [u8], word: &[u8], n: usize) -> Pen
@@ -90,21 +91,25 @@ fn line_buffer() -> [u8; LINE_ROOM]
 // One byte more than the longest delivery has, so that a longer one is refused.
 const INPUT_ROOM: usize = DELIVERY_LIMIT + 1;
 
+fn work_buffer() -> [u8; 65536]
+    ensures { work_room ≡ length result }
+{
+    [0; 65536]
+}
+
 // Nothing is printed of what cannot be read.
-fn main() {
+fn main(rt: HostRuntime) -> io::Result<()> {
     let mut delivery = [0u8; INPUT_ROOM];
-    let input = read_input(STDIN_FILENO, &mut delivery);
+    let mut stdin = rt.stdin();
+    let input = read_input(&mut stdin, &mut delivery);
     let Input::Bytes(n) = input else {
-        io::write_all(STDERR_FILENO, b"order: standard input cannot be read\n");
-        return;
+        return eprintln!(rt; "order: standard input cannot be read");
     };
-    let mut work = io::large_buffer();
+    let mut work = work_buffer();
     let mut line = line_buffer();
     let length = print_order(&delivery[..n], &mut work, &mut line);
-    if !io::write_all(STDOUT_FILENO, &line[..length]) {
-        io::write_all(
-            STDERR_FILENO,
-            b"order: standard output cannot be written to\n",
-        );
+    match rt.stdout().write_all(&line[..length]) {
+        Ok(()) => Ok(()),
+        Err(_) => eprintln!(rt; "order: standard output cannot be written to"),
     }
 }

@@ -8,6 +8,7 @@
 ghost use Rattle.std.specs.Prelude.{◌≡◌, List, ℕ, ◌+◌, ◌≤◌, length, drop};
 ghost use Rattle.laws.specs.Decoded.{ok, on_ok};
 ghost use Rattle.laws.specs.code.Told.{Bounded, Told};
+ghost use Rattle.input.specs.code.InputWithin.{InputWithin};
 ghost use Rattle.text.specs.Bytes.{same};
 ghost use Rattle.text.specs.Truth.{one};
 ghost use Rattle.report.specs.Answer.{outcome_as};
@@ -16,9 +17,11 @@ ghost use Rattle.replay.specs.Compared.{padded, stored_answer, same_answer, ran_
 ghost use Rattle.replay.specs.code.Views.{stretch_as, step_as};
 ghost use Rattle.replay.specs.code.Bounds.{StretchWithin, NextWithin, Room, Printable};
 
-use libc::STDOUT_FILENO;
+use input::{Input, read_input};
 use module_info::module_info;
 use report::writer::Outcome;
+use std::fs::File;
+use std::io;
 use text::bytes::byte_at;
 
 // The bytes that are read at most.
@@ -206,20 +209,19 @@ impl Counts {
     }
 
     // One line each.
-    fn print(self)
+    fn print(self, rt: &impl Print) -> io::Result<()>
         requires { Room 0 self }
     {
-        print_line(self.accepted + self.refused, b" sheets\n");
-        print_line(self.accepted, b" accepted\n");
-        print_line(self.refused, b" refused\n");
-        print_line(self.differ, b" differ\n");
+        print_line(rt, self.accepted + self.refused, "sheets")?;
+        print_line(rt, self.accepted, "accepted")?;
+        print_line(rt, self.refused, "refused")?;
+        print_line(rt, self.differ, "differ")
     }
 }
 
 // A count and what it counts.
-fn print_line(n: u64, what: &[u8]) {
-    io::print_decimal(STDOUT_FILENO, n);
-    io::write_all(STDOUT_FILENO, what);
+fn print_line(rt: &impl Print, n: u64, what: &str) -> io::Result<()> {
+    println!(rt; "{n} {what}")
 }
 
 // Runs every sheet of the list.
@@ -254,28 +256,40 @@ fn replay(list: &[u8], buffer: &mut [u8]) -> Tally
 }
 
 // The counts, or that the list is odd.
-fn print_replay(list: &[u8]) {
+fn print_replay(rt: &impl Print, list: &[u8]) -> io::Result<()> {
     let mut buffer = [0u8; 65536];
     match replay(list, &mut buffer) {
-        Tally::Whole(counts) => counts.print(),
-        Tally::Odd => print_unreadable(),
+        Tally::Whole(counts) => counts.print(rt),
+        Tally::Odd => print_unreadable(rt),
     }
 }
 
 // In place of the counts.
-fn print_unreadable() {
-    io::write_all(STDOUT_FILENO, b"unreadable\n");
+fn print_unreadable(rt: &impl Print) -> io::Result<()> {
+    println!(rt; "unreadable")
+}
+
+// Reads the file.
+fn read_list(rt: &HostRuntime, space: &mut [u8]) -> Input
+    ensures { InputWithin space.new result }
+{
+    match File::open(rt, "replay.bin") {
+        Ok(mut file) => read_input(&mut file, space),
+        Err(_) => Input::Failed,
+    }
 }
 
 // A file that is absent reads as an empty list, and one that fills the space may be longer: both are unreadable.
-fn main() {
+fn main(rt: HostRuntime) -> io::Result<()> {
     let mut space = [0u8; SPACE];
-    let fd = os::open_read(b"replay.bin");
-    let n = io::read_full(fd, &mut space);
-    libc::close(fd);
-    if n < SPACE {
-        print_replay(&space[..n]);
-    } else {
-        print_unreadable();
+    match read_list(&rt, &mut space) {
+        Input::Bytes(n) => {
+            if n < SPACE {
+                print_replay(&rt, &space[..n])
+            } else {
+                print_unreadable(&rt)
+            }
+        }
+        Input::Failed => print_unreadable(&rt),
     }
 }

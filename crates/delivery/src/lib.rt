@@ -57,8 +57,7 @@ fn pack(order: LoadOrder) -> u64
 }
 
 // The order function for C.
-#[unsafe(no_mangle)]
-pub extern "C" fn delivery_order(delivery: &[u8], work: &mut [u8]) -> u64
+pub fn delivery_order(delivery: &[u8], work: &mut [u8]) -> u64
     ensures { (o : LoadOrder) × OrderPromised delivery.now (length work.old) o work.new × (result ≡ packed o) }
 {
     pack(order(delivery, work))

@@ -164,23 +164,20 @@ fn pack_turn(answer: Turned) -> u64
 }
 
 // The three functions for C.
-#[unsafe(no_mangle)]
-pub extern "C" fn desk_fresh(block: &mut [u32; NUMBERS])
+pub fn desk_fresh(block: &mut [u32; NUMBERS])
     ensures { Stands [] block.new × Fair }
 {
     fresh(block);
 }
 
-#[unsafe(no_mangle)]
-pub extern "C" fn desk_hand_in(block: &mut [u32; NUMBERS], depositor: u32, sheet: u32) -> u32
+pub fn desk_hand_in(block: &mut [u32; NUMBERS], depositor: u32, sheet: u32) -> u32
     ensures { (a : HandedIn) × Does (hand_in depositor sheet) block.old (handed_in_as depositor sheet a) block.new
         × (result ≡ handed_in_number a) }
 {
     pack_hand_in(hand_in(block, depositor, sheet))
 }
 
-#[unsafe(no_mangle)]
-pub extern "C" fn desk_turn(block: &mut [u32; NUMBERS]) -> u64
+pub fn desk_turn(block: &mut [u32; NUMBERS]) -> u64
     ensures { (a : Turned) × Does turn block.old (turned_as a) block.new × (result ≡ turned_number a) }
 {
     pack_turn(turn(block))

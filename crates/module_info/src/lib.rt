@@ -277,8 +277,7 @@ fn pack(outcome: Outcome) -> u64
 }
 
 // The report function for C: number + 256 × length, and the buffer filled.
-#[unsafe(no_mangle)]
-pub extern "C" fn module_info_answer(sheet: &[u8], buffer: &mut [u8]) -> u64
+pub fn module_info_answer(sheet: &[u8], buffer: &mut [u8]) -> u64
     ensures { (o : Outcome) × Demands sheet.now (length buffer.old) o buffer.new
         × (result ≡ packed (outcome_as o buffer.new)) }
 {
@@ -286,8 +285,7 @@ pub extern "C" fn module_info_answer(sheet: &[u8], buffer: &mut [u8]) -> u64
 }
 
 // The same with the notes, for C.
-#[unsafe(no_mangle)]
-pub extern "C" fn module_info_with_replaced_answer(
+pub fn module_info_with_replaced_answer(
     sheet: &[u8],
     buffer: &mut [u8],
     notes: &mut [usize],

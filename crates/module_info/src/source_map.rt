@@ -135,8 +135,7 @@ fn pack_source_map(answer: SourceMap) -> u64
 }
 
 // The question for C: the number, and six places: from and to in the sheet, line, column, line, column; zeros where nothing is found.
-#[unsafe(no_mangle)]
-pub extern "C" fn module_info_source_map(sheet: &[u8], places: &mut [u64; 6]) -> u64
+pub fn module_info_source_map(sheet: &[u8], places: &mut [u64; 6]) -> u64
     ensures { (answer : SourceMap) × SourceMapRight sheet.now answer × (result ≡ map_number answer)
         × (places.new ≡ map_places answer) }
 {

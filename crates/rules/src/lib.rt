@@ -229,8 +229,7 @@ fn ruled_number(answer: Ruled) -> u64
 }
 
 // The same for C: the number, and two lengths, the report's and that of the rules.
-#[unsafe(no_mangle)]
-pub extern "C" fn module_info_with_rules(
+pub fn module_info_with_rules(
     sheet: &[u8],
     buffer: &mut [u8],
     rules: &mut [u8],

@@ -63,8 +63,7 @@ pub fn scan_sum(body: &[u8]) -> ScanSum
 }
 
 // The same for C, as one number: 0 for nothing, else the sum and 1.
-#[unsafe(no_mangle)]
-pub extern "C" fn scan_sum_answer(body: &[u8]) -> u64
+pub fn scan_sum_answer(body: &[u8]) -> u64
     ensures { result ≡ packed (scanned body.now) }
 {
     match scan_sum(body) {

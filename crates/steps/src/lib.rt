@@ -149,8 +149,7 @@ fn words_of(answer: Answer) -> [u64; 4]
 }
 
 // `match_row` for C. Its answer is four numbers: 0 where nothing is found; 1, 1 if it stands in marks, from where, to where; or 2, and what is wrong.
-#[unsafe(no_mangle)]
-pub extern "C" fn steps_match(table: &[u8], body: &[u8], out: &mut [u64; 4])
+pub fn steps_match(table: &[u8], body: &[u8], out: &mut [u64; 4])
     ensures { (a : Answer) × Stepped table.now body.now a × (out.new ≡ words_of a) }
 {
     let words = words_of(match_row(table, body));

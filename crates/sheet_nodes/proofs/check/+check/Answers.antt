@@ -1,50 +1,20 @@
-use Rattle.laws.proofs.Decoding.{on_ok_no}
-use Rattle.laws.proofs.Prelude.{ap, ◌∙◌, arith, length, drop, told, bounded, told_of}
-use Rattle.laws.proofs.Prelude.{arith, length, drop, told, bounded, told_of}
-use Rattle.laws.proofs.Prelude.{refl, [], Option, true, false, ◌+◌, arith, length, drop, told, bounded}
-use Rattle.laws.proofs.Prelude.{sym, ap, arith, length, drop, told, bounded}
-use Rattle.laws.proofs.Prelude.{sym, ◌∙◌, arith, drop, told, bounded}
-use Rattle.laws.proofs.Prelude.{sym, ◌∙◌, ℕ, arith, drop, told, bounded}
-use Rattle.laws.proofs.Prelude.{◌∙◌, ℕ, ◌-◌, arith, rules, length, drop, told, bounded, told_of}
-use Rattle.laws.specs.Decoded.{on_ok}
-use Rattle.laws.{specs.Decoded.on_ok, specs.Decoded.◌>>=◌, proofs.Decoding.on_ok_no, proofs.Decoding.then_no}
-use Rattle.sheet.specs.Nodes.{many, piece, node, nodes, properties, attributes_object}
-use Rattle.sheet.specs.Nodes.{node, nodes, arguments, call_rest}
-use Rattle.sheet.specs.Nodes.{node, nodes, attributes, type_rest, attributes_object}
-use Rattle.sheet.specs.Nodes.{node, nodes}
-use Rattle.sheet.specs.Nodes.{node, properties}
-use Rattle.sheet.specs.Nodes.{node}
+-- The check of a node: each answer is what the definition says, and the recursion ends, since the levels left fall.
+use Rattle.laws.proofs.Decoding.{on_ok_no, then_no}
+use Rattle.laws.proofs.Prelude.{Option, [], ap, arith, bounded, drop, false, length, refl, rules, sym, told, told_of, true, ℕ, ◌+◌, ◌-◌, ◌∙◌}
+use Rattle.laws.specs.Decoded.{on_ok, ◌>>=◌}
+use Rattle.sheet.specs.Nodes.{arguments, attributes, attributes_object, call_rest, many, node, nodes, piece, properties, type_rest}
 use Rattle.sheet.specs.Shape.{any_uncooked}
-use Rattle.sheet.specs.Tree.{other, object, import_decl, export_from, export_all, module_decl}
-use Rattle.sheet_heads.proofs.ByHead.{attributes_by_head}
-use Rattle.sheet_heads.proofs.ByHead.{node_by_head}
-use Rattle.sheet_heads.proofs.ByHead.{property_by_head}
-use Rattle.sheet_heads.specs.code.{Rest.behind, Views.quoted_of}
-use Rattle.sheet_nodes.proofs.Arms.{holds, holds_plain, template_holds, binary_holds, is_entry, import_call_holds, call_of_holds, typed_holds}
-use Rattle.sheet_nodes.proofs.Loops.{arguments_all, arguments_step, arguments_stop, arguments_cut, arguments_end}
-use Rattle.sheet_nodes.proofs.Loops.{nodes_all, nodes_step, nodes_stop, nodes_end}
-use Rattle.sheet_nodes.proofs.Loops.{properties_all, properties_step, properties_stop, properties_end}
-use Rattle.sheet_nodes.proofs.Rooms.{room, room_passed, leaf_past, entry_past, holding_past, called_past}
-use Rattle.sheet_nodes.proofs.Rooms.{whole_past}
-use Rattle.sheet_nodes.proofs.check.+check.Goals as goal
-use Rattle.sheet_nodes.proofs.check.check_arguments.Reads as check-arguments
-use Rattle.sheet_nodes.proofs.check.check_attributes.Reads as check-attributes
-use Rattle.sheet_nodes.proofs.{Arms.object_holds, Rooms.tally_past}
-use Rattle.sheet_nodes.proofs.{Arms.pair, Arms.arguments_nodes, Rooms.room, Rooms.nodes_past}
-use Rattle.sheet_nodes.proofs.{Arms.pair, Arms.nodes_attributes, Rooms.room, Rooms.joined_past}
-use Rattle.sheet_nodes.proofs.{Arms.property_holds, Rooms.tally_past}
-use Rattle.sheet_nodes.specs.code.Tallies.{node_tally, tally_all, tally_in, tally_with, import_callee}
-use Rattle.sheet_nodes.specs.code.Tallies.{passed, passed_all}
-use Rattle.sheet_nodes.specs.code.Tallies.{tally_all, tally_typed}
-use Rattle.sheet_nodes.specs.code.Tallies.{tally_all}
+use Rattle.sheet.specs.Tree.{export_all, export_from, import_decl, module_decl, object, other}
+use Rattle.sheet_heads.proofs.ByHead.{attributes_by_head, node_by_head, property_by_head}
+use Rattle.sheet_heads.specs.code.Rest.{behind}
+use Rattle.sheet_heads.specs.code.Views.{quoted_of}
+use Rattle.sheet_nodes.proofs.Arms.{arguments_nodes, binary_holds, call_of_holds, holds, holds_plain, import_call_holds, is_entry, nodes_attributes, object_holds, pair, property_holds, template_holds, typed_holds}
+use Rattle.sheet_nodes.proofs.Loops.{arguments_all, arguments_cut, arguments_end, arguments_step, arguments_stop, nodes_all, nodes_end, nodes_step, nodes_stop, properties_all, properties_end, properties_step, properties_stop}
+use Rattle.sheet_nodes.proofs.Rooms.{called_past, entry_past, holding_past, joined_past, leaf_past, nodes_past, room, room_passed, tally_past, whole_past}
+use Rattle.sheet_nodes.specs.code.Tallies.{import_callee, node_tally, passed, passed_all, tally_all, tally_in, tally_typed, tally_with}
 use Rattle.wire.specs.Number.{number}
-use check-cycle.Lts-check_arguments as check-arguments-lts
-use check-cycle.Lts-check_attributes as check-attributes-lts
-use check-cycle.Proof.Calls.{check-arguments-at, check-arguments-calls}
-use check-cycle.Proof.Calls.{check-attributes-at, check-attributes-calls}
+use Rattle.sheet_nodes.proofs.check.+check.Goals as goal
 
--- measure: abbrev pub μ-loop : check-arguments-lts.decreases-loop
--- μ-loop sheet source count levels left₀ at₀ total₀ left at total = left
 -- `check_arguments`: what was found so far, with what is found in the arguments to come, is what is found in all.
 
 pub check_arguments-returns-in-Refused : goal.check_arguments-returns-in-Refused
@@ -76,12 +46,10 @@ check_arguments-returns-in-Refused-check_node t c =
       bounds = tt;
     }
 
-pub add-argument-requires : (t : ℕ) →
-    check-arguments-lts.Need-add-argument-requires (check-arguments-calls t) (check-arguments-at t) check-arguments.Post Inv-loop μ-loop
-add-argument-requires t c κs =
-    let at_next = c.before.before.before.before.before in
-    let p1 = bounded at_next.before.before.read-argument.ensures at_next.next.given.1 in
-    let p2 = bounded c.before.before.before.check-node.ensures c.before.j.given.1 in
+pub check_arguments-add_argument-total-requires : goal.check_arguments-add_argument-total-requires
+check_arguments-add_argument-total-requires t c =
+    let p1 = bounded c.read_argument.ensures c.in-Is.is in
+    let p2 = bounded c.check_node.ensures c.in-Is-check_node.is in
     omega arith
 
 pub check_arguments-loop-left-preserved : goal.check_arguments-loop-left-preserved
@@ -115,17 +83,14 @@ check_arguments-returns t c =
       bounds = (l.invariant.1, l.invariant.0);
     }
 
--- The measures of the members of the cycle, and what the callees of each ask and give.
-
 -- `check_attributes`: an Object that holds attributes is its head and its properties.
 
 pub check_attributes-overflow_sub-levels : goal.check_attributes-overflow_sub-levels
 check_attributes-overflow_sub-levels t c = (bounded c.read_attributes.ensures c.in-Is.is).0
 
-pub check-properties-requires : (t : ℕ) →
-    check-attributes-lts.Need-check-properties-requires (check-attributes-calls t) (check-attributes-at t) check-attributes.Post
-check-properties-requires t c κs =
-    let past = bounded c.before.before.before.read-attributes.ensures c.before.n.given.1 in
+pub check_attributes-check_properties-requires : goal.check_attributes-check_properties-requires
+check_attributes-check_properties-requires t c =
+    let past = bounded c.read_attributes.ensures c.in-Is.is in
     (omega arith, past.2)
 
 pub check_attributes-returns-in-Refused : goal.check_attributes-returns-in-Refused
@@ -159,8 +124,6 @@ check_attributes-returns-in-Is t c =
 pub check_attributes-returns : goal.check_attributes-returns
 check_attributes-returns t c = record { answer = rw c.if-has_object.false; bounds = search rules }
 
--- The measures of the members of the cycle, and what the callees of each ask and give.
-
 -- `check_call`: what is found in a call besides its callee is what is found in its arguments and in its further children.
 
 pub check_call-check_arguments-requires : goal.check_call-check_arguments-requires
@@ -188,8 +151,9 @@ unfolding call_rest
 check_call-returns-in-Refused-check_arguments t c =
     let a = c.args in
     let s = a.sheet.now in
-    let (n, next) = c.n-1.given.0 in
-    let xs = arguments (node a.source.now a.levels) a.source.now n (drop next.0.at s) in
+    let n = c.in-Value.n in
+    let next = c.in-Value.next in
+    let xs = arguments (node a.source.now a.levels) a.source.now n (drop next.at s) in
     record {
       answer = rw (
         told c.number.ensures c.in-Value.is,
@@ -204,8 +168,9 @@ check_call-returns-in-Refused-number t c =
     let a = c.args in
     let s = a.sheet.now in
     let inner = node a.source.now a.levels in
-    let (n, next) = c.n-1.given.0 in
-    let xs = arguments inner a.source.now n (drop next.0.at s) in
+    let n = c.in-Value.n in
+    let next = c.in-Value.next in
+    let xs = arguments inner a.source.now n (drop next.at s) in
     let cut = told c.number-in-Is.ensures c.in-Refused-number.is in
     let none = then_no passed xs (told c.check_arguments.ensures c.in-Is.is)
     (λ xs. number >>= λ m. nodes inner m >>= pair xs) c.in-Refused-number.r (λ xs. rw cut) in
@@ -217,8 +182,9 @@ check_call-returns-in-Value-number t c =
     let a = c.args in
     let s = a.sheet.now in
     let inner = node a.source.now a.levels in
-    let (n, next) = c.n-1.given.0 in
-    let xs = arguments inner a.source.now n (drop next.0.at s) in
+    let n = c.in-Value.n in
+    let next = c.in-Value.next in
+    let xs = arguments inner a.source.now n (drop next.at s) in
     let p1 = bounded c.number.ensures c.in-Value.is in
     let p2 = bounded c.check_arguments.ensures c.in-Is.is in
     let p3 = bounded c.number-in-Is.ensures c.in-Value-number.is in
@@ -229,10 +195,6 @@ check_call-returns-in-Value-number t c =
           (told c.number-in-Is.ensures c.in-Value-number.is) y c.check_nodes.ensures.answer);
       bounds = nodes_past a.c.at (length s) _ c.in-Is.p y (omega arith) c.check_nodes.ensures.bounds;
     })
-
--- The measures of the members of the cycle, and what the callees of each ask and give.
-
--- The measures of the members of the cycle, and what the callees of each ask and give.
 
 -- `check_node`: a node is its head and what follows it.
 
@@ -269,10 +231,6 @@ check_node-returns-in-Is t c =
       bounds = whole_past a.c.at (length s) _ c.check_rest.result (omega arith) c.check_rest.ensures.bounds;
     }
 
--- The measures of the members of the cycle, and what the callees of each ask and give.
-
--- measure: abbrev pub μ-loop : check-nodes-lts.decreases-loop
--- μ-loop sheet source count levels left₀ at₀ total₀ left at total = left
 -- `check_nodes`: what was found so far, with what is found in the nodes to come, is what is found in all.
 
 pub check_nodes-returns-in-Refused : goal.check_nodes-returns-in-Refused
@@ -316,10 +274,6 @@ check_nodes-returns t c =
       bounds = (l.invariant.1, l.invariant.0);
     }
 
--- The measures of the members of the cycle, and what the callees of each ask and give.
-
--- measure: abbrev pub μ-loop : check-properties-lts.decreases-loop
--- μ-loop sheet source count levels left₀ at₀ total₀ left at total = left
 -- `check_properties`: what was found so far, with what is found in the properties to come, is what is found in all.
 
 pub check_properties-returns-in-Refused : goal.check_properties-returns-in-Refused
@@ -363,8 +317,6 @@ check_properties-returns t c =
       bounds = (l.invariant.1, l.invariant.0);
     }
 
--- The measures of the members of the cycle, and what the callees of each ask and give.
-
 -- `check_property`: a property is its head and one node, or two.
 
 pub check_property-check_nodes-requires : goal.check_property-check_nodes-requires
@@ -400,8 +352,6 @@ check_property-returns-in-Is t c =
       bounds = tally_past a.c.at (length s) _ past.bounds.0 c.check_nodes.result c.check_nodes.ensures.bounds;
     }
 
--- The measures of the members of the cycle, and what the callees of each ask and give.
-
 -- `check_rest`: what is found in a node, by its head, from what is found in the nodes that it holds.
 
 pub check_rest-holding-requires : goal.check_rest-holding-requires
@@ -409,22 +359,22 @@ check_rest-holding-requires t c = room _ _ 1 c.check_nodes.result (omega arith) 
 
 pub check_rest-slice_bounds-is_require-count : goal.check_rest-slice_bounds-is_require-count
 check_rest-slice_bounds-is_require-count t c =
-    let w = rw c.in-Name.is at c.requires.1.2 in
+    let w = rw c.in-Name.is at c.requires.2 in
     omega arith
 
 pub check_rest-slice_bounds-is_require-start : goal.check_rest-slice_bounds-is_require-start
 check_rest-slice_bounds-is_require-start t c =
-    let w = rw c.in-Name.is at c.requires.1.2 in
+    let w = rw c.in-Name.is at c.requires.2 in
     omega arith
 
 pub check_rest-slice_bounds-is_require-end : goal.check_rest-slice_bounds-is_require-end
 check_rest-slice_bounds-is_require-end t c =
-    let w = rw c.in-Name.is at c.requires.1.2 in
+    let w = rw c.in-Name.is at c.requires.2 in
     omega arith
 
 pub check_rest-overflow_add-n : goal.check_rest-overflow_add-n
 check_rest-overflow_add-n t c =
-    let w = rw c.in-Template.is at c.requires.1.2 in
+    let w = rw c.in-Template.is at c.requires.2 in
     omega arith
 
 pub check_rest-check_nodes-requires-in-Is : goal.check_rest-check_nodes-requires-in-Is
@@ -458,7 +408,7 @@ pub check_rest-holding-requires-in-Module : goal.check_rest-holding-requires-in-
 check_rest-holding-requires-in-Module t c = room _ _ 1 c.check_nodes-in-Module.result (omega arith) c.check_nodes-in-Module.ensures.bounds
 
 pub check_rest-declares-own-requires : goal.check_rest-declares-own-requires
-check_rest-declares-own-requires t c = rw c.in-NamedModule.is at c.requires.1.2
+check_rest-declares-own-requires t c = rw c.in-NamedModule.is at c.requires.2
 
 pub check_rest-holding-requires-in-NamedModule : goal.check_rest-holding-requires-in-NamedModule
 check_rest-holding-requires-in-NamedModule t c = room _ _ 1 c.check_nodes-in-NamedModule.result (omega arith) c.check_nodes-in-NamedModule.ensures.bounds
@@ -484,7 +434,7 @@ check_rest-returns-in-String t c =
     let a = c.args in
     record {
       answer = λ sp. rw (c.in-String.is, c.leaf.ensures);
-      bounds = rw c.leaf.ensures (leaf_past a.c.at (length a.sheet.now) false false a.c (omega arith) c.requires.1.1);
+      bounds = rw c.leaf.ensures (leaf_past a.c.at (length a.sheet.now) false false a.c (omega arith) c.requires.1);
     }
 
 pub check_rest-returns-in-Name : goal.check_rest-returns-in-Name
@@ -493,7 +443,7 @@ check_rest-returns-in-Name t c =
     record {
       answer = λ sp. rw (c.in-Name.is, c.leaf-in-Name.ensures, c.is_require.ensures);
       bounds = rw c.leaf-in-Name.ensures
-          (leaf_past a.c.at (length a.sheet.now) false c.is_require.result a.c (omega arith) c.requires.1.1);
+          (leaf_past a.c.at (length a.sheet.now) false c.is_require.result a.c (omega arith) c.requires.1);
     }
 
 pub check_rest-returns-in-Refused : goal.check_rest-returns-in-Refused
@@ -615,14 +565,14 @@ pub check_rest-returns-in-Import : goal.check_rest-returns-in-Import
 check_rest-returns-in-Import t c =
     let a = c.args in
     let s = a.sheet.now in
-    let h = c.head-in-Import-1.given.0 in
+    let h = c.in-Import in
     let y = c.check_attributes.result in
     record {
       answer = λ sp. rw (
         c.in-Import.is,
         c.entry_only.ensures,
-      ) (is_entry s tally_with (import_decl sp h.0 h.1.0 h.1.1.0 (quoted_of s h.1.1.1.0))
-          (behind h.1.1.1.1.0 (attributes_object a.source.now a.levels) (drop a.c.at s)) y c.check_attributes.ensures.answer
+      ) (is_entry s tally_with (import_decl sp h.type_only h.phase h.side_effect (quoted_of s h.specifier))
+          (behind h.has_object (attributes_object a.source.now a.levels) (drop a.c.at s)) y c.check_attributes.ensures.answer
           (λ a. refl));
       bounds = rw c.entry_only.ensures (entry_past a.c.at (length s) y c.check_attributes.ensures.bounds);
     }
@@ -632,21 +582,21 @@ check_rest-returns-in-NamedExport t c =
     let a = c.args in
     record {
       answer = λ sp. rw (c.in-NamedExport.is, c.leaf-in-NamedExport.ensures);
-      bounds = rw c.leaf-in-NamedExport.ensures (leaf_past a.c.at (length a.sheet.now) false false a.c (omega arith) c.requires.1.1);
+      bounds = rw c.leaf-in-NamedExport.ensures (leaf_past a.c.at (length a.sheet.now) false false a.c (omega arith) c.requires.1);
     }
 
 pub check_rest-returns-in-ExportFrom : goal.check_rest-returns-in-ExportFrom
 check_rest-returns-in-ExportFrom t c =
     let a = c.args in
     let s = a.sheet.now in
-    let h = c.head-in-ExportFrom-1.given.0 in
+    let h = c.in-ExportFrom in
     let y = c.check_attributes-in-ExportFrom.result in
     record {
       answer = λ sp. rw (
         c.in-ExportFrom.is,
         c.entry_only-in-ExportFrom.ensures,
-      ) (is_entry s tally_with (export_from sp h.0 (quoted_of s h.1.0))
-          (behind h.1.1.0 (attributes_object a.source.now a.levels) (drop a.c.at s)) y c.check_attributes-in-ExportFrom.ensures.answer
+      ) (is_entry s tally_with (export_from sp h.type_only (quoted_of s h.specifier))
+          (behind h.has_object (attributes_object a.source.now a.levels) (drop a.c.at s)) y c.check_attributes-in-ExportFrom.ensures.answer
           (λ a. refl));
       bounds = rw c.entry_only-in-ExportFrom.ensures (entry_past a.c.at (length s) y c.check_attributes-in-ExportFrom.ensures.bounds);
     }
@@ -655,14 +605,14 @@ pub check_rest-returns-in-ExportAll : goal.check_rest-returns-in-ExportAll
 check_rest-returns-in-ExportAll t c =
     let a = c.args in
     let s = a.sheet.now in
-    let h = c.head-in-ExportAll-1.given.0 in
+    let h = c.in-ExportAll in
     let y = c.check_attributes-in-ExportAll.result in
     record {
       answer = λ sp. rw (
         c.in-ExportAll.is,
         c.entry_only-in-ExportAll.ensures,
-      ) (is_entry s tally_with (export_all sp h.0 (quoted_of s h.1.0))
-          (behind h.1.1.0 (attributes_object a.source.now a.levels) (drop a.c.at s)) y c.check_attributes-in-ExportAll.ensures.answer
+      ) (is_entry s tally_with (export_all sp h.type_only (quoted_of s h.specifier))
+          (behind h.has_object (attributes_object a.source.now a.levels) (drop a.c.at s)) y c.check_attributes-in-ExportAll.ensures.answer
           (λ a. refl));
       bounds = rw c.entry_only-in-ExportAll.ensures (entry_past a.c.at (length s) y c.check_attributes-in-ExportAll.ensures.bounds);
     }
@@ -689,7 +639,7 @@ check_rest-returns-in-ImportEquals t c =
     let a = c.args in
     record {
       answer = λ sp. rw (c.in-ImportEquals.is, c.leaf-in-ImportEquals.ensures);
-      bounds = rw c.leaf-in-ImportEquals.ensures (leaf_past a.c.at (length a.sheet.now) false false a.c (omega arith) c.requires.1.1);
+      bounds = rw c.leaf-in-ImportEquals.ensures (leaf_past a.c.at (length a.sheet.now) false false a.c (omega arith) c.requires.1);
     }
 
 pub check_rest-returns-in-ImportRequire : goal.check_rest-returns-in-ImportRequire
@@ -697,7 +647,7 @@ check_rest-returns-in-ImportRequire t c =
     let a = c.args in
     record {
       answer = λ sp. rw (c.in-ImportRequire.is, c.leaf-in-ImportRequire.ensures);
-      bounds = rw c.leaf-in-ImportRequire.ensures (leaf_past a.c.at (length a.sheet.now) true false a.c (omega arith) c.requires.1.1);
+      bounds = rw c.leaf-in-ImportRequire.ensures (leaf_past a.c.at (length a.sheet.now) true false a.c (omega arith) c.requires.1);
     }
 
 pub check_rest-returns-in-Module : goal.check_rest-returns-in-Module
@@ -732,8 +682,6 @@ check_rest-returns-in-NamedModule t c =
           f _ false (λ ns. rw c.declares-own.ensures));
       bounds = rw c.holding-in-NamedModule.ensures (holding_past a.c.at (length s) a.c.at (omega arith) _ false y c.check_nodes-in-NamedModule.ensures.bounds);
     }
-
--- The measures of the members of the cycle, and what the callees of each ask and give.
 
 -- `check_typed`: what is found in an import type is what is found in its children and in its attributes.
 

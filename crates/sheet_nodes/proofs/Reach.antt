@@ -1,7 +1,5 @@
 -- How far the entries of the root's children reach, child by child.
 use Rattle.laws.proofs.Prelude.{◌≡◌, refl, sym, ap, ◌∙◌, List, [], ◌∷◌, ℕ, zero, suc, ◌+◌, ◌-◌, ◌≤◌, ◌<◌, arith, drop, seen}
-use types.Run.{OneOf, miss}
-use denote.Enum.Declared.{tag_of}
 use Rattle.laws.specs.Decoded.{ok, on_ok, Decoder}
 use Rattle.laws.proofs.Answers.{Yields, ends, behind}
 use Rattle.laws.proofs.Decoding.{then_ok, on_ok_ok}
@@ -14,7 +12,6 @@ use Rattle.sheet_heads.specs.declared.node.Head.TheVariants as head
 use Rattle.sheet_heads.specs.declared.node.HeadRead.TheVariants as head_read
 use Rattle.sheet_heads.specs.code.Head as heads
 use Rattle.sheet_heads.{specs.code.Views.head_of, specs.code.Views.head_as, proofs.ByHead.behind_head, proofs.Many.many_next, proofs.Many.many_end}
-use Rattle.sheet_heads.specs.contracts.node.Head.{the_type}
 use Rattle.sheet_nodes.specs.{declared.tally.NodeTally.NodeTally, code.Tallies.node_tally}
 use Rattle.sheet_nodes.specs.code.Reach.{Reaches, quiet, past, ReachesIn, furthest}
 use Rattle.sheet_nodes.proofs.Loops.{node_item}
@@ -81,9 +78,9 @@ module _ (inner : Decoder Node) (count : ℕ) (u : List ℕ) where
         let (coming, others, kept) = so_far ns t whole in
         kept.here (ap (walk_all counting) (many_end none (node_item inner) left v h others))
 
--- the variants besides Other
-abbrev others : List ℕ
-others = 1 ∷ 2 ∷ 3 ∷ 4 ∷ 5 ∷ 6 ∷ 7 ∷ 8 ∷ 9 ∷ 10 ∷ 11 ∷ 12 ∷ 13 ∷ 14 ∷ 15 ∷ 16 ∷ []
+-- a head of a variant besides Other
+abbrev NoOther : Head → Type 0
+NoOther x = (n : ℕ) → x ≡ head.Other n → ⊥
 
 -- of a node that is no Other nothing is said
 unlike : {n : Node} → ((sp : Span) (ns : Nodes) → n ≡ other sp ns → ◌≡◌ {A = ℕ} 0 1) → ReachesIn 0 n
@@ -96,8 +93,8 @@ module _ (s source : List ℕ) (levels : ℕ) (sp : Span) where
   abbrev object' : Decoder Attributes
   object' = attributes_object source levels
 
-  no_other : (x : Head) → OneOf others (tag_of the_type x) → Yields (ReachesIn 0) (rest source levels (sp, head_of s x))
-  no_other (head.Other n) k = absurd (miss others 0 tt k)
+  no_other : (x : Head) → NoOther x → Yields (ReachesIn 0) (rest source levels (sp, head_of s x))
+  no_other (head.Other n) k = absurd (k n refl)
   no_other (head.String from to) k = ends (unlike λ sp ns e. cc)
   no_other (head.Name from to) k = ends (unlike λ sp ns e. cc)
   no_other (head.Template holes) k = behind (many [] piece (holes + 1)) λ ps. behind (nodes inner holes) λ ns. ends (unlike λ sp ns e. cc)
@@ -135,5 +132,5 @@ module _ (s source : List ℕ) (at levels : ℕ) {r : HeadRead} {sp : Span} {x :
       let same : ns ≡ ns' = cc in
       rw (← same) (reaches ns t read)
 
-  pub unlike_reaches : OneOf others (tag_of the_type x) → ReachesIn 0 n
+  pub unlike_reaches : NoOther x → ReachesIn 0 n
   unlike_reaches k = rw follows at ((no_other s source (levels - 1) sp x k).at (drop next.at s))

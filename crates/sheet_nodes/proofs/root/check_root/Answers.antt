@@ -63,5 +63,5 @@ returns-in_default c =
     record {
       answer = c.check_node-checked.ensures.answer;
       bounds = c.check_node-checked.ensures.bounds;
-      reach = λ n t e. unlike_reaches a.sheet.now a.source.now a.c.at a.levels says is e (let h = c.in_default in ?);
+      reach = λ n t e. unlike_reaches a.sheet.now a.source.now a.c.at a.levels says is e c.in_default.not-Other;
     }

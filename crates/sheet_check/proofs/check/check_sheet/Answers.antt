@@ -19,9 +19,10 @@ pub returns-in-Refused-check_tree : goal.returns-in-Refused-check_tree
 returns-in-Refused-check_tree c =
     let s = c.args.sheet.now in
     let tables = c.read_front.new.tables in
-    let (t, next) = c.t-1.given.0 in
+    let t = c.in-Is.t in
+    let next = c.in-Is.next in
     record {
-      answer = refused_tree s (omega (arith, c.if-sheet-gt-SHEET_LIMIT.false)) (comments_part tables) (groups_part tables) t next.0.at
+      answer = refused_tree s (omega (arith, c.if-sheet-gt-SHEET_LIMIT.false)) (comments_part tables) (groups_part tables) t next.at
           (sym (rw c.in-Is.is at c.read_front.ensures.answer))
           (rw c.in-Refused-check_tree.is at c.check_tree.ensures);
       left = search rules;
@@ -30,9 +31,10 @@ returns-in-Refused-check_tree c =
 pub returns-in-Is-check_tree : goal.returns-in-Is-check_tree
 returns-in-Is-check_tree c =
     let s = c.args.sheet.now in
-    let (t, next) = c.t-1.given.0 in
+    let t = c.in-Is.t in
+    let next = c.in-Is.next in
     record {
-      answer = accepts s (omega (arith, c.if-sheet-gt-SHEET_LIMIT.false)) _ _ t next.0.at
+      answer = accepts s (omega (arith, c.if-sheet-gt-SHEET_LIMIT.false)) _ _ t next.at
           (sym (rw c.in-Is.is at c.read_front.ensures.answer))
           c.in-Is-check_tree.tree (rw c.in-Is.is at c.read_front.ensures.bounds)
           (rw c.in-Is-check_tree.is at c.check_tree.ensures);

@@ -13,15 +13,16 @@ read_groups-requires c =
     )
 
 pub is_covered-requires : goal.is_covered-requires
-is_covered-requires c = (
-  omega (
-    arith,
-    ((count_codec group_limit).sound _ _ _ (told c.count.ensures c.in-Value.is)).1.0,
-    c.read_groups.auto.table,
-    c.requires.group_numbers_in_bounds,
-  ),
-  c.requires.n_in_bounds,
-)
+is_covered-requires c =
+    record {
+      m_in_bounds = omega (
+        arith,
+        ((count_codec group_limit).sound _ _ _ (told c.count.ensures c.in-Value.is)).1.0,
+        c.read_groups.auto.table,
+        c.requires.group_numbers_in_bounds,
+      );
+      n_in_bounds = c.requires.n_in_bounds;
+    }
 
 pub returns-in-Refused : goal.returns-in-Refused
 unfolding group_fields

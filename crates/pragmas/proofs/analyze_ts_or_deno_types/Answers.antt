@@ -5,6 +5,16 @@ use Rattle.sheet.proofs.Members.{row_placed, group_last, found_reaching}
 use Rattle.pragmas.specs.Pragmas.{types_in}
 use Rattle.pragmas.proofs.analyze_ts_or_deno_types.Goals as goal
 
+pub overflow_sub-g : goal.overflow_sub-g
+overflow_sub-g c =
+    let r = found_reaching c.requires.grouped_in.grouped Leading c.args.start (seen found_as c.find_group.ensures c.in-At.is) in
+    omega arith
+
+pub overflow_add-g : goal.overflow_add-g
+overflow_add-g c =
+    let r = found_reaching c.requires.grouped_in.grouped Leading c.args.start (seen found_as c.find_group.ensures c.in-At.is) in
+    omega arith
+
 pub comment_at-requires : goal.comment_at-requires
 comment_at-requires c =
     let r = found_reaching c.requires.grouped_in.grouped Leading c.args.start

@@ -18,7 +18,7 @@ loop-i-preserved c =
     let more = c.loop-i-test.true in
     let here = c.comment_at.ensures in
     let step = all_next (reference_origin a.source.now) a.comments.now l.i a.end more here in
-    (put.auto.1.1.0 ∙ l.invariant.0, l.invariant.1 ∙ rw (step, listed_each, wrote_append, ← put.ensures))
+    (put.auto.out ∙ l.invariant.0, l.invariant.1 ∙ rw (step, listed_each, wrote_append, ← put.ensures))
 
 pub returns : goal.returns
 unfolding flat_map

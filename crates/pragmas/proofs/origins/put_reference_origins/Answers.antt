@@ -6,19 +6,18 @@ use Rattle.pragmas.proofs.origins.put_reference_origins.Goals as goal
 
 pub overflow_add-g : goal.overflow_add-g
 overflow_add-g c =
-    omega (arith, rw c.in-At.is at c.requires.fit.1)
+    omega (arith, rw c.in-At.is at c.requires.reached)
 
 pub put_origins_between-requires : goal.put_origins_between-requires
 put_origins_between-requires c =
     let pre = c.requires in
-    let r = rw c.in-At.is at pre.1.1 in
-    record { n_in_bounds = (pre.0, omega arith, omega arith); fit = pre.1.0 }
+    let r = rw c.in-At.is at pre.reached in
+    record { n_in_bounds = (pre.n_in_bounds, omega arith, omega arith); fit = pre.fit }
 
 pub returns-in-At : goal.returns-in-At
 returns-in-At c =
-    let found = c.found-1.given in
-    let r = rw found.1 at c.requires.fit.1 in
-    rw (found.1, group_from c.args.comments.now c.args.n found.0.0 r) c.put_origins_between.ensures
+    let r = rw c.in-At.is at c.requires.reached in
+    rw (c.in-At.is, group_from c.args.comments.now c.args.n c.in-At.g r) c.put_origins_between.ensures
 
 pub returns-in-Nothing : goal.returns-in-Nothing
 unfolding all_of flat_map

@@ -6,6 +6,16 @@ use Rattle.pragmas.specs.Origins.{types_origins}
 use Rattle.pragmas.proofs.{Written.optional_each}
 use Rattle.pragmas.proofs.origins.put_types_origins.Goals as goal
 
+pub overflow_sub-g : goal.overflow_sub-g
+overflow_sub-g c =
+    let r = found_reaching c.requires.grouped_in.grouped Leading c.args.start (seen found_as c.find_group.ensures c.in-At.is) in
+    omega arith
+
+pub overflow_add-g : goal.overflow_add-g
+overflow_add-g c =
+    let r = found_reaching c.requires.grouped_in.grouped Leading c.args.start (seen found_as c.find_group.ensures c.in-At.is) in
+    omega arith
+
 pub comment_at-c-requires : goal.comment_at-c-requires
 comment_at-c-requires c =
     let found = seen found_as c.find_group.ensures c.in-At.is in

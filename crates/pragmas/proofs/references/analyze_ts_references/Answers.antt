@@ -12,7 +12,7 @@ overflow_add-end c =
 pub count_between-count-requires : goal.count_between-count-requires
 count_between-count-requires c =
     let r = rw c.in-At.is at c.requires.reached in
-    ((c.requires.commented.room, omega arith, omega arith), c.requires.commented.fit)
+    record { n_in_bounds = (c.requires.commented.room, omega arith, omega arith); fit = c.requires.commented.fit }
 
 pub put_between-requires : goal.put_between-requires
 put_between-requires c =

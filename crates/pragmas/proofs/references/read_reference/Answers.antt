@@ -17,7 +17,7 @@ returns-then-is_block c =
     record { answer = rw (known c.is_block.ensures c.if-is_block.true) (sym (neither slashes)); bounds = tt }
 
 pub body-text-requires : goal.body-text-requires
-body-text-requires c = let placed = c.requires in (holds_marks_lem _ _ placed, placed_within _ _ placed)
+body-text-requires c = let placed = c.requires in record { holds_marks = holds_marks_lem _ _ placed; end_in_bounds = placed_within _ _ placed }
 
 pub returns-in-At : goal.returns-in-At
 unfolding read_by mode_in reference

@@ -7,8 +7,6 @@ use Rattle.dep_entries.proofs.{Fields.dynamic_written}
 use Rattle.report.specs.ModuleInfo as info
 use Rattle.dep_entries.proofs.put_dynamic_entry.Goals as goal
 
--- unknown fields: pre
-
 -- `put_dynamic_entry`: the fields of the entry in turn.
 
 pub slice_bounds-index-end : goal.slice_bounds-index-end
@@ -16,7 +14,7 @@ slice_bounds-index-end c = c.requires.0.0
 
 pub put_span-place-requires : goal.put_span-place-requires
 put_span-place-requires c =
-    (c.pre.0.1.0.indexed, c.pre.1)
+    (c.requires.0.1.0.indexed, c.requires.1)
 
 pub put_attributes-requires : goal.put_attributes-requires
 put_attributes-requires c = c.parse_dynamic_import_attributes-attributes.ensures.bounds

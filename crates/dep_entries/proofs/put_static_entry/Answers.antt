@@ -7,13 +7,11 @@ use Rattle.dep_entries.proofs.{Fields.static_written}
 use Rattle.report.specs.ModuleInfo as info
 use Rattle.dep_entries.proofs.put_static_entry.Goals as goal
 
--- unknown fields: pre
-
 -- `put_static_entry`: the fields of the entry in turn.
 
 pub put_lossy_specifier-written-requires : goal.put_lossy_specifier-written-requires
 put_lossy_specifier-written-requires c =
-    (c.pre.0.1.0.indexed, c.pre.1.1)
+    (c.requires.0.1.0.indexed, c.requires.1.1)
 
 pub put_attributes-requires : goal.put_attributes-requires
 put_attributes-requires c = c.requires.2

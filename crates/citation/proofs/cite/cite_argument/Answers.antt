@@ -4,8 +4,6 @@ use Rattle.report.specs.Encode.{encode_range, encode_specifier, encode_argument}
 use Rattle.report_reader.proofs.FromBytes.{text_argument, parts_argument, no_argument}
 use Rattle.citation.proofs.cite.cite_argument.Goals as goal
 
--- needs: 11 now, 13 before
-
 pub returns-then-kind-eq1 : goal.returns-then-kind-eq1
 unfolding encode_specifier
 returns-then-kind-eq1 c =

@@ -16,7 +16,7 @@ loop-left-preserved c =
     let a = c.args in
     let i = c.loop-left in
     let item = c.cite_item-item in (
-      item.auto.1.1.1.1.1.0 ∙ i.invariant.0,
+      item.auto.out ∙ i.invariant.0,
       omega (arith, i.invariant.1, item.ensures.bounds, c.loop-left-test.true),
       omega (arith, i.invariant.2, c.loop-left-test.true),
       λ l v t e.

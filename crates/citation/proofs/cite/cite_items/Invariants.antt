@@ -11,11 +11,11 @@ invariant-loop-left l =
     (length l.out ≡ length l.initial.out)
     × (l.lines + 2 * l.left ≤ 2 * l.count)
     × (l.row + 2 * l.left ≡ 2 * l.count)
-    × ((l : List (Item l.kind)) → (length l ≡ l.count) × All (ValidItem l.kind) l → (t : List ℕ) → drop l.at l.report ≡ flat_map (encode_item l.kind) l ++ t
-    → (l' : List (Item l.kind)) × (done : List Line)
-    × Stand (encode_item l.kind) (ValidItem l.kind) l.report t l.next l.left l'
+    × ((xs : List (Item l.kind)) → (length xs ≡ l.count) × All (ValidItem l.kind) xs → (t : List ℕ) → drop l.at l.report ≡ flat_map (encode_item l.kind) xs ++ t
+    → (ys : List (Item l.kind)) × (done : List Line)
+    × Stand (encode_item l.kind) (ValidItem l.kind) l.report t l.next l.left ys
     × Printed l.source (buffer_as l.initial.out l.initial.p) done (buffer_as l.out l.p) l.lines
-    × (cite_each (cite_item l.kind) l.numbers l ≡ done ++ cite_each (cite_item l.kind) (drop l.row l.numbers) l'))
+    × (cite_each (cite_item l.kind) l.numbers xs ≡ done ++ cite_each (cite_item l.kind) (drop l.row l.numbers) ys))
 
 abbrev pub decreases-loop-left : goal.decreases-loop-left
 decreases-loop-left l = l.left

@@ -4,8 +4,6 @@ use Rattle.citation.specs.Citation.{citation}
 use Rattle.citation.proofs.{Fours.recounted_front, Printing.citation_same, Whole.all_written, Lengths.citation_short}
 use Rattle.citation.proofs.cite.cite_report.Goals as goal
 
--- needs: 8 now, 9 before
-
 pub returns : goal.returns
 unfolding citation
 returns c =
@@ -19,17 +17,14 @@ returns c =
           let (p, _) = counted.ensures m v [] (sym (append-nil (encode m) ∙ e)) in
           let (q, _) = cited.ensures m v [] (sym (append-nil (encode m) ∙ e)) in
           rw same at (all_written
-          cited.new.1.1.1.0
+          cited.new.out
           cited.result.place
-          (length counted.new.1.1.1.0)
+          (length counted.new.out)
           (citation (take last.result c.args.source.now) numbers m)
           (rw (wrote_append, ← p.counted, ← c.put_title-p.ensures) q.written)
-          (omega (arith, citation_short (take last.result c.args.source.now) numbers m v, ap length e, counted.auto.1.1.1.0, c.requires))
+          (omega (arith, citation_short (take last.result c.args.source.now) numbers m v, ap length e, counted.auto.out, c.requires))
           n.result
           n.ensures);
-      bounds = omega (arith, n.ensures, length-take cited.result.place.at cited.new.1.1.1.0);
-      left = cited.auto.1.1.1.0 ∙ c.put_title-p.auto.out ∙ counted.auto.1.1.1.0;
+      bounds = omega (arith, n.ensures, length-take cited.result.place.at cited.new.out);
+      left = cited.auto.out ∙ c.put_title-p.auto.out ∙ counted.auto.out;
     }
-
-pub TODO-1 : goal.TODO-1
-TODO-1 c = sym (length-take-le _ _ c.last_four.ensures.bounds)

@@ -3,8 +3,6 @@ use Rattle.report.{specs.Buffer.buffer_as, proofs.Buffers.wrote_append, proofs.B
 use Rattle.citation.specs.Citation.{escaped}
 use Rattle.citation.proofs.lines.put_escaped.Goals as goal
 
--- needs: 11 now, 12 before
-
 pub returns-then-is_escaped : goal.returns-then-is_escaped
 unfolding escaped
 returns-then-is_escaped c =

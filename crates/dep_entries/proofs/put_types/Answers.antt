@@ -13,7 +13,7 @@ pub slice_bounds-index-end : goal.slice_bounds-index-end
 slice_bounds-index-end c = c.requires.0
 
 pub analyze_ts_or_deno_types-requires : goal.analyze_ts_or_deno_types-requires
-analyze_ts_or_deno_types-requires c = c.requires.1
+analyze_ts_or_deno_types-requires c = record { commented = c.requires.1.0; grouped_in = c.requires.1.1 }
 
 pub returns : goal.returns
 returns c = c.analyze_ts_or_deno_types.ensures

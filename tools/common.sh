@@ -33,17 +33,17 @@ work_folder() {
 
 absolute() { printf '%s/%s\n' "$(cd "$(dirname "$1")" && pwd)" "$(basename "$1")"; }
 
-# sets library: the file NAMED, or that which `rt staticlib CRATE` writes
+# sets library: the file NAMED, or that which `tools/build library CRATE` writes
 find_library() { # CRATE VARIABLE NAMED
     library=${3:-$root/target/staticlib/lib$1.a}
-    [ -f "$library" ] || not_run "$library is absent (\`rt staticlib $1\` makes it, $2 names another)"
+    [ -f "$library" ] || not_run "$library is absent (\`tools/build library $1\` makes it, $2 names another)"
     library=$(absolute "$library")
 }
 
 # sets rules: librules.a beside that library
 find_rules() {
     rules=$(dirname "$library")/librules.a
-    [ -f "$rules" ] || not_run "$rules is absent (\`rt staticlib rules\` makes it)"
+    [ -f "$rules" ] || not_run "$rules is absent (\`tools/build library rules\` makes it)"
 }
 
 # ---- programs of tools/ ----
@@ -85,7 +85,8 @@ stale() { # FILE NAME [FILE|FOLDER ..]
 build() { # FILE COMMAND ..
     built=$1
     shift
-    present "$1" || stop "$1 is absent, and the program is not built"
+    case $1 in tools/build) needed=rt ;; *) needed=$1 ;; esac
+    present "$needed" || stop "$needed is absent, and the program is not built"
     tell "building: $*"
     (cd "$root" && "$@") < /dev/null >&2 || stop "the program cannot be built"
     touch "$built"

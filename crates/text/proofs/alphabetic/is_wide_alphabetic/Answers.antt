@@ -3,8 +3,6 @@ use Rattle.text.specs.{Alphabetic.alphabetic, Ranges.bounds}
 use Rattle.text.proofs.{Bounds.ascending, Bounds.odd}
 use Rattle.text.proofs.alphabetic.is_wide_alphabetic.Goals as goal
 
--- needs: 2 now, 3 before
-
 pub at_most-requires : goal.at_most-requires
 unfolding alphabetic
 at_most-requires c = ascending (bounds alphabetic) refl

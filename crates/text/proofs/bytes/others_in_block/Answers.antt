@@ -1,13 +1,14 @@
-use Rattle.laws.proofs.Prelude.{ℕ, ◌+◌, ◌-◌, arith, ◌≡◌, inl, inr, ⊎_elim, get_or}
+use Rattle.laws.proofs.Prelude.{ℕ, ◌+◌, ◌-◌, arith, ◌≡◌, inl, inr, get_or}
 use Rattle.text.proofs.Counted.{counted_none, counted_more}
 use Rattle.text.proofs.bytes.others_in_block.Goals as goal
+use Rattle.text.proofs.bytes.others_in_block.Goals.{then-s-at, else-s-at}
 
 pub loop-i-preserved : goal.loop-i-preserved
 loop-i-preserved c =
     let a = c.args in
     let l = c.loop-i in
     let P : ℕ → Type 0 = λ k. get_or a.s.now (a.at + k) 0 ≡ a.b → ⊥ in
-    (omega arith, counted_more P l.invariant.1 (⊎_elim (λ w. inl (λ e. omega arith, omega arith)) (λ w. inr (omega arith)) c.if-s-at.branch))
+    (omega arith, counted_more P l.invariant.1 (elim c.if-s-at.branch [ then-s-at w ↦ inl (λ e. omega arith, omega arith) | else-s-at w ↦ inr (omega arith) ]))
 
 pub loop-i-init : goal.loop-i-init
 loop-i-init c = (omega arith, counted_none _)

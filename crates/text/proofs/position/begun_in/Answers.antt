@@ -1,8 +1,9 @@
-use Rattle.laws.proofs.Prelude.{◌+◌, ◌-◌, ◌≤◌, ◌<◌, arith, ◌≡◌, sym, ◌∙◌, ⊎_elim, get_or}
+use Rattle.laws.proofs.Prelude.{◌+◌, ◌-◌, ◌≤◌, ◌<◌, arith, ◌≡◌, sym, ◌∙◌, get_or}
 use borrow.Author.Tests.{not-true, not-false}
 use Rattle.text.specs.code.Totals.{begins_one}
 use Rattle.text.proofs.Sums.{begun_none, begun_more, begins, begins_not}
 use Rattle.text.proofs.position.begun_in.Goals as goal
+use Rattle.text.proofs.position.begun_in.Goals.{then-not-goes_on+then-k-j, then-not-goes_on+else-k-j, else-not-goes_on}
 
 pub loop-i-preserved : goal.loop-i-preserved
 loop-i-preserved c =
@@ -11,15 +12,24 @@ loop-i-preserved c =
     let b = get_or a.s.now (a.from + l.i) 0 in
     let g = c.goes_on.ensures in
     let more : a.k ≤ l.i → c.if-not-goes_on.n ≡ l.n + begins_one b =
-    λ h. ⊎_elim
-    (λ w. omega (arith, begins b (sym g ∙ not-true _ w.0.true)))
-    (⊎_elim (λ w. absurd (omega arith)) (λ w. omega (arith, begins_not b (sym g ∙ not-false _ w.0.false))))
-    c.if-not-goes_on.branch in
+    λ h. elim c.if-not-goes_on.branch [
+      then-not-goes_on+then-k-j w ↦ omega (arith, begins b (sym g ∙ w.if-not-goes_on.true))
+    | then-not-goes_on+else-k-j w ↦ absurd (omega arith)
+    | else-not-goes_on w ↦ omega (arith, begins_not b (sym g ∙ w.if-not-goes_on.false))
+    ] in
     let same : l.i < a.k → c.if-not-goes_on.n ≡ l.n =
-    λ h. ⊎_elim (λ w. absurd (omega arith)) (⊎_elim (λ w. omega arith) (λ w. omega arith)) c.if-not-goes_on.branch in (
+    λ h. elim c.if-not-goes_on.branch [
+      then-not-goes_on+then-k-j w ↦ absurd (omega arith)
+    | then-not-goes_on+else-k-j w ↦ omega arith
+    | else-not-goes_on w ↦ omega arith
+    ] in (
       omega arith,
       omega arith,
-      ⊎_elim (λ w. omega arith) (⊎_elim (λ w. omega arith) (λ w. omega arith)) c.if-not-goes_on.branch,
+      elim c.if-not-goes_on.branch [
+        then-not-goes_on+then-k-j w ↦ omega arith
+      | then-not-goes_on+else-k-j w ↦ omega arith
+      | else-not-goes_on w ↦ omega arith
+      ],
       begun_more a.s.now a.from a.k l.i l.n c.if-not-goes_on.n (omega arith) l.invariant.3 more same,
     )
 

@@ -1,7 +1,8 @@
-use Rattle.laws.proofs.Prelude.{◌+◌, ◌-◌, arith, ◌≡◌, refl, ⊎_elim, get_or}
+use Rattle.laws.proofs.Prelude.{◌+◌, ◌-◌, arith, ◌≡◌, refl, get_or}
 use Rattle.text.specs.code.Totals.{total, ends_line}
 use Rattle.text.proofs.Sums.{total_suc, ends, ends_not}
 use Rattle.text.proofs.position.lines_in.Goals as goal
+use Rattle.text.proofs.position.lines_in.Goals.{then-s-from-eq10, else-s-from-eq10}
 
 pub loop-i-init : goal.loop-i-init
 unfolding total
@@ -14,8 +15,8 @@ loop-i-preserved c =
     let b = get_or a.s.now (a.from + l.i) 0 in
     let one = total_suc ends_line a.s.now a.from l.i (omega arith) in (
       omega arith,
-      ⊎_elim (λ w. omega arith) (λ w. omega arith) c.if-s-from-eq10.branch,
-      ⊎_elim (λ w. omega (arith, ends b w.0.true)) (λ w. omega (arith, ends_not b w.0.false)) c.if-s-from-eq10.branch,
+      elim c.if-s-from-eq10.branch [ then-s-from-eq10 w ↦ omega arith | else-s-from-eq10 w ↦ omega arith ],
+      elim c.if-s-from-eq10.branch [ then-s-from-eq10 w ↦ omega (arith, ends b w.if-s-from-eq10.true) | else-s-from-eq10 w ↦ omega (arith, ends_not b w.if-s-from-eq10.false) ],
     )
 
 pub returns : goal.returns

@@ -1,13 +1,7 @@
 use Rattle.laws.proofs.Prelude.{rules, lt-ltb, lt-leb, arith, sym, ◌∙◌, ◌-◌, ◌<◌, length, get_or, known}
 use Rattle.wire.specs.Number.{last_group}
 use Rattle.wire.proofs.Groups.{none_left, cut_off, next_group, last_group_lem, more_groups, past_before, scale_small, group_small, next_place}
-use Rattle.wire.proofs.Cursor.+groups.{statement, Tie.close}
-use Rattle.wire.proofs.Cursor.groups.Reads as groups
-use Rattle.wire.proofs.Cursor.+groups.Lts-groups as groups-lts
 use Rattle.wire.proofs.Cursor.+groups.Goals as goal
-
--- measure: abbrev μ-groups : Measures 1 groups-kinds.ps ℕ
--- μ-groups κs a = a.1.1.0
 
 -- One group, or one and the groups above it: the groups that are left fall at each call.
 
@@ -22,18 +16,18 @@ returns-then-sheet-at t c =
     record { answer = sym (cut_off a.scale a.low a.sheet.now a.self.at a.left c.if-sheet-at.true); bounds = tt }
 
 pub overflow_cast-b : goal.overflow_cast-b
-overflow_cast-b t c = omega (arith, c.shared_slice_known-2-1.given c.args.self.at)
+overflow_cast-b t c = omega (arith, c.type_inv.sheet c.args.self.at)
 
 pub overflow_mul-n : goal.overflow_mul-n
 overflow_mul-n t c =
     let a = c.args in
     let more : 0 < a.left = omega (arith, c.if-left-eq0.false) in
-    omega (arith, group_small c.requires.1 more (get_or a.sheet.now a.self.at 0) (omega (arith, c.if-b-lt128.true)))
+    omega (arith, group_small c.requires more (get_or a.sheet.now a.self.at 0) (omega (arith, c.if-b-lt128.true)))
 
 pub overflow_add-n : goal.overflow_add-n
 overflow_add-n t c =
     let a = c.args in
-    let place = c.requires.1 in
+    let place = c.requires in
     let more : 0 < a.left = omega (arith, c.if-left-eq0.false) in
     omega (arith, place.less, scale_small place more, group_small place more (get_or a.sheet.now a.self.at 0) (omega (arith, c.if-b-lt128.true)))
 
@@ -78,29 +72,29 @@ overflow_sub-left t c = omega (arith, c.if-left-eq0.false)
 pub overflow_mul-scale : goal.overflow_mul-scale
 overflow_mul-scale t c =
     let more : 0 < c.args.left = omega (arith, c.if-left-eq0.false) in
-    omega (arith, scale_small c.requires.1 more)
+    omega (arith, scale_small c.requires more)
 
 pub overflow_mul-scale-2 : goal.overflow_mul-scale-2
 overflow_mul-scale-2 t c =
     let a = c.args in
     let more : 0 < a.left = omega (arith, c.if-left-eq0.false) in
     let digit = get_or a.sheet.now a.self.at 0 - 128 in
-    omega (arith, group_small c.requires.1 more digit (omega (arith, c.shared_slice_known-2-1.given a.self.at)))
+    omega (arith, group_small c.requires more digit (omega (arith, c.type_inv.sheet a.self.at)))
 
 pub overflow_add-low : goal.overflow_add-low
 overflow_add-low t c =
     let a = c.args in
-    let place = c.requires.1 in
+    let place = c.requires in
     let more : 0 < a.left = omega (arith, c.if-left-eq0.false) in
     let digit = get_or a.sheet.now a.self.at 0 - 128 in
-    omega (arith, place.less, scale_small place more, group_small place more digit (omega (arith, c.shared_slice_known-2-1.given a.self.at)))
+    omega (arith, place.less, scale_small place more, group_small place more digit (omega (arith, c.type_inv.sheet a.self.at)))
 
 pub groups-requires : goal.groups-requires
 groups-requires t c =
     let a = c.args in
     let more : 0 < a.left = omega (arith, c.if-left-eq0.false) in (
-      omega (arith, more, c.requires.0),
-      next_place c.requires.1 more (get_or a.sheet.now a.self.at 0) (c.shared_slice_known-2-1.given a.self.at).fits,
+      omega arith,
+      next_place c.requires more (get_or a.sheet.now a.self.at 0) (c.type_inv.sheet a.self.at).fits,
     )
 
 pub returns : goal.returns
@@ -109,31 +103,9 @@ returns t c =
     let s = a.sheet.now in
     let more : 0 < a.left = omega (arith, c.if-left-eq0.false) in
     let onward = more_groups a.scale a.low s a.self.at a.left more c.if-sheet-at.false c.if-b-lt128.false
-    (c.shared_slice_known-2-1.given a.self.at).fits in
+    (c.type_inv.sheet a.self.at).fits in
     record {
       answer = c.groups.ensures.answer ∙
           sym onward;
       bounds = past_before a.self.at (length s) c.groups.result c.groups.ensures.bounds;
     }
-
-pub +groups-spec : {M : Type 1} → statement M
-+groups-spec = close μ-groups λ t. groups-lts.spec (calls t)
-    (groups-at t)
-    groups.Post
-    (returns t)
-    (returns-2 t)
-    (λ c. search rules)
-    (cast-b t)
-    (λ c. search rules)
-    (mul-n t)
-    (add-n t)
-    (λ c κs. search rules)
-    (returns-3 t)
-    (returns-4 t)
-    (returns-5 t)
-    (sub-groups t)
-    (mul-groups t)
-    (mul-groups-2 t)
-    (add-groups-2 t)
-    (groups-requires t)
-    (returns-6 t)

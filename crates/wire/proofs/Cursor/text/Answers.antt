@@ -7,8 +7,9 @@ pub returns-then-sheet-start : goal.returns-then-sheet-start
 unfolding text
 returns-then-sheet-start c =
     let s = c.args.sheet.now in
-    let (n, next) = c.n-1.given.0 in
-    record { answer = rw (told c.count.ensures c.in-Value.is, bytes_past s next.0.at n c.if-sheet-start.true); bounds = tt }
+    let n = c.in-Value.n in
+    let start = c.in-Value.next.at in
+    record { answer = rw (told c.count.ensures c.in-Value.is, bytes_past s start n c.if-sheet-start.true); bounds = tt }
 
 pub slice_bounds-well_formed-end : goal.slice_bounds-well_formed-end
 slice_bounds-well_formed-end c =
@@ -21,8 +22,9 @@ returns-then-well_formed c =
     let s = c.args.sheet.now in
     let read = c.count.ensures in
     let found = c.in-Value.is in
-    let (n, next) = c.n-1.given.0 in
-    let there = bytes_at s next.0.at n c.if-sheet-start.false in
+    let n = c.in-Value.n in
+    let start = c.in-Value.next.at in
+    let there = bytes_at s start n c.if-sheet-start.false in
     let past = bounded read found in
     record { answer = rw (told read found, there, known c.well_formed-in-Value.ensures.answer c.if-well_formed.true); bounds = omega (arith, past.0, past.1) }
 
@@ -32,8 +34,9 @@ returns-else-well_formed c =
     let s = c.args.sheet.now in
     let read = c.count.ensures in
     let found = c.in-Value.is in
-    let (n, next) = c.n-1.given.0 in
-    let there = bytes_at s next.0.at n c.if-sheet-start.false in
+    let n = c.in-Value.n in
+    let start = c.in-Value.next.at in
+    let there = bytes_at s start n c.if-sheet-start.false in
     record { answer = rw (told read found, there, known c.well_formed-in-Value.ensures.answer c.if-well_formed.false); bounds = tt }
 
 pub returns-in-Refused : goal.returns-in-Refused

@@ -56,7 +56,7 @@ word_spelled (w ∷ ws) s at {end} e = go (letter_at w (drop at s)) refl (λ b. 
         let x = letter_stands w s at (λ z. omega arith) in
         Spelled.more (rw p at x) (more (at + suc n) (rw (eqb-suc-zero n) at f))
 
-pub spelled_word : {w s : List ℕ} {at end : ℕ} → Spelled s w at end → word_at w s at ≡ At end
+pub spelled_word : {s w : List ℕ} {at end : ℕ} → Spelled s w at end → word_at w s at ≡ At end
 unfolding word_at
 spelled_word Spelled.none = refl
 spelled_word {s} (Spelled.more {w} {at} x r) =

@@ -3,8 +3,6 @@ use Rattle.analysis.specs.Row.{all, first, match_at}
 use Rattle.analysis.proofs.{RowSteps.deno_types_row_lem, Search.first_append}
 use Rattle.analysis.proofs.find_deno_types.Goals as goal
 
--- needs: 11 now, 12 before
-
 pub returns-in_default : goal.returns-in_default
 unfolding first
 returns-in_default c = record {
@@ -48,6 +46,3 @@ returns c =
       ) c.bare_at.ensures.answer;
       bounds = c.bare_at.ensures.bounds;
     }
-
-pub TODO-6 : goal.TODO-6
-TODO-6 c = rw c.in-At.is at c.assigned_at.ensures.bounds

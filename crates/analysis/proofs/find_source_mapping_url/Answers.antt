@@ -3,8 +3,6 @@ use Rattle.analysis.specs.Row.{first, match_at}
 use Rattle.analysis.proofs.{RowSteps.source_mapping_row}
 use Rattle.analysis.proofs.find_source_mapping_url.Goals as goal
 
--- needs: 9 now, 10 before
-
 pub returns-then-n-eq0 : goal.returns-then-n-eq0
 unfolding first
 returns-then-n-eq0 c = record { answer = rw (source_mapping_row, ← c.class_at-n.ensures.answer, eq-eqb _ _ c.if-n-eq0.true); bounds = tt }
@@ -38,6 +36,3 @@ returns c =
       ) c.bare_at.ensures.answer;
       bounds = c.bare_at.ensures.bounds;
     }
-
-pub TODO-8 : goal.TODO-8
-TODO-8 c = rw c.in-At.is at c.assigned_at.ensures.bounds

@@ -3,8 +3,6 @@ use Rattle.analysis.specs.Row.{first, match_at}
 use Rattle.analysis.proofs.{RowSteps.triple_slash_row_lem}
 use Rattle.analysis.proofs.is_comment_triple_slash_reference.Goals as goal
 
--- needs: 14 now, 16 before
-
 pub returns-in_default : goal.returns-in_default
 unfolding first
 returns-in_default c = rw (triple_slash_row_lem, known c.match_word.ensures.answer c.in_default.is)
@@ -43,9 +41,3 @@ returns c =
       ne_eqb _ _ c.if-n-eq0.false,
     )
     c.reference_ends.ensures
-
-pub TODO-5 : goal.TODO-5
-TODO-5 c = rw c.in-At.is at c.match_word.ensures.bounds
-
-pub TODO-11 : goal.TODO-11
-TODO-11 c = rw c.in-At-match_word.is at c.match_word-2.ensures.bounds

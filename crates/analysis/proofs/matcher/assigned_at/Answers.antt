@@ -2,8 +2,6 @@ use Rattle.laws.proofs.Prelude.{known}
 use Rattle.analysis.specs.code.Matcher.{assigned_at}
 use Rattle.analysis.proofs.matcher.assigned_at.Goals as goal
 
--- needs: 11 now, 12 before
-
 pub returns-in_default : goal.returns-in_default
 unfolding assigned_at
 returns-in_default c = record { answer = rw (known c.match_word.ensures.answer c.in_default.is); bounds = tt }
@@ -32,9 +30,3 @@ returns c =
       );
       bounds = c.run_end.ensures.bounds;
     }
-
-pub TODO-4 : goal.TODO-4
-TODO-4 c = rw c.in-At.is at c.match_word.ensures.bounds
-
-pub TODO-10 : goal.TODO-10
-TODO-10 c = rw c.in-At-match_word.is at c.match_word-2.ensures.bounds

@@ -2,8 +2,6 @@ use Rattle.laws.proofs.Prelude.{arith, refl, ◌∙◌, ◌-◌, known}
 use Rattle.analysis.proofs.RowSteps.{reference_hit, reference_stop, reference_goes_on}
 use Rattle.analysis.proofs.matcher.reference_ends.Goals as goal
 
--- needs: 10 now, 11 before
-
 pub returns-in-At : goal.returns-in-At
 returns-in-At c =
     let s = c.args.s.now in
@@ -28,18 +26,3 @@ loop-n-preserved c =
       l.invariant.1 ∙ reference_goes_on s l.i (known c.match_word.ensures.answer c.in_default.is)
           c.class_at-n.ensures.answer c.if-n-eq0.false,
     )
-
-pub TODO-0 : goal.TODO-0
-TODO-0 c = (c.requires, refl)
-
-pub TODO-2 : goal.TODO-2
-TODO-2 c = omega arith
-
-pub TODO-6 : goal.TODO-6
-TODO-6 c = omega arith
-
-pub TODO-8 : goal.TODO-8
-TODO-8 c = omega arith
-
-pub TODO-9 : goal.TODO-9
-TODO-9 c = omega arith

@@ -2,8 +2,6 @@ use Rattle.laws.proofs.Prelude.{known}
 use Rattle.analysis.specs.Mode.{mode_of}
 use Rattle.analysis.proofs.mode.from_str.Goals as goal
 
--- needs: 5 now, 7 before
-
 pub returns-then-equal : goal.returns-then-equal
 unfolding mode_of
 returns-then-equal c = rw (known c.equal.ensures c.if-equal.true)

@@ -2,8 +2,6 @@ use Rattle.laws.proofs.Prelude.{arith, ◌+◌, drop, length-drop, known}
 use Rattle.scan.proofs.Steps.{within, at_close, at_import, at_other}
 use Rattle.scan.proofs.length_at.Goals as goal
 
--- needs: 6 now, 7 before
-
 pub returns-then-body-at-eq125 : goal.returns-then-body-at-eq125
 returns-then-body-at-eq125 c =
     let a = c.args in

@@ -3,6 +3,7 @@ use lib.Seq.{drop-length}
 use Rattle.scan.proofs.Steps.{ends, none, within, back_brace, back_other}
 use Rattle.scan.proofs.{Bounds.small}
 use Rattle.scan.proofs.sum_of.Goals as goal
+use Rattle.scan.proofs.sum_of.Goals.{then-body-i-eq123, else-body-i-eq123}
 
 pub overflow_add-sum : goal.overflow_add-sum
 overflow_add-sum c =
@@ -24,10 +25,10 @@ loop-i-preserved c =
     let some : 0 < l.i = c.loop-i-test.true in (
       omega arith,
       c.length_at-ahead.ensures,
-      ⊎_elim
-          (λ w. omega (arith, back_brace body l.i some l.invariant.0 w.0.true))
-          (λ w. omega (arith, back_other body l.i some l.invariant.0 w.0.false))
-          c.if-body-i-eq123.branch,
+      elim c.if-body-i-eq123.branch [
+        then-body-i-eq123 w ↦ omega (arith, back_brace body l.i some l.invariant.0 w.if-body-i-eq123.true)
+        | else-body-i-eq123 w ↦ omega (arith, back_other body l.i some l.invariant.0 w.if-body-i-eq123.false)
+      ],
     )
 
 pub returns : goal.returns

@@ -1,13 +1,7 @@
 use Rattle.laws.proofs.Prelude.{◌≡◌, refl, sym, ap, ◌∙◌, ◌+◌, ◌-◌, arith, rules, known}
 use Rattle.steps.specs.{Answers.verdict_of}
 use Rattle.steps.proofs.Decoding.{lies, row_in_lem, judged_pass, judged_longest, judged_shortest, judged_first, judged_second, from_on}
-use Rattle.steps.proofs.table.+check.{statement, Tie.close}
-use Rattle.steps.proofs.table.check.Reads as check
-use Rattle.steps.proofs.table.+check.Lts-check as check-lts
 use Rattle.steps.proofs.table.+check.Goals as goal
-
--- measure: abbrev μ-check : Measures 1 check-kinds.ps ℕ
--- μ-check κs a = length a.0.now
 
 pub loop-ill-init : goal.loop-ill-init
 loop-ill-init t c = (omega arith, refl)
@@ -36,15 +30,12 @@ slice_bounds-rest-end t c =
 
 pub loop-ill-smaller-in-Pass : goal.loop-ill-smaller-in-Pass
 loop-ill-smaller-in-Pass t c =
-    let l = lies c.loop-ill.rest.now c.step_of.ensures c.in-Pass.is in omega (arith, c.rest-1.given.2)
+    let l = lies c.loop-ill.rest.now c.step_of.ensures c.in-Pass.is in omega arith
 
 pub loop-ill-preserved-in-Pass : goal.loop-ill-preserved-in-Pass
 loop-ill-preserved-in-Pass t c =
     let l = lies c.loop-ill.rest.now c.step_of.ensures c.in-Pass.is in (
-      omega (
-        arith,
-        c.rest-1.given.2,
-      ),
+      omega arith,
       rw from_on (c.loop-ill.invariant.1 ∙
           judged_pass c.loop-ill.rest.now (known c.step_of.ensures c.in-Pass.is)),
     )
@@ -64,15 +55,12 @@ slice_bounds-rest-end-in-Longest t c =
 pub loop-ill-smaller-in-Longest : goal.loop-ill-smaller-in-Longest
 loop-ill-smaller-in-Longest t c =
     let l = lies c.loop-ill.rest.now c.step_of.ensures
-    c.in-Longest.is in omega (arith, c.rest-in-Longest-1.given.2)
+    c.in-Longest.is in omega arith
 
 pub loop-ill-preserved-in-Longest : goal.loop-ill-preserved-in-Longest
 loop-ill-preserved-in-Longest t c =
     let l = lies c.loop-ill.rest.now c.step_of.ensures c.in-Longest.is in (
-      omega (
-        arith,
-        c.rest-in-Longest-1.given.2,
-      ),
+      omega arith,
       rw from_on (c.loop-ill.invariant.1 ∙
           judged_longest c.loop-ill.rest.now (known c.step_of.ensures c.in-Longest.is)),
     )
@@ -92,15 +80,12 @@ slice_bounds-rest-end-in-Shortest t c =
 pub loop-ill-smaller-in-Shortest : goal.loop-ill-smaller-in-Shortest
 loop-ill-smaller-in-Shortest t c =
     let l = lies c.loop-ill.rest.now c.step_of.ensures
-    c.in-Shortest.is in omega (arith, c.rest-in-Shortest-1.given.2)
+    c.in-Shortest.is in omega arith
 
 pub loop-ill-preserved-in-Shortest : goal.loop-ill-preserved-in-Shortest
 loop-ill-preserved-in-Shortest t c =
     let l = lies c.loop-ill.rest.now c.step_of.ensures c.in-Shortest.is in (
-      omega (
-        arith,
-        c.rest-in-Shortest-1.given.2,
-      ),
+      omega arith,
       rw from_on (c.loop-ill.invariant.1 ∙
           judged_shortest c.loop-ill.rest.now (known c.step_of.ensures c.in-Shortest.is)),
     )
@@ -123,8 +108,7 @@ slice_bounds-check-end t c =
 
 pub check-first-requires : goal.check-first-requires
 check-first-requires t c =
-    let l = lies c.loop-ill.rest.now c.step_of.ensures
-    c.in-Either.is in (omega (arith, c.check-arg-1.given.2), search rules)
+    let l = lies c.loop-ill.rest.now c.step_of.ensures c.in-Either.is in (omega arith, tt)
 
 pub returns-in-Bad-first : goal.returns-in-Bad-first
 returns-in-Bad-first t c =
@@ -147,24 +131,14 @@ slice_bounds-rest-end-in-Either t c =
 pub loop-ill-smaller : goal.loop-ill-smaller
 loop-ill-smaller t c =
     let l = lies c.loop-ill.rest.now c.step_of.ensures
-    c.in-Either.is in omega (arith, c.rest-in-Either-1.given.2)
+    c.in-Either.is in omega arith
 
 pub loop-ill-preserved : goal.loop-ill-preserved
 loop-ill-preserved t c =
     let l = lies c.loop-ill.rest.now c.step_of.ensures
     c.in-Either.is in let width : 2 + c.in-Either.n - 2 ≡ c.in-Either.n = omega arith in (
-      omega (arith, c.rest-in-Either-1.given.2),
+      omega arith,
       rw from_on (c.loop-ill.invariant.1 ∙ judged_second
           c.loop-ill.rest.now (known c.step_of.ensures c.in-Either.is)
           (rw width at c.check-first.ensures) c.in_default.is),
     )
-
-pub +check-spec : {M : Type 1} → statement M
-+check-spec =
-    close μ-check
-    (λ t. check-lts.spec (calls t) (check-at t) check.Post invariant-loop decreases-loop
-    (loop-holds t) (λ c κs. search rules) (λ c. search rules) (returns t) (λ c. search rules) (returns-2 t) (λ c. search rules) (sub-rest t)
-    (part-rest-start t) (part-rest-end t) (loop-less t) (loop-again t) (λ c. search rules) (sub-rest-2 t) (part-rest-start-2 t) (part-rest-end-2 t)
-    (loop-less-2 t) (loop-again-2 t) (λ c. search rules) (sub-rest-3 t) (part-rest-start-3 t) (part-rest-end-3 t) (loop-less-3 t) (loop-again-3 t)
-    (λ c. search rules) (add-end t) (sub-check t) (part-check-start t) (part-check-end t) (check-requires t) (λ c. search rules) (returns-3 t)
-    (λ c. search rules) (sub-rest-4 t) (part-rest-start-4 t) (part-rest-end-4 t) (loop-less-4 t) (loop-again-4 t))

@@ -7,3 +7,7 @@ invariant-loop-ill l = (length l.rest ≤ length l.steps) × (verdict_of (row_in
 
 abbrev pub decreases-loop-ill : goal.decreases-loop-ill
 decreases-loop-ill l = length l.rest
+
+-- how many numbers are left
+abbrev pub decreases-check : goal.decreases-check
+decreases-check l = length l.steps.now

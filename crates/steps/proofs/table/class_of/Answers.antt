@@ -1,4 +1,4 @@
-use Rattle.laws.proofs.Prelude.{ne_eqb}
+use Rattle.laws.proofs.Prelude.{arith, ne_eqb}
 use Rattle.steps.specs.Table.{class_of}
 use Rattle.steps.proofs.table.class_of.Goals as goal
 
@@ -37,14 +37,14 @@ returns-in-8 c = rw c.in-8.is
 pub returns-in_default : goal.returns-in_default
 unfolding class_of
 returns-in_default c =
-    let none = c.in-1.rest in
+    let n = c.args.n in
     rw (
-      ne_eqb _ _ none.0.0.0.0.0.0.0.1,
-      ne_eqb _ _ none.0.0.0.0.0.0.1,
-      ne_eqb _ _ none.0.0.0.0.0.1,
-      ne_eqb _ _ none.0.0.0.0.1,
-      ne_eqb _ _ none.0.0.0.1,
-      ne_eqb _ _ none.0.0.1,
-      ne_eqb _ _ none.0.1,
-      ne_eqb _ _ none.1,
+      ne_eqb n 1 (λ e. omega arith),
+      ne_eqb n 2 (λ e. omega arith),
+      ne_eqb n 3 (λ e. omega arith),
+      ne_eqb n 4 (λ e. omega arith),
+      ne_eqb n 5 (λ e. omega arith),
+      ne_eqb n 6 (λ e. omega arith),
+      ne_eqb n 7 (λ e. omega arith),
+      ne_eqb n 8 (λ e. omega arith),
     )

@@ -1,0 +1,37 @@
+use Rattle.laws.proofs.Prelude.{◌≡◌, ◌+◌, ◌-◌, ◌*◌, ◌≤◌, length}
+use Rattle.text.specs.declared.class.Class.{Class}
+use Rattle.steps.proofs.Running.{Goes, Shorter, Longer}
+use Rattle.steps.proofs.run.+run.Given as goal
+
+-- how many numbers are left; a run comes before the steps behind it
+abbrev pub decreases-match_from : goal.decreases-match_from
+decreases-match_from l = 2 * length l.steps.now
+
+abbrev pub decreases-match_longest : goal.decreases-match_longest
+decreases-match_longest l = 2 * length l.steps.now + 1
+
+abbrev pub decreases-match_shortest : goal.decreases-match_shortest
+decreases-match_shortest l = 2 * length l.steps.now + 1
+
+abbrev pub invariant-match_from-loop-plain : goal.invariant-match_from-loop-plain
+invariant-match_from-loop-plain l =
+    (l.here ≤ length l.body) × (length l.rest ≤ length l.steps)
+    × Goes l.body l.steps l.at l.initial.captured l.rest l.here l.captured
+
+abbrev pub decreases-match_from-loop-plain : goal.decreases-match_from-loop-plain
+decreases-match_from-loop-plain l = length l.rest
+
+-- the class is not at hand in the loop: what is left to be tried is so for each class of which the end at first is a run's end
+abbrev pub invariant-match_longest-loop-found : goal.invariant-match_longest-loop-found
+invariant-match_longest-loop-found l =
+    (l.at ≤ l.end) × (l.end ≤ length l.body)
+    × ((c : Class) → Longer c l.steps l.body l.k l.at l.initial.end → Longer c l.steps l.body l.k l.at l.end)
+
+abbrev pub decreases-match_longest-loop-found : goal.decreases-match_longest-loop-found
+decreases-match_longest-loop-found l = l.end
+
+abbrev pub invariant-match_shortest-loop-found : goal.invariant-match_shortest-loop-found
+invariant-match_shortest-loop-found l = (l.e ≤ length l.body) × Shorter l.class l.steps l.body l.k l.at l.e
+
+abbrev pub decreases-match_shortest-loop-found : goal.decreases-match_shortest-loop-found
+decreases-match_shortest-loop-found l = length l.body - l.e

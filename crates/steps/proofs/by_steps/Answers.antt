@@ -3,8 +3,6 @@ use Rattle.steps.specs.Patterns.{table_of, row_of}
 use Rattle.steps.proofs.{Tables.tables}
 use Rattle.steps.proofs.by_steps.Goals as goal
 
--- needs: 30 now, 40 before
-
 pub returns-in-TripleSlash : goal.returns-in-TripleSlash
 unfolding table_of
 returns-in-TripleSlash c = rw c.in-TripleSlash.is (c.run_table.ensures.is (row_of TripleSlash) (tables TripleSlash))

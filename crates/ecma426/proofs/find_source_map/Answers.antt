@@ -4,8 +4,6 @@ use Rattle.ecma426.specs.Reader.{word, find_source_map}
 use Rattle.ecma426.proofs.Agrees.{stands, marked_some, answered}
 use Rattle.ecma426.proofs.find_source_map.Goals as goal
 
--- needs: 10 now, 11 before
-
 pub row_end-at-requires : goal.row_end-at-requires
 row_end-at-requires c = marked_some c.args.body.now (known c.is_marked.ensures c.if-is_marked.true)
 

@@ -1,10 +1,5 @@
 use Rattle.laws.proofs.Prelude.{known}
 use Rattle.ecma426.proofs.is_marked.Goals as goal
 
--- needs: 4 now, 6 before
-
 pub returns : goal.returns
 returns c = rw (known c.starts_with.ensures c.if-starts_with.false) c.starts_with-2.ensures
-
-pub TODO-2 : goal.TODO-2
-TODO-2 c = rw (known c.starts_with.ensures c.if-starts_with.true)

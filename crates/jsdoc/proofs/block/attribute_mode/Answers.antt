@@ -2,8 +2,6 @@ use Rattle.laws.proofs.Prelude.{known}
 use Rattle.jsdoc.specs.Reader.{attribute_mode}
 use Rattle.jsdoc.proofs.block.attribute_mode.Goals as goal
 
--- needs: 4 now, 5 before
-
 pub returns-then-equal : goal.returns-then-equal
 unfolding attribute_mode
 returns-then-equal c = rw (known c.equal.ensures c.if-equal.true, c.from_str.ensures)

@@ -1,8 +1,6 @@
 use Rattle.jsdoc.specs.Reader.{comma}
 use Rattle.jsdoc.proofs.block.comma.Goals as goal
 
--- needs: 3 now, 4 before
-
 pub returns : goal.returns
 unfolding comma
 returns c = record { answer = rw (← c.skip_whitespace-past.ensures.answer) c.word.ensures.answer; bounds = c.word.ensures.bounds }

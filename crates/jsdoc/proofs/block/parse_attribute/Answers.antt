@@ -2,8 +2,6 @@ use Rattle.laws.proofs.Prelude.{arith, told, bounded}
 use Rattle.jsdoc.specs.Reader.{parse_attribute}
 use Rattle.jsdoc.proofs.block.parse_attribute.Goals as goal
 
--- needs: 21 now, 22 before
-
 pub returns-in_default : goal.returns-in_default
 unfolding parse_attribute
 returns-in_default c = record { answer = rw (told c.parse_key.ensures c.in_default.is); bounds = tt }
@@ -70,9 +68,3 @@ returns c =
           );
       bounds = (bounded c.quote_at.ensures c.in-Part-quote_at.is).2;
     }
-
-pub TODO-4 : goal.TODO-4
-TODO-4 c = (bounded c.parse_key.ensures c.in-Part.is).2
-
-pub TODO-10 : goal.TODO-10
-TODO-10 c = bounded c.word.ensures c.in-At.is

@@ -2,8 +2,6 @@ use Rattle.laws.proofs.Prelude.{told, bounded}
 use Rattle.jsdoc.specs.Reader.{parse_import_attribute_block_for_resolution_mode}
 use Rattle.jsdoc.proofs.block.parse_import_attribute_block_for_resolution_mode.Goals as goal
 
--- needs: 14 now, 16 before
-
 pub returns-in_default : goal.returns-in_default
 unfolding parse_import_attribute_block_for_resolution_mode
 returns-in_default c = record { answer = rw (told c.word.ensures c.in_default.is); bounds = tt }
@@ -46,9 +44,3 @@ returns c =
           );
       bounds = bounded c.tag.ensures c.in-At-tag.is;
     }
-
-pub TODO-5 : goal.TODO-5
-TODO-5 c = bounded c.word.ensures c.in-At.is
-
-pub TODO-9 : goal.TODO-9
-TODO-9 c = bounded c.separated_list.ensures c.in-Past.is

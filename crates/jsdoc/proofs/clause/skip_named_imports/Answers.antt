@@ -2,8 +2,6 @@ use Rattle.laws.proofs.Prelude.{told, bounded}
 use Rattle.jsdoc.specs.Reader.{skip_named_imports}
 use Rattle.jsdoc.proofs.clause.skip_named_imports.Goals as goal
 
--- needs: 6 now, 7 before
-
 pub returns-in_default : goal.returns-in_default
 unfolding skip_named_imports
 returns-in_default c = record { answer = rw (told c.tag.ensures c.in_default.is); bounds = tt }
@@ -14,6 +12,3 @@ returns c = record {
   answer = rw (told c.tag.ensures c.in-At.is) c.up_to.ensures.answer;
   bounds = c.up_to.ensures.bounds;
 }
-
-pub TODO-5 : goal.TODO-5
-TODO-5 c = bounded c.tag.ensures c.in-At.is

@@ -2,8 +2,6 @@ use Rattle.laws.proofs.Prelude.{told, bounded}
 use Rattle.jsdoc.specs.Reader.{skip_namespace_import}
 use Rattle.jsdoc.proofs.clause.skip_namespace_import.Goals as goal
 
--- needs: 14 now, 16 before
-
 pub returns-in_default : goal.returns-in_default
 unfolding skip_namespace_import
 returns-in_default c = record { answer = rw (told c.word.ensures c.in_default.is); bounds = tt }
@@ -42,12 +40,3 @@ returns c =
           c.skip_default_import.ensures.answer;
       bounds = c.skip_default_import.ensures.bounds;
     }
-
-pub TODO-6 : goal.TODO-6
-TODO-6 c = bounded c.word.ensures c.in-At.is
-
-pub TODO-10 : goal.TODO-10
-TODO-10 c = bounded c.tag.ensures c.in-At-tag.is
-
-pub TODO-14 : goal.TODO-14
-TODO-14 c = bounded c.whitespace.ensures c.in-At-whitespace.is

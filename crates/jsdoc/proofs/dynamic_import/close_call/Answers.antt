@@ -2,8 +2,6 @@ use Rattle.laws.proofs.Prelude.{told, bounded}
 use Rattle.jsdoc.specs.Reader.{close_call}
 use Rattle.jsdoc.proofs.dynamic_import.close_call.Goals as goal
 
--- needs: 9 now, 10 before
-
 pub returns-in_default : goal.returns-in_default
 unfolding close_call
 returns-in_default c = record { answer = rw (told c.tag.ensures c.in_default.is); bounds = tt }
@@ -27,6 +25,3 @@ returns c =
       );
       bounds = bounded c.up_to.ensures c.in-At-up_to.is;
     }
-
-pub TODO-5 : goal.TODO-5
-TODO-5 c = bounded c.tag.ensures c.in-At.is

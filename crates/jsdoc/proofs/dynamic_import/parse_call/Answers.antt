@@ -2,8 +2,6 @@ use Rattle.laws.proofs.Prelude.{told, bounded}
 use Rattle.jsdoc.specs.Reader.{parse_call}
 use Rattle.jsdoc.proofs.dynamic_import.parse_call.Goals as goal
 
--- needs: 17 now, 19 before
-
 pub returns-in_default : goal.returns-in_default
 unfolding parse_call
 returns-in_default c = record { answer = rw (told c.word.ensures c.in_default.is); bounds = tt }
@@ -57,12 +55,3 @@ returns c =
           );
       bounds = (bounded c.quote_at.ensures c.in-Part.is).2;
     }
-
-pub TODO-6 : goal.TODO-6
-TODO-6 c = bounded c.word.ensures c.in-At.is
-
-pub TODO-10 : goal.TODO-10
-TODO-10 c = bounded c.word-2.ensures c.in-At-word.is
-
-pub TODO-14 : goal.TODO-14
-TODO-14 c = (bounded c.quote_at.ensures c.in-Part.is).2

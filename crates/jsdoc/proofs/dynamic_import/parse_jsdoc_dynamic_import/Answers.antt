@@ -2,7 +2,8 @@ use Rattle.laws.proofs.Prelude.{rules, refl, ◌∙◌, ◌-◌, known, told, bo
 use Rattle.jsdoc.proofs.Searches.{search_ended, search_closed, search_found, search_further, no_brace, no_import, call_read}
 use Rattle.jsdoc.proofs.dynamic_import.parse_jsdoc_dynamic_import.Goals as goal
 
--- needs: 14 now, 16 before
+pub returns-in_default : goal.returns-in_default
+returns-in_default c = no_brace _ (told c.tag.ensures c.in_default.is)
 
 pub returns-then-rest-i : goal.returns-then-rest-i
 returns-then-rest-i c =
@@ -29,9 +30,3 @@ returns c =
     (c.scan.invariant.1 ∙ search_found _ c.scan.i c.if-rest-i.false
     c.if-rest-i-eq125.false (known c.starts_with.ensures c.if-starts_with.true))
     c.scan.invariant.0 c.parse_call-found.ensures
-
-pub TODO-4 : goal.TODO-4
-TODO-4 c = no_brace _ (told c.tag.ensures c.in_default.is)
-
-pub TODO-5 : goal.TODO-5
-TODO-5 c = (bounded c.tag.ensures c.in-At.is, refl)

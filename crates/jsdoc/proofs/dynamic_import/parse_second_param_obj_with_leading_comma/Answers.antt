@@ -2,8 +2,6 @@ use Rattle.laws.proofs.Prelude.{told, bounded}
 use Rattle.jsdoc.specs.Reader.{parse_second_param_obj_with_leading_comma}
 use Rattle.jsdoc.proofs.dynamic_import.parse_second_param_obj_with_leading_comma.Goals as goal
 
--- needs: 14 now, 15 before
-
 pub returns-in_default : goal.returns-in_default
 unfolding parse_second_param_obj_with_leading_comma
 returns-in_default c = record { answer = rw (told c.second_param_start.ensures c.in_default.is); bounds = tt }
@@ -46,9 +44,3 @@ returns c =
           );
       bounds = bounded c.word.ensures c.in-At-word.is;
     }
-
-pub TODO-4 : goal.TODO-4
-TODO-4 c = bounded c.second_param_start.ensures c.in-At.is
-
-pub TODO-8 : goal.TODO-8
-TODO-8 c = bounded c.block_at.ensures c.in-Past.is

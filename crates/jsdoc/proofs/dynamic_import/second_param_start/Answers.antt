@@ -2,8 +2,6 @@ use Rattle.laws.proofs.Prelude.{told, bounded}
 use Rattle.jsdoc.specs.Reader.{second_param_start}
 use Rattle.jsdoc.proofs.dynamic_import.second_param_start.Goals as goal
 
--- needs: 14 now, 18 before
-
 pub returns-in_default : goal.returns-in_default
 unfolding second_param_start
 returns-in_default c = record { answer = rw (told c.word.ensures c.in_default.is); bounds = tt }
@@ -43,12 +41,3 @@ returns c =
           c.word-4.ensures.answer;
       bounds = c.word-4.ensures.bounds;
     }
-
-pub TODO-6 : goal.TODO-6
-TODO-6 c = bounded c.word.ensures c.in-At.is
-
-pub TODO-11 : goal.TODO-11
-TODO-11 c = bounded c.word-2.ensures c.in-At-word.is
-
-pub TODO-16 : goal.TODO-16
-TODO-16 c = bounded c.word-3.ensures c.in-At-word-2.is

@@ -2,8 +2,6 @@ use Rattle.laws.proofs.Prelude.{told, bounded}
 use Rattle.jsdoc.specs.Reader.{parse_from}
 use Rattle.jsdoc.proofs.import_decl.parse_from.Goals as goal
 
--- needs: 14 now, 15 before
-
 pub returns-in_default : goal.returns-in_default
 unfolding parse_from
 returns-in_default c = record {
@@ -51,9 +49,3 @@ returns-in-Backtrace c =
           );
       bounds = (bounded c.quote_at.ensures c.in-Part.is).2;
     }
-
-pub TODO-6 : goal.TODO-6
-TODO-6 c = bounded c.word.ensures c.in-At.is
-
-pub TODO-10 : goal.TODO-10
-TODO-10 c = (bounded c.quote_at.ensures c.in-Part.is).2

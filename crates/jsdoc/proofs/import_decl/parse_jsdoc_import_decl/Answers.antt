@@ -2,8 +2,6 @@ use Rattle.laws.proofs.Prelude.{told, bounded}
 use Rattle.jsdoc.specs.Reader.{parse_jsdoc_import_decl}
 use Rattle.jsdoc.proofs.import_decl.parse_jsdoc_import_decl.Goals as goal
 
--- needs: 14 now, 15 before
-
 pub returns-in_default : goal.returns-in_default
 unfolding parse_jsdoc_import_decl
 returns-in_default c = record { answer = rw (told c.tag.ensures c.in_default.is); bounds = tt }
@@ -43,12 +41,3 @@ returns c =
           c.parse_from.ensures.answer;
       bounds = c.parse_from.ensures.bounds;
     }
-
-pub TODO-5 : goal.TODO-5
-TODO-5 c = bounded c.tag.ensures c.in-At.is
-
-pub TODO-9 : goal.TODO-9
-TODO-9 c = bounded c.whitespace.ensures c.in-At-whitespace.is
-
-pub TODO-13 : goal.TODO-13
-TODO-13 c = bounded c.skip_clause.ensures c.in-At-skip_clause.is

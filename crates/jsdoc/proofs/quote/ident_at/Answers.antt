@@ -1,14 +1,15 @@
 use Rattle.laws.proofs.Prelude.{arith}
 use Rattle.jsdoc.proofs.Moved.{part_to_end, movable, moved_text}
+use Rattle.jsdoc.specs.code.Answers.{name_mark}
 use Rattle.jsdoc.proofs.quote.ident_at.Goals as goal
 
 pub from_place-requires : goal.from_place-requires
 from_place-requires c =
     let a = c.args in
-    movable a.s.now a.at c.requires (omega arith) _ _ _ (rw (part_to_end a.s.now a.at) at c.parse_ident.ensures)
+    movable a.s.now a.at c.requires (omega arith) name_mark _ _ (rw (part_to_end a.s.now a.at) at c.parse_ident.ensures)
 
 pub returns : goal.returns
 returns c =
     let a = c.args in
     rw c.from_place.ensures
-    (moved_text a.s.now a.at c.requires _ _ _ (rw (part_to_end a.s.now a.at) at c.parse_ident.ensures))
+    (moved_text a.s.now a.at c.requires name_mark _ _ (rw (part_to_end a.s.now a.at) at c.parse_ident.ensures))

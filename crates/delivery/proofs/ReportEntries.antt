@@ -56,8 +56,8 @@ pub late_in_module : {s work : List ℕ} {n : ℕ} → Report s n work → (name
     → (i : ℕ) (behind : Answer) → late_as work i r behind ≡ entries_in_turn names i 0 (entries_of s) behind
 late_in_module {s} {work} {n} report names r h f i behind =
     sym (late_whole work n i r behind h)
-    ∙ f (report .info) (report .valid) (report .bytes) i behind
-    ∙ ap (λ ds. entries_in_turn names i 0 ds behind) (sym (report .entries))
+    ∙ f report.info report.valid report.bytes i behind
+    ∙ ap (λ ds. entries_in_turn names i 0 ds behind) (sym report.entries)
 
 pub inside_whole : (work : List ℕ) (n : ℕ) (r : Late) → LateInside (take n work) r → LateInside work r
 inside_whole work n late.Nothing h = tt

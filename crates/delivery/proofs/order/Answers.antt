@@ -11,7 +11,7 @@ returns c =
     let refuse = c.refuse_all in
     record {
       decodes = decodes_exactly a.delivery.now;
-      defined = c.order_of.ensures judge.new.1.0 ∙ ap order_as judge.ensures.answer;
+      defined = c.order_of.ensures judge.new.work ∙ ap order_as judge.ensures.answer;
       right = order_right (length a.work.now) a.delivery.now;
-      cleared = cleared refuse.result (length judge.new.1.0) refuse.ensures ∙ ap zeros judge.auto.1.0;
+      cleared = cleared refuse.result (length judge.new.work) refuse.ensures ∙ ap zeros judge.auto.work;
     }

@@ -7,15 +7,13 @@ pub returns-then-delivery-start : goal.returns-then-delivery-start
 unfolding text
 returns-then-delivery-start c =
     let s = c.args.delivery.now in
-    let (n, next) = c.n-1.given.0 in
-    rw (told c.number.ensures c.in-Value.is, bytes_past s next.0.at n c.if-delivery-start.true)
+    rw (told c.number.ensures c.in-Value.is, bytes_past s c.in-Value.next.at c.in-Value.n c.if-delivery-start.true)
 
 pub returns-else-delivery-start : goal.returns-else-delivery-start
 unfolding text
 returns-else-delivery-start c =
     let s = c.args.delivery.now in
-    let (n, next) = c.n-1.given.0 in
-    rw (told c.number.ensures c.in-Value.is, bytes_at s next.0.at n c.if-delivery-start.false)
+    rw (told c.number.ensures c.in-Value.is, bytes_at s c.in-Value.next.at c.in-Value.n c.if-delivery-start.false)
 
 pub returns-in-Refused : goal.returns-in-Refused
 unfolding text

@@ -1,8 +1,6 @@
 use Rattle.laws.proofs.Prelude.{known}
 use Rattle.delivery.proofs.entries.is_relative.Goals as goal
 
--- needs: 6 now, 9 before
-
 pub returns-then-starts_with-2 : goal.returns-then-starts_with-2
 returns-then-starts_with-2 c = rw (
   known c.starts_with.ensures c.if-starts_with.false,
@@ -15,6 +13,3 @@ returns c =
       known c.starts_with.ensures c.if-starts_with.false,
       known c.starts_with-2.ensures c.if-starts_with-2.false,
     ) c.starts_with-3.ensures
-
-pub TODO-2 : goal.TODO-2
-TODO-2 c = rw (known c.starts_with.ensures c.if-starts_with.true)

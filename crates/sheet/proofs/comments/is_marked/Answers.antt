@@ -1,8 +1,6 @@
 use Rattle.sheet.specs.Comments.{marked}
 use Rattle.sheet.proofs.comments.is_marked.Goals as goal
 
--- needs: 12 now, 20 before
-
 pub returns-in-Line : goal.returns-in-Line
 unfolding marked
 returns-in-Line c = rw c.in-Line.is c.is_enclosed.ensures

@@ -24,9 +24,3 @@ pub returns : goal.returns
 returns c =
     let all : c.loop-i.i ≡ c.args.n = omega arith in
     record { answer = sym (rw all at c.loop-i.invariant.2.all); left = search rules }
-
-pub overflow_cast-longest : goal.overflow_cast-longest
-overflow_cast-longest c = omega (arith, c.slice_known-in-loop-i-1.given c.loop-i.i)
-
-pub overflow_add-i : goal.overflow_add-i
-overflow_add-i c = omega (arith, c.slice_known-in-loop-i-1.given c.loop-i.i)

@@ -12,8 +12,5 @@ loop-k-preserved c = (
 pub loop-k-init : goal.loop-k-init
 loop-k-init c = (refl, keep_none _ _ _ _)
 
-pub overflow_cast-table : goal.overflow_cast-table
-overflow_cast-table c = omega (arith, c.shared_slice_known-in-loop-k-1.given (4 * c.loop-k.k + 2))
-
 pub returns : goal.returns
 returns c = keep_all c.loop-k.invariant.1 c.loop-k-test.false

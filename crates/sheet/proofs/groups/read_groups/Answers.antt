@@ -17,10 +17,10 @@ pub put_group-requires : goal.put_group-requires
 put_group-requires c =
     let a = c.args in
     let ranged = ((group_codec a.source.now _ _).sound _ _ _
-    (seen (group_as a.sheet.now) c.read_group.ensures c.in-Is.is)).1 in (
-      omega (arith, c.requires, c.loop-k.invariant.kept.0),
-      (omega (arith, ranged.small.0), omega (arith, ranged.small.1), omega (arith, ranged.small.2)),
-    )
+    (seen (group_as a.sheet.now) c.read_group.ensures c.in-Is.is)).1 in record {
+      k_in_bounds = omega (arith, c.requires, c.loop-k.invariant.kept.0);
+      position_bound = (omega (arith, ranged.small.0), omega (arith, ranged.small.1), omega (arith, ranged.small.2));
+    }
 
 pub loop-k-preserved : goal.loop-k-preserved
 loop-k-preserved c =

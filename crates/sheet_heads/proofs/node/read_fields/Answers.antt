@@ -1,4 +1,4 @@
-use Rattle.laws.proofs.Prelude.{sym, drop}
+use Rattle.laws.proofs.Prelude.{arith, sym, drop}
 use Rattle.sheet_heads.specs.code.Head.{start}
 use Rattle.sheet_heads.proofs.{Outside.no_start}
 use Rattle.sheet_heads.proofs.node.read_fields.Goals as goal
@@ -58,4 +58,4 @@ returns-in-12 c = record { answer = rw c.in-12.is c.read_module.ensures.answer; 
 pub returns-in_default : goal.returns-in_default
 returns-in_default c =
     let a = c.args in
-    record { answer = sym (no_start a.source.now a.levels a.span a.tag (drop a.c.at a.sheet.now) c.in-0.rest); bounds = tt }
+    record { answer = sym (no_start a.source.now a.levels a.span a.tag (drop a.c.at a.sheet.now) (omega arith)); bounds = tt }

@@ -1,4 +1,4 @@
-use Rattle.laws.proofs.Prelude.{rules, told, sym, drop, told_of}
+use Rattle.laws.proofs.Prelude.{arith, rules, told, sym, drop, told_of}
 use Rattle.sheet_heads.specs.code.Parts.{key_head}
 use Rattle.sheet_heads.proofs.{Outside.no_key}
 use Rattle.sheet_heads.proofs.parts.read_key.Goals as goal
@@ -36,4 +36,4 @@ returns-in-From-text c =
 pub returns-in_default : goal.returns-in_default
 returns-in_default c =
     let a = c.args in
-    record { answer = sym (no_key a.kind (drop a.c.at a.sheet.now) c.in-0.rest); bounds = tt }
+    record { answer = sym (no_key a.kind (drop a.c.at a.sheet.now) (omega arith)); bounds = tt }

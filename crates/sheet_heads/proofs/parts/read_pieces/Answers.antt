@@ -3,10 +3,8 @@ use mathlib.Core.Bool.{or-false}
 use Rattle.laws.specs.Decoded.{ok}
 use Rattle.sheet.specs.{Tree.Pieces, Nodes.piece, Shape.any_uncooked}
 use Rattle.sheet_heads.proofs.Many.{found_step, found_stop, found_end}
+use Rattle.sheet_heads.proofs.parts.read_pieces.Invariants.{or_uncooked}
 use Rattle.sheet_heads.proofs.parts.read_pieces.Goals as goal
-
-abbrev orUncooked : Bool → Pieces → Bool
-orUncooked b ps = b || any_uncooked ps
 
 pub returns-in-Refused : goal.returns-in-Refused
 returns-in-Refused c =
@@ -14,7 +12,7 @@ returns-in-Refused c =
     let l = c.loop-left in
     let is = told c.read_piece.ensures c.in-Refused.is in
     record {
-      answer = sym (l.invariant.2 ∙ found_stop orUncooked [] piece l.uncooked l.left (drop l.at.at s) c.loop-left-test.true is);
+      answer = sym (l.invariant.2 ∙ found_stop or_uncooked [] piece l.uncooked l.left (drop l.at.at s) c.loop-left-test.true is);
       bounds = tt;
     }
 
@@ -27,7 +25,7 @@ loop-left-preserved-in-Cooked c =
       omega arith,
       omega arith,
       l.invariant.2 ∙
-          found_step orUncooked [] piece l.uncooked l.uncooked l.left (drop l.at.at s) c.loop-left-test.true is (λ ps. refl),
+          found_step or_uncooked [] piece l.uncooked l.uncooked l.left (drop l.at.at s) c.loop-left-test.true is (λ ps. refl),
     )
 
 pub loop-left-preserved : goal.loop-left-preserved
@@ -39,7 +37,7 @@ loop-left-preserved c =
       omega arith,
       omega arith,
       l.invariant.2 ∙
-          found_step orUncooked [] piece l.uncooked true l.left (drop l.at.at s) c.loop-left-test.true is (λ ps. or-true l.uncooked),
+          found_step or_uncooked [] piece l.uncooked true l.left (drop l.at.at s) c.loop-left-test.true is (λ ps. or-true l.uncooked),
     )
 
 pub returns : goal.returns
@@ -47,7 +45,7 @@ returns c =
     let s = c.args.sheet.now in
     let l = c.loop-left in
     record {
-      answer = sym (l.invariant.2 ∙ found_end orUncooked [] piece l.uncooked l.left (drop l.at.at s) c.loop-left-test.false ∙
+      answer = sym (l.invariant.2 ∙ found_end or_uncooked [] piece l.uncooked l.left (drop l.at.at s) c.loop-left-test.false ∙
           ap (λ b. ok b (drop l.at.at s)) (or-false l.uncooked));
       bounds = search rules;
     }

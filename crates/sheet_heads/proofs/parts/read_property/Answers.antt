@@ -47,7 +47,7 @@ returns-in_default c =
     let s = c.args.sheet.now in
     record {
       answer = sym
-          (no_property _ (drop c.args.c.at s) (told c.byte.ensures c.in-Value.is) c.in-0.rest);
+          (no_property _ (drop c.args.c.at s) (told c.byte.ensures c.in-Value.is) (omega arith));
       bounds = tt;
     }
 

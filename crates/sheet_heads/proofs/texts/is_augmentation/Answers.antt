@@ -1,8 +1,6 @@
 use Rattle.laws.proofs.Prelude.{known}
 use Rattle.sheet_heads.proofs.texts.is_augmentation.Goals as goal
 
--- needs: 8 now, 11 before
-
 pub returns-then-starts_with : goal.returns-then-starts_with
 returns-then-starts_with c = rw (
   known c.has_star.ensures c.if-has_star.true,
@@ -25,5 +23,3 @@ returns-then-has_star c =
       known c.starts_with-then-has_star.ensures c.if-starts_with-2.false,
     ) c.starts_with-then-has_star-2.ensures
 
-pub TODO-10 : goal.TODO-10
-TODO-10 c = rw (known c.has_star.ensures c.if-has_star.false)

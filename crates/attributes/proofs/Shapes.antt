@@ -1,5 +1,5 @@
 -- What a node is to an attribute, by its head.
-use Rattle.laws.proofs.Prelude.{◌≡◌, refl, sym, ap, true, false≢true, Option, List, [], ◌∷◌, ℕ, ◌-◌, drop, seen}
+use Rattle.laws.proofs.Prelude.{◌≡◌, refl, sym, ap, true, false≢true, Option, List, [], ◌∷◌, ℕ, ◌-◌, drop, seen, rules}
 use types.Run.{OneOf, miss}
 use denote.Enum.Declared.{tag_of}
 use Rattle.laws.{specs.Decoded.ok, specs.Decoded.return, proofs.Decoding.then_ok}
@@ -13,7 +13,8 @@ use Rattle.sheet_heads.specs.{declared.node.Head.Head, declared.node.HeadRead.He
 use Rattle.sheet_heads.specs.declared.node.Head.TheVariants as head
 use Rattle.sheet_heads.specs.declared.node.HeadRead.TheVariants as head_read
 use Rattle.sheet_heads.specs.code.Head as heads
-use Rattle.sheet_heads.proofs.{ByHead.behind_head, Shapes.shape_by_head, node.Head.the_type}
+use Rattle.sheet_heads.proofs.{ByHead.behind_head, Shapes.shape_by_head}
+use Rattle.sheet_heads.specs.contracts.node.Head.{the_type}
 use Rattle.report.specs.ModuleInfo.{ImportAttributes, unknown}
 use Rattle.attributes.specs.declared.props.Value.TheVariants as value
 use Rattle.attributes.specs.Attributes.{Prop, value_of, of_object}
@@ -22,6 +23,11 @@ use Rattle.attributes.specs.code.Views.{is_other, ValueIs}
 -- the variants besides String and Object
 abbrev others : List ℕ
 others = 0 ∷ 2 ∷ 3 ∷ 4 ∷ 6 ∷ 7 ∷ 8 ∷ 9 ∷ 10 ∷ 11 ∷ 12 ∷ 13 ∷ 14 ∷ 15 ∷ 16 ∷ []
+
+pub one_of_others : (x : Head) → ((from to : ℕ) → x ≡ head.String from to → ⊥) → ((n : ℕ) → x ≡ head.Object n → ⊥) → OneOf others (tag_of the_type x)
+one_of_others (head.String from to) no_string no_object = absurd (no_string from to refl)
+one_of_others (head.Object n) no_string no_object = absurd (no_object n refl)
+one_of_others x no_string no_object = search rules
 
 -- a value, from its head and what follows it
 module _ (s source : List ℕ) (at levels : ℕ) {r : HeadRead} {sp : Span} {x : Head} {next : Cursor} {v : Node} {t : List ℕ}

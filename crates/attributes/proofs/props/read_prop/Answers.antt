@@ -35,13 +35,13 @@ returns-in-Is-check_property c =
     let a = c.args in
     let s = a.sheet.now in
     let inner = node a.source.now a.levels in
-    let p = c.p-1.given.0 in
+    let p = c.in-Is in
     let next = c.in-Is-check_property.next in
     let (add, item, is) = on_ok_ok gain (property_item inner (drop a.c.at s))
     (told c.check_property.ensures c.in-Is-check_property.is) in
     let past = bounded c.read_property.ensures c.in-Is.is in
     rw c.prop_of.ensures (record {
-      answer = prop_is inner s a.c.at p.1.0 next item p.0
+      answer = prop_is inner s a.c.at p.value next item p.p
           (told c.read_property.ensures c.in-Is.is);
-      bounds = prop_within (length s) s p.0 p.1.0 next past.2;
+      bounds = prop_within (length s) s p.p p.value next past.2;
     })

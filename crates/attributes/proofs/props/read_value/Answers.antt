@@ -1,6 +1,6 @@
 use Rattle.laws.proofs.Prelude.{told, bounded}
 use Rattle.sheet_heads.proofs.ByHead.{no_head}
-use Rattle.attributes.proofs.Shapes.{text_is, object_is, other_is}
+use Rattle.attributes.proofs.Shapes.{text_is, object_is, other_is, one_of_others}
 use Rattle.attributes.proofs.props.read_value.Goals as goal
 
 pub returns-in-Refused : goal.returns-in-Refused
@@ -36,6 +36,6 @@ returns-in_default c =
     let a = c.args in
     record {
       answer = λ v t e. other_is a.sheet.now a.source.now a.c.at a.levels c.read_head.ensures.answer
-          c.in-Is.is e c.in-String.keys3;
+          c.in-Is.is e (one_of_others c.in-Is.head c.in_default.not-String c.in_default.not-Object);
       bounds = tt;
     }

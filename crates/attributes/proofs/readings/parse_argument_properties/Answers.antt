@@ -7,9 +7,6 @@ use Rattle.attributes.proofs.Loops.{begins, goes_on, stops, ends, settles}
 use Rattle.attributes.proofs.{Keys.attributes_key, Keys.other_key}
 use Rattle.attributes.proofs.readings.parse_argument_properties.Goals as goal
 
-abbrev after : Bool × ImportAttributes → List Prop → ImportAttributes
-after p es = argument_properties p.0 p.1 es
-
 pub returns-in-Refused : goal.returns-in-Refused
 returns-in-Refused c =
     let l = c.loop-left in
@@ -35,13 +32,13 @@ returns-in-None c =
     let s = a.sheet.now in
     let l = c.loop-left in
     let found = attributes_as s l.pairs l.found in
-    let start = c.start-1.given.0 in
+    let k = c.in-Keyed in
     let (v, value, read) = rw c.in-Keyed.is at c.read_prop.ensures.answer in
     let key = known c.is_attributes_key.ensures c.if-is_attributes_key.true in
     let inside = sym (seen (attributes_as s _) (c.parse_nested.ensures.answer v _ value) c.in-None.is) in
     record {
       answer = λ ps t e. settles l.invariant.2 ps t e c.loop-left-test.true read none
-          (λ es. attributes_key l.had-with found (part s start.0 start.1.0) (shape v) es key refl inside);
+          (λ es. attributes_key l.had_with found (part s k.start k.end) (shape v) es key refl inside);
       bounds = tt;
     }
 
@@ -52,13 +49,13 @@ returns-in-Unknown c =
     let s = a.sheet.now in
     let l = c.loop-left in
     let found = attributes_as s l.pairs l.found in
-    let start = c.start-1.given.0 in
+    let k = c.in-Keyed in
     let (v, value, read) = rw c.in-Keyed.is at c.read_prop.ensures.answer in
     let key = known c.is_attributes_key.ensures c.if-is_attributes_key.true in
     let inside = sym (seen (attributes_as s _) (c.parse_nested.ensures.answer v _ value) c.in-Unknown.is) in
     record {
       answer = λ ps t e. settles l.invariant.2 ps t e c.loop-left-test.true read unknown
-          (λ es. attributes_key l.had-with found (part s start.0 start.1.0) (shape v) es key refl inside);
+          (λ es. attributes_key l.had_with found (part s k.start k.end) (shape v) es key refl inside);
       bounds = tt;
     }
 
@@ -72,14 +69,14 @@ loop-left-preserved-in-Known c =
     let s = a.sheet.now in
     let l = c.loop-left in
     let found = attributes_as s l.pairs l.found in
-    let start = c.start-1.given.0 in
+    let k = c.in-Keyed in
     let (v, value, read) = rw c.in-Keyed.is at c.read_prop.ensures.answer in
     let key = known c.is_attributes_key.ensures c.if-is_attributes_key.true in
     let inside = sym (seen (attributes_as s _) (c.parse_nested.ensures.answer v _ value) c.in-Known.is) in (
       c.parse_nested.auto.pairs ∙ l.invariant.0,
       rw c.in-Known.is at c.parse_nested.ensures.bounds,
       goes_on l.invariant.2 c.loop-left-test.true read
-          (λ es. attributes_key l.had-with found (part s start.0 start.1.0) (shape v) es key c.is_with-had_with.ensures inside),
+          (λ es. attributes_key l.had_with found (part s k.start k.end) (shape v) es key c.is_with-had_with.ensures inside),
     )
 
 pub loop-left-preserved : goal.loop-left-preserved
@@ -88,13 +85,13 @@ loop-left-preserved c =
     let s = a.sheet.now in
     let l = c.loop-left in
     let found = attributes_as s l.pairs l.found in
-    let start = c.start-1.given.0 in
+    let k = c.in-Keyed in
     let (v, value, read) = rw c.in-Keyed.is at c.read_prop.ensures.answer in
     let key = known c.is_attributes_key.ensures c.if-is_attributes_key.false in (
       l.invariant.0,
       l.invariant.1,
       goes_on l.invariant.2 c.loop-left-test.true read
-          (λ es. other_key l.had-with found (part s start.0 start.1.0) (shape v) es key),
+          (λ es. other_key l.had_with found (part s k.start k.end) (shape v) es key),
     )
 
 pub returns : goal.returns

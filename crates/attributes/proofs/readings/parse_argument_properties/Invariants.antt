@@ -1,9 +1,12 @@
-use Rattle.laws.proofs.Prelude.{◌≡◌, false, length, drop}
+use Rattle.laws.proofs.Prelude.{◌≡◌, Bool, false, List, length, drop}
 use Rattle.sheet.specs.{Nodes.node}
-use Rattle.report.specs.ModuleInfo.{none}
-use Rattle.attributes.specs.{code.Views.attributes_as, code.Views.AttributesWithin}
+use Rattle.report.specs.ModuleInfo.{ImportAttributes, none}
+use Rattle.attributes.specs.{Attributes.Prop, Attributes.argument_properties, code.Views.attributes_as, code.Views.AttributesWithin}
 use Rattle.attributes.proofs.Loops.{Going}
 use Rattle.attributes.proofs.readings.parse_argument_properties.Given as goal
+
+abbrev pub after : Bool × ImportAttributes → List Prop → ImportAttributes
+after p es = argument_properties p.0 p.1 es
 
 abbrev pub invariant-loop-left : goal.invariant-loop-left
 invariant-loop-left l =

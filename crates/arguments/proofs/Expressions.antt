@@ -1,5 +1,5 @@
 -- What stands behind the head of an expression, by the head.
-use Rattle.laws.proofs.Prelude.{◌≡◌, refl, Bool, true, false, List, [], ◌∷◌, Option, ℕ, ◌-◌, ◌+◌, arith, drop, seen}
+use Rattle.laws.proofs.Prelude.{◌≡◌, refl, Bool, true, false, List, [], ◌∷◌, Option, ℕ, ◌-◌, ◌+◌, arith, drop, seen, rules}
 use types.Run.{OneOf, miss}
 use denote.Enum.Declared.{tag_of}
 use Rattle.laws.{specs.Decoded.ok, proofs.Decoding.then_ok}
@@ -12,13 +12,21 @@ use Rattle.sheet_heads.specs.{declared.node.Head.Head, declared.node.HeadRead.He
 use Rattle.sheet_heads.specs.declared.node.Head.TheVariants as head
 use Rattle.sheet_heads.specs.declared.node.HeadRead.TheVariants as head_read
 use Rattle.sheet_heads.specs.code.Head as heads
-use Rattle.sheet_heads.proofs.{ByHead.behind_head, Shapes.shape_by_head, node.Head.the_type}
+use Rattle.sheet_heads.proofs.{ByHead.behind_head, Shapes.shape_by_head}
+use Rattle.sheet_heads.specs.contracts.node.Head.{the_type}
 use Rattle.arguments.specs.declared.expression.Expression.TheVariants as expression
 use Rattle.arguments.specs.{Argument.chain, Argument.argument_of, code.Views.Unknown, code.Views.ExpressionIs}
 
 -- the variants besides String, Template and Binary
 abbrev others : List ℕ
 others = 0 ∷ 2 ∷ 5 ∷ 6 ∷ 7 ∷ 8 ∷ 9 ∷ 10 ∷ 11 ∷ 12 ∷ 13 ∷ 14 ∷ 15 ∷ 16 ∷ []
+
+pub one_of_others : (x : Head) → ((from to : ℕ) → x ≡ head.String from to → ⊥) → ((holes : ℕ) → x ≡ head.Template holes → ⊥) →
+    ((plus : Bool) → x ≡ head.Binary plus → ⊥) → OneOf others (tag_of the_type x)
+one_of_others (head.String from to) no_string no_template no_binary = absurd (no_string from to refl)
+one_of_others (head.Template holes) no_string no_template no_binary = absurd (no_template holes refl)
+one_of_others (head.Binary plus) no_string no_template no_binary = absurd (no_binary plus refl)
+one_of_others x no_string no_template no_binary = search rules
 
 -- a node that is anything else is no chain
 no_chain : (n : Node) → shape n ≡ anything → chain n ≡ Option.none

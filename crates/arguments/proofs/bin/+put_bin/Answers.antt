@@ -3,13 +3,7 @@ use Rattle.laws.proofs.Decoding.{same_rest}
 use Rattle.sheet.specs.Nodes.{node}
 use Rattle.sheet_nodes.specs.code.Tallies.{node_tally}
 use Rattle.arguments.proofs.Chains.{wrote_parts, encode_one, only_part, no_parts, checked_refused, string_chain, template_chain, plus_parts}
-use Rattle.arguments.proofs.bin.+put_bin.{statement, Tie.close}
-use Rattle.arguments.proofs.bin.put_bin.Reads as put-bin
-use Rattle.arguments.proofs.bin.+put_bin.Lts-put_bin as put-bin-lts
 use Rattle.arguments.proofs.bin.+put_bin.Goals as goal
-
--- measure: abbrev μ-put-bin : Measures 3 put-bin-kinds.ps ℕ
--- μ-put-bin κs a = a.1.1.1.0
 
 pub put_string-p-requires : goal.put_string-p-requires
 put_string-p-requires t c = (rw c.in-String.is at c.read_expression.ensures.bounds).1
@@ -79,11 +73,3 @@ returns-in-Other t c = record {
   answer = λ n u l e is. absurd (no_parts (rw c.in-Other.is at (c.read_expression.ensures.answer n u e)).parts is);
   left = search rules;
 }
-
-pub +put-bin-spec : {M : Type 1} → statement M
-+put-bin-spec =
-    close μ-put-bin
-    (λ t. put-bin-lts.spec (calls t) (put-bin-at t) put-bin.Post
-    (λ c κs. search rules) (λ c. search rules) (put-string-requires t) (λ c. search rules) (λ c. search rules) (sub-put-bin t) (put-bin-requires t)
-    (sub-put-operand t) (λ c κs. search rules) (sub-check-node t) (λ c κs. search rules) (λ c. search rules) (λ c. search rules) (λ c. search rules)
-    (λ c. search rules) (returns t) (returns-2 t) (λ c. search rules) (returns-3 t) (λ c. search rules) (returns-4 t) (returns-5 t))

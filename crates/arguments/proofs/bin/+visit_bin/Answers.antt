@@ -1,12 +1,6 @@
 use Rattle.laws.proofs.Prelude.{arith, rules, told}
 use Rattle.arguments.proofs.Chains.{checked_refused, string_counted, template_chain, plus_unknown, at_right, plus_counted}
-use Rattle.arguments.proofs.bin.+visit_bin.{statement, Tie.close}
-use Rattle.arguments.proofs.bin.visit_bin.Reads as visit-bin
-use Rattle.arguments.proofs.bin.+visit_bin.Lts-visit_bin as visit-bin-lts
 use Rattle.arguments.proofs.bin.+visit_bin.Goals as goal
-
--- measure: abbrev μ-visit-bin : Measures 2 visit-bin-kinds.ps ℕ
--- μ-visit-bin κs a = a.1.1.1.0
 
 pub overflow_sub-levels : goal.overflow_sub-levels
 overflow_sub-levels t c = (rw c.in-Plus.is at c.read_expression.ensures.bounds)
@@ -74,11 +68,3 @@ returns-in-Other t c = record {
   answer = λ n u e. rw (rw c.in-Other.is at (c.read_expression.ensures.answer n u e)).parts;
   bounds = tt;
 }
-
-pub +visit-bin-spec : {M : Type 1} → statement M
-+visit-bin-spec =
-    close μ-visit-bin
-    (λ t. visit-bin-lts.spec (calls t) (visit-bin-at t) visit-bin.Post
-    (λ c κs. search rules) (λ c. search rules) (λ c. search rules) (λ c. search rules) (sub-visit-bin t) (visit-bin-requires t) (λ c. search rules)
-    (λ c. search rules) (sub-check-node t) (λ c κs. search rules) (λ c. search rules) (λ c. search rules) (add-t18 t) (λ c. search rules) (returns t)
-    (returns-2 t) (returns-3 t) (returns-4 t) (returns-5 t) (returns-6 t))

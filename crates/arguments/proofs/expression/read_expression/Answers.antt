@@ -1,6 +1,6 @@
 use Rattle.laws.proofs.Prelude.{told, bounded}
 use Rattle.sheet_heads.proofs.ByHead.{no_head}
-use Rattle.arguments.proofs.Expressions.{reads_string, reads_template, reads_plus, reads_minus, reads_other}
+use Rattle.arguments.proofs.Expressions.{reads_string, reads_template, reads_plus, reads_minus, reads_other, one_of_others}
 use Rattle.arguments.proofs.expression.read_expression.Goals as goal
 
 pub returns-then-plus : goal.returns-then-plus
@@ -55,6 +55,6 @@ returns-in_default c =
     let a = c.args in
     record {
       answer = λ n t e. reads_other a.sheet.now a.source.now a.c.at a.levels c.read_head.ensures.answer
-          c.in-Is.is e c.in-String.keys4;
+          c.in-Is.is e (one_of_others c.in-Is.head c.in_default.not-String c.in_default.not-Template c.in_default.not-Binary);
       bounds = tt;
     }

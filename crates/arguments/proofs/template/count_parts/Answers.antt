@@ -7,11 +7,10 @@ use Rattle.arguments.proofs.{Pieces.piece_next, Pieces.hole_count}
 use Rattle.arguments.proofs.template.count_parts.Goals as goal
 
 pub returns-in-Refused : goal.returns-in-Refused
-returns-in-Refused c ps u c =
-    let at-loop = c in
-    let s = at-loop.before.before.args.sheet.now in
-    let l = at-loop.loop in
-    let (qs, read, total) = l.invariant.1 ps u c in
+returns-in-Refused c ps u e =
+    let s = c.args.sheet.now in
+    let l = c.loop-left in
+    let (qs, read, total) = l.invariant.1 ps u e in
     absurd (many_refused [] piece l.left (drop l.at.at s) c.loop-left-test.true
     (told c.read_piece.ensures c.in-Refused.is) read)
 
@@ -47,10 +46,10 @@ loop-left-preserved c =
     )
 
 pub returns : goal.returns
-returns c ps u c =
+returns c ps u e =
     let s = c.args.sheet.now in
     let l = c.loop-left in
-    let (qs, read, total) = l.invariant.1 ps u c in
+    let (qs, read, total) = l.invariant.1 ps u e in
     let none = ap (λ ps. length (template_parts ps)) (many_end [] piece l.left (drop l.at.at s) c.loop-left-test.false read) in
     omega arith
 

@@ -6,7 +6,11 @@ use Rattle.jsdoc_list.proofs.imports.analyze_jsdoc_imports.Goals as goal
 
 pub put_imports-requires : goal.put_imports-requires
 put_imports-requires c =
-    let ticks = c.tick_comments in record { index_of = c.requires.commented.indexed; ticks_len = (ticks.auto.1.1.1.0 ∙ (ap length c.requires.ticks_value ∙ length-replicate _ 0), rw ticks.ensures (ticks_small c.requires.commented.fit)); by_index =  }
+    let ticks = c.tick_comments in record {
+      index_of = c.requires.commented.indexed;
+      ticks_len = ticks.auto.ticks ∙ (ap length c.requires.ticks_value ∙ length-replicate _ 0);
+      by_index = rw ticks.ensures (ticks_small c.requires.commented.fit);
+    }
 
 pub returns-then-is_javascript : goal.returns-then-is_javascript
 returns-then-is_javascript c =

@@ -29,10 +29,9 @@ put_specifier-p-requires c =
 pub returns : goal.returns
 returns c =
     let text = c.quote_at.ensures in
-    let found = c.from-1.given.0 in
     let part = c.in-Part.is in
     rw (
-      encode_import _ _ _ found.0 found.1.0 found.1.1.0 c.requires.at_in_bounds.1 (told text part) (bounded text part).2,
+      encode_import _ _ _ c.in-Part.from c.in-Part.to c.in-Part.past c.requires.number_bound (told text part) (bounded text part).2,
       wrote_cons,
       wrote_append,
       ← c.put-p.ensures,

@@ -18,8 +18,12 @@ loop-q-preserved-then-tick-eq0 c =
 
 pub put_import-p-requires : goal.put_import-p-requires
 put_import-p-requires c =
-    let small = c.requires.ticks_len.1 c.loop-q.q in
-    (c.requires.index_of, (omega (arith, c.requires.ticks_len.0, c.loop-q-test.true), omega (arith, small)))
+    let small = c.requires.by_index c.loop-q.q in
+    record {
+      index_of = c.requires.index_of;
+      at_in_bounds = omega (arith, c.requires.ticks_len, c.loop-q-test.true);
+      number_bound = omega (arith, small);
+    }
 
 pub loop-q-preserved : goal.loop-q-preserved
 loop-q-preserved c =

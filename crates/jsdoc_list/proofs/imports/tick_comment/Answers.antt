@@ -31,7 +31,7 @@ pub returns-then-is_star_opened : goal.returns-then-is_star_opened
 returns-then-is_star_opened c =
     let span = c.body_span-span.ensures in
     let pre = c.requires in
-    rw span (ticked_part _ _ _ (body_within _ _ pre.0 pre.1.0)
+    rw span (ticked_part _ _ _ (body_within _ _ pre.holds_marks pre.end_in_bounds)
     (known c.is_star_opened.ensures c.if-is_star_opened.true)
     (rw span at c.tick_imports.ensures))
 

@@ -8,15 +8,19 @@ use Rattle.jsdoc_list.proofs.imports.tick_comments.Goals as goal
 
 pub loop-k-init : goal.loop-k-init
 loop-k-init c =
-    let zeros = c.requires.fit.1 in
+    let zeros = c.requires.ticks_value in
     (omega arith, ap length zeros ∙ length-replicate _ 0, rw (sub-zero, zeros))
 
 pub tick_comment-requires : goal.tick_comment-requires
 tick_comment-requires c =
-    let p = row_placed c.args.comments.now c.args.n c.requires.fit.0 c.loop-k.k
+    let p = row_placed c.args.comments.now c.args.n c.requires.fit c.loop-k.k
     c.loop-k-test.true in
     let row = c.comment_at.ensures in
-    (rw row (holds_marks_lem _ _ p), (rw row (placed_within _ _ p), c.loop-k.invariant.1))
+    record {
+      holds_marks = rw row (holds_marks_lem _ _ p);
+      end_in_bounds = rw row (placed_within _ _ p);
+      ticks_len = c.loop-k.invariant.1;
+    }
 
 pub loop-k-preserved : goal.loop-k-preserved
 loop-k-preserved c =
@@ -36,7 +40,7 @@ loop-k-preserved c =
     )
 
 pub shape_of-ticks : goal.shape_of-ticks
-shape_of-ticks c = c.loop-k.invariant.1 ∙ sym (ap length c.requires.fit.1 ∙ length-replicate _ 0)
+shape_of-ticks c = c.loop-k.invariant.1 ∙ sym (ap length c.requires.ticks_value ∙ length-replicate _ 0)
 
 pub returns : goal.returns
 unfolding rows ticked_by_all

@@ -34,8 +34,10 @@ slice_bounds-put_body_origins-end-then-is_star_opened c = rw c.body_span-span.en
 
 pub put_body_origins-requires : goal.put_body_origins-requires
 put_body_origins-requires c =
-    let (marks, (end, (short, room))) = c.requires in
-    rw c.body_span-span.ensures (body_lent (body_within _ _ marks end) c.args.origins.now short room)
+    let pre = c.requires in
+    let span = c.body_span-span.ensures in
+    let lent = body_lent (body_within _ _ pre.holds_marks pre.end_in_bounds) c.args.origins.now pre.source_len_bound pre.source_in_bounds in
+    record { body_len_bound = rw span lent.0; origins_len = rw span lent.1.0; body_bound = rw span lent.1.1 }
 
 pub returns-then-is_star_opened : goal.returns-then-is_star_opened
 returns-then-is_star_opened c =

@@ -13,6 +13,3 @@ unfolding jsdoc_origins flat_map
 returns c =
     let args = c.args in
     rw (known c.is_javascript.ensures c.if-is_javascript.false) (sym (wrote_nil args.out.now args.place))
-
-pub put_origins-requires : goal.put_origins-requires
-put_origins-requires c = c.requires

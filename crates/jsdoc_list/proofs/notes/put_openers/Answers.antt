@@ -12,7 +12,7 @@ loop-q-preserved-then-noted-eq0 c =
 pub put_opener-p-requires : goal.put_opener-p-requires
 put_opener-p-requires c =
     let small = c.requires.by_index c.loop-q.q in
-    (omega (arith, small, c.if-noted-eq0.false), c.requires.body_bound)
+    record { k_in_bounds = omega (arith, small, c.if-noted-eq0.false); body_bound = c.requires.body_bound }
 
 pub loop-q-preserved : goal.loop-q-preserved
 loop-q-preserved c =
@@ -27,6 +27,3 @@ returns c =
     let l = c.loop-q in
     let origins = c.args.origins.now in
     sym (l.invariant.1 ∙ rw (drop_of_length-le origins c.loop-q-test.false) (wrote_nil l.out l.p))
-
-pub overflow_cast-noted : goal.overflow_cast-noted
-overflow_cast-noted c = omega (arith, c.shared_slice_known-in-loop-q-1.given c.loop-q.q)

@@ -9,8 +9,13 @@ pub put_comment_origins-p-requires : goal.put_comment_origins-p-requires
 put_comment_origins-p-requires c =
     let l = c.loop-k in
     let row = c.comment_at.ensures in
-    let p = row_placed c.args.comments.now c.args.n c.requires.fit.0 l.k c.loop-k-test.true in
-    (rw row (holds_marks_lem _ _ p), (rw row (placed_within _ _ p), (c.requires.fit.1.0, omega (arith, c.requires.fit.1.1, l.invariant.1))))
+    let p = row_placed c.args.comments.now c.args.n c.requires.fit l.k c.loop-k-test.true in
+    record {
+      holds_marks = rw row (holds_marks_lem _ _ p);
+      end_in_bounds = rw row (placed_within _ _ p);
+      source_len_bound = c.requires.source_len_bound;
+      source_in_bounds = omega (arith, c.requires.source_in_bounds, l.invariant.1);
+    }
 
 pub loop-k-preserved : goal.loop-k-preserved
 loop-k-preserved c =

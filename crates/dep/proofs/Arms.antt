@@ -1,8 +1,5 @@
 -- What is written for a node, from what is written for the parts that it holds.
-use Rattle.laws.proofs.Prelude.{◌≡◌, refl, sym, ap, ◌∙◌, Bool, true, false, List, [], ◌∷◌, ◌++◌, append-nil, inl, inr, Option, ℕ}
-use types.Run.{OneOf}
-use denote.Enum.Declared.{tag_of}
-use borrow.Enum.Known.{lives_at}
+use Rattle.laws.proofs.Prelude.{◌≡◌, refl, sym, ap, ◌∙◌, Bool, true, false, List, [], ◌∷◌, ◌++◌, append-nil, ◌⊎◌, inl, inr, Option, ℕ}
 use Rattle.laws.specs.Decoded.{Decoded, ok, no, and_then, on_ok, Decoder, ◌>>=◌, return}
 use Rattle.laws.proofs.Decoding.{refused, on_ok_ok, on_ok_no, built}
 use Rattle.text.specs.Bytes.{part}
@@ -18,7 +15,7 @@ use Rattle.sheet_heads.specs.declared.node.Head.TheVariants as head
 use Rattle.sheet_heads.specs.declared.parts.Property.TheVariants as property
 use Rattle.sheet_heads.specs.declared.quoted.Quoted as heads
 use Rattle.sheet_heads.specs.code.Views.{quoted_of, head_of, property_of, nodes_of}
-use Rattle.sheet_heads.proofs.{node.Head.the_type, node.Head.enum, ByHead.property_rest}
+use Rattle.sheet_heads.proofs.ByHead.{property_rest}
 use Rattle.sheet_nodes.specs.{declared.tally.Tally.Tally, code.Tallies.tally_all, code.Tallies.tally_with}
 use Rattle.sheet_nodes.proofs.Arms.{alike, alike_two, nodes_one, nodes_two, pair}
 use Rattle.report.specs.declared.names.StaticDependencyKind.TheVariants as statics
@@ -32,10 +29,10 @@ use Rattle.dep.specs.Collect.{noting, collect_noted}
 use Rattle.dep.specs.code.Walk.{Calls, Begins, callees_of, note_all, note_of, note_with, after_node, after_nodes, after_argument, after_arguments}
 use Rattle.dep.specs.code.Walk.{after_property, after_with, after_import, after_call, after_typed}
 
--- the variants of a call's head
-pub calls : (x : Head) → OneOf (6 ∷ 7 ∷ []) (tag_of the_type x) → Calls x
-calls x (inl k) = inl ((lives_at enum x 6 k).0.0, (lives_at enum x 6 k).1)
-calls x (inr k) = inr (lives_at enum x 7 k).1
+-- the head of a node that holds nothing and has no entry
+abbrev pub Leaf : Head → Type 0
+Leaf x = ((from : ℕ) × (to : ℕ) × (x ≡ head.String from to))
+    ⊎ (((from : ℕ) × (to : ℕ) × (x ≡ head.Name from to)) ⊎ (((type_only : Bool) × (x ≡ head.NamedExport type_only)) ⊎ (x ≡ head.ImportEquals)))
 
 -- an import has no node for its callee
 import_alone : (phase : ImportPhase) → callees_of (dynamic_kind phase) ≡ 0
@@ -71,13 +68,13 @@ module _ (source : List ℕ) (types : ℕ → Option SpecifierWithRange) where
       (alike inner (after_nodes source types w) (after_property source types w) (λ n. more n none) (name_key (part s from to)) (λ n. refl) (inner u))
 
   -- a node that holds nothing and has no entry: a String, a Name, an export or an import-equals that names no module
-  pub leaf_holds : (s : List ℕ) (levels : ℕ) (sp : Span) (x : Head) → OneOf (1 ∷ 2 ∷ 9 ∷ 13 ∷ []) (tag_of the_type x)
+  pub leaf_holds : (s : List ℕ) (levels : ℕ) (sp : Span) (x : Head) → Leaf x
       → {w : Written} → wrote_entries w [] ≡ w → (u : List ℕ) → ok w u ≡ on_ok (after_node source types w) (rest source levels (sp, head_of s x) u)
   unfolding noting
-  leaf_holds s levels sp x (inl k) e u = rw ((lives_at enum x 1 k).1, e)
-  leaf_holds s levels sp x (inr (inl k)) e u = rw ((lives_at enum x 2 k).1, e)
-  leaf_holds s levels sp x (inr (inr (inl k))) e u = rw ((lives_at enum x 9 k).1, e)
-  leaf_holds s levels sp x (inr (inr (inr k))) e u = rw ((lives_at enum x 13 k).1, e)
+  leaf_holds s levels sp x (inl (from, to, k)) e u = rw (k, e)
+  leaf_holds s levels sp x (inr (inl (from, to, k))) e u = rw (k, e)
+  leaf_holds s levels sp x (inr (inr (inl (type_only, k)))) e u = rw (k, e)
+  leaf_holds s levels sp x (inr (inr (inr k))) e u = rw (k, e)
 
   -- a template, its pieces read
   pub template_holds : (w : Written) (sp : Span) (inner : Decoder Node) (n : ℕ) (x : Decoded Pieces) {b : Bool} {v : List ℕ} → on_ok any_uncooked x ≡ ok b v

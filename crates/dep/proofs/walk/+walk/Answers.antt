@@ -1,82 +1,42 @@
-use Rattle.dep.proofs.Arms.{argument_holds}
-use Rattle.dep.proofs.Arms.{call_walked}
-use Rattle.dep.proofs.Arms.{called_refused, called_holds}
-use Rattle.dep.proofs.Arms.{leaf_holds, template_holds, binary_holds, module_holds, calls}
-use Rattle.dep.proofs.Arms.{module_holds}
-use Rattle.dep.proofs.Arms.{property_holds}
-use Rattle.dep.proofs.Arms.{typed_walked, typed_holds}
+use Rattle.dep.proofs.Arms.{argument_holds, call_walked, called_refused, called_holds, leaf_holds, template_holds, binary_holds, module_holds}
+use Rattle.dep.proofs.Arms.{property_holds, typed_walked, typed_holds}
 use Rattle.dep.proofs.HeadSpans.{head_spanned}
-use Rattle.dep.proofs.Loops.{arguments_all, arguments_step, arguments_stop, arguments_end}
-use Rattle.dep.proofs.Loops.{nodes_all, nodes_step, nodes_stop, nodes_end}
+use Rattle.dep.proofs.Loops.{arguments_all, arguments_step, arguments_stop, arguments_end, nodes_all, nodes_step, nodes_stop, nodes_end}
 use Rattle.dep.proofs.Loops.{properties_all, properties_step, properties_stop, properties_end}
-use Rattle.dep.proofs.walk.+walk.Goals as goal
-use Rattle.dep.proofs.walk.callees.Reads as callees
-use Rattle.dep.proofs.walk.visit_ts_import_type.Reads as visit-ts-import-type
 use Rattle.dep.specs.Collect.{noting}
-use Rattle.dep.specs.code.Walk.{after_node, after_nodes, after_properties}
-use Rattle.dep.specs.code.Walk.{after_node, after_nodes}
-use Rattle.dep.specs.code.Walk.{after_nodes, after_arguments, after_call}
-use Rattle.dep.specs.code.Walk.{after_nodes}
-use Rattle.dep.specs.code.Walk.{walked_as}
-use Rattle.dep.specs.{Collect.noting, code.Walk.after_properties, code.Walk.after_with}
+use Rattle.dep.specs.code.Walk.{after_node, after_nodes, after_properties, after_arguments, after_call, walked_as, after_with}
+use Rattle.dep_entries.proofs.Wrote.{entries_nil}
+use Rattle.dep_entries.specs.Entries.{module_entry}
 use Rattle.dep_entries.specs.code.Written.{types_from, written_as}
-use Rattle.dep_entries.specs.{declared.StaticDependencyDescriptor.StaticDependencyDescriptor, code.Written.types_from, code.Written.written_as}
-use Rattle.dep_entries.{specs.Entries.module_entry, specs.code.Written.types_from, specs.code.Written.written_as, proofs.Wrote.entries_nil}
-use Rattle.dep_entries.{specs.code.Written.types_from, proofs.Wrote.entries_nil}
-use Rattle.dep_entries.{specs.code.Written.types_from, specs.code.Written.written_as, proofs.Wrote.entries_nil}
-use Rattle.laws.proofs.Decoding.{on_ok_no, built}
-use Rattle.laws.proofs.Decoding.{on_ok_no, then_no}
-use Rattle.laws.proofs.Prelude.{ap, ◌∙◌, arith, drop, told, bounded}
-use Rattle.laws.proofs.Prelude.{arith, drop, told, bounded}
-use Rattle.laws.proofs.Prelude.{refl, sym, ap, ◌∙◌, ◌-◌, arith, drop, told, bounded}
-use Rattle.laws.proofs.Prelude.{refl, sym, ◌∙◌, [], Option, ◌+◌, arith, drop, told, bounded}
-use Rattle.laws.proofs.Prelude.{sym, ◌∙◌, drop, told, bounded}
-use Rattle.laws.proofs.Prelude.{◌∙◌, Option, drop}
-use Rattle.laws.proofs.Prelude.{◌∙◌, arith, seen}
-use Rattle.laws.proofs.Prelude.{◌∙◌, drop, told}
-use Rattle.laws.proofs.Prelude.{◌≡◌, sym, ap, ◌∙◌, false, ℕ, ◌+◌, ◌*◌, ◌<◌, arith, drop, told, bounded}
-use Rattle.laws.proofs.Prelude.{◌≡◌, sym, ap, ◌∙◌, ◌+◌, ◌*◌, ◌<◌, arith, drop, told, bounded}
-use Rattle.laws.specs.Decoded.{on_ok, and_then, ◌>>=◌, return}
-use Rattle.laws.specs.Decoded.{on_ok}
-use Rattle.laws.{specs.Decoded.ok, proofs.Decoding.built}
-use Rattle.laws.{specs.Decoded.on_ok, specs.Decoded.◌>>=◌, proofs.Decoding.on_ok_no, proofs.Decoding.then_no}
-use Rattle.report.specs.declared.names.StaticDependencyKind.TheVariants as statics
-use Rattle.sheet.specs.Nodes.{many, piece, node, nodes, properties}
-use Rattle.sheet.specs.Nodes.{node, nodes, arguments, call_rest}
-use Rattle.sheet.specs.Nodes.{node, nodes, attributes, attributes_object, type_rest}
-use Rattle.sheet.specs.Nodes.{node, nodes}
-use Rattle.sheet.specs.Nodes.{node}
-use Rattle.sheet.specs.Tree.{import_type}
-use Rattle.sheet.specs.{Tree.other, Tree.object, Shape.any_uncooked}
-use Rattle.sheet.specs.{Tree.with_object, Nodes.node, Nodes.properties}
-use Rattle.sheet_heads.proofs.ByHead.{argument_by_head}
-use Rattle.sheet_heads.proofs.ByHead.{attributes_by_head}
-use Rattle.sheet_heads.proofs.ByHead.{node_by_head}
-use Rattle.sheet_heads.proofs.ByHead.{property_by_head}
+use Rattle.dep_entries.specs.declared.StaticDependencyDescriptor.{StaticDependencyDescriptor}
+use Rattle.laws.proofs.Decoding.{on_ok_no, built, then_no}
+use Rattle.laws.proofs.Prelude.{ap, ◌∙◌, arith, drop, told, bounded, refl, sym, ◌-◌, [], Option, ◌+◌, seen, ◌≡◌, false, ℕ, ◌*◌, ◌<◌}
+use Rattle.laws.specs.Decoded.{on_ok, and_then, ◌>>=◌, return, ok}
+use Rattle.sheet.specs.Nodes.{many, piece, node, nodes, properties, arguments, call_rest, attributes, attributes_object, type_rest}
+use Rattle.sheet.specs.Shape.{any_uncooked}
+use Rattle.sheet.specs.Tree.{import_type, other, object, with_object}
+use Rattle.sheet_heads.proofs.ByHead.{argument_by_head, attributes_by_head, node_by_head, property_by_head}
 use Rattle.sheet_heads.specs.code.Views.{quoted_of}
 use Rattle.sheet_nodes.proofs.Arms.{pair}
-use Rattle.sheet_nodes.{specs.code.Tallies.tally_all, proofs.Arms.pair}
+use Rattle.sheet_nodes.specs.code.Tallies.{tally_all}
 use Rattle.wire.specs.Number.{number}
-use walk-cycle.Lts-visit_ts_import_type as visit-ts-import-type-lts
-use walk-cycle.Proof.Calls.{visit-ts-import-type-at, visit-ts-import-type-calls}
+use Rattle.dep.proofs.walk.+walk.Goals as goal
+use Rattle.report.specs.declared.names.StaticDependencyKind.TheVariants as statics
 
--- unknown fields: pre
 -- `visit_call_expr`: arguments, further children, and then the call's entry.
 
 pub visit_call_expr-walk_arguments-r-requires : goal.visit_call_expr-walk_arguments-r-requires
 visit_call_expr-walk_arguments-r-requires t c =
     let past = bounded c.number.ensures c.in-Value.is in
-    (omega arith, (c.requires.1, past.1))
+    (omega arith, (c.requires, past.1))
 
 pub visit_call_expr-walk_nodes-r-requires : goal.visit_call_expr-walk_nodes-r-requires
 visit_call_expr-walk_nodes-r-requires t c =
     let past = bounded c.number-in-Is.ensures c.in-Value-number.is in
-    let is : 6 * c.args.levels + 3 ≡ t = c.pre.0 in
-    let less : 6 * c.args.levels + 1 < t = omega (arith, is) in
-    (less, (c.pre.1, past.1))
+    (omega arith, (c.requires, past.1))
 
 pub visit_call_expr-put_call_entry-place-requires : goal.visit_call_expr-put_call_entry-place-requires
-visit_call_expr-put_call_entry-place-requires t c = c.requires.1
+visit_call_expr-put_call_entry-place-requires t c = c.requires
 
 pub visit_call_expr-returns-in-Refused : goal.visit_call_expr-returns-in-Refused
 unfolding call_rest
@@ -91,8 +51,8 @@ visit_call_expr-returns-in-Refused-r t c =
     let types = types_from source a.tables.now a.counts in
     let w = written_as a.out.now a.notes.now a.place in
     let inner = node source a.levels in
-    let (n, next) = c.count-1.given.0 in
-    let xs = arguments inner source n (drop next.0.at s) in
+    let n = c.in-Value.count in
+    let xs = arguments inner source n (drop c.in-Value.args.at s) in
     record {
       answer = rw (
         told c.number.ensures c.in-Value.is,
@@ -111,8 +71,8 @@ visit_call_expr-returns-in-Refused-number t c =
     let types = types_from source a.tables.now a.counts in
     let w = written_as a.out.now a.notes.now a.place in
     let inner = node source a.levels in
-    let (n, next) = c.count-1.given.0 in
-    let xs = arguments inner source n (drop next.0.at s) in
+    let n = c.in-Value.count in
+    let xs = arguments inner source n (drop c.in-Value.args.at s) in
     let cut = told c.number-in-Is.ensures c.in-Refused-number.is in
     let none = then_no (after_arguments source types w) xs (told
     c.walk_arguments-r.ensures
@@ -132,12 +92,12 @@ visit_call_expr-returns-in-Refused-r-2 t c =
     let types = types_from source a.tables.now a.counts in
     let w = written_as a.out.now a.notes.now a.place in
     let inner = node source a.levels in
-    let (n, next) = c.count-1.given.0 in
-    let xs = arguments inner source n (drop next.0.at s) in
-    let (m, after) = c.more-1.given.0 in
+    let n = c.in-Value.count in
+    let xs = arguments inner source n (drop c.in-Value.args.at s) in
+    let m = c.in-Value-number.more in
     let w1 = written_as c.walk_arguments-r.new.out
     c.walk_arguments-r.new.notes c.in-Is.place in
-    let cut = on_ok_no (after_nodes source types w1) (nodes inner m (drop after.0.at s))
+    let cut = on_ok_no (after_nodes source types w1) (nodes inner m (drop c.in-Value-number.next.at s))
     (told c.walk_nodes-r.ensures c.in-Refused-r-2.is) in
     let none = then_no (after_arguments source types w) xs (told c.walk_arguments-r.ensures c.in-Is.is)
     (λ xs. number >>= λ m. nodes inner m >>= pair xs) c.in-Refused-r-2.r (λ xs. rw (
@@ -164,8 +124,8 @@ visit_call_expr-returns-in-Is-r t c =
     let types = types_from source a.tables.now a.counts in
     let w = written_as a.out.now a.notes.now a.place in
     let inner = node source a.levels in
-    let (n, next) = c.count-1.given.0 in
-    let xs = arguments inner source n (drop next.0.at s) in
+    let n = c.in-Value.count in
+    let xs = arguments inner source n (drop c.in-Value.args.at s) in
     let past = bounded c.walk_nodes-r.ensures c.in-Is-r.is in
     record {
       answer = rw (told c.number.ensures c.in-Value.is) (call_walked source types w a.call inner xs (told
@@ -175,35 +135,18 @@ visit_call_expr-returns-in-Is-r t c =
       bounds = past;
     }
 
--- The measures of the members of the cycle, and what the callees of each ask and give.
-
--- The measures of the members of the cycle, and what the callees of each ask and give.
-
 -- `visit_ts_import_type`: the entry of an import type, its children, and what its attributes hold.
 
-pub put-with-entry-requires : (t : ℕ) →
-    visit-ts-import-type-lts.Need-put-with-entry-requires (visit-ts-import-type-calls t) (visit-ts-import-type-at t) visit-ts-import-type.Post
-put-with-entry-requires t c κs =
-    let start = c.before.before.before.before.before.before.before.before.before.before.before.before.before.before in
-    (start.requires.1.0, start.requires.1.1)
+pub visit_ts_import_type-put_with_entry-place-requires : goal.visit_ts_import_type-put_with_entry-place-requires
+visit_ts_import_type-put_with_entry-place-requires t c = (c.requires.0, c.requires.1)
 
-pub walk-nodes-requires : (t : ℕ) →
-    visit-ts-import-type-lts.Need-walk-nodes-requires (visit-ts-import-type-calls t) (visit-ts-import-type-at t) visit-ts-import-type.Post
-walk-nodes-requires t c κs =
-    let start = c.before.before.before.before.before.before.before.before.before.before.before.before.before.before.before.before.before.before.before.before.before in
-    let is : 6 * start.args.levels + 2 ≡ t = start.pre.0 in
-    let less : 6 * start.args.levels + 1 < t = omega (arith, is) in
-    (less, (start.pre.1.0, start.pre.1.2))
+pub visit_ts_import_type-walk_nodes-requires : goal.visit_ts_import_type-walk_nodes-requires
+visit_ts_import_type-walk_nodes-requires t c = (omega arith, (c.requires.0, c.requires.2))
 
-pub walk-attributes-requires : (t : ℕ) →
-    visit-ts-import-type-lts.Need-walk-attributes-requires (visit-ts-import-type-calls t) (visit-ts-import-type-at t) visit-ts-import-type.Post
-walk-attributes-requires t c κs =
-    let at-has-object = c.before.before.before.before.before.before.before.before.before.before.before.before.before.before.before.before.before.before.before.before in
-    let start = at-has-object.before.before.before.before.before.before.before.before.before.before.before in
-    let past = bounded at-has-object.before.before.flag.ensures at-has-object.has-object.given.1 in
-    let is : 6 * start.args.levels + 2 ≡ t = start.pre.0 in
-    let less : 6 * start.args.levels < t = omega (arith, is) in
-    (less, (start.pre.1.0, past.1))
+pub visit_ts_import_type-walk_attributes-requires : goal.visit_ts_import_type-walk_attributes-requires
+visit_ts_import_type-walk_attributes-requires t c =
+    let past = bounded c.flag.ensures c.in-Is-flag.is in
+    (omega arith, (c.requires.0, past.1))
 
 pub visit_ts_import_type-returns-in-Refused : goal.visit_ts_import_type-returns-in-Refused
 unfolding type_rest
@@ -280,8 +223,6 @@ visit_ts_import_type-returns-in-Is-walk_nodes t c =
       bounds = c.walk_attributes.ensures.bounds;
     }
 
--- The measures of the members of the cycle, and what the callees of each ask and give.
-
 -- `visit_ts_module_decl`: the entry of a module declaration, and its children.
 
 pub visit_ts_module_decl-returns : goal.visit_ts_module_decl-returns
@@ -321,19 +262,14 @@ walk_argument-returns-in-Is t c =
     let types = types_from source a.tables.now a.counts in
     let w = written_as a.out.now a.notes.now a.place in
     let inner = node source a.levels in
-    let h = c.next-1.given.0 in
     record {
       answer = rw (
         argument_by_head inner source (drop a.cursor.at s),
         told c.read_argument.ensures c.in-Is.is,
-      ) (c.walk_node.ensures.answer ∙ argument_holds source types w h.0 h.1.0 (inner (drop h.1.1.0.at s)));
+      ) (c.walk_node.ensures.answer ∙ argument_holds source types w c.in-Is.spread c.in-Is.span (inner (drop c.in-Is.next.at s)));
       bounds = c.walk_node.ensures.bounds;
     }
 
--- The measures of the members of the cycle, and what the callees of each ask and give.
-
--- measure: abbrev pub μ-loop : walk-arguments-lts.decreases-loop
--- μ-loop sheet source count levels tables counts out₀ notes₀ left₀ at₀ place₀ out notes left at place = left
 -- `walk_arguments`: the entries so far, with those of the arguments to come, are the entries of all.
 
 pub walk_arguments-returns-in-Refused : goal.walk_arguments-returns-in-Refused
@@ -384,8 +320,6 @@ walk_arguments-returns t c =
       bounds = l.invariant.2;
     }
 
--- The measures of the members of the cycle, and what the callees of each ask and give.
-
 -- `walk_attributes`: an Object that holds attributes is its head and its properties.
 
 pub walk_attributes-overflow_sub-levels : goal.walk_attributes-overflow_sub-levels
@@ -394,7 +328,7 @@ walk_attributes-overflow_sub-levels t c = (bounded c.read_attributes.ensures c.i
 pub walk_attributes-walk_properties-requires : goal.walk_attributes-walk_properties-requires
 walk_attributes-walk_properties-requires t c =
     let past = bounded c.read_attributes.ensures c.in-Is.is in
-    (omega arith, (c.requires.1.0, past.2))
+    (omega arith, (c.requires.0, past.2))
 
 pub walk_attributes-returns-in-Refused : goal.walk_attributes-returns-in-Refused
 walk_attributes-returns-in-Refused t c =
@@ -418,14 +352,13 @@ walk_attributes-returns-in-Is t c =
     let source = a.source.now in
     let types = types_from source a.tables.now a.counts in
     let w = written_as a.out.now a.notes.now a.place in
-    let h = c.count-1.given.0 in
     record {
       answer = rw (
         c.if-has_object.true,
         attributes_by_head source a.levels (drop a.cursor.at s),
         told c.read_attributes.ensures c.in-Is.is,
-      ) (c.walk_properties.ensures.answer ∙ built (after_properties source types w) (after_with source types w) (with_object h.0)
-          (λ ps. refl) (properties (node source (a.levels - 1)) h.1.0 (drop h.1.1.0.at s)));
+      ) (c.walk_properties.ensures.answer ∙ built (after_properties source types w) (after_with source types w) (with_object c.in-Is.span)
+          (λ ps. refl) (properties (node source (a.levels - 1)) c.in-Is.count (drop c.in-Is.next.at s)));
       bounds = c.walk_properties.ensures.bounds;
     }
 
@@ -436,21 +369,18 @@ walk_attributes-returns t c =
     let s = a.sheet.now in
     record {
       answer = rw c.if-has_object.false (sym (ap (λ w. ok w (drop a.cursor.at s)) (entries_nil a.out.now a.notes.now a.place)));
-      bounds = c.requires.1.1;
+      bounds = c.requires.1;
     }
-
--- The measures of the members of the cycle, and what the callees of each ask and give.
 
 -- `walk_callee`: a call is its callee, if that is an expression, and what follows it.
 
 pub walk_callee-walk_nodes-requires : goal.walk_callee-walk_nodes-requires
-walk_callee-walk_nodes-requires t c = let start =
-    c in (omega arith, (start.pre.1.0, start.pre.1.1))
+walk_callee-walk_nodes-requires t c = (omega arith, (c.requires.0, c.requires.1))
 
 pub walk_callee-visit_call_expr-requires : goal.walk_callee-visit_call_expr-requires
 walk_callee-visit_call_expr-requires t c = (
   omega arith,
-  c.requires.1.0,
+  c.requires.0,
 )
 
 pub walk_callee-returns-in-Refused : goal.walk_callee-returns-in-Refused
@@ -460,10 +390,8 @@ walk_callee-returns-in-Refused t c =
     let source = a.source.now in
     let walked = c.walk_nodes in
     record {
-      answer = called_refused source (types_from source (now
-          a.tables) a.counts) a.levels a.span s a.head c.call_of-call.ensures (entries_nil (now
-          a.out) a.notes.now a.place) c.requires.1.2 (rw c.callees-count.ensures at (seen
-          (walked_as s walked.new.1.1.1.1.1.1.1.0 walked.new.1.1.1.1.1.1.1.1.0) walked.ensures.answer
+      answer = called_refused source (types_from source a.tables.now a.counts) a.levels a.span s a.head c.call_of-call.ensures (entries_nil a.out.now a.notes.now a.place) c.requires.2 (rw c.callees-count.ensures at (seen
+          (walked_as s walked.new.out walked.new.notes) walked.ensures.answer
           c.in-Refused.is));
       bounds = tt;
     }
@@ -475,17 +403,11 @@ walk_callee-returns-in-Is t c =
     let source = a.source.now in
     let walked = c.walk_nodes in
     record {
-      answer = c.visit_call_expr.ensures.answer ∙ called_holds source (types_from source (now
-          a.tables) a.counts) a.levels a.span s a.head c.call_of-call.ensures (entries_nil (now
-          a.out) a.notes.now a.place) c.requires.1.2 (rw c.callees-count.ensures at (seen
-          (walked_as s walked.new.1.1.1.1.1.1.1.0 walked.new.1.1.1.1.1.1.1.1.0) walked.ensures.answer
+      answer = c.visit_call_expr.ensures.answer ∙ called_holds source (types_from source a.tables.now a.counts) a.levels a.span s a.head c.call_of-call.ensures (entries_nil a.out.now a.notes.now a.place) c.requires.2 (rw c.callees-count.ensures at (seen
+          (walked_as s walked.new.out walked.new.notes) walked.ensures.answer
           c.in-Is.is));
       bounds = c.visit_call_expr.ensures.bounds;
     }
-
--- The measures of the members of the cycle, and what the callees of each ask and give.
-
--- The measures of the members of the cycle, and what the callees of each ask and give.
 
 -- `walk_node`: a node is its head and what follows it.
 
@@ -500,7 +422,7 @@ walk_node-walk_rest-requires t c =
     let past = bounded c.read_head.ensures c.in-Is.is in (
       omega arith,
       (
-        c.requires.1,
+        c.requires,
         (
           past.2,
           past.3,
@@ -532,10 +454,6 @@ walk_node-returns-in-Is t c =
       bounds = c.walk_rest.ensures.bounds;
     }
 
--- The measures of the members of the cycle, and what the callees of each ask and give.
-
--- measure: abbrev pub μ-loop : walk-nodes-lts.decreases-loop
--- μ-loop sheet source count levels tables counts out₀ notes₀ left₀ at₀ place₀ out notes left at place = left
 -- `walk_nodes`: the entries so far, with those of the nodes to come, are the entries of all.
 
 pub walk_nodes-returns-in-Refused : goal.walk_nodes-returns-in-Refused
@@ -587,10 +505,6 @@ walk_nodes-returns t c =
       bounds = l.invariant.2;
     }
 
--- The measures of the members of the cycle, and what the callees of each ask and give.
-
--- measure: abbrev pub μ-loop : walk-properties-lts.decreases-loop
--- μ-loop sheet source count levels tables counts out₀ notes₀ left₀ at₀ place₀ out notes left at place = left
 -- `walk_properties`: the entries so far, with those of the properties to come, are the entries of all.
 
 pub walk_properties-returns-in-Refused : goal.walk_properties-returns-in-Refused
@@ -641,14 +555,12 @@ walk_properties-returns t c =
       bounds = l.invariant.2;
     }
 
--- The measures of the members of the cycle, and what the callees of each ask and give.
-
 -- `walk_property`: a property is its head and one node, or two.
 
 pub walk_property-walk_nodes-requires : goal.walk_property-walk_nodes-requires
 walk_property-walk_nodes-requires t c =
     let past = bounded c.read_property.ensures c.in-Is.is in
-    (omega arith, (c.requires.1, past.1))
+    (omega arith, (c.requires, past.1))
 
 pub walk_property-returns-in-Refused : goal.walk_property-returns-in-Refused
 walk_property-returns-in-Refused t c =
@@ -682,87 +594,85 @@ walk_property-returns-in-Is t c =
       bounds = c.walk_nodes.ensures.bounds;
     }
 
--- The measures of the members of the cycle, and what the callees of each ask and give.
-
 -- `walk_rest`: what is written for a node, by its head, from what is written for the nodes that it holds.
 
 pub walk_rest-overflow_add-count : goal.walk_rest-overflow_add-count
 walk_rest-overflow_add-count t c =
-    let w = rw c.in-Template.is at c.requires.1.1.1 in
+    let w = rw c.in-Template.is at c.requires.1.1 in
     omega arith
 
 pub walk_rest-walk_nodes-requires-in-Is : goal.walk_rest-walk_nodes-requires-in-Is
 walk_rest-walk_nodes-requires-in-Is t c =
     let past = bounded c.read_pieces.ensures c.in-Is.is in
-    (omega arith, (c.requires.1.0, past.1))
+    (omega arith, (c.requires.0, past.1))
 
 pub walk_rest-walk_callee-requires : goal.walk_rest-walk_callee-requires
 walk_rest-walk_callee-requires t c =
-    (omega arith, (c.requires.1.0, c.requires.1.1.0, calls c.args.head c.in-Other.keys6))
+    (omega arith, (c.requires.0, c.requires.1.0, c.in-ImportCall.is))
 
 pub walk_rest-visit_import_decl-requires : goal.walk_rest-visit_import_decl-requires
 walk_rest-visit_import_decl-requires t c = (
-  c.requires.1.0,
+  c.requires.0,
   (
-    rw c.in-Import.is at c.requires.1.1.1,
-    rw c.in-Import.is at c.requires.1.1.2,
+    rw c.in-Import.is at c.requires.1.1,
+    rw c.in-Import.is at c.requires.1.2,
   ),
-  c.requires.1.1.0,
+  c.requires.1.0,
 )
 
 pub walk_rest-visit_named_export-requires : goal.walk_rest-visit_named_export-requires
 walk_rest-visit_named_export-requires t c = (
-  c.requires.1.0,
+  c.requires.0,
   (
-    rw c.in-ExportFrom.is at c.requires.1.1.1,
-    rw c.in-ExportFrom.is at c.requires.1.1.2,
+    rw c.in-ExportFrom.is at c.requires.1.1,
+    rw c.in-ExportFrom.is at c.requires.1.2,
   ),
-  c.requires.1.1.0,
+  c.requires.1.0,
 )
 
 pub walk_rest-visit_export_all-requires : goal.walk_rest-visit_export_all-requires
 walk_rest-visit_export_all-requires t c = (
-  c.requires.1.0,
+  c.requires.0,
   (
-    rw c.in-ExportAll.is at c.requires.1.1.1,
-    rw c.in-ExportAll.is at c.requires.1.1.2,
+    rw c.in-ExportAll.is at c.requires.1.1,
+    rw c.in-ExportAll.is at c.requires.1.2,
   ),
-  c.requires.1.1.0,
+  c.requires.1.0,
 )
 
 pub walk_rest-visit_ts_import_type-requires : goal.walk_rest-visit_ts_import_type-requires
 walk_rest-visit_ts_import_type-requires t c = (
   omega arith,
   (
-    c.requires.1.0,
+    c.requires.0,
     (
-      rw c.in-ImportType.is at c.requires.1.1.1,
-      rw c.in-ImportType.is at c.requires.1.1.2,
+      rw c.in-ImportType.is at c.requires.1.1,
+      rw c.in-ImportType.is at c.requires.1.2,
     ),
-    c.requires.1.1.0,
+    c.requires.1.0,
   ),
 )
 
 pub walk_rest-visit_ts_import_equals_decl-requires : goal.walk_rest-visit_ts_import_equals_decl-requires
 walk_rest-visit_ts_import_equals_decl-requires t c = (
-  c.requires.1.0,
+  c.requires.0,
   (
-    rw c.in-ImportRequire.is at c.requires.1.1.1,
-    rw c.in-ImportRequire.is at c.requires.1.1.2,
+    rw c.in-ImportRequire.is at c.requires.1.1,
+    rw c.in-ImportRequire.is at c.requires.1.2,
   ),
-  c.requires.1.1.0,
+  c.requires.1.0,
 )
 
 pub walk_rest-visit_ts_module_decl-requires : goal.walk_rest-visit_ts_module_decl-requires
 walk_rest-visit_ts_module_decl-requires t c = (
   omega arith,
   (
-    c.requires.1.0,
+    c.requires.0,
     (
-      rw c.in-NamedModule.is at c.requires.1.1.1,
-      rw c.in-NamedModule.is at c.requires.1.1.2,
+      rw c.in-NamedModule.is at c.requires.1.1,
+      rw c.in-NamedModule.is at c.requires.1.2,
     ),
-    c.requires.1.1.0,
+    c.requires.1.0,
   ),
 )
 
@@ -789,9 +699,9 @@ walk_rest-returns-in-String t c =
     let source = a.source.now in
     let types = types_from source a.tables.now a.counts in
     record {
-      answer = leaf_holds source types s a.levels a.span a.head c.in-Other.keys2 (entries_nil a.out.now a.notes.now a.place)
+      answer = leaf_holds source types s a.levels a.span a.head c.in-String.is (entries_nil a.out.now a.notes.now a.place)
           (drop a.cursor.at s);
-      bounds = c.requires.1.1.0;
+      bounds = c.requires.1.0;
     }
 
 pub walk_rest-returns-in-Refused : goal.walk_rest-returns-in-Refused

@@ -1,6 +1,6 @@
 use Rattle.laws.proofs.Prelude.{◌∙◌, arith, told, bounded}
 use Rattle.sheet_heads.proofs.ByHead.{no_head}
-use Rattle.dep.proofs.{Callee.name_is, Callee.other_is}
+use Rattle.dep.proofs.{Callee.name_is, Callee.other_is, Callee.besides_name}
 use Rattle.dep.proofs.walk.is_require.Goals as goal
 
 -- `is_require`: what the head of the callee says.
@@ -38,4 +38,4 @@ pub returns-in_default : goal.returns-in_default
 returns-in_default c =
     let a = c.args in
     λ n t e. other_is a.sheet.now a.source.now a.cursor.at a.levels c.read_head.ensures.answer
-    c.in-Is.is e c.in-Name.keys2
+    c.in-Is.is e (besides_name c.in-Is.head c.in_default.not-Name)

@@ -20,12 +20,12 @@ returns c =
       kind = c.import_kind-kind.result;
       span = a.span;
       specifier = a.specifier;
-      is_side_effect = a.is-side-effect;
+      is_side_effect = a.is_side_effect;
     } in
     record {
       answer = c.walk_import.ensures.answer ∙ built (after_import source types s d w) (after_node source types w)
-          (import_decl a.span a.type-only a.phase a.is-side-effect (quoted_of s a.specifier))
+          (import_decl a.span a.type_only a.phase a.is_side_effect (quoted_of s a.specifier))
           (λ b. rw c.import_kind-kind.ensures)
-          (behind a.has-object (attributes_object source a.levels) (drop a.cursor.at s));
+          (behind a.has_object (attributes_object source a.levels) (drop a.cursor.at s));
       bounds = c.walk_import.ensures.bounds;
     }

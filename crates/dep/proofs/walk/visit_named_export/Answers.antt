@@ -18,7 +18,7 @@ returns c =
     let w = written_as a.out.now a.notes.now a.place in
     record {
       answer = c.walk_import.ensures.answer ∙ rw c.export_kind-kind.ensures (built _
-          (after_node source types w) (export_from a.span a.type-only (quoted_of s a.specifier)) (λ b. refl)
-          (behind a.has-object (attributes_object source a.levels) (drop a.cursor.at s)));
+          (after_node source types w) (export_from a.span a.type_only (quoted_of s a.specifier)) (λ b. refl)
+          (behind a.has_object (attributes_object source a.levels) (drop a.cursor.at s)));
       bounds = c.walk_import.ensures.bounds;
     }

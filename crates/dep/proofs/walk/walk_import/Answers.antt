@@ -15,7 +15,7 @@ returns-in-Refused c =
     let a = c.args in
     let s = a.sheet.now in
     let source = a.source.now in
-    let x = behind a.has-object (attributes_object source a.levels) (drop a.cursor.at s) in
+    let x = behind a.has_object (attributes_object source a.levels) (drop a.cursor.at s) in
     record { answer = rw (on_ok_no tally_with x (told c.check_attributes.ensures c.in-Refused.is)); bounds = tt }
 
 pub returns-in-Is : goal.returns-in-Is
@@ -25,7 +25,7 @@ returns-in-Is c =
     let source = a.source.now in
     let types = types_from source a.tables.now a.counts in
     let w = written_as a.out.now a.notes.now a.place in
-    let x = behind a.has-object (attributes_object source a.levels) (drop a.cursor.at s) in
+    let x = behind a.has_object (attributes_object source a.levels) (drop a.cursor.at s) in
     let past = bounded c.check_attributes.ensures c.in-Is.is in
     record {
       answer = import_written source types w s a.dependency x (told c.check_attributes.ensures c.in-Is.is)

@@ -29,11 +29,10 @@ returns-in-Other c =
     let w = written_as a.out.now a.notes.now a.place in
     let sp = c.in-Is.span in
     let next = c.in-Is.next in
-    let told = c.enum_told-1.given in
     λ n t e far.
     let (ns, read, made) = children_are s source a.root.at depth_limit c.read_head.ensures.answer c.in-Is.is e
-    told.1 in
-    children_walked source types (node source (depth_limit - 1)) sp w (far sp ns made) told.0.0 (drop next.at s) read made
+    c.in-Other.is in
+    children_walked source types (node source (depth_limit - 1)) sp w (far sp ns made) c.in-Other.field-0 (drop next.at s) read made
     c.walk_nodes.ensures.answer
 
 pub returns-in_default : goal.returns-in_default

@@ -1,7 +1,6 @@
 -- A number's groups at a place of a list, and the place values that they have.
 use Rattle.laws.proofs.Prelude.{◌≡◌, refl, ap, ◌∙◌, true, cond, ◌||◌, List, ℕ, zero, suc, ◌+◌, ◌-◌, ◌*◌, ◌≤◌, ◌<◌, arith, leb, ltb, length, get_or, drop}
 use Rattle.laws.proofs.Prelude.{lt-ltb, le-ltb, le-leb}
-use Prim.Native.Nat.{◌^◌}
 use native.Mathlib.Nat.{mul-le-mul, le_refl, pow-le-pow_right, pow-suc}
 use Rattle.laws.specs.Decoded.{ok, no, ◌>>◌, require}
 use Rattle.wire.specs.Number.{largest, last_group, groups, number}

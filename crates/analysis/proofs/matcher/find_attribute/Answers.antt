@@ -1,4 +1,4 @@
-use Rattle.laws.proofs.Prelude.{arith, sym, ◌∙◌, ◌-◌, known}
+use Rattle.laws.proofs.Prelude.{arith, sym, ◌∙◌, known}
 use Rattle.analysis.specs.{Patterns.attribute_row}
 use Rattle.analysis.proofs.Search.{left_starts, left_step, left_ends}
 use Rattle.analysis.proofs.{RowSteps.attribute_ends}

@@ -1,4 +1,4 @@
-use Rattle.laws.proofs.Prelude.{arith, refl, sym, ◌∙◌, ◌-◌}
+use Rattle.laws.proofs.Prelude.{arith, refl, sym, ◌∙◌}
 use Rattle.analysis.proofs.Spelling.{word_misses, word_goes_on, word_ends}
 use Rattle.analysis.proofs.matcher.match_word.Goals as goal
 

@@ -1,4 +1,4 @@
-use Rattle.laws.proofs.Prelude.{arith, refl, ◌∙◌, ◌-◌, known}
+use Rattle.laws.proofs.Prelude.{arith, ◌∙◌, known}
 use Rattle.analysis.proofs.RowSteps.{reference_hit, reference_stop, reference_goes_on}
 use Rattle.analysis.proofs.matcher.reference_ends.Goals as goal
 

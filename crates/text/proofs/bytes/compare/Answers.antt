@@ -1,4 +1,4 @@
-use Rattle.laws.proofs.Prelude.{refl, sym, ◌∙◌, ◌-◌}
+use Rattle.laws.proofs.Prelude.{refl, sym, ◌∙◌}
 use Rattle.text.proofs.Words.{order_equal, order_prefix, order_longer, order_less, order_greater, order_next}
 use Rattle.text.proofs.bytes.compare.Goals as goal
 

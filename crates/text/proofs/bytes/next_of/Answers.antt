@@ -1,4 +1,4 @@
-use Rattle.laws.proofs.Prelude.{arith, ◌≡◌, ◌-◌, get_or}
+use Rattle.laws.proofs.Prelude.{arith, ◌≡◌, get_or}
 use Rattle.laws.proofs.Onward.{on_by_one}
 use Rattle.text.proofs.bytes.next_of.Goals as goal
 

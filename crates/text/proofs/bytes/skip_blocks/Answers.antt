@@ -1,4 +1,4 @@
-use Rattle.laws.proofs.Prelude.{arith, ◌≡◌, ◌-◌, get_or}
+use Rattle.laws.proofs.Prelude.{arith, ◌≡◌, get_or}
 use Rattle.laws.proofs.Onward.{on_by_block}
 use Rattle.text.proofs.bytes.skip_blocks.Goals as goal
 

@@ -1,4 +1,4 @@
-use Rattle.laws.proofs.Prelude.{arith, add-zero, sym, ◌∙◌, ◌-◌}
+use Rattle.laws.proofs.Prelude.{arith, add-zero, sym, ◌∙◌}
 use Rattle.text.proofs.Words.{begins_end, begins_short, begins_differ, begins_agree}
 use Rattle.text.proofs.bytes.starts_with.Goals as goal
 

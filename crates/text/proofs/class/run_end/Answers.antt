@@ -1,4 +1,4 @@
-use Rattle.laws.proofs.Prelude.{arith, ◌-◌, drop, drop-drop, known}
+use Rattle.laws.proofs.Prelude.{arith, drop, drop-drop, known}
 use Rattle.text.proofs.{Runs.run_stops, Runs.run_goes_on}
 use Rattle.text.proofs.class.run_end.Goals as goal
 

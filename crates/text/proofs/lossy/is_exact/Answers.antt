@@ -1,4 +1,4 @@
-use Rattle.laws.proofs.Prelude.{refl, ◌∙◌, ◌-◌, known}
+use Rattle.laws.proofs.Prelude.{refl, ◌∙◌, known}
 use lib.Dec.{eqb-suc-zero}
 use Rattle.text.proofs.Replaced.{none_left, marked_count, copied_count}
 use Rattle.text.proofs.{Reported.lossy_of}

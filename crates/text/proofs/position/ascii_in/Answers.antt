@@ -1,4 +1,4 @@
-use Rattle.laws.proofs.Prelude.{ℕ, ◌+◌, ◌-◌, ◌<◌, arith, inl, inr, get_or}
+use Rattle.laws.proofs.Prelude.{ℕ, ◌+◌, ◌<◌, arith, inl, inr, get_or}
 use Rattle.text.proofs.Counted.{counted_none, counted_more}
 use Rattle.text.proofs.position.ascii_in.Goals as goal
 use Rattle.text.proofs.position.ascii_in.Goals.{then-s-from-lt128, else-s-from-lt128}

@@ -1,5 +1,4 @@
-use Rattle.laws.proofs.Prelude.{◌+◌, ◌-◌, ◌≤◌, ◌<◌, arith, ◌≡◌, sym, ◌∙◌, get_or}
-use borrow.Author.Tests.{not-true, not-false}
+use Rattle.laws.proofs.Prelude.{◌+◌, ◌≤◌, ◌<◌, arith, ◌≡◌, sym, ◌∙◌, get_or}
 use Rattle.text.specs.code.Totals.{begins_one}
 use Rattle.text.proofs.Sums.{begun_none, begun_more, begins, begins_not}
 use Rattle.text.proofs.position.begun_in.Goals as goal
@@ -13,22 +12,22 @@ loop-i-preserved c =
     let g = c.goes_on.ensures in
     let more : a.k ≤ l.i → c.if-not-goes_on.n ≡ l.n + begins_one b =
     λ h. elim c.if-not-goes_on.branch [
-      then-not-goes_on+then-k-j w ↦ omega (arith, begins b (sym g ∙ w.if-not-goes_on.true))
-    | then-not-goes_on+else-k-j w ↦ absurd (omega arith)
-    | else-not-goes_on w ↦ omega (arith, begins_not b (sym g ∙ w.if-not-goes_on.false))
+      | then-not-goes_on+then-k-j w ↦ omega (arith, begins b (sym g ∙ w.if-not-goes_on.true))
+      | then-not-goes_on+else-k-j w ↦ absurd (omega arith)
+      | else-not-goes_on w ↦ omega (arith, begins_not b (sym g ∙ w.if-not-goes_on.false))
     ] in
     let same : l.i < a.k → c.if-not-goes_on.n ≡ l.n =
     λ h. elim c.if-not-goes_on.branch [
-      then-not-goes_on+then-k-j w ↦ absurd (omega arith)
-    | then-not-goes_on+else-k-j w ↦ omega arith
-    | else-not-goes_on w ↦ omega arith
+      | then-not-goes_on+then-k-j w ↦ absurd (omega arith)
+      | then-not-goes_on+else-k-j w ↦ omega arith
+      | else-not-goes_on w ↦ omega arith
     ] in (
       omega arith,
       omega arith,
       elim c.if-not-goes_on.branch [
-        then-not-goes_on+then-k-j w ↦ omega arith
-      | then-not-goes_on+else-k-j w ↦ omega arith
-      | else-not-goes_on w ↦ omega arith
+        | then-not-goes_on+then-k-j w ↦ omega arith
+        | then-not-goes_on+else-k-j w ↦ omega arith
+        | else-not-goes_on w ↦ omega arith
       ],
       begun_more a.s.now a.from a.k l.i l.n c.if-not-goes_on.n (omega arith) l.invariant.3 more same,
     )

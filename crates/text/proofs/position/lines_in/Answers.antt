@@ -1,4 +1,4 @@
-use Rattle.laws.proofs.Prelude.{◌+◌, ◌-◌, arith, ◌≡◌, refl, get_or}
+use Rattle.laws.proofs.Prelude.{◌+◌, arith, ◌≡◌, refl, get_or}
 use Rattle.text.specs.code.Totals.{total, ends_line}
 use Rattle.text.proofs.Sums.{total_suc, ends, ends_not}
 use Rattle.text.proofs.position.lines_in.Goals as goal

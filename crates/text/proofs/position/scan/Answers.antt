@@ -1,4 +1,4 @@
-use Rattle.laws.proofs.Prelude.{arith, refl, sym, ◌∙◌, ◌-◌, get_or}
+use Rattle.laws.proofs.Prelude.{arith, refl, sym, ◌∙◌, get_or}
 use Rattle.text.specs.Position.{characters}
 use Rattle.text.proofs.Positions.{walk_next, walk_end, step_bounded}
 use Rattle.text.proofs.position.scan.Goals as goal

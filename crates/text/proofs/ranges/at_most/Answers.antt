@@ -1,4 +1,4 @@
-use Rattle.laws.proofs.Prelude.{◌-◌, arith}
+use Rattle.laws.proofs.Prelude.{arith}
 use Rattle.text.proofs.{Bounds.up, Bounds.down}
 use Rattle.text.proofs.ranges.at_most.Goals as goal
 

@@ -1,4 +1,4 @@
-use Rattle.laws.proofs.Prelude.{ℕ, ◌+◌, ◌-◌, ◌<◌, arith, inl, inr, get_or}
+use Rattle.laws.proofs.Prelude.{ℕ, ◌+◌, ◌<◌, arith, inl, inr, get_or}
 use Rattle.text.proofs.Counted.{counted_none, counted_more}
 use Rattle.text.proofs.utf8.ascii_in_eight.Goals as goal
 use Rattle.text.proofs.utf8.ascii_in_eight.Goals.{then-s-at-lt128, else-s-at-lt128}

@@ -1,4 +1,4 @@
-use Rattle.laws.proofs.Prelude.{arith, refl, sym, ◌∙◌, ◌-◌, drop, length-drop}
+use Rattle.laws.proofs.Prelude.{arith, refl, sym, ◌∙◌, drop, length-drop}
 use Rattle.text.proofs.Formed.{stuck, passed, fits}
 use Rattle.text.proofs.{Ascii.ascii_one}
 use Rattle.text.proofs.utf8.run_to.Goals as goal

@@ -1,4 +1,4 @@
-use Rattle.laws.proofs.Prelude.{arith, refl, sym, ◌∙◌, ◌-◌}
+use Rattle.laws.proofs.Prelude.{arith, refl, sym, ◌∙◌}
 use Rattle.text.proofs.{Formed.ended, Ascii.ascii_run, WellFormed.judged}
 use Rattle.text.proofs.utf8.well_formed.Goals as goal
 

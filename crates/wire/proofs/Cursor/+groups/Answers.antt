@@ -1,4 +1,4 @@
-use Rattle.laws.proofs.Prelude.{rules, lt-ltb, lt-leb, arith, sym, ◌∙◌, ◌-◌, ◌<◌, length, get_or, known}
+use Rattle.laws.proofs.Prelude.{lt-ltb, lt-leb, arith, sym, ◌∙◌, ◌-◌, ◌<◌, length, get_or, known}
 use Rattle.wire.specs.Number.{last_group}
 use Rattle.wire.proofs.Groups.{none_left, cut_off, next_group, last_group_lem, more_groups, past_before, scale_small, group_small, next_place}
 use Rattle.wire.proofs.Cursor.+groups.Goals as goal

@@ -8,5 +8,3 @@ mod Cases
 pub mod Ranges
 pub mod Stands
 pub mod RangesApart
-pub mod Again
-pub mod Held

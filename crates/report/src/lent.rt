@@ -29,6 +29,7 @@ impl<'a> Writer<'a> {
         ensures { outcome_as result self.exit.0.now
             ≡ answered (length self.entry.out.now) (buffer_as self.entry.out.now self.entry.place) }
     {
-        crate::writer::finish(&mut *self.out, self.place)
+        let Writer { out, place } = self;
+        crate::writer::finish(out, place)
     }
 }

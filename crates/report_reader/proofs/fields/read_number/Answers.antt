@@ -7,13 +7,12 @@ pub returns-in-Value : goal.returns-in-Value
 returns-in-Value c =
     let a = c.args in
     let s = a.report.now in
-    let (n, next) = c.value-1.given.0 in
     let found = c.in-Value.is in
     let q = told c.number.ensures found in
     record {
       small = (number_codec.sound _ _ _ q).1;
       inside = (bounded c.number.ensures found).1;
-      read = number_read s a.at n next.0.at q;
+      read = number_read s a.at c.in-Value.value c.in-Value.next.at q;
     }
 
 pub returns-in-Refused : goal.returns-in-Refused

@@ -6,8 +6,8 @@ use Rattle.report_reader.proofs.fields.skip_parts.Given as goal
 
 abbrev pub invariant-loop-left : goal.invariant-loop-left
 invariant-loop-left l =
-    (l : List (Element l.keyed)) → (length l ≡ l.count) × All (ValidElement l.keyed) l → (t : List ℕ) → drop l.at l.report ≡ flat_map (encode_element l.keyed) l ++ t
-    → (l' : List (Element l.keyed)) × Stand (encode_element l.keyed) (ValidElement l.keyed) l.report t l.place l.left l'
+    (all : List (Element l.keyed)) → (length all ≡ l.count) × All (ValidElement l.keyed) all → (t : List ℕ) → drop l.at l.report ≡ flat_map (encode_element l.keyed) all ++ t
+    → (rest : List (Element l.keyed)) × Stand (encode_element l.keyed) (ValidElement l.keyed) l.report t l.place l.left rest
 
 abbrev pub decreases-loop-left : goal.decreases-loop-left
 decreases-loop-left l = l.left

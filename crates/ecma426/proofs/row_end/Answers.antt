@@ -1,4 +1,4 @@
-use Rattle.laws.proofs.Prelude.{arith, sym, ◌∙◌, ◌-◌, known}
+use Rattle.laws.proofs.Prelude.{arith, sym, ◌∙◌, known}
 use Rattle.ecma426.proofs.{LongestRow.row_stops, LongestRow.row_goes_on}
 use Rattle.ecma426.proofs.row_end.Goals as goal
 

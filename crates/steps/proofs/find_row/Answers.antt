@@ -1,4 +1,4 @@
-use Rattle.laws.proofs.Prelude.{arith, sym, ◌∙◌, ◌-◌}
+use Rattle.laws.proofs.Prelude.{arith, sym, ◌∙◌}
 use Rattle.analysis.{proofs.Search.left_starts}
 use Rattle.steps.proofs.Tables.{left_hit, left_miss, left_last}
 use Rattle.steps.proofs.find_row.Goals as goal

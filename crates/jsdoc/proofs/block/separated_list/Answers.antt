@@ -1,4 +1,4 @@
-use Rattle.laws.proofs.Prelude.{rules, arith, refl, sym, ◌∙◌, ◌-◌, drop, length-drop, told, bounded}
+use Rattle.laws.proofs.Prelude.{rules, arith, refl, sym, ◌∙◌, drop, length-drop, told, bounded}
 use Rattle.jsdoc.specs.{Reader.unnamed}
 use Rattle.jsdoc.proofs.Blocks.{attributes_none, attributes_last, attributes_shorter, attributes_next}
 use Rattle.jsdoc.proofs.block.separated_list.Goals as goal

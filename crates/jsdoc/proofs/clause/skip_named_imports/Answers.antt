@@ -1,4 +1,4 @@
-use Rattle.laws.proofs.Prelude.{told, bounded}
+use Rattle.laws.proofs.Prelude.{told}
 use Rattle.jsdoc.specs.Reader.{skip_named_imports}
 use Rattle.jsdoc.proofs.clause.skip_named_imports.Goals as goal
 

@@ -1,4 +1,4 @@
-use Rattle.laws.proofs.Prelude.{told, bounded}
+use Rattle.laws.proofs.Prelude.{told}
 use Rattle.jsdoc.specs.Reader.{skip_namespace_import}
 use Rattle.jsdoc.proofs.clause.skip_namespace_import.Goals as goal
 

@@ -1,4 +1,4 @@
-use Rattle.laws.proofs.Prelude.{rules, refl, ◌∙◌, ◌-◌, known, told, bounded}
+use Rattle.laws.proofs.Prelude.{rules, ◌∙◌, known, told}
 use Rattle.jsdoc.proofs.Searches.{search_ended, search_closed, search_found, search_further, no_brace, no_import, call_read}
 use Rattle.jsdoc.proofs.dynamic_import.parse_jsdoc_dynamic_import.Goals as goal
 

@@ -1,4 +1,4 @@
-use Rattle.laws.proofs.Prelude.{told, bounded}
+use Rattle.laws.proofs.Prelude.{told}
 use Rattle.jsdoc.specs.Reader.{second_param_start}
 use Rattle.jsdoc.proofs.dynamic_import.second_param_start.Goals as goal
 

@@ -1,4 +1,4 @@
-use Rattle.laws.proofs.Prelude.{told, bounded}
+use Rattle.laws.proofs.Prelude.{told}
 use Rattle.jsdoc.specs.Reader.{parse_attributes}
 use Rattle.jsdoc.proofs.import_decl.parse_attributes.Goals as goal
 

@@ -1,4 +1,4 @@
-use Rattle.laws.proofs.Prelude.{told, bounded}
+use Rattle.laws.proofs.Prelude.{told}
 use Rattle.jsdoc.specs.Reader.{parse_jsdoc_import_decl}
 use Rattle.jsdoc.proofs.import_decl.parse_jsdoc_import_decl.Goals as goal
 

@@ -1,4 +1,4 @@
-use Rattle.laws.proofs.Prelude.{arith, ◌≡◌, refl, ◌∙◌, append-nil, ◌-◌, ◌≤◌, length, length-set, drop_of_length-le}
+use Rattle.laws.proofs.Prelude.{arith, ◌≡◌, refl, ◌∙◌, append-nil, ◌≤◌, length, length-set, drop_of_length-le}
 use borrow.Author.Fill.{fill_none, fill_more}
 use Rattle.jsdoc.proofs.imports.clear.Goals as goal
 

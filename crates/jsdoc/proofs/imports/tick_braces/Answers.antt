@@ -1,4 +1,4 @@
-use Rattle.laws.proofs.Prelude.{rules, arith, sym, ap, ◌∙◌, ◌+◌, ◌-◌, length, length-drop, length-replicate}
+use Rattle.laws.proofs.Prelude.{rules, arith, sym, ap, ◌∙◌, ◌+◌, length, length-drop, length-replicate}
 use Rattle.jsdoc.proofs.{Moved.part_to_end, Searches.search_goes_on, Skips.braces_skip}
 use Rattle.jsdoc.proofs.Ticking.{braces, room, ticks_none, braces_all, no_brace_turn, brace_turn}
 use Rattle.jsdoc.proofs.imports.tick_braces.Goals as goal

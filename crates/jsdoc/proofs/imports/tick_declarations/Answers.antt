@@ -1,4 +1,4 @@
-use Rattle.laws.proofs.Prelude.{rules, arith, ◌+◌, ◌-◌}
+use Rattle.laws.proofs.Prelude.{rules, arith, ◌+◌}
 use Rattle.jsdoc.proofs.{Moved.part_to_end, Skips.declarations_skip}
 use Rattle.jsdoc.proofs.Ticking.{declarations, room, besides_none, listed_all, declaration_turn}
 use Rattle.jsdoc.proofs.imports.tick_declarations.Goals as goal

@@ -1,4 +1,4 @@
-use Rattle.laws.proofs.Prelude.{rules, arith, sym, ap, ◌∙◌, ◌+◌, ◌-◌, length, length-drop, length-replicate}
+use Rattle.laws.proofs.Prelude.{rules, arith, sym, ap, ◌∙◌, ◌+◌, length, length-drop, length-replicate}
 use Rattle.jsdoc.proofs.{Moved.part_to_end, Searches.search_goes_on, Ticking.braces, Ticking.room}
 use Rattle.jsdoc.proofs.Noting.{early_none, braces_noted, no_brace_noted, brace_noted, braces_noted_to}
 use Rattle.jsdoc.proofs.origins.note_braces.Goals as goal

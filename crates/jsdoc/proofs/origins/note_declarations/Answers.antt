@@ -1,4 +1,4 @@
-use Rattle.laws.proofs.Prelude.{rules, arith, ◌+◌, ◌-◌}
+use Rattle.laws.proofs.Prelude.{rules, arith, ◌+◌}
 use Rattle.jsdoc.proofs.{Moved.part_to_end, Ticking.declarations, Ticking.room}
 use Rattle.jsdoc.proofs.Noting.{beside_none, readings_noted, declaration_noted, declarations_noted_to}
 use Rattle.jsdoc.proofs.origins.note_declarations.Goals as goal

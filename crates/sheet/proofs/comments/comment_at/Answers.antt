@@ -1,4 +1,3 @@
-use Rattle.laws.proofs.Prelude.{◌+◌, ◌*◌, arith}
 use Rattle.sheet.proofs.comments.comment_at.Goals as goal
 
 pub returns : goal.returns

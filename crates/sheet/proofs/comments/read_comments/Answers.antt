@@ -1,4 +1,4 @@
-use Rattle.laws.proofs.Prelude.{arith, sym, ◌-◌, seen}
+use Rattle.laws.proofs.Prelude.{arith, sym, seen}
 use Rattle.sheet.specs.{code.Views.comment_as}
 use Rattle.sheet.proofs.{Stores.comment_table_lem, CommentCodecs.comment_codec}
 use Rattle.sheet.proofs.Filling.{fill_none, fill_stop, fill_more, fill_all}

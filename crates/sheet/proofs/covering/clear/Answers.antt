@@ -1,4 +1,4 @@
-use Rattle.laws.proofs.Prelude.{arith, ◌≡◌, refl, ◌-◌, length-set}
+use Rattle.laws.proofs.Prelude.{arith, ◌≡◌, refl, length-set}
 use borrow.Author.Fill.{fill_none, fill_more}
 use Rattle.sheet.proofs.covering.clear.Goals as goal
 

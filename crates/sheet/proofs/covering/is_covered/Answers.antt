@@ -1,4 +1,4 @@
-use Rattle.laws.proofs.Prelude.{rules, arith, ◌≡◌, sym, ◌-◌}
+use Rattle.laws.proofs.Prelude.{rules, arith, ◌≡◌, sym}
 use Rattle.sheet.proofs.Coverings.{pass_none, pass_more, pass_stop, keep_zeros}
 use Rattle.sheet.proofs.covering.is_covered.Goals as goal
 

@@ -1,4 +1,4 @@
-use Rattle.laws.proofs.Prelude.{arith, refl, ◌∙◌, ◌+◌, ◌-◌, ◌*◌}
+use Rattle.laws.proofs.Prelude.{refl, ◌∙◌}
 use Rattle.sheet.proofs.Coverings.{keep_none, keep_more, keep_all}
 use Rattle.sheet.proofs.covering.keep_longest.Goals as goal
 

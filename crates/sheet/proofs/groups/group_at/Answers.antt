@@ -1,4 +1,3 @@
-use Rattle.laws.proofs.Prelude.{◌+◌, ◌*◌, arith}
 use Rattle.sheet.proofs.groups.group_at.Goals as goal
 
 pub returns : goal.returns

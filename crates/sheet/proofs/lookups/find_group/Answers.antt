@@ -1,4 +1,4 @@
-use Rattle.laws.proofs.Prelude.{arith, sym, ◌-◌, known}
+use Rattle.laws.proofs.Prelude.{arith, sym, known}
 use Rattle.sheet.proofs.Search.{search_all, search_none, search_found, search_up, search_down}
 use Rattle.sheet.proofs.lookups.find_group.Goals as goal
 

@@ -1,4 +1,4 @@
-use Rattle.laws.proofs.Prelude.{◌≡◌, ◌+◌, ◌-◌, ◌*◌, ◌≤◌, length}
+use Rattle.laws.proofs.Prelude.{◌+◌, ◌-◌, ◌*◌, ◌≤◌, length}
 use Rattle.text.specs.declared.class.Class.{Class}
 use Rattle.steps.proofs.Running.{Goes, Shorter, Longer}
 use Rattle.steps.proofs.run.+run.Given as goal

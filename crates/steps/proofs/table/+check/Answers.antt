@@ -1,4 +1,4 @@
-use Rattle.laws.proofs.Prelude.{◌≡◌, refl, sym, ap, ◌∙◌, ◌+◌, ◌-◌, arith, rules, known}
+use Rattle.laws.proofs.Prelude.{◌≡◌, refl, sym, ap, ◌∙◌, ◌+◌, ◌-◌, arith, known}
 use Rattle.steps.specs.{Answers.verdict_of}
 use Rattle.steps.proofs.Decoding.{lies, row_in_lem, judged_pass, judged_longest, judged_shortest, judged_first, judged_second, from_on}
 use Rattle.steps.proofs.table.+check.Goals as goal

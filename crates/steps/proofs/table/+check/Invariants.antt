@@ -1,4 +1,4 @@
-use Rattle.laws.proofs.Prelude.{◌≡◌, ◌-◌, ◌≤◌, length}
+use Rattle.laws.proofs.Prelude.{◌≡◌, ◌≤◌, length}
 use Rattle.steps.specs.{Table.row_in, Answers.verdict_of}
 use Rattle.steps.proofs.table.+check.Given as goal
 

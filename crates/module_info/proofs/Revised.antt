@@ -77,13 +77,13 @@ module _ {t u : Sheet} {k : ℕ} (r : Revision t u k) where
     unfolding module_info end_comments
     source_map_lem lacks = source_map_kept t.source u.source t.media (end_comments t) (in_group_lem (end_group t.program t.groups) lacks)
 
-    head_origins_kept : Lacks k (head_group t.program t.groups) → origins_of_head t ≡ origins_of_head second
+    head_origins : Lacks k (head_group t.program t.groups) → origins_of_head t ≡ origins_of_head second
     unfolding head_comments
-    head_origins_kept lacks = head_origins_kept t.source u.source t.media (head_comments t) (in_group_lem (head_group t.program t.groups) lacks)
+    head_origins lacks = head_origins_kept t.source u.source t.media (head_comments t) (in_group_lem (head_group t.program t.groups) lacks)
 
-    end_origins_kept : Lacks k (end_group t.program t.groups) → origins_of_end t ≡ origins_of_end second
+    end_origins : Lacks k (end_group t.program t.groups) → origins_of_end t ≡ origins_of_end second
     unfolding end_comments
-    end_origins_kept lacks = end_origins_kept t.source u.source (end_comments t) (in_group_lem (end_group t.program t.groups) lacks)
+    end_origins lacks = end_origins_kept t.source u.source (end_comments t) (in_group_lem (end_group t.program t.groups) lacks)
 
     entry : (v : Visit) → Memᴰ v (visits t.root) → Lacks k (group_at t.groups Leading (start_of v)) → dependency_of t v ≡ dependency_of second v
     entry v m lacks = by_types_lem (types_at t) (types_at second) v m
@@ -137,8 +137,8 @@ module _ {t u : Sheet} {k : ℕ} (r : Revision t u k) where
       but_types = λ types v m. by_types_lem types types v m refl;
       rows = rows_kept t.source u.source (types_at t) (types_at second) t.root;
       jsdoc_origins_kept = λ i l n. origins_kept (others_alike r f fit i l n);
-      head_origins_kept = head_origins_kept;
-      end_origins_kept = end_origins_kept;
+      head_origins_kept = head_origins;
+      end_origins_kept = end_origins;
       types_origins_kept = λ at lacks. types_origins_kept t.source u.source t.comments t.groups at (in_group_lem (group_at t.groups Leading at) lacks);
       all = all_same;
     }

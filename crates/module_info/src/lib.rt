@@ -185,7 +185,8 @@ fn write_report(
         → outcome_as result buffer.new ≡ fitted (length buffer.old) (encode (module_info t)) }
 {
     let w = report::lent::new(buffer);
-    let place = put_report(sheet, parts, tables, &mut *w.out, w.place);
+    let start = w.place;
+    let place = put_report(sheet, parts, tables, &mut *w.out, start);
     let w = Writer {
         out: w.out,
         place: place,

@@ -14,10 +14,11 @@ returns-in-Empty c =
 
 pub write_noted_report-requires : goal.write_noted_report-requires
 write_noted_report-requires c =
-    let a = c.args in (
-      rw c.in-Accepted.is at c.judge.ensures.answer,
-      cleared_whole (length a.notes.now) c.clear_notes.ensures,
-    )
+    let a = c.args in
+    record {
+      accepts_in = rw c.in-Accepted.is at c.judge.ensures.answer;
+      notes_value = cleared_whole (length a.notes.now) c.clear_notes.ensures;
+    }
 
 pub returns-in-Refused : goal.returns-in-Refused
 returns-in-Refused c =

@@ -3,34 +3,29 @@ use Rattle.pragmas.{specs.Readings.read_by, specs.Pragmas.first_by, proofs.Reach
 use Rattle.module_info.proofs.{Written.head_written}
 use Rattle.module_info.proofs.put_head.Goals as goal
 
--- unknown fields: pre
-
-pub slice_bounds-comments-end : goal.slice_bounds-comments-end
-slice_bounds-comments-end c = let room = c.requires.0 in omega arith
-
-pub slice_bounds-groups-end : goal.slice_bounds-groups-end
-slice_bounds-groups-end c = let room = c.requires.0 in omega arith
-
 pub analyze_ts_references-p-requires : goal.analyze_ts_references-p-requires
-analyze_ts_references-p-requires c =
-    (c.requires.1.0, head_reached c.requires.1.1.grouped _ _ c.head_group-head.ensures)
+analyze_ts_references-p-requires c = record {
+  commented = c.requires.1.0;
+  reached = head_reached c.requires.1.1.grouped _ _ c.head_group-head.ensures;
+}
 
 pub analyze_first-p-requires : goal.analyze_first-p-requires
-analyze_first-p-requires c =
-    (c.requires.1.0, head_reached c.requires.1.1.grouped _ _ c.head_group-head.ensures)
+analyze_first-p-requires c = record {
+  commented = c.requires.1.0;
+  reached = head_reached c.requires.1.1.grouped _ _ c.head_group-head.ensures;
+}
 
 pub analyze_first-p-requires-2 : goal.analyze_first-p-requires-2
-analyze_first-p-requires-2 c = (
-  c.requires.1.0,
-  head_reached c.requires.1.1.grouped _ _ c.head_group-head.ensures,
-)
+analyze_first-p-requires-2 c = record {
+  commented = c.requires.1.0;
+  reached = head_reached c.requires.1.1.grouped _ _ c.head_group-head.ensures;
+}
 
 pub analyze_first-requires : goal.analyze_first-requires
-analyze_first-requires c = (
-  c.pre.1.0,
-  head_reached c.pre.1.1.grouped _ _
-      c.head_group-head.ensures,
-)
+analyze_first-requires c = record {
+  commented = c.requires.1.0;
+  reached = head_reached c.requires.1.1.grouped _ _ c.head_group-head.ensures;
+}
 
 pub returns : goal.returns
 unfolding read_by first_by
@@ -38,6 +33,3 @@ returns c =
     λ t o. head_written o _ c.head_group-head.ensures c.analyze_ts_references-p.ensures
     c.analyze_first-p.ensures
     c.analyze_first-p-2.ensures c.analyze_first.ensures
-
-pub slice_bounds-index-end : goal.slice_bounds-index-end
-slice_bounds-index-end c = c.requires.0

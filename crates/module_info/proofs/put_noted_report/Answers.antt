@@ -7,10 +7,7 @@ pub put_head-p-requires : goal.put_head-p-requires
 put_head-p-requires c = held c.requires
 
 pub put_rest-requires : goal.put_rest-requires
-put_rest-requires c = (
-  search rules,
-  held c.requires,
-)
+put_rest-requires c = record { ticks_value = search rules; held_by = held c.requires }
 
 pub returns-then-source-le4096 : goal.returns-then-source-le4096
 returns-then-source-le4096 c =
@@ -23,10 +20,7 @@ returns-then-source-le4096 c =
     )
 
 pub put_rest-requires-2 : goal.put_rest-requires-2
-put_rest-requires-2 c = (
-  search rules,
-  held c.requires,
-)
+put_rest-requires-2 c = record { ticks_value = search rules; held_by = held c.requires }
 
 pub returns : goal.returns
 returns c =

@@ -9,7 +9,7 @@ pub returns : goal.returns
 returns c =
     let a = c.args in
     let put = c.put_bytes-place in
-    let kept : length put.new.1.0 ≡ length a.buffer.now = search rules in
-    let written : buffer_as put.new.1.0 put.result
+    let kept : length put.new.out ≡ length a.buffer.now = search rules in
+    let written : buffer_as put.new.out put.result
     ≡ wrote (holds (length a.buffer.now) []) (encode default_info) = rw default_bytes put.ensures in
     c.finish.ensures ∙ answered_fitted (encode default_info) kept written

@@ -12,9 +12,9 @@ returns-in-Accepted c =
     let a = c.args in
     let put = c.put_noted_report-place in
     let (written, numbered) = put.ensures t e in
-    let whole : buffer_as put.new.1.1.1.0 put.result ≡ wrote (holds (length a.buffer.now) []) (encode (module_info t)) = written in
+    let whole : buffer_as put.new.out put.result ≡ wrote (holds (length a.buffer.now) []) (encode (module_info t)) = written in
     let answer = rw c.in-Accepted.is at c.finish.ensures ∙
-    answered_fitted (encode (module_info t)) put.auto.1.1.1.0 whole in
+    answered_fitted (encode (module_info t)) put.auto.out whole in
     (answer, accepted_notes (length a.notes.now) (noted t) (numbered ∙ ap (λ l. all_noted l (noted t)) c.requires.notes_value))
 
 pub returns-in-Refused : goal.returns-in-Refused
@@ -23,9 +23,9 @@ returns-in-Refused c =
     let a = c.args in
     let put = c.put_noted_report-place in
     let (written, numbered) = put.ensures t e in
-    let whole : buffer_as put.new.1.1.1.0 put.result ≡ wrote (holds (length a.buffer.now) []) (encode (module_info t)) = written in
-    let answer = rw c.in-Refused.is at c.finish.ensures ∙ answered_fitted (encode (module_info t)) put.auto.1.1.1.0 whole in (
+    let whole : buffer_as put.new.out put.result ≡ wrote (holds (length a.buffer.now) []) (encode (module_info t)) = written in
+    let answer = rw c.in-Refused.is at c.finish.ensures ∙ answered_fitted (encode (module_info t)) put.auto.out whole in (
       answer,
       refused_notes (length a.notes.now) (length a.buffer.now) c.in-Refused.r c.finish.new.out (noted t) (module_info t)
-          answer (c.clear_notes.ensures ∙ ap zeros put.auto.1.1.1.1.0),
+          answer (c.clear_notes.ensures ∙ ap zeros put.auto.notes),
     )

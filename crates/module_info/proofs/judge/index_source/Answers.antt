@@ -13,7 +13,7 @@ build_index-requires c =
 pub returns : goal.returns
 returns c =
     let index = c.build_index in
-    indexed_in c.args.tables.now c.requires.table_numbers_in_bounds c.requires.accepts index.new.1.0 index.auto.1.0 index.ensures.answer
+    indexed_in c.args.tables.now c.requires.table_numbers_in_bounds c.requires.accepts index.new.index index.auto.index index.ensures.answer
 
 pub slice_bounds-build_index-count : goal.slice_bounds-build_index-count
 slice_bounds-build_index-count c = c.requires.accepts.places.0

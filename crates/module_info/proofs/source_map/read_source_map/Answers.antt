@@ -12,14 +12,19 @@ end_group-group-requires c = let h = held c.requires in search rules
 pub find_reading-reading-requires : goal.find_reading-reading-requires
 find_reading-reading-requires c =
     let h = held c.requires in
-    (h.1.0.room, (h.1.0.fit, end_reached h.1.1.grouped (program_of c.args.parts.program) _ c.end_group-group.ensures))
+    record {
+      n_in_bounds = h.1.0.room;
+      fit = h.1.0.fit;
+      reached = end_reached h.1.1.grouped (program_of c.args.parts.program) _ c.end_group-group.ensures;
+    }
 
 pub locate-requires : goal.locate-requires
 locate-requires c =
-    let (order, inside) = c.requires.accepts.places in (
-      (c.requires.indexed, c.find_reading-reading.ensures.bounds),
-      omega (arith, part_length c.args.sheet.now c.args.parts.source_start c.args.parts.source_end order inside),
-    )
+    let (order, inside) = c.requires.accepts.places in
+    record {
+      index_of = (c.requires.indexed, c.find_reading-reading.ensures.bounds);
+      source_bound = omega (arith, part_length c.args.sheet.now c.args.parts.source_start c.args.parts.source_end order inside);
+    }
 
 pub returns : goal.returns
 returns c =

@@ -1,5 +1,5 @@
 -- How far the entries of the root's children reach, child by child.
-use Rattle.laws.proofs.Prelude.{◌≡◌, refl, sym, ap, ◌∙◌, List, [], ◌∷◌, ℕ, zero, suc, ◌+◌, ◌-◌, ◌≤◌, ◌<◌, arith, drop, seen}
+use Rattle.laws.proofs.Prelude.{◌≡◌, refl, sym, ap, ◌∙◌, List, [], ℕ, zero, suc, ◌+◌, ◌-◌, ◌≤◌, ◌<◌, arith, drop, seen}
 use Rattle.laws.specs.Decoded.{ok, on_ok, Decoder}
 use Rattle.laws.proofs.Answers.{Yields, ends, behind}
 use Rattle.laws.proofs.Decoding.{then_ok, on_ok_ok}

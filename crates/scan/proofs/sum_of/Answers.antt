@@ -1,4 +1,4 @@
-use Rattle.laws.proofs.Prelude.{arith, ◌≡◌, sym, ⊎_elim, ◌<◌, ◌+◌, ◌-◌, drop, length-drop}
+use Rattle.laws.proofs.Prelude.{arith, ◌≡◌, sym, ◌<◌, ◌+◌, ◌-◌, drop, length-drop}
 use lib.Seq.{drop-length}
 use Rattle.scan.proofs.Steps.{ends, none, within, back_brace, back_other}
 use Rattle.scan.proofs.{Bounds.small}
@@ -26,7 +26,7 @@ loop-i-preserved c =
       omega arith,
       c.length_at-ahead.ensures,
       elim c.if-body-i-eq123.branch [
-        then-body-i-eq123 w ↦ omega (arith, back_brace body l.i some l.invariant.0 w.if-body-i-eq123.true)
+        | then-body-i-eq123 w ↦ omega (arith, back_brace body l.i some l.invariant.0 w.if-body-i-eq123.true)
         | else-body-i-eq123 w ↦ omega (arith, back_other body l.i some l.invariant.0 w.if-body-i-eq123.false)
       ],
     )

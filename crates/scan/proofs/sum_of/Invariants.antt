@@ -1,4 +1,4 @@
-use Rattle.laws.proofs.Prelude.{◌≡◌, ◌≤◌, ◌-◌, length, drop}
+use Rattle.laws.proofs.Prelude.{◌≡◌, ◌≤◌, length, drop}
 use Rattle.scan.specs.Scan.{scan_length, scan_sum}
 use Rattle.scan.proofs.sum_of.Given as goal
 

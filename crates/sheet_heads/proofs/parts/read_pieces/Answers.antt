@@ -1,7 +1,7 @@
-use Rattle.laws.proofs.Prelude.{refl, sym, ap, ◌∙◌, Bool, true, ◌||◌, or-true, [], arith, rules, drop, told, bounded}
+use Rattle.laws.proofs.Prelude.{refl, sym, ap, ◌∙◌, true, or-true, [], arith, rules, drop, told, bounded}
 use mathlib.Core.Bool.{or-false}
 use Rattle.laws.specs.Decoded.{ok}
-use Rattle.sheet.specs.{Tree.Pieces, Nodes.piece, Shape.any_uncooked}
+use Rattle.sheet.specs.{Nodes.piece}
 use Rattle.sheet_heads.proofs.Many.{found_step, found_stop, found_end}
 use Rattle.sheet_heads.proofs.parts.read_pieces.Invariants.{or_uncooked}
 use Rattle.sheet_heads.proofs.parts.read_pieces.Goals as goal

@@ -1,4 +1,4 @@
-use Rattle.laws.proofs.Prelude.{sym, ◌∙◌, ◌-◌, eq-eqb, ne_eqb}
+use Rattle.laws.proofs.Prelude.{sym, ◌∙◌, eq-eqb, ne_eqb}
 use Rattle.sheet_heads.proofs.{Stars.star_or_later, Stars.no_star_left}
 use Rattle.sheet_heads.proofs.texts.has_star.Goals as goal
 

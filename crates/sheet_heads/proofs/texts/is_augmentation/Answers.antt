@@ -22,4 +22,3 @@ returns-then-has_star c =
       known c.starts_with.ensures c.if-starts_with.false,
       known c.starts_with-then-has_star.ensures c.if-starts_with-2.false,
     ) c.starts_with-then-has_star-2.ensures
-

@@ -1,6 +1,6 @@
 -- The check of a node: each answer is what the definition says, and the recursion ends, since the levels left fall.
 use Rattle.laws.proofs.Decoding.{on_ok_no, then_no}
-use Rattle.laws.proofs.Prelude.{Option, [], ap, arith, bounded, drop, false, length, refl, rules, sym, told, told_of, true, ℕ, ◌+◌, ◌-◌, ◌∙◌}
+use Rattle.laws.proofs.Prelude.{Option, [], ap, arith, bounded, drop, false, length, refl, rules, sym, told, told_of, true, ◌+◌, ◌-◌, ◌∙◌}
 use Rattle.laws.specs.Decoded.{on_ok, ◌>>=◌}
 use Rattle.sheet.specs.Nodes.{arguments, attributes, attributes_object, call_rest, many, node, nodes, piece, properties, type_rest}
 use Rattle.sheet.specs.Shape.{any_uncooked}

@@ -29,8 +29,8 @@ fn ranges() -> String {
     let lines: Vec<String> = ranges.chunks(4).map(|line| line.join(" ∷ ")).collect();
     format!(
         "-- The code points that are Alphabetic in Unicode {}. Written by tools/alphabetic.
-use mathlib.Core.List.{{List, [], _∷_}}
-use Rattle·text·specs.specs.Ranges.{{Range, _to_}}
+use Rattle.std.specs.Prelude.{{List, [], ◌∷◌}}
+use Rattle.text.specs.Ranges.{{Range, ◌to◌}}
 
 unfoldable pub alphabetic : List Range
 alphabetic =
@@ -42,21 +42,30 @@ alphabetic =
     )
 }
 
-// The array of the bounds, one to a line.
+// The array of the bounds, as many to a line as `rt fmt` puts there.
 fn bounds() -> String {
     let bounds: Vec<u32> = found()
         .into_iter()
         .flat_map(|(first, last)| [first, last + 1])
         .collect();
-    let lines: String = bounds
-        .iter()
-        .map(|bound| format!("    0x{bound:04X},\n"))
-        .collect();
+    let bound = |bound: &u32| format!("0x{bound:04X},");
+    let words: Vec<String> = bounds.iter().map(bound).collect();
+    let mut lines = String::new();
+    for word in &words {
+        let used = lines.len() - lines.rfind('\n').map_or(0, |end| end + 1);
+        if used > 0 && used + 1 + word.len() <= 100 {
+            lines.push(' ');
+        } else {
+            lines.push_str(if used > 0 { "\n    " } else { "    " });
+        }
+        lines.push_str(word);
+    }
     format!(
         "// The bounds of the ranges of Alphabetic in Unicode {}. Written by tools/alphabetic.
 // Even places start a range, odd places end it; the end is not in it.
 pub const BOUNDS: [u32; {}] = [
-{lines}];
+{lines}
+];
 ",
         version(),
         bounds.len()

@@ -1,5 +1,5 @@
 /* Whether the modules of a delivery stand behind those that they need: the proved library's one function.
- * docs/01-scope.md defines sheets, reports and deliveries. Link libdelivery.a, which `rt staticlib delivery` writes to target/staticlib. */
+ * docs/01-scope.md defines sheets, reports and deliveries. Link libdelivery.a, which `tools/build library delivery` writes to target/staticlib. */
 #ifndef DELIVERY_H
 #define DELIVERY_H
 

@@ -1,5 +1,5 @@
 /* Turns for sixteen depositors: the proved library's three functions on a desk that the caller holds.
- * Link libdesk.a, which `rt staticlib desk` writes to target/staticlib. */
+ * Link libdesk.a, which `tools/build library desk` writes to target/staticlib. */
 #ifndef DESK_H
 #define DESK_H
 

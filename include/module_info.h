@@ -1,6 +1,6 @@
 /* Which modules a JavaScript or TypeScript module asks for, in code and in comments, and its source map: the four proved functions.
- * docs/01-scope.md defines sheets, refusals and reports. Link libmodule_info.a, which `rt staticlib module_info` writes to target/staticlib;
- * module_info_with_rules is in librules.a, which `rt staticlib rules` writes beside it. */
+ * docs/01-scope.md defines sheets, refusals and reports. Link libmodule_info.a, which `tools/build library module_info` writes to target/staticlib;
+ * module_info_with_rules is in librules.a, which `tools/build library rules` writes beside it. */
 #ifndef MODULE_INFO_H
 #define MODULE_INFO_H
 

@@ -1,5 +1,5 @@
 /* How many bytes a search from each `{` of a comment's body goes over, all in all: the proved library's one function.
- * Link libscan.a, which `rt staticlib scan` writes to target/staticlib. */
+ * Link libscan.a, which `tools/build library scan` writes to target/staticlib. */
 #ifndef SCAN_H
 #define SCAN_H
 

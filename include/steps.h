@@ -1,5 +1,5 @@
 /* A matcher of patterns that are tables of steps: the proved library's one function.
- * Link libsteps.a, which `rt staticlib steps` writes to target/staticlib. docs/STEPS.md has the numbers of a table by name. */
+ * Link libsteps.a, which `tools/build library steps` writes to target/staticlib. docs/STEPS.md has the numbers of a table by name. */
 #ifndef STEPS_H
 #define STEPS_H
 

@@ -9,7 +9,7 @@ fn main() {
     println!("cargo::rerun-if-changed={}", library.display());
     if !library.is_file() {
         println!(
-            "cargo::error=the static library is absent: {} (`rt staticlib desk` makes it; DESK_LIB names another folder)",
+            "cargo::error=the static library is absent: {} (`tools/build library desk` makes it; DESK_LIB names another folder)",
             library.display()
         );
     }

@@ -13,7 +13,7 @@ fn main() {
     println!("cargo::rerun-if-changed={}", library.display());
     if !library.is_file() {
         let shown = library.display();
-        println!("cargo::error=the static library is absent: {shown} (`rt staticlib module_info` makes it; MODULE_INFO_LIB names another)");
+        println!("cargo::error=the static library is absent: {shown} (`tools/build library module_info` makes it; MODULE_INFO_LIB names another)");
         return;
     }
     // a copy, so that the file may have any name

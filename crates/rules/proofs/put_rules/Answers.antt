@@ -5,7 +5,7 @@ use Rattle.rules.proofs.put_rules.Goals as goal
 
 pub put_types_rules-p-requires : goal.put_types_rules-p-requires
 put_types_rules-p-requires c =
-    (held c.requires.accepts_in, c.requires.entries_in_bounds)
+    record { held_by = held c.requires.accepts_in; entries_in_bounds = c.requires.entries_in_bounds }
 
 pub put_comment_rules-requires : goal.put_comment_rules-requires
 put_comment_rules-requires c = record { held_by = held c.requires.accepts_in; source_limit_in_bounds = search rules }
@@ -13,8 +13,7 @@ put_comment_rules-requires c = record { held_by = held c.requires.accepts_in; so
 pub returns : goal.returns
 returns c =
     λ t e starts.
-    let o = parts_of
-    c.requires.accepts_in.accepts e in
+    let o = parts_of c.requires.accepts_in.accepts e in
     rules_written o _ starts c.put_types_rules-p.ensures
     (c.put_comment_rules.ensures t o)
 

@@ -1,29 +1,13 @@
-use Rattle.laws.proofs.Prelude.{sub-zero, arith, refl, sym, ◌∙◌, List, flat_map, ℕ, ◌-◌}
+use Rattle.laws.proofs.Prelude.{sub-zero, refl, sym, ◌∙◌, flat_map}
 use Rattle.laws.proofs.Lists.{flat_map_append}
-use Rattle.sheet.specs.code.Tables.{comments_in, groups_in, comments_part, groups_part}
-use Rattle.sheet_check.specs.declared.check.Parts.{Parts}
-use Rattle.report.{specs.Origin.encode_origin, proofs.Buffers.wrote_append, proofs.Buffers.wrote_nil}
-use Rattle.pragmas.specs.Origins.{types_origins}
+use Rattle.report.{proofs.Buffers.wrote_append, proofs.Buffers.wrote_nil}
 use Rattle.rules.proofs.{Origins.starts_next, Origins.starts_end}
 use Rattle.rules.proofs.put_types_rules.Goals as goal
-
--- the bytes for nodes that start there
-abbrev bytes : List ℕ → Parts → List ℕ → List ℕ → List ℕ
-bytes source parts tables starts =
-    flat_map encode_origin (flat_map
-    (types_origins source (comments_in (comments_part tables) parts.comments) (groups_in (groups_part tables) parts.groups))
-    starts)
-
-pub slice_bounds-comments-end : goal.slice_bounds-comments-end
-slice_bounds-comments-end c = let room = c.requires.held_by.0 in omega arith
-
-pub slice_bounds-groups-end : goal.slice_bounds-groups-end
-slice_bounds-groups-end c = let room = c.requires.held_by.0 in omega arith
 
 pub put_types_origins-p-requires : goal.put_types_origins-p-requires
 put_types_origins-p-requires c =
     let held = c.requires.held_by.1 in
-    ((held.0.room, held.0.fit), held.1)
+    record { n_in_bounds = (held.0.room, held.0.fit); grouped_in = held.1 }
 
 pub loop-k-preserved : goal.loop-k-preserved
 unfolding flat_map

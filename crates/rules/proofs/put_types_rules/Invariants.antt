@@ -1,7 +1,17 @@
-use Rattle.laws.proofs.Prelude.{◌≡◌, ◌-◌, length}
-use Rattle.report.{specs.Buffer.wrote, specs.Buffer.buffer_as}
+use Rattle.laws.proofs.Prelude.{◌≡◌, List, flat_map, ℕ, ◌-◌, length}
+use Rattle.sheet.specs.code.Tables.{comments_in, groups_in, comments_part, groups_part}
+use Rattle.sheet_check.specs.declared.check.Parts.{Parts}
+use Rattle.report.{specs.Origin.encode_origin, specs.Buffer.wrote, specs.Buffer.buffer_as}
+use Rattle.pragmas.specs.Origins.{types_origins}
 use Rattle.rules.specs.code.Rows.{starts_from}
 use Rattle.rules.proofs.put_types_rules.Given as goal
+
+-- the bytes for nodes that start there
+abbrev bytes : List ℕ → Parts → List ℕ → List ℕ → List ℕ
+bytes source parts tables starts =
+    flat_map encode_origin (flat_map
+    (types_origins source (comments_in (comments_part tables) parts.comments) (groups_in (groups_part tables) parts.groups))
+    starts)
 
 abbrev pub invariant-loop-k : goal.invariant-loop-k
 invariant-loop-k l =

@@ -9,7 +9,10 @@ use Rattle.rules.proofs.write_ruled_report.Goals as goal
 pub put_rules-place-requires : goal.put_rules-place-requires
 put_rules-place-requires c =
     let written = c.write_noted_report in
-    (c.requires, few_rows c.requires.accepts written.new.1.1.1.1.0 (written.auto.1.1.1.1.0 ∙ length-replicate {A = ℕ} _ 0))
+    record {
+      accepts_in = c.requires;
+      entries_in_bounds = few_rows c.requires.accepts written.new.notes (written.auto.notes ∙ length-replicate {A = ℕ} _ 0);
+    }
 
 pub returns-in-Refused : goal.returns-in-Refused
 returns-in-Refused c =
@@ -30,7 +33,7 @@ returns-in-Accepted c =
     let noted = rw c.in-Accepted.is at rows in
     let starts = starts_held accepts e _ (few_rows accepts (replicate {A = ℕ} (1 + 2 * entry_limit) 0) (length-replicate {A = ℕ} _ 0)) noted in
     let put = c.put_rules-place in
-    let kept = written.auto.1.1.1.0 in
-    let kept-too = put.auto.1.1.1.1.0 in
-    rw (kept, kept-too) at (c.finish_rules.ensures (encode (module_info t)) (rules_of t) (rw kept accepted)
-    (put.ensures t e starts ∙ ap (λ n. wrote (holds n []) (rules_of t)) (sym kept-too)))
+    let kept = written.auto.buffer in
+    let kept_too = put.auto.out in
+    rw (kept, kept_too) at (c.finish_rules.ensures (encode (module_info t)) (rules_of t) (rw kept accepted)
+    (put.ensures t e starts ∙ ap (λ n. wrote (holds n []) (rules_of t)) (sym kept_too)))

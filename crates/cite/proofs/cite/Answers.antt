@@ -8,7 +8,7 @@ slice_bounds-cite_report-end c =
       c.requires.report_len,
       c.in-Accepted.is,
     ) at c.module_info_with_replaced.ensures.answer) (rw (
-      c.requires.notes_len.0,
+      c.requires.notes_len,
       c.in-Accepted.is,
     ) at c.module_info_with_replaced.ensures.beside)).within
 
@@ -18,7 +18,7 @@ slice_bounds-cite_report-end-in-Accepted c =
       c.requires.report_len,
       c.in-Accepted.is,
     ) at c.module_info_with_replaced.ensures.answer) (rw (
-      c.requires.notes_len.0,
+      c.requires.notes_len,
       c.in-Accepted.is,
     ) at c.module_info_with_replaced.ensures.beside)).within)
 
@@ -28,10 +28,10 @@ cite_report-requires c =
       c.requires.report_len,
       c.in-Accepted.is,
     ) at c.module_info_with_replaced.ensures.answer) (rw (
-      c.requires.notes_len.0,
+      c.requires.notes_len,
       c.in-Accepted.is,
     ) at c.module_info_with_replaced.ensures.beside)).room in
-    omega (arith, c.requires.notes_len.1)
+    omega (arith, c.requires.line_room_in_bounds)
 
 pub returns-in-Refused : goal.returns-in-Refused
 returns-in-Refused c =
@@ -40,7 +40,7 @@ returns-in-Refused c =
       c.in-Refused.is,
     ) at c.module_info_with_replaced.ensures.answer in
     let cited = c.cite_refusal.ensures in
-    let notes = rw c.requires.notes_len.0 at c.module_info_with_replaced.ensures.beside in
+    let notes = rw c.requires.notes_len at c.module_info_with_replaced.ensures.beside in
     let source = c.find_source-source.ensures.answer in
     record {
       answer = record { answer = rw (refused_lines _ source demands notes) cited.answer; bounds = cited.bounds };
@@ -54,7 +54,7 @@ returns-in-Accepted c =
       c.in-Accepted.is,
     ) at c.module_info_with_replaced.ensures.answer in
     let found = reported demands (rw (
-      c.requires.notes_len.0,
+      c.requires.notes_len,
       c.in-Accepted.is,
     ) at c.module_info_with_replaced.ensures.beside) in
     let cited = c.cite_report.ensures in

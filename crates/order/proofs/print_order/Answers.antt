@@ -6,7 +6,7 @@ use Rattle.order.proofs.print_order.Goals as goal
 pub returns : goal.returns
 returns c =
     let put = c.put_order-place in
-    let line = put.new.1.1.0 in
+    let line = put.new.line in
     let short = rw c.requires.work_len at put.ensures.bounds in record {
       answer = all_written
           line

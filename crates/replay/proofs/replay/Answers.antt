@@ -24,13 +24,12 @@ loop-left-preserved c =
     let s = a.list.now in
     let size = length a.buffer.now in
     let called = c.replay_one in
-    let found = c.ran-1.given in
-    let next = rw l.invariant.0 at (seen (step_as s) called.ensures.answer found.1) in
+    let next = rw l.invariant.0 at (seen (step_as s) called.ensures.answer c.in-Next.is) in
     let onto = row_counted size l.counts l.left (drop l.at s) c.loop-left-test.true next in (
       search rules,
       c.with-counts.ensures.bounds (l.left - 1) (omega arith, omega arith),
-      rw found.1 at called.ensures.bounds,
-      l.invariant.3 ∙ onto ∙ ap (λ k. onward size k (rows (l.left - 1) (drop found.0.1.0 s))) (sym c.with-counts.ensures.answer),
+      rw c.in-Next.is at called.ensures.bounds,
+      l.invariant.3 ∙ onto ∙ ap (λ k. onward size k (rows (l.left - 1) (drop c.in-Next.next s))) (sym c.with-counts.ensures.answer),
     )
 
 pub returns-then-at-list : goal.returns-then-at-list

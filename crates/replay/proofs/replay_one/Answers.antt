@@ -7,8 +7,7 @@ pub returns-then-list-end : goal.returns-then-list-end
 unfolding row
 returns-then-list-end c =
     let s = c.args.list.now in
-    let found = c.start-1.given in
-    record { answer = rw (told c.stretch_at.ensures found.1, byte_past s found.0.1.0 c.if-list-end.true); bounds = tt }
+    record { answer = rw (told c.stretch_at.ensures c.in-Bytes.is, byte_past s c.in-Bytes.end c.if-list-end.true); bounds = tt }
 
 -- both parts stand within the list
 pub slice_bounds-run-count : goal.slice_bounds-run-count
@@ -25,25 +24,24 @@ pub returns-in-Bytes-stretch_at : goal.returns-in-Bytes-stretch_at
 unfolding row
 returns-in-Bytes-stretch_at c =
     let s = c.args.list.now in
-    let sheet = c.start-1.given in
-    let report = c.from-1.given in record {
+    record {
       answer = rw (
-        told c.stretch_at.ensures sheet.1,
-        byte_at s sheet.0.1.0 c.if-list-end.false,
-        told c.stretch_at-in-Bytes.ensures report.1,
+        told c.stretch_at.ensures c.in-Bytes.is,
+        byte_at s c.in-Bytes.end c.if-list-end.false,
+        told c.stretch_at-in-Bytes.ensures c.in-Bytes-stretch_at.is,
         c.run-ran.ensures,
       );
-      bounds = (bounded c.stretch_at-in-Bytes.ensures report.1).1;
+      bounds = (bounded c.stretch_at-in-Bytes.ensures c.in-Bytes-stretch_at.is).1;
     }
 
 pub returns-in-Missing-stretch_at : goal.returns-in-Missing-stretch_at
 unfolding row
 returns-in-Missing-stretch_at c =
     let s = c.args.list.now in
-    let sheet = c.start-1.given in record {
+    record {
       answer = rw (
-        told c.stretch_at.ensures sheet.1,
-        byte_at s sheet.0.1.0 c.if-list-end.false,
+        told c.stretch_at.ensures c.in-Bytes.is,
+        byte_at s c.in-Bytes.end c.if-list-end.false,
         told c.stretch_at-in-Bytes.ensures c.in-Missing-stretch_at.is,
       );
       bounds = tt;

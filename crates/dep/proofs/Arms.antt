@@ -1,5 +1,5 @@
 -- What is written for a node, from what is written for the parts that it holds.
-use Rattle.laws.proofs.Prelude.{◌≡◌, refl, sym, ap, ◌∙◌, Bool, true, false, List, [], ◌∷◌, ◌++◌, append-nil, ◌⊎◌, inl, inr, Option, ℕ}
+use Rattle.laws.proofs.Prelude.{◌≡◌, refl, sym, ap, ◌∙◌, Bool, true, false, List, [], ◌++◌, append-nil, ◌⊎◌, inl, inr, Option, ℕ}
 use Rattle.laws.specs.Decoded.{Decoded, ok, no, and_then, on_ok, Decoder, ◌>>=◌, return}
 use Rattle.laws.proofs.Decoding.{refused, on_ok_ok, on_ok_no, built}
 use Rattle.text.specs.Bytes.{part}

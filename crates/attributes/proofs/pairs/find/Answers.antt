@@ -1,4 +1,4 @@
-use Rattle.laws.proofs.Prelude.{rules, ◌-◌, arith, known}
+use Rattle.laws.proofs.Prelude.{rules, arith, known}
 use Rattle.attributes.specs.code.Views.{pair_as}
 use Rattle.attributes.proofs.Insertion.{sought_none, sought_greater, sought_less, sought_equal, sought_all}
 use Rattle.attributes.proofs.pairs.find.Goals as goal

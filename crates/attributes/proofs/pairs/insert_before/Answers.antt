@@ -1,4 +1,4 @@
-use Rattle.laws.proofs.Prelude.{◌≡◌, refl, ◌∙◌, ◌+◌, ◌-◌, ◌*◌, ◌≤◌, arith, length}
+use Rattle.laws.proofs.Prelude.{◌≡◌, refl, ◌∙◌, ◌+◌, ◌*◌, ◌≤◌, arith, length}
 use Rattle.attributes.proofs.PairRows.{stored_last, stored_carries, stored_within}
 use Rattle.attributes.proofs.pairs.insert_before.Goals as goal
 

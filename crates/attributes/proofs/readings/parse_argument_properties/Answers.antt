@@ -1,8 +1,8 @@
-use Rattle.laws.proofs.Prelude.{refl, sym, ◌∙◌, Bool, List, arith, known, seen}
+use Rattle.laws.proofs.Prelude.{refl, sym, ◌∙◌, arith, known, seen}
 use Rattle.text.specs.Bytes.{part}
 use Rattle.sheet.specs.{Shape.shape}
-use Rattle.report.specs.ModuleInfo.{ImportAttributes, none, unknown}
-use Rattle.attributes.specs.{Attributes.Prop, Attributes.argument_properties, code.Views.attributes_as}
+use Rattle.report.specs.ModuleInfo.{none, unknown}
+use Rattle.attributes.specs.{Attributes.argument_properties, code.Views.attributes_as}
 use Rattle.attributes.proofs.Loops.{begins, goes_on, stops, ends, settles}
 use Rattle.attributes.proofs.{Keys.attributes_key, Keys.other_key}
 use Rattle.attributes.proofs.readings.parse_argument_properties.Goals as goal

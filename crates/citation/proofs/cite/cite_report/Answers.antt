@@ -1,4 +1,4 @@
-use Rattle.laws.proofs.Prelude.{sym, ap, ◌∙◌, [], append-nil, arith, length, take, length-take, length-take-le}
+use Rattle.laws.proofs.Prelude.{sym, ap, ◌∙◌, [], append-nil, arith, length, take, length-take}
 use Rattle.report.{specs.Encode.encode, proofs.Buffers.wrote_append}
 use Rattle.citation.specs.Citation.{citation}
 use Rattle.citation.proofs.{Fours.recounted_front, Printing.citation_same, Whole.all_written, Lengths.citation_short}

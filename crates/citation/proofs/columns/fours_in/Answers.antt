@@ -1,4 +1,4 @@
-use Rattle.laws.proofs.Prelude.{◌≡◌, ap, ℕ, ◌+◌, ◌-◌, arith, get_or, drop, drop_of_length-le}
+use Rattle.laws.proofs.Prelude.{◌≡◌, ap, ℕ, ◌+◌, arith, get_or, drop, drop_of_length-le}
 use Rattle.citation.specs.Columns.{fours_in}
 use Rattle.citation.proofs.Fours.{fours_none, fours_past, added_few, fours_begun, fours_gone}
 use Rattle.citation.proofs.columns.fours_in.Goals as goal
@@ -23,24 +23,24 @@ loop-i-preserved c =
     let inside = c.loop-i-test.true in
     let units = c.units-added in
     elim c.if-added-gt0.branch [
-    | then-added-gt0+else-left-eq0 w ↦ (
-      omega (arith, l.invariant.0, added_few (get_or s l.i 0) units.result units.ensures, w.if-added-gt0.true, w.if-left-eq0.false),
-      omega (
-        arith,
-        l.invariant.1,
-        ap (λ (k : ℕ). fours_in k (drop (l.i + 1) s)) w.left-is,
-        fours_begun s l.i units.result inside units.ensures l.left w.if-added-gt0.true w.if-left-eq0.false,
-      ),
-    )
-    | else-added-gt0 w ↦ (
-      omega (arith, l.invariant.0),
-      omega (
-        arith,
-        l.invariant.1,
-        ap (λ (k : ℕ). fours_in k (drop (l.i + 1) s)) w.left-is,
-        fours_gone s l.i units.result inside units.ensures l.left w.if-added-gt0.false,
-      ),
-    )
+      | then-added-gt0+else-left-eq0 w ↦ (
+        omega (arith, l.invariant.0, added_few (get_or s l.i 0) units.result units.ensures, w.if-added-gt0.true, w.if-left-eq0.false),
+        omega (
+          arith,
+          l.invariant.1,
+          ap (λ (k : ℕ). fours_in k (drop (l.i + 1) s)) w.left-is,
+          fours_begun s l.i units.result inside units.ensures l.left w.if-added-gt0.true w.if-left-eq0.false,
+        ),
+      )
+      | else-added-gt0 w ↦ (
+        omega (arith, l.invariant.0),
+        omega (
+          arith,
+          l.invariant.1,
+          ap (λ (k : ℕ). fours_in k (drop (l.i + 1) s)) w.left-is,
+          fours_gone s l.i units.result inside units.ensures l.left w.if-added-gt0.false,
+        ),
+      )
     ]
 
 pub returns : goal.returns

@@ -1,4 +1,4 @@
-use Rattle.laws.proofs.Prelude.{◌≡◌, false, ℕ, ◌-◌, ◌≤◌, ◌<◌, length, get_or}
+use Rattle.laws.proofs.Prelude.{◌≡◌, false, ℕ, ◌≤◌, ◌<◌, length, get_or}
 use Rattle.citation.specs.Columns.{begins_four}
 use Rattle.citation.proofs.columns.last_four.Given as goal
 

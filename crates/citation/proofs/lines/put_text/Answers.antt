@@ -1,4 +1,4 @@
-use Rattle.laws.proofs.Prelude.{sym, ◌∙◌, ◌-◌, add-one, drop_of_length-le, drop-cons, flat_map}
+use Rattle.laws.proofs.Prelude.{sym, ◌∙◌, add-one, drop_of_length-le, drop-cons, flat_map}
 use Rattle.report.{proofs.Buffers.wrote_append, proofs.Buffers.wrote_nil}
 use Rattle.citation.proofs.lines.put_text.Goals as goal
 

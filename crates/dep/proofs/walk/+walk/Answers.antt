@@ -10,7 +10,7 @@ use Rattle.dep_entries.specs.Entries.{module_entry}
 use Rattle.dep_entries.specs.code.Written.{types_from, written_as}
 use Rattle.dep_entries.specs.declared.StaticDependencyDescriptor.{StaticDependencyDescriptor}
 use Rattle.laws.proofs.Decoding.{on_ok_no, built, then_no}
-use Rattle.laws.proofs.Prelude.{ap, ◌∙◌, arith, drop, told, bounded, refl, sym, ◌-◌, [], Option, ◌+◌, seen, ◌≡◌, false, ℕ, ◌*◌, ◌<◌}
+use Rattle.laws.proofs.Prelude.{ap, ◌∙◌, arith, drop, told, bounded, refl, sym, ◌-◌, [], Option, ◌+◌, seen, false}
 use Rattle.laws.specs.Decoded.{on_ok, and_then, ◌>>=◌, return, ok}
 use Rattle.sheet.specs.Nodes.{many, piece, node, nodes, properties, arguments, call_rest, attributes, attributes_object, type_rest}
 use Rattle.sheet.specs.Shape.{any_uncooked}

@@ -1,4 +1,4 @@
-use Rattle.laws.proofs.Prelude.{◌+◌, ◌-◌, arith, drop_of_length-le}
+use Rattle.laws.proofs.Prelude.{◌+◌, arith, drop_of_length-le}
 use Rattle.jsdoc_list.specs.Imports.{count_of}
 use Rattle.jsdoc_list.proofs.Turns.{count_next, count_one_lem, count_skip}
 use Rattle.jsdoc_list.proofs.imports.count_ticks.Goals as goal

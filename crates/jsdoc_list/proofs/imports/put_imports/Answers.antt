@@ -1,4 +1,4 @@
-use Rattle.laws.proofs.Prelude.{sym, ◌∙◌, ◌+◌, ◌-◌, arith, drop_of_length-le, flat_map}
+use Rattle.laws.proofs.Prelude.{sym, ◌∙◌, ◌+◌, arith, drop_of_length-le, flat_map}
 use Rattle.report.{proofs.Buffers.wrote_append, proofs.Buffers.wrote_nil}
 use Rattle.jsdoc_list.specs.Imports.{imports_from}
 use Rattle.jsdoc_list.proofs.Turns.{unticked_next, unticked_skip, ticked_next}

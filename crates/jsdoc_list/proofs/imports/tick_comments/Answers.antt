@@ -1,4 +1,4 @@
-use Rattle.laws.proofs.Prelude.{sym, ap, ◌∙◌, ◌-◌, sub-zero, arith, length, length-replicate}
+use Rattle.laws.proofs.Prelude.{sym, ap, ◌∙◌, sub-zero, arith, length, length-replicate}
 use native.Mathlib.Nat.{sub-eq-zero_of_le}
 use Rattle.sheet.specs.code.Tables.{rows, comment_in}
 use Rattle.sheet.proofs.{Marks.holds_marks_lem, Members.placed_within, Members.row_placed}

@@ -1,4 +1,4 @@
-use Rattle.laws.proofs.Prelude.{sym, ◌∙◌, flat_map, ◌-◌, arith, drop_of_length-le}
+use Rattle.laws.proofs.Prelude.{sym, ◌∙◌, flat_map, arith, drop_of_length-le}
 use Rattle.report.{proofs.Buffers.wrote_append, proofs.Buffers.wrote_nil}
 use Rattle.jsdoc_list.specs.Origins.{openers_from}
 use Rattle.jsdoc_list.proofs.{Openers.opener_none, Openers.opener_next}

@@ -1,4 +1,4 @@
-use Rattle.laws.proofs.Prelude.{refl, sym, ◌∙◌, ◌-◌, sub-zero, arith}
+use Rattle.laws.proofs.Prelude.{refl, sym, ◌∙◌, sub-zero, arith}
 use Rattle.sheet.specs.code.Tables.{comment_in}
 use Rattle.sheet.proofs.{Marks.holds_marks_lem, Members.placed_within, Members.row_placed}
 use Rattle.report.{proofs.Buffers.wrote_append, proofs.Buffers.wrote_nil}

@@ -1,4 +1,4 @@
-use Rattle.laws.proofs.Prelude.{rules, arith, ap, ◌∙◌, [], ◌+◌, ◌-◌, length}
+use Rattle.laws.proofs.Prelude.{rules, arith, ap, ◌∙◌, [], ◌+◌, length}
 use Rattle.sheet.proofs.Members.{row_placed}
 use Rattle.pragmas.specs.{Readings.all_of, Pragmas.reference, code.Views.comments_from}
 use Rattle.pragmas.proofs.Between.{all_next, all_none, listed_length}

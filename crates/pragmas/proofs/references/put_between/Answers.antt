@@ -1,4 +1,4 @@
-use Rattle.laws.proofs.Prelude.{arith, sym, ◌∙◌, ◌-◌, flat_map}
+use Rattle.laws.proofs.Prelude.{arith, sym, ◌∙◌, flat_map}
 use Rattle.sheet.proofs.Members.{row_placed}
 use Rattle.report.{proofs.Buffers.wrote_append, proofs.Buffers.wrote_nil}
 use Rattle.pragmas.specs.{Pragmas.reference}

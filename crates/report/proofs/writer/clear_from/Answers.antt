@@ -1,4 +1,4 @@
-use Rattle.laws.proofs.Prelude.{sym, ◌∙◌, ◌-◌, length-set}
+use Rattle.laws.proofs.Prelude.{sym, ◌∙◌, length-set}
 use Rattle.report.proofs.{Answers.cleared_more, Answers.cleared_end}
 use Rattle.report.proofs.writer.clear_from.Goals as goal
 

@@ -1,4 +1,4 @@
-use Rattle.laws.proofs.Prelude.{refl, sym, ◌∙◌, append_assoc}
+use Rattle.laws.proofs.Prelude.{refl, sym, append_assoc}
 use Rattle.report.specs.declared.names.DependencyKind.TheVariants.{Static, Dynamic}
 use Rattle.report.specs.ModuleInfo.{static, dynamic}
 use Rattle.report.specs.Encode.{encode_specifier, encode_static, encode_dynamic, encode_dependency}

@@ -1,4 +1,4 @@
-use Rattle.laws.proofs.Prelude.{sym, ◌∙◌, ◌-◌, add-one, drop_of_length-le, drop-cons}
+use Rattle.laws.proofs.Prelude.{sym, ◌∙◌, add-one, drop_of_length-le, drop-cons}
 use Rattle.report.proofs.{Buffers.wrote_cons, Buffers.wrote_nil}
 use Rattle.report.proofs.writer.Pen.put_bytes.Goals as goal
 

@@ -1,5 +1,5 @@
-use Rattle.laws.proofs.Prelude.{rules, sym, ◌∙◌, [], ◌∷◌, ◌+◌, ◌-◌, arith, drop, drop_of_length-le, known}
-use Rattle.text.specs.Lossy.{lossy, replacing, replaced}
+use Rattle.laws.proofs.Prelude.{rules, sym, ◌∙◌, [], ◌∷◌, ◌+◌, arith, drop, drop_of_length-le, known}
+use Rattle.text.specs.Lossy.{lossy, replacing}
 use Rattle.text.proofs.Replaced.{marked, marked_count, copied, copied_count, none_left}
 use Rattle.report.specs.Buffer.{buffer_as}
 use Rattle.report.proofs.Buffers.{wrote_append, wrote_cons, wrote_nil}

@@ -1,5 +1,5 @@
 -- Decimal numerals: what holds of each, and how one is read from the front.
-use Rattle.laws.proofs.Prelude.{◌≡◌, refl, sym, ap, ◌∙◌, ◌⊎◌, inl, inr, ⊎_elim, List, [], ◌∷◌, ◌++◌, ℕ, zero, ◌+◌, ◌-◌, ◌*◌, ◌≤◌, ◌<◌, code, arith, add-one}
+use Rattle.laws.proofs.Prelude.{◌≡◌, refl, sym, ap, ◌∙◌, ◌⊎◌, inl, inr, ⊎_elim, List, [], ◌∷◌, ◌++◌, ℕ, ◌+◌, ◌-◌, ◌*◌, ◌≤◌, ◌<◌, code, arith, add-one}
 use Rattle.laws.proofs.Prelude.{length, get_or, take, drop, length-append, length-take-le, drop-cons, take_all}
 use Prim.Native.Nat.{◌^◌}
 use native.Mathlib.Nat.{pow-suc, pow-le-pow_right, lt_of_not-le}

@@ -1,5 +1,6 @@
 // An input read to its end, where a read that fails is not taken for the end.
 #![tactic(auto)]
+
 ghost use Rattle.input.specs.code.InputWithin.{InputWithin};
 
 use std::io::Read;

@@ -1,4 +1,4 @@
-use Rattle.laws.proofs.Prelude.{arith, ◌≡◌, refl, ◌-◌, length-set}
+use Rattle.laws.proofs.Prelude.{arith, ◌≡◌, refl, length-set}
 use Rattle.dearest.proofs.{Bodies.star, Bodies.one_brace}
 use Rattle.dearest.proofs.put_body.Goals as goal
 

@@ -1,4 +1,4 @@
-use Rattle.laws.proofs.Prelude.{arith, ◌-◌}
+use Rattle.laws.proofs.Prelude.{arith}
 use Rattle.dearest.proofs.Numerals.{begin, empty, finished, no_digit, too_large, zero_first, onward}
 use Rattle.dearest.proofs.read_numeral.Goals as goal
 

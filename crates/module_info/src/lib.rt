@@ -184,13 +184,9 @@ fn write_report(
     ensures { (t : Sheet) → accept sheet.now ≡ ok t []
         → outcome_as result buffer.new ≡ fitted (length buffer.old) (encode (module_info t)) }
 {
-    let w = report::lent::new(buffer);
+    let mut w = report::lent::new(buffer);
     let start = w.place;
-    let place = put_report(sheet, parts, tables, &mut *w.out, start);
-    let w = Writer {
-        out: w.out,
-        place: place,
-    };
+    w.place = put_report(sheet, parts, tables, &mut *w.out, start);
     w.finish()
 }
 

@@ -282,11 +282,7 @@ pub fn module_info_answer(sheet: &[u8], buffer: &mut [u8]) -> u64
 }
 
 // The same with the notes, for C.
-pub fn module_info_with_replaced_answer(
-    sheet: &[u8],
-    buffer: &mut [u8],
-    notes: &mut [usize],
-) -> u64
+pub fn module_info_with_replaced_answer(sheet: &[u8], buffer: &mut [u8], notes: &mut [usize]) -> u64
     ensures { (o : Outcome) × Demands sheet.now (length buffer.old) o buffer.new
         × NotesRight sheet.now (length notes.old) (outcome_as o buffer.new).number notes.new
         × (result ≡ packed (outcome_as o buffer.new)) }

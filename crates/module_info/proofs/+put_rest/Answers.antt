@@ -1,4 +1,4 @@
-use Rattle.laws.proofs.Prelude.{◌-◌, arith, rules, length}
+use Rattle.laws.proofs.Prelude.{arith, rules, length}
 use Rattle.sheet.specs.{code.Views.program_of}
 use Rattle.pragmas.proofs.Reached.{end_reached}
 use Rattle.module_info.proofs.{Cleared.front_cleared, Written.rest_written}

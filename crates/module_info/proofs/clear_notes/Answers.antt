@@ -1,4 +1,4 @@
-use Rattle.laws.proofs.Prelude.{rules, sym, ◌∙◌, ◌-◌, sub-zero, length, length-set}
+use Rattle.laws.proofs.Prelude.{rules, sym, ◌∙◌, sub-zero, length, length-set}
 use Rattle.report.{proofs.Answers.cleared_more, proofs.Answers.cleared_end}
 use Rattle.module_info.proofs.clear_notes.Goals as goal
 

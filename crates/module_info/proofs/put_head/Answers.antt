@@ -1,4 +1,3 @@
-use Rattle.laws.proofs.Prelude.{arith}
 use Rattle.pragmas.{specs.Readings.read_by, specs.Pragmas.first_by, proofs.Reached.head_reached}
 use Rattle.module_info.proofs.{Written.head_written}
 use Rattle.module_info.proofs.put_head.Goals as goal

@@ -1,4 +1,4 @@
-use Rattle.laws.proofs.Prelude.{refl, sym, ◌∙◌, ◌-◌}
+use Rattle.laws.proofs.Prelude.{refl, sym, ◌∙◌}
 use Rattle.replay.proofs.Compared.{held_end, held_differ, held_agree}
 use Rattle.replay.proofs.holds_report.Goals as goal
 

@@ -1,4 +1,4 @@
-use Rattle.laws.proofs.Prelude.{◌≡◌, ◌-◌, ◌≤◌, length, drop}
+use Rattle.laws.proofs.Prelude.{◌≡◌, ◌≤◌, length, drop}
 use Rattle.replay.specs.{Stored.rows, code.Bounds.Room}
 use Rattle.replay.proofs.StoredRows.{onward}
 use Rattle.replay.proofs.replay.Given as goal

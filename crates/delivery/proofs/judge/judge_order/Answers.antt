@@ -1,4 +1,4 @@
-use Rattle.laws.proofs.Prelude.{refl, sym, ap, ◌∙◌, [], ◌∷◌, ◌++◌, ◌+◌, ◌-◌}
+use Rattle.laws.proofs.Prelude.{refl, sym, ap, ◌∙◌, [], ◌∷◌, ◌++◌, ◌+◌}
 use Rattle.laws.{proofs.Lists.all_member, proofs.Lists.middle_member}
 use Rattle.delivery.specs.{Delivery.Module, Order.modules_in_turn, Right.Reported, Right.names_of}
 use Rattle.delivery.proofs.Along.{at_first, one_more, all_passed, name_more}

@@ -1,4 +1,4 @@
-use Rattle.laws.proofs.Prelude.{rules, refl, sym, ap, ◌∙◌, [], ◌∷◌, ◌++◌, ◌-◌}
+use Rattle.laws.proofs.Prelude.{rules, refl, sym, ap, ◌∙◌, [], ◌∷◌, ◌++◌}
 use Rattle.delivery.specs.{Delivery.Module, Order.sheets_in_turn}
 use Rattle.delivery.proofs.Along.{at_first, one_more, all_passed}
 use Rattle.delivery.proofs.{Turns.refused_here, Turns.reported_here, Reported.reported, Reported.refused_number}

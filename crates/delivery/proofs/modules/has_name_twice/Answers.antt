@@ -1,4 +1,4 @@
-use Rattle.laws.proofs.Prelude.{refl, sym, ap, ◌∙◌, [], ◌∷◌, ◌++◌, ◌-◌, known}
+use Rattle.laws.proofs.Prelude.{refl, sym, ap, ◌∙◌, [], ◌∷◌, ◌++◌, known}
 use Rattle.delivery.specs.{Delivery.Module, Order.repeated, Right.names_of}
 use Rattle.delivery.proofs.Along.{at_first, one_more, all_passed, name_more}
 use Rattle.delivery.proofs.{Turns.repeated_here}

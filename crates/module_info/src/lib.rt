@@ -25,7 +25,6 @@ use jsdoc_list::imports::analyze_jsdoc_imports;
 use pragmas::readings::Rule;
 use pragmas::references::analyze_ts_references;
 use pragmas::{analyze_first, analyze_source_map_url};
-use report::lent::Writer;
 use report::writer::{Outcome, Pen, finish, refuse_all};
 use sheet::limits::{GROUPS_START, INDEX_START, SOURCE_LIMIT, TABLE_NUMBERS};
 use sheet::lookups::{end_group, head_group};

@@ -279,7 +279,7 @@ fn read_list(rt: &HostRuntime, space: &mut [u8]) -> Input
     }
 }
 
-// A file that is absent reads as an empty list, and one that fills the space may be longer: both are unreadable.
+// A file that is absent or cannot be read is unreadable, and so is one that fills the space, since it may be longer.
 fn main(rt: HostRuntime) -> io::Result<()> {
     let mut space = [0u8; SPACE];
     match read_list(&rt, &mut space) {

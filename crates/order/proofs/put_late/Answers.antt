@@ -1,8 +1,6 @@
 use Rattle.order.proofs.{Shown.late_written}
 use Rattle.order.proofs.put_late.Goals as goal
 
--- needs: 7 now, 9 before
-
 pub returns : goal.returns
 returns c =
     let a = c.args in

@@ -1,8 +1,6 @@
 use Rattle.order.proofs.{Shown.refused_written}
 use Rattle.order.proofs.put_refused.Goals as goal
 
--- needs: 5 now, 7 before
-
 pub returns : goal.returns
 returns c =
     let a = c.args in

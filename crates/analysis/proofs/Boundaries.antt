@@ -1,11 +1,12 @@
 -- In a well-formed body the place of what a finder captures begins and ends at character boundaries. It lies in the body, between marks where it is quoted.
+use Rattle.std.specs.Prelude.{Some}
 use Rattle.laws.proofs.Prelude.{◌≡◌, refl, sym, ap, ◌∙◌, true, false, false≢true, List, [], ◌∷◌, ◌++◌, Memᴰ_cases_cons, inl, inr, ⊎_elim, ℕ, ◌+◌, ◌-◌}
 use Rattle.laws.proofs.Prelude.{◌≤◌, add-zero, sub-zero, arith, length, get_or, drop, get_or-drop}
 use mathlib.Core.List.Memᴰ
 use Rattle.text.specs.{declared.class.Class.Class, declared.class.Class.TheVariants.Quote, declared.utf8.Encoding.TheVariants.Utf8, Utf8.formed}
 use Rattle.text.specs.{Encode.encode, Characters.OneOf, Characters.Stands, Position.Boundary, Bytes.Mark}
 use Rattle.text.proofs.Characters.{stands_length, stands_between}
-use Rattle.analysis.specs.{declared.Capture.Capture, declared.Found.TheVariants.At, Place.place_of, Place.Inside, Matches.Run, Matches.Matches}
+use Rattle.analysis.specs.{declared.Capture.Capture, Place.place_of, Place.Inside, Matches.Run, Matches.Matches}
 use Rattle.analysis.specs.Row.{Row, no_capture, find}
 use Rattle.analysis.specs.Patterns.{quoted, quoted_some, bare, path_row, types_row, jsx_import_source_row, jsx_import_source_types_row, source_mapping_url_row}
 use Rattle.analysis.specs.Patterns.{ts_self_types_row, ts_types_row, deno_types_row}
@@ -93,7 +94,7 @@ module _ (s : List ℕ) (f : formed Utf8 0 s ≡ true) where
 
   -- the rows that end in them
   answered : (r : Row) {Q : Capture → Type 0} → ((at end : ℕ) (l : Capture) → Matches s r at end no_capture l → Whole s l × Q l)
-      → (k : Capture) → find r s ≡ At k → Whole s k × Q k
+      → (k : Capture) → find r s ≡ Some k → Whole s k × Q k
   answered r h k e = let (at, _, end, m) = preferred_reads r s (found_preferred r s e) in h at end k m
 
   in_quoted : {end : ℕ} {k l : Capture} → EndsIn s quoted end k l → Whole s l × (l.quoted ≡ true)
@@ -106,7 +107,7 @@ module _ (s : List ℕ) (f : formed Utf8 0 s ≡ true) where
   in_bare (at, m) = (bare_whole m, bare_marks s m)
 
   -- what the finders of specifiers answer
-  pub whole : EachSpecifier (λ r Q. (k : Capture) → find r s ≡ At k → Whole s k × Q k)
+  pub whole : EachSpecifier (λ r Q. (k : Capture) → find r s ≡ Some k → Whole s k × Q k)
   whole = record {
     path = answered _ (λ at end l m. in_quoted (attribute_value s m));
     types = answered _ (λ at end l m. in_quoted (attribute_value s m));

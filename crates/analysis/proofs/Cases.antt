@@ -1,10 +1,11 @@
 -- Worked bodies of the ten patterns beside 01's, which stand in module_info. Each is its bytes before the captured text, that text, and the bytes behind it.
+use Rattle.std.specs.Prelude.{Option, Some, None}
 use Rattle.laws.proofs.Prelude.{◌≡◌, refl, true, false, List, [], ◌∷◌, ◌++◌, map, flat_map, ℕ, ◌+◌, length}
 use Rattle.laws.specs.Ascii.{ascii}
 use Rattle.text.specs.{Ranges.in_ranges, Encode.encode}
 use Rattle.text.specs.Utf8.{admits, length_by, char_length, code_by, char_at}
 use Rattle.text.specs.Class.{ranges, outside, member, class_at}
-use Rattle.analysis.specs.declared.Found.{Found, TheVariants.At, TheVariants.Nothing}
+use Rattle.analysis.specs.declared.Capture.{Capture}
 use Rattle.analysis.specs.Letters.{fold_case, letter_at, word_at}
 use Rattle.analysis.specs.Row.{Row, ends, all, no_capture, first, places, find}
 use Rattle.analysis.specs.Patterns.{triple_slash_row, path_row, types_row, resolution_mode_row, jsx_import_source_row, jsx_import_source_types_row}
@@ -29,11 +30,11 @@ body (plain r before text behind) = before ++ text ++ behind
 body (matched r s) = s
 body (missed r s) = s
 
-answer : Case → Found
-answer (marked r before text behind) = At (record { quoted = true; from = length before; to = length before + length text })
-answer (plain r before text behind) = At (record { quoted = false; from = length before; to = length before + length text })
-answer (matched r s) = At no_capture
-answer (missed r s) = Nothing
+answer : Case → Option Capture
+answer (marked r before text behind) = Some (record { quoted = true; from = length before; to = length before + length text })
+answer (plain r before text behind) = Some (record { quoted = false; from = length before; to = length before + length text })
+answer (matched r s) = Some no_capture
+answer (missed r s) = None
 
 -- U+017F is an s; U+0085, U+2003 and U+3000 are white space
 table : List Case

@@ -1,11 +1,12 @@
 -- Each match of a row is among those in order of preference. So where the finder answers nothing, nothing matches.
+use Rattle.std.specs.Prelude.{None}
 use Rattle.laws.proofs.Prelude.{◌≡◌, refl, sym, List, [], ◌∷◌, flat_map, Memᴰ, Memᴰ_head, Memᴰ_tail, Memᴰ_not_nil, Memᴰ_cases_cons}
 use Rattle.laws.proofs.Prelude.{◌⊎◌, inl, inr, ⊎_elim, ℕ, suc, ◌+◌, ◌≤◌, zero-le, arith, length, eq-eqb, ne_eqb}
 use mathlib.Core.List.Memᴰ
 use mathlib.Core.List.{reverse, reverse_aux, reverse-reverse}
 use native.Mathlib.Nat.{eq-or-lt_of_le}
 use Rattle.text.{specs.declared.class.Class.Class, proofs.Characters.one_stands, proofs.Characters.one_there}
-use Rattle.analysis.specs.declared.{Capture.Capture, Found.TheVariants.Nothing}
+use Rattle.analysis.specs.declared.Capture.{Capture}
 use Rattle.analysis.specs.Row.{Row, run_ends, all, no_capture, first, places, find}
 use Rattle.analysis.specs.Matches.{Run, Matches, RowReading}
 use Rattle.analysis.proofs.Ends.{ends_begin, ends_stop, ends_go_on, by_characters}
@@ -72,11 +73,11 @@ in_places (x ∷ t) at e l h =
     ⊎_elim (λ p. Memᴰ_head (sym p)) (λ p. Memᴰ_tail (in_places t (suc at) e p (omega arith))) (eq-or-lt_of_le l)
 
 -- a list that has something has a first
-some_first : {x : List Capture} {k : Capture} → Memᴰ k x → first x ≡ Nothing → ⊥
+some_first : {x : List Capture} {k : Capture} → Memᴰ k x → first x ≡ None → ⊥
 unfolding first
 some_first (Memᴰ_head p) e = let z : ◌≡◌ {A = ℕ} 0 1 = cc in absurd (omega arith)
 some_first (Memᴰ_tail m) e = let z : ◌≡◌ {A = ℕ} 0 1 = cc in absurd (omega arith)
 
-pub reading_found : (r : Row) (s : List ℕ) {k : Capture} → RowReading r s k → find r s ≡ Nothing → ⊥
+pub reading_found : (r : Row) (s : List ℕ) {k : Capture} → RowReading r s k → find r s ≡ None → ⊥
 unfolding find
 reading_found r s (at, h, end, i) e = some_first (in_flat (λ at. all r s at no_capture) (in_places s 0 at zero-le (omega arith)) (listed s i)) e

@@ -1,10 +1,11 @@
 -- Places in an order. Of the matches that they stand for, the first is that of one of them, and those before it have none.
+use Rattle.std.specs.Prelude.{Some}
 use Rattle.laws.proofs.Prelude.{◌≡◌, refl, List, [], ◌∷◌, ◌++◌, flat_map, Memᴰ, Memᴰ_head, Memᴰ_tail, Memᴰ_not_nil, Memᴰ_cases_cons}
 use Rattle.laws.proofs.Prelude.{⊎_elim, ℕ, suc, ◌+◌, ◌≤◌, ◌<◌, arith, drop}
 use mathlib.Core.List.Memᴰ
 use mathlib.Core.List.{reverse, reverse-cons}
 use Rattle.text.{specs.declared.class.Class.Class, specs.Class.class_at, proofs.Characters.stands_length}
-use Rattle.analysis.specs.{declared.Capture.Capture, declared.Found.TheVariants.At, Matches.Run}
+use Rattle.analysis.specs.{declared.Capture.Capture, Matches.Run}
 use Rattle.analysis.specs.Row.{run_ends, first, places}
 use Rattle.analysis.proofs.Ends.{ends_stop, ends_go_on, by_characters}
 use Rattle.analysis.proofs.Meaning.{of_reverse, of_ends, of_places}
@@ -44,16 +45,16 @@ places_ascend (x ∷ t) at = next (λ d m. (of_places t (suc at) d m).0) (places
 pub record Earliest (R : ℕ → ℕ → Type 0) (f : ℕ → List Capture) (l : List ℕ) (k : Capture) : Type 0 where
   pub at : ℕ
   pub among : Memᴰ at l
-  pub captures : first (f at) ≡ At k
+  pub captures : first (f at) ≡ Some k
   pub unmatched : (d : ℕ) → Memᴰ d l → R d at → f d ≡ []
 
 pub earliest : {R : ℕ → ℕ → Type 0} → ((d e : ℕ) → R d e → R e d → ⊥) → (f : ℕ → List Capture) {k : Capture} {l : List ℕ}
-    → InOrder R l → first (flat_map f l) ≡ At k → Earliest R f l k
+    → InOrder R l → first (flat_map f l) ≡ Some k → Earliest R f l k
 unfolding flat_map first
 earliest apart f none e = let z : ◌≡◌ {A = ℕ} 0 1 = cc in absurd (omega arith)
 earliest {R} apart f {k} (next {e = x} {l} g o) e = go (f x) refl (earliest apart f o) e
   where
-    go : (y : List Capture) → f x ≡ y → (first (flat_map f l) ≡ At k → Earliest R f l k) → first (y ++ flat_map f l) ≡ At k → Earliest R f (x ∷ l) k
+    go : (y : List Capture) → f x ≡ y → (first (flat_map f l) ≡ Some k → Earliest R f l k) → first (y ++ flat_map f l) ≡ Some k → Earliest R f (x ∷ l) k
     go [] i further j =
         let r = further j in
         record {

@@ -1,11 +1,11 @@
 -- What is preferred, over all rows: it is a match, and one only; the first of the matches in order of preference is it. So the finder answers the
 -- preferred match, and nothing exactly where nothing matches.
+use Rattle.std.specs.Prelude.{Option, Some, None}
 use Rattle.laws.proofs.Prelude.{◌≡◌, refl, sym, ◌∙◌, Bool, true, false, cond, List, [], ◌∷◌, ◌++◌, Memᴰ_not_nil, ℕ, zero, suc, ◌+◌, ◌<◌, zero-le}
 use Rattle.laws.proofs.Prelude.{arith, eqb, ltb, drop, eqb-true, ltb-true, ltb-false}
 use lib.Dec.{eqb-suc-zero}
 use Rattle.text.{specs.Class.class_at, proofs.Characters.one_stands, proofs.Characters.one_there}
-use Rattle.analysis.specs.declared.{matcher.Matched.Matched, Capture.Capture, Found.Found, Found.TheVariants.At, Found.TheVariants.Nothing}
-use Rattle.analysis.specs.declared.matcher.Matched.TheVariants as matched
+use Rattle.analysis.specs.declared.Capture.{Capture}
 use Rattle.analysis.specs.Letters.{behind, on_match, word_at}
 use Rattle.analysis.specs.Row.{Row, done, start, word, one, longest, shortest, from, to, either, run_ends, all, no_capture, first, find}
 use Rattle.analysis.specs.Matches.{Matches, RowReading}
@@ -24,21 +24,21 @@ one_place d e f g = go (ltb d e) refl (ltb e d) refl
     go false h false i = omega (arith, ltb-false d e h, ltb-false e d i)
 
 -- the first of nothing
-no_first : {l : Capture} → first [] ≡ At l → ⊥
+no_first : {l : Capture} → first [] ≡ Some l → ⊥
 unfolding first
 no_first e = let z : ◌≡◌ {A = ℕ} 0 1 = cc in omega arith
 
 -- what follows a test, a place that was reached, a character of n bytes
-of_test : (b : Bool) (x : List Capture) {l : Capture} → first (cond b x []) ≡ At l → (b ≡ true) × (first x ≡ At l)
+of_test : (b : Bool) (x : List Capture) {l : Capture} → first (cond b x []) ≡ Some l → (b ≡ true) × (first x ≡ Some l)
 of_test true x e = (refl, e)
 of_test false x e = absurd (no_first e)
 
 module _ (f : ℕ → List Capture) {l : Capture} where
-  of_match : (m : Matched) → first (on_match m [] f) ≡ At l → (e : ℕ) × (m ≡ matched.At e) × (first (f e) ≡ At l)
-  of_match (matched.At e) i = (e, refl, i)
-  of_match matched.Not i = absurd (no_first i)
+  of_match : (m : Option ℕ) → first (on_match m [] f) ≡ Some l → (e : ℕ) × (m ≡ Some e) × (first (f e) ≡ Some l)
+  of_match (Some e) i = (e, refl, i)
+  of_match None i = absurd (no_first i)
 
-  of_one : (at n : ℕ) → first (on_match (behind at n) [] f) ≡ At l → (n ≡ 0 → ⊥) × (first (f (at + n)) ≡ At l)
+  of_one : (at n : ℕ) → first (on_match (behind at n) [] f) ≡ Some l → (n ≡ 0 → ⊥) × (first (f (at + n)) ≡ Some l)
   of_one at zero i = absurd (no_first i)
   of_one at (suc n) i = (λ e. omega arith, rw (eqb-suc-zero n) at i)
 
@@ -84,7 +84,7 @@ module _ (s : List ℕ) where
   unmatched r at k e end l m = Memᴰ_not_nil (rw e at (listed s m))
 
   -- the first of the matches in order of preference is preferred
-  first_prefers : (r : Row) (at : ℕ) (k : Capture) {l : Capture} → first (all r s at k) ≡ At l → (end : ℕ) × Prefers s r at end k l
+  first_prefers : (r : Row) (at : ℕ) (k : Capture) {l : Capture} → first (all r s at k) ≡ Some l → (end : ℕ) × Prefers s r at end k l
   unfolding all first
   first_prefers done at k {l} e = let same : k ≡ l = cc in (at, rw same Prefers.done)
   first_prefers (start r) at k e =
@@ -113,14 +113,14 @@ module _ (s : List ℕ) where
   first_prefers (to r) at k e = let (end, p) = first_prefers r at (record { quoted = k.quoted; from = k.from; to = at }) e in (end, Prefers.to p)
   first_prefers (either a b) at k {l} e = go (all a s at k) refl (λ f. first_prefers a at k f) (λ f. first_prefers b at k f) e
     where
-      go : (x : List Capture) → all a s at k ≡ x → (first (all a s at k) ≡ At l → (end : ℕ) × Prefers s a at end k l)
-          → (first (all b s at k) ≡ At l → (end : ℕ) × Prefers s b at end k l) → first (x ++ all b s at k) ≡ At l →
+      go : (x : List Capture) → all a s at k ≡ x → (first (all a s at k) ≡ Some l → (end : ℕ) × Prefers s a at end k l)
+          → (first (all b s at k) ≡ Some l → (end : ℕ) × Prefers s b at end k l) → first (x ++ all b s at k) ≡ Some l →
           (end : ℕ) × Prefers s (either a b) at end k l
       go [] i left right f = let (end, p) = right f in (end, Prefers.right (unmatched a at k i) p)
       go (x ∷ xs) i left right f = let (end, p) = left (rw i f) in (end, Prefers.left p)
 
 module _ (r : Row) (s : List ℕ) where
-  pub found_preferred : {k : Capture} → find r s ≡ At k → Preferred r s k
+  pub found_preferred : {k : Capture} → find r s ≡ Some k → Preferred r s k
   unfolding find
   found_preferred e =
       let x = earliest {R = ◌<◌} (λ d e h i. omega arith) (λ at. all r s at no_capture) (places_ascend s 0) e in
@@ -143,16 +143,16 @@ module _ (r : Row) (s : List ℕ) where
   pub preferred_reads : {k : Capture} → Preferred r s k → RowReading r s k
   preferred_reads p = (p.at, p.inside, p.end, prefers_matches s p.prefers)
 
-  pub preferred_found : {k : Capture} → Preferred r s k → find r s ≡ At k
+  pub preferred_found : {k : Capture} → Preferred r s k → find r s ≡ Some k
   preferred_found {k} p = go (find r s) refl
     where
-      go : (f : Found) → find r s ≡ f → f ≡ At k
-      go (At j) e = let i : j ≡ k = one_preferred (found_preferred e) p in rw i
-      go Nothing e = absurd (reading_found r s (preferred_reads p) e)
+      go : (f : Option Capture) → find r s ≡ f → f ≡ Some k
+      go (Some j) e = let i : j ≡ k = one_preferred (found_preferred e) p in rw i
+      go None e = absurd (reading_found r s (preferred_reads p) e)
 
   pub finds : Finds r s (find r s)
   finds = record { some = λ k. (found_preferred, preferred_found); none = (λ e k m. reading_found r s m e, none (find r s) refl) }
     where
-      none : (f : Found) → find r s ≡ f → ((k : Capture) → RowReading r s k → ⊥) → f ≡ Nothing
-      none (At k) e h = absurd (h k (preferred_reads (found_preferred e)))
-      none Nothing e h = refl
+      none : (f : Option Capture) → find r s ≡ f → ((k : Capture) → RowReading r s k → ⊥) → f ≡ None
+      none (Some k) e h = absurd (h k (preferred_reads (found_preferred e)))
+      none None e h = refl

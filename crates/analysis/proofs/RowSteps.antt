@@ -1,12 +1,15 @@
 -- What each row matches, step by step, as its finder goes through it.
-use Rattle.laws.proofs.Prelude.{◌≡◌, refl, ap, ◌∙◌, true, false, List, [], ◌∷◌, flat_map, ℕ, ◌+◌, ◌≤◌, arith, length, drop, length-drop, eq-eqb}
+use Rattle.std.specs.Prelude.{Option, Some, None, is_some}
+use Rattle.laws.proofs.Prelude.{◌≡◌, refl, sym, ap, ◌∙◌, true, false, true≢false, List, [], ◌∷◌, flat_map, none-ne-some, ℕ, zero, suc, ◌+◌, ◌≤◌}
+use Rattle.laws.proofs.Prelude.{arith, length, drop, length-drop, eq-eqb}
+use Rattle.laws.proofs.Options.{some-injective}
+use lib.Dec.{eqb-suc-zero}
 use Rattle.laws.specs.Ascii.{ascii}
 use Rattle.text.specs.declared.class.Class.TheVariants.{White, NotWhite, WhiteOrStar, NotLf, Quote, NotQuote, SourceMark}
 use Rattle.text.{specs.Ranges.in_ranges, proofs.Runs.class_fits}
 use Rattle.text.specs.Class.{ranges, outside, member, class_at, run_end}
-use Rattle.analysis.specs.declared.{matcher.Matched.Matched, matcher.Matched.TheVariants.At, matcher.Matched.TheVariants.Not, Capture.Capture}
-use Rattle.analysis.specs.declared.Found.TheVariants as found
-use Rattle.analysis.specs.Letters.{fold_case, on_match, word_at}
+use Rattle.analysis.specs.declared.Capture.{Capture}
+use Rattle.analysis.specs.Letters.{fold_case, behind, on_match, word_at}
 use Rattle.analysis.specs.Row.{Row, ◌▸◌, one_at, done, start, word, one, longest, to, either, all, no_capture, first, match_at, find}
 use Rattle.analysis.specs.code.Matcher.{assigned_at, BeginsWithAtSign}
 use Rattle.analysis.specs.Patterns.{equals, quoted, quoted_some, bare, reference_end, triple_slash_row, attribute_row, jsx_row, source_mapping_url_row}
@@ -16,9 +19,18 @@ use Rattle.analysis.proofs.Apart.{Apart, past_run, white_apart, quote_apart, wor
 use Rattle.analysis.proofs.Search.{anchored}
 
 -- what follows the place that was reached
-on : (m : Matched) {f g : ℕ → List Capture} → ((e : ℕ) → f e ≡ g e) → on_match m [] f ≡ on_match m [] g
-on (At e) h = h e
-on Not h = refl
+on : (m : Option ℕ) {f g : ℕ → List Capture} → ((e : ℕ) → f e ≡ g e) → on_match m [] f ≡ on_match m [] g
+on (Some e) h = h e
+on None h = refl
+
+-- a character of n bytes at a place, and none
+pub some_there : (at n : ℕ) {e : ℕ} → Some e ≡ behind at n → (n ≡ 0 → ⊥) × (e ≡ at + n)
+some_there at zero e = absurd (none-ne-some _ (sym e))
+some_there at (suc n) {e = d} e = (λ z. omega arith, some-injective d (at + suc n) (rw (eqb-suc-zero n) at e))
+
+pub none_there : (at n : ℕ) → None ≡ behind at n → n ≡ 0
+none_there at zero e = refl
+none_there at (suc n) e = absurd (none-ne-some _ (rw (eqb-suc-zero n) at e))
 
 -- what the classes of the longest runs are apart from
 closes : Apart NotQuote (to (one Quote done))
@@ -61,15 +73,15 @@ assigned : (r : Row) → Apart White r → (w s : List ℕ) (at : ℕ) (k : Capt
 unfolding all assigned_at
 assigned r h w s at k = by_word (word_at w s at)
   where
-    by_equals : (m : Matched) → on_match m [] (λ d. all (longest White r) s d k)
-        ≡ on_match (on_match m Not (λ d. At (run_end White s d))) [] (λ e. all r s e k)
-    by_equals (At d) = past_run h s d k
-    by_equals Not = refl
+    by_equals : (m : Option ℕ) → on_match m [] (λ d. all (longest White r) s d k)
+        ≡ on_match (on_match m None (λ d. Some (run_end White s d))) [] (λ e. all r s e k)
+    by_equals (Some d) = past_run h s d k
+    by_equals None = refl
 
-    by_word : (m : Matched) → on_match m [] (λ e. all (equals r) s e k)
-        ≡ on_match (on_match m Not (λ e. on_match (word_at (ascii "=") s (run_end White s e)) Not (λ d. At (run_end White s d)))) [] (λ e. all r s e k)
-    by_word (At e) = past_run (white_equals (longest White r)) s e k ∙ by_equals (word_at (ascii "=") s (run_end White s e))
-    by_word Not = refl
+    by_word : (m : Option ℕ) → on_match m [] (λ e. all (equals r) s e k)
+        ≡ on_match (on_match m None (λ e. on_match (word_at (ascii "=") s (run_end White s e)) None (λ d. Some (run_end White s d)))) [] (λ e. all r s e k)
+    by_word (Some e) = past_run (white_equals (longest White r)) s e k ∙ by_equals (word_at (ascii "=") s (run_end White s e))
+    by_word None = refl
 
 -- the captured values
 module _ (s : List ℕ) (at : ℕ) where
@@ -89,31 +101,35 @@ module _ (s : List ℕ) (at : ℕ) where
   unfolding match_at all first flat_map
   bare_row = go (one_at NotWhite s at)
     where
-      go : (m : Matched) → first (on_match m [] (λ e. all (longest NotWhite (to done)) s e (record { quoted = false; from = at; to = 0 })))
+      go : (m : Option ℕ) → first (on_match m [] (λ e. all (longest NotWhite (to done)) s e (record { quoted = false; from = at; to = 0 })))
           ≡ first (on_match m [] (λ e. record { quoted = false; from = at; to = run_end NotWhite s e } ∷ []))
-      go (At e) = rw (longest_last NotWhite s e).1
-      go Not = refl
+      go (Some e) = rw (longest_last NotWhite s e).1
+      go None = refl
 
   -- the shortest run ends at once where the reference does, and else goes on
-  pub reference_hit : {e : ℕ} → word_at (ascii "/>") s at ≡ At e → match_at reference_end s at ≡ found.At no_capture
+  pub reference_hit : {m : Option ℕ} → m ≡ word_at (ascii "/>") s at → true ≡ is_some m → match_at reference_end s at ≡ Some no_capture
   unfolding match_at all first flat_map
-  reference_hit h = rw ((ends_begin NotLf s at).1, h)
+  reference_hit {m = Some e} h t = rw ((ends_begin NotLf s at).1, ← h)
+  reference_hit {m = None} h t = absurd (true≢false t)
 
-  pub reference_stop : word_at (ascii "/>") s at ≡ Not → class_at NotLf (drop at s) ≡ 0 → match_at reference_end s at ≡ found.Nothing
+  pub reference_stop : {m : Option ℕ} → m ≡ word_at (ascii "/>") s at → false ≡ is_some m → None ≡ one_at NotLf s at
+      → match_at reference_end s at ≡ None
   unfolding match_at all first flat_map
-  reference_stop h z = rw (ends_stop NotLf s at z, h)
+  reference_stop {m = Some e} h t z = absurd (true≢false (sym t))
+  reference_stop {m = None} h t z = rw (ends_stop NotLf s at (none_there at _ z), ← h)
 
-  pub reference_goes_on : word_at (ascii "/>") s at ≡ Not → {n : ℕ} → n ≡ class_at NotLf (drop at s) → (n ≡ 0 → ⊥)
-      → match_at reference_end s at ≡ match_at reference_end s (at + n)
+  pub reference_goes_on : {m : Option ℕ} → m ≡ word_at (ascii "/>") s at → false ≡ is_some m → {e : ℕ} → Some e ≡ one_at NotLf s at
+      → match_at reference_end s at ≡ match_at reference_end s e
   unfolding match_at all flat_map
-  reference_goes_on h e z = rw (ends_go_on NotLf s at e z, h)
+  reference_goes_on {m = Some e} h t z = absurd (true≢false (sym t))
+  reference_goes_on {m = None} h t z = let (n, e) = some_there at _ z in rw (ends_go_on NotLf s at refl n, ← h, e)
 
   pub attribute_row_lem : (w : List ℕ) → match_at (attribute_row w) s at ≡ first (on_match (one_at White s at) [] (λ e.
       on_match (assigned_at w s e) [] (λ d. all quoted s d no_capture)))
   unfolding match_at all
   attribute_row_lem w = ap first (on (one_at White s at) λ e. assigned quoted white_quote w s e no_capture)
 
-  pub attribute_ends : (w : List ℕ) → length s ≤ at → match_at (attribute_row w) s at ≡ found.Nothing
+  pub attribute_ends : (w : List ℕ) → length s ≤ at → match_at (attribute_row w) s at ≡ None
   unfolding first
   attribute_ends w h =
       let z : class_at White (drop at s) ≡ 0 = omega (arith, class_fits White (drop at s), length-drop at s) in

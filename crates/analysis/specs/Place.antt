@@ -1,9 +1,7 @@
 -- What a match captured: the text, and its place, with the marks around it.
-use Rattle.std.specs.Prelude.{cond, List, ℕ, ◌+◌, ◌-◌, ◌≤◌}
+use Rattle.std.specs.Prelude.{cond, List, ℕ, ◌+◌, ◌-◌, ◌≤◌, Option, Some, None}
 use Rattle.text.specs.Bytes.{part}
 use Rattle.analysis.specs.declared.Capture.{Capture}
-use Rattle.analysis.specs.declared.Found.{Found}
-use Rattle.analysis.specs.declared.Found.TheVariants.{At, Nothing}
 use Rattle.analysis.specs.declared.Place.{Place}
 
 -- how many bytes the mark on either side has: one where the captured text is quoted
@@ -25,6 +23,6 @@ pub record Inside (k : Capture) (n : ℕ) : Type 0 where
   pub closes : k.to + mark_width k ≤ n
 
 -- so does what was found
-abbrev pub FoundWithin : Found → ℕ → Type 0
-FoundWithin (At k) n = Inside k n
-FoundWithin Nothing n = Unit {0}
+abbrev pub FoundWithin : Option Capture → ℕ → Type 0
+FoundWithin (Some k) n = Inside k n
+FoundWithin None n = Unit {0}

@@ -1,11 +1,9 @@
 -- Which match is preferred, with no matcher: the leftmost; from there each longest run as long as can be, each shortest one as short, and the first
 -- alternative wherever it matches.
-use Rattle.std.specs.Prelude.{◌≡◌, Bool, List, ◌↔◌, ℕ, ◌≤◌, ◌<◌, length}
+use Rattle.std.specs.Prelude.{◌≡◌, Bool, List, ◌↔◌, ℕ, ◌≤◌, ◌<◌, length, Option, Some, None}
 use Rattle.text.specs.declared.class.Class.{Class}
 use Rattle.text.specs.Characters.{OneOf, Stands}
 use Rattle.analysis.specs.declared.Capture.{Capture}
-use Rattle.analysis.specs.declared.Found.{Found}
-use Rattle.analysis.specs.declared.Found.TheVariants.{At, Nothing}
 use Rattle.analysis.specs.Row.{Row, no_capture}
 use Rattle.analysis.specs.Matches.{Spelled, Run, Matches, RowReading}
 
@@ -44,6 +42,6 @@ pub record Preferred (r : Row) (s : List ℕ) (k : Capture) : Type 0 where
   pub leftmost : (p : ℕ) → p < at → NoMatch s r p no_capture
 
 -- the answer is the preferred match, and there is none exactly where the row matches nowhere
-pub record Finds (r : Row) (s : List ℕ) (answer : Found) : Type 0 where
-  pub some : (k : Capture) → (answer ≡ At k) ↔ Preferred r s k
-  pub none : (answer ≡ Nothing) ↔ ((k : Capture) → RowReading r s k → ⊥)
+pub record Finds (r : Row) (s : List ℕ) (answer : Option Capture) : Type 0 where
+  pub some : (k : Capture) → (answer ≡ Some k) ↔ Preferred r s k
+  pub none : (answer ≡ None) ↔ ((k : Capture) → RowReading r s k → ⊥)

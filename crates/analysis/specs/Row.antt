@@ -1,15 +1,12 @@
 -- A pattern as a row of steps. What a row matches, and which match is preferred, is said in Matches and Prefers: those are the files to be believed.
 -- The functions here give the value that the report computes, and the law `finds` ties them to it, for every row: all matches from a place, in order of
 -- preference; the first of them, from the leftmost place that has one.
-use Rattle.std.specs.Prelude.{Bool, true, false, cond, ℕ, zero, suc, eqb, drop}
+use Rattle.std.specs.Prelude.{Bool, false, cond, ℕ, zero, suc, eqb, drop, Option, Some, None, is_some}
 use mathlib.Core.List.{List, [], ◌∷◌, ◌++◌, reverse, flat_map}
 use Rattle.text.specs.declared.class.Class.{Class}
 use Rattle.text.specs.Utf8.{past}
 use Rattle.text.specs.Class.{class_at}
-use Rattle.analysis.specs.declared.matcher.Matched.{Matched}
 use Rattle.analysis.specs.declared.Capture.{Capture}
-use Rattle.analysis.specs.declared.Found.{Found}
-use Rattle.analysis.specs.declared.Found.TheVariants.{At, Nothing}
 use Rattle.analysis.specs.Letters.{behind, on_match, word_at}
 
 -- each step holds the rest of its row
@@ -34,7 +31,7 @@ abbrev pub no_capture : Capture
 no_capture = record { quoted = false; from = 0; to = 0 }
 
 -- where a character of the class ends that begins at a place
-abbrev pub one_at : Class → List ℕ → ℕ → Matched
+abbrev pub one_at : Class → List ℕ → ℕ → Option ℕ
 one_at c s at = behind at (class_at c (drop at s))
 
 -- the places where a run of the class can end, the shortest first: in the text from `at` on, behind `skip` bytes of a character already in it
@@ -58,12 +55,12 @@ all (from quoted r) s at k = all r s at (record { quoted = quoted; from = at; to
 all (to r) s at k = all r s at (record { quoted = k.quoted; from = k.from; to = at })
 all (either a b) s at k = all a s at k ++ all b s at k
 
-unfoldable pub first : List Capture → Found
-first [] = Nothing
-first (k ∷ ks) = At k
+unfoldable pub first : List Capture → Option Capture
+first [] = None
+first (k ∷ ks) = Some k
 
 -- the preferred match from a place on
-unfoldable pub match_at : Row → List ℕ → ℕ → Found
+unfoldable pub match_at : Row → List ℕ → ℕ → Option Capture
 match_at r s at = first (all r s at no_capture)
 
 -- every place of a text, its end too, the first being `at`
@@ -72,9 +69,8 @@ places [] at = at ∷ []
 places (x ∷ s) at = at ∷ places s (suc at)
 
 -- the preferred match in a body: the leftmost first
-unfoldable pub find : Row → List ℕ → Found
+unfoldable pub find : Row → List ℕ → Option Capture
 find r s = first (flat_map (λ at. all r s at no_capture) (places s 0))
 
-abbrev pub is_found : Found → Bool
-is_found (At k) = true
-is_found Nothing = false
+abbrev pub is_found : Option Capture → Bool
+is_found = is_some

@@ -2,123 +2,104 @@
 ghost use Rattle.std.specs.Prelude.{◌≡◌, ◌+◌, ◌≤◌, length, drop};
 ghost use Rattle.laws.specs.code.Told.{Bounded};
 ghost use Rattle.analysis.specs.Letters.{fold_case, letter_at, word_at};
-ghost use Rattle.analysis.specs.Row.{match_at, find, is_found};
+ghost use Rattle.analysis.specs.Row.{one_at, match_at, find, is_found};
 ghost use Rattle.analysis.specs.code.Matcher.{assigned_at, EndsBy, BeginsWithAtSign};
 ghost use Rattle.analysis.specs.Place.{FoundWithin};
 ghost use Rattle.analysis.specs.Patterns.{quoted, quoted_some, bare, reference_end, attribute_row, jsx_row, pragma_row};
 
-use super::{Capture, Found};
+use super::Capture;
 use text::class::{Class, class_at, run_end};
 use text::utf8::{Encoding, char_at};
 
-// The place that was reached, if any.
-#[derive(Clone, Copy)]
-pub enum Matched {
-    At(usize),
-    Not,
-}
-
 // A code point without its case, as far as it meets an ASCII letter.
+#[tactic(auto, unfolding(crate::specs::Letters::fold_case))]
 fn fold_case(code: u32) -> u32
     ensures { result ≡ fold_case code }
 {
-    if code < 0x41 {
-        return code;
+    match code {
+        0x41..=0x5A => code + 0x20,
+        0x17F => 0x73,
+        0x212A => 0x6B,
+        _ => code,
     }
-    if code <= 0x5A {
-        return code + 0x20;
-    }
-    if code == 0x17F {
-        return 0x73;
-    }
-    if code == 0x212A {
-        return 0x6B;
-    }
-    code
 }
 
 // The same as `letter_at`, by the rows of characters.
+#[tactic(auto, unfolding(crate::specs::Letters::letter_at))]
 fn wide_letter_at(s: &[u8], at: usize, letter: u8) -> usize
     requires { at ≤ length s.now }
     ensures { Bounded (result ≡ letter_at letter (drop at s.now)) (at + result ≤ length s.now) }
 {
     let c = char_at(s, at, Encoding::Utf8);
-    let len = c.len;
-    let code = c.code;
-    if fold_case(code) == fold_case(letter as u32) {
-        len
+    if fold_case(c.code) == fold_case(u32::from(letter)) {
+        c.len
     } else {
         0
     }
 }
 
 // The length in bytes of the letter at `at`, whatever its case, 0 where it does not stand there.
+#[tactic(auto, using(crate::proofs::Spelling::ascii_letter))]
 fn letter_at(s: &[u8], at: usize, letter: u8) -> usize
     requires { at ≤ length s.now }
     ensures { Bounded (result ≡ letter_at letter (drop at s.now)) (at + result ≤ length s.now) }
 {
-    if s.len() <= at {
-        return wide_letter_at(s, at, letter);
-    }
-    let b = s[at];
-    if b < 0x80 {
-        if fold_case(b as u32) == fold_case(letter as u32) {
-            return 1;
-        }
-        return 0;
+    if at < s.len() && s[at] < 0x80 {
+        return usize::from(fold_case(u32::from(s[at])) == fold_case(u32::from(letter)));
     }
     wide_letter_at(s, at, letter)
 }
 
+// Where the character of the class ends that stands at `at`.
+pub fn one_at(s: &[u8], at: usize, class: Class) -> Option<usize>
+    requires { at ≤ length s.now }
+    ensures { Bounded (result ≡ one_at class s.now at) (EndsBy result (length s.now)) }
+{
+    let n = class_at(s, at, class);
+    if n == 0 {
+        return None;
+    }
+    Some(at + n)
+}
+
 // Where the word ends that begins at `at`, letter by letter.
-pub fn match_word(s: &[u8], at: usize, word: &[u8]) -> Matched
+pub fn match_word(s: &[u8], at: usize, word: &[u8]) -> Option<usize>
     requires { at ≤ length s.now }
     ensures { Bounded (result ≡ word_at word.now s.now at) (EndsBy result (length s.now)) }
 {
     let mut i = at;
-    let mut k = 0;
-    while k < word.len() {
-        let n = letter_at(s, i, word[k]);
+    for letter in word {
+        let n = letter_at(s, i, *letter);
         if n == 0 {
-            return Matched::Not;
+            return None;
         }
         i += n;
-        k += 1;
     }
-    Matched::At(i)
+    Some(i)
 }
 
 // Where the value begins behind a word and `\s*=\s*`.
-pub fn assigned_at(s: &[u8], at: usize, word: &[u8]) -> Matched
+#[tactic(auto, unfolding(crate::specs::code::Matcher::assigned_at))]
+pub fn assigned_at(s: &[u8], at: usize, word: &[u8]) -> Option<usize>
     requires { at ≤ length s.now }
     ensures { Bounded (result ≡ assigned_at word.now s.now at) (EndsBy result (length s.now)) }
 {
-    let Matched::At(a) = match_word(s, at, word) else {
-        return Matched::Not;
-    };
+    let a = match_word(s, at, word)?;
     let b = run_end(s, a, Class::White);
-    let Matched::At(d) = match_word(s, b, b"=") else {
-        return Matched::Not;
-    };
-    Matched::At(run_end(s, d, Class::White))
+    let d = match_word(s, b, b"=")?;
+    Some(run_end(s, d, Class::White))
 }
 
 // ["']([^"']*)["']
-pub fn quoted_at(s: &[u8], at: usize) -> Found
+#[tactic(auto, using(crate::proofs::RowSteps::quoted_row), unfolding(crate::specs::Row::first))]
+pub fn quoted_at(s: &[u8], at: usize) -> Option<Capture>
     requires { at ≤ length s.now }
     ensures { Bounded (result ≡ match_at quoted s.now at) (FoundWithin result (length s.now)) }
 {
-    let n = class_at(s, at, Class::Quote);
-    if n == 0 {
-        return Found::Nothing;
-    }
-    let from = at + n;
+    let from = one_at(s, at, Class::Quote)?;
     let to = run_end(s, from, Class::NotQuote);
-    let m = class_at(s, to, Class::Quote);
-    if m == 0 {
-        return Found::Nothing;
-    }
-    Found::At(Capture {
+    one_at(s, to, Class::Quote)?;
+    Some(Capture {
         quoted: true,
         from,
         to,
@@ -126,25 +107,16 @@ pub fn quoted_at(s: &[u8], at: usize) -> Found
 }
 
 // ["']([^"']+)["']
-pub fn quoted_some_at(s: &[u8], at: usize) -> Found
+#[tactic(auto, using(crate::proofs::RowSteps::quoted_some_row), unfolding(crate::specs::Row::first))]
+pub fn quoted_some_at(s: &[u8], at: usize) -> Option<Capture>
     requires { at ≤ length s.now }
     ensures { Bounded (result ≡ match_at quoted_some s.now at) (FoundWithin result (length s.now)) }
 {
-    let n = class_at(s, at, Class::Quote);
-    if n == 0 {
-        return Found::Nothing;
-    }
-    let from = at + n;
-    let first = class_at(s, from, Class::NotQuote);
-    if first == 0 {
-        return Found::Nothing;
-    }
-    let to = run_end(s, from + first, Class::NotQuote);
-    let m = class_at(s, to, Class::Quote);
-    if m == 0 {
-        return Found::Nothing;
-    }
-    Found::At(Capture {
+    let from = one_at(s, at, Class::Quote)?;
+    let first = one_at(s, from, Class::NotQuote)?;
+    let to = run_end(s, first, Class::NotQuote);
+    one_at(s, to, Class::Quote)?;
+    Some(Capture {
         quoted: true,
         from,
         to,
@@ -152,16 +124,14 @@ pub fn quoted_some_at(s: &[u8], at: usize) -> Found
 }
 
 // (\S+)
-pub fn bare_at(s: &[u8], at: usize) -> Found
+#[tactic(auto, using(crate::proofs::RowSteps::bare_row), unfolding(crate::specs::Row::first))]
+pub fn bare_at(s: &[u8], at: usize) -> Option<Capture>
     requires { at ≤ length s.now }
     ensures { Bounded (result ≡ match_at bare s.now at) (FoundWithin result (length s.now)) }
 {
-    let n = class_at(s, at, Class::NotWhite);
-    if n == 0 {
-        return Found::Nothing;
-    }
-    let to = run_end(s, at + n, Class::NotWhite);
-    Found::At(Capture {
+    let first = one_at(s, at, Class::NotWhite)?;
+    let to = run_end(s, first, Class::NotWhite);
+    Some(Capture {
         quoted: false,
         from: at,
         to,
@@ -175,76 +145,64 @@ pub fn reference_ends(s: &[u8], at: usize) -> bool
 {
     let mut i = at;
     loop {
-        if let Matched::At(_) = match_word(s, i, b"/>") {
+        if match_word(s, i, b"/>").is_some() {
             return true;
         }
-        let n = class_at(s, i, Class::NotLf);
-        if n == 0 {
+        let Some(next) = one_at(s, i, Class::NotLf) else {
             return false;
-        }
-        i += n;
+        };
+        i = next;
     }
 }
 
 // \sWORD\s*=\s*["']([^"']*)["']
-fn attribute_at(s: &[u8], at: usize, word: &[u8]) -> Found
+#[tactic(auto, using(crate::proofs::RowSteps::attribute_row_lem), unfolding(crate::specs::Row::first, crate::specs::Row::match_at))]
+fn attribute_at(s: &[u8], at: usize, word: &[u8]) -> Option<Capture>
     requires { at ≤ length s.now }
     ensures { Bounded (result ≡ match_at (attribute_row word.now) s.now at)
         (FoundWithin result (length s.now)) }
 {
-    let n = class_at(s, at, Class::White);
-    if n == 0 {
-        return Found::Nothing;
-    }
-    let Matched::At(b) = assigned_at(s, at + n, word) else {
-        return Found::Nothing;
-    };
+    let a = one_at(s, at, Class::White)?;
+    let b = assigned_at(s, a, word)?;
     quoted_at(s, b)
 }
 
 // The leftmost of these.
-pub fn find_attribute(body: &[u8], word: &[u8]) -> Found
+pub fn find_attribute(body: &[u8], word: &[u8]) -> Option<Capture>
     ensures { Bounded (result ≡ find (attribute_row word.now) body.now)
         (FoundWithin result (length body.now)) }
 {
-    let mut i = 0;
-    while i < body.len() {
+    for i in 0..body.len() {
         let found = attribute_at(body, i, word);
-        if let Found::At(_) = found {
+        if found.is_some() {
             return found;
         }
-        i += 1;
     }
-    Found::Nothing
+    None
 }
 
 // ^[\s*]*WORD\s+(\S+), the word beginning with @
-pub fn find_jsx(body: &[u8], word: &[u8]) -> Found
+#[tactic(auto, using(crate::proofs::RowSteps::jsx_row_lem), unfolding(crate::specs::Row::first, crate::specs::Row::match_at))]
+pub fn find_jsx(body: &[u8], word: &[u8]) -> Option<Capture>
     requires { BeginsWithAtSign word.now }
     ensures { Bounded (result ≡ find (jsx_row word.now) body.now)
         (FoundWithin result (length body.now)) }
 {
     let a = run_end(body, 0, Class::WhiteOrStar);
-    let Matched::At(b) = match_word(body, a, word) else {
-        return Found::Nothing;
-    };
-    let n = class_at(body, b, Class::White);
-    if n == 0 {
-        return Found::Nothing;
-    }
-    let d = run_end(body, b + n, Class::White);
+    let b = match_word(body, a, word)?;
+    let e = one_at(body, b, Class::White)?;
+    let d = run_end(body, e, Class::White);
     bare_at(body, d)
 }
 
 // ^\s*WORD\s*=\s*["']([^"']+)["'], the word beginning with @
-pub fn find_pragma(body: &[u8], word: &[u8]) -> Found
+#[tactic(auto, using(crate::proofs::RowSteps::pragma_row_lem), unfolding(crate::specs::Row::first, crate::specs::Row::match_at))]
+pub fn find_pragma(body: &[u8], word: &[u8]) -> Option<Capture>
     requires { BeginsWithAtSign word.now }
     ensures { Bounded (result ≡ find (pragma_row word.now) body.now)
         (FoundWithin result (length body.now)) }
 {
     let a = run_end(body, 0, Class::White);
-    let Matched::At(b) = assigned_at(body, a, word) else {
-        return Found::Nothing;
-    };
+    let b = assigned_at(body, a, word)?;
     quoted_some_at(body, b)
 }

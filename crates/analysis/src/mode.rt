@@ -1,37 +1,34 @@
 // `Option<TypeScriptTypesResolutionMode>`, and document 01's number of each.
 ghost use Rattle.std.specs.Prelude.{◌≡◌};
 ghost use Rattle.analysis.specs.Mode.{mode_number, mode_of};
-ghost use Rattle.analysis.specs.code.Mode.{mode_as};
 
 use text::bytes::equal;
 
-// A mode, or none.
-#[derive(Clone, Copy)]
-pub enum ModeFound {
-    Nothing,
-    Import,
-    Require,
+#[derive(Clone, Copy, Debug, PartialEq, Eq, Hash)]
+pub enum TypeScriptTypesResolutionMode {
+    Import = 1,
+    Require = 2,
 }
 
 // The mode that a text names.
-pub fn from_str(text: &[u8]) -> ModeFound
-    ensures { mode_as result ≡ mode_of text.now }
+#[tactic(auto, unfolding(crate::specs::Mode::mode_of))]
+pub fn from_str(text: &[u8]) -> Option<TypeScriptTypesResolutionMode>
+    ensures { result ≡ mode_of text.now }
 {
     if equal(text, b"import") {
-        return ModeFound::Import;
+        return Some(TypeScriptTypesResolutionMode::Import);
     }
     if equal(text, b"require") {
-        return ModeFound::Require;
+        return Some(TypeScriptTypesResolutionMode::Require);
     }
-    ModeFound::Nothing
+    None
 }
 
-pub fn mode_number(found: ModeFound) -> u8
-    ensures { result ≡ mode_number (mode_as found) }
+pub fn mode_number(found: Option<TypeScriptTypesResolutionMode>) -> u8
+    ensures { result ≡ mode_number found }
 {
     match found {
-        ModeFound::Nothing => 0,
-        ModeFound::Import => 1,
-        ModeFound::Require => 2,
+        None => 0,
+        Some(mode) => mode as u8,
     }
 }

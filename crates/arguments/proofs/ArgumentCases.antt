@@ -1,4 +1,5 @@
 -- Arguments in a source that is an empty string, as the definitions compute.
+use Rattle.std.specs.Prelude.{Some, None}
 use Rattle.laws.proofs.Prelude.{◌≡◌, refl, List, [], ◌∷◌, ◌++◌, map, Option, ℕ, length}
 use Rattle.laws.specs.Decoded.{Decoded, ok, on_ok}
 use Rattle.laws.specs.Ascii.{ascii}
@@ -52,10 +53,10 @@ cases =
     ∷ (b, ok expr [])
     ∷ (at 3 (0 ∷ cooked (ascii "a")), ok (string (ascii "a")) [])
     ∷ (at 3 (0 ∷ cooked []), ok (string []) [])
-    ∷ (at 3 (1 ∷ cooked [] ++ cooked (ascii "c") ++ b), ok (template (Option.none ∷ Option.some (ascii "c") ∷ [])) [])
-    ∷ (at 3 (1 ∷ cooked (ascii "a") ++ cooked [] ++ b), ok (template (Option.some (ascii "a") ∷ Option.none ∷ [])) [])
-    ∷ (plus (plus a b) c, ok (template (Option.some (ascii "a") ∷ Option.none ∷ Option.some (ascii "c") ∷ [])) [])
-    ∷ (plus a (plus b c), ok (template (Option.some (ascii "a") ∷ Option.none ∷ [])) [])
+    ∷ (at 3 (1 ∷ cooked [] ++ cooked (ascii "c") ++ b), ok (template (None ∷ Some (ascii "c") ∷ [])) [])
+    ∷ (at 3 (1 ∷ cooked (ascii "a") ++ cooked [] ++ b), ok (template (Some (ascii "a") ∷ None ∷ [])) [])
+    ∷ (plus (plus a b) c, ok (template (Some (ascii "a") ∷ None ∷ Some (ascii "c") ∷ [])) [])
+    ∷ (plus a (plus b c), ok (template (Some (ascii "a") ∷ None ∷ [])) [])
     ∷ (plus b c, ok expr [])
     ∷ (plus (minus a b) c, ok expr [])
     ∷ (minus (plus a b) c, ok expr [])

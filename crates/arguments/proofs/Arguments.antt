@@ -1,4 +1,5 @@
 -- The argument that an expression is, from what was read of it.
+use Rattle.std.specs.Prelude.{None}
 use Rattle.laws.proofs.Prelude.{◌≡◌, refl, List, Option, ℕ}
 use Rattle.laws.specs.Decoded.{Decoder}
 use Rattle.text.specs.{Lossy.lossy, Lossy.replaced, Bytes.part}
@@ -19,6 +20,6 @@ unfolding argument_of
 template_argument r = rw r.is (refl, refl)
 
 pub plus_argument : {s : List ℕ} {inner : Decoder Node} {next : Cursor} {n : Node} {t : List ℕ} → IsPlus s inner next n t
-    → (argument_of n ≡ of_chain (chain n)) × (single_text (shape n) ≡ Option.none)
+    → (argument_of n ≡ of_chain (chain n)) × (single_text (shape n) ≡ None)
 unfolding argument_of
 plus_argument r = rw r.is (refl, refl)

@@ -1,16 +1,16 @@
 -- What stands behind the head of an expression, by the head.
-use Rattle.laws.proofs.Prelude.{◌≡◌, refl, Bool, true, false, List, [], ◌∷◌, Option, ℕ, ◌-◌, ◌+◌, arith, drop, seen, rules}
+use Rattle.std.specs.Prelude.{None, Ok}
+use Rattle.laws.proofs.Prelude.{◌≡◌, refl, Bool, true, false, List, [], ◌∷◌, ℕ, ◌-◌, ◌+◌, arith, drop, seen, rules}
 use types.Run.{OneOf, miss}
 use denote.Enum.Declared.{tag_of}
 use Rattle.laws.{specs.Decoded.ok, proofs.Decoding.then_ok}
-use Rattle.wire.specs.declared.Cursor.{Cursor}
+use Rattle.wire.specs.{declared.Cursor.Cursor, code.Views.Reading}
 use Rattle.sheet.specs.{declared.fields.Span.Span, Shape.anything, Shape.shape}
 use Rattle.sheet.specs.Tree.{Node, other, string, name, template, binary, object, import_call, call, import_decl, named_export, export_from, export_all}
 use Rattle.sheet.specs.Tree.{import_type, import_equals, import_require, module_decl}
 use Rattle.sheet.specs.Nodes.{many, piece, nodes, node}
-use Rattle.sheet_heads.specs.{declared.node.Head.Head, declared.node.HeadRead.HeadRead, code.Rest.rest, code.Views.head_of, code.Views.head_as}
+use Rattle.sheet_heads.specs.{declared.node.Head.Head, code.Rest.rest, code.Views.head_of, code.Views.head_as}
 use Rattle.sheet_heads.specs.declared.node.Head.TheVariants as head
-use Rattle.sheet_heads.specs.declared.node.HeadRead.TheVariants as head_read
 use Rattle.sheet_heads.specs.code.Head as heads
 use Rattle.sheet_heads.proofs.{ByHead.behind_head, Shapes.shape_by_head}
 use Rattle.sheet_heads.specs.contracts.node.Head.{the_type}
@@ -29,7 +29,7 @@ one_of_others (head.Binary plus) no_string no_template no_binary = absurd (no_bi
 one_of_others x no_string no_template no_binary = search rules
 
 -- a node that is anything else is no chain
-no_chain : (n : Node) → shape n ≡ anything → chain n ≡ Option.none
+no_chain : (n : Node) → shape n ≡ anything → chain n ≡ None
 unfolding chain
 no_chain (other sp ns) e = refl
 no_chain (string sp x) e = let z : ◌≡◌ {A = ℕ} 0 1 = cc in absurd (omega arith)
@@ -49,8 +49,8 @@ no_chain (import_require sp type_only export x) e = refl
 no_chain (module_decl sp x ns) e = refl
 
 -- an expression, from its head and what follows it
-module _ (s source : List ℕ) (at levels : ℕ) {r : HeadRead} {sp : Span} {x : Head} {next : Cursor} {n : Node} {t : List ℕ}
-    (says : head_as s r ≡ heads.head source levels (drop at s)) (is : r ≡ head_read.Is sp x next) (whole : node source levels (drop at s) ≡ ok n t) where
+module _ (s source : List ℕ) (at levels : ℕ) {r : Reading (Span × Head)} {sp : Span} {x : Head} {next : Cursor} {n : Node} {t : List ℕ}
+    (says : head_as s r ≡ heads.head source levels (drop at s)) (is : r ≡ Ok ((sp, x), next)) (whole : node source levels (drop at s) ≡ ok n t) where
   follows : rest source (levels - 1) (sp, head_of s x) (drop next.at s) ≡ ok n t
   follows = behind_head source levels (drop at s) whole (seen (head_as s) says is)
 

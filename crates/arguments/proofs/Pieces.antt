@@ -1,10 +1,14 @@
 -- Pieces of a template read one after the other, and the parts that they give.
+use Rattle.std.specs.Prelude.{Some, None, option_map}
 use Rattle.laws.proofs.Prelude.{◌≡◌, refl, sym, ap, ◌∙◌, Bool, true, false, List, [], ◌∷◌, ◌++◌, append-nil, Option, ℕ, zero, suc, ◌+◌, ◌-◌, ◌≤◌, ◌<◌}
-use Rattle.laws.proofs.Prelude.{arith, ltb, length, length-take, length-drop, lt-ltb}
+use Rattle.laws.proofs.Prelude.{arith, ltb, length, length-take, length-drop, lt-ltb, le-ltb, ltb-true, ltb-false}
+use Rattle.std.specs.Int.{from_bool}
 use Rattle.laws.{specs.Decoded.ok, proofs.Decoding.then_ok}
-use Rattle.text.specs.{declared.utf8.Encoding.TheVariants.Wtf8, Lossy.lossy, Bytes.part, Truth.one}
+use Rattle.text.specs.{declared.utf8.Encoding.TheVariants.Wtf8, Lossy.lossy, Bytes.part}
 use Rattle.wire.specs.{Text.text, Optional.optional}
 use Rattle.sheet.specs.{Limits.text_limit, Tree.Pieces, Nodes.many, Nodes.piece}
+use Rattle.wire.specs.declared.Cursor.{Cursor}
+use Rattle.sheet_heads.specs.code.Views.{piece_of}
 use Rattle.sheet_heads.proofs.Many.{many_first, many_next, many_end}
 use Rattle.report.specs.ModuleInfo as info
 use Rattle.arguments.specs.code.Views.{hole_parts}
@@ -39,29 +43,51 @@ next_parts p (suc (suc k)) t {ps} {u} h e =
         template_parts (p ∷ ps) ≡ piece_parts p ++ (hole_parts (ltb 1 (suc (suc k))) ++ template_parts ps)
     by_first q qs is = rw (← is, lt-ltb 1 (suc (suc k)) (omega arith))
 
--- the first of so many pieces, and the others
-pub piece_next : (left : ℕ) (s : List ℕ) {p : Option (List ℕ)} {t : List ℕ} {ps : Pieces} {u : List ℕ} → 0 < left → piece s ≡ ok (p ∷◌) t →
-    many [] piece left s ≡ ok ps u
-    → (qs : Pieces) × (many [] piece (left - 1) t ≡ ok qs u) × (template_parts ps ≡ piece_parts p ++ (hole_parts (ltb 1 left) ++ template_parts qs))
-piece_next left s {p} {t} h e f =
-    let (qs, behind, is) = many_next [] piece left s h e f in
-    (qs, behind, sym (ap template_parts is) ∙ next_parts p left t h behind)
+-- the kth piece, which a hole follows unless it is the last, and the others
+module _ (holes k : ℕ) (h : k ≤ holes) where
+  abbrev left : ℕ
+  left = holes + 1 - k
+
+  hole_follows : ltb 1 left ≡ ltb k holes
+  hole_follows = by_test (ltb k holes) refl
+    where
+      by_test : (b : Bool) → ltb k holes ≡ b → ltb 1 left ≡ b
+      by_test true e = let less = ltb-true k holes e in lt-ltb 1 left (omega arith)
+      by_test false e = let most = ltb-false k holes e in le-ltb 1 left (omega arith)
+
+  pub piece_next : (s : List ℕ) (p : Option (List ℕ)) {t : List ℕ} {ps : Pieces} {u : List ℕ} → piece s ≡ ok (p ∷◌) t → many [] piece left s ≡ ok ps u
+      → (qs : Pieces) × (many [] piece (holes + 1 - (k + 1)) t ≡ ok qs u)
+      × (template_parts ps ≡ piece_parts p ++ (hole_parts (ltb k holes) ++ template_parts qs))
+  piece_next s p {t} e f =
+      let some : 0 < left = omega arith in
+      let down : left - 1 ≡ holes + 1 - (k + 1) = omega arith in
+      let (qs, behind, is) = many_next [] piece left s some e f in
+      (qs, rw down at behind, rw hole_follows at (sym (ap template_parts is) ∙ next_parts p left t some behind))
+
+-- a piece that was read, cooked or not
+pub piece_is : (s : List ℕ) (x : Option ℕ) (next : Cursor) → piece_of s x next ≡ (option_map (λ from. part s from next.at) x ∷◌)
+piece_is s None next = refl
+piece_is s (Some from) next = refl
 
 -- a piece of a sheet s is a part if it has text
 module _ (s : List ℕ) (from to : ℕ) where
-  pub text_part : from < to → to ≤ length s → piece_parts (Option.some (part s from to)) ≡ Option.some (lossy (part s from to)) ∷ []
+  pub text_part : from < to → to ≤ length s → piece_parts (Some (part s from to)) ≡ Some (lossy (part s from to)) ∷ []
   text_part h k = some_text (part s from to) (simp (length-take, length-drop) (omega arith))
     where
-      some_text : (x : List ℕ) → 0 < length x → piece_parts (Option.some x) ≡ Option.some (lossy x) ∷ []
+      some_text : (x : List ℕ) → 0 < length x → piece_parts (Some x) ≡ Some (lossy x) ∷ []
       some_text [] h = absurd (omega arith)
       some_text (b ∷ x) h = refl
 
-  pub no_part : to ≤ from → piece_parts (Option.some (part s from to)) ≡ []
+  pub no_part : to ≤ from → piece_parts (Some (part s from to)) ≡ []
   no_part h = let none : to - from ≡ 0 = omega arith in rw none
 
-pub hole_count : (has_hole : Bool) → length (hole_parts has_hole) ≡ one has_hole
+pub hole_count : (has_hole : Bool) → length (hole_parts has_hole) ≡ from_bool has_hole
 hole_count true = refl
 hole_count false = refl
+
+pub one_most : (b : Bool) → from_bool b ≤ 1
+one_most true = omega arith
+one_most false = omega arith
 
 -- a template without holes is its one piece, any other is its parts
 module _ (holes : ℕ) (s : List ℕ) {ps : Pieces} {u : List ℕ} (read : many [] piece (holes + 1) s ≡ ok ps u) where
@@ -70,11 +96,11 @@ module _ (holes : ℕ) (s : List ℕ) {ps : Pieces} {u : List ℕ} (read : many 
       let (qs, behind, is) = many_next [] piece (holes + 1) s (omega arith) e read in
       sym is ∙ ap (p ∷◌) (many_end [] piece (holes + 1 - 1) t (omega arith) behind)
 
-  pub of_parts : (holes ≡ 0 → ⊥) → (of_pieces ps ≡ info.template (template_parts ps)) × (one_piece ps ≡ Option.none)
+  pub of_parts : (holes ≡ 0 → ⊥) → (of_pieces ps ≡ info.template (template_parts ps)) × (one_piece ps ≡ None)
   of_parts some =
       let (p, qs, t, others, is) = some_piece (holes + 1) s (omega arith) read in
       let (q, rs, v, behind, has) = some_piece (holes + 1 - 1) t (omega arith) others in
       by_two p q rs (ap (p ∷◌) has ∙ is)
     where
-      by_two : (p q : Option (List ℕ)) (rs : Pieces) → p ∷ q ∷ rs ≡ ps → (of_pieces ps ≡ info.template (template_parts ps)) × (one_piece ps ≡ Option.none)
+      by_two : (p q : Option (List ℕ)) (rs : Pieces) → p ∷ q ∷ rs ≡ ps → (of_pieces ps ≡ info.template (template_parts ps)) × (one_piece ps ≡ None)
       by_two p q rs is = rw (← is) (refl, refl)

@@ -13,11 +13,11 @@ ghost use Rattle.report.specs.Buffer.{wrote, buffer_as};
 ghost use Rattle.arguments.specs.Argument.{of_pieces, argument_of, one_piece, single_text, replaced_in};
 ghost use Rattle.arguments.specs.code.Views.{Stands, ArgumentWithin};
 
-use super::bin::{Parts, put_bin, visit_bin};
+use super::bin::{put_bin, visit_bin};
 use super::expression::{Expression, read_expression};
 use super::template::{count_parts, put_parts};
 use report::writer::{Lossy, Pen};
-use sheet_heads::parts::{PieceRead, read_piece};
+use sheet_heads::parts::read_piece;
 use wire::Cursor;
 
 // Offsets into the sheet stand for the Rust's `Vec` of parts.
@@ -47,9 +47,9 @@ fn parse_template(sheet: &[u8], c: Cursor, holes: usize) -> DynamicArgument
 {
     if holes == 0 {
         return match read_piece(sheet, c) {
-            PieceRead::Cooked(from, next) => DynamicArgument::String(from, next.at),
-            PieceRead::Uncooked(_) => DynamicArgument::Expr,
-            PieceRead::Refused(_) => DynamicArgument::Expr,
+            Ok((Some(from), next)) => DynamicArgument::String(from, next.at),
+            Ok((None, _)) => DynamicArgument::Expr,
+            Err(_) => DynamicArgument::Expr,
         };
     }
     DynamicArgument::Template {
@@ -71,8 +71,8 @@ pub fn parse_argument(sheet: &[u8], source: &[u8], c: Cursor, levels: usize) -> 
         Expression::String { from, to, .. } => DynamicArgument::String(from, to),
         Expression::Template(holes, next) => parse_template(sheet, next, holes),
         Expression::Plus(_) => match visit_bin(sheet, source, c, levels) {
-            Parts::Are(n, _) => DynamicArgument::Chain(n, c.at),
-            Parts::Unknown => DynamicArgument::Expr,
+            Some((n, _)) => DynamicArgument::Chain(n, c.at),
+            None => DynamicArgument::Expr,
         },
         Expression::Other => DynamicArgument::Expr,
     }
@@ -80,6 +80,7 @@ pub fn parse_argument(sheet: &[u8], source: &[u8], c: Cursor, levels: usize) -> 
 
 // Writes an argument, and counts the surrogates that are replaced in its single text: parts are not counted. Where the sheet has no such argument,
 // the buffer is left free.
+#[tactic(auto, using(report::proofs::Buffers::wrote_append, report::proofs::Buffers::wrote_cons), unfolding(report::specs::Encode::encode_argument, report::specs::Encode::encode_list))]
 pub fn put_argument(
     sheet: &[u8],
     source: &[u8],

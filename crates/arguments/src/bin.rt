@@ -1,6 +1,6 @@
 // A chain of pluses whose leftmost side is a String.
 ghost use Rattle.std.specs.Prelude.{◌≡◌, List, ℕ, drop};
-ghost use Rattle.std.proofs.Math.Option.{Option};
+ghost use Rattle.std.specs.Prelude.{Some};
 ghost use Rattle.laws.specs.Decoded.{ok};
 ghost use Rattle.laws.specs.code.Left.{Free};
 ghost use Rattle.laws.specs.code.Told.{Bounded, Leaving};
@@ -18,15 +18,7 @@ use super::expression::{Expression, read_expression};
 use super::part::{put_expr, put_string};
 use report::writer::Pen;
 use sheet_nodes::check::check_node;
-use sheet_nodes::tally::Checked;
 use wire::Cursor;
-
-// How many parts a chain has, with the cursor past it; or it is none.
-#[derive(Clone, Copy)]
-pub enum Parts {
-    Are(usize, Cursor),
-    Unknown,
-}
 
 // Where the next part of a chain is written, with the cursor past what was.
 #[derive(Clone, Copy)]
@@ -35,8 +27,8 @@ pub struct Written {
     pub next: Cursor,
 }
 
-// The parts of the node at a cursor, with so many levels left, its own among them.
-pub fn visit_bin(sheet: &[u8], source: &[u8], c: Cursor, levels: usize) -> Parts
+// How many parts the chain at a cursor has, with the cursor past it, or none if it is no chain; so many levels are left, its own among them.
+pub fn visit_bin(sheet: &[u8], source: &[u8], c: Cursor, levels: usize) -> Option<(usize, Cursor)>
     ensures { Bounded
         ((n : Node) (t : List ℕ)
         → node source.now levels (drop c.at sheet.now) ≡ ok n t
@@ -44,16 +36,13 @@ pub fn visit_bin(sheet: &[u8], source: &[u8], c: Cursor, levels: usize) -> Parts
         (PartsWithin levels result) }
 {
     match read_expression(sheet, source, c, levels) {
-        Expression::String { next, .. } => Parts::Are(1, next),
-        Expression::Template(_, _) => Parts::Unknown,
-        Expression::Plus(next) => match visit_bin(sheet, source, next, levels - 1) {
-            Parts::Unknown => Parts::Unknown,
-            Parts::Are(n, next) => match check_node(sheet, source, next, levels - 1) {
-                Checked::Refused(_) => Parts::Unknown,
-                Checked::Is(_, next) => Parts::Are(n + 1, next),
-            },
-        },
-        Expression::Other => Parts::Unknown,
+        Expression::String { next, .. } => Some((1, next)),
+        Expression::Plus(next) => {
+            let (n, next) = visit_bin(sheet, source, next, levels - 1)?;
+            let (_, next) = check_node(sheet, source, next, levels - 1).ok()?;
+            Some((n + 1, next))
+        }
+        Expression::Template(_, _) | Expression::Other => None,
     }
 }
 
@@ -71,9 +60,9 @@ fn put_operand(
 {
     match read_expression(sheet, source, c, levels) {
         Expression::String { from, to, .. } => put_string(sheet, from, to, out, place),
-        Expression::Template(_, _) => put_expr(out, place),
-        Expression::Plus(_) => put_expr(out, place),
-        Expression::Other => put_expr(out, place),
+        Expression::Template(_, _) | Expression::Plus(_) | Expression::Other => {
+            put_expr(out, place)
+        }
     }
 }
 
@@ -89,7 +78,7 @@ pub fn put_bin(
     ensures { Leaving
         ((n : Node) (t : List ℕ) (l : List DynamicTemplatePart)
         → node source.now levels (drop c.at sheet.now) ≡ ok n t
-        → chain n ≡ Option.some l
+        → chain n ≡ Some l
         → (buffer_as out.new result.place
         ≡ wrote (buffer_as out.old place) (encode_parts l))
         × (drop result.next.at sheet.now ≡ t))
@@ -100,16 +89,15 @@ pub fn put_bin(
             let p = put_string(sheet, from, to, out, place);
             Written { place: p, next }
         }
-        Expression::Template(_, _) => Written { place, next: c },
         Expression::Plus(next) => {
             let left = put_bin(sheet, source, next, levels - 1, out, place);
             let next = left.next;
             let p = put_operand(sheet, source, next, levels - 1, out, left.place);
             match check_node(sheet, source, next, levels - 1) {
-                Checked::Refused(_) => Written { place: p, next },
-                Checked::Is(_, next) => Written { place: p, next },
+                Ok((_, next)) => Written { place: p, next },
+                Err(_) => Written { place: p, next },
             }
         }
-        Expression::Other => Written { place, next: c },
+        Expression::Template(_, _) | Expression::Other => Written { place, next: c },
     }
 }

@@ -6,7 +6,7 @@ ghost use Rattle.sheet.specs.Tree.{Node};
 ghost use Rattle.sheet.specs.Nodes.{node};
 ghost use Rattle.arguments.specs.code.Views.{ExpressionIs, ExpressionWithin};
 
-use sheet_heads::node::{Head, HeadRead, read_head};
+use sheet_heads::node::{Head, read_head};
 use wire::Cursor;
 
 // A String with its text in the sheet, a Template with its holes, or a Binary that is a plus, with the cursor past the head.
@@ -30,18 +30,18 @@ pub fn read_expression(sheet: &[u8], source: &[u8], c: Cursor, levels: usize) ->
         → ExpressionIs sheet.now (node source.now (levels - 1)) result n t)
         (ExpressionWithin (length sheet.now) levels result) }
 {
-    match read_head(sheet, source, c, levels) {
-        HeadRead::Refused(_) => Expression::Other,
-        HeadRead::Is { head, next, .. } => match head {
-            Head::String(from, to) => Expression::String { from, to, next },
-            Head::Template(holes) => Expression::Template(holes, next),
-            Head::Binary(plus) => {
-                if plus {
-                    return Expression::Plus(next);
-                }
-                Expression::Other
+    let Ok(((_, head), next)) = read_head(sheet, source, c, levels) else {
+        return Expression::Other;
+    };
+    match head {
+        Head::String(from, to) => Expression::String { from, to, next },
+        Head::Template(holes) => Expression::Template(holes, next),
+        Head::Binary(plus) => {
+            if plus {
+                return Expression::Plus(next);
             }
-            _ => Expression::Other,
-        },
+            Expression::Other
+        }
+        _ => Expression::Other,
     }
 }

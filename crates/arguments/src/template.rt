@@ -1,6 +1,7 @@
 // The pieces of a template.
 ghost use Rattle.std.specs.Prelude.{◌≡◌, List, [], ℕ, ◌+◌, ◌≤◌, length, drop};
-ghost use Rattle.std.proofs.Math.Option.{Option};
+ghost use Rattle.std.specs.Prelude.{Some, option_map};
+ghost use Rattle.laws.specs.Codec.{IfThere};
 ghost use Rattle.laws.specs.Decoded.{ok};
 ghost use Rattle.laws.specs.code.Left.{Free};
 ghost use Rattle.laws.specs.code.Told.{Bounded, Leaving};
@@ -15,18 +16,19 @@ ghost use Rattle.arguments.specs.code.Views.{encode_parts, hole_parts};
 
 use super::part::{put_expr, put_string};
 use report::writer::Pen;
-use sheet_heads::parts::{PieceRead, read_piece};
-use text::truth::count_one;
+use sheet_heads::parts::read_piece;
 use wire::Cursor;
 
-// How many parts a cooked piece gives: one if it has text.
-fn count_piece(from: usize, to: usize) -> usize
-    ensures { Bounded ((s : List ℕ) → to ≤ length s → length (piece_parts (Option.some (part s from to))) ≡ result) (result ≤ 1) }
+// How many parts a piece gives that is cooked or not: one if it has text.
+fn count_piece(piece: Option<usize>, to: usize) -> usize
+    ensures { Bounded
+        ((s : List ℕ) → to ≤ length s → length (piece_parts (option_map (λ from. part s from to) piece)) ≡ result)
+        (result ≤ 1) }
 {
-    if to <= from {
-        return 0;
+    match piece {
+        Some(from) => usize::from(from < to),
+        None => 0,
     }
-    1
 }
 
 // How many parts the pieces and the holes between them give.
@@ -34,42 +36,35 @@ pub fn count_parts(sheet: &[u8], c: Cursor, holes: usize) -> usize
     requires { holes ≤ largest }
     ensures { (ps : Pieces) (u : List ℕ) → many [] piece (holes + 1) (drop c.at sheet.now) ≡ ok ps u → length (template_parts ps) ≡ result }
 {
-    let mut left = holes + 1;
     let mut at = c;
     let mut parts: usize = 0;
-    while 0 < left {
-        match read_piece(sheet, at) {
-            PieceRead::Refused(_) => {
-                return 0;
-            }
-            PieceRead::Cooked(from, next) => {
-                parts = parts + count_piece(from, next.at) + count_one(1 < left);
-                at = next;
-                left -= 1;
-            }
-            PieceRead::Uncooked(next) => {
-                parts += count_one(1 < left);
-                at = next;
-                left -= 1;
-            }
-        }
+    for k in 0..holes + 1 {
+        let Ok((piece, next)) = read_piece(sheet, at) else {
+            return 0;
+        };
+        parts += count_piece(piece, next.at) + usize::from(k < holes);
+        at = next;
     }
     parts
 }
 
-// Writes the part of a cooked piece, which has one if it has text.
-fn put_piece(sheet: &[u8], from: usize, to: usize, out: &mut [u8], place: Pen) -> Pen
-    requires { Part (length sheet.now) from to }
+// Writes the part of a piece that is cooked or not, which has one if it has text.
+#[tactic(auto, using(report::proofs::Buffers::wrote_nil, crate::proofs::Chains::encode_one, crate::proofs::Pieces::text_part, crate::proofs::Pieces::no_part), unfolding(laws::proofs::Prelude::flat_map))]
+fn put_piece(sheet: &[u8], piece: Option<usize>, to: usize, out: &mut [u8], place: Pen) -> Pen
+    requires { IfThere (λ from. Part (length sheet.now) from to) piece }
     ensures { buffer_as out.new result
-        ≡ wrote (buffer_as out.old place) (encode_parts (piece_parts (Option.some (part sheet.now from to)))) }
+        ≡ wrote (buffer_as out.old place) (encode_parts (piece_parts (option_map (λ from. part sheet.now from to) piece))) }
 {
-    if from < to {
-        return put_string(sheet, from, to, out, place);
+    if let Some(from) = piece {
+        if from < to {
+            return put_string(sheet, from, to, out, place);
+        }
     }
     place
 }
 
 // Writes the part of a hole, if there is one.
+#[tactic(auto, using(report::proofs::Buffers::wrote_nil, crate::proofs::Chains::encode_one), unfolding(laws::proofs::Prelude::flat_map))]
 fn put_hole(has_hole: bool, out: &mut [u8], place: Pen) -> Pen
     ensures { buffer_as out.new result ≡ wrote (buffer_as out.old place) (encode_parts (hole_parts has_hole)) }
 {
@@ -89,26 +84,15 @@ pub fn put_parts(sheet: &[u8], c: Cursor, holes: usize, out: &mut [u8], place: P
         ≡ wrote (buffer_as out.old place) (encode_parts (template_parts ps)))
         (Free out.old out.new) }
 {
-    let mut left = holes + 1;
     let mut at = c;
     let mut p = place;
-    while 0 < left {
-        match read_piece(sheet, at) {
-            PieceRead::Refused(_) => {
-                return p;
-            }
-            PieceRead::Cooked(from, next) => {
-                p = put_piece(sheet, from, next.at, out, p);
-                p = put_hole(1 < left, out, p);
-                at = next;
-                left -= 1;
-            }
-            PieceRead::Uncooked(next) => {
-                p = put_hole(1 < left, out, p);
-                at = next;
-                left -= 1;
-            }
-        }
+    for k in 0..holes + 1 {
+        let Ok((piece, next)) = read_piece(sheet, at) else {
+            return p;
+        };
+        p = put_piece(sheet, piece, next.at, out, p);
+        p = put_hole(k < holes, out, p);
+        at = next;
     }
     p
 }

@@ -1,14 +1,15 @@
 -- Keys in the order of their bytes, and a pair put in its place among them.
 use Rattle.laws.proofs.Prelude.{◌≡◌, refl, sym, ap, ◌∙◌, Bool, true, false, cond, ◌⊎◌, inl, inr, ⊎_elim, ◌↔◌, List, [], ◌∷◌, Memᴰ, Memᴰ_head}
 use Rattle.laws.proofs.Prelude.{Memᴰ_tail, Memᴰ_not_nil, Memᴰ_cases_cons, ℕ, ◌<◌, arith, ltb, ltb-true, ltb-false, lt-ltb, le-ltb}
-use Rattle.text.{specs.declared.bytes.Order.Order, specs.Bytes.order, proofs.Words.order_flips, proofs.Words.order_same}
-use Rattle.text.specs.declared.bytes.Order.TheVariants.{Less, Equal, Greater}
+use Rattle.std.specs.declared.cmp.Ordering.{Ordering}
+use Rattle.text.{specs.Bytes.order, proofs.Words.order_flips, proofs.Words.order_same}
+use Rattle.std.specs.declared.cmp.Ordering.TheVariants.{Less, Equal, Greater}
 use Rattle.report.specs.{Ascending.Ascends, ModuleInfo.KeyValue}
 use Rattle.attributes.specs.Attributes.{placed, insert}
 
 -- ---- the order
 
-less_first : (p q : Bool) (o : Order) → cond p Less (cond q Greater o) ≡ Less → (p ≡ true) ⊎ ((p ≡ false) × (q ≡ false) × (o ≡ Less))
+less_first : (p q : Bool) (o : Ordering) → cond p Less (cond q Greater o) ≡ Less → (p ≡ true) ⊎ ((p ≡ false) × (q ≡ false) × (o ≡ Less))
 less_first true q o e = inl refl
 less_first false true o e = let z : ◌≡◌ {A = ℕ} 0 1 = cc in absurd (omega arith)
 less_first false false o e = inr (refl, refl, e)
@@ -63,7 +64,7 @@ unfolding insert
 insert_member a [] h b = (λ m. ⊎_elim inl (λ i. absurd (Memᴰ_not_nil i)) (Memᴰ_cases_cons m), ⊎_elim Memᴰ_head (λ (i, n). Memᴰ_tail i))
 insert_member a (c ∷ l) h b = by_order (order a.key c.key) refl (insert_member a l h.1 b)
   where
-    by_order : (o : Order) → order a.key c.key ≡ o → Memᴰ b (insert a l) ↔ InsertedIs a l b →
+    by_order : (o : Ordering) → order a.key c.key ≡ o → Memᴰ b (insert a l) ↔ InsertedIs a l b →
         Memᴰ b (placed o a c l (insert a l)) ↔ InsertedIs a (c ∷ l) b
     by_order Less e k = (
       λ m. ⊎_elim inl (λ i. inr (i, λ j. later i (sym j))) (Memᴰ_cases_cons m),
@@ -94,7 +95,7 @@ unfolding insert
 insert_ascends a [] h = (λ b m. absurd (Memᴰ_not_nil m), tt)
 insert_ascends a (c ∷ l) h = by_order (order a.key c.key) refl (insert_ascends a l h.1)
   where
-    by_order : (o : Order) → order a.key c.key ≡ o → Ascends (insert a l) → Ascends (placed o a c l (insert a l))
+    by_order : (o : Ordering) → order a.key c.key ≡ o → Ascends (insert a l) → Ascends (placed o a c l (insert a l))
     by_order Less e f = (λ b m. ⊎_elim (λ i. rw i e) (λ i. order_trans a.key c.key b.key e (h.0 b i)) (Memᴰ_cases_cons m), h)
     by_order Equal e f = let same = order_same a.key c.key e in (λ b m. rw same (h.0 b m), h.1)
     by_order Greater e f = (λ b m. ⊎_elim (λ i. rw i (order_flips a.key c.key e)) (λ (i, n). h.0 b i) ((insert_member a l h.1 b).0 m), f)
@@ -118,7 +119,7 @@ insert_keys a l h k = (
     stays : (q : HasKey k l) → (q.pair.key ≡ a.key → ⊥) → HasKey k (insert a l)
     stays q n = record { pair = q.pair; among = (insert_member a l h q.pair).1 (inr (q.among, n)); its_key = q.its_key }
 
-    by_order : (q : HasKey k l) (o : Order) → order q.pair.key a.key ≡ o → HasKey k (insert a l)
+    by_order : (q : HasKey k l) (o : Ordering) → order q.pair.key a.key ≡ o → HasKey k (insert a l)
     by_order q Less e = stays q (less_apart {a = q.pair.key} {b = a.key} e)
     by_order q Equal e = own (sym (order_same q.pair.key a.key e) ∙ q.its_key)
     by_order q Greater e = stays q (greater_apart {a = q.pair.key} {b = a.key} e)

@@ -1,5 +1,6 @@
 -- Properties with the attributes that each reading gives, as the definitions compute.
-use Rattle.laws.proofs.Prelude.{◌≡◌, refl, true, false, List, [], ◌∷◌, map, Option, ℕ}
+use Rattle.std.specs.Prelude.{Some, None}
+use Rattle.laws.proofs.Prelude.{◌≡◌, refl, true, false, List, [], ◌∷◌, map, ℕ}
 use Prim.Native.String.{String}
 use Rattle.laws.specs.Ascii.{ascii}
 use Rattle.text.specs.{Bytes.same, Bytes.order, Lossy.surrogates, Utf8.admits}
@@ -24,10 +25,10 @@ key k v ps = name_key (ascii k) v ps
 
 -- a pair with a known value, and one without
 abbrev pair : String → String → KeyValue
-pair k v = record { key = ascii k; value = Option.some (ascii v) }
+pair k v = record { key = ascii k; value = Some (ascii v) }
 
 abbrev without : String → KeyValue
-without k = record { key = ascii k; value = Option.none }
+without k = record { key = ascii k; value = None }
 
 -- a key that is a surrogate
 abbrev surrogate : List ℕ

@@ -1,40 +1,51 @@
--- The search for a pair's place: each key before it is less.
-use Rattle.laws.proofs.Prelude.{◌≡◌, sym, ◌∙◌, List, ◌∷◌, ◌++◌, append_assoc, ℕ, ◌+◌, ◌-◌, ◌≤◌, ◌<◌, sub-zero, arith}
-use Rattle.text.specs.declared.bytes.Order.TheVariants.{Less, Equal, Greater}
+-- The search for a pair's place among rows: each key before it is less.
+use Rattle.laws.proofs.Prelude.{◌≡◌, sym, ◌∙◌, List, ◌∷◌, ◌++◌, append_assoc, ℕ, suc, ◌+◌, ◌≤◌, ◌<◌, add-one, map, length, get_or, set, take, drop}
+use Rattle.laws.proofs.Prelude.{drop-cons, drop_of_length-le}
+use Rattle.std.specs.List as list
+use Rattle.std.specs.declared.cmp.Ordering.TheVariants.{Less, Equal, Greater}
+use Rattle.std.proofs.lemmas.List.{set_split, take_more, get_or-map, length-map}
 use Rattle.text.specs.Bytes.{order}
-use Rattle.sheet.{specs.code.Tables.rows, proofs.TableRows.rows_first, proofs.TableRows.rows_end}
 use Rattle.report.specs.ModuleInfo.{KeyValue}
+use Rattle.attributes.specs.declared.pairs.Pair.{Pair}
 use Rattle.attributes.specs.Attributes.{insert}
-use Rattle.attributes.specs.code.Views.{pair_in, pairs_from, pairs_in, opened, replaced}
+use Rattle.attributes.specs.code.Views.{pair_as}
 
-module _ (s table : List ℕ) (n : ℕ) (a : KeyValue) where
-  -- the first i rows stay before the pair
+module _ (s : List ℕ) (a : KeyValue) (rows : List Pair) where
+  abbrev l : List KeyValue
+  l = map (pair_as s) rows
+
+  -- the first i pairs stay before it
   abbrev pub Sought : ℕ → Type 0
-  Sought i = insert a (pairs_in s table n) ≡ pairs_in s table i ++ insert a (pairs_from s table i (n - i))
+  Sought i = insert a l ≡ take i l ++ insert a (drop i l)
 
-  pub sought_none : Sought 0
-  unfolding rows
-  sought_none = rw sub-zero
+  -- how its key compares with that of the ith
+  module _ (i : ℕ) (d : Pair) (h : i < length rows) (f : Sought i) where
+    abbrev x : KeyValue
+    x = pair_as s (get_or rows i d)
 
-  module _ (i : ℕ) (l : i < n) (f : Sought i) where
-    next : pairs_from s table i (n - i) ≡ pair_in s table i ∷ pairs_from s table (i + 1) (n - (i + 1))
-    next = let down : n - i - 1 ≡ n - (i + 1) = omega arith in rw (← down) (rows_first (pair_in s table) i (n - i) (omega arith))
+    within : i < length l
+    within = rw length-map h
 
-    pub sought_greater : order a.key (pair_in s table i).key ≡ Greater → Sought (i + 1)
+    here : get_or l i x ≡ x
+    here = get_or-map (pair_as s) rows i d x h
+
+    next : drop i l ≡ x ∷ drop (suc i) l
+    next = rw here at (drop-cons l i x within)
+
+    pub sought_greater : order a.key x.key ≡ Greater → Sought (i + 1)
     unfolding insert
-    sought_greater e = f ∙ rw (next, e, rows_end (pair_in s table) i, append_assoc)
+    sought_greater e = f ∙ rw (next, e, take_more l i x within, here, append_assoc, add-one)
 
-    pub sought_less : order a.key (pair_in s table i).key ≡ Less → opened s table n a i ≡ insert a (pairs_in s table n)
+    pub sought_less : order a.key x.key ≡ Less → list.insert l i a ≡ insert a l
     unfolding insert
     sought_less e = sym (f ∙ rw (next, e))
 
-    pub sought_equal : order a.key (pair_in s table i).key ≡ Equal → replaced s table n a i ≡ insert a (pairs_in s table n)
+    pub sought_equal : order a.key x.key ≡ Equal → set l i a ≡ insert a l
     unfolding insert
-    sought_equal e = sym (f ∙ rw (next, e))
+    sought_equal e = set_split l i a within ∙ sym (f ∙ rw (next, e))
 
-  pub sought_all : (i : ℕ) → i ≤ n → n ≤ i → Sought i → opened s table n a n ≡ insert a (pairs_in s table n)
-  unfolding insert rows
-  sought_all i h l f =
-      let all : i ≡ n = omega arith in
-      let none : n - n ≡ 0 = omega arith in
-      sym (rw (all, none) at f ∙ rw none)
+  -- no row is left
+  pub sought_all : (i n : ℕ) → n ≡ i → length rows ≤ i → Sought i → list.insert l n a ≡ insert a l
+  unfolding insert
+  sought_all i n q h f = let all : length l ≤ i = rw length-map h in
+      let none = drop_of_length-le l all in sym (f ∙ rw (q, none))

@@ -1,84 +1,49 @@
--- Pairs in the rows of a table: one stored, and the others moved up by one row.
-use Rattle.laws.proofs.Prelude.{◌≡◌, refl, ap, ◌∙◌, Bool, true, false, cond, List, [], ◌∷◌, ◌++◌, append_assoc, ℕ, ◌+◌, ◌-◌, ◌*◌, ◌≤◌, ◌<◌, arith, eqb}
-use Rattle.laws.proofs.Prelude.{length, eqb-true}
-use mathlib.Core.Path.{ap₂}
-use lib.Seq.{sets}
-use borrow.Author.Tests.{eqb-false}
-use Rattle.sheet.specs.code.Tables.{rows}
-use Rattle.sheet.proofs.TableRows.{rows_same, rows_first, rows_end, rows_two}
-use Rattle.sheet.proofs.Stores.{outside_sets, in_sets, Table}
+-- Pairs in the first rows of a table: one instead of another, or before it.
+use Rattle.laws.proofs.Prelude.{◌≡◌, ap, ◌∙◌, List, append_assoc, ℕ, ◌+◌, ◌-◌, ◌≤◌, ◌<◌, arith, length, set, take, drop, length-drop, length-take-le}
+use Rattle.std.specs.List.{All}
+use Rattle.std.specs.List as list
+use Rattle.std.proofs.Math.Seq.{paste, take-set-lt}
+use Rattle.std.proofs.lemmas.List.{length-map, map-set, map-append, take-map, drop-map, set-append_left, take_more_set, take-take}
+use Rattle.std.proofs.lemmas.List.Edits.{take-paste}
+use Rattle.std.proofs.lemmas.Slice.{between_is}
+use Rattle.std.proofs.lemmas.List.Elements.{All-append, All-cons, All-drop, All-set, All-take}
 use Rattle.attributes.specs.declared.pairs.Pair.{Pair}
-use Rattle.attributes.specs.code.Views.{pair_row, row_in, pair_as, pair_in, pairs_from, pairs_in, opened, replaced, PairWithin}
+use Rattle.attributes.specs.declared.readings.ImportAttributes.{ImportAttributes}
+use Rattle.attributes.specs.declared.readings.ImportAttributes.TheVariants as are
+use Rattle.attributes.specs.code.Views.{pair_as, pairs_in, PairWithin, AttributesWithin}
 
-flag : (b : Bool) → eqb (cond b 1 0) 1 ≡ b
-flag true = refl
-flag false = refl
+-- so many pairs are in the rows that are known
+pub known_length : (s : List ℕ) (m : ℕ) (t : List Pair) (a : ImportAttributes) (n : ℕ) → a ≡ are.Known n → AttributesWithin m t a → length (pairs_in s t n) ≡ n
+known_length s m t a n e w = let h = rw e at w in rw length-map (length-take-le n t (omega (arith, h.long, h.most)))
 
-pair_table : Table 5 row_in pair_row
-pair_table =
-    record {
-      same = λ t k p h.
-          let v = in_sets t (5 * k) (pair_row p) h in
-          simp (
-            v 0 (5 * k) (omega arith) (omega arith),
-            v 1 (5 * k + 1) (omega arith) (omega arith),
-            v 2 (5 * k + 2) (omega arith) (omega arith),
-            v 3 (5 * k + 3) (omega arith) (omega arith),
-            v 4 (5 * k + 4) (omega arith) (omega arith),
-            flag p.known,
-          );
-      other = λ t k p j h.
-          let v = outside_sets t (5 * k) (pair_row p) in
-          simp (
-            v (5 * j) (λ l. omega arith),
-            v (5 * j + 1) (λ l. omega arith),
-            v (5 * j + 2) (λ l. omega arith),
-            v (5 * j + 3) (λ l. omega arith),
-            v (5 * j + 4) (λ l. omega arith),
-          );
-      wide = λ p. refl;
-    }
+module _ (t : List Pair) (n i : ℕ) (p : Pair) where
+  -- instead of another
+  module _ (l : i < n) where
+    pub set_pairs : (s : List ℕ) → pairs_in s (set t i p) n ≡ set (pairs_in s t n) i (pair_as s p)
+    set_pairs s = rw (take-set-lt n t i p l) (map-set (pair_as s) (take n t) i p)
 
--- a pair p stored in the kth row
-module _ (t : List ℕ) (k : ℕ) (p : Pair) (fits : 5 * k + 5 ≤ length t) {t' : List ℕ} (e : t' ≡ sets t (5 * k) (pair_row p)) where
-  here : row_in t' k ≡ p
-  here = rw e (pair_table.same t k p fits)
+    pub set_within : (m : ℕ) → All (PairWithin m) (take n t) → PairWithin m p → All (PairWithin m) (take n (set t i p))
+    set_within m h w = rw (take-set-lt n t i p l) (All-set (PairWithin m) (take n t) i p w h)
 
-  other : (j : ℕ) → (j ≡ k → ⊥) → row_in t' j ≡ row_in t j
-  other j h = rw e (pair_table.other t k p j h)
+  -- before it
+  module _ (t' : List Pair) (e : take (n + 1) t' ≡ list.insert (take n t) i p) where
+    pub insert_pairs : (s : List ℕ) → pairs_in s t' (n + 1) ≡ list.insert (pairs_in s t n) i (pair_as s p)
+    insert_pairs s = rw e (simp (map-append, take-map, drop-map))
 
-  module _ (s : List ℕ) where
-    front : pairs_in s t' (k + 1) ≡ pairs_in s t k ++ (pair_as s p ∷ [])
-    front =
-        rows_end (pair_in s t') k
-        ∙ ap₂ (λ l a. l ++ (a ∷ [])) (rows_same (pair_in s t') (pair_in s t) 0 k (λ i l. ap (pair_as s) (other (0 + i) (λ q. omega arith)))) (ap (pair_as s) here)
+    pub insert_within : (m : ℕ) → All (PairWithin m) (take n t) → PairWithin m p → All (PairWithin m) (take (n + 1) t')
+    insert_within m h w =
+        let P = PairWithin m in
+        rw e (All-append P _ _ (All-take P i _ h) (All-cons P p _ w (All-drop P i _ h)))
 
-    rest : (n : ℕ) → pairs_from s t' (k + 1) n ≡ pairs_from s t (k + 1) n
-    rest n = rows_same (pair_in s t') (pair_in s t) (k + 1) n (λ i l. ap (pair_as s) (other (k + 1 + i) (λ q. omega arith)))
-
-    -- instead of another
-    pub stored_replaces : (n : ℕ) → k < n → pairs_in s t' n ≡ replaced s t n (pair_as s p) k
-    stored_replaces n h =
-        rows_two (pair_in s t') (k + 1) n (omega arith)
-        ∙ ap₂ ◌++◌ front (rest (n - (k + 1)))
-        ∙ append_assoc (pairs_in s t k) (pair_as s p ∷ []) (pairs_from s t (k + 1) (n - (k + 1)))
-
-    -- behind the others
-    pub stored_last : (n : ℕ) → n ≡ k → pairs_in s t' (n + 1) ≡ opened s t n (pair_as s p) k
-    unfolding rows
-    stored_last n q = let none : n - k ≡ 0 = omega arith in rw (none, q) front
-
-    -- the pair that stood there goes on up
-    pub stored_carries : (n : ℕ) → k < n → opened s t' n (pair_in s t k) (k + 1) ≡ opened s t n (pair_as s p) k
-    stored_carries n h =
-        let down : n - k - 1 ≡ n - (k + 1) = omega arith in
-        rw (front, rest (n - (k + 1)), rows_first (pair_in s t) k (n - k) (omega arith), down)
-        (append_assoc (pairs_in s t k) (pair_as s p ∷ []) (pair_in s t k ∷ pairs_from s t (k + 1) (n - (k + 1))))
-
-  -- the texts stay within the sheet
-  pub stored_within : (m j : ℕ) → ((j ≡ k → ⊥) → PairWithin m (row_in t j)) → PairWithin m p → PairWithin m (row_in t' j)
-  stored_within m j h w = by_row (eqb j k) refl
-    where
-      by_row : (b : Bool) → eqb j k ≡ b → PairWithin m (row_in t' j)
-      by_row true q = rw (eqb-true j k q, here) w
-      by_row false q = rw (other j (eqb-false j k q)) (h (eqb-false j k q))
+-- the rows from the ith on moved up by one, and a pair stored there
+pub row_opened : {A : Type 0} (t : List A) (n i : ℕ) (p : A) → i ≤ n → n < length t
+    → take (n + 1) (set (paste t (i + 1) (drop i t) (n - i)) i p) ≡ list.insert (take n t) i p
+row_opened t n i p h l =
+    let k : n - i ≤ length (drop i t) = simp length-drop (omega arith) in
+    let moved = take-paste t (i + 1) (drop i t) (n - i) (omega arith) k in
+    let to : n + 1 ≡ i + 1 + (n - i) = omega arith in
+    let in' : i < length (take (i + 1) t) = rw (length-take-le (i + 1) t (omega arith)) (omega arith) in
+    take-set-lt (n + 1) (paste t (i + 1) (drop i t) (n - i)) i p (omega arith)
+    ∙ ap (λ l. set l i p) (rw to moved)
+    ∙ set-append_left (take (i + 1) t) (take (n - i) (drop i t)) i p in'
+    ∙ rw (← take-set-lt (i + 1) t i p (omega arith), take_more_set t i p (omega arith), append_assoc, between_is t i n, take-take i n t)

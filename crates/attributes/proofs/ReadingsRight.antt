@@ -1,6 +1,7 @@
 -- The readings from the front give the attributes that they should.
+use Rattle.std.specs.Prelude.{Some, None}
 use Rattle.laws.proofs.Prelude.{◌≡◌, refl, sym, ap, ◌∙◌, Bool, true, false, cond, not, ◌&&◌, ◌||◌, false≢true, ◌⊎◌, inl, inr, ⊎_elim, ◌↔◌, List, [], ◌∷◌}
-use Rattle.laws.proofs.Prelude.{◌++◌, Memᴰ, Memᴰ_head, Memᴰ_tail, Memᴰ_not_nil, Memᴰ_cases_cons, Option, ℕ, ◌≤◌, arith, length}
+use Rattle.laws.proofs.Prelude.{◌++◌, Memᴰ, Memᴰ_head, Memᴰ_tail, Memᴰ_not_nil, Memᴰ_cases_cons, ℕ, ◌≤◌, arith, length}
 use Rattle.laws.proofs.Prelude.{length-append}
 use mathlib.Core.List.Memᴰ
 use Rattle.laws.proofs.Lists.{middle_member}
@@ -20,7 +21,7 @@ use Rattle.attributes.proofs.Ascending.{less_apart, insert_member, insert_ascend
 value_of_lem : (v : Shape) → Value v (value_of v)
 value_of_lem (text x) = go (exact x) refl
   where
-    go : (b : Bool) → exact x ≡ b → Value (text x) (cond b (Option.some x) Option.none)
+    go : (b : Bool) → exact x ≡ b → Value (text x) (cond b (Some x) None)
     go true e = (refl, e)
     go false e = λ (y, i, f). let same : x ≡ y = cc in false≢true (sym e ∙ rw same f)
 value_of_lem (named x) = λ (y, i, f). let z : ◌≡◌ {A = ℕ} 0 1 = cc in absurd (omega arith)
@@ -31,10 +32,10 @@ value_of_lem anything = λ (y, i, f). let z : ◌≡◌ {A = ℕ} 0 1 = cc in ab
 
 -- a value is reported in one way only
 one_value : (v : Shape) (a b : ImportAttribute) → Value v a → Value v b → a ≡ b
-one_value v Option.none Option.none p q = refl
-one_value v Option.none (Option.some y) p q = absurd (p (y, q.0, q.1))
-one_value v (Option.some x) Option.none p q = absurd (q (x, p.0, p.1))
-one_value v (Option.some x) (Option.some y) p q = let same : x ≡ y = cc in rw same
+one_value v None None p q = refl
+one_value v None (Some y) p q = absurd (p (y, q.0, q.1))
+one_value v (Some x) None p q = absurd (q (x, p.0, p.1))
+one_value v (Some x) (Some y) p q = let same : x ≡ y = cc in rw same
 
 pair_is : (b : KeyValue) {k : List ℕ} {x : ImportAttribute} → b.key ≡ k → b.value ≡ x → b ≡ record { key = k; value = x }
 pair_is b e f = rw (← e, ← f)
@@ -187,10 +188,10 @@ static_made l (keyed k v ∷ es) up = by_value (value_of v) (value_of_lem v) (λ
   where
     by_value : (x : ImportAttribute) → Value v x → ((l : List KeyValue) → Ascends l → Made IsString l es (static_pairs l es))
         → Made IsString l (keyed k v ∷ es) (static_pairs (insert_known k x l) es)
-    by_value Option.none is more = passes IsString (λ j w c (e : keyed j w ≡ keyed k v). let same : w ≡ v = cc in is (rw same at c)) (more l up)
-    by_value (Option.some x) is more =
-        let a : KeyValue = record { key = k; value = Option.some x } in
-        puts IsString (Option.some x) (x, is.0, is.1) is up (more (insert a l) (insert_ascends a l up))
+    by_value None is more = passes IsString (λ j w c (e : keyed j w ≡ keyed k v). let same : w ≡ v = cc in is (rw same at c)) (more l up)
+    by_value (Some x) is more =
+        let a : KeyValue = record { key = k; value = Some x } in
+        puts IsString (Some x) (x, is.0, is.1) is up (more (insert a l) (insert_ascends a l up))
 
 pub static_right : (a : Attributes) → StaticOf a (static_attributes a)
 unfolding static_attributes

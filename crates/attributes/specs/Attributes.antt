@@ -1,9 +1,9 @@
 -- The attributes of an import: the three readings of src/ast/dep.rs. Keys ascend by their bytes, and a later value replaces an earlier one.
 use Rattle.std.specs.Prelude.{Bool, false, cond, not, ◌&&◌, ◌||◌, List, [], ◌∷◌, ℕ}
-use Rattle.std.proofs.Math.Option.{Option}
+use Rattle.std.specs.Prelude.{None, Some}
 use Rattle.laws.specs.Ascii.{ascii}
-use Rattle.text.specs.declared.bytes.Order.{Order}
-use Rattle.text.specs.declared.bytes.Order.TheVariants.{Less, Equal, Greater}
+use Rattle.std.specs.declared.cmp.Ordering.{Ordering}
+use Rattle.std.specs.declared.cmp.Ordering.TheVariants.{Less, Equal, Greater}
 use Rattle.text.specs.Bytes.{same, order}
 use Rattle.text.specs.Lossy.{exact}
 use Rattle.sheet.specs.Tree.{Arguments, no_arguments, argument, Properties, no_properties, spread, other_property, child_key, string_key, name_key}
@@ -12,7 +12,7 @@ use Rattle.sheet.specs.Shape.{Shape, text, named, pieces, operation, properties,
 use Rattle.report.specs.ModuleInfo.{ImportAttribute, KeyValue, ImportAttributes, none, unknown, known}
 
 -- a pair put in its place among pairs whose keys ascend: before a greater key, instead of an equal one, or further on
-abbrev pub placed : Order → KeyValue → KeyValue → List KeyValue → List KeyValue → List KeyValue
+abbrev pub placed : Ordering → KeyValue → KeyValue → List KeyValue → List KeyValue → List KeyValue
 placed Less a b l further = a ∷ b ∷ l
 placed Equal a b l further = a ∷ l
 placed Greater a b l further = b ∷ further
@@ -23,12 +23,12 @@ insert a (b ∷ l) = placed (order a.key b.key) a b l (insert a l)
 
 -- the value of an attribute: a String that has no surrogate
 abbrev pub value_of : Shape → ImportAttribute
-value_of (text x) = cond (exact x) (Option.some x) Option.none
-value_of (named x) = Option.none
-value_of (pieces ps) = Option.none
-value_of (operation plus l r) = Option.none
-value_of (properties ps) = Option.none
-value_of anything = Option.none
+value_of (text x) = cond (exact x) (Some x) None
+value_of (named x) = None
+value_of (pieces ps) = None
+value_of (operation plus l r) = None
+value_of (properties ps) = None
+value_of anything = None
 
 -- a property as the readings see it: without a key that can be read, or a key and what its value is
 pub data Prop : Type 0 where
@@ -45,8 +45,8 @@ props (name_key k v ps) = keyed k (shape v) ∷ props ps
 
 -- `parse_import_attributes`: what is no key with a string value is passed over
 abbrev pub insert_known : List ℕ → ImportAttribute → List KeyValue → List KeyValue
-insert_known k Option.none l = l
-insert_known k (Option.some x) l = insert (record { key = k; value = Option.some x }) l
+insert_known k None l = l
+insert_known k (Some x) l = insert (record { key = k; value = Some x }) l
 
 unfoldable pub static_pairs : List KeyValue → List Prop → List KeyValue
 static_pairs l [] = l

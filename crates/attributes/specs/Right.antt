@@ -1,7 +1,7 @@
 -- The attributes of an import without a reading from the front: which pairs there are, and where all of it is none or unknown.
 use Rattle.std.specs.Prelude.{◌≡◌, Bool, true, false, ◌⊎◌, ◌↔◌, ℕ}
 use mathlib.Core.List.{List, ◌∷◌, ◌++◌, Memᴰ}
-use Rattle.std.proofs.Math.Option.{Option}
+use Rattle.std.specs.Prelude.{None, Some}
 use Rattle.laws.specs.Ascii.{ascii}
 use Rattle.text.specs.Lossy.{exact}
 use Rattle.sheet.specs.declared.fields.Span.{Span}
@@ -21,8 +21,8 @@ Any v = Unit {0}
 
 -- what is reported of a value: its text, or that it is unknown
 abbrev pub Value : Shape → ImportAttribute → Type 0
-Value v (Option.some x) = (v ≡ text x) × (exact x ≡ true)
-Value v Option.none = IsString v → ⊥
+Value v (Some x) = (v ≡ text x) × (exact x ≡ true)
+Value v None = IsString v → ⊥
 
 module _ (Counts : Shape → Type 0) where
   -- some property with the key counts, or none does

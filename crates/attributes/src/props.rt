@@ -11,12 +11,11 @@ ghost use Rattle.attributes.specs.Attributes.{value_of};
 ghost use Rattle.attributes.specs.code.Views.{pair_as, PairWithin, ValueIs, ValueWithin, prop_in, PropIs, PropWithin};
 
 use super::pairs::Pair;
-use sheet_heads::node::{Head, HeadRead, read_head};
-use sheet_heads::parts::{Property, PropertyRead, read_property};
+use sheet_heads::node::{Head, read_head};
+use sheet_heads::parts::{Property, read_property};
 use sheet_nodes::check::check_property;
-use sheet_nodes::tally::Tallied;
 use text::lossy::is_exact;
-use wire::Cursor;
+use wire::{Cursor, Reading};
 
 // What a node is to an attribute: a text of the sheet; an Object, with the number of its properties and the cursor at them; or anything else.
 #[derive(Clone, Copy)]
@@ -26,17 +25,12 @@ pub enum Value {
     Other,
 }
 
-// A property with the cursor past it: without a key that can be read, or with a key's text and the cursor at its value; or a refusal's number.
+// A property with a key that can be read: the key's text, and the cursor at the value.
 #[derive(Clone, Copy)]
-pub enum PropRead {
-    Keyless(Cursor),
-    Keyed {
-        start: usize,
-        end: usize,
-        value: Cursor,
-        next: Cursor,
-    },
-    Refused(usize),
+pub struct Keyed {
+    pub start: usize,
+    pub end: usize,
+    pub value: Cursor,
 }
 
 // The node at a cursor, with so many levels left, its own among them.
@@ -47,13 +41,13 @@ pub fn read_value(sheet: &[u8], source: &[u8], c: Cursor, levels: usize) -> Valu
         → ValueIs sheet.now source.now (levels - 1) result (shape v))
         (ValueWithin (length sheet.now) levels result) }
 {
-    match read_head(sheet, source, c, levels) {
-        HeadRead::Refused(_) => Value::Other,
-        HeadRead::Is { head, next, .. } => match head {
-            Head::String(from, to) => Value::Text(from, to),
-            Head::Object(n) => Value::Object(n, next),
-            _ => Value::Other,
-        },
+    let Ok(((_, head), next)) = read_head(sheet, source, c, levels) else {
+        return Value::Other;
+    };
+    match head {
+        Head::String(from, to) => Value::Text(from, to),
+        Head::Object(n) => Value::Object(n, next),
+        _ => Value::Other,
     }
 }
 
@@ -77,66 +71,36 @@ pub fn read_pair(
         Value::Text(from, to) => Pair {
             key_start: start,
             key_end: end,
-            known: is_exact(&sheet[from..to]),
-            value_start: from,
-            value_end: to,
+            value: is_exact(&sheet[from..to]).then_some((from, to)),
         },
-        Value::Object(_, _) => Pair {
+        Value::Object(_, _) | Value::Other => Pair {
             key_start: start,
             key_end: end,
-            known: false,
-            value_start: end,
-            value_end: end,
-        },
-        Value::Other => Pair {
-            key_start: start,
-            key_end: end,
-            known: false,
-            value_start: end,
-            value_end: end,
+            value: None,
         },
     }
 }
 
-// A property from its head, with the cursors at its value and behind it.
-fn prop_of(sheet: &[u8], p: Property, value: Cursor, next: Cursor) -> PropRead
+// A property from its head, with the cursor at its value: none without a key that can be read.
+fn prop_of(sheet: &[u8], p: Property, value: Cursor) -> Option<Keyed>
     requires { PropertyWithin (length sheet.now) p }
-    ensures { result ≡ prop_in sheet.now p value next }
+    ensures { result ≡ prop_in sheet.now p value }
 {
     match p {
-        Property::Spread => PropRead::Keyless(next),
-        Property::Other => PropRead::Keyless(next),
-        Property::ChildKey => PropRead::Keyless(next),
+        Property::Spread | Property::Other | Property::ChildKey => None,
         Property::StringKey(start, end) => {
-            if is_exact(&sheet[start..end]) {
-                return PropRead::Keyed {
-                    start,
-                    end,
-                    value,
-                    next,
-                };
-            }
-            PropRead::Keyless(next)
+            is_exact(&sheet[start..end]).then_some(Keyed { start, end, value })
         }
-        Property::NameKey(start, end) => PropRead::Keyed {
-            start,
-            end,
-            value,
-            next,
-        },
+        Property::NameKey(start, end) => Some(Keyed { start, end, value }),
     }
 }
 
 // The property at a cursor, with so many levels left for its nodes.
-pub fn read_prop(sheet: &[u8], source: &[u8], c: Cursor, levels: usize) -> PropRead
+pub fn read_prop(sheet: &[u8], source: &[u8], c: Cursor, levels: usize) -> Reading<Option<Keyed>>
     ensures { Bounded (PropIs sheet.now (node source.now levels) c.at result)
         (PropWithin (length sheet.now) result) }
 {
-    match read_property(sheet, c) {
-        PropertyRead::Refused(r) => PropRead::Refused(r),
-        PropertyRead::Is(p, value) => match check_property(sheet, source, c, levels) {
-            Tallied::Refused(r) => PropRead::Refused(r),
-            Tallied::Is(_, next) => prop_of(sheet, p, value, next),
-        },
-    }
+    let (p, value) = read_property(sheet, c)?;
+    let (_, next) = check_property(sheet, source, c, levels)?;
+    Ok((prop_of(sheet, p, value), next))
 }

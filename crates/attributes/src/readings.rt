@@ -3,7 +3,7 @@ ghost use Rattle.std.specs.Prelude.{◌≡◌, false, List, [], ℕ, ◌≤◌, 
 ghost use Rattle.laws.specs.Decoded.{ok};
 ghost use Rattle.laws.specs.Ascii.{ascii};
 ghost use Rattle.text.specs.Bytes.{same, part};
-ghost use Rattle.sheet.specs.Limits.{property_limit, pair_numbers};
+ghost use Rattle.sheet.specs.Limits.{property_limit};
 ghost use Rattle.sheet.specs.Tree.{Node, Arguments, Properties, Attributes};
 ghost use Rattle.sheet.specs.Nodes.{node, properties, arguments, attributes_object};
 ghost use Rattle.sheet.specs.Shape.{shape};
@@ -16,9 +16,9 @@ ghost use Rattle.attributes.specs.Attributes.{props, static_pairs, static_attrib
 ghost use Rattle.attributes.specs.Attributes.{argument_properties, dynamic_attributes, is_attributes_key};
 ghost use Rattle.attributes.specs.code.Views.{pairs_in, attributes_as, Pairs, AttributesWithin};
 
-use super::pairs::{insert, insert_known};
-use super::props::{PropRead, Value, read_pair, read_prop, read_value};
-use sheet_heads::parts::{ArgumentRead, AttributesRead, read_argument, read_attributes};
+use super::pairs::{Pair, insert, insert_known};
+use super::props::{Value, read_pair, read_prop, read_value};
+use sheet_heads::parts::{read_argument, read_attributes};
 use text::bytes::equal;
 use wire::Cursor;
 
@@ -37,39 +37,26 @@ fn parse_known(
     c: Cursor,
     count: usize,
     levels: usize,
-    pairs: &mut [usize],
+    pairs: &mut [Pair],
 ) -> usize
-    requires { (count ≤ property_limit) × (pair_numbers ≤ length pairs.old) }
+    requires { (count ≤ property_limit) × (property_limit ≤ length pairs.old) }
     ensures { Bounded
         ((ps : Properties) (t : List ℕ)
         → properties (node source.now levels) count (drop c.at sheet.now) ≡ ok ps t
         → pairs_in sheet.now pairs.new result ≡ static_pairs [] (props ps))
         (Pairs (length sheet.now) pairs.new result) }
 {
-    let mut left = count;
     let mut at = c;
     let mut n = 0;
-    while 0 < left {
-        match read_prop(sheet, source, at, levels) {
-            PropRead::Refused(_) => {
-                return n;
-            }
-            PropRead::Keyless(next) => {
-                at = next;
-                left -= 1;
-            }
-            PropRead::Keyed {
-                start,
-                end,
-                value,
-                next,
-            } => {
-                let p = read_pair(sheet, source, start, end, value, levels);
-                n = insert_known(sheet, pairs, n, p);
-                at = next;
-                left -= 1;
-            }
+    for _ in 0..count {
+        let Ok((prop, next)) = read_prop(sheet, source, at, levels) else {
+            return n;
+        };
+        if let Some(k) = prop {
+            let p = read_pair(sheet, source, k.start, k.end, k.value, levels);
+            n = insert_known(sheet, pairs, n, p);
         }
+        at = next;
     }
     n
 }
@@ -82,9 +69,9 @@ pub fn parse_import_attributes(
     c: Cursor,
     has_object: bool,
     levels: usize,
-    pairs: &mut [usize],
+    pairs: &mut [Pair],
 ) -> ImportAttributes
-    requires { pair_numbers ≤ length pairs.old }
+    requires { property_limit ≤ length pairs.old }
     ensures { Lent
         ((a : Attributes) (t : List ℕ)
         → behind has_object (attributes_object source.now levels) (drop c.at sheet.now) ≡ ok a t
@@ -92,15 +79,13 @@ pub fn parse_import_attributes(
         (AttributesWithin (length sheet.now) pairs.new result)
         (Free pairs.old pairs.new) }
 {
-    if has_object {
-        return match read_attributes(sheet, source, c, levels) {
-            AttributesRead::Refused(_) => ImportAttributes::Unknown,
-            AttributesRead::Is { count, next, .. } => {
-                ImportAttributes::Known(parse_known(sheet, source, next, count, levels - 1, pairs))
-            }
-        };
+    if !has_object {
+        return ImportAttributes::None;
     }
-    ImportAttributes::None
+    let Ok(((_, count), next)) = read_attributes(sheet, source, c, levels) else {
+        return ImportAttributes::Unknown;
+    };
+    ImportAttributes::Known(parse_known(sheet, source, next, count, levels - 1, pairs))
 }
 
 // So many properties of an Object: one without a key that can be read makes all of it unknown.
@@ -110,52 +95,39 @@ fn parse_import_attributes_from_object_lit(
     c: Cursor,
     count: usize,
     levels: usize,
-    pairs: &mut [usize],
+    pairs: &mut [Pair],
 ) -> ImportAttributes
-    requires { (count ≤ property_limit) × (pair_numbers ≤ length pairs.old) }
+    requires { (count ≤ property_limit) × (property_limit ≤ length pairs.old) }
     ensures { Bounded
         ((ps : Properties) (t : List ℕ)
         → properties (node source.now levels) count (drop c.at sheet.now) ≡ ok ps t
         → attributes_as sheet.now pairs.new result ≡ object_attributes [] (props ps))
         (AttributesWithin (length sheet.now) pairs.new result) }
 {
-    let mut left = count;
     let mut at = c;
     let mut n = 0;
-    while 0 < left {
-        match read_prop(sheet, source, at, levels) {
-            PropRead::Refused(_) => {
-                return ImportAttributes::Unknown;
-            }
-            PropRead::Keyless(_) => {
-                return ImportAttributes::Unknown;
-            }
-            PropRead::Keyed {
-                start,
-                end,
-                value,
-                next,
-            } => {
-                let p = read_pair(sheet, source, start, end, value, levels);
-                n = insert(sheet, pairs, n, p);
-                at = next;
-                left -= 1;
-            }
-        }
+    for _ in 0..count {
+        let Ok((Some(k), next)) = read_prop(sheet, source, at, levels) else {
+            return ImportAttributes::Unknown;
+        };
+        let p = read_pair(sheet, source, k.start, k.end, k.value, levels);
+        n = insert(sheet, pairs, n, p);
+        at = next;
     }
     ImportAttributes::Known(n)
 }
 
-// The Object of an import type, if there is one. The table is left free as above.
+// The Object of an import type, if there is one. The table is left free as above. Apart from `parse_import_attributes`, whose reading keeps
+// other pairs: one function with a closure for the reading is no plainer.
 pub fn parse_type_attributes(
     sheet: &[u8],
     source: &[u8],
     c: Cursor,
     has_object: bool,
     levels: usize,
-    pairs: &mut [usize],
+    pairs: &mut [Pair],
 ) -> ImportAttributes
-    requires { pair_numbers ≤ length pairs.old }
+    requires { property_limit ≤ length pairs.old }
     ensures { Lent
         ((a : Attributes) (t : List ℕ)
         → behind has_object (attributes_object source.now levels) (drop c.at sheet.now) ≡ ok a t
@@ -163,22 +135,13 @@ pub fn parse_type_attributes(
         (AttributesWithin (length sheet.now) pairs.new result)
         (Free pairs.old pairs.new) }
 {
-    if has_object {
-        return match read_attributes(sheet, source, c, levels) {
-            AttributesRead::Refused(_) => ImportAttributes::Unknown,
-            AttributesRead::Is { count, next, .. } => {
-                parse_import_attributes_from_object_lit(
-                    sheet,
-                    source,
-                    next,
-                    count,
-                    levels - 1,
-                    pairs,
-                )
-            }
-        };
+    if !has_object {
+        return ImportAttributes::None;
     }
-    ImportAttributes::None
+    let Ok(((_, count), next)) = read_attributes(sheet, source, c, levels) else {
+        return ImportAttributes::Unknown;
+    };
+    parse_import_attributes_from_object_lit(sheet, source, next, count, levels - 1, pairs)
 }
 
 // The value of `with` or `assert`.
@@ -187,9 +150,9 @@ fn parse_nested(
     source: &[u8],
     c: Cursor,
     levels: usize,
-    pairs: &mut [usize],
+    pairs: &mut [Pair],
 ) -> ImportAttributes
-    requires { pair_numbers ≤ length pairs.old }
+    requires { property_limit ≤ length pairs.old }
     ensures { Bounded
         ((v : Node) (t : List ℕ)
         → node source.now levels (drop c.at sheet.now) ≡ ok v t
@@ -197,8 +160,7 @@ fn parse_nested(
         (AttributesWithin (length sheet.now) pairs.new result) }
 {
     match read_value(sheet, source, c, levels) {
-        Value::Text(_, _) => ImportAttributes::Unknown,
-        Value::Other => ImportAttributes::Unknown,
+        Value::Text(_, _) | Value::Other => ImportAttributes::Unknown,
         Value::Object(n, next) => {
             parse_import_attributes_from_object_lit(sheet, source, next, n, levels - 1, pairs)
         }
@@ -217,13 +179,7 @@ fn is_attributes_key(sheet: &[u8], start: usize, end: usize, had_with: bool) -> 
     requires { Part (length sheet.now) start end }
     ensures { result ≡ is_attributes_key had_with (part sheet.now start end) }
 {
-    if is_with(sheet, start, end) {
-        return true;
-    }
-    if had_with {
-        return false;
-    }
-    equal(&sheet[start..end], b"assert")
+    is_with(sheet, start, end) || equal(&sheet[start..end], b"assert") && !had_with
 }
 
 // So many properties of the second argument of a dynamic import.
@@ -233,54 +189,30 @@ fn parse_argument_properties(
     c: Cursor,
     count: usize,
     levels: usize,
-    pairs: &mut [usize],
+    pairs: &mut [Pair],
 ) -> ImportAttributes
-    requires { pair_numbers ≤ length pairs.old }
+    requires { property_limit ≤ length pairs.old }
     ensures { Bounded
         ((ps : Properties) (t : List ℕ)
         → properties (node source.now levels) count (drop c.at sheet.now) ≡ ok ps t
         → attributes_as sheet.now pairs.new result ≡ argument_properties false none (props ps))
         (AttributesWithin (length sheet.now) pairs.new result) }
 {
-    let mut left = count;
     let mut at = c;
     let mut had_with = false;
     let mut found = ImportAttributes::None;
-    while 0 < left {
-        match read_prop(sheet, source, at, levels) {
-            PropRead::Refused(_) => {
-                return ImportAttributes::Unknown;
-            }
-            PropRead::Keyless(_) => {
-                return ImportAttributes::Unknown;
-            }
-            PropRead::Keyed {
-                start,
-                end,
-                value,
-                next,
-            } => {
-                if is_attributes_key(sheet, start, end, had_with) {
-                    match parse_nested(sheet, source, value, levels, pairs) {
-                        ImportAttributes::None => {
-                            return ImportAttributes::None;
-                        }
-                        ImportAttributes::Unknown => {
-                            return ImportAttributes::Unknown;
-                        }
-                        ImportAttributes::Known(n) => {
-                            found = ImportAttributes::Known(n);
-                            had_with = is_with(sheet, start, end);
-                            at = next;
-                            left -= 1;
-                        }
-                    }
-                } else {
-                    at = next;
-                    left -= 1;
-                }
-            }
+    for _ in 0..count {
+        let Ok((Some(k), next)) = read_prop(sheet, source, at, levels) else {
+            return ImportAttributes::Unknown;
+        };
+        if is_attributes_key(sheet, k.start, k.end, had_with) {
+            found = parse_nested(sheet, source, k.value, levels, pairs);
+            let ImportAttributes::Known(_) = found else {
+                return found;
+            };
+            had_with = is_with(sheet, k.start, k.end);
         }
+        at = next;
     }
     found
 }
@@ -292,9 +224,9 @@ pub fn parse_dynamic_import_attributes(
     c: Cursor,
     count: usize,
     levels: usize,
-    pairs: &mut [usize],
+    pairs: &mut [Pair],
 ) -> ImportAttributes
-    requires { pair_numbers ≤ length pairs.old }
+    requires { property_limit ≤ length pairs.old }
     ensures { Lent
         ((xs : Arguments) (t : List ℕ)
         → arguments (node source.now levels) source.now count (drop c.at sheet.now) ≡ ok xs t
@@ -302,26 +234,19 @@ pub fn parse_dynamic_import_attributes(
         (AttributesWithin (length sheet.now) pairs.new result)
         (Free pairs.old pairs.new) }
 {
-    if 0 < count {
-        return match read_argument(sheet, source, c) {
-            ArgumentRead::Refused(_) => ImportAttributes::Unknown,
-            ArgumentRead::Is {
-                spread,
-                next: value,
-                ..
-            } => {
-                if spread {
-                    return ImportAttributes::Unknown;
-                }
-                match read_value(sheet, source, value, levels) {
-                    Value::Text(_, _) => ImportAttributes::Unknown,
-                    Value::Other => ImportAttributes::Unknown,
-                    Value::Object(n, next) => {
-                        parse_argument_properties(sheet, source, next, n, levels - 1, pairs)
-                    }
-                }
-            }
-        };
+    if count == 0 {
+        return ImportAttributes::None;
     }
-    ImportAttributes::None
+    let Ok(((spread, _), value)) = read_argument(sheet, source, c) else {
+        return ImportAttributes::Unknown;
+    };
+    if spread {
+        return ImportAttributes::Unknown;
+    }
+    match read_value(sheet, source, value, levels) {
+        Value::Text(_, _) | Value::Other => ImportAttributes::Unknown,
+        Value::Object(n, next) => {
+            parse_argument_properties(sheet, source, next, n, levels - 1, pairs)
+        }
+    }
 }

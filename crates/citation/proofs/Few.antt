@@ -1,4 +1,5 @@
 -- A report has at least eight bytes for each of its dependencies.
+use Rattle.std.specs.Prelude.{Some, None}
 use Rattle.laws.proofs.Prelude.{List, [], ◌∷◌, flat_map, Option, ◌*◌, ◌≤◌, ◌<◌, arith, length, length-append}
 use Rattle.wire.{specs.Text.encode_text, specs.Optional.encode_optional, proofs.Lengths.number_long}
 use Rattle.report.specs.ModuleInfo.{SpecifierWithRange, ImportAttributes, none, unknown, known, DynamicArgument, expr, string, template}
@@ -8,8 +9,8 @@ use Rattle.citation.proofs.Lengths.{range_long}
 
 optional_long : (o : Option SpecifierWithRange) → 0 < length (encode_optional encode_specifier o)
 unfolding encode_optional
-optional_long Option.none = omega arith
-optional_long (Option.some s) = omega arith
+optional_long None = omega arith
+optional_long (Some s) = omega arith
 
 attributes_long : (a : ImportAttributes) → 0 < length (encode_attributes a)
 unfolding encode_attributes

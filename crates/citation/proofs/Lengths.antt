@@ -1,4 +1,5 @@
 -- What is printed for a report is at most four times as long as the report.
+use Rattle.std.specs.Prelude.{Some, None}
 use Rattle.laws.proofs.Prelude.{◌≡◌, refl, Bool, true, false, cond, List, [], ◌∷◌, ◌++◌, flat_map, Option, ℕ, zero, suc, ◌+◌, ◌*◌, ◌/◌, ◌%◌, ◌≤◌, ◌<◌, code}
 use Rattle.laws.proofs.Prelude.{arith, ltb, length, get_or, drop, length-append, ltb-true, ltb-false}
 use Prim.Native.Nat.{◌^◌}
@@ -135,8 +136,8 @@ module _ (source : List ℕ) where
   optional_short : (letter : ℕ) (o : Option SpecifierWithRange) → IfThere ValidSpecifier o
       → length (flat_map (printed source) (cite_optional letter o)) + 4 ≤ 4 * length (encode_optional encode_specifier o)
   unfolding flat_map encode_optional
-  optional_short letter Option.none v = omega arith
-  optional_short letter (Option.some s) v = omega (arith, specifier_short letter s v)
+  optional_short letter None v = omega arith
+  optional_short letter (Some s) v = omega (arith, specifier_short letter s v)
 
   each_short : {A : Type 0} (f : ℕ → A → List Line) (encode : A → List ℕ) (P : A → Type 0) → ((number : ℕ) (a : A) → P a → Short (f number a) (encode a))
       → (numbers : List ℕ) (l : List A) → All P l → length (flat_map (printed source) (cite_each f numbers l)) + 4 ≤ 4 * length (encode_list encode l)

@@ -1,7 +1,7 @@
 -- The lines that `cite` prints, as document 01 writes them: `refused N`, or `module K` and K lines.
 use Rattle.std.specs.Prelude.{Bool, cond, ◌||◌, ℕ, zero, suc, ◌+◌, ◌/◌, ◌%◌, eqb, ltb, length, get_or, drop}
 use mathlib.Core.List.{List, [], ◌∷◌, ◌++◌, flat_map}
-use Rattle.std.proofs.Math.Option.{Option}
+use Rattle.std.specs.Prelude.{None, Option, Some}
 use Prim.Native.Char.{code}
 use Rattle.laws.specs.Ascii.{ascii}
 use Rattle.text.specs.declared.position.Position.{Position}
@@ -52,8 +52,8 @@ cite_specifier letter s = record { letter = letter; range = s.range; text = s.te
 
 -- a line if the thing is there
 abbrev pub cite_optional : ℕ → Option SpecifierWithRange → List Line
-cite_optional letter Option.none = []
-cite_optional letter (Option.some s) = cite_specifier letter s
+cite_optional letter None = []
+cite_optional letter (Some s) = cite_specifier letter s
 
 -- `?` where there is no single text
 abbrev pub argument_text : DynamicArgument → List ℕ

@@ -1,4 +1,5 @@
 -- The range of each line of a citation is that of a place of the source.
+use Rattle.std.specs.Prelude.{Some, None}
 use Rattle.laws.proofs.Prelude.{◌≡◌, refl, Bool, false, ⊎_elim, List, [], ◌∷◌, ◌++◌, flat_map, Memᴰ, Option, ℕ, code, get_or, drop, arith}
 use Rattle.laws.specs.Codec.{All, IfThere}
 use Rattle.laws.proofs.Lists.{all_append, of_members, all_member}
@@ -10,7 +11,8 @@ use Rattle.sheet.specs.Shape.{shape, is_require, is_augmentation}
 use Rattle.sheet.proofs.Reaches.{walk_right}
 use Rattle.sheet_codec.specs.Limits.{QuotedFits, under, NodeFits, ArgumentsFit}
 use Rattle.sheet_codec.specs.SheetOf.{SheetOf}
-use Rattle.report.specs.declared.{names.StaticDependencyKind.StaticDependencyKind, names.DynamicDependencyKind.DynamicDependencyKind, writer.Outcome.Outcome}
+use Rattle.report.specs.declared.{names.StaticDependencyKind.StaticDependencyKind, names.DynamicDependencyKind.DynamicDependencyKind}
+use Rattle.report.specs.Answer.{Outcome}
 use Rattle.report.specs.declared.names.StaticDependencyKind.TheVariants as statics
 use Rattle.report.specs.declared.names.DynamicDependencyKind.TheVariants as dynamics
 use Rattle.report.specs.ModuleInfo.{PositionRange, SpecifierWithRange, TypeScriptReference, path, types, JsDocImportInfo, ImportAttributes, none}
@@ -46,8 +48,8 @@ module _ (source : List ℕ) where
   optional_placed : (letter : ℕ) (P : SpecifierWithRange → Type 0) → ((x : SpecifierWithRange) → P x → Placed x.range) →
       (o : Option SpecifierWithRange) → IfThere P o
       → Each (cite_optional letter o)
-  optional_placed letter P f Option.none p = tt
-  optional_placed letter P f (Option.some x) p = (f x p, tt)
+  optional_placed letter P f None p = tt
+  optional_placed letter P f (Some x) p = (f x p, tt)
 
   -- ---- dependencies
 
@@ -70,8 +72,8 @@ module _ (source : List ℕ) where
 
     -- the entries of a node's own visit
     abbrev OwnPlaced : Option Visit → Type 0
-    OwnPlaced Option.none = Unit {0}
-    OwnPlaced (Option.some v) = All OwnRange (entry_of source types v)
+    OwnPlaced None = Unit {0}
+    OwnPlaced (Some v) = All OwnRange (entry_of source types v)
 
     own_placed : (k : ℕ) (n : Node) → NodeFits source n k → OwnPlaced (own_visit n)
     unfolding NodeFits module_entry
@@ -91,16 +93,16 @@ module _ (source : List ℕ) where
     own_placed k (import_type sp x ns a) f = (static_placed statics.ImportType sp (under k) f.1.0 false _, tt)
     own_placed k (import_equals sp) f = tt
     own_placed k (import_require sp type_only export x) f = (static_placed (equals_kind type_only export) sp (under k) f.1 false none, tt)
-    own_placed k (module_decl sp Option.none ns) f = tt
-    own_placed k (module_decl sp (Option.some x) ns) f = all_if _ (is_augmentation x.text)
+    own_placed k (module_decl sp None ns) f = tt
+    own_placed k (module_decl sp (Some x) ns) f = all_if _ (is_augmentation x.text)
         (static_entry source types statics.MaybeTsModuleAugmentation sp x false none ∷ [])
         (static_placed statics.MaybeTsModuleAugmentation sp (under k) f.1.0 false none, tt)
 
-    walked_placed : {root n : Node} {v : Visit} {d : DependencyDescriptor} → Walked root n → own_visit n ≡ Option.some v → NodeFits source root depth_limit
+    walked_placed : {root n : Node} {v : Visit} {d : DependencyDescriptor} → Walked root n → own_visit n ≡ Some v → NodeFits source root depth_limit
         → entry_of source types v ≡ d ∷ [] → OwnRange d
     walked_placed {n = n} {v = v} {d = d} w o f e =
         let (k, g) = walked_fits source w depth_limit f in
-        let own : OwnPlaced (Option.some v) = rw o at (own_placed k n g) in
+        let own : OwnPlaced (Some v) = rw o at (own_placed k n g) in
         let one : All OwnRange (d ∷ []) = rw e at own in
         one.0
 

@@ -2,14 +2,15 @@
 use Rattle.laws.proofs.Prelude.{◌≡◌, refl, sym, ap, ◌∙◌, Bool, true, false, List, [], ◌++◌, flat_map, ℕ, ◌+◌, ◌-◌, ◌*◌, ◌≤◌, arith, leb, length, take, drop}
 use Rattle.laws.proofs.Prelude.{length-append, length-drop, take-append_seam, take_all, leb-true}
 use lib.ListN.{length-map}
-use Rattle.wire.specs.Refusals.{of_sheets, one_of}
+use Rattle.wire.specs.Refusals.{of_sheets, one_of, number_of}
 use Rattle.wire.specs.Refusals as refusals
 use Rattle.sheet.specs.{Sheet.Sheet, Judge.judge}
 use Rattle.sheet_codec.{specs.SheetOf.SheetOf, proofs.Sheets.accepts_exactly}
 use Rattle.sheet_codec.proofs.Refusals.{apart, Decision, decided, judged_sheet, judged_refusal}
-use Rattle.report.specs.{ModuleInfo.ModuleInfo, Encode.encode, Valid.Valid, declared.writer.Outcome.Outcome}
-use Rattle.report.specs.Answer.{Answer, zeros, accepted, refused_with, fitted}
-use Rattle.report.specs.declared.writer.Outcome.TheVariants.{Accepted, Refused}
+use Rattle.report.specs.{ModuleInfo.ModuleInfo, Encode.encode, Valid.Valid}
+use Rattle.report.specs.Answer.{Answer, Outcome, zeros, accepted, refused_with, fitted}
+use Rattle.std.specs.Prelude.{Ok, Err}
+use Rattle.wire.specs.declared.refusals.Refusal.{Refusal}
 use Rattle.module_info.specs.Information.{module_info, default_info, answer_of}
 use Rattle.dep_entries.specs.Entries.{Noted}
 use Rattle.dep.specs.Collect.{numbers_of}
@@ -75,7 +76,7 @@ module _ {s buffer notes : List ℕ} where
           })
       by (Decision.refused r among some e) = refused r among (rw (judged_refusal s some e)) (rw (judged_refusal s some e))
 
-  pub reported : {n : ℕ} → Demands s report_room (Accepted n) buffer → NotesRight s note_room 0 notes → Reported s n buffer notes
+  pub reported : {n : ℕ} → Demands s report_room (Ok n) buffer → NotesRight s note_room 0 notes → Reported s n buffer notes
   unfolding one_of fitted
   reported {n} d noted = by (question d noted)
     where
@@ -112,21 +113,21 @@ module _ {s buffer notes : List ℕ} where
           absurd (apart of_sheets among (sym none) refl)
 
   -- a refusal that was answered
-  pub refused_lines : {r number : ℕ} (source : List ℕ) → Holds s source → Demands s report_room (Refused r) buffer → NotesRight s note_room number notes →
-      cited s ≡ refusal r
+  pub refused_lines : {r : Refusal} {number : ℕ} (source : List ℕ) → Holds s source → Demands s report_room (Err r) buffer
+      → NotesRight s note_room number notes → cited s ≡ refusal (number_of r)
   unfolding fitted
   refused_lines {r} source o d noted = by (question d noted)
     where
-      by_room : (a : Asked s) (b : Bool) → leb (length (encode a.info)) report_room ≡ b → cited s ≡ refusal r
+      by_room : (a : Asked s) (b : Bool) → leb (length (encode a.info)) report_room ≡ b → cited s ≡ refusal (number_of r)
       by_room a true h =
           let none : 0 ≡ length (encode a.info) = ap (λ (x : Answer). x.written) (rw h at (d.answer ∙ a.answer)) in
           absurd (some_bytes a.info none)
       by_room a false h =
-          let ten : r ≡ refusals.buffer = ap (λ (x : Answer). x.number) (rw h at (d.answer ∙ a.answer)) in
+          let ten : number_of r ≡ refusals.buffer = ap (λ (x : Answer). x.number) (rw h at (d.answer ∙ a.answer)) in
           rw (a.lines source o, h, ten)
 
-      by : Question s → cited s ≡ refusal r
+      by : Question s → cited s ≡ refusal (number_of r)
       by (asked a) = by_room a (leb (length (encode a.info)) report_room) refl
       by (refused q among e lines) =
-          let same : r ≡ q = ap (λ (x : Answer). x.number) (d.answer ∙ e) in
+          let same : number_of r ≡ q = ap (λ (x : Answer). x.number) (d.answer ∙ e) in
           rw (lines, same)

@@ -1,5 +1,5 @@
 -- What `cite` prints where one comment is reworded: a line is printed as before if its place is not inside that comment's body.
-use Rattle.report.specs.declared.writer.Outcome.{Outcome}
+use Rattle.report.specs.Answer.{Outcome}
 use Rattle.laws.proofs.Prelude.{List, ℕ}
 use Rattle.module_info.specs.Demands.{Demands}
 use Rattle.citation.proofs.ColumnsRight.{printed_same}

@@ -10,9 +10,8 @@ ghost use Rattle.report_reader.specs.code.FromPlace.{Inside};
 ghost use Rattle.cite.specs.Cited.{report_room, note_room, line_room, cited, EditorColumns, KeptLines};
 
 use citation::cite::{cite_refusal, cite_report};
-use input::{Input, read_input};
+use input::read_input;
 use module_info::module_info_with_replaced;
-use report::writer::Outcome;
 use report_reader::fields::{TextRead, read_text};
 use sheet::limits::SHEET_LIMIT;
 use std::io;
@@ -41,8 +40,8 @@ fn cite(sheet: &[u8], report: &mut [u8], notes: &mut [usize], lines: &mut [u8]) 
     let from = source.from;
     let to = source.to;
     match module_info_with_replaced(sheet, report, notes) {
-        Outcome::Refused(r) => cite_refusal(r, lines),
-        Outcome::Accepted(n) => cite_report(&report[..n], &sheet[from..to], &notes[1..], lines),
+        Ok(n) => cite_report(&report[..n], &sheet[from..to], &notes[1..], lines),
+        Err(refusal) => cite_refusal(refusal.number(), lines),
     }
 }
 
@@ -77,8 +76,7 @@ const INPUT_ROOM: usize = SHEET_LIMIT + 1;
 fn main(rt: HostRuntime) -> io::Result<()> {
     let mut sheet = [0u8; INPUT_ROOM];
     let mut stdin = rt.stdin();
-    let input = read_input(&mut stdin, &mut sheet);
-    let Input::Bytes(n) = input else {
+    let Ok(n) = read_input(&mut stdin, &mut sheet) else {
         return eprintln!(rt; "cite: standard input cannot be read");
     };
     let mut report = report_buffer();

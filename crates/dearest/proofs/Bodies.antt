@@ -1,12 +1,20 @@
--- A star and then only `{`, put byte by byte.
-use Rattle.laws.proofs.Prelude.{◌≡◌, List, ℕ, ◌+◌, ◌-◌, ◌≤◌, ◌<◌, code, arith, add-one, length, take, set}
-use lib.{ListN.replicate-append-replicate, Seq.take-suc-set}
+-- A star and then only `{`.
+use Rattle.std.proofs.lemmas.Slice.{take-put_mid}
+use Rattle.laws.proofs.Prelude.{◌≡◌, ap, ◌∙◌, List, ◌∷◌, ◌++◌, ℕ, ◌-◌, ◌≤◌, code, arith, length, length-replicate, length-set, length-take, length-drop}
+use Rattle.laws.proofs.Prelude.{replicate, take, drop, set}
+use borrow.Rule.Slice.PartMut.{put_mid}
+use lib.Seq.{take-suc-set}
 use Rattle.scan.specs.Dearest.{star_and_braces}
 
-pub star : (l : List ℕ) → 0 < length l → take 1 (set l 0 (code "*")) ≡ star_and_braces 1
-star l h = take-suc-set l 0 (code "*") h
-
-pub one_brace : (l : List ℕ) (i : ℕ) → 1 ≤ i → i < length l → take i l ≡ star_and_braces i → take (i + 1) (set l i (code "{")) ≡ star_and_braces (i + 1)
-one_brace l i some h e =
-    let n : i + 1 - 1 ≡ i - 1 + 1 = omega arith in
-    rw (n, ← replicate-append-replicate (i - 1) 1 (code "{"), add-one i, take-suc-set l i (code "{") h, e)
+-- a star is put first, and then braces behind it
+pub star_put : (l : List ℕ) (n : ℕ) → 1 ≤ n → n ≤ length l
+    → {braces : List ℕ} → braces ≡ replicate (length (take (n - 1) (drop 1 (set l 0 (code "*"))))) (code "{")
+    → take n (put_mid 1 (n - 1) (set l 0 (code "*")) braces) ≡ star_and_braces n
+star_put l n some h {braces} e =
+    let starred = set l 0 (code "*") in
+    let long : length starred ≡ length l = length-set l 0 (code "*") in
+    let room : length (take (n - 1) (drop 1 starred)) ≡ n - 1 = omega (arith, length-take (n - 1) (drop 1 starred), length-drop 1 starred) in
+    let width : length braces ≡ n - 1 = ap length e ∙ length-replicate (length (take (n - 1) (drop 1 starred))) (code "{") ∙ room in
+    take-put_mid 1 (n - 1) starred braces n (omega arith) (omega arith)
+    ∙ ap (λ (s : List ℕ). s ++ braces) (take-suc-set l 0 (code "*") (omega arith))
+    ∙ ap (λ (s : List ℕ). code "*" ∷ s) (rw room at e)

@@ -98,9 +98,6 @@ begin w = record { inside = omega arith; small = omega arith; so_far = inl (refl
 abbrev None : List ℕ → Type 0
 None w = (m : ℕ) → Digits w m → ⊥
 
-pub empty : (w : List ℕ) → length w ≡ 0 → None w
-empty w e m h = omega (arith, (facts h.0).some)
-
 module _ {w : List ℕ} {i n : ℕ} (r : ReadUpTo w i n) where
   pub finished : 0 < length w → length w ≤ i → Digits w n × ((m : ℕ) → Digits w m → m ≡ n)
   finished some end =

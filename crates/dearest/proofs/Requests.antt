@@ -1,66 +1,48 @@
 -- What an input asks for, by the numeral in it.
-use Rattle.laws.proofs.Prelude.{◌≡◌, refl, ap, ◌∙◌, ◌⊎◌, inl, inr, ⊎_elim, List, [], ◌++◌, ℕ, suc, ◌+◌, ◌≤◌, ◌<◌, code, arith, length, get_or, take, drop}
-use Rattle.laws.proofs.Prelude.{length-append, drop_of_length-le}
-use lib.Seq.{split_at, take_at, get_or_at}
+use Rattle.std.specs.Prelude.{Option, Some, None, MatchOption, ◌≢◌}
+use Rattle.std.specs.Option.{unwrap_or}
+use Rattle.laws.proofs.Prelude.{◌≡◌, refl, sym, ap, ◌∙◌, ◌⊎◌, inl, inr, ⊎_elim, List, [], ◌++◌, ℕ, ◌+◌, ◌<◌, code, arith, length, get_or, length-append}
+use denote.Ref.{Bor}
+use lib.Seq.{get_or_at}
+use Rattle.std.proofs.lemmas.List.{append_cancel_right}
 use Rattle.laws.specs.Ascii.{ascii}
-use Rattle.dearest.specs.{declared.Request.Request, Input.Digits, Input.Asks, code.Answers.Settles}
-use Rattle.dearest.specs.declared.Request.TheVariants as request
+use Rattle.dearest.specs.{Input.Digits, Input.Asks, code.Answers.Settles}
 use Rattle.dearest.proofs.Numerals.{facts, five}
 
 -- an answer to one question answers another that holds of the same numbers
 module _ {P Q : ℕ → Type 0} where
-  settles_as : ((n : ℕ) → P n → Q n) → ((n : ℕ) → Q n → P n) → (r : Request) → Settles P r → Settles Q r
-  settles_as to from (request.Bytes n) s = (to n s.0, λ m q. s.1 m (from m q))
-  settles_as to from request.Nothing s = λ m q. s m (from m q)
+  settles_as : ((n : ℕ) → P n → Q n) → ((n : ℕ) → Q n → P n) → (r : Option ℕ) → Settles P r → Settles Q r
+  settles_as to from (Some n) s = (to n s.0, λ m q. s.1 m (from m q))
+  settles_as to from None s = λ m q. s m (from m q)
 
 -- how long such an input is
 module _ {input : List ℕ} {n : ℕ} (a : Asks input n) where
   sizes : (length input ≡ length a.digits) ⊎ (length input ≡ length a.digits + 1)
   sizes = ⊎_elim (λ e. inl (ap length e)) (λ e. inr (ap length e ∙ length-append a.digits (ascii "\n"))) a.all
 
-  pub asks_some : length input ≡ 0 → ⊥
-  asks_some none = ⊎_elim (λ e. omega (arith, (facts a.number.0).some)) (λ e. omega arith) sizes
-
   pub asks_short : length input < 7
   asks_short = ⊎_elim (λ e. omega (arith, five a.number)) (λ e. omega (arith, five a.number)) sizes
 
--- by the last byte: an LF, or none
-module _ (input : List ℕ) (last : ℕ) (long : length input ≡ last + 1) where
-  lf_cut : (w : List ℕ) → input ≡ w ++ ascii "\n" → length w ≡ last
-  lf_cut w e = omega (arith, ap length e, length-append w (ascii "\n"))
-
-  pub with_lf : get_or input last 0 ≡ code "\n" → (r : Request) → Settles (Digits (take last input)) r → Settles (Asks input) r
-  with_lf e = settles_as to from
+-- what stands before a last LF, or all of it where there is none
+module _ (input : List ℕ) where
+  with_lf : (w : List ℕ) → input ≡ w ++ ascii "\n" → (n : ℕ) → Asks input n → Digits w n
+  with_lf w e n a = ⊎_elim (λ same. absurd (none same)) (λ cut. rw (append_cancel_right a.digits w (ascii "\n") (sym cut ∙ e)) at a.number) a.all
     where
-      whole : input ≡ take last input ++ ascii "\n"
-      whole =
-          let h : last < length input = omega arith in
-          let end : length input ≤ suc last = omega arith in
-          let none : drop (suc last) input ≡ [] = drop_of_length-le input end in
-          rw (e, none) at (split_at input last 0 h)
+      -- an LF is no digit
+      none : input ≡ a.digits → ⊥
+      none same =
+          let long : length a.digits ≡ length w + 1 = ap length (sym same ∙ e) ∙ length-append w (ascii "\n") in
+          let last : get_or a.digits (length w) 0 ≡ code "\n" = rw (sym same ∙ e) (get_or_at w (code "\n") [] 0 (length w) refl) in
+          let d = (facts a.number.0).digits (length w) (omega arith) in
+          omega arith
 
-      to : (n : ℕ) → Digits (take last input) n → Asks input n
-      to n p = record { digits = take last input; number = p; all = inr whole }
-
-      digit : (n : ℕ) → Digits input n → ⊥
-      digit n p = let d = (facts p.0).digits last (omega arith) in omega arith
-
-      front : (w : List ℕ) → input ≡ w ++ ascii "\n" → take last input ≡ w
-      front w cut = rw cut (take_at w (ascii "\n") last (lf_cut w cut))
-
-      from : (n : ℕ) → Asks input n → Digits (take last input) n
-      from n a =
-          ⊎_elim (λ same. absurd (digit n (rw same a.number))) (λ cut. rw (front a.digits cut) a.number) a.all
-
-  pub without_lf : (get_or input last 0 ≡ code "\n" → ⊥) → (r : Request) → Settles (Digits input) r → Settles (Asks input) r
-  without_lf other = settles_as to from
-    where
-      to : (n : ℕ) → Digits input n → Asks input n
-      to n p = record { digits = input; number = p; all = inl refl }
-
-      from : (n : ℕ) → Asks input n → Digits input n
-      from n a =
-          ⊎_elim
-          (λ same. rw same a.number)
-          (λ cut. absurd (other (rw cut (get_or_at a.digits (code "\n") [] 0 last (lf_cut a.digits cut)))))
-          a.all
+  pub by_suffix : (s : Option (Bor (List ℕ))) → MatchOption s ((front : List ℕ) → input ≢ front ++ ascii "\n") (λ x. input ≡ x.now ++ ascii "\n")
+      → (all : Bor (List ℕ)) → all.now ≡ input → (r : Option ℕ) → Settles (Digits (unwrap_or s all).now) r → Settles (Asks input) r
+  by_suffix (Some x) e all same r f =
+      settles_as (λ n p. record { digits = x.now; number = p; all = inr e }) (with_lf x.now e) r f
+  by_suffix None e all same r f =
+      settles_as
+      (λ n p. record { digits = input; number = p; all = inl refl })
+      (λ n a. ⊎_elim (λ same. rw same a.number) (λ cut. absurd (e a.digits cut)) a.all)
+      r
+      (rw same at f)

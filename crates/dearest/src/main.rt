@@ -9,61 +9,40 @@ ghost use Rattle.dearest.specs.Input.{Digits, Asks, ReadOf};
 ghost use Rattle.dearest.specs.Output.{Written};
 ghost use Rattle.dearest.specs.code.Answers.{Settles};
 
-use input::{Input, read_input};
+use input::read_input;
 use scan::LONGEST;
 use std::io;
 use std::io::Write;
 
-// How many bytes are asked for.
-#[derive(Clone, Copy)]
-pub enum Request {
-    Bytes(usize),
-    Nothing,
-}
-
 // The number from 1 to 32,764 whose decimal digits these are.
-fn read_numeral(digits: &[u8]) -> Request
+fn read_numeral(digits: &[u8]) -> Option<usize>
     ensures { Settles (Digits digits.now) result }
 {
-    if digits.len() == 0 {
-        return Request::Nothing;
+    if digits.is_empty() {
+        return None;
     }
-    let mut n: usize = 0;
-    let mut i = 0;
-    while i < digits.len() {
-        let digit = digits[i];
-        if digit < b'0' {
-            return Request::Nothing;
+    let mut n = 0;
+    for digit in digits {
+        if !digit.is_ascii_digit() {
+            return None;
         }
-        if b'9' < digit {
-            return Request::Nothing;
-        }
-        n = 10 * n + (digit - b'0') as usize;
+        n = 10 * n + usize::from(*digit - b'0');
         // a leading zero
         if n == 0 {
-            return Request::Nothing;
+            return None;
         }
         if LONGEST < n {
-            return Request::Nothing;
+            return None;
         }
-        i += 1;
     }
-    Request::Bytes(n)
+    Some(n)
 }
 
 // The number that the input asks for, with or without a last LF.
-fn read_request(input: &[u8]) -> Request
+fn read_request(input: &[u8]) -> Option<usize>
     ensures { Settles (Asks input.now) result }
 {
-    let end = input.len();
-    if end == 0 {
-        return Request::Nothing;
-    }
-    let last = end - 1;
-    if input[last] == b'\n' {
-        return read_numeral(&input[..last]);
-    }
-    read_numeral(input)
+    read_numeral(input.strip_suffix(b"\n").unwrap_or(input))
 }
 
 // Puts a star and then only `{`, as many bytes as `size` says.
@@ -72,11 +51,7 @@ fn put_body(size: usize, body: &mut [u8])
     ensures { take size body.new ≡ star_and_braces size }
 {
     body[0] = b'*';
-    let mut i = 1;
-    while i < size {
-        body[i] = b'{';
-        i += 1;
-    }
+    body[1..size].fill(b'{');
 }
 
 // Puts the body that the input asks for, of which `front` was read, and answers its length; 0 where it asks for none.
@@ -85,13 +60,11 @@ fn dearest(front: &[u8], body: &mut [u8; LONGEST]) -> usize
         ((input : List ℕ) → ReadOf input front.now → Written input (take result body.new))
         (IsPrefixLen result body.new) }
 {
-    match read_request(front) {
-        Request::Bytes(size) => {
-            put_body(size, body);
-            size
-        }
-        Request::Nothing => 0,
-    }
+    let Some(size) = read_request(front) else {
+        return 0;
+    };
+    put_body(size, body);
+    size
 }
 
 // Reads one byte more than the longest input that asks for a body, so that a longer one is known to be longer.
@@ -99,8 +72,7 @@ fn dearest(front: &[u8], body: &mut [u8; LONGEST]) -> usize
 fn main(rt: HostRuntime) -> io::Result<()> {
     let mut front = [0u8; 7];
     let mut stdin = rt.stdin();
-    let input = read_input(&mut stdin, &mut front);
-    let Input::Bytes(read) = input else {
+    let Ok(read) = read_input(&mut stdin, &mut front) else {
         return eprintln!(rt; "dearest: standard input cannot be read");
     };
     let mut body = [0u8; LONGEST];

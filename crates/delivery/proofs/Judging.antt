@@ -1,4 +1,5 @@
 -- Which entries are late: the tests and what they say.
+use Rattle.std.specs.Prelude.{Some, None}
 use Rattle.laws.proofs.Prelude.{◌≡◌, refl, sym, ap, ◌∙◌, Bool, true, false, false≢true, ◌||◌, or-true, ◌⊎◌, inl, inr, ⊎_elim, List, [], ◌∷◌, Memᴰ}
 use Rattle.laws.proofs.Prelude.{Memᴰ_head, Memᴰ_tail, Memᴰ_not_nil, Memᴰ_cases_cons, Option, ℕ, arith, drop}
 use mathlib.Core.List.Memᴰ
@@ -83,8 +84,8 @@ asks_one (dynamic d) a b = let e = a.is_static in let z : ◌≡◌ {A = ℕ} 0 
 
 -- an entry is in order, or it is late
 pub data LateOr (earlier : List (List ℕ)) (d : DependencyDescriptor) : Type 0 where
-  fine : late_in earlier d ≡ Option.none → EntryInOrder earlier d → LateOr earlier d
-  late : (x : List ℕ) → late_in earlier d ≡ Option.some x → Asks d x → (Memᴰ x earlier → ⊥) → LateOr earlier d
+  fine : late_in earlier d ≡ None → EntryInOrder earlier d → LateOr earlier d
+  late : (x : List ℕ) → late_in earlier d ≡ Some x → Asks d x → (Memᴰ x earlier → ⊥) → LateOr earlier d
 
 pub late_or : (earlier : List (List ℕ)) (d : DependencyDescriptor) → LateOr earlier d
 late_or earlier (dynamic d) = fine refl (λ x a. let e = a.is_static in let z : ◌≡◌ {A = ℕ} 0 1 = cc in absurd (omega arith))
@@ -103,16 +104,16 @@ late_or earlier (static d) = by (left_out d.kind) refl (relative x) refl (among 
         (λ m. false≢true (sym r ∙ member_among x earlier m))
 
 -- an entry in order is not late, and one that asks for no name is
-pub in_time : {earlier : List (List ℕ)} (d : DependencyDescriptor) → EntryInOrder earlier d → late_in earlier d ≡ Option.none
+pub in_time : {earlier : List (List ℕ)} (d : DependencyDescriptor) → EntryInOrder earlier d → late_in earlier d ≡ None
 in_time {earlier} d o = by (late_or earlier d)
   where
-    by : LateOr earlier d → late_in earlier d ≡ Option.none
+    by : LateOr earlier d → late_in earlier d ≡ None
     by (fine e p) = e
     by (late x e a l) = absurd (l (o x a))
 
-pub too_late : {earlier : List (List ℕ)} {d : DependencyDescriptor} {x : List ℕ} → Asks d x → (Memᴰ x earlier → ⊥) → late_in earlier d ≡ Option.some x
+pub too_late : {earlier : List (List ℕ)} {d : DependencyDescriptor} {x : List ℕ} → Asks d x → (Memᴰ x earlier → ⊥) → late_in earlier d ≡ Some x
 too_late {earlier} {d} {x} a l = by (late_or earlier d)
   where
-    by : LateOr earlier d → late_in earlier d ≡ Option.some x
+    by : LateOr earlier d → late_in earlier d ≡ Some x
     by (fine e p) = absurd (l (p x a))
     by (late y e b m) = rw (asks_one d a b) e

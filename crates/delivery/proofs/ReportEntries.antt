@@ -1,7 +1,8 @@
 -- The entries of a report, read one after the other.
 use Rattle.laws.proofs.Prelude.{◌≡◌, refl, sym, ap, ◌∙◌, Bool, cond, not, ◌&&◌, List, append_assoc, flat_map, Option, none-ne-some, ℕ, ◌+◌, ◌-◌, ◌≤◌}
 use Rattle.laws.proofs.Prelude.{arith, length, take, length-take}
-use mathlib.Core.Option.{some-injective}
+use Rattle.std.specs.Prelude.{None, Option, Some}
+use Rattle.laws.proofs.Options.{some-injective}
 use Rattle.laws.proofs.Lists.{part_part}
 use Rattle.wire.specs.Number.{encode_number}
 use Rattle.report.specs.{declared.names.StaticDependencyKind.StaticDependencyKind, Valid.ValidDependency, Valid.Valid}
@@ -11,7 +12,6 @@ use Rattle.report_reader.{specs.code.FromPlace.Number, specs.code.Dependencies.N
 use Rattle.report_reader.proofs.Lists.{Stand}
 use Rattle.delivery.specs.{Asks.left_out, Asks.relative, declared.entries.Late.Late, code.Views.late_as, code.Views.LateInside}
 use Rattle.delivery.specs.Order.{Answer, not_in_order, entries_of, among, late_in, entries_in_turn}
-use Rattle.delivery.specs.declared.entries.Late.TheVariants as late
 use Rattle.delivery.proofs.Reported.{Report}
 
 -- the dependencies stand behind the script flag and their count
@@ -28,29 +28,30 @@ entries_start {info = info} valid bytes script counted =
 -- a static dependency is late by its kind and its text, a dynamic one never
 module _ (earlier : List (List ℕ)) where
   pub static_late : {kind : StaticDependencyKind} {x : List ℕ} {b : Bool} (d : DependencyDescriptor) →
-      Option.some (record { kind = kind; text = x }) ≡ named_in d
-      → b ≡ (not (left_out kind) && (relative x && not (among x earlier))) → cond b (Option.some x) Option.none ≡ late_in earlier d
+      Some (record { kind = kind; text = x }) ≡ named_in d
+      → (not (left_out kind) && (relative x && not (among x earlier))) ≡ b → cond b (Some x) None ≡ late_in earlier d
   static_late {kind} {x} (static d) named e =
       let same = some-injective (record { kind = kind; text = x }) (record { kind = d.kind; text = d.specifier.text }) named in
       let k : kind ≡ d.kind = ap (λ (n : Named). n.kind) same in
       let y : x ≡ d.specifier.text = ap (λ (n : Named). n.text) same in
-      rw (e, k, y)
+      rw (← e, k, y)
   static_late {kind} {x} (dynamic d) named e = absurd (none-ne-some _ (sym named))
 
-  pub dynamic_late : (d : DependencyDescriptor) → Option.none ≡ named_in d → Option.none ≡ late_in earlier d
+  pub dynamic_late : (d : DependencyDescriptor) → None ≡ named_in d → None ≡ late_in earlier d
   dynamic_late (static d) named = absurd (none-ne-some _ named)
   dynamic_late (dynamic d) named = refl
 
 -- an entry that is late in a report at the front of the work buffer is late there in the whole
-late_whole : (work : List ℕ) (n i : ℕ) (r : Late) (behind : Answer) → LateInside (take n work) r
+late_whole : (work : List ℕ) (n i : ℕ) (r : Option Late) (behind : Answer) → LateInside (take n work) r
     → late_as (take n work) i r behind ≡ late_as work i r behind
-late_whole work n i late.Nothing behind h = refl
-late_whole work n i (late.At entry from to) behind h =
-    let within : from + (to - from) ≤ n = omega (arith, h.order, h.end, length-take n work) in
-    ap (not_in_order i entry) (part_part work n from (to - from) within)
+late_whole work n i None behind h = refl
+late_whole work n i (Some l) behind h =
+    let x = l.specifier in
+    let within : x.from + (x.to - x.from) ≤ n = omega (arith, h.order, h.end, length-take n work) in
+    ap (not_in_order i l.entry) (part_part work n x.from (x.to - x.from) within)
 
 -- and it is one of the sheet's entries
-pub late_in_module : {s work : List ℕ} {n : ℕ} → Report s n work → (names : List (List ℕ)) (r : Late) → LateInside (take n work) r
+pub late_in_module : {s work : List ℕ} {n : ℕ} → Report s n work → (names : List (List ℕ)) (r : Option Late) → LateInside (take n work) r
     → ((info : ModuleInfo) → Valid info → take n work ≡ encode info
     → (i : ℕ) (behind : Answer) → late_as (take n work) i r behind ≡ entries_in_turn names i 0 info.dependencies behind)
     → (i : ℕ) (behind : Answer) → late_as work i r behind ≡ entries_in_turn names i 0 (entries_of s) behind
@@ -59,6 +60,6 @@ late_in_module {s} {work} {n} report names r h f i behind =
     ∙ f report.info report.valid report.bytes i behind
     ∙ ap (λ ds. entries_in_turn names i 0 ds behind) (sym report.entries)
 
-pub inside_whole : (work : List ℕ) (n : ℕ) (r : Late) → LateInside (take n work) r → LateInside work r
-inside_whole work n late.Nothing h = tt
-inside_whole work n (late.At entry from to) h = record { order = h.order; end = omega (arith, h.end, length-take n work) }
+pub inside_whole : (work : List ℕ) (n : ℕ) (r : Option Late) → LateInside (take n work) r → LateInside work r
+inside_whole work n None h = tt
+inside_whole work n (Some l) h = record { order = h.order; end = omega (arith, h.end, length-take n work) }

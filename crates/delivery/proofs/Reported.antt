@@ -6,17 +6,13 @@ use Rattle.wire.specs.Refusals as refusals
 use Rattle.sheet.specs.{Judge.judge, Sheet.Sheet}
 use Rattle.sheet_codec.{specs.SheetOf.SheetOf, proofs.Sheets.accepts_exactly}
 use Rattle.sheet_codec.proofs.Refusals.{apart, Decision, decided, judged_sheet, judged_refusal}
-use Rattle.report.specs.{ModuleInfo.ModuleInfo, Encode.encode, Valid.Valid, declared.writer.Outcome.Outcome}
-use Rattle.report.specs.Answer.{Answer, zeros, accepted, refused_with, fitted, outcome_as}
-use Rattle.report.specs.declared.writer.Outcome.TheVariants.{Accepted, Refused}
+use Rattle.report.specs.{ModuleInfo.ModuleInfo, Encode.encode, Valid.Valid}
+use Rattle.report.specs.Answer.{Answer, zeros, accepted, refused_with, fitted, Outcome}
+use Rattle.std.specs.Prelude.{Ok, Err}
+use Rattle.wire.specs.{declared.refusals.Refusal.Refusal}
 use Rattle.module_info.specs.Information.{module_info, default_info, answer_of}
 use Rattle.module_info.specs.Demands.{Demands}
 use Rattle.delivery.specs.Order.{entries_of, number_of}
-
--- a refusal leaves the whole buffer zero
-pub cleared : (o : Outcome) {buffer : List ℕ} {number : ℕ} (size : ℕ) → outcome_as o buffer ≡ refused_with number size → buffer ≡ zeros size
-cleared (Accepted n) size e = ap (λ (x : Answer). x.buffer) e
-cleared (Refused r) size e = ap (λ (x : Answer). x.buffer) e
 
 -- a report has bytes
 some_bytes : (m : ModuleInfo) → 0 ≡ length (encode m) → ⊥
@@ -69,7 +65,7 @@ module _ {s buffer : List ℕ} {size : ℕ} where
   valid_question : {outcome : Outcome} → Demands s size outcome buffer → Question s size Valid
   valid_question d = question s size Valid (λ e. (d.empty e).report.fits) (λ t h. (d.report t h).fits)
 
-  pub reported : {n : ℕ} → Demands s size (Accepted n) buffer → (number_of size s ≡ 0) × Report s n buffer
+  pub reported : {n : ℕ} → Demands s size (Ok n) buffer → (number_of size s ≡ 0) × Report s n buffer
   unfolding one_of fitted
   reported {n} d = (sym (ap (λ (x : Answer). x.number) d.answer), by (valid_question d))
     where
@@ -97,18 +93,18 @@ module _ {s buffer : List ℕ} {size : ℕ} where
           absurd (apart of_sheets among (sym none) refl)
 
   -- a refusal that was answered
-  pub refused_number : {r : ℕ} → Demands s size (Refused r) buffer → (number_of size s ≡ r) × (r ≡ 0 → ⊥)
+  pub refused_number : {r : Refusal} → Demands s size (Err r) buffer → (number_of size s ≡ refusals.number_of r) × (refusals.number_of r ≡ 0 → ⊥)
   unfolding one_of fitted
   refused_number {r} d = (sym (ap (λ (x : Answer). x.number) d.answer), by (valid_question d))
     where
-      by_room : (info : ModuleInfo) → Asked s size info → (b : Bool) → leb (length (encode info)) size ≡ b → r ≡ 0 → ⊥
+      by_room : (info : ModuleInfo) → Asked s size info → (b : Bool) → leb (length (encode info)) size ≡ b → refusals.number_of r ≡ 0 → ⊥
       by_room info a true h z = some_bytes info (ap (λ (x : Answer). x.written) (rw h at (d.answer ∙ a.answer)))
       by_room info a false h z =
-          let ten : r ≡ refusals.buffer = ap (λ (x : Answer). x.number) (rw h at (d.answer ∙ a.answer)) in
+          let ten : refusals.number_of r ≡ refusals.buffer = ap (λ (x : Answer). x.number) (rw h at (d.answer ∙ a.answer)) in
           omega arith
 
-      by : Question s size Valid → r ≡ 0 → ⊥
+      by : Question s size Valid → refusals.number_of r ≡ 0 → ⊥
       by (asked info a v) z = by_room info a (leb (length (encode info)) size) refl z
       by (refused q among e) z =
-          let same : r ≡ q = ap (λ (x : Answer). x.number) (d.answer ∙ e) in
+          let same : refusals.number_of r ≡ q = ap (λ (x : Answer). x.number) (d.answer ∙ e) in
           apart of_sheets among (sym same ∙ z) refl

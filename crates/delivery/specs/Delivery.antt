@@ -12,7 +12,7 @@ use Rattle.sheet_codec.specs.Limits.{TextFits}
 use Rattle.report.specs.Encode.{encode_list}
 use Rattle.report.specs.Decode as report
 use Rattle.report.specs.Decode.{times}
-use Rattle.delivery.specs.Refusals as refusals
+use Rattle.wire.specs.Refusals as refusals
 
 -- the bytes of a name, and of a sheet, of which there may be none
 pub record Module : Type 0 where

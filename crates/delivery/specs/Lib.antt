@@ -1,4 +1,3 @@
-pub mod Refusals
 pub mod Delivery
 pub mod Asks
 pub mod Order

@@ -1,12 +1,12 @@
 -- What is answered of a delivery: in order, not in order, or refused.
 use Rattle.std.specs.Prelude.{Bool, false, cond, not, ◌&&◌, ◌||◌, List, [], ◌∷◌, ◌++◌, ℕ, ◌+◌, eqb}
-use Rattle.std.proofs.Math.Option.{Option}
+use Rattle.std.specs.Prelude.{None, Option, Some}
 use Rattle.laws.specs.Decoded.{Decoded, ok, no}
 use Rattle.text.specs.Bytes.{same}
 use Rattle.sheet.specs.Judge.{Judged, empty, sheet, refusal, judge}
 use Rattle.report.specs.ModuleInfo.{DependencyDescriptor, static, dynamic}
 use Rattle.module_info.specs.Information.{module_info, default_info, answer_of}
-use Rattle.delivery.specs.Refusals as refusals
+use Rattle.wire.specs.Refusals as refusals
 use Rattle.delivery.specs.Delivery.{Module, decode_delivery}
 use Rattle.delivery.specs.Asks.{left_out, relative}
 
@@ -44,13 +44,13 @@ repeated earlier (m ∷ ms) = among m.name earlier || repeated (earlier ++ (m.na
 abbrev pub late_in : List (List ℕ) → DependencyDescriptor → Option (List ℕ)
 late_in earlier (static d) =
     let x = d.specifier.text in
-    cond (not (left_out d.kind) && (relative x && not (among x earlier))) (Option.some x) Option.none
-late_in earlier (dynamic d) = Option.none
+    cond (not (left_out d.kind) && (relative x && not (among x earlier))) (Some x) None
+late_in earlier (dynamic d) = None
 
 -- entry j of module i is late, or what is behind it is answered
 abbrev pub late_at : ℕ → ℕ → Option (List ℕ) → Answer → Answer
-late_at i j (Option.some x) behind = not_in_order i j x
-late_at i j Option.none behind = behind
+late_at i j (Some x) behind = not_in_order i j x
+late_at i j None behind = behind
 
 -- the first entry of module i that is late, from entry j on; what is behind them if none is
 unfoldable pub entries_in_turn : List (List ℕ) → ℕ → ℕ → List DependencyDescriptor → Answer → Answer

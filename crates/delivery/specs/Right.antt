@@ -4,7 +4,7 @@ use mathlib.Core.List.{List, ◌∷◌, ◌++◌, map, Memᴰ}
 use Rattle.laws.specs.Codec.{All}
 use Rattle.laws.specs.Ordered.{Ordered}
 use Rattle.report.specs.ModuleInfo.{DependencyDescriptor}
-use Rattle.delivery.specs.Refusals as refusals
+use Rattle.wire.specs.Refusals as refusals
 use Rattle.delivery.specs.Delivery.{Module, DeliveryOf}
 use Rattle.delivery.specs.Asks.{Asks}
 use Rattle.delivery.specs.Order.{Answer, in_order, not_in_order, refused, entries_of, number_of}

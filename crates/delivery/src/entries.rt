@@ -1,5 +1,5 @@
 // The entries of a module, judged in the report of its sheet.
-ghost use Rattle.std.specs.Prelude.{◌≡◌, not, ◌&&◌, List, ℕ};
+ghost use Rattle.std.specs.Prelude.{◌≡◌, not, ◌&&◌, List, ℕ, IfSome};
 ghost use Rattle.laws.specs.code.Told.{Bounded};
 ghost use Rattle.report.specs.ModuleInfo.{ModuleInfo};
 ghost use Rattle.report.specs.Encode.{encode};
@@ -14,57 +14,42 @@ ghost use Rattle.delivery.specs.code.Views.{Modules, JudgesEntry, late_as, LateI
 use super::modules::is_name;
 use report::names::StaticDependencyKind;
 use report_reader::dependencies::{DependencyRead, read_dependency};
-use report_reader::fields::read_number;
+use report_reader::fields::{TextRead, read_number};
 use text::bytes::starts_with;
 
-// Is an entry late? If so, where its specifier begins and ends; and the place behind it.
+// The specifier of an entry that is late, if it is; and the place behind the entry.
 #[derive(Clone, Copy)]
 pub struct Entry {
-    pub late: bool,
-    pub from: usize,
-    pub to: usize,
+    pub late: Option<TextRead>,
     pub next: usize,
 }
 
-// The first entry that is late, and where its specifier begins and ends; or there is none.
+// An entry that is late, and its specifier.
 #[derive(Clone, Copy)]
-pub enum Late {
-    At {
-        entry: usize,
-        from: usize,
-        to: usize,
-    },
-    Nothing,
+pub struct Late {
+    pub entry: usize,
+    pub specifier: TextRead,
 }
 
 // Is a static kind left out?
 fn is_left_out(kind: StaticDependencyKind) -> bool
     ensures { result ≡ left_out kind }
 {
-    match kind {
-        StaticDependencyKind::Import => false,
-        StaticDependencyKind::ImportDefer => false,
-        StaticDependencyKind::ImportSource => false,
-        StaticDependencyKind::ImportType => true,
-        StaticDependencyKind::ImportEquals => false,
-        StaticDependencyKind::Export => false,
-        StaticDependencyKind::ExportType => true,
-        StaticDependencyKind::ExportEquals => false,
-        StaticDependencyKind::MaybeTsModuleAugmentation => true,
-    }
+    matches!(
+        kind,
+        StaticDependencyKind::ImportType
+            | StaticDependencyKind::ExportType
+            | StaticDependencyKind::MaybeTsModuleAugmentation
+    )
 }
 
 // Does a specifier start with `./`, `../` or `/`?
 fn is_relative(specifier: &[u8]) -> bool
     ensures { result ≡ relative specifier.now }
 {
-    if starts_with(specifier, 0, b"./") {
-        return true;
-    }
-    if starts_with(specifier, 0, b"../") {
-        return true;
-    }
-    starts_with(specifier, 0, b"/")
+    starts_with(specifier, 0, b"./")
+        || starts_with(specifier, 0, b"../")
+        || starts_with(specifier, 0, b"/")
 }
 
 // Is a static entry judged, and its specifier no name of the first modules, so many?
@@ -78,13 +63,7 @@ fn is_late(
     ensures { (ms : List Module) (t : List ℕ) → Modules delivery.now first earlier ms t
         → result ≡ not (left_out kind) && (relative specifier.now && not (among specifier.now (names_of ms))) }
 {
-    if is_left_out(kind) {
-        return false;
-    }
-    if is_relative(specifier) {
-        return !is_name(delivery, first, earlier, specifier);
-    }
-    false
+    !is_left_out(kind) && is_relative(specifier) && !is_name(delivery, first, earlier, specifier)
 }
 
 fn judge_entry(report: &[u8], at: usize, delivery: &[u8], first: usize, earlier: usize) -> Entry
@@ -92,7 +71,7 @@ fn judge_entry(report: &[u8], at: usize, delivery: &[u8], first: usize, earlier:
         ((ms : List Module) (t : List ℕ)
         → Modules delivery.now first earlier ms t
         → JudgesEntry (names_of ms) report.now at result)
-        (Inside report.now result.from result.to) }
+        (IfSome result.late (λ text. Inside report.now text.from text.to)) }
 {
     match read_dependency(report, at) {
         DependencyRead::Static {
@@ -101,25 +80,19 @@ fn judge_entry(report: &[u8], at: usize, delivery: &[u8], first: usize, earlier:
             to,
             next,
         } => {
-            let late = is_late(kind, &report[from..to], delivery, first, earlier);
-            Entry {
-                late,
-                from,
-                to,
-                next,
-            }
+            let late = if is_late(kind, &report[from..to], delivery, first, earlier) {
+                Some(TextRead { from, to })
+            } else {
+                None
+            };
+            Entry { late, next }
         }
-        DependencyRead::Dynamic { next } => Entry {
-            late: false,
-            from: 0,
-            to: 0,
-            next,
-        },
+        DependencyRead::Dynamic { next } => Entry { late: None, next },
     }
 }
 
 // The first entry in a report that is late behind the first modules, so many.
-pub fn late_entry(report: &[u8], delivery: &[u8], first: usize, earlier: usize) -> Late
+pub fn late_entry(report: &[u8], delivery: &[u8], first: usize, earlier: usize) -> Option<Late>
     ensures { Bounded
         ((ms : List Module) (t : List ℕ)
         → Modules delivery.now first earlier ms t
@@ -133,18 +106,15 @@ pub fn late_entry(report: &[u8], delivery: &[u8], first: usize, earlier: usize) 
     let is_script = read_number(report, 0);
     let count = read_number(report, is_script.next);
     let mut at = count.next;
-    let mut i = 0;
-    while i < count.value {
-        let entry = judge_entry(report, at, delivery, first, earlier);
-        if entry.late {
-            return Late::At {
+    for i in 0..count.value {
+        let judged = judge_entry(report, at, delivery, first, earlier);
+        if let Some(specifier) = judged.late {
+            return Some(Late {
                 entry: i,
-                from: entry.from,
-                to: entry.to,
-            };
+                specifier,
+            });
         }
-        at = entry.next;
-        i += 1;
+        at = judged.next;
     }
-    Late::Nothing
+    None
 }

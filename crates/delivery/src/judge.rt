@@ -6,40 +6,41 @@ ghost use Rattle.laws.specs.code.Told.{Bounded, Leaving, Lent, Told};
 ghost use Rattle.delivery.specs.Delivery.{Module};
 ghost use Rattle.delivery.specs.Order.{Answer, entries_of, number_of, entries_in_turn, sheets_in_turn, modules_in_turn, order_of};
 ghost use Rattle.delivery.specs.Right.{Reported, names_of};
-ghost use Rattle.delivery.specs.code.Views.{Modules, late_as, LateInside, sheets_as, judgement_as, JudgementInside};
+ghost use Rattle.delivery.specs.code.Views.{Modules, late_as, LateInside, late_module_as, LateModuleInside, sheets_as, judgement_as, JudgementInside};
 
-use super::check::{Checked, check_delivery};
+use super::check::check_delivery;
 use super::entries::{Late, late_entry};
 use super::modules::{has_name_twice, read_module};
-use super::refusals;
 use module_info::module_info;
-use report::writer::Outcome;
+use report_reader::fields::TextRead;
+use wire::refusals::Refusal;
 
-// The answer. A specifier that is late stands in the work buffer, from one place to the other.
-#[derive(Clone, Copy)]
-pub enum Judgement {
-    InOrder,
-    NotInOrder {
-        module: usize,
-        entry: usize,
-        from: usize,
-        to: usize,
-    },
-    Refused {
-        number: u8,
-        module: usize,
-    },
+// A refusal, and the module that it is about: the first one, where it is about the delivery.
+#[derive(Clone, Copy, Debug, PartialEq, Eq)]
+pub struct Refused {
+    pub refusal: Refusal,
+    pub module: usize,
 }
 
-// The first refused sheet; or each gets its report.
+// The first entry that is late, and its module. Its specifier stands in the work buffer.
 #[derive(Clone, Copy)]
-pub enum Sheets {
-    Refused { number: u8, module: usize },
-    Reported,
+pub struct LateModule {
+    pub module: usize,
+    pub late: Late,
 }
 
-// The first refused sheet of so many modules.
-fn judge_sheets(delivery: &[u8], first: usize, count: usize, work: &mut [u8]) -> Sheets
+// The answer: the first entry that is late, or none where all is in order; or a refusal.
+pub type Judgement = Result<Option<LateModule>, Refused>;
+
+// A refusal of the delivery.
+fn of_delivery(refusal: Refusal) -> Refused
+    ensures { result ≡ record { refusal = refusal; «module» = 0 } }
+{
+    Refused { refusal, module: 0 }
+}
+
+// The first refused sheet of so many modules, if not each gets its report.
+fn judge_sheets(delivery: &[u8], first: usize, count: usize, work: &mut [u8]) -> Result<(), Refused>
     ensures { Leaving
         ((ms : List Module) (t : List ℕ)
         → Modules delivery.now first count ms t
@@ -48,18 +49,16 @@ fn judge_sheets(delivery: &[u8], first: usize, count: usize, work: &mut [u8]) ->
         (Free work.old work.new) }
 {
     let mut at = first;
-    let mut i = 0;
-    while i < count {
+    for i in 0..count {
         let module = read_module(delivery, at);
         let from = module.sheet_from;
         let to = module.sheet_to;
-        if let Outcome::Refused(number) = module_info(&delivery[from..to], work) {
-            return Sheets::Refused { number, module: i };
+        if let Err(refusal) = module_info(&delivery[from..to], work) {
+            return Err(Refused { refusal, module: i });
         }
         at = to;
-        i += 1;
     }
-    Sheets::Reported
+    Ok(())
 }
 
 // The first entry that is late in the report of a sheet, which is made again. A sheet that is refused has none.
@@ -69,7 +68,7 @@ fn judge_module(
     first: usize,
     earlier: usize,
     work: &mut [u8],
-) -> Late
+) -> Option<Late>
     ensures { Lent
         ((ms : List Module) (t : List ℕ)
         → Modules delivery.now first earlier ms t
@@ -79,45 +78,30 @@ fn judge_module(
         (LateInside work.new result)
         (Free work.old work.new) }
 {
-    match module_info(sheet, work) {
-        Outcome::Refused(_) => Late::Nothing,
-        Outcome::Accepted(n) => late_entry(&work[..n], delivery, first, earlier),
-    }
+    let n = module_info(sheet, work).ok()?;
+    late_entry(&work[..n], delivery, first, earlier)
 }
 
 // The first entry that is late in so many modules, whose sheets all get their reports.
-fn judge_order(delivery: &[u8], first: usize, count: usize, work: &mut [u8]) -> Judgement
+fn judge_order(delivery: &[u8], first: usize, count: usize, work: &mut [u8]) -> Option<LateModule>
     ensures { Bounded
         ((ms : List Module) (t : List ℕ)
         → Modules delivery.now first count ms t
         → All (Reported (length work.old)) ms
-        → judgement_as work.new result ≡ modules_in_turn [] 0 ms)
-        (JudgementInside work.new result) }
+        → late_module_as work.new result ≡ modules_in_turn [] 0 ms)
+        (LateModuleInside work.new result) }
 {
     let mut at = first;
-    let mut i = 0;
-    while i < count {
+    for i in 0..count {
         let module = read_module(delivery, at);
         let from = module.sheet_from;
         let to = module.sheet_to;
-        if let Late::At { entry, from, to } = judge_module(
-            &delivery[from..to],
-            delivery,
-            first,
-            i,
-            work,
-        ) {
-            return Judgement::NotInOrder {
-                module: i,
-                entry,
-                from,
-                to,
-            };
+        if let Some(late) = judge_module(&delivery[from..to], delivery, first, i, work) {
+            return Some(LateModule { module: i, late });
         }
         at = to;
-        i += 1;
     }
-    Judgement::InOrder
+    None
 }
 
 // The answer to a delivery. The work buffer has what was written last.
@@ -126,20 +110,12 @@ pub fn judge(delivery: &[u8], work: &mut [u8]) -> Judgement
         (order_of (length work.old) delivery.now)
         (JudgementInside work.new) result }
 {
-    let Checked::Modules { count, first } = check_delivery(delivery) else {
-        return Judgement::Refused {
-            number: refusals::DELIVERY,
-            module: 0,
-        };
+    let Some(modules) = check_delivery(delivery) else {
+        return Err(of_delivery(Refusal::Delivery));
     };
-    if has_name_twice(delivery, first, count) {
-        return Judgement::Refused {
-            number: refusals::NAME_TWICE,
-            module: 0,
-        };
+    if has_name_twice(delivery, modules.first, modules.count) {
+        return Err(of_delivery(Refusal::NameTwice));
     }
-    if let Sheets::Refused { number, module } = judge_sheets(delivery, first, count, work) {
-        return Judgement::Refused { number, module };
-    }
-    judge_order(delivery, first, count, work)
+    judge_sheets(delivery, modules.first, modules.count, work)?;
+    Ok(judge_order(delivery, modules.first, modules.count, work))
 }

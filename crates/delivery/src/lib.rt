@@ -5,32 +5,33 @@ pub mod check;
 pub mod entries;
 pub mod judge;
 pub mod modules;
-pub mod refusals;
 
 ghost use Rattle.std.specs.Prelude.{◌≡◌, List, ℕ, length};
-ghost use Rattle.delivery.specs.declared.LoadOrder.{LoadOrder};
-ghost use Rattle.delivery.specs.Promise.{order_as, OrderPromised, packed};
+ghost use Rattle.delivery.specs.Promise.{LoadOrder, order_as, load_order_as, OrderPromised, packed};
 ghost use Rattle.delivery.specs.code.Views.{judgement_as};
 
-use crate::judge::{Judgement, judge};
-use report::writer::refuse_all;
+use crate::judge::{Judgement, Refused, judge};
 
-// The answer to a delivery. Modules and the entries of a module are counted from 0.
-#[derive(Clone, Copy)]
-pub enum LoadOrder {
-    InOrder,
-    NotInOrder { module: usize, entry: usize },
-    Refused { number: u8, module: usize },
+// The first entry that is late, and its module, both counted from 0.
+#[derive(Clone, Copy, Debug, PartialEq, Eq)]
+pub struct NotInOrder {
+    pub module: usize,
+    pub entry: usize,
 }
+
+// The answer to a delivery: the first entry that is late, or none where all is in order; or a refusal.
+pub type LoadOrder = Result<Option<NotInOrder>, Refused>;
 
 // A judgement without the place of the specifier.
 fn order_of(judgement: Judgement) -> LoadOrder
-    ensures { (work : List ℕ) → result ≡ order_as (judgement_as work judgement) }
+    ensures { (work : List ℕ) → load_order_as result ≡ order_as (judgement_as work judgement) }
 {
-    match judgement {
-        Judgement::InOrder => LoadOrder::InOrder,
-        Judgement::NotInOrder { module, entry, .. } => LoadOrder::NotInOrder { module, entry },
-        Judgement::Refused { number, module } => LoadOrder::Refused { number, module },
+    match judgement? {
+        None => Ok(None),
+        Some(first) => Ok(Some(NotInOrder {
+            module: first.module,
+            entry: first.late.entry,
+        })),
     }
 }
 
@@ -39,7 +40,7 @@ pub fn order(delivery: &[u8], work: &mut [u8]) -> LoadOrder
     ensures { OrderPromised delivery.now (length work.old) result work.new }
 {
     let judgement = judge(delivery, work);
-    refuse_all(work, 0);
+    work.fill(0);
     order_of(judgement)
 }
 
@@ -48,11 +49,12 @@ fn pack(order: LoadOrder) -> u64
     ensures { result ≡ packed order }
 {
     match order {
-        LoadOrder::InOrder => 0,
-        LoadOrder::NotInOrder { module, entry } => {
-            255 + 256 * ((module as u64) % 256) + 65536 * ((entry as u64) % 281474976710656)
+        Ok(None) => 0,
+        Ok(Some(late)) => {
+            255 + 256 * ((late.module as u64) % 256)
+                + 65536 * ((late.entry as u64) % 281474976710656)
         }
-        LoadOrder::Refused { number, module } => number as u64 + 256 * ((module as u64) % 256),
+        Err(r) => u64::from(r.refusal.number()) + 256 * ((r.module as u64) % 256),
     }
 }
 

@@ -36,8 +36,7 @@ pub fn is_name(delivery: &[u8], first: usize, count: usize, text: &[u8]) -> bool
     ensures { (ms : List Module) (t : List ℕ) → Modules delivery.now first count ms t → result ≡ among text.now (names_of ms) }
 {
     let mut at = first;
-    let mut left = count;
-    while 0 < left {
+    for _ in 0..count {
         let module = read_module(delivery, at);
         let from = module.name_from;
         let to = module.name_to;
@@ -45,7 +44,6 @@ pub fn is_name(delivery: &[u8], first: usize, count: usize, text: &[u8]) -> bool
             return true;
         }
         at = module.sheet_to;
-        left -= 1;
     }
     false
 }
@@ -55,8 +53,7 @@ pub fn has_name_twice(delivery: &[u8], first: usize, count: usize) -> bool
     ensures { (ms : List Module) (t : List ℕ) → Modules delivery.now first count ms t → result ≡ repeated [] ms }
 {
     let mut at = first;
-    let mut i = 0;
-    while i < count {
+    for i in 0..count {
         let module = read_module(delivery, at);
         let from = module.name_from;
         let to = module.name_to;
@@ -64,7 +61,6 @@ pub fn has_name_twice(delivery: &[u8], first: usize, count: usize) -> bool
             return true;
         }
         at = module.sheet_to;
-        i += 1;
     }
     false
 }

@@ -2,8 +2,7 @@
 #![tactic(auto)]
 
 ghost use Rattle.std.specs.Prelude.{◌≡◌, length};
-ghost use Rattle.delivery.specs.declared.LoadOrder.{LoadOrder};
-ghost use Rattle.delivery.specs.Promise.{OrderPromised, packed};
+ghost use Rattle.delivery.specs.Promise.{LoadOrder, OrderPromised, packed};
 
 // The answer in one number.
 #[unsafe(no_mangle)]

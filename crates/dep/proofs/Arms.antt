@@ -44,6 +44,10 @@ no_nodes_lem : (inner : Decoder Node) (u : List ℕ) → nodes inner 0 u ≡ ok 
 unfolding nodes many
 no_nodes_lem inner u = refl
 
+-- a refusal is handed on
+pub refused_on : {A B C : Type 0} (f : B → C) (k : A → List ℕ → Decoded B) {x : Decoded A} {r : ℕ} → x ≡ no r → no r ≡ on_ok f (and_then x k)
+refused_on f k e = rw e
+
 module _ (source : List ℕ) (types : ℕ → Option SpecifierWithRange) where
   -- an argument
   pub argument_holds : (w : Written) (dots : Bool) (sp : Span) (x : Decoded Node)
@@ -209,9 +213,9 @@ module _ (source : List ℕ) (types : ℕ → Option SpecifierWithRange) where
   typed_holds w s sp q = built _ (after_node source types w) (λ p. import_type sp (quoted_of s q) p.0 p.1) (λ p. refl)
 
   -- the entry of an import, its attributes read
-  pub import_written : (w : Written) (s : List ℕ) (d : StaticDependencyDescriptor) (x : Decoded Attributes) {t : Tally} {u : List ℕ} → on_ok tally_with x ≡ ok t u
+  pub import_written : (w : Written) (s : List ℕ) (d : StaticDependencyDescriptor) {x : Decoded Attributes} {t : Tally} {u : List ℕ} → on_ok tally_with x ≡ ok t u
       → {w1 : Written} → ((a : Attributes) (t : List ℕ) → x ≡ ok a t → w1 ≡ wrote_entries w (static_of source types s d (static_attributes a)))
       → ok w1 u ≡ on_ok (after_import source types s d w) x
-  import_written w s d x {t} {u} e f =
+  import_written w s d {x = x} {u = u} e f =
       let (a, is, gives) = on_ok_ok tally_with x e in
       rw is (ap (λ w. ok w u) (f a u is))

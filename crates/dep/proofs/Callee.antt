@@ -1,14 +1,14 @@
 -- Whether a callee is the Name `require`, by its head.
+use Rattle.std.specs.Prelude.{Ok}
 use Rattle.laws.proofs.Prelude.{◌≡◌, refl, false, List, [], ◌∷◌, ℕ, ◌-◌, drop, seen}
 use types.Run.{OneOf, hit, miss}
 use denote.Enum.Declared.{tag_of}
 use Rattle.laws.specs.{Decoded.ok, Ascii.ascii}
 use Rattle.text.specs.Bytes.{same, part}
-use Rattle.wire.specs.declared.Cursor.{Cursor}
+use Rattle.wire.specs.{declared.Cursor.Cursor, code.Views.Reading}
 use Rattle.sheet.specs.{declared.fields.Span.Span, Tree.Node, Tree.name, Nodes.node, Shape.shape, Shape.is_require}
-use Rattle.sheet_heads.specs.{declared.node.Head.Head, declared.node.HeadRead.HeadRead, code.Rest.rest, code.Views.head_of, code.Views.head_as}
+use Rattle.sheet_heads.specs.{declared.node.Head.Head, code.Rest.rest, code.Views.head_of, code.Views.head_as}
 use Rattle.sheet_heads.specs.declared.node.Head.TheVariants as head
-use Rattle.sheet_heads.specs.declared.node.HeadRead.TheVariants as head_read
 use Rattle.sheet_heads.specs.code.Head as heads
 use Rattle.sheet_heads.specs.contracts.node.Head.{the_type}
 use Rattle.sheet_heads.proofs.{ByHead.behind_head, Shapes.shape_by_head}
@@ -37,8 +37,8 @@ besides_name (head.ImportRequire a b c) h = hit others 14 tt
 besides_name (head.Module a) h = hit others 15 tt
 besides_name (head.NamedModule a b) h = hit others 16 tt
 
-module _ (s source : List ℕ) (at levels : ℕ) {r : HeadRead} {sp : Span} {x : Head} {next : Cursor} {n : Node} {t : List ℕ}
-    (says : head_as s r ≡ heads.head source levels (drop at s)) (is : r ≡ head_read.Is sp x next) (whole : node source levels (drop at s) ≡ ok n t) where
+module _ (s source : List ℕ) (at levels : ℕ) {r : Reading (Span × Head)} {sp : Span} {x : Head} {next : Cursor} {n : Node} {t : List ℕ}
+    (says : head_as s r ≡ heads.head source levels (drop at s)) (is : r ≡ Ok ((sp, x), next)) (whole : node source levels (drop at s) ≡ ok n t) where
   follows : rest source (levels - 1) (sp, head_of s x) (drop next.at s) ≡ ok n t
   follows = behind_head source levels (drop at s) whole (seen (head_as s) says is)
 

@@ -1,5 +1,6 @@
 -- The entries of small trees in an empty source, as the definitions compute: which nodes give one, its kind and its text, and their order.
-use Rattle.laws.proofs.Prelude.{◌≡◌, refl, true, false, List, [], ◌∷◌, map, Option, ℕ}
+use Rattle.std.specs.Prelude.{Some, None}
+use Rattle.laws.proofs.Prelude.{◌≡◌, refl, true, false, List, [], ◌∷◌, map, ℕ}
 use Rattle.laws.specs.Ascii.{ascii}
 use Rattle.text.specs.{Bytes.begins, Bytes.same, Utf8.admits, Lossy.replacing}
 use Rattle.sheet.specs.declared.fields.Span.{Span}
@@ -36,7 +37,7 @@ abbrev one : Node → Nodes
 one n = more n none
 
 abbrev declaring : List ℕ → Node
-declaring x = module_decl at (Option.some (quoted x)) none
+declaring x = module_decl at (Some (quoted x)) none
 
 -- kind and text of an entry; an argument that is no single text shows as `?`
 abbrev shown : DynamicArgument → List ℕ
@@ -81,7 +82,7 @@ kinds =
     ∷ (import_call at Evaluation no_arguments none, [])
     ∷ (named_export at false, [])
     ∷ (import_equals at, [])
-    ∷ (module_decl at Option.none none, [])
+    ∷ (module_decl at None none, [])
     ∷ (declaring (ascii "*.css"), [])
     ∷ (declaring (ascii "../*"), (Static statics.MaybeTsModuleAugmentation, ascii "../*") ∷ [])
     ∷ []
@@ -103,14 +104,14 @@ orders =
       import_type at (quoted a) (one (importing b)) (with_object at (name_key a (importing c) no_properties)),
       (Static statics.ImportType, a) ∷ (Dynamic dynamics.Import, b) ∷ (Dynamic dynamics.Import, c) ∷ [],
     )
-    ∷ (module_decl at (Option.some (quoted a)) (one (importing b)), (Static statics.MaybeTsModuleAugmentation, a) ∷ (Dynamic dynamics.Import, b) ∷ [])
-    ∷ (module_decl at (Option.some (quoted (ascii "*"))) (one (importing b)), (Dynamic dynamics.Import, b) ∷ [])
+    ∷ (module_decl at (Some (quoted a)) (one (importing b)), (Static statics.MaybeTsModuleAugmentation, a) ∷ (Dynamic dynamics.Import, b) ∷ [])
+    ∷ (module_decl at (Some (quoted (ascii "*"))) (one (importing b)), (Dynamic dynamics.Import, b) ∷ [])
     ∷ (object at (child_key (importing a) (importing b) no_properties), (Dynamic dynamics.Import, a) ∷ (Dynamic dynamics.Import, b) ∷ [])
     ∷ (other at (more (importing a) (one (importing b))), (Dynamic dynamics.Import, a) ∷ (Dynamic dynamics.Import, b) ∷ [])
     ∷ []
 
 abbrev computed : Node × List (DependencyKind × List ℕ) → Node × List (DependencyKind × List ℕ)
-computed (n, l) = (n, map entry (collect [] (λ start. Option.none) n))
+computed (n, l) = (n, map entry (collect [] (λ start. None) n))
 
 kinds_as_stated : map computed kinds ≡ kinds
 unfolding begins same admits replacing chain argument_of static_entry call_entry module_entry collector

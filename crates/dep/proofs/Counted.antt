@@ -1,4 +1,5 @@
 -- There are as many dependencies as the check of the tree counts.
+use Rattle.std.specs.Prelude.{Some, None}
 use Rattle.laws.proofs.Prelude.{◌≡◌, refl, sym, ap, ◌∙◌, Bool, true, false, cond, ◌&&◌, List, [], ◌∷◌, ◌++◌, map, flat_map, Option, ℕ, arith, length}
 use Rattle.laws.proofs.Prelude.{length-append}
 use mathlib.Core.List.{map-append}
@@ -34,8 +35,8 @@ module _ (source : List ℕ) (types : ℕ → Option SpecifierWithRange) where
 
   module_one : (sp : Span) (x : Option Quoted) → length (module_entry source types sp x) ≡ one (declares x)
   unfolding module_entry
-  module_one sp Option.none = refl
-  module_one sp (Option.some x) = go (is_augmentation x.text)
+  module_one sp None = refl
+  module_one sp (Some x) = go (is_augmentation x.text)
     where
       go : (b : Bool) → length (cond b (static_entry source types statics.MaybeTsModuleAugmentation sp x false info.none ∷ []) []) ≡ one b
       go true = refl

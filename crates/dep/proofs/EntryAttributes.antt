@@ -1,4 +1,5 @@
 -- The attributes of each entry are those that its node's properties should give.
+use Rattle.std.specs.Prelude.{Some, None}
 use Rattle.laws.proofs.Prelude.{◌≡◌, refl, Bool, true, false, cond, List, [], ◌∷◌, Option, ℕ}
 use Rattle.laws.specs.Codec.{All}
 use Rattle.sheet.specs.Tree.{no_arguments, argument}
@@ -28,8 +29,8 @@ module _ (source : List ℕ) (types : ℕ → Option SpecifierWithRange) where
   each_right (exported sp type_only x a) = (static_right a, tt)
   each_right (typed sp x a) = (type_right a, tt)
   each_right (required sp type_only export x) = (refl, tt)
-  each_right (declared sp Option.none) = tt
-  each_right (declared sp (Option.some x)) = all_if _ (is_augmentation x.text)
+  each_right (declared sp None) = tt
+  each_right (declared sp (Some x)) = all_if _ (is_augmentation x.text)
       (static_entry source types statics.MaybeTsModuleAugmentation sp x false none ∷ []) (refl, tt)
 
   pub attributes_right : (v : Visit) {d : DependencyDescriptor} → entry_of source types v ≡ d ∷ [] → Attributed v (attributes_of d)

@@ -1,4 +1,5 @@
 -- The span of a head's String is one of the source.
+use Rattle.std.specs.Prelude.{Some, None}
 use Rattle.laws.proofs.Prelude.{◌≡◌, Bool, List, Option, ℕ, ◌-◌, eqb, ltb}
 use Rattle.laws.specs.{Codec.IfThere, Decoded.ok}
 use Rattle.laws.proofs.Answers.{Yields, done, next, ends, behind, with, changed, either, at_index, anything}
@@ -19,8 +20,8 @@ module _ (source : List ℕ) where
   QuotedWithin x = InSource source x.span
 
   optional_spanned : (x : Option Quoted) (n : ℕ) → IfThere QuotedWithin x → Spanned source (module_head x n)
-  optional_spanned Option.none n h = tt
-  optional_spanned (Option.some x) n h = h
+  optional_spanned None n h = tt
+  optional_spanned (Some x) n h = h
 
   module _ (levels : ℕ) where
     quoted_within : Yields QuotedWithin (quoted source levels)
@@ -29,7 +30,7 @@ module _ (source : List ℕ) where
 
     optional_within : Yields (IfThere QuotedWithin) (optional (quoted source levels))
     unfolding optional
-    optional_within = behind flag λ there. either there (changed (λ q. Option.some q) quoted_within (λ q h. h)) (ends tt)
+    optional_within = behind flag λ there. either there (changed (λ q. Some q) quoted_within (λ q h. h)) (ends tt)
 
     specifier_within : Yields (λ (p : Quoted × Bool). QuotedWithin p.0) (specifier_start source levels)
     unfolding specifier_start

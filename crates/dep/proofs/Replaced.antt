@@ -1,4 +1,5 @@
 -- The number beside a dependency is that of the surrogates of its one text.
+use Rattle.std.specs.Prelude.{Some, None}
 use Rattle.laws.proofs.Prelude.{◌≡◌, refl, sym, ◌∙◌, Bool, true, false, List, [], ◌∷◌, Option, ℕ, arith, eq-eqb}
 use Rattle.laws.specs.Codec.{All}
 use Rattle.text.{specs.Utf8.admits, specs.Utf8.surrogate, proofs.Replaced.exact_lossy, proofs.Reported.lossy_of}
@@ -35,15 +36,15 @@ replaces x = record { count = λ points t. (lossy_of t).count; exact = (λ z. ex
 
 -- an argument is one text exactly where it has a single text
 one_text : (s : Shape) (parts : Option (List DynamicTemplatePart)) {y : List ℕ} → of_shape s parts ≡ string y →
-    (x : List ℕ) × (single_text s ≡ Option.some x) × (lossy x ≡ y)
+    (x : List ℕ) × (single_text s ≡ Some x) × (lossy x ≡ y)
 one_text (text x) parts {y} e = let same : lossy x ≡ y = cc in (x, refl, same)
 one_text (named x) parts e = let z : ◌≡◌ {A = ℕ} 0 1 = cc in absurd (omega arith)
 one_text (pieces []) parts e = let z : ◌≡◌ {A = ℕ} 0 1 = cc in absurd (omega arith)
-one_text (pieces (Option.none ∷ [])) parts e = let z : ◌≡◌ {A = ℕ} 0 1 = cc in absurd (omega arith)
-one_text (pieces (Option.some x ∷ [])) parts {y} e = let same : lossy x ≡ y = cc in (x, refl, same)
+one_text (pieces (None ∷ [])) parts e = let z : ◌≡◌ {A = ℕ} 0 1 = cc in absurd (omega arith)
+one_text (pieces (Some x ∷ [])) parts {y} e = let same : lossy x ≡ y = cc in (x, refl, same)
 one_text (pieces (p ∷ q ∷ ps)) parts e = let z : ◌≡◌ {A = ℕ} 0 1 = cc in absurd (omega arith)
-one_text (operation plus l r) Option.none e = let z : ◌≡◌ {A = ℕ} 0 1 = cc in absurd (omega arith)
-one_text (operation plus l r) (Option.some l') e = let z : ◌≡◌ {A = ℕ} 0 1 = cc in absurd (omega arith)
+one_text (operation plus l r) None e = let z : ◌≡◌ {A = ℕ} 0 1 = cc in absurd (omega arith)
+one_text (operation plus l r) (Some l') e = let z : ◌≡◌ {A = ℕ} 0 1 = cc in absurd (omega arith)
 one_text (properties ps) parts e = let z : ◌≡◌ {A = ℕ} 0 1 = cc in absurd (omega arith)
 one_text anything parts e = let z : ◌≡◌ {A = ℕ} 0 1 = cc in absurd (omega arith)
 
@@ -51,14 +52,14 @@ no_text : (s : Shape) (parts : Option (List DynamicTemplatePart)) → ((y : List
 no_text (text x) parts f = absurd (f (lossy x) refl)
 no_text (named x) parts f = refl
 no_text (pieces []) parts f = refl
-no_text (pieces (Option.none ∷ [])) parts f = refl
-no_text (pieces (Option.some x ∷ [])) parts f = absurd (f (lossy x) refl)
+no_text (pieces (None ∷ [])) parts f = refl
+no_text (pieces (Some x ∷ [])) parts f = absurd (f (lossy x) refl)
 no_text (pieces (p ∷ q ∷ ps)) parts f = refl
 no_text (operation plus l r) parts f = refl
 no_text (properties ps) parts f = refl
 no_text anything parts f = refl
 
-static_number_lem : {v : Visit} (x : List ℕ) {d : StaticDependencyDescriptor} → text_of v ≡ Option.some x → d.specifier.text ≡ lossy x →
+static_number_lem : {v : Visit} (x : List ℕ) {d : StaticDependencyDescriptor} → text_of v ≡ Some x → d.specifier.text ≡ lossy x →
     NumberOf v (static d) (replaced x)
 static_number_lem x is reported = record { one = λ y e. (x, is, rw (← e, reported) (replaces x)); none = λ f. absurd (f _ refl) }
 
@@ -70,8 +71,8 @@ dynamic_number_lem {v} n {d} is reported = record {
   none = λ f. no_text (shape n) (chain n) (λ y e. f y (reported ∙ e));
 }
   where
-    by_text : {y : List ℕ} → (x : List ℕ) × (single_text (shape n) ≡ Option.some x) × (lossy x ≡ y)
-        → (x : List ℕ) × (text_of v ≡ Option.some x) × Replaces x y (replaced_in (single_text (shape n)))
+    by_text : {y : List ℕ} → (x : List ℕ) × (single_text (shape n) ≡ Some x) × (lossy x ≡ y)
+        → (x : List ℕ) × (text_of v ≡ Some x) × Replaces x y (replaced_in (single_text (shape n)))
     by_text (x, single, same) = (x, is ∙ single, rw (single, ← same) (replaces x))
 
 module _ (source : List ℕ) (types : ℕ → Option SpecifierWithRange) where
@@ -86,8 +87,8 @@ module _ (source : List ℕ) (types : ℕ → Option SpecifierWithRange) where
   each_number (exported sp type_only x a) = (static_number_lem x.text refl refl, tt)
   each_number (typed sp x a) = (static_number_lem x.text refl refl, tt)
   each_number (required sp type_only export x) = (static_number_lem x.text refl refl, tt)
-  each_number (declared sp Option.none) = tt
-  each_number (declared sp (Option.some x)) = all_if _ (is_augmentation x.text)
+  each_number (declared sp None) = tt
+  each_number (declared sp (Some x)) = all_if _ (is_augmentation x.text)
       (static_entry source types statics.MaybeTsModuleAugmentation sp x false none ∷ []) (static_number_lem x.text refl refl, tt)
 
   pub number_right : (v : Visit) {d : DependencyDescriptor} → entry_of source types v ≡ d ∷ [] → NumberOf v d (replaced_in (text_of v))

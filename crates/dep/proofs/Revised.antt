@@ -1,5 +1,6 @@
 -- The dependencies of a tree are the entries of its visits, one after the other; the entry of a visit goes by the range that it reports and the types at its
 -- start, and the rows beside them by the tree alone.
+use Rattle.std.specs.Prelude.{Some, None}
 use Rattle.laws.proofs.Prelude.{◌≡◌, refl, sym, ap, ◌∙◌, cond, List, [], ◌∷◌, append-nil, flat_map, Option, ℕ, arith, length}
 use Rattle.laws.proofs.Lists.{flat_map_append}
 use Rattle.sheet.{specs.declared.fields.Span.Span, specs.Shape.shape, specs.Shape.is_require, proofs.VisitSpans.OfFirst, proofs.VisitSpans.Reported}
@@ -48,8 +49,8 @@ module _ (s r : List ℕ) (types types' : ℕ → Option SpecifierWithRange) whe
   entry_kept (exported sp type_only x a) h e = rw (h, e)
   entry_kept (typed sp x a) h e = rw (h, e)
   entry_kept (required sp type_only export x) h e = rw (h, e)
-  entry_kept (declared sp Option.none) h e = refl
-  entry_kept (declared sp (Option.some x)) h e = rw (h, e)
+  entry_kept (declared sp None) h e = refl
+  entry_kept (declared sp (Some x)) h e = rw (h, e)
 
   -- the rows go by the tree alone
   pub rows_kept : (n : Node) → numbers_of (collect_noted s types n) ≡ numbers_of (collect_noted r types' n)

@@ -1,4 +1,5 @@
 -- The dependencies of a tree come from the visits in turn, each the entry of its visit.
+use Rattle.std.specs.Prelude.{Some, None}
 use Rattle.laws.proofs.Prelude.{◌≡◌, refl, Bool, true, false, cond, ◌&&◌, List, [], ◌∷◌, ◌++◌, Memᴰ, Memᴰ_head, Memᴰ_tail, Memᴰ_not_nil}
 use Rattle.laws.proofs.Prelude.{Memᴰ_cases_cons, ⊎_elim, Option, ℕ, ◌≤◌, arith, length}
 use mathlib.Core.Bool.{and-false}
@@ -68,10 +69,10 @@ module _ (source : List ℕ) (types : ℕ → Option SpecifierWithRange) (P : Vi
   call_turn sp e false is xs = let g : is_require (shape e) && any_argument xs ≡ false = rw is in passed g nothing
 
   module_turn : (sp : Span) (x : Quoted) (b : Bool) → is_augmentation x.text ≡ b
-      → InTurn P (declared sp (Option.some x) ∷ []) (cond b (static_entry source types statics.MaybeTsModuleAugmentation sp x false info.none ∷ []) [])
+      → InTurn P (declared sp (Some x) ∷ []) (cond b (static_entry source types statics.MaybeTsModuleAugmentation sp x false info.none ∷ []) [])
   unfolding static_entry module_entry
   module_turn sp x true is =
-      let v = declared sp (Option.some x) in
+      let v = declared sp (Some x) in
       let i : entry_of source types v ≡ static_entry source types statics.MaybeTsModuleAugmentation sp x false info.none ∷ [] = rw is in
       entry is (holds v _ i refl) nothing
   module_turn sp x false is = passed is nothing
@@ -85,8 +86,8 @@ module _ (source : List ℕ) (types : ℕ → Option SpecifierWithRange) (P : Vi
   own_turn (exported sp type_only x a) = entry refl (holds _ _ refl refl) nothing
   own_turn (typed sp x a) = entry refl (holds _ _ refl refl) nothing
   own_turn (required sp type_only export x) = entry refl (holds _ _ refl refl) nothing
-  own_turn (declared sp Option.none) = passed refl nothing
-  own_turn (declared sp (Option.some x)) = module_turn sp x (is_augmentation x.text) refl
+  own_turn (declared sp None) = passed refl nothing
+  own_turn (declared sp (Some x)) = module_turn sp x (is_augmentation x.text) refl
 
   pub collect_turns : (n : Node) → InTurn P (visits n) (collect source types n)
   unfolding collector

@@ -1,7 +1,7 @@
 -- The dependencies of a tree: `DependencyCollector` of src/ast/dep.rs, entry by entry. Their order is that of the walk.
 use Rattle.std.specs.Prelude.{false, cond, ℕ}
 use mathlib.Core.List.{List, [], ◌∷◌, ◌++◌, map, flat_map}
-use Rattle.std.proofs.Math.Option.{Option}
+use Rattle.std.specs.Prelude.{Option, Some}
 use Rattle.sheet.specs.Tree.{Node}
 use Rattle.sheet.specs.Shape.{shape, is_require}
 use Rattle.sheet.specs.Walk.{Visit, called, importing, expression, imported, exported, typed, required, declared, start_of, Collector, walk}
@@ -16,10 +16,10 @@ use Rattle.dep_entries.specs.Entries.{import_kind, export_kind, equals_kind, dyn
 -- the text of a visit's entry as the sheet has it, in WTF-8: that of its String, or the single one of its argument
 abbrev pub text_of : Visit → Option (List ℕ)
 text_of (called sp e xs) = first_text xs
-text_of (imported sp type_only phase side_effect x a) = Option.some x.text
-text_of (exported sp type_only x a) = Option.some x.text
-text_of (typed sp x a) = Option.some x.text
-text_of (required sp type_only export x) = Option.some x.text
+text_of (imported sp type_only phase side_effect x a) = Some x.text
+text_of (exported sp type_only x a) = Some x.text
+text_of (typed sp x a) = Some x.text
+text_of (required sp type_only export x) = Some x.text
 text_of (declared sp x) = text_in x
 
 -- a row of two numbers for each

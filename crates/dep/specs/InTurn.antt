@@ -1,6 +1,6 @@
 -- The dependencies of a tree beside the visits that give them: one to one, and in their order.
 use Rattle.std.specs.Prelude.{◌≡◌, true, false, List, [], ◌∷◌, ℕ}
-use Rattle.std.proofs.Math.Option.{Option}
+use Rattle.std.specs.Prelude.{None, Some}
 use Rattle.sheet.specs.Tree.{Quoted, no_arguments, argument}
 use Rattle.sheet.specs.Shape.{Shape, text, named, pieces, operation, properties, anything, shape}
 use Rattle.sheet.specs.Walk.{Visit, called, imported, exported, typed, required, declared, start_of}
@@ -65,8 +65,8 @@ Worded source (imported sp type_only phase side_effect x o) = Specifies source x
 Worded source (exported sp type_only x o) = Specifies source x
 Worded source (typed sp x o) = Specifies source x
 Worded source (required sp type_only export x) = Specifies source x
-Worded source (declared sp Option.none) = λ d. Unit {0}
-Worded source (declared sp (Option.some x)) = Specifies source x
+Worded source (declared sp None) = λ d. Unit {0}
+Worded source (declared sp (Some x)) = Specifies source x
 
 -- a dependency is the entry of a visit, with the types that the comments before its node give, its attributes, its text and a static one's place
 pub record EntryOf (t : Sheet) (v : Visit) (d : DependencyDescriptor) : Type 0 where

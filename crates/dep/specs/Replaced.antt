@@ -1,6 +1,6 @@
 -- What is noted beside a dependency: where its node starts, and how many surrogates were replaced in its text.
 use Rattle.std.specs.Prelude.{◌≡◌, List, ◌↔◌, ℕ}
-use Rattle.std.proofs.Math.Option.{Option}
+use Rattle.std.specs.Prelude.{Some}
 use Rattle.text.specs.declared.utf8.Encoding.TheVariants.{Wtf8}
 use Rattle.text.specs.WellFormed.{TextOf}
 use Rattle.text.specs.Lossy.{surrogates_among}
@@ -23,7 +23,7 @@ pub record Replaces (x y : List ℕ) (number : ℕ) : Type 0 where
 
 -- the number beside the dependency of a visit: that of its one text, or 0 where it has none
 pub record NumberOf (v : Visit) (d : DependencyDescriptor) (number : ℕ) : Type 0 where
-  pub one : (y : List ℕ) → Shows d y → (x : List ℕ) × (text_of v ≡ Option.some x) × Replaces x y number
+  pub one : (y : List ℕ) → Shows d y → (x : List ℕ) × (text_of v ≡ Some x) × Replaces x y number
   pub none : ((y : List ℕ) → Shows d y → ⊥) → number ≡ 0
 
 -- a dependency beside its visit: where the visit's node starts, and that number

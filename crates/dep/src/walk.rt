@@ -3,7 +3,7 @@
 // how many comments and groups there are, cursor is in the sheet, and place in the buffer. notes takes for each entry how many characters
 // were replaced in its text.
 ghost use Rattle.std.specs.Prelude.{◌≡◌, List, ℕ, ◌≤◌, length, drop};
-ghost use Rattle.std.proofs.Math.Option.{Option};
+ghost use Rattle.std.specs.Prelude.{Some};
 ghost use Rattle.laws.specs.Decoded.{ok, on_ok};
 ghost use Rattle.laws.specs.code.Left.{Free};
 ghost use Rattle.laws.specs.code.Told.{Leaving, Told};
@@ -26,30 +26,22 @@ ghost use Rattle.dep.specs.code.Walk.{after_node, after_nodes, after_argument, a
 ghost use Rattle.dep.specs.code.Walk.{after_import, after_call};
 
 use dep_entries::{
-    CallHead, Counts, StaticDependencyDescriptor, call_head, dynamic_kind, equals_kind,
-    export_kind, import_kind, put_call_entry, put_module_entry, put_plain_entry, put_with_entry,
+    CallHead, Counts, StaticDependencyDescriptor, dynamic_kind, equals_kind, export_kind,
+    import_kind, put_call_entry, put_module_entry, put_plain_entry, put_with_entry,
 };
 use report::names::{DynamicDependencyKind, StaticDependencyKind};
 use report::writer::Pen;
 use sheet::fields::Span;
 use sheet::limits::{DEPTH_LIMIT, TABLE_NUMBERS};
 use sheet::names::ImportPhase;
-use sheet_heads::node::{Head, HeadRead, read_head};
-use sheet_heads::parts::{
-    ArgumentRead, AttributesRead, PropertyRead, nodes_of, read_argument, read_attributes,
-    read_pieces, read_property,
-};
+use sheet_heads::node::{Head, read_head};
+use sheet_heads::parts::{nodes_of, read_argument, read_attributes, read_pieces, read_property};
 use sheet_heads::quoted::Quoted;
 use sheet_nodes::check::{check_attributes, check_nodes};
-use sheet_nodes::tally::Tallied;
-use wire::{Cursor, Flag, Read};
+use wire::{Cursor, Reading};
 
-// The next place in the buffer, with the cursor past what was walked, or a refusal's number.
-#[derive(Clone, Copy)]
-pub enum Walked {
-    Is(Pen, Cursor),
-    Refused(usize),
-}
+// The next place in the buffer, with the cursor past what was walked, or a refusal.
+type Walked = Reading<Pen>;
 
 // The dependencies of a tree: their number, which the check of the tree counted, and their entries, as far as it says that these reach. Where
 // the bytes are no tree with so many, the buffer and the notes are left free.
@@ -82,8 +74,8 @@ pub fn analyze_program_dependencies(
     match walk_root(
         sheet, source, root, reach, tables, counts, out, notes, place,
     ) {
-        Walked::Refused(_) => place,
-        Walked::Is(place, _) => place,
+        Ok((place, _)) => place,
+        Err(_) => place,
     }
 }
 
@@ -107,37 +99,35 @@ fn walk_root(
         (after_node source.now (types_from source.now tables.now counts)
         (written_as out.old notes.old place) n) }
 {
-    match read_head(sheet, source, root, DEPTH_LIMIT) {
-        HeadRead::Refused(r) => Walked::Refused(r),
-        HeadRead::Is { head, next, .. } => match head {
-            Head::Other(_) => {
-                walk_nodes(
-                    sheet,
-                    source,
-                    next,
-                    reach,
-                    DEPTH_LIMIT - 1,
-                    tables,
-                    counts,
-                    out,
-                    notes,
-                    place,
-                )
-            }
-            _ => {
-                walk_node(
-                    sheet,
-                    source,
-                    root,
-                    DEPTH_LIMIT,
-                    tables,
-                    counts,
-                    out,
-                    notes,
-                    place,
-                )
-            }
-        },
+    let ((_, head), next) = read_head(sheet, source, root, DEPTH_LIMIT)?;
+    match head {
+        Head::Other(_) => {
+            walk_nodes(
+                sheet,
+                source,
+                next,
+                reach,
+                DEPTH_LIMIT - 1,
+                tables,
+                counts,
+                out,
+                notes,
+                place,
+            )
+        }
+        _ => {
+            walk_node(
+                sheet,
+                source,
+                root,
+                DEPTH_LIMIT,
+                tables,
+                counts,
+                out,
+                notes,
+                place,
+            )
+        }
     }
 }
 
@@ -146,12 +136,12 @@ fn is_require(sheet: &[u8], source: &[u8], cursor: Cursor, levels: usize) -> boo
     ensures { (n : Node) (t : List ℕ) → node source.now levels (drop cursor.at sheet.now) ≡ ok n t → result
         ≡ is_require (shape n) }
 {
-    match read_head(sheet, source, cursor, levels) {
-        HeadRead::Refused(_) => false,
-        HeadRead::Is { head, .. } => match head {
-            Head::Name(start, end) => sheet_heads::texts::is_require(&sheet[start..end]),
-            _ => false,
-        },
+    let Ok(((_, head), _)) = read_head(sheet, source, cursor, levels) else {
+        return false;
+    };
+    match head {
+        Head::Name(start, end) => sheet_heads::texts::is_require(&sheet[start..end]),
+        _ => false,
     }
 }
 
@@ -184,9 +174,8 @@ fn visit_import_decl(
         ) (drop cursor.at sheet.now)))
         (PastWalked (length sheet.now)) result }
 {
-    let kind = import_kind(type_only, phase);
     let dependency = StaticDependencyDescriptor {
-        kind,
+        kind: import_kind(type_only, phase),
         span,
         specifier,
         is_side_effect,
@@ -220,9 +209,8 @@ fn visit_named_export(
         (drop cursor.at sheet.now)))
         (PastWalked (length sheet.now)) result }
 {
-    let kind = export_kind(type_only);
     let dependency = StaticDependencyDescriptor {
-        kind,
+        kind: export_kind(type_only),
         span,
         specifier,
         is_side_effect: false,
@@ -232,7 +220,8 @@ fn visit_named_export(
     )
 }
 
-// The entry of an export of all names of a module, and past its attributes.
+// The entry of an export of all names of a module, and past its attributes. As `visit_named_export`, but each promises the entry of
+// another node; what the two share is `walk_import`.
 fn visit_export_all(
     sheet: &[u8],
     source: &[u8],
@@ -256,9 +245,8 @@ fn visit_export_all(
         (drop cursor.at sheet.now)))
         (PastWalked (length sheet.now)) result }
 {
-    let kind = export_kind(type_only);
     let dependency = StaticDependencyDescriptor {
-        kind,
+        kind: export_kind(type_only),
         span,
         specifier,
         is_side_effect: false,
@@ -297,29 +285,17 @@ fn visit_ts_import_type(
         specifier,
         is_side_effect: false,
     };
-    match check_nodes(sheet, source, cursor, count, levels) {
-        Tallied::Refused(r) => Walked::Refused(r),
-        Tallied::Is(_, next) => match next.flag(sheet) {
-            Flag::Refused(r) => Walked::Refused(r),
-            Flag::Is(has_object, at) => {
-                let place = put_with_entry(
-                    sheet, source, at, has_object, levels, dependency, tables, counts, out, notes,
-                    place, true,
-                );
-                match walk_nodes(
-                    sheet, source, cursor, count, levels, tables, counts, out, notes, place,
-                ) {
-                    Walked::Refused(r) => Walked::Refused(r),
-                    Walked::Is(place, _) => {
-                        walk_attributes(
-                            sheet, source, at, has_object, levels, tables, counts, out, notes,
-                            place,
-                        )
-                    }
-                }
-            }
-        },
-    }
+    let (_, next) = check_nodes(sheet, source, cursor, count, levels)?;
+    let (has_object, at) = next.flag(sheet)?;
+    let place = put_with_entry(
+        sheet, source, at, has_object, levels, dependency, tables, counts, out, notes, place, true,
+    );
+    let (place, _) = walk_nodes(
+        sheet, source, cursor, count, levels, tables, counts, out, notes, place,
+    )?;
+    walk_attributes(
+        sheet, source, at, has_object, levels, tables, counts, out, notes, place,
+    )
 }
 
 // Behind the callee of a call: arguments and further children; then the call's entry, if it is an import or a require.
@@ -343,38 +319,22 @@ fn visit_call_expr(
         (call_rest (node source.now levels) source.now (drop cursor.at sheet.now)))
         (PastWalked (length sheet.now)) result }
 {
-    match cursor.number(sheet) {
-        Read::Refused(r) => Walked::Refused(r),
-        Read::Value(count, args) => {
-            let r = walk_arguments(
-                sheet, source, args, count, levels, tables, counts, out, notes, place,
-            );
-            match r {
-                Walked::Refused(r) => Walked::Refused(r),
-                Walked::Is(place, next) => match next.number(sheet) {
-                    Read::Refused(r) => Walked::Refused(r),
-                    Read::Value(more, next) => {
-                        let r = walk_nodes(
-                            sheet, source, next, more, levels, tables, counts, out, notes, place,
-                        );
-                        match r {
-                            Walked::Refused(r) => Walked::Refused(r),
-                            Walked::Is(place, next) => {
-                                let place = put_call_entry(
-                                    sheet, source, args, count, levels, call, tables, counts, out,
-                                    notes, place,
-                                );
-                                Walked::Is(place, next)
-                            }
-                        }
-                    }
-                },
-            }
-        }
-    }
+    let (count, args) = cursor.number(sheet)?;
+    let (place, next) = walk_arguments(
+        sheet, source, args, count, levels, tables, counts, out, notes, place,
+    )?;
+    let (more, next) = next.number(sheet)?;
+    let (place, next) = walk_nodes(
+        sheet, source, next, more, levels, tables, counts, out, notes, place,
+    )?;
+    let place = put_call_entry(
+        sheet, source, args, count, levels, call, tables, counts, out, notes, place,
+    );
+    Ok((place, next))
 }
 
 // The entry of an import-equals that names a module.
+#[tactic(auto, unfolding(crate::specs::Collect::noting))]
 fn visit_ts_import_equals_decl(
     sheet: &[u8],
     source: &[u8],
@@ -396,15 +356,14 @@ fn visit_ts_import_equals_decl(
         (drop cursor.at sheet.now))
         (PastWalked (length sheet.now)) result }
 {
-    let kind = equals_kind(type_only, export);
     let dependency = StaticDependencyDescriptor {
-        kind,
+        kind: equals_kind(type_only, export),
         span,
         specifier,
         is_side_effect: false,
     };
     let place = put_plain_entry(sheet, source, dependency, tables, counts, out, notes, place);
-    Walked::Is(place, cursor)
+    Ok((place, cursor))
 }
 
 // The entry of a module declaration with a String, if it may be an augmentation; then its children.
@@ -427,7 +386,7 @@ fn visit_ts_module_decl(
     ensures { Told (walked_as sheet.now out.new notes.new)
         (on_ok (after_node source.now (types_from source.now tables.now counts)
         (written_as out.old notes.old place))
-        (rest source.now levels (span, module_head (Option.some (quoted_of sheet.now specifier)) count)
+        (rest source.now levels (span, module_head (Some (quoted_of sheet.now specifier)) count)
         (drop cursor.at sheet.now)))
         (PastWalked (length sheet.now)) result }
 {
@@ -458,24 +417,20 @@ fn walk_node(
         (written_as out.old notes.old place)) (node source.now levels (drop cursor.at sheet.now)))
         (PastWalked (length sheet.now)) result }
 {
-    match read_head(sheet, source, cursor, levels) {
-        HeadRead::Refused(r) => Walked::Refused(r),
-        HeadRead::Is { span, head, next } => {
-            walk_rest(
-                sheet,
-                source,
-                next,
-                levels - 1,
-                span,
-                head,
-                tables,
-                counts,
-                out,
-                notes,
-                place,
-            )
-        }
-    }
+    let ((span, head), next) = read_head(sheet, source, cursor, levels)?;
+    walk_rest(
+        sheet,
+        source,
+        next,
+        levels - 1,
+        span,
+        head,
+        tables,
+        counts,
+        out,
+        notes,
+        place,
+    )
 }
 
 // What follows a head, with so many levels left below its node.
@@ -501,21 +456,20 @@ fn walk_rest(
         (PastWalked (length sheet.now)) result }
 {
     match head {
-        Head::Other(count) => {
+        Head::Other(count) | Head::Module(count) => {
             walk_nodes(
                 sheet, source, cursor, count, levels, tables, counts, out, notes, place,
             )
         }
-        Head::String(_, _) | Head::Name(_, _) | Head::NamedExport(_) | Head::ImportEquals =>
-            Walked::Is(place, cursor),
-        Head::Template(count) => match read_pieces(sheet, cursor, count + 1) {
-            Flag::Refused(r) => Walked::Refused(r),
-            Flag::Is(_, next) => {
-                walk_nodes(
-                    sheet, source, next, count, levels, tables, counts, out, notes, place,
-                )
-            }
-        },
+        Head::String(_, _) | Head::Name(_, _) | Head::NamedExport(_) | Head::ImportEquals => Ok((
+            place, cursor,
+        )),
+        Head::Template(count) => {
+            let (_, next) = read_pieces(sheet, cursor, count + 1)?;
+            walk_nodes(
+                sheet, source, next, count, levels, tables, counts, out, notes, place,
+            )
+        }
         Head::Binary(_) => {
             walk_nodes(
                 sheet, source, cursor, 2, levels, tables, counts, out, notes, place,
@@ -592,11 +546,6 @@ fn walk_rest(
                 notes, place,
             )
         }
-        Head::Module(count) => {
-            walk_nodes(
-                sheet, source, cursor, count, levels, tables, counts, out, notes, place,
-            )
-        }
         Head::NamedModule(specifier, count) => {
             visit_ts_module_decl(
                 sheet, source, cursor, count, levels, span, specifier, tables, counts, out, notes,
@@ -606,7 +555,8 @@ fn walk_rest(
     }
 }
 
-// So many nodes, one after the other.
+// So many nodes, one after the other. This loop and those over arguments and properties as one function would take closures, which in a cycle of
+// calls state their own contracts: that is longer than the loops.
 #[cycle(walk)]
 fn walk_nodes(
     sheet: &[u8],
@@ -626,22 +576,12 @@ fn walk_nodes(
         (written_as out.old notes.old place)) (nodes (node source.now levels) count (drop cursor.at sheet.now)))
         (PastWalked (length sheet.now)) result }
 {
-    let mut left = count;
     let mut at = cursor;
     let mut place = place;
-    while 0 < left {
-        match walk_node(sheet, source, at, levels, tables, counts, out, notes, place) {
-            Walked::Refused(r) => {
-                return Walked::Refused(r);
-            }
-            Walked::Is(written, next) => {
-                place = written;
-                at = next;
-                left -= 1;
-            }
-        }
+    for _ in 0..count {
+        (place, at) = walk_node(sheet, source, at, levels, tables, counts, out, notes, place)?;
     }
-    Walked::Is(place, at)
+    Ok((place, at))
 }
 
 // An argument: its node.
@@ -664,14 +604,10 @@ fn walk_argument(
         (argument_item (node source.now levels) source.now (drop cursor.at sheet.now)))
         (PastWalked (length sheet.now)) result }
 {
-    match read_argument(sheet, source, cursor) {
-        ArgumentRead::Refused(r) => Walked::Refused(r),
-        ArgumentRead::Is { next, .. } => {
-            walk_node(
-                sheet, source, next, levels, tables, counts, out, notes, place,
-            )
-        }
-    }
+    let (_, next) = read_argument(sheet, source, cursor)?;
+    walk_node(
+        sheet, source, next, levels, tables, counts, out, notes, place,
+    )
 }
 
 // So many arguments.
@@ -695,22 +631,12 @@ fn walk_arguments(
         (arguments (node source.now levels) source.now count (drop cursor.at sheet.now)))
         (PastWalked (length sheet.now)) result }
 {
-    let mut left = count;
     let mut at = cursor;
     let mut place = place;
-    while 0 < left {
-        match walk_argument(sheet, source, at, levels, tables, counts, out, notes, place) {
-            Walked::Refused(r) => {
-                return Walked::Refused(r);
-            }
-            Walked::Is(written, next) => {
-                place = written;
-                at = next;
-                left -= 1;
-            }
-        }
+    for _ in 0..count {
+        (place, at) = walk_argument(sheet, source, at, levels, tables, counts, out, notes, place)?;
     }
-    Walked::Is(place, at)
+    Ok((place, at))
 }
 
 // A property: its key, if that is a node, and its value.
@@ -732,15 +658,11 @@ fn walk_property(
         (written_as out.old notes.old place)) (property_item (node source.now levels) (drop cursor.at sheet.now)))
         (PastWalked (length sheet.now)) result }
 {
-    match read_property(sheet, cursor) {
-        PropertyRead::Refused(r) => Walked::Refused(r),
-        PropertyRead::Is(property, next) => {
-            let count = nodes_of(property);
-            walk_nodes(
-                sheet, source, next, count, levels, tables, counts, out, notes, place,
-            )
-        }
-    }
+    let (property, next) = read_property(sheet, cursor)?;
+    let count = nodes_of(property);
+    walk_nodes(
+        sheet, source, next, count, levels, tables, counts, out, notes, place,
+    )
 }
 
 // So many properties.
@@ -764,22 +686,12 @@ fn walk_properties(
         (properties (node source.now levels) count (drop cursor.at sheet.now)))
         (PastWalked (length sheet.now)) result }
 {
-    let mut left = count;
     let mut at = cursor;
     let mut place = place;
-    while 0 < left {
-        match walk_property(sheet, source, at, levels, tables, counts, out, notes, place) {
-            Walked::Refused(r) => {
-                return Walked::Refused(r);
-            }
-            Walked::Is(written, next) => {
-                place = written;
-                at = next;
-                left -= 1;
-            }
-        }
+    for _ in 0..count {
+        (place, at) = walk_property(sheet, source, at, levels, tables, counts, out, notes, place)?;
     }
-    Walked::Is(place, at)
+    Ok((place, at))
 }
 
 // An Object that holds attributes, if there is one.
@@ -804,25 +716,21 @@ fn walk_attributes(
         (PastWalked (length sheet.now)) result }
 {
     if has_object {
-        return match read_attributes(sheet, source, cursor, levels) {
-            AttributesRead::Refused(r) => Walked::Refused(r),
-            AttributesRead::Is { count, next, .. } => {
-                walk_properties(
-                    sheet,
-                    source,
-                    next,
-                    count,
-                    levels - 1,
-                    tables,
-                    counts,
-                    out,
-                    notes,
-                    place,
-                )
-            }
-        };
+        let ((_, count), next) = read_attributes(sheet, source, cursor, levels)?;
+        return walk_properties(
+            sheet,
+            source,
+            next,
+            count,
+            levels - 1,
+            tables,
+            counts,
+            out,
+            notes,
+            place,
+        );
     }
-    Walked::Is(place, cursor)
+    Ok((place, cursor))
 }
 
 // The entry of an import or an export, and past its attributes, in which nothing is walked.
@@ -849,19 +757,15 @@ fn walk_import(
         (PastWalked (length sheet.now)) result }
 {
     if has_object {
-        return match check_attributes(sheet, source, cursor, has_object, levels) {
-            Tallied::Refused(r) => Walked::Refused(r),
-            Tallied::Is(_, next) => {
-                let place = put_with_entry(
-                    sheet, source, cursor, has_object, levels, dependency, tables, counts, out,
-                    notes, place, false,
-                );
-                Walked::Is(place, next)
-            }
-        };
+        let (_, next) = check_attributes(sheet, source, cursor, has_object, levels)?;
+        let place = put_with_entry(
+            sheet, source, cursor, has_object, levels, dependency, tables, counts, out, notes,
+            place, false,
+        );
+        return Ok((place, next));
     }
     let place = put_plain_entry(sheet, source, dependency, tables, counts, out, notes, place);
-    Walked::Is(place, cursor)
+    Ok((place, cursor))
 }
 
 // A call: its callee, if that is an expression, and what follows it. Both forms of a call come here: what is called at one place is inlined, so that
@@ -888,18 +792,13 @@ fn walk_callee(
         (PastWalked (length sheet.now)) result }
 {
     let call = call_of(sheet, source, cursor, levels, span, head);
-    let kind = call.kind;
-    let count = callees(kind);
-    match walk_nodes(
+    let count = callees(call.kind);
+    let (place, next) = walk_nodes(
         sheet, source, cursor, count, levels, tables, counts, out, notes, place,
-    ) {
-        Walked::Refused(r) => Walked::Refused(r),
-        Walked::Is(place, next) => {
-            visit_call_expr(
-                sheet, source, next, levels, call, tables, counts, out, notes, place,
-            )
-        }
-    }
+    )?;
+    visit_call_expr(
+        sheet, source, next, levels, call, tables, counts, out, notes, place,
+    )
 }
 
 // A call up to its arguments, by its head: an import, or a call of the expression at the cursor.
@@ -914,11 +813,16 @@ fn call_of(
     ensures { Begins source.now levels span (drop cursor.at sheet.now) head result }
 {
     match head {
-        Head::ImportCall(phase) => call_head(dynamic_kind(phase), span, true),
-        _ => {
-            let listed = is_require(sheet, source, cursor, levels);
-            call_head(DynamicDependencyKind::Require, span, listed)
-        }
+        Head::ImportCall(phase) => CallHead {
+            kind: dynamic_kind(phase),
+            span,
+            listed: true,
+        },
+        _ => CallHead {
+            kind: DynamicDependencyKind::Require,
+            span,
+            listed: is_require(sheet, source, cursor, levels),
+        },
     }
 }
 
@@ -926,10 +830,5 @@ fn call_of(
 fn callees(kind: DynamicDependencyKind) -> usize
     ensures { result ≡ callees_of kind }
 {
-    match kind {
-        DynamicDependencyKind::Import => 0,
-        DynamicDependencyKind::ImportDefer => 0,
-        DynamicDependencyKind::ImportSource => 0,
-        DynamicDependencyKind::Require => 1,
-    }
+    usize::from(matches!(kind, DynamicDependencyKind::Require))
 }

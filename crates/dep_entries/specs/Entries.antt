@@ -1,6 +1,6 @@
 -- The entry of a dependency in the report: its kind, its text and what stands beside it. Which nodes have one is said by the walk.
 use Rattle.std.specs.Prelude.{Bool, true, false, cond, List, [], ◌∷◌, ℕ}
-use Rattle.std.proofs.Math.Option.{Option}
+use Rattle.std.specs.Prelude.{None, Option, Some}
 use Rattle.text.specs.Lossy.{lossy}
 use Rattle.sheet.specs.declared.fields.Span.{Span}
 use Rattle.sheet.specs.declared.names.ImportPhase.{ImportPhase}
@@ -40,13 +40,13 @@ dynamic_kind Defer = dynamics.ImportDefer
 
 -- the single text of a call's first argument
 abbrev pub first_text : Arguments → Option (List ℕ)
-first_text no_arguments = Option.none
+first_text no_arguments = None
 first_text (argument dots at n xs) = single_text (shape n)
 
 -- the text of a String, if there is one
 abbrev pub text_in : Option Quoted → Option (List ℕ)
-text_in Option.none = Option.none
-text_in (Option.some x) = Option.some x.text
+text_in None = None
+text_in (Some x) = Some x.text
 
 -- a dependency, with where its node starts and the number of surrogates replaced in its text
 pub record Noted : Type 0 where
@@ -89,5 +89,5 @@ module _ (source : List ℕ) (types : ℕ → Option SpecifierWithRange) where
 
   -- the entry of a module declaration, by its String
   unfoldable pub module_entry : Span → Option Quoted → List DependencyDescriptor
-  module_entry sp Option.none = []
-  module_entry sp (Option.some x) = cond (is_augmentation x.text) (static_entry statics.MaybeTsModuleAugmentation sp x false info.none ∷ []) []
+  module_entry sp None = []
+  module_entry sp (Some x) = cond (is_augmentation x.text) (static_entry statics.MaybeTsModuleAugmentation sp x false info.none ∷ []) []

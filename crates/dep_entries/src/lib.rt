@@ -4,7 +4,7 @@
 #![tactic(auto)]
 
 ghost use Rattle.std.specs.Prelude.{◌≡◌, Bool, cond, List, ℕ, length, drop};
-ghost use Rattle.std.proofs.Math.Option.{Option};
+ghost use Rattle.std.specs.Prelude.{None, Some};
 ghost use Rattle.laws.specs.Decoded.{ok};
 ghost use Rattle.laws.specs.code.Left.{Free};
 ghost use Rattle.laws.specs.code.Told.{Leaving};
@@ -27,6 +27,7 @@ ghost use Rattle.dep_entries.specs.code.Notes.{noted};
 ghost use Rattle.dep_entries.specs.code.Written.{types_from, HeldIn, Quotes, written_as, wrote_entries, static_of, dynamic_of, module_of, entry_of_call};
 
 use arguments::argument::{DynamicArgument, parse_argument, put_argument};
+use attributes::pairs::Pair;
 use attributes::readings::{
     ImportAttributes, parse_dynamic_import_attributes, parse_import_attributes,
     parse_type_attributes,
@@ -36,13 +37,12 @@ use pragmas::analyze_ts_or_deno_types;
 use report::names::{DynamicDependencyKind, StaticDependencyKind, dynamic_number, static_number};
 use report::writer::Pen;
 use sheet::fields::Span;
-use sheet::limits::{GROUPS_START, INDEX_START, PAIR_NUMBERS, TABLE_NUMBERS};
+use sheet::limits::{GROUPS_START, INDEX_START, PROPERTY_LIMIT, TABLE_NUMBERS};
 use sheet::names::ImportPhase;
-use sheet_heads::parts::{ArgumentRead, read_argument};
+use sheet_heads::parts::read_argument;
 use sheet_heads::quoted::Quoted;
 use sheet_heads::texts::declares;
 use sheet_nodes::check::check_node;
-use sheet_nodes::tally::Checked;
 use wire::Cursor;
 
 // How many comments and groups the tables hold.
@@ -123,13 +123,6 @@ pub fn dynamic_kind(phase: ImportPhase) -> DynamicDependencyKind
     }
 }
 
-// A call at the node with that span.
-pub fn call_head(kind: DynamicDependencyKind, span: Span, listed: bool) -> CallHead
-    ensures { result ≡ record { kind = kind; span = span; listed = listed } }
-{
-    CallHead { kind, span, listed }
-}
-
 // The types that the comments before a node give, by where it starts.
 fn put_types(
     source: &[u8],
@@ -161,18 +154,17 @@ fn put_types(
 
 // Notes a row for the next dependency, where its node starts and its number: the first of the notes says how many numbers follow it. Where there is
 // no room for both, nothing is noted.
+#[tactic(auto, using(crate::proofs::Noting::note_stored, crate::proofs::Noting::note_left))]
 fn note(notes: &mut [usize], start: usize, number: usize)
     ensures { notes.new ≡ noted notes.old start number }
 {
     if 0 < notes.len() {
         let count = notes[0];
         let room = notes.len() - 1;
-        if count < room {
-            if count + 1 < room {
-                notes[count + 1] = start;
-                notes[count + 2] = number;
-                notes[0] = count + 2;
-            }
+        if count < room && count + 1 < room {
+            notes[count + 1] = start;
+            notes[count + 2] = number;
+            notes[0] = count + 2;
         }
     }
 }
@@ -182,7 +174,7 @@ fn put_static_entry(
     sheet: &[u8],
     source: &[u8],
     dependency: StaticDependencyDescriptor,
-    pairs: &[usize],
+    pairs: &[Pair],
     attributes: ImportAttributes,
     tables: &[u32],
     counts: Counts,
@@ -202,13 +194,10 @@ fn put_static_entry(
     let index = &tables[INDEX_START..TABLE_NUMBERS];
     let start = dependency.span.start;
     let specifier = dependency.specifier;
-    let from = specifier.start;
-    let to = specifier.end;
-    let kind = dependency.kind;
-    let number = static_number(kind);
-    let place = place.put(out, number);
+    let text = &sheet[specifier.start..specifier.end];
+    let place = place.put(out, static_number(dependency.kind));
     let place = put_types(source, tables, counts, start, out, place);
-    let written = place.put_lossy_specifier(out, &sheet[from..to], source, index, specifier.span);
+    let written = place.put_lossy_specifier(out, text, source, index, specifier.span);
     note(notes, start, written.replaced);
     let place = written.place;
     let place = place.put_flag(out, dependency.is_side_effect);
@@ -242,16 +231,12 @@ pub fn put_with_entry(
         (cond is_type (type_attributes a) (static_attributes a))))
         (Free out.old out.new × Free notes.old notes.new) }
 {
-    let mut pairs: [usize; PAIR_NUMBERS] = [0; PAIR_NUMBERS];
-    if is_type {
-        let attributes = parse_type_attributes(
-            sheet, source, cursor, has_object, levels, &mut pairs,
-        );
-        return put_static_entry(
-            sheet, source, dependency, &pairs, attributes, tables, counts, out, notes, place,
-        );
-    }
-    let attributes = parse_import_attributes(sheet, source, cursor, has_object, levels, &mut pairs);
+    let mut pairs = [Pair::default(); PROPERTY_LIMIT];
+    let attributes = if is_type {
+        parse_type_attributes(sheet, source, cursor, has_object, levels, &mut pairs)
+    } else {
+        parse_import_attributes(sheet, source, cursor, has_object, levels, &mut pairs)
+    };
     put_static_entry(
         sheet, source, dependency, &pairs, attributes, tables, counts, out, notes, place,
     )
@@ -273,14 +258,23 @@ pub fn put_plain_entry(
         ≡ wrote_entries (written_as out.old notes.old place)
         (static_of source.now (types_from source.now tables.now counts) sheet.now dependency info.none) }
 {
-    let pairs: [usize; 1] = [0; 1];
     let attributes = ImportAttributes::None;
     put_static_entry(
-        sheet, source, dependency, &pairs, attributes, tables, counts, out, notes, place,
+        sheet,
+        source,
+        dependency,
+        &[],
+        attributes,
+        tables,
+        counts,
+        out,
+        notes,
+        place,
     )
 }
 
 // `visit_ts_module_decl`: the entry of a module declaration with a String, if it may be an augmentation.
+#[tactic(auto, unfolding(crate::specs::Entries::module_entry))]
 pub fn put_module_entry(
     sheet: &[u8],
     source: &[u8],
@@ -297,7 +291,7 @@ pub fn put_module_entry(
         ≡ wrote_entries (written_as out.old notes.old place)
         (module_of source.now
         (types_from source.now tables.now counts)
-        span (Option.some (quoted_of sheet.now specifier))) }
+        span (Some (quoted_of sheet.now specifier))) }
 {
     if declares(sheet, specifier) {
         let dependency = StaticDependencyDescriptor {
@@ -337,10 +331,8 @@ fn put_dynamic_entry(
         (types_from source.now tables.now counts)
         dependency v (dynamic_attributes xs) replacements) }
 {
-    let kind = dependency.kind;
-    let number = dynamic_number(kind);
-    let place = place.put(out, number);
-    let mut pairs: [usize; PAIR_NUMBERS] = [0; PAIR_NUMBERS];
+    let place = place.put(out, dynamic_number(dependency.kind));
+    let mut pairs = [Pair::default(); PROPERTY_LIMIT];
     let attributes = parse_dynamic_import_attributes(
         sheet, source, cursor, more, levels, &mut pairs,
     );
@@ -380,10 +372,9 @@ fn put_argument_entry(
         (types_from source.now tables.now counts)
         call.kind call.span (argument dots range n xs))) }
 {
-    let kind = call.kind;
     let argument = parse_argument(sheet, source, cursor, levels);
     let dependency = DynamicDependencyDescriptor {
-        kind,
+        kind: call.kind,
         start: call.span.start,
         argument,
         argument_range: range,
@@ -394,12 +385,12 @@ fn put_argument_entry(
         );
     }
     match check_node(sheet, source, cursor, levels) {
-        Checked::Refused(_) => place,
-        Checked::Is(_, next) => {
+        Ok((_, next)) => {
             put_dynamic_entry(
                 sheet, source, next, more, levels, dependency, tables, counts, out, notes, place,
             )
         }
+        Err(_) => place,
     }
 }
 
@@ -427,31 +418,22 @@ pub fn put_call_entry(
         (entry_of_call source.now (types_from source.now tables.now counts) call xs))
         (Free out.old out.new × Free notes.old notes.new) }
 {
-    if call.listed {
-        if 0 < count {
-            return match read_argument(sheet, source, cursor) {
-                ArgumentRead::Refused(_) => place,
-                ArgumentRead::Is {
-                    span: range,
-                    next: at,
-                    ..
-                } => {
-                    put_argument_entry(
-                        sheet,
-                        source,
-                        at,
-                        count - 1,
-                        levels,
-                        call,
-                        range,
-                        tables,
-                        counts,
-                        out,
-                        notes,
-                        place,
-                    )
-                }
-            };
+    if call.listed && 0 < count {
+        if let Ok(((_, range), at)) = read_argument(sheet, source, cursor) {
+            return put_argument_entry(
+                sheet,
+                source,
+                at,
+                count - 1,
+                levels,
+                call,
+                range,
+                tables,
+                counts,
+                out,
+                notes,
+                place,
+            );
         }
     }
     place

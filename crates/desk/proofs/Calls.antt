@@ -1,5 +1,6 @@
 -- What a call on a block does, by the way that the code goes.
-use Rattle.laws.proofs.Prelude.{◌≡◌, refl, sym, ◌∙◌, ap, false, true≢false, List, Option, ℕ, ◌≤◌, ◌<◌, arith, lt-ltb, le-ltb, le-leb, lt-leb, length, get_or}
+use Rattle.std.specs.Prelude.{Some, None}
+use Rattle.laws.proofs.Prelude.{◌≡◌, refl, sym, ◌∙◌, ap, false, true≢false, List, ℕ, ◌≤◌, ◌<◌, arith, lt-ltb, le-ltb, le-leb, lt-leb, length, get_or}
 use Rattle.desk.specs.Desk.{Call, hand_in, turn, Event, accepted, refused, served, idle, changes, Done, queue, with_sheet, without_front, no_depositor}
 use Rattle.desk.specs.Desk.{eight_waiting, handed_in, first_waiting, serve, turned, step}
 use Rattle.desk.specs.Block.{count_in, desk_as, Does}
@@ -36,11 +37,11 @@ module _ (block : List ℕ) (d s : ℕ) where
         (λ e. absurd (true≢false e))
 
 module _ (block : List ℕ) where
-  pub finds_nobody : first_waiting (desk_as block) 0 16 ≡ Option.none → Does turn block idle block
+  pub finds_nobody : first_waiting (desk_as block) 0 16 ≡ None → Does turn block idle block
   unfolding turned
   finds_nobody e = does _ _ _ _ (ap (serve (desk_as block)) (sym e)) (λ f. refl)
 
-  module _ (d : ℕ) (e : first_waiting (desk_as block) 0 16 ≡ Option.some d) where
+  module _ (d : ℕ) (e : first_waiting (desk_as block) 0 16 ≡ Some d) where
     pub found_one : (d < 16) × (0 < count_in block d)
     unfolding turned
     found_one =

@@ -1,5 +1,6 @@
 -- Which depositor a turn finds.
-use Rattle.laws.proofs.Prelude.{◌≡◌, sym, ◌∙◌, List, Option, ℕ, suc, ◌+◌, ◌-◌, ◌<◌, ◌≤◌, arith, lt-ltb, le-ltb, length}
+use Rattle.std.specs.Prelude.{Some}
+use Rattle.laws.proofs.Prelude.{◌≡◌, sym, ◌∙◌, List, ℕ, suc, ◌+◌, ◌-◌, ◌<◌, ◌≤◌, arith, lt-ltb, le-ltb, length}
 use Rattle.desk.specs.Block.{count_in, desk_as}
 use Rattle.desk.proofs.Rings.{length_queue_of}
 use Rattle.desk.specs.Desk.{Desk, queue, looked_at, first_waiting}
@@ -12,7 +13,7 @@ module _ (block : List ℕ) (passed count : ℕ) (few : passed < 16) (counted : 
   waits : length (queue desk (looked_at desk passed)) ≡ count
   waits = length_queue_of block _ (omega arith) ∙ sym counted
 
-  pub found_here : 0 < count → first_waiting desk passed (16 - passed) ≡ Option.some (looked_at desk passed)
+  pub found_here : 0 < count → first_waiting desk passed (16 - passed) ≡ Some (looked_at desk passed)
   unfolding first_waiting
   found_here h = let e : 16 - passed ≡ suc (15 - passed) = omega arith in rw (e, first_waiting, waits, lt-ltb 0 count h)
 

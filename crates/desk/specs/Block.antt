@@ -1,15 +1,11 @@
 -- The desk that a lent block of 161 numbers stands for: ten numbers for each depositor, and last the depositor at whom the next turn looks first.
 -- The ten of depositor d, from 10 × d on: a ring of 8 sheets, the place of the front sheet there, and how many wait.
 -- Each block stands for a desk: a place counts modulo 8, more than 8 sheets count for 8, and the next depositor modulo 16.
-use Rattle.std.specs.Prelude.{◌≡◌, false, List, [], ◌∷◌, ◌++◌, ℕ, zero, suc, ◌+◌, ◌*◌, ◌%◌, ◌^◌, min, get_or}
-use Rattle.std.proofs.Math.Option.{Option}
-use Rattle.desk.specs.declared.HandedIn.{HandedIn}
-use Rattle.desk.specs.declared.HandedIn.TheVariants as handed_in
-use Rattle.desk.specs.declared.Turned.{Turned}
-use Rattle.desk.specs.declared.Turned.TheVariants as turned
-use Rattle.desk.specs.declared.Found.{Found}
-use Rattle.desk.specs.declared.Found.TheVariants as found
-use Rattle.desk.specs.Desk.{Desk, Call, Event, accepted, refused, served, idle, changes, fresh, step}
+use Rattle.std.specs.Prelude.{◌≡◌, false, List, [], ◌∷◌, ◌++◌, ℕ, zero, suc, ◌+◌, ◌*◌, ◌%◌, ◌^◌, min, get_or, Option, Some, None, Result, Ok, Err}
+use Rattle.desk.specs.declared.Refused.{Refused}
+use Rattle.desk.specs.declared.Refused.TheVariants.{NoDepositor, EightWaiting}
+use Rattle.desk.specs.declared.Served.{Served}
+use Rattle.desk.specs.Desk.{Desk, Call, Event, accepted, refused, served, idle, changes, no_depositor, eight_waiting, fresh, step}
 use Rattle.desk.specs.History.{happens_next, after}
 
 -- n sheets of depositor d from a place on, round the ring
@@ -32,17 +28,23 @@ abbrev pub desk_as : List ℕ → Desk
 desk_as block = record { queues = queues_in block 0 16; next = get_or block 160 0 % 16 }
 
 -- what the code answers
+abbrev pub HandedIn : Type 0
+HandedIn = Result (Unit {0}) Refused
+
+abbrev pub Turned : Type 0
+Turned = Option Served
+
+abbrev pub number_of : Refused → ℕ
+number_of NoDepositor = no_depositor
+number_of EightWaiting = eight_waiting
+
 abbrev pub handed_in_as : ℕ → ℕ → HandedIn → Event
-handed_in_as d s handed_in.Accepted = accepted d s
-handed_in_as d s (handed_in.Refused r) = refused d s r
+handed_in_as d s (Ok u) = accepted d s
+handed_in_as d s (Err r) = refused d s (number_of r)
 
 abbrev pub turned_as : Turned → Event
-turned_as turned.Idle = idle
-turned_as (turned.Served d s) = served d s
-
-abbrev pub found_as : Found → Option ℕ
-found_as (found.At d) = Option.some d
-found_as found.Nobody = Option.none
+turned_as None = idle
+turned_as (Some k) = served k.depositor k.sheet
 
 -- the block stands for the desk after these calls of a fresh desk
 abbrev pub Stands : List Call → List ℕ → Type 0
@@ -59,9 +61,9 @@ pub record Does (c : Call) (before : List ℕ) (e : Event) (behind : List ℕ) :
 
 -- the answers in one number, for C: 0 or the refusal's number; the sheet and 2 ^ 32 times the depositor, where 16 stands for idle
 abbrev pub handed_in_number : HandedIn → ℕ
-handed_in_number handed_in.Accepted = 0
-handed_in_number (handed_in.Refused r) = r
+handed_in_number (Ok u) = 0
+handed_in_number (Err r) = number_of r
 
 abbrev pub turned_number : Turned → ℕ
-turned_number turned.Idle = 2 ^ 32 * 16
-turned_number (turned.Served d s) = 2 ^ 32 * d + s
+turned_number None = 2 ^ 32 * 16
+turned_number (Some k) = 2 ^ 32 * k.depositor + k.sheet

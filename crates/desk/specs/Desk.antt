@@ -1,6 +1,6 @@
 -- A desk at which sixteen depositors, 0 to 15, hand in sheets, and what each call does there (request #110).
-use Rattle.std.specs.Prelude.{Bool, true, false, cond, List, [], ◌∷◌, ◌++◌, ℕ, zero, suc, ◌+◌, ◌%◌, ltb, leb, length, get_or, drop, set, replicate}
-use Rattle.std.proofs.Math.Option.{Option}
+use Rattle.std.specs.Prelude.{Bool, true, false, cond, List, [], ◌∷◌, ◌++◌, ℕ, zero, suc, ◌+◌, ◌%◌, ltb, leb, length, get_or, drop, set}
+use Rattle.std.specs.Prelude.{replicate, Option, Some, None}
 
 -- the waiting sheets of each depositor, the front sheet first, and the depositor at whom the next turn looks first
 pub record Desk : Type 0 where
@@ -61,8 +61,8 @@ looked_at desk passed = (desk.next + passed) % 16
 
 -- the first who has a sheet waiting, once so many were passed and while so many are left
 unfoldable pub first_waiting : Desk → ℕ → ℕ → Option ℕ
-first_waiting desk passed zero = Option.none
-first_waiting desk passed (suc left) = cond (ltb 0 (length (queue desk (looked_at desk passed)))) (Option.some (looked_at desk passed))
+first_waiting desk passed zero = None
+first_waiting desk passed (suc left) = cond (ltb 0 (length (queue desk (looked_at desk passed)))) (Some (looked_at desk passed))
     (first_waiting desk (passed + 1) left)
 
 -- the front sheet of depositor d goes, and the next turn looks first at the depositor after d
@@ -71,8 +71,8 @@ without_front desk d = record { queues = set desk.queues d (drop 1 (queue desk d
 
 -- the depositor who was found is served; where none was, the turn is idle
 abbrev pub serve : Desk → Option ℕ → Done
-serve desk Option.none = record { desk = desk; event = idle }
-serve desk (Option.some d) = record { desk = without_front desk d; event = served d (get_or (queue desk d) 0 0) }
+serve desk None = record { desk = desk; event = idle }
+serve desk (Some d) = record { desk = without_front desk d; event = served d (get_or (queue desk d) 0 0) }
 
 unfoldable pub turned : Desk → Done
 turned desk = serve desk (first_waiting desk 0 16)

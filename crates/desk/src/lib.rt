@@ -1,11 +1,12 @@
 // Turns for depositors: a desk in a block of numbers that the caller lends. specs/Block.antt says what each number is.
+// The block stays plain numbers: it is the C interface.
 #![tactic(auto)]
 
 ghost use Rattle.std.specs.Prelude.{◌≡◌, [], ◌<◌, length, get_or};
 ghost use Rattle.laws.specs.code.Told.{Leaving};
 ghost use Rattle.desk.specs.Desk.{hand_in, turn, queue, first_waiting, with_sheet, without_front};
 ghost use Rattle.desk.specs.Fair.{Fair};
-ghost use Rattle.desk.specs.Block.{count_in, desk_as, found_as, handed_in_as, turned_as, Stands, Does, handed_in_number, turned_number};
+ghost use Rattle.desk.specs.Block.{count_in, desk_as, HandedIn, Turned, handed_in_as, turned_as, Stands, Does, handed_in_number, turned_number};
 
 // The depositors are 0 to 15.
 const DEPOSITORS: u32 = 16;
@@ -28,40 +29,34 @@ const NEXT: usize = 160;
 // The numbers of a desk.
 pub const NUMBERS: usize = 161;
 
-// Refusal of a depositor over 15.
-const NO_DEPOSITOR: u32 = 14;
-
-// Of one with eight sheets waiting.
-const EIGHT_WAITING: u32 = 15;
+// Why a hand-in is refused, with document 01's number.
+#[derive(Clone, Copy, Debug, PartialEq, Eq, Hash)]
+pub enum Refused {
+    // The depositor is over 15.
+    NoDepositor = 14,
+    // Eight sheets of the depositor wait.
+    EightWaiting = 15,
+}
 
 // What a hand-in is answered.
-#[derive(Clone, Copy)]
-pub enum HandedIn {
-    Accepted,
-    Refused(u32),
+pub type HandedIn = Result<(), Refused>;
+
+// Whom a turn served, and the sheet that was.
+#[derive(Clone, Copy, Debug, PartialEq, Eq, Hash)]
+pub struct Served {
+    pub depositor: u32,
+    pub sheet: u32,
 }
 
-// What a turn is answered.
-#[derive(Clone, Copy)]
-pub enum Turned {
-    Idle,
-    Served { depositor: u32, sheet: u32 },
-}
-
-// Whom a turn finds.
-#[derive(Clone, Copy)]
-enum Found {
-    At(u32),
-    Nobody,
-}
+// What a turn is answered: none where it is idle.
+pub type Turned = Option<Served>;
 
 // How many sheets of a depositor wait.
 fn waiting(block: &[u32], depositor: u32) -> u32
     requires { (length block.now ≡ 161) × (depositor < 16) }
     ensures { result ≡ count_in block.now depositor }
 {
-    let count = block[ROW * depositor as usize + COUNT];
-    if count < PLACES { count } else { PLACES }
+    block[ROW * depositor as usize + COUNT].min(PLACES)
 }
 
 // Puts a sheet behind those of a depositor that wait.
@@ -77,20 +72,18 @@ fn append(block: &mut [u32], depositor: u32, sheet: u32)
 }
 
 // The first depositor, from the next one on, who has a sheet waiting.
-fn first_waiting(block: &[u32]) -> Found
+fn first_waiting(block: &[u32]) -> Option<u32>
     requires { length block.now ≡ 161 }
-    ensures { found_as result ≡ first_waiting (desk_as block.now) 0 16 }
+    ensures { result ≡ first_waiting (desk_as block.now) 0 16 }
 {
     let next = block[NEXT] % DEPOSITORS;
-    let mut passed = 0;
-    while passed < DEPOSITORS {
+    for passed in 0..DEPOSITORS {
         let depositor = (next + passed) % DEPOSITORS;
         if 0 < waiting(block, depositor) {
-            return Found::At(depositor);
+            return Some(depositor);
         }
-        passed += 1;
     }
-    Found::Nobody
+    None
 }
 
 // Takes the front sheet of a depositor, and goes on to the depositor after that one.
@@ -121,45 +114,41 @@ pub fn hand_in(block: &mut [u32; NUMBERS], depositor: u32, sheet: u32) -> Handed
     ensures { Does (hand_in depositor sheet) block.old (handed_in_as depositor sheet result) block.new }
 {
     if DEPOSITORS <= depositor {
-        return HandedIn::Refused(NO_DEPOSITOR);
+        return Err(Refused::NoDepositor);
     }
     if waiting(block, depositor) == PLACES {
-        return HandedIn::Refused(EIGHT_WAITING);
+        return Err(Refused::EightWaiting);
     }
     append(block, depositor, sheet);
-    HandedIn::Accepted
+    Ok(())
 }
 
 // A turn: the next depositor who has a sheet waiting is served.
 pub fn turn(block: &mut [u32; NUMBERS]) -> Turned
     ensures { Does turn block.old (turned_as result) block.new }
 {
-    match first_waiting(block) {
-        Found::Nobody => Turned::Idle,
-        Found::At(depositor) => {
-            let sheet = serve(block, depositor);
-            Turned::Served { depositor, sheet }
-        }
-    }
+    let depositor = first_waiting(block)?;
+    let sheet = serve(block, depositor);
+    Some(Served { depositor, sheet })
 }
 
-// The answer to a hand-in in one number.
+// The answer to a hand-in in one number, the C interface.
 fn pack_hand_in(answer: HandedIn) -> u32
     ensures { result ≡ handed_in_number answer }
 {
     match answer {
-        HandedIn::Accepted => 0,
-        HandedIn::Refused(number) => number,
+        Ok(()) => 0,
+        Err(refused) => refused as u32,
     }
 }
 
-// The answer to a turn in one number.
+// The answer to a turn in one number, the C interface.
 fn pack_turn(answer: Turned) -> u64
     ensures { result ≡ turned_number answer }
 {
     match answer {
-        Turned::Idle => 4294967296 * 16,
-        Turned::Served { depositor, sheet } => 4294967296 * (depositor as u64) + sheet as u64,
+        None => 4294967296 * 16,
+        Some(served) => 4294967296 * u64::from(served.depositor) + u64::from(served.sheet),
     }
 }
 

@@ -2,11 +2,9 @@
 #![tactic(auto)]
 
 ghost use Rattle.std.specs.Prelude.{◌≡◌, []};
-ghost use Rattle.desk.specs.declared.HandedIn.{HandedIn};
-ghost use Rattle.desk.specs.declared.Turned.{Turned};
 ghost use Rattle.desk.specs.Desk.{hand_in, turn};
 ghost use Rattle.desk.specs.Fair.{Fair};
-ghost use Rattle.desk.specs.Block.{handed_in_as, turned_as, Stands, Does, handed_in_number, turned_number};
+ghost use Rattle.desk.specs.Block.{HandedIn, Turned, handed_in_as, turned_as, Stands, Does, handed_in_number, turned_number};
 
 use desk::NUMBERS;
 

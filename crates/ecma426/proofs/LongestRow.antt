@@ -1,17 +1,16 @@
 -- The longest row of a kind, from one character to the next; no other row ends where no such character stands.
-use Rattle.laws.proofs.Prelude.{◌≡◌, refl, sym, ap, ◌∙◌, List, [], ◌∷◌, ℕ, zero, suc, ◌+◌, ◌≤◌, not-suc-le-zero, le_of_suc-le-suc, ℕ_discrete, arith}
+use Rattle.laws.proofs.Prelude.{◌≡◌, refl, sym, ap, ◌∙◌, Bool, List, [], ◌∷◌, ℕ, zero, suc, ◌+◌, ◌≤◌, not-suc-le-zero, le_of_suc-le-suc, ℕ_discrete, arith}
 use Rattle.laws.proofs.Prelude.{length, drop, length-drop, drop-drop}
 use Rattle.text.{specs.declared.utf8.Encoding.TheVariants.Utf8, specs.Utf8.char_at, specs.Characters.Stands, proofs.Formed.fits_if}
 use Rattle.text.proofs.Characters.{stands_sound, stands_complete}
-use Rattle.ecma426.specs.{declared.Kind.Kind, WhiteSpace.is_of}
 use Rattle.ecma426.specs.Grammar.{OneOf, Row, none, more}
 use Rattle.ecma426.specs.Reader.{one_at, row, row_end}
 
-module _ (kind : Kind) where
+module _ (kind : ℕ → Bool) where
   -- a character of the kind has no more bytes than the text
   pub one_fits : (s : List ℕ) → one_at kind s ≤ length s
   unfolding one_at char_at
-  one_fits s = fits_if Utf8 (is_of kind (char_at Utf8 s).code) s
+  one_fits s = fits_if Utf8 (kind (char_at Utf8 s).code) s
 
   -- the bytes skipped are in the row
   skipped : (n : ℕ) (s : List ℕ) → n ≤ length s → row kind n s ≡ n + row kind 0 (drop n s)
@@ -45,11 +44,11 @@ module _ (kind : Kind) where
     -- a character stands where the reader finds one
     stands : (at : ℕ) → (one_at kind (drop at s) ≡ 0 → ⊥) → Stands (OneOf kind) s at (at + one_at kind (drop at s))
     unfolding one_at
-    stands = stands_sound (is_of kind) (λ p. (λ h. h, λ h. h)) s
+    stands = stands_sound kind (λ p. (λ h. h, λ h. h)) s
 
     pub stood : {at next : ℕ} → Stands (OneOf kind) s at next → (one_at kind (drop at s) ≡ 0 → ⊥) × (next ≡ at + one_at kind (drop at s))
     unfolding one_at
-    stood {at} = stands_complete (is_of kind) (λ p. (λ h. h, λ h. h)) s at
+    stood {at} = stands_complete kind (λ p. (λ h. h, λ h. h)) s at
 
     row_by : (n at : ℕ) → length s ≤ at + n → Row s kind at (row_end kind s at)
     row_by zero at h = rw (row_stops at (omega (arith, one_fits (drop at s), length-drop at s))) none

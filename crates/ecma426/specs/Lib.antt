@@ -1,3 +1,4 @@
 pub mod WhiteSpace
 pub mod Grammar
 pub mod Reader
+pub mod code

@@ -2,8 +2,6 @@
 use Rattle.std.specs.Prelude.{◌≡◌, Bool, true, not, ◌⊎◌, List, [], ◌∷◌, ◌++◌, ℕ}
 use Rattle.text.specs.Ranges.{Range, ◌to◌, in_ranges}
 use Rattle.text.specs.WhiteSpace as unicode
-use Rattle.ecma426.specs.declared.Kind.{Kind}
-use Rattle.ecma426.specs.declared.Kind.TheVariants.{Space, NotSpace}
 
 -- the characters of general category Zs
 abbrev pub space_separators : List Range
@@ -33,7 +31,6 @@ is_space p = in_ranges (white_space ++ line_terminator) p
 abbrev pub ByUnicode : ℕ → Type 0
 ByUnicode p = ((in_ranges unicode.white_space p ≡ true) × (p ≡ 0x85 → ⊥)) ⊎ (p ≡ 0xFEFF)
 
--- the code point is of the kind: whitespace, or not
-unfoldable pub is_of : Kind → ℕ → Bool
-is_of Space p = is_space p
-is_of NotSpace p = not (is_space p)
+-- any other
+abbrev pub not_space : ℕ → Bool
+not_space p = not (is_space p)

@@ -4,11 +4,12 @@
 ghost use Rattle.std.specs.Prelude.{◌≡◌, true, ◌↔◌, ◌+◌, ◌≤◌, length, drop};
 ghost use Rattle.laws.specs.code.Told.{Bounded, Meant};
 ghost use Rattle.analysis.specs.Place.{FoundWithin};
-ghost use Rattle.ecma426.specs.WhiteSpace.{is_space, ByUnicode, is_of};
+ghost use Rattle.ecma426.specs.WhiteSpace.{is_space, ByUnicode};
 ghost use Rattle.ecma426.specs.Grammar.{FindsMap};
 ghost use Rattle.ecma426.specs.Reader.{one_at, row_end, marked, find_source_map};
+ghost use Rattle.ecma426.specs.code.Kinds.{OfKind};
 
-use analysis::{Capture, Found};
+use analysis::Capture;
 use text::bytes::starts_with;
 use text::utf8::{Encoding, char_at};
 use text::white_space::is_white_space;
@@ -16,51 +17,36 @@ use text::white_space::is_white_space;
 // The length of `sourceMappingURL=`.
 const WORD_LENGTH: usize = 17;
 
-// Two kinds of characters: whitespace, and any other.
-#[derive(Clone, Copy)]
-pub enum Kind {
-    Space,
-    NotSpace,
-}
-
 // Does ECMAScript's `\s` match the code point? It is White_Space without U+0085, and U+FEFF.
 pub fn is_space(code: u32) -> bool
     ensures { Meant (result ≡ is_space code) ((result ≡ true) ↔ ByUnicode code) }
 {
-    if code == 0xFEFF {
-        return true;
-    }
-    if code == 0x85 {
-        return false;
-    }
-    is_white_space(code)
-}
-
-// Is the code point of the kind?
-fn is_of(kind: Kind, code: u32) -> bool
-    ensures { result ≡ is_of kind code }
-{
-    match kind {
-        Kind::Space => is_space(code),
-        Kind::NotSpace => !is_space(code),
+    match code {
+        0xFEFF => true,
+        0x85 => false,
+        _ => is_white_space(code),
     }
 }
 
-// The length in bytes of the character of the kind at `at`, 0 where none stands there.
-fn one_at(s: &[u8], at: usize, kind: Kind) -> usize
-    requires { at ≤ length s.now }
-    ensures { Bounded (result ≡ one_at kind (drop at s.now)) (at + result ≤ length s.now) }
+// The length in bytes of the character of the kind at `at`, 0 where none stands there. `text::class` has its own, by its classes, with a shorter way for
+// ASCII, which one function for both would take from it.
+fn one_at<F: Fn(u32) -> bool>(s: &[u8], at: usize, kind: &F) -> usize
+    requires callable { F.IsAlwaysCallable kind.now }
+    requires starts { at ≤ length s.now }
+    ensures ends { at + result ≤ length s.now }
+    ensures answer { OfKind (F.post kind.now) λ test. result ≡ one_at test (drop at s.now) }
 {
     let c = char_at(s, at, Encoding::Utf8);
-    let len = c.len;
-    let code = c.code;
-    if is_of(kind, code) { len } else { 0 }
+    if kind(c.code) { c.len } else { 0 }
 }
 
 // The end of the longest row of the kind from `at` on.
-fn row_end(s: &[u8], at: usize, kind: Kind) -> usize
-    requires { at ≤ length s.now }
-    ensures { Bounded (result ≡ row_end kind s.now at) ((at ≤ result) × (result ≤ length s.now)) }
+fn row_end<F: Fn(u32) -> bool>(s: &[u8], at: usize, kind: &F) -> usize
+    requires callable { F.IsAlwaysCallable kind.now }
+    requires starts { at ≤ length s.now }
+    ensures goes_on { at ≤ result }
+    ensures ends { result ≤ length s.now }
+    ensures answer { OfKind (F.post kind.now) λ test. result ≡ row_end test s.now at }
 {
     let mut i = at;
     loop {
@@ -76,30 +62,30 @@ fn row_end(s: &[u8], at: usize, kind: Kind) -> usize
 fn is_marked(body: &[u8]) -> bool
     ensures { result ≡ marked body.now }
 {
-    if starts_with(body, 0, b"#") {
-        return true;
-    }
-    starts_with(body, 0, b"@")
+    starts_with(body, 0, b"#") || starts_with(body, 0, b"@")
 }
 
 // ^[#@]\s*sourceMappingURL=(\S*)\s*$ in ECMAScript's regular expressions. The word is compared byte by byte, its case too.
-pub fn find_source_map(body: &[u8]) -> Found
+pub fn find_source_map(body: &[u8]) -> Option<Capture>
     ensures { Bounded (Meant (result ≡ find_source_map body.now) (FindsMap body.now result))
         (FoundWithin result (length body.now)) }
 {
-    if is_marked(body) {
-        let at = row_end(body, 1, Kind::Space);
-        if starts_with(body, at, b"sourceMappingURL=") {
-            let from = at + WORD_LENGTH;
-            let to = row_end(body, from, Kind::NotSpace);
-            if row_end(body, to, Kind::Space) == body.len() {
-                return Found::At(Capture {
-                    quoted: false,
-                    from,
-                    to,
-                });
-            }
-        }
+    if !is_marked(body) {
+        return None;
     }
-    Found::Nothing
+    let at = row_end(body, 1, &is_space);
+    if !starts_with(body, at, b"sourceMappingURL=") {
+        return None;
+    }
+    let from = at + WORD_LENGTH;
+    let to = row_end(body, from, &|code| !is_space(code));
+    if row_end(body, to, &is_space) == body.len() {
+        Some(Capture {
+            quoted: false,
+            from,
+            to,
+        })
+    } else {
+        None
+    }
 }

@@ -1,13 +1,15 @@
 -- Attributes and blocks of them: the grammar and the functions agree.
 use Rattle.laws.proofs.Prelude.{◌≡◌, refl, sym, ap, ◌∙◌, Bool, true, false, cond, ◌⊎◌, ⊎_elim, inl, inr, List, [], ◌∷◌, ◌++◌, ℕ, zero, suc, ◌≤◌, ◌<◌, code}
 use Rattle.laws.proofs.Prelude.{arith, length}
+use Rattle.std.specs.Prelude.{Some}
+use Rattle.std.specs.Option.{option_or, option_flatten}
 use Rattle.laws.specs.Ascii.{ascii}
 use Rattle.text.specs.{declared.class.Class.TheVariants.White, Bytes.same, Ranges.in_ranges, Alphabetic.alphabetic, Characters.OneOf}
 use Rattle.text.specs.Class.{outside, ranges, member}
 use Rattle.analysis.specs.Mode.{Mode, mode_of}
 use Rattle.jsdoc.specs.Grammar.{Bytes, done, W*, Word, Quote, Name, Attribute, Pair, pair, Attributes, none, last, next, mode_in, Block}
 use Rattle.jsdoc.specs.Parsed.{Parsed, ok, backtrace, on_parsed}
-use Rattle.jsdoc.specs.Reader.{skip, skip_whitespace, tag, word, parse_quote, parse_key, ModeNamed, unnamed, attribute_mode, parse_attribute, first_mode}
+use Rattle.jsdoc.specs.Reader.{skip, skip_whitespace, tag, word, parse_quote, parse_key, ModeNamed, unnamed, attribute_mode, parse_attribute}
 use Rattle.jsdoc.specs.Reader.{comma, separated_list_by, separated_list, parse_import_attribute_block_for_resolution_mode}
 use Rattle.jsdoc.proofs.Chains.{never, no_reading, then_ok}
 use Rattle.jsdoc.proofs.Characters.{run_sound, run_complete, run_ended, run_shorter, white_complete}
@@ -77,7 +79,7 @@ comma_shorter s t e = let (u, w, r) = comma_sound s t e in omega (arith, run_sho
 -- the first that is named among them, from m on
 abbrev fold : ModeNamed → List Pair → ModeNamed
 fold m [] = m
-fold m (pair k v ∷ l) = fold (first_mode m (attribute_mode k v)) l
+fold m (pair k v ∷ l) = fold (option_or m (attribute_mode k v)) l
 
 -- attributes from s to t whose first that is named, from m on, is r
 abbrev ListOf : ModeNamed → ModeNamed → Bytes → Bytes → Type 0
@@ -85,19 +87,19 @@ ListOf m r s t = (l : List Pair) × Attributes l s t × (r ≡ fold m l)
 
 module _ (n : ℕ) (m : ModeNamed) (s t : Bytes) (r : ModeNamed) (ih : (m : ModeNamed) (y : Bytes) → separated_list_by n m y ≡ ok r t → ListOf m r y t) where
   one_more : (a : ModeNamed) (u : Bytes) → parse_attribute s ≡ ok a u → (o : Parsed (Unit {0})) → comma u ≡ o
-      → on_parsed o (λ z. separated_list_by n (first_mode m a)) (ok (first_mode m a) u) ≡ ok r t → ListOf m r s t
+      → on_parsed o (λ z. separated_list_by n (option_or m a)) (ok (option_or m a) u) ≡ ok r t → ListOf m r s t
   one_more a u h (ok z y) c e =
-      let (l, rest, i) = ih (first_mode m a) y e in
+      let (l, rest, i) = ih (option_or m a) y e in
       let (k, v, first, j) = attribute_sound s u a h in
       let (x, w, past) = comma_sound u y c in
-      (pair k v ∷ l, next first w past rest, i ∙ ap (λ (n : ModeNamed). fold (first_mode m n) l) j)
+      (pair k v ∷ l, next first w past rest, i ∙ ap (λ (n : ModeNamed). fold (option_or m n) l) j)
   one_more a u h backtrace c e =
       let g : parse_attribute s ≡ ok a t = cc in
       let (k, v, first, j) = attribute_sound s t a g in
       (pair k v ∷ [], last first, (cc))
 
   attributes_step : (o : Parsed ModeNamed) → parse_attribute s ≡ o
-      → on_parsed o (λ a t. on_parsed (comma t) (λ z. separated_list_by n (first_mode m a)) (ok (first_mode m a) t)) (ok m s) ≡ ok r t → ListOf m r s t
+      → on_parsed o (λ a t. on_parsed (comma t) (λ z. separated_list_by n (option_or m a)) (ok (option_or m a) t)) (ok m s) ≡ ok r t → ListOf m r s t
   attributes_step (ok a u) h e = one_more a u h (comma u) refl e
   attributes_step backtrace h e = let g : s ≡ t = cc in ([], rw g none, (cc))
 
@@ -118,7 +120,7 @@ attributes_complete (last a) w e f (suc n) m h = rw (attribute_complete a, comma
 attributes_complete (next a v c rest) w e f zero m h = absurd (omega (arith, attribute_shorter a))
 attributes_complete (next {k} {v = x} a v c rest) w e f (suc n) m h =
     rw (attribute_complete a, comma_complete v c)
-    (attributes_complete rest w e (run_ended White c.2) n (first_mode m (attribute_mode k x))
+    (attributes_complete rest w e (run_ended White c.2) n (option_or m (attribute_mode k x))
     (omega (arith, attribute_shorter a, run_shorter White v, word_shorter (ascii ",") c)))
 
 attribute_end : (s : Bytes) → length s ≤ 0 → parse_attribute s ≡ backtrace
@@ -133,17 +135,17 @@ attributes_bound (suc n) zero m s h k = rw (attribute_end s k)
 attributes_bound (suc n) (suc j) m s h k = go (parse_attribute s) refl (attributes_bound n j)
   where
     Step : Parsed ModeNamed → ℕ → Parsed ModeNamed
-    Step o n = on_parsed o (λ a t. on_parsed (comma t) (λ z. separated_list_by n (first_mode m a)) (ok (first_mode m a) t)) (ok m s)
+    Step o n = on_parsed o (λ a t. on_parsed (comma t) (λ z. separated_list_by n (option_or m a)) (ok (option_or m a) t)) (ok m s)
 
     past : (a : ModeNamed) (t : Bytes) → parse_attribute s ≡ ok a t → (o : Parsed (Unit {0})) → comma t ≡ o
         → ((m : ModeNamed) (y : Bytes) → length y ≤ n → length y ≤ j → separated_list_by n m y ≡ separated_list_by j m y)
-        → on_parsed o (λ z. separated_list_by n (first_mode m a)) (ok (first_mode m a) t)
-        ≡ on_parsed o (λ z. separated_list_by j (first_mode m a)) (ok (first_mode m a) t)
+        → on_parsed o (λ z. separated_list_by n (option_or m a)) (ok (option_or m a) t)
+        ≡ on_parsed o (λ z. separated_list_by j (option_or m a)) (ok (option_or m a) t)
     past a t e (ok z y) c ih =
         let (x, v, r, i) = attribute_sound s t a e in
         let l = comma_shorter t y c in
         let d = attribute_shorter r in
-        ih (first_mode m a) y (omega arith) (omega arith)
+        ih (option_or m a) y (omega arith) (omega arith)
     past a t e backtrace c ih = refl
 
     go : (o : Parsed ModeNamed) → parse_attribute s ≡ o
@@ -159,7 +161,7 @@ module _ (m : ModeNamed) where
   attributes_none (x ∷ s) e = rw e
 
   module _ {a : ModeNamed} {t : Bytes} where
-    pub attributes_last : (s : Bytes) → parse_attribute s ≡ ok a t → comma t ≡ backtrace → separated_list m s ≡ ok (first_mode m a) t
+    pub attributes_last : (s : Bytes) → parse_attribute s ≡ ok a t → comma t ≡ backtrace → separated_list m s ≡ ok (option_or m a) t
     unfolding separated_list separated_list_by
     attributes_last [] e c = absurd (never (sym (attribute_end [] (omega arith)) ∙ e))
     attributes_last (x ∷ s) e c = rw (e, c)
@@ -168,26 +170,25 @@ module _ (m : ModeNamed) where
       pub attributes_shorter : (s : Bytes) → parse_attribute s ≡ ok a t → comma t ≡ ok tt u → length u < length s
       attributes_shorter s e c = let (k, v, r, i) = attribute_sound s t a e in omega (arith, attribute_shorter r, comma_shorter t u c)
 
-      pub attributes_next : (s : Bytes) → parse_attribute s ≡ ok a t → comma t ≡ ok tt u → separated_list m s ≡ separated_list (first_mode m a) u
+      pub attributes_next : (s : Bytes) → parse_attribute s ≡ ok a t → comma t ≡ ok tt u → separated_list m s ≡ separated_list (option_or m a) u
       unfolding separated_list separated_list_by
       attributes_next [] e c = absurd (never (sym (attribute_end [] (omega arith)) ∙ e))
       attributes_next (x ∷ s) e c =
-          rw (e, c) (attributes_bound (length s) (length u) (first_mode m a) u (omega (arith, attributes_shorter (x ∷ s) e c)) (omega arith))
+          rw (e, c) (attributes_bound (length s) (length u) (option_or m a) u (omega (arith, attributes_shorter (x ∷ s) e c)) (omega arith))
 
 -- ---- the mode of a block
 
-fold_stays : (l : List Pair) (mode : Mode) → fold (record { named = true; mode = mode }) l ≡ record { named = true; mode = mode }
-unfolding first_mode
+fold_stays : (l : List Pair) (mode : Mode) → fold (Some mode) l ≡ Some mode
 fold_stays [] mode = refl
 fold_stays (pair k v ∷ l) mode = fold_stays l mode
 
 -- the mode of the first that is named, and none where there is no such one, is that of the first attribute `resolution-mode`
-fold_mode : (l : List Pair) → (fold unnamed l).mode ≡ mode_in l
-unfolding mode_in first_mode attribute_mode
+fold_mode : (l : List Pair) → option_flatten (fold unnamed l) ≡ mode_in l
+unfolding mode_in attribute_mode
 fold_mode [] = refl
 fold_mode (pair k v ∷ l) = go (same k (ascii "resolution-mode")) (fold_mode l)
   where
-    go : (b : Bool) → (fold unnamed l).mode ≡ mode_in l → (fold (cond b (record { named = true; mode = mode_of v }) unnamed) l).mode ≡ cond b (mode_of v) (mode_in l)
+    go : (b : Bool) → option_flatten (fold unnamed l) ≡ mode_in l → option_flatten (fold (cond b (Some (mode_of v)) unnamed) l) ≡ cond b (mode_of v) (mode_in l)
     go true ih = rw (fold_stays l (mode_of v))
     go false ih = ih
 

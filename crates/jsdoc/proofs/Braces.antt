@@ -1,5 +1,6 @@
 -- Brace readings: the grammar and the functions agree.
-use Rattle.laws.proofs.Prelude.{◌≡◌, refl, sym, ap, ◌∙◌, Bool, true, false, cond, false≢true, ◌⊎◌, inl, inr, [], ◌∷◌, ◌++◌, Option, ℕ, zero, suc, ◌<◌, code}
+use Rattle.std.specs.Prelude.{None}
+use Rattle.laws.proofs.Prelude.{◌≡◌, refl, sym, ap, ◌∙◌, Bool, true, false, cond, false≢true, ◌⊎◌, inl, inr, [], ◌∷◌, ◌++◌, ℕ, zero, suc, ◌<◌, code}
 use Rattle.laws.proofs.Prelude.{arith, length, drop, eqb, ne_eqb, eqb-true}
 use mathlib.Core.Bool.{not-eq-not}
 use borrow.Author.Tests.{eqb-false}
@@ -76,7 +77,7 @@ pub tail_sound : (m : Mode) (s t : Bytes) → parse_tail s ≡ ok m t → Tail m
 unfolding parse_tail close_call skip_whitespace
 tail_sound m s t = go (parse_second_param_obj_with_leading_comma (skip White s)) refl
   where
-    end : (n : Mode) (u : Bytes) → SecondParam n (skip White s) u ⊎ ((n ≡ Option.none) × (skip White s ≡ u)) → close_call n u ≡ ok m t → Tail m s t
+    end : (n : Mode) (u : Bytes) → SecondParam n (skip White s) u ⊎ ((n ≡ None) × (skip White s ≡ u)) → close_call n u ≡ ok m t → Tail m s t
     end n u p e =
         let (z1, a, ea, e1) = then_ok (tag (ascii ")") u) _ e in
         let (z2, b, eb, e2) = then_ok (up_to (code "}") a) _ e1 in
@@ -86,17 +87,17 @@ tail_sound m s t = go (parse_second_param_obj_with_leading_comma (skip White s))
         record { r1 = skip White s; r2 = u; r3 = a; run = w; white = run_sound White s; part = rw n_is at p; paren = tag_sound (ascii ")") u a ea; rest = r }
 
     go : (o : Parsed Mode) → parse_second_param_obj_with_leading_comma (skip White s) ≡ o
-        → on_parsed (on_parsed o ok (ok Option.none (skip White s))) close_call backtrace ≡ ok m t → Tail m s t
+        → on_parsed (on_parsed o ok (ok None (skip White s))) close_call backtrace ≡ ok m t → Tail m s t
     go (ok n u) h e = end n u (inl (part_sound n (skip White s) u h)) e
-    go backtrace h e = end Option.none (skip White s) (inr (refl, refl)) e
+    go backtrace h e = end None (skip White s) (inr (refl, refl)) e
 
 pub tail_complete : {m : Mode} {s t : Bytes} → Tail m s t → parse_tail s ≡ ok m t
 unfolding parse_tail close_call
 tail_complete {m} r =
     rw (white_complete r.white, taken r.part, tag_complete (ascii ")") r.paren, up_to_complete (code "}") r.run r.rest)
   where
-    taken : SecondParam m r.r1 r.r2 ⊎ ((m ≡ Option.none) × (r.r1 ≡ r.r2)) →
-        on_parsed (parse_second_param_obj_with_leading_comma r.r1) ok (ok Option.none r.r1) ≡ ok m r.r2
+    taken : SecondParam m r.r1 r.r2 ⊎ ((m ≡ None) × (r.r1 ≡ r.r2)) →
+        on_parsed (parse_second_param_obj_with_leading_comma r.r1) ok (ok None r.r1) ≡ ok m r.r2
     taken (inl p) = rw (part_complete p)
     taken (inr (z, e)) = rw (part_none (e ∙ r.paren)) (cc)
 

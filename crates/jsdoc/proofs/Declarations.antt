@@ -1,5 +1,6 @@
 -- Declarations: the grammar and the functions agree.
-use Rattle.laws.proofs.Prelude.{◌≡◌, refl, sym, ◌∙◌, ◌⊎◌, inl, inr, Option, code, arith}
+use Rattle.std.specs.Prelude.{None}
+use Rattle.laws.proofs.Prelude.{◌≡◌, refl, sym, ◌∙◌, ◌⊎◌, inl, inr, code, arith}
 use Rattle.laws.specs.Ascii.{ascii}
 use Rattle.text.specs.{declared.class.Class.TheVariants.White, Ranges.in_ranges, Alphabetic.alphabetic}
 use Rattle.text.specs.Class.{outside, ranges, member}
@@ -107,16 +108,16 @@ with_complete r = rw (white_complete r.white, word_complete (ascii "with") r.wor
 
 -- the mode m of the block behind s, if that reads, and else none
 abbrev pub After : Mode → Bytes → Type 0
-After m s = ((t : Bytes) × With m s t) ⊎ (((n : Mode) (t : Bytes) → With n s t → ⊥) × (m ≡ Option.none))
+After m s = ((t : Bytes) × With m s t) ⊎ (((n : Mode) (t : Bytes) → With n s t → ⊥) × (m ≡ None))
 
-after_sound : (m : Mode) (s t : Bytes) → or parse_attributes (return Option.none) s ≡ ok m t → After m s
+after_sound : (m : Mode) (s t : Bytes) → or parse_attributes (return None) s ≡ ok m t → After m s
 after_sound m s t = go (parse_attributes s) refl
   where
-    go : (o : Parsed Mode) → parse_attributes s ≡ o → on_parsed o ok (ok Option.none s) ≡ ok m t → After m s
+    go : (o : Parsed Mode) → parse_attributes s ≡ o → on_parsed o ok (ok None s) ≡ ok m t → After m s
     go (ok n u) h e = inl (t, with_sound m s t (h ∙ e))
     go backtrace h e = inr (λ n u r. never (sym h ∙ with_complete r), (cc))
 
-pub after_complete : (m : Mode) (s : Bytes) → After m s → (t : Bytes) × (or parse_attributes (return Option.none) s ≡ ok m t)
+pub after_complete : (m : Mode) (s : Bytes) → After m s → (t : Bytes) × (or parse_attributes (return None) s ≡ ok m t)
 after_complete m s (inl (t, r)) = (t, rw (with_complete r))
 after_complete m s (inr (f, z)) = (s, rw (no_reading (parse_attributes s) (λ n t e. f n t (with_sound n s t e)), z))
 
@@ -127,7 +128,7 @@ from_sound : (s q e : Bytes) (m : Mode) (t : Bytes) → parse_from s ≡ ok (hit
 unfolding parse_from skip_whitespace
 from_sound s q e m t h =
     let (z, b, eb, h1) = then_ok (word (ascii "from") (skip White s)) _ h in
-    let (i, (k, r), j) = specifier_sound (or parse_attributes (return Option.none)) b q e t m h1 in
+    let (i, (k, r), j) = specifier_sound (or parse_attributes (return None)) b q e t m h1 in
     let eq : word (ascii "from") (skip White s) ≡ ok z q = cc in
     (skip White s, k, run_sound White s, word_sound (ascii "from") (skip White s) q eq, r, after_sound m e t j)
 

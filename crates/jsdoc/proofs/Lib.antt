@@ -8,6 +8,7 @@ pub mod Characters
 pub mod Declarations
 pub mod Ends
 pub mod Listing
+pub mod Marking
 pub mod Ticked
 pub mod Ticking
 pub mod Moved
@@ -16,7 +17,6 @@ pub mod Noting
 pub mod Openers
 pub mod ReadingPlace
 pub mod Searches
-pub mod Skips
 pub mod Steps
 pub mod Suffixes
 pub mod Texts

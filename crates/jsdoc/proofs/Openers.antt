@@ -1,20 +1,23 @@
 -- The origins that the parsers give at each place of a body are the first places that read.
-use Rattle.laws.proofs.Prelude.{◌≡◌, ◌⊎◌, ⊎_elim, inl, inr, List, ℕ, zero, suc, ◌≤◌, ◌<◌, arith, ℕ_discrete, length, drop}
+use Rattle.std.specs.Prelude.{Option, Some, None}
+use Rattle.std.proofs.lemmas.List.{set-get_or}
+use Rattle.laws.proofs.Prelude.{◌≡◌, refl, sym, ne_eqb, Bool, true, false, cond, eqb, set, get_or, replicate, ◌+◌, ◌-◌, ◌⊎◌, ⊎_elim, inl, inr, List, ℕ, zero, suc, ◌≤◌, ◌<◌, arith, ℕ_discrete, length, drop}
 use Rattle.analysis.specs.Mode.{Mode}
 use Rattle.jsdoc.specs.Grammar.{Bytes, Brace, Declaration, Reading, From}
-use Rattle.jsdoc.specs.{Parsed.Parser, Parsed.value, Reader.Hit, code.Origins.Origins, code.Origins.ReadsBy}
+use Rattle.jsdoc.specs.{Parsed.Parser, Parsed.value, Reader.Hit, Reader.hit, code.Origins.Origins, code.Origins.ReadsBy}
 use Rattle.jsdoc.specs.Origins.{note_of, openers_by, openers}
-use Rattle.jsdoc.proofs.{ReadingPlace.with_kind, Listing.answered, Noted.origins_more}
+use Rattle.jsdoc.proofs.{ReadingPlace.with_kind, Apart.never_both, Listing.answered, Noted.origins_more, Noted.origins_unique}
+use Rattle.jsdoc.specs.code.Marks.{Mark, Stays, hit_marked, all_marked, readings_marked}
 use Rattle.jsdoc.proofs.Ticking.{Kind, braces, declarations, from_below}
 use Rattle.jsdoc.proofs.Noting.{Early, early_none, origins_turn}
 
 -- one turn notes what the parser reads
 turned : {R : Bytes → Bytes → Bytes → Mode → Type 0} {p : Parser Hit} → Kind R p → (b : Bytes) (n : ℕ) → n < length b → {P : ℕ → ℕ → Type 0} {l : List ℕ}
-    → Origins P (length b) l → ((k q : ℕ) → P k q → k ≤ n)
+    → Origins P (length b) l → ((k q : ℕ) (m : Mode) → From R b n q m → P k q → k ≤ n)
     → Origins (λ k q. P k q ⊎ ((k ≡ n) × ReadsBy R b n q)) (length b) (note_of n (drop n b) (value (p (drop n b))) l)
 turned K b n h {l = l} o behind =
     let a = answered K (drop n b) in
-    rw (a.note n l) at (origins_turn K b n h o (λ k q m f. behind k q) a.import a.is)
+    rw (a.note n l) at (origins_turn K b n h o behind a.import a.is)
 
 module _ (b : Bytes) where
   -- the readings from before n and the Brace reading from n, and the Declaration from n
@@ -42,9 +45,83 @@ module _ (b : Bytes) where
   openers_by_lem (suc n) h =
       origins_more (on n) (λ k q x. (k, omega arith, back n k q x))
       (turned declarations b n h
-      (turned braces b n h (openers_by_lem n (omega arith)) (λ k q x. omega (arith, x.0)))
-      (λ k q x. omega (arith, (on n k q (inl x)).0)))
+      (turned braces b n h (openers_by_lem n (omega arith)) (λ k q m f x. omega (arith, x.0)))
+      (λ k q m f x. omega (arith, (on n k q (inl x)).0)))
 
   pub origins_first : Origins (ReadsBy Reading b) (length b) (openers b)
   unfolding openers
   origins_first = origins_more (λ k q x. x.1) (λ k q x. (k, omega arith, (from_below x.1, x))) (openers_by_lem (length b) (omega arith))
+
+-- ---- the notes of the code, which marks the readings of one kind and then those of the other
+
+abbrev pub note : Mark ℕ
+note x i m = cond (eqb x 0) (i + 1) x
+
+pub note_stays : Stays note
+note_stays x i k m h = go (eqb x 0) refl
+  where
+    go : (z : Bool) → eqb x 0 ≡ z → note (cond z (i + 1) x) k m ≡ cond z (i + 1) x
+    go true e = rw (ne_eqb (i + 1) 0 (λ z. omega (arith, z)))
+    go false e = rw e
+
+hit_noted : (i : ℕ) (s : Bytes) (o : Option Hit) (l : List ℕ) → note_of i s o l ≡ hit_marked note 0 i s o l
+hit_noted i s None l = refl
+hit_noted i s (Some (hit q e m)) l = go (eqb (get_or l (i + (length s - length q)) 0) 0)
+  where
+    at : ℕ
+    at = i + (length s - length q)
+
+    go : (z : Bool) → cond z (set l at (i + 1)) l ≡ set l at (cond z (i + 1) (get_or l at 0))
+    go true = refl
+    go false = sym (set-get_or l at 0)
+
+module _ {R : Bytes → Bytes → Bytes → Mode → Type 0} {p : Parser Hit} (K : Kind R p) (b : Bytes) {P : ℕ → ℕ → Type 0} {l : List ℕ}
+    (o : Origins P (length b) l) (apart : (j k q : ℕ) (m : Mode) → P j q → From R b k q m → ⊥) where
+  all_noted : (n : ℕ) → n ≤ length b → Origins (λ k q. P k q ⊎ Early R b n k q) (length b) (all_marked note 0 p n b l)
+  all_noted zero h = origins_more (λ k q x. inl x) (λ k q x. (k, omega arith, ⊎_elim (λ y. y) (λ y. absurd (omega (arith, y.0))) x)) o
+  all_noted (suc n) h =
+      origins_more more (λ k q x. (k, omega arith, less k q x))
+      (rw hit_noted at (turned K b n h (all_noted n (omega arith)) behind))
+    where
+      behind : (k q : ℕ) (m : Mode) → From R b n q m → P k q ⊎ Early R b n k q → k ≤ n
+      behind k q m f (inl x) = absurd (apart k n q m x f)
+      behind k q m f (inr x) = omega (arith, x.0)
+
+      more : (k q : ℕ) → (P k q ⊎ Early R b n k q) ⊎ ((k ≡ n) × ReadsBy R b n q) → P k q ⊎ Early R b (suc n) k q
+      more k q (inl (inl x)) = inl x
+      more k q (inl (inr x)) = inr (omega (arith, x.0), x.1)
+      more k q (inr x) = inr (omega (arith, x.0), rw x.0 x.1)
+
+      less : (k q : ℕ) → P k q ⊎ Early R b (suc n) k q → (P k q ⊎ Early R b n k q) ⊎ ((k ≡ n) × ReadsBy R b n q)
+      less k q (inl x) = inl (inl x)
+      less k q (inr (g, x)) = go (ℕ_discrete k n)
+        where
+          go : Dec (k ≡ n) → (P k q ⊎ Early R b n k q) ⊎ ((k ≡ n) × ReadsBy R b n q)
+          go (yes e) = inr (e, rw e at x)
+          go (no e) = inl (inr (omega arith, x))
+
+readings_noted : (b : Bytes) → Origins (ReadsBy Reading b) (length b) (readings_marked note 0 b (replicate (length b) 0))
+readings_noted b =
+    origins_more on (λ k q x. (k, omega arith, back k q x.0 x.1 x.1.reads))
+    (all_noted declarations b (all_noted braces b (early_none b) none (length b) (omega arith)) apart (length b) (omega arith))
+  where
+    none : (j k q : ℕ) (m : Mode) → Early Brace b 0 j q → From Brace b k q m → ⊥
+    none j k q m x f = omega (arith, x.0)
+
+    apart : (j k q : ℕ) (m : Mode) → Early Brace b 0 j q ⊎ Early Brace b (length b) j q → From Declaration b k q m → ⊥
+    apart j k q m (inl x) f = omega (arith, x.0)
+    apart j k q m (inr (h, (n, g))) f = never_both g f
+
+    on : (k q : ℕ) → (Early Brace b 0 k q ⊎ Early Brace b (length b) k q) ⊎ Early Declaration b (length b) k q → ReadsBy Reading b k q
+    on k q (inl (inl x)) = absurd (omega (arith, x.0))
+    on k q (inl (inr (h, (m, f)))) = (m, with_kind f (inl f.reads))
+    on k q (inr (h, (m, f))) = (m, with_kind f (inr f.reads))
+
+    back : (k q : ℕ) (m : Mode) (f : From Reading b k q m) → Reading (drop k b) (drop q b) (drop f.end b) m
+        → (Early Brace b 0 k q ⊎ Early Brace b (length b) k q) ⊎ Early Declaration b (length b) k q
+    back k q m f (inl r) = inl (inr (from_below f, (m, with_kind f r)))
+    back k q m f (inr r) = inr (from_below f, (m, with_kind f r))
+
+-- what is noted is what the parsers give
+pub noted_openers : (b : Bytes) → readings_marked note 0 b (replicate (length b) 0) ≡ openers b
+noted_openers b = origins_unique (readings_noted b) (origins_first b)

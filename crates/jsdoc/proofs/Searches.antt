@@ -1,12 +1,12 @@
 -- The search for `import` from a brace, from one place to the next; and that it ends at one place for all braces before that.
 use Rattle.laws.proofs.Prelude.{◌≡◌, refl, sym, ap, ◌∙◌, Bool, true, false, cond, ◌⊎◌, ⊎_elim, inl, inr, [], ◌∷◌, ◌++◌, ℕ, zero, suc, ◌+◌, ◌-◌, ◌≤◌, ◌<◌}
+use Rattle.std.specs.Prelude.{Option, None}
 use Rattle.laws.proofs.Prelude.{code, arith, length, drop, get_or, length-drop, drop_of_length-le, drop-drop, eqb, ne_eqb}
 use Rattle.laws.specs.Ascii.{ascii}
 use Rattle.text.specs.Bytes.{begins}
 use Rattle.jsdoc.specs.{Grammar.Bytes, code.Answers.Imports, code.Answers.Scans, declared.answers.JsDocImport.JsDocImport}
 use Rattle.jsdoc.specs.Parsed.{ok, backtrace, value}
 use Rattle.jsdoc.specs.Reader.{tag, word, seek, sought, parse_call, parse_jsdoc_dynamic_import}
-use Rattle.jsdoc.specs.declared.answers.JsDocImport.TheVariants as jsdoc_import
 use Rattle.jsdoc.specs.declared.answers.Searched.{Searched}
 use Rattle.jsdoc.proofs.{Texts.tag_complete, Steps.cons_at}
 
@@ -35,16 +35,16 @@ module _ (s : Bytes) (i : ℕ) where
 
 -- ---- what is answered where a search ends
 
-pub no_brace : (s : Bytes) → tag (ascii "{") s ≡ backtrace → Scans s (record { found = jsdoc_import.Backtrace; end = 0 })
+pub no_brace : (s : Bytes) → tag (ascii "{") s ≡ backtrace → Scans s (record { found = None; end = 0 })
 unfolding parse_jsdoc_dynamic_import sought
 no_brace s e = record { import = record { answer = rw e; bounds = tt }; end = rw e; inside = omega arith }
 
 module _ (s : Bytes) {a : Bytes} (i : ℕ) (t : tag (ascii "{") s ≡ ok tt a) (e : seek a ≡ drop i s) (h : i ≤ length s) where
-  pub no_import : begins (ascii "import") (drop i s) ≡ false → Scans s (record { found = jsdoc_import.Backtrace; end = i })
+  pub no_import : begins (ascii "import") (drop i s) ≡ false → Scans s (record { found = None; end = i })
   unfolding parse_jsdoc_dynamic_import parse_call sought word tag
   no_import b = record { import = record { answer = rw (t, e, b); bounds = tt }; end = rw (t, e); inside = h }
 
-  pub call_read : {r : JsDocImport} → Imports s (value (parse_call (drop i s))) r → Scans s (record { found = r; end = i })
+  pub call_read : {r : Option JsDocImport} → Imports s (value (parse_call (drop i s))) r → Scans s (record { found = r; end = i })
   unfolding parse_jsdoc_dynamic_import sought
   call_read r = record { import = record { answer = rw (t, e) r.answer; bounds = r.bounds }; end = rw (t, e); inside = h }
 

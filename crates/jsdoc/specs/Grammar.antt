@@ -1,7 +1,7 @@
 -- The grammar of JSDoc imports, with no parser. A piece P is a relation: `P s t` says that the bytes s are the piece, followed by the bytes t.
 -- Where a piece is made of others, r1, r2 and so on are the bytes that are left between them.
 use Rattle.std.specs.Prelude.{◌≡◌, cond, ◌⊎◌, List, [], ◌∷◌, ◌++◌, ℕ, ◌≤◌, ◌<◌, length, drop}
-use Rattle.std.proofs.Math.Option.{Option}
+use Rattle.std.specs.Prelude.{None}
 use Prim.Native.Char.{code}
 use Rattle.laws.specs.Ascii.{ascii}
 use Rattle.text.specs.declared.class.Class.{Class}
@@ -75,7 +75,7 @@ pub data Attributes : List Pair → Bytes → Bytes → Type 0 where
 
 -- Mode: that of the first attribute `resolution-mode`; none where there is no such one
 unfoldable pub mode_in : List Pair → Mode
-mode_in [] = Option.none
+mode_in [] = None
 mode_in (pair k v ∷ l) = cond (same k (ascii "resolution-mode")) (mode_of v) (mode_in l)
 
 -- `{` W*, attributes, W* `}`
@@ -120,7 +120,7 @@ pub record Tail (mode : Mode) (s t : Bytes) : Type 0 where
   pub r3 : Bytes
   pub run : Bytes
   pub white : W* s r1
-  pub part : SecondParam mode r1 r2 ⊎ ((mode ≡ Option.none) × (r1 ≡ r2))
+  pub part : SecondParam mode r1 r2 ⊎ ((mode ≡ None) × (r1 ≡ r2))
   pub paren : r2 ≡ ascii ")" ++ r3
   pub rest : Upto (code "}") run r3 t
 
@@ -180,7 +180,7 @@ pub record Declaration (s q e : Bytes) (mode : Mode) : Type 0 where
   pub white2 : W* r3 r4
   pub word2 : Word (ascii "from") r4 q
   pub quote : Quote text q e
-  pub after : ((t : Bytes) × With mode e t) ⊎ (((m : Mode) (t : Bytes) → With m e t → ⊥) × (mode ≡ Option.none))
+  pub after : ((t : Bytes) × With mode e t) ⊎ (((m : Mode) (t : Bytes) → With m e t → ⊥) × (mode ≡ None))
 
 abbrev pub Reading : Bytes → Bytes → Bytes → Mode → Type 0
 Reading s q e mode = Brace s q e mode ⊎ Declaration s q e mode

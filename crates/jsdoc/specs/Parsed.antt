@@ -1,5 +1,5 @@
 -- What a parser answers, as monch's `ParseResult`: a value and the bytes that are left, or a backtrace.
-use Rattle.std.proofs.Math.Option.{Option, none, some}
+use Rattle.std.specs.Prelude.{None, Option, Some}
 use Rattle.jsdoc.specs.Grammar.{Bytes}
 
 pub data Parsed (A : Type 0) : Type 0 where
@@ -37,5 +37,5 @@ or p g s = on_parsed (p s) ok (g s)
 
 -- the value alone
 abbrev pub value : {A : Type 0} → Parsed A → Option A
-value (ok a t) = some a
-value backtrace = none
+value (ok a t) = Some a
+value backtrace = None

@@ -1,7 +1,8 @@
 -- The readers as functions; where src/ast/mod.rs or monch has a counterpart, named after it.
 -- Grammar is the file to be believed: these give the value that the report computes, and the laws `brace_agrees` and `declaration_agrees` tie them to it.
-use Rattle.std.specs.Prelude.{Bool, true, false, cond, ◌||◌, [], ◌∷◌, ℕ, zero, suc, ◌-◌, length, take, drop, eqb}
-use Rattle.std.proofs.Math.Option.{none}
+use Rattle.std.specs.Prelude.{Bool, cond, ◌||◌, [], ◌∷◌, ℕ, zero, suc, ◌-◌, length, take, drop, eqb}
+use Rattle.std.specs.Prelude.{None, Option, Some}
+use Rattle.std.specs.Option.{option_or, option_flatten}
 use Prim.Native.Char.{code}
 use Rattle.laws.specs.Ascii.{ascii}
 use Rattle.text.specs.declared.class.Class.{Class}
@@ -57,17 +58,16 @@ parse_ident s = cond (eqb (class_at Alphabetic s) 0) backtrace (ok (before s (pa
 unfoldable pub parse_key : Parser Bytes
 parse_key = or parse_quote parse_ident
 
--- is there an attribute `resolution-mode`, and the mode of the first such one
-pub record ModeNamed : Type 0 where
-  pub named : Bool
-  pub mode : Mode
+-- the mode of the first attribute `resolution-mode`, if there is such an attribute
+abbrev pub ModeNamed : Type 0
+ModeNamed = Option Mode
 
 abbrev pub unnamed : ModeNamed
-unnamed = record { named = false; mode = none }
+unnamed = None
 
 -- of one attribute
 unfoldable pub attribute_mode : Bytes → Bytes → ModeNamed
-attribute_mode k v = cond (same k (ascii "resolution-mode")) (record { named = true; mode = mode_of v }) unnamed
+attribute_mode k v = cond (same k (ascii "resolution-mode")) (Some (mode_of v)) unnamed
 
 unfoldable pub parse_attribute : Parser ModeNamed
 parse_attribute = do
@@ -77,10 +77,6 @@ parse_attribute = do
   v ← parse_quote
   return (attribute_mode k v)
 
--- the first that is named
-unfoldable pub first_mode : ModeNamed → ModeNamed → ModeNamed
-first_mode m n = cond m.named m n
-
 -- W* `,` W*
 unfoldable pub comma : Parser (Unit {0})
 comma = skip_whitespace >> word (ascii ",")
@@ -89,7 +85,7 @@ comma = skip_whitespace >> word (ascii ",")
 unfoldable pub separated_list_by : ℕ → ModeNamed → Parser ModeNamed
 separated_list_by zero m s = ok m s
 separated_list_by (suc n) m s =
-    on_parsed (parse_attribute s) (λ a t. on_parsed (comma t) (λ z. separated_list_by n (first_mode m a)) (ok (first_mode m a) t)) (ok m s)
+    on_parsed (parse_attribute s) (λ a t. on_parsed (comma t) (λ z. separated_list_by n (option_or m a)) (ok (option_or m a) t)) (ok m s)
 
 unfoldable pub separated_list : ModeNamed → Parser ModeNamed
 separated_list m s = separated_list_by (length s) m s
@@ -100,7 +96,7 @@ parse_import_attribute_block_for_resolution_mode = do
   m ← separated_list unnamed
   skip_whitespace
   tag (ascii "}")
-  return m.mode
+  return (option_flatten m)
 
 -- `, {with:`
 unfoldable pub second_param_start : Parser (Unit {0})
@@ -130,7 +126,7 @@ close_call m = do
 unfoldable pub parse_tail : Parser Mode
 parse_tail = do
   skip_whitespace
-  m ← or parse_second_param_obj_with_leading_comma (return none)
+  m ← or parse_second_param_obj_with_leading_comma (return None)
   close_call m
 
 -- where the quote begins, where it ends, and the mode
@@ -196,7 +192,7 @@ unfoldable pub parse_from : Parser Hit
 parse_from = do
   skip_whitespace
   word (ascii "from")
-  specifier (or parse_attributes (return none))
+  specifier (or parse_attributes (return None))
 
 unfoldable pub parse_jsdoc_import_decl : Parser Hit
 parse_jsdoc_import_decl = do

@@ -2,3 +2,4 @@
 pub mod Answers
 pub mod Ticks
 pub mod Origins
+pub mod Marks

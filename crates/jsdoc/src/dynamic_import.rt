@@ -1,132 +1,95 @@
 // `{import("./a.ts", {with: {..}}).A}`
 ghost use Rattle.std.specs.Prelude.{◌≤◌, length, drop};
-ghost use Rattle.analysis.specs.code.Mode.{mode_as};
 ghost use Rattle.jsdoc.specs.Parsed.{value};
 ghost use Rattle.jsdoc.specs.Reader.{second_param_start, parse_second_param_obj_with_leading_comma, close_call, parse_tail, parse_call};
 ghost use Rattle.jsdoc.specs.code.Answers.{Finds, Gives, Imports, Scans};
 
-use super::answers::{JsDocImport, ModeRead, Searched, Skipped, Text};
+use super::answers::{JsDocImport, Mode, Searched};
 use super::block::block_at;
 use super::pieces::{skip_whitespace, tag, up_to, word};
 use super::quote::quote_at;
-use analysis::mode::ModeFound;
 use text::bytes::starts_with;
 
 // Past `, {with:` at `at`.
-fn second_param_start(s: &[u8], at: usize) -> Skipped
+fn second_param_start(s: &[u8], at: usize) -> Option<usize>
     requires { at ≤ length s.now }
     ensures { Finds s.now (second_param_start (drop at s.now)) result }
 {
-    let Skipped::At(brace) = word(s, at, b",") else {
-        return Skipped::Backtrace;
-    };
-    let Skipped::At(with) = word(s, brace, b"{") else {
-        return Skipped::Backtrace;
-    };
-    let Skipped::At(colon) = word(s, with, b"with") else {
-        return Skipped::Backtrace;
-    };
+    let brace = word(s, at, b",")?;
+    let with = word(s, brace, b"{")?;
+    let colon = word(s, with, b"with")?;
     word(s, colon, b":")
 }
 
 // `, {with: {..}}` at `at`.
-fn parse_second_param_obj_with_leading_comma(s: &[u8], at: usize) -> ModeRead
+fn parse_second_param_obj_with_leading_comma(s: &[u8], at: usize) -> Option<(Mode, usize)>
     requires { at ≤ length s.now }
     ensures { Gives s.now (parse_second_param_obj_with_leading_comma (drop at s.now)) result }
 {
-    let Skipped::At(block) = second_param_start(s, at) else {
-        return ModeRead::Backtrace;
-    };
-    let ModeRead::Past { mode, past } = block_at(s, block) else {
-        return ModeRead::Backtrace;
-    };
+    let block = second_param_start(s, at)?;
+    let (mode, past) = block_at(s, block)?;
     let close = skip_whitespace(s, past);
-    let Skipped::At(end) = word(s, close, b"}") else {
-        return ModeRead::Backtrace;
-    };
-    ModeRead::Past { mode, past: end }
+    let end = word(s, close, b"}")?;
+    Some((mode, end))
 }
 
 // `)` at `at`, and then a closing brace.
-fn close_call(s: &[u8], at: usize, mode: ModeFound) -> ModeRead
+fn close_call(s: &[u8], at: usize, mode: Mode) -> Option<(Mode, usize)>
     requires { at ≤ length s.now }
-    ensures { Gives s.now (close_call (mode_as mode) (drop at s.now)) result }
+    ensures { Gives s.now (close_call mode (drop at s.now)) result }
 {
-    let Skipped::At(run) = tag(s, at, b")") else {
-        return ModeRead::Backtrace;
-    };
-    let Skipped::At(past) = up_to(s, run, b'}') else {
-        return ModeRead::Backtrace;
-    };
-    ModeRead::Past { mode, past }
+    let run = tag(s, at, b")")?;
+    let past = up_to(s, run, b'}')?;
+    Some((mode, past))
 }
 
 // What follows the quote, from `at` on: the mode.
-fn parse_tail(s: &[u8], at: usize) -> ModeRead
+fn parse_tail(s: &[u8], at: usize) -> Option<(Mode, usize)>
     requires { at ≤ length s.now }
     ensures { Gives s.now (parse_tail (drop at s.now)) result }
 {
     let param = skip_whitespace(s, at);
-    match parse_second_param_obj_with_leading_comma(s, param) {
-        ModeRead::Past { mode, past } => close_call(s, past, mode),
-        ModeRead::Backtrace => close_call(s, param, ModeFound::Nothing),
-    }
+    let (mode, past) = parse_second_param_obj_with_leading_comma(s, param).unwrap_or((None, param));
+    close_call(s, past, mode)
 }
 
 // The call of `import` at `at`.
-fn parse_call(s: &[u8], at: usize) -> JsDocImport
+fn parse_call(s: &[u8], at: usize) -> Option<JsDocImport>
     requires { at ≤ length s.now }
     ensures { Imports s.now (value (parse_call (drop at s.now))) result }
 {
-    let Skipped::At(paren) = word(s, at, b"import") else {
-        return JsDocImport::Backtrace;
-    };
-    let Skipped::At(start) = word(s, paren, b"(") else {
-        return JsDocImport::Backtrace;
-    };
-    let Text::Part {
-        from: _,
-        to: _,
-        past: end,
-    } = quote_at(s, start)
-    else {
-        return JsDocImport::Backtrace;
-    };
-    let ModeRead::Past { mode, past: _ } = parse_tail(s, end) else {
-        return JsDocImport::Backtrace;
-    };
-    JsDocImport::Import { start, end, mode }
+    let paren = word(s, at, b"import")?;
+    let start = word(s, paren, b"(")?;
+    let quote = quote_at(s, start)?;
+    let end = quote.past;
+    let (mode, _) = parse_tail(s, end)?;
+    Some(JsDocImport { start, end, mode })
 }
 
 // The reading from the brace that begins `rest`, and the place at which its search ended: a brace before that has no other reading.
 pub fn parse_jsdoc_dynamic_import(rest: &[u8]) -> Searched
     ensures { Scans rest.now result }
 {
-    let Skipped::At(first) = tag(rest, 0, b"{") else {
+    let Some(first) = tag(rest, 0, b"{") else {
         return Searched {
-            found: JsDocImport::Backtrace,
+            found: None,
             end: 0,
         };
     };
-    let mut i = first;
-    'scan: loop {
-        if rest.len() <= i {
-            return Searched {
-                found: JsDocImport::Backtrace,
-                end: i,
-            };
-        }
+    for i in first..rest.len() {
         if rest[i] == b'}' {
             return Searched {
-                found: JsDocImport::Backtrace,
+                found: None,
                 end: i,
             };
         }
         if starts_with(rest, i, b"import") {
-            break 'scan;
+            let found = parse_call(rest, i);
+            return Searched { found, end: i };
         }
-        i += 1;
     }
-    let found = parse_call(rest, i);
-    Searched { found, end: i }
+    Searched {
+        found: None,
+        end: rest.len(),
+    }
 }

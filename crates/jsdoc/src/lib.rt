@@ -7,6 +7,7 @@ mod clause;
 pub mod dynamic_import;
 pub mod import_decl;
 pub mod imports;
+mod marks;
 pub mod origins;
 mod pieces;
 pub mod quote;

@@ -5,7 +5,6 @@ ghost use Rattle.jsdoc.specs.Parsed.{ok};
 ghost use Rattle.jsdoc.specs.Reader.{skip_whitespace, whitespace, tag as tag_of, word as word_of, up_to};
 ghost use Rattle.jsdoc.specs.code.Answers.{Finds};
 
-use super::answers::Skipped;
 use text::bytes::{next_of, starts_with};
 use text::class::{Class, run_end};
 
@@ -19,48 +18,40 @@ pub fn skip_whitespace(s: &[u8], at: usize) -> usize
 }
 
 // Past the white space at `at`, of which there is some.
-pub fn whitespace(s: &[u8], at: usize) -> Skipped
+pub fn whitespace(s: &[u8], at: usize) -> Option<usize>
     requires { at ≤ length s.now }
     ensures { Finds s.now (whitespace (drop at s.now)) result }
 {
     let end = run_end(s, at, Class::White);
-    if end == at {
-        return Skipped::Backtrace;
-    }
-    Skipped::At(end)
+    if end == at { None } else { Some(end) }
 }
 
 // Past the word at `at`.
-pub fn tag(s: &[u8], at: usize, word: &[u8]) -> Skipped
+pub fn tag(s: &[u8], at: usize, word: &[u8]) -> Option<usize>
     requires { at ≤ length s.now }
     ensures { Finds s.now (tag_of word.now (drop at s.now)) result }
 {
     if starts_with(s, at, word) {
-        Skipped::At(at + word.len())
+        Some(at + word.len())
     } else {
-        Skipped::Backtrace
+        None
     }
 }
 
 // Past the word at `at` and the white space after it.
-pub fn word(s: &[u8], at: usize, word: &[u8]) -> Skipped
+pub fn word(s: &[u8], at: usize, word: &[u8]) -> Option<usize>
     requires { at ≤ length s.now }
     ensures { Finds s.now (word_of word.now (drop at s.now)) result }
 {
-    let Skipped::At(past) = tag(s, at, word) else {
-        return Skipped::Backtrace;
-    };
-    Skipped::At(skip_whitespace(s, past))
+    let past = tag(s, at, word)?;
+    Some(skip_whitespace(s, past))
 }
 
 // Past the first `mark` from `at` on.
-pub fn up_to(s: &[u8], at: usize, mark: u8) -> Skipped
+pub fn up_to(s: &[u8], at: usize, mark: u8) -> Option<usize>
     requires { at ≤ length s.now }
     ensures { Finds s.now (up_to mark (drop at s.now)) result }
 {
     let i = next_of(s, at, mark);
-    if i < s.len() {
-        return Skipped::At(i + 1);
-    }
-    Skipped::Backtrace
+    if i < s.len() { Some(i + 1) } else { None }
 }

@@ -3,73 +3,62 @@ ghost use Rattle.std.specs.Prelude.{◌≡◌, ◌≤◌, length, drop};
 ghost use Rattle.jsdoc.specs.Reader.{is_mark, parse_quote, parse_ident, parse_key};
 ghost use Rattle.jsdoc.specs.code.Answers.{Spells, quote_mark, name_mark, key_mark, moved, Movable};
 
-use super::answers::{Skipped, Text};
+use super::answers::Part;
 use super::pieces::up_to;
 use text::class::{Class, class_at, run_end};
 
 fn is_mark(b: u8) -> bool
     ensures { result ≡ is_mark b }
 {
-    if b == b'"' {
-        return true;
-    }
-    b == b'\''
+    matches!(b, b'"' | b'\'')
 }
 
 // The quote that begins `rest`.
-pub fn parse_quote(rest: &[u8]) -> Text
+pub fn parse_quote(rest: &[u8]) -> Option<Part>
     ensures { Spells rest.now 0 quote_mark (parse_quote rest.now) result }
 {
-    if rest.len() == 0 {
-        return Text::Backtrace;
-    }
-    let mark = rest[0];
+    let mark = *rest.first()?;
     if is_mark(mark) {
-        let Skipped::At(past) = up_to(rest, 1, mark) else {
-            return Text::Backtrace;
-        };
-        return Text::Part {
+        let past = up_to(rest, 1, mark)?;
+        return Some(Part {
             from: 1,
             to: past - 1,
             past,
-        };
+        });
     }
-    Text::Backtrace
+    None
 }
 
 // The name that begins `rest`.
-pub fn parse_ident(rest: &[u8]) -> Text
+pub fn parse_ident(rest: &[u8]) -> Option<Part>
     ensures { Spells rest.now 0 name_mark (parse_ident rest.now) result }
 {
     let first = class_at(rest, 0, Class::Alphabetic);
     if first == 0 {
-        return Text::Backtrace;
+        return None;
     }
     let past = run_end(rest, first, Class::NameRest);
-    Text::Part {
+    Some(Part {
         from: 0,
         to: past,
         past,
-    }
+    })
 }
 
 // What is read of the bytes from `at` on, by the places of the whole.
-fn from_place(text: Text, at: usize) -> Text
+fn from_place(text: Option<Part>, at: usize) -> Option<Part>
     requires { Movable at text }
     ensures { result ≡ moved at text }
 {
-    match text {
-        Text::Part { from, to, past } => Text::Part {
-            from: at + from,
-            to: at + to,
-            past: at + past,
-        },
-        Text::Backtrace => Text::Backtrace,
-    }
+    text.map(|part| Part {
+        from: at + part.from,
+        to: at + part.to,
+        past: at + part.past,
+    })
 }
 
 // The quote at `at`.
-pub fn quote_at(s: &[u8], at: usize) -> Text
+pub fn quote_at(s: &[u8], at: usize) -> Option<Part>
     requires { at ≤ length s.now }
     ensures { Spells s.now at quote_mark (parse_quote (drop at s.now)) result }
 {
@@ -77,7 +66,7 @@ pub fn quote_at(s: &[u8], at: usize) -> Text
 }
 
 // The name at `at`.
-pub fn ident_at(s: &[u8], at: usize) -> Text
+pub fn ident_at(s: &[u8], at: usize) -> Option<Part>
     requires { at ≤ length s.now }
     ensures { Spells s.now at name_mark (parse_ident (drop at s.now)) result }
 {
@@ -85,12 +74,9 @@ pub fn ident_at(s: &[u8], at: usize) -> Text
 }
 
 // The quote or the name at `at`.
-pub fn parse_key(s: &[u8], at: usize) -> Text
+pub fn parse_key(s: &[u8], at: usize) -> Option<Part>
     requires { at ≤ length s.now }
     ensures { Spells s.now at (key_mark (drop at s.now)) (parse_key (drop at s.now)) result }
 {
-    match quote_at(s, at) {
-        Text::Part { from, to, past } => Text::Part { from, to, past },
-        Text::Backtrace => ident_at(s, at),
-    }
+    quote_at(s, at).or_else(|| ident_at(s, at))
 }

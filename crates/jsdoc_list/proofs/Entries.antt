@@ -1,4 +1,5 @@
 -- The imports at the places that are ticked: which they are, how many, and in which order.
+use Rattle.std.specs.Prelude.{Some, None}
 use Rattle.laws.proofs.Prelude.{◌≡◌, refl, ap, sym, ◌∙◌, ⊎_elim, List, [], ◌∷◌, Memᴰ, Memᴰ_head, Memᴰ_tail, Memᴰ_not_nil}
 use Rattle.laws.proofs.Prelude.{Memᴰ_cases_cons, Option, ℕ, zero, suc, ◌+◌, ◌<◌, add-zero, add-one, arith, length, get_or}
 use native.Mathlib.Nat.{add-suc, suc-add}
@@ -13,7 +14,7 @@ use Rattle.jsdoc_list.proofs.Quotes.{Standing}
 module _ (source : List ℕ) where
   -- each import of the list is that of a tick
   pub found : (ticks : List ℕ) (q : ℕ) {i : JsDocImportInfo} → Memᴰ i (imports_from source q ticks)
-      → (d m : ℕ) × (get_or ticks d 0 ≡ m + 1) × (import_at source (q + d) (value_of modes m) ≡ Option.some i)
+      → (d m : ℕ) × (get_or ticks d 0 ≡ m + 1) × (import_at source (q + d) (value_of modes m) ≡ Some i)
   unfolding imports_from
   found [] q among = absurd (Memᴰ_not_nil among)
   found (zero ∷ ticks) q among =
@@ -23,19 +24,19 @@ module _ (source : List ℕ) where
     where
       go : (o : Option JsDocImportInfo) → import_at source q (value_of modes n) ≡ o → Memᴰ i (listed o (imports_from source (suc q) ticks))
           → (Memᴰ i (imports_from source (suc q) ticks) →
-          (d m : ℕ) × (get_or ticks d 0 ≡ m + 1) × (import_at source (suc q + d) (value_of modes m) ≡ Option.some i))
-          → (d m : ℕ) × (get_or (suc n ∷ ticks) d 0 ≡ m + 1) × (import_at source (q + d) (value_of modes m) ≡ Option.some i)
-      go Option.none e among more =
+          (d m : ℕ) × (get_or ticks d 0 ≡ m + 1) × (import_at source (suc q + d) (value_of modes m) ≡ Some i))
+          → (d m : ℕ) × (get_or (suc n ∷ ticks) d 0 ≡ m + 1) × (import_at source (q + d) (value_of modes m) ≡ Some i)
+      go None e among more =
           let (d, m, h, is) = more among in
           (suc d, m, h, rw (add-suc, ← suc-add) is)
-      go (Option.some j) e among more =
+      go (Some j) e among more =
           ⊎_elim
-          (λ p. (0, n, sym (add-one n), rw add-zero (e ∙ ap Option.some (sym p))))
+          (λ p. (0, n, sym (add-one n), rw add-zero (e ∙ ap Some (sym p))))
           (λ a. let (d, m, h, is) = more a in (suc d, m, h, rw (add-suc, ← suc-add) is))
           (Memᴰ_cases_cons among)
 
   -- and each tick's import is in the list
-  pub in_list : (ticks : List ℕ) (q d m : ℕ) {i : JsDocImportInfo} → get_or ticks d 0 ≡ m + 1 → import_at source (q + d) (value_of modes m) ≡ Option.some i
+  pub in_list : (ticks : List ℕ) (q d m : ℕ) {i : JsDocImportInfo} → get_or ticks d 0 ≡ m + 1 → import_at source (q + d) (value_of modes m) ≡ Some i
       → Memᴰ i (imports_from source q ticks)
   unfolding imports_from
   in_list [] q d m h is = absurd (omega arith)
@@ -47,8 +48,8 @@ module _ (source : List ℕ) where
   in_list (suc n ∷ ticks) q (suc d) m {i} h is = go (import_at source q (value_of modes n)) (in_list ticks (suc q) d m h (rw (add-suc, ← suc-add) at is))
     where
       go : (o : Option JsDocImportInfo) → Memᴰ i (imports_from source (suc q) ticks) → Memᴰ i (listed o (imports_from source (suc q) ticks))
-      go Option.none a = a
-      go (Option.some j) a = Memᴰ_tail a
+      go None a = a
+      go (Some j) a = Memᴰ_tail a
 
   -- an import stands at each tick
   abbrev pub Standings : List ℕ → ℕ → Type 0

@@ -1,4 +1,5 @@
 -- The JSDoc imports of a sheet are those that are demanded.
+use Rattle.std.specs.Prelude.{Some}
 use Rattle.laws.proofs.Prelude.{◌≡◌, refl, sym, ap, ◌∙◌, Bool, true, false, cond, true≢false, List, [], Memᴰ, Memᴰ_not_nil, Option, ℕ, ◌+◌, ◌≤◌}
 use Rattle.laws.proofs.Prelude.{◌<◌, zero-add, arith, length, get_or}
 use mathlib.Core.Path.{subst}
@@ -89,7 +90,7 @@ module _ {source : List ℕ} {cs : List Comment} (fit : Fit source cs) where
       listed : ListedIn source cs place i.mode
       stand : ImportAt source i place
 
-    from_reading_by : {p : Span} {m : Mode} (l : ListedIn source cs p m) {i : JsDocImportInfo} → import_at source p.start m ≡ Option.some i → FromReading i
+    from_reading_by : {p : Span} {m : Mode} (l : ListedIn source cs p m) {i : JsDocImportInfo} → import_at source p.start m ≡ Some i → FromReading i
     from_reading_by {p} {m} l {i} is =
         let t = stands l in
         let same : t.import ≡ i = cc t.is in

@@ -1,4 +1,5 @@
 -- A body has no more ticks than `{` and `@import` together: each of these gives at most one.
+use Rattle.std.specs.Prelude.{Some, None}
 use Rattle.laws.proofs.Prelude.{◌≡◌, refl, Bool, true, false, cond, List, [], ◌∷◌, ◌++◌, Option, ℕ, zero, suc, ◌+◌, ◌-◌, ◌≤◌, ◌<◌, arith, length, set, take}
 use Rattle.laws.proofs.Prelude.{drop, replicate, drop-cons}
 use Rattle.laws.specs.Ascii.{ascii}
@@ -47,15 +48,15 @@ count_set (zero ∷ l) (suc i) v = count_set l i v
 count_set (suc n ∷ l) (suc i) v = omega (arith, count_set l i v)
 
 -- a reading that begins with a word adds at most one tick where the word begins, and none elsewhere
-tick_few : (word : List ℕ) (i : ℕ) (s : List ℕ) (o : Option Hit) → ((h : Hit) → o ≡ Option.some h → begins word s ≡ true) → (l : List ℕ)
+tick_few : (word : List ℕ) (i : ℕ) (s : List ℕ) (o : Option Hit) → ((h : Hit) → o ≡ Some h → begins word s ≡ true) → (l : List ℕ)
     → count_of (tick_at i s o l) ≤ cond (begins word s) 1 0 + count_of l
-tick_few word i s Option.none e l = omega arith
-tick_few word i s (Option.some (hit q r m)) e l = rw (e (hit q r m) refl) (omega (arith, count_set l (i + (length s - length q)) (mode_number m + 1)))
+tick_few word i s None e l = omega arith
+tick_few word i s (Some (hit q r m)) e l = rw (e (hit q r m) refl) (omega (arith, count_set l (i + (length s - length q)) (mode_number m + 1)))
 
-brace_begins : (s : List ℕ) (h : Hit) → value (parse_jsdoc_dynamic_import s) ≡ Option.some h → begins (ascii "{") s ≡ true
+brace_begins : (s : List ℕ) (h : Hit) → value (parse_jsdoc_dynamic_import s) ≡ Some h → begins (ascii "{") s ≡ true
 brace_begins s (hit q e m) is = let r = (brace_agrees s q e m).1 is in rw r.brace (begins_complete (ascii "{") r.r1)
 
-declaration_begins : (s : List ℕ) (h : Hit) → value (parse_jsdoc_import_decl s) ≡ Option.some h → begins (ascii "@import") s ≡ true
+declaration_begins : (s : List ℕ) (h : Hit) → value (parse_jsdoc_import_decl s) ≡ Some h → begins (ascii "@import") s ≡ true
 declaration_begins s (hit q e m) is = let r = (declaration_agrees s q e m).1 is in rw r.word (begins_complete (ascii "@import") r.r1)
 
 module _ (b : List ℕ) where

@@ -1,4 +1,5 @@
 -- Each JSDoc import of a sheet has its origin beside it.
+use Rattle.std.specs.Prelude.{Some, None}
 use Rattle.laws.proofs.Prelude.{◌≡◌, refl, sym, ◌∙◌, Bool, true, false, cond, ◌⊎◌, inl, inr, List, [], ◌∷◌, ◌++◌, append-nil, flat_map, Option, ℕ, zero, suc}
 use Rattle.laws.proofs.Prelude.{◌+◌, ◌≤◌, ◌<◌, zero-le, suc-le-suc, zero-add, add-zero, arith, length, take, drop, get_or, replicate, length-replicate}
 use Rattle.laws.proofs.Prelude.{length-take-le}
@@ -21,8 +22,8 @@ use Rattle.jsdoc_list.proofs.{StarOpened.opened_sound, Ticking.fit_tail, Quotes.
 -- ---- the imports of one comment are those of the ticks of its body
 
 listed_append : {A : Type 0} (o : Option A) (l m : List A) → listed o (l ++ m) ≡ listed o l ++ m
-listed_append Option.none l m = refl
-listed_append (Option.some a) l m = refl
+listed_append None l m = refl
+listed_append (Some a) l m = refl
 
 module _ (source : List ℕ) where
   imports_append : (l m : List ℕ) (q : ℕ) → imports_from source q (l ++ m) ≡ imports_from source q l ++ imports_from source (q + length l) m
@@ -78,7 +79,7 @@ module _ (source b : List ℕ) (start : ℕ) (P : JsDocImportInfo → Origin →
   abbrev Matched : ℕ → ℕ → ℕ → Type 0
   Matched q x y =
       ((x ≡ 0) × (y ≡ 0))
-      ⊎ ((n k : ℕ) × (i : JsDocImportInfo) × (x ≡ suc n) × (y ≡ suc k) × (import_at source q (value_of modes n) ≡ Option.some i) × P i (opener_at b start k))
+      ⊎ ((n k : ℕ) × (i : JsDocImportInfo) × (x ≡ suc n) × (y ≡ suc k) × (import_at source q (value_of modes n) ≡ Some i) × P i (opener_at b start k))
 
   aligned_tables : (ticks table : List ℕ) (q : ℕ) → length ticks ≡ length table → ((d : ℕ) → Matched (q + d) (get_or ticks d 0) (get_or table d 0))
       → Aligned P (imports_from source q ticks) (openers_from b start table)

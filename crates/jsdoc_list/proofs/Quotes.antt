@@ -1,4 +1,5 @@
 -- The import that is reported of a reading, and where it stands in the source.
+use Rattle.std.specs.Prelude.{Some}
 use Rattle.laws.proofs.Prelude.{◌≡◌, refl, ap, sym, ◌∙◌, true, List, [], ◌∷◌, ◌++◌, append_assoc, Option, ℕ, ◌+◌, ◌-◌, ◌≤◌, arith, length, take, drop}
 use Rattle.laws.proofs.Prelude.{length-append, length-drop}
 use lib.Seq.{take_at, append_snoc}
@@ -31,7 +32,7 @@ quote_alone {k} {s} {t} n e r =
 -- an import is reported from q on, and stands from there to e
 pub record Standing (source : List ℕ) (q e : ℕ) (mode : Mode) : Type 0 where
   pub import : JsDocImportInfo
-  pub is : import_at source q mode ≡ Option.some import
+  pub is : import_at source q mode ≡ Some import
   pub stands : ImportAt source import (record { start = q; end = e })
   pub mode_is : import.mode ≡ mode
 
@@ -41,7 +42,7 @@ import_of source q e text mode = record { specifier = record { text = text; rang
 
 -- at a quote from q to e that is reported
 quote_import : (source : List ℕ) (q e : ℕ) (mode : Mode) {k : List ℕ} → e ≤ length source → Quote k (drop q source) (drop e source)
-    → import_at source q mode ≡ Option.some (import_of source q e k mode)
+    → import_at source q mode ≡ Some (import_of source q e k mode)
 unfolding import_at
 quote_import source q e mode l r =
     let past : length source - length (drop e source) ≡ e = omega (arith, length-drop e source) in
@@ -66,7 +67,7 @@ module _ (source : List ℕ) (c : Comment) (w : BodyWithin source c) {b : List �
 
   -- what is reported of it
   pub reading_import : import_at source ((body_span c).start + j) mode
-      ≡ Option.some (import_of source ((body_span c).start + j) ((body_span c).start + r.end) (place_quote r.reads).0 mode)
+      ≡ Some (import_of source ((body_span c).start + j) ((body_span c).start + r.end) (place_quote r.reads).0 mode)
   reading_import = quote_import source ((body_span c).start + j) ((body_span c).start + r.end) mode reading_ends reading_quote
 
 module _ {source : List ℕ} (f : formed Utf8 0 source ≡ true) where

@@ -1,4 +1,5 @@
 -- A comment that is alike in two sources gives the same JSDoc imports in both, with the same origins.
+use Rattle.std.specs.Prelude.{Some}
 use Rattle.laws.proofs.Prelude.{◌≡◌, refl, ap, sym, ◌∙◌, List, [], ◌∷◌, Option, ℕ, zero, suc, ◌+◌, zero-add, add-zero, add-one, arith, get_or}
 use native.Mathlib.Nat.{add-suc, suc-add}
 use Rattle.wire.specs.Fields.{value_of}
@@ -33,7 +34,7 @@ module _ {s r : List ℕ} {c : Comment} (a : Alike s r c) where
       let to = a.position (start + x.end) (omega arith) (omega (arith, x.inside, w.long, w.order)) in
       let same : import_of s (start + j) (start + x.end) (place_quote x.reads).0 mode
       ≡ import_of r (start + j) (start + x.end) (place_quote x.reads).0 mode = rw (from, to) in
-      reading_import s c w refl x ∙ ap Option.some same ∙ sym (reading_import r c (alike_within a) (sym a.same_body) x)
+      reading_import s c w refl x ∙ ap Some same ∙ sym (reading_import r c (alike_within a) (sym a.same_body) x)
 
   read_in_kept : (q : ℕ) (mode : Mode) → ReadIn s (c ∷ []) q mode → import_at s q mode ≡ import_at r q mode
   read_in_kept q mode (zero, h, (o, j, e, (k, x))) = rw e (reading_kept x)

@@ -1,4 +1,5 @@
 -- The JSDoc imports of a sheet can be written, and there are no more of them than bytes of its source.
+use Rattle.std.specs.Prelude.{Some, None}
 use Rattle.laws.proofs.Prelude.{ap, ◌∙◌, Bool, true, false, cond, List, [], ◌∷◌, Option, ℕ, zero, suc, ◌≤◌, arith, length}
 use Rattle.laws.{specs.Codec.All, proofs.Lists.of_members}
 use Rattle.text.specs.{declared.utf8.Encoding.TheVariants.Utf8, WellFormed.WellFormed}
@@ -32,8 +33,8 @@ from_few source q (suc number ∷ ticks) = go (import_at source q (value_of mode
   where
     go : (o : Option JsDocImportInfo) → length (imports_from source (suc q) ticks) ≤ length ticks →
         length (listed o (imports_from source (suc q) ticks)) ≤ suc (length ticks)
-    go Option.none h = omega arith
-    go (Option.some i) h = omega arith
+    go None h = omega arith
+    go (Some i) h = omega arith
 
 pub imports_few : (media : MediaType) {source : List ℕ} {cs : List Comment} → Fit source cs → length (jsdoc_imports media source cs) ≤ length source
 unfolding jsdoc_imports

@@ -1,6 +1,6 @@
 -- The JSDoc imports of a sheet, by ticks over its source: the value that is written. Belief rests on `JsDocRight` (specs/Demand), which is proved of it.
 use Rattle.std.specs.Prelude.{Bool, cond, ◌&&◌, List, [], ◌∷◌, ◌++◌, ℕ, zero, suc, ◌-◌, length, take, drop, replicate}
-use Rattle.std.proofs.Math.Option.{Option}
+use Rattle.std.specs.Prelude.{None, Option, Some}
 use Rattle.laws.specs.Ascii.{ascii}
 use Rattle.text.specs.Bytes.{begins}
 use Rattle.wire.specs.Fields.{value_of}
@@ -52,11 +52,11 @@ count_of (suc number ∷ ticks) = suc (count_of ticks)
 unfoldable pub import_at : List ℕ → ℕ → Mode → Option JsDocImportInfo
 import_at source q mode =
     on_parsed (parse_quote (drop q source))
-    (λ text rest. Option.some (record {
+    (λ text rest. Some (record {
       specifier = record { text = text; range = range_of source (record { start = q; end = length source - length rest }) };
       mode = mode;
     }))
-    Option.none
+    None
 
 -- the imports at the places from q on that are ticked with 1 + the number of their mode
 unfoldable pub imports_from : List ℕ → ℕ → List ℕ → List JsDocImportInfo

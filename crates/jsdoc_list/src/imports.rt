@@ -14,14 +14,13 @@ ghost use Rattle.pragmas.specs.code.Held.{Commented};
 ghost use Rattle.pragmas.specs.code.Views.{encode_any};
 ghost use Rattle.jsdoc_list.specs.Imports.{is_star_opened, ticked_by, ticks_of, ticks_in, count_of, import_at, imports_from, jsdoc_imports};
 
-use jsdoc::answers::Text;
 use jsdoc::quote::quote_at;
 use report::writer::Pen;
 use sheet::comments::{Comment, comment_at};
 use sheet::fields::Span;
 use sheet::lookups::{body, body_span};
 use sheet::names::{MediaType, is_block, is_javascript};
-use text::bytes::next_nonzero;
+use text::bytes::{next_nonzero, starts_with};
 
 // Is it a block comment whose body begins with `*`?
 pub fn is_star_opened(source: &[u8], c: Comment) -> bool
@@ -29,11 +28,7 @@ pub fn is_star_opened(source: &[u8], c: Comment) -> bool
     requires end_in_bounds { c.span.end ≤ length source.now }
     ensures { result ≡ is_star_opened source.now c }
 {
-    let kind = c.kind;
-    if is_block(kind) {
-        return text::bytes::starts_with(body(source, c), 0, b"*");
-    }
-    false
+    is_block(c.kind) && starts_with(body(source, c), 0, b"*")
 }
 
 // Ticks the readings of a comment at its body.
@@ -58,14 +53,12 @@ fn tick_comments(source: &[u8], comments: &[u32], n: usize, ticks: &mut [u8])
     requires ticks_value { ticks.old ≡ replicate (length source.now) 0 }
     ensures { ticks.new ≡ ticks_of source.now (comments_in comments.now n) }
 {
-    let mut k = 0;
-    while k < n {
+    for k in 0..n {
         tick_comment(source, comment_at(comments, k), ticks);
-        k += 1;
     }
 }
 
-// How many places are ticked.
+// How many places are ticked. The step is not one: a run of zeros is passed at once.
 fn count_ticks(ticks: &[u8]) -> usize
     ensures { result ≡ count_of ticks.now }
 {
@@ -97,19 +90,19 @@ fn put_import(
     ensures { buffer_as out.new result
         ≡ wrote (buffer_as out.old place) (encode_any encode_jsdoc (import_at source.now at (value_of modes number))) }
 {
-    let Text::Part { from, to, past } = quote_at(source, at) else {
+    let Some(quote) = quote_at(source, at) else {
         return place;
     };
     let span = Span {
         start: at,
-        end: past,
+        end: quote.past,
     };
     let p = place.put(out, 1);
-    let p = p.put_specifier(out, &source[from..to], source, index, span);
+    let p = p.put_specifier(out, &source[quote.from..quote.to], source, index, span);
     p.put(out, number)
 }
 
-// Writes the imports at the places that are ticked.
+// Writes the imports at the places that are ticked. The step is not one: a run of zeros is passed at once.
 fn put_imports(source: &[u8], index: &[u32], ticks: &[u8], out: &mut [u8], place: Pen) -> Pen
     requires index_of { IndexOf source.now index.now }
     requires ticks_len { length ticks.now ≡ length source.now }

@@ -25,10 +25,12 @@ fn put_opener(body: &[u8], start: usize, k: usize, out: &mut [u8], place: Pen) -
     ensures { buffer_as out.new result
         ≡ wrote (buffer_as out.old place) (encode_origin (opener_at body.now start k)) }
 {
-    if body[k] == b'{' {
-        return put_origin(EntryRule::Brace, start + k, out, place);
-    }
-    put_origin(EntryRule::Declaration, start + k, out, place)
+    let rule = if body[k] == b'{' {
+        EntryRule::Brace
+    } else {
+        EntryRule::Declaration
+    };
+    put_origin(rule, start + k, out, place)
 }
 
 // Writes the origins that are noted at the places of a body that starts at `start`.
@@ -39,14 +41,10 @@ fn put_openers(body: &[u8], start: usize, origins: &[u16], out: &mut [u8], place
         ≡ wrote (buffer_as out.old place) (flat_map encode_origin (openers_from body.now start origins.now)) }
 {
     let mut p = place;
-    let mut q = 0;
-    while q < origins.len() {
-        let noted = origins[q] as usize;
-        if noted == 0 {
-            q += 1;
-        } else {
+    for noted in origins {
+        let noted = *noted as usize;
+        if noted != 0 {
             p = put_opener(body, start, noted - 1, out, p);
-            q += 1;
         }
     }
     p
@@ -119,10 +117,8 @@ fn put_origins(
         (flat_map encode_origin (flat_map (origins_of source.now) (comments_in comments.now n))) }
 {
     let mut p = place;
-    let mut k = 0;
-    while k < n {
+    for k in 0..n {
         p = put_comment_origins(source, comment_at(comments, k), origins, out, p);
-        k += 1;
     }
     p
 }

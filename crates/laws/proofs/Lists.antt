@@ -1,9 +1,11 @@
 -- Laws of lists that the library does not have.
+use Rattle.laws.specs.Last.{last_of}
 use mathlib.Core.Path.{◌≡◌, refl, sym, ◌∙◌}
 use mathlib.Core.Logic.{⊎_elim}
 use mathlib.Core.List.Memᴰ
-use mathlib.Core.List.{List, [], ◌∷◌, ◌++◌, append_assoc, append-nil, flat_map, get_last?, Memᴰ}
-use mathlib.Core.Option.{Option, some-injective, none-ne-some}
+use mathlib.Core.List.{List, [], ◌∷◌, ◌++◌, append_assoc, append-nil, flat_map, Memᴰ}
+use Rattle.std.specs.Prelude.{None, Option, Some}
+use Rattle.laws.proofs.Options.{some-injective, none-ne-some}
 use Prim.Native.Nat.{ℕ, zero, suc, ◌+◌, ◌-◌, ◌≤◌, ◌<◌}
 use native.Mathlib.Omega.{arith}
 use lib.ListN.{length, get_or, set, take, drop, length-drop}
@@ -34,9 +36,9 @@ all_parts P [] m h = (tt, h)
 all_parts P (x ∷ l) m h = let (a, b) = all_parts P l m h.1 in ((h.0, a), b)
 
 -- what holds of the answer, if there is one
-pub if_there : {A : Type 0} (P : A → Type 0) (o : Option A) → ((a : A) → o ≡ Option.some a → P a) → IfThere P o
-if_there P Option.none h = tt
-if_there P (Option.some a) h = h a refl
+pub if_there : {A : Type 0} (P : A → Type 0) (o : Option A) → ((a : A) → o ≡ Some a → P a) → IfThere P o
+if_there P None h = tt
+if_there P (Some a) h = h a refl
 
 module _ {A : Type 0} where
   -- a part of a front of a list is a part of the list
@@ -57,7 +59,7 @@ module _ {A : Type 0} where
   back_member (suc n) [] m = m
   back_member (suc n) (x ∷ l) m = Memᴰ.tail (back_member n l m)
 
-  pub last_member : (l : List A) {a : A} → get_last? l ≡ Option.some a → Memᴰ a l
+  pub last_member : (l : List A) {a : A} → last_of l ≡ Some a → Memᴰ a l
   last_member [] {a} e = absurd (none-ne-some a e)
   last_member (x ∷ []) {a} e = Memᴰ.head (sym (some-injective x a e))
   last_member (x ∷ y ∷ l) e = Memᴰ.tail (last_member (y ∷ l) e)

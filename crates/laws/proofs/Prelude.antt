@@ -18,11 +18,12 @@ pub use mathlib.Core.List.{List, Memᴰ, [], ◌++◌, ◌∷◌, append_assoc}
 pub use mathlib.Core.List.{append-nil, map}
 unfoldable pub use mathlib.Core.List.{flat_map}
 pub use mathlib.Core.Logic.{◌↔◌, ◌⊎◌, inl, inr, ⊎_elim}
-pub use mathlib.Core.Option.{Option, none-ne-some}
+pub use Rattle.std.specs.Prelude.{Option}
+pub use Rattle.laws.proofs.Options.{none-ne-some}
 pub use mathlib.Core.Path.{◌∙◌, ◌≡◌, ap, refl, sym}
 pub use native.Mathlib.Decide.{ℕ_discrete}
 pub use native.Mathlib.Nat.{add-zero, le_of_suc-le-suc, not-suc-le-zero, sub-zero, zero-add}
 pub use native.Mathlib.Numerals.{add-one}
 pub use native.Mathlib.Omega.{arith}
-pub use Rattle.laws.proofs.Steps.{Found, Viewed, bounded, found, known, told_of, seen, told, viewed}
+pub use Rattle.laws.proofs.Steps.{bounded, handed, handed_on, known, none_on, retold, told_of, seen, told}
 pub use Rattle.laws.proofs.Cycles.{At, Below}

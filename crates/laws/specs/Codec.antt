@@ -1,6 +1,6 @@
 -- A decoder and an encoder that undo each other.
 use Rattle.std.specs.Prelude.{◌≡◌, List, [], ◌∷◌, ◌++◌, ℕ}
-use Rattle.std.proofs.Math.Option.{Option}
+use Rattle.std.specs.Prelude.{None, Option, Some}
 use Rattle.laws.specs.Decoded.{ok, Decoder}
 
 -- each valid value is decoded from its bytes, whatever follows them; what is decoded is valid, and stood there as its bytes
@@ -15,5 +15,5 @@ All Valid (a ∷ l) = Valid a × All Valid l
 
 -- what is there is valid
 abbrev pub IfThere : {A : Type 0} → (A → Type 0) → Option A → Type 0
-IfThere Valid Option.none = Unit {0}
-IfThere Valid (Option.some a) = Valid a
+IfThere Valid None = Unit {0}
+IfThere Valid (Some a) = Valid a

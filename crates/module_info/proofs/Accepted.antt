@@ -13,8 +13,8 @@ use Rattle.sheet_codec.{specs.Limits.FieldsFit, specs.SheetOf.SheetOf, proofs.Sh
 use Rattle.sheet_codec.proofs.Refusals.{passes, Decision, decided, cut_off_lem, judged_sheet, judged_refusal}
 use Rattle.sheet_check.specs.{declared.check.Parts.Parts, code.Accepts.Accepts}
 use Rattle.sheet_check.proofs.Lent.{part_length, renewed, part_renewed, front_kept, length_kept}
-use Rattle.report.specs.{declared.writer.Outcome.Outcome, Range.IndexOf, ModuleInfo.DependencyDescriptor, Encode.encode}
-use Rattle.report.specs.Answer.{outcome_as, refused_with, fitted}
+use Rattle.report.specs.{Range.IndexOf, ModuleInfo.DependencyDescriptor, Encode.encode}
+use Rattle.report.specs.Answer.{Outcome, outcome_as, refused_with, fitted}
 use Rattle.pragmas.{specs.Pragmas.types_at, specs.Present.Present, specs.code.Held.Held, proofs.Present.present, proofs.Present.types_present}
 use Rattle.pragmas.specs.Texts.{TypesShown, types_of, Texts}
 use Rattle.pragmas.proofs.Texts.{types_shown, texts}

@@ -1,4 +1,5 @@
 -- The proved cases of document 01: what the report says of a comment with each body, as the definitions compute.
+use Rattle.std.specs.Prelude.{Some, None}
 use Rattle.laws.proofs.Prelude.{◌≡◌, refl, false, List, [], ◌∷◌, ◌++◌, map, flat_map, Option, ℕ, ◌+◌, length}
 use Prim.Native.String.{String}
 use Rattle.laws.specs.Ascii.{ascii}
@@ -6,12 +7,13 @@ use Rattle.text.specs.{Ranges.in_ranges, Alphabetic.alphabetic, Bytes.begins, By
 use Rattle.text.specs.Utf8.{admits, length_by, char_length, code_by, char_at}
 use Rattle.text.specs.Class.{outside, ranges, member, class_at, run}
 use Rattle.text.specs.Position.{step, walk, position_of}
-use Rattle.analysis.specs.Mode.{TypeScriptTypesResolutionMode, Mode, mode_of}
+use Rattle.analysis.specs.declared.mode.TypeScriptTypesResolutionMode.TheVariants.{Import, Require}
+use Rattle.analysis.specs.Mode.{Mode, mode_of}
 use Rattle.analysis.specs.Letters.{fold_case, letter_at, word_at}
 use Rattle.analysis.specs.Row.{ends, all, first, places, find}
 use Rattle.analysis.specs.Place.{place_of}
 use Rattle.jsdoc.specs.Reader.{skip, skip_whitespace, whitespace, tag, word, up_to, is_mark, parse_quote, past_ident, parse_ident, parse_key, attribute_mode}
-use Rattle.jsdoc.specs.Reader.{parse_attribute, first_mode, comma, separated_list_by, separated_list, parse_import_attribute_block_for_resolution_mode}
+use Rattle.jsdoc.specs.Reader.{parse_attribute, comma, separated_list_by, separated_list, parse_import_attribute_block_for_resolution_mode}
 use Rattle.jsdoc.specs.Reader.{second_param_start, parse_second_param_obj_with_leading_comma, close_call, parse_tail, seek, parse_call, parse_jsdoc_dynamic_import}
 use Rattle.jsdoc.specs.Reader.{skip_named_imports, skip_default_import, skip_namespace_import, skip_clause, parse_attributes, parse_from, parse_jsdoc_import_decl}
 use Rattle.jsdoc.specs.Listing.{listing}
@@ -46,35 +48,35 @@ data Case : Type 0 where
 
 table : List Case
 table =
-    jsdoc "* {import(\"\")}" (import "" 12 14 Option.none ∷ [])
+    jsdoc "* {import(\"\")}" (import "" 12 14 None ∷ [])
     ∷ jsdoc "* {important import(\"a\")}" []
-    ∷ jsdoc "* {{import('a')}}" (import "a" 13 16 Option.none ∷ [])
-    ∷ jsdoc "* {import(\"a\", {with: {\"resolution-mode\": \"import\"}})}" (import "a" 12 15 (Option.some TypeScriptTypesResolutionMode.import) ∷ [])
+    ∷ jsdoc "* {{import('a')}}" (import "a" 13 16 None ∷ [])
+    ∷ jsdoc "* {import(\"a\", {with: {\"resolution-mode\": \"import\"}})}" (import "a" 12 15 (Some Import) ∷ [])
     ∷ jsdoc "* {import(\"a\", {with: {resolution-mode: \"import\"}})}" []
     ∷ jsdoc "* @import A, {B} from \"a\"" []
-    ∷ jsdoc "* @import {A}from\"a\"" (import "a" 19 22 Option.none ∷ [])
-    ∷ jsdoc "* @import A from \"a\" with {" (import "a" 19 22 Option.none ∷ [])
-    ∷ types "@deno-types=\"a" (Option.some (specifier "\"a" 14 16))
-    ∷ types "@ts-types=\"\"" Option.none
+    ∷ jsdoc "* @import {A}from\"a\"" (import "a" 19 22 None ∷ [])
+    ∷ jsdoc "* @import A from \"a\" with {" (import "a" 19 22 None ∷ [])
+    ∷ types "@deno-types=\"a" (Some (specifier "\"a" 14 16))
+    ∷ types "@ts-types=\"\"" None
     ∷ references "/<reference path=\"a\">" []
-    ∷ source_map "# sourcemappingurl = a b" (Option.some (specifier "a" 23 24))
+    ∷ source_map "# sourcemappingurl = a b" (Some (specifier "a" 23 24))
     -- beside these, a reference that is read
     ∷ references "/ <reference path=\"a\" />" (path (specifier "a" 20 23) ∷ [])
     -- with both a path and types: the types, even where they are empty, and the mode
-    ∷ references "/ <reference path=\"a\" types=\"b\" />" (info.types (specifier "b" 30 33) Option.none ∷ [])
+    ∷ references "/ <reference path=\"a\" types=\"b\" />" (info.types (specifier "b" 30 33) None ∷ [])
     ∷ references "/ <reference types=\"\" path=\"a\" resolution-mode=\"require\" />" (info.types (specifier "" 21 23)
-    (Option.some TypeScriptTypesResolutionMode.require) ∷ [])
-    ∷ jsx_source "* @jsxImportSource a" (Option.some (specifier "a" 21 22))
+    (Some Require) ∷ [])
+    ∷ jsx_source "* @jsxImportSource a" (Some (specifier "a" 21 22))
     ∷ []
 
 -- in an HTML-like comment whose body starts at that column: what a line comment gives is given, a JSX source and a JSDoc import stay unlisted
 html : ℕ → List Case
 html n =
     references "/ <reference path=\"a\" />" (path (specifier "a" (n + 18) (n + 21)) ∷ [])
-    ∷ self_types "@ts-self-types=\"a\"" (Option.some (specifier "a" (n + 15) (n + 18)))
-    ∷ types "@ts-types=\"a\"" (Option.some (specifier "a" (n + 10) (n + 13)))
-    ∷ source_map "# sourceMappingURL=a" (Option.some (specifier "a" (n + 19) (n + 20)))
-    ∷ jsx_source "* @jsxImportSource a" Option.none
+    ∷ self_types "@ts-self-types=\"a\"" (Some (specifier "a" (n + 15) (n + 18)))
+    ∷ types "@ts-types=\"a\"" (Some (specifier "a" (n + 10) (n + 13)))
+    ∷ source_map "# sourceMappingURL=a" (Some (specifier "a" (n + 19) (n + 20)))
+    ∷ jsx_source "* @jsxImportSource a" None
     ∷ jsdoc "* {import(\"a\")}" []
     ∷ []
 
@@ -92,7 +94,7 @@ sheet_of kind body =
       source = source;
       comments = record { kind = kind; span = span } ∷ [];
       groups = group Leading 0 ∷ group Leading (length source) ∷ group Trailing (length source) ∷ [];
-      program = record { script = false; span = span; shebang = false; first = Option.none };
+      program = record { script = false; span = span; shebang = false; first = None };
       root = other span none;
     }
 
@@ -117,7 +119,7 @@ computed (source_map body x) = computed_in Line (source_map body x)
 as_stated : map computed table ≡ table
 unfolding table sheet_of flat_map in_ranges admits length_by char_length code_by char_at alphabetic outside ranges member class_at run begins same step walk
     position_of mode_of fold_case letter_at word_at ends all first places find place_of skip skip_whitespace whitespace tag word up_to is_mark parse_quote past_ident
-    parse_ident parse_key attribute_mode parse_attribute first_mode comma separated_list_by separated_list parse_import_attribute_block_for_resolution_mode
+    parse_ident parse_key attribute_mode parse_attribute comma separated_list_by separated_list parse_import_attribute_block_for_resolution_mode
     second_param_start parse_second_param_obj_with_leading_comma close_call parse_tail seek parse_call parse_jsdoc_dynamic_import skip_named_imports skip_default_import
     skip_namespace_import skip_clause parse_attributes parse_from parse_jsdoc_import_decl listing group_at head_group body_span place_in specifier_in read_by first_of
     last_of all_of head_comments end_comments mode_in reference references_in first_by last_by ts_or_deno_types types_in ticked_by ticked_by_all import_at imports_from
@@ -127,7 +129,7 @@ as_stated = refl
 html_as_stated : (map (computed_in HtmlOpen) (html 4) ≡ html 4) × (map (computed_in HtmlClose) (html 3) ≡ html 3)
 unfolding html sheet_of flat_map in_ranges admits length_by char_length code_by char_at alphabetic outside ranges member class_at run begins same step walk
     position_of mode_of fold_case letter_at word_at ends all first places find place_of skip skip_whitespace whitespace tag word up_to is_mark parse_quote past_ident
-    parse_ident parse_key attribute_mode parse_attribute first_mode comma separated_list_by separated_list parse_import_attribute_block_for_resolution_mode
+    parse_ident parse_key attribute_mode parse_attribute comma separated_list_by separated_list parse_import_attribute_block_for_resolution_mode
     second_param_start parse_second_param_obj_with_leading_comma close_call parse_tail seek parse_call parse_jsdoc_dynamic_import skip_named_imports skip_default_import
     skip_namespace_import skip_clause parse_attributes parse_from parse_jsdoc_import_decl listing group_at head_group body_span place_in specifier_in read_by first_of
     last_of all_of head_comments end_comments mode_in reference references_in first_by last_by ts_or_deno_types types_in ticked_by ticked_by_all import_at imports_from

@@ -1,4 +1,5 @@
 -- What no bytes get, and the information of the smallest sheet.
+use Rattle.std.specs.Prelude.{None}
 use Rattle.laws.proofs.Prelude.{◌≡◌, refl, false, [], flat_map, Option, ℕ, arith}
 use Rattle.laws.specs.Decoded.{ok}
 use Rattle.text.specs.{Utf8.formed, Position.is_boundary}
@@ -28,7 +29,7 @@ smallest =
       source = [];
       comments = [];
       groups = [];
-      program = record { script = false; span = start; shebang = false; first = Option.none };
+      program = record { script = false; span = start; shebang = false; first = None };
       root = other start none;
     }
 

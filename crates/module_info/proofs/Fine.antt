@@ -1,4 +1,5 @@
 -- The entries of a node within the limits can be written, and their texts are well-formed.
+use Rattle.std.specs.Prelude.{Some, None}
 use Rattle.laws.proofs.Prelude.{◌≡◌, refl, Bool, true, false, cond, List, [], ◌∷◌, map, flat_map, Memᴰ, Option, ℕ, ◌+◌, ◌≤◌, arith, length, length-append}
 use Rattle.laws.specs.Codec.{All, IfThere}
 use Rattle.laws.proofs.Lists.{all_member, all_append, of_members}
@@ -51,17 +52,17 @@ short_text_lem : {x : List ℕ} → Text x → Short x
 short_text_lem t = omega (arith, t.0)
 
 short_there : (o : Option (List ℕ)) → IfThere Text o → IfThere Short o
-short_there Option.none t = tt
-short_there (Option.some x) t = short_text_lem t
+short_there None t = tt
+short_there (Some x) t = short_text_lem t
 
 -- a specifier that may be there
 pub good_valid : (o : Option SpecifierWithRange) → IfThere Good o → IfThere ValidSpecifier o
-good_valid Option.none g = tt
-good_valid (Option.some x) g = g.valid
+good_valid None g = tt
+good_valid (Some x) g = g.valid
 
 pub good_text : (o : Option SpecifierWithRange) → IfThere Good o → IfThere (SpecifierText Text) o
-good_text Option.none g = tt
-good_text (Option.some x) g = g.text
+good_text None g = tt
+good_text (Some x) g = g.text
 
 -- a dependency that can be written, with what is said of its text
 pub record Fine (Says : DependencyDescriptor → Type 0) (d : DependencyDescriptor) : Type 0 where
@@ -128,8 +129,8 @@ module _ (source : List ℕ) where
   props_count (name_key k v ps) = rw (props_count ps)
 
   value_text : (v : Shape) (o : ImportAttribute) → Value v o → ShapeFits v → IfThere Text o
-  value_text v Option.none is f = tt
-  value_text v (Option.some x) (e, i) f = let g : TextFits Wtf8 text_limit x = rw e at f in exact_text g i
+  value_text v None is f = tt
+  value_text v (Some x) (e, i) f = let g : TextFits Wtf8 text_limit x = rw e at f in exact_text g i
 
   record FineAttributes (a : ImportAttributes) : Type 0 where
     valid : ValidAttributes a
@@ -210,9 +211,9 @@ module _ (source : List ℕ) where
   PieceFits = IfThere (TextFits Wtf8 text_limit)
 
   piece_texts : (p : Option (List ℕ)) → PieceFits p → (length (piece_parts p) ≤ 1) × All (IfThere Text) (piece_parts p)
-  piece_texts Option.none f = (omega arith, tt)
-  piece_texts (Option.some []) f = (omega arith, tt)
-  piece_texts (Option.some (b ∷ x)) f = (omega arith, (lossy_text f, tt))
+  piece_texts None f = (omega arith, tt)
+  piece_texts (Some []) f = (omega arith, tt)
+  piece_texts (Some (b ∷ x)) f = (omega arith, (lossy_text f, tt))
 
   parts_texts : (ps : Pieces) → All PieceFits ps → (length (template_parts ps) ≤ length ps + length ps) × All (IfThere Text) (template_parts ps)
   parts_texts [] f = (omega arith, tt)
@@ -220,20 +221,20 @@ module _ (source : List ℕ) where
   parts_texts (p ∷ q ∷ ps) f =
       let (n, a) = piece_texts p f.0 in
       let (m, b) = parts_texts (q ∷ ps) f.1 in
-      (simp length-append (omega arith), all_append _ (piece_parts p) (Option.none ∷ template_parts (q ∷ ps)) a (tt, b))
+      (simp length-append (omega arith), all_append _ (piece_parts p) (None ∷ template_parts (q ∷ ps)) a (tt, b))
 
   pieces_fine : (ps : Pieces) → All PieceFits ps → length ps ≤ sheet_limit → FineArgument (of_pieces ps)
   pieces_fine [] f n = fine_expr
-  pieces_fine (Option.none ∷ []) f n = fine_expr
-  pieces_fine (Option.some x ∷ []) f n = fine_string f.0
+  pieces_fine (None ∷ []) f n = fine_expr
+  pieces_fine (Some x ∷ []) f n = fine_string f.0
   pieces_fine (p ∷ q ∷ ps) f n = let (m, a) = parts_texts (p ∷ q ∷ ps) f in fine_template (omega arith) a
 
   -- a piece takes a byte at least
   pieces_bytes : (ps : Pieces) → length ps ≤ length (flat_map (encode_optional encode_text) ps)
   unfolding flat_map encode_optional
   pieces_bytes [] = omega arith
-  pieces_bytes (Option.none ∷ ps) = omega (arith, pieces_bytes ps)
-  pieces_bytes (Option.some x ∷ ps) = simp length-append (omega (arith, pieces_bytes ps))
+  pieces_bytes (None ∷ ps) = omega (arith, pieces_bytes ps)
+  pieces_bytes (Some x ∷ ps) = simp length-append (omega (arith, pieces_bytes ps))
 
   abbrev ChainFine : Node → Type 0
   ChainFine n = IfThere (λ l. (length l ≤ length (encode_node n)) × All (IfThere Text) l) (chain n)
@@ -255,10 +256,10 @@ module _ (source : List ℕ) where
   chain_fine k (binary sp plus l r) f = by_plus plus (chain l) (chain_fine (under k) l f.1.0)
     where
       by_plus : (b : Bool) (o : Option (List DynamicTemplatePart)) → IfThere (λ p. (length p ≤ length (encode_node l)) × All (IfThere Text) p) o
-          → IfThere (λ p. (length p ≤ length (encode_node (binary sp plus l r))) × All (IfThere Text) p) (cond b (appended o (operand (shape r))) Option.none)
+          → IfThere (λ p. (length p ≤ length (encode_node (binary sp plus l r))) × All (IfThere Text) p) (cond b (appended o (operand (shape r))) None)
       by_plus false o h = tt
-      by_plus true Option.none h = tt
-      by_plus true (Option.some p) (n, a) =
+      by_plus true None h = tt
+      by_plus true (Some p) (n, a) =
           (simp length-append (omega arith), all_append _ p (operand (shape r) ∷ []) a (operand_text (shape r) (shape_fits (under k) r f.1.1), tt))
   chain_fine k (object sp ps) f = tt
   chain_fine k (import_call sp phase xs ns) f = tt
@@ -282,8 +283,8 @@ module _ (source : List ℕ) where
     where
       by_chain : (o : Option (List DynamicTemplatePart)) → IfThere (λ p. (length p ≤ length (encode_node (binary sp plus l r))) × All (IfThere Text) p) o →
           FineArgument (of_chain o)
-      by_chain Option.none c = fine_expr
-      by_chain (Option.some p) (n, a) = fine_template (omega arith) a
+      by_chain None c = fine_expr
+      by_chain (Some p) (n, a) = fine_template (omega arith) a
   argument_fine k (object sp ps) f h = fine_expr
   argument_fine k (import_call sp phase xs ns) f h = fine_expr
   argument_fine k (call sp e xs ns) f h = fine_expr
@@ -346,8 +347,8 @@ module _ (source : List ℕ) where
 
     -- the entries of a node's own visit
     abbrev OwnFine : Option Visit → Type 0
-    OwnFine Option.none = Unit {0}
-    OwnFine (Option.some v) = All (Fine (Worded source v)) (entry_of source types v)
+    OwnFine None = Unit {0}
+    OwnFine (Some v) = All (Fine (Worded source v)) (entry_of source types v)
 
     own_fine : (k : ℕ) (n : Node) → NodeFits source n k → length (encode_node n) ≤ sheet_limit → OwnFine (own_visit n)
     unfolding NodeFits encode_node module_entry
@@ -373,17 +374,17 @@ module _ (source : List ℕ) where
         (static_entry_lem statics.ImportType sp (under k) f.1.0 false (type_fine (under k) f.1.1.1.1 (type_right a)), tt)
     own_fine k (import_equals sp) f h = tt
     own_fine k (import_require sp type_only export x) f h = (static_entry_lem (equals_kind type_only export) sp (under k) f.1 false fine_none, tt)
-    own_fine k (module_decl sp Option.none ns) f h = tt
-    own_fine k (module_decl sp (Option.some x) ns) f h = all_if _ (is_augmentation x.text)
+    own_fine k (module_decl sp None ns) f h = tt
+    own_fine k (module_decl sp (Some x) ns) f h = all_if _ (is_augmentation x.text)
         (static_entry source types statics.MaybeTsModuleAugmentation sp x false none ∷ [])
         (static_entry_lem statics.MaybeTsModuleAugmentation sp (under k) f.1.0 false fine_none, tt)
 
     -- the entry of a walked node's visit
-    pub walked_fine : {root n : Node} {v : Visit} {d : DependencyDescriptor} → Walked root n → own_visit n ≡ Option.some v →
+    pub walked_fine : {root n : Node} {v : Visit} {d : DependencyDescriptor} → Walked root n → own_visit n ≡ Some v →
         NodeFits source root depth_limit → length (encode_node root) ≤ sheet_limit
         → entry_of source types v ≡ d ∷ [] → Fine (Worded source v) d
     walked_fine {n = n} {v = v} {d = d} w o f h e =
         let (k, g) = walked_fits source w 64 f in
-        let own : OwnFine (Option.some v) = rw o at (own_fine k n g (omega (arith, walked_bytes w))) in
+        let own : OwnFine (Some v) = rw o at (own_fine k n g (omega (arith, walked_bytes w))) in
         let one : All (Fine (Worded source v)) (d ∷ []) = rw e at own in
         one.0

@@ -1,4 +1,5 @@
 -- The walked nodes of a sheet within the limits: they are within them too, and there are no more visits than bytes.
+use Rattle.std.specs.Prelude.{Some, None}
 use Rattle.laws.proofs.Prelude.{Bool, true, false, cond, ap, List, [], ◌∷◌, ◌++◌, flat_map, Option, ℕ, suc, ◌≤◌, arith, length, length-append}
 use Rattle.laws.specs.Codec.{All}
 use Rattle.laws.proofs.Lists.{flat_map_append, all_member, all_append, part_flat_map}
@@ -122,8 +123,8 @@ walked_bytes (child {n = n} {c = c} w i) =
 
 -- no more visits than bytes
 placed_few : (o : Option Visit) (l : List Visit) → length (placed o l) ≤ suc (length l)
-placed_few Option.none l = omega arith
-placed_few (Option.some v) l = go (is_call v)
+placed_few None l = omega arith
+placed_few (Some v) l = go (is_call v)
   where
     go : (b : Bool) → length (cond b (l ++ v ∷ []) (v ∷ l)) ≤ suc (length l)
     go true = simp length-append (omega arith)

@@ -1,4 +1,5 @@
 -- One body for each way in which the report's source map and that of ECMA-426 differ, as the definitions compute.
+use Rattle.std.specs.Prelude.{Some, None}
 use Rattle.laws.proofs.Prelude.{◌≡◌, refl, false, List, [], ◌∷◌, ◌++◌, map, flat_map, Option, ℕ, ◌+◌, length}
 use Rattle.laws.specs.Ascii.{ascii}
 use Rattle.text.specs.{Ranges.in_ranges, Encode.encode, Bytes.begins}
@@ -8,7 +9,7 @@ use Rattle.text.specs.Position.{step, walk, position_of}
 use Rattle.analysis.specs.Letters.{fold_case, letter_at, word_at}
 use Rattle.analysis.specs.Row.{ends, all, first, places, find}
 use Rattle.analysis.specs.Place.{place_of}
-use Rattle.ecma426.specs.WhiteSpace.{is_space, is_of}
+use Rattle.ecma426.specs.WhiteSpace.{is_space}
 use Rattle.ecma426.specs.Reader.{one_at, row, row_end, find_source_map}
 use Rattle.sheet.specs.declared.{fields.Span.Span, comments.Comment.Comment, names.CommentKind.TheVariants.Block, names.MediaType.TheVariants.TypeScript}
 use Rattle.sheet.specs.{declared.names.Side.TheVariants.Trailing, Comments.opening, Comments.closing, Lookups.group_at, Lookups.body_span}
@@ -20,7 +21,7 @@ use Rattle.pragmas.specs.SourceMap.{read_standard, standard_map_in, standard_map
 
 -- a text, from one column of the first line to another
 abbrev at : List ℕ → ℕ → ℕ → Option SpecifierWithRange
-at text from to = Option.some (record { text = text; range = record { start = record { line = 0; column = from }; end = record { line = 0; column = to } } })
+at text from to = Some (record { text = text; range = record { start = record { line = 0; column = from }; end = record { line = 0; column = to } } })
 
 -- the bodies of some block comments, the report's source map, and that of ECMA-426
 record Case : Type 0 where
@@ -35,7 +36,7 @@ abbrev word : List ℕ
 word = ascii "#sourceMappingURL="
 
 abbrev none_there : Option SpecifierWithRange
-none_there = Option.none
+none_there = None
 
 table : List Case
 table =
@@ -76,7 +77,7 @@ sheet_of bodies =
       source = source;
       comments = comments_from 0 bodies;
       groups = record { side = Trailing; position = length source; first = 0; count = length bodies } ∷ [];
-      program = record { script = false; span = span; shebang = false; first = Option.none };
+      program = record { script = false; span = span; shebang = false; first = None };
       root = other span none;
     }
 
@@ -85,6 +86,6 @@ computed c = record { bodies = c.bodies; reported = source_map_url (sheet_of c.b
 
 as_stated : map computed table ≡ table
 unfolding table comments_from sheet_of flat_map in_ranges admits length_by char_length code_by char_at encode outside ranges member class_at run begins step walk
-    position_of fold_case letter_at word_at ends all first places find place_of is_space is_of one_at row row_end find_source_map group_at body_span place_in specifier_in
+    position_of fold_case letter_at word_at ends all first places find place_of is_space one_at row row_end find_source_map group_at body_span place_in specifier_in
     read_by first_of last_of end_comments last_by read_standard standard_map_in
 as_stated = refl

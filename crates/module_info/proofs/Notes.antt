@@ -7,7 +7,9 @@ use Rattle.laws.{specs.Decoded.ok, specs.Decoded.no, proofs.Lists.flat_map_appen
 use Rattle.wire.specs.Refusals as refusals
 use Rattle.sheet.specs.{Sheet.Sheet, Sheet.accept, Judge.judge}
 use Rattle.sheet_codec.proofs.Refusals.{judged_sheet, judged_refusal}
-use Rattle.report.specs.{declared.writer.Outcome.TheVariants.Refused, ModuleInfo.ModuleInfo, Encode.encode}
+use Rattle.std.specs.Prelude.{Err}
+use Rattle.wire.specs.{declared.refusals.Refusal.Refusal, Refusals.number_of}
+use Rattle.report.specs.{ModuleInfo.ModuleInfo, Encode.encode}
 use Rattle.report.specs.Answer.{Answer, zeros, accepted, refused_with, fitted, outcome_as}
 use Rattle.pragmas.specs.Pragmas.{types_at}
 use Rattle.arguments.specs.Argument.{replaced_in}
@@ -110,11 +112,11 @@ pub none_held : (size : ℕ) → held size [] ≡ zeros size
 none_held size = sym (all_held size [])
 
 -- a refused report is longer than its buffer
-pub refused_ten : (size r : ℕ) (buffer : List ℕ) (m : ModuleInfo) → outcome_as (Refused r) buffer ≡ fitted size (encode m) → r ≡ refusals.buffer
+pub refused_ten : (size : ℕ) (r : Refusal) (buffer : List ℕ) (m : ModuleInfo) → outcome_as (Err r) buffer ≡ fitted size (encode m) → number_of r ≡ refusals.buffer
 unfolding fitted encode
 refused_ten size r buffer m e = by_room (leb (length (encode m)) size) e
   where
-    by_room : (b : Bool) → outcome_as (Refused r) buffer ≡ cond b (accepted size (encode m)) (refused_with refusals.buffer size) → r ≡ refusals.buffer
+    by_room : (b : Bool) → outcome_as (Err r) buffer ≡ cond b (accepted size (encode m)) (refused_with refusals.buffer size) → number_of r ≡ refusals.buffer
     by_room true e = let none : 0 ≡ length (encode m) = ap (λ (x : Answer). x.written) e in absurd (omega arith)
     by_room false e = ap (λ (x : Answer). x.number) e
 
@@ -122,9 +124,9 @@ refused_ten size r buffer m e = by_room (leb (length (encode m)) size) e
 pub accepted_notes : (size : ℕ) {notes : List ℕ} (l : List Noted) → notes ≡ all_noted (zeros size) l → notes ≡ notes_with size l 0
 accepted_notes size l e = e ∙ all_held size l
 
-pub refused_notes : (size room r : ℕ) {notes : List ℕ} (buffer : List ℕ) (l : List Noted) (m : ModuleInfo) →
-    outcome_as (Refused r) buffer ≡ fitted room (encode m) → notes ≡ zeros size
-    → notes ≡ notes_with size l r
+pub refused_notes : (size room : ℕ) (r : Refusal) {notes : List ℕ} (buffer : List ℕ) (l : List Noted) (m : ModuleInfo) →
+    outcome_as (Err r) buffer ≡ fitted room (encode m) → notes ≡ zeros size
+    → notes ≡ notes_with size l (number_of r)
 refused_notes size room r buffer l m e cleared = rw (refused_ten room r buffer m e, none_held size) cleared
 
 -- notes of nothing stay cleared

@@ -1,4 +1,5 @@
 -- The report of a sheet within the limits can be written and read back, and its texts are well-formed.
+use Rattle.std.specs.Prelude.{Some, None}
 use Rattle.laws.proofs.Prelude.{◌≡◌, refl, [], ◌∷◌, Memᴰ, Option, ℕ, ◌≤◌, arith, length, length-append}
 use Rattle.laws.{specs.Codec.All, specs.Codec.IfThere, proofs.Lists.all_member, proofs.Lists.of_members}
 use Rattle.analysis.specs.Row.{Row}
@@ -23,8 +24,8 @@ unfolding encode_sheet
 root_bytes t h = let g = simp length-append at h.bytes in omega arith
 
 if_good : (P : SpecifierWithRange → Type 0) → ((x : SpecifierWithRange) → P x → Good x) → (o : Option SpecifierWithRange) → IfThere P o → IfThere Good o
-if_good P f Option.none p = tt
-if_good P f (Option.some x) p = f x p
+if_good P f None p = tt
+if_good P f (Some x) p = f x p
 
 module _ (t : Sheet) (h : WithinLimits t) (typed : (start : ℕ) → IfThere (TypesShown t) (types_at t start)) where
   entry_fine : (v : Visit) → Memᴰ v (visits t.root) → (d : DependencyDescriptor) → entry_of t.source (types_at t) v ≡ d ∷ [] →

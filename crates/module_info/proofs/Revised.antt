@@ -1,4 +1,5 @@
 -- Where one comment is reworded, all that does not come from it stays.
+use Rattle.std.specs.Prelude.{Some, None}
 use Rattle.laws.proofs.Prelude.{◌≡◌, refl, sym, ◌∙◌, true, List, [], ◌∷◌, flat_map, Memᴰ, Memᴰ_head, Memᴰ_tail, Option, ℕ, ◌<◌, ℕ_discrete}
 use Rattle.laws.proofs.Prelude.{length}
 use mathlib.Core.Path.{subst}
@@ -56,8 +57,8 @@ module _ {t u : Sheet} {k : ℕ} (r : Revision t u k) where
 
     -- the comments of a group that lacks the reworded one
     in_group_lem : (o : Option Group) → Lacks k o → All (Alike t.source u.source) (in_group t.comments o)
-    in_group_lem Option.none lacks = tt
-    in_group_lem (Option.some g) lacks = group_alike r f fit g lacks
+    in_group_lem None lacks = tt
+    in_group_lem (Some g) lacks = group_alike r f fit g lacks
 
     jsdoc : (i : ℕ) → i < length t.comments → (i ≡ k → ⊥) → jsdoc_from t i ≡ jsdoc_from second i
     jsdoc i l n = given_kept (others_alike r f fit i l n) (fit.each i l) t.media

@@ -1,4 +1,5 @@
 -- A true revision, as the definitions compute: one letter of a comment is another, and so is the entry from it; the entry from the next comment stays.
+use Rattle.std.specs.Prelude.{None}
 use Rattle.laws.proofs.Prelude.{◌≡◌, refl, false, inl, inr, List, [], ◌∷◌, ◌++◌, Option, ℕ, code, arith}
 use Rattle.laws.specs.{Decoded.ok, Ascii.ascii}
 use Rattle.text.specs.Utf8.{admits, length_by, char_length, code_by, char_at, formed}
@@ -32,7 +33,7 @@ sheet_by letter = record {
   source = source_by letter;
   comments = record { kind = Block; span = record { start = 0; end = 27 } } ∷ record { kind = Block; span = record { start = 27; end = 54 } } ∷ [];
   groups = record { side = Leading; position = 54; first = 0; count = 2 } ∷ [];
-  program = record { script = false; span = record { start = 0; end = 54 }; shebang = false; first = Option.none };
+  program = record { script = false; span = record { start = 0; end = 54 }; shebang = false; first = None };
   root = other (record { start = 0; end = 54 }) none;
 }
 
@@ -89,7 +90,7 @@ reworded =
 abbrev entry : List ℕ → ℕ → ℕ → JsDocImportInfo
 entry text from to = record {
   specifier = record { text = text; range = record { start = record { line = 0; column = from }; end = record { line = 0; column = to } } };
-  mode = Option.none;
+  mode = None;
 }
 
 -- and what comes from it is not

@@ -1,25 +1,27 @@
 -- The source map by ECMA-426: an answer that stands for `source_map_of` is right, whatever the bytes.
+use Rattle.std.specs.Prelude.{Some, None, Ok, Err}
 use Rattle.laws.proofs.Prelude.{◌≡◌, refl, sym, ◌∙◌, true, ◌↔◌, List, [], Option, ℕ, ◌+◌, ◌-◌, ◌≤◌, ◌<◌, arith, length, take, drop, drop-drop}
 use Rattle.laws.{specs.Decoded.ok, specs.Decoded.no, proofs.Lists.part_part}
 use Rattle.text.{specs.declared.utf8.Encoding.TheVariants.Utf8, specs.Position.characters, specs.Bytes.part, proofs.Columns.counted}
 use Rattle.text.proofs.WellFormed.{well_formed_iff}
 use Rattle.wire.specs.Refusals.{of_sheets, one_of}
 use Rattle.analysis.specs.Place.{text_of}
-use Rattle.sheet.specs.{declared.groups.Group.Group, Sheet.Sheet, Sheet.accept, Judge.judge, code.Tables.comments_in, code.Tables.groups_in}
+use Rattle.sheet.specs.{declared.groups.Group.Group, declared.comments.Comment.Comment, Sheet.Sheet, Sheet.accept, Judge.judge, code.Tables.comments_in, code.Tables.groups_in}
 use Rattle.sheet.{specs.code.Views.program_of, proofs.Bodies.placed_body}
 use Rattle.sheet.specs.Lookups.{end_group, body_span, body}
 use Rattle.sheet_codec.{specs.Limits.FieldsFit, proofs.Sheets.accepts_exactly}
 use Rattle.sheet_codec.proofs.Refusals.{Decision, decided, judged_sheet, judged_refusal}
 use Rattle.sheet_check.{specs.declared.check.Parts.Parts, proofs.Lent.part_length}
 use Rattle.report.specs.ModuleInfo.{SpecifierWithRange}
-use Rattle.pragmas.specs.declared.readings.{RuleRead.RuleRead, Counts.TheVariants.Last, Rule.TheVariants.StandardSourceMap}
-use Rattle.pragmas.specs.declared.readings.RuleRead.TheVariants as reading
+use Rattle.analysis.specs.declared.Capture.{Capture}
+use Rattle.pragmas.specs.declared.readings.{Counts.TheVariants.Last, Rule.TheVariants.StandardSourceMap}
 use Rattle.pragmas.specs.{Readings.specifier_in, Readings.last_of, Pragmas.in_group, Pragmas.end_comments}
 use Rattle.pragmas.specs.SourceMap.{read_standard, standard_map_in, standard_map}
-use Rattle.pragmas.specs.code.Views.{taken_by, taken_as, read_as, ReadIn}
+use Rattle.pragmas.specs.code.Views.{taken_by, read_as, ReadIn}
 use Rattle.pragmas.proofs.{SourceMap.standard_present, SourceMap.standard_shown, Taken.read_counted}
-use Rattle.module_info.specs.{declared.source_map.SourceMap.SourceMap, Information.answer_of, code.Pieces.PartsOf, code.Located.located}
-use Rattle.module_info.specs.SourceMap.{given, refused, source_map_of, map_as, TextInside, MapRight, SourceMapRight}
+use Rattle.wire.specs.{declared.refusals.Refusal.Refusal, Refusals.number_of}
+use Rattle.module_info.specs.{Information.answer_of, code.Pieces.PartsOf, code.Located.located}
+use Rattle.module_info.specs.SourceMap.{MapOutcome, given, refused, source_map_of, map_of, map_as, TextInside, AnswerInside, MapRight, SourceMapRight}
 use Rattle.module_info.proofs.Numbers.{refusal_number, number_refusal}
 
 never : {o : Option SpecifierWithRange} {n : ℕ} → given o ≡ refused n → ⊥
@@ -34,7 +36,7 @@ map_right t within = record {
 
 module _ (s : List ℕ) where
   -- what is asked of the bytes, by what they are
-  of_none : s ≡ [] → source_map_of s ≡ given Option.none
+  of_none : s ≡ [] → source_map_of s ≡ given None
   unfolding source_map_of judge
   of_none e = rw e
 
@@ -57,7 +59,7 @@ module _ (s : List ℕ) where
           let is : r ≡ number = cc in
           (rw is at among, λ size. refusal_number s size some f ∙ is)
 
-  pub source_map_right : {answer : SourceMap} → map_as s answer ≡ source_map_of s → TextInside s answer → SourceMapRight s answer
+  pub source_map_right : {answer : MapOutcome} → map_as s answer ≡ source_map_of s → AnswerInside s answer → SourceMapRight s answer
   source_map_right e inside = record {
     answer_is = e;
     inside = inside;
@@ -66,11 +68,11 @@ module _ (s : List ℕ) where
     refusals = λ number. rw e (as_reported number);
   }
 
-  pub none_right : s ≡ [] → SourceMapRight s SourceMap.Nothing
+  pub none_right : s ≡ [] → SourceMapRight s (Ok None)
   none_right e = source_map_right (sym (of_none e)) tt
 
-  pub refusal_right : {r : ℕ} → 0 < length s → accept s ≡ no r → SourceMapRight s (SourceMap.Refused r)
-  refusal_right some e = source_map_right (sym (of_refusal some e)) tt
+  pub refusal_right : (r : Refusal) → 0 < length s → accept s ≡ no (number_of r) → SourceMapRight s (Err r)
+  refusal_right r some e = source_map_right (sym (of_refusal some e)) tt
 
   -- ---- where the run stands
 
@@ -79,10 +81,10 @@ module _ (s : List ℕ) where
     source = part s base end
 
     -- the text of a reading of the source is a part of the sheet
-    pub located_as : (r : RuleRead) → ReadIn source r → (map_as s (located source base r) ≡ given (read_as source r)) × TextInside s (located source base r)
+    pub located_as : (r : Option (Comment × Capture)) → ReadIn source r → (map_of s (located source base r) ≡ read_as source r) × TextInside s (located source base r)
     unfolding specifier_in
-    located_as reading.Nothing h = (refl, tt)
-    located_as (reading.Of c k) h =
+    located_as None h = (refl, tt)
+    located_as (Some (c, k)) h =
         let w = placed_body source c h.placed in
         let i = h.inside in
         let long = part_length s base end order inside in
@@ -96,9 +98,9 @@ module _ (s : List ℕ) where
         (rw (size, place, ← in_sheet, ← in_source), (omega arith, omega arith))
 
 -- the last reading in the trailing group at the program's end is that of the sheet
-pub map_read : {t : Sheet} {source comments groups : List ℕ} {p : Parts} → PartsOf t source comments groups p → {f : Option Group} (r : RuleRead)
+pub map_read : {t : Sheet} {source comments groups : List ℕ} {p : Parts} → PartsOf t source comments groups p → {f : Option Group} (r : Option (Comment × Capture))
     → f ≡ end_group (program_of p.program) (groups_in groups p.groups)
-    → taken_as r ≡ last_of (taken_by StandardSourceMap source) (in_group (comments_in comments p.comments) f) → read_as source r ≡ standard_map t
+    → r ≡ last_of (taken_by StandardSourceMap source) (in_group (comments_in comments p.comments) f) → read_as source r ≡ standard_map t
 unfolding end_comments read_standard standard_map_in
 map_read {source = source} o r found last =
     rw (← o.source_is, ← o.comments_are, ← o.groups_are, ← o.program, ← found) (read_counted StandardSourceMap source r Last _ last)

@@ -10,9 +10,8 @@ use Rattle.sheet.specs.WalkRight.{WalkRight}
 use Rattle.sheet.specs.Revision.{Revision}
 use Rattle.sheet.specs.Sheet.{Sheet}
 use Rattle.sheet_codec.specs.SheetOf.{SheetOf}
-use Rattle.report.specs.declared.writer.Outcome.{Outcome}
 use Rattle.report.specs.Encode.{encode}
-use Rattle.report.specs.Answer.{outcome_as, fitted}
+use Rattle.report.specs.Answer.{Outcome, outcome_as, fitted}
 use Rattle.pragmas.specs.Present.{Present}
 use Rattle.pragmas.specs.Texts.{Texts}
 use Rattle.jsdoc_list.specs.Demand.{OnlyRight}

@@ -1,6 +1,6 @@
 -- The module information of a sheet, and the answer to a call: `module_info_from_swc` of src/ast/mod.rs, behind the sheet reader.
 use Rattle.std.specs.Prelude.{false, List, [], ℕ, ◌+◌, ◌*◌, ◌%◌}
-use Rattle.std.proofs.Math.Option.{Option}
+use Rattle.std.specs.Prelude.{None}
 use Rattle.sheet.specs.Sheet.{Sheet}
 use Rattle.sheet.specs.Judge.{Judged, empty, sheet, refusal, judge}
 use Rattle.report.specs.ModuleInfo.{ModuleInfo}
@@ -28,11 +28,11 @@ default_info = record {
   is_script = false;
   dependencies = [];
   ts_references = [];
-  self_types_specifier = Option.none;
-  jsx_import_source = Option.none;
-  jsx_import_source_types = Option.none;
+  self_types_specifier = None;
+  jsx_import_source = None;
+  jsx_import_source_types = None;
   jsdoc_imports = [];
-  source_map_url = Option.none;
+  source_map_url = None;
 }
 
 -- no bytes get the default report, an accepted sheet its own, if the buffer can hold it; any other the first refusal that it meets

@@ -1,10 +1,12 @@
 -- The source map by ECMA-426: the second question that a sheet can be asked.
 use Rattle.std.specs.Prelude.{◌≡◌, true, ◌↔◌, List, [], ◌∷◌, ℕ, ◌≤◌, length}
-use Rattle.std.proofs.Math.Option.{Option}
+use Rattle.std.specs.Prelude.{None, Option, Some, option_map, Result, Ok, Err}
 use Rattle.laws.specs.Codec.{IfThere}
 use Rattle.text.specs.Bytes.{part}
 use Rattle.text.specs.Position.{characters, Counted}
 use Rattle.wire.specs.Refusals.{of_sheets, one_of}
+use Rattle.wire.specs.declared.refusals.Refusal.{Refusal}
+use Rattle.wire.specs.Refusals.{number_of}
 use Rattle.sheet.specs.Sheet.{Sheet}
 use Rattle.sheet.specs.Judge.{Judged, empty, sheet, refusal, judge}
 use Rattle.report.specs.ModuleInfo.{SpecifierWithRange}
@@ -13,7 +15,6 @@ use Rattle.pragmas.specs.Pragmas.{end_comments}
 use Rattle.pragmas.specs.Present.{ExactlyLast}
 use Rattle.pragmas.specs.SourceMap.{standard_map, standard_rule, MapShown}
 use Rattle.module_info.specs.declared.source_map.SourceMap.{SourceMap}
-use Rattle.module_info.specs.declared.source_map.SourceMap.TheVariants.{Found, Nothing, Refused}
 use Rattle.module_info.specs.Information.{answer_of}
 use Rattle.module_info.specs.Demands.{OfAccepted}
 
@@ -24,23 +25,36 @@ pub data MapAnswer : Type 0 where
 
 -- no bytes have none
 abbrev pub map_to : Judged → MapAnswer
-map_to empty = given Option.none
+map_to empty = given None
 map_to (sheet t) = given (standard_map t)
 map_to (refusal r) = refused r
 
 unfoldable pub source_map_of : List ℕ → MapAnswer
 source_map_of s = map_to (judge s)
 
--- what the code's answer to the bytes s stands for: the text is a part of them
-abbrev pub map_as : List ℕ → SourceMap → MapAnswer
-map_as s (Found from to start end) = given (Option.some (record { text = part s from to; range = record { start = start; end = end } }))
-map_as s Nothing = given Option.none
-map_as s (Refused r) = refused r
+-- what the code answers: a source map, if there is one, or a refusal
+abbrev pub MapOutcome : Type 0
+MapOutcome = Result (Option SourceMap) Refusal
 
-abbrev pub TextInside : List ℕ → SourceMap → Type 0
-TextInside s (Found from to start end) = (from ≤ to) × (to ≤ length s)
-TextInside s Nothing = Unit {0}
-TextInside s (Refused r) = Unit {0}
+-- what a source map of the bytes s stands for: the text is a part of them
+abbrev pub map_in : List ℕ → SourceMap → SpecifierWithRange
+map_in s m = record { text = part s m.from m.to; range = record { start = m.start; end = m.end } }
+
+abbrev pub map_of : List ℕ → Option SourceMap → Option SpecifierWithRange
+map_of s = option_map (map_in s)
+
+-- and what the answer does
+abbrev pub map_as : List ℕ → MapOutcome → MapAnswer
+map_as s (Ok o) = given (map_of s o)
+map_as s (Err r) = refused (number_of r)
+
+abbrev pub TextInside : List ℕ → Option SourceMap → Type 0
+TextInside s (Some m) = (m.from ≤ m.to) × (m.to ≤ length s)
+TextInside s None = Unit {0}
+
+abbrev pub AnswerInside : List ℕ → MapOutcome → Type 0
+AnswerInside s (Ok o) = TextInside s o
+AnswerInside s (Err r) = Unit {0}
 
 -- the optional specifier of a sheet t
 pub record MapRight (t : Sheet) (o : Option SpecifierWithRange) : Type 0 where
@@ -52,11 +66,11 @@ pub record MapRight (t : Sheet) (o : Option SpecifierWithRange) : Type 0 where
   pub columns : Counted characters t.source
 
 -- the answer to the bytes s of a sheet or none
-pub record SourceMapRight (s : List ℕ) (answer : SourceMap) : Type 0 where
+pub record SourceMapRight (s : List ℕ) (answer : MapOutcome) : Type 0 where
   pub answer_is : map_as s answer ≡ source_map_of s
   -- the places of its text lie in s
-  pub inside : TextInside s answer
-  pub empty : s ≡ [] → map_as s answer ≡ given Option.none
+  pub inside : AnswerInside s answer
+  pub empty : s ≡ [] → map_as s answer ≡ given None
   -- a sheet that meets none of refusals 1 to 9 and 13 is answered an optional specifier, which is right
   pub accepted : OfAccepted s (λ t. (o : Option SpecifierWithRange) × (map_as s answer ≡ given o) × MapRight t o)
   -- bytes are refused exactly as the report function refuses them, whatever its buffer, and so never with 10
@@ -65,13 +79,13 @@ pub record SourceMapRight (s : List ℕ) (answer : SourceMap) : Type 0 where
 -- ---- for C
 
 -- the refusal's number; else 256 where there is a specifier, and 0 where there is none
-abbrev pub map_number : SourceMap → ℕ
-map_number (Found from to start end) = 256
-map_number Nothing = 0
-map_number (Refused r) = r
+abbrev pub map_number : MapOutcome → ℕ
+map_number (Ok (Some m)) = 256
+map_number (Ok None) = 0
+map_number (Err r) = number_of r
 
 -- from and to in the sheet, line, column, line, column; zeros where there is none
-abbrev pub map_places : SourceMap → List ℕ
-map_places (Found from to start end) = from ∷ to ∷ start.line ∷ start.column ∷ end.line ∷ end.column ∷ []
-map_places Nothing = zeros 6
-map_places (Refused r) = zeros 6
+abbrev pub map_places : MapOutcome → List ℕ
+map_places (Ok (Some m)) = m.from ∷ m.to ∷ m.start.line ∷ m.start.column ∷ m.end.line ∷ m.end.column ∷ []
+map_places (Ok None) = zeros 6
+map_places (Err r) = zeros 6

@@ -1,7 +1,7 @@
 -- What a sheet's information keeps where one comment is reworded.
 use Rattle.std.specs.Prelude.{◌≡◌, ℕ, ◌<◌, length}
 use mathlib.Core.List.{List, Memᴰ, flat_map}
-use Rattle.std.proofs.Math.Option.{Option}
+use Rattle.std.specs.Prelude.{Option}
 use Rattle.text.specs.Position.{characters, utf16}
 use Rattle.sheet.specs.declared.names.Side.TheVariants.{Leading}
 use Rattle.sheet.specs.Fit.{comment_of}

@@ -8,19 +8,12 @@ ghost use Rattle.sheet_check.specs.code.Accepts.{Accepts, Judges};
 ghost use Rattle.module_info.specs.code.Pieces.{AcceptsIn, JudgesIn};
 
 use sheet::limits::{COMMENT_LIMIT, INDEX_START, TABLE_NUMBERS};
-use sheet_check::check::{Parts, SheetChecked, check_sheet};
+use sheet_check::check::{Parts, check_sheet};
 use text::position::build_index;
-
-// No bytes; the number of the first refusal that they meet; or the parts of an accepted sheet.
-#[derive(Clone, Copy)]
-pub enum SheetJudged {
-    Empty,
-    Refused(u8),
-    Accepted(Parts),
-}
+use wire::refusals::Refusal;
 
 // Checks a sheet. The table that only the check works in is here, so that its room on the stack is free again for what follows.
-fn check(sheet: &[u8], tables: &mut [u32; TABLE_NUMBERS]) -> SheetChecked
+fn check(sheet: &[u8], tables: &mut [u32; TABLE_NUMBERS]) -> Result<Parts, Refusal>
     ensures { Leaving
         (Judges sheet.now (comments_part tables.new) (groups_part tables.new) result)
         (Free tables.old tables.new) }
@@ -40,19 +33,16 @@ fn index_source(sheet: &[u8], parts: Parts, tables: &mut [u32])
     build_index(&sheet[start..end], &mut tables[INDEX_START..TABLE_NUMBERS]);
 }
 
-// Judges bytes. Of an accepted sheet the comments, the groups and the index of its source's positions are in the table then.
-pub fn judge(sheet: &[u8], tables: &mut [u32; TABLE_NUMBERS]) -> SheetJudged
+// The parts of an accepted sheet, or the first refusal; of no bytes neither. Of an accepted sheet the comments, the groups and the index of its
+// source's positions are in the table then.
+pub fn judge(sheet: &[u8], tables: &mut [u32; TABLE_NUMBERS]) -> Result<Option<Parts>, Refusal>
     ensures { Leaving (JudgesIn sheet.now tables.new result)
         (Free tables.old tables.new) }
 {
     if sheet.len() == 0 {
-        return SheetJudged::Empty;
+        return Ok(None);
     }
-    match check(sheet, tables) {
-        SheetChecked::Refused(r) => SheetJudged::Refused(r as u8),
-        SheetChecked::Accepted(parts) => {
-            index_source(sheet, parts, tables);
-            SheetJudged::Accepted(parts)
-        }
-    }
+    let parts = check(sheet, tables)?;
+    index_source(sheet, parts, tables);
+    Ok(Some(parts))
 }

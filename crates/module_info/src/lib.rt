@@ -8,17 +8,16 @@ ghost use Rattle.std.specs.Prelude.{◌≡◌, List, [], ℕ, length, replicate}
 ghost use Rattle.laws.specs.Decoded.{ok};
 ghost use Rattle.laws.specs.code.Told.{Beside};
 ghost use Rattle.sheet.specs.Sheet.{Sheet, accept};
-ghost use Rattle.report.specs.declared.writer.Outcome.{Outcome};
 ghost use Rattle.report.specs.Buffer.{wrote, buffer_as};
 ghost use Rattle.report.specs.Encode.{encode};
-ghost use Rattle.report.specs.Answer.{zeros, outcome_as, fitted};
+ghost use Rattle.report.specs.Answer.{zeros, Outcome, outcome_as, fitted};
 ghost use Rattle.dep_entries.specs.code.Notes.{all_noted};
 ghost use Rattle.module_info.specs.Information.{module_info, default_info, packed};
 ghost use Rattle.module_info.specs.Replaced.{noted, notes_with, NotesRight};
 ghost use Rattle.module_info.specs.code.Pieces.{dependency_bytes, head_bytes, rest_bytes, PartsIn, RootOf, HeldBy, AcceptsIn};
 ghost use Rattle.module_info.specs.Demands.{Demands};
 
-use self::judge::{SheetJudged, judge};
+use self::judge::judge;
 use dep::walk::analyze_program_dependencies;
 use dep_entries::Counts;
 use jsdoc_list::imports::analyze_jsdoc_imports;
@@ -189,17 +188,6 @@ fn write_report(
     w.finish()
 }
 
-// Zeros.
-fn clear_notes(notes: &mut [usize])
-    ensures { notes.new ≡ zeros (length notes.old) }
-{
-    let mut i = 0;
-    while i < notes.len() {
-        notes[i] = 0;
-        i += 1;
-    }
-}
-
 // The report of an accepted sheet with its notes, which come cleared and are cleared where the report is refused.
 pub fn write_noted_report(
     sheet: &[u8],
@@ -217,10 +205,10 @@ pub fn write_noted_report(
     let start = Pen { at: 0 };
     let place = put_noted_report(sheet, parts, tables, buffer, notes, start);
     match finish(buffer, place) {
-        Outcome::Accepted(n) => Outcome::Accepted(n),
-        Outcome::Refused(r) => {
-            clear_notes(notes);
-            Outcome::Refused(r)
+        Ok(n) => Ok(n),
+        Err(refusal) => {
+            notes.fill(0);
+            Err(refusal)
         }
     }
 }
@@ -241,9 +229,9 @@ pub fn module_info(sheet: &[u8], buffer: &mut [u8]) -> Outcome
 {
     let mut tables = [0u32; TABLE_NUMBERS];
     match judge(sheet, &mut tables) {
-        SheetJudged::Empty => write_default(buffer),
-        SheetJudged::Refused(r) => refuse_all(buffer, r),
-        SheetJudged::Accepted(parts) => write_report(sheet, parts, &tables, buffer),
+        Ok(None) => write_default(buffer),
+        Ok(Some(parts)) => write_report(sheet, parts, &tables, buffer),
+        Err(refusal) => refuse_all(buffer, refusal),
     }
 }
 
@@ -254,11 +242,11 @@ pub fn module_info_with_replaced(sheet: &[u8], buffer: &mut [u8], notes: &mut [u
         (NotesRight sheet.now (length notes.old) (outcome_as result buffer.new).number notes.new) }
 {
     let mut tables = [0u32; TABLE_NUMBERS];
-    clear_notes(notes);
+    notes.fill(0);
     match judge(sheet, &mut tables) {
-        SheetJudged::Empty => write_default(buffer),
-        SheetJudged::Refused(r) => refuse_all(buffer, r),
-        SheetJudged::Accepted(parts) => { write_noted_report(sheet, parts, &tables, buffer, notes) }
+        Ok(None) => write_default(buffer),
+        Ok(Some(parts)) => write_noted_report(sheet, parts, &tables, buffer, notes),
+        Err(refusal) => refuse_all(buffer, refusal),
     }
 }
 
@@ -267,8 +255,8 @@ fn pack(outcome: Outcome) -> u64
     ensures { (buffer : List ℕ) → result ≡ packed (outcome_as outcome buffer) }
 {
     match outcome {
-        Outcome::Accepted(n) => 256 * ((n as u64) % 72057594037927936),
-        Outcome::Refused(r) => r as u64,
+        Ok(n) => 256 * ((n as u64) % 72057594037927936),
+        Err(refusal) => u64::from(refusal.number()),
     }
 }
 

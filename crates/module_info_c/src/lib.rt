@@ -2,12 +2,10 @@
 #![tactic(auto)]
 
 ghost use Rattle.std.specs.Prelude.{◌≡◌, length};
-ghost use Rattle.report.specs.declared.writer.Outcome.{Outcome};
-ghost use Rattle.report.specs.Answer.{outcome_as};
-ghost use Rattle.module_info.specs.declared.source_map.SourceMap.{SourceMap};
+ghost use Rattle.report.specs.Answer.{Outcome, outcome_as};
 ghost use Rattle.module_info.specs.Information.{packed};
 ghost use Rattle.module_info.specs.Replaced.{NotesRight};
-ghost use Rattle.module_info.specs.SourceMap.{SourceMapRight, map_number, map_places};
+ghost use Rattle.module_info.specs.SourceMap.{MapOutcome, SourceMapRight, map_number, map_places};
 ghost use Rattle.module_info.specs.Demands.{Demands};
 
 // The report function: number + 256 × length, and the buffer filled.
@@ -36,7 +34,7 @@ pub extern "C" fn module_info_with_replaced_answer(
 // The source map: the number, and six places: from and to in the sheet, line, column, line, column; zeros where nothing is found.
 #[unsafe(no_mangle)]
 pub extern "C" fn module_info_source_map(sheet: &[u8], places: &mut [u64; 6]) -> u64
-    ensures { (answer : SourceMap) × SourceMapRight sheet.now answer × (result ≡ map_number answer)
+    ensures { (answer : MapOutcome) × SourceMapRight sheet.now answer × (result ≡ map_number answer)
         × (places.new ≡ map_places answer) }
 {
     module_info::source_map::module_info_source_map(sheet, places)

@@ -3,8 +3,9 @@ use Rattle.laws.proofs.Prelude.{◌≡◌, sym, ap, ◌∙◌, List, [], ◌∷�
 use Rattle.laws.proofs.Prelude.{length-take, length-drop}
 use Rattle.report.{specs.Buffer.Buffer, specs.Buffer.wrote, proofs.Buffers.wrote_append}
 use Rattle.citation.{specs.Citation.escaped, proofs.Lengths.digits_most, proofs.Lengths.text_short}
-use Rattle.delivery.specs.{Order.not_in_order, Order.refused, code.Views.judgement_as, declared.judge.Judgement.Judgement}
-use Rattle.delivery.specs.declared.judge.Judgement.TheVariants as judgement
+use Rattle.delivery.specs.{Order.not_in_order, Order.refused, code.Views.judgement_as, declared.judge.LateModule.LateModule, declared.judge.Refused.Refused}
+use Rattle.std.specs.Prelude.{Option, Some, None, Result, Ok, Err}
+use Rattle.wire.specs.Refusals.{number_of}
 use Rattle.order.specs.Printed.{counted, printed_answer}
 
 -- a piece is written, and the others behind it
@@ -35,11 +36,13 @@ refused_written b₀ {b₁} {b₂} r i e₁ e₂ e₃ =
     sym (wrote_more b₀ (counted "refused " r) (counted " module " i ++ end) e₁ ∙ wrote_more b₁ (counted " module " i) end e₂ ∙ sym e₃)
 
 -- a line has at most four bytes for each of the work buffer's, and 64 besides
-pub answer_short : (work : List ℕ) (r : Judgement) → length (printed_answer (judgement_as work r)) ≤ 4 * length work + 64
+pub answer_short : (work : List ℕ) (r : Result (Option LateModule) Refused) → length (printed_answer (judgement_as work r)) ≤ 4 * length work + 64
 unfolding printed_answer
-answer_short work judgement.InOrder = omega arith
-answer_short work (judgement.NotInOrder i j from to) =
-    let specifier = take (to - from) (drop from work) in
+answer_short work (Ok None) = omega arith
+answer_short work (Ok (Some l)) =
+    let from = l.late.specifier.from in
+    let long = l.late.specifier.to - from in
+    let specifier = take long (drop from work) in
     simp length-append
-    (omega (arith, digits_most 20 i, digits_most 20 j, text_short specifier, length-take (to - from) (drop from work), length-drop from work))
-answer_short work (judgement.Refused r i) = simp length-append (omega (arith, digits_most 20 r, digits_most 20 i))
+    (omega (arith, digits_most 20 l.«module», digits_most 20 l.late.entry, text_short specifier, length-take long (drop from work), length-drop from work))
+answer_short work (Err r) = simp length-append (omega (arith, digits_most 20 (number_of r.refusal), digits_most 20 r.«module»))

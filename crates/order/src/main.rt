@@ -5,17 +5,19 @@ ghost use Rattle.std.specs.Prelude.{◌≡◌, [], ◌++◌, ◌+◌, ◌*◌, �
 ghost use Rattle.laws.specs.code.Told.{Bounded};
 ghost use Rattle.report.specs.Buffer.{holds, wrote, buffer_as};
 ghost use Rattle.citation.specs.Citation.{decimal};
+ghost use Rattle.wire.specs.Refusals.{number_of};
 ghost use Rattle.delivery.specs.Order.{not_in_order, refused, order_of};
 ghost use Rattle.order.specs.Printed.{work_room, line_room, printed_answer, printed_order};
 
 use citation::cite::written;
 use citation::lines::{put_digits, put_text};
 use delivery::check::DELIVERY_LIMIT;
-use delivery::judge::{Judgement, judge};
-use input::{Input, read_input};
+use delivery::judge::judge;
+use input::read_input;
 use report::writer::Pen;
 use std::io;
 use std::io::Write;
+use wire::refusals::Refusal;
 
 // Writes a word and a number.
 fn put_counted(place: Pen, line: &mut [u8], word: &[u8], n: usize) -> Pen
@@ -39,11 +41,12 @@ fn put_late(line: &mut [u8], index: usize, entry: usize, specifier: &[u8]) -> Pe
 }
 
 // Writes `refused N module I`.
-fn put_refused(line: &mut [u8], number: u8, index: usize) -> Pen
-    ensures { buffer_as line.new result ≡ wrote (holds (length line.old) []) (printed_answer (refused number index)) }
+fn put_refused(line: &mut [u8], refusal: Refusal, index: usize) -> Pen
+    ensures { buffer_as line.new result
+        ≡ wrote (holds (length line.old) []) (printed_answer (refused (number_of refusal) index)) }
 {
     let start = Pen { at: 0 };
-    let p = put_counted(start, line, b"refused ", number as usize);
+    let p = put_counted(start, line, b"refused ", usize::from(refusal.number()));
     let p = put_counted(p, line, b" module ", index);
     p.put(line, b'\n')
 }
@@ -56,14 +59,13 @@ fn put_order(delivery: &[u8], work: &mut [u8], line: &mut [u8]) -> Pen
         (length (printed_answer (order_of (length work.old) delivery.now)) ≤ 4 * length work.old + 64) }
 {
     match judge(delivery, work) {
-        Judgement::InOrder => (Pen { at: 0 }).put_bytes(line, b"in order\n"),
-        Judgement::NotInOrder {
-            module,
-            entry,
-            from,
-            to,
-        } => put_late(line, module, entry, &work[from..to]),
-        Judgement::Refused { number, module } => put_refused(line, number, module),
+        Ok(None) => (Pen { at: 0 }).put_bytes(line, b"in order\n"),
+        Ok(Some(first)) => {
+            let from = first.late.specifier.from;
+            let to = first.late.specifier.to;
+            put_late(line, first.module, first.late.entry, &work[from..to])
+        }
+        Err(refused) => put_refused(line, refused.refusal, refused.module),
     }
 }
 
@@ -101,8 +103,7 @@ fn work_buffer() -> [u8; 65536]
 fn main(rt: HostRuntime) -> io::Result<()> {
     let mut delivery = [0u8; INPUT_ROOM];
     let mut stdin = rt.stdin();
-    let input = read_input(&mut stdin, &mut delivery);
-    let Input::Bytes(n) = input else {
+    let Ok(n) = read_input(&mut stdin, &mut delivery) else {
         return eprintln!(rt; "order: standard input cannot be read");
     };
     let mut work = work_buffer();

@@ -1,16 +1,14 @@
 -- The comments of a table from one row to another, row by row, and what a rule answers of them.
+use Rattle.std.specs.Prelude.{Some, None}
 use Rattle.laws.proofs.Prelude.{◌≡◌, refl, ap, List, [], ◌∷◌, ◌++◌, flat_map, Option, ℕ, suc, ◌+◌, ◌-◌, ◌≤◌, ◌<◌, add-one, arith, length}
 use mathlib.Core.List.{reverse-append}
 use native.Mathlib.Nat.{sub-eq-zero_of_le}
 use Rattle.sheet.specs.{declared.comments.Comment.Comment, declared.groups.Group.Group, Fit.Reaching, Lookups.comments_of}
 use Rattle.sheet.specs.code.Tables.{rows, comment_in, comments_in}
 use Rattle.sheet.proofs.{TableRows.rows_more, Members.group_comments}
-use Rattle.report.specs.ModuleInfo.{TypeScriptReference}
 use Rattle.pragmas.specs.declared.readings.Counts.{Counts, TheVariants.First, TheVariants.Last}
-use Rattle.pragmas.specs.declared.references.Reference.{Reference}
-use Rattle.pragmas.specs.declared.references.Reference.TheVariants as reference
 use Rattle.pragmas.specs.Readings.{or_else, first_of, last_of, listed, all_of}
-use Rattle.pragmas.specs.code.Views.{comments_from, counted, reference_as, amount, encode_any}
+use Rattle.pragmas.specs.code.Views.{comments_from, counted, encode_any}
 
 module _ (table : List ℕ) (start end : ℕ) where
   from_next : start < end → comments_from table start end ≡ comment_in table start ∷ comments_from table (start + 1) end
@@ -36,6 +34,19 @@ group_from table n g r =
     let e : g.first + g.count - g.first ≡ g.count = omega arith in
     rw e (group_comments table n g r)
 
+-- the row that is looked at once so many were, and the rows from one to another that are left then
+abbrev pub row : Counts → ℕ → ℕ → ℕ → ℕ
+row First start end passed = start + passed
+row Last start end passed = end - 1 - passed
+
+abbrev pub front : Counts → ℕ → ℕ → ℕ
+front First start passed = start + passed
+front Last start passed = start
+
+abbrev pub back : Counts → ℕ → ℕ → ℕ
+back First end passed = end
+back Last end passed = end - passed
+
 -- the row that is looked at first among some, and the other rows
 abbrev pub sought : Counts → ℕ → ℕ → ℕ
 sought First start end = start
@@ -45,7 +56,7 @@ abbrev pub others : Counts → List ℕ → ℕ → ℕ → List Comment
 others First table start end = comments_from table (start + 1) end
 others Last table start end = comments_from table start (end - 1)
 
-pub counted_nothing : {A : Type 0} (f : Comment → Option A) (counts : Counts) → counted counts f [] ≡ Option.none
+pub counted_nothing : {A : Type 0} (f : Comment → Option A) (counts : Counts) → counted counts f [] ≡ None
 unfolding first_of last_of
 counted_nothing f First = refl
 counted_nothing f Last = refl
@@ -58,7 +69,7 @@ module _ {A : Type 0} (f : Comment → Option A) (table : List ℕ) (start end :
   counted_next h First e = rw (from_next table start end h, e)
   counted_next h Last e = rw (from_last table start end h, reverse-append, e)
 
-  pub counted_none : (counts : Counts) → end ≤ start → counted counts f (comments_from table start end) ≡ Option.none
+  pub counted_none : (counts : Counts) → end ≤ start → counted counts f (comments_from table start end) ≡ None
   counted_none counts h = rw (from_none table start end h) (counted_nothing f counts)
 
   pub all_next : start < end → {c : Comment} → c ≡ comment_in table start
@@ -70,14 +81,26 @@ module _ {A : Type 0} (f : Comment → Option A) (table : List ℕ) (start end :
   unfolding all_of
   all_none h = rw (from_none table start end h)
 
+module _ {A : Type 0} (f : Comment → Option A) (table : List ℕ) (start end : ℕ) where
+  -- once so many were looked at
+  module _ (passed : ℕ) where
+    pub counted_row : passed < end - start → (counts : Counts) {k : ℕ} → k ≡ row counts start end passed → {c : Comment} → c ≡ comment_in table k
+        → counted counts f (comments_from table (front counts start passed) (back counts end passed))
+        ≡ or_else (f c) (counted counts f (comments_from table (front counts start (passed + 1)) (back counts end (passed + 1))))
+    counted_row h First i e =
+        let next : start + passed + 1 ≡ start + (passed + 1) = omega arith in
+        rw (← next) (counted_next f table (start + passed) end (omega arith) First (rw i at e))
+    counted_row h Last i e =
+        let next : end - passed - 1 ≡ end - (passed + 1) = omega arith in
+        let last : end - 1 - passed ≡ end - passed - 1 = omega arith in
+        rw (← next) (counted_next f table start (end - passed) (omega arith) Last (rw (i, last) at e))
+
+    pub counted_all : end - start ≤ passed → (counts : Counts) → counted counts f (comments_from table (front counts start passed) (back counts end passed)) ≡ None
+    counted_all h First = counted_none f table (start + passed) end First (omega arith)
+    counted_all h Last = counted_none f table start (end - passed) Last (omega arith)
+
 -- one more, or none
 pub listed_each : {A : Type 0} (f : A → List ℕ) (o : Option A) (l : List A) → flat_map f (listed o l) ≡ encode_any f o ++ flat_map f l
 unfolding flat_map
-listed_each f Option.none l = refl
-listed_each f (Option.some a) l = refl
-
-pub listed_length : (source : List ℕ) (c : Comment) (r : Reference) (l : List TypeScriptReference)
-    → (length (listed (reference_as source c r) l) ≡ amount r + length l) × (amount r ≤ 1)
-listed_length source c (reference.Path k) l = (omega arith, omega arith)
-listed_length source c (reference.Types k mode) l = (omega arith, omega arith)
-listed_length source c reference.Nothing l = (omega arith, omega arith)
+listed_each f None l = refl
+listed_each f (Some a) l = refl

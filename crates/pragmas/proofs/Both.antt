@@ -1,7 +1,8 @@
 -- Two rules side by side: what holds of their answers of each comment holds of their first answers, of their last and of all.
+use Rattle.std.specs.Prelude.{Some, None, option_map}
 use Rattle.laws.proofs.Prelude.{◌≡◌, refl, ap, ◌⊎◌, inl, inr, ⊎_elim, List, [], ◌∷◌, Memᴰ, Memᴰ_head, Memᴰ_tail, Memᴰ_not_nil}
 use Rattle.laws.proofs.Prelude.{Memᴰ_cases_cons, Option}
-use mathlib.Core.{List.reverse, List.reverse_aux, Option.map}
+use mathlib.Core.{List.reverse, List.reverse_aux}
 use Rattle.laws.specs.Aligned.{Aligned}
 use Rattle.sheet.specs.declared.comments.Comment.{Comment}
 use Rattle.pragmas.specs.Readings.{or_else, first_of, last_of, listed, all_of}
@@ -16,8 +17,8 @@ of_reverse cs m = ⊎_elim (λ i. i) (λ i. absurd (Memᴰ_not_nil i)) (turned c
 
 -- there is no answer of either, or one of each
 pub data Both {A B : Type 0} (P : A → B → Type 0) : Option A → Option B → Type 0 where
-  neither : Both P Option.none Option.none
-  each : {a : A} {b : B} → P a b → Both P (Option.some a) (Option.some b)
+  neither : Both P None None
+  each : {a : A} {b : B} → P a b → Both P (Some a) (Some b)
 
 module _ {A B : Type 0} where
   pub both_map : {P Q : A → B → Type 0} → ((a : A) (b : B) → P a b → Q a b) → {x : Option A} {y : Option B} → Both P x y → Both Q x y
@@ -25,9 +26,9 @@ module _ {A B : Type 0} where
   both_map f (Both.each p) = Both.each (f _ _ p)
 
   -- one answer made of the other
-  pub both_made : (f : A → B) {x : Option A} {y : Option B} → Both (λ a b. f a ≡ b) x y → map f x ≡ y
+  pub both_made : (f : A → B) {x : Option A} {y : Option B} → Both (λ a b. f a ≡ b) x y → option_map f x ≡ y
   both_made f Both.neither = refl
-  both_made f (Both.each e) = ap Option.some e
+  both_made f (Both.each e) = ap Some e
 
 module _ {A B : Type 0} {P : A → B → Type 0} where
   pub both_else : {x z : Option A} {y w : Option B} → Both P x y → Both P z w → Both P (or_else x z) (or_else y w)

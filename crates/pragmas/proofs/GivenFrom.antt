@@ -1,6 +1,6 @@
 -- The references and pragmas, each with the rule that gave it and the comment that it was read in.
 use Rattle.laws.proofs.Prelude.{◌≡◌, refl, inl, inr, List, Memᴰ, Option, ℕ}
-use mathlib.Core.Option.{map}
+use Rattle.std.specs.Prelude.{None, Option, Some, option_map}
 use Rattle.laws.specs.Aligned.{Aligned}
 use Rattle.sheet.specs.declared.{comments.Comment.Comment, groups.Group.Group, names.MediaType.MediaType, names.Side.TheVariants.Leading}
 use Rattle.sheet.specs.Lookups.{group_at}
@@ -21,9 +21,9 @@ module _ (source : List ℕ) where
     unfolding origin_by
     answered rule c m = by (read_by rule source c) refl
       where
-        by : (x : Option SpecifierWithRange) → read_by rule source c ≡ x → Both (SpecifierFrom rule source cs) x (map (λ a. origin_of rule.entry c) x)
-        by Option.none e = Both.neither
-        by (Option.some a) e = Both.each (refl, record { comment = c; among = m; starts = refl; gives = ((ruled rule source).gives c a).0 e })
+        by : (x : Option SpecifierWithRange) → read_by rule source c ≡ x → Both (SpecifierFrom rule source cs) x (option_map (λ a. origin_of rule.entry c) x)
+        by None e = Both.neither
+        by (Some a) e = Both.each (refl, record { comment = c; among = m; starts = refl; gives = ((ruled rule source).gives c a).0 e })
 
     referred : (c : Comment) → Memᴰ c cs → Both (ReferenceFrom source cs) (reference source c) (reference_origin source c)
     unfolding reference_origin
@@ -33,9 +33,9 @@ module _ (source : List ℕ) where
         found a (p, inl (x, read, (k, mode, e))) = rw e (inl (refl, record { comment = c; among = m; starts = refl; gives = (x, read, (k, mode, refl)) }))
         found a (p, inr (n, (x, read, e))) = rw e (inr (refl, record { comment = c; among = m; starts = refl; gives = (x, read, refl) }))
 
-        by : (x : Option TypeScriptReference) → reference source c ≡ x → Both (ReferenceFrom source cs) x (map (λ a. origin_of (rule_of a) c) x)
-        by Option.none e = Both.neither
-        by (Option.some a) e = Both.each (found a (((referring source).gives c a).0 e))
+        by : (x : Option TypeScriptReference) → reference source c ≡ x → Both (ReferenceFrom source cs) x (option_map (λ a. origin_of (rule_of a) c) x)
+        by None e = Both.neither
+        by (Some a) e = Both.each (found a (((referring source).gives c a).0 e))
 
     pub references_from : Aligned (ReferenceFrom source cs) (references_in source cs) (all_of (reference_origin source) cs)
     unfolding references_in
@@ -60,7 +60,7 @@ module _ (source : List ℕ) where
   types_from_lem cs gs start = both_optional (by (last_in cs (group_at gs Leading start)) refl)
     where
       by : (o : Option Comment) → last_in cs (group_at gs Leading start) ≡ o → Both (TypesFrom source cs) (types_by source o) (types_origin source o)
-      by Option.none e = Both.neither
-      by (Option.some c) e =
+      by None e = Both.neither
+      by (Some c) e =
           let m = last_in_lem cs (group_at gs Leading start) e in
           both_else (both_map (λ a b p. inl p) (answered cs ts_types_rule c m)) (both_map (λ a b p. inr p) (answered cs deno_types_rule c m))

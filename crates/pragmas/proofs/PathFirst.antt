@@ -2,7 +2,7 @@
 -- the answer is the types one.
 use Rattle.laws.proofs.Prelude.{◌≡◌, refl, sym, ap, ◌∙◌, Bool, true, false, cond, false≢true, ⊎_elim, ◌↔◌, List, [], ◌∷◌, Memᴰ, Memᴰ_head}
 use Rattle.laws.proofs.Prelude.{Memᴰ_tail, Memᴰ_cases_cons, Memᴰ_not_nil, Option, ℕ, arith}
-use mathlib.Core.Option.{map}
+use Rattle.std.specs.Prelude.{None, Option, Some, option_map}
 use Rattle.analysis.specs.{Mode.Mode, Row.find, Row.is_found, Patterns.triple_slash_row}
 use Rattle.sheet.specs.{declared.comments.Comment.Comment, Lookups.body}
 use Rattle.report.specs.ModuleInfo.{SpecifierWithRange, TypeScriptReference, path, types}
@@ -14,17 +14,17 @@ use Rattle.pragmas.proofs.Present.{gives_reads, ruled, is_found_lem, by_types_le
 module _ (source : List ℕ) where
   -- what each rule makes of a reading
   abbrev by_path_of : Option SpecifierWithRange → Option TypeScriptReference
-  by_path_of = map path
+  by_path_of = option_map path
 
   abbrev by_types_of : Comment → Option SpecifierWithRange → Option TypeScriptReference
-  by_types_of c = map (λ x. types x (mode_in source c))
+  by_types_of c = option_map (λ x. types x (mode_in source c))
 
   -- the rule before
   abbrev pub path_first : Comment → Option TypeScriptReference
   path_first c =
       cond (is_found (find triple_slash_row (body source c)))
       (or_else (by_path_of (read_by path_rule source c)) (by_types_of c (read_by types_rule source c)))
-      Option.none
+      None
 
   -- a line comment that the triple-slash pattern reads, and both rules
   pub record BothRead (c : Comment) : Type 0 where
@@ -34,10 +34,10 @@ module _ (source : List ℕ) where
 
   -- what the two give of a comment
   abbrev Alike : Option TypeScriptReference → Option TypeScriptReference → Type 0
-  Alike Option.none Option.none = Unit {0}
-  Alike (Option.some a) (Option.some b) = Unit {0}
-  Alike Option.none (Option.some b) = ⊥
-  Alike (Option.some a) Option.none = ⊥
+  Alike None None = Unit {0}
+  Alike (Some a) (Some b) = Unit {0}
+  Alike None (Some b) = ⊥
+  Alike (Some a) None = ⊥
 
   pub record Compared (c : Comment) (old new : Option TypeScriptReference) : Type 0 where
     pub alike : Alike old new
@@ -45,7 +45,7 @@ module _ (source : List ℕ) where
     pub agree : (BothRead c → ⊥) → old ≡ new
     pub both : (old ≡ new → ⊥) → BothRead c
 
-  unlike : {x y : SpecifierWithRange} {m : Mode} → Option.some (path x) ≡ Option.some (types y m) → ⊥
+  unlike : {x y : SpecifierWithRange} {m : Mode} → Some (path x) ≡ Some (types y m) → ⊥
   unlike q = let z : ◌≡◌ {A = ℕ} 0 1 = cc in omega (arith, z)
 
   -- there is no such comment, and the answers are equal
@@ -58,17 +58,17 @@ module _ (source : List ℕ) where
     where
       by : (b : Bool) → is_found (find triple_slash_row (body source c)) ≡ b → (p : Option SpecifierWithRange) → read_by path_rule source c ≡ p
           → (t : Option SpecifierWithRange) → read_by types_rule source c ≡ t
-          → Compared c (cond b (or_else (by_path_of p) (by_types_of c t)) Option.none) (cond b (or_else (by_types_of c t) (by_path_of p)) Option.none)
-      by true e (Option.some x) i (Option.some y) j =
+          → Compared c (cond b (or_else (by_path_of p) (by_types_of c t)) None) (cond b (or_else (by_types_of c t) (by_path_of p)) None)
+      by true e (Some x) i (Some y) j =
           let here : BothRead c = record {
             slashes = (is_found_lem source c).0 e;
             path_reads = gives_reads path_rule source c (((ruled path_rule source).gives c x).0 i);
             types_reads = gives_reads types_rule source c (((ruled types_rule source).gives c y).0 j);
           } in
           record { alike = tt; apart = λ b q. unlike q; agree = λ n. absurd (n here); both = λ n. here }
-      by true e (Option.some x) i Option.none j = equal tt (λ b. ((ruled types_rule source).unread c).0 j b.types_reads)
-      by true e Option.none i (Option.some y) j = equal tt (λ b. ((ruled path_rule source).unread c).0 i b.path_reads)
-      by true e Option.none i Option.none j = equal tt (λ b. ((ruled path_rule source).unread c).0 i b.path_reads)
+      by true e (Some x) i None j = equal tt (λ b. ((ruled types_rule source).unread c).0 j b.types_reads)
+      by true e None i (Some y) j = equal tt (λ b. ((ruled path_rule source).unread c).0 i b.path_reads)
+      by true e None i None j = equal tt (λ b. ((ruled path_rule source).unread c).0 i b.path_reads)
       by false e p i t j = equal tt (λ b. false≢true (sym e ∙ (is_found_lem source c).1 b.slashes))
 
   -- the two rules differ exactly where both patterns read
@@ -76,14 +76,14 @@ module _ (source : List ℕ) where
   differ c = ((compared c).both, (compared c).apart)
 
   -- there the answer is the types one, with the mode that the resolution-mode pattern reads anywhere in the body
-  pub there : (c : Comment) → BothRead c → (a : TypeScriptReference) × (by_types source).Gives c a × (reference source c ≡ Option.some a)
+  pub there : (c : Comment) → BothRead c → (a : TypeScriptReference) × (by_types source).Gives c a × (reference source c ≡ Some a)
   unfolding reference
   there c b = by (by_types_of c (read_by types_rule source c)) refl
     where
       by : (t : Option TypeScriptReference) → by_types_of c (read_by types_rule source c) ≡ t
-          → (a : TypeScriptReference) × (by_types source).Gives c a × (reference source c ≡ Option.some a)
-      by (Option.some a) e = (a, ((by_types_lem source).gives c a).0 e, rw ((is_found_lem source c).1 b.slashes, e))
-      by Option.none e = absurd (((by_types_lem source).unread c).0 e b.types_reads)
+          → (a : TypeScriptReference) × (by_types source).Gives c a × (reference source c ≡ Some a)
+      by (Some a) e = (a, ((by_types_lem source).gives c a).0 e, rw ((is_found_lem source c).1 b.slashes, e))
+      by None e = absurd (((by_types_lem source).unread c).0 e b.types_reads)
 
   -- so the references of some comments are equal exactly where there is no such comment among them
   pub same_references : (cs : List Comment)
@@ -97,13 +97,13 @@ module _ (source : List ℕ) where
 
       one : (c : Comment) (old new : Option TypeScriptReference) → Compared c old new → (l l' : List TypeScriptReference) → listed old l ≡ listed new l'
           → (BothRead c → ⊥) × (l ≡ l')
-      one c Option.none Option.none k l l' e = (λ b. k.apart b refl, e)
-      one c (Option.some a) (Option.some b) k l l' e =
+      one c None None k l l' e = (λ b. k.apart b refl, e)
+      one c (Some a) (Some b) k l l' e =
           let same : a ≡ b = cc in
           let rest : l ≡ l' = cc in
-          (λ r. k.apart r (ap Option.some same), rest)
-      one c Option.none (Option.some b) k l l' e = absurd k.alike
-      one c (Option.some a) Option.none k l l' e = absurd k.alike
+          (λ r. k.apart r (ap Some same), rest)
+      one c None (Some b) k l l' e = absurd k.alike
+      one c (Some a) None k l l' e = absurd k.alike
 
       apart : (cs : List Comment) → all_of path_first cs ≡ all_of (reference source) cs → (c : Comment) → Memᴰ c cs → BothRead c → ⊥
       apart [] e c m b = Memᴰ_not_nil m

@@ -1,9 +1,11 @@
 -- Comments that are alike in two sources give the same references and pragmas in both, with the same origins.
+use Rattle.laws.specs.Last.{last_of as last}
+use Rattle.std.specs.Prelude.{Some, None, option_map}
 use Rattle.laws.proofs.Prelude.{◌≡◌, refl, ap, Bool, true, false, cond, List, [], ◌∷◌, Option, ℕ, arith, length}
-use mathlib.Core.List.{reverse, get_last?}
+use mathlib.Core.List.{reverse}
 use Rattle.laws.specs.Codec.{All}
 use Rattle.laws.proofs.Lists.{all_member, of_members, last_member}
-use Rattle.analysis.specs.declared.{Capture.Capture, Found.Found, Found.TheVariants.At, Found.TheVariants.Nothing}
+use Rattle.analysis.specs.declared.{Capture.Capture}
 use Rattle.analysis.{specs.Row.Row, specs.Row.find, specs.Place.Inside, specs.Place.place_of, proofs.Boundaries.EachSpecifier, proofs.Boundaries.whole}
 use Rattle.sheet.specs.declared.{comments.Comment.Comment, groups.Group.Group, names.MediaType.MediaType, names.Side.TheVariants.Leading}
 use Rattle.sheet.specs.Lookups.{group_at, comments_of, body}
@@ -11,7 +13,7 @@ use Rattle.sheet.proofs.Revised.{Alike}
 use Rattle.report.specs.ModuleInfo.{SpecifierWithRange}
 use Rattle.pragmas.specs.Asks.{Asks, path_rule, types_rule, self_types_rule, jsx_import_source_rule, jsx_import_source_types_rule, source_map_url_rule, ts_types_rule}
 use Rattle.pragmas.specs.Asks.{deno_types_rule}
-use Rattle.pragmas.specs.Readings.{place_in, specifier_in, on_found, read_by, first_of, last_of, all_of, optional}
+use Rattle.pragmas.specs.Readings.{place_in, specifier_in, read_by, first_of, last_of, all_of, optional}
 use Rattle.pragmas.specs.Pragmas.{in_group, mode_in, reference, references_in, given_to, first_by, last_by, ts_or_deno_types, types_by, last_in, types_in}
 use Rattle.pragmas.specs.Origins.{origin_by, reference_origin, first_origin, head_origins, end_origins, ts_or_deno_origin, types_origin, types_origins}
 use Rattle.pragmas.proofs.Both.{of_reverse}
@@ -30,7 +32,7 @@ module _ {s r : List ℕ} {c : Comment} (a : Alike s r c) where
 
   -- what a row finds is inside the body
   abbrev FindsInside : Row → Type 0
-  FindsInside row = (k : Capture) → find row (body s c) ≡ At k → Inside k (length (body s c))
+  FindsInside row = (k : Capture) → find row (body s c) ≡ Some k → Inside k (length (body s c))
 
   each : EachSpecifier (λ row Q. FindsInside row)
   each =
@@ -49,11 +51,11 @@ module _ {s r : List ℕ} {c : Comment} (a : Alike s r c) where
   read_kept : (rule : Asks) → FindsInside rule.row → read_by rule s c ≡ read_by rule r c
   unfolding read_by
   read_kept rule inside =
-      rw (← a.same_body) (ap (λ (x : Option SpecifierWithRange). cond (rule.kind c.kind) x Option.none) (go (find rule.row (body s c)) refl))
+      rw (← a.same_body) (ap (λ (x : Option SpecifierWithRange). cond (rule.kind c.kind) x None) (go (find rule.row (body s c)) refl))
     where
-      go : (x : Found) → find rule.row (body s c) ≡ x → on_found (specifier_in s c) x ≡ on_found (specifier_in r c) x
-      go (At k) e = ap Option.some (specifier_kept k (inside k e))
-      go Nothing e = refl
+      go : (x : Option Capture) → find rule.row (body s c) ≡ x → option_map (specifier_in s c) x ≡ option_map (specifier_in r c) x
+      go (Some k) e = ap Some (specifier_kept k (inside k e))
+      go None e = refl
 
   mode_kept : mode_in s c ≡ mode_in r c
   unfolding mode_in
@@ -150,15 +152,15 @@ module _ (s r : List ℕ) where
       (last_kept (origin_by source_map_url_rule s) (origin_by source_map_url_rule r) (λ c a. origin_kept a source_map_url_rule (each a).source_mapping_url) cs h)
 
   -- what the last comment of a group gives
-  module _ {A : Type 0} (f g : Option Comment → A) (nothing : f Option.none ≡ g Option.none)
-      (same : (c : Comment) → Alike s r c → f (Option.some c) ≡ g (Option.some c)) where
+  module _ {A : Type 0} (f g : Option Comment → A) (nothing : f None ≡ g None)
+      (same : (c : Comment) → Alike s r c → f (Some c) ≡ g (Some c)) where
     last_in_kept : (cs : List Comment) (o : Option Group) → All (Alike s r) (in_group cs o) → f (last_in cs o) ≡ g (last_in cs o)
-    last_in_kept cs Option.none h = nothing
-    last_in_kept cs (Option.some m) h = go (get_last? (comments_of cs m)) refl
+    last_in_kept cs None h = nothing
+    last_in_kept cs (Some m) h = go (last (comments_of cs m)) refl
       where
-        go : (o : Option Comment) → get_last? (comments_of cs m) ≡ o → f o ≡ g o
-        go Option.none e = nothing
-        go (Option.some c) e = same c (all_member (Alike s r) (comments_of cs m) h (last_member (comments_of cs m) e))
+        go : (o : Option Comment) → last (comments_of cs m) ≡ o → f o ≡ g o
+        go None e = nothing
+        go (Some c) e = same c (all_member (Alike s r) (comments_of cs m) h (last_member (comments_of cs m) e))
 
   -- the types of the leading group at a node, and their origin
   module _ (cs : List Comment) (gs : List Group) (start : ℕ) (h : All (Alike s r) (in_group cs (group_at gs Leading start))) where

@@ -1,11 +1,12 @@
 -- Each reference and pragma stands in the source at its reading's place, in marks or bare, as its rule's row asks.
+use Rattle.std.specs.Prelude.{Some, None}
 use Rattle.laws.proofs.Prelude.{◌≡◌, refl, sym, ◌∙◌, Bool, true, false, cond, inl, inr, ⊎_elim, List, [], ◌∷◌, Memᴰ, Memᴰ_head, Memᴰ_tail}
 use Rattle.laws.proofs.Prelude.{Memᴰ_not_nil, Memᴰ_cases_cons, Option, none-ne-some, ℕ, suc, ◌+◌, ◌-◌, ◌<◌, add-zero, sub-zero, arith}
 use Rattle.laws.proofs.Prelude.{length, get_or, drop, drop-drop}
 use Rattle.laws.specs.Codec.{All, IfThere}
 use Rattle.laws.proofs.Lists.{of_members, if_there, part_part, between_two, front_member, back_member, last_member, middle_member}
 use Rattle.text.specs.{declared.utf8.Encoding.TheVariants.Utf8, Utf8.formed, Bytes.part}
-use Rattle.analysis.{specs.declared.Capture.Capture, specs.declared.Found.TheVariants.At, specs.Row.Row, specs.Row.find, proofs.Preference.preferred_found}
+use Rattle.analysis.{specs.declared.Capture.Capture, specs.Row.Row, specs.Row.find, proofs.Preference.preferred_found}
 use Rattle.analysis.specs.Place.{mark_width, place_of, text_of}
 use Rattle.analysis.proofs.Boundaries.{Whole, EachSpecifier, whole}
 use Rattle.sheet.specs.{declared.comments.Comment.Comment, Comments.slice, declared.groups.Group.Group, declared.names.Side.TheVariants.Leading, Sheet.Sheet}
@@ -77,12 +78,12 @@ pub fit_placed : {source : List ℕ} {cs : List Comment} → Fit source cs → {
 fit_placed {cs = cs} f m = let (k, l, e) = comment_index cs m in rw (← e) (f.each k l)
 
 group_member : (cs : List Comment) (o : Option Group) {c : Comment} → Memᴰ c (in_group cs o) → Memᴰ c cs
-group_member cs Option.none m = absurd (Memᴰ_not_nil m)
-group_member cs (Option.some g) m = back_member g.first cs (front_member g.count (drop g.first cs) m)
+group_member cs None m = absurd (Memᴰ_not_nil m)
+group_member cs (Some g) m = back_member g.first cs (front_member g.count (drop g.first cs) m)
 
-pub last_in_lem : (cs : List Comment) (o : Option Group) {c : Comment} → last_in cs o ≡ Option.some c → Memᴰ c cs
-last_in_lem cs Option.none {c} e = absurd (none-ne-some c e)
-last_in_lem cs (Option.some g) e = group_member cs (Option.some g) (last_member (comments_of cs g) e)
+pub last_in_lem : (cs : List Comment) (o : Option Group) {c : Comment} → last_in cs o ≡ Some c → Memᴰ c cs
+last_in_lem cs None {c} e = absurd (none-ne-some c e)
+last_in_lem cs (Some g) e = group_member cs (Some g) (last_member (comments_of cs g) e)
 
 pub given_member : (b : Bool) (cs : List Comment) {c : Comment} → Memᴰ c (cond b cs []) → Memᴰ c cs
 given_member true cs m = m
@@ -105,7 +106,7 @@ module _ (t : Sheet) (f : formed Utf8 0 t.source ≡ true) (fit : Fit t.source t
 
     -- what is captured in the comment is whole, and quoted or not
     abbrev Captured : Row → (Capture → Type 0) → Type 0
-    Captured row Q = (k : Capture) → find row (body t.source c) ≡ At k → Whole (body t.source c) k × Q k
+    Captured row Q = (k : Capture) → find row (body t.source c) ≡ Some k → Whole (body t.source c) k × Q k
 
     each : EachSpecifier Captured
     each = whole (body t.source c) (body_formed t.source c f placed)

@@ -1,4 +1,5 @@
 -- What the rules read in the comments of a well-formed source can be written.
+use Rattle.std.specs.Prelude.{Some, None}
 use Rattle.laws.proofs.Prelude.{Bool, true, false, ⊎_elim, List, [], ◌∷◌, Option, ◌≤◌, arith, length, length-take, length-drop}
 use Rattle.laws.specs.Codec.{All}
 use Rattle.text.specs.{declared.utf8.Encoding.TheVariants.Utf8, WellFormed.WellFormed}
@@ -54,5 +55,5 @@ unfolding head_comments
 references_few t o = omega (arith, in_order_few o, group_few (head_group t.program t.groups))
   where
     group_few : (g : Option Group) → length (in_group t.comments g) ≤ length t.comments
-    group_few Option.none = omega arith
-    group_few (Option.some g) = simp (length-take, length-drop) (omega arith)
+    group_few None = omega arith
+    group_few (Some g) = simp (length-take, length-drop) (omega arith)

@@ -1,7 +1,7 @@
 -- How each reference and pragma was found: the rule that gave it, and where the comment starts that it was read in.
 use Rattle.std.specs.Prelude.{◌≡◌, ◌⊎◌, ℕ}
 use mathlib.Core.List.{List, ◌++◌, Memᴰ}
-use Rattle.std.proofs.Math.Option.{Option, map}
+use Rattle.std.specs.Prelude.{None, Option, Some, option_map}
 use Rattle.sheet.specs.declared.comments.Comment.{Comment}
 use Rattle.sheet.specs.declared.groups.Group.{Group}
 use Rattle.sheet.specs.declared.names.MediaType.{MediaType}
@@ -22,7 +22,7 @@ origin_of rule c = record { rule = rule; offset = c.span.start }
 
 -- that of what a rule reads in a comment
 unfoldable pub origin_by : Asks → List ℕ → Comment → Option Origin
-origin_by rule source c = map (λ x. origin_of rule.entry c) (read_by rule source c)
+origin_by rule source c = option_map (λ x. origin_of rule.entry c) (read_by rule source c)
 
 -- a reference is a path or a types one
 abbrev pub rule_of : TypeScriptReference → EntryRule
@@ -30,7 +30,7 @@ rule_of (path x) = path_rule.entry
 rule_of (types x mode) = types_rule.entry
 
 unfoldable pub reference_origin : List ℕ → Comment → Option Origin
-reference_origin source c = map (λ a. origin_of (rule_of a) c) (reference source c)
+reference_origin source c = option_map (λ a. origin_of (rule_of a) c) (reference source c)
 
 -- that of a rule's first reading
 unfoldable pub first_origin : Asks → MediaType → List ℕ → List Comment → Option Origin
@@ -53,8 +53,8 @@ unfoldable pub ts_or_deno_origin : List ℕ → Comment → Option Origin
 ts_or_deno_origin source c = or_else (origin_by ts_types_rule source c) (origin_by deno_types_rule source c)
 
 abbrev pub types_origin : List ℕ → Option Comment → Option Origin
-types_origin source Option.none = Option.none
-types_origin source (Option.some c) = ts_or_deno_origin source c
+types_origin source None = None
+types_origin source (Some c) = ts_or_deno_origin source c
 
 -- that of the types of an entry, none or one, from the last comment of the leading group at the start of its node
 unfoldable pub types_origins : List ℕ → List Comment → List Group → ℕ → List Origin

@@ -1,8 +1,7 @@
 -- The references and the pragmas of a sheet: each rule of document 01's "Readings" with the comments that it gives to it.
 use Rattle.std.specs.Prelude.{cond, List, [], ℕ}
-use Rattle.std.proofs.Math.Option.{Option, map}
-use Rattle.analysis.specs.declared.Found.{Found}
-use Rattle.analysis.specs.declared.Found.TheVariants.{At, Nothing}
+use Rattle.std.specs.Prelude.{None, Option, Some, option_map}
+use Rattle.analysis.specs.declared.Capture.{Capture}
 use Rattle.analysis.specs.Mode.{Mode, mode_of}
 use Rattle.analysis.specs.Row.{find, is_found}
 use Rattle.analysis.specs.Place.{text_of}
@@ -20,8 +19,8 @@ use Rattle.pragmas.specs.Readings.{read_by, or_else, first_of, last_of, all_of}
 
 -- the comments of a group, none if there is no such group
 abbrev pub in_group : List Comment → Option Group → List Comment
-in_group cs Option.none = []
-in_group cs (Option.some g) = comments_of cs g
+in_group cs None = []
+in_group cs (Some g) = comments_of cs g
 
 -- the comments of the head group, and of the trailing group at the program's end
 unfoldable pub head_comments : Sheet → List Comment
@@ -31,20 +30,20 @@ unfoldable pub end_comments : Sheet → List Comment
 end_comments t = in_group t.comments (end_group t.program t.groups)
 
 -- the mode that a comment names for a types reference
-abbrev pub mode_by : List ℕ → Found → Mode
-mode_by b (At k) = mode_of (text_of b k)
-mode_by b Nothing = Option.none
+abbrev pub mode_by : List ℕ → Option Capture → Mode
+mode_by b (Some k) = mode_of (text_of b k)
+mode_by b None = None
 
 unfoldable pub mode_in : List ℕ → Comment → Mode
 mode_in source c = mode_by (body source c) (find resolution_mode_row (body source c))
 
 -- a reference: by the types rule, or else by the path one
 abbrev pub reference_by : List ℕ → Comment → Option TypeScriptReference
-reference_by source c = or_else (map (λ x. types x (mode_in source c)) (read_by types_rule source c)) (map path (read_by path_rule source c))
+reference_by source c = or_else (option_map (λ x. types x (mode_in source c)) (read_by types_rule source c)) (option_map path (read_by path_rule source c))
 
 -- from a comment that the triple-slash pattern reads
 unfoldable pub reference : List ℕ → Comment → Option TypeScriptReference
-reference source c = cond (is_found (find triple_slash_row (body source c))) (reference_by source c) Option.none
+reference source c = cond (is_found (find triple_slash_row (body source c))) (reference_by source c) None
 
 unfoldable pub references_in : List ℕ → List Comment → List TypeScriptReference
 references_in source cs = all_of (reference source) cs
@@ -81,12 +80,12 @@ unfoldable pub ts_or_deno_types : List ℕ → Comment → Option SpecifierWithR
 ts_or_deno_types source c = or_else (read_by ts_types_rule source c) (read_by deno_types_rule source c)
 
 abbrev pub types_by : List ℕ → Option Comment → Option SpecifierWithRange
-types_by source Option.none = Option.none
-types_by source (Option.some c) = ts_or_deno_types source c
+types_by source None = None
+types_by source (Some c) = ts_or_deno_types source c
 
 abbrev pub last_in : List Comment → Option Group → Option Comment
-last_in cs Option.none = Option.none
-last_in cs (Option.some g) = last_comment_of cs g
+last_in cs None = None
+last_in cs (Some g) = last_comment_of cs g
 
 -- the types of an entry, from the last comment of the leading group at the start of its node
 unfoldable pub types_in : List ℕ → List Comment → List Group → ℕ → Option SpecifierWithRange

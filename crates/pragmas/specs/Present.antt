@@ -1,7 +1,7 @@
 -- Demand 3 for references and pragmas, without a parser: each appears exactly when its rule has a reading in the comments that document 01 gives to it.
 use Rattle.std.specs.Prelude.{◌≡◌, true, ◌⊎◌, ◌↔◌, ℕ}
 use mathlib.Core.List.{List, [], ◌∷◌, ◌++◌, Memᴰ}
-use Rattle.std.proofs.Math.Option.{Option}
+use Rattle.std.specs.Prelude.{None, Option, Some}
 use Rattle.analysis.specs.declared.Capture.{Capture}
 use Rattle.analysis.specs.Mode.{Mode, mode_of}
 use Rattle.analysis.specs.Row.{Row}
@@ -55,7 +55,7 @@ by_rule rule source = only (λ c. rule.kind c.kind ≡ true) (record { Reads = M
 -- the mode of a types reference: that of the text that the resolution-mode pattern reads; none where it reads nothing
 pub data ModeRead (source : List ℕ) (c : Comment) : Mode → Type 0 where
   named : {k : Capture} → Preferred resolution_mode_row (body source c) k → ModeRead source c (mode_of (text_of (body source c) k))
-  none : (Matched resolution_mode_row source c → ⊥) → ModeRead source c Option.none
+  none : (Matched resolution_mode_row source c → ⊥) → ModeRead source c None
 
 -- the two kinds of references
 abbrev pub by_path : List ℕ → Reader TypeScriptReference
@@ -98,9 +98,9 @@ module _ {A : Type 0} (r : Reader A) where
     passes : {c : Comment} {cs : List Comment} {l : List A} → (r.Reads c → ⊥) → InOrder cs l → InOrder (c ∷ cs) l
 
 -- there is an answer exactly where there is a reading, and it is that reading's
-pub record Exactly {A : Type 0} (Is : A → Type 0) (None : Type 0) (answer : Option A) : Type 0 where
-  pub some : (a : A) → (answer ≡ Option.some a) ↔ Is a
-  pub none : (answer ≡ Option.none) ↔ None
+pub record Exactly {A : Type 0} (Is : A → Type 0) (Not : Type 0) (answer : Option A) : Type 0 where
+  pub some : (a : A) → (answer ≡ Some a) ↔ Is a
+  pub none : (answer ≡ None) ↔ Not
 
 abbrev pub ExactlyFirst : {A : Type 0} → Reader A → List Comment → Option A → Type 0
 ExactlyFirst r cs = Exactly (FirstReading r cs) (NoReading r cs)
@@ -124,5 +124,5 @@ pub record Present (t : Sheet) (m : ModuleInfo) : Type 0 where
 abbrev pub TypesPresent : Sheet → ℕ → Option SpecifierWithRange → Type 0
 TypesPresent t start =
     Exactly
-    (λ x. (c : Comment) × (last_in t.comments (group_at t.groups Leading start) ≡ Option.some c) × (by_ts_or_deno_types t.source).Gives c x)
-    ((c : Comment) → last_in t.comments (group_at t.groups Leading start) ≡ Option.some c → (by_ts_or_deno_types t.source).Reads c → ⊥)
+    (λ x. (c : Comment) × (last_in t.comments (group_at t.groups Leading start) ≡ Some c) × (by_ts_or_deno_types t.source).Gives c x)
+    ((c : Comment) → last_in t.comments (group_at t.groups Leading start) ≡ Some c → (by_ts_or_deno_types t.source).Reads c → ⊥)

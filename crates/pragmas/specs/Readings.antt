@@ -1,9 +1,7 @@
 -- A reading of a comment as a specifier.
 use Rattle.std.specs.Prelude.{cond, List, [], ◌∷◌, reverse, ℕ, ◌+◌}
-use Rattle.std.proofs.Math.Option.{Option}
+use Rattle.std.specs.Prelude.{None, Option, Some, option_map}
 use Rattle.analysis.specs.declared.Capture.{Capture}
-use Rattle.analysis.specs.declared.Found.{Found}
-use Rattle.analysis.specs.declared.Found.TheVariants.{At, Nothing}
 use Rattle.analysis.specs.Row.{find}
 use Rattle.analysis.specs.Place.{place_of, text_of}
 use Rattle.sheet.specs.declared.fields.Span.{Span}
@@ -21,21 +19,17 @@ place_in c k = record { start = (body_span c).start + (place_of k).from; end = (
 unfoldable pub specifier_in : List ℕ → Comment → Capture → SpecifierWithRange
 specifier_in source c k = record { text = text_of (body source c) k; range = range_of source (place_in c k) }
 
-abbrev pub on_found : {A : Type 0} → (Capture → A) → Found → Option A
-on_found f (At k) = Option.some (f k)
-on_found f Nothing = Option.none
-
 -- the specifier that a rule reads in a comment
 unfoldable pub read_by : Asks → List ℕ → Comment → Option SpecifierWithRange
-read_by rule source c = cond (rule.kind c.kind) (on_found (specifier_in source c) (find rule.row (body source c))) Option.none
+read_by rule source c = cond (rule.kind c.kind) (option_map (specifier_in source c) (find rule.row (body source c))) None
 
 abbrev pub or_else : {A : Type 0} → Option A → Option A → Option A
-or_else Option.none b = b
-or_else (Option.some a) b = Option.some a
+or_else None b = b
+or_else (Some a) b = Some a
 
 -- the first answer among those of some comments, and the last
 unfoldable pub first_of : {A : Type 0} → (Comment → Option A) → List Comment → Option A
-first_of f [] = Option.none
+first_of f [] = None
 first_of f (c ∷ cs) = or_else (f c) (first_of f cs)
 
 unfoldable pub last_of : {A : Type 0} → (Comment → Option A) → List Comment → Option A
@@ -43,8 +37,8 @@ last_of f cs = first_of f (reverse cs)
 
 -- all answers, in the order of their comments
 abbrev pub listed : {A : Type 0} → Option A → List A → List A
-listed Option.none l = l
-listed (Option.some a) l = a ∷ l
+listed None l = l
+listed (Some a) l = a ∷ l
 
 -- the answer alone
 abbrev pub optional : {A : Type 0} → Option A → List A

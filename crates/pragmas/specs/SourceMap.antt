@@ -1,7 +1,7 @@
 -- The source map by ECMA-426: the last comment that reads, as that standard has it, in the trailing group at the program's end.
 use Rattle.std.specs.Prelude.{◌≡◌, ℕ}
 use mathlib.Core.List.{List, Memᴰ}
-use Rattle.std.proofs.Math.Option.{Option}
+use Rattle.std.specs.Prelude.{Option, option_map}
 use Rattle.analysis.specs.declared.Capture.{Capture}
 use Rattle.analysis.specs.Place.{text_of}
 use Rattle.ecma426.specs.Grammar.{MapReading}
@@ -12,13 +12,13 @@ use Rattle.sheet.specs.Sheet.{Sheet}
 use Rattle.report.specs.ModuleInfo.{SpecifierWithRange}
 use Rattle.report.specs.Range.{range_of}
 use Rattle.report.specs.Stands.{Bare, StandsAt}
-use Rattle.pragmas.specs.Readings.{place_in, specifier_in, on_found, last_of}
+use Rattle.pragmas.specs.Readings.{place_in, specifier_in, last_of}
 use Rattle.pragmas.specs.Pragmas.{end_comments}
 use Rattle.pragmas.specs.Present.{Reader}
 
 -- the run of a comment, if it reads
 unfoldable pub read_standard : List ℕ → Comment → Option SpecifierWithRange
-read_standard source c = on_found (specifier_in source c) (find_source_map (body source c))
+read_standard source c = option_map (specifier_in source c) (find_source_map (body source c))
 
 -- the last comment that reads, of any kind
 unfoldable pub standard_map_in : List ℕ → List Comment → Option SpecifierWithRange

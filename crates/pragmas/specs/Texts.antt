@@ -1,7 +1,7 @@
 -- Demand 3 for the texts of references and pragmas: each stands in the source at its reading's place, in two marks or bare, as its rule's row asks.
 use Rattle.std.specs.Prelude.{Bool, true, false, ◌⊎◌, ℕ}
 use mathlib.Core.List.{List, Memᴰ}
-use Rattle.std.proofs.Math.Option.{Option}
+use Rattle.std.specs.Prelude.{Option}
 use Rattle.laws.specs.Codec.{All, IfThere}
 use Rattle.analysis.specs.declared.Capture.{Capture}
 use Rattle.analysis.specs.Row.{Row}

@@ -10,7 +10,6 @@ ghost use Rattle.laws.specs.code.Told.{Told};
 ghost use Rattle.wire.specs.Optional.{encode_optional};
 ghost use Rattle.sheet.specs.code.Tables.{comments_in, groups_in};
 ghost use Rattle.sheet.specs.Fit.{Placed};
-ghost use Rattle.sheet.specs.code.Views.{found_as};
 ghost use Rattle.report.specs.Encode.{encode_specifier};
 ghost use Rattle.report.specs.Buffer.{wrote, buffer_as};
 ghost use Rattle.pragmas.specs.code.Held.{Commented, GroupedIn, Reached};
@@ -22,7 +21,8 @@ ghost use Rattle.pragmas.specs.code.Views.{asked, read_rule, read_as, ReadIn};
 use self::readings::{Counts, Rule, RuleRead, find_reading, first_reading, put_reading, read};
 use report::writer::Pen;
 use sheet::comments::{Comment, comment_at};
-use sheet::lookups::{GroupFound, find_group};
+use sheet::groups::Group;
+use sheet::lookups::find_group;
 use sheet::names::{MediaType, Side};
 
 // `analyze_ts_self_types`, `analyze_jsx_import_source` and `analyze_jsx_import_source_types`, by the rule: the first comment that it reads, in the
@@ -34,17 +34,17 @@ pub fn analyze_first(
     comments: &[u32],
     n: usize,
     index: &[u32],
-    found: GroupFound,
+    found: Option<Group>,
     out: &mut [u8],
     place: Pen,
 ) -> Pen
     requires commented { Commented source.now comments.now n index.now }
-    requires reached { Reached n (found_as found) }
+    requires reached { Reached n found }
     ensures { buffer_as out.new result
         ≡ wrote (buffer_as out.old place)
         (encode_optional encode_specifier
         (first_of (read_rule rule source.now)
-        (given_to (asked rule) media (in_group (comments_in comments.now n) (found_as found))))) }
+        (given_to (asked rule) media (in_group (comments_in comments.now n) found)))) }
 {
     let reading = first_reading(media, source, comments, n, found, rule);
     put_reading(source, index, reading, out, place)
@@ -56,16 +56,16 @@ pub fn analyze_source_map_url(
     comments: &[u32],
     n: usize,
     index: &[u32],
-    found: GroupFound,
+    found: Option<Group>,
     out: &mut [u8],
     place: Pen,
 ) -> Pen
     requires commented { Commented source.now comments.now n index.now }
-    requires reached { Reached n (found_as found) }
+    requires reached { Reached n found }
     ensures { buffer_as out.new result
         ≡ wrote (buffer_as out.old place)
         (encode_optional encode_specifier
-        (last_of (read_by source_map_url_rule source.now) (in_group (comments_in comments.now n) (found_as found)))) }
+        (last_of (read_by source_map_url_rule source.now) (in_group (comments_in comments.now n) found))) }
 {
     let reading = find_reading(source, comments, n, found, Counts::Last, Rule::SourceMapUrl);
     put_reading(source, index, reading, out, place)
@@ -78,11 +78,7 @@ fn read_types(source: &[u8], c: Comment) -> RuleRead
         (ts_or_deno_types source.now c)
         (ReadIn source.now) result }
 {
-    let reading = read(source, c, Rule::TsTypes);
-    if let RuleRead::Of(_, _) = reading {
-        return reading;
-    }
-    read(source, c, Rule::DenoTypes)
+    read(source, c, Rule::TsTypes).or_else(|| read(source, c, Rule::DenoTypes))
 }
 
 // The types of an entry: the ts-types pattern, or else the deno-types one, in the last comment of the leading group at `start`.
@@ -104,11 +100,9 @@ pub fn analyze_ts_or_deno_types(
         (encode_optional encode_specifier
         (types_in source.now (comments_in comments.now n) (groups_in groups.now m) start)) }
 {
-    match find_group(groups, m, Side::Leading, start) {
-        GroupFound::At(g) => {
-            let reading = read_types(source, comment_at(comments, g.first + (g.count - 1)));
-            put_reading(source, index, reading, out, place)
-        }
-        GroupFound::Nothing => place.put(out, 0),
-    }
+    let reading = match find_group(groups, m, Side::Leading, start) {
+        Some(g) => read_types(source, comment_at(comments, g.first + (g.count - 1))),
+        None => None,
+    };
+    put_reading(source, index, reading, out, place)
 }

@@ -3,7 +3,6 @@ ghost use Rattle.std.specs.Prelude.{◌≡◌, ◌*◌, ◌≤◌, length};
 ghost use mathlib.Core.List.{flat_map};
 ghost use Rattle.sheet.specs.code.Tables.{comments_in, groups_in};
 ghost use Rattle.sheet.specs.Fit.{Placed, Fit};
-ghost use Rattle.sheet.specs.code.Views.{found_as};
 ghost use Rattle.report.specs.Buffer.{wrote, buffer_as};
 ghost use Rattle.report.specs.Origin.{encode_origin};
 ghost use Rattle.pragmas.specs.code.Held.{GroupedIn, Reached};
@@ -17,7 +16,8 @@ use super::references::{Reference, read_reference};
 use report::origins::{EntryRule, put_origin};
 use report::writer::Pen;
 use sheet::comments::{Comment, comment_at};
-use sheet::lookups::{GroupFound, find_group};
+use sheet::groups::Group;
+use sheet::lookups::find_group;
 use sheet::names::{MediaType, Side};
 
 // Writes the rule and the comment of a reading, if there is one.
@@ -26,8 +26,8 @@ fn put_reading_origin(entry: EntryRule, reading: RuleRead, out: &mut [u8], place
         ≡ wrote (buffer_as out.old place) (encode_any encode_origin (origin_as entry reading)) }
 {
     match reading {
-        RuleRead::Of(c, _) => put_origin(entry, c.span.start, out, place),
-        RuleRead::Nothing => place,
+        Some((c, _)) => put_origin(entry, c.span.start, out, place),
+        None => place,
     }
 }
 
@@ -38,13 +38,13 @@ fn put_reference_origin(source: &[u8], c: Comment, out: &mut [u8], place: Pen) -
         ≡ wrote (buffer_as out.old place) (encode_any encode_origin (reference_origin source.now c)) }
 {
     match read_reference(source, c) {
-        Reference::Path(_) => put_origin(EntryRule::Path, c.span.start, out, place),
-        Reference::Types(_, _) => put_origin(EntryRule::Types, c.span.start, out, place),
-        Reference::Nothing => place,
+        Some(Reference::Path(_)) => put_origin(EntryRule::Path, c.span.start, out, place),
+        Some(Reference::Types(_, _)) => put_origin(EntryRule::Types, c.span.start, out, place),
+        None => place,
     }
 }
 
-// Writes those of the references of a table's comments, from one row to another.
+// Writes those of the references of a table's comments, from one row to another. A closure that writes would need a longer contract than this loop.
 fn put_origins_between(
     source: &[u8],
     comments: &[u32],
@@ -61,10 +61,8 @@ fn put_origins_between(
         (flat_map encode_origin (all_of (reference_origin source.now) (comments_from comments.now start end))) }
 {
     let mut p = place;
-    let mut i = start;
-    while i < end {
-        p = put_reference_origin(source, comment_at(comments, i), out, p);
-        i += 1;
+    for k in start..end {
+        p = put_reference_origin(source, comment_at(comments, k), out, p);
     }
     p
 }
@@ -74,22 +72,22 @@ fn put_reference_origins(
     source: &[u8],
     comments: &[u32],
     n: usize,
-    found: GroupFound,
+    found: Option<Group>,
     out: &mut [u8],
     place: Pen,
 ) -> Pen
     requires n_in_bounds { 3 * n ≤ length comments.now }
     requires fit { Fit source.now (comments_in comments.now n) }
-    requires reached { Reached n (found_as found) }
+    requires reached { Reached n found }
     ensures { buffer_as out.new result
         ≡ wrote (buffer_as out.old place)
-        (flat_map encode_origin (all_of (reference_origin source.now) (in_group (comments_in comments.now n) (found_as found)))) }
+        (flat_map encode_origin (all_of (reference_origin source.now) (in_group (comments_in comments.now n) found))) }
 {
     match found {
-        GroupFound::At(g) => {
+        Some(g) => {
             put_origins_between(source, comments, n, g.first, g.first + g.count, out, place)
         }
-        GroupFound::Nothing => place,
+        None => place,
     }
 }
 
@@ -99,16 +97,16 @@ pub fn put_head_origins(
     source: &[u8],
     comments: &[u32],
     n: usize,
-    found: GroupFound,
+    found: Option<Group>,
     out: &mut [u8],
     place: Pen,
 ) -> Pen
     requires n_in_bounds { 3 * n ≤ length comments.now }
     requires fit { Fit source.now (comments_in comments.now n) }
-    requires reached { Reached n (found_as found) }
+    requires reached { Reached n found }
     ensures { buffer_as out.new result
         ≡ wrote (buffer_as out.old place)
-        (flat_map encode_origin (head_origins media source.now (in_group (comments_in comments.now n) (found_as found)))) }
+        (flat_map encode_origin (head_origins media source.now (in_group (comments_in comments.now n) found))) }
 {
     let self_types = first_reading(media, source, comments, n, found, Rule::TsSelfTypes);
     let jsx_source = first_reading(media, source, comments, n, found, Rule::JsxImportSource);
@@ -131,16 +129,16 @@ pub fn put_end_origins(
     source: &[u8],
     comments: &[u32],
     n: usize,
-    found: GroupFound,
+    found: Option<Group>,
     out: &mut [u8],
     place: Pen,
 ) -> Pen
     requires n_in_bounds { 3 * n ≤ length comments.now }
     requires fit { Fit source.now (comments_in comments.now n) }
-    requires reached { Reached n (found_as found) }
+    requires reached { Reached n found }
     ensures { buffer_as out.new result
         ≡ wrote (buffer_as out.old place)
-        (flat_map encode_origin (end_origins source.now (in_group (comments_in comments.now n) (found_as found)))) }
+        (flat_map encode_origin (end_origins source.now (in_group (comments_in comments.now n) found))) }
 {
     let reading = find_reading(source, comments, n, found, Counts::Last, Rule::SourceMapUrl);
     put_reading_origin(EntryRule::SourceMap, reading, out, place)
@@ -153,7 +151,7 @@ fn put_types_origin(source: &[u8], c: Comment, out: &mut [u8], place: Pen) -> Pe
         ≡ wrote (buffer_as out.old place) (encode_any encode_origin (ts_or_deno_origin source.now c)) }
 {
     let reading = read(source, c, Rule::TsTypes);
-    if let RuleRead::Of(_, _) = reading {
+    if reading.is_some() {
         return put_reading_origin(EntryRule::TsTypes, reading, out, place);
     }
     let reading = read(source, c, Rule::DenoTypes);
@@ -179,10 +177,10 @@ pub fn put_types_origins(
         (types_origins source.now (comments_in comments.now n) (groups_in groups.now m) start)) }
 {
     match find_group(groups, m, Side::Leading, start) {
-        GroupFound::At(g) => {
+        Some(g) => {
             let c = comment_at(comments, g.first + (g.count - 1));
             put_types_origin(source, c, out, place)
         }
-        GroupFound::Nothing => place,
+        None => place,
     }
 }

@@ -1,29 +1,29 @@
 // The comments that a rule reads, and what it captures there.
 ghost use Rattle.std.specs.Prelude.{◌≡◌, ◌-◌, ◌*◌, ◌≤◌, length};
-ghost use Rattle.laws.specs.code.Told.{Bounded, Told};
+ghost use Rattle.laws.specs.code.Told.{Bounded};
 ghost use Rattle.wire.specs.Optional.{encode_optional};
 ghost use Rattle.analysis.specs.Place.{Inside, FoundWithin};
 ghost use Rattle.sheet.specs.code.Tables.{comments_in};
 ghost use Rattle.sheet.specs.Fit.{Placed, Fit};
 ghost use Rattle.sheet.specs.Lookups.{HoldsMarks, body_span};
-ghost use Rattle.sheet.specs.code.Views.{found_as};
 ghost use Rattle.report.specs.Encode.{encode_specifier};
 ghost use Rattle.report.specs.Range.{IndexOf};
 ghost use Rattle.report.specs.Buffer.{wrote, buffer_as};
 ghost use Rattle.pragmas.specs.code.Held.{Reached};
 ghost use Rattle.pragmas.specs.Readings.{place_in, specifier_in, first_of};
 ghost use Rattle.pragmas.specs.Pragmas.{in_group, given_to};
-ghost use Rattle.pragmas.specs.code.Views.{asked, find_rule, taken_by, counted, taken_as, read_as, ReadIn, CaptureIn, comments_from};
+ghost use Rattle.pragmas.specs.code.Views.{asked, find_rule, taken_by, counted, read_as, ReadIn, CaptureIn, comments_from};
 
 use analysis::{
-    Capture, Found, find_deno_types, find_jsx_import_source, find_jsx_import_source_types,
+    Capture, find_deno_types, find_jsx_import_source, find_jsx_import_source_types,
     find_source_mapping_url, find_ts_self_types, find_ts_types, place_of, specifier,
 };
 use ecma426::find_source_map;
 use report::writer::Pen;
 use sheet::comments::{Comment, comment_at};
 use sheet::fields::Span;
-use sheet::lookups::{GroupFound, body, body_span};
+use sheet::groups::Group;
+use sheet::lookups::{body, body_span};
 use sheet::names::{CommentKind, MediaType, is_block, is_javascript, is_jsx};
 
 // The rules that give one specifier.
@@ -46,14 +46,10 @@ pub enum Counts {
 }
 
 // A comment that a rule reads, with what is captured in its body.
-#[derive(Clone, Copy)]
-pub enum RuleRead {
-    Of(Comment, Capture),
-    Nothing,
-}
+pub type RuleRead = Option<(Comment, Capture)>;
 
 // The finder of a rule.
-fn find_by(body: &[u8], rule: Rule) -> Found
+fn find_by(body: &[u8], rule: Rule) -> Option<Capture>
     ensures { Bounded (result ≡ find_rule rule body.now) (FoundWithin result (length body.now)) }
 {
     match rule {
@@ -72,13 +68,12 @@ fn takes(rule: Rule, kind: CommentKind) -> bool
     ensures { result ≡ (asked rule).kind kind }
 {
     match rule {
-        Rule::JsxImportSource => is_block(kind),
-        Rule::JsxImportSourceTypes => is_block(kind),
-        Rule::TsSelfTypes => true,
-        Rule::SourceMapUrl => true,
-        Rule::StandardSourceMap => true,
-        Rule::TsTypes => true,
-        Rule::DenoTypes => true,
+        Rule::JsxImportSource | Rule::JsxImportSourceTypes => is_block(kind),
+        Rule::TsSelfTypes
+        | Rule::SourceMapUrl
+        | Rule::StandardSourceMap
+        | Rule::TsTypes
+        | Rule::DenoTypes => true,
     }
 }
 
@@ -87,32 +82,26 @@ fn asks_media(rule: Rule, media: MediaType) -> bool
     ensures { result ≡ (asked rule).media media }
 {
     match rule {
-        Rule::JsxImportSource => is_jsx(media),
-        Rule::JsxImportSourceTypes => is_jsx(media),
+        Rule::JsxImportSource | Rule::JsxImportSourceTypes => is_jsx(media),
         Rule::TsSelfTypes => is_javascript(media),
-        Rule::SourceMapUrl => true,
-        Rule::StandardSourceMap => true,
-        Rule::TsTypes => true,
-        Rule::DenoTypes => true,
+        Rule::SourceMapUrl | Rule::StandardSourceMap | Rule::TsTypes | Rule::DenoTypes => true,
     }
 }
 
 // What a rule reads in a comment.
 pub fn read(source: &[u8], c: Comment, rule: Rule) -> RuleRead
     requires { Placed source.now c }
-    ensures { Told taken_as (taken_by rule source.now c) (ReadIn source.now) result }
+    ensures { Bounded (result ≡ taken_by rule source.now c) (ReadIn source.now result) }
 {
-    let kind = c.kind;
-    if takes(rule, kind) {
-        return match find_by(body(source, c), rule) {
-            Found::At(k) => RuleRead::Of(c, k),
-            Found::Nothing => RuleRead::Nothing,
-        };
+    if takes(rule, c.kind) {
+        let found = find_by(body(source, c), rule)?;
+        return Some((c, found));
     }
-    RuleRead::Nothing
+    None
 }
 
-// The reading that counts among the comments of a table from one row to another, sought from the start or from the end.
+// The reading that counts among the comments of a table from one row to another, sought from the start or from the end: one loop for both, since
+// a range and its `rev()` are two types, and would need two loops.
 fn reading_between(
     source: &[u8],
     comments: &[u32],
@@ -124,31 +113,21 @@ fn reading_between(
 ) -> RuleRead
     requires n_in_bounds { (3 * n ≤ length comments.now) × (start ≤ end) × (end ≤ n) }
     requires fit { Fit source.now (comments_in comments.now n) }
-    ensures { Told taken_as
-        (counted counts (taken_by rule source.now) (comments_from comments.now start end))
-        (ReadIn source.now) result }
+    ensures { Bounded
+        (result ≡ counted counts (taken_by rule source.now) (comments_from comments.now start end))
+        (ReadIn source.now result) }
 {
-    let mut from = start;
-    let mut to = end;
-    while from < to {
-        let i = match counts {
-            Counts::First => from,
-            Counts::Last => to - 1,
+    for passed in 0..end - start {
+        let k = match counts {
+            Counts::First => start + passed,
+            Counts::Last => end - 1 - passed,
         };
-        let reading = read(source, comment_at(comments, i), rule);
-        if let RuleRead::Of(_, _) = reading {
+        let reading = read(source, comment_at(comments, k), rule);
+        if reading.is_some() {
             return reading;
         }
-        match counts {
-            Counts::First => {
-                from += 1;
-            }
-            Counts::Last => {
-                to -= 1;
-            }
-        }
     }
-    RuleRead::Nothing
+    None
 }
 
 // The reading that counts among the comments of a group.
@@ -156,31 +135,20 @@ pub fn find_reading(
     source: &[u8],
     comments: &[u32],
     n: usize,
-    found: GroupFound,
+    found: Option<Group>,
     counts: Counts,
     rule: Rule,
 ) -> RuleRead
     requires n_in_bounds { 3 * n ≤ length comments.now }
     requires fit { Fit source.now (comments_in comments.now n) }
-    requires reached { Reached n (found_as found) }
-    ensures { Told taken_as
-        (counted counts (taken_by rule source.now) (in_group (comments_in comments.now n) (found_as found)))
-        (ReadIn source.now) result }
+    requires reached { Reached n found }
+    ensures { Bounded
+        (result ≡ counted counts (taken_by rule source.now) (in_group (comments_in comments.now n) found))
+        (ReadIn source.now result) }
 {
-    match found {
-        GroupFound::At(g) => {
-            reading_between(
-                source,
-                comments,
-                n,
-                g.first,
-                g.first + g.count,
-                counts,
-                rule,
-            )
-        }
-        GroupFound::Nothing => RuleRead::Nothing,
-    }
+    let g = found?;
+    let end = g.first + g.count;
+    reading_between(source, comments, n, g.first, end, counts, rule)
 }
 
 // The first of them, where the sheet's media is one that the rule asks for.
@@ -189,20 +157,20 @@ pub fn first_reading(
     source: &[u8],
     comments: &[u32],
     n: usize,
-    found: GroupFound,
+    found: Option<Group>,
     rule: Rule,
 ) -> RuleRead
     requires n_in_bounds { 3 * n ≤ length comments.now }
     requires fit { Fit source.now (comments_in comments.now n) }
-    requires reached { Reached n (found_as found) }
-    ensures { Told taken_as
-        (first_of (taken_by rule source.now) (given_to (asked rule) media (in_group (comments_in comments.now n) (found_as found))))
-        (ReadIn source.now) result }
+    requires reached { Reached n found }
+    ensures { Bounded
+        (result ≡ first_of (taken_by rule source.now) (given_to (asked rule) media (in_group (comments_in comments.now n) found)))
+        (ReadIn source.now result) }
 {
     if asks_media(rule, media) {
         return find_reading(source, comments, n, found, Counts::First, rule);
     }
-    RuleRead::Nothing
+    None
 }
 
 // Where a capture in a comment stands in the source, with its marks.
@@ -249,10 +217,10 @@ pub fn put_reading(
         ≡ wrote (buffer_as out.old place) (encode_optional encode_specifier (read_as source.now reading)) }
 {
     match reading {
-        RuleRead::Of(c, found) => {
+        Some((c, found)) => {
             let p = place.put(out, 1);
             put_capture(source, index, c, found, out, p)
         }
-        RuleRead::Nothing => place.put(out, 0),
+        None => place.put(out, 0),
     }
 }

@@ -1,82 +1,67 @@
 // The references of the head group.
-ghost use Rattle.std.specs.Prelude.{◌≡◌, ◌*◌, ◌≤◌, length};
+ghost use Rattle.std.specs.Prelude.{◌≡◌, ◌*◌, ◌≤◌, length, option_map};
 ghost use mathlib.Core.List.{flat_map};
 ghost use Rattle.laws.specs.code.Told.{Told};
+ghost use Rattle.laws.specs.Codec.{IfThere};
 ghost use Rattle.analysis.specs.Row.{find};
 ghost use Rattle.analysis.specs.Patterns.{resolution_mode_row};
-ghost use Rattle.analysis.specs.code.Mode.{mode_as};
 ghost use Rattle.sheet.specs.code.Tables.{comments_in};
 ghost use Rattle.sheet.specs.Fit.{Placed, Fit};
-ghost use Rattle.sheet.specs.code.Views.{found_as};
 ghost use Rattle.report.specs.Encode.{encode_list, encode_reference};
 ghost use Rattle.report.specs.Range.{IndexOf};
 ghost use Rattle.report.specs.Buffer.{wrote, buffer_as};
 ghost use Rattle.pragmas.specs.code.Held.{Commented, Reached};
 ghost use Rattle.pragmas.specs.Readings.{all_of};
 ghost use Rattle.pragmas.specs.Pragmas.{in_group, mode_by, reference, references_in};
-ghost use Rattle.pragmas.specs.code.Views.{comments_from, reference_as, ReferenceIn, amount, encode_any};
+ghost use Rattle.pragmas.specs.code.Views.{comments_from, reference_as, ReferenceIn, encode_any};
 
 use super::readings::put_capture;
-use analysis::mode::{ModeFound, from_str, mode_number};
+use analysis::mode::{TypeScriptTypesResolutionMode, from_str, mode_number};
 use analysis::{
-    Capture, Found, find_path_reference, find_resolution_mode, find_types_reference,
+    Capture, find_path_reference, find_resolution_mode, find_types_reference,
     is_comment_triple_slash_reference, specifier,
 };
 use report::writer::Pen;
 use sheet::comments::{Comment, comment_at};
-use sheet::lookups::{GroupFound, body};
+use sheet::groups::Group;
+use sheet::lookups::body;
 use sheet::names::is_block;
 
 // A reference of a comment: what is captured there, and of a types reference the mode.
 #[derive(Clone, Copy)]
 pub enum Reference {
     Path(Capture),
-    Types(Capture, ModeFound),
-    Nothing,
+    Types(Capture, Option<TypeScriptTypesResolutionMode>),
 }
 
 // The mode that a comment names for a types reference.
-fn resolution_mode(body: &[u8]) -> ModeFound
-    ensures { mode_as result ≡ mode_by body.now (find resolution_mode_row body.now) }
+fn resolution_mode(body: &[u8]) -> Option<TypeScriptTypesResolutionMode>
+    ensures { result ≡ mode_by body.now (find resolution_mode_row body.now) }
 {
-    let Found::At(k) = find_resolution_mode(body) else {
-        return ModeFound::Nothing;
-    };
-    from_str(specifier(body, k))
+    let found = find_resolution_mode(body)?;
+    from_str(specifier(body, found))
 }
 
 // The reference of a comment.
-pub fn read_reference(source: &[u8], c: Comment) -> Reference
+pub fn read_reference(source: &[u8], c: Comment) -> Option<Reference>
     requires { Placed source.now c }
-    ensures { Told (reference_as source.now c)
+    ensures { Told (option_map (reference_as source.now c))
         (reference source.now c)
-        (ReferenceIn source.now c) result }
+        (IfThere (ReferenceIn source.now c)) result }
 {
     let kind = c.kind;
     if is_block(kind) {
-        return Reference::Nothing;
+        return None;
     }
     let text = body(source, c);
     if is_comment_triple_slash_reference(text) {
-        if let Found::At(k) = find_types_reference(text) {
-            return Reference::Types(k, resolution_mode(text));
+        if let Some(found) = find_types_reference(text) {
+            return Some(Reference::Types(found, resolution_mode(text)));
         }
-        if let Found::At(k) = find_path_reference(text) {
-            return Reference::Path(k);
-        }
+        let found = find_path_reference(text)?;
+        return Some(Reference::Path(found));
     }
-    Reference::Nothing
-}
-
-// How many references it is: one, or none.
-fn amount(reference: Reference) -> usize
-    ensures { result ≡ amount reference }
-{
-    match reference {
-        Reference::Path(_) => 1,
-        Reference::Types(_, _) => 1,
-        Reference::Nothing => 0,
-    }
+    None
 }
 
 // Writes the reference of a comment, if it has one.
@@ -84,25 +69,25 @@ fn put_reference(
     source: &[u8],
     index: &[u32],
     c: Comment,
-    reference: Reference,
+    reference: Option<Reference>,
     out: &mut [u8],
     place: Pen,
 ) -> Pen
-    requires { IndexOf source.now index.now × ReferenceIn source.now c reference }
+    requires { IndexOf source.now index.now × IfThere (ReferenceIn source.now c) reference }
     ensures { buffer_as out.new result
-        ≡ wrote (buffer_as out.old place) (encode_any encode_reference (reference_as source.now c reference)) }
+        ≡ wrote (buffer_as out.old place) (encode_any encode_reference (option_map (reference_as source.now c) reference)) }
 {
     match reference {
-        Reference::Path(k) => {
+        Some(Reference::Path(k)) => {
             let p = place.put(out, 0);
             put_capture(source, index, c, k, out, p)
         }
-        Reference::Types(k, mode) => {
+        Some(Reference::Types(k, mode)) => {
             let p = place.put(out, 1);
             let p = put_capture(source, index, c, k, out, p);
             p.put(out, mode_number(mode))
         }
-        Reference::Nothing => place,
+        None => place,
     }
 }
 
@@ -113,10 +98,10 @@ fn count_between(source: &[u8], comments: &[u32], n: usize, start: usize, end: u
     ensures { result ≡ length (all_of (reference source.now) (comments_from comments.now start end)) }
 {
     let mut count = 0;
-    let mut i = start;
-    while i < end {
-        count += amount(read_reference(source, comment_at(comments, i)));
-        i += 1;
+    for k in start..end {
+        if read_reference(source, comment_at(comments, k)).is_some() {
+            count += 1;
+        }
     }
     count
 }
@@ -139,12 +124,10 @@ fn put_between(
         (flat_map encode_reference (all_of (reference source.now) (comments_from comments.now start end))) }
 {
     let mut p = place;
-    let mut i = start;
-    while i < end {
-        let c = comment_at(comments, i);
+    for k in start..end {
+        let c = comment_at(comments, k);
         let reference = read_reference(source, c);
         p = put_reference(source, index, c, reference, out, p);
-        i += 1;
     }
     p
 }
@@ -155,24 +138,24 @@ pub fn analyze_ts_references(
     comments: &[u32],
     n: usize,
     index: &[u32],
-    found: GroupFound,
+    found: Option<Group>,
     out: &mut [u8],
     place: Pen,
 ) -> Pen
     requires commented { Commented source.now comments.now n index.now }
-    requires reached { Reached n (found_as found) }
+    requires reached { Reached n found }
     ensures { buffer_as out.new result
         ≡ wrote (buffer_as out.old place)
-        (encode_list encode_reference (references_in source.now (in_group (comments_in comments.now n) (found_as found)))) }
+        (encode_list encode_reference (references_in source.now (in_group (comments_in comments.now n) found))) }
 {
     match found {
-        GroupFound::At(g) => {
+        Some(g) => {
             let start = g.first;
             let end = g.first + g.count;
             let count = count_between(source, comments, n, start, end);
             let p = place.put_number(out, count);
             put_between(source, comments, n, index, start, end, out, p)
         }
-        GroupFound::Nothing => place.put(out, 0),
+        None => place.put(out, 0),
     }
 }

@@ -4,8 +4,8 @@ use Rattle.laws.proofs.Prelude.{add-one, eqb, leb, length, get_or, drop, drop_of
 use Rattle.laws.proofs.Prelude.{eq-eqb, ne_eqb, eqb-true}
 use Rattle.text.specs.Bytes.{same}
 use Rattle.text.proofs.Words.{same_sound, same_refl, other_length}
-use Rattle.report.specs.declared.writer.Outcome.{Outcome, TheVariants.Accepted, TheVariants.Refused}
-use Rattle.report.specs.Answer.{Answer, zeros, outcome_as}
+use Rattle.std.specs.Prelude.{Ok, Err}
+use Rattle.report.specs.Answer.{Answer, zeros, Outcome, outcome_as}
 use Rattle.replay.specs.Compared.{padded, same_answer}
 
 zero_at : (n i : ℕ) → get_or (zeros n) i 0 ≡ 0
@@ -54,8 +54,8 @@ module _ (buffer report : List ℕ) (i : ℕ) where
 
 -- the answer holds what the buffer has
 pub outcome_buffer : (o : Outcome) (buffer : List ℕ) → (outcome_as o buffer).buffer ≡ buffer
-outcome_buffer (Accepted n) buffer = refl
-outcome_buffer (Refused r) buffer = refl
+outcome_buffer (Ok n) buffer = refl
+outcome_buffer (Err r) buffer = refl
 
 made_of : {n m l k : ℕ} {x y : List ℕ} → n ≡ m → l ≡ k → x ≡ y
     → ◌≡◌ {A = Answer} (record { number = n; written = l; buffer = x }) (record { number = m; written = k; buffer = y })

@@ -7,7 +7,8 @@ use Rattle.wire.{specs.Fields.byte, proofs.FieldsAtPlace.byte_at}
 use Rattle.sheet.specs.Sheet.{ending}
 use Rattle.replay.specs.Stored.{Row, four_bytes, row, rows, stored_rows}
 use Rattle.replay.specs.Compared.{ran_of, counted, counted_all, none_yet, tally_of}
-use Rattle.replay.specs.declared.{Ran.Ran, Counts.Counts, Tally.Tally, Tally.TheVariants.Whole, Tally.TheVariants.Odd}
+use Rattle.replay.specs.declared.{Ran.Ran, Counts.Counts}
+use Rattle.std.specs.Prelude.{Option, Some, None}
 
 module _ (s : List ℕ) (at : ℕ) where
   pub four_at : at + 4 ≤ length s
@@ -36,10 +37,10 @@ four_short (a ∷ b ∷ c ∷ []) h = refl
 four_short (a ∷ b ∷ c ∷ d ∷ s) h = absurd (omega arith)
 
 -- counts, and the rows that are left with nothing behind them
-abbrev pub onward : ℕ → Counts → Decoded (List Row) → Tally
-onward size k (ok l []) = Whole (counted_all size k l)
-onward size k (ok l (b ∷ s)) = Odd
-onward size k (no r) = Odd
+abbrev pub onward : ℕ → Counts → Decoded (List Row) → Option Counts
+onward size k (ok l []) = Some (counted_all size k l)
+onward size k (ok l (b ∷ s)) = None
+onward size k (no r) = None
 
 module _ (size : ℕ) where
   -- a list's tally, once the number of its rows is read
@@ -52,7 +53,7 @@ module _ (size : ℕ) where
       go (ok l (b ∷ u)) = refl
       go (no r) = refl
 
-  pub tally_short : (s : List ℕ) → length s < 4 → tally_of size (stored_rows s) ≡ Odd
+  pub tally_short : (s : List ℕ) → length s < 4 → tally_of size (stored_rows s) ≡ None
   unfolding stored_rows
   tally_short s h = rw (four_short s h)
 
@@ -71,17 +72,17 @@ module _ (size : ℕ) where
         go r (ok l (b ∷ u)) = refl
         go r (no q) = refl
 
-    pub row_missing : (n : ℕ) (s : List ℕ) {q : ℕ} → 0 < n → on_ok (ran_of size) (row s) ≡ no q → onward size k (rows n s) ≡ Odd
+    pub row_missing : (n : ℕ) (s : List ℕ) {q : ℕ} → 0 < n → on_ok (ran_of size) (row s) ≡ no q → onward size k (rows n s) ≡ None
     unfolding rows
     row_missing zero s h e = absurd (omega arith)
     row_missing (suc n) s h e = rw (on_ok_no (ran_of size) (row s) e)
 
-    pub rows_done : (n : ℕ) (s : List ℕ) (at : ℕ) → n ≤ 0 → at ≡ length s → onward size k (rows n (drop at s)) ≡ Whole k
+    pub rows_done : (n : ℕ) (s : List ℕ) (at : ℕ) → n ≤ 0 → at ≡ length s → onward size k (rows n (drop at s)) ≡ Some k
     unfolding rows
     rows_done zero s at h e = rw (drop_of_length-le s {i = at} (omega arith))
     rows_done (suc n) s at h e = absurd (omega arith)
 
-    pub bytes_left : (n : ℕ) (s : List ℕ) (at : ℕ) → n ≤ 0 → at < length s → onward size k (rows n (drop at s)) ≡ Odd
+    pub bytes_left : (n : ℕ) (s : List ℕ) (at : ℕ) → n ≤ 0 → at < length s → onward size k (rows n (drop at s)) ≡ None
     unfolding rows
     bytes_left zero s at h l = rw (drop-cons s at 0 l)
     bytes_left (suc n) s at h l = absurd (omega arith)

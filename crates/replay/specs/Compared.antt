@@ -8,8 +8,7 @@ use Rattle.module_info.specs.Information.{answer_of}
 use Rattle.replay.specs.Stored.{Row}
 use Rattle.replay.specs.declared.Ran.{Ran}
 use Rattle.replay.specs.declared.Counts.{Counts}
-use Rattle.replay.specs.declared.Tally.{Tally}
-use Rattle.replay.specs.declared.Tally.TheVariants as tally
+use Rattle.std.specs.Prelude.{Option, Some, None}
 
 -- a report in a buffer of so many bytes: every byte behind it is zero
 abbrev pub padded : ℕ → List ℕ → List ℕ
@@ -47,6 +46,6 @@ abbrev pub none_yet : Counts
 none_yet = record { accepted = 0; refused = 0; differ = 0 }
 
 -- the counts of a list that has rows
-abbrev pub tally_of : ℕ → Decoded (List Row) → Tally
-tally_of size (ok l s) = tally.Whole (counted_all size none_yet l)
-tally_of size (no r) = tally.Odd
+abbrev pub tally_of : ℕ → Decoded (List Row) → Option Counts
+tally_of size (ok l s) = Some (counted_all size none_yet l)
+tally_of size (no r) = None

@@ -10,14 +10,13 @@ ghost use Rattle.laws.specs.Decoded.{ok, on_ok};
 ghost use Rattle.laws.specs.code.Told.{Bounded, Told};
 ghost use Rattle.input.specs.code.InputWithin.{InputWithin};
 ghost use Rattle.text.specs.Bytes.{same};
-ghost use Rattle.text.specs.Truth.{one};
 ghost use Rattle.report.specs.Answer.{outcome_as};
 ghost use Rattle.replay.specs.Stored.{four_bytes, piece, row, stored_rows};
 ghost use Rattle.replay.specs.Compared.{padded, stored_answer, same_answer, ran_of, counted, tally_of};
 ghost use Rattle.replay.specs.code.Views.{stretch_as, step_as};
 ghost use Rattle.replay.specs.code.Bounds.{StretchWithin, NextWithin, Room, Printable};
 
-use input::{Input, read_input};
+use input::read_input;
 use module_info::module_info;
 use report::writer::Outcome;
 use std::fs::File;
@@ -27,25 +26,11 @@ use text::bytes::byte_at;
 // The bytes that are read at most.
 const SPACE: usize = 131072;
 
-// Bytes of the list, from start up to end, or none that it holds whole.
-#[derive(Clone, Copy)]
-enum Stretch {
-    Bytes(usize, usize),
-    Missing,
-}
-
 // Whether a sheet was accepted, and whether the answer is the stored one.
 #[derive(Clone, Copy)]
 struct Ran {
     accepted: bool,
     same: bool,
-}
-
-// A sheet that ran, and where the next stands; or a list that ends too early.
-#[derive(Clone, Copy)]
-enum Step {
-    Next(Ran, usize),
-    Short,
 }
 
 // How many sheets were accepted and refused, and how many answers differ.
@@ -54,13 +39,6 @@ struct Counts {
     accepted: u64,
     refused: u64,
     differ: u64,
-}
-
-// The counts of a list that is read to its end.
-#[derive(Clone, Copy)]
-enum Tally {
-    Whole(Counts),
-    Odd,
 }
 
 // A number of four bytes.
@@ -74,45 +52,34 @@ fn number_at(list: &[u8], at: usize) -> usize
     (low + 65536 * high) as usize
 }
 
-// A length at a place, and so many bytes behind it.
-fn stretch_at(list: &[u8], at: usize) -> Stretch
+// Where the bytes behind a length at a place start and end, if the list holds them whole.
+fn stretch_at(list: &[u8], at: usize) -> Option<(usize, usize)>
     ensures { Told (stretch_as list.now)
         (piece (drop at list.now))
         (StretchWithin (length list.now)) result }
 {
     if list.len() < 4 {
-        return Stretch::Missing;
+        return None;
     }
     if list.len() - 4 < at {
-        return Stretch::Missing;
+        return None;
     }
     let start = at + 4;
     let long = number_at(list, at);
     if list.len() - start < long {
-        return Stretch::Missing;
+        return None;
     }
-    Stretch::Bytes(start, start + long)
-}
-
-// Puts a byte everywhere.
-fn fill(buffer: &mut [u8], b: u8) {
-    let mut i = 0;
-    while i < buffer.len() {
-        buffer[i] = b;
-        i += 1;
-    }
+    Some((start, start + long))
 }
 
 // The report begins the buffer, and every byte behind it is zero.
 fn holds_report(buffer: &[u8], report: &[u8]) -> bool
     ensures { result ≡ same buffer.now (padded (length buffer.now) report.now) }
 {
-    let mut i = 0;
-    while i < buffer.len() {
+    for i in 0..buffer.len() {
         if byte_at(buffer, i) != byte_at(report, i) {
             return false;
         }
-        i += 1;
     }
     report.len() <= buffer.len()
 }
@@ -122,8 +89,8 @@ fn number_of(outcome: Outcome) -> u8
     ensures { (buffer : List ℕ) → result ≡ (outcome_as outcome buffer).number }
 {
     match outcome {
-        Outcome::Accepted(_) => 0,
-        Outcome::Refused(r) => r,
+        Ok(_) => 0,
+        Err(refusal) => refusal.number(),
     }
 }
 
@@ -131,10 +98,7 @@ fn number_of(outcome: Outcome) -> u8
 fn length_of(outcome: Outcome) -> usize
     ensures { (buffer : List ℕ) → result ≡ (outcome_as outcome buffer).written }
 {
-    match outcome {
-        Outcome::Accepted(n) => n,
-        Outcome::Refused(_) => 0,
-    }
+    outcome.unwrap_or(0)
 }
 
 // The answer, with what the buffer holds then, is the stored one.
@@ -154,7 +118,7 @@ fn is_stored(outcome: Outcome, buffer: &[u8], number: u8, report: &[u8]) -> bool
 fn run(sheet: &[u8], number: u8, report: &[u8], buffer: &mut [u8]) -> Ran
     ensures { result ≡ ran_of (length buffer.old) (record { sheet = sheet.entry.now; number = number; report = report.now }) }
 {
-    fill(buffer, 165);
+    buffer.fill(165);
     let outcome = module_info(sheet, buffer);
     Ran {
         accepted: number_of(outcome) == 0,
@@ -162,34 +126,19 @@ fn run(sheet: &[u8], number: u8, report: &[u8], buffer: &mut [u8]) -> Ran
     }
 }
 
-// Runs the sheet at a place of the list.
-fn replay_one(list: &[u8], at: usize, buffer: &mut [u8]) -> Step
+// Runs the sheet at a place of the list, and says where the next stands; none where the list ends too early.
+fn replay_one(list: &[u8], at: usize, buffer: &mut [u8]) -> Option<(Ran, usize)>
     ensures { Told (step_as list.now)
         (on_ok (ran_of (length buffer.old)) (row (drop at list.now)))
         (NextWithin (length list.now)) result }
 {
-    match stretch_at(list, at) {
-        Stretch::Bytes(start, end) => {
-            if list.len() <= end {
-                return Step::Short;
-            }
-            match stretch_at(list, end + 1) {
-                Stretch::Bytes(from, next) => {
-                    let ran = run(&list[start..end], list[end], &list[from..next], buffer);
-                    Step::Next(ran, next)
-                }
-                Stretch::Missing => Step::Short,
-            }
-        }
-        Stretch::Missing => Step::Short,
+    let (start, end) = stretch_at(list, at)?;
+    if list.len() <= end {
+        return None;
     }
-}
-
-// 1 where it holds.
-fn one_if(b: bool) -> u64
-    ensures { (result ≡ one b) × (result ≤ 1) }
-{
-    if b { 1 } else { 0 }
+    let (from, next) = stretch_at(list, end + 1)?;
+    let ran = run(&list[start..end], list[end], &list[from..next], buffer);
+    Some((ran, next))
 }
 
 impl Counts {
@@ -198,13 +147,10 @@ impl Counts {
         requires { Room 1 self }
         ensures { Bounded (result ≡ counted self ran) ((left : ℕ) → Room (1 + left) self → Room left result) }
     {
-        let accepted = one_if(ran.accepted);
-        let refused = one_if(!ran.accepted);
-        let differ = one_if(!ran.same);
         Counts {
-            accepted: self.accepted + accepted,
-            refused: self.refused + refused,
-            differ: self.differ + differ,
+            accepted: self.accepted + u64::from(ran.accepted),
+            refused: self.refused + u64::from(!ran.accepted),
+            differ: self.differ + u64::from(!ran.same),
         }
     }
 
@@ -224,43 +170,34 @@ fn print_line(rt: &impl Print, n: u64, what: &str) -> io::Result<()> {
     println!(rt; "{n} {what}")
 }
 
-// Runs every sheet of the list.
-fn replay(list: &[u8], buffer: &mut [u8]) -> Tally
+// Runs every sheet of the list, and counts; none where the list is not read just to its end.
+fn replay(list: &[u8], buffer: &mut [u8]) -> Option<Counts>
     ensures { Bounded (result ≡ tally_of (length buffer.old) (stored_rows list.now)) (Printable result) }
 {
     if list.len() < 4 {
-        return Tally::Odd;
+        return None;
     }
     let mut counts = Counts {
         accepted: 0,
         refused: 0,
         differ: 0,
     };
-    let mut left = number_at(list, 0);
+    let rows = number_at(list, 0);
     let mut at = 4;
-    while 0 < left {
-        match replay_one(list, at, buffer) {
-            Step::Next(ran, next) => {
-                counts = counts.with(ran);
-                at = next;
-            }
-            Step::Short => return Tally::Odd,
-        }
-        left -= 1;
+    for _ in 0..rows {
+        let (ran, next) = replay_one(list, at, buffer)?;
+        counts = counts.with(ran);
+        at = next;
     }
-    if at == list.len() {
-        Tally::Whole(counts)
-    } else {
-        Tally::Odd
-    }
+    if at == list.len() { Some(counts) } else { None }
 }
 
 // The counts, or that the list is odd.
 fn print_replay(rt: &impl Print, list: &[u8]) -> io::Result<()> {
     let mut buffer = [0u8; 65536];
     match replay(list, &mut buffer) {
-        Tally::Whole(counts) => counts.print(rt),
-        Tally::Odd => print_unreadable(rt),
+        Some(counts) => counts.print(rt),
+        None => print_unreadable(rt),
     }
 }
 
@@ -270,26 +207,24 @@ fn print_unreadable(rt: &impl Print) -> io::Result<()> {
 }
 
 // Reads the file.
-fn read_list(rt: &HostRuntime, space: &mut [u8]) -> Input
+fn read_list(rt: &HostRuntime, space: &mut [u8]) -> io::Result<usize>
     ensures { InputWithin space.new result }
 {
-    match File::open(rt, "replay.bin") {
-        Ok(mut file) => read_input(&mut file, space),
-        Err(_) => Input::Failed,
-    }
+    let mut file = File::open(rt, "replay.bin")?;
+    read_input(&mut file, space)
 }
 
 // A file that is absent or cannot be read is unreadable, and so is one that fills the space, since it may be longer.
 fn main(rt: HostRuntime) -> io::Result<()> {
     let mut space = [0u8; SPACE];
     match read_list(&rt, &mut space) {
-        Input::Bytes(n) => {
+        Ok(n) => {
             if n < SPACE {
                 print_replay(&rt, &space[..n])
             } else {
                 print_unreadable(&rt)
             }
         }
-        Input::Failed => print_unreadable(&rt),
+        Err(_) => print_unreadable(&rt),
     }
 }

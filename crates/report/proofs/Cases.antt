@@ -1,10 +1,11 @@
 -- Reports byte by byte, as document 01 states them: what the definitions encode and decode.
+use Rattle.std.specs.Prelude.{Some, None}
 use Rattle.laws.proofs.Prelude.{◌≡◌, refl, true, false, List, [], ◌∷◌, map, flat_map, Option, ℕ}
 use Rattle.laws.specs.{Decoded.ok, Ascii.ascii}
 use Rattle.wire.specs.Fields.{byte, below, numbered, flag, bytes}
 use Rattle.wire.specs.Number.{last_group, groups, number, encode_groups, encode_number}
 use Rattle.wire.specs.{Text.encode_text, Optional.encode_optional, Optional.optional}
-use Rattle.analysis.specs.Mode.{import, require}
+use Rattle.analysis.specs.declared.mode.TypeScriptTypesResolutionMode.TheVariants.{Import, Require}
 use Rattle.report.specs.declared.names.StaticDependencyKind.TheVariants as statics
 use Rattle.report.specs.declared.names.DynamicDependencyKind.TheVariants as dynamics
 use Rattle.report.specs.ModuleInfo.{PositionRange, SpecifierWithRange, path, types, none, unknown, known, expr, string, template, static, dynamic}
@@ -25,11 +26,11 @@ nothing = record {
   is_script = false;
   dependencies = [];
   ts_references = [];
-  self_types_specifier = Option.none;
-  jsx_import_source = Option.none;
-  jsx_import_source_types = Option.none;
+  self_types_specifier = None;
+  jsx_import_source = None;
+  jsx_import_source_types = None;
   jsdoc_imports = [];
-  source_map_url = Option.none;
+  source_map_url = None;
 }
 
 -- the source `/** {import("./a.ts").A} */`
@@ -38,11 +39,11 @@ example = record {
   is_script = false;
   dependencies = [];
   ts_references = [];
-  self_types_specifier = Option.none;
-  jsx_import_source = Option.none;
-  jsx_import_source_types = Option.none;
-  jsdoc_imports = record { specifier = placed (ascii "./a.ts") 0 12 20; mode = Option.none } ∷ [];
-  source_map_url = Option.none;
+  self_types_specifier = None;
+  jsx_import_source = None;
+  jsx_import_source_types = None;
+  jsdoc_imports = record { specifier = placed (ascii "./a.ts") 0 12 20; mode = None } ∷ [];
+  source_map_url = None;
 }
 
 -- each kind of field
@@ -52,33 +53,33 @@ everything = record {
   dependencies =
       static (record {
         kind = statics.Import;
-        types_specifier = Option.some (placed (ascii "t") 0 1 4);
+        types_specifier = Some (placed (ascii "t") 0 1 4);
         specifier = placed (ascii "a") 1 7 10;
         side_effect = true;
-        import_attributes = known (record { key = ascii "k"; value = Option.none } ∷ record { key = ascii "type"; value = Option.some (ascii "json") } ∷ []);
+        import_attributes = known (record { key = ascii "k"; value = None } ∷ record { key = ascii "type"; value = Some (ascii "json") } ∷ []);
       })
       ∷ dynamic (record {
         kind = dynamics.Require;
-        types_specifier = Option.none;
-        argument = template (Option.some (ascii "./") ∷ Option.none ∷ []);
+        types_specifier = None;
+        argument = template (Some (ascii "./") ∷ None ∷ []);
         argument_range = within 2 8 200;
         import_attributes = unknown;
       })
       ∷ dynamic (record {
         kind = dynamics.Import;
-        types_specifier = Option.none;
+        types_specifier = None;
         argument = string (ascii "b");
         argument_range = within 3 7 10;
         import_attributes = none;
       })
-      ∷ dynamic (record { kind = dynamics.ImportDefer; types_specifier = Option.none; argument = expr; argument_range = within 4 13 14; import_attributes = none })
+      ∷ dynamic (record { kind = dynamics.ImportDefer; types_specifier = None; argument = expr; argument_range = within 4 13 14; import_attributes = none })
       ∷ [];
-  ts_references = path (placed (ascii "c") 5 21 24) ∷ types (placed (ascii "d") 6 22 25) (Option.some require) ∷ [];
-  self_types_specifier = Option.some (placed (ascii "e") 7 17 20);
-  jsx_import_source = Option.some (placed (ascii "f") 8 20 21);
-  jsx_import_source_types = Option.some (placed (ascii "g") 9 25 26);
-  jsdoc_imports = record { specifier = placed (ascii "h") 10 12 15; mode = Option.some import } ∷ [];
-  source_map_url = Option.some (placed (ascii "i") 11 21 22);
+  ts_references = path (placed (ascii "c") 5 21 24) ∷ types (placed (ascii "d") 6 22 25) (Some Require) ∷ [];
+  self_types_specifier = Some (placed (ascii "e") 7 17 20);
+  jsx_import_source = Some (placed (ascii "f") 8 20 21);
+  jsx_import_source_types = Some (placed (ascii "g") 9 25 26);
+  jsdoc_imports = record { specifier = placed (ascii "h") 10 12 15; mode = Some Import } ∷ [];
+  source_map_url = Some (placed (ascii "i") 11 21 22);
 }
 
 abbrev cases : List (ModuleInfo × List ℕ)

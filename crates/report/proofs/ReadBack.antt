@@ -1,4 +1,5 @@
 -- A valid module's information is read back from its report, so that no two have one report.
+use Rattle.std.specs.Prelude.{Some, None}
 use Rattle.laws.proofs.Prelude.{◌≡◌, refl, true, false, List, [], ◌∷◌, ◌++◌, append_assoc, flat_map, Option, ℕ, length}
 use Rattle.laws.specs.{Decoded.ok, Decoded.Decoder, Codec.IfThere, Codec.All}
 use Rattle.wire.{specs.Fields.byte, specs.Text.encode_text, specs.Optional.encode_optional, specs.Optional.optional, proofs.NumberCodec.number_codec}
@@ -22,8 +23,8 @@ module _ {A : Type 0} {d : Decoder A} {f : A → List ℕ} {P : A → Type 0} (e
   unfolding optional encode_optional
   optional_back = record {
     back = elim [
-      | Option.none ↦ λ v t. rw (flag_codec.complete false tt)
-      | Option.some a ↦ λ v t. rw (flag_codec.complete true tt (f a ++ t), element.back a v t)
+      | None ↦ λ v t. rw (flag_codec.complete false tt)
+      | Some a ↦ λ v t. rw (flag_codec.complete true tt (f a ++ t), element.back a v t)
     ];
   }
 

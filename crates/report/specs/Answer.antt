@@ -1,8 +1,8 @@
 -- What the report function answers: a refusal's number or 0, the report's length, and every byte of the buffer.
-use Rattle.std.specs.Prelude.{cond, List, ◌++◌, ℕ, ◌-◌, leb, length, take, replicate}
+use Rattle.std.specs.Prelude.{cond, List, ◌++◌, ℕ, ◌-◌, leb, length, take, replicate, Result, Ok, Err}
 use Rattle.wire.specs.Refusals as refusals
-use Rattle.report.specs.declared.writer.Outcome.{Outcome}
-use Rattle.report.specs.declared.writer.Outcome.TheVariants as outcome
+use Rattle.wire.specs.declared.refusals.Refusal.{Refusal}
+use Rattle.wire.specs.Refusals.{number_of}
 use Rattle.report.specs.Buffer.{Buffer, holds, full}
 
 pub record Answer : Type 0 where
@@ -34,7 +34,11 @@ abbrev pub answered : ℕ → Buffer → Answer
 answered size (holds n bytes) = accepted size bytes
 answered size (full n) = refused_with refusals.buffer size
 
--- what the code's answer stands for, with what the buffer has then
+-- what the code answers: the report's length, or a refusal
+abbrev pub Outcome : Type 0
+Outcome = Result ℕ Refusal
+
+-- what it stands for, with what the buffer has then
 abbrev pub outcome_as : Outcome → List ℕ → Answer
-outcome_as (outcome.Accepted n) buffer = record { number = 0; written = n; buffer = buffer }
-outcome_as (outcome.Refused r) buffer = record { number = r; written = 0; buffer = buffer }
+outcome_as (Ok n) buffer = record { number = 0; written = n; buffer = buffer }
+outcome_as (Err r) buffer = record { number = number_of r; written = 0; buffer = buffer }

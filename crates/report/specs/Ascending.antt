@@ -1,7 +1,7 @@
 -- Keys that ascend by their bytes, each once.
 use Rattle.std.specs.Prelude.{◌≡◌, List}
 use Rattle.laws.specs.Ordered.{Ordered}
-use Rattle.text.specs.declared.bytes.Order.TheVariants.{Less}
+use Rattle.std.specs.declared.cmp.Ordering.TheVariants.{Less}
 use Rattle.text.specs.Bytes.{order}
 use Rattle.report.specs.ModuleInfo.{KeyValue}
 

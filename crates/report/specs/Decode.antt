@@ -1,13 +1,15 @@
 -- Document 01's report read back from its bytes.
 use Rattle.std.specs.Prelude.{cond, List, [], ◌∷◌, ℕ, zero, suc, get_or}
-use Rattle.std.proofs.Math.Option.{Option}
+use Rattle.std.specs.Prelude.{None, Option, Some}
 use Rattle.laws.specs.Decoded.{Decoder, on_ok, ◌>>=◌, ◌>>◌, return, refuse, require}
 use Rattle.text.specs.declared.position.Position.{Position}
 use Rattle.wire.specs.Refusals as refusals
 use Rattle.wire.specs.Fields.{byte, Values, numbered, flag, bytes}
 use Rattle.wire.specs.Number.{number}
 use Rattle.wire.specs.Optional.{optional}
-use Rattle.analysis.specs.Mode.{TypeScriptTypesResolutionMode, Mode}
+use Rattle.analysis.specs.declared.mode.TypeScriptTypesResolutionMode.{TypeScriptTypesResolutionMode}
+use Rattle.analysis.specs.declared.mode.TypeScriptTypesResolutionMode.TheVariants.{Import, Require}
+use Rattle.analysis.specs.Mode.{Mode}
 use Rattle.report.specs.declared.names.DependencyKind.{DependencyKind}
 use Rattle.report.specs.declared.names.DependencyKind.TheVariants.{Static, Dynamic}
 use Rattle.report.specs.Names.{dependency_kinds}
@@ -45,7 +47,7 @@ specifier = do
 
 -- the modes in the order of their numbers
 abbrev pub modes : Values Mode
-modes = record { front = Option.none ∷ Option.some TypeScriptTypesResolutionMode.import ∷ []; last = Option.some TypeScriptTypesResolutionMode.require }
+modes = record { front = None ∷ Some Import ∷ []; last = Some Require }
 
 unfoldable pub reference : Decoder TypeScriptReference
 reference = do

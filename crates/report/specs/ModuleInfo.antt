@@ -1,6 +1,6 @@
 -- What a report says, in the types of src/analysis.rs. A text is its bytes.
 use Rattle.std.specs.Prelude.{Bool, List, ℕ}
-use Rattle.std.proofs.Math.Option.{Option}
+use Rattle.std.specs.Prelude.{Option}
 use Rattle.text.specs.declared.position.Position.{Position}
 use Rattle.analysis.specs.Mode.{Mode}
 use Rattle.report.specs.declared.names.StaticDependencyKind.{StaticDependencyKind}

@@ -3,56 +3,41 @@ ghost use Rattle.std.specs.Prelude.{◌≡◌};
 ghost use Rattle.wire.specs.Fields.{value_of};
 ghost use Rattle.report.specs.Names.{static_number, dynamic_number, dependency_kinds};
 
-#[derive(Clone, Copy)]
+#[derive(Clone, Copy, Debug, PartialEq, Eq)]
 pub enum StaticDependencyKind {
-    Import,
-    ImportDefer,
-    ImportSource,
-    ImportType,
-    ImportEquals,
-    Export,
-    ExportType,
-    ExportEquals,
-    MaybeTsModuleAugmentation,
+    Import = 0,
+    ImportDefer = 1,
+    ImportSource = 2,
+    ImportType = 3,
+    ImportEquals = 4,
+    Export = 5,
+    ExportType = 6,
+    ExportEquals = 7,
+    MaybeTsModuleAugmentation = 8,
 }
 
 pub fn static_number(kind: StaticDependencyKind) -> u8
     ensures { result ≡ static_number kind }
 {
-    match kind {
-        StaticDependencyKind::Import => 0,
-        StaticDependencyKind::ImportDefer => 1,
-        StaticDependencyKind::ImportSource => 2,
-        StaticDependencyKind::ImportType => 3,
-        StaticDependencyKind::ImportEquals => 4,
-        StaticDependencyKind::Export => 5,
-        StaticDependencyKind::ExportType => 6,
-        StaticDependencyKind::ExportEquals => 7,
-        StaticDependencyKind::MaybeTsModuleAugmentation => 8,
-    }
+    kind as u8
 }
 
-#[derive(Clone, Copy)]
+#[derive(Clone, Copy, Debug, PartialEq, Eq)]
 pub enum DynamicDependencyKind {
-    Import,
-    ImportDefer,
-    ImportSource,
-    Require,
+    Import = 9,
+    ImportDefer = 10,
+    ImportSource = 11,
+    Require = 12,
 }
 
 pub fn dynamic_number(kind: DynamicDependencyKind) -> u8
     ensures { result ≡ dynamic_number kind }
 {
-    match kind {
-        DynamicDependencyKind::Import => 9,
-        DynamicDependencyKind::ImportDefer => 10,
-        DynamicDependencyKind::ImportSource => 11,
-        DynamicDependencyKind::Require => 12,
-    }
+    kind as u8
 }
 
 // A kind of either enum.
-#[derive(Clone, Copy)]
+#[derive(Clone, Copy, Debug, PartialEq, Eq)]
 pub enum DependencyKind {
     Static(StaticDependencyKind),
     Dynamic(DynamicDependencyKind),

@@ -5,36 +5,25 @@ ghost use Rattle.report.specs.Buffer.{wrote, buffer_as};
 
 use super::writer::Pen;
 
-// The rules that give references, pragmas and JSDoc imports.
-#[derive(Clone, Copy)]
+// The rules that give references, pragmas and JSDoc imports, with their numbers.
+#[derive(Clone, Copy, Debug, PartialEq, Eq)]
 pub enum EntryRule {
-    Path,
-    Types,
-    SelfTypes,
-    JsxImportSource,
-    JsxImportSourceTypes,
-    Brace,
-    Declaration,
-    SourceMap,
-    TsTypes,
-    DenoTypes,
+    Path = 1,
+    Types = 2,
+    SelfTypes = 3,
+    JsxImportSource = 4,
+    JsxImportSourceTypes = 5,
+    Brace = 6,
+    Declaration = 7,
+    SourceMap = 8,
+    TsTypes = 9,
+    DenoTypes = 10,
 }
 
 fn rule_number(rule: EntryRule) -> u8
     ensures { result ≡ rule_number rule }
 {
-    match rule {
-        EntryRule::Path => 1,
-        EntryRule::Types => 2,
-        EntryRule::SelfTypes => 3,
-        EntryRule::JsxImportSource => 4,
-        EntryRule::JsxImportSourceTypes => 5,
-        EntryRule::Brace => 6,
-        EntryRule::Declaration => 7,
-        EntryRule::SourceMap => 8,
-        EntryRule::TsTypes => 9,
-        EntryRule::DenoTypes => 10,
-    }
+    rule as u8
 }
 
 // Writes the rule's number and the place in the source.

@@ -4,6 +4,7 @@ ghost use Rattle.text.specs.Lossy.{lossy, replaced};
 ghost use Rattle.wire.specs.Fields.{encode_flag};
 ghost use Rattle.wire.specs.Number.{encode_number};
 ghost use Rattle.wire.specs.Text.{encode_text};
+ghost use Rattle.wire.specs.Refusals.{number_of};
 ghost use Rattle.report.specs.Encode.{encode_position, encode_range, encode_specifier};
 ghost use Rattle.report.specs.Range.{range_of, InSource, IndexOf};
 ghost use Rattle.report.specs.Buffer.{full_place, wrote, buffer_as};
@@ -12,7 +13,7 @@ ghost use Rattle.report.specs.code.Lossy.{Replacing};
 
 use sheet::fields::Span;
 use text::position::Position;
-use wire::refusals;
+use wire::refusals::Refusal;
 
 // The place that stands for full: no buffer is so long. One number, and not a flag beside the place: two are copied as one through memory
 // at each call, right after they are stored one by one, and the processor waits for that.
@@ -31,12 +32,8 @@ pub struct Lossy {
     pub replaced: usize,
 }
 
-// The report's length, or a refusal's number.
-#[derive(Clone, Copy)]
-pub enum Outcome {
-    Accepted(usize),
-    Refused(u8),
-}
+// The report's length, or a refusal.
+pub type Outcome = Result<usize, Refusal>;
 
 impl Pen {
     // Did a byte find no room?
@@ -228,19 +225,17 @@ impl Pen {
 pub fn clear_from(out: &mut [u8], at: usize)
     ensures { out.new ≡ cleared_from at out.old }
 {
-    let mut i = at;
-    while i < out.len() {
-        out[i] = 0;
-        i += 1;
+    if at < out.len() {
+        out[at..].fill(0);
     }
 }
 
 // A refusal: the whole buffer is zero.
-pub fn refuse_all(out: &mut [u8], number: u8) -> Outcome
-    ensures { outcome_as result out.new ≡ refused_with number (length out.old) }
+pub fn refuse_all(out: &mut [u8], refusal: Refusal) -> Outcome
+    ensures { outcome_as result out.new ≡ refused_with (number_of refusal) (length out.old) }
 {
     clear_from(out, 0);
-    Outcome::Refused(number)
+    Err(refusal)
 }
 
 // The end of the report: every byte past it is zero; refusal 10 where a byte found no room.
@@ -249,11 +244,11 @@ pub fn finish(out: &mut [u8], place: Pen) -> Outcome
 {
     let at = place.at;
     if at == FULL {
-        return refuse_all(out, refusals::BUFFER);
+        return refuse_all(out, Refusal::Buffer);
     }
     if at < out.len() {
         clear_from(out, at);
-        return Outcome::Accepted(at);
+        return Ok(at);
     }
-    Outcome::Accepted(out.len())
+    Ok(out.len())
 }

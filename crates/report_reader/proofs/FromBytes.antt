@@ -1,4 +1,5 @@
 -- What a report's fields read as, from the bytes that stand for them.
+use Rattle.std.specs.Prelude.{Some, None}
 use Rattle.laws.proofs.Prelude.{◌≡◌, refl, sym, ap, ◌∙◌, Bool, true, false, List, ◌∷◌, ◌++◌, append_assoc, Option, ℕ, ◌+◌, ◌-◌, ◌≤◌, ◌<◌, arith, length}
 use Rattle.laws.proofs.Prelude.{drop, length-append, length-drop, drop-drop, take-append_seam, drop-append_seam, lt-ltb}
 use native.Mathlib.Nat.{add-sub_cancel_left}
@@ -33,16 +34,16 @@ module _ {s : List ℕ} {at value next : ℕ} (number : Number s at value next) 
 
   -- what may be there, by the byte before it
   module _ {A : Type 0} (f : A → List ℕ) where
-    pub none_there : value ≡ 0 → (o : Option A) (t : List ℕ) → drop at s ≡ encode_optional f o ++ t → (o ≡ Option.none) × (drop next s ≡ t)
+    pub none_there : value ≡ 0 → (o : Option A) (t : List ℕ) → drop at s ≡ encode_optional f o ++ t → (o ≡ None) × (drop next s ≡ t)
     unfolding encode_optional
-    none_there z Option.none t e = (refl, (byte_read 0 (omega arith) t e).1)
-    none_there z (Option.some a) t e = let one = (byte_read 1 (omega arith) (f a ++ t) e).0 in absurd (omega arith)
+    none_there z None t e = (refl, (byte_read 0 (omega arith) t e).1)
+    none_there z (Some a) t e = let one = (byte_read 1 (omega arith) (f a ++ t) e).0 in absurd (omega arith)
 
     pub some_there : (value ≡ 0 → ⊥) → (o : Option A) (t : List ℕ) → drop at s ≡ encode_optional f o ++ t →
-        (a : A) × (o ≡ Option.some a) × (drop next s ≡ f a ++ t)
+        (a : A) × (o ≡ Some a) × (drop next s ≡ f a ++ t)
     unfolding encode_optional
-    some_there z Option.none t e = absurd (z (byte_read 0 (omega arith) t e).0)
-    some_there z (Option.some a) t e = (a, refl, (byte_read 1 (omega arith) (f a ++ t) e).1)
+    some_there z None t e = absurd (z (byte_read 0 (omega arith) t e).0)
+    some_there z (Some a) t e = (a, refl, (byte_read 1 (omega arith) (f a ++ t) e).1)
 
   -- a dynamic argument, by its kind
   pub text_argument : value ≡ 1 → (x : DynamicArgument) (t : List ℕ) → drop at s ≡ encode_argument x ++ t

@@ -12,7 +12,7 @@ ghost use Rattle.report_reader.specs.code.FromPlace.{ReadsBack, Skips, Number, I
 ghost use Rattle.report_reader.specs.code.Elements.{encode_element, ValidElement};
 
 use text::position::Position;
-use wire::{Cursor, Read};
+use wire::Cursor;
 
 // A number, and the place behind it.
 #[derive(Clone, Copy)]
@@ -41,11 +41,11 @@ pub fn read_number(report: &[u8], at: usize) -> NumberRead
     ensures { Number report.now at result.value result.next }
 {
     match (Cursor { at }).number(report) {
-        Read::Value(value, next) => NumberRead {
+        Ok((value, next)) => NumberRead {
             value,
             next: next.at,
         },
-        Read::Refused(_) => NumberRead {
+        Err(_) => NumberRead {
             value: 0,
             next: report.len(),
         },
@@ -131,10 +131,8 @@ fn skip_parts(report: &[u8], at: usize, keyed: bool, count: usize) -> usize
     ensures { Skips (flat_map (encode_element keyed)) (λ l. (length l ≡ count) × All (ValidElement keyed) l) report.now at result }
 {
     let mut place = at;
-    let mut left = count;
-    while 0 < left {
+    for _ in 0..count {
         place = skip_part(report, place, keyed);
-        left -= 1;
     }
     place
 }

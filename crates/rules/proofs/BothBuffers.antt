@@ -9,84 +9,56 @@ use Rattle.sheet.specs.{Sheet.Sheet, Sheet.accept, Judge.judge}
 use Rattle.sheet_codec.{specs.SheetOf.SheetOf, proofs.Sheets.accepts_exactly}
 use Rattle.sheet_codec.proofs.Refusals.{apart, Decision, decided, cut_off_lem, judged_sheet, judged_refusal}
 use Rattle.sheet_check.specs.{declared.check.Parts.Parts, code.Accepts.Accepts}
-use Rattle.report.specs.declared.writer.{Pen.Pen, Outcome.Outcome, Outcome.TheVariants.Accepted, Outcome.TheVariants.Refused}
+use Rattle.std.specs.Prelude.{Ok, Err}
+use Rattle.wire.{specs.declared.refusals.Refusal.Refusal, specs.Refusals.number_of, proofs.RefusalNumbers.some_number}
 use Rattle.report.specs.{ModuleInfo.ModuleInfo, Encode.encode}
-use Rattle.report.specs.Buffer.{holds, full, wrote, buffer_as, full_place}
 use Rattle.report.specs.Answer.{Answer, accepted, refused_with, fitted, answered, outcome_as}
-use Rattle.rules.specs.declared.Ruled.{Ruled}
-use Rattle.rules.specs.declared.Ruled.TheVariants as ruled
 use Rattle.module_info.{specs.Information.module_info, specs.Information.default_info, specs.Demands.Demands, proofs.Notes.refused_ten}
-use Rattle.rules.specs.Rules.{rules_of, Answers, refused_both, both_fitted, both_of, both_as, report_of, DemandsOfBoth}
+use Rattle.rules.specs.Rules.{Ruled, rules_of, Answers, refused_both, both_fitted, both_of, both_as, report_of, DemandsOfBoth}
 use Rattle.module_info.proofs.Accepted.{demanded, refusal_demanded, empty_demanded}
 use Rattle.rules.proofs.Origins.{rules_right}
 
+-- an answer of acceptance is one of bytes that have room
+accepted_in : (size : ℕ) (a : List ℕ) {n : ℕ} {buffer : List ℕ} → outcome_as (Ok n) buffer ≡ fitted size a →
+    (leb (length a) size ≡ true) × (outcome_as (Ok n) buffer ≡ accepted size a)
+unfolding fitted
+accepted_in size a {n} {buffer} e = by (leb (length a) size) refl e
+  where
+    by : (x : Bool) → leb (length a) size ≡ x → outcome_as (Ok n) buffer ≡ cond x (accepted size a) (refused_with refusals.buffer size)
+        → (leb (length a) size ≡ true) × (outcome_as (Ok n) buffer ≡ accepted size a)
+    by true h f = (h, f)
+    by false h f = let never : 0 ≡ refusals.buffer = ap (λ (x : Answer). x.number) f in absurd (omega arith)
+
+-- and one of refusal of bytes that have none
+refused_in : (size : ℕ) (a : List ℕ) (r : Refusal) {buffer : List ℕ} → outcome_as (Err r) buffer ≡ fitted size a → leb (length a) size ≡ false
+unfolding fitted
+refused_in size a r {buffer} e = by (leb (length a) size) refl e
+  where
+    by : (x : Bool) → leb (length a) size ≡ x → outcome_as (Err r) buffer ≡ cond x (accepted size a) (refused_with refusals.buffer size) → leb (length a) size ≡ false
+    by true h f = let never : number_of r ≡ 0 = ap (λ (x : Answer). x.number) f in absurd (omega (arith, some_number r))
+    by false h f = h
+
 module _ (size room : ℕ) where
   -- the report has no room
-  pub first_refused : (m : ModuleInfo) (b : List ℕ) {r : ℕ} {buffer : List ℕ} → outcome_as (Refused r) buffer ≡ fitted size (encode m)
-      → refused_both r size room ≡ both_fitted size room (encode m) b
-  unfolding fitted both_fitted
-  first_refused m b {r} {buffer} e = rw (refused_ten size r buffer m e) (by (leb (length (encode m)) size) (rw (refused_ten size r buffer m e) at e))
-    where
-      by : (x : Bool) → outcome_as (Refused refusals.buffer) buffer ≡ cond x (accepted size (encode m)) (refused_with refusals.buffer size)
-          → refused_both refusals.buffer size room ≡ cond x
-          (cond (leb (length b) room) (record { report = accepted size (encode m); rules = accepted room b }) (refused_both refusals.rules size room))
-          (refused_both refusals.buffer size room)
-      by true f = let never : refusals.buffer ≡ 0 = ap (λ (x : Answer). x.number) f in absurd (omega arith)
-      by false f = refl
+  pub first_refused : (m : ModuleInfo) (b : List ℕ) (r : Refusal) {buffer : List ℕ} → outcome_as (Err r) buffer ≡ fitted size (encode m)
+      → refused_both (number_of r) size room ≡ both_fitted size room (encode m) b
+  unfolding both_fitted
+  first_refused m b r {buffer} e = rw (refused_ten size r buffer m e, refused_in size (encode m) r e)
 
-  -- it has room: its answer is one of acceptance
-  accepted_first : (a : List ℕ) {n : ℕ} {buffer : List ℕ} → outcome_as (Accepted n) buffer ≡ fitted size a →
-      (leb (length a) size ≡ true) × (outcome_as (Accepted n) buffer ≡ accepted size a)
-  unfolding fitted
-  accepted_first a {n} {buffer} e = by (leb (length a) size) refl e
-    where
-      by : (x : Bool) → leb (length a) size ≡ x → outcome_as (Accepted n) buffer ≡ cond x (accepted size a) (refused_with refusals.buffer size)
-          → (leb (length a) size ≡ true) × (outcome_as (Accepted n) buffer ≡ accepted size a)
-      by true h f = (h, f)
-      by false h f = let never : 0 ≡ refusals.buffer = ap (λ (x : Answer). x.number) f in absurd (omega arith)
-
-  -- and the rules have none
-  pub second_refused : (a b : List ℕ) {n : ℕ} {buffer : List ℕ} (rules : List ℕ) (p : Pen) → outcome_as (Accepted n) buffer ≡ fitted size a →
-      eqb p.at full_place ≡ true
-      → buffer_as rules p ≡ wrote (holds room []) b → refused_both refusals.rules size room ≡ both_fitted size room a b
-  unfolding both_fitted wrote
-  second_refused a b rules p e is_full_lem h = rw (accepted_first a e).0 (by (leb (length b) room) (rw (is_full_lem, zero-add) at h))
-    where
-      by : (x : Bool) → full (length rules) ≡ cond x (holds room ([] ++ b)) (full room)
-          → refused_both refusals.rules size room ≡ cond x (record { report = accepted size a; rules = accepted room b }) (refused_both refusals.rules size room)
-      by true f = absurd (never f)
-        where
-          never : {i j : ℕ} {l : List ℕ} → full i ≡ holds j l → ⊥
-          never g = let z : ◌≡◌ {A = ℕ} 0 1 = cc in omega arith
-      by false f = refl
+  -- it has room, and the rules have none
+  pub second_refused : (a b : List ℕ) (r : Refusal) {n : ℕ} {buffer rules : List ℕ} → outcome_as (Ok n) buffer ≡ fitted size a → outcome_as (Err r) rules ≡ fitted room b
+      → refused_both refusals.rules size room ≡ both_fitted size room a b
+  unfolding both_fitted
+  second_refused a b r e f = rw ((accepted_in size a e).0, refused_in room b r f)
 
   -- or they have room too
-  pub both_accepted : (a b : List ℕ) {n k : ℕ} {buffer rules' : List ℕ} (rules : List ℕ) (p : Pen) → outcome_as (Accepted n) buffer ≡ fitted size a →
-      eqb p.at full_place ≡ false
-      → buffer_as rules p ≡ wrote (holds room []) b → length rules ≡ room → (o : Outcome) → outcome_as o rules' ≡ answered (length rules) (buffer_as rules p)
-      → k ≡ (outcome_as o rules').written → both_as (ruled.Accepted n k) buffer rules' ≡ both_fitted size room a b
-  unfolding both_fitted wrote
-  both_accepted a b {n} {k} {buffer} {rules'} rules p e not_full h long o answer written =
-      rw (accepted_first a e).0 (by (leb (length b) room) (rw (not_full, zero-add) at h))
-    where
-      held : (o : Outcome) → (outcome_as o rules').buffer ≡ rules'
-      held (Accepted j) = refl
-      held (Refused r) = refl
-
-      by : (x : Bool) → holds (length rules) (take p.at rules) ≡ cond x (holds room ([] ++ b)) (full room)
-          → both_as (ruled.Accepted n k) buffer rules'
-          ≡ cond x (record { report = accepted size a; rules = accepted room b }) (refused_both refusals.rules size room)
-      by true f =
-          let front : take p.at rules ≡ b = cc in
-          let second : outcome_as o rules' ≡ accepted room b = rw (front, long) at (rw not_full at answer) in
-          let number_of : k ≡ length b = written ∙ ap (λ (x : Answer). x.written) second in
-          let bytes : rules' ≡ (accepted room b).buffer = sym (held o) ∙ ap (λ (x : Answer). x.buffer) second in
-          let first = (accepted_first a e).1 in
-          rw (number_of, bytes, first)
-      by false f = absurd (never f)
-        where
-          never : {i j : ℕ} {l : List ℕ} → holds i l ≡ full j → ⊥
-          never g = let z : ◌≡◌ {A = ℕ} 0 1 = cc in omega arith
+  pub both_accepted : (a b : List ℕ) {n k : ℕ} {buffer rules : List ℕ} → outcome_as (Ok n) buffer ≡ fitted size a → outcome_as (Ok k) rules ≡ fitted room b
+      → both_as (Ok (record { report = n; rules = k })) buffer rules ≡ both_fitted size room a b
+  unfolding both_fitted
+  both_accepted a b e f =
+      let (room_a, first) = accepted_in size a e in
+      let (room_b, second) = accepted_in room b f in
+      rw (room_a, room_b, ← first, ← second)
 
   -- but for 16, the report's answer is that of the report alone
   as_before : (a b : List ℕ) {x : Answers} → x ≡ both_fitted size room a b → (x.report.number ≡ refusals.rules → ⊥) → x.report ≡ fitted size a
@@ -115,8 +87,8 @@ module _ (size room : ℕ) where
 
 -- the report's part of an answer
 part_of : (o : Ruled) (buffer rules : List ℕ) → outcome_as (report_of o) buffer ≡ (both_as o buffer rules).report
-part_of (ruled.Accepted n k) buffer rules = refl
-part_of (ruled.Refused r) buffer rules = refl
+part_of (Ok l) buffer rules = refl
+part_of (Err r) buffer rules = refl
 
 -- ---- what is demanded, by what the bytes are
 

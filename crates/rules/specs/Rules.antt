@@ -1,17 +1,17 @@
 -- Each entry with its rule: what stands in the second buffer, beside the report.
-use Rattle.std.specs.Prelude.{◌≡◌, cond, ◌↔◌, ℕ, ◌≤◌, ◌<◌, leb, length}
+use Rattle.std.specs.Prelude.{◌≡◌, cond, ◌↔◌, ℕ, ◌≤◌, ◌<◌, leb, length, Result, Ok, Err}
 use mathlib.Core.List.{List, [], ◌∷◌, ◌++◌, map, flat_map}
 use Rattle.laws.specs.Aligned.{Aligned}
 use Rattle.wire.specs.Refusals as refusals
+use Rattle.wire.specs.declared.refusals.Refusal.{Refusal}
+use Rattle.wire.specs.Refusals.{number_of}
 use Rattle.sheet.specs.Sheet.{Sheet}
 use Rattle.sheet.specs.Judge.{Judged, empty, sheet, refusal, judge}
 use Rattle.sheet_codec.specs.SheetOf.{SheetOf}
-use Rattle.report.specs.declared.writer.Outcome.{Outcome}
-use Rattle.report.specs.declared.writer.Outcome.TheVariants as outcome
 use Rattle.report.specs.ModuleInfo.{SpecifierWithRange, TypeScriptReference, JsDocImportInfo, DependencyDescriptor, ModuleInfo}
 use Rattle.report.specs.Origin.{Origin, encode_origin}
 use Rattle.report.specs.Encode.{encode}
-use Rattle.report.specs.Answer.{Answer, accepted, refused_with, outcome_as}
+use Rattle.report.specs.Answer.{Answer, accepted, refused_with, Outcome, outcome_as}
 use Rattle.pragmas.specs.Readings.{optional}
 use Rattle.pragmas.specs.Pragmas.{head_comments, end_comments}
 use Rattle.pragmas.specs.Asks.{self_types_rule, jsx_import_source_rule, jsx_import_source_types_rule, source_map_url_rule}
@@ -19,8 +19,7 @@ use Rattle.pragmas.specs.Texts.{types_of}
 use Rattle.pragmas.specs.Origins.{types_origins, head_origins, end_origins, TypesFrom, ReferenceFrom, SpecifierFrom}
 use Rattle.jsdoc_list.specs.Origins.{jsdoc_origins, JsDocFrom}
 use Rattle.dep.specs.Collect.{starts_of}
-use Rattle.rules.specs.declared.Ruled.{Ruled}
-use Rattle.rules.specs.declared.Ruled.TheVariants as ruled
+use Rattle.rules.specs.declared.Lengths.{Lengths}
 use Rattle.module_info.specs.Information.{module_info, default_info}
 use Rattle.module_info.specs.Replaced.{noted}
 use Rattle.module_info.specs.Demands.{OfAccepted, Demands}
@@ -97,21 +96,25 @@ both_to size room (refusal r) = refused_both r size room
 unfoldable pub both_of : List ℕ → ℕ → ℕ → Answers
 both_of s size room = both_to size room (judge s)
 
--- what the code's answer stands for, with what the buffers have then
+-- what the code answers: both lengths, or a refusal
+abbrev pub Ruled : Type 0
+Ruled = Result Lengths Refusal
+
+-- what it stands for, with what the buffers have then
 abbrev pub both_as : Ruled → List ℕ → List ℕ → Answers
-both_as (ruled.Accepted n k) buffer rules = record {
-  report = record { number = 0; written = n; buffer = buffer };
-  rules = record { number = 0; written = k; buffer = rules };
+both_as (Ok l) buffer rules = record {
+  report = record { number = 0; written = l.report; buffer = buffer };
+  rules = record { number = 0; written = l.rules; buffer = rules };
 }
-both_as (ruled.Refused r) buffer rules = record {
-  report = record { number = r; written = 0; buffer = buffer };
-  rules = record { number = r; written = 0; buffer = rules };
+both_as (Err r) buffer rules = record {
+  report = record { number = number_of r; written = 0; buffer = buffer };
+  rules = record { number = number_of r; written = 0; buffer = rules };
 }
 
 -- of the report alone
 abbrev pub report_of : Ruled → Outcome
-report_of (ruled.Accepted n k) = outcome.Accepted n
-report_of (ruled.Refused r) = outcome.Refused r
+report_of (Ok l) = Ok l.report
+report_of (Err r) = Err r
 
 -- the bytes s of a sheet or none, the sizes of the two lent buffers, the outcome, and what the buffers hold then
 pub record DemandsOfBoth (s : List ℕ) (size room : ℕ) (outcome : Ruled) (buffer rules : List ℕ) : Type 0 where
@@ -132,10 +135,10 @@ pub record DemandsOfBoth (s : List ℕ) (size room : ℕ) (outcome : Ruled) (buf
 
 -- the number
 abbrev pub ruled_number : Ruled → ℕ
-ruled_number (ruled.Accepted n k) = 0
-ruled_number (ruled.Refused r) = r
+ruled_number (Ok l) = 0
+ruled_number (Err r) = number_of r
 
 -- both lengths, 0 on a refusal
 abbrev pub ruled_lengths : Ruled → List ℕ
-ruled_lengths (ruled.Accepted n k) = n ∷ k ∷ []
-ruled_lengths (ruled.Refused r) = 0 ∷ 0 ∷ []
+ruled_lengths (Ok l) = l.report ∷ l.rules ∷ []
+ruled_lengths (Err r) = 0 ∷ 0 ∷ []

@@ -1,13 +1,12 @@
 // Each entry with its rule: beside the report, how each types specifier, reference, pragma and JSDoc import was found.
 #![tactic(auto)]
 
-ghost use Rattle.std.specs.Prelude.{◌≡◌, ℕ, ◌+◌, ◌*◌, ◌≤◌, length};
+ghost use Rattle.std.specs.Prelude.{◌≡◌, ℕ, ◌+◌, ◌*◌, ◌≤◌, length, Ok};
 ghost use mathlib.Core.List.{List, [], flat_map};
 ghost use Rattle.laws.specs.Decoded.{ok};
 ghost use Rattle.sheet.specs.Limits.{source_limit};
 ghost use Rattle.sheet.specs.Sheet.{Sheet, accept};
 ghost use Rattle.sheet.specs.code.Tables.{comments_in, groups_in, comments_part, groups_part};
-ghost use Rattle.report.specs.declared.writer.Outcome.TheVariants.{Accepted};
 ghost use Rattle.report.specs.Buffer.{holds, wrote, buffer_as};
 ghost use Rattle.report.specs.Origin.{encode_origin};
 ghost use Rattle.report.specs.Encode.{encode};
@@ -19,24 +18,28 @@ ghost use Rattle.module_info.specs.Replaced.{noted};
 ghost use Rattle.module_info.specs.code.Pieces.{PartsIn, HeldBy, AcceptsIn};
 ghost use Rattle.rules.specs.code.Pieces.{comment_origins};
 ghost use Rattle.rules.specs.code.Rows.{starts_from};
-ghost use Rattle.rules.specs.Rules.{rules_of, refused_both, both_fitted, both_as, DemandsOfBoth, ruled_number, ruled_lengths};
+ghost use Rattle.wire.specs.Refusals.{number_of};
+ghost use Rattle.rules.specs.Rules.{Ruled, rules_of, refused_both, both_fitted, both_as, DemandsOfBoth, ruled_number, ruled_lengths};
 
 use jsdoc_list::notes::put_jsdoc_origins;
-use module_info::judge::{SheetJudged, judge};
+use module_info::judge::judge;
 use module_info::{write_default, write_noted_report};
 use pragmas::origins::{put_end_origins, put_head_origins, put_types_origins};
-use report::writer::{Outcome, Pen, clear_from, finish};
+use report::writer::{Pen, clear_from, finish};
 use sheet::limits::{ENTRY_LIMIT, GROUPS_START, INDEX_START, SOURCE_LIMIT, TABLE_NUMBERS};
 use sheet::lookups::{end_group, head_group};
 use sheet_check::check::Parts;
-use wire::refusals;
+use wire::refusals::Refusal;
 
-// Both lengths, or a refusal's number.
+// Both lengths.
 #[derive(Clone, Copy)]
-pub enum Ruled {
-    Accepted { report: usize, rules: usize },
-    Refused(u8),
+pub struct Lengths {
+    pub report: usize,
+    pub rules: usize,
 }
+
+// What is answered: both lengths, or a refusal.
+pub type Ruled = Result<Lengths, Refusal>;
 
 // Room for how many numbers are noted, and for the rows of as many dependencies as a sheet can have.
 const NOTE_NUMBERS: usize = 1 + 2 * ENTRY_LIMIT;
@@ -64,11 +67,9 @@ fn put_types_rules(
     let n = parts.comments;
     let m = parts.groups;
     let mut p = place;
-    let mut k = 0;
-    while k < parts.entries {
+    for k in 0..parts.entries {
         let start = notes[1 + 2 * k];
         p = put_types_origins(source, comments, n, groups, m, start, out, p);
-        k += 1;
     }
     p
 }
@@ -116,38 +117,27 @@ fn put_rules(sheet: &[u8], parts: Parts, tables: &[u32], notes: &[usize], out: &
 }
 
 // A refusal: both buffers are zero.
-fn refuse_both(number: u8, first: &mut [u8], second: &mut [u8]) -> Ruled
+fn refuse_both(refusal: Refusal, first: &mut [u8], second: &mut [u8]) -> Ruled
     ensures { both_as result first.new second.new
-        ≡ refused_both number (length first.old) (length second.old) }
+        ≡ refused_both (number_of refusal) (length first.old) (length second.old) }
 {
     clear_from(first, 0);
     clear_from(second, 0);
-    Ruled::Refused(number)
-}
-
-// The length of a report, 0 if it was refused.
-fn length_of(outcome: Outcome) -> usize
-    ensures { (buffer : List ℕ) → result ≡ (outcome_as outcome buffer).written }
-{
-    match outcome {
-        Outcome::Accepted(n) => n,
-        Outcome::Refused(_) => 0,
-    }
+    Err(refusal)
 }
 
 // The end of the rules beside an accepted report of that length: every byte past them is zero; refusal 16 where a byte found no room.
 fn finish_rules(size: usize, place: Pen, buffer: &mut [u8], rules: &mut [u8]) -> Ruled
-    ensures { (a b : List ℕ) → outcome_as (Accepted size) buffer.old ≡ fitted (length buffer.old) a
+    ensures { (a b : List ℕ) → outcome_as (Ok size) buffer.old ≡ fitted (length buffer.old) a
         → buffer_as rules.old place ≡ wrote (holds (length rules.old) []) b
         → both_as result buffer.new rules.new ≡ both_fitted (length buffer.old) (length rules.old) a b }
 {
-    if place.is_full() {
-        return refuse_both(refusals::RULES, buffer, rules);
-    }
-    let ended = finish(rules, place);
-    Ruled::Accepted {
-        report: size,
-        rules: length_of(ended),
+    match finish(rules, place) {
+        Ok(length) => Ok(Lengths {
+            report: size,
+            rules: length,
+        }),
+        Err(_) => refuse_both(Refusal::Rules, buffer, rules),
     }
 }
 
@@ -166,8 +156,8 @@ fn write_ruled_report(
 {
     let mut notes = [0usize; NOTE_NUMBERS];
     match write_noted_report(sheet, parts, tables, buffer, &mut notes) {
-        Outcome::Refused(r) => refuse_both(r, buffer, rules),
-        Outcome::Accepted(n) => {
+        Err(refusal) => refuse_both(refusal, buffer, rules),
+        Ok(n) => {
             let place = put_rules(sheet, parts, tables, &notes, rules);
             finish_rules(n, place, buffer, rules)
         }
@@ -180,8 +170,8 @@ fn write_ruled_default(buffer: &mut [u8], rules: &mut [u8]) -> Ruled
         ≡ both_fitted (length buffer.old) (length rules.old) (encode default_info) [] }
 {
     match write_default(buffer) {
-        Outcome::Refused(r) => refuse_both(r, buffer, rules),
-        Outcome::Accepted(n) => {
+        Err(refusal) => refuse_both(refusal, buffer, rules),
+        Ok(n) => {
             let none = Pen { at: 0 };
             finish_rules(n, none, buffer, rules)
         }
@@ -195,9 +185,9 @@ pub fn with_rules(sheet: &[u8], buffer: &mut [u8], rules: &mut [u8]) -> Ruled
 {
     let mut tables = [0u32; TABLE_NUMBERS];
     match judge(sheet, &mut tables) {
-        SheetJudged::Empty => write_ruled_default(buffer, rules),
-        SheetJudged::Refused(r) => refuse_both(r, buffer, rules),
-        SheetJudged::Accepted(parts) => write_ruled_report(sheet, parts, &tables, buffer, rules),
+        Ok(None) => write_ruled_default(buffer, rules),
+        Ok(Some(parts)) => write_ruled_report(sheet, parts, &tables, buffer, rules),
+        Err(refusal) => refuse_both(refusal, buffer, rules),
     }
 }
 
@@ -205,14 +195,10 @@ pub fn with_rules(sheet: &[u8], buffer: &mut [u8], rules: &mut [u8]) -> Ruled
 fn put_lengths(answer: Ruled, lengths: &mut [u64; 2])
     ensures { lengths.new ≡ ruled_lengths answer }
 {
-    match answer {
-        Ruled::Accepted { report, rules } => {
-            *lengths = [report as u64, rules as u64];
-        }
-        Ruled::Refused(_) => {
-            *lengths = [0; 2];
-        }
-    }
+    *lengths = match answer {
+        Ok(both) => [both.report as u64, both.rules as u64],
+        Err(_) => [0; 2],
+    };
 }
 
 // Its number.
@@ -220,11 +206,8 @@ fn ruled_number(answer: Ruled) -> u64
     ensures { result ≡ ruled_number answer }
 {
     match answer {
-        Ruled::Accepted {
-            report: _,
-            rules: _,
-        } => 0,
-        Ruled::Refused(r) => r as u64,
+        Ok(_) => 0,
+        Err(refusal) => u64::from(refusal.number()),
     }
 }
 

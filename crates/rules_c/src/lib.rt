@@ -2,8 +2,7 @@
 #![tactic(auto)]
 
 ghost use Rattle.std.specs.Prelude.{◌≡◌, length};
-ghost use Rattle.rules.specs.declared.Ruled.{Ruled};
-ghost use Rattle.rules.specs.Rules.{DemandsOfBoth, ruled_number, ruled_lengths};
+ghost use Rattle.rules.specs.Rules.{Ruled, DemandsOfBoth, ruled_number, ruled_lengths};
 
 // The number, and two lengths, the report's and that of the rules.
 #[unsafe(no_mangle)]

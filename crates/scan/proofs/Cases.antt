@@ -1,4 +1,5 @@
 -- Worked bodies and their answers.
+use Rattle.std.specs.Prelude.{Some, None}
 use Rattle.laws.proofs.Prelude.{◌≡◌, refl, List, [], ◌∷◌, map, Option, ℕ}
 use Prim.Native.String.{String}
 use Rattle.laws.specs.Ascii.{ascii}
@@ -15,8 +16,8 @@ body (sum s n) = ascii s
 body (none s) = ascii s
 
 abbrev answer : Case → Option ℕ
-answer (sum s n) = Option.some n
-answer (none s) = Option.none
+answer (sum s n) = Some n
+answer (none s) = None
 
 table : List Case
 table =

@@ -1,6 +1,5 @@
 -- The scan length of a `{` and the scan sum of a body.
-use Rattle.std.specs.Prelude.{Bool, cond, ◌&&◌, List, [], ◌∷◌, ℕ, suc, ◌+◌, min, eqb, leb, length}
-use Rattle.std.proofs.Math.Option.{Option}
+use Rattle.std.specs.Prelude.{Bool, cond, ◌&&◌, List, [], ◌∷◌, ℕ, suc, ◌+◌, min, eqb, leb, length, Option, Some, None}
 use Prim.Native.Char.{code}
 use Rattle.laws.specs.Ascii.{ascii}
 use Rattle.text.specs.Bytes.{begins}
@@ -28,4 +27,4 @@ longest = 32764
 
 -- the scan sum of a body; none for one that is too long or not star-opened
 unfoldable pub scanned : List ℕ → Option ℕ
-scanned body = cond (leb (length body) longest && star_opened body) (Option.some (scan_sum body)) Option.none
+scanned body = cond (leb (length body) longest && star_opened body) (Some (scan_sum body)) None

@@ -10,22 +10,12 @@ use text::bytes::starts_with;
 // The longest body, in bytes.
 pub const LONGEST: usize = 32764;
 
-// A scan sum, or none.
-#[derive(Clone, Copy)]
-pub enum ScanSum {
-    Bytes(u64),
-    Nothing,
-}
-
 // How far a scan goes from `at` on; `behind` is how far it goes from the next byte on.
 fn length_at(body: &[u8], at: usize, behind: u64) -> u64
     requires { (at < length body.now) × (behind ≡ scan_length (drop (at + 1) body.now)) }
     ensures { result ≡ scan_length (drop at body.now) }
 {
-    if body[at] == b'}' {
-        return 0;
-    }
-    if starts_with(body, at, b"import") {
+    if body[at] == b'}' || starts_with(body, at, b"import") {
         return 0;
     }
     behind + 1
@@ -38,9 +28,7 @@ fn sum_of(body: &[u8]) -> u64
 {
     let mut sum: u64 = 0;
     let mut ahead: u64 = 0;
-    let mut i = body.len();
-    while 0 < i {
-        i -= 1;
+    for i in (0..body.len()).rev() {
         if body[i] == b'{' {
             sum += ahead;
         }
@@ -50,24 +38,22 @@ fn sum_of(body: &[u8]) -> u64
 }
 
 // The scan sum of a body, or nothing for one that is too long or not star-opened.
-pub fn scan_sum(body: &[u8]) -> ScanSum
+pub fn scan_sum(body: &[u8]) -> Option<u64>
     ensures { Counted body.now result }
 {
-    if LONGEST < body.len() {
-        return ScanSum::Nothing;
+    if body.len() <= LONGEST && starts_with(body, 0, b"*") {
+        Some(sum_of(body))
+    } else {
+        None
     }
-    if starts_with(body, 0, b"*") {
-        return ScanSum::Bytes(sum_of(body));
-    }
-    ScanSum::Nothing
 }
 
-// The same for C, as one number: 0 for nothing, else the sum and 1.
+// The same as one number, the C interface: 0 for nothing, else the sum and 1.
 pub fn scan_sum_answer(body: &[u8]) -> u64
     ensures { result ≡ packed (scanned body.now) }
 {
     match scan_sum(body) {
-        ScanSum::Bytes(sum) => sum + 1,
-        ScanSum::Nothing => 0,
+        Some(sum) => sum + 1,
+        None => 0,
     }
 }

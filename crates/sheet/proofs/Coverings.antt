@@ -1,12 +1,12 @@
 -- Which comments are in some group, from the longest group that begins at each.
 use Rattle.laws.proofs.Prelude.{◌≡◌, refl, sym, ◌∙◌, Bool, true, false, cond, ◌&&◌, ◌||◌, or-true, true≢false, false≢true, and-eq-true_iff, ◌⊎◌, inl, inr}
 use Rattle.laws.proofs.Prelude.{⊎_elim, ◌↔◌, List, [], ◌∷◌, ◌++◌, Memᴰ, Memᴰ_head, Memᴰ_tail, Memᴰ_not_nil, Memᴰ_cases_cons, ℕ}
-use Rattle.laws.proofs.Prelude.{zero, suc, ◌+◌, ◌-◌, ◌≤◌, ◌<◌, zero-le, sub-zero, not-suc-le-zero, le_of_suc-le-suc, add-one, arith, eqb, leb, ltb, length}
-use Rattle.laws.proofs.Prelude.{get_or, set, replicate, length-replicate, get_or-set_same, get_or-set_other, leb-true, le-leb, ltb-true, ltb-false, eqb-true}
-use Rattle.laws.proofs.Prelude.{lt-ltb, le-ltb, ne_eqb}
+use Rattle.laws.proofs.Prelude.{zero, suc, ◌+◌, ◌-◌, ◌≤◌, ◌<◌, not-suc-le-zero, le_of_suc-le-suc, add-one, arith, eqb, leb, ltb, length}
+use Rattle.laws.proofs.Prelude.{get_or, replicate, length-replicate, leb-true, le-leb, ltb-true, ltb-false, eqb-true}
+use Rattle.laws.proofs.Prelude.{lt-ltb, le-ltb}
 use mathlib.Core.Bool.{or_assoc}
 use Prim.Native.Nat.{max}
-use native.Mathlib.Nat.{zero-max, max-zero, max-eq_left, max-eq_right, sub-eq-zero_of_le, eq-or-lt_of_le}
+use native.Mathlib.Nat.{zero-max, max-zero, sub-eq-zero_of_le, eq-or-lt_of_le}
 use lib.{Dec.leb-suc-suc, ListN.get_or-replicate, ListN.get_or-append}
 use borrow.Author.Tests.{eqb-false}
 use Rattle.sheet.specs.{declared.groups.Group.Group, Fit.Holds, Fit.HeldBySome, code.Covering.longest_at}
@@ -137,32 +137,10 @@ module _ {gs : List Group} {i far : ℕ} (p : Passed gs i far) {long far' : ℕ}
   pub pass_stop : far' ≤ i → (n : ℕ) → i < n → covered gs n ≡ false
   pass_stop l n h = uncovered gs n i h (rw (begun_here gs i, farther i (omega arith)) (le-ltb i far' l))
 
--- a count at a place: stored where it is larger than what stands there, else left out
-module _ (l : List ℕ) (at count i : ℕ) where
-  pub raise_set : at < length l → get_or l at 0 < count → get_or (set l at count) i 0 ≡ max (get_or l i 0) (cond (eqb at i) count 0)
-  raise_set h x = go (eqb at i) refl
-    where
-      go : (b : Bool) → eqb at i ≡ b → get_or (set l at count) i 0 ≡ max (get_or l i 0) (cond b count 0)
-      go true e = rw (← eqb-true at i e) (get_or-set_same l at count 0 h ∙ sym (max-eq_right (omega arith)))
-      go false e = get_or-set_other l at i count 0 (λ j. eqb-false at i e (sym j)) ∙ sym (max-zero (get_or l i 0))
-
-  pub raise_less : count ≤ get_or l at 0 → get_or l i 0 ≡ max (get_or l i 0) (cond (eqb at i) count 0)
-  raise_less x = go (eqb at i) refl
-    where
-      go : (b : Bool) → eqb at i ≡ b → get_or l i 0 ≡ max (get_or l i 0) (cond b count 0)
-      go true e = rw (← eqb-true at i e) (sym (max-eq_left x))
-      go false e = sym (max-zero (get_or l i 0))
-
-  pub raise_past : i < at → get_or l i 0 ≡ max (get_or l i 0) (cond (eqb at i) count 0)
-  raise_past x = rw (ne_eqb at i (omega arith), max-zero)
-
 -- what is kept for the first n comments, with the groups from the kth on, is what was kept with all the groups
 pub record Keeping (table : List ℕ) (m n : ℕ) (longest₀ longest : List ℕ) (k : ℕ) : Type 0 where
   pub most : k ≤ m
   pub rest : (i : ℕ) → i < n → max (get_or longest i 0) (longest_at (rows (group_in table) k (m - k)) i) ≡ max (get_or longest₀ i 0) (longest_at (groups_in table m) i)
-
-pub keep_none : (table : List ℕ) (m n : ℕ) (longest : List ℕ) → Keeping table m n longest longest 0
-keep_none table m n longest = record { most = zero-le; rest = λ i l. rw sub-zero }
 
 module _ {table : List ℕ} {m n : ℕ} {longest₀ longest : List ℕ} {k : ℕ} (h : Keeping table m n longest₀ longest k) where
   pub keep_more : {longest' : List ℕ} → k < m

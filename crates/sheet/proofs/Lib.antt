@@ -1,5 +1,4 @@
 pub mod EnumNumbers
-pub mod EndBoundary
 pub mod TableRows
 pub mod Stores
 pub mod Chains

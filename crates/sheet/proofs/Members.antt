@@ -1,7 +1,8 @@
 -- What is known of a table's comments and groups by their index, of the comments of a group, and of the groups that are looked up.
 use Rattle.laws.proofs.Prelude.{◌≡◌, Bool, true, false, cond, List, [], ◌∷◌, Option, none-ne-some, ℕ, suc, ◌+◌, ◌-◌, ◌≤◌, ◌<◌, zero-le, suc-le-suc}
 use Rattle.laws.proofs.Prelude.{zero-add, length}
-use mathlib.Core.Option.{some-injective}
+use Rattle.std.specs.Prelude.{None, Option, Some}
+use Rattle.laws.proofs.Options.{some-injective}
 use Rattle.sheet.specs.{declared.comments.Comment.Comment, declared.groups.Group.Group, Program.Program, declared.names.Side.Side}
 use Rattle.sheet.specs.code.Tables.{rows, comment_in, comments_in}
 use Rattle.sheet.specs.Fit.{Placed, Fit, Reaching, group_of, Grouped}
@@ -22,32 +23,32 @@ module _ (table : List ℕ) (n : ℕ) (g : Group) (r : Reaching n g) where
   pub group_comments : comments_of (comments_in table n) g ≡ rows (comment_in table) g.first g.count
   group_comments = rw zero-add at (rows_part (comment_in table) 0 n g.first g.count r.reach)
 
-  pub group_last : last_comment_of (comments_in table n) g ≡ Option.some (comment_in table (g.first + (g.count - 1)))
+  pub group_last : last_comment_of (comments_in table n) g ≡ Some (comment_in table (g.first + (g.count - 1)))
   group_last = rw group_comments (rows_last (comment_in table) g.first g.count r.some)
 
 -- what holds of each group holds of the one that is found
 found_each : (Q : Group → Type 0) (gs : List Group) (side : Side) (position : ℕ) → ((k : ℕ) → k < length gs → Q (group_of gs k)) → {g : Group}
-    → group_at gs side position ≡ Option.some g → Q g
+    → group_at gs side position ≡ Some g → Q g
 unfolding group_at
 found_each Q [] side position q {g} e = absurd (none-ne-some g e)
 found_each Q (h ∷ gs) side position q {g} e = go (stands_at h side position) e (found_each Q gs side position (λ k l. q (suc k) (suc-le-suc l)))
   where
-    go : (b : Bool) → cond b (Option.some h) (group_at gs side position) ≡ Option.some g → (group_at gs side position ≡ Option.some g → Q g) → Q g
+    go : (b : Bool) → cond b (Some h) (group_at gs side position) ≡ Some g → (group_at gs side position ≡ Some g → Q g) → Q g
     go true e more = rw (← some-injective h g e) (q 0 (suc-le-suc zero-le))
     go false e more = more e
 
 module _ {total : ℕ} {gs : List Group} (h : Grouped total gs) where
-  pub found_reaching : (side : Side) (position : ℕ) {g : Group} → group_at gs side position ≡ Option.some g → Reaching total g
+  pub found_reaching : (side : Side) (position : ℕ) {g : Group} → group_at gs side position ≡ Some g → Reaching total g
   found_reaching side position = found_each (Reaching total) gs side position h.each
 
-  pub head_reaching : (p : Program) {g : Group} → head_group p gs ≡ Option.some g → Reaching total g
+  pub head_reaching : (p : Program) {g : Group} → head_group p gs ≡ Some g → Reaching total g
   unfolding head_group
   head_reaching p {g} e = by_item p.first e
     where
-      by_shebang : (b : Bool) → cond b (group_at gs Trailing p.span.end) (group_at gs Leading p.span.start) ≡ Option.some g → Reaching total g
+      by_shebang : (b : Bool) → cond b (group_at gs Trailing p.span.end) (group_at gs Leading p.span.start) ≡ Some g → Reaching total g
       by_shebang true e = found_reaching Trailing p.span.end e
       by_shebang false e = found_reaching Leading p.span.start e
 
-      by_item : (first : Option ℕ) → head_by p gs first ≡ Option.some g → Reaching total g
-      by_item (Option.some at) e = found_reaching Leading at e
-      by_item Option.none e = by_shebang p.shebang e
+      by_item : (first : Option ℕ) → head_by p gs first ≡ Some g → Reaching total g
+      by_item (Some at) e = found_reaching Leading at e
+      by_item None e = by_shebang p.shebang e

@@ -1,4 +1,5 @@
 -- The walk makes the visits that it should, in their order, and a node is refused by 9 exactly where one of them is a call that meets it.
+use Rattle.std.specs.Prelude.{Some, None}
 use Rattle.laws.proofs.Prelude.{◌≡◌, refl, sym, ap, ◌∙◌, Bool, true, false, cond, false≢true, ◌&&◌, ◌||◌, or-true, List, [], ◌∷◌, ◌++◌, append-nil}
 use Rattle.laws.proofs.Prelude.{append_assoc, flat_map, Memᴰ, Memᴰ_head, Memᴰ_tail, Memᴰ_not_nil, Memᴰ_cases_cons, ◌↔◌, ⊎_elim, ◌⊎◌}
 use Rattle.laws.proofs.Prelude.{inl, inr, Option, none-ne-some}
@@ -113,15 +114,15 @@ flat_map_member f (a ∷ l) {b} m =
     ⊎_elim (λ i. (a, Memᴰ_head refl, i)) (λ i. let (c, j, k) = flat_map_member f l i in (c, Memᴰ_tail j, k)) (Memᴰ.append_cases (f a) m)
 
 -- a visit of a node is its own or one of a child's
-placed_cases : (o : Option Visit) (l : List Visit) {v : Visit} → Memᴰ v (placed o l) → (o ≡ Option.some v) ⊎ Memᴰ v l
-placed_cases Option.none l m = inr m
-placed_cases (Option.some w) l {v} m = go (is_call w) m
+placed_cases : (o : Option Visit) (l : List Visit) {v : Visit} → Memᴰ v (placed o l) → (o ≡ Some v) ⊎ Memᴰ v l
+placed_cases None l m = inr m
+placed_cases (Some w) l {v} m = go (is_call w) m
   where
-    go : (b : Bool) → Memᴰ v (cond b (l ++ w ∷ []) (w ∷ l)) → (Option.some w ≡ Option.some v) ⊎ Memᴰ v l
-    go true m = ⊎_elim (λ i. inr i) (λ i. inl (sym (ap (λ v. Option.some v) (Memᴰ.eq_of_singleton i)))) (Memᴰ.append_cases l m)
+    go : (b : Bool) → Memᴰ v (cond b (l ++ w ∷ []) (w ∷ l)) → (Some w ≡ Some v) ⊎ Memᴰ v l
+    go true m = ⊎_elim (λ i. inr i) (λ i. inl (sym (ap (λ v. Some v) (Memᴰ.eq_of_singleton i)))) (Memᴰ.append_cases l m)
     go false m = ⊎_elim (λ e. inl (rw e)) (λ i. inr i) (Memᴰ_cases_cons m)
 
-placed_own : (v : Visit) (l : List Visit) → Memᴰ v (placed (Option.some v) l)
+placed_own : (v : Visit) (l : List Visit) → Memᴰ v (placed (Some v) l)
 placed_own v l = go (is_call v)
   where
     go : (b : Bool) → Memᴰ v (cond b (l ++ v ∷ []) (v ∷ l))
@@ -129,8 +130,8 @@ placed_own v l = go (is_call v)
     go false = Memᴰ_head refl
 
 placed_part : (o : Option Visit) (l : List Visit) → PartOf l (placed o l)
-placed_part Option.none l = part_whole l
-placed_part (Option.some v) l = go (is_call v)
+placed_part None l = part_whole l
+placed_part (Some v) l = go (is_call v)
   where
     go : (b : Bool) → PartOf l (cond b (l ++ v ∷ []) (v ∷ l))
     go true = record { before = []; behind = v ∷ []; among = refl }
@@ -142,11 +143,11 @@ from_child i itself = child itself i
 from_child i (child w j) = child (from_child i w) j
 
 -- each visit is that of a node that the walk reaches, and back
-visit_walked : (n : Node) (v : Visit) → Memᴰ v (visits n) → (m : Node) × Walked n m × (own_visit m ≡ Option.some v)
-visit_walked = by_children (λ n. (v : Visit) → Memᴰ v (visits n) → (m : Node) × Walked n m × (own_visit m ≡ Option.some v)) step
+visit_walked : (n : Node) (v : Visit) → Memᴰ v (visits n) → (m : Node) × Walked n m × (own_visit m ≡ Some v)
+visit_walked = by_children (λ n. (v : Visit) → Memᴰ v (visits n) → (m : Node) × Walked n m × (own_visit m ≡ Some v)) step
   where
-    step : (n : Node) → All (λ c. (v : Visit) → Memᴰ v (visits c) → (m : Node) × Walked c m × (own_visit m ≡ Option.some v)) (children n)
-        → (v : Visit) → Memᴰ v (visits n) → (m : Node) × Walked n m × (own_visit m ≡ Option.some v)
+    step : (n : Node) → All (λ c. (v : Visit) → Memᴰ v (visits c) → (m : Node) × Walked c m × (own_visit m ≡ Some v)) (children n)
+        → (v : Visit) → Memᴰ v (visits n) → (m : Node) × Walked n m × (own_visit m ≡ Some v)
     step n below v i =
         ⊎_elim
         (λ e. (n, itself, e))
@@ -160,7 +161,7 @@ visits_within (child {n = n} w i) =
     part_inner (part_flat_map visits (children n) i)
     (part_inner (rw (visits_placed n) (placed_part (own_visit n) (flat_map visits (children n)))) (visits_within w))
 
-walked_visit : {n m : Node} → Walked n m → (v : Visit) → own_visit m ≡ Option.some v → Memᴰ v (visits n)
+walked_visit : {n m : Node} → Walked n m → (v : Visit) → own_visit m ≡ Some v → Memᴰ v (visits n)
 walked_visit {m = m} w v e = part_member (visits_within w) (rw (visits_placed m, e) (placed_own v (flat_map visits (children m))))
 
 -- which visits there are and in what order
@@ -175,10 +176,10 @@ walk_right root = record { in_order = in_order root; of_walked = visit_walked ro
     in_order : (n : Node) → Visited n (visits n)
     in_order = by_children (λ n. Visited n (visits n)) (λ n below. rw (visits_placed n) (visited (all_visited (children n) below)))
 
-    of_each : (n : Node) → Walked root n → (v : Visit) → own_visit n ≡ Option.some v → StandsAmong (visits root) n v
+    of_each : (n : Node) → Walked root n → (v : Visit) → own_visit n ≡ Some v → StandsAmong (visits root) n v
     of_each n w v e =
         let p = visits_within w in
-        let own : visits n ≡ placed (Option.some v) (flat_map visits (children n)) = rw e at (visits_placed n) in
+        let own : visits n ≡ placed (Some v) (flat_map visits (children n)) = rw e at (visits_placed n) in
         record {
           before = p.before;
           inside = flat_map visits (children n);
@@ -201,13 +202,13 @@ refused_any : (vs : List Visit) {v : Visit} → Memᴰ v vs → refused v ≡ tr
 refused_any [] m e = absurd (Memᴰ_not_nil m)
 refused_any (w ∷ vs) {v} m e = ⊎_elim (λ i. rw (← i, e)) (λ i. rw (refused_any vs {v = v} i e, or-true (refused w))) (Memᴰ_cases_cons m)
 
-uncooked_piece : (ps : Pieces) → (any_uncooked ps ≡ true) ↔ Memᴰ Option.none ps
+uncooked_piece : (ps : Pieces) → (any_uncooked ps ≡ true) ↔ Memᴰ None ps
 uncooked_piece [] = (λ e. absurd (false≢true e), λ m. absurd (Memᴰ_not_nil m))
-uncooked_piece (Option.none ∷ ps) = (λ e. Memᴰ_head refl, λ m. refl)
-uncooked_piece (Option.some x ∷ ps) =
+uncooked_piece (None ∷ ps) = (λ e. Memᴰ_head refl, λ m. refl)
+uncooked_piece (Some x ∷ ps) =
     (λ e. Memᴰ_tail ((uncooked_piece ps).0 e), λ m. ⊎_elim (λ e. absurd (none-ne-some x e)) (λ i. (uncooked_piece ps).1 i) (Memᴰ_cases_cons m))
 
-uncooked_shape : (s : Shape) → is_uncooked s ≡ true → (ps : Pieces) × (s ≡ pieces ps) × Memᴰ Option.none ps
+uncooked_shape : (s : Shape) → is_uncooked s ≡ true → (ps : Pieces) × (s ≡ pieces ps) × Memᴰ None ps
 uncooked_shape (text x) e = absurd (false≢true e)
 uncooked_shape (named x) e = absurd (false≢true e)
 uncooked_shape (pieces ps) e = (ps, refl, (uncooked_piece ps).0 e)
@@ -236,10 +237,10 @@ both_true true b e = (refl, e)
 both_true false b e = absurd (false≢true e)
 
 abbrev of_visit : Option Visit → Bool
-of_visit Option.none = false
-of_visit (Option.some v) = refused v
+of_visit None = false
+of_visit (Some v) = refused v
 
-meets_nine : (m : Node) (v : Visit) → own_visit m ≡ Option.some v → refused v ≡ true → MeetsNine m
+meets_nine : (m : Node) (v : Visit) → own_visit m ≡ Some v → refused v ≡ true → MeetsNine m
 meets_nine m v o r = go m (rw o r)
   where
     go : (m : Node) → of_visit (own_visit m) ≡ true → MeetsNine m
@@ -260,7 +261,7 @@ meets_nine m v o r = go m (rw o r)
     go (import_require sp type_only export x) e = absurd (false≢true e)
     go (module_decl sp x ns) e = absurd (false≢true e)
 
-nine_meets : {m : Node} → MeetsNine m → (v : Visit) × (own_visit m ≡ Option.some v) × (refused v ≡ true)
+nine_meets : {m : Node} → MeetsNine m → (v : Visit) × (own_visit m ≡ Some v) × (refused v ≡ true)
 nine_meets (of_import {sp = sp} {phase = phase} {xs = xs} u) = (called sp (importing phase) xs, refl, uncooked_first_lem u)
 nine_meets (of_require {sp = sp} {e = e} {xs = xs} i u) = (called sp (expression e) xs, refl, rw (i, uncooked_first_lem u, same_refl (ascii "require")))
 

@@ -1,5 +1,6 @@
 -- The search for the group of a side at a position, in rows that ascend.
-use Rattle.laws.proofs.Prelude.{◌≡◌, refl, Bool, true, false, and-eq-true_iff, ◌⊎◌, inl, inr, List, Option, ℕ, zero, suc, ◌+◌, ◌≤◌, ◌<◌, zero-le}
+use Rattle.std.specs.Prelude.{Some, None}
+use Rattle.laws.proofs.Prelude.{◌≡◌, refl, Bool, true, false, and-eq-true_iff, ◌⊎◌, inl, inr, List, ℕ, zero, suc, ◌+◌, ◌≤◌, ◌<◌, zero-le}
 use Rattle.laws.proofs.Prelude.{suc-le-suc, add-zero, zero-add, not-suc-le-zero, le_of_suc-le-suc, arith, eqb, ltb, ltb-true, ltb-false, eqb-true}
 use native.Mathlib.Nat.{add-suc, suc-add, eq-or-lt_of_le}
 use Rattle.wire.proofs.Numbered.{one_number}
@@ -31,7 +32,7 @@ module _ (g : Group) (side : Side) (position : ℕ) where
 
 -- among rows none of which stands there no group is found; else the first that does
 module _ (row : ℕ → Group) (side : Side) (position : ℕ) where
-  none_there : (k n : ℕ) → ((i : ℕ) → i < n → stands_at (row (k + i)) side position ≡ false) → group_at (rows row k n) side position ≡ Option.none
+  none_there : (k n : ℕ) → ((i : ℕ) → i < n → stands_at (row (k + i)) side position ≡ false) → group_at (rows row k n) side position ≡ None
   unfolding rows group_at
   none_there k zero h = refl
   none_there k (suc n) h =
@@ -39,7 +40,7 @@ module _ (row : ℕ → Group) (side : Side) (position : ℕ) where
       rw first (none_there (suc k) n (λ i l. rw (add-suc, ← suc-add) at (h (suc i) (suc-le-suc l))))
 
   first_there : (k n i : ℕ) → i < n → ((j : ℕ) → j < i → stands_at (row (k + j)) side position ≡ false) → stands_at (row (k + i)) side position ≡ true
-      → group_at (rows row k n) side position ≡ Option.some (row (k + i))
+      → group_at (rows row k n) side position ≡ Some (row (k + i))
   unfolding rows group_at
   first_there k zero i l h e = absurd (not-suc-le-zero l)
   first_there k (suc n) zero l h e = rw add-zero (rw (rw add-zero at e))
@@ -55,13 +56,9 @@ pub record Searched (table : List ℕ) (m : ℕ) (side : Side) (position lo hi :
   pub below : (k : ℕ) → k < lo → may_follow (group_in table k) side position ≡ true
   pub above : (k : ℕ) → hi ≤ k → k < m → precedes side position (group_in table k).side (group_in table k).position ≡ true
 
-pub search_all : (table : List ℕ) (m : ℕ) (side : Side) (position : ℕ) → Searched table m side position 0 m
-search_all table m side position =
-    record { order = zero-le; most = omega arith; below = λ k l. absurd (not-suc-le-zero l); above = λ k h l. absurd (omega arith) }
-
 module _ {table : List ℕ} {m : ℕ} {side : Side} {position lo hi : ℕ} (s : Searched table m side position lo hi) where
   -- nothing is left to search
-  pub search_none : hi ≤ lo → group_at (groups_in table m) side position ≡ Option.none
+  pub search_none : hi ≤ lo → group_at (groups_in table m) side position ≡ None
   search_none h = none_there (group_in table) side position 0 m (λ i l. rw zero-add (go i l (ltb i lo) refl))
     where
       go : (i : ℕ) → i < m → (b : Bool) → ltb i lo ≡ b → stands_at (group_in table i) side position ≡ false
@@ -75,7 +72,7 @@ module _ {table : List ℕ} {m : ℕ} {side : Side} {position lo hi : ℕ} (s : 
         in_order (group_in table j).side (group_in table j).position (group_in table k).side (group_in table k).position
         (rw (group_row_lem table m j (omega arith), group_row_lem table m k h) at (asc.rise j k i (rw rows_length h)))
 
-    pub search_found : stands_at (group_in table mid) side position ≡ true → group_at (groups_in table m) side position ≡ Option.some (group_in table mid)
+    pub search_found : stands_at (group_in table mid) side position ≡ true → group_at (groups_in table m) side position ≡ Some (group_in table mid)
     search_found e =
         let (s, p) = stands (group_in table mid) side position e in
         let there : (j : ℕ) → j < mid → may_follow (group_in table j) side position ≡ true = λ j i. rw (s, p) at (rise j mid i l) in

@@ -1,7 +1,8 @@
 -- The rows of a table: how many, which, one more, and parts of them.
-use Rattle.laws.proofs.Prelude.{◌≡◌, refl, ap, ◌∙◌, List, [], ◌∷◌, ◌++◌, Option, ℕ, zero, suc, ◌+◌, ◌-◌, ◌≤◌, ◌<◌, zero-le, suc-le-suc, add-zero, zero-add}
+use Rattle.laws.specs.Last.{last_of}
+use Rattle.std.specs.Prelude.{Some}
+use Rattle.laws.proofs.Prelude.{◌≡◌, refl, ap, List, [], ◌∷◌, ◌++◌, ℕ, zero, suc, ◌+◌, ◌-◌, ◌≤◌, ◌<◌, zero-le, suc-le-suc, add-zero, zero-add}
 use Rattle.laws.proofs.Prelude.{not-suc-le-zero, le_of_suc-le-suc, add-one, arith, length, get_or, take, drop}
-use mathlib.Core.List.{get_last?}
 use native.Mathlib.Nat.{add-suc, suc-add}
 use Rattle.sheet.specs.code.Tables.{rows, comment_in, comments_in, group_in, groups_in}
 use Rattle.sheet.specs.Fit.{no_comment, comment_of, no_group, group_of}
@@ -34,12 +35,12 @@ module _ {A : Type 0} where
   rows_more row k (suc n) = ap (row k ∷◌) (rw (add-suc, ← suc-add) (rows_more row (suc k) n))
 
   -- the last row
-  last : (row : ℕ → A) (k n : ℕ) → get_last? (rows row k (suc n)) ≡ Option.some (row (k + n))
+  last : (row : ℕ → A) (k n : ℕ) → last_of (rows row k (suc n)) ≡ Some (row (k + n))
   unfolding rows
   last row k zero = rw add-zero
   last row k (suc n) = rw (add-suc, ← suc-add) (last row (suc k) n)
 
-  pub rows_last : (row : ℕ → A) (k n : ℕ) → 0 < n → get_last? (rows row k n) ≡ Option.some (row (k + (n - 1)))
+  pub rows_last : (row : ℕ → A) (k n : ℕ) → 0 < n → last_of (rows row k n) ≡ Some (row (k + (n - 1)))
   rows_last row k zero h = absurd (not-suc-le-zero h)
   rows_last row k (suc n) h = let e : suc n - 1 ≡ n = omega arith in rw e (last row k n)
 
@@ -57,22 +58,11 @@ module _ {A : Type 0} where
   rows_part row k (suc n) (suc i) m h = rw (add-suc, ← suc-add) (rows_part row (suc k) n i m (omega arith))
 
 module _ {A : Type 0} (row : ℕ → A) where
-  -- the first of some rows, one more at the end, and rows in two parts
+  -- the first of some rows
   pub rows_first : (k n : ℕ) → 0 < n → rows row k n ≡ row k ∷ rows row (k + 1) (n - 1)
   unfolding rows
   rows_first k zero h = absurd (omega arith)
   rows_first k (suc n) h = let down : suc n - 1 ≡ n = omega arith in rw (down, add-one)
-
-  pub rows_end : (n : ℕ) → rows row 0 (n + 1) ≡ rows row 0 n ++ (row n ∷ [])
-  rows_end n = rw (add-one, rows_more row 0 n, zero-add)
-
-  rows_split : (k i m : ℕ) → rows row k (i + m) ≡ rows row k i ++ rows row (k + i) m
-  unfolding rows
-  rows_split k zero m = rw (zero-add, add-zero)
-  rows_split k (suc i) m = rw (suc-add, add-suc, ← suc-add) (ap (row k ∷◌) (rows_split (suc k) i m))
-
-  pub rows_two : (i n : ℕ) → i ≤ n → rows row 0 n ≡ rows row 0 i ++ rows row i (n - i)
-  rows_two i n h = let all : n ≡ i + (n - i) = omega arith in ap (rows row 0) all ∙ rw (rows_split 0 i (n - i), zero-add)
 
 -- the comments and the groups of a table by their index
 pub comment_row_lem : (table : List ℕ) (n k : ℕ) → k < n → comment_of (comments_in table n) k ≡ comment_in table k

@@ -1,4 +1,5 @@
 -- The spans that a visit reports are among those of its tree.
+use Rattle.std.specs.Prelude.{Some, None}
 use Rattle.laws.proofs.Prelude.{List, [], ◌∷◌, ◌++◌, Option, ℕ}
 use Rattle.laws.{specs.Codec.All, specs.Codec.IfThere, proofs.Lists.all_append, proofs.Lists.all_parts}
 use Rattle.sheet.specs.{declared.fields.Span.Span, Strings.string_held}
@@ -40,8 +41,8 @@ module _ (P : Span → Type 0) where
   first_reported (argument dots sp n xs) h = h.0
 
   held_reported : (x : Option Quoted) → All P (string_held x) → IfThere (λ (q : Quoted). P q.span) x
-  held_reported Option.none h = tt
-  held_reported (Option.some x) h = h.0
+  held_reported None h = tt
+  held_reported (Some x) h = h.0
 
   called_reported : (sp : Span) (e : Callee) (xs : Arguments) (ns : Nodes) → All P (spans_of xs) → Each (walk_of visiting xs) → Each (walk_all visiting ns)
       → Each (walk_of visiting xs ++ (walk_all visiting ns ++ (called sp e xs ∷ [])))

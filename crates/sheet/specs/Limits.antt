@@ -45,10 +45,6 @@ comment_numbers = 3 * comment_limit
 abbrev pub group_numbers : ℕ
 group_numbers = 4 * group_limit
 
--- of attributes, five for each
-abbrev pub pair_numbers : ℕ
-pair_numbers = 5 * property_limit
-
 -- in the index of the source, two for each 64 bytes and two for what is left
 abbrev pub index_numbers : ℕ
 index_numbers = 2 * (source_limit / 64 + 1)

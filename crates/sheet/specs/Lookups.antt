@@ -1,7 +1,7 @@
 -- The groups and the comments that the readings ask for.
-use Rattle.std.specs.Prelude.{Bool, cond, ◌&&◌, ℕ, ◌+◌, ◌-◌, ◌≤◌, eqb, length, take, drop}
-use mathlib.Core.List.{List, [], ◌∷◌, get_last?}
-use Rattle.std.proofs.Math.Option.{Option}
+use Rattle.std.specs.Prelude.{Bool, cond, ◌&&◌, ℕ, ◌+◌, ◌-◌, ◌≤◌, eqb, length, take, drop, None, Option, Some}
+use Rattle.laws.specs.Last.{last_of}
+use mathlib.Core.List.{List, [], ◌∷◌}
 use Rattle.sheet.specs.declared.fields.Span.{Span}
 use Rattle.sheet.specs.declared.comments.Comment.{Comment}
 use Rattle.sheet.specs.declared.groups.Group.{Group}
@@ -16,8 +16,8 @@ stands_at g side position = eqb (side_number g.side) (side_number side) && eqb g
 
 -- the group of a side at a position
 unfoldable pub group_at : List Group → Side → ℕ → Option Group
-group_at [] side position = Option.none
-group_at (g ∷ gs) side position = cond (stands_at g side position) (Option.some g) (group_at gs side position)
+group_at [] side position = None
+group_at (g ∷ gs) side position = cond (stands_at g side position) (Some g) (group_at gs side position)
 
 -- the trailing group at the program's end
 abbrev pub end_group : Program → List Group → Option Group
@@ -25,8 +25,8 @@ end_group p gs = group_at gs Trailing p.span.end
 
 -- by the first item's start, if there is one
 abbrev pub head_by : Program → List Group → Option ℕ → Option Group
-head_by p gs (Option.some item) = group_at gs Leading item
-head_by p gs Option.none = cond p.shebang (end_group p gs) (group_at gs Leading p.span.start)
+head_by p gs (Some item) = group_at gs Leading item
+head_by p gs None = cond p.shebang (end_group p gs) (group_at gs Leading p.span.start)
 
 -- the head group: the leading group at the first item; with no item, the trailing group at the program's end if there is a shebang, else the leading
 -- group at its start
@@ -38,7 +38,7 @@ abbrev pub comments_of : List Comment → Group → List Comment
 comments_of cs g = take g.count (drop g.first cs)
 
 abbrev pub last_comment_of : List Comment → Group → Option Comment
-last_comment_of cs g = get_last? (comments_of cs g)
+last_comment_of cs g = last_of (comments_of cs g)
 
 -- the comment is no shorter than its marks
 abbrev pub HoldsMarks : Comment → Type 0

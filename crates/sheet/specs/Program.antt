@@ -1,17 +1,14 @@
 -- The program of a sheet.
-use Rattle.std.specs.Prelude.{Bool, List, ℕ}
-use Rattle.std.proofs.Math.Option.{Option}
+use Rattle.std.specs.Prelude.{List, ℕ}
 use Rattle.laws.specs.Decoded.{Decoder, ◌>>=◌, return}
 use Rattle.wire.specs.Fields.{flag}
 use Rattle.wire.specs.Optional.{optional}
-use Rattle.sheet.specs.declared.fields.Span.{Span}
+use Rattle.sheet.specs.declared.program.Program as declared
 use Rattle.sheet.specs.Fields.{position, span}
 
-pub record Program : Type 0 where
-  pub script : Bool
-  pub span : Span
-  pub shebang : Bool
-  pub first : Option ℕ  -- where the first item starts, if there is one
+-- whether it is a script, its span, whether there is a shebang, and where the first item starts, if there is one
+abbrev pub Program : Type 0
+Program = declared.Program
 
 unfoldable pub program : List ℕ → Decoder Program
 program source = do

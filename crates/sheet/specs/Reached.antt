@@ -1,7 +1,6 @@
 -- Which nodes the walk reaches, without a walk: children in sheet order, an Object of 10 last, and nothing inside 7, 8, 9 and 11; and refusal 9 over them.
-use Rattle.std.specs.Prelude.{◌≡◌, Bool, true, false, cond}
+use Rattle.std.specs.Prelude.{◌≡◌, Bool, true, false, cond, None, Option, Some}
 use mathlib.Core.List.{List, [], ◌∷◌, ◌++◌, Memᴰ}
-use Rattle.std.proofs.Math.Option.{Option}
 use Rattle.laws.specs.Ascii.{ascii}
 use Rattle.sheet.specs.declared.fields.Span.{Span}
 use Rattle.sheet.specs.declared.names.ImportPhase.{ImportPhase}
@@ -58,22 +57,22 @@ pub data Walked (root : Node) : Node → Type 0 where
 
 -- what a node gives of its own
 abbrev pub own_visit : Node → Option Visit
-own_visit (other sp ns) = Option.none
-own_visit (string sp x) = Option.none
-own_visit (name sp x) = Option.none
-own_visit (template sp ps ns) = Option.none
-own_visit (binary sp plus l r) = Option.none
-own_visit (object sp ps) = Option.none
-own_visit (import_call sp phase xs ns) = Option.some (called sp (importing phase) xs)
-own_visit (call sp e xs ns) = Option.some (called sp (expression e) xs)
-own_visit (import_decl sp type_only phase side_effect x a) = Option.some (imported sp type_only phase side_effect x a)
-own_visit (named_export sp type_only) = Option.none
-own_visit (export_from sp type_only x a) = Option.some (exported sp type_only x a)
-own_visit (export_all sp type_only x a) = Option.some (exported sp type_only x a)
-own_visit (import_type sp x ns a) = Option.some (typed sp x a)
-own_visit (import_equals sp) = Option.none
-own_visit (import_require sp type_only export x) = Option.some (required sp type_only export x)
-own_visit (module_decl sp x ns) = Option.some (declared sp x)
+own_visit (other sp ns) = None
+own_visit (string sp x) = None
+own_visit (name sp x) = None
+own_visit (template sp ps ns) = None
+own_visit (binary sp plus l r) = None
+own_visit (object sp ps) = None
+own_visit (import_call sp phase xs ns) = Some (called sp (importing phase) xs)
+own_visit (call sp e xs ns) = Some (called sp (expression e) xs)
+own_visit (import_decl sp type_only phase side_effect x a) = Some (imported sp type_only phase side_effect x a)
+own_visit (named_export sp type_only) = None
+own_visit (export_from sp type_only x a) = Some (exported sp type_only x a)
+own_visit (export_all sp type_only x a) = Some (exported sp type_only x a)
+own_visit (import_type sp x ns a) = Some (typed sp x a)
+own_visit (import_equals sp) = None
+own_visit (import_require sp type_only export x) = Some (required sp type_only export x)
+own_visit (module_decl sp x ns) = Some (declared sp x)
 
 -- a call is visited behind its children, any other node before them
 abbrev pub is_call : Visit → Bool
@@ -85,12 +84,12 @@ is_call (required sp type_only export x) = false
 is_call (declared sp x) = false
 
 abbrev pub placed : Option Visit → List Visit → List Visit
-placed Option.none l = l
-placed (Option.some v) l = cond (is_call v) (l ++ v ∷ []) (v ∷ l)
+placed None l = l
+placed (Some v) l = cond (is_call v) (l ++ v ∷ []) (v ∷ l)
 
 -- the first of the arguments is a template with an uncooked piece
 pub data UncookedFirst : Arguments → Type 0 where
-  uncooked_first : {dots : Bool} {at : Span} {n : Node} {xs : Arguments} (ps : Pieces) → shape n ≡ pieces ps → Memᴰ Option.none ps
+  uncooked_first : {dots : Bool} {at : Span} {n : Node} {xs : Arguments} (ps : Pieces) → shape n ≡ pieces ps → Memᴰ None ps
       → UncookedFirst (argument dots at n xs)
 
 -- a call meets refusal 9: an import of any phase, or one whose expression is the Name `require`

@@ -1,6 +1,5 @@
 -- The positions that a sheet records: those of its comments, groups and program, and every start and end in its tree.
-use Rattle.std.specs.Prelude.{List, [], ◌∷◌, ◌++◌, map, ℕ}
-use Rattle.std.proofs.Math.Option.{Option}
+use Rattle.std.specs.Prelude.{List, [], ◌∷◌, ◌++◌, map, ℕ, None, Option, Some}
 use Rattle.sheet.specs.declared.fields.Span.{Span}
 use Rattle.sheet.specs.Tree.{Node, other, string, name, template, binary, object, import_call, call, import_decl, named_export, export_from}
 use Rattle.sheet.specs.Tree.{export_all, import_type, import_equals, import_require, module_decl, Nodes, none, more, Arguments, no_arguments}
@@ -57,8 +56,8 @@ starts_and_ends (sp ∷ sps) = sp.start ∷ sp.end ∷ starts_and_ends sps
 
 -- the start of the first item, if there is one
 abbrev pub first_item : Option ℕ → List ℕ
-first_item Option.none = []
-first_item (Option.some at) = at ∷ []
+first_item None = []
+first_item (Some at) = at ∷ []
 
 abbrev pub of_program : Program → List ℕ
 of_program p = p.span.start ∷ p.span.end ∷ first_item p.first

@@ -1,6 +1,5 @@
 -- Two sheets that differ only in the body of one comment.
-use Rattle.std.specs.Prelude.{◌≡◌, ◌⊎◌, List, ℕ, ◌≤◌, ◌<◌, length, take, drop}
-use Rattle.std.proofs.Math.Option.{Option}
+use Rattle.std.specs.Prelude.{◌≡◌, ◌⊎◌, List, ℕ, ◌≤◌, ◌<◌, length, take, drop, Option}
 use Rattle.laws.specs.Codec.{All, IfThere}
 use Rattle.text.specs.Position.{Units, characters, utf16, position_of}
 use Rattle.sheet.specs.declared.fields.Span.{Span}

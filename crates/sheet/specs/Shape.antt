@@ -1,6 +1,5 @@
 -- What an expression or a text is to the node that holds it.
-use Rattle.std.specs.Prelude.{Bool, true, false, not, ◌||◌, List, [], ◌∷◌, ℕ, eqb}
-use Rattle.std.proofs.Math.Option.{Option}
+use Rattle.std.specs.Prelude.{Bool, true, false, not, ◌||◌, List, [], ◌∷◌, ℕ, eqb, None, Some}
 use Rattle.laws.specs.Ascii.{ascii}
 use Rattle.text.specs.Bytes.{begins, same}
 use Rattle.sheet.specs.Tree.{Pieces, Node, other, string, name, template, binary, object, import_call, call, import_decl, named_export, export_from}
@@ -44,8 +43,8 @@ is_require anything = false
 
 abbrev pub any_uncooked : Pieces → Bool
 any_uncooked [] = false
-any_uncooked (Option.none ∷ ps) = true
-any_uncooked (Option.some x ∷ ps) = any_uncooked ps
+any_uncooked (None ∷ ps) = true
+any_uncooked (Some x ∷ ps) = any_uncooked ps
 
 -- a template with an uncooked piece
 abbrev pub is_uncooked : Shape → Bool

@@ -1,6 +1,5 @@
 -- The Strings of a tree, in sheet order: the nodes of tag 1, and those that nodes of tags 7 to 12 hold, walked or not.
-use Rattle.std.specs.Prelude.{List, [], ◌∷◌, ◌++◌}
-use Rattle.std.proofs.Math.Option.{Option}
+use Rattle.std.specs.Prelude.{List, [], ◌∷◌, ◌++◌, None, Option, Some}
 use Rattle.sheet.specs.declared.fields.Span.{Span}
 use Rattle.sheet.specs.Tree.{Quoted, Node, other, string, name, template, binary, object, import_call, call, import_decl, named_export, export_from}
 use Rattle.sheet.specs.Tree.{export_all, import_type, import_equals, import_require, module_decl, Nodes, none, more, Arguments, no_arguments}
@@ -8,8 +7,8 @@ use Rattle.sheet.specs.Tree.{argument, Properties, no_properties, spread, other_
 use Rattle.sheet.specs.Tree.{with_object}
 
 abbrev pub string_held : Option Quoted → List Span
-string_held Option.none = []
-string_held (Option.some x) = x.span ∷ []
+string_held None = []
+string_held (Some x) = x.span ∷ []
 
 abbrev mutual
   -- their spans

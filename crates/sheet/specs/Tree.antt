@@ -1,6 +1,5 @@
 -- The syntax tree of a sheet, as document 01 lists its nodes. What the parser found beyond it is flattened into children.
-use Rattle.std.specs.Prelude.{Bool, List, ℕ}
-use Rattle.std.proofs.Math.Option.{Option}
+use Rattle.std.specs.Prelude.{Bool, List, ℕ, Option}
 use Rattle.sheet.specs.declared.fields.Span.{Span}
 use Rattle.sheet.specs.declared.names.ImportPhase.{ImportPhase}
 

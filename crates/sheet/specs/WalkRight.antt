@@ -1,7 +1,6 @@
 -- Which visits there are and in what order, without a walk.
-use Rattle.std.specs.Prelude.{◌≡◌}
+use Rattle.std.specs.Prelude.{◌≡◌, Some}
 use mathlib.Core.List.{List, [], ◌∷◌, ◌++◌, Memᴰ}
-use Rattle.std.proofs.Math.Option.{Option}
 use Rattle.sheet.specs.Tree.{Node}
 use Rattle.sheet.specs.Walk.{Visit}
 use Rattle.sheet.specs.Reached.{children, Walked, own_visit, placed}
@@ -21,11 +20,11 @@ pub record StandsAmong (vs : List Visit) (n : Node) (v : Visit) : Type 0 where
   pub before : List Visit
   pub inside : List Visit
   pub behind : List Visit
-  pub among : vs ≡ before ++ (placed (Option.some v) inside ++ behind)
+  pub among : vs ≡ before ++ (placed (Some v) inside ++ behind)
   pub within : AllVisited (children n) inside
 
 -- the visits under a root: in order, each that of a walked node, and each walked node that has one has it there
 pub record WalkRight (root : Node) (vs : List Visit) : Type 0 where
   pub in_order : Visited root vs
-  pub of_walked : (v : Visit) → Memᴰ v vs → (n : Node) × Walked root n × (own_visit n ≡ Option.some v)
-  pub of_each : (n : Node) → Walked root n → (v : Visit) → own_visit n ≡ Option.some v → StandsAmong vs n v
+  pub of_walked : (v : Visit) → Memᴰ v vs → (n : Node) × Walked root n × (own_visit n ≡ Some v)
+  pub of_each : (n : Node) → Walked root n → (v : Visit) → own_visit n ≡ Some v → StandsAmong vs n v

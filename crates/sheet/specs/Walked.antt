@@ -1,6 +1,5 @@
 -- What the walk over the tree finds: how many dependencies it lists, and whether a call meets refusal 9.
-use Rattle.std.specs.Prelude.{Bool, true, false, ◌&&◌, ◌||◌, ℕ, ◌+◌}
-use Rattle.std.proofs.Math.Option.{Option}
+use Rattle.std.specs.Prelude.{Bool, true, false, ◌&&◌, ◌||◌, ℕ, ◌+◌, None, Option, Some}
 use Rattle.text.specs.Truth.{one}
 use Rattle.sheet.specs.Tree.{Quoted, Node, Arguments, no_arguments, argument}
 use Rattle.sheet.specs.Shape.{shape, is_require, is_uncooked, is_augmentation}
@@ -23,8 +22,8 @@ listed (expression e) = is_require (shape e)
 
 -- a module declaration with such a name gives an entry
 abbrev pub declares : Option Quoted → Bool
-declares Option.none = false
-declares (Option.some q) = is_augmentation q.text
+declares None = false
+declares (Some q) = is_augmentation q.text
 
 -- a visit gives an entry
 abbrev pub gives : Visit → Bool

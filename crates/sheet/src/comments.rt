@@ -2,14 +2,16 @@
 ghost use Rattle.std.specs.Prelude.{◌≡◌, ◌+◌, ◌*◌, ◌≤◌, ◌<◌, length, drop};
 ghost use Rattle.std.proofs.lemmas.List.Edits.{sets};
 ghost use Rattle.laws.specs.code.Left.{KeptFrom};
-ghost use Rattle.laws.specs.code.Told.{Leaving};
+ghost use Rattle.laws.specs.code.Told.{Leaving, Told};
+ghost use Rattle.wire.specs.code.Views.{read_as, Past};
 ghost use Rattle.sheet.specs.Comments.{enclosed, marked, comment, comments};
 ghost use Rattle.sheet.specs.code.Tables.{comment_row, comment_in};
-ghost use Rattle.sheet.specs.code.Views.{comment_as, comments_as};
+ghost use Rattle.sheet.specs.code.Views.{comments_as};
 
 use super::fields::{Span, read_end, read_position};
 use super::names::{CommentKind, comment_kind, kind_number};
-use wire::{Cursor, Read, refusals};
+use wire::refusals::Refusal;
+use wire::{Cursor, Reading};
 
 // A comment: its kind, and its span with the marks.
 #[derive(Clone, Copy)]
@@ -18,34 +20,18 @@ pub struct Comment {
     pub span: Span,
 }
 
-// A comment with the cursor past it, or a refusal's number.
-#[derive(Clone, Copy)]
-pub enum CommentRead {
-    Is(Comment, Cursor),
-    Refused(usize),
-}
-
-// A table is filled, and the cursor is past what it holds; or a refusal's number.
-#[derive(Clone, Copy)]
-pub enum Filled {
-    To(Cursor),
-    Refused(usize),
-}
-
 // Does the text begin with one mark and end with the other, and is it no shorter than the two?
+#[tactic(auto, unfolding(crate::specs::Comments::enclosed))]
 fn is_enclosed(text: &[u8], front: &[u8], back: &[u8]) -> bool
     ensures { result ≡ enclosed front.now back.now text.now }
 {
-    if text.len() < front.len() + back.len() {
-        return false;
-    }
-    if text::bytes::starts_with(text, 0, front) {
-        return text::bytes::starts_with(text, text.len() - back.len(), back);
-    }
-    false
+    front.len() + back.len() <= text.len()
+        && text::bytes::starts_with(text, 0, front)
+        && text::bytes::starts_with(text, text.len() - back.len(), back)
 }
 
 // Has the text the marks of its kind?
+#[tactic(auto, unfolding(crate::specs::Comments::marked))]
 fn is_marked(text: &[u8], kind: CommentKind) -> bool
     ensures { result ≡ marked kind text.now }
 {
@@ -58,31 +44,24 @@ fn is_marked(text: &[u8], kind: CommentKind) -> bool
 }
 
 // A comment that starts no earlier than `last`, the end of the one before.
-fn read_comment(sheet: &[u8], source: &[u8], c: Cursor, last: usize) -> CommentRead
-    ensures { comment_as sheet.now result ≡ comment source.now last (drop c.at sheet.now) }
+#[tactic(auto, unfolding(crate::specs::Comments::comment, wire::specs::Fields::numbered))]
+fn read_comment(sheet: &[u8], source: &[u8], c: Cursor, last: usize) -> Reading<Comment>
+    ensures { Told (read_as sheet.now)
+        (comment source.now last (drop c.at sheet.now))
+        (Past c.at (length sheet.now)) result }
 {
-    match c.below(sheet, 4) {
-        Read::Refused(r) => CommentRead::Refused(r),
-        Read::Value(kind, next) => match read_position(sheet, source, next) {
-            Read::Refused(r) => CommentRead::Refused(r),
-            Read::Value(start, next) => {
-                if start < last {
-                    return CommentRead::Refused(refusals::COMMENTS);
-                }
-                match read_end(sheet, source, next, start) {
-                    Read::Refused(r) => CommentRead::Refused(r),
-                    Read::Value(end, next) => {
-                        let kind = comment_kind(kind);
-                        if is_marked(&source[start..end], kind) {
-                            let span = Span { start, end };
-                            CommentRead::Is(Comment { kind, span }, next)
-                        } else {
-                            CommentRead::Refused(refusals::COMMENTS)
-                        }
-                    }
-                }
-            }
-        },
+    let (kind, next) = c.below(sheet, 4)?;
+    let (start, next) = read_position(sheet, source, next)?;
+    if start < last {
+        return Err(Refusal::Comments);
+    }
+    let (end, next) = read_end(sheet, source, next, start)?;
+    let kind = comment_kind(kind);
+    if is_marked(&source[start..end], kind) {
+        let span = Span { start, end };
+        Ok((Comment { kind, span }, next))
+    } else {
+        Err(Refusal::Comments)
     }
 }
 
@@ -93,8 +72,7 @@ fn put_comment(table: &mut [u32], k: usize, c: Comment)
     ensures { table.new ≡ sets table.old (3 * k) (comment_row c) }
 {
     let at = 3 * k;
-    let kind = c.kind;
-    table[at] = kind_number(kind);
+    table[at] = kind_number(c.kind);
     table[at + 1] = c.span.start as u32;
     table[at + 2] = c.span.end as u32;
 }
@@ -113,7 +91,13 @@ pub fn comment_at(table: &[u32], k: usize) -> Comment
 }
 
 // Reads n comments into the first n rows of a table, which a refusal leaves free. Behind these nothing is changed.
-pub fn read_comments(sheet: &[u8], source: &[u8], c: Cursor, n: usize, table: &mut [u32]) -> Filled
+pub fn read_comments(
+    sheet: &[u8],
+    source: &[u8],
+    c: Cursor,
+    n: usize,
+    table: &mut [u32],
+) -> Result<Cursor, Refusal>
     requires { 3 * n ≤ length table.old }
     ensures { Leaving
         (comments_as sheet.now table.new n result ≡ comments source.now 0 n (drop c.at sheet.now))
@@ -121,19 +105,11 @@ pub fn read_comments(sheet: &[u8], source: &[u8], c: Cursor, n: usize, table: &m
 {
     let mut next = c;
     let mut last = 0;
-    let mut k = 0;
-    while k < n {
-        match read_comment(sheet, source, next, last) {
-            CommentRead::Refused(r) => {
-                return Filled::Refused(r);
-            }
-            CommentRead::Is(found, after) => {
-                put_comment(table, k, found);
-                last = found.span.end;
-                next = after;
-                k += 1;
-            }
-        }
+    for k in 0..n {
+        let (found, after) = read_comment(sheet, source, next, last)?;
+        put_comment(table, k, found);
+        last = found.span.end;
+        next = after;
     }
-    Filled::To(next)
+    Ok(next)
 }

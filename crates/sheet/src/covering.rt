@@ -11,11 +11,7 @@ fn clear(longest: &mut [u32], n: usize)
     requires { n ≤ length longest.old }
     ensures { longest.new ≡ replicate n 0 ++ drop n longest.old }
 {
-    let mut i = 0;
-    while i < n {
-        longest[i] = 0;
-        i += 1;
-    }
+    longest[..n].fill(0);
 }
 
 // Keeps the count at a place among the first n, unless a larger one stands there.
@@ -23,10 +19,8 @@ fn raise(longest: &mut [u32], n: usize, at: usize, count: u32)
     requires { n ≤ length longest.old }
     ensures { (i : ℕ) → i < n → get_or longest.new i 0 ≡ max (get_or longest.old i 0) (cond (eqb at i) count 0) }
 {
-    if at < n {
-        if longest[at] < count {
-            longest[at] = count;
-        }
+    if at < n && longest[at] < count {
+        longest[at] = count;
     }
 }
 
@@ -37,17 +31,9 @@ fn keep_longest(table: &[u32], m: usize, longest: &mut [u32], n: usize)
     ensures { (i : ℕ) → i < n → get_or longest.new i 0
         ≡ max (get_or longest.old i 0) (longest_at (groups_in table.now m) i) }
 {
-    let mut k = 0;
-    while k < m {
+    for k in 0..m {
         raise(longest, n, table[4 * k + 2] as usize, table[4 * k + 3]);
-        k += 1;
     }
-}
-
-fn larger(a: usize, b: usize) -> usize
-    ensures { result ≡ max a b }
-{
-    if a < b { b } else { a }
 }
 
 // Is each of the first n comments in one of the m groups? `longest` is lent to work in, and left free.
@@ -60,13 +46,11 @@ pub fn is_covered(table: &[u32], m: usize, n: usize, longest: &mut [u32]) -> boo
     clear(longest, n);
     keep_longest(table, m, longest, n);
     let mut far = 0;
-    let mut i = 0;
-    while i < n {
-        far = larger(far, i + longest[i] as usize);
+    for i in 0..n {
+        far = far.max(i + longest[i] as usize);
         if far <= i {
             return false;
         }
-        i += 1;
     }
     true
 }

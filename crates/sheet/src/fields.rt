@@ -4,10 +4,10 @@ ghost use Rattle.laws.specs.code.Told.{Told};
 ghost use Rattle.text.specs.Position.{is_boundary};
 ghost use Rattle.wire.specs.code.Views.{read_as, Past};
 ghost use Rattle.sheet.specs.Fields.{position, end_from, span};
-ghost use Rattle.sheet.specs.code.Views.{span_as, PastSpan};
 
 use text::position::goes_on;
-use wire::{Cursor, Read, refusals};
+use wire::refusals::Refusal;
+use wire::{Cursor, Reading};
 
 // Where something stands in the source: from the start up to the end.
 #[derive(Clone, Copy)]
@@ -16,68 +16,50 @@ pub struct Span {
     pub end: usize,
 }
 
-// A span with the cursor past it, or a refusal's number.
-#[derive(Clone, Copy)]
-pub enum SpanRead {
-    Is(Span, Cursor),
-    Refused(usize),
-}
-
 // Is the place neither past the source nor inside a character?
+#[tactic(auto, unfolding(text::specs::Position::is_boundary))]
 fn is_boundary(source: &[u8], p: usize) -> bool
     ensures { result ≡ is_boundary source.now p }
 {
-    if p < source.len() {
-        return !goes_on(source[p]);
-    }
-    p == source.len()
+    source.get(p).map_or(p == source.len(), |b| !goes_on(*b))
 }
 
-pub fn read_position(sheet: &[u8], source: &[u8], c: Cursor) -> Read
+#[tactic(auto, unfolding(crate::specs::Fields::position))]
+pub fn read_position(sheet: &[u8], source: &[u8], c: Cursor) -> Reading<usize>
     ensures { Told (read_as sheet.now)
         (position source.now (drop c.at sheet.now))
         (Past c.at (length sheet.now)) result }
 {
-    match c.number(sheet) {
-        Read::Refused(r) => Read::Refused(r),
-        Read::Value(p, next) => {
-            if is_boundary(source, p) {
-                Read::Value(p, next)
-            } else {
-                Read::Refused(refusals::POSITION)
-            }
-        }
+    let (p, next) = c.number(sheet)?;
+    if is_boundary(source, p) {
+        Ok((p, next))
+    } else {
+        Err(Refusal::Position)
     }
 }
 
 // A position that does not precede `start`.
-pub fn read_end(sheet: &[u8], source: &[u8], c: Cursor, start: usize) -> Read
+#[tactic(auto, unfolding(crate::specs::Fields::end_from))]
+pub fn read_end(sheet: &[u8], source: &[u8], c: Cursor, start: usize) -> Reading<usize>
     ensures { Told (read_as sheet.now)
         (end_from source.now start (drop c.at sheet.now))
         (Past c.at (length sheet.now)) result }
 {
-    match read_position(sheet, source, c) {
-        Read::Refused(r) => Read::Refused(r),
-        Read::Value(end, next) => {
-            if start <= end {
-                Read::Value(end, next)
-            } else {
-                Read::Refused(refusals::POSITION)
-            }
-        }
+    let (end, next) = read_position(sheet, source, c)?;
+    if start <= end {
+        Ok((end, next))
+    } else {
+        Err(Refusal::Position)
     }
 }
 
-pub fn read_span(sheet: &[u8], source: &[u8], c: Cursor) -> SpanRead
-    ensures { Told (span_as sheet.now)
+#[tactic(auto, unfolding(crate::specs::Fields::span))]
+pub fn read_span(sheet: &[u8], source: &[u8], c: Cursor) -> Reading<Span>
+    ensures { Told (read_as sheet.now)
         (span source.now (drop c.at sheet.now))
-        (PastSpan c.at (length sheet.now)) result }
+        (Past c.at (length sheet.now)) result }
 {
-    match read_position(sheet, source, c) {
-        Read::Refused(r) => SpanRead::Refused(r),
-        Read::Value(start, next) => match read_end(sheet, source, next, start) {
-            Read::Refused(r) => SpanRead::Refused(r),
-            Read::Value(end, next) => SpanRead::Is(Span { start, end }, next),
-        },
-    }
+    let (start, next) = read_position(sheet, source, c)?;
+    let (end, next) = read_end(sheet, source, next, start)?;
+    Ok((Span { start, end }, next))
 }

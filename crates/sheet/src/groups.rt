@@ -2,15 +2,16 @@
 ghost use Rattle.std.specs.Prelude.{◌≡◌, ◌&&◌, ◌+◌, ◌*◌, ◌≤◌, ◌<◌, leb, ltb, length, drop};
 ghost use Rattle.std.proofs.lemmas.List.Edits.{sets};
 ghost use Rattle.laws.specs.code.Left.{KeptFrom};
-ghost use Rattle.laws.specs.code.Told.{Leaving};
+ghost use Rattle.laws.specs.code.Told.{Leaving, Told};
+ghost use Rattle.wire.specs.code.Views.{read_as, Past};
 ghost use Rattle.sheet.specs.Comments.{precedes, anywhere, group, groups};
 ghost use Rattle.sheet.specs.code.Tables.{group_row, group_in};
-ghost use Rattle.sheet.specs.code.Views.{after_as, group_as, groups_as};
+ghost use Rattle.sheet.specs.code.Views.{after_as, groups_as};
 
-use super::comments::Filled;
 use super::fields::read_position;
 use super::names::{Side, side_number, side_of};
-use wire::{Cursor, Read, refusals};
+use wire::refusals::Refusal;
+use wire::{Cursor, Reading};
 
 // A group of comments on a side of a position; the index of its first comment, and their number.
 #[derive(Clone, Copy)]
@@ -21,42 +22,20 @@ pub struct Group {
     pub count: usize,
 }
 
-// A group with the cursor past it, or a refusal's number.
-#[derive(Clone, Copy)]
-pub enum GroupRead {
-    Is(Group, Cursor),
-    Refused(usize),
-}
-
-// The side and the position of the group before, if there is one.
-#[derive(Clone, Copy)]
-pub enum Before {
-    At(Side, usize),
-    Nothing,
-}
-
 // Does one side and position come before another: by side, then by position?
 pub fn precedes(side: Side, position: usize, side2: Side, position2: usize) -> bool
     ensures { result ≡ precedes side position side2 position2 }
 {
-    let a = side_number(side);
-    let b = side_number(side2);
-    if a < b {
-        return true;
-    }
-    if a == b {
-        return position < position2;
-    }
-    false
+    (side, position) < (side2, position2)
 }
 
-// May a group of this side and position come next?
-fn may_follow(before: Before, side: Side, position: usize) -> bool
+// May a group of this side and position come next, behind one of that side and position, if there is one?
+fn may_follow(before: Option<(Side, usize)>, side: Side, position: usize) -> bool
     ensures { result ≡ after_as before side position }
 {
     match before {
-        Before::At(side1, position1) => precedes(side1, position1, side, position),
-        Before::Nothing => true,
+        Some((side1, position1)) => precedes(side1, position1, side, position),
+        None => true,
     }
 }
 
@@ -69,43 +48,36 @@ fn reaches(first: usize, count: usize, total: usize) -> bool
 }
 
 // A group of comments among `total`, behind another or the first.
-fn read_group(sheet: &[u8], source: &[u8], c: Cursor, total: usize, before: Before) -> GroupRead
-    ensures { group_as sheet.now result ≡ group source.now total (after_as before) (drop c.at sheet.now) }
+#[tactic(auto, unfolding(crate::specs::Comments::group, wire::specs::Fields::numbered))]
+fn read_group(
+    sheet: &[u8],
+    source: &[u8],
+    c: Cursor,
+    total: usize,
+    before: Option<(Side, usize)>,
+) -> Reading<Group>
+    ensures { Told (read_as sheet.now)
+        (group source.now total (after_as before) (drop c.at sheet.now))
+        (Past c.at (length sheet.now)) result }
 {
-    match c.below(sheet, 2) {
-        Read::Refused(r) => GroupRead::Refused(r),
-        Read::Value(side, next) => match read_position(sheet, source, next) {
-            Read::Refused(r) => GroupRead::Refused(r),
-            Read::Value(position, next) => {
-                let side = side_of(side);
-                if may_follow(before, side, position) {
-                    match next.number(sheet) {
-                        Read::Refused(r) => GroupRead::Refused(r),
-                        Read::Value(first, next) => match next.number(sheet) {
-                            Read::Refused(r) => GroupRead::Refused(r),
-                            Read::Value(count, next) => {
-                                if reaches(first, count, total) {
-                                    GroupRead::Is(
-                                        Group {
-                                            side,
-                                            position,
-                                            first,
-                                            count,
-                                        },
-                                        next,
-                                    )
-                                } else {
-                                    GroupRead::Refused(refusals::COMMENTS)
-                                }
-                            }
-                        },
-                    }
-                } else {
-                    GroupRead::Refused(refusals::COMMENTS)
-                }
-            }
-        },
+    let (side, next) = c.below(sheet, 2)?;
+    let (position, next) = read_position(sheet, source, next)?;
+    let side = side_of(side);
+    if !may_follow(before, side, position) {
+        return Err(Refusal::Comments);
     }
+    let (first, next) = next.number(sheet)?;
+    let (count, next) = next.number(sheet)?;
+    if !reaches(first, count, total) {
+        return Err(Refusal::Comments);
+    }
+    let group = Group {
+        side,
+        position,
+        first,
+        count,
+    };
+    Ok((group, next))
 }
 
 // Stores a group in the kth row of a table.
@@ -115,8 +87,7 @@ fn put_group(table: &mut [u32], k: usize, g: Group)
     ensures { table.new ≡ sets table.old (4 * k) (group_row g) }
 {
     let at = 4 * k;
-    let side = g.side;
-    table[at] = side_number(side);
+    table[at] = side_number(g.side);
     table[at + 1] = g.position as u32;
     table[at + 2] = g.first as u32;
     table[at + 3] = g.count as u32;
@@ -148,28 +119,19 @@ pub fn read_groups(
     total: usize,
     m: usize,
     table: &mut [u32],
-) -> Filled
+) -> Result<Cursor, Refusal>
     requires { 4 * m ≤ length table.old }
     ensures { Leaving
         (groups_as sheet.now table.new m result ≡ groups source.now total anywhere m (drop c.at sheet.now))
         (KeptFrom (4 * m) table.old table.new) }
 {
     let mut next = c;
-    let mut before = Before::Nothing;
-    let mut k = 0;
-    while k < m {
-        match read_group(sheet, source, next, total, before) {
-            GroupRead::Refused(r) => {
-                return Filled::Refused(r);
-            }
-            GroupRead::Is(g, after) => {
-                put_group(table, k, g);
-                let side = g.side;
-                before = Before::At(side, g.position);
-                next = after;
-                k += 1;
-            }
-        }
+    let mut before = None;
+    for k in 0..m {
+        let (g, after) = read_group(sheet, source, next, total, before)?;
+        put_group(table, k, g);
+        before = Some((g.side, g.position));
+        next = after;
     }
-    Filled::To(next)
+    Ok(next)
 }

@@ -33,9 +33,6 @@ pub const COMMENT_NUMBERS: usize = 3 * COMMENT_LIMIT;
 // Of groups, four for each.
 pub const GROUP_NUMBERS: usize = 4 * GROUP_LIMIT;
 
-// Of attributes, five for each.
-pub const PAIR_NUMBERS: usize = 5 * PROPERTY_LIMIT;
-
 // In the index of the source, two for each 64 bytes and two for what is left.
 pub const INDEX_NUMBERS: usize = 2 * (SOURCE_LIMIT / 64 + 1);
 

@@ -1,4 +1,5 @@
 // The enums of a sheet, and the value of each number.
+// No `TryFrom`: a byte above the last number is refused where it is read, by its limit, and a row of a table is read back without a refusal.
 ghost use Rattle.std.specs.Prelude.{◌≡◌};
 ghost use Rattle.wire.specs.Fields.{value_of};
 ghost use Rattle.sheet.specs.Media.{is_java_script, is_jsx};
@@ -42,37 +43,16 @@ pub fn media_type(n: usize) -> MediaType
 pub fn is_javascript(media: MediaType) -> bool
     ensures { result ≡ is_java_script media }
 {
-    match media {
-        MediaType::JavaScript => true,
-        MediaType::Jsx => true,
-        MediaType::Mjs => true,
-        MediaType::Cjs => true,
-        MediaType::TypeScript => false,
-        MediaType::Mts => false,
-        MediaType::Cts => false,
-        MediaType::Dts => false,
-        MediaType::Dmts => false,
-        MediaType::Dcts => false,
-        MediaType::Tsx => false,
-    }
+    matches!(
+        media,
+        MediaType::JavaScript | MediaType::Jsx | MediaType::Mjs | MediaType::Cjs
+    )
 }
 
 pub fn is_jsx(media: MediaType) -> bool
     ensures { result ≡ is_jsx media }
 {
-    match media {
-        MediaType::JavaScript => false,
-        MediaType::Jsx => true,
-        MediaType::Mjs => false,
-        MediaType::Cjs => false,
-        MediaType::TypeScript => false,
-        MediaType::Mts => false,
-        MediaType::Cts => false,
-        MediaType::Dts => false,
-        MediaType::Dmts => false,
-        MediaType::Dcts => false,
-        MediaType::Tsx => true,
-    }
+    matches!(media, MediaType::Jsx | MediaType::Tsx)
 }
 
 // The last two are the HTML-like comments of ECMAScript's Annex B.
@@ -98,27 +78,17 @@ pub fn comment_kind(n: usize) -> CommentKind
 pub fn kind_number(kind: CommentKind) -> u32
     ensures { result ≡ kind_number kind }
 {
-    match kind {
-        CommentKind::Line => 0,
-        CommentKind::Block => 1,
-        CommentKind::HtmlOpen => 2,
-        CommentKind::HtmlClose => 3,
-    }
+    kind as u32
 }
 
 pub fn is_block(kind: CommentKind) -> bool
     ensures { result ≡ is_block kind }
 {
-    match kind {
-        CommentKind::Line => false,
-        CommentKind::Block => true,
-        CommentKind::HtmlOpen => false,
-        CommentKind::HtmlClose => false,
-    }
+    matches!(kind, CommentKind::Block)
 }
 
-// The side of a group at its position.
-#[derive(Clone, Copy)]
+// The side of a group at its position: the leading ones come first.
+#[derive(Clone, Copy, PartialEq, Eq, PartialOrd, Ord)]
 pub enum Side {
     Leading,
     Trailing,
@@ -136,10 +106,7 @@ pub fn side_of(n: usize) -> Side
 pub fn side_number(side: Side) -> u32
     ensures { result ≡ side_number side }
 {
-    match side {
-        Side::Leading => 0,
-        Side::Trailing => 1,
-    }
+    side as u32
 }
 
 #[derive(Clone, Copy)]

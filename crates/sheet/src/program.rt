@@ -1,82 +1,53 @@
 // The program of a sheet.
-ghost use Rattle.std.specs.Prelude.{◌≡◌, drop};
+ghost use Rattle.std.specs.Prelude.{length, drop};
+ghost use Rattle.laws.specs.code.Told.{Told};
 ghost use Rattle.wire.specs.Optional.{optional};
+ghost use Rattle.wire.specs.code.Views.{read_as, Past};
 ghost use Rattle.sheet.specs.Fields.{position};
 ghost use Rattle.sheet.specs.Program.{program};
-ghost use Rattle.sheet.specs.code.Views.{first_as, program_as};
 
-use super::fields::{Span, SpanRead, read_position, read_span};
-use wire::{Cursor, Flag, Read};
-
-// Where the first item starts, if there is one.
-#[derive(Clone, Copy)]
-pub enum FirstItem {
-    At(usize),
-    Nothing,
-}
+use super::fields::{Span, read_position, read_span};
+use wire::{Cursor, Reading};
 
 #[derive(Clone, Copy)]
 pub struct Program {
     pub script: bool,
     pub span: Span,
     pub shebang: bool,
-    pub first: FirstItem,
+    // Where the first item starts, if there is one.
+    pub first: Option<usize>,
 }
 
-// The first item's start with the cursor past it, or a refusal's number.
-#[derive(Clone, Copy)]
-pub enum FirstRead {
-    Is(FirstItem, Cursor),
-    Refused(usize),
-}
-
-// A program with the cursor past it, or a refusal's number.
-#[derive(Clone, Copy)]
-pub enum ProgramRead {
-    Is(Program, Cursor),
-    Refused(usize),
-}
-
-fn read_first_item(sheet: &[u8], source: &[u8], c: Cursor) -> FirstRead
-    ensures { first_as sheet.now result ≡ optional (position source.now) (drop c.at sheet.now) }
+#[tactic(auto, unfolding(wire::specs::Optional::optional))]
+fn read_first_item(sheet: &[u8], source: &[u8], c: Cursor) -> Reading<Option<usize>>
+    ensures { Told (read_as sheet.now)
+        (optional (position source.now) (drop c.at sheet.now))
+        (Past c.at (length sheet.now)) result }
 {
-    match c.flag(sheet) {
-        Flag::Refused(r) => FirstRead::Refused(r),
-        Flag::Is(has_item, next) => {
-            if has_item {
-                match read_position(sheet, source, next) {
-                    Read::Refused(r) => FirstRead::Refused(r),
-                    Read::Value(p, next) => FirstRead::Is(FirstItem::At(p), next),
-                }
-            } else {
-                FirstRead::Is(FirstItem::Nothing, next)
-            }
-        }
+    let (has_item, next) = c.flag(sheet)?;
+    if has_item {
+        let (p, next) = read_position(sheet, source, next)?;
+        Ok((Some(p), next))
+    } else {
+        Ok((None, next))
     }
 }
 
-pub fn read_program(sheet: &[u8], source: &[u8], c: Cursor) -> ProgramRead
-    ensures { program_as sheet.now result ≡ program source.now (drop c.at sheet.now) }
+#[tactic(auto, unfolding(crate::specs::Program::program))]
+pub fn read_program(sheet: &[u8], source: &[u8], c: Cursor) -> Reading<Program>
+    ensures { Told (read_as sheet.now)
+        (program source.now (drop c.at sheet.now))
+        (Past c.at (length sheet.now)) result }
 {
-    match c.flag(sheet) {
-        Flag::Refused(r) => ProgramRead::Refused(r),
-        Flag::Is(script, next) => match read_span(sheet, source, next) {
-            SpanRead::Refused(r) => ProgramRead::Refused(r),
-            SpanRead::Is(span, next) => match next.flag(sheet) {
-                Flag::Refused(r) => ProgramRead::Refused(r),
-                Flag::Is(shebang, next) => match read_first_item(sheet, source, next) {
-                    FirstRead::Refused(r) => ProgramRead::Refused(r),
-                    FirstRead::Is(first, next) => ProgramRead::Is(
-                        Program {
-                            script,
-                            span,
-                            shebang,
-                            first,
-                        },
-                        next,
-                    ),
-                },
-            },
-        },
-    }
+    let (script, next) = c.flag(sheet)?;
+    let (span, next) = read_span(sheet, source, next)?;
+    let (shebang, next) = next.flag(sheet)?;
+    let (first, next) = read_first_item(sheet, source, next)?;
+    let program = Program {
+        script,
+        span,
+        shebang,
+        first,
+    };
+    Ok((program, next))
 }

@@ -2,7 +2,7 @@
 use Rattle.laws.proofs.Prelude.{◌≡◌, refl, List, ℕ, ◌≤◌, ◌<◌, length, drop, le-leb, lt-leb}
 use Rattle.laws.specs.Decoded.{ok, no}
 use Rattle.text.specs.Bytes.{part}
-use Rattle.sheet.specs.{Limits.sheet_limit, code.Views.program_of, Sheet.sized, Sheet.accept}
+use Rattle.sheet.specs.{Limits.sheet_limit, Sheet.sized, Sheet.accept}
 use Rattle.sheet_check.specs.declared.front.Front as declared
 use Rattle.sheet_check.specs.{declared.tree.Tree.Tree, code.Pieces.front, code.Pieces.tree, code.Views.front_of, code.Views.Stands, code.Accepts.Accepts}
 use Rattle.sheet_check.proofs.ByPieces.{whole, accept_by_pieces}
@@ -38,7 +38,7 @@ module _ (s : List ℕ) (few : length s ≤ sheet_limit) where
     unfolding tree
     accepts x places stands =
         record {
-          sheet = whole (front_of s comment_table group_table t) (program_of x.program, stands.root);
+          sheet = whole (front_of s comment_table group_table t) (x.program, stands.root);
           accepted = rw (accept_by_pieces s, fits, e, stands.before, stands.stands, stands.cooked);
           media = refl;
           source = refl;

@@ -2,7 +2,7 @@
 use Rattle.laws.proofs.Prelude.{◌≡◌, ap, ◌∙◌, true, false, List, [], ◌∷◌, ℕ, drop}
 use Rattle.laws.specs.Decoded.{ok, no, on_ok}
 use Rattle.laws.proofs.Decoding.{on_ok_ok, on_ok_no}
-use Rattle.sheet.specs.{Limits.depth_limit, Tree.Node, Program.Program, Program.program, Nodes.node, code.Views.program_of}
+use Rattle.sheet.specs.{Limits.depth_limit, Tree.Node, Program.Program, Program.program, Nodes.node}
 use Rattle.sheet_nodes.specs.{declared.tally.NodeTally.NodeTally, code.Tallies.node_tally, code.Reach.ReachesIn}
 use Rattle.sheet_check.specs.{declared.tree.Tree.Tree, code.Pieces.tree, code.Views.Stands}
 
@@ -24,7 +24,7 @@ module _ (source s : List ℕ) {p : Program} {t : List ℕ} (before : program so
       rw (before, stands, ap (λ j. j.uncooked) found ∙ h)
 
 -- the root ends the sheet, and no call in it meets refusal 9
-pub tree_stands : (s source : List ℕ) (at : ℕ) (x : Tree) {j : NodeTally} → program source (drop at s) ≡ ok (program_of x.program) (drop x.root s)
+pub tree_stands : (s source : List ℕ) (at : ℕ) (x : Tree) {j : NodeTally} → program source (drop at s) ≡ ok x.program (drop x.root s)
     → on_ok node_tally (node source depth_limit (drop x.root s)) ≡ ok j [] → j.uncooked ≡ false → j.entries ≡ x.entries
     → ((n : Node) (t : List ℕ) → node source depth_limit (drop x.root s) ≡ ok n t → ReachesIn x.reach n) → Stands s source at x
 tree_stands s source at x before e h gives reaches =

@@ -7,31 +7,14 @@ ghost use Rattle.sheet.specs.code.Tables.{comments_part, groups_part};
 ghost use Rattle.sheet_check.specs.code.Pieces.{source_fields, comment_fields, group_fields, front};
 ghost use Rattle.sheet_check.specs.code.Views.{source_as, comment_table_as, group_table_as, front_as, WithinSource, WithinFront};
 
-use sheet::comments::{Filled, read_comments};
+use sheet::comments::read_comments;
 use sheet::covering::is_covered;
 use sheet::groups::read_groups;
 use sheet::limits::{COMMENT_LIMIT, GROUP_LIMIT, GROUPS_START, INDEX_START, SOURCE_LIMIT};
 use sheet::names::{MediaType, media_type};
 use text::utf8::Encoding;
-use wire::{Cursor, Read, Text, refusals};
-
-// The media byte and where the source starts, with the cursor at its end, or a refusal's number.
-#[derive(Clone, Copy)]
-pub enum SourceRead {
-    Is {
-        media: MediaType,
-        source_start: usize,
-        next: Cursor,
-    },
-    Refused(usize),
-}
-
-// How many rows a table was filled with, and the cursor past them, or a refusal's number.
-#[derive(Clone, Copy)]
-pub enum Counted {
-    Is(usize, Cursor),
-    Refused(usize),
-}
+use wire::refusals::Refusal;
+use wire::{Cursor, Reading};
 
 // The media byte, the source from a place of the sheet to another, and how many rows the tables of comments and groups have.
 #[derive(Clone, Copy)]
@@ -43,49 +26,30 @@ pub struct Front {
     pub groups: usize,
 }
 
-// What stands in front of the program with the cursor past it, or a refusal's number.
-#[derive(Clone, Copy)]
-pub enum FrontRead {
-    Is(Front, Cursor),
-    Refused(usize),
-}
-
-// The media byte and the source.
-fn read_source(sheet: &[u8]) -> SourceRead
+// The media byte, and where the source starts, which ends at the cursor.
+fn read_source(sheet: &[u8]) -> Reading<(MediaType, usize)>
     ensures { Told (source_as sheet.now)
         (source_fields sheet.now)
         (WithinSource (length sheet.now)) result }
 {
     let c = Cursor { at: 0 };
-    match c.below(sheet, 11) {
-        Read::Refused(r) => SourceRead::Refused(r),
-        Read::Value(media, next) => match next.text(sheet, Encoding::Utf8, SOURCE_LIMIT) {
-            Text::Refused(r) => SourceRead::Refused(r),
-            Text::From(source_start, next) => SourceRead::Is {
-                media: media_type(media),
-                source_start,
-                next,
-            },
-        },
-    }
+    let (media, next) = c.below(sheet, 11)?;
+    let (start, next) = next.text(sheet, Encoding::Utf8, SOURCE_LIMIT)?;
+    Ok(((media_type(media), start), next))
 }
 
-// Reads the comments into a table.
-fn read_comment_table(sheet: &[u8], source: &[u8], c: Cursor, table: &mut [u32]) -> Counted
+// Reads the comments into a table; their number.
+fn read_comment_table(sheet: &[u8], source: &[u8], c: Cursor, table: &mut [u32]) -> Reading<usize>
     requires { comment_numbers ≤ length table.old }
     ensures { comment_table_as sheet.now table.new result
         ≡ comment_fields source.now (drop c.at sheet.now) }
 {
-    match c.count(sheet, COMMENT_LIMIT) {
-        Read::Refused(r) => Counted::Refused(r),
-        Read::Value(n, next) => match read_comments(sheet, source, next, n, table) {
-            Filled::Refused(r) => Counted::Refused(r),
-            Filled::To(next) => Counted::Is(n, next),
-        },
-    }
+    let (n, next) = c.count(sheet, COMMENT_LIMIT)?;
+    let next = read_comments(sheet, source, next, n, table)?;
+    Ok((n, next))
 }
 
-// Reads the groups of n comments into a table; `longest` is lent to work in.
+// Reads the groups of n comments into a table; their number. `longest` is lent to work in.
 fn read_group_table(
     sheet: &[u8],
     source: &[u8],
@@ -93,29 +57,23 @@ fn read_group_table(
     n: usize,
     table: &mut [u32],
     longest: &mut [u32],
-) -> Counted
+) -> Reading<usize>
     requires group_numbers_in_bounds { group_numbers ≤ length table.old }
     requires n_in_bounds { n ≤ length longest.old }
     ensures { group_table_as sheet.now table.new result
         ≡ group_fields source.now n (drop c.at sheet.now) }
 {
-    match c.count(sheet, GROUP_LIMIT) {
-        Read::Refused(r) => Counted::Refused(r),
-        Read::Value(m, next) => match read_groups(sheet, source, next, n, m, table) {
-            Filled::Refused(r) => Counted::Refused(r),
-            Filled::To(next) => {
-                if is_covered(table, m, n, longest) {
-                    Counted::Is(m, next)
-                } else {
-                    Counted::Refused(refusals::COMMENTS)
-                }
-            }
-        },
+    let (m, next) = c.count(sheet, GROUP_LIMIT)?;
+    let next = read_groups(sheet, source, next, n, m, table)?;
+    if is_covered(table, m, n, longest) {
+        Ok((m, next))
+    } else {
+        Err(Refusal::Comments)
     }
 }
 
 // Reads all that stands in front of the program. Left free: `longest`, the rows behind those that were read, and after a refusal all rows.
-pub fn read_front(sheet: &[u8], tables: &mut [u32], longest: &mut [u32]) -> FrontRead
+pub fn read_front(sheet: &[u8], tables: &mut [u32], longest: &mut [u32]) -> Reading<Front>
     requires index_start_in_bounds { index_start ≤ length tables.old }
     requires comment_limit_in_bounds { comment_limit ≤ length longest.old }
     ensures { Lent
@@ -123,40 +81,18 @@ pub fn read_front(sheet: &[u8], tables: &mut [u32], longest: &mut [u32]) -> Fron
         (WithinFront (length sheet.now) result)
         (Free tables.old tables.new × Free longest.old longest.new) }
 {
-    match read_source(sheet) {
-        SourceRead::Refused(r) => FrontRead::Refused(r),
-        SourceRead::Is {
-            media,
-            source_start,
-            next,
-        } => {
-            let source_end = next.at;
-            let source = &sheet[source_start..source_end];
-            match read_comment_table(sheet, source, next, &mut tables[0..GROUPS_START]) {
-                Counted::Refused(r) => FrontRead::Refused(r),
-                Counted::Is(n, next) => {
-                    match read_group_table(
-                        sheet,
-                        source,
-                        next,
-                        n,
-                        &mut tables[GROUPS_START..INDEX_START],
-                        longest,
-                    ) {
-                        Counted::Refused(r) => FrontRead::Refused(r),
-                        Counted::Is(m, next) => FrontRead::Is(
-                            Front {
-                                media,
-                                source_start,
-                                source_end,
-                                comments: n,
-                                groups: m,
-                            },
-                            next,
-                        ),
-                    }
-                }
-            }
-        }
-    }
+    let ((media, start), next) = read_source(sheet)?;
+    let end = next.at;
+    let source = &sheet[start..end];
+    let (n, next) = read_comment_table(sheet, source, next, &mut tables[0..GROUPS_START])?;
+    let groups = &mut tables[GROUPS_START..INDEX_START];
+    let (m, next) = read_group_table(sheet, source, next, n, groups, longest)?;
+    let front = Front {
+        media,
+        source_start: start,
+        source_end: end,
+        comments: n,
+        groups: m,
+    };
+    Ok((front, next))
 }

@@ -1,4 +1,5 @@
 -- Each dependency takes at least nine bytes of the sheet, so a sheet has at most `entry_limit` of them.
+use Rattle.std.specs.Prelude.{Some, None}
 use Rattle.laws.proofs.Prelude.{ap, Bool, true, false, ◌&&◌, List, Option, ℕ, ◌+◌, ◌*◌, ◌≤◌, arith, length, length-append}
 use Rattle.text.{specs.Truth.one, proofs.Ones.one_most}
 use Rattle.wire.{specs.Number.encode_number, specs.Text.encode_text, specs.Optional.encode_optional, proofs.Lengths.number_long}
@@ -32,8 +33,8 @@ both_most false b = omega arith
 -- a module declaration only if it has a String
 declared_long : (x : Option Quoted) → 1 + 4 * one (declares x) ≤ length (encode_optional encode_quoted x)
 unfolding encode_optional
-declared_long Option.none = omega arith
-declared_long (Option.some q) = simp length-append (omega (arith, one_most (is_augmentation q.text), quoted_long q))
+declared_long None = omega arith
+declared_long (Some q) = simp length-append (omega (arith, one_most (is_augmentation q.text), quoted_long q))
 
 mutual
   unfolding encode_node encode_nodes encode_arguments encode_properties encode_attributes

@@ -1,4 +1,5 @@
 -- The bytes of a sheet's fields, one after the other, are the sheet's.
+use Rattle.std.specs.Prelude.{Some, None}
 use Rattle.laws.proofs.Prelude.{◌≡◌, refl, List, [], ◌∷◌, append_assoc, append-nil, flat_map, Option, ℕ, length}
 use Rattle.laws.proofs.Lists.{flat_map_append}
 use Rattle.text.specs.declared.utf8.Encoding.{Encoding, TheVariants.Wtf8}
@@ -24,8 +25,8 @@ text_bytes c e x = simp append-nil
 optional_bytes : {A : Type 0} (fields : A → List Entry) (encode : A → List ℕ) → ((a : A) → bytes (fields a) ≡ encode a) → (x : Option A)
     → bytes (optional_fields fields x) ≡ encode_optional encode x
 unfolding flat_map encode_optional
-optional_bytes fields encode same Option.none = refl
-optional_bytes fields encode same (Option.some a) = rw (same a)
+optional_bytes fields encode same None = refl
+optional_bytes fields encode same (Some a) = rw (same a)
 
 chain_bytes : {A S : Type 0} (fields : S → A → List Entry) (leaves : A → S) (encode : A → List ℕ) → ((s : S) (a : A) → bytes (fields s a) ≡ encode a)
     → (s : S) (l : List A) → bytes (chain_fields fields leaves s l) ≡ flat_map encode l
@@ -117,8 +118,8 @@ fields_bytes t =
       append_assoc,
       flat_map_append,
       chain_bytes (comment_fields t.source) end_of encode_comment (comment_bytes t.source) 0 t.comments,
-      chain_bytes (group_fields t.source (length t.comments)) (λ g. Option.some g) encode_group (group_bytes t.source (length t.comments))
-          Option.none t.groups,
+      chain_bytes (group_fields t.source (length t.comments)) (λ g. Some g) encode_group (group_bytes t.source (length t.comments))
+          None t.groups,
       first_bytes t.source t.program.first,
       node_bytes t.source t.root depth_limit,
     )

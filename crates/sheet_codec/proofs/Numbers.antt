@@ -1,4 +1,5 @@
 -- What is judged at each field that is a number.
+use Rattle.std.specs.Prelude.{Some, None}
 use Rattle.laws.proofs.Prelude.{◌≡◌, refl, sym, ◌∙◌, Bool, true, false, ◌&&◌, true≢false, and-eq-true_iff, ◌⊎◌, inl, inr, ⊎_elim, List, [], ◌∷◌, ◌++◌}
 use Rattle.laws.proofs.Prelude.{append-nil, Option, ℕ, zero, suc, ◌+◌, ◌≤◌, ◌<◌, arith, leb, ltb, leb-false, lt-leb, lt-ltb}
 use Rattle.laws.specs.Decoded.{ok, no, Decoder, ◌>>=◌, ◌>>◌, return, require}
@@ -93,8 +94,8 @@ module _ {d : Decoder ℕ} {W W' : ℕ → ℕ → Type 0} (k : RefusesBy d W) (
 
 -- what the tests at a position besides its being a boundary say
 abbrev pub after : Option Group → Side → ℕ → Bool
-after Option.none = anywhere
-after (Option.some g) = may_follow g
+after None = anywhere
+after (Some g) = may_follow g
 
 abbrev Besides : List ℕ → Position → ℕ → ℕ → Type 0
 Besides source start n q = ⊥
@@ -135,8 +136,8 @@ failing_wrong (position source (string_end from)) n q (inr (inr (e, i))) = rw e 
 failing_wrong (position source (comment_start last)) n q (inr (e, i)) = rw e (early (leb-false last n i))
 failing_wrong (position source (comment_end kind from)) n q (inr (inl (e, i))) = rw e (comment_reversed (leb-false from n i))
 failing_wrong (position source (comment_end kind from)) n q (inr (inr (e, i))) = rw e (unmarked (lacks_marks source kind from n i))
-failing_wrong (position source (group_position Option.none side)) n q (inr (e, i)) = absurd (true≢false i)
-failing_wrong (position source (group_position (Option.some g) side)) n q (inr (e, i)) =
+failing_wrong (position source (group_position None side)) n q (inr (e, i)) = absurd (true≢false i)
+failing_wrong (position source (group_position (Some g) side)) n q (inr (e, i)) =
     rw e (disordered (λ h. true≢false (sym (in_order g.side g.position side n h) ∙ i)))
 failing_wrong (group_count total first) n q (e, i) = rw e (reach n (ltb 0 n) refl (leb (first + n) total) refl i)
   where

@@ -1,4 +1,5 @@
 -- Every String of a tree within the limits is a quotation, those that other nodes hold too.
+use Rattle.std.specs.Prelude.{Some, None}
 use Rattle.laws.proofs.Prelude.{List, ◌++◌, Option, ℕ}
 use Rattle.laws.{specs.Codec.All, specs.Codec.IfThere, proofs.Lists.all_append}
 use Rattle.sheet.specs.{declared.fields.Span.Span, Comments.slice, Quotation.Quotation}
@@ -16,8 +17,8 @@ module _ (source : List ℕ) where
   both = all_append (λ sp. Quotation (slice source sp))
 
   held : (k : ℕ) (x : Option Quoted) → IfThere (QuotedFits source k) x → Each (string_held x)
-  held k Option.none f = tt
-  held k (Option.some x) f = (f.quotation, tt)
+  held k None f = tt
+  held k (Some x) f = (f.quotation, tt)
 
   mutual
     unfolding NodeFits NodesFit ArgumentsFit PropertiesFit AttributesFit

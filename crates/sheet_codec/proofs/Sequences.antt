@@ -1,4 +1,5 @@
 -- Fields one after the other: texts, spans, comments, groups, the program, and items that are counted.
+use Rattle.std.specs.Prelude.{Some, None}
 use Rattle.laws.proofs.Prelude.{◌≡◌, refl, sym, ap, ◌∙◌, Bool, true, false, cond, ◌&&◌, List, [], ◌∷◌, ◌++◌, Option, ℕ, zero, suc, ◌+◌, leb, ltb, length}
 use Rattle.laws.specs.Decoded.{Decoder, on_ok, ◌>>=◌, return}
 use Rattle.laws.proofs.Decoding.{then_then}
@@ -28,9 +29,9 @@ pub optional_fields_lem : {A : Type 0} {d : Decoder A} {fields : A → List Entr
 unfolding optional
 optional_fields_lem {A} {d} {fields} k = then flag_field (λ b u. by b)
   where
-    by : (b : Bool) → Judges (cond b (λ s. on_ok (λ a. Option.some a) (d s)) (return Option.none)) (λ x l. Unit {0} × (a_flag b ∷ l ≡ optional_fields fields x))
-    by true = map k (λ a. Option.some a) (λ a l h. (tt, ap (a_flag true ∷◌) h.1))
-    by false = ends Option.none (tt, refl)
+    by : (b : Bool) → Judges (cond b (λ s. on_ok (λ a. Some a) (d s)) (return None)) (λ x l. Unit {0} × (a_flag b ∷ l ≡ optional_fields fields x))
+    by true = map k (λ a. Some a) (λ a l h. (tt, ap (a_flag true ∷◌) h.1))
+    by false = ends None (tt, refl)
 
 -- items, each judged by what the one before leaves, which some state stands for
 module _ {A S Q : Type 0} (item : S → Decoder A) (leaves : A → S) (of : Q → S) (next : A → Q) (stands : (a : A) → leaves a ≡ of (next a))
@@ -81,8 +82,8 @@ module _ (source : List ℕ) where
       then_tested number (λ n. ltb 0 n && leb (first + n) total) 7 (group_count_field total first) (λ n w. ends _ (tt, refl)))))
 
   pub groups_fields : (total m : ℕ)
-      → FieldsOf (groups source total anywhere m) (λ gs. length gs ≡ m) (chain_fields (group_fields source total) (λ g. Option.some g) Option.none)
-  groups_fields total = chained_fields (group source total) may_follow after (λ g. Option.some g) (λ g. refl) (group_fields_lem total) Option.none
+      → FieldsOf (groups source total anywhere m) (λ gs. length gs ≡ m) (chain_fields (group_fields source total) (λ g. Some g) None)
+  groups_fields total = chained_fields (group source total) may_follow after (λ g. Some g) (λ g. refl) (group_fields_lem total) None
 
   pub program_fields_lem : FieldsOf (program source) Any (program_fields source)
   unfolding program

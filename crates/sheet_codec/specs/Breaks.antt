@@ -1,7 +1,6 @@
 -- Refusals 2 to 7 and 13 as document 01 states them, each of the bytes from a field on; and how they are judged, at each field from the front.
-use Rattle.std.specs.Prelude.{◌≡◌, ◌⊎◌, ℕ, ◌+◌, ◌≤◌, ◌<◌, length}
+use Rattle.std.specs.Prelude.{◌≡◌, ◌⊎◌, ℕ, ◌+◌, ◌≤◌, ◌<◌, length, Some}
 use mathlib.Core.List.{List, [], ◌∷◌, ◌++◌, flat_map}
-use Rattle.std.proofs.Math.Option.{Option}
 use Rattle.laws.specs.Codec.{All}
 use Rattle.text.specs.declared.utf8.Encoding.{Encoding}
 use Rattle.text.specs.WellFormed.{WellFormed}
@@ -49,7 +48,7 @@ pub data Wrong : Number → ℕ → ℕ → Type 0 where
       → Wrong (position source (comment_end kind start)) n refusals.comments
   -- or a group is out of order
   disordered : {source : List ℕ} {g : Group} {side : Side} {n : ℕ} → ((side_number g.side < side_number side) ⊎ ((g.side ≡ side) × (g.position < n)) → ⊥)
-      → Wrong (position source (group_position (Option.some g) side)) n refusals.comments
+      → Wrong (position source (group_position (Some g) side)) n refusals.comments
   -- has count 0, or reaches past the comments
   empty : {total first n : ℕ} → n ≡ 0 → Wrong (group_count total first) n refusals.comments
   beyond : {total first n : ℕ} → total < first + n → Wrong (group_count total first) n refusals.comments

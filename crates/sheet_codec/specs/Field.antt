@@ -1,6 +1,5 @@
 -- The fields of a sheet by their names in document 01, each with what it is judged by.
-use Rattle.std.specs.Prelude.{List, ℕ}
-use Rattle.std.proofs.Math.Option.{Option}
+use Rattle.std.specs.Prelude.{List, ℕ, Option}
 use Rattle.text.specs.declared.utf8.Encoding.{Encoding}
 use Rattle.sheet.specs.Limits.{source_limit, text_limit, comment_limit, group_limit, property_limit}
 use Rattle.sheet.specs.declared.groups.Group.{Group}

@@ -1,7 +1,6 @@
 -- The fields of a sheet in document 01's order, each with its bytes; together these are the sheet's (proofs/FieldBytes, law `fields_bytes`).
-use Rattle.std.specs.Prelude.{Bool, true, false, ℕ, length}
+use Rattle.std.specs.Prelude.{Bool, true, false, ℕ, length, None, Option, Some}
 use mathlib.Core.List.{List, [], ◌∷◌, ◌++◌, flat_map}
-use Rattle.std.proofs.Math.Option.{Option}
 use Rattle.text.specs.declared.utf8.Encoding.{Encoding}
 use Rattle.text.specs.declared.utf8.Encoding.TheVariants.{Utf8, Wtf8}
 use Rattle.wire.specs.Fields.{encode_flag}
@@ -42,8 +41,8 @@ text_fields c e x = a_number (limited c) (length x) ∷ record { field = text e 
 
 -- a flag, and what follows it if it is 1
 abbrev pub optional_fields : {A : Type 0} → (A → List Entry) → Option A → List Entry
-optional_fields fields Option.none = a_flag false ∷ []
-optional_fields fields (Option.some a) = a_flag true ∷ fields a
+optional_fields fields None = a_flag false ∷ []
+optional_fields fields (Some a) = a_flag true ∷ fields a
 
 abbrev pub short_text : Encoding → List ℕ → List Entry
 short_text = text_fields text_length
@@ -165,7 +164,7 @@ fields_of t =
     ∷ (text_fields source_length Utf8 t.source
     ++ (a_number (limited comments) (length t.comments) ∷ (chain_fields (comment_fields t.source) end_of 0 t.comments
     ++ (a_number (limited groups) (length t.groups) ∷
-    (chain_fields (group_fields t.source (length t.comments)) (λ g. Option.some g) Option.none t.groups
+    (chain_fields (group_fields t.source (length t.comments)) (λ g. Some g) None t.groups
     ++ (record { field = every_comment t.groups (length t.comments); bytes = [] }
     ∷ (program_fields t.source t.program
     ++ node_fields t.source t.root depth_limit)))))))

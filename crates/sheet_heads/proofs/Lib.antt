@@ -3,5 +3,4 @@ pub mod Shapes
 pub mod Outside
 pub mod Many
 pub mod FirstArgument
-pub mod Past
-pub mod Stars
+pub mod Tests

@@ -11,14 +11,14 @@ ghost use Rattle.sheet.specs.Nodes.{string_text};
 ghost use Rattle.sheet_heads.specs.code.Head.{other_head, string_head, name_head, template_head, binary_head, object_head, call_start, specifier_start};
 ghost use Rattle.sheet_heads.specs.code.Head.{import_start, named_export_start, export_all_start, import_type_start, import_require_start};
 ghost use Rattle.sheet_heads.specs.code.Head.{import_equals_start, module_start, start, head};
-ghost use Rattle.sheet_heads.specs.code.Views.{specifier_as, fields_as, head_as, Part, PastSpecifier, PastFields, PastHead};
+ghost use Rattle.sheet_heads.specs.code.Views.{tag_number, specifier_as, fields_as, head_as, Part, PastSpecifier, PastFields, PastHead};
 
-use super::quoted::{Quoted, QuotedRead, read_quoted, read_string_text, read_tag};
-use sheet::fields::{Span, SpanRead, read_span};
+use super::quoted::{Quoted, Tag, read_quoted, read_string_text, read_tag};
+use sheet::fields::{Span, read_span};
 use sheet::limits::{PROPERTY_LIMIT, TEXT_LIMIT};
 use sheet::names::{ImportPhase, import_phase};
 use text::utf8::Encoding;
-use wire::{Cursor, Flag, Read, Text, refusals};
+use wire::{Cursor, Reading};
 
 // What stands before a node's first child. A text is from a place of the sheet to another.
 #[derive(Clone, Copy)]
@@ -70,356 +70,249 @@ pub enum Head {
     NamedModule(Quoted, usize),
 }
 
-// The fields of a head with the cursor past them, or a refusal's number.
-#[derive(Clone, Copy)]
-pub enum FieldsRead {
-    Is(Head, Cursor),
-    Refused(usize),
-}
-
-// A String and whether an Object follows, with the cursor past them, or a refusal's number.
-#[derive(Clone, Copy)]
-pub enum SpecifierRead {
-    Is {
-        specifier: Quoted,
-        has_object: bool,
-        next: Cursor,
-    },
-    Refused(usize),
-}
-
-// A node's span and its head with the cursor past it, or a refusal's number.
-#[derive(Clone, Copy)]
-pub enum HeadRead {
-    Is {
-        span: Span,
-        head: Head,
-        next: Cursor,
-    },
-    Refused(usize),
-}
-
-fn read_other(sheet: &[u8], c: Cursor) -> FieldsRead
+fn read_other(sheet: &[u8], c: Cursor) -> Reading<Head>
     ensures { Told (fields_as sheet.now)
         (on_ok other_head (number (drop c.at sheet.now)))
         (PastFields c.at (length sheet.now)) result }
 {
-    match c.number(sheet) {
-        Read::Refused(r) => FieldsRead::Refused(r),
-        Read::Value(n, next) => FieldsRead::Is(Head::Other(n), next),
-    }
+    let (n, next) = c.number(sheet)?;
+    Ok((Head::Other(n), next))
 }
 
-fn read_string(sheet: &[u8], source: &[u8], c: Cursor, span: Span) -> FieldsRead
+fn read_string(sheet: &[u8], source: &[u8], c: Cursor, span: Span) -> Reading<Head>
     requires { Part (length source.now) span.start span.end }
     ensures { Told (fields_as sheet.now)
         (on_ok string_head (string_text source.now span (drop c.at sheet.now)))
         (PastFields c.at (length sheet.now)) result }
 {
-    match read_string_text(sheet, source, c, span) {
-        Text::Refused(r) => FieldsRead::Refused(r),
-        Text::From(start, next) => FieldsRead::Is(Head::String(start, next.at), next),
-    }
+    let (start, next) = read_string_text(sheet, source, c, span)?;
+    Ok((Head::String(start, next.at), next))
 }
 
-fn read_name(sheet: &[u8], c: Cursor) -> FieldsRead
+fn read_name(sheet: &[u8], c: Cursor) -> Reading<Head>
     ensures { Told (fields_as sheet.now)
         (on_ok name_head (text Utf8 text_limit (drop c.at sheet.now)))
         (PastFields c.at (length sheet.now)) result }
 {
-    match c.text(sheet, Encoding::Utf8, TEXT_LIMIT) {
-        Text::Refused(r) => FieldsRead::Refused(r),
-        Text::From(start, next) => FieldsRead::Is(Head::Name(start, next.at), next),
-    }
+    let (start, next) = c.text(sheet, Encoding::Utf8, TEXT_LIMIT)?;
+    Ok((Head::Name(start, next.at), next))
 }
 
-fn read_template(sheet: &[u8], c: Cursor) -> FieldsRead
+fn read_template(sheet: &[u8], c: Cursor) -> Reading<Head>
     ensures { Told (fields_as sheet.now)
         (on_ok template_head (number (drop c.at sheet.now)))
         (PastFields c.at (length sheet.now)) result }
 {
-    match c.number(sheet) {
-        Read::Refused(r) => FieldsRead::Refused(r),
-        Read::Value(holes, next) => FieldsRead::Is(Head::Template(holes), next),
-    }
+    let (holes, next) = c.number(sheet)?;
+    Ok((Head::Template(holes), next))
 }
 
-fn read_binary(sheet: &[u8], c: Cursor) -> FieldsRead
+fn read_binary(sheet: &[u8], c: Cursor) -> Reading<Head>
     ensures { Told (fields_as sheet.now)
         (on_ok binary_head (flag (drop c.at sheet.now)))
         (PastFields c.at (length sheet.now)) result }
 {
-    match c.flag(sheet) {
-        Flag::Refused(r) => FieldsRead::Refused(r),
-        Flag::Is(plus, next) => FieldsRead::Is(Head::Binary(plus), next),
-    }
+    let (plus, next) = c.flag(sheet)?;
+    Ok((Head::Binary(plus), next))
 }
 
-fn read_object(sheet: &[u8], c: Cursor) -> FieldsRead
+fn read_object(sheet: &[u8], c: Cursor) -> Reading<Head>
     ensures { Told (fields_as sheet.now)
         (on_ok object_head (count property_limit (drop c.at sheet.now)))
         (PastFields c.at (length sheet.now)) result }
 {
-    match c.count(sheet, PROPERTY_LIMIT) {
-        Read::Refused(r) => FieldsRead::Refused(r),
-        Read::Value(n, next) => FieldsRead::Is(Head::Object(n), next),
-    }
+    let (n, next) = c.count(sheet, PROPERTY_LIMIT)?;
+    Ok((Head::Object(n), next))
 }
 
-fn read_call(sheet: &[u8], c: Cursor) -> FieldsRead
+#[tactic(auto, unfolding(crate::specs::code::Head::call_start))]
+fn read_call(sheet: &[u8], c: Cursor) -> Reading<Head>
     ensures { Told (fields_as sheet.now)
         (call_start (drop c.at sheet.now))
         (PastFields c.at (length sheet.now)) result }
 {
-    match c.below(sheet, 4) {
-        Read::Refused(r) => FieldsRead::Refused(r),
-        Read::Value(callee, next) => {
-            if callee < 3 {
-                FieldsRead::Is(Head::ImportCall(import_phase(callee)), next)
-            } else {
-                FieldsRead::Is(Head::Call, next)
-            }
-        }
+    let (callee, next) = c.below(sheet, 4)?;
+    if callee < 3 {
+        Ok((Head::ImportCall(import_phase(callee)), next))
+    } else {
+        Ok((Head::Call, next))
     }
 }
 
 // A String, and the flag of the attributes behind it.
-fn read_specifier(sheet: &[u8], source: &[u8], c: Cursor, levels: usize) -> SpecifierRead
+#[tactic(auto, unfolding(crate::specs::code::Head::specifier_start))]
+fn read_specifier(sheet: &[u8], source: &[u8], c: Cursor, levels: usize) -> Reading<(Quoted, bool)>
     ensures { Told (specifier_as sheet.now)
         (specifier_start source.now levels (drop c.at sheet.now))
         (PastSpecifier c.at (length sheet.now)) result }
 {
-    match read_quoted(sheet, source, c, levels) {
-        QuotedRead::Refused(r) => SpecifierRead::Refused(r),
-        QuotedRead::Is(specifier, next) => match next.flag(sheet) {
-            Flag::Refused(r) => SpecifierRead::Refused(r),
-            Flag::Is(has_object, next) => SpecifierRead::Is {
-                specifier,
-                has_object,
-                next,
-            },
-        },
-    }
+    let (specifier, next) = read_quoted(sheet, source, c, levels)?;
+    let (has_object, next) = next.flag(sheet)?;
+    Ok(((specifier, has_object), next))
 }
 
-fn read_import(sheet: &[u8], source: &[u8], c: Cursor, levels: usize) -> FieldsRead
+#[tactic(auto, unfolding(crate::specs::code::Head::import_start, wire::specs::Fields::numbered))]
+fn read_import(sheet: &[u8], source: &[u8], c: Cursor, levels: usize) -> Reading<Head>
     ensures { Told (fields_as sheet.now)
         (import_start source.now levels (drop c.at sheet.now))
         (PastFields c.at (length sheet.now)) result }
 {
-    match c.flag(sheet) {
-        Flag::Refused(r) => FieldsRead::Refused(r),
-        Flag::Is(type_only, next) => match next.below(sheet, 3) {
-            Read::Refused(r) => FieldsRead::Refused(r),
-            Read::Value(phase, next) => match next.flag(sheet) {
-                Flag::Refused(r) => FieldsRead::Refused(r),
-                Flag::Is(side_effect, next) => match read_specifier(sheet, source, next, levels) {
-                    SpecifierRead::Refused(r) => FieldsRead::Refused(r),
-                    SpecifierRead::Is {
-                        specifier,
-                        has_object,
-                        next,
-                    } => FieldsRead::Is(
-                        Head::Import {
-                            type_only,
-                            phase: import_phase(phase),
-                            side_effect,
-                            specifier,
-                            has_object,
-                        },
-                        next,
-                    ),
-                },
-            },
+    let (type_only, next) = c.flag(sheet)?;
+    let (phase, next) = next.below(sheet, 3)?;
+    let (side_effect, next) = next.flag(sheet)?;
+    let ((specifier, has_object), next) = read_specifier(sheet, source, next, levels)?;
+    Ok((
+        Head::Import {
+            type_only,
+            phase: import_phase(phase),
+            side_effect,
+            specifier,
+            has_object,
         },
-    }
+        next,
+    ))
 }
 
-fn read_named_export(sheet: &[u8], source: &[u8], c: Cursor, levels: usize) -> FieldsRead
+#[tactic(auto, unfolding(crate::specs::code::Head::named_export_start))]
+fn read_named_export(sheet: &[u8], source: &[u8], c: Cursor, levels: usize) -> Reading<Head>
     ensures { Told (fields_as sheet.now)
         (named_export_start source.now levels (drop c.at sheet.now))
         (PastFields c.at (length sheet.now)) result }
 {
-    match c.flag(sheet) {
-        Flag::Refused(r) => FieldsRead::Refused(r),
-        Flag::Is(type_only, next) => match next.flag(sheet) {
-            Flag::Refused(r) => FieldsRead::Refused(r),
-            Flag::Is(named, next) => {
-                if named {
-                    return match read_specifier(sheet, source, next, levels) {
-                        SpecifierRead::Refused(r) => FieldsRead::Refused(r),
-                        SpecifierRead::Is {
-                            specifier,
-                            has_object,
-                            next,
-                        } => FieldsRead::Is(
-                            Head::ExportFrom {
-                                type_only,
-                                specifier,
-                                has_object,
-                            },
-                            next,
-                        ),
-                    };
-                }
-                FieldsRead::Is(Head::NamedExport(type_only), next)
-            }
-        },
+    let (type_only, next) = c.flag(sheet)?;
+    let (named, next) = next.flag(sheet)?;
+    if named {
+        let ((specifier, has_object), next) = read_specifier(sheet, source, next, levels)?;
+        return Ok((
+            Head::ExportFrom {
+                type_only,
+                specifier,
+                has_object,
+            },
+            next,
+        ));
     }
+    Ok((Head::NamedExport(type_only), next))
 }
 
-fn read_export_all(sheet: &[u8], source: &[u8], c: Cursor, levels: usize) -> FieldsRead
+#[tactic(auto, unfolding(crate::specs::code::Head::export_all_start))]
+fn read_export_all(sheet: &[u8], source: &[u8], c: Cursor, levels: usize) -> Reading<Head>
     ensures { Told (fields_as sheet.now)
         (export_all_start source.now levels (drop c.at sheet.now))
         (PastFields c.at (length sheet.now)) result }
 {
-    match c.flag(sheet) {
-        Flag::Refused(r) => FieldsRead::Refused(r),
-        Flag::Is(type_only, next) => match read_specifier(sheet, source, next, levels) {
-            SpecifierRead::Refused(r) => FieldsRead::Refused(r),
-            SpecifierRead::Is {
-                specifier,
-                has_object,
-                next,
-            } => FieldsRead::Is(
-                Head::ExportAll {
-                    type_only,
-                    specifier,
-                    has_object,
-                },
-                next,
-            ),
+    let (type_only, next) = c.flag(sheet)?;
+    let ((specifier, has_object), next) = read_specifier(sheet, source, next, levels)?;
+    Ok((
+        Head::ExportAll {
+            type_only,
+            specifier,
+            has_object,
         },
-    }
+        next,
+    ))
 }
 
-fn read_import_type(sheet: &[u8], source: &[u8], c: Cursor, levels: usize) -> FieldsRead
+#[tactic(auto, unfolding(crate::specs::code::Head::import_type_start))]
+fn read_import_type(sheet: &[u8], source: &[u8], c: Cursor, levels: usize) -> Reading<Head>
     ensures { Told (fields_as sheet.now)
         (import_type_start source.now levels (drop c.at sheet.now))
         (PastFields c.at (length sheet.now)) result }
 {
-    match read_quoted(sheet, source, c, levels) {
-        QuotedRead::Refused(r) => FieldsRead::Refused(r),
-        QuotedRead::Is(x, next) => match next.number(sheet) {
-            Read::Refused(r) => FieldsRead::Refused(r),
-            Read::Value(n, next) => FieldsRead::Is(Head::ImportType(x, n), next),
-        },
-    }
+    let (x, next) = read_quoted(sheet, source, c, levels)?;
+    let (n, next) = next.number(sheet)?;
+    Ok((Head::ImportType(x, n), next))
 }
 
-fn read_import_equals(sheet: &[u8], source: &[u8], c: Cursor, levels: usize) -> FieldsRead
+#[tactic(auto, unfolding(crate::specs::code::Head::import_equals_start))]
+fn read_import_equals(sheet: &[u8], source: &[u8], c: Cursor, levels: usize) -> Reading<Head>
     ensures { Told (fields_as sheet.now)
         (import_equals_start source.now levels (drop c.at sheet.now))
         (PastFields c.at (length sheet.now)) result }
 {
-    match c.flag(sheet) {
-        Flag::Refused(r) => FieldsRead::Refused(r),
-        Flag::Is(external, next) => {
-            if external {
-                return read_import_require(sheet, source, next, levels);
-            }
-            FieldsRead::Is(Head::ImportEquals, next)
-        }
+    let (external, next) = c.flag(sheet)?;
+    if external {
+        return read_import_require(sheet, source, next, levels);
     }
+    Ok((Head::ImportEquals, next))
 }
 
-fn read_import_require(sheet: &[u8], source: &[u8], c: Cursor, levels: usize) -> FieldsRead
+#[tactic(auto, unfolding(crate::specs::code::Head::import_require_start))]
+fn read_import_require(sheet: &[u8], source: &[u8], c: Cursor, levels: usize) -> Reading<Head>
     ensures { Told (fields_as sheet.now)
         (import_require_start source.now levels (drop c.at sheet.now))
         (PastFields c.at (length sheet.now)) result }
 {
-    match c.flag(sheet) {
-        Flag::Refused(r) => FieldsRead::Refused(r),
-        Flag::Is(type_only, next) => match next.flag(sheet) {
-            Flag::Refused(r) => FieldsRead::Refused(r),
-            Flag::Is(export, next) => match read_quoted(sheet, source, next, levels) {
-                QuotedRead::Refused(r) => FieldsRead::Refused(r),
-                QuotedRead::Is(specifier, next) => FieldsRead::Is(
-                    Head::ImportRequire {
-                        type_only,
-                        export,
-                        specifier,
-                    },
-                    next,
-                ),
-            },
+    let (type_only, next) = c.flag(sheet)?;
+    let (export, next) = next.flag(sheet)?;
+    let (specifier, next) = read_quoted(sheet, source, next, levels)?;
+    Ok((
+        Head::ImportRequire {
+            type_only,
+            export,
+            specifier,
         },
-    }
+        next,
+    ))
 }
 
-fn read_module(sheet: &[u8], source: &[u8], c: Cursor, levels: usize) -> FieldsRead
+#[tactic(auto, unfolding(crate::specs::code::Head::module_start, wire::specs::Optional::optional))]
+fn read_module(sheet: &[u8], source: &[u8], c: Cursor, levels: usize) -> Reading<Head>
     ensures { Told (fields_as sheet.now)
         (module_start source.now levels (drop c.at sheet.now))
         (PastFields c.at (length sheet.now)) result }
 {
-    match c.flag(sheet) {
-        Flag::Refused(r) => FieldsRead::Refused(r),
-        Flag::Is(named, next) => {
-            if named {
-                return match read_quoted(sheet, source, next, levels) {
-                    QuotedRead::Refused(r) => FieldsRead::Refused(r),
-                    QuotedRead::Is(x, next) => match next.number(sheet) {
-                        Read::Refused(r) => FieldsRead::Refused(r),
-                        Read::Value(n, next) => FieldsRead::Is(Head::NamedModule(x, n), next),
-                    },
-                };
-            }
-            match next.number(sheet) {
-                Read::Refused(r) => FieldsRead::Refused(r),
-                Read::Value(n, next) => FieldsRead::Is(Head::Module(n), next),
-            }
-        }
+    let (named, next) = c.flag(sheet)?;
+    if named {
+        let (x, next) = read_quoted(sheet, source, next, levels)?;
+        let (n, next) = next.number(sheet)?;
+        return Ok((Head::NamedModule(x, n), next));
     }
+    let (n, next) = next.number(sheet)?;
+    Ok((Head::Module(n), next))
 }
 
 // The fields of a head, by the span and the tag, where so many levels are left below the node.
+#[tactic(auto, unfolding(crate::specs::code::Head::start))]
 fn read_fields(
     sheet: &[u8],
     source: &[u8],
     c: Cursor,
     levels: usize,
     span: Span,
-    tag: usize,
-) -> FieldsRead
+    tag: Tag,
+) -> Reading<Head>
     requires { Part (length source.now) span.start span.end }
     ensures { Told (fields_as sheet.now)
-        (start source.now levels span tag (drop c.at sheet.now))
+        (start source.now levels span (tag_number tag) (drop c.at sheet.now))
         (PastFields c.at (length sheet.now)) result }
 {
     match tag {
-        0 => read_other(sheet, c),
-        1 => read_string(sheet, source, c, span),
-        2 => read_name(sheet, c),
-        3 => read_template(sheet, c),
-        4 => read_binary(sheet, c),
-        5 => read_object(sheet, c),
-        6 => read_call(sheet, c),
-        7 => read_import(sheet, source, c, levels),
-        8 => read_named_export(sheet, source, c, levels),
-        9 => read_export_all(sheet, source, c, levels),
-        10 => read_import_type(sheet, source, c, levels),
-        11 => read_import_equals(sheet, source, c, levels),
-        12 => read_module(sheet, source, c, levels),
-        _ => FieldsRead::Refused(refusals::BYTE),
+        Tag::Other => read_other(sheet, c),
+        Tag::String => read_string(sheet, source, c, span),
+        Tag::Name => read_name(sheet, c),
+        Tag::Template => read_template(sheet, c),
+        Tag::Binary => read_binary(sheet, c),
+        Tag::Object => read_object(sheet, c),
+        Tag::Call => read_call(sheet, c),
+        Tag::Import => read_import(sheet, source, c, levels),
+        Tag::NamedExport => read_named_export(sheet, source, c, levels),
+        Tag::ExportAll => read_export_all(sheet, source, c, levels),
+        Tag::ImportType => read_import_type(sheet, source, c, levels),
+        Tag::ImportEquals => read_import_equals(sheet, source, c, levels),
+        Tag::Module => read_module(sheet, source, c, levels),
     }
 }
 
 // The head of a node, with so many levels left, its own among them.
-pub fn read_head(sheet: &[u8], source: &[u8], c: Cursor, levels: usize) -> HeadRead
+#[tactic(auto, unfolding(crate::specs::code::Head::head))]
+pub fn read_head(sheet: &[u8], source: &[u8], c: Cursor, levels: usize) -> Reading<(Span, Head)>
     ensures { Told (head_as sheet.now)
         (head source.now levels (drop c.at sheet.now))
         (PastHead c.at (length sheet.now) levels) result }
 {
-    match read_tag(sheet, c, levels) {
-        Read::Refused(r) => HeadRead::Refused(r),
-        Read::Value(tag, next) => match read_span(sheet, source, next) {
-            SpanRead::Refused(r) => HeadRead::Refused(r),
-            SpanRead::Is(span, next) => {
-                match read_fields(sheet, source, next, levels - 1, span, tag) {
-                    FieldsRead::Refused(r) => HeadRead::Refused(r),
-                    FieldsRead::Is(head, next) => HeadRead::Is { span, head, next },
-                }
-            }
-        },
-    }
+    let (tag, next) = read_tag(sheet, c, levels)?;
+    let (span, next) = read_span(sheet, source, next)?;
+    let (head, next) = read_fields(sheet, source, next, levels - 1, span, tag)?;
+    Ok(((span, head), next))
 }

@@ -6,7 +6,7 @@ ghost use Rattle.sheet.specs.Shape.{is_augmentation, has_star};
 ghost use Rattle.sheet_heads.specs.code.Views.{QuotedPart};
 
 use super::quoted::Quoted;
-use text::bytes::{equal, starts_with};
+use text::bytes::equal;
 
 // The Name `require`.
 pub fn is_require(name: &[u8]) -> bool
@@ -18,30 +18,15 @@ pub fn is_require(name: &[u8]) -> bool
 fn has_star(x: &[u8]) -> bool
     ensures { result ≡ has_star x.now }
 {
-    let mut i = 0;
-    while i < x.len() {
-        if x[i] == 0x2A {
-            return true;
-        }
-        i += 1;
-    }
-    false
+    x.contains(&b'*')
 }
 
 // A module declaration's text gives an entry unless it is a wildcard that is no path.
+#[tactic(auto, using(crate::proofs::Tests::augmentation))]
 pub fn is_augmentation(x: &[u8]) -> bool
     ensures { result ≡ is_augmentation x.now }
 {
-    if has_star(x) {
-        if starts_with(x, 0, b"./") {
-            return true;
-        }
-        if starts_with(x, 0, b"../") {
-            return true;
-        }
-        return starts_with(x, 0, b"/");
-    }
-    true
+    !has_star(x) || x.starts_with(b"./") || x.starts_with(b"../") || x.starts_with(b"/")
 }
 
 // The same of a String in the sheet.
@@ -49,7 +34,5 @@ pub fn declares(sheet: &[u8], x: Quoted) -> bool
     requires { QuotedPart (length sheet.now) x }
     ensures { result ≡ is_augmentation (part sheet.now x.start x.end) }
 {
-    let start = x.start;
-    let end = x.end;
-    is_augmentation(&sheet[start..end])
+    is_augmentation(&sheet[x.start..x.end])
 }

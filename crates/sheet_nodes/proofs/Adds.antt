@@ -1,19 +1,21 @@
 -- How what is found adds up.
-use Rattle.laws.proofs.Prelude.{◌≡◌, Bool, false, not, ◌&&◌, ◌||◌, or-true, ◌+◌, add-zero, zero-add}
+use Rattle.laws.proofs.Prelude.{◌≡◌, Bool, false, ℕ, not, ◌&&◌, ◌||◌, or-true, ◌+◌, add-zero, zero-add}
 use mathlib.Core.Bool.{and-false, or_assoc, or-false}
 use native.Mathlib.Nat.{add_assoc}
 use Rattle.sheet.specs.{declared.fields.Span.Span, Shape.shape, Shape.is_uncooked, Walk.walk_of}
 use Rattle.sheet.specs.Tree.{Node, Arguments, no_arguments, argument}
 use Rattle.sheet.specs.Walked.{counting, entries, judging, uncooked}
-use Rattle.sheet_nodes.specs.declared.tally.{Tally.Tally, NodeTally.NodeTally, Passed.Passed}
+use Rattle.sheet_nodes.specs.declared.tally.{Tally.Tally, Passed.Passed}
 use Rattle.sheet_nodes.specs.code.Tallies.{node_tally, plus, with_argument, passed}
 
 abbrev pub nothing : Tally
 nothing = record { entries = 0; uncooked = false }
 
--- what a node counts for among others
-abbrev pub tally_of : NodeTally → Tally
-tally_of j = record { entries = j.entries; uncooked = j.uncooked }
+pub is_nothing : {t : Tally} → (t.entries ≡ 0) × (t.uncooked ≡ false) → t ≡ nothing
+is_nothing h = go h.0 h.1
+  where
+    go : {n : ℕ} {b : Bool} → n ≡ 0 → b ≡ false → ◌≡◌ {A = Tally} (record { entries = n; uncooked = b }) nothing
+    go e f = rw (e, f)
 
 pub plus_assoc : (t u v : Tally) → plus (plus t u) v ≡ plus t (plus u v)
 plus_assoc t u v = rw (add_assoc t.entries u.entries v.entries, or_assoc t.uncooked u.uncooked v.uncooked)
@@ -26,6 +28,13 @@ plus_nothing t = rw (add-zero, or-false t.uncooked)
 
 abbrev pub no_passed : Passed
 no_passed = record { entries = 0; uncooked = false; any = false; template = false }
+
+pub is_no_passed : {p : Passed} → (p.entries ≡ 0) × ((p.uncooked ≡ false) × ((p.any ≡ false) × (p.template ≡ false))) → p ≡ no_passed
+is_no_passed h = go h.0 h.1.0 h.1.1.0 h.1.1.1
+  where
+    go : {n : ℕ} {b c d : Bool} → n ≡ 0 → b ≡ false → c ≡ false → d ≡ false
+        → ◌≡◌ {A = Passed} (record { entries = n; uncooked = b; any = c; template = d }) no_passed
+    go e f g h = rw (e, f, g, h)
 
 -- arguments behind others
 abbrev pub behind_passed : Passed → Arguments → Passed

@@ -1,15 +1,15 @@
 -- How far the entries of the root's children reach, child by child.
-use Rattle.laws.proofs.Prelude.{◌≡◌, refl, sym, ap, ◌∙◌, List, [], ℕ, zero, suc, ◌+◌, ◌-◌, ◌≤◌, ◌<◌, arith, drop, seen}
+use Rattle.laws.proofs.Prelude.{◌≡◌, refl, sym, ap, ◌∙◌, List, [], ℕ, zero, suc, ◌+◌, ◌-◌, ◌≤◌, ◌<◌, add-one, arith, drop, seen, sub-zero}
 use Rattle.laws.specs.Decoded.{ok, on_ok, Decoder}
 use Rattle.laws.proofs.Answers.{Yields, ends, behind}
 use Rattle.laws.proofs.Decoding.{then_ok, on_ok_ok}
-use Rattle.wire.specs.declared.Cursor.{Cursor}
+use Rattle.std.specs.Prelude.{Ok}
+use Rattle.wire.specs.{declared.Cursor.Cursor, code.Views.Reading}
 use Rattle.sheet.specs.{declared.fields.Span.Span, Walk.walk_all, Walked.counting, Walked.entries}
 use Rattle.sheet.specs.Tree.{Node, other, Nodes, none, more, Attributes}
 use Rattle.sheet.specs.Nodes.{many, piece, nodes, properties, call_rest, type_rest, node, attributes_object}
-use Rattle.sheet_heads.specs.{declared.node.Head.Head, declared.node.HeadRead.HeadRead, code.Rest.behind as object_behind, code.Rest.rest}
+use Rattle.sheet_heads.specs.{declared.node.Head.Head, code.Rest.behind as object_behind, code.Rest.rest}
 use Rattle.sheet_heads.specs.declared.node.Head.TheVariants as head
-use Rattle.sheet_heads.specs.declared.node.HeadRead.TheVariants as head_read
 use Rattle.sheet_heads.specs.code.Head as heads
 use Rattle.sheet_heads.{specs.code.Views.head_of, specs.code.Views.head_as, proofs.ByHead.behind_head, proofs.Many.many_next, proofs.Many.many_end}
 use Rattle.sheet_nodes.specs.{declared.tally.NodeTally.NodeTally, code.Tallies.node_tally}
@@ -43,40 +43,32 @@ kept_step {done} {reach} {n} {from} {coming} {ns} before first h found =
     go zero last none_coming = last (omega arith)
     go (suc e) last none_coming = rw one_more (kept.on 1 (past (quiet none_coming)))
 
-pub furthest_here : (reach e here : ℕ) → 0 < e → here ≡ furthest reach e here
-furthest_here reach zero here h = absurd (omega arith)
-furthest_here reach (suc e) here h = refl
-
-pub furthest_kept : (reach e here : ℕ) → e ≤ 0 → reach ≡ furthest reach e here
-furthest_kept reach zero here h = refl
-furthest_kept reach (suc e) here h = absurd (omega arith)
-
 -- what the loop over children keeps, with those from v on to come
 module _ (inner : Decoder Node) (count : ℕ) (u : List ℕ) where
   abbrev pub Reached : ℕ → ℕ → List ℕ → Type 0
-  Reached left reach v = (ns : Nodes) (t : List ℕ) → nodes inner count u ≡ ok ns t
-      → (coming : Nodes) × (nodes inner left v ≡ ok coming t) × Kept (count - left) reach coming ns
+  Reached done reach v = (ns : Nodes) (t : List ℕ) → nodes inner count u ≡ ok ns t
+      → (coming : Nodes) × (nodes inner (count - done) v ≡ ok coming t) × Kept done reach coming ns
 
-  pub reached_first : Reached count 0 u
-  reached_first ns t e = let all : count - count ≡ 0 = omega arith in (ns, e, rw all (kept_first ns))
+  pub reached_first : Reached 0 0 u
+  reached_first ns t e = (ns, rw sub-zero e, kept_first ns)
 
-  module _ (left reach : ℕ) (v : List ℕ) (so_far : Reached left reach v) where
-    pub reached_step : {j : NodeTally} {w : List ℕ} → 0 < left → left ≤ count → on_ok node_tally (inner v) ≡ ok j w
-        → Reached (left - 1) (furthest reach j.entries (count - (left - 1))) w
+  module _ (done reach : ℕ) (v : List ℕ) (so_far : Reached done reach v) where
+    pub reached_step : {j : NodeTally} {w : List ℕ} → done < count → on_ok node_tally (inner v) ≡ ok j w
+        → Reached (done + 1) (furthest reach j.entries (done + 1)) w
     unfolding nodes
-    reached_step {j} h few e ns t whole =
+    reached_step {j} h e ns t whole =
         let (coming, others, kept) = so_far ns t whole in
         let (n, is, gives) = on_ok_ok node_tally (inner v) e in
-        let (m, behind, first) = many_next none (node_item inner) left v h (ap (on_ok (λ n l. more n l)) is) others in
-        let done : count - (left - 1) ≡ suc (count - left) = omega arith in
+        let (m, behind, first) = many_next none (node_item inner) (count - done) v (omega arith) (ap (on_ok (λ n l. more n l)) is) others in
+        let down : count - (done + 1) ≡ count - done - 1 = omega arith in
         let found : j.entries ≡ entries n = ap (λ j. j.entries) (sym gives) in
-        (m, behind, kept_step kept first done found)
+        (m, rw down behind, kept_step kept first (add-one done) found)
 
-    pub reached_end : left ≤ 0 → (ns : Nodes) (t : List ℕ) → nodes inner count u ≡ ok ns t → Reaches reach ns
+    pub reached_end : count ≤ done → (ns : Nodes) (t : List ℕ) → nodes inner count u ≡ ok ns t → Reaches reach ns
     unfolding nodes
     reached_end h ns t whole =
         let (coming, others, kept) = so_far ns t whole in
-        kept.here (ap (walk_all counting) (many_end none (node_item inner) left v h others))
+        kept.here (ap (walk_all counting) (many_end none (node_item inner) (count - done) v (omega arith) others))
 
 -- a head of a variant besides Other
 abbrev NoOther : Head → Type 0
@@ -113,8 +105,8 @@ module _ (s source : List ℕ) (levels : ℕ) (sp : Span) where
   no_other (head.NamedModule x n) k = behind (nodes inner n) λ ns. ends (unlike λ sp ns e. cc)
 
 -- the root by its head
-module _ (s source : List ℕ) (at levels : ℕ) {r : HeadRead} {sp : Span} {x : Head} {next : Cursor} {n : Node} {t : List ℕ}
-    (says : head_as s r ≡ heads.head source levels (drop at s)) (is : r ≡ head_read.Is sp x next) (whole : node source levels (drop at s) ≡ ok n t) where
+module _ (s source : List ℕ) (at levels : ℕ) {r : Reading (Span × Head)} {sp : Span} {x : Head} {next : Cursor} {n : Node} {t : List ℕ}
+    (says : head_as s r ≡ heads.head source levels (drop at s)) (is : r ≡ Ok ((sp, x), next)) (whole : node source levels (drop at s) ≡ ok n t) where
   follows : rest source (levels - 1) (sp, head_of s x) (drop next.at s) ≡ ok n t
   follows = behind_head source levels (drop at s) whole (seen (head_as s) says is)
 

@@ -1,13 +1,10 @@
-// What is found in nodes, and how it adds up.
+// What is found in nodes, and how it adds up. Truth values are joined by `|` and `&`: with `||` and `&&`, which test, the check is slower.
 ghost use Rattle.std.specs.Prelude.{◌≡◌, ◌+◌, ◌^◌, ◌<◌};
-ghost use Rattle.sheet_nodes.specs.code.Tallies.{plus, with_argument, import_callee};
-ghost use Rattle.sheet_nodes.specs.code.Answers.{leaf_of, with_own, only_entry, joined, with_nodes, called_by, Room, RoomPassed};
-
-use text::truth::{both, count_one, either};
-use wire::Cursor;
+ghost use Rattle.sheet_nodes.specs.code.Tallies.{tally_of, plus, with_argument, import_callee};
+ghost use Rattle.sheet_nodes.specs.code.Answers.{leaf_of, with_own, with_nodes, called_by};
 
 // Of nodes: how many dependencies they give, and whether a call in them has an uncooked template for its first argument.
-#[derive(Clone, Copy)]
+#[derive(Clone, Copy, Default)]
 pub struct Tally {
     pub entries: usize,
     pub uncooked: bool,
@@ -23,7 +20,7 @@ pub struct NodeTally {
 }
 
 // Of arguments also: is there one, is the first a template with an uncooked piece?
-#[derive(Clone, Copy)]
+#[derive(Clone, Copy, Default)]
 pub struct Passed {
     pub entries: usize,
     pub uncooked: bool,
@@ -31,25 +28,16 @@ pub struct Passed {
     pub template: bool,
 }
 
-// What was found in a node, with the cursor past it, or a refusal's number.
-#[derive(Clone, Copy)]
-pub enum Checked {
-    Is(NodeTally, Cursor),
-    Refused(usize),
-}
+// What a node counts for among others.
+impl From<NodeTally> for Tally {
+    ghost from_gives = { λ j t. t ≡ tally_of j };
 
-// What was found in nodes, with the cursor past them, or a refusal's number.
-#[derive(Clone, Copy)]
-pub enum Tallied {
-    Is(Tally, Cursor),
-    Refused(usize),
-}
-
-// What was found in arguments, with the cursor past them, or a refusal's number.
-#[derive(Clone, Copy)]
-pub enum PassedRead {
-    Is(Passed, Cursor),
-    Refused(usize),
+    fn from(j: NodeTally) -> Tally {
+        Tally {
+            entries: j.entries,
+            uncooked: j.uncooked,
+        }
+    }
 }
 
 pub fn add(t: Tally, u: Tally) -> Tally
@@ -58,7 +46,7 @@ pub fn add(t: Tally, u: Tally) -> Tally
 {
     Tally {
         entries: t.entries + u.entries,
-        uncooked: either(t.uncooked, u.uncooked),
+        uncooked: t.uncooked | u.uncooked,
     }
 }
 
@@ -69,83 +57,47 @@ pub fn add_argument(p: Passed, j: NodeTally) -> Passed
 {
     Passed {
         entries: p.entries + j.entries,
-        uncooked: either(p.uncooked, j.uncooked),
+        uncooked: p.uncooked | j.uncooked,
         any: true,
-        template: either(p.template, both(!p.any, j.template)),
+        template: p.template | !p.any & j.template,
     }
 }
 
 // A node that holds none that is walked: has it an entry, is it the Name `require`?
-pub fn leaf(own: bool, require: bool, next: Cursor) -> Checked
-    ensures { result ≡ leaf_of own require next }
+pub fn leaf(own: bool, require: bool) -> NodeTally
+    ensures { result ≡ leaf_of own require }
 {
-    Checked::Is(
-        NodeTally {
-            entries: count_one(own),
-            uncooked: false,
-            require,
-            template: false,
-        },
-        next,
-    )
+    NodeTally {
+        entries: usize::from(own),
+        uncooked: false,
+        require,
+        template: false,
+    }
 }
 
 // A node that holds nodes: has it an entry of its own, is it a template with an uncooked piece?
-pub fn holding(own: bool, template: bool, r: Tallied) -> Checked
-    requires { Room 1 r }
-    ensures { result ≡ with_own own template r }
+pub fn holding(own: bool, template: bool, t: Tally) -> NodeTally
+    requires { 1 + t.entries < 2 ^ 64 }
+    ensures { result ≡ with_own own template t }
 {
-    match r {
-        Tallied::Refused(r) => Checked::Refused(r),
-        Tallied::Is(t, next) => Checked::Is(
-            NodeTally {
-                entries: count_one(own) + t.entries,
-                uncooked: t.uncooked,
-                require: false,
-                template,
-            },
-            next,
-        ),
-    }
-}
-
-// A node with an entry, in which nothing is walked.
-pub fn entry_only(r: Tallied) -> Checked
-    ensures { result ≡ only_entry r }
-{
-    match r {
-        Tallied::Refused(r) => Checked::Refused(r),
-        Tallied::Is(_, next) => leaf(true, false, next),
-    }
-}
-
-// Nodes behind others.
-pub fn join(t: Tally, r: Tallied) -> Tallied
-    requires { Room t.entries r }
-    ensures { result ≡ joined t r }
-{
-    match r {
-        Tallied::Refused(r) => Tallied::Refused(r),
-        Tallied::Is(u, next) => Tallied::Is(add(t, u), next),
+    NodeTally {
+        entries: usize::from(own) + t.entries,
+        uncooked: t.uncooked,
+        require: false,
+        template,
     }
 }
 
 // Nodes behind arguments.
-pub fn join_passed(p: Passed, r: Tallied) -> PassedRead
-    requires { Room p.entries r }
-    ensures { result ≡ with_nodes p r }
+pub fn join_passed(p: Passed, t: Tally) -> Passed
+    requires { p.entries + t.entries < 2 ^ 64 }
+    ensures { result ≡ with_nodes p t }
 {
-    match r {
-        Tallied::Refused(r) => PassedRead::Refused(r),
-        Tallied::Is(u, next) => PassedRead::Is(
-            Passed {
-                entries: p.entries + u.entries,
-                uncooked: either(p.uncooked, u.uncooked),
-                any: p.any,
-                template: p.template,
-            },
-            next,
-        ),
+    Passed {
+        entries: p.entries + t.entries,
+        uncooked: p.uncooked | t.uncooked,
+        any: p.any,
+        template: p.template,
     }
 }
 
@@ -153,34 +105,20 @@ pub fn join_passed(p: Passed, r: Tallied) -> PassedRead
 pub fn import_callee() -> NodeTally
     ensures { result ≡ import_callee }
 {
-    NodeTally {
-        entries: 0,
-        uncooked: false,
-        require: true,
-        template: false,
-    }
+    leaf(false, true)
 }
 
 // A call, from what was found in its callee: a listed one with an argument has an entry.
-pub fn called(callee: NodeTally, r: PassedRead) -> Checked
-    requires { RoomPassed (callee.entries + 1) r }
-    ensures { result ≡ called_by callee r }
+pub fn called(callee: NodeTally, p: Passed) -> NodeTally
+    requires { callee.entries + 1 + p.entries < 2 ^ 64 }
+    ensures { result ≡ called_by callee p }
 {
-    match r {
-        PassedRead::Refused(r) => Checked::Refused(r),
-        PassedRead::Is(p, next) => {
-            let own = count_one(both(callee.require, p.any));
-            let inside = either(callee.uncooked, p.uncooked);
-            let first = both(callee.require, p.template);
-            Checked::Is(
-                NodeTally {
-                    entries: callee.entries + p.entries + own,
-                    uncooked: either(inside, first),
-                    require: false,
-                    template: false,
-                },
-                next,
-            )
-        }
+    let own = callee.require & p.any;
+    let first = callee.require & p.template;
+    NodeTally {
+        entries: callee.entries + p.entries + usize::from(own),
+        uncooked: callee.uncooked | p.uncooked | first,
+        require: false,
+        template: false,
     }
 }

@@ -1,29 +1,32 @@
 -- What the stepping matcher goes by: the preferred match of a row by its first step, and by the places where a run can end.
-use Rattle.laws.proofs.Prelude.{◌≡◌, refl, sym, ap, ◌∙◌, Bool, true, false, cond, List, [], ◌∷◌, ◌++◌, append-nil, append_assoc, flat_map, ℕ, ◌+◌, ◌≤◌, ◌<◌}
-use Rattle.laws.proofs.Prelude.{add-zero, arith, take, drop, known}
+use Rattle.std.specs.Prelude.{Option, Some, None, is_some, Ok, Err}
+use Rattle.laws.proofs.Prelude.{◌≡◌, refl, sym, ap, ◌∙◌, Bool, true, false, true≢false, cond, List, [], ◌∷◌, ◌++◌, append-nil, append_assoc, flat_map, ℕ}
+use Rattle.laws.proofs.Prelude.{◌+◌, ◌≤◌, ◌<◌, add-zero, arith, take, drop}
 use mathlib.Core.List.{reverse, reverse-cons}
 use Rattle.text.specs.{declared.class.Class.Class, declared.utf8.Encoding.TheVariants.Utf8, Utf8.char_length, Utf8.char_at}
 use Rattle.text.specs.Class.{member, class_at, run_end}
 use Rattle.text.proofs.Runs.{run_stops}
-use Rattle.analysis.specs.declared.{Capture.Capture, Found.Found, Found.TheVariants.At, Found.TheVariants.Nothing}
-use Rattle.analysis.specs.Row.{Row, done, longest, shortest, run_ends, all, first}
+use Rattle.analysis.specs.declared.Capture.{Capture}
+use Rattle.analysis.specs.Row.{Row, one_at, done, longest, shortest, run_ends, all, first}
 use Rattle.analysis.proofs.Ends.{ends_stop, ends_go_on, ends_begin, by_characters, end_behind}
-use Rattle.analysis.proofs.Search.{first_append}
-use Rattle.steps.specs.declared.{table.Ill.Ill, table.Plain.Plain, run.Passed.Passed, run.Passed.TheVariants.On, run.Passed.TheVariants.Not}
-use Rattle.steps.specs.declared.table.Step.TheVariants.{Done, Pass, Longest, Shortest, Either, Bad}
+use Rattle.analysis.proofs.{Search.first_append, RowSteps.some_there, RowSteps.none_there}
+use Rattle.steps.specs.declared.{table.Ill.Ill, table.Plain.Plain}
+use Rattle.steps.specs.declared.table.Step.TheVariants.{Done, Pass, Longest, Shortest, Either}
 use Rattle.steps.specs.Table.{row, before, step_of, row_in}
 use Rattle.steps.specs.Answers.{Passes, Precedes, FirstOf}
 use Rattle.steps.proofs.Decoding.{row_in_lem, before_row, between_rows}
 
 -- the first of two lists of matches that has one
-hit : (a b : List Capture) {x : Found} {k : Capture} → x ≡ first a → x ≡ At k → x ≡ first (a ++ b)
-hit a b e is = sym (first_append a b ∙ rw (known e is) (sym is))
+hit : (a b : List Capture) {x : Option Capture} → x ≡ first a → true ≡ is_some x → x ≡ first (a ++ b)
+hit a b {x = Some k} e t = sym (first_append a b ∙ rw (← e))
+hit a b {x = None} e t = absurd (true≢false t)
 
-miss : (a b : List Capture) {x : Found} → x ≡ first a → x ≡ Nothing → first (a ++ b) ≡ first b
-miss a b e is = first_append a b ∙ rw (known e is)
+miss : (a b : List Capture) {x : Option Capture} → x ≡ first a → false ≡ is_some x → first (a ++ b) ≡ first b
+miss a b {x = Some k} e t = absurd (true≢false (sym t))
+miss a b {x = None} e t = first_append a b ∙ rw (← e)
 
 -- the preferred match of the row that the numbers stand for
-abbrev pub Whole : List ℕ → List ℕ → ℕ → Capture → Found → Type 0
+abbrev pub Whole : List ℕ → List ℕ → ℕ → Capture → Option Capture → Type 0
 Whole = FirstOf (λ q. q)
 
 -- the preferred match of the row at one place of a table and of the body is that of the row at another
@@ -42,26 +45,26 @@ module _ {s t : List ℕ} {at : ℕ} {k : Capture} where
         (p, j, x ∙ y);
   }
 
-  pub arrives : {u : List ℕ} {end : ℕ} {l : Capture} {x : Found} → Goes s t at k u end l → Whole u s end l x → Whole t s at k x
+  pub arrives : {u : List ℕ} {end : ℕ} {l : Capture} {x : Option Capture} → Goes s t at k u end l → Whole u s end l x → Whole t s at k x
   arrives f a = record { is = λ q e. let (r, i, v) = f.on q e in a.is r i ∙ sym v }
 
   -- by the first step
-  pub at_done : step_of t ≡ Done → Whole t s at k (At k)
+  pub at_done : step_of t ≡ Ok Done → Whole t s at k (Some k)
   unfolding all first
   at_done e = record { is = λ q i. let same : q ≡ done = cc (row_in_lem t e) in rw same }
 
-  pub at_bad : {y : Ill} {x : Found} → step_of t ≡ Bad y → Whole t s at k x
-  at_bad e = record { is = λ q i. let z : ◌≡◌ {A = ℕ} 0 1 = cc (row_in_lem t e) in absurd (omega arith) }
+  pub at_bad : {y : Ill} {x : Option Capture} → step_of t ≡ Err y → Whole t s at k x
+  at_bad e = record { is = λ q i. cc (row_in_lem t e) }
 
-  module _ {p : Plain} {wide : ℕ} (e : step_of t ≡ Pass p wide) {x : Passed} (f : Passes p t s at k x) where
-    pub passed : {end : ℕ} {l : Capture} → x ≡ On end l → Goes s t at k (drop wide t) end l
+  module _ {p : Plain} {wide : ℕ} (e : step_of t ≡ Ok (Pass p wide)) {x : Option (ℕ × Capture)} (f : Passes p t s at k x) where
+    pub passed : {end : ℕ} {l : Capture} → x ≡ Some (end, l) → Goes s t at k (drop wide t) end l
     passed is = record {
       on = λ q i.
           let (r, j, same) = before_row (row_in (drop wide t)) (sym (row_in_lem t e) ∙ i) in
           (r, j, ap (λ (x : Row). first (all x s at k)) same ∙ ap first (f r) ∙ rw is);
     }
 
-    pub unpassed : x ≡ Not → Whole t s at k Nothing
+    pub unpassed : x ≡ None → Whole t s at k None
     unfolding first
     unpassed is = record {
       is = λ q i.
@@ -69,21 +72,21 @@ module _ {s t : List ℕ} {at : ℕ} {k : Capture} where
           sym (ap (λ (x : Row). first (all x s at k)) same ∙ ap first (f r) ∙ rw is);
     }
 
-  at_run : {step : Row → Row} {x : Found} → row_in t ≡ before step (row_in (drop 2 t)) → FirstOf step (drop 2 t) s at k x → Whole t s at k x
+  at_run : {step : Row → Row} {x : Option Capture} → row_in t ≡ before step (row_in (drop 2 t)) → FirstOf step (drop 2 t) s at k x → Whole t s at k x
   at_run e f = record {
     is = λ q i.
         let (r, j, same) = before_row (row_in (drop 2 t)) (sym e ∙ i) in
         rw same (f.is r j);
   }
 
-  pub at_longest : {c : Class} {x : Found} → step_of t ≡ Longest c → FirstOf (longest c) (drop 2 t) s at k x → Whole t s at k x
+  pub at_longest : {c : Class} {x : Option Capture} → step_of t ≡ Ok (Longest c) → FirstOf (longest c) (drop 2 t) s at k x → Whole t s at k x
   at_longest e = at_run (row_in_lem t e)
 
-  pub at_shortest : {c : Class} {x : Found} → step_of t ≡ Shortest c → FirstOf (shortest c) (drop 2 t) s at k x → Whole t s at k x
+  pub at_shortest : {c : Class} {x : Option Capture} → step_of t ≡ Ok (Shortest c) → FirstOf (shortest c) (drop 2 t) s at k x → Whole t s at k x
   at_shortest e = at_run (row_in_lem t e)
 
-  module _ {n : ℕ} (e : step_of t ≡ Either n) {x : Found} (f : Whole (take n (drop 2 t)) s at k x) where
-    pub at_first : {l : Capture} → x ≡ At l → Whole t s at k x
+  module _ {n : ℕ} (e : step_of t ≡ Ok (Either n)) {x : Option Capture} (f : Whole (take n (drop 2 t)) s at k x) where
+    pub at_first : true ≡ is_some x → Whole t s at k x
     unfolding all
     at_first is = record {
       is = λ q i.
@@ -91,7 +94,7 @@ module _ {s t : List ℕ} {at : ℕ} {k : Capture} where
           rw same (hit (all a s at k) (all b s at k) (f.is a j) is);
     }
 
-    pub at_second : x ≡ Nothing → Goes s t at k (drop (2 + n) t) at k
+    pub at_second : false ≡ is_some x → Goes s t at k (drop (2 + n) t) at k
     unfolding all
     at_second is = record {
       on = λ q i.
@@ -103,18 +106,20 @@ module _ {s t : List ℕ} {at : ℕ} {k : Capture} where
 pub record Shorter (c : Class) (t s : List ℕ) (k : Capture) (at e : ℕ) : Type 0 where
   pub on : (q : Row) → row_in t ≡ row q → first (all (shortest c q) s at k) ≡ first (all (shortest c q) s e k)
 
-module _ {c : Class} {t s : List ℕ} {k : Capture} {at e : ℕ} {x : Found} (f : Whole t s e k x) (before : Shorter c t s k at e) where
-  pub short_hit : {l : Capture} → x ≡ At l → FirstOf (shortest c) t s at k x
+module _ {c : Class} {t s : List ℕ} {k : Capture} {at e : ℕ} {x : Option Capture} (f : Whole t s e k x) (before : Shorter c t s k at e) where
+  pub short_hit : true ≡ is_some x → FirstOf (shortest c) t s at k x
   unfolding all flat_map
   short_hit is = record { is = λ q i. sym (before.on q i ∙ rw (ends_begin c s e).1 (sym (hit (all q s e k) _ (f.is q i) is))) }
 
-  pub short_stop : x ≡ Nothing → class_at c (drop e s) ≡ 0 → FirstOf (shortest c) t s at k Nothing
+  pub short_stop : false ≡ is_some x → None ≡ one_at c s e → FirstOf (shortest c) t s at k None
   unfolding all flat_map first
-  short_stop is z = record { is = λ q i. sym (before.on q i ∙ rw (ends_stop c s e z) (miss (all q s e k) [] (f.is q i) is)) }
+  short_stop is z = record { is = λ q i. sym (before.on q i ∙ rw (ends_stop c s e (none_there e _ z)) (miss (all q s e k) [] (f.is q i) is)) }
 
-  pub short_on : x ≡ Nothing → {n : ℕ} → n ≡ class_at c (drop e s) → (n ≡ 0 → ⊥) → Shorter c t s k at (e + n)
+  pub short_on : false ≡ is_some x → {d : ℕ} → Some d ≡ one_at c s e → (e < d) × Shorter c t s k at d
   unfolding all flat_map
-  short_on is there z = record { on = λ q i. before.on q i ∙ rw (ends_go_on c s e there z) (miss (all q s e k) _ (f.is q i) is) }
+  short_on is z =
+      let (n, there) = some_there e _ z in
+      (omega arith, rw there (record { on = λ q i. before.on q i ∙ rw (ends_go_on c s e refl n) (miss (all q s e k) _ (f.is q i) is) }))
 
 -- the ends of runs from a place up to another, the longest first
 pub data Back (c : Class) (s : List ℕ) (at : ℕ) : ℕ → List ℕ → Type 0 where
@@ -158,8 +163,8 @@ class_length c u z = go (member c (char_at Utf8 u).code) z
     go true z = refl
     go false z = absurd (z refl)
 
-module _ {c : Class} {t s : List ℕ} {k : Capture} {at e : ℕ} {x : Found} (f : Whole t s e k x) (before : Longer c t s k at e) where
-  pub long_hit : {l : Capture} → x ≡ At l → FirstOf (longest c) t s at k x
+module _ {c : Class} {t s : List ℕ} {k : Capture} {at e : ℕ} {x : Option Capture} (f : Whole t s e k x) (before : Longer c t s k at e) where
+  pub long_hit : true ≡ is_some x → FirstOf (longest c) t s at k x
   unfolding flat_map
   long_hit is = record {
     is = λ q i.
@@ -167,15 +172,15 @@ module _ {c : Class} {t s : List ℕ} {k : Capture} {at e : ℕ} {x : Found} (f 
         hit (all q s e k) (flat_map (λ d. all q s d k) m) (f.is q i) is ∙ sym (before.on q i ∙ ap (λ (l : List ℕ). first (flat_map (λ d. all q s d k) l)) p);
   }
 
-  pub long_stop : x ≡ Nothing → e ≤ at → FirstOf (longest c) t s at k Nothing
+  pub long_stop : false ≡ is_some x → e ≤ at → FirstOf (longest c) t s at k None
   unfolding flat_map first
   long_stop is h = record { is = λ q i. sym (before.on q i ∙ go q before.ends h (f.is q i)) }
     where
-      go : (q : Row) {d : ℕ} {l : List ℕ} → Back c s at d l → d ≤ at → x ≡ first (all q s d k) → first (flat_map (λ d. all q s d k) l) ≡ Nothing
+      go : (q : Row) {d : ℕ} {l : List ℕ} → Back c s at d l → d ≤ at → x ≡ first (all q s d k) → first (flat_map (λ d. all q s d k) l) ≡ None
       go q begin i g = miss (all q s at k) [] g is
       go q (more b z p) i g = absurd (omega (arith, back_onward b))
 
-  pub long_back : {r : ℕ} → x ≡ Nothing → at < e → Precedes s e r → (at ≤ r) × Longer c t s k at r
+  pub long_back : {r : ℕ} → false ≡ is_some x → at < e → Precedes s e r → (at ≤ r) × Longer c t s k at r
   unfolding flat_map
   long_back {r} is h start = go e refl before.left before.ends before.on
     where

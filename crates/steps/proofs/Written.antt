@@ -1,4 +1,5 @@
 -- Every row is what the numbers stand for by which it is written.
+use Rattle.std.specs.Prelude.{Ok}
 use Rattle.laws.proofs.Prelude.{◌≡◌, refl, ap, ◌∙◌, true, false, List, [], ◌∷◌, ◌++◌, ℕ, suc, ◌+◌, ◌-◌, arith, eqb, ltb, length, drop, length-append}
 use Rattle.laws.proofs.Prelude.{take-append_seam, drop-append_seam, ne_eqb, le-ltb}
 use lib.Dec.{eqb-suc-zero}
@@ -7,7 +8,7 @@ use Rattle.text.specs.declared.class.Class.TheVariants.{White, NotWhite, WhiteOr
 use Rattle.analysis.specs.Row.{Row, done, start, word, one, longest, shortest, from, to, either}
 use Rattle.steps.specs.declared.table.Plain.TheVariants.{Start, Word, One, From, To}
 use Rattle.steps.specs.declared.table.Step.TheVariants.{Done, Pass, Longest, Shortest, Either}
-use Rattle.steps.specs.Codes.{START, TO, WORD, ONE, LONGEST, SHORTEST, FROM, EITHER, name_rest}
+use Rattle.steps.specs.Codes.{START, TO, WORD, ONE, LONGEST, SHORTEST, FROM, EITHER}
 use Rattle.steps.specs.Table.{Decoded, row, before, between, class_of, argued_by, step_of, row_in}
 use Rattle.steps.specs.Written.{code_of, written}
 use Rattle.steps.proofs.Decoding.{row_in_lem}
@@ -22,17 +23,17 @@ argued code n u a b d e =
     rw (eqb-suc-zero (suc (length u)), a, b, d, e, one, rest)
 
 -- the number of a class is that of no other
-class_coded : (c : Class) → (eqb (code_of c) 0 ≡ false) × (ltb name_rest (code_of c) ≡ false) × (class_of (code_of c) ≡ c)
+class_coded : (c : Class) → class_of (code_of c) ≡ Ok c
 unfolding class_of
-class_coded White = (refl, refl, refl)
-class_coded NotWhite = (refl, refl, refl)
-class_coded WhiteOrStar = (refl, refl, refl)
-class_coded NotLf = (refl, refl, refl)
-class_coded Quote = (refl, refl, refl)
-class_coded NotQuote = (refl, refl, refl)
-class_coded SourceMark = (refl, refl, refl)
-class_coded Alphabetic = (refl, refl, refl)
-class_coded NameRest = (refl, refl, refl)
+class_coded White = refl
+class_coded NotWhite = refl
+class_coded WhiteOrStar = refl
+class_coded NotLf = refl
+class_coded Quote = refl
+class_coded NotQuote = refl
+class_coded SourceMark = refl
+class_coded Alphabetic = refl
+class_coded NameRest = refl
 
 -- behind a first row
 seam : (a b : List ℕ) → ltb (length (a ++ b)) (length a) ≡ false
@@ -41,15 +42,15 @@ seam a b = le-ltb (length (a ++ b)) (length a) (omega (arith, length-append a b)
 behind_part : (code n : ℕ) (a b : List ℕ) → drop (2 + length a) (code ∷ n ∷ a ++ b) ≡ b
 behind_part code n a b = let two : 2 + length a ≡ suc (suc (length a)) = omega arith in rw two (drop-append_seam a b)
 
-begins_empty : step_of [] ≡ Done
+begins_empty : step_of [] ≡ Ok Done
 unfolding step_of
 begins_empty = refl
 
-begins_start : (u : List ℕ) → step_of (START ∷ u) ≡ Pass Start 1
+begins_start : (u : List ℕ) → step_of (START ∷ u) ≡ Ok (Pass Start 1)
 unfolding step_of
 begins_start u = rw (eqb-suc-zero (length u))
 
-begins_to : (u : List ℕ) → step_of (TO ∷ u) ≡ Pass To 1
+begins_to : (u : List ℕ) → step_of (TO ∷ u) ≡ Ok (Pass To 1)
 unfolding step_of
 begins_to u = rw (eqb-suc-zero (length u))
 
@@ -59,29 +60,29 @@ stands_for done = row_in_lem [] begins_empty
 stands_for (start r) = row_in_lem (START ∷ written r) (begins_start (written r)) ∙ ap (before start) (stands_for r)
 stands_for (to r) = row_in_lem (TO ∷ written r) (begins_to (written r)) ∙ ap (before to) (stands_for r)
 stands_for (word w r) =
-    row_in_lem (WORD ∷ length w ∷ w ++ written r) {x = Pass (Word (length w)) (2 + length w)}
+    row_in_lem (WORD ∷ length w ∷ w ++ written r) {x = Ok (Pass (Word (length w)) (2 + length w))}
     (argued WORD (length w) (w ++ written r) refl refl refl refl ∙ rw (seam w (written r)))
     ∙ ap (λ (v : List ℕ). before (word v) (row_in (drop (2 + length w) (WORD ∷ length w ∷ w ++ written r)))) (take-append_seam w (written r))
     ∙ ap (λ (v : List ℕ). before (word w) (row_in v)) (behind_part WORD (length w) w (written r))
     ∙ ap (before (word w)) (stands_for r)
 stands_for (one c r) =
-    row_in_lem (ONE ∷ code_of c ∷ written r) {x = Pass (One c) 2}
-    (argued ONE (code_of c) (written r) refl refl refl refl ∙ rw ((class_coded c).0, (class_coded c).1, (class_coded c).2))
+    row_in_lem (ONE ∷ code_of c ∷ written r) {x = Ok (Pass (One c) 2)}
+    (argued ONE (code_of c) (written r) refl refl refl refl ∙ rw (class_coded c))
     ∙ ap (before (one c)) (stands_for r)
 stands_for (longest c r) =
-    row_in_lem (LONGEST ∷ code_of c ∷ written r) {x = Longest c}
-    (argued LONGEST (code_of c) (written r) refl refl refl refl ∙ rw ((class_coded c).0, (class_coded c).1, (class_coded c).2))
+    row_in_lem (LONGEST ∷ code_of c ∷ written r) {x = Ok (Longest c)}
+    (argued LONGEST (code_of c) (written r) refl refl refl refl ∙ rw (class_coded c))
     ∙ ap (before (longest c)) (stands_for r)
 stands_for (shortest c r) =
-    row_in_lem (SHORTEST ∷ code_of c ∷ written r) {x = Shortest c}
-    (argued SHORTEST (code_of c) (written r) refl refl refl refl ∙ rw ((class_coded c).0, (class_coded c).1, (class_coded c).2))
+    row_in_lem (SHORTEST ∷ code_of c ∷ written r) {x = Ok (Shortest c)}
+    (argued SHORTEST (code_of c) (written r) refl refl refl refl ∙ rw (class_coded c))
     ∙ ap (before (shortest c)) (stands_for r)
-stands_for (from true r) = row_in_lem (FROM ∷ 1 ∷ written r) {x = Pass (From true) 2} (argued FROM 1 (written r) refl refl refl refl) ∙
+stands_for (from true r) = row_in_lem (FROM ∷ 1 ∷ written r) {x = Ok (Pass (From true) 2)} (argued FROM 1 (written r) refl refl refl refl) ∙
     ap (before (from true)) (stands_for r)
-stands_for (from false r) = row_in_lem (FROM ∷ 0 ∷ written r) {x = Pass (From false) 2} (argued FROM 0 (written r) refl refl refl refl) ∙
+stands_for (from false r) = row_in_lem (FROM ∷ 0 ∷ written r) {x = Ok (Pass (From false) 2)} (argued FROM 0 (written r) refl refl refl refl) ∙
     ap (before (from false)) (stands_for r)
 stands_for (either a b) =
-    row_in_lem (EITHER ∷ length (written a) ∷ written a ++ written b) {x = Either (length (written a))}
+    row_in_lem (EITHER ∷ length (written a) ∷ written a ++ written b) {x = Ok (Either (length (written a)))}
     (argued EITHER (length (written a)) (written a ++ written b) refl refl refl refl ∙ rw (seam (written a) (written b)))
     ∙ ap (λ (v : List ℕ). between (row_in v) (row_in (drop (2 + length (written a)) (EITHER ∷ length (written a) ∷ written a ++ written b))))
     (take-append_seam (written a) (written b))

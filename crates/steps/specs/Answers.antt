@@ -1,22 +1,14 @@
 -- What the functions answer.
-use Rattle.std.specs.Prelude.{◌≡◌, cond, List, [], ◌∷◌, ℕ, ◌+◌, ◌≤◌, ◌<◌, length, drop}
+use Rattle.std.specs.Prelude.{◌≡◌, cond, List, [], ◌∷◌, ℕ, ◌+◌, ◌≤◌, ◌<◌, length, drop, Option, Some, None, Result, Ok, Err}
 use Rattle.text.specs.declared.utf8.Encoding.TheVariants.{Utf8}
 use Rattle.text.specs.Utf8.{char_length}
 use Rattle.analysis.specs.declared.Capture.{Capture}
-use Rattle.analysis.specs.declared.Found.{Found}
-use Rattle.analysis.specs.declared.Found.TheVariants.{At, Nothing}
 use Rattle.analysis.specs.Row.{Row, all, first, find}
 use Rattle.analysis.specs.Prefers.{Finds}
 use Rattle.steps.specs.declared.table.Ill.{Ill}
 use Rattle.steps.specs.declared.table.Ill.TheVariants.{TooLong, UnknownStep, UnknownClass, UnknownMarks, CutOff}
 use Rattle.steps.specs.declared.table.Plain.{Plain}
 use Rattle.steps.specs.declared.table.Plain.TheVariants.{Start, Word, One, From, To}
-use Rattle.steps.specs.declared.table.Verdict.{Verdict}
-use Rattle.steps.specs.declared.table.Verdict.TheVariants as verdict
-use Rattle.steps.specs.declared.run.Passed.{Passed}
-use Rattle.steps.specs.declared.run.Passed.TheVariants.{On, Not}
-use Rattle.steps.specs.declared.Answer.{Answer}
-use Rattle.steps.specs.declared.Answer.TheVariants.{Is, Refused}
 use Rattle.steps.specs.Written.{written}
 use Rattle.steps.specs.Table.{Decoded, row, ill, plain, row_in, decode}
 
@@ -28,44 +20,49 @@ Fits (One c) n = Unit {0}
 Fits (From quoted) n = Unit {0}
 Fits To n = Unit {0}
 
-abbrev pub verdict_of : Decoded → Verdict
-verdict_of (row r) = verdict.Fine
-verdict_of (ill x) = verdict.Bad x
+-- whether numbers stand for a row
+abbrev pub verdict_of : Decoded → Result (Unit {0}) Ill
+verdict_of (row r) = Ok tt
+verdict_of (ill x) = Err x
 
 -- the matches behind a plain step that was passed
-abbrev pub on_passed : Passed → (ℕ → Capture → List Capture) → List Capture
-on_passed (On e k) f = f e k
-on_passed Not f = []
+abbrev pub on_passed : Option (ℕ × Capture) → (ℕ → Capture → List Capture) → List Capture
+on_passed (Some p) f = f p.0 p.1
+on_passed None f = []
 
 -- whatever row is behind it, a plain step matches as it is passed
-abbrev pub Passes : Plain → List ℕ → List ℕ → ℕ → Capture → Passed → Type 0
+abbrev pub Passes : Plain → List ℕ → List ℕ → ℕ → Capture → Option (ℕ × Capture) → Type 0
 Passes p t s at k r = (q : Row) → all (plain p t q) s at k ≡ on_passed r (λ e l. all q s e l)
 
 -- the place that was reached, if any, is at most n
-abbrev pub PassedBy : Passed → ℕ → Type 0
-PassedBy (On e k) n = e ≤ n
-PassedBy Not n = Unit {0}
+abbrev pub PassedBy : Option (ℕ × Capture) → ℕ → Type 0
+PassedBy (Some p) n = p.0 ≤ n
+PassedBy None n = Unit {0}
 
 -- a character that ends at a place begins at the other
 abbrev pub Precedes : List ℕ → ℕ → ℕ → Type 0
 Precedes s end r = (d : ℕ) → d < end → d + char_length Utf8 (drop d s) ≡ end → r ≡ d
 
 -- the preferred match from a place on of the row that the numbers stand for, behind a step
-pub record FirstOf (step : Row → Row) (t s : List ℕ) (at : ℕ) (k : Capture) (r : Found) : Type 0 where
+pub record FirstOf (step : Row → Row) (t s : List ℕ) (at : ℕ) (k : Capture) (r : Option Capture) : Type 0 where
   pub is : (q : Row) → row_in t ≡ row q → r ≡ first (all (step q) s at k)
 
 -- the preferred match in a body of the row that the numbers stand for
-pub record FindsRow (t s : List ℕ) (r : Found) : Type 0 where
+pub record FindsRow (t s : List ℕ) (r : Option Capture) : Type 0 where
   pub is : (q : Row) → row_in t ≡ row q → r ≡ find q s
 
 -- and of a table's
-pub record FindsTable (t s : List ℕ) (r : Found) : Type 0 where
+pub record FindsTable (t s : List ℕ) (r : Option Capture) : Type 0 where
   pub is : (q : Row) → decode t ≡ row q → r ≡ find q s
+
+-- what a row finds, or what is wrong with its table
+abbrev pub Answer : Type 0
+Answer = Result (Option Capture) Ill
 
 -- a table runs as it should: of a row what is preferred is found, and nothing exactly where nothing matches; any other table is refused by name
 abbrev pub Runs : Decoded → List ℕ → Answer → Type 0
-Runs (row q) s r = (found : Found) × (r ≡ Is found) × Finds q s found
-Runs (ill x) s r = r ≡ Refused x
+Runs (row q) s r = (found : Option Capture) × (r ≡ Ok found) × Finds q s found
+Runs (ill x) s r = r ≡ Err x
 
 -- so does any row, written as a table
 pub record Stepped (t s : List ℕ) (r : Answer) : Type 0 where
@@ -82,6 +79,6 @@ number_of CutOff = 5
 
 -- an answer as four numbers
 abbrev pub words_of : Answer → List ℕ
-words_of (Is (At k)) = 1 ∷ cond k.quoted 1 0 ∷ k.from ∷ k.to ∷ []
-words_of (Is Nothing) = 0 ∷ 0 ∷ 0 ∷ 0 ∷ []
-words_of (Refused x) = 2 ∷ number_of x ∷ 0 ∷ 0 ∷ []
+words_of (Ok (Some k)) = 1 ∷ cond k.quoted 1 0 ∷ k.from ∷ k.to ∷ []
+words_of (Ok None) = 0 ∷ 0 ∷ 0 ∷ 0 ∷ []
+words_of (Err x) = 2 ∷ number_of x ∷ 0 ∷ 0 ∷ []

@@ -1,5 +1,5 @@
 -- A pattern as a table of numbers: what row it stands for, or what is wrong with it.
-use Rattle.std.specs.Prelude.{cond, List, ℕ, zero, suc, ◌+◌, ◌-◌, eqb, ltb, length, get_or, take, drop}
+use Rattle.std.specs.Prelude.{cond, List, ℕ, zero, suc, ◌+◌, ◌-◌, eqb, ltb, length, get_or, take, drop, Result, Ok, Err}
 use Rattle.text.specs.declared.class.Class.{Class}
 use Rattle.text.specs.declared.class.Class.TheVariants.{White, NotWhite, WhiteOrStar, NotLf, Quote, NotQuote, SourceMark, Alphabetic, NameRest}
 use Rattle.analysis.specs.Row.{Row, done, start, word, one, longest, shortest, from, to, either}
@@ -8,42 +8,46 @@ use Rattle.steps.specs.declared.table.Ill.TheVariants.{TooLong, UnknownStep, Unk
 use Rattle.steps.specs.declared.table.Plain.{Plain}
 use Rattle.steps.specs.declared.table.Plain.TheVariants.{Start, Word, One, From, To}
 use Rattle.steps.specs.declared.table.Step.{Step}
-use Rattle.steps.specs.declared.table.Step.TheVariants.{Done, Pass, Longest, Shortest, Either, Bad}
+use Rattle.steps.specs.declared.table.Step.TheVariants.{Done, Pass, Longest, Shortest, Either}
 use Rattle.steps.specs.Codes.{START, TO, WORD, ONE, LONGEST, FROM, EITHER, WHITE, not_white, white_or_star, not_lf, QUOTE, not_quote}
 use Rattle.steps.specs.Codes.{source_mark, ALPHABETIC, name_rest, MARKED}
 
--- the class of a number from WHITE to NAME-REST
-unfoldable pub class_of : ℕ → Class
+-- the class of a number
+unfoldable pub class_of : ℕ → Result Class Ill
 class_of n =
-    cond (eqb n WHITE) White
-    (cond (eqb n not_white) NotWhite
-    (cond (eqb n white_or_star) WhiteOrStar
-    (cond (eqb n not_lf) NotLf
-    (cond (eqb n QUOTE) Quote
-    (cond (eqb n not_quote) NotQuote
-    (cond (eqb n source_mark) SourceMark
-    (cond (eqb n ALPHABETIC) Alphabetic NameRest)))))))
+    cond (eqb n WHITE) (Ok White)
+    (cond (eqb n not_white) (Ok NotWhite)
+    (cond (eqb n white_or_star) (Ok WhiteOrStar)
+    (cond (eqb n not_lf) (Ok NotLf)
+    (cond (eqb n QUOTE) (Ok Quote)
+    (cond (eqb n not_quote) (Ok NotQuote)
+    (cond (eqb n source_mark) (Ok SourceMark)
+    (cond (eqb n ALPHABETIC) (Ok Alphabetic)
+    (cond (eqb n name_rest) (Ok NameRest) (Err UnknownClass)))))))))
+
+-- a step with a class, or what is wrong with it
+abbrev pub at_class : (Class → Step) → Result Class Ill → Result Step Ill
+at_class step (Ok c) = Ok (step c)
+at_class step (Err x) = Err x
 
 -- the step of a code that has an argument, n, with so many numbers behind it
-unfoldable pub argued_by : ℕ → ℕ → ℕ → Step
+unfoldable pub argued_by : ℕ → ℕ → ℕ → Result Step Ill
 argued_by code n left =
-    cond (eqb code WORD) (cond (ltb left n) (Bad CutOff) (Pass (Word n) (2 + n)))
-    (cond (eqb code EITHER) (cond (ltb left n) (Bad CutOff) (Either n))
-    (cond (eqb code FROM) (cond (ltb MARKED n) (Bad UnknownMarks) (Pass (From (eqb n MARKED)) 2))
-    (cond (eqb n 0) (Bad UnknownClass)
-    (cond (ltb name_rest n) (Bad UnknownClass)
-    (cond (eqb code ONE) (Pass (One (class_of n)) 2)
-    (cond (eqb code LONGEST) (Longest (class_of n)) (Shortest (class_of n))))))))
+    cond (eqb code WORD) (cond (ltb left n) (Err CutOff) (Ok (Pass (Word n) (2 + n))))
+    (cond (eqb code EITHER) (cond (ltb left n) (Err CutOff) (Ok (Either n)))
+    (cond (eqb code FROM) (cond (ltb MARKED n) (Err UnknownMarks) (Ok (Pass (From (eqb n MARKED)) 2)))
+    (cond (eqb code ONE) (at_class (λ c. Pass (One c) 2) (class_of n))
+    (cond (eqb code LONGEST) (at_class Longest (class_of n)) (at_class Shortest (class_of n))))))
 
 -- the step that the numbers begin with
-unfoldable pub step_of : List ℕ → Step
+unfoldable pub step_of : List ℕ → Result Step Ill
 step_of t =
-    cond (eqb (length t) 0) Done
-    (cond (eqb (get_or t 0 0) START) (Pass Start 1)
-    (cond (eqb (get_or t 0 0) TO) (Pass To 1)
-    (cond (ltb (get_or t 0 0) WORD) (Bad UnknownStep)
-    (cond (ltb EITHER (get_or t 0 0)) (Bad UnknownStep)
-    (cond (eqb (length t) 1) (Bad CutOff)
+    cond (eqb (length t) 0) (Ok Done)
+    (cond (eqb (get_or t 0 0) START) (Ok (Pass Start 1))
+    (cond (eqb (get_or t 0 0) TO) (Ok (Pass To 1))
+    (cond (ltb (get_or t 0 0) WORD) (Err UnknownStep)
+    (cond (ltb EITHER (get_or t 0 0)) (Err UnknownStep)
+    (cond (eqb (length t) 1) (Err CutOff)
     (argued_by (get_or t 0 0) (get_or t 1 0) (length t - 2)))))))
 
 -- the row, or what is wrong
@@ -70,13 +74,13 @@ plain (From quoted) t = from quoted
 plain To t = to
 
 -- the numbers by their first step, d being what those behind it stand for
-abbrev pub stepwise : Step → List ℕ → (List ℕ → Decoded) → Decoded
-stepwise Done t d = row done
-stepwise (Pass p wide) t d = before (plain p t) (d (drop wide t))
-stepwise (Longest c) t d = before (longest c) (d (drop 2 t))
-stepwise (Shortest c) t d = before (shortest c) (d (drop 2 t))
-stepwise (Either n) t d = between (d (take n (drop 2 t))) (d (drop (2 + n) t))
-stepwise (Bad x) t d = ill x
+abbrev pub stepwise : Result Step Ill → List ℕ → (List ℕ → Decoded) → Decoded
+stepwise (Ok Done) t d = row done
+stepwise (Ok (Pass p wide)) t d = before (plain p t) (d (drop wide t))
+stepwise (Ok (Longest c)) t d = before (longest c) (d (drop 2 t))
+stepwise (Ok (Shortest c)) t d = before (shortest c) (d (drop 2 t))
+stepwise (Ok (Either n)) t d = between (d (take n (drop 2 t))) (d (drop (2 + n) t))
+stepwise (Err x) t d = ill x
 
 -- at most n steps deep
 unfoldable pub row_by : ℕ → List ℕ → Decoded

@@ -8,31 +8,25 @@ pub mod table;
 
 ghost use Rattle.std.specs.Prelude.{◌≡◌};
 ghost use Rattle.analysis.specs.Row.{find};
-ghost use Rattle.steps.specs.declared.Answer.{Answer};
-ghost use Rattle.steps.specs.declared.Answer.TheVariants.{Is};
-ghost use Rattle.steps.specs.Patterns.{row_of};
-ghost use Rattle.steps.specs.Answers.{FindsRow, FindsTable, Stepped, number_of, words_of};
+ghost use Rattle.steps.specs.Patterns.{row_of, table_of};
+ghost use Rattle.steps.specs.Answers.{Answer, FindsRow, FindsTable, Stepped, number_of, words_of};
 
 use self::patterns::{
     DENO_TYPES, JSX_IMPORT_SOURCE, JSX_IMPORT_SOURCE_TYPES, PATH, RESOLUTION_MODE,
     SOURCE_MAPPING_URL, TRIPLE_SLASH, TS_SELF_TYPES, TS_TYPES, TYPES,
 };
 use self::run::match_from;
-use self::table::{Ill, Verdict, check};
-use analysis::{Capture, Found};
+use self::table::{Ill, check};
+use analysis::Capture;
 
 // The most numbers that a table has.
 const LONGEST_TABLE: usize = 255;
 
 // What a row finds, or what is wrong with its table.
-#[derive(Clone, Copy)]
-pub enum Answer {
-    Is(Found),
-    Refused(Ill),
-}
+pub type Answer = Result<Option<Capture>, Ill>;
 
 // The ten patterns.
-#[derive(Clone, Copy)]
+#[derive(Clone, Copy, Debug, PartialEq, Eq, Hash)]
 pub enum Pattern {
     TripleSlash,
     Path,
@@ -47,7 +41,7 @@ pub enum Pattern {
 }
 
 // The preferred match in a body of the row that the numbers stand for.
-fn find_row(table: &[u8], body: &[u8]) -> Found
+fn find_row(table: &[u8], body: &[u8]) -> Option<Capture>
     ensures { FindsRow table.now body.now result }
 {
     let none = Capture {
@@ -55,15 +49,13 @@ fn find_row(table: &[u8], body: &[u8]) -> Found
         from: 0,
         to: 0,
     };
-    let mut i = 0;
-    while i < body.len() {
+    for i in 0..=body.len() {
         let found = match_from(table, body, i, none);
-        if let Found::At(_) = found {
+        if found.is_some() {
             return found;
         }
-        i += 1;
     }
-    match_from(table, body, i, none)
+    None
 }
 
 // Runs any table on any body.
@@ -71,80 +63,61 @@ pub fn match_row(table: &[u8], body: &[u8]) -> Answer
     ensures { Stepped table.now body.now result }
 {
     if LONGEST_TABLE < table.len() {
-        return Answer::Refused(Ill::TooLong);
+        return Err(Ill::TooLong);
     }
-    match check(table) {
-        Verdict::Bad(ill) => Answer::Refused(ill),
-        Verdict::Fine => Answer::Is(find_row(table, body)),
-    }
+    check(table)?;
+    Ok(find_row(table, body))
 }
 
 // Runs a table that stands for a row.
-fn run_table(table: &[u8], body: &[u8]) -> Found
+fn run_table(table: &[u8], body: &[u8]) -> Option<Capture>
     ensures { FindsTable table.now body.now result }
 {
-    match match_row(table, body) {
-        Answer::Is(found) => found,
-        Answer::Refused(_) => Found::Nothing,
+    match_row(table, body).unwrap_or(None)
+}
+
+// The table of a pattern.
+#[tactic(auto, unfolding(crate::specs::Patterns::table_of))]
+fn table_of(pattern: Pattern) -> &'static [u8]
+    ensures { result.now ≡ table_of pattern }
+{
+    match pattern {
+        Pattern::TripleSlash => &TRIPLE_SLASH,
+        Pattern::Path => &PATH,
+        Pattern::Types => &TYPES,
+        Pattern::ResolutionMode => &RESOLUTION_MODE,
+        Pattern::JsxImportSource => &JSX_IMPORT_SOURCE,
+        Pattern::JsxImportSourceTypes => &JSX_IMPORT_SOURCE_TYPES,
+        Pattern::SourceMappingUrl => &SOURCE_MAPPING_URL,
+        Pattern::TsSelfTypes => &TS_SELF_TYPES,
+        Pattern::TsTypes => &TS_TYPES,
+        Pattern::DenoTypes => &DENO_TYPES,
     }
 }
 
 // Runs the table of one of the ten patterns: what is found is what its finder finds, with the same captured range.
-pub fn by_steps(pattern: Pattern, body: &[u8]) -> Found
+#[tactic(auto, using(crate::proofs::Tables::tables))]
+pub fn by_steps(pattern: Pattern, body: &[u8]) -> Option<Capture>
     ensures { result ≡ find (row_of pattern) body.now }
 {
-    match pattern {
-        Pattern::TripleSlash => run_table(&TRIPLE_SLASH, body),
-        Pattern::Path => run_table(&PATH, body),
-        Pattern::Types => run_table(&TYPES, body),
-        Pattern::ResolutionMode => run_table(&RESOLUTION_MODE, body),
-        Pattern::JsxImportSource => run_table(&JSX_IMPORT_SOURCE, body),
-        Pattern::JsxImportSourceTypes => run_table(&JSX_IMPORT_SOURCE_TYPES, body),
-        Pattern::SourceMappingUrl => run_table(&SOURCE_MAPPING_URL, body),
-        Pattern::TsSelfTypes => run_table(&TS_SELF_TYPES, body),
-        Pattern::TsTypes => run_table(&TS_TYPES, body),
-        Pattern::DenoTypes => run_table(&DENO_TYPES, body),
-    }
+    run_table(table_of(pattern), body)
 }
 
 // What is wrong with a table, by a number.
 fn ill_number(ill: Ill) -> u64
     ensures { result ≡ number_of ill }
 {
-    match ill {
-        Ill::TooLong => 1,
-        Ill::UnknownStep => 2,
-        Ill::UnknownClass => 3,
-        Ill::UnknownMarks => 4,
-        Ill::CutOff => 5,
-    }
+    ill as u64
 }
 
-// What was found, as four numbers.
-fn found_words(found: Found) -> [u64; 4]
-    ensures { result ≡ words_of (Is found) }
-{
-    let Found::At(k) = found else {
-        return [0, 0, 0, 0];
-    };
-    let from = k.from as u64;
-    let to = k.to as u64;
-    if k.quoted {
-        return [1, 1, from, to];
-    }
-    [1, 0, from, to]
-}
-
-// An answer, as four numbers.
+// An answer, as four numbers: the C interface.
 fn words_of(answer: Answer) -> [u64; 4]
     ensures { result ≡ words_of answer }
 {
     match answer {
-        Answer::Is(found) => found_words(found),
-        Answer::Refused(ill) => {
-            let number = ill_number(ill);
-            [2, number, 0, 0]
-        }
+        Ok(None) => [0, 0, 0, 0],
+        Ok(Some(k)) => [1, u64::from(k.quoted), k.from as u64, k.to as u64],
+        Err(ill) => [2, ill_number(ill), 0, 0],
     }
 }
 
@@ -152,6 +125,5 @@ fn words_of(answer: Answer) -> [u64; 4]
 pub fn steps_match(table: &[u8], body: &[u8], out: &mut [u64; 4])
     ensures { (a : Answer) × Stepped table.now body.now a × (out.new ≡ words_of a) }
 {
-    let words = words_of(match_row(table, body));
-    *out = words;
+    *out = words_of(match_row(table, body));
 }

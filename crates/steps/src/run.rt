@@ -5,67 +5,31 @@ ghost use Rattle.analysis.specs.Row.{longest, shortest};
 ghost use Rattle.steps.specs.Answers.{Fits, Passes, PassedBy, Precedes, FirstOf};
 
 use super::table::{Plain, Step, step_of};
-use analysis::matcher::{Matched, match_word};
-use analysis::{Capture, Found};
-use text::class::{Class, class_at, run_end};
+use analysis::Capture;
+use analysis::matcher::{match_word, one_at};
+use text::class::{Class, run_end};
 
-// Where a plain step ends and what is captured behind it; or it is not passed.
-#[derive(Clone, Copy)]
-pub enum Passed {
-    On(usize, Capture),
-    Not,
-}
-
-// Passes a plain step, with which the numbers begin, at a place.
-fn pass(plain: Plain, steps: &[u8], body: &[u8], at: usize, k: Capture) -> Passed
+// Passes a plain step, with which the numbers begin, at a place: where it ends and what is captured behind it, if it is passed.
+#[tactic(auto, unfolding(analysis::specs::Row::all))]
+fn pass(plain: Plain, steps: &[u8], body: &[u8], at: usize, k: Capture) -> Option<(usize, Capture)>
     requires { (at ≤ length body.now) × (Fits plain (length steps.now)) }
     ensures { Bounded (Passes plain steps.now body.now at k result)
         (PassedBy result (length body.now)) }
 {
     match plain {
-        Plain::Start => {
-            if at == 0 {
-                return Passed::On(at, k);
-            }
-            Passed::Not
-        }
-        Plain::Word(n) => {
-            let end = 2 + n;
-            let Matched::At(e) = match_word(body, at, &steps[2..end]) else {
-                return Passed::Not;
-            };
-            Passed::On(e, k)
-        }
-        Plain::One(class) => {
-            let n = class_at(body, at, class);
-            if n == 0 {
-                return Passed::Not;
-            }
-            Passed::On(at + n, k)
-        }
-        Plain::From(quoted) => {
-            let to = k.to;
-            Passed::On(
-                at,
-                Capture {
-                    quoted,
-                    from: at,
-                    to,
-                },
-            )
-        }
-        Plain::To => {
-            let quoted = k.quoted;
-            let from = k.from;
-            Passed::On(
-                at,
-                Capture {
-                    quoted,
-                    from,
-                    to: at,
-                },
-            )
-        }
+        Plain::Start if at == 0 => Some((at, k)),
+        Plain::Start => None,
+        Plain::Word(n) => Some((match_word(body, at, &steps[2..2 + n])?, k)),
+        Plain::One(class) => Some((one_at(body, at, class)?, k)),
+        Plain::From(quoted) => Some((
+            at,
+            Capture {
+                quoted,
+                from: at,
+                ..k
+            },
+        )),
+        Plain::To => Some((at, Capture { to: at, ..k })),
     }
 }
 
@@ -74,34 +38,28 @@ fn char_before(s: &[u8], end: usize) -> usize
     requires { (0 < end) × (end ≤ length s.now) }
     ensures { Bounded (Precedes s.now end result) (result < end) }
 {
-    let mut i = end - 1;
-    while 0 < i {
-        let b = s[i];
-        if b < 0x80 {
+    for i in (1..end).rev() {
+        if s[i] < 0x80 || 0xBF < s[i] {
             return i;
         }
-        if 0xBF < b {
-            return i;
-        }
-        i -= 1;
     }
-    i
+    0
 }
 
 // A run, the longer ones first, and the steps behind it: one character back at a time.
 #[cycle(run)]
-fn match_longest(steps: &[u8], body: &[u8], at: usize, class: Class, k: Capture) -> Found
+fn match_longest(steps: &[u8], body: &[u8], at: usize, class: Class, k: Capture) -> Option<Capture>
     requires { at ≤ length body.now }
     ensures { FirstOf (longest class) steps.now body.now at k result }
 {
     let mut end = run_end(body, at, class);
     loop {
         let found = match_from(steps, body, end, k);
-        if let Found::At(_) = found {
+        if found.is_some() {
             return found;
         }
         if end <= at {
-            return Found::Nothing;
+            return None;
         }
         end = char_before(body, end);
     }
@@ -109,27 +67,23 @@ fn match_longest(steps: &[u8], body: &[u8], at: usize, class: Class, k: Capture)
 
 // The shorter ones first.
 #[cycle(run)]
-fn match_shortest(steps: &[u8], body: &[u8], at: usize, class: Class, k: Capture) -> Found
+fn match_shortest(steps: &[u8], body: &[u8], at: usize, class: Class, k: Capture) -> Option<Capture>
     requires { at ≤ length body.now }
     ensures { FirstOf (shortest class) steps.now body.now at k result }
 {
     let mut e = at;
     loop {
         let found = match_from(steps, body, e, k);
-        if let Found::At(_) = found {
+        if found.is_some() {
             return found;
         }
-        let n = class_at(body, e, class);
-        if n == 0 {
-            return Found::Nothing;
-        }
-        e += n;
+        e = one_at(body, e, class)?;
     }
 }
 
 // The preferred match from a place on of the row that the numbers stand for.
 #[cycle(run)]
-pub fn match_from(steps: &[u8], body: &[u8], at: usize, k: Capture) -> Found
+pub fn match_from(steps: &[u8], body: &[u8], at: usize, k: Capture) -> Option<Capture>
     requires { at ≤ length body.now }
     ensures { FirstOf (λ q. q) steps.now body.now at k result }
 {
@@ -137,15 +91,13 @@ pub fn match_from(steps: &[u8], body: &[u8], at: usize, k: Capture) -> Found
     let mut here = at;
     let mut captured = k;
     loop {
-        match step_of(rest) {
-            Step::Done => return Found::At(captured),
-            Step::Bad(_) => return Found::Nothing,
+        let Ok(step) = step_of(rest) else {
+            return None;
+        };
+        match step {
+            Step::Done => return Some(captured),
             Step::Pass(plain, wide) => {
-                let Passed::On(e, l) = pass(plain, rest, body, here, captured) else {
-                    return Found::Nothing;
-                };
-                here = e;
-                captured = l;
+                (here, captured) = pass(plain, rest, body, here, captured)?;
                 rest = &rest[wide..];
             }
             Step::Longest(class) => return match_longest(&rest[2..], body, here, class, captured),
@@ -153,7 +105,7 @@ pub fn match_from(steps: &[u8], body: &[u8], at: usize, k: Capture) -> Found
             Step::Either(n) => {
                 let end = 2 + n;
                 let found = match_from(&rest[2..end], body, here, captured);
-                if let Found::At(_) = found {
+                if found.is_some() {
                     return found;
                 }
                 rest = &rest[end..];

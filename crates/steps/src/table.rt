@@ -3,22 +3,25 @@ ghost use Rattle.std.specs.Prelude.{◌≡◌};
 ghost use Rattle.steps.specs.Table.{class_of, argued_by, step_of, row_in};
 ghost use Rattle.steps.specs.Answers.{verdict_of};
 
-use super::codes::{EITHER, FROM, LONGEST, MARKED, NAME_REST, ONE, START, TO, WORD};
+use super::codes::{
+    ALPHABETIC, EITHER, FROM, LONGEST, MARKED, NAME_REST, NOT_LF, NOT_QUOTE, NOT_WHITE, ONE, QUOTE,
+    SOURCE_MARK, START, TO, WHITE, WHITE_OR_STAR, WORD,
+};
 use text::class::Class;
 
 // What is wrong with a table.
-#[derive(Clone, Copy)]
+#[derive(Clone, Copy, Debug, PartialEq, Eq, Hash)]
 pub enum Ill {
     // it has more than 255 numbers
-    TooLong,
+    TooLong = 1,
     // where a step begins there is no code of one
-    UnknownStep,
+    UnknownStep = 2,
     // a class that there is not
-    UnknownClass,
+    UnknownClass = 3,
     // marks that are neither there nor not there
-    UnknownMarks,
+    UnknownMarks = 4,
     // its numbers end before its last step does, or those of a first alternative
-    CutOff,
+    CutOff = 5,
 }
 
 // A step that is passed in one way only, or not at all.
@@ -39,116 +42,73 @@ pub enum Step {
     Longest(Class),
     Shortest(Class),
     Either(usize),
-    Bad(Ill),
 }
 
-// Whether numbers stand for a row.
-#[derive(Clone, Copy)]
-pub enum Verdict {
-    Fine,
-    Bad(Ill),
-}
-
-// The class of a number from WHITE to NAME_REST.
-fn class_of(n: u8) -> Class
+// The class of a number.
+#[tactic(auto, unfolding(crate::specs::Table::class_of))]
+fn class_of(n: u8) -> Result<Class, Ill>
     ensures { result ≡ class_of n }
 {
     match n {
-        1 => Class::White,
-        2 => Class::NotWhite,
-        3 => Class::WhiteOrStar,
-        4 => Class::NotLf,
-        5 => Class::Quote,
-        6 => Class::NotQuote,
-        7 => Class::SourceMark,
-        8 => Class::Alphabetic,
-        _ => Class::NameRest,
+        WHITE => Ok(Class::White),
+        NOT_WHITE => Ok(Class::NotWhite),
+        WHITE_OR_STAR => Ok(Class::WhiteOrStar),
+        NOT_LF => Ok(Class::NotLf),
+        QUOTE => Ok(Class::Quote),
+        NOT_QUOTE => Ok(Class::NotQuote),
+        SOURCE_MARK => Ok(Class::SourceMark),
+        ALPHABETIC => Ok(Class::Alphabetic),
+        NAME_REST => Ok(Class::NameRest),
+        _ => Err(Ill::UnknownClass),
     }
 }
 
 // The step of a code that has an argument, `n`, with so many numbers behind it.
-fn argued(code: u8, n: u8, left: usize) -> Step
+#[tactic(auto, unfolding(crate::specs::Table::argued_by))]
+fn argued(code: u8, n: u8, left: usize) -> Result<Step, Ill>
     ensures { result ≡ argued_by code n left }
 {
-    let count = n as usize;
-    if code == WORD {
-        if left < count {
-            return Step::Bad(Ill::CutOff);
-        }
-        return Step::Pass(Plain::Word(count), 2 + count);
+    let count = usize::from(n);
+    match code {
+        WORD | EITHER if left < count => Err(Ill::CutOff),
+        WORD => Ok(Step::Pass(Plain::Word(count), 2 + count)),
+        EITHER => Ok(Step::Either(count)),
+        FROM if MARKED < n => Err(Ill::UnknownMarks),
+        FROM => Ok(Step::Pass(Plain::From(n == MARKED), 2)),
+        ONE => Ok(Step::Pass(Plain::One(class_of(n)?), 2)),
+        LONGEST => Ok(Step::Longest(class_of(n)?)),
+        _ => Ok(Step::Shortest(class_of(n)?)),
     }
-    if code == EITHER {
-        if left < count {
-            return Step::Bad(Ill::CutOff);
-        }
-        return Step::Either(count);
-    }
-    if code == FROM {
-        if MARKED < n {
-            return Step::Bad(Ill::UnknownMarks);
-        }
-        return Step::Pass(Plain::From(n == MARKED), 2);
-    }
-    if n == 0 {
-        return Step::Bad(Ill::UnknownClass);
-    }
-    if NAME_REST < n {
-        return Step::Bad(Ill::UnknownClass);
-    }
-    let class = class_of(n);
-    if code == ONE {
-        return Step::Pass(Plain::One(class), 2);
-    }
-    if code == LONGEST {
-        return Step::Longest(class);
-    }
-    Step::Shortest(class)
 }
 
 // The step that the numbers begin with.
-pub fn step_of(steps: &[u8]) -> Step
+#[tactic(auto, unfolding(crate::specs::Table::step_of))]
+pub fn step_of(steps: &[u8]) -> Result<Step, Ill>
     ensures { result ≡ step_of steps.now }
 {
-    if steps.len() == 0 {
-        return Step::Done;
+    match steps {
+        [] => Ok(Step::Done),
+        [START, ..] => Ok(Step::Pass(Plain::Start, 1)),
+        [TO, ..] => Ok(Step::Pass(Plain::To, 1)),
+        [WORD..=EITHER] => Err(Ill::CutOff),
+        [code @ WORD..=EITHER, n, left @ ..] => argued(*code, *n, left.len()),
+        _ => Err(Ill::UnknownStep),
     }
-    let code = steps[0];
-    if code == START {
-        return Step::Pass(Plain::Start, 1);
-    }
-    if code == TO {
-        return Step::Pass(Plain::To, 1);
-    }
-    if code < WORD {
-        return Step::Bad(Ill::UnknownStep);
-    }
-    if EITHER < code {
-        return Step::Bad(Ill::UnknownStep);
-    }
-    if steps.len() == 1 {
-        return Step::Bad(Ill::CutOff);
-    }
-    argued(code, steps[1], steps.len() - 2)
 }
 
 // Do the numbers stand for a row? Each is looked at once.
-pub fn check(steps: &[u8]) -> Verdict
+pub fn check(steps: &[u8]) -> Result<(), Ill>
     ensures { result ≡ verdict_of (row_in steps.now) }
 {
     let mut rest = steps;
     loop {
-        match step_of(rest) {
-            Step::Done => return Verdict::Fine,
-            Step::Bad(ill) => return Verdict::Bad(ill),
+        match step_of(rest)? {
+            Step::Done => return Ok(()),
             Step::Pass(_, wide) => rest = &rest[wide..],
-            Step::Longest(_) => rest = &rest[2..],
-            Step::Shortest(_) => rest = &rest[2..],
+            Step::Longest(_) | Step::Shortest(_) => rest = &rest[2..],
             Step::Either(n) => {
                 let end = 2 + n;
-                let first = check(&rest[2..end]);
-                if let Verdict::Bad(_) = first {
-                    return first;
-                }
+                check(&rest[2..end])?;
                 rest = &rest[end..];
             }
         }

@@ -2,8 +2,7 @@
 #![tactic(auto)]
 
 ghost use Rattle.std.specs.Prelude.{◌≡◌};
-ghost use Rattle.steps.specs.declared.Answer.{Answer};
-ghost use Rattle.steps.specs.Answers.{Stepped, words_of};
+ghost use Rattle.steps.specs.Answers.{Answer, Stepped, words_of};
 
 // Its answer is four numbers: 0 where nothing is found; 1, 1 if it stands in marks, from where, to where; or 2, and what is wrong.
 #[unsafe(no_mangle)]

@@ -2,23 +2,17 @@
 use Rattle.laws.proofs.Prelude.{◌≡◌, refl, ◌∙◌, ap, Bool, true, ◌&&◌, ◌||◌, and-eq-true_iff, ◌⊎◌, inl, inr, List, [], ◌∷◌, ℕ, zero, suc, ◌+◌, ◌%◌, ◌≤◌, ◌<◌}
 use Rattle.laws.proofs.Prelude.{zero-le, suc-le-suc, le_of_suc-le-suc, not-suc-le-zero, arith, ltb, eqb, length, get_or, take, drop, ltb-true, le-leb, lt-leb}
 use native.Mathlib.Nat.{eq-or-lt_of_le}
+use Rattle.std.specs.List.Sorted.{IsNonDecreasingBy}
+use Rattle.std.proofs.lemmas.List.Sorted.{IsNonDecreasingBy-from_default}
 use Rattle.text.specs.Ranges.{Range, ◌to◌, within, in_ranges, bounds, Ascending, Split}
 
--- a bound at most x puts those before it at most x, and one above x those after it above x
-module _ {a : List ℕ} (asc : Ascending a) (x m : ℕ) where
-  pub up : m < length a → get_or a m 0 ≤ x → (k : ℕ) → k < m + 1 → get_or a k 0 ≤ x
-  up l h k kl = go (eq-or-lt_of_le (let t : k ≤ m = omega arith in t))
-    where
-      go : (k ≡ m) ⊎ (k < m) → get_or a k 0 ≤ x
-      go (inl e) = rw e h
-      go (inr s) = omega (arith, asc.rise k m s l)
-
-  pub down : x < get_or a m 0 → (k : ℕ) → m ≤ k → k < length a → x < get_or a k 0
-  down h k mk kl = go (eq-or-lt_of_le mk)
-    where
-      go : (m ≡ k) ⊎ (m < k) → x < get_or a k 0
-      go (inl e) = rw (← e) h
-      go (inr s) = omega (arith, asc.rise m k s kl)
+-- bounds that ascend do not fall
+pub not_falling : {a : List ℕ} → Ascending a → IsNonDecreasingBy (λ x. x) a
+not_falling {a} asc = IsNonDecreasingBy-from_default (λ x. x) a 0 λ i j le l. go i j l (eq-or-lt_of_le le)
+  where
+    go : (i j : ℕ) → j < length a → (i ≡ j) ⊎ (i < j) → get_or a i 0 ≤ get_or a j 0
+    go i j l (inl e) = rw e (omega arith)
+    go i j l (inr h) = omega (arith, asc.rise i j h l)
 
 -- a test for Ascending: each number is above the one before it, the first above b
 abbrev pub rises : ℕ → List ℕ → Bool

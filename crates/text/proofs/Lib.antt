@@ -7,7 +7,6 @@ pub mod Characters
 pub mod ClassCases
 pub mod CodePoint
 pub mod Columns
-pub mod Counted
 pub mod Cuts
 pub mod Exact
 pub mod Formed
@@ -22,6 +21,7 @@ pub mod Reported
 pub mod RangesAdmit
 pub mod Runs
 pub mod Sums
+pub mod Tested
 pub mod TextCases
 pub mod WithinRange
 pub mod WellFormed

@@ -1,6 +1,6 @@
 -- Which numbers lie in a range of one number, and in ranges put together.
 use Rattle.laws.proofs.Prelude.{◌≡◌, refl, sym, ap, ◌∙◌, Bool, true, false, ◌||◌, List, [], ◌∷◌, ◌++◌, ℕ, arith, leb, eqb, leb-true, leb-false, eq-eqb, ne_eqb}
-use mathlib.Core.Bool.{or_assoc}
+use mathlib.Core.Bool.{or_assoc, or-false}
 use Rattle.text.specs.Ranges.{Range, ◌to◌, within, in_ranges}
 
 pub one_point : (a x : ℕ) → in_ranges ((a to a) ∷ []) x ≡ eqb x a
@@ -16,3 +16,7 @@ pub together : (ps qs : List Range) (x : ℕ) → in_ranges (ps ++ qs) x ≡ in_
 unfolding in_ranges
 together [] qs x = refl
 together (p ∷ ps) qs x = ap (λ (b : Bool). within p x || b) (together ps qs x) ∙ sym (or_assoc (within p x) _ _)
+
+pub one_within : (a x : ℕ) → within (a to a) x ≡ eqb x a
+unfolding in_ranges
+one_within a x = sym (or-false _) ∙ one_point a x

@@ -1,8 +1,8 @@
 -- Positions from one place of a text to another, how far they go, and an index of them.
-use Rattle.laws.proofs.Prelude.{◌≡◌, refl, ◌∙◌, Bool, true, false, cond, List, [], ◌∷◌, ◌++◌, ℕ, suc, ◌+◌, ◌-◌, ◌*◌, ◌/◌, ◌≤◌, ◌<◌, not-suc-le-zero, arith}
-use Rattle.laws.proofs.Prelude.{add-one, eqb, length, get_or, set, take, drop, length-set, drop-cons, length-take-le, get_or-set_same, get_or-set_other}
-use native.Mathlib.Nat.{add-sub_of_le, sub-eq-zero_of_le, mod-eq-sub-mul-div}
-use lib.Seq.{take-add, drop-set-lt}
+use Rattle.laws.proofs.Prelude.{◌≡◌, refl, ◌∙◌, Bool, true, false, cond, List, [], ◌∷◌, ◌++◌, ℕ, ◌+◌, ◌-◌, ◌*◌, ◌/◌, ◌≤◌, ◌<◌, not-suc-le-zero, arith}
+use Rattle.laws.proofs.Prelude.{add-one, eqb, length, get_or, set, take, drop, length-set, length-take-le, get_or-set_same, get_or-set_other}
+use native.Mathlib.Nat.{add-sub_of_le, mod-eq-sub-mul-div}
+use lib.Seq.{take-add, take-suc, drop-set-lt}
 use borrow.Author.Count.{below_more}
 use Rattle.text.specs.{declared.position.Position.Position, Ranges.within, Utf8.continuation}
 use Rattle.text.specs.Position.{Units, characters, step, walk, start_position, position_of, stored, kept, Indexed, indexed_position}
@@ -22,19 +22,11 @@ pub scanned : (unit : Units) (s : List ℕ) (from at : ℕ) → from ≤ at → 
     → q ≡ walk unit p (take (at - from) (drop from s)) → q ≡ position_of unit s at
 scanned unit s from at h e f = rw e at f ∙ onward unit s from at h
 
--- what is left of a walk up to `at`: one byte less, and none
-module _ (unit : Units) (p : Position) (s : List ℕ) (at i : ℕ) where
-  pub walk_next : i < at → at ≤ length s
-      → walk unit p (take (at - i) (drop i s)) ≡ walk unit (step unit p (get_or s i 0)) (take (at - (i + 1)) (drop (i + 1) s))
-  unfolding walk
-  walk_next l h =
-      let n : at - i ≡ suc (at - (i + 1)) = omega arith in
-      let k : i < length s = omega arith in
-      rw (n, drop-cons s i 0 k, add-one)
-
-  pub walk_end : at ≤ i → walk unit p (take (at - i) (drop i s)) ≡ p
-  unfolding walk
-  walk_end h = rw (sub-eq-zero_of_le h)
+-- one byte more
+pub walk_more : (unit : Units) (p : Position) (s : List ℕ) (i : ℕ) → i < length s
+    → walk unit p (take (i + 1) s) ≡ step unit (walk unit p (take i s)) (get_or s i 0)
+unfolding walk
+walk_more unit p s i l = rw (add-one, take-suc s i 0 l, walk_append)
 
 -- a byte ends the line, or adds the columns of the character that it begins
 pub by_step : (unit : Units) (p : Position) (b : ℕ) (P : Position → Type 0) → P (record { line = p.line + 1; column = 0 })

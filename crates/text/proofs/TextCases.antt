@@ -1,7 +1,7 @@
 -- Worked cases of the definitions, which antt computes.
 use Rattle.laws.proofs.Prelude.{◌≡◌, refl, List, [], ◌∷◌, map, ℕ}
 use Rattle.laws.specs.Ascii.{ascii}
-use Rattle.text.specs.declared.bytes.Order.TheVariants.{Less, Equal, Greater}
+use Rattle.std.specs.declared.cmp.Ordering.TheVariants.{Less, Equal, Greater}
 use Rattle.text.specs.{declared.position.Position.Position, Bytes.order, Utf8.admits}
 use Rattle.text.specs.Position.{characters, step, walk, position_of}
 use Rattle.text.specs.Lossy.{replacing, surrogates, lossy, replaced}

@@ -1,9 +1,13 @@
 -- Two texts compared byte by byte: what the comparison says of them, and how it goes on from one place to the next.
-use Rattle.laws.proofs.Prelude.{◌≡◌, refl, Bool, true, false, cond, and-eq-true_iff, false≢true, List, [], ◌∷◌, ◌++◌, ℕ, ◌+◌, ◌≤◌, ◌<◌, arith, add-one, eqb}
-use Rattle.laws.proofs.Prelude.{ltb, length, get_or, drop, drop_of_length-le, drop-cons, eqb-true, eq-eqb, ne_eqb, lt-ltb, le-ltb, ltb-false}
-use mathlib.Core.Bool.{and-false}
-use Rattle.text.specs.declared.bytes.Order.{Order}
-use Rattle.text.specs.declared.bytes.Order.TheVariants.{Less, Equal, Greater}
+use Rattle.laws.proofs.Prelude.{◌≡◌, refl, sym, ap, ◌∙◌, ◌&&◌, Bool, true, false, cond, and-eq-true_iff, false≢true, List, [], ◌∷◌, ◌++◌, ℕ, arith, eqb}
+use Rattle.laws.proofs.Prelude.{ltb, ltb-true, length, drop, eqb-true, eq-eqb, ne_eqb, ltb-false}
+use Rattle.std.specs.declared.cmp.Ordering.{Ordering}
+use Rattle.std.specs.declared.cmp.Ordering.TheVariants.{Less, Equal, Greater}
+use Rattle.std.specs.Prelude.{nat_eq}
+use Rattle.std.specs.List.{starts_with}
+use Rattle.std.specs.Cmp.Lexicographic.{pointwise, slice_cmp, unequal}
+use Rattle.std.specs.Ordering.{nat_cmp, ordering_then}
+use borrow.Author.Tests.{eqb-false}
 use Rattle.text.specs.Bytes.{begins, same, order}
 
 -- a text begins with a word just where it is the word and something more
@@ -35,72 +39,48 @@ unfolding same
 same_refl [] = refl
 same_refl (x ∷ a) = rw (eq-eqb x x refl) (same_refl a)
 
--- of two texts of one length, the first is the second where it begins with it
-pub same_begins : (a b : List ℕ) → length a ≡ length b → same a b ≡ begins b a
-unfolding same begins
-same_begins [] [] e = refl
-same_begins [] (y ∷ b) e = absurd (omega arith)
-same_begins (x ∷ a) [] e = absurd (omega arith)
-same_begins (x ∷ a) (y ∷ b) e = rw (same_begins a b (omega arith))
+flipped : (x y : ℕ) → eqb x y ≡ eqb y x
+flipped x y = go (eqb y x) refl
+  where
+    go : (b : Bool) → eqb y x ≡ b → eqb x y ≡ b
+    go true e = eq-eqb x y (sym (eqb-true y x e))
+    go false e = ne_eqb x y (λ h. eqb-false y x e (sym h))
+
+-- each is what the library's comparison gives
+pub begins_is : (w s : List ℕ) → starts_with nat_eq s w ≡ begins w s
+unfolding begins
+begins_is [] s = refl
+begins_is (y ∷ w) [] = refl
+begins_is (y ∷ w) (x ∷ s) = rw (flipped y x, begins_is w s)
+
+pub same_is : (a b : List ℕ) → pointwise nat_eq a b ≡ same a b
+unfolding same
+same_is [] [] = refl
+same_is [] (y ∷ b) = refl
+same_is (x ∷ a) [] = refl
+same_is (x ∷ a) (y ∷ b) = ap (eqb x y &&◌) (same_is a b)
 
 -- two texts of different lengths are never the same
 pub other_length : (a b : List ℕ) → (length a ≡ length b → ⊥) → same a b ≡ false
-unfolding same
-other_length [] [] n = absurd (n refl)
-other_length [] (y ∷ b) n = refl
-other_length (x ∷ a) [] n = refl
-other_length (x ∷ a) (y ∷ b) n = rw (other_length a b (λ e. n (omega arith))) (and-false (eqb x y))
+other_length a b n = sym (same_is a b) ∙ unequal nat_eq a b n
 
--- a word against the text from `at` on: past the word's end, past the text's end, and one byte on
-pub begins_end : (w s : List ℕ) (i : ℕ) → length w ≤ i → begins (drop i w) s ≡ true
-unfolding begins
-begins_end w s i h = rw (drop_of_length-le w h)
-
-module _ (w s : List ℕ) (at i : ℕ) (l : i < length w) where
-  pub begins_short : length s ≤ at + i → begins (drop i w) (drop (at + i) s) ≡ false
-  unfolding begins
-  begins_short h = rw (drop-cons w i 0 l, drop_of_length-le s h)
-
-  module _ (h : at + i < length s) where
-    pub begins_differ : (get_or s (at + i) 0 ≡ get_or w i 0 → ⊥) → begins (drop i w) (drop (at + i) s) ≡ false
-    unfolding begins
-    begins_differ n = rw (drop-cons w i 0 l, drop-cons s (at + i) 0 h, ne_eqb _ _ n)
-
-    pub begins_agree : get_or s (at + i) 0 ≡ get_or w i 0 → begins (drop i w) (drop (at + i) s) ≡ begins (drop (i + 1) w) (drop (at + (i + 1)) s)
-    unfolding begins
-    begins_agree e =
-        let n : at + (i + 1) ≡ at + i + 1 = omega arith in
-        rw (n, add-one (at + i), add-one i, drop-cons w i 0 l, drop-cons s (at + i) 0 h, eq-eqb _ _ e)
-
--- the order of two texts from one place on: where one ends, and where both have a byte
-module _ (a b : List ℕ) (i : ℕ) where
-  pub order_equal : length a ≤ i → length b ≤ i → order (drop i a) (drop i b) ≡ Equal
-  unfolding order
-  order_equal h k = rw (drop_of_length-le a h, drop_of_length-le b k)
-
-  pub order_prefix : length a ≤ i → i < length b → order (drop i a) (drop i b) ≡ Less
-  unfolding order
-  order_prefix h k = rw (drop_of_length-le a h, drop-cons b i 0 k)
-
-  pub order_longer : i < length a → length b ≤ i → order (drop i a) (drop i b) ≡ Greater
-  unfolding order
-  order_longer h k = rw (drop-cons a i 0 h, drop_of_length-le b k)
-
-  module _ (h : i < length a) (k : i < length b) where
-    pub order_less : get_or a i 0 < get_or b i 0 → order (drop i a) (drop i b) ≡ Less
-    unfolding order
-    order_less l = rw (drop-cons a i 0 h, drop-cons b i 0 k, lt-ltb _ _ l)
-
-    pub order_greater : get_or b i 0 < get_or a i 0 → order (drop i a) (drop i b) ≡ Greater
-    unfolding order
-    order_greater l = rw (drop-cons a i 0 h, drop-cons b i 0 k, le-ltb (get_or a i 0) (get_or b i 0) (omega arith), lt-ltb (get_or b i 0) (get_or a i 0) l)
-
-    pub order_next : get_or b i 0 ≤ get_or a i 0 → get_or a i 0 ≤ get_or b i 0 → order (drop i a) (drop i b) ≡ order (drop (i + 1) a) (drop (i + 1) b)
-    unfolding order
-    order_next l m = rw (add-one, drop-cons a i 0 h, drop-cons b i 0 k, le-ltb (get_or a i 0) (get_or b i 0) l, le-ltb (get_or b i 0) (get_or a i 0) m)
+pub order_is : (a b : List ℕ) → slice_cmp nat_cmp a b ≡ order a b
+unfolding order
+order_is [] [] = refl
+order_is [] (y ∷ b) = refl
+order_is (x ∷ a) [] = refl
+order_is (x ∷ a) (y ∷ b) = go (ltb x y) refl (ltb y x) refl (order_is a b)
+  where
+    go : (p : Bool) → ltb x y ≡ p → (q : Bool) → ltb y x ≡ q → slice_cmp nat_cmp a b ≡ order a b
+        → ordering_then (nat_cmp x y) (slice_cmp nat_cmp a b) ≡ cond p Less (cond q Greater (order a b))
+    go true e q f g = rw e
+    go false e true f g = rw (e, ne_eqb x y (λ h. omega (arith, ltb-true y x f)))
+    go false e false f g =
+        let h : x ≡ y = omega (arith, ltb-false x y e, ltb-false y x f) in
+        rw (e, eq-eqb x y h) g
 
 -- what is greater one way is less the other way
-after_flips : (p q : Bool) (x y : Order) → (x ≡ Greater → y ≡ Less) → cond p Less (cond q Greater x) ≡ Greater → cond q Less (cond p Greater y) ≡ Less
+after_flips : (p q : Bool) (x y : Ordering) → (x ≡ Greater → y ≡ Less) → cond p Less (cond q Greater x) ≡ Greater → cond q Less (cond p Greater y) ≡ Less
 after_flips true q x y f e = let z : ◌≡◌ {A = ℕ} 0 1 = cc in absurd (omega arith)
 after_flips false true x y f e = refl
 after_flips false false x y f e = f e
@@ -113,7 +93,7 @@ order_flips (x ∷ a) [] e = refl
 order_flips (x ∷ a) (y ∷ b) e = after_flips (ltb x y) (ltb y x) (order a b) (order b a) (order_flips a b) e
 
 -- texts of one order are equal
-both_false : (p q : Bool) (x : Order) → cond p Less (cond q Greater x) ≡ Equal → (p ≡ false) × (q ≡ false) × (x ≡ Equal)
+both_false : (p q : Bool) (x : Ordering) → cond p Less (cond q Greater x) ≡ Equal → (p ≡ false) × (q ≡ false) × (x ≡ Equal)
 both_false true q x e = let z : ◌≡◌ {A = ℕ} 0 1 = cc in absurd (omega arith)
 both_false false true x e = let z : ◌≡◌ {A = ℕ} 0 1 = cc in absurd (omega arith)
 both_false false false x e = (refl, refl, e)

@@ -1,7 +1,7 @@
 -- Texts byte by byte: parts, and comparison.
 use Rattle.std.specs.Prelude.{◌≡◌, Bool, true, false, cond, ◌&&◌, ◌⊎◌, List, [], ◌∷◌, ℕ, ◌-◌, eqb, ltb, take, drop}
-use Rattle.text.specs.declared.bytes.Order.{Order}
-use Rattle.text.specs.declared.bytes.Order.TheVariants.{Less, Equal, Greater}
+use Rattle.std.specs.declared.cmp.Ordering.{Ordering}
+use Rattle.std.specs.declared.cmp.Ordering.TheVariants.{Less, Equal, Greater}
 
 -- the bytes of a text from one place to another; a place is a number of bytes from the start
 abbrev pub part : List ℕ → ℕ → ℕ → List ℕ
@@ -25,7 +25,7 @@ same (x ∷ a) [] = false
 same (x ∷ a) (y ∷ b) = eqb x y && same a b
 
 -- the order of two texts by their first byte that differs, a proper prefix first
-unfoldable pub order : List ℕ → List ℕ → Order
+unfoldable pub order : List ℕ → List ℕ → Ordering
 order [] [] = Equal
 order [] (y ∷ b) = Less
 order (x ∷ a) [] = Greater

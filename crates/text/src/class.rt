@@ -9,7 +9,7 @@ use super::ranges::in_either;
 use super::utf8::{Encoding, char_at};
 use super::white_space::is_white_space;
 
-#[derive(Clone, Copy)]
+#[derive(Clone, Copy, Debug, PartialEq, Eq)]
 pub enum Class {
     White,
     NotWhite,
@@ -30,41 +30,31 @@ fn is_either(code: u32, a: u32, b: u32) -> bool
 }
 
 // Is the code point of the class?
+#[tactic(auto, using(crate::proofs::Members::one_within), unfolding(crate::specs::Ranges::in_ranges, crate::specs::Class::ranges, crate::specs::Class::outside, crate::specs::Class::member))]
 pub fn in_class(class: Class, code: u32) -> bool
     ensures { result ≡ member class code }
 {
     match class {
         Class::White => is_white_space(code),
         Class::NotWhite => !is_white_space(code),
-        Class::WhiteOrStar => {
-            if code == 0x2A {
-                return true;
-            }
-            is_white_space(code)
-        }
+        Class::WhiteOrStar => code == 0x2A || is_white_space(code),
         Class::NotLf => code != 0x0A,
         Class::Quote => is_either(code, 0x22, 0x27),
         Class::NotQuote => !is_either(code, 0x22, 0x27),
         Class::SourceMark => is_either(code, 0x23, 0x40),
         Class::Alphabetic => is_alphabetic(code),
-        Class::NameRest => {
-            if is_either(code, 0x2D, 0x3A) {
-                return false;
-            }
-            !is_white_space(code)
-        }
+        Class::NameRest => !is_either(code, 0x2D, 0x3A) && !is_white_space(code),
     }
 }
 
-// The same for a character of any length.
+// The same for a character of any length. Not inlined, so that a run of ASCII is a small loop.
+#[inline(never)]
 fn wide_class_at(s: &[u8], at: usize, class: Class) -> usize
     requires { at ≤ length s.now }
     ensures { Bounded (result ≡ class_at class (drop at s.now)) (at + result ≤ length s.now) }
 {
     let c = char_at(s, at, Encoding::Utf8);
-    let len = c.len;
-    let code = c.code;
-    if in_class(class, code) { len } else { 0 }
+    if in_class(class, c.code) { c.len } else { 0 }
 }
 
 // The length in bytes of the character of the class at `at`, 0 where none stands there.
@@ -72,17 +62,10 @@ pub fn class_at(s: &[u8], at: usize, class: Class) -> usize
     requires { at ≤ length s.now }
     ensures { Bounded (result ≡ class_at class (drop at s.now)) (at + result ≤ length s.now) }
 {
-    if s.len() <= at {
-        return wide_class_at(s, at, class);
+    match s.get(at) {
+        Some(b) if *b < 0x80 => usize::from(in_class(class, *b as u32)),
+        _ => wide_class_at(s, at, class),
     }
-    let b = s[at];
-    if b < 0x80 {
-        if in_class(class, b as u32) {
-            return 1;
-        }
-        return 0;
-    }
-    wide_class_at(s, at, class)
 }
 
 // The end of the longest run of the class from `at` on.

@@ -12,12 +12,10 @@ pub fn is_exact(s: &[u8]) -> bool
     ensures { Meant (result ≡ exact s.now)
         ((points : List ℕ) → TextOf Wtf8 points s.now → LossyOf points s.now) }
 {
-    let mut i = 0;
-    while i < s.len() {
+    for i in 0..s.len() {
         if surrogate_at(s, i) {
             return false;
         }
-        i += 1;
     }
     true
 }

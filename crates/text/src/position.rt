@@ -1,13 +1,15 @@
 // Lines and columns of a text, from 0: a line ends at LF, a column counts characters.
-ghost use Rattle.std.specs.Prelude.{◌≡◌, ℕ, ◌+◌, ◌-◌, ◌*◌, ◌/◌, ◌≤◌, ◌<◌, length, get_or, take, drop};
+ghost use Rattle.std.specs.Prelude.{◌≡◌, ℕ, ◌+◌, ◌-◌, ◌*◌, ◌/◌, ◌≤◌, ◌<◌, length, get_or, take, drop, count_by};
 ghost use Rattle.laws.specs.code.Left.{KeptFrom};
 ghost use Rattle.laws.specs.code.Told.{Bounded, Leaving};
 ghost use Rattle.text.specs.Ranges.{within};
 ghost use Rattle.text.specs.Utf8.{continuation};
-ghost use Rattle.text.specs.code.Totals.{total, ends_line, begins_one};
+ghost use Rattle.text.specs.code.Totals.{begins_one};
 ghost use Rattle.text.specs.Position.{characters, step, walk, position_of, stored, kept, Indexed, indexed_position};
 
-#[derive(Clone, Copy)]
+use super::blocks::{all_in_block, count_in};
+
+#[derive(Clone, Copy, Debug, PartialEq, Eq)]
 pub struct Position {
     pub line: usize,
     pub column: usize,
@@ -17,10 +19,11 @@ pub struct Position {
 pub fn goes_on(b: u8) -> bool
     ensures { result ≡ within continuation b }
 {
-    if b < 0x80 { false } else { b <= 0xBF }
+    matches!(b, 0x80..=0xBF)
 }
 
 // The position past a byte.
+#[tactic(auto, unfolding(crate::specs::Position::step))]
 fn past(p: Position, b: u8) -> Position
     requires { (p.line < 18446744073709551615) × (p.column < 18446744073709551615) }
     ensures { result ≡ step characters p b }
@@ -46,10 +49,8 @@ fn scan(s: &[u8], start: Position, from: usize, at: usize) -> Position
     ensures { result ≡ walk characters start (take (at - from) (drop from s.now)) }
 {
     let mut p = start;
-    let mut i = from;
-    while i < at {
-        p = past(p, s[i]);
-        i += 1;
+    for b in &s[from..at] {
+        p = past(p, *b);
     }
     p
 }
@@ -75,22 +76,6 @@ fn get(index: &[u32], k: usize) -> Position
     Position { line, column }
 }
 
-// How many of the 64 bytes at `from` are LF.
-fn lines_in(s: &[u8], from: usize) -> u8
-    requires { from + 64 ≤ length s.now }
-    ensures { Bounded (result ≡ total ends_line (take 64 (drop from s.now))) (result ≤ 64) }
-{
-    let mut n: u8 = 0;
-    let mut i: usize = 0;
-    while i < 64 {
-        if s[from + i] == 0x0A {
-            n += 1;
-        }
-        i += 1;
-    }
-    n
-}
-
 // The place past the last LF among the 64 bytes at `from`, 0 for none.
 fn past_last(s: &[u8], from: usize) -> u8
     requires { from + 64 ≤ length s.now }
@@ -98,65 +83,26 @@ fn past_last(s: &[u8], from: usize) -> u8
         × ((m : ℕ) → result ≡ m + 1 → get_or s.now (from + m) 0 ≡ 0x0A) }
 {
     let mut last: u8 = 0;
-    let mut i: usize = 0;
-    let mut next: u8 = 1;
-    while i < 64 {
-        let here = if s[from + i] == 0x0A { next } else { 0 };
-        if last < here {
-            last = here;
-        }
-        i += 1;
-        next += 1;
+    for i in 0..64u8 {
+        let here = if s[from + i as usize] == 0x0A {
+            i + 1
+        } else {
+            0
+        };
+        last = last.max(here);
     }
     last
 }
 
-// How many of the 64 bytes at `from`, from the kth on, begin a character.
-fn begun_in(s: &[u8], from: usize, k: u8) -> u8
-    requires { (from + 64 ≤ length s.now) × (k ≤ 64) }
-    ensures { (result ≡ total begins_one (take (64 - k) (drop (from + k) s.now))) × (result ≤ 64) }
-{
-    let mut n: u8 = 0;
-    let mut i: usize = 0;
-    let mut j: u8 = 0;
-    while i < 64 {
-        let b = s[from + i];
-        if !goes_on(b) {
-            if k <= j {
-                n += 1;
-            }
-        }
-        i += 1;
-        j += 1;
-    }
-    n
-}
-
-// How many of the 64 bytes at `from` are ASCII.
-fn ascii_in(s: &[u8], from: usize) -> u8
-    requires { from + 64 ≤ length s.now }
-    ensures { result ≡ 64 → (k : ℕ) → k < 64 → get_or s.now (from + k) 0 < 128 }
-{
-    let mut n: u8 = 0;
-    let mut i: usize = 0;
-    while i < 64 {
-        if s[from + i] < 128 {
-            n += 1;
-        }
-        i += 1;
-    }
-    n
-}
-
-// The same as `begun_in`: each byte of ASCII begins a character.
+// How many of the 64 bytes at `from`, from the kth on, begin a character: of ASCII, each does.
 fn begun_from(s: &[u8], from: usize, k: u8) -> u8
     requires { (from + 64 ≤ length s.now) × (k ≤ 64) }
-    ensures { Bounded (result ≡ total begins_one (take (64 - k) (drop (from + k) s.now))) (result ≤ 64) }
+    ensures { result ≡ count_by begins_one (take (64 - k) (drop (from + k) s.now)) }
 {
-    if ascii_in(s, from) == 64 {
+    if all_in_block::<64, _>(s, from, |b| b < 128) {
         return 64 - k;
     }
-    begun_in(s, from, k)
+    count_in(&s[from + k as usize..from + 64], |b| !goes_on(b))
 }
 
 // The position past the 64 bytes at `from`, where that at `from` is `p`.
@@ -164,7 +110,7 @@ fn scan_block(s: &[u8], p: Position, from: usize) -> Position
     requires { (from + 64 ≤ length s.now) × (p.line < 4294967296) × (p.column < 4294967296) }
     ensures { result ≡ walk characters p (take 64 (drop from s.now)) }
 {
-    let lines = lines_in(s, from);
+    let lines = count_in(&s[from..from + 64], |b| b == 0x0A);
     let last = past_last(s, from);
     let begun = begun_from(s, from, last);
     let line = p.line + (lines as usize);
@@ -188,17 +134,15 @@ pub fn build_index(s: &[u8], index: &mut [u32])
         (KeptFrom (2 * (length s.now / 64) + 2) index.old index.new) }
 {
     let mut p = Position { line: 0, column: 0 };
-    let mut k = 0;
-    let n = s.len() / 64;
-    put(index, k, p);
-    while k < n {
+    put(index, 0, p);
+    for k in 0..s.len() / 64 {
         p = scan_block(s, p, 64 * k);
-        k += 1;
-        put(index, k, p);
+        put(index, k + 1, p);
     }
 }
 
 // The position at `at`, from the last place in the index that is not past it: at most 63 bytes are read.
+#[tactic(auto, unfolding(crate::specs::Position::indexed_position))]
 pub fn indexed_position(s: &[u8], index: &[u32], at: usize) -> Position
     requires { (at ≤ length s.now) × (2 * (at / 64) + 1 < length index.now) }
     ensures { result ≡ indexed_position characters s.now index.now at }
@@ -213,10 +157,8 @@ pub fn later_position(s: &[u8], index: &[u32], start: Position, from: usize, at:
         × (2 * (length s.now / 64) + 1 < length index.now) × Indexed characters s.now index.now (length s.now / 64 + 1) }
     ensures { result ≡ position_of characters s.now at }
 {
-    if from <= at {
-        if at - from < at % 64 {
-            return scan(s, start, from, at);
-        }
+    if from <= at && at - from < at % 64 {
+        return scan(s, start, from, at);
     }
     indexed_position(s, index, at)
 }

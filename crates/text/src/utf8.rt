@@ -1,75 +1,56 @@
 // UTF-8 and WTF-8, by the rows of Unicode's table of well-formed byte sequences.
-ghost use Rattle.std.specs.Prelude.{◌≡◌, true, false, [], ◌∷◌, ℕ, ◌≤◌, ◌<◌, ◌+◌, length, get_or, drop};
+ghost use Rattle.std.specs.Prelude.{◌≡◌, false, ◌≤◌, ◌<◌, ◌+◌, length, drop};
 ghost use Rattle.laws.specs.code.Told.{Meant};
-ghost use Rattle.text.specs.Ranges.{◌to◌};
-ghost use Rattle.text.specs.Utf8.{admits, continuation, pair, surrogate, besides, rows, length_by, char_length, code_by, char_at, formed, well_formed};
+ghost use Rattle.text.specs.Utf8.{admits, surrogate, besides, length_by, char_length, code_by, char_at, formed, well_formed};
+ghost use Rattle.text.specs.code.Rows.{ranges_of, all_within};
 ghost use Rattle.text.specs.ByRows.{ByRows};
 ghost use Rattle.text.specs.WellFormed.{Judges};
 
+use super::blocks::all_in_block;
 use super::bytes::byte_at;
 
 // UTF-8, or WTF-8, in which a surrogate stands by itself too.
-#[derive(Clone, Copy)]
+#[derive(Clone, Copy, Debug, PartialEq, Eq)]
 pub enum Encoding {
     Utf8,
     Wtf8,
 }
 
 // A character's length in bytes, 0 for none, and its code point.
-#[derive(Clone, Copy)]
+#[derive(Clone, Copy, Debug, PartialEq, Eq)]
 pub struct Char {
     pub len: usize,
     pub code: u32,
 }
 
-// The byte of `s` at `i` is there, and from `lo` to `hi`.
-fn inside(s: &[u8], i: usize, lo: u8, hi: u8) -> bool
-    ensures { result ≡ admits ((lo to hi) ∷ []) (drop i s.now) }
+// A byte that goes on with a character.
+const CONTINUATION: (u8, u8) = (0x80, 0xBF);
+
+// A surrogate, and a lead surrogate with a trail surrogate right behind it.
+const SURROGATE: [(u8, u8); 3] = [(0xED, 0xED), (0xA0, 0xBF), CONTINUATION];
+
+const PAIR: [(u8, u8); 6] = [
+    (0xED, 0xED),
+    (0xA0, 0xAF),
+    CONTINUATION,
+    (0xED, 0xED),
+    (0xB0, 0xBF),
+    CONTINUATION,
+];
+
+// Each byte of the text lies in its range, as far as both go.
+fn all_within(s: &[u8], row: &[(u8, u8)]) -> bool
+    ensures { result ≡ all_within row.now s.now }
 {
-    if s.len() <= i {
-        return false;
-    }
-    let b = s[i];
-    if b < lo {
-        return false;
-    }
-    b <= hi
+    row.iter().zip(s).all(|((lo, hi), b)| lo <= b && b <= hi)
 }
 
-// A row of two bytes admits what stands at `at`.
-fn row2(s: &[u8], at: usize, lo: u8, hi: u8, lo2: u8, hi2: u8) -> bool
-    requires { at ≤ length s.now + 3 }
-    ensures { result ≡ admits ((lo to hi) ∷ (lo2 to hi2) ∷ []) (drop at s.now) }
+// The text begins with a byte of each range, one after the other.
+#[tactic(auto, using(crate::proofs::RangesAdmit::admits_each, crate::proofs::RangesAdmit::admits_short))]
+fn begins_as<const N: usize>(s: &[u8], row: [(u8, u8); N]) -> bool
+    ensures { result ≡ admits (ranges_of row.entry) s.now }
 {
-    if inside(s, at, lo, hi) {
-        inside(s, at + 1, lo2, hi2)
-    } else {
-        false
-    }
-}
-
-// A row of three bytes.
-fn row3(s: &[u8], at: usize, lo: u8, hi: u8, lo2: u8, hi2: u8) -> bool
-    requires { at ≤ length s.now + 3 }
-    ensures { result ≡ admits ((lo to hi) ∷ (lo2 to hi2) ∷ continuation ∷ []) (drop at s.now) }
-{
-    if row2(s, at, lo, hi, lo2, hi2) {
-        inside(s, at + 2, 0x80, 0xBF)
-    } else {
-        false
-    }
-}
-
-// A row of four bytes.
-fn row4(s: &[u8], at: usize, lo: u8, hi: u8, lo2: u8, hi2: u8) -> bool
-    requires { at ≤ length s.now + 3 }
-    ensures { result ≡ admits ((lo to hi) ∷ (lo2 to hi2) ∷ continuation ∷ continuation ∷ []) (drop at s.now) }
-{
-    if row3(s, at, lo, hi, lo2, hi2) {
-        inside(s, at + 3, 0x80, 0xBF)
-    } else {
-        false
-    }
+    N <= s.len() && all_within(s, &row)
 }
 
 // A surrogate stands at `at`.
@@ -77,86 +58,43 @@ pub fn surrogate_at(s: &[u8], at: usize) -> bool
     requires { at ≤ length s.now }
     ensures { result ≡ admits surrogate (drop at s.now) }
 {
-    row3(s, at, 0xED, 0xED, 0xA0, 0xBF)
-}
-
-// A lead surrogate stands at `at`, with a trail surrogate right behind it.
-fn pair_at(s: &[u8], at: usize) -> bool
-    requires { at ≤ length s.now }
-    ensures { result ≡ admits pair (drop at s.now) }
-{
-    if row3(s, at, 0xED, 0xED, 0xA0, 0xAF) {
-        row3(s, at + 3, 0xED, 0xED, 0xB0, 0xBF)
-    } else {
-        false
-    }
+    begins_as(&s[at..], SURROGATE)
 }
 
 // The length by the rows that an encoding has besides the table.
-fn length_besides(s: &[u8], at: usize, encoding: Encoding) -> usize
-    requires { at ≤ length s.now }
-    ensures { result ≡ length_by (besides encoding) (drop at s.now) }
+#[tactic(auto, unfolding(crate::specs::Utf8::length_by))]
+fn length_besides(s: &[u8], encoding: Encoding) -> usize
+    ensures { result ≡ length_by (besides encoding) s.now }
 {
     match encoding {
-        Encoding::Utf8 => 0,
-        Encoding::Wtf8 => {
-            if pair_at(s, at) {
-                return 0;
-            }
-            if surrogate_at(s, at) {
-                return 3;
-            }
-            0
-        }
+        Encoding::Wtf8 if !begins_as(s, PAIR) && begins_as(s, SURROGATE) => SURROGATE.len(),
+        _ => 0,
     }
 }
 
-// The length by the rows from the first of four bytes on.
-fn length_from_four(s: &[u8], at: usize, encoding: Encoding) -> usize
-    requires { at ≤ length s.now }
-    ensures { result ≡ length_by (drop 6 (rows encoding)) (drop at s.now) }
+// The length by the rows, from the first on.
+#[tactic(auto, unfolding(crate::specs::Utf8::length_by, crate::specs::Utf8::char_length))]
+fn length_by_rows(s: &[u8], encoding: Encoding) -> usize
+    ensures { result ≡ char_length encoding s.now }
 {
-    if row4(s, at, 0xF0, 0xF0, 0x90, 0xBF) {
-        return 4;
+    if begins_as(s, [(0x00, 0x7F)]) {
+        1
+    } else if begins_as(s, [(0xC2, 0xDF), CONTINUATION]) {
+        2
+    } else if begins_as(s, [(0xE0, 0xE0), (0xA0, 0xBF), CONTINUATION])
+        || begins_as(s, [(0xE1, 0xEC), CONTINUATION, CONTINUATION])
+        || begins_as(s, [(0xED, 0xED), (0x80, 0x9F), CONTINUATION])
+        || begins_as(s, [(0xEE, 0xEF), CONTINUATION, CONTINUATION])
+    {
+        3
+    } else if begins_as(s, [(0xF0, 0xF0), (0x90, 0xBF), CONTINUATION, CONTINUATION])
+        || begins_as(s, [(0xF1, 0xF3), CONTINUATION, CONTINUATION, CONTINUATION])
+        || begins_as(s, [(0xF4, 0xF4), (0x80, 0x8F), CONTINUATION, CONTINUATION])
+    {
+        4
+    } else {
+        length_besides(s, encoding)
     }
-    if row4(s, at, 0xF1, 0xF3, 0x80, 0xBF) {
-        return 4;
-    }
-    if row4(s, at, 0xF4, 0xF4, 0x80, 0x8F) {
-        return 4;
-    }
-    length_besides(s, at, encoding)
-}
-
-// The length by the rows from the first of three bytes on.
-fn length_from_three(s: &[u8], at: usize, encoding: Encoding) -> usize
-    requires { at ≤ length s.now }
-    ensures { result ≡ length_by (drop 2 (rows encoding)) (drop at s.now) }
-{
-    if row3(s, at, 0xE0, 0xE0, 0xA0, 0xBF) {
-        return 3;
-    }
-    if row3(s, at, 0xE1, 0xEC, 0x80, 0xBF) {
-        return 3;
-    }
-    if row3(s, at, 0xED, 0xED, 0x80, 0x9F) {
-        return 3;
-    }
-    if row3(s, at, 0xEE, 0xEF, 0x80, 0xBF) {
-        return 3;
-    }
-    length_from_four(s, at, encoding)
-}
-
-// The length by the rows from that of two bytes on.
-fn length_from_two(s: &[u8], at: usize, encoding: Encoding) -> usize
-    requires { at ≤ length s.now }
-    ensures { result ≡ length_by (drop 1 (rows encoding)) (drop at s.now) }
-{
-    if row2(s, at, 0xC2, 0xDF, 0x80, 0xBF) {
-        return 2;
-    }
-    length_from_three(s, at, encoding)
 }
 
 // How many bytes the character at `at` has; 0 where none of the rows admits what stands there.
@@ -165,13 +103,11 @@ pub fn char_length(s: &[u8], at: usize, encoding: Encoding) -> usize
     ensures { Meant (result ≡ char_length encoding (drop at s.now))
         (ByRows encoding (drop at s.now) result) }
 {
-    if inside(s, at, 0x00, 0x7F) {
-        return 1;
-    }
-    length_from_two(s, at, encoding)
+    length_by_rows(&s[at..], encoding)
 }
 
 // The code point of the `n` bytes at `at`.
+#[tactic(auto, unfolding(crate::specs::Utf8::code_by))]
 fn code_at(s: &[u8], at: usize, n: usize) -> u32
     requires { at ≤ length s.now }
     ensures { result ≡ code_by n (drop at s.now) }
@@ -196,6 +132,7 @@ fn code_at(s: &[u8], at: usize, n: usize) -> u32
 }
 
 // The character at `at`.
+#[tactic(auto, unfolding(crate::specs::Utf8::char_at))]
 pub fn char_at(s: &[u8], at: usize, encoding: Encoding) -> Char
     requires { at ≤ length s.now }
     ensures { result ≡ char_at encoding (drop at s.now) }
@@ -205,66 +142,12 @@ pub fn char_at(s: &[u8], at: usize, encoding: Encoding) -> Char
     Char { len, code }
 }
 
-// How many of the 32 bytes at `at` are ASCII.
-fn ascii_in_block(s: &[u8], at: usize) -> u8
-    requires { at + 32 ≤ length s.now }
-    ensures { result ≡ 32 → (k : ℕ) → k < 32 → get_or s.now (at + k) 0 < 128 }
-{
-    let mut n: u8 = 0;
-    let mut i: usize = 0;
-    while i < 32 {
-        if s[at + i] < 128 {
-            n += 1;
-        }
-        i += 1;
-    }
-    n
-}
-
-// Do 32 bytes of ASCII stand at `at`?
-fn ascii_at(s: &[u8], at: usize) -> bool
-    requires { at ≤ length s.now }
-    ensures { result ≡ true → (at + 32 ≤ length s.now) × ((k : ℕ) → k < 32 → get_or s.now (at + k) 0 < 128) }
-{
-    if s.len() - at < 32 {
-        return false;
-    }
-    ascii_in_block(s, at) == 32
-}
-
-// How many of the 8 bytes at `at` are ASCII.
-fn ascii_in_eight(s: &[u8], at: usize) -> u8
-    requires { at + 8 ≤ length s.now }
-    ensures { result ≡ 8 → (k : ℕ) → k < 8 → get_or s.now (at + k) 0 < 128 }
-{
-    let mut n: u8 = 0;
-    let mut i: usize = 0;
-    while i < 8 {
-        if s[at + i] < 128 {
-            n += 1;
-        }
-        i += 1;
-    }
-    n
-}
-
-// Do 8 bytes of ASCII stand at `at`?
-fn ascii_eight_at(s: &[u8], at: usize) -> bool
-    requires { at ≤ length s.now }
-    ensures { result ≡ true → (at + 8 ≤ length s.now) × ((k : ℕ) → k < 8 → get_or s.now (at + k) 0 < 128) }
-{
-    if s.len() - at < 8 {
-        return false;
-    }
-    ascii_in_eight(s, at) == 8
-}
-
 // The place 8 bytes on, or the end.
 fn block_end(s: &[u8], at: usize) -> usize
     requires { at < length s.now }
     ensures { (at < result) × (result ≤ length s.now) }
 {
-    if s.len() - at < 8 { s.len() } else { at + 8 }
+    s.len().min(at + 8)
 }
 
 // Character by character from `at` to `stop` or past it; a place before `stop` is one where no character stands.
@@ -295,9 +178,9 @@ pub fn well_formed(s: &[u8], encoding: Encoding) -> bool
 {
     let mut at = 0;
     while at < s.len() {
-        if ascii_at(s, at) {
+        if all_in_block::<32, _>(s, at, |b| b < 128) {
             at += 32;
-        } else if ascii_eight_at(s, at) {
+        } else if all_in_block::<8, _>(s, at, |b| b < 128) {
             at += 8;
         } else {
             let stop = block_end(s, at);

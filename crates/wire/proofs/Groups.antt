@@ -1,11 +1,11 @@
 -- A number's groups at a place of a list, and the place values that they have.
+use Rattle.std.specs.Prelude.{Ok, Err}
 use Rattle.laws.proofs.Prelude.{◌≡◌, refl, ap, ◌∙◌, true, cond, ◌||◌, List, ℕ, zero, suc, ◌+◌, ◌-◌, ◌*◌, ◌≤◌, ◌<◌, arith, leb, ltb, length, get_or, drop}
 use Rattle.laws.proofs.Prelude.{lt-ltb, le-ltb, le-leb}
 use native.Mathlib.Nat.{mul-le-mul, le_refl, pow-le-pow_right, pow-suc}
 use Rattle.laws.specs.Decoded.{ok, no, ◌>>◌, require}
 use Rattle.wire.specs.Number.{largest, last_group, groups, number}
-use Rattle.wire.specs.{code.Views.Past, code.Views.PlaceValue, declared.Read.Read}
-use Rattle.wire.specs.declared.Read.TheVariants as read
+use Rattle.wire.specs.{code.Views.Past, code.Views.PlaceValue, code.Views.Reading}
 use Rattle.wire.proofs.FieldsAtPlace.{byte_past, byte_at}
 
 module _ (scale low : ℕ) (s : List ℕ) (at : ℕ) where
@@ -111,6 +111,6 @@ module _ {left scale low : ℕ} (p : PlaceValue left scale low) (l : 0 < left) w
         record { few = omega arith; power = rw (up, pow-suc 128 (5 - left), p.power); less = omega arith }
 
 -- what is past a place is past the place before it
-pub past_before : (at n : ℕ) (r : Read) → Past (at + 1) n r → Past at n r
-past_before at n (read.Value v next) h = (omega (arith, h.0), h.1)
-past_before at n (read.Refused r) h = tt
+pub past_before : (at n : ℕ) (r : Reading ℕ) → Past (at + 1) n r → Past at n r
+past_before at n (Ok p) h = (omega (arith, h.0), h.1)
+past_before at n (Err r) h = tt

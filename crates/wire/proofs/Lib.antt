@@ -7,3 +7,4 @@ pub mod OptionalCodec
 pub mod Numbered
 pub mod Kept
 pub mod Cases
+pub mod RefusalNumbers

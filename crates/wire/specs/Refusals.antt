@@ -1,4 +1,6 @@
 -- Document 01's refusals by name: their numbers, and where they are judged.
+use Rattle.wire.specs.declared.refusals.Refusal.{Refusal}
+use Rattle.wire.specs.declared.refusals.Refusal.TheVariants as is
 use Rattle.std.specs.Prelude.{Bool, false, ◌||◌, List, [], ◌∷◌, ◌++◌, ℕ, eqb}
 
 -- the sheet has more than 65,536 bytes
@@ -41,6 +43,14 @@ uncooked = 9
 abbrev pub buffer : ℕ
 buffer = 10
 
+-- a delivery is cut off, too long, has trailing bytes, a count outside 1 to 64, or a number or name text that a sheet could not have
+abbrev pub delivery : ℕ
+delivery = 11
+
+-- a name occurs twice in a delivery
+abbrev pub name_twice : ℕ
+name_twice = 12
+
 -- a String's span has fewer than two bytes, or does not begin and end with the same mark, `"` or `'`
 abbrev pub quotation : ℕ
 quotation = 13
@@ -48,6 +58,23 @@ quotation = 13
 -- the rules are longer than the second buffer
 abbrev pub rules : ℕ
 rules = 16
+
+-- the number of a refusal
+abbrev pub number_of : Refusal → ℕ
+number_of is.SheetLength = sheet_length
+number_of is.CutOff = cut_off
+number_of is.Byte = byte
+number_of is.Limit = limit
+number_of is.Text = text
+number_of is.Position = position
+number_of is.Comments = comments
+number_of is.Trailing = trailing
+number_of is.Uncooked = uncooked
+number_of is.Buffer = buffer
+number_of is.Delivery = delivery
+number_of is.NameTwice = name_twice
+number_of is.Quotation = quotation
+number_of is.Rules = rules
 
 -- those that are judged at a field
 abbrev pub at_fields : List ℕ

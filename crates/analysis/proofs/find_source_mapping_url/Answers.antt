@@ -1,26 +1,20 @@
-use Rattle.laws.proofs.Prelude.{zero-add, eq-eqb, ne_eqb, known}
+use Rattle.laws.proofs.Prelude.{known}
 use Rattle.analysis.specs.Row.{first, match_at}
 use Rattle.analysis.proofs.{RowSteps.source_mapping_row}
 use Rattle.analysis.proofs.find_source_mapping_url.Goals as goal
 
-pub returns-then-n-eq0 : goal.returns-then-n-eq0
+pub returns-in_err-b : goal.returns-in_err-b
 unfolding first
-returns-then-n-eq0 c = record { answer = rw (source_mapping_row, ← c.class_at-n.ensures.answer, eq-eqb _ _ c.if-n-eq0.true); bounds = tt }
-
-pub returns-in_default : goal.returns-in_default
-unfolding first
-returns-in_default c =
-    record {
+returns-in_err-b c =
+    rw c.from_residual-in_err-b.ensures (record {
       answer = rw (
         source_mapping_row,
-        ← c.class_at-n.ensures.answer,
-        ne_eqb _ _ c.if-n-eq0.false,
-        zero-add,
+        known c.one_at.ensures.answer c.in_ok-n.was,
         ← c.run_end-a.ensures.answer,
-        known c.assigned_at.ensures.answer c.in_default.is,
+        known c.assigned_at.ensures.answer c.in_err-b.was,
       );
       bounds = tt;
-    }
+    })
 
 pub returns : goal.returns
 unfolding match_at
@@ -28,11 +22,9 @@ returns c =
     record {
       answer = rw (
         source_mapping_row,
-        ← c.class_at-n.ensures.answer,
-        ne_eqb _ _ c.if-n-eq0.false,
-        zero-add,
+        known c.one_at.ensures.answer c.in_ok-n.was,
         ← c.run_end-a.ensures.answer,
-        known c.assigned_at.ensures.answer c.in-At.is,
+        known c.assigned_at.ensures.answer c.in_ok-b.was,
       ) c.bare_at.ensures.answer;
       bounds = c.bare_at.ensures.bounds;
     }

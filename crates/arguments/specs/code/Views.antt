@@ -1,7 +1,8 @@
 -- What the answers of the code stand for, in a sheet s, and the bounds that they keep.
 use Rattle.std.specs.Prelude.{◌≡◌, Bool, true, cond, ℕ, ◌+◌, ◌≤◌, ◌<◌, length, drop}
 use mathlib.Core.List.{List, [], ◌∷◌, flat_map}
-use Rattle.std.proofs.Math.Option.{Option}
+use Rattle.std.specs.Prelude.{None, Option, Some, option_map}
+use Rattle.laws.specs.Codec.{IfThere}
 use Rattle.laws.specs.Decoded.{ok, Decoder}
 use Rattle.text.specs.Lossy.{lossy, replaced}
 use Rattle.text.specs.Bytes.{part}
@@ -19,8 +20,6 @@ use Rattle.report.specs.ModuleInfo as info
 use Rattle.arguments.specs.Argument.{template_parts, operand, chain, argument_of, single_text}
 use Rattle.arguments.specs.declared.expression.Expression.{Expression}
 use Rattle.arguments.specs.declared.expression.Expression.TheVariants as expression
-use Rattle.arguments.specs.declared.bin.Parts.{Parts}
-use Rattle.arguments.specs.declared.bin.Parts.TheVariants as parts
 use Rattle.arguments.specs.declared.argument.DynamicArgument.{DynamicArgument}
 use Rattle.arguments.specs.declared.argument.DynamicArgument.TheVariants as argument
 
@@ -30,14 +29,14 @@ encode_parts = flat_map (encode_optional encode_text)
 
 -- the part of a hole, if there is one: an expression
 abbrev pub hole_parts : Bool → List DynamicTemplatePart
-hole_parts has_hole = cond has_hole (Option.none ∷ []) []
+hole_parts has_hole = cond has_hole (None ∷ []) []
 
 -- nothing is known of the text of an expression, wherever it stands in an argument
 pub record Unknown (n : Node) : Type 0 where
-  pub side : operand (shape n) ≡ Option.none
-  pub parts : chain n ≡ Option.none
+  pub side : operand (shape n) ≡ None
+  pub parts : chain n ≡ None
   pub whole : argument_of n ≡ info.expr
-  pub single : single_text (shape n) ≡ Option.none
+  pub single : single_text (shape n) ≡ None
 
 -- the node n, with t behind it, is a String whose text stands from one place to another
 pub record IsString (s : List ℕ) (from to : ℕ) (next : Cursor) (n : Node) (t : List ℕ) : Type 0 where
@@ -78,22 +77,15 @@ ExpressionWithin n levels (expression.Plus next) = 0 < levels
 ExpressionWithin n levels expression.Other = Unit {0}
 
 -- how many parts a chain has, and what stands behind it; or it is none
-pub data Counted : Type 0 where
-  count : ℕ → List ℕ → Counted
-  unknown : Counted
+abbrev pub parts_as : List ℕ → Option (ℕ × Cursor) → Option (ℕ × List ℕ)
+parts_as s = option_map (λ (p : ℕ × Cursor). (p.0, drop p.1.at s))
 
-abbrev pub parts_as : List ℕ → Parts → Counted
-parts_as s (parts.Are n next) = count n (drop next.at s)
-parts_as s parts.Unknown = unknown
-
-abbrev pub counted : Option (List DynamicTemplatePart) → List ℕ → Counted
-counted Option.none t = unknown
-counted (Option.some l) t = count (length l) t
+abbrev pub counted : Option (List DynamicTemplatePart) → List ℕ → Option (ℕ × List ℕ)
+counted parts t = option_map (λ (l : List DynamicTemplatePart). (length l, t)) parts
 
 -- each part took a level
-abbrev pub PartsWithin : ℕ → Parts → Type 0
-PartsWithin levels (parts.Are n next) = n ≤ levels
-PartsWithin levels parts.Unknown = Unit {0}
+abbrev pub PartsWithin : ℕ → Option (ℕ × Cursor) → Type 0
+PartsWithin levels = IfThere (λ (p : ℕ × Cursor). p.0 ≤ levels)
 
 -- what an argument stands for, with the number of surrogates of its single text, in a sheet s with so many levels left
 abbrev pub Stands : List ℕ → List ℕ → ℕ → DynamicArgument → info.DynamicArgument → ℕ → Type 0
@@ -105,7 +97,7 @@ Stands s source levels (argument.Template k holes at) v replacements =
     × (replacements ≡ 0)
 Stands s source levels (argument.Chain k at) v replacements =
     ((n : Node) × (t : List ℕ) × (l : List DynamicTemplatePart)
-    × (node source levels (drop at s) ≡ ok n t) × (chain n ≡ Option.some l) × (length l ≡ k) × (v ≡ info.template l))
+    × (node source levels (drop at s) ≡ ok n t) × (chain n ≡ Some l) × (length l ≡ k) × (v ≡ info.template l))
     × (replacements ≡ 0)
 
 -- a text is a part of the n bytes; there are no more holes than a number can say

@@ -1,13 +1,18 @@
 -- What the answers of the code stand for, in a sheet s and a table of pairs, and the bounds that they keep.
-use Rattle.std.specs.Prelude.{◌≡◌, Bool, true, false, cond, List, [], ◌∷◌, ◌++◌, ℕ, ◌+◌, ◌-◌, ◌*◌, ◌≤◌, ◌<◌, eqb, length, get_or, drop}
-use Rattle.std.proofs.Math.Option.{Option}
+use Rattle.std.specs.Prelude.{◌≡◌, Bool, true, false, List, ◌∷◌, ℕ, ◌≤◌, ◌<◌, map, length, set, take, drop}
+use Rattle.std.specs.Prelude.{Option, None, Some, option_map, Result, Ok, Err}
+use Rattle.std.specs.Bool.{then_some}
+use Rattle.std.specs.List.{All}
+use Rattle.std.specs.List as list
+use Rattle.laws.specs.Codec.{IfThere}
 use Rattle.laws.specs.Decoded.{ok, no, Decoder}
 use Rattle.text.specs.Lossy.{exact}
 use Rattle.text.specs.Bytes.{part}
 use Rattle.wire.specs.declared.Cursor.{Cursor}
-use Rattle.sheet.specs.Limits.{property_limit, pair_numbers}
+use Rattle.wire.specs.Refusals.{number_of}
+use Rattle.wire.specs.code.Views.{Reading, PastWith}
+use Rattle.sheet.specs.Limits.{property_limit}
 use Rattle.sheet.specs.Tree.{Node, Properties}
-use Rattle.sheet.specs.code.Tables.{rows}
 use Rattle.sheet.specs.Nodes.{node, property_item}
 use Rattle.sheet.specs.Nodes as nodes
 use Rattle.sheet.specs.Shape.{Shape, text, named, pieces, operation, properties, anything, shape}
@@ -17,50 +22,22 @@ use Rattle.sheet_heads.specs.code.Views.{Part}
 use Rattle.report.specs.ModuleInfo.{KeyValue, none, unknown, known}
 use Rattle.report.specs.ModuleInfo as info
 use Rattle.attributes.specs.declared.pairs.Pair.{Pair}
-use Rattle.attributes.specs.declared.pairs.Slot.{Slot}
-use Rattle.attributes.specs.declared.pairs.Slot.TheVariants as slot
 use Rattle.attributes.specs.declared.props.Value.{Value}
 use Rattle.attributes.specs.declared.props.Value.TheVariants as value
-use Rattle.attributes.specs.declared.props.PropRead.{PropRead}
-use Rattle.attributes.specs.declared.props.PropRead.TheVariants as prop_read
+use Rattle.attributes.specs.declared.props.Keyed.{Keyed}
 use Rattle.attributes.specs.declared.readings.ImportAttributes.{ImportAttributes}
 use Rattle.attributes.specs.declared.readings.ImportAttributes.TheVariants as import_attributes
 use Rattle.attributes.specs.Attributes.{Prop, keyless, keyed, props}
 
--- a pair in five numbers
-abbrev pub pair_row : Pair → List ℕ
-pair_row p = p.key_start ∷ p.key_end ∷ cond p.known 1 0 ∷ p.value_start ∷ p.value_end ∷ []
-
--- the pair in the kth row of a table
-abbrev pub row_in : List ℕ → ℕ → Pair
-row_in table k =
-    record {
-      key_start = get_or table (5 * k) 0;
-      key_end = get_or table (5 * k + 1) 0;
-      known = eqb (get_or table (5 * k + 2) 0) 1;
-      value_start = get_or table (5 * k + 3) 0;
-      value_end = get_or table (5 * k + 4) 0;
-    }
-
 abbrev pub pair_as : List ℕ → Pair → KeyValue
-pair_as s p = record {
-  key = part s p.key_start p.key_end;
-  value = cond p.known
-      (Option.some (part s p.value_start p.value_end)) Option.none;
-}
+pair_as s p = record { key = part s p.key_start p.key_end; value = option_map (λ (v : ℕ × ℕ). part s v.0 v.1) p.value }
 
-abbrev pub pair_in : List ℕ → List ℕ → ℕ → KeyValue
-pair_in s table k = pair_as s (row_in table k)
-
--- so many pairs from the kth row on, and those in the first n rows
-abbrev pub pairs_from : List ℕ → List ℕ → ℕ → ℕ → List KeyValue
-pairs_from s table k n = rows (pair_in s table) k n
-
-abbrev pub pairs_in : List ℕ → List ℕ → ℕ → List KeyValue
-pairs_in s table n = pairs_from s table 0 n
+-- the pairs in the first n rows of a table
+abbrev pub pairs_in : List ℕ → List Pair → ℕ → List KeyValue
+pairs_in s table n = map (pair_as s) (take n table)
 
 -- what the code's answer stands for
-abbrev pub attributes_as : List ℕ → List ℕ → ImportAttributes → info.ImportAttributes
+abbrev pub attributes_as : List ℕ → List Pair → ImportAttributes → info.ImportAttributes
 attributes_as s table import_attributes.None = none
 attributes_as s table import_attributes.Unknown = unknown
 attributes_as s table (import_attributes.Known n) = known (pairs_in s table n)
@@ -68,33 +45,27 @@ attributes_as s table (import_attributes.Known n) = known (pairs_in s table n)
 -- the texts of a pair are parts of m bytes
 pub record PairWithin (m : ℕ) (p : Pair) : Type 0 where
   pub key : Part m p.key_start p.key_end
-  pub value : Part m p.value_start p.value_end
+  pub value : IfThere (λ (v : ℕ × ℕ). Part m v.0 v.1) p.value
 
 -- a table of a row for each property, in the first n of them parts of m bytes
-pub record Pairs (m : ℕ) (table : List ℕ) (n : ℕ) : Type 0 where
-  pub long : pair_numbers ≤ length table
+pub record Pairs (m : ℕ) (table : List Pair) (n : ℕ) : Type 0 where
+  pub long : property_limit ≤ length table
   pub most : n ≤ property_limit
-  pub parts : (k : ℕ) → k < n → PairWithin m (row_in table k)
+  pub parts : All (PairWithin m) (take n table)
 
-abbrev pub AttributesWithin : ℕ → List ℕ → ImportAttributes → Type 0
+abbrev pub AttributesWithin : ℕ → List Pair → ImportAttributes → Type 0
 AttributesWithin m table import_attributes.None = Unit {0}
 AttributesWithin m table import_attributes.Unknown = Unit {0}
 AttributesWithin m table (import_attributes.Known n) = Pairs m table n
 
--- the n pairs with another before the ith, or instead of it
-abbrev pub opened : List ℕ → List ℕ → ℕ → KeyValue → ℕ → List KeyValue
-opened s table n a i = pairs_in s table i ++ (a ∷ pairs_from s table i (n - i))
+-- some pairs with another instead of the ith, or before it
+abbrev pub slot_as : KeyValue → List KeyValue → Result ℕ ℕ → List KeyValue
+slot_as a l (Ok i) = set l i a
+slot_as a l (Err i) = list.insert l i a
 
-abbrev pub replaced : List ℕ → List ℕ → ℕ → KeyValue → ℕ → List KeyValue
-replaced s table n a i = pairs_in s table i ++ (a ∷ pairs_from s table (i + 1) (n - (i + 1)))
-
-abbrev pub slot_as : List ℕ → List ℕ → ℕ → KeyValue → Slot → List KeyValue
-slot_as s table n a (slot.Same i) = replaced s table n a i
-slot_as s table n a (slot.Before i) = opened s table n a i
-
-abbrev pub SlotWithin : ℕ → Slot → Type 0
-SlotWithin n (slot.Same i) = i < n
-SlotWithin n (slot.Before i) = i ≤ n
+abbrev pub SlotWithin : ℕ → Result ℕ ℕ → Type 0
+SlotWithin n (Ok i) = i < n
+SlotWithin n (Err i) = i ≤ n
 
 -- neither a String nor an Object
 abbrev pub is_other : Shape → Bool
@@ -117,13 +88,13 @@ ValueWithin m levels (value.Text from to) = Part m from to
 ValueWithin m levels (value.Object n next) = (0 < levels) × (n ≤ property_limit)
 ValueWithin m levels value.Other = Unit {0}
 
--- a property from its head, with the cursors at its value and behind it
-abbrev pub prop_in : List ℕ → Property → Cursor → Cursor → PropRead
-prop_in s property.Spread at next = prop_read.Keyless next
-prop_in s property.Other at next = prop_read.Keyless next
-prop_in s property.ChildKey at next = prop_read.Keyless next
-prop_in s (property.StringKey from to) at next = cond (exact (part s from to)) (prop_read.Keyed from to at next) (prop_read.Keyless next)
-prop_in s (property.NameKey from to) at next = prop_read.Keyed from to at next
+-- a property from its head, with the cursor at its value
+abbrev pub prop_in : List ℕ → Property → Cursor → Option Keyed
+prop_in s property.Spread at = None
+prop_in s property.Other at = None
+prop_in s property.ChildKey at = None
+prop_in s (property.StringKey from to) at = then_some (exact (part s from to)) (record { start = from; end = to; value = at })
+prop_in s (property.NameKey from to) at = Some (record { start = from; end = to; value = at })
 
 -- a property that is read from s, with u behind it, and seen as e
 pub record SeenAs (inner : Decoder Node) (s u : List ℕ) (e : Prop) : Type 0 where
@@ -131,13 +102,20 @@ pub record SeenAs (inner : Decoder Node) (s u : List ℕ) (e : Prop) : Type 0 wh
   pub item : property_item inner s ≡ ok add u
   pub sees : (ps : Properties) → props (add ps) ≡ e ∷ props ps
 
-abbrev pub PropIs : List ℕ → Decoder Node → ℕ → PropRead → Type 0
-PropIs s inner at (prop_read.Keyless next) = SeenAs inner (drop at s) (drop next.at s) keyless
-PropIs s inner at (prop_read.Keyed from to c next) =
-    (v : Node) × (inner (drop c.at s) ≡ ok v (drop next.at s)) × SeenAs inner (drop at s) (drop next.at s) (keyed (part s from to) (shape v))
-PropIs s inner at (prop_read.Refused r) = property_item inner (drop at s) ≡ no r
+-- a property that is read at a place, with a cursor behind it
+abbrev pub KeyedIs : List ℕ → Decoder Node → ℕ → Option Keyed → Cursor → Type 0
+KeyedIs s inner at None next = SeenAs inner (drop at s) (drop next.at s) keyless
+KeyedIs s inner at (Some k) next =
+    (v : Node) × (inner (drop k.value.at s) ≡ ok v (drop next.at s))
+    × SeenAs inner (drop at s) (drop next.at s) (keyed (part s k.start k.end) (shape v))
 
-abbrev pub PropWithin : ℕ → PropRead → Type 0
-PropWithin m (prop_read.Keyless next) = Unit {0}
-PropWithin m (prop_read.Keyed from to c next) = Part m from to
-PropWithin m (prop_read.Refused r) = Unit {0}
+abbrev pub PropIs : List ℕ → Decoder Node → ℕ → Reading (Option Keyed) → Type 0
+PropIs s inner at (Ok p) = KeyedIs s inner at p.0 p.1
+PropIs s inner at (Err r) = property_item inner (drop at s) ≡ no (number_of r)
+
+-- its key is a part of m bytes
+abbrev pub KeyWithin : ℕ → Option Keyed → Type 0
+KeyWithin m = IfThere (λ (k : Keyed). Part m k.start k.end)
+
+abbrev pub PropWithin : ℕ → Reading (Option Keyed) → Type 0
+PropWithin m = PastWith (λ o next. KeyWithin m o)

@@ -2,8 +2,8 @@ use Rattle.cite.proofs.main.Goals as goal
 
 pub slice_bounds-sheet-end : goal.slice_bounds-sheet-end
 slice_bounds-sheet-end c =
-    (rw c.in-Bytes.is at c.read_input-input.ensures).0
+    (rw c.in-Ok.is at c.read_input.ensures).0
 
 pub slice_bounds-cite-end : goal.slice_bounds-cite-end
 slice_bounds-cite-end c =
-    (rw c.in-Bytes.is at c.read_input-input.ensures).1
+    (rw c.in-Ok.is at c.read_input.ensures).1

@@ -1,17 +1,16 @@
 use Rattle.laws.proofs.Prelude.{ap, ◌∙◌, length}
 use Rattle.report.specs.Answer.{zeros}
 use Rattle.delivery.specs.Promise.{order_as}
-use Rattle.delivery.proofs.{Deliveries.decodes_exactly, Reported.cleared, Orders.order_right}
+use Rattle.delivery.proofs.{Deliveries.decodes_exactly, Orders.order_right}
 use Rattle.delivery.proofs.order.Goals as goal
 
 pub returns : goal.returns
 returns c =
     let a = c.args in
     let judge = c.judge-judgement in
-    let refuse = c.refuse_all in
     record {
       decodes = decodes_exactly a.delivery.now;
       defined = c.order_of.ensures judge.new.work ∙ ap order_as judge.ensures.answer;
       right = order_right (length a.work.now) a.delivery.now;
-      cleared = cleared refuse.result (length judge.new.work) refuse.ensures ∙ ap zeros judge.auto.work;
+      cleared = c.fill.ensures.after (λ y e. e) ∙ ap zeros judge.auto.work;
     }

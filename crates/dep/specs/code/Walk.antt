@@ -1,7 +1,8 @@
 -- What the answers of the walk stand for, in a sheet s with the buffer, and the bounds that they keep.
-use Rattle.std.specs.Prelude.{◌≡◌, true, List, ◌++◌, ◌⊎◌, ℕ, ◌≤◌, length, drop}
-use Rattle.std.proofs.Math.Option.{Option}
-use Rattle.laws.specs.Decoded.{Decoded, ok, no}
+use Rattle.std.specs.Prelude.{◌≡◌, true, List, ◌++◌, ◌⊎◌, ℕ, ◌≤◌, length}
+use Rattle.std.specs.Prelude.{None, Option, Some}
+use Rattle.laws.specs.Decoded.{Decoded, ok}
+use Rattle.wire.specs.code.Views.{Reading, reading_as, PastWith}
 use Rattle.sheet.specs.declared.names.ImportPhase.{ImportPhase}
 use Rattle.sheet.specs.declared.fields.Span.{Span}
 use Rattle.sheet.specs.Tree.{Node, Nodes, Arguments, no_arguments, Properties, no_properties, Attributes}
@@ -16,6 +17,7 @@ use Rattle.sheet_heads.specs.code.Head.{import_require_head, module_head}
 use Rattle.sheet_heads.specs.code.Views.{head_of, HeadWithin}
 use Rattle.report.specs.declared.names.DynamicDependencyKind.{DynamicDependencyKind}
 use Rattle.report.specs.declared.names.DynamicDependencyKind.TheVariants as dynamics
+use Rattle.report.specs.declared.writer.Pen.{Pen}
 use Rattle.report.specs.ModuleInfo.{SpecifierWithRange}
 use Rattle.report.specs.Range.{InSource}
 use Rattle.attributes.specs.Attributes.{static_attributes, type_attributes}
@@ -23,8 +25,6 @@ use Rattle.dep_entries.specs.declared.CallHead.{CallHead}
 use Rattle.dep_entries.specs.declared.StaticDependencyDescriptor.{StaticDependencyDescriptor}
 use Rattle.dep_entries.specs.Entries.{dynamic_kind, Noted}
 use Rattle.dep_entries.specs.code.Written.{Written, written_as, wrote_entries, static_of, entry_of_call}
-use Rattle.dep.specs.declared.walk.Walked.{Walked}
-use Rattle.dep.specs.declared.walk.Walked.TheVariants as walked
 use Rattle.dep.specs.Collect.{noting, collect_noted}
 
 -- the span of a head's String is one of the source
@@ -44,8 +44,8 @@ Spanned source (export_all_head type_only x has_object) = InSource source x.span
 Spanned source (import_type_head x n) = InSource source x.span
 Spanned source import_equals_head = Unit {0}
 Spanned source (import_require_head type_only export x) = InSource source x.span
-Spanned source (module_head Option.none n) = Unit {0}
-Spanned source (module_head (Option.some x) n) = InSource source x.span
+Spanned source (module_head None n) = Unit {0}
+Spanned source (module_head (Some x) n) = InSource source x.span
 
 -- a cursor past a head that was read
 abbrev pub PastHead : List ℕ → List ℕ → ℕ → h.Head → Type 0
@@ -69,18 +69,16 @@ callees_of dynamics.ImportSource = 0
 callees_of dynamics.Require = 1
 
 -- an answer of the walk: what is written, and the bytes behind, or a refusal
-abbrev pub walked_as : List ℕ → List ℕ → List ℕ → Walked → Decoded Written
-walked_as s out notes (walked.Is p next) = ok (written_as out notes p) (drop next.at s)
-walked_as s out notes (walked.Refused r) = no r
+abbrev pub walked_as : List ℕ → List ℕ → List ℕ → Reading Pen → Decoded Written
+walked_as s out notes = reading_as (λ p next. written_as out notes p) s
 
 -- the value w was answered, whatever is left behind it
 abbrev pub Answered : Decoded Written → Written → Type 0
 Answered x w = (t : List ℕ) × (x ≡ ok w t)
 
 -- a cursor that is not past the n bytes
-abbrev pub PastWalked : ℕ → Walked → Type 0
-PastWalked n (walked.Is p next) = next.at ≤ n
-PastWalked n (walked.Refused r) = Unit {0}
+abbrev pub PastWalked : ℕ → Reading Pen → Type 0
+PastWalked n = PastWith (λ p next. next.at ≤ n)
 
 module _ (source : List ℕ) (types : ℕ → Option SpecifierWithRange) where
   -- the entries of parts of a node

@@ -1,6 +1,6 @@
-use Rattle.laws.proofs.Prelude.{◌≡◌, sym, ap, ◌∙◌, List, ℕ, drop, told}
+use Rattle.laws.proofs.Prelude.{◌≡◌, ap, ◌∙◌, List, ℕ, drop, told}
 use Rattle.laws.specs.Decoded.{ok, Decoder}
-use Rattle.laws.proofs.Decoding.{refused, on_ok_no, same_rest}
+use Rattle.laws.proofs.Decoding.{same_rest}
 use Rattle.sheet.specs.Tree.{Node, Arguments, no_arguments}
 use Rattle.sheet.specs.Nodes.{many, node, arguments}
 use Rattle.sheet.specs.Shape.{shape}
@@ -29,23 +29,13 @@ returns-then-more-eq0 c =
     (drop a.cursor.at a.sheet.now) (c.parse_argument-argument.ensures.answer n t is)
     (none-anywhere (node a.source.now a.levels) a.source.now t (rw c.if-more-eq0.true at are) (drop a.cursor.at a.sheet.now))
 
-pub returns-in-Refused : goal.returns-in-Refused
-returns-in-Refused c =
-    let a = c.args in
-    let s = a.sheet.now in
-    let source = a.source.now in
-    let x = node source a.levels (drop a.cursor.at s) in
-    λ dots n xs t u is are. absurd (refused (sym (on_ok_no node_tally x (told c.check_node.ensures c.in-Refused.is)) ∙ is))
-
-pub returns-in-Is : goal.returns-in-Is
+pub returns-in-Ok : goal.returns-in-Ok
 unfolding call_entry
-returns-in-Is c =
+returns-in-Ok c =
     let a = c.args in
-    let s = a.sheet.now in
     let source = a.source.now in
-    let x = node source a.levels (drop a.cursor.at s) in
+    let x = node source a.levels (drop a.cursor.at a.sheet.now) in
     λ dots n xs t u is are.
-    c.put_dynamic_entry-in-Is.ensures (argument_of n) (replaced_in (single_text (shape n))) xs u
+    c.put_dynamic_entry-in-Ok.ensures (argument_of n) (replaced_in (single_text (shape n))) xs u
     (c.parse_argument-argument.ensures.answer n t is)
-    (ap (arguments (node source a.levels) source a.more)
-    (same_rest node_tally x is (told c.check_node.ensures c.in-Is.is)) ∙ are)
+    (ap (arguments (node source a.levels) source a.more) (same_rest node_tally x is (told c.check_node.ensures c.in-Ok.is)) ∙ are)

@@ -9,19 +9,6 @@ use Rattle.dep_entries.proofs.put_dynamic_entry.Goals as goal
 
 -- `put_dynamic_entry`: the fields of the entry in turn.
 
-pub slice_bounds-index-end : goal.slice_bounds-index-end
-slice_bounds-index-end c = c.requires.0.0
-
-pub put_span-place-requires : goal.put_span-place-requires
-put_span-place-requires c =
-    (c.requires.0.1.0.indexed, c.requires.1)
-
-pub put_attributes-requires : goal.put_attributes-requires
-put_attributes-requires c = c.parse_dynamic_import_attributes-attributes.ensures.bounds
-
-pub shape_of-out : goal.shape_of-out
-shape_of-out c = c.put_attributes.auto.out ∙ (c.put_span-place.auto.out ∙ (c.put_argument-written.auto.out ∙ (c.put_types-place.auto.out ∙ c.put-place.auto.out)))
-
 pub returns : goal.returns
 returns c =
     let a = c.args in
@@ -40,7 +27,7 @@ returns c =
     dynamic_written (buffer_as a.out.now a.place) a.notes.now a.dependency.start k
     (c.note.ensures ∙
     ap (noted a.notes.now a.dependency.start) counted)
-    (entry v xs) (rw c.dynamic_number-number.ensures at c.put-place.ensures)
+    (entry v xs) (rw c.dynamic_number.ensures at c.put-place.ensures)
     c.put_types-place.ensures
     written c.put_span-place.ensures
     (rw (c.parse_dynamic_import_attributes-attributes.ensures.answer xs t are) at c.put_attributes.ensures)

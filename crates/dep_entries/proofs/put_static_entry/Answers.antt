@@ -9,21 +9,6 @@ use Rattle.dep_entries.proofs.put_static_entry.Goals as goal
 
 -- `put_static_entry`: the fields of the entry in turn.
 
-pub put_lossy_specifier-written-requires : goal.put_lossy_specifier-written-requires
-put_lossy_specifier-written-requires c =
-    (c.requires.0.1.0.indexed, c.requires.1.1)
-
-pub put_attributes-requires : goal.put_attributes-requires
-put_attributes-requires c = c.requires.2
-
-pub shape_of-out : goal.shape_of-out
-shape_of-out c =
-    c.put_attributes.auto.out
-    ∙ c.put_flag-place.auto.out
-    ∙ c.put_lossy_specifier-written.auto.out
-    ∙ c.put_types-place.auto.out
-    ∙ c.put-place.auto.out
-
 pub returns : goal.returns
 unfolding static_entry
 returns c =
@@ -43,9 +28,6 @@ returns c =
     static_written (buffer_as a.out.now a.place) a.notes.now a.dependency.span.start (replaced (part s x.start x.end))
     (c.note.ensures ∙
     ap (noted a.notes.now a.dependency.span.start) c.put_lossy_specifier-written.ensures.replaced)
-    d (rw c.static_number-number.ensures at c.put-place.ensures)
+    d (rw c.static_number.ensures at c.put-place.ensures)
     c.put_types-place.ensures c.put_lossy_specifier-written.ensures.answer
     c.put_flag-place.ensures c.put_attributes.ensures
-
-pub slice_bounds-index-end : goal.slice_bounds-index-end
-slice_bounds-index-end c = c.requires.0.0

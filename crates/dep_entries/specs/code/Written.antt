@@ -1,7 +1,7 @@
 -- What the code of the entries holds and writes: the tables that it is lent, and the entries behind what stands in the buffer and the notes.
 use Rattle.std.specs.Prelude.{cond, ℕ, ◌≤◌, length}
 use mathlib.Core.List.{List, [], ◌∷◌, flat_map}
-use Rattle.std.proofs.Math.Option.{Option}
+use Rattle.std.specs.Prelude.{Option}
 use Rattle.text.specs.Lossy.{replaced}
 use Rattle.sheet.specs.Limits.{table_numbers}
 use Rattle.sheet.specs.declared.fields.Span.{Span}

@@ -1,17 +1,12 @@
-use Rattle.laws.proofs.Prelude.{rules, seen}
-use Rattle.desk.specs.Block.{found_as}
+use Rattle.laws.proofs.Prelude.{rules, sym}
 use Rattle.desk.proofs.Calls.{finds_nobody, found_one, serves}
 use Rattle.desk.proofs.turn.Goals as goal
 
+pub returns-in_err-depositor : goal.returns-in_err-depositor
+returns-in_err-depositor c = rw c.from_residual.ensures (finds_nobody _ (sym c.in_err-depositor.ensures))
+
 pub serve-sheet-requires : goal.serve-sheet-requires
-serve-sheet-requires c =
-    let found = found_one _ _ (seen found_as c.first_waiting.ensures c.in-At.is) in
-    (search rules, found.0, found.1)
+serve-sheet-requires c = let found = found_one _ _ (sym c.in_ok-depositor.ensures) in (search rules, found.0, found.1)
 
-pub returns-in-At : goal.returns-in-At
-returns-in-At c =
-    serves _ _ (seen found_as c.first_waiting.ensures c.in-At.is) _ _
-    c.serve-sheet.ensures.left c.serve-sheet.ensures.answer
-
-pub returns-in-Nobody : goal.returns-in-Nobody
-returns-in-Nobody c = finds_nobody _ (seen found_as c.first_waiting.ensures c.in-Nobody.is)
+pub returns : goal.returns
+returns c = serves _ _ (sym c.in_ok-depositor.ensures) _ _ c.serve-sheet.ensures.left c.serve-sheet.ensures.answer

@@ -2,14 +2,14 @@ use Rattle.laws.proofs.Prelude.{refl, sym, ◌∙◌, false≢true, inl, inr, �
 use Rattle.ecma426.proofs.{WhiteSpace.answers}
 use Rattle.ecma426.proofs.is_space.Goals as goal
 
-pub returns-then-code-eq133 : goal.returns-then-code-eq133
-returns-then-code-eq133 c = answers (λ e. absurd (false≢true e)) (⊎_elim (λ (w, n). absurd (n c.if-code-eq133.true)) (λ e. absurd (omega (arith, e, c.if-code-eq133.true))))
+pub returns-in-65279 : goal.returns-in-65279
+returns-in-65279 c = answers (λ e. inr c.in-65279.is) (λ u. refl)
 
-pub returns : goal.returns
-returns c =
+pub returns-in-133 : goal.returns-in-133
+returns-in-133 c = answers (λ e. absurd (false≢true e)) (⊎_elim (λ (w, n). absurd (n c.in-133.is)) (λ e. absurd (omega (arith, e, c.in-133.is))))
+
+pub returns-in_default : goal.returns-in_default
+returns-in_default c =
     answers
-    (λ e. inl (sym c.is_white_space.ensures ∙ e, c.if-code-eq133.false))
-    (⊎_elim (λ (w, n). c.is_white_space.ensures ∙ w) (λ e. absurd (c.if-code-eq65279.false e)))
-
-pub returns-then-code-eq65279 : goal.returns-then-code-eq65279
-returns-then-code-eq65279 c = answers (λ e. inr c.if-code-eq65279.true) (λ u. refl)
+    (λ e. inl (sym c.is_white_space.ensures ∙ e, λ i. absurd (omega arith)))
+    (⊎_elim (λ (w, n). c.is_white_space.ensures ∙ w) (λ e. absurd (omega (arith, e))))

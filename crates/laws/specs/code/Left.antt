@@ -2,7 +2,7 @@
 use Rattle.std.specs.Prelude.{◌≡◌, List, ℕ, length, drop}
 
 -- left free: only its length is kept
-abbrev pub Free : List ℕ → List ℕ → Type 0
+abbrev pub Free : {A : Type 0} → List A → List A → Type 0
 Free before after = length after ≡ length before
 
 -- left free in front of place n, and from there on as it was

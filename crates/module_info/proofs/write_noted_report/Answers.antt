@@ -6,26 +6,26 @@ use Rattle.module_info.specs.{Information.module_info, Replaced.noted}
 use Rattle.module_info.proofs.{Notes.accepted_notes, Notes.refused_notes}
 use Rattle.module_info.proofs.write_noted_report.Goals as goal
 
-pub returns-in-Accepted : goal.returns-in-Accepted
-returns-in-Accepted c =
+pub returns-in-Ok : goal.returns-in-Ok
+returns-in-Ok c =
     λ t e.
     let a = c.args in
     let put = c.put_noted_report-place in
     let (written, numbered) = put.ensures t e in
     let whole : buffer_as put.new.out put.result ≡ wrote (holds (length a.buffer.now) []) (encode (module_info t)) = written in
-    let answer = rw c.in-Accepted.is at c.finish.ensures ∙
+    let answer = rw c.in-Ok.is at c.finish.ensures ∙
     answered_fitted (encode (module_info t)) put.auto.out whole in
     (answer, accepted_notes (length a.notes.now) (noted t) (numbered ∙ ap (λ l. all_noted l (noted t)) c.requires.notes_value))
 
-pub returns-in-Refused : goal.returns-in-Refused
-returns-in-Refused c =
+pub returns-in-Err : goal.returns-in-Err
+returns-in-Err c =
     λ t e.
     let a = c.args in
     let put = c.put_noted_report-place in
     let (written, numbered) = put.ensures t e in
     let whole : buffer_as put.new.out put.result ≡ wrote (holds (length a.buffer.now) []) (encode (module_info t)) = written in
-    let answer = rw c.in-Refused.is at c.finish.ensures ∙ answered_fitted (encode (module_info t)) put.auto.out whole in (
+    let answer = rw c.in-Err.is at c.finish.ensures ∙ answered_fitted (encode (module_info t)) put.auto.out whole in (
       answer,
-      refused_notes (length a.notes.now) (length a.buffer.now) c.in-Refused.r c.finish.new.out (noted t) (module_info t)
-          answer (c.clear_notes.ensures ∙ ap zeros put.auto.notes),
+      refused_notes (length a.notes.now) (length a.buffer.now) c.in-Err.refusal c.finish.new.out (noted t) (module_info t)
+          answer (c.fill.ensures.after (λ y e. e) ∙ ap zeros put.auto.notes),
     )

@@ -1,5 +1,5 @@
 use Rattle.laws.proofs.Prelude.{◌≡◌, ◌∙◌, ap, sym, List, ℕ, length, rules}
-use Rattle.report.specs.{Answer.Answer, Answer.outcome_as, Encode.encode, declared.writer.Outcome.Outcome, declared.lent.Writer.Writer}
+use Rattle.report.specs.{Answer.Answer, Answer.Outcome, Answer.outcome_as, Encode.encode, declared.lent.Writer.Writer}
 use Rattle.report.proofs.Answers.{answered_fitted}
 use Rattle.module_info.specs.Information.{module_info}
 use Rattle.module_info.proofs.write_report.Goals as goal

@@ -1,7 +1,9 @@
 -- The report in the pieces that functions write, and what is lent to these.
-use Rattle.std.specs.Prelude.{◌≡◌, List, [], ◌++◌, ℕ, ◌≤◌, ◌<◌, length, drop}
+use Rattle.std.specs.Prelude.{◌≡◌, List, [], ◌++◌, ℕ, ◌≤◌, ◌<◌, length, drop, Option, Some, None, Result, Ok, Err}
 use Rattle.laws.specs.Decoded.{ok, no}
 use Rattle.text.specs.Bytes.{part}
+use Rattle.wire.specs.declared.refusals.Refusal.{Refusal}
+use Rattle.wire.specs.Refusals.{number_of}
 use Rattle.wire.specs.Fields.{encode_flag}
 use Rattle.wire.specs.Optional.{encode_optional}
 use Rattle.sheet.specs.Limits.{depth_limit, table_numbers}
@@ -19,8 +21,6 @@ use Rattle.pragmas.specs.Pragmas.{ts_references, self_types_specifier, jsx_impor
 use Rattle.jsdoc_list.specs.Imports.{jsdoc_imports}
 use Rattle.dep_entries.specs.code.Written.{HeldIn}
 use Rattle.dep.specs.Collect.{collect}
-use Rattle.module_info.specs.declared.judge.SheetJudged.{SheetJudged}
-use Rattle.module_info.specs.declared.judge.SheetJudged.TheVariants as judged
 
 -- the script flag and the dependencies
 unfoldable pub dependency_bytes : Sheet → List ℕ
@@ -66,7 +66,7 @@ pub record AcceptsIn (s tables : List ℕ) (p : Parts) : Type 0 where
   pub indexed : IndexOf (part s p.source_start p.source_end) (index_part tables)
 
 -- what is said of bytes s, with what the table holds
-abbrev pub JudgesIn : List ℕ → List ℕ → SheetJudged → Type 0
-JudgesIn s tables judged.Empty = s ≡ []
-JudgesIn s tables (judged.Refused r) = (0 < length s) × (accept s ≡ no r)
-JudgesIn s tables (judged.Accepted p) = AcceptsIn s tables p
+abbrev pub JudgesIn : List ℕ → List ℕ → Result (Option Parts) Refusal → Type 0
+JudgesIn s tables (Ok None) = s ≡ []
+JudgesIn s tables (Ok (Some p)) = AcceptsIn s tables p
+JudgesIn s tables (Err r) = (0 < length s) × (accept s ≡ no (number_of r))

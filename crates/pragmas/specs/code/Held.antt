@@ -1,6 +1,6 @@
 -- What is lent to the readings beside the source: its comments and groups in tables, and the index of its positions.
 use Rattle.std.specs.Prelude.{◌≡◌, true, List, ℕ, ◌*◌, ◌≤◌, length}
-use Rattle.std.proofs.Math.Option.{Option}
+use Rattle.std.specs.Prelude.{None, Option, Some}
 use Rattle.text.specs.declared.utf8.Encoding.TheVariants.{Utf8}
 use Rattle.text.specs.Utf8.{formed}
 use Rattle.sheet.specs.Limits.{source_limit}
@@ -28,5 +28,5 @@ Held source comments n groups m index = Commented source comments n index × Gro
 
 -- the group, if there is one, is of n comments
 abbrev pub Reached : ℕ → Option Group → Type 0
-Reached n (Option.some g) = Reaching n g
-Reached n Option.none = Unit {0}
+Reached n (Some g) = Reaching n g
+Reached n None = Unit {0}

@@ -1,11 +1,10 @@
 -- What the answers of the code stand for, and the rules that it reads comments by.
 use Rattle.std.specs.Prelude.{cond, List, [], ℕ, ◌-◌, length}
-use Rattle.std.proofs.Math.Option.{Option, map}
+use Rattle.std.specs.Prelude.{None, Option, Some, option_map}
+use Rattle.laws.specs.Codec.{IfThere}
 use Rattle.analysis.specs.declared.Capture.{Capture}
-use Rattle.analysis.specs.declared.Found.{Found}
 use Rattle.analysis.specs.Row.{find}
 use Rattle.analysis.specs.Place.{Inside}
-use Rattle.analysis.specs.code.Mode.{mode_as}
 use Rattle.ecma426.specs.Reader.{find_source_map}
 use Rattle.sheet.specs.declared.comments.Comment.{Comment}
 use Rattle.sheet.specs.code.Tables.{rows, comment_in}
@@ -19,12 +18,10 @@ use Rattle.pragmas.specs.declared.readings.Counts.TheVariants.{First, Last}
 use Rattle.pragmas.specs.declared.readings.Rule.{Rule}
 use Rattle.pragmas.specs.declared.readings.Rule.TheVariants.{TsSelfTypes, JsxImportSource, JsxImportSourceTypes, SourceMapUrl}
 use Rattle.pragmas.specs.declared.readings.Rule.TheVariants.{StandardSourceMap, TsTypes, DenoTypes}
-use Rattle.pragmas.specs.declared.readings.RuleRead.{RuleRead}
-use Rattle.pragmas.specs.declared.readings.RuleRead.TheVariants as reading
 use Rattle.pragmas.specs.declared.references.Reference.{Reference}
 use Rattle.pragmas.specs.declared.references.Reference.TheVariants as reference
 use Rattle.pragmas.specs.Asks.{Asks, self_types_rule, jsx_import_source_rule, jsx_import_source_types_rule, source_map_url_rule, ts_types_rule, deno_types_rule}
-use Rattle.pragmas.specs.Readings.{specifier_in, on_found, first_of, last_of}
+use Rattle.pragmas.specs.Readings.{specifier_in, first_of, last_of}
 use Rattle.pragmas.specs.Origins.{origin_of}
 
 -- what a rule asks; that of ECMA-426 asks what the report's source map does, but for what it finds
@@ -38,7 +35,7 @@ asked TsTypes = ts_types_rule
 asked DenoTypes = deno_types_rule
 
 -- what it finds in a body
-abbrev pub find_rule : Rule → List ℕ → Found
+abbrev pub find_rule : Rule → List ℕ → Option Capture
 find_rule TsSelfTypes = find self_types_rule.row
 find_rule JsxImportSource = find jsx_import_source_rule.row
 find_rule JsxImportSourceTypes = find jsx_import_source_types_rule.row
@@ -49,7 +46,7 @@ find_rule DenoTypes = find deno_types_rule.row
 
 -- what is made of what it captures in a comment
 abbrev pub on_rule : {A : Type 0} → Rule → List ℕ → (Comment → Capture → A) → Comment → Option A
-on_rule rule source make c = cond ((asked rule).kind c.kind) (on_found (make c) (find_rule rule (body source c))) Option.none
+on_rule rule source make c = cond ((asked rule).kind c.kind) (option_map (make c) (find_rule rule (body source c))) None
 
 -- the comment with what is captured there, and the specifier
 abbrev pub taken_by : Rule → List ℕ → Comment → Option (Comment × Capture)
@@ -68,42 +65,29 @@ pub record CaptureIn (source : List ℕ) (c : Comment) (k : Capture) : Type 0 wh
   pub placed : Placed source c
   pub inside : Inside k (length (body source c))
 
-abbrev pub taken_as : RuleRead → Option (Comment × Capture)
-taken_as (reading.Of c k) = Option.some (c, k)
-taken_as reading.Nothing = Option.none
+-- the specifier of a reading, and how it was found
+abbrev pub read_as : List ℕ → Option (Comment × Capture) → Option SpecifierWithRange
+read_as source = option_map (λ t. specifier_in source t.0 t.1)
 
--- the specifier there, and how it was found
-abbrev pub read_as : List ℕ → RuleRead → Option SpecifierWithRange
-read_as source r = map (λ t. specifier_in source t.0 t.1) (taken_as r)
+abbrev pub origin_as : EntryRule → Option (Comment × Capture) → Option Origin
+origin_as entry = option_map (λ t. origin_of entry t.0)
 
-abbrev pub origin_as : EntryRule → RuleRead → Option Origin
-origin_as entry r = map (λ t. origin_of entry t.0) (taken_as r)
-
-abbrev pub ReadIn : List ℕ → RuleRead → Type 0
-ReadIn source (reading.Of c k) = CaptureIn source c k
-ReadIn source reading.Nothing = Unit {0}
+abbrev pub ReadIn : List ℕ → Option (Comment × Capture) → Type 0
+ReadIn source = IfThere (λ t. CaptureIn source t.0 t.1)
 
 -- the comments of a table from one row to another
 abbrev pub comments_from : List ℕ → ℕ → ℕ → List Comment
 comments_from table start end = rows (comment_in table) start (end - start)
 
-abbrev pub reference_as : List ℕ → Comment → Reference → Option TypeScriptReference
-reference_as source c (reference.Path k) = Option.some (path (specifier_in source c k))
-reference_as source c (reference.Types k mode) = Option.some (types (specifier_in source c k) (mode_as mode))
-reference_as source c reference.Nothing = Option.none
+abbrev pub reference_as : List ℕ → Comment → Reference → TypeScriptReference
+reference_as source c (reference.Path k) = path (specifier_in source c k)
+reference_as source c (reference.Types k mode) = types (specifier_in source c k) mode
 
 abbrev pub ReferenceIn : List ℕ → Comment → Reference → Type 0
 ReferenceIn source c (reference.Path k) = CaptureIn source c k
 ReferenceIn source c (reference.Types k mode) = CaptureIn source c k
-ReferenceIn source c reference.Nothing = Unit {0}
-
--- how many references it is: one, or none
-abbrev pub amount : Reference → ℕ
-amount (reference.Path k) = 1
-amount (reference.Types k mode) = 1
-amount reference.Nothing = 0
 
 -- the bytes of what is there, none if there is nothing
 abbrev pub encode_any : {A : Type 0} → (A → List ℕ) → Option A → List ℕ
-encode_any f Option.none = []
-encode_any f (Option.some a) = f a
+encode_any f None = []
+encode_any f (Some a) = f a

@@ -8,7 +8,7 @@ pub returns : goal.returns
 returns c =
     let a = c.args in
     let called = c.module_info-outcome in
-    let filled : length c.fill.new.buffer ≡ length a.buffer.now = search rules in
+    let filled : length c.fill.new.self ≡ length a.buffer.now = search rules in
     let kept : length called.new.buffer ≡ length a.buffer.now = search rules in
     let answer = called.ensures.answer ∙ ap (answer_of a.sheet.now) filled in
     let accepted = ap (λ n. eqb n 0) (c.number_of.ensures _ ∙ ap (λ (x : Answer). x.number) answer) in

@@ -1,6 +1,6 @@
 -- What the code reads of a dependency: of a static one its kind and its specifier's text, of a dynamic one nothing.
 use Rattle.std.specs.Prelude.{◌≡◌, List, ◌++◌, ℕ, drop}
-use Rattle.std.proofs.Math.Option.{Option}
+use Rattle.std.specs.Prelude.{None, Option, Some}
 use Rattle.text.specs.Bytes.{part}
 use Rattle.report.specs.declared.names.StaticDependencyKind.{StaticDependencyKind}
 use Rattle.report.specs.ModuleInfo.{DependencyDescriptor, static, dynamic}
@@ -16,12 +16,12 @@ pub record Named : Type 0 where
   pub text : List ℕ
 
 abbrev pub named_in : DependencyDescriptor → Option Named
-named_in (static d) = Option.some (record { kind = d.kind; text = d.specifier.text })
-named_in (dynamic d) = Option.none
+named_in (static d) = Some (record { kind = d.kind; text = d.specifier.text })
+named_in (dynamic d) = None
 
 abbrev pub named_as : List ℕ → DependencyRead → Option Named
-named_as s (read.Static kind from to next) = Option.some (record { kind = kind; text = part s from to })
-named_as s (read.Dynamic next) = Option.none
+named_as s (read.Static kind from to next) = Some (record { kind = kind; text = part s from to })
+named_as s (read.Dynamic next) = None
 
 abbrev pub next_of : DependencyRead → ℕ
 next_of (read.Static kind from to next) = next

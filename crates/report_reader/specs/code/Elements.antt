@@ -1,6 +1,6 @@
 -- What is skipped in lists of a report: attributes, which have a key, and parts of a template.
 use Rattle.std.specs.Prelude.{Bool, true, false, List, ℕ}
-use Rattle.std.proofs.Math.Option.{Option}
+use Rattle.std.specs.Prelude.{Option}
 use Rattle.laws.specs.Codec.{IfThere}
 use Rattle.wire.specs.Text.{encode_text}
 use Rattle.wire.specs.Optional.{encode_optional}

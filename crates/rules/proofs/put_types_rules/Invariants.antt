@@ -16,8 +16,5 @@ bytes source parts tables starts =
 abbrev pub invariant-loop-k : goal.invariant-loop-k
 invariant-loop-k l =
     (length l.out ≡ length l.initial.out)
-    × (wrote (buffer_as l.initial.out l.initial.p) (bytes l.source l.parts l.tables (starts_from l.notes 0 l.parts.entries))
-    ≡ wrote (buffer_as l.out l.p) (bytes l.source l.parts l.tables (starts_from l.notes l.k (l.parts.entries - l.k))))
-
-abbrev pub decreases-loop-k : goal.decreases-loop-k
-decreases-loop-k l = l.parts.entries - l.k
+    × (wrote (buffer_as l.initial.out l.initial.p) (bytes l.source l.fn.parts l.tables (starts_from l.notes 0 l.fn.parts.entries))
+    ≡ wrote (buffer_as l.out l.p) (bytes l.source l.fn.parts l.tables (starts_from l.notes l.k (l.fn.parts.entries - l.k))))

@@ -14,23 +14,23 @@ put_rules-place-requires c =
       entries_in_bounds = few_rows c.requires.accepts written.new.notes (written.auto.notes ∙ length-replicate {A = ℕ} _ 0);
     }
 
-pub returns-in-Refused : goal.returns-in-Refused
-returns-in-Refused c =
+pub returns-in-Err : goal.returns-in-Err
+returns-in-Err c =
     λ t e.
     let args = c.args in
     let refused =
-    rw c.in-Refused.is at (c.write_noted_report.ensures t e).0 in
+    rw c.in-Err.is at (c.write_noted_report.ensures t e).0 in
     rw c.write_noted_report.auto.buffer at c.refuse_both.ensures ∙
-    first_refused (length args.buffer.now) (length args.rules.now) (module_info t) (rules_of t) refused
+    first_refused (length args.buffer.now) (length args.rules.now) (module_info t) (rules_of t) _ refused
 
-pub returns-in-Accepted : goal.returns-in-Accepted
-returns-in-Accepted c =
+pub returns-in-Ok : goal.returns-in-Ok
+returns-in-Ok c =
     λ t e.
     let accepts = c.requires.accepts in
     let written = c.write_noted_report in
     let (fits, rows) = written.ensures t e in
-    let accepted = rw c.in-Accepted.is at fits in
-    let noted = rw c.in-Accepted.is at rows in
+    let accepted = rw c.in-Ok.is at fits in
+    let noted = rw c.in-Ok.is at rows in
     let starts = starts_held accepts e _ (few_rows accepts (replicate {A = ℕ} (1 + 2 * entry_limit) 0) (length-replicate {A = ℕ} _ 0)) noted in
     let put = c.put_rules-place in
     let kept = written.auto.buffer in

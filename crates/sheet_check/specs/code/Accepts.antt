@@ -1,17 +1,16 @@
 -- What the check of a sheet answers.
-use Rattle.std.specs.Prelude.{◌≡◌, List, [], ℕ, ◌≤◌, length, drop}
+use Rattle.std.specs.Prelude.{◌≡◌, List, [], ℕ, ◌≤◌, Result, Ok, Err, length, drop}
 use Rattle.laws.specs.Decoded.{ok, no}
 use Rattle.text.specs.Bytes.{part}
+use Rattle.wire.specs.declared.refusals.Refusal.{Refusal}
+use Rattle.wire.specs.Refusals.{number_of}
 use Rattle.sheet.specs.Limits.{depth_limit}
 use Rattle.sheet.specs.code.Tables.{comments_in, groups_in}
 use Rattle.sheet.specs.Nodes.{node}
 use Rattle.sheet.specs.Walked.{entries}
-use Rattle.sheet.specs.code.Views.{program_of}
 use Rattle.sheet.specs.Sheet.{Sheet, accept}
 use Rattle.sheet_nodes.specs.code.Reach.{ReachesIn}
 use Rattle.sheet_check.specs.declared.check.Parts.{Parts}
-use Rattle.sheet_check.specs.declared.check.SheetChecked.{SheetChecked}
-use Rattle.sheet_check.specs.declared.check.SheetChecked.TheVariants as checked
 
 -- a sheet s is accepted, and the parts stand for what it decodes to, with its comments and groups in tables
 pub record Accepts (s comment_table group_table : List ℕ) (p : Parts) : Type 0 where
@@ -22,12 +21,12 @@ pub record Accepts (s comment_table group_table : List ℕ) (p : Parts) : Type 0
   pub places : (p.source_start ≤ p.source_end) × (p.source_end ≤ length s)
   pub comments : comments_in comment_table p.comments ≡ sheet.comments
   pub groups : groups_in group_table p.groups ≡ sheet.groups
-  pub program : program_of p.program ≡ sheet.program
+  pub program : p.program ≡ sheet.program
   pub root : node sheet.source depth_limit (drop p.root s) ≡ ok sheet.root []
   pub entries : entries sheet.root ≡ p.entries
   pub reaches : ReachesIn p.reach sheet.root
 
 -- what the answer says of a sheet, with what the tables hold
-abbrev pub Judges : List ℕ → List ℕ → List ℕ → SheetChecked → Type 0
-Judges s comment_table group_table (checked.Accepted p) = Accepts s comment_table group_table p
-Judges s comment_table group_table (checked.Refused r) = accept s ≡ no r
+abbrev pub Judges : List ℕ → List ℕ → List ℕ → Result Parts Refusal → Type 0
+Judges s comment_table group_table (Ok p) = Accepts s comment_table group_table p
+Judges s comment_table group_table (Err r) = accept s ≡ no (number_of r)

@@ -1,7 +1,7 @@
 -- The head of a node: its tag, its span and its fields up to its first child, or up to a template's pieces. A node is its head and then what follows it
 -- (specs/Rest; proofs/ByHead, law `node_by_head`).
 use Rattle.std.specs.Prelude.{Bool, cond, List, [], ◌∷◌, ℕ, ◌-◌, ltb, get_or}
-use Rattle.std.proofs.Math.Option.{Option}
+use Rattle.std.specs.Prelude.{Option}
 use Rattle.laws.specs.Decoded.{Decoder, on_ok, ◌>>=◌, return, refuse}
 use Rattle.text.specs.declared.utf8.Encoding.TheVariants.{Utf8}
 use Rattle.wire.specs.Refusals as refusals

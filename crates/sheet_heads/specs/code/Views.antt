@@ -1,13 +1,13 @@
 -- What the answers of the code stand for, in a sheet s, and the bounds that they keep.
-use Rattle.std.specs.Prelude.{Bool, List, ◌∷◌, ℕ, ◌≤◌, ◌<◌, drop}
-use Rattle.std.proofs.Math.Option.{Option}
-use Rattle.laws.specs.Decoded.{Decoded, ok, no}
+use Rattle.std.specs.Prelude.{◌≡◌, Bool, List, ◌∷◌, ℕ, ◌≤◌, ◌<◌, Result, Ok, Err}
+use Rattle.std.specs.Prelude.{IfSome, None, Option, Some}
+use Rattle.laws.specs.Decoded.{Decoded}
 use Rattle.text.specs.Bytes.{part}
 use Rattle.wire.specs.Number.{largest}
-use Rattle.wire.specs.declared.Read.{Read}
-use Rattle.wire.specs.declared.Read.TheVariants as read
-use Rattle.wire.specs.declared.Flag.{Flag}
-use Rattle.wire.specs.declared.Flag.TheVariants as flag
+use Rattle.wire.specs.code.Views.{Reading, reading_as, PastWith}
+use Rattle.wire.specs.declared.Cursor.{Cursor}
+use Rattle.wire.specs.declared.refusals.Refusal.{Refusal}
+use Rattle.wire.specs.declared.refusals.Refusal.TheVariants as refusal
 use Rattle.sheet.specs.Limits.{property_limit}
 use Rattle.sheet.specs.declared.fields.Span.{Span}
 use Rattle.sheet.specs.Tree.{Quoted, Pieces}
@@ -15,38 +15,45 @@ use Rattle.sheet_heads.specs.code.Head.{Head, other_head, string_head, name_head
 use Rattle.sheet_heads.specs.code.Head.{import_head, named_export_head, export_from_head, export_all_head, import_type_head, import_equals_head}
 use Rattle.sheet_heads.specs.code.Head.{import_require_head, module_head}
 use Rattle.sheet_heads.specs.code.Parts.{PropertyHead, spread_head, other_property_head, child_key_head, string_key_head, name_key_head}
+use Rattle.sheet_heads.specs.declared.quoted.Tag.{Tag}
+use Rattle.sheet_heads.specs.declared.quoted.Tag.TheVariants as tag
 use Rattle.sheet_heads.specs.declared.quoted.Quoted as q
-use Rattle.sheet_heads.specs.declared.quoted.QuotedRead.{QuotedRead}
-use Rattle.sheet_heads.specs.declared.quoted.QuotedRead.TheVariants as quoted_read
 use Rattle.sheet_heads.specs.declared.node.Head as h
 use Rattle.sheet_heads.specs.declared.node.Head.TheVariants as head
-use Rattle.sheet_heads.specs.declared.node.FieldsRead.{FieldsRead}
-use Rattle.sheet_heads.specs.declared.node.FieldsRead.TheVariants as fields_read
-use Rattle.sheet_heads.specs.declared.node.SpecifierRead.{SpecifierRead}
-use Rattle.sheet_heads.specs.declared.node.SpecifierRead.TheVariants as specifier_read
-use Rattle.sheet_heads.specs.declared.node.HeadRead.{HeadRead}
-use Rattle.sheet_heads.specs.declared.node.HeadRead.TheVariants as head_read
-use Rattle.sheet_heads.specs.declared.parts.PieceRead.{PieceRead}
-use Rattle.sheet_heads.specs.declared.parts.PieceRead.TheVariants as piece_read
-use Rattle.sheet_heads.specs.declared.parts.ArgumentRead.{ArgumentRead}
-use Rattle.sheet_heads.specs.declared.parts.ArgumentRead.TheVariants as argument_read
 use Rattle.sheet_heads.specs.declared.parts.Property.{Property}
 use Rattle.sheet_heads.specs.declared.parts.Property.TheVariants as property
-use Rattle.sheet_heads.specs.declared.parts.PropertyRead.{PropertyRead}
-use Rattle.sheet_heads.specs.declared.parts.PropertyRead.TheVariants as property_read
-use Rattle.sheet_heads.specs.declared.parts.AttributesRead.{AttributesRead}
-use Rattle.sheet_heads.specs.declared.parts.AttributesRead.TheVariants as attributes_read
+
+abbrev pub tag_number : Tag → ℕ
+tag_number tag.Other = 0
+tag_number tag.String = 1
+tag_number tag.Name = 2
+tag_number tag.Template = 3
+tag_number tag.Binary = 4
+tag_number tag.Object = 5
+tag_number tag.Call = 6
+tag_number tag.Import = 7
+tag_number tag.NamedExport = 8
+tag_number tag.ExportAll = 9
+tag_number tag.ImportType = 10
+tag_number tag.ImportEquals = 11
+tag_number tag.Module = 12
+
+-- the kind that has a tag; no kind has one of 13 or more, which gives refusal 3
+abbrev pub OfTag : ℕ → Result Tag Refusal → Type 0
+OfTag t (Ok kind) = t ≡ tag_number kind
+OfTag t (Err r) = (13 ≤ t) × (r ≡ refusal.Byte)
+
+abbrev pub tag_as : List ℕ → Reading Tag → Decoded ℕ
+tag_as = reading_as (λ t next. tag_number t)
 
 abbrev pub quoted_of : List ℕ → q.Quoted → Quoted
 quoted_of s x = record { span = x.span; text = part s x.start x.end }
 
-abbrev pub quoted_as : List ℕ → QuotedRead → Decoded Quoted
-quoted_as s (quoted_read.Is x next) = ok (quoted_of s x) (drop next.at s)
-quoted_as s (quoted_read.Refused r) = no r
+abbrev pub quoted_as : List ℕ → Reading q.Quoted → Decoded Quoted
+quoted_as s = reading_as (λ x next. quoted_of s x) s
 
-abbrev pub specifier_as : List ℕ → SpecifierRead → Decoded (Quoted × Bool)
-specifier_as s (specifier_read.Is x has_object next) = ok (quoted_of s x, has_object) (drop next.at s)
-specifier_as s (specifier_read.Refused r) = no r
+abbrev pub specifier_as : List ℕ → Reading (q.Quoted × Bool) → Decoded (Quoted × Bool)
+specifier_as s = reading_as (λ p next. (quoted_of s p.0, p.1)) s
 
 abbrev pub head_of : List ℕ → h.Head → Head
 head_of s (head.Other n) = other_head n
@@ -64,26 +71,22 @@ head_of s (head.ExportAll type_only x has_object) = export_all_head type_only (q
 head_of s (head.ImportType x n) = import_type_head (quoted_of s x) n
 head_of s head.ImportEquals = import_equals_head
 head_of s (head.ImportRequire type_only export x) = import_require_head type_only export (quoted_of s x)
-head_of s (head.Module n) = module_head Option.none n
-head_of s (head.NamedModule x n) = module_head (Option.some (quoted_of s x)) n
+head_of s (head.Module n) = module_head None n
+head_of s (head.NamedModule x n) = module_head (Some (quoted_of s x)) n
 
-abbrev pub fields_as : List ℕ → FieldsRead → Decoded Head
-fields_as s (fields_read.Is x next) = ok (head_of s x) (drop next.at s)
-fields_as s (fields_read.Refused r) = no r
+abbrev pub fields_as : List ℕ → Reading h.Head → Decoded Head
+fields_as s = reading_as (λ x next. head_of s x) s
 
-abbrev pub head_as : List ℕ → HeadRead → Decoded (Span × Head)
-head_as s (head_read.Is sp x next) = ok (sp, head_of s x) (drop next.at s)
-head_as s (head_read.Refused r) = no r
+abbrev pub head_as : List ℕ → Reading (Span × h.Head) → Decoded (Span × Head)
+head_as s = reading_as (λ p next. (p.0, head_of s p.1)) s
 
--- a piece stands for what it adds to the pieces behind it
-abbrev pub piece_as : List ℕ → PieceRead → Decoded (Pieces → Pieces)
-piece_as s (piece_read.Cooked from next) = ok (Option.some (part s from next.at) ∷◌) (drop next.at s)
-piece_as s (piece_read.Uncooked next) = ok (Option.none ∷◌) (drop next.at s)
-piece_as s (piece_read.Refused r) = no r
+-- a piece, cooked with its text from a place up to the cursor or uncooked, stands for what it adds to the pieces behind it
+abbrev pub piece_of : List ℕ → Option ℕ → Cursor → Pieces → Pieces
+piece_of s (Some from) next = Some (part s from next.at) ∷◌
+piece_of s None next = None ∷◌
 
-abbrev pub argument_as : List ℕ → ArgumentRead → Decoded (Bool × Span)
-argument_as s (argument_read.Is dots sp next) = ok (dots, sp) (drop next.at s)
-argument_as s (argument_read.Refused r) = no r
+abbrev pub piece_as : List ℕ → Reading (Option ℕ) → Decoded (Pieces → Pieces)
+piece_as s = reading_as (piece_of s) s
 
 abbrev pub property_of : List ℕ → Property → PropertyHead
 property_of s property.Spread = spread_head
@@ -100,13 +103,8 @@ nodes_of property.ChildKey = 2
 nodes_of (property.StringKey from to) = 1
 nodes_of (property.NameKey from to) = 1
 
-abbrev pub property_as : List ℕ → PropertyRead → Decoded PropertyHead
-property_as s (property_read.Is x next) = ok (property_of s x) (drop next.at s)
-property_as s (property_read.Refused r) = no r
-
-abbrev pub attributes_as : List ℕ → AttributesRead → Decoded (Span × ℕ)
-attributes_as s (attributes_read.Is sp n next) = ok (sp, n) (drop next.at s)
-attributes_as s (attributes_read.Refused r) = no r
+abbrev pub property_as : List ℕ → Reading Property → Decoded PropertyHead
+property_as s = reading_as (λ x next. property_of s x) s
 
 -- a part of n bytes
 abbrev pub Part : ℕ → ℕ → ℕ → Type 0
@@ -143,43 +141,29 @@ PropertyWithin n (property.StringKey from to) = Part n from to
 PropertyWithin n (property.NameKey from to) = Part n from to
 
 -- a cursor past what was read: behind `at`, and not behind the end of the n bytes; after a tag also a level that was left
-abbrev pub PastTag : ℕ → ℕ → ℕ → Read → Type 0
-PastTag at n levels (read.Value t next) = (0 < levels) × (at < next.at) × (next.at ≤ n)
-PastTag at n levels (read.Refused r) = Unit {0}
+abbrev pub PastTag : ℕ → ℕ → ℕ → Reading Tag → Type 0
+PastTag at n levels = PastWith (λ t next. (0 < levels) × (at < next.at) × (next.at ≤ n))
 
-abbrev pub PastQuoted : ℕ → ℕ → QuotedRead → Type 0
-PastQuoted at n (quoted_read.Is x next) = (at < next.at) × (next.at ≤ n) × QuotedPart n x
-PastQuoted at n (quoted_read.Refused r) = Unit {0}
+abbrev pub PastQuoted : ℕ → ℕ → Reading q.Quoted → Type 0
+PastQuoted at n = PastWith (λ x next. (at < next.at) × (next.at ≤ n) × QuotedPart n x)
 
-abbrev pub PastSpecifier : ℕ → ℕ → SpecifierRead → Type 0
-PastSpecifier at n (specifier_read.Is x has_object next) = (at < next.at) × (next.at ≤ n) × QuotedPart n x
-PastSpecifier at n (specifier_read.Refused r) = Unit {0}
+abbrev pub PastSpecifier : ℕ → ℕ → Reading (q.Quoted × Bool) → Type 0
+PastSpecifier at n = PastWith (λ p next. (at < next.at) × (next.at ≤ n) × QuotedPart n p.0)
 
-abbrev pub PastFields : ℕ → ℕ → FieldsRead → Type 0
-PastFields at n (fields_read.Is x next) = (at < next.at) × (next.at ≤ n) × HeadWithin n x
-PastFields at n (fields_read.Refused r) = Unit {0}
+abbrev pub PastFields : ℕ → ℕ → Reading h.Head → Type 0
+PastFields at n = PastWith (λ x next. (at < next.at) × (next.at ≤ n) × HeadWithin n x)
 
-abbrev pub PastHead : ℕ → ℕ → ℕ → HeadRead → Type 0
-PastHead at n levels (head_read.Is sp x next) = (0 < levels) × (at < next.at) × (next.at ≤ n) × HeadWithin n x
-PastHead at n levels (head_read.Refused r) = Unit {0}
+abbrev pub PastHead : ℕ → ℕ → ℕ → Reading (Span × h.Head) → Type 0
+PastHead at n levels = PastWith (λ p next. (0 < levels) × (at < next.at) × (next.at ≤ n) × HeadWithin n p.1)
 
-abbrev pub PastPiece : ℕ → ℕ → PieceRead → Type 0
-PastPiece at n (piece_read.Cooked from next) = (at < from) × (from ≤ next.at) × (next.at ≤ n)
-PastPiece at n (piece_read.Uncooked next) = (at < next.at) × (next.at ≤ n)
-PastPiece at n (piece_read.Refused r) = Unit {0}
+abbrev pub PastPiece : ℕ → ℕ → Reading (Option ℕ) → Type 0
+PastPiece at n = PastWith (λ x next. (at < next.at) × (next.at ≤ n) × IfSome x (λ from. (at < from) × (from ≤ next.at)))
 
-abbrev pub PastPieces : ℕ → ℕ → Flag → Type 0
-PastPieces at n (flag.Is b next) = (at ≤ next.at) × (next.at ≤ n)
-PastPieces at n (flag.Refused r) = Unit {0}
+abbrev pub PastPieces : ℕ → ℕ → Reading Bool → Type 0
+PastPieces at n = PastWith (λ b next. (at ≤ next.at) × (next.at ≤ n))
 
-abbrev pub PastArgument : ℕ → ℕ → ArgumentRead → Type 0
-PastArgument at n (argument_read.Is dots sp next) = (at < next.at) × (next.at ≤ n)
-PastArgument at n (argument_read.Refused r) = Unit {0}
+abbrev pub PastProperty : ℕ → ℕ → Reading Property → Type 0
+PastProperty at n = PastWith (λ x next. (at ≤ next.at) × (next.at ≤ n) × PropertyWithin n x)
 
-abbrev pub PastProperty : ℕ → ℕ → PropertyRead → Type 0
-PastProperty at n (property_read.Is x next) = (at ≤ next.at) × (next.at ≤ n) × PropertyWithin n x
-PastProperty at n (property_read.Refused r) = Unit {0}
-
-abbrev pub PastAttributes : ℕ → ℕ → ℕ → AttributesRead → Type 0
-PastAttributes at n levels (attributes_read.Is sp k next) = (0 < levels) × (at < next.at) × (next.at ≤ n) × (k ≤ property_limit)
-PastAttributes at n levels (attributes_read.Refused r) = Unit {0}
+abbrev pub PastAttributes : ℕ → ℕ → ℕ → Reading (Span × ℕ) → Type 0
+PastAttributes at n levels = PastWith (λ p next. (0 < levels) × (at < next.at) × (next.at ≤ n) × (p.1 ≤ property_limit))

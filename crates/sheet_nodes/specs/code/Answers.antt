@@ -1,66 +1,32 @@
--- The answers of the code: what they stand for in a sheet s, how they are made from others, and the bounds that they keep.
-use Rattle.std.specs.Prelude.{Bool, true, false, ◌&&◌, ◌||◌, List, ℕ, ◌+◌, ◌≤◌, ◌<◌, drop}
-use Rattle.laws.specs.Decoded.{Decoded, ok, no}
+-- What is found in a node, made from what is found in others, and the bounds that the answers of the code keep.
+use Rattle.std.specs.Prelude.{Bool, false, ◌&&◌, ◌||◌, List, ℕ, ◌+◌, ◌≤◌, ◌<◌}
+use Rattle.laws.specs.Decoded.{Decoded}
 use Rattle.text.specs.Truth.{one}
 use Rattle.wire.specs.declared.Cursor.{Cursor}
+use Rattle.wire.specs.code.Views.{Reading, reading_as, PastWith}
 use Rattle.sheet_heads.specs.declared.node.Head.{Head}
 use Rattle.sheet_heads.specs.code.Views.{HeadWithin}
 use Rattle.sheet_nodes.specs.declared.tally.Tally.{Tally}
 use Rattle.sheet_nodes.specs.declared.tally.NodeTally.{NodeTally}
 use Rattle.sheet_nodes.specs.declared.tally.Passed.{Passed}
-use Rattle.sheet_nodes.specs.declared.tally.Checked.{Checked}
-use Rattle.sheet_nodes.specs.declared.tally.Checked.TheVariants as checked
-use Rattle.sheet_nodes.specs.declared.tally.Tallied.{Tallied}
-use Rattle.sheet_nodes.specs.declared.tally.Tallied.TheVariants as tallied
-use Rattle.sheet_nodes.specs.declared.tally.PassedRead.{PassedRead}
-use Rattle.sheet_nodes.specs.declared.tally.PassedRead.TheVariants as passed_read
-use Rattle.sheet_nodes.specs.code.Tallies.{plus}
-
-abbrev pub checked_as : List ℕ → Checked → Decoded NodeTally
-checked_as s (checked.Is j next) = ok j (drop next.at s)
-checked_as s (checked.Refused r) = no r
-
-abbrev pub tallied_as : List ℕ → Tallied → Decoded Tally
-tallied_as s (tallied.Is t next) = ok t (drop next.at s)
-tallied_as s (tallied.Refused r) = no r
-
-abbrev pub passed_as : List ℕ → PassedRead → Decoded Passed
-passed_as s (passed_read.Is p next) = ok p (drop next.at s)
-passed_as s (passed_read.Refused r) = no r
+use Rattle.sheet_nodes.specs.declared.root.Root.{Root}
+use Rattle.sheet_nodes.specs.declared.root.Children.{Children}
 
 -- a node that holds none that is walked
-abbrev pub leaf_of : Bool → Bool → Cursor → Checked
-leaf_of own require next = checked.Is (record { entries = one own; uncooked = false; require = require; template = false }) next
+abbrev pub leaf_of : Bool → Bool → NodeTally
+leaf_of own require = record { entries = one own; uncooked = false; require = require; template = false }
 
 -- a node from what was found in those that it holds
-abbrev pub holding_of : Bool → Bool → Tally → NodeTally
-holding_of own template t = record { entries = one own + t.entries; uncooked = t.uncooked; require = false; template = template }
-
-abbrev pub with_own : Bool → Bool → Tallied → Checked
-with_own own template (tallied.Is t next) = checked.Is (holding_of own template t) next
-with_own own template (tallied.Refused r) = checked.Refused r
-
--- a node with an entry, in which nothing is walked
-abbrev pub only_entry : Tallied → Checked
-only_entry (tallied.Is t next) = leaf_of true false next
-only_entry (tallied.Refused r) = checked.Refused r
-
--- nodes behind others
-abbrev pub joined : Tally → Tallied → Tallied
-joined t (tallied.Is u next) = tallied.Is (plus t u) next
-joined t (tallied.Refused r) = tallied.Refused r
+abbrev pub with_own : Bool → Bool → Tally → NodeTally
+with_own own template t = record { entries = one own + t.entries; uncooked = t.uncooked; require = false; template = template }
 
 -- nodes behind arguments
-abbrev pub plus_nodes : Passed → Tally → Passed
-plus_nodes p u = record { entries = p.entries + u.entries; uncooked = p.uncooked || u.uncooked; any = p.any; template = p.template }
-
-abbrev pub with_nodes : Passed → Tallied → PassedRead
-with_nodes p (tallied.Is u next) = passed_read.Is (plus_nodes p u) next
-with_nodes p (tallied.Refused r) = passed_read.Refused r
+abbrev pub with_nodes : Passed → Tally → Passed
+with_nodes p t = record { entries = p.entries + t.entries; uncooked = p.uncooked || t.uncooked; any = p.any; template = p.template }
 
 -- a call: a listed one with an argument has an entry
-abbrev pub call_of : NodeTally → Passed → NodeTally
-call_of e p =
+abbrev pub called_by : NodeTally → Passed → NodeTally
+called_by e p =
     record {
       entries = e.entries + p.entries + one (e.require && p.any);
       uncooked = e.uncooked || p.uncooked || (e.require && p.template);
@@ -68,37 +34,40 @@ call_of e p =
       template = false;
     }
 
-abbrev pub called_by : NodeTally → PassedRead → Checked
-called_by e (passed_read.Is p next) = checked.Is (call_of e p) next
-called_by e (passed_read.Refused r) = checked.Refused r
+-- the answers about the root and about its children, without how far entries reach
+abbrev pub root_as : List ℕ → Reading Root → Decoded NodeTally
+root_as = reading_as (λ root next. root.tally)
 
--- with so many entries more, still no more than the bytes up to the cursor
-abbrev pub Room : ℕ → Tallied → Type 0
-Room k (tallied.Is t next) = k + t.entries ≤ next.at
-Room k (tallied.Refused r) = Unit {0}
-
-abbrev pub RoomPassed : ℕ → PassedRead → Type 0
-RoomPassed k (passed_read.Is p next) = k + p.entries ≤ next.at
-RoomPassed k (passed_read.Refused r) = Unit {0}
+abbrev pub children_as : List ℕ → Reading Children → Decoded Tally
+children_as = reading_as (λ children next. children.tally)
 
 -- a cursor past a head, which took a byte at least
 abbrev pub Begun : ℕ → ℕ → Head → Type 0
 Begun n at h = (0 < at) × (at ≤ n) × HeadWithin n h
 
--- a cursor past what was checked: each entry took a byte at least
-abbrev pub PastChecked : ℕ → ℕ → Checked → Type 0
-PastChecked at n (checked.Is j next) = (at < next.at) × (next.at ≤ n) × (at + j.entries ≤ next.at)
-PastChecked at n (checked.Refused r) = Unit {0}
+-- a cursor past a node: each entry took a byte at least
+abbrev pub PastNode : ℕ → ℕ → NodeTally → Cursor → Type 0
+PastNode at n j next = (at < next.at) × (next.at ≤ n) × (at + j.entries ≤ next.at)
+
+abbrev pub PastChecked : ℕ → ℕ → Reading NodeTally → Type 0
+PastChecked at n = PastWith (PastNode at n)
+
+abbrev pub PastRoot : ℕ → ℕ → Reading Root → Type 0
+PastRoot at n = PastWith (λ root. PastNode at n root.tally)
 
 -- and behind a head, which took one
-abbrev pub PastRest : ℕ → ℕ → Checked → Type 0
-PastRest at n (checked.Is j next) = (at ≤ next.at) × (next.at ≤ n) × (at + j.entries ≤ next.at + 1)
-PastRest at n (checked.Refused r) = Unit {0}
+abbrev pub PastRest : ℕ → ℕ → Reading NodeTally → Type 0
+PastRest at n = PastWith (λ j next. (at ≤ next.at) × (next.at ≤ n) × (at + j.entries ≤ next.at + 1))
 
-abbrev pub PastTally : ℕ → ℕ → Tallied → Type 0
-PastTally at n (tallied.Is t next) = (next.at ≤ n) × (at + t.entries ≤ next.at)
-PastTally at n (tallied.Refused r) = Unit {0}
+-- so many entries more, and no more than the bytes up to the cursor
+abbrev pub PastMore : ℕ → ℕ → ℕ → Cursor → Type 0
+PastMore at n entries next = (next.at ≤ n) × (at + entries ≤ next.at)
 
-abbrev pub PastPassed : ℕ → ℕ → PassedRead → Type 0
-PastPassed at n (passed_read.Is p next) = (next.at ≤ n) × (at + p.entries ≤ next.at)
-PastPassed at n (passed_read.Refused r) = Unit {0}
+abbrev pub PastTally : ℕ → ℕ → Reading Tally → Type 0
+PastTally at n = PastWith (λ t. PastMore at n t.entries)
+
+abbrev pub PastChildren : ℕ → ℕ → Reading Children → Type 0
+PastChildren at n = PastWith (λ children. PastMore at n children.tally.entries)
+
+abbrev pub PastPassed : ℕ → ℕ → Reading Passed → Type 0
+PastPassed at n = PastWith (λ p. PastMore at n p.entries)

@@ -26,6 +26,10 @@ tally_with a = record { entries = walk_with counting a; uncooked = walk_with jud
 abbrev pub passed : Arguments → Passed
 passed xs = record { entries = walk_of counting xs; uncooked = walk_of judging xs; any = any_argument xs; template = first_uncooked xs }
 
+-- what a node counts for among others
+abbrev pub tally_of : NodeTally → Tally
+tally_of j = record { entries = j.entries; uncooked = j.uncooked }
+
 -- in one part and in another
 abbrev pub plus : Tally → Tally → Tally
 plus t u = record { entries = t.entries + u.entries; uncooked = t.uncooked || u.uncooked }

@@ -1,28 +1,17 @@
-use Rattle.laws.proofs.Prelude.{arith, ◌∙◌, known}
+use Rattle.laws.proofs.Prelude.{◌∙◌}
 use Rattle.analysis.proofs.RowSteps.{reference_hit, reference_stop, reference_goes_on}
 use Rattle.analysis.proofs.matcher.reference_ends.Goals as goal
 
-pub returns-in-At : goal.returns-in-At
-returns-in-At c =
-    let s = c.args.s.now in
-    let l = c.loop-n in
-    rw (l.invariant.1, reference_hit s l.i (known c.match_word.ensures.answer c.in-At.is))
+pub returns-then-is_some : goal.returns-then-is_some
+returns-then-is_some c = rw (c.loop-at.invariant.1, reference_hit c.args.s.now c.loop-at.i c.match_word.ensures.answer c.if-is_some.ensures)
 
-pub returns-then-n-eq0 : goal.returns-then-n-eq0
-returns-then-n-eq0 c =
-    let s = c.args.s.now in
-    let l = c.loop-n in
-    rw (
-      l.invariant.1,
-      reference_stop s l.i (known c.match_word.ensures.answer c.in_default.is)
-          (known c.class_at-n.ensures.answer c.if-n-eq0.true),
-    )
+pub returns-in_default : goal.returns-in_default
+returns-in_default c =
+    rw (c.loop-at.invariant.1, reference_stop c.args.s.now c.loop-at.i c.match_word.ensures.answer c.if-is_some.ensures c.in_default.ensures.answer)
 
-pub loop-n-preserved : goal.loop-n-preserved
-loop-n-preserved c =
-    let s = c.args.s.now in
-    let l = c.loop-n in (
-      omega arith,
-      l.invariant.1 ∙ reference_goes_on s l.i (known c.match_word.ensures.answer c.in_default.is)
-          c.class_at-n.ensures.answer c.if-n-eq0.false,
-    )
+pub loop-at-preserved : goal.loop-at-preserved
+loop-at-preserved c = (
+  c.in-Some.ensures.bounds,
+  c.loop-at.invariant.1
+      ∙ reference_goes_on c.args.s.now c.loop-at.i c.match_word.ensures.answer c.if-is_some.ensures c.in-Some.ensures.answer,
+)

@@ -1,4 +1,4 @@
-use Rattle.laws.proofs.Prelude.{arith, ◌≡◌, drop, length-drop, eq-eqb, ne_eqb}
+use Rattle.laws.proofs.Prelude.{arith, ◌≡◌, drop, length-drop, eq-eqb}
 use Rattle.analysis.specs.Letters.{letter_at}
 use Rattle.analysis.proofs.{Spelling.letter_fits}
 use Rattle.analysis.proofs.matcher.wide_letter_at.Goals as goal
@@ -9,17 +9,5 @@ returns-then-fold_case c =
     let a = c.args in
     let t = drop a.at a.s.now in
     let e : c.char_at-c.result.len ≡ letter_at a.letter t =
-    rw (← c.char_at-c.ensures, ← c.fold_case.ensures, ← c.fold_case-2.ensures, eq-eqb _ _ c.if-fold_case.true) in
+    rw (← c.char_at-c.ensures, ← c.fold_case.ensures, ← (rw c.from.ensures at c.fold_case-2.ensures), eq-eqb _ _ c.if-fold_case.true) in
     record { answer = e; bounds = omega (arith, letter_fits a.letter t, length-drop a.at a.s.now) }
-
-pub returns-else-fold_case : goal.returns-else-fold_case
-unfolding letter_at
-returns-else-fold_case c = record {
-  answer = rw (
-    ← c.char_at-c.ensures,
-    ← c.fold_case.ensures,
-    ← c.fold_case-2.ensures,
-    ne_eqb _ _ c.if-fold_case.false,
-  );
-  bounds = omega arith;
-}

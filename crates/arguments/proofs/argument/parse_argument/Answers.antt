@@ -4,9 +4,6 @@ use Rattle.arguments.proofs.{Chains.uncounted, Chains.has_count}
 use Rattle.arguments.proofs.Arguments.{string_argument, template_argument, plus_argument}
 use Rattle.arguments.proofs.argument.parse_argument.Goals as goal
 
-pub parse_template-requires : goal.parse_template-requires
-parse_template-requires c = (rw c.in-Template.is at c.read_expression.ensures.bounds).1
-
 pub returns-in-String : goal.returns-in-String
 returns-in-String c = record {
   answer = λ n t e. string_argument (rw c.in-String.is at (c.read_expression.ensures.answer n t e));
@@ -15,31 +12,30 @@ returns-in-String c = record {
 
 pub returns-in-Template : goal.returns-in-Template
 returns-in-Template c =
-    let a = c.args in record {
+    let a = c.args in
+    record {
       answer = λ n t e.
           let template = rw c.in-Template.is at (c.read_expression.ensures.answer n t e) in
-          rw (
-            (template_argument template).0,
-            (template_argument template).1,
-          ) (c.parse_template.ensures.answer a.source.now a.levels template.pieces template.behind template.read);
+          rw ((template_argument template).0, (template_argument template).1)
+          (c.parse_template.ensures.answer a.source.now a.levels template.pieces template.behind template.read);
       bounds = c.parse_template.ensures.bounds;
     }
 
-pub returns-in-Are : goal.returns-in-Are
-returns-in-Are c =
+pub returns-in-Some : goal.returns-in-Some
+returns-in-Some c =
     record {
       answer = λ n t e.
           let plus = rw c.in-Plus.is at (c.read_expression.ensures.answer n t e) in
-          let (l, is, total, past) = has_count (chain n) t (rw c.in-Are.is at (c.visit_bin.ensures.answer n t e)) in
+          let (l, is, total, past) = has_count (chain n) t (rw c.in-Some.is at (c.visit_bin.ensures.answer n t e)) in
           ((n, t, l, e, is, sym total, (plus_argument plus).0 ∙ ap of_chain is), ap replaced_in (plus_argument plus).1);
       bounds = tt;
     }
 
-pub returns-in-Unknown : goal.returns-in-Unknown
-returns-in-Unknown c = record {
+pub returns-in-None : goal.returns-in-None
+returns-in-None c = record {
   answer = λ n t e.
       let plus = rw c.in-Plus.is at (c.read_expression.ensures.answer n t e) in (
-        (plus_argument plus).0 ∙ ap of_chain (uncounted (chain n) t (rw c.in-Unknown.is at (c.visit_bin.ensures.answer n t e))),
+        (plus_argument plus).0 ∙ ap of_chain (uncounted (chain n) t (rw c.in-None.is at (c.visit_bin.ensures.answer n t e))),
         ap replaced_in (plus_argument plus).1,
       );
   bounds = tt;

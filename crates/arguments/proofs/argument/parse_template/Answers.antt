@@ -5,40 +5,40 @@ use Rattle.arguments.specs.Argument.{replaced_in}
 use Rattle.arguments.proofs.{Pieces.one_only, Pieces.of_parts}
 use Rattle.arguments.proofs.argument.parse_template.Goals as goal
 
-pub returns-in-Cooked : goal.returns-in-Cooked
-returns-in-Cooked c =
+pub returns-in-Ok-Some-default : goal.returns-in-Ok-Some-default
+returns-in-Ok-Some-default c =
     let a = c.args in
-    let s = a.sheet.now in
-    let past = bounded c.read_piece.ensures c.in-Cooked.is in
+    let arm = c.in-Ok-Some-default in
+    let read = rw arm.field-0-0-is at (told c.read_piece.ensures arm.is) in
+    let past = rw arm.field-0-0-is at (bounded c.read_piece.ensures arm.is) in
     record {
-      answer = λ source levels ps u e. rw (one_only a.holes (drop a.c.at s) e c.if-holes-eq0.true
-          (told c.read_piece.ensures c.in-Cooked.is)) (refl, refl);
-      bounds = (past.1, past.2);
+      answer = λ source levels ps u e. rw (one_only a.holes (drop a.c.at a.sheet.now) e c.if-holes-eq0.true read) (refl, refl);
+      bounds = (past.2.1, past.1);
     }
 
-pub returns-in-Uncooked : goal.returns-in-Uncooked
-returns-in-Uncooked c =
+pub returns-in-Ok-None-default : goal.returns-in-Ok-None-default
+returns-in-Ok-None-default c =
     let a = c.args in
-    let s = a.sheet.now in
+    let arm = c.in-Ok-None-default in
+    let read = rw arm.field-0-0-is at (told c.read_piece.ensures arm.is) in
     record {
-      answer = λ source levels ps u e. rw (one_only a.holes (drop a.c.at s) e c.if-holes-eq0.true
-          (told c.read_piece.ensures c.in-Uncooked.is)) (refl, refl);
+      answer = λ source levels ps u e. rw (one_only a.holes (drop a.c.at a.sheet.now) e c.if-holes-eq0.true read) (refl, refl);
       bounds = tt;
     }
 
-pub returns-in-Refused : goal.returns-in-Refused
-returns-in-Refused c =
+pub returns-in-Err : goal.returns-in-Err
+returns-in-Err c =
     let a = c.args in
-    let s = a.sheet.now in
     record {
-      answer = λ source levels ps u e. absurd
-          (many_refused [] piece (a.holes + 1) (drop a.c.at s) (omega arith) (told c.read_piece.ensures c.in-Refused.is) e);
+      answer = λ source levels ps u e.
+          absurd (many_refused [] piece (a.holes + 1) (drop a.c.at a.sheet.now) (omega arith) (told c.read_piece.ensures c.in-Err.is) e);
       bounds = tt;
     }
 
 pub returns : goal.returns
 returns c =
-    let a = c.args in record {
+    let a = c.args in
+    record {
       answer = λ source levels ps u e.
           let (is, none) = of_parts a.holes (drop a.c.at a.sheet.now) e c.if-holes-eq0.false in
           ((ps, u, e, c.count_parts.ensures ps u e, is), ap replaced_in none);

@@ -1,72 +1,41 @@
-use Rattle.laws.proofs.Prelude.{refl, sym, ◌∙◌, [], flat_map, arith, rules, ltb, drop, told, bounded}
+use Rattle.laws.proofs.Prelude.{refl, sym, ◌∙◌, [], ◌+◌, ◌-◌, sub-zero, flat_map, arith, rules, drop, told, bounded}
 use Rattle.sheet.specs.{Nodes.piece}
 use Rattle.sheet_heads.proofs.Many.{many_refused, many_end}
 use Rattle.report.{specs.Buffer.buffer_as, proofs.Buffers.wrote_nil}
 use Rattle.arguments.specs.{Argument.template_parts, code.Views.hole_parts}
-use Rattle.arguments.proofs.{Chains.wrote_parts, Pieces.piece_next}
+use Rattle.arguments.proofs.{Chains.wrote_parts, Pieces.piece_next, Pieces.piece_is}
 use Rattle.arguments.proofs.template.put_parts.Goals as goal
 
-pub returns-in-Refused : goal.returns-in-Refused
-returns-in-Refused c =
+pub loop-k-init : goal.loop-k-init
+loop-k-init c = λ ps u e. (ps, rw sub-zero e, refl)
+
+pub returns-in_default : goal.returns-in_default
+returns-in_default c =
     record {
       answer = λ ps u e.
           let s = c.args.sheet.now in
-          let l = c.loop-left in
-          let (qs, read, total) = l.invariant.1 ps u e in
-          absurd (many_refused [] piece l.left (drop l.at.at s) c.loop-left-test.true
-          (told c.read_piece.ensures c.in-Refused.is) read);
+          let l = c.loop-k in
+          let (qs, read, total) = l.invariant ps u e in
+          absurd (many_refused [] piece (c.args.holes + 1 - l.k) (drop l.at.at s) (omega arith) (told c.read_piece.ensures c.in_default.is) read);
       left = search rules;
     }
 
-pub put_piece-p-requires : goal.put_piece-p-requires
-put_piece-p-requires c =
-    let past = bounded c.read_piece.ensures c.in-Cooked.is in
-    (past.1, past.2)
-
-pub loop-left-preserved-in-Cooked : goal.loop-left-preserved-in-Cooked
-loop-left-preserved-in-Cooked c =
+pub loop-k-preserved : goal.loop-k-preserved
+loop-k-preserved c = λ ps u e.
     let s = c.args.sheet.now in
-    let l = c.loop-left in
-    let is = told c.read_piece.ensures c.in-Cooked.is in (
-      omega arith,
-      λ ps u e.
-          let (qs, read, total) = l.invariant.1 ps u e in
-          let (rs, behind, parts) = piece_next l.left (drop l.at.at s) c.loop-left-test.true is read in (
-            rs,
-            behind,
-            total ∙ rw (parts, wrote_parts, ← c.put_piece-p.ensures, wrote_parts, ← c.put_hole-p.ensures),
-          ),
-    )
-
-pub loop-left-preserved : goal.loop-left-preserved
-loop-left-preserved c =
-    let s = c.args.sheet.now in
-    let l = c.loop-left in
-    let is = told c.read_piece.ensures c.in-Uncooked.is in (
-      omega arith,
-      λ ps u e.
-          let (qs, read, total) = l.invariant.1 ps u e in
-          let (rs, behind, parts) = piece_next l.left (drop l.at.at s) c.loop-left-test.true is read in (
-            rs,
-            behind,
-            total ∙ rw (
-              parts,
-              wrote_parts (buffer_as l.out l.p) (hole_parts (ltb 1 l.left)) (template_parts rs),
-              ← c.put_hole-p-in-Uncooked.ensures,
-            ),
-          ),
-    )
+    let l = c.loop-k in
+    let (qs, read, total) = l.invariant ps u e in
+    let is = rw piece_is at (told c.read_piece.ensures c.in-Ok.is) in
+    let (rs, behind, parts) = piece_next c.args.holes l.k (omega arith) (drop l.at.at s) _ is read in
+    (rs, behind, total ∙ rw (parts, wrote_parts, ← c.put_piece-p.ensures, wrote_parts, ← c.put_hole-p.ensures))
 
 pub returns : goal.returns
 unfolding flat_map
 returns c = record {
   answer = λ ps u e.
       let s = c.args.sheet.now in
-      let l = c.loop-left in
-      let (qs, read, total) = l.invariant.1 ps u e in
-      sym (total ∙ rw (many_end [] piece l.left (drop l.at.at s) c.loop-left-test.false read) (wrote_nil l.out l.p));
+      let l = c.loop-k in
+      let (qs, read, total) = l.invariant ps u e in
+      sym (total ∙ rw (many_end [] piece (c.args.holes + 1 - l.k) (drop l.at.at s) (omega arith) read) (wrote_nil l.out l.p));
   left = search rules;
 }
-
-pub loop-left-init : goal.loop-left-init
-loop-left-init c = (refl, λ ps u e. (ps, e, refl))

@@ -1,26 +1,23 @@
-use Rattle.laws.proofs.Prelude.{seen, told}
+use Rattle.laws.proofs.Prelude.{handed, seen, told}
 use Rattle.wire.specs.code.Views.{text_as}
 use Rattle.delivery.specs.Delivery.{named_sheet}
 use Rattle.delivery.proofs.check.check_module.Goals as goal
 
-pub returns-in-From-check_sheet : goal.returns-in-From-check_sheet
+pub returns-in_err-next : goal.returns-in_err-next
 unfolding named_sheet
-returns-in-From-check_sheet c =
-    let s = c.args.delivery.now in
-    rw (
-      told c.text.ensures c.in-From.is,
-      seen (text_as s) c.check_sheet.ensures c.in-From-check_sheet.is,
-    )
+returns-in_err-next c = rw (handed _ c.from_residual.ensures, told c.text.ensures c.in_err-next.was)
 
-pub returns-in-Refused-check_sheet : goal.returns-in-Refused-check_sheet
+pub returns-in_err-end : goal.returns-in_err-end
 unfolding named_sheet
-returns-in-Refused-check_sheet c =
-    let s = c.args.delivery.now in
-    rw (
-      told c.text.ensures c.in-From.is,
-      seen (text_as s) c.check_sheet.ensures c.in-Refused-check_sheet.is,
-    )
+returns-in_err-end c = rw (
+  handed _ c.from_residual-in_err-end.ensures,
+  told c.text.ensures c.in_ok-next.was,
+  seen (text_as c.args.delivery.now) c.check_sheet.ensures c.in_err-end.was,
+)
 
-pub returns-in-Refused : goal.returns-in-Refused
+pub returns : goal.returns
 unfolding named_sheet
-returns-in-Refused c = rw (told c.text.ensures c.in-Refused.is)
+returns c = rw (
+  told c.text.ensures c.in_ok-next.was,
+  seen (text_as c.args.delivery.now) c.check_sheet.ensures c.in_ok-end.was,
+)

@@ -1,26 +1,30 @@
-use Rattle.laws.proofs.Prelude.{refl, sym, ◌∙◌, drop, seen}
+use Rattle.laws.proofs.Prelude.{◌≡◌, sym, ◌∙◌, ◌-◌, ◌+◌, ◌<◌, ◌≤◌, sub-zero, arith, drop, handed, seen}
 use Rattle.delivery.specs.{code.Views.passed_as}
 use Rattle.delivery.proofs.Checks.{times_more, times_stop, times_none}
 use Rattle.delivery.proofs.check.check_modules.Goals as goal
 
-pub loop-left-preserved : goal.loop-left-preserved
-loop-left-preserved c =
-    let s = c.args.delivery.now in
-    let l = c.loop-left in
-    l.invariant ∙ times_more l.left (drop l.next.at s) c.loop-left-test.true
-    (seen (passed_as s) c.check_module.ensures c.in-To.is)
+pub loop-init : goal.loop-init
+loop-init c = rw sub-zero
 
-pub returns-in-Refused : goal.returns-in-Refused
-returns-in-Refused c =
+pub loop-preserved : goal.loop-preserved
+loop-preserved c =
     let s = c.args.delivery.now in
-    let l = c.loop-left in
-    sym (l.invariant ∙ times_stop l.left (drop l.next.at s) c.loop-left-test.true
-    (seen (passed_as s) c.check_module.ensures c.in-Refused.is))
+    let l = c.loop in
+    let more : 0 < c.args.count - l.counter = omega (arith, c.loop-test.true) in
+    let fewer : c.args.count - (l.counter + 1) ≡ c.args.count - l.counter - 1 = omega arith in
+    rw fewer (l.invariant ∙ times_more (c.args.count - l.counter) (drop l.next.at s) more
+    (seen (passed_as s) c.check_module.ensures c.in_ok-next.was))
+
+pub returns-in_err-next : goal.returns-in_err-next
+returns-in_err-next c =
+    let s = c.args.delivery.now in
+    let l = c.loop in
+    let more : 0 < c.args.count - l.counter = omega (arith, c.loop-test.true) in
+    rw (handed _ c.from_residual.ensures) (sym (l.invariant ∙ times_stop (c.args.count - l.counter) (drop l.next.at s) more
+    (seen (passed_as s) c.check_module.ensures c.in_err-next.was)))
 
 pub returns : goal.returns
 returns c =
-    let l = c.loop-left in
-    sym (l.invariant ∙ times_none l.left _ c.loop-left-test.false)
-
-pub loop-left-init : goal.loop-left-init
-loop-left-init c = refl
+    let l = c.loop in
+    let none : c.args.count - l.counter ≤ 0 = omega (arith, c.loop-test.false) in
+    sym (l.invariant ∙ times_none (c.args.count - l.counter) _ none)

@@ -10,18 +10,18 @@ loop-i-init c = λ ms t p info valid bytes k behind.
     let (u, (n, v, e)) = entries_start valid bytes c.read_number-is_script.ensures c.read_number-count.ensures in
     (info.dependencies, u, (omega (arith, n), v, e), refl)
 
-pub returns-then-entry : goal.returns-then-entry
-returns-then-entry c =
+pub returns-in-Some : goal.returns-in-Some
+returns-in-Some c =
     let a = c.args in
     let i = c.loop-i in
-    let entry = c.judge_entry-entry in record {
+    let entry = c.judge_entry-judged in record {
       answer = λ ms t p info valid bytes k behind.
           let (l, u, stand, e) = i.invariant ms t p info valid bytes k behind in
           let left : 0 < c.read_number-count.result.value - i.i = omega (arith, c.loop-i-test.true) in
           let (d, rest, is, v, there, on) = next_item encode_dependency ValidDependency a.report.now u i.at _ l left stand in
-          let late = rw c.if-entry.true at (entry.ensures.answer ms t p d v _ there).0 in
+          let late = rw c.in-Some.is at (entry.ensures.answer ms t p d v _ there).0 in
           sym (e ∙ entry_here is (names_of ms) k i.i behind late);
-      bounds = entry.ensures.bounds;
+      bounds = rw c.in-Some.is at entry.ensures.bounds;
     }
 
 pub loop-i-preserved : goal.loop-i-preserved
@@ -32,9 +32,9 @@ loop-i-preserved c =
     let (l, u, stand, e) = i.invariant ms t p info valid bytes k behind in
     let left : 0 < c.read_number-count.result.value - i.i = omega (arith, c.loop-i-test.true) in
     let (d, rest, is, v, there, on) = next_item encode_dependency ValidDependency a.report.now u i.at _ l left stand in
-    let (late, next) = c.judge_entry-entry.ensures.answer ms t p d v _ there in
-    let (n, v, w) = on c.judge_entry-entry.result.next next in
-    (rest, u, (omega (arith, n), v, w), e ∙ entry_here is (names_of ms) k i.i behind (rw c.if-entry.false at late))
+    let (late, next) = c.judge_entry-judged.ensures.answer ms t p d v _ there in
+    let (n, v, w) = on c.judge_entry-judged.result.next next in
+    (rest, u, (omega (arith, n), v, w), e ∙ entry_here is (names_of ms) k i.i behind (rw c.in_default.is at late))
 
 pub returns : goal.returns
 unfolding entries_in_turn

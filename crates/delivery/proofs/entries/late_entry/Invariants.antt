@@ -8,8 +8,5 @@ abbrev pub invariant-loop-i : goal.invariant-loop-i
 invariant-loop-i l =
     (ms : List Module) (t : List ℕ) → Modules l.delivery l.first l.earlier ms t → (info : ModuleInfo) → Valid info → l.report ≡ encode info
     → (k : ℕ) (behind : Answer)
-    → (ds : List DependencyDescriptor) × (u : List ℕ) × Stand encode_dependency ValidDependency l.report u l.at (l.count.value - l.i) ds
+    → (ds : List DependencyDescriptor) × (u : List ℕ) × Stand encode_dependency ValidDependency l.report u l.at (l.i-end - l.i) ds
     × (entries_in_turn (names_of ms) k 0 info.dependencies behind ≡ entries_in_turn (names_of ms) k l.i ds behind)
-
-abbrev pub decreases-loop-i : goal.decreases-loop-i
-decreases-loop-i l = l.count.value - l.i

@@ -5,10 +5,10 @@ use Rattle.delivery.proofs.Along.{at_first, one_more, all_passed, name_more}
 use Rattle.delivery.proofs.{Turns.module_here}
 use Rattle.delivery.proofs.judge.judge_order.Goals as goal
 
-pub returns-in-At : goal.returns-in-At
-returns-in-At c =
+pub returns-in-Some : goal.returns-in-Some
+returns-in-Some c =
     let l = c.loop-i in
-    let found = c.in-At.is in record {
+    let found = c.in-Some.is in record {
       answer = λ ms t p all.
           let (earlier, rest, along, e) = l.invariant.1 ms t p all in
           let (m, after, is, v, there, on) = one_more c.loop-i-test.true along in

@@ -1,4 +1,4 @@
-use Rattle.laws.proofs.Prelude.{◌≡◌, List, [], ℕ, ◌-◌, length}
+use Rattle.laws.proofs.Prelude.{◌≡◌, List, [], ℕ, length}
 use Rattle.laws.{specs.Codec.All}
 use Rattle.delivery.specs.{Delivery.Module, Order.modules_in_turn, Right.Reported, Right.names_of, code.Views.Modules}
 use Rattle.delivery.proofs.Along.{Along}
@@ -10,6 +10,3 @@ invariant-loop-i l =
     × ((ms : List Module) (t : List ℕ) → Modules l.delivery l.first l.count ms t → All (Reported (length l.initial.work)) ms
     → (earlier : List Module) × (rest : List Module) × Along l.delivery t l.first l.count ms l.at l.i earlier rest
     × (modules_in_turn [] 0 ms ≡ modules_in_turn (names_of earlier) l.i rest))
-
-abbrev pub decreases-loop-i : goal.decreases-loop-i
-decreases-loop-i l = l.count - l.i

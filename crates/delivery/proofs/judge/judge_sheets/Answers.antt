@@ -4,8 +4,8 @@ use Rattle.delivery.proofs.Along.{at_first, one_more, all_passed}
 use Rattle.delivery.proofs.{Turns.refused_here, Turns.reported_here, Reported.reported, Reported.refused_number}
 use Rattle.delivery.proofs.judge.judge_sheets.Goals as goal
 
-pub returns-in-Refused : goal.returns-in-Refused
-returns-in-Refused c =
+pub returns-in-Err : goal.returns-in-Err
+returns-in-Err c =
     let l = c.loop-i in record {
       answer = λ ms t p behind.
           let (earlier, rest, along, e) = l.invariant.1 ms t p in
@@ -14,7 +14,7 @@ returns-in-Refused c =
           let (number, some) = refused_number (rw (
             l.invariant.0,
             ap (λ (m : Module). m.sheet) read,
-            c.in-Refused.is,
+            c.in-Err.is,
           ) at c.module_info.ensures) in
           sym (e behind ∙ refused_here is _ l.i behind number some);
       left = search rules;

@@ -1,4 +1,4 @@
-use Rattle.laws.proofs.Prelude.{◌≡◌, List, ℕ, ◌-◌, length}
+use Rattle.laws.proofs.Prelude.{◌≡◌, List, ℕ, length}
 use Rattle.delivery.specs.{Delivery.Module, Order.Answer, Order.sheets_in_turn, code.Views.Modules}
 use Rattle.delivery.proofs.Along.{Along}
 use Rattle.delivery.proofs.judge.judge_sheets.Given as goal
@@ -9,6 +9,3 @@ invariant-loop-i l =
     × ((ms : List Module) (t : List ℕ) → Modules l.delivery l.first l.count ms t
     → (earlier : List Module) × (rest : List Module) × Along l.delivery t l.first l.count ms l.at l.i earlier rest
     × ((behind : Answer) → sheets_in_turn (length l.initial.work) 0 ms behind ≡ sheets_in_turn (length l.initial.work) l.i rest behind))
-
-abbrev pub decreases-loop-i : goal.decreases-loop-i
-decreases-loop-i l = l.count - l.i

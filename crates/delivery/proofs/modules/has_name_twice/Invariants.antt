@@ -1,4 +1,4 @@
-use Rattle.laws.proofs.Prelude.{◌≡◌, List, [], ℕ, ◌-◌}
+use Rattle.laws.proofs.Prelude.{◌≡◌, List, [], ℕ}
 use Rattle.delivery.specs.{Delivery.Module, Order.repeated, Right.names_of, code.Views.Modules}
 use Rattle.delivery.proofs.Along.{Along}
 use Rattle.delivery.proofs.modules.has_name_twice.Given as goal
@@ -7,6 +7,3 @@ abbrev pub invariant-loop-i : goal.invariant-loop-i
 invariant-loop-i l =
     (ms : List Module) (t : List ℕ) → Modules l.delivery l.first l.count ms t
     → (earlier : List Module) × (rest : List Module) × Along l.delivery t l.first l.count ms l.at l.i earlier rest × (repeated [] ms ≡ repeated (names_of earlier) rest)
-
-abbrev pub decreases-loop-i : goal.decreases-loop-i
-decreases-loop-i l = l.count - l.i

@@ -1,4 +1,4 @@
-use Rattle.laws.proofs.Prelude.{refl, sym, ap, ◌∙◌, known}
+use Rattle.laws.proofs.Prelude.{◌≡◌, refl, sym, ap, ◌∙◌, ◌-◌, ◌+◌, sub-zero, arith, known}
 use Rattle.delivery.specs.{Delivery.Module, Order.among}
 use Rattle.delivery.proofs.{Along.next_module, Along.no_module, Turns.among_here}
 use Rattle.delivery.proofs.modules.is_name.Goals as goal
@@ -7,30 +7,31 @@ pub returns-then-equal : goal.returns-then-equal
 returns-then-equal c =
     λ ms t p.
     let text = c.args.text.now in
-    let (rest, p, e) = c.loop-left.invariant ms t p in
-    let (m, behind, is, v, there, on) = next_module c.loop-left-test.true p in
+    let (rest, p, e) = c.loop.invariant ms t p in
+    let (m, behind, is, v, there, on) = next_module (omega (arith, c.loop-test.true)) p in
     let (read, _) = c.read_module-module.ensures.answer m v _ there in
     let name = ap (λ (m : Module). m.name) read in
     sym (e ∙ among_here is text (rw name at (known c.equal.ensures c.if-equal.true)))
 
-pub loop-left-preserved : goal.loop-left-preserved
-loop-left-preserved c =
+pub loop-preserved : goal.loop-preserved
+loop-preserved c =
     λ ms t p.
     let text = c.args.text.now in
-    let (rest, p, e) = c.loop-left.invariant ms t p in
-    let (m, behind, is, v, there, on) = next_module c.loop-left-test.true p in
+    let (rest, p, e) = c.loop.invariant ms t p in
+    let (m, behind, is, v, there, on) = next_module (omega (arith, c.loop-test.true)) p in
     let (read, next) = c.read_module-module.ensures.answer m v _ there in
     let name = ap (λ (m : Module). m.name) read in
-    (behind, on _ next, e ∙ among_here is text (rw name at (known c.equal.ensures c.if-equal.false)))
+    let fewer : c.args.count - (c.loop.counter + 1) ≡ c.args.count - c.loop.counter - 1 = omega arith in
+    (behind, rw fewer (on _ next), e ∙ among_here is text (rw name at (known c.equal.ensures c.if-equal.false)))
 
 pub returns : goal.returns
 unfolding among
 returns c = λ ms t p.
-    let (rest, p, e) = c.loop-left.invariant ms t p in
-    sym (e ∙ rw (no_module c.loop-left-test.false p))
+    let (rest, p, e) = c.loop.invariant ms t p in
+    sym (e ∙ rw (no_module (omega (arith, c.loop-test.false)) p))
 
-pub loop-left-init : goal.loop-left-init
-loop-left-init c = λ ms t p. (ms, p, refl)
+pub loop-init : goal.loop-init
+loop-init c = λ ms t p. (ms, rw sub-zero p, refl)
 
 pub slice_bounds-equal-count : goal.slice_bounds-equal-count
 slice_bounds-equal-count c = c.read_module-module.ensures.name.order

@@ -1,8 +1,39 @@
-use Rattle.dep.proofs.Loops.{arguments_from, nodes_from, properties_from}
+use Rattle.laws.proofs.Prelude.{◌+◌, ◌*◌, drop}
+use Rattle.laws.specs.Decoded.{on_ok}
+use Rattle.sheet.specs.Tree.{none, no_arguments, no_properties}
+use Rattle.sheet.specs.Nodes.{node, nodes, argument_item, arguments, property_item, properties}
+use Rattle.sheet_nodes.proofs.Loops.{node_item}
 use Rattle.dep_entries.specs.code.Written.{types_from, written_as}
-use Rattle.laws.proofs.Prelude.{◌≡◌, ◌+◌, ◌*◌, ◌≤◌, length, drop}
-use Rattle.sheet.specs.Nodes.{node}
+use Rattle.dep.specs.code.Walk.{note_all, note_of, note_in, after_nodes, after_arguments, after_properties}
+use Rattle.dep.proofs.Loops.{Loop}
 use Rattle.dep.proofs.walk.+walk.Given as goal
+
+abbrev pub invariant-walk_arguments-loop : goal.invariant-walk_arguments-loop
+invariant-walk_arguments-loop l =
+    let types = types_from l.source l.tables l.counts in
+    let inner = node l.source l.levels in
+    let i = l.initial in
+    Loop (note_of l.source types) no_arguments (argument_item inner l.source) l.sheet l.count
+    (on_ok (after_arguments l.source types (written_as i.out i.notes i.place)) (arguments inner l.source l.count (drop i.at.at l.sheet)))
+    l.counter (written_as l.out l.notes l.place) l.at.at
+
+abbrev pub invariant-walk_nodes-loop : goal.invariant-walk_nodes-loop
+invariant-walk_nodes-loop l =
+    let types = types_from l.source l.tables l.counts in
+    let inner = node l.source l.levels in
+    let i = l.initial in
+    Loop (note_all l.source types) none (node_item inner) l.sheet l.count
+    (on_ok (after_nodes l.source types (written_as i.out i.notes i.place)) (nodes inner l.count (drop i.at.at l.sheet)))
+    l.counter (written_as l.out l.notes l.place) l.at.at
+
+abbrev pub invariant-walk_properties-loop : goal.invariant-walk_properties-loop
+invariant-walk_properties-loop l =
+    let types = types_from l.source l.tables l.counts in
+    let inner = node l.source l.levels in
+    let i = l.initial in
+    Loop (note_in l.source types) no_properties (property_item inner) l.sheet l.count
+    (on_ok (after_properties l.source types (written_as i.out i.notes i.place)) (properties inner l.count (drop i.at.at l.sheet)))
+    l.counter (written_as l.out l.notes l.place) l.at.at
 
 -- six for each level that is left; a member that calls another on the same level is above it
 abbrev pub decreases-visit_call_expr : goal.decreases-visit_call_expr
@@ -40,36 +71,3 @@ decreases-walk_property l = 6 * l.levels + 2
 
 abbrev pub decreases-walk_rest : goal.decreases-walk_rest
 decreases-walk_rest l = 6 * l.levels + 5
-
-abbrev pub decreases-walk_arguments-loop-left : goal.decreases-walk_arguments-loop-left
-decreases-walk_arguments-loop-left l = l.left
-
-abbrev pub decreases-walk_nodes-loop-left : goal.decreases-walk_nodes-loop-left
-decreases-walk_nodes-loop-left l = l.left
-
-abbrev pub decreases-walk_properties-loop-left : goal.decreases-walk_properties-loop-left
-decreases-walk_properties-loop-left l = l.left
-
-abbrev pub invariant-walk_arguments-loop-left : goal.invariant-walk_arguments-loop-left
-invariant-walk_arguments-loop-left l =
-    (length l.out ≡ length l.initial.out)
-    × (length l.notes ≡ length l.initial.notes)
-    × (l.at.at ≤ length l.sheet)
-    × (arguments_from l.source (types_from l.source l.tables l.counts) (node l.source l.levels) (written_as l.initial.out l.initial.notes l.initial.place) l.initial.left (drop l.initial.at.at l.sheet)
-    ≡ arguments_from l.source (types_from l.source l.tables l.counts) (node l.source l.levels) (written_as l.out l.notes l.place) l.left (drop l.at.at l.sheet))
-
-abbrev pub invariant-walk_nodes-loop-left : goal.invariant-walk_nodes-loop-left
-invariant-walk_nodes-loop-left l =
-    (length l.out ≡ length l.initial.out)
-    × (length l.notes ≡ length l.initial.notes)
-    × (l.at.at ≤ length l.sheet)
-    × (nodes_from l.source (types_from l.source l.tables l.counts) (node l.source l.levels) (written_as l.initial.out l.initial.notes l.initial.place) l.initial.left (drop l.initial.at.at l.sheet)
-    ≡ nodes_from l.source (types_from l.source l.tables l.counts) (node l.source l.levels) (written_as l.out l.notes l.place) l.left (drop l.at.at l.sheet))
-
-abbrev pub invariant-walk_properties-loop-left : goal.invariant-walk_properties-loop-left
-invariant-walk_properties-loop-left l =
-    (length l.out ≡ length l.initial.out)
-    × (length l.notes ≡ length l.initial.notes)
-    × (l.at.at ≤ length l.sheet)
-    × (properties_from l.source (types_from l.source l.tables l.counts) (node l.source l.levels) (written_as l.initial.out l.initial.notes l.initial.place) l.initial.left (drop l.initial.at.at l.sheet)
-    ≡ properties_from l.source (types_from l.source l.tables l.counts) (node l.source l.levels) (written_as l.out l.notes l.place) l.left (drop l.at.at l.sheet))

@@ -1,36 +1,23 @@
-use Rattle.laws.proofs.Prelude.{ap, drop, told, bounded}
+use Rattle.laws.proofs.Prelude.{ap, drop, handed_on, told, bounded}
 use Rattle.laws.{specs.Decoded.ok, proofs.Decoding.on_ok_no}
-use Rattle.sheet.specs.Nodes.{attributes_object}
-use Rattle.sheet_heads.specs.code.Rest.{behind}
 use Rattle.sheet_nodes.specs.code.Tallies.{tally_with}
 use Rattle.attributes.specs.Attributes.{static_attributes}
-use Rattle.dep_entries.specs.code.Written.{types_from, written_as}
+use Rattle.dep_entries.specs.code.Written.{written_as}
 use Rattle.dep.proofs.{Arms.import_written}
 use Rattle.dep.proofs.walk.walk_import.Goals as goal
 
 -- `walk_import`: the entry is that of the attributes that were read, or of none.
 
-pub returns-in-Refused : goal.returns-in-Refused
-returns-in-Refused c =
-    let a = c.args in
-    let s = a.sheet.now in
-    let source = a.source.now in
-    let x = behind a.has_object (attributes_object source a.levels) (drop a.cursor.at s) in
-    record { answer = rw (on_ok_no tally_with x (told c.check_attributes.ensures c.in-Refused.is)); bounds = tt }
+pub returns-in_err-next : goal.returns-in_err-next
+returns-in_err-next c = handed_on _ c.from_residual.ensures (rw (on_ok_no tally_with _ (told c.check_attributes.ensures c.in_err-next.was))) tt
 
-pub returns-in-Is : goal.returns-in-Is
-returns-in-Is c =
+pub returns-then-has_object : goal.returns-then-has_object
+returns-then-has_object c =
     let a = c.args in
-    let s = a.sheet.now in
-    let source = a.source.now in
-    let types = types_from source a.tables.now a.counts in
-    let w = written_as a.out.now a.notes.now a.place in
-    let x = behind a.has_object (attributes_object source a.levels) (drop a.cursor.at s) in
-    let past = bounded c.check_attributes.ensures c.in-Is.is in
+    let read = told c.check_attributes.ensures c.in_ok-next.was in
     record {
-      answer = import_written source types w s a.dependency x (told c.check_attributes.ensures c.in-Is.is)
-          c.put_with_entry-place.ensures.answer;
-      bounds = past.0;
+      answer = import_written _ _ (written_as a.out.now a.notes.now a.place) a.sheet.now a.dependency read c.put_with_entry-place.ensures.answer;
+      bounds = (bounded c.check_attributes.ensures c.in_ok-next.was).0;
     }
 
 pub returns : goal.returns

@@ -6,6 +6,6 @@ pub returns-then-equal : goal.returns-then-equal
 unfolding attribute_mode
 returns-then-equal c = rw (known c.equal.ensures c.if-equal.true, c.from_str.ensures)
 
-pub returns : goal.returns
+pub returns-else-equal : goal.returns-else-equal
 unfolding attribute_mode
-returns c = rw (known c.equal.ensures c.if-equal.false)
+returns-else-equal c = rw (known c.equal.ensures c.if-equal.false)

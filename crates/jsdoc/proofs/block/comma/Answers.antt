@@ -3,4 +3,4 @@ use Rattle.jsdoc.proofs.block.comma.Goals as goal
 
 pub returns : goal.returns
 unfolding comma
-returns c = record { answer = rw (← c.skip_whitespace-past.ensures.answer) c.word.ensures.answer; bounds = c.word.ensures.bounds }
+returns c = rw (← c.skip_whitespace-past.ensures.answer) c.word.ensures

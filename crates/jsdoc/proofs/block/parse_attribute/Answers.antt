@@ -1,58 +1,27 @@
-use Rattle.laws.proofs.Prelude.{arith, told, bounded}
+use Rattle.laws.proofs.Prelude.{told, bounded, none_on}
 use Rattle.jsdoc.specs.Reader.{parse_attribute}
 use Rattle.jsdoc.proofs.block.parse_attribute.Goals as goal
 
-pub returns-in_default : goal.returns-in_default
+pub returns-in_err-key : goal.returns-in_err-key
 unfolding parse_attribute
-returns-in_default c = record { answer = rw (told c.parse_key.ensures c.in_default.is); bounds = tt }
+returns-in_err-key c = none_on c.from_residual.ensures (rw (told c.parse_key.ensures c.in_err-key.was)) tt
 
-pub returns-in_default-word : goal.returns-in_default-word
+pub returns-in_err-quote : goal.returns-in_err-quote
 unfolding parse_attribute
-returns-in_default-word c =
-    record {
-      answer =
-          rw (
-            told c.parse_key.ensures c.in-Part.is,
-            ← c.skip_whitespace-colon.ensures.answer,
-            told c.word.ensures c.in_default-word.is,
-          );
-      bounds = tt;
-    }
+returns-in_err-quote c =
+    none_on c.from_residual-in_err-quote.ensures
+    (rw (told c.parse_key.ensures c.in_ok-key.was, ← c.skip_whitespace-colon.ensures.answer, told c.word.ensures c.in_err-quote.was)) tt
 
-pub returns-in_default-quote_at : goal.returns-in_default-quote_at
+pub returns-in_err-value : goal.returns-in_err-value
 unfolding parse_attribute
-returns-in_default-quote_at c =
-    record {
-      answer =
-          rw (
-            told c.parse_key.ensures c.in-Part.is,
-            ← c.skip_whitespace-colon.ensures.answer,
-            told c.word.ensures c.in-At.is,
-            told c.quote_at.ensures c.in_default-quote_at.is,
-          );
-      bounds = tt;
-    }
-
-pub slice_bounds-attribute_mode-count : goal.slice_bounds-attribute_mode-count
-slice_bounds-attribute_mode-count c =
-    omega (arith, bounded c.parse_key.ensures c.in-Part.is)
-
-pub slice_bounds-attribute_mode-start : goal.slice_bounds-attribute_mode-start
-slice_bounds-attribute_mode-start c =
-    omega (arith, bounded c.parse_key.ensures c.in-Part.is)
-
-pub slice_bounds-attribute_mode-end : goal.slice_bounds-attribute_mode-end
-slice_bounds-attribute_mode-end c =
-    omega (arith, bounded c.parse_key.ensures c.in-Part.is)
-
-pub slice_bounds-attribute_mode-count-2 : goal.slice_bounds-attribute_mode-count-2
-slice_bounds-attribute_mode-count-2 c = omega (arith, bounded c.quote_at.ensures c.in-Part-quote_at.is)
-
-pub slice_bounds-attribute_mode-start-2 : goal.slice_bounds-attribute_mode-start-2
-slice_bounds-attribute_mode-start-2 c = omega (arith, bounded c.quote_at.ensures c.in-Part-quote_at.is)
-
-pub slice_bounds-attribute_mode-end-2 : goal.slice_bounds-attribute_mode-end-2
-slice_bounds-attribute_mode-end-2 c = omega (arith, bounded c.quote_at.ensures c.in-Part-quote_at.is)
+returns-in_err-value c =
+    none_on c.from_residual-in_err-value.ensures
+    (rw (
+      told c.parse_key.ensures c.in_ok-key.was,
+      ← c.skip_whitespace-colon.ensures.answer,
+      told c.word.ensures c.in_ok-quote.was,
+      told c.quote_at.ensures c.in_err-value.was,
+    )) tt
 
 pub returns : goal.returns
 unfolding parse_attribute
@@ -60,11 +29,11 @@ returns c =
     record {
       answer =
           rw (
-            told c.parse_key.ensures c.in-Part.is,
+            told c.parse_key.ensures c.in_ok-key.was,
             ← c.skip_whitespace-colon.ensures.answer,
-            told c.word.ensures c.in-At.is,
-            told c.quote_at.ensures c.in-Part-quote_at.is,
+            told c.word.ensures c.in_ok-quote.was,
+            told c.quote_at.ensures c.in_ok-value.was,
             c.attribute_mode-mode.ensures,
           );
-      bounds = (bounded c.quote_at.ensures c.in-Part-quote_at.is).2;
+      bounds = (bounded c.quote_at.ensures c.in_ok-value.was).2;
     }

@@ -1,43 +1,23 @@
-use Rattle.laws.proofs.Prelude.{told}
+use Rattle.laws.proofs.Prelude.{told, none_on}
 use Rattle.jsdoc.specs.Reader.{second_param_start}
 use Rattle.jsdoc.proofs.dynamic_import.second_param_start.Goals as goal
 
-pub returns-in_default : goal.returns-in_default
+pub returns-in_err-brace : goal.returns-in_err-brace
 unfolding second_param_start
-returns-in_default c = record { answer = rw (told c.word.ensures c.in_default.is); bounds = tt }
+returns-in_err-brace c = none_on c.from_residual.ensures (rw (told c.word.ensures c.in_err-brace.was)) tt
 
-pub returns-in_default-word : goal.returns-in_default-word
+pub returns-in_err-with : goal.returns-in_err-with
 unfolding second_param_start
-returns-in_default-word c =
-    record {
-      answer =
-          rw (told c.word.ensures c.in-At.is, told c.word-2.ensures c.in_default-word.is);
-      bounds = tt;
-    }
+returns-in_err-with c =
+    none_on c.from_residual-in_err-with.ensures
+    (rw (told c.word.ensures c.in_ok-brace.was, told c.word-2.ensures c.in_err-with.was)) tt
 
-pub returns-in_default-word-2 : goal.returns-in_default-word-2
+pub returns-in_err-colon : goal.returns-in_err-colon
 unfolding second_param_start
-returns-in_default-word-2 c =
-    record {
-      answer =
-          rw (
-            told c.word.ensures c.in-At.is,
-            told c.word-2.ensures c.in-At-word.is,
-            told c.word-3.ensures c.in_default-word-2.is,
-          );
-      bounds = tt;
-    }
+returns-in_err-colon c =
+    none_on c.from_residual-in_err-colon.ensures
+    (rw (told c.word.ensures c.in_ok-brace.was, told c.word-2.ensures c.in_ok-with.was, told c.word-3.ensures c.in_err-colon.was)) tt
 
 pub returns : goal.returns
 unfolding second_param_start
-returns c =
-    record {
-      answer =
-          rw (
-            told c.word.ensures c.in-At.is,
-            told c.word-2.ensures c.in-At-word.is,
-            told c.word-3.ensures c.in-At-word-2.is,
-          )
-          c.word-4.ensures.answer;
-      bounds = c.word-4.ensures.bounds;
-    }
+returns c = rw (told c.word.ensures c.in_ok-brace.was, told c.word-2.ensures c.in_ok-with.was, told c.word-3.ensures c.in_ok-colon.was) c.word-4.ensures

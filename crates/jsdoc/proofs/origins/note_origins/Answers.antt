@@ -1,10 +1,11 @@
-use Rattle.jsdoc.proofs.{Noted.origins_unique, Openers.origins_first}
+use Rattle.laws.proofs.Prelude.{rules}
+use Rattle.jsdoc.proofs.Openers.{note, note_stays, noted_openers}
 use Rattle.jsdoc.proofs.origins.note_origins.Goals as goal
 
-pub note_braces-requires : goal.note_braces-requires
-note_braces-requires c =
-    let pre = c.requires in
-    record { body_len_bound = pre.body_len_bound; origins_value = rw pre.origins_len at c.clear_origins.ensures }
-
 pub returns : goal.returns
-returns c = origins_unique c.note_declarations.ensures (origins_first _)
+returns c =
+    rw (
+      c.mark_readings.ensures note (λ x i m r p. search rules) note_stays 0,
+      c.fill.ensures.after (λ y e. e),
+      c.requires.origins_len,
+    ) (noted_openers c.args.body.now)

@@ -19,8 +19,8 @@ returns-then-i-s c =
       bounds = search rules;
     }
 
-pub returns : goal.returns
-returns c =
+pub returns-else-i-s : goal.returns-else-i-s
+returns-else-i-s c =
     let a = c.args in
     let f = c.next_of-i.ensures in
     record {

@@ -1,18 +1,14 @@
-use Rattle.laws.proofs.Prelude.{told, bounded}
+use Rattle.laws.proofs.Prelude.{told, none_on}
 use Rattle.jsdoc.specs.Reader.{word}
 use Rattle.jsdoc.proofs.pieces.word.Goals as goal
 
-pub returns-in_default : goal.returns-in_default
+pub returns-in_err-past : goal.returns-in_err-past
 unfolding word
-returns-in_default c = record { answer = rw (told c.tag.ensures c.in_default.is); bounds = tt }
+returns-in_err-past c = none_on c.from_residual.ensures (rw (told c.tag.ensures c.in_err-past.was)) tt
 
 pub returns : goal.returns
 unfolding word
 returns c = record {
-  answer = rw (told c.tag.ensures c.in-At.is)
-      c.skip_whitespace.ensures.answer;
+  answer = rw (told c.tag.ensures c.in_ok-past.was) c.skip_whitespace.ensures.answer;
   bounds = c.skip_whitespace.ensures.bounds;
 }
-
-pub skip_whitespace-requires : goal.skip_whitespace-requires
-skip_whitespace-requires c = bounded c.tag.ensures c.in-At.is

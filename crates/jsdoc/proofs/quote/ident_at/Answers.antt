@@ -1,12 +1,6 @@
-use Rattle.laws.proofs.Prelude.{arith}
-use Rattle.jsdoc.proofs.Moved.{part_to_end, movable, moved_text}
+use Rattle.jsdoc.proofs.Moved.{part_to_end, moved_text}
 use Rattle.jsdoc.specs.code.Answers.{name_mark}
 use Rattle.jsdoc.proofs.quote.ident_at.Goals as goal
-
-pub from_place-requires : goal.from_place-requires
-from_place-requires c =
-    let a = c.args in
-    movable a.s.now a.at c.requires (omega arith) name_mark _ _ (rw (part_to_end a.s.now a.at) at c.parse_ident.ensures)
 
 pub returns : goal.returns
 returns c =

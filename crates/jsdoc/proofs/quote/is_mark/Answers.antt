@@ -1,11 +1,11 @@
-use Rattle.laws.proofs.Prelude.{eq-eqb, ne_eqb}
+use Rattle.laws.proofs.Prelude.{rules, ne_eqb, ⊎_elim}
 use Rattle.jsdoc.specs.Reader.{is_mark}
 use Rattle.jsdoc.proofs.quote.is_mark.Goals as goal
 
-pub returns-then-b-eq34 : goal.returns-then-b-eq34
+pub returns-in-34 : goal.returns-in-34
 unfolding is_mark
-returns-then-b-eq34 c = rw (eq-eqb _ _ c.if-b-eq34.true)
+returns-in-34 c = ⊎_elim (λ e. rw e) (λ e. rw e) c.in-34.is
 
-pub returns : goal.returns
+pub returns-in_default : goal.returns-in_default
 unfolding is_mark
-returns c = rw (ne_eqb _ _ c.if-b-eq34.false)
+returns-in_default c = search (rules, ne_eqb)

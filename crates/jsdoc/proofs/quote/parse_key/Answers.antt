@@ -1,19 +1,15 @@
-use Rattle.laws.proofs.Prelude.{told, bounded}
-use Rattle.jsdoc.specs.{Reader.parse_key, code.Answers.key_mark}
+use Rattle.std.specs.Prelude.{MatchOption, Option, Some, None}
+use Rattle.laws.proofs.Prelude.{◌≡◌, refl, rules, ℕ}
+use Rattle.jsdoc.specs.{Grammar.Bytes, Reader.parse_quote, Reader.parse_ident, Reader.parse_key, code.Answers.Spells, code.Answers.quote_mark}
+use Rattle.jsdoc.specs.{code.Answers.name_mark, code.Answers.key_mark, declared.answers.Part.Part}
 use Rattle.jsdoc.proofs.quote.parse_key.Goals as goal
 
-pub returns-in-Part : goal.returns-in-Part
+-- the quote x, or else the name r
+chosen : (s t : Bytes) (at : ℕ) {x r : Option Part} {P : Type 0} → MatchOption x P (λ p. r ≡ Some p) → Spells s at quote_mark (parse_quote t) x
+    → (P → Spells s at name_mark (parse_ident t) r) → Spells s at (key_mark t) (parse_key t) r
 unfolding parse_key key_mark
-returns-in-Part c = record {
-  answer = rw (told c.quote_at.ensures c.in-Part.is);
-  bounds =
-      rw (told c.quote_at.ensures c.in-Part.is)
-      (bounded c.quote_at.ensures c.in-Part.is);
-}
+chosen s t at {x = Some p} m q f = rw (m, ← q.answer) (record { answer = refl; bounds = q.bounds })
+chosen s t at {x = None} m q f = rw (← q.answer) (f m)
 
-pub returns-in-Backtrace : goal.returns-in-Backtrace
-unfolding parse_key key_mark
-returns-in-Backtrace c = record {
-  answer = rw (told c.quote_at.ensures c.in-Backtrace.is) c.ident_at.ensures.answer;
-  bounds = rw (told c.quote_at.ensures c.in-Backtrace.is) c.ident_at.ensures.bounds;
-}
+pub returns : goal.returns
+returns c = chosen _ _ _ c.or_else.ensures c.quote_at.ensures (λ p. search rules)

@@ -9,29 +9,17 @@ unfolding import_at
 returns-in_default c =
     rw (told c.quote_at.ensures c.in_default.is) (sym (wrote_nil c.args.out.now c.args.place))
 
-pub slice_bounds-put_specifier-count : goal.slice_bounds-put_specifier-count
-slice_bounds-put_specifier-count c =
-    omega (arith, bounded c.quote_at.ensures c.in-Part.is)
-
-pub slice_bounds-put_specifier-start : goal.slice_bounds-put_specifier-start
-slice_bounds-put_specifier-start c =
-    omega (arith, bounded c.quote_at.ensures c.in-Part.is)
-
-pub slice_bounds-put_specifier-end : goal.slice_bounds-put_specifier-end
-slice_bounds-put_specifier-end c =
-    omega (arith, bounded c.quote_at.ensures c.in-Part.is)
-
 pub put_specifier-p-requires : goal.put_specifier-p-requires
 put_specifier-p-requires c =
-    let within = bounded c.quote_at.ensures c.in-Part.is in
+    let within = bounded c.quote_at.ensures c.in-Some.is in
     (c.requires.index_of, record { start = omega (arith, within); end = omega (arith, within) })
 
 pub returns : goal.returns
 returns c =
     let text = c.quote_at.ensures in
-    let part = c.in-Part.is in
+    let part = c.in-Some.is in
     rw (
-      encode_import _ _ _ c.in-Part.from c.in-Part.to c.in-Part.past c.requires.number_bound (told text part) (bounded text part).2,
+      encode_import _ _ _ c.in-Some.quote.from c.in-Some.quote.to c.in-Some.quote.past c.requires.number_bound (told text part) (bounded text part).2,
       wrote_cons,
       wrote_append,
       ← c.put-p.ensures,

@@ -9,7 +9,7 @@ use Rattle.jsdoc_list.proofs.imports.tick_comments.Goals as goal
 pub loop-k-init : goal.loop-k-init
 loop-k-init c =
     let zeros = c.requires.ticks_value in
-    (omega arith, ap length zeros ∙ length-replicate _ 0, rw (sub-zero, zeros))
+    (ap length zeros ∙ length-replicate _ 0, rw (sub-zero, zeros))
 
 pub tick_comment-requires : goal.tick_comment-requires
 tick_comment-requires c =
@@ -19,29 +19,25 @@ tick_comment-requires c =
     record {
       holds_marks = rw row (holds_marks_lem _ _ p);
       end_in_bounds = rw row (placed_within _ _ p);
-      ticks_len = c.loop-k.invariant.1;
+      ticks_len = c.loop-k.invariant.0;
     }
 
 pub loop-k-preserved : goal.loop-k-preserved
 loop-k-preserved c =
     let l = c.loop-k in (
-      omega (
-        arith,
-        c.loop-k-test.true,
-      ),
-      c.tick_comment.auto.ticks ∙ l.invariant.1,
+      c.tick_comment.auto.ticks ∙ l.invariant.0,
       rw (
         c.tick_comment.ensures,
         c.comment_at.ensures,
       ) (sym
           (tick_more c.args.source.now l.ticks (comment_in c.args.comments.now) c.args.n l.k
           c.loop-k-test.true) ∙
-          l.invariant.2),
+          l.invariant.1),
     )
 
 pub shape_of-ticks : goal.shape_of-ticks
-shape_of-ticks c = c.loop-k.invariant.1 ∙ sym (ap length c.requires.ticks_value ∙ length-replicate _ 0)
+shape_of-ticks c = c.loop-k.invariant.0 ∙ sym (ap length c.requires.ticks_value ∙ length-replicate _ 0)
 
 pub returns : goal.returns
 unfolding rows ticked_by_all
-returns c = rw (sub-eq-zero_of_le c.loop-k-test.false) at c.loop-k.invariant.2
+returns c = rw (sub-eq-zero_of_le c.loop-k-test.false) at c.loop-k.invariant.1

@@ -1,11 +1,8 @@
-use Rattle.laws.proofs.Prelude.{◌≡◌, ◌-◌, ◌≤◌, length}
+use Rattle.laws.proofs.Prelude.{◌≡◌, ◌-◌, length}
 use Rattle.sheet.specs.code.Tables.{rows, comment_in, comments_in}
 use Rattle.jsdoc_list.specs.Imports.{ticked_by_all, ticks_of}
 use Rattle.jsdoc_list.proofs.imports.tick_comments.Given as goal
 
 abbrev pub invariant-loop-k : goal.invariant-loop-k
 invariant-loop-k l =
-    (l.k ≤ l.n) × (length l.ticks ≡ length l.source) × (ticked_by_all l.source (rows (comment_in l.comments) l.k (l.n - l.k)) l.ticks ≡ ticks_of l.source (comments_in l.comments l.n))
-
-abbrev pub decreases-loop-k : goal.decreases-loop-k
-decreases-loop-k l = l.n - l.k
+    (length l.ticks ≡ length l.source) × (ticked_by_all l.source (rows (comment_in l.comments) l.k (l.n - l.k)) l.ticks ≡ ticks_of l.source (comments_in l.comments l.n))

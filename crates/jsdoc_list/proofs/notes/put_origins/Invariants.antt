@@ -1,4 +1,4 @@
-use Rattle.laws.proofs.Prelude.{◌≡◌, flat_map, ◌-◌, ◌≤◌, length}
+use Rattle.laws.proofs.Prelude.{◌≡◌, flat_map, ◌-◌, length}
 use Rattle.sheet.specs.code.Tables.{rows, comment_in, comments_in}
 use Rattle.report.{specs.Buffer.wrote, specs.Buffer.buffer_as, specs.Origin.encode_origin}
 use Rattle.jsdoc_list.specs.Origins.{origins_of}
@@ -6,11 +6,7 @@ use Rattle.jsdoc_list.proofs.notes.put_origins.Given as goal
 
 abbrev pub invariant-loop-k : goal.invariant-loop-k
 invariant-loop-k l =
-    (l.k ≤ l.n)
-    × (length l.origins ≡ length l.initial.origins)
+    (length l.origins ≡ length l.initial.origins)
     × (length l.out ≡ length l.initial.out)
     × (wrote (buffer_as l.initial.out l.initial.p) (flat_map encode_origin (flat_map (origins_of l.source) (comments_in l.comments l.n)))
     ≡ wrote (buffer_as l.out l.p) (flat_map encode_origin (flat_map (origins_of l.source) (rows (comment_in l.comments) l.k (l.n - l.k)))))
-
-abbrev pub decreases-loop-k : goal.decreases-loop-k
-decreases-loop-k l = l.n - l.k

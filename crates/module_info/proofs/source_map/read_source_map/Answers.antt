@@ -2,7 +2,6 @@ use Rattle.laws.proofs.Prelude.{rules, arith, ap, ◌∙◌}
 use Rattle.sheet.specs.code.Views.{program_of}
 use Rattle.sheet_check.proofs.Lent.{part_length}
 use Rattle.pragmas.proofs.Reached.{end_reached}
-use Rattle.module_info.specs.SourceMap.{given}
 use Rattle.module_info.proofs.{Accepted.held, Accepted.parts_of, SourceMap.located_as, SourceMap.map_read}
 use Rattle.module_info.proofs.source_map.read_source_map.Goals as goal
 
@@ -32,7 +31,7 @@ returns c =
     let l = located_as c.args.sheet.now c.args.parts.source_start c.args.parts.source_end a.places.0 a.places.1
     c.find_reading-reading.result c.find_reading-reading.ensures.bounds in
     record {
-      answer = λ t e. rw c.locate.ensures (l.0 ∙ ap given
-          (map_read (parts_of a e) c.find_reading-reading.result c.end_group-group.ensures c.find_reading-reading.ensures.answer));
+      answer = λ t e. rw c.locate.ensures
+          (l.0 ∙ map_read (parts_of a e) c.find_reading-reading.result c.end_group-group.ensures c.find_reading-reading.ensures.answer);
       bounds = rw c.locate.ensures l.1;
     }

@@ -1,62 +1,50 @@
-use Rattle.laws.proofs.Prelude.{arith, ◌≡◌, ◌∙◌, ◌<◌, List, Option, ℕ, told}
-use Rattle.sheet.{specs.declared.comments.Comment.Comment, specs.code.Tables.comment_in, proofs.Members.row_placed}
-use Rattle.pragmas.specs.declared.readings.Counts.{Counts}
-use Rattle.pragmas.specs.Readings.{or_else}
-use Rattle.pragmas.specs.code.Views.{taken_by, counted, comments_from}
-use Rattle.pragmas.proofs.Between.{sought, others, counted_next, counted_none}
+use Rattle.std.specs.Prelude.{Option, Some, None, is_some}
+use Rattle.laws.proofs.Prelude.{◌≡◌, refl, arith, ◌∙◌, true, false, true≢false, sym, known}
+use Rattle.sheet.proofs.Members.{row_placed}
+use Rattle.pragmas.specs.{Readings.or_else, code.Views.taken_by}
+use Rattle.pragmas.proofs.Between.{row, counted_row, counted_all}
 use Rattle.pragmas.proofs.readings.reading_between.Goals as goal
-use Rattle.pragmas.proofs.readings.reading_between.Goals.{in-First, in-Last}
+use Rattle.pragmas.proofs.readings.reading_between.Goals.{After-comment_at, in-First, in-Last}
 
--- what counts is the answer of the comment in the row that is looked at first, or else that of the other rows
-next : {A : Type 0} (f : Comment → Option A) (table : List ℕ) (start end i : ℕ) → start < end → (counts : Counts) → i ≡ sought counts start end
-    → {k : Comment} → k ≡ comment_in table i
-    → counted counts f (comments_from table start end) ≡ or_else (f k) (counted counts f (others counts table start end))
-next f table start end i more counts is e = counted_next f table start end more counts (rw is at e)
+some : {A : Type 0} (r b : Option A) → is_some r ≡ true → or_else r b ≡ r
+some (Some a) b e = refl
+some None b e = absurd (true≢false (sym e))
 
-pub comment_at-requires : goal.comment_at-requires
-comment_at-requires c = elim c.match-counts.branch [ in-First w ↦ omega arith | in-Last w ↦ omega arith ]
+none : {A : Type 0} (r b : Option A) → is_some r ≡ false → or_else r b ≡ b
+none (Some a) b e = absurd (true≢false e)
+none None b e = refl
+
+row_is : (c : After-comment_at) → c.match-counts.k ≡ row c.args.counts c.args.start c.args.end c.loop-passed.passed
+row_is c = elim c.match-counts.branch [ in-First w ↦ rw w.in-First.is w.k-is | in-Last w ↦ rw w.in-Last.is w.k-is ]
 
 pub read-reading-requires : goal.read-reading-requires
 read-reading-requires c =
     rw c.comment_at.ensures
-    (row_placed c.args.comments.now c.args.n c.requires.fit c.match-counts.i
+    (row_placed c.args.comments.now c.args.n c.requires.fit c.match-counts.k
     (elim c.match-counts.branch [ in-First w ↦ omega arith | in-Last w ↦ omega arith ]))
 
-pub returns-in-Of : goal.returns-in-Of
-returns-in-Of c =
+pub returns-then-is_some : goal.returns-then-is_some
+returns-then-is_some c =
     let a = c.args in
-    let l = c.loop-from in
     let read = c.read-reading in
-    let is : c.match-counts.i ≡ sought a.counts l.from l.to =
-    elim c.match-counts.branch [ in-First w ↦ rw w.in-First.is w.i-is | in-Last w ↦ rw w.in-Last.is w.i-is ] in
-    let step = next (taken_by a.rule a.source.now) a.comments.now l.from l.to c.match-counts.i c.loop-from-test.true a.counts is c.comment_at.ensures in
-    record { answer = rw (l.invariant.1, step, ← read.ensures.answer, c.in-Of.is); bounds = read.ensures.bounds }
+    let step = counted_row (taken_by a.rule a.source.now) a.comments.now a.start a.end c.loop-passed.passed c.loop-passed-test.true a.counts
+    (row_is (goal.at.returns-then-is_some c).After-comment_at) c.comment_at.ensures in
+    record {
+      answer = rw (c.loop-passed.invariant, step, ← read.ensures.answer, some _ _ (known c.is_some.ensures c.if-is_some.true));
+      bounds = read.ensures.bounds;
+    }
 
-pub loop-from-preserved-in-First-counts : goal.loop-from-preserved-in-First-counts
-loop-from-preserved-in-First-counts c =
+pub loop-passed-preserved : goal.loop-passed-preserved
+loop-passed-preserved c =
     let a = c.args in
-    let l = c.loop-from in
-    let none = told c.read-reading.ensures c.in_default.is in
-    let is : c.match-counts.i ≡ sought a.counts l.from l.to =
-    elim c.match-counts.branch [ in-First w ↦ rw w.in-First.is w.i-is | in-Last w ↦ rw w.in-Last.is w.i-is ] in
-    let step = next (taken_by a.rule a.source.now) a.comments.now l.from l.to c.match-counts.i c.loop-from-test.true a.counts is c.comment_at.ensures in
-    (l.invariant.0, l.invariant.1 ∙ step ∙ rw (none, c.in-First-counts.is))
-
-pub loop-from-preserved : goal.loop-from-preserved
-loop-from-preserved c =
-    let a = c.args in
-    let l = c.loop-from in
-    let none = told c.read-reading.ensures c.in_default.is in
-    let is : c.match-counts.i ≡ sought a.counts l.from l.to =
-    elim c.match-counts.branch [ in-First w ↦ rw w.in-First.is w.i-is | in-Last w ↦ rw w.in-Last.is w.i-is ] in
-    let step = next (taken_by a.rule a.source.now) a.comments.now l.from l.to c.match-counts.i c.loop-from-test.true a.counts is c.comment_at.ensures in
-    (omega arith, l.invariant.1 ∙ step ∙ rw (none, c.in-Last-counts.is))
+    let step = counted_row (taken_by a.rule a.source.now) a.comments.now a.start a.end c.loop-passed.passed c.loop-passed-test.true a.counts
+    (row_is (goal.at.loop-passed-preserved c).After-comment_at) c.comment_at.ensures in
+    c.loop-passed.invariant ∙ step ∙ rw (← c.read-reading.ensures.answer) (none _ _ (known c.is_some.ensures c.if-is_some.false))
 
 pub returns : goal.returns
 returns c =
     let a = c.args in
-    let l = c.loop-from in
     record {
-      answer = rw (l.invariant.1, counted_none (taken_by a.rule a.source.now) a.comments.now l.from l.to a.counts c.loop-from-test.false);
+      answer = rw (c.loop-passed.invariant, counted_all (taken_by a.rule a.source.now) a.comments.now a.start a.end c.loop-passed.passed c.loop-passed-test.false a.counts);
       bounds = tt;
     }

@@ -1,3 +1,4 @@
+use Rattle.std.specs.Prelude.{None}
 use Rattle.laws.proofs.Prelude.{◌≡◌, refl, sym, Bool, true, false, cond, Option, known}
 use Rattle.analysis.specs.{Row.find, Row.is_found, Patterns.triple_slash_row}
 use Rattle.sheet.{specs.Lookups.body, proofs.Members.placed_within, proofs.Marks.holds_marks_lem}
@@ -5,7 +6,7 @@ use Rattle.report.specs.ModuleInfo.{TypeScriptReference}
 use Rattle.pragmas.specs.{Readings.read_by, Pragmas.mode_in, Pragmas.reference}
 use Rattle.pragmas.proofs.references.read_reference.Goals as goal
 
-neither : (b : Bool) → ◌≡◌ {A = Option TypeScriptReference} (cond b Option.none Option.none) Option.none
+neither : (b : Bool) → ◌≡◌ {A = Option TypeScriptReference} (cond b None None) None
 neither true = refl
 neither false = refl
 
@@ -19,65 +20,53 @@ returns-then-is_block c =
 pub body-text-requires : goal.body-text-requires
 body-text-requires c = let placed = c.requires in record { holds_marks = holds_marks_lem _ _ placed; end_in_bounds = placed_within _ _ placed }
 
-pub returns-in-At : goal.returns-in-At
+pub returns-in-Some : goal.returns-in-Some
 unfolding read_by mode_in reference
-returns-in-At c =
+returns-in-Some c =
     record {
       answer = rw (
         known c.is_block.ensures c.if-is_block.false,
         ← c.body-text.ensures,
         known c.is_comment_triple_slash_reference.ensures c.if-is_comment_triple_slash_reference.true,
-        known c.find_types_reference.ensures.answer c.in-At.is,
+        known c.find_types_reference.ensures.answer c.in-Some.is,
         c.resolution_mode.ensures,
         c.body-text.ensures,
       );
-      bounds = record {
-        placed = c.requires;
-        inside = rw (
-          c.in-At.is,
-          c.body-text.ensures,
-        ) at c.find_types_reference.ensures.bounds;
-      };
+      bounds = record { placed = c.requires; inside = rw (c.in-Some.is, c.body-text.ensures) at c.find_types_reference.ensures.bounds };
     }
 
-pub returns-in-At-find_path_reference : goal.returns-in-At-find_path_reference
+pub returns-in_err-found : goal.returns-in_err-found
 unfolding read_by reference
-returns-in-At-find_path_reference c =
-    record {
+returns-in_err-found c =
+    rw c.from_residual.ensures
+    (record {
       answer = rw (
-        known c.is_block.ensures
-            c.if-is_block.false,
+        known c.is_block.ensures c.if-is_block.false,
         ← c.body-text.ensures,
         known c.is_comment_triple_slash_reference.ensures c.if-is_comment_triple_slash_reference.true,
         known c.find_types_reference.ensures.answer c.in_default.is,
-        known c.find_path_reference.ensures.answer c.in-At-find_path_reference.is,
+        known c.find_path_reference.ensures.answer c.in_err-found.was,
       );
-      bounds = record {
-        placed = c.requires;
-        inside = rw (
-          c.in-At-find_path_reference.is,
-          c.body-text.ensures,
-        ) at c.find_path_reference.ensures.bounds;
-      };
-    }
+      bounds = tt;
+    })
 
-pub returns-in_default-find_path_reference : goal.returns-in_default-find_path_reference
+pub returns-then-is_comment_triple_slash_reference : goal.returns-then-is_comment_triple_slash_reference
 unfolding read_by reference
-returns-in_default-find_path_reference c =
+returns-then-is_comment_triple_slash_reference c =
     record {
       answer = rw (
         known c.is_block.ensures c.if-is_block.false,
         ← c.body-text.ensures,
         known c.is_comment_triple_slash_reference.ensures c.if-is_comment_triple_slash_reference.true,
         known c.find_types_reference.ensures.answer c.in_default.is,
-        known c.find_path_reference.ensures.answer c.in_default-find_path_reference.is,
+        known c.find_path_reference.ensures.answer c.in_ok-found.was,
       );
-      bounds = tt;
+      bounds = record { placed = c.requires; inside = rw (c.in_ok-found.was, c.body-text.ensures) at c.find_path_reference.ensures.bounds };
     }
 
-pub returns-else-is_comment_triple_slash_reference : goal.returns-else-is_comment_triple_slash_reference
+pub returns : goal.returns
 unfolding read_by reference
-returns-else-is_comment_triple_slash_reference c = record {
+returns c = record {
   answer = rw (
     known c.is_block.ensures c.if-is_block.false,
     ← c.body-text.ensures,

@@ -3,24 +3,24 @@ use Rattle.wire.proofs.NumberCodec.{number_codec}
 use Rattle.report_reader.proofs.{FromBytes.number_read, FromBytes.number_refused}
 use Rattle.report_reader.proofs.fields.read_number.Goals as goal
 
-pub returns-in-Value : goal.returns-in-Value
-returns-in-Value c =
+pub returns-in-Ok : goal.returns-in-Ok
+returns-in-Ok c =
     let a = c.args in
     let s = a.report.now in
-    let found = c.in-Value.is in
+    let found = c.in-Ok.is in
     let q = told c.number.ensures found in
     record {
       small = (number_codec.sound _ _ _ q).1;
       inside = (bounded c.number.ensures found).1;
-      read = number_read s a.at c.in-Value.value c.in-Value.next.at q;
+      read = number_read s a.at c.in-Ok.value c.in-Ok.next.at q;
     }
 
-pub returns-in-Refused : goal.returns-in-Refused
-returns-in-Refused c =
+pub returns-in-Err : goal.returns-in-Err
+returns-in-Err c =
     let a = c.args in
     let s = a.report.now in
     record {
       small = omega arith;
       inside = omega arith;
-      read = number_refused s a.at 0 (length s) (told c.number.ensures c.in-Refused.is);
+      read = number_refused s a.at 0 (length s) (told c.number.ensures c.in-Err.is);
     }

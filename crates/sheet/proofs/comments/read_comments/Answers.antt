@@ -1,31 +1,24 @@
-use Rattle.laws.proofs.Prelude.{arith, sym, seen}
-use Rattle.sheet.specs.{code.Views.comment_as}
+use Rattle.laws.proofs.Prelude.{arith, sym, told, handed}
 use Rattle.sheet.proofs.{Stores.comment_table_lem, CommentCodecs.comment_codec}
 use Rattle.sheet.proofs.Filling.{fill_none, fill_stop, fill_more, fill_all}
 use Rattle.sheet.proofs.comments.read_comments.Goals as goal
 
-pub returns-in-Refused : goal.returns-in-Refused
-returns-in-Refused c =
-    let s = c.args.sheet.now in
+pub returns-in_err-found : goal.returns-in_err-found
+returns-in_err-found c =
     let f = c.loop-k.invariant in
     record {
-      answer = sym (fill_stop f c.loop-k-test.true (seen (comment_as s) c.read_comment.ensures c.in-Refused.is));
+      answer = rw (handed _ c.from_residual.ensures) (sym (fill_stop f c.loop-k-test.true (told c.read_comment.ensures c.in_err-found.was)));
       left = f.kept;
     }
 
-pub put_comment-requires : goal.put_comment-requires
-put_comment-requires c =
-    let a = c.args in
-    let judged = ((comment_codec a.source.now _).sound _ _ _
-    (seen (comment_as a.sheet.now) c.read_comment.ensures c.in-Is.is)).1 in
-    record { k_in_bounds = omega (arith, c.requires, c.loop-k.invariant.kept.0); start_bound = (omega (arith, judged.small.0), omega (arith, judged.small.1)) }
+pub put_comment-requires-clause-start_bound : goal.put_comment-requires-clause-start_bound
+put_comment-requires-clause-start_bound c =
+    let judged = ((comment_codec c.args.source.now _).sound _ _ _ (told c.read_comment.ensures c.in_ok-found.was)).1 in
+    (omega (arith, judged.small.0), omega (arith, judged.small.1))
 
 pub loop-k-preserved : goal.loop-k-preserved
 loop-k-preserved c =
-    let a = c.args in
-    let l = c.loop-k in
-    let read = seen (comment_as a.sheet.now) c.read_comment.ensures c.in-Is.is in
-    fill_more l.invariant comment_table_lem c.requires c.loop-k-test.true read c.put_comment.ensures
+    fill_more c.loop-k.invariant comment_table_lem c.requires c.loop-k-test.true (told c.read_comment.ensures c.in_ok-found.was) c.put_comment.ensures
 
 pub returns : goal.returns
 returns c = record { answer = sym (fill_all c.loop-k.invariant c.loop-k-test.false); left = c.loop-k.invariant.kept }

@@ -1,9 +1,6 @@
-use Rattle.laws.proofs.Prelude.{◌≡◌, ◌-◌, length}
+use Rattle.laws.proofs.Prelude.{◌≡◌, length}
 use Rattle.sheet.proofs.Coverings.{Keeping}
 use Rattle.sheet.proofs.covering.keep_longest.Given as goal
 
 abbrev pub invariant-loop-k : goal.invariant-loop-k
 invariant-loop-k l = (length l.longest ≡ length l.initial.longest) × Keeping l.table l.m l.n l.initial.longest l.longest l.k
-
-abbrev pub decreases-loop-k : goal.decreases-loop-k
-decreases-loop-k l = l.m - l.k

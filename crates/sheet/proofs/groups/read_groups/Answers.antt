@@ -1,33 +1,24 @@
-use Rattle.laws.proofs.Prelude.{arith, sym, seen}
-use Rattle.sheet.specs.code.{Views.group_as}
+use Rattle.laws.proofs.Prelude.{arith, sym, told, handed}
 use Rattle.sheet.proofs.{Stores.group_table_lem, CommentCodecs.group_codec}
 use Rattle.sheet.proofs.Filling.{fill_none, fill_stop, fill_more, fill_all}
 use Rattle.sheet.proofs.groups.read_groups.Goals as goal
 
-pub returns-in-Refused : goal.returns-in-Refused
-returns-in-Refused c =
-    let s = c.args.sheet.now in
+pub returns-in_err-g : goal.returns-in_err-g
+returns-in_err-g c =
     let f = c.loop-k.invariant in
     record {
-      answer = sym (fill_stop f c.loop-k-test.true (seen (group_as s) c.read_group.ensures c.in-Refused.is));
+      answer = rw (handed _ c.from_residual.ensures) (sym (fill_stop f c.loop-k-test.true (told c.read_group.ensures c.in_err-g.was)));
       left = f.kept;
     }
 
-pub put_group-requires : goal.put_group-requires
-put_group-requires c =
-    let a = c.args in
-    let ranged = ((group_codec a.source.now _ _).sound _ _ _
-    (seen (group_as a.sheet.now) c.read_group.ensures c.in-Is.is)).1 in record {
-      k_in_bounds = omega (arith, c.requires, c.loop-k.invariant.kept.0);
-      position_bound = (omega (arith, ranged.small.0), omega (arith, ranged.small.1), omega (arith, ranged.small.2));
-    }
+pub put_group-requires-clause-position_bound : goal.put_group-requires-clause-position_bound
+put_group-requires-clause-position_bound c =
+    let ranged = ((group_codec c.args.source.now _ _).sound _ _ _ (told c.read_group.ensures c.in_ok-g.was)).1 in
+    (omega (arith, ranged.small.0), omega (arith, ranged.small.1), omega (arith, ranged.small.2))
 
 pub loop-k-preserved : goal.loop-k-preserved
 loop-k-preserved c =
-    let a = c.args in
-    let l = c.loop-k in
-    let read = seen (group_as a.sheet.now) c.read_group.ensures c.in-Is.is in
-    fill_more l.invariant group_table_lem c.requires c.loop-k-test.true read c.put_group.ensures
+    fill_more c.loop-k.invariant group_table_lem c.requires c.loop-k-test.true (told c.read_group.ensures c.in_ok-g.was) c.put_group.ensures
 
 pub returns : goal.returns
 returns c = record { answer = sym (fill_all c.loop-k.invariant c.loop-k-test.false); left = c.loop-k.invariant.kept }

@@ -1,5 +1,5 @@
 use Rattle.laws.proofs.Prelude.{arith, sym, known}
-use Rattle.sheet.proofs.Search.{search_all, search_none, search_found, search_up, search_down}
+use Rattle.sheet.proofs.Search.{search_none, search_found, search_up, search_down}
 use Rattle.sheet.proofs.lookups.find_group.Goals as goal
 
 pub returns-then-stands_at : goal.returns-then-stands_at
@@ -19,12 +19,6 @@ loop-lo-preserved c =
     search_down c.loop-lo.invariant c.requires.ascending _ (omega arith)
     (known (rw found at c.stands_at.ensures) c.if-stands_at.false)
     (known (rw found at c.precedes.ensures) c.if-precedes.false) (omega arith)
-
-pub loop-lo-init : goal.loop-lo-init
-loop-lo-init c = search_all _ _ _ _
-
-pub group_at-g-requires : goal.group_at-g-requires
-group_at-g-requires c = omega arith
 
 pub returns : goal.returns
 returns c = sym (search_none c.loop-lo.invariant c.loop-lo-test.false)

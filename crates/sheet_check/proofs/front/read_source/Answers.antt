@@ -1,28 +1,22 @@
-use Rattle.laws.proofs.Prelude.{told, told_of}
+use Rattle.laws.proofs.Prelude.{handed_on, told, told_of}
 use Rattle.wire.specs.Fields.{numbered}
 use Rattle.sheet_check.specs.code.Pieces.{source_fields}
 use Rattle.sheet_check.proofs.front.read_source.Goals as goal
 
-pub returns-in-Refused : goal.returns-in-Refused
+pub returns-in_err-media : goal.returns-in_err-media
 unfolding source_fields numbered
-returns-in-Refused c = record { answer = rw (told c.below.ensures c.in-Refused.is); bounds = tt }
+returns-in_err-media c = handed_on _ c.from_residual.ensures (rw (told c.below.ensures c.in_err-media.was)) tt
 
-pub returns-in-Refused-text : goal.returns-in-Refused-text
+pub returns-in_err-start : goal.returns-in_err-start
 unfolding source_fields numbered
-returns-in-Refused-text c =
-    record {
-      answer = rw (
-        told c.below.ensures c.in-Value.is,
-        told c.text.ensures c.in-Refused-text.is,
-      );
-      bounds = tt;
-    }
+returns-in_err-start c =
+    handed_on _ c.from_residual-in_err-start.ensures (rw (told c.below.ensures c.in_ok-media.was, told c.text.ensures c.in_err-start.was)) tt
 
-pub returns-in-From : goal.returns-in-From
+pub returns : goal.returns
 unfolding source_fields numbered
-returns-in-From c =
-    let past = told_of c.text.ensures c.in-From.is in
+returns c =
+    let past = told_of c.text.ensures c.in_ok-start.was in
     record {
-      answer = rw (c.media_type.ensures, told c.below.ensures c.in-Value.is, ← past.answer);
+      answer = rw (c.media_type.ensures, told c.below.ensures c.in_ok-media.was, ← past.answer);
       bounds = (past.bounds.1, past.bounds.2);
     }

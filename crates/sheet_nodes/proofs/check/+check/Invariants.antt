@@ -1,37 +1,26 @@
-use Rattle.laws.proofs.Prelude.{◌≡◌, ◌+◌, ◌*◌, ◌≤◌, length, drop}
-use Rattle.sheet.specs.Nodes.{node}
-use Rattle.sheet_nodes.proofs.Loops.{arguments_from}
-use Rattle.sheet_nodes.proofs.Loops.{nodes_from}
-use Rattle.sheet_nodes.proofs.Loops.{properties_from}
+use Rattle.laws.proofs.Prelude.{◌+◌, ◌*◌, drop}
+use Rattle.laws.specs.Decoded.{on_ok}
+use Rattle.sheet.specs.Tree.{none, no_arguments, no_properties}
+use Rattle.sheet.specs.Nodes.{node, nodes, argument_item, arguments, property_item, properties}
+use Rattle.sheet_nodes.specs.code.Tallies.{passed, tally_all, tally_in}
+use Rattle.sheet_nodes.proofs.Adds.{behind_passed}
+use Rattle.sheet_nodes.proofs.Loops.{Loop, after_nodes, after_properties, node_item}
 use Rattle.sheet_nodes.proofs.check.+check.Given as goal
 
-abbrev pub decreases-check_arguments-loop-left : goal.decreases-check_arguments-loop-left
-decreases-check_arguments-loop-left l = l.left
+abbrev pub invariant-check_arguments-loop : goal.invariant-check_arguments-loop
+invariant-check_arguments-loop l =
+    Loop behind_passed no_arguments (argument_item (node l.source l.levels) l.source) (λ p. p.entries) l.sheet l.fn.c.at l.count
+    (on_ok passed (arguments (node l.source l.levels) l.source l.count (drop l.fn.c.at l.sheet))) l.counter l.total l.at.at
 
-abbrev pub invariant-check_arguments-loop-left : goal.invariant-check_arguments-loop-left
-invariant-check_arguments-loop-left l =
-    (l.initial.at.at + l.total.entries ≤ l.at.at)
-    × (l.at.at ≤ length l.sheet)
-    × (arguments_from (node l.source l.levels) l.source l.initial.total l.initial.left (drop l.initial.at.at l.sheet)
-    ≡ arguments_from (node l.source l.levels) l.source l.total l.left (drop l.at.at l.sheet))
+abbrev pub invariant-check_nodes-loop : goal.invariant-check_nodes-loop
+invariant-check_nodes-loop l =
+    Loop after_nodes none (node_item (node l.source l.levels)) (λ t. t.entries) l.sheet l.fn.c.at l.count
+    (on_ok tally_all (nodes (node l.source l.levels) l.count (drop l.fn.c.at l.sheet))) l.counter l.total l.at.at
 
-abbrev pub decreases-check_nodes-loop-left : goal.decreases-check_nodes-loop-left
-decreases-check_nodes-loop-left l = l.left
-
-abbrev pub invariant-check_nodes-loop-left : goal.invariant-check_nodes-loop-left
-invariant-check_nodes-loop-left l =
-    (l.initial.at.at + l.total.entries ≤ l.at.at)
-    × (l.at.at ≤ length l.sheet)
-    × (nodes_from (node l.source l.levels) l.initial.total l.initial.left (drop l.initial.at.at l.sheet) ≡ nodes_from (node l.source l.levels) l.total l.left (drop l.at.at l.sheet))
-
-abbrev pub decreases-check_properties-loop-left : goal.decreases-check_properties-loop-left
-decreases-check_properties-loop-left l = l.left
-
-abbrev pub invariant-check_properties-loop-left : goal.invariant-check_properties-loop-left
-invariant-check_properties-loop-left l =
-    (l.initial.at.at + l.total.entries ≤ l.at.at)
-    × (l.at.at ≤ length l.sheet)
-    × (properties_from (node l.source l.levels) l.initial.total l.initial.left (drop l.initial.at.at l.sheet) ≡ properties_from (node l.source l.levels) l.total l.left (drop l.at.at l.sheet))
+abbrev pub invariant-check_properties-loop : goal.invariant-check_properties-loop
+invariant-check_properties-loop l =
+    Loop after_properties no_properties (property_item (node l.source l.levels)) (λ t. t.entries) l.sheet l.fn.c.at l.count
+    (on_ok tally_in (properties (node l.source l.levels) l.count (drop l.fn.c.at l.sheet))) l.counter l.total l.at.at
 
 -- six for each level that is left; a member that calls another on the same level is above it
 abbrev pub decreases-check_arguments : goal.decreases-check_arguments

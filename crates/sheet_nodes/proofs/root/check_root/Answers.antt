@@ -1,67 +1,52 @@
-use Rattle.laws.proofs.Prelude.{refl, false, ◌-◌, arith, length, drop, seen, told, bounded}
-use Rattle.sheet.specs.{Tree.other, Nodes.node, Nodes.nodes}
-use Rattle.sheet_heads.{specs.code.Views.head_as, proofs.ByHead.node_by_head, proofs.ByHead.no_head}
-use Rattle.sheet_nodes.specs.code.{Tallies.tally_all, Answers.with_own}
-use Rattle.sheet_nodes.proofs.{Arms.holds_plain, Reach.other_reaches, Reach.unlike_reaches}
-use Rattle.sheet_nodes.proofs.Rooms.{room, holding_past, whole_past}
+use Rattle.laws.proofs.Prelude.{sym, ◌-◌, arith, drop, handed, seen, told, bounded}
+use Rattle.sheet.specs.Nodes.{node, nodes}
+use Rattle.sheet_heads.proofs.ByHead.{node_by_head}
+use Rattle.sheet_nodes.specs.code.Answers.{children_as}
+use Rattle.sheet_nodes.proofs.{Arms.other_holds, Reach.other_reaches, Reach.unlike_reaches}
 use Rattle.sheet_nodes.proofs.root.check_root.Goals as goal
 
 -- `check_root`: what `check_node` answers, by the head; of an Other, how far the entries of its children reach.
 
-pub overflow_sub-levels : goal.overflow_sub-levels
-overflow_sub-levels c =
-    (bounded c.read_head.ensures c.in-Is.is).0
+pub returns-in_err-head : goal.returns-in_err-head
+returns-in_err-head c =
+    let a = c.args in
+    let by_head = node_by_head a.source.now a.levels (drop a.c.at a.sheet.now) in
+    rw (handed _ c.from_residual.ensures) (record { answer = rw (by_head, told c.read_head.ensures c.in_err-head.was); bounds = tt; reach = tt })
 
-pub check_children-children-requires : goal.check_children-children-requires
-check_children-children-requires c =
-    (bounded c.read_head.ensures c.in-Is.is).2
-
-pub holding-checked-requires : goal.holding-checked-requires
-holding-checked-requires c =
-    let past = bounded c.read_head.ensures c.in-Is.is in
-    room _ _ 1 c.check_children-children.result.tallied (omega arith) c.check_children-children.ensures.bounds
-
-pub returns-in-Refused : goal.returns-in-Refused
-returns-in-Refused c =
+pub returns-in_err-children-in-Other : goal.returns-in_err-children-in-Other
+returns-in_err-children-in-Other c =
     let a = c.args in
     let s = a.sheet.now in
-    let source = a.source.now in
-    let none_read = told c.read_head.ensures c.in-Refused.is in
-    record {
-      answer = rw (node_by_head source a.levels (drop a.c.at s), none_read);
+    let by_head = node_by_head a.source.now a.levels (drop a.c.at s) in
+    let children = nodes (node a.source.now (a.levels - 1)) c.in-Other.n (drop c.in_ok-head.next.at s) in
+    let cut = seen (children_as s) c.check_children.ensures.answer c.in_err-children-in-Other.was in
+    rw (handed _ c.from_residual-in_err-children-in-Other.ensures) (record {
+      answer = rw (by_head, told c.read_head.ensures c.in_ok-head.was, c.in-Other.is) (rw cut at (other_holds c.in_ok-head.field-0-0-0 children));
       bounds = tt;
-      reach = λ n t e. absurd (no_head source a.levels _ e none_read);
-    }
+      reach = tt;
+    })
 
-pub returns-in-Other : goal.returns-in-Other
-returns-in-Other c =
+pub returns-in_ok-children-in-Other : goal.returns-in_ok-children-in-Other
+returns-in_ok-children-in-Other c =
     let a = c.args in
     let s = a.sheet.now in
-    let source = a.source.now in
-    let says = c.read_head.ensures.answer in
-    let is = c.in-Is.is in
-    let sp = c.in-Is.span in
-    let next = c.in-Is.next in
-    let past = bounded c.read_head.ensures is in
-    let count = c.in-Other.n in
-    let other_is = c.in-Other.is in
-    let y = c.check_children-children.result.tallied in
-    let said = c.check_children-children.ensures in record {
-      answer = rw (node_by_head source a.levels (drop a.c.at s), seen (head_as s) says is, other_is, c.holding-checked.ensures)
-          (holds_plain s tally_all (other sp) (nodes (node source (a.levels - 1)) count (drop next.at s)) y said.answer false (λ ns. refl));
-      bounds = rw c.holding-checked.ensures
-          (whole_past a.c.at (length s) next.at (with_own false false y) (omega arith)
-          (holding_past next.at (length s) next.at (omega arith) false false y said.bounds));
-      reach = λ n t e. other_reaches s source a.c.at a.levels says is e other_is said.reach;
-    }
+    let by_head = node_by_head a.source.now a.levels (drop a.c.at s) in
+    let children = nodes (node a.source.now (a.levels - 1)) c.in-Other.n (drop c.in_ok-head.next.at s) in
+    let read = seen (children_as s) c.check_children.ensures.answer c.in_ok-children-in-Other.was in
+    let past = bounded c.read_head.ensures c.in_ok-head.was in
+    let above = rw c.in_ok-children-in-Other.was at c.check_children.ensures.bounds in
+    let reaches = rw c.in_ok-children-in-Other.was at c.check_children.ensures.reach in
+    rw c.holding-tally.ensures (record {
+      answer = rw (by_head, told c.read_head.ensures c.in_ok-head.was, c.in-Other.is) (rw read at (other_holds c.in_ok-head.field-0-0-0 children));
+      bounds = (omega arith, above.0, omega arith);
+      reach = λ n t e. other_reaches s a.source.now a.c.at a.levels c.read_head.ensures.answer c.in_ok-head.was e c.in-Other.is reaches;
+    })
 
-pub returns-in_default : goal.returns-in_default
-returns-in_default c =
+pub returns-in_ok-tally-in_default : goal.returns-in_ok-tally-in_default
+returns-in_ok-tally-in_default c =
     let a = c.args in
-    let says = c.read_head.ensures.answer in
-    let is = c.in-Is.is in
     record {
-      answer = c.check_node-checked.ensures.answer;
-      bounds = c.check_node-checked.ensures.bounds;
-      reach = λ n t e. unlike_reaches a.sheet.now a.source.now a.c.at a.levels says is e c.in_default.not-Other;
+      answer = sym (told c.check_node.ensures c.in_ok-tally-in_default.was);
+      bounds = bounded c.check_node.ensures c.in_ok-tally-in_default.was;
+      reach = λ n t e. unlike_reaches a.sheet.now a.source.now a.c.at a.levels c.read_head.ensures.answer c.in_ok-head.was e c.in_default.not-Other;
     }

@@ -13,25 +13,25 @@ decreases-match_longest l = 2 * length l.steps.now + 1
 abbrev pub decreases-match_shortest : goal.decreases-match_shortest
 decreases-match_shortest l = 2 * length l.steps.now + 1
 
-abbrev pub invariant-match_from-loop-plain : goal.invariant-match_from-loop-plain
-invariant-match_from-loop-plain l =
+abbrev pub invariant-match_from-loop-step : goal.invariant-match_from-loop-step
+invariant-match_from-loop-step l =
     (l.here ≤ length l.body) × (length l.rest ≤ length l.steps)
     × Goes l.body l.steps l.at l.initial.captured l.rest l.here l.captured
 
-abbrev pub decreases-match_from-loop-plain : goal.decreases-match_from-loop-plain
-decreases-match_from-loop-plain l = length l.rest
+abbrev pub decreases-match_from-loop-step : goal.decreases-match_from-loop-step
+decreases-match_from-loop-step l = length l.rest
 
 -- the class is not at hand in the loop: what is left to be tried is so for each class of which the end at first is a run's end
-abbrev pub invariant-match_longest-loop-found : goal.invariant-match_longest-loop-found
-invariant-match_longest-loop-found l =
+abbrev pub invariant-match_longest-loop-k : goal.invariant-match_longest-loop-k
+invariant-match_longest-loop-k l =
     (l.at ≤ l.end) × (l.end ≤ length l.body)
     × ((c : Class) → Longer c l.steps l.body l.k l.at l.initial.end → Longer c l.steps l.body l.k l.at l.end)
 
-abbrev pub decreases-match_longest-loop-found : goal.decreases-match_longest-loop-found
-decreases-match_longest-loop-found l = l.end
+abbrev pub decreases-match_longest-loop-k : goal.decreases-match_longest-loop-k
+decreases-match_longest-loop-k l = l.end
 
-abbrev pub invariant-match_shortest-loop-found : goal.invariant-match_shortest-loop-found
-invariant-match_shortest-loop-found l = (l.e ≤ length l.body) × Shorter l.class l.steps l.body l.k l.at l.e
+abbrev pub invariant-match_shortest-loop-class : goal.invariant-match_shortest-loop-class
+invariant-match_shortest-loop-class l = (l.e ≤ length l.body) × Shorter l.class l.steps l.body l.k l.at l.e
 
-abbrev pub decreases-match_shortest-loop-found : goal.decreases-match_shortest-loop-found
-decreases-match_shortest-loop-found l = length l.body - l.e
+abbrev pub decreases-match_shortest-loop-class : goal.decreases-match_shortest-loop-class
+decreases-match_shortest-loop-class l = length l.body - l.e

@@ -6,6 +6,3 @@ use Rattle.text.proofs.alphabetic.is_alphabetic.Goals as goal
 pub returns-then-code-lt128 : goal.returns-then-code-lt128
 unfolding alphabetic
 returns-then-code-lt128 c = c.in_either.ensures ∙ among_first 2 alphabetic 0x7F refl c.args.code (omega arith)
-
-pub returns : goal.returns
-returns c = c.is_wide_alphabetic.ensures

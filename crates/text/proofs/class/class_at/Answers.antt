@@ -1,19 +1,11 @@
-use Rattle.laws.proofs.Prelude.{arith}
-use Rattle.text.proofs.{Ascii.ascii_class}
+use Rattle.laws.proofs.Prelude.{arith, ◌∙◌, drop, length-drop}
+use Rattle.text.proofs.{Ascii.ascii_class, Runs.class_fits}
 use Rattle.text.proofs.class.class_at.Goals as goal
 
-pub returns-then-in_class : goal.returns-then-in_class
-returns-then-in_class c =
+pub returns-in-Some : goal.returns-in-Some
+returns-in-Some c =
     let a = c.args in
-    record {
-      answer = rw c.if-in_class.true at (ascii_class a.class a.s.now a.at (omega arith) (omega arith) c.in_class.ensures);
-      bounds = omega arith;
-    }
-
-pub returns-then-b-lt128 : goal.returns-then-b-lt128
-returns-then-b-lt128 c =
-    let a = c.args in
-    record {
-      answer = rw c.if-in_class.false at (ascii_class a.class a.s.now a.at (omega arith) (omega arith) c.in_class.ensures);
-      bounds = omega arith;
-    }
+    let s = a.s.now in
+    let (here, byte) = c.in-Some.ensures.lookup.3 in
+    let e = c.from.ensures ∙ ascii_class a.class s a.at here (byte 0) c.if-b-lt128.true c.in_class.ensures in
+    record { answer = e; bounds = omega (arith, class_fits a.class (drop a.at s), length-drop a.at s) }

@@ -14,9 +14,3 @@ loop-class-preserved c =
     let i = c.loop-class.i in
     let e = rw drop-drop at (run_goes_on a.class (drop i a.s.now) c.class_at-n.ensures.answer c.if-n-eq0.false) in
     (omega (arith, e), omega arith)
-
-pub overflow_add-i : goal.overflow_add-i
-overflow_add-i c = omega arith
-
-pub loop-class-smaller : goal.loop-class-smaller
-loop-class-smaller c = omega arith

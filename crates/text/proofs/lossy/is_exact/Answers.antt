@@ -1,4 +1,4 @@
-use Rattle.laws.proofs.Prelude.{refl, ◌∙◌, known}
+use Rattle.laws.proofs.Prelude.{◌∙◌, known}
 use lib.Dec.{eqb-suc-zero}
 use Rattle.text.proofs.Replaced.{none_left, marked_count, copied_count}
 use Rattle.text.proofs.{Reported.lossy_of}
@@ -24,6 +24,3 @@ returns c = record {
   answer = rw (c.loop-i.invariant, none_left c.args.s.now c.loop-i.i c.loop-i-test.false);
   meaning = λ points t. lossy_of t;
 }
-
-pub loop-i-init : goal.loop-i-init
-loop-i-init c = refl

@@ -1,9 +1,6 @@
-use Rattle.laws.proofs.Prelude.{◌≡◌, ◌-◌, length, drop}
+use Rattle.laws.proofs.Prelude.{◌≡◌, drop}
 use Rattle.text.specs.Lossy.{replaced}
 use Rattle.text.proofs.lossy.is_exact.Given as goal
 
 abbrev pub invariant-loop-i : goal.invariant-loop-i
 invariant-loop-i l = replaced l.s ≡ replaced (drop l.i l.s)
-
-abbrev pub decreases-loop-i : goal.decreases-loop-i
-decreases-loop-i l = length l.s - l.i

@@ -1,9 +1,10 @@
-use Rattle.laws.proofs.Prelude.{arith, sym}
+use Rattle.laws.proofs.Prelude.{ℕ, Bool, arith, rules, ltb, ltb-true}
 use Rattle.text.proofs.{Sums.begun_ascii}
 use Rattle.text.proofs.position.begun_from.Goals as goal
 
-pub returns-then-ascii_in-eq64 : goal.returns-then-ascii_in-eq64
-returns-then-ascii_in-eq64 c =
+pub returns-then-all_in_block : goal.returns-then-all_in_block
+returns-then-all_in_block c =
     let a = c.args in
-    let all = c.ascii_in.ensures c.if-ascii_in-eq64.true in
-    record { answer = sym (begun_ascii a.s.now a.from a.k 64 (omega arith) (omega arith) all); bounds = omega arith }
+    let p : ℕ → Bool = λ b. ltb b 128 in
+    let all = (c.all_in_block.ensures c.if-all_in_block.true).1 p (λ b r m e. search rules) in
+    begun_ascii a.s.now a.from a.k 64 (omega arith) (omega arith) (λ i l. ltb-true _ _ (all i l))

@@ -1,5 +1,5 @@
-use Rattle.laws.proofs.Prelude.{arith, rules, ◌≡◌, refl, ◌∙◌, ◌+◌, ◌*◌, ◌/◌, ◌-◌, length}
-use Rattle.text.specs.Position.{characters, walk, start_position, position_of}
+use Rattle.laws.proofs.Prelude.{arith, ◌≡◌, refl, ◌∙◌, ◌+◌, ◌*◌, ◌-◌}
+use Rattle.text.specs.Position.{characters, walk, position_of}
 use Rattle.text.proofs.Positions.{scanned, bounded, index_none, index_more, untouched_none, untouched_more}
 use Rattle.text.proofs.position.build_index.Goals as goal
 
@@ -7,7 +7,6 @@ pub loop-k-init : goal.loop-k-init
 unfolding position_of walk
 loop-k-init c =
     let a = c.args in (
-      omega arith,
       refl,
       refl,
       rw c.put.ensures (index_more (index_none characters a.s.now a.index.now) _ (omega arith) refl),
@@ -17,7 +16,7 @@ loop-k-init c =
 pub scan_block-p-requires : goal.scan_block-p-requires
 scan_block-p-requires c =
     let k = c.loop-k.k in
-    let b = bounded c.args.s.now (64 * k) (omega arith) c.loop-k.invariant.2 in
+    let b = bounded c.args.s.now (64 * k) (omega arith) c.loop-k.invariant.1 in
     (omega arith, omega arith, omega arith)
 
 pub put-requires-in-loop-k : goal.put-requires-in-loop-k
@@ -25,7 +24,7 @@ put-requires-in-loop-k c =
     let s = c.args.s.now in
     let l = c.loop-k in
     let d : 64 * (l.k + 1) - 64 * l.k ≡ 64 = omega arith in
-    let e = scanned characters s (64 * l.k) (64 * (l.k + 1)) (omega arith) {q = c.scan_block-p.result} l.invariant.2
+    let e = scanned characters s (64 * l.k) (64 * (l.k + 1)) (omega arith) {q = c.scan_block-p.result} l.invariant.1
     (rw d c.scan_block-p.ensures) in
     let b = bounded s (64 * (l.k + 1)) (omega arith) e in
     omega arith
@@ -35,22 +34,10 @@ loop-k-preserved c =
     let s = c.args.s.now in
     let l = c.loop-k in
     let d : 64 * (l.k + 1) - 64 * l.k ≡ 64 = omega arith in
-    let e = scanned characters s (64 * l.k) (64 * (l.k + 1)) (omega arith) {q = c.scan_block-p.result} l.invariant.2
+    let e = scanned characters s (64 * l.k) (64 * (l.k + 1)) (omega arith) {q = c.scan_block-p.result} l.invariant.1
     (rw d c.scan_block-p.ensures) in (
-      omega arith,
-      c.put-in-loop-k.auto.index ∙ l.invariant.1,
+      c.put-in-loop-k.auto.index ∙ l.invariant.0,
       e,
-      rw c.put-in-loop-k.ensures (index_more l.invariant.3 _ (omega arith) e),
-      rw c.put-in-loop-k.ensures (untouched_more l.invariant.4 _),
+      rw c.put-in-loop-k.ensures (index_more l.invariant.2 _ (omega arith) e),
+      rw c.put-in-loop-k.ensures (untouched_more l.invariant.3 _),
     )
-
-pub returns : goal.returns
-returns c =
-    let e : c.loop-k.k ≡ length c.args.s.now / 64 = omega arith in
-    let a = c.args in
-    let past = 2 * (length a.s.now / 64) + 2 in
-    let first = rw (← c.put.ensures) at (untouched_more (untouched_none a.index.now 0) start_position) in
-    record {
-      answer = rw e at c.loop-k.invariant.3;
-      left = (search rules, c.loop-k.invariant.4.from past (omega arith) ∙ first.from past (omega arith));
-    }

@@ -1,4 +1,4 @@
-use Rattle.laws.proofs.Prelude.{ℕ, ◌+◌, ◌-◌, ◌≤◌, ◌<◌, ◌≡◌, get_or}
+use Rattle.laws.proofs.Prelude.{ℕ, ◌+◌, ◌≤◌, ◌<◌, ◌≡◌, get_or}
 use Rattle.text.proofs.position.past_last.Given as goal
 
 -- no LF from `last` up to `i`, and one right before `last`
@@ -6,7 +6,4 @@ abbrev pub Past : ℕ → (ℕ → ℕ) → ℕ → Type 0
 Past last at i = ((k : ℕ) → last ≤ k → k < i → at k ≡ 0x0A → ⊥) × ((m : ℕ) → last ≡ m + 1 → at m ≡ 0x0A)
 
 abbrev pub invariant-loop-i : goal.invariant-loop-i
-invariant-loop-i l = (l.i ≤ 64) × (l.next ≡ l.i + 1) × (l.last ≤ l.i) × Past l.last (λ k. get_or l.s (l.from + k) 0) l.i
-
-abbrev pub decreases-loop-i : goal.decreases-loop-i
-decreases-loop-i l = 64 - l.i
+invariant-loop-i l = (l.last ≤ l.i) × Past l.last (λ k. get_or l.s (l.from + k) 0) l.i

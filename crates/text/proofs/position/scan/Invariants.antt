@@ -1,11 +1,8 @@
-use Rattle.laws.proofs.Prelude.{◌≡◌, ◌+◌, ◌-◌, ◌≤◌, ◌<◌, take, drop}
+use Rattle.laws.proofs.Prelude.{◌≡◌, ◌+◌, ◌<◌, take}
 use Rattle.text.specs.Position.{characters, walk}
 use Rattle.text.proofs.position.scan.Given as goal
 
-abbrev pub invariant-loop-i : goal.invariant-loop-i
-invariant-loop-i l =
-    (l.i ≤ l.at) × (l.p.line < 4294967296 + l.i) × (l.p.column < 4294967296 + l.i)
-    × (walk characters l.initial.p (take (l.at - l.from) (drop l.from l.s)) ≡ walk characters l.p (take (l.at - l.i) (drop l.i l.s)))
-
-abbrev pub decreases-loop-i : goal.decreases-loop-i
-decreases-loop-i l = l.at - l.i
+abbrev pub invariant-loop-b : goal.invariant-loop-b
+invariant-loop-b l =
+    (l.p.line < 4294967296 + l.from + l.b-index) × (l.p.column < 4294967296 + l.from + l.b-index)
+    × (l.p ≡ walk characters l.fn.start (take l.b-index l.b-items))

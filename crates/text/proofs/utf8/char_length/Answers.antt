@@ -1,12 +1,9 @@
-use Rattle.laws.proofs.Prelude.{known}
-use Rattle.text.specs.Utf8.{length_by, char_length}
+use Rattle.laws.proofs.Prelude.{arith, length}
+use Rattle.std.proofs.lemmas.Slice.{between_to_end}
 use Rattle.text.proofs.{ByRows.measured}
 use Rattle.text.proofs.utf8.char_length.Goals as goal
 
-pub returns-then-inside : goal.returns-then-inside
-unfolding char_length length_by
-returns-then-inside c = measured _ _ (rw (known c.inside.ensures c.if-inside.true))
-
 pub returns : goal.returns
-unfolding char_length length_by
-returns c = measured _ _ (rw (known c.inside.ensures c.if-inside.false) c.length_from_two.ensures)
+returns c =
+    let a = c.args in
+    measured _ _ (rw (← between_to_end a.s.now a.at (length a.s.now) (omega arith)) c.length_by_rows.ensures)

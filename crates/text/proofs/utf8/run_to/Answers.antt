@@ -1,4 +1,4 @@
-use Rattle.laws.proofs.Prelude.{arith, refl, sym, ◌∙◌, drop, length-drop}
+use Rattle.laws.proofs.Prelude.{arith, sym, ◌∙◌, drop, length-drop}
 use Rattle.text.proofs.Formed.{stuck, passed, fits}
 use Rattle.text.proofs.{Ascii.ascii_one}
 use Rattle.text.proofs.utf8.run_to.Goals as goal
@@ -16,12 +16,6 @@ returns-then-n-eq0 c =
     let l = c.loop-i in
     (l.invariant.1, omega arith, λ h. stuck a.encoding a.s.now l.i (omega arith) c.char_length-n.ensures.answer c.if-n-eq0.true)
 
-pub overflow_add-i-else-s-i-lt128 : goal.overflow_add-i-else-s-i-lt128
-overflow_add-i-else-s-i-lt128 c =
-    let a = c.args in
-    let l = c.loop-i in
-    omega (arith, fits a.encoding (drop l.i a.s.now), length-drop l.i a.s.now, c.char_length-n.ensures.answer)
-
 pub loop-i-preserved : goal.loop-i-preserved
 loop-i-preserved c =
     let a = c.args in
@@ -29,9 +23,3 @@ loop-i-preserved c =
       omega (arith, fits a.encoding (drop l.i a.s.now), length-drop l.i a.s.now, c.char_length-n.ensures.answer),
       l.invariant.1 ∙ passed a.encoding a.s.now l.i (omega arith) _ c.char_length-n.ensures.answer c.if-n-eq0.false,
     )
-
-pub loop-i-init : goal.loop-i-init
-loop-i-init c = (omega arith, refl)
-
-pub returns : goal.returns
-returns c = (c.loop-i.invariant.1, c.loop-i.invariant.0, λ h. absurd (omega arith))

@@ -5,6 +5,3 @@ use Rattle.text.proofs.white_space.is_white_space.Goals as goal
 
 pub returns-then-code-lt128 : goal.returns-then-code-lt128
 returns-then-code-lt128 c = c.in_either.ensures ∙ among_first 2 white_space 0x7F refl c.args.code (omega arith)
-
-pub returns : goal.returns
-returns c = c.is_wide_white_space.ensures

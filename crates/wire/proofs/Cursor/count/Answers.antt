@@ -1,4 +1,4 @@
-use Rattle.laws.proofs.Prelude.{le-leb, lt-leb, told, bounded}
+use Rattle.laws.proofs.Prelude.{handed_on, le-leb, lt-leb, told, bounded}
 use Rattle.wire.specs.Text.{count}
 use Rattle.wire.proofs.Cursor.count.Goals as goal
 
@@ -6,16 +6,16 @@ pub returns-then-n-limit : goal.returns-then-n-limit
 unfolding count
 returns-then-n-limit c =
     let read = c.number.ensures in
-    let found = c.in-Value.is in
+    let found = c.in_ok-n.was in
     record { answer = rw (told read found, le-leb _ _ c.if-n-limit.true); bounds = bounded read found }
 
 pub returns-else-n-limit : goal.returns-else-n-limit
 unfolding count
 returns-else-n-limit c = record {
-  answer = rw (told c.number.ensures c.in-Value.is, lt-leb _ _ c.if-n-limit.false);
+  answer = rw (told c.number.ensures c.in_ok-n.was, lt-leb _ _ c.if-n-limit.false);
   bounds = tt;
 }
 
-pub returns-in-Refused : goal.returns-in-Refused
+pub returns-in_err-n : goal.returns-in_err-n
 unfolding count
-returns-in-Refused c = record { answer = rw (told c.number.ensures c.in-Refused.is); bounds = tt }
+returns-in_err-n c = handed_on _ c.from_residual.ensures (rw (told c.number.ensures c.in_err-n.was)) tt

@@ -1,8 +1,0 @@
-use Rattle.laws.proofs.Prelude.{◌≡◌, ◌-◌, length}
-use Rattle.replay.proofs.fill.Given as goal
-
-abbrev pub invariant-loop-i : goal.invariant-loop-i
-invariant-loop-i l = length l.buffer ≡ length l.initial.buffer
-
-abbrev pub decreases-loop-i : goal.decreases-loop-i
-decreases-loop-i l = length l.initial.buffer - l.i

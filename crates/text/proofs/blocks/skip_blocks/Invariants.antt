@@ -1,0 +1,9 @@
+use Rattle.laws.proofs.Prelude.{◌-◌, length}
+use Rattle.text.specs.code.Places.{Passed}
+use Rattle.text.proofs.blocks.skip_blocks.Given as goal
+
+abbrev pub invariant-loop-i : goal.invariant-loop-i
+invariant-loop-i g l = Passed (goal.F-post g l.test) l.s l.at l.i
+
+abbrev pub decreases-loop-i : goal.decreases-loop-i
+decreases-loop-i g l = length l.s - l.i

@@ -1,4 +1,5 @@
-use Rattle.laws.proofs.Prelude.{sym, arith, length-take-le}
+use Rattle.laws.proofs.Prelude.{sym, ap, ◌∙◌, arith, length-take-le}
+use Rattle.citation.specs.Citation.{refusal}
 use Rattle.cite.proofs.{Printed.reported, Printed.refused_lines, Placed.editor_columns, Revised.kept_lines}
 use Rattle.cite.proofs.cite.Goals as goal
 
@@ -39,11 +40,11 @@ returns-in-Err c =
       c.requires.report_len,
       c.in-Err.is,
     ) at c.module_info_with_replaced.ensures.answer in
-    let cited = rw c.number.ensures at c.cite_refusal.ensures in
+    let cited = c.cite_refusal.ensures in
     let notes = rw c.requires.notes_len at c.module_info_with_replaced.ensures.beside in
     let source = c.find_source-source.ensures.answer in
     record {
-      answer = record { answer = rw (refused_lines _ source demands notes) cited.answer; bounds = cited.bounds };
+      answer = record { answer = rw (refused_lines _ source demands notes ∙ ap refusal (sym c.number.ensures)) cited.answer; bounds = cited.bounds };
       meaning = (editor_columns demands, kept_lines demands);
     }
 

@@ -205,8 +205,9 @@ fn put_static_entry(
 }
 
 // The entry of an import type, or of a declaration, with the Object of its attributes at the cursor, if there is one. The table is here, and not in
-// the walk, so that no level of the walk has one on the stack: the compiler does not inline what is called at two places. Where the bytes are no such Object,
-// the buffer and the notes are left free.
+// the walk, and is never inlined, so that no level of the walk has one on the stack. Where the bytes are no such Object, the buffer and the notes are
+// left free.
+#[inline(never)]
 pub fn put_with_entry(
     sheet: &[u8],
     source: &[u8],
@@ -306,6 +307,7 @@ pub fn put_module_entry(
 }
 
 // The entry of a dynamic dependency, with so many arguments behind the first at the cursor. The table is here as in `put_with_entry`.
+#[inline(never)]
 fn put_dynamic_entry(
     sheet: &[u8],
     source: &[u8],

@@ -9,15 +9,15 @@ use Rattle.text.specs.{Lossy.lossy, Bytes.part}
 use Rattle.wire.specs.{declared.Cursor.Cursor, Text.encode_text, Optional.encode_optional}
 use Rattle.sheet.specs.{Tree.Node, Shape.shape}
 use Rattle.sheet_nodes.specs.{declared.tally.NodeTally.NodeTally, code.Tallies.node_tally}
-use Rattle.report.{specs.ModuleInfo.DynamicTemplatePart, specs.Buffer.Buffer, specs.Buffer.wrote, proofs.Buffers.wrote_append}
+use Rattle.report.{specs.ModuleInfo.DynamicTemplatePart, specs.Buffer.Written, specs.Buffer.more, proofs.Buffers.more_append}
 use Rattle.arguments.specs.declared.expression.Expression.{Expression}
 use Rattle.arguments.specs.declared.expression.Expression.TheVariants as expression
 use Rattle.arguments.specs.Argument.{operand, appended, chain}
 use Rattle.arguments.specs.code.Views.{encode_parts, IsString, IsTemplate, IsPlus, ExpressionIs, parts_as, counted}
 
 -- parts one behind the other
-pub wrote_parts : (w : Buffer) (l m : List DynamicTemplatePart) → wrote w (encode_parts (l ++ m)) ≡ wrote (wrote w (encode_parts l)) (encode_parts m)
-wrote_parts w l m = rw (flat_map_append (encode_optional encode_text) l m, wrote_append)
+pub more_parts : (w : Written) (l m : List DynamicTemplatePart) → more w (encode_parts (l ++ m)) ≡ more (more w (encode_parts l)) (encode_parts m)
+more_parts w l m = rw (flat_map_append (encode_optional encode_text) l m, more_append)
 
 -- one part
 pub encode_one : (p : DynamicTemplatePart) → encode_parts (p ∷ []) ≡ encode_optional encode_text p
@@ -105,8 +105,8 @@ module _ {s : List ℕ} {inner : Decoder Node} {next : Cursor} {n : Node} {t : L
         let (l, is, total, past) = has_count (chain r.left) r.between (f r.left r.between r.first) in
         let p = operand (shape r.right) in
         let whole : chain n ≡ Some (l ++ (p ∷ [])) = plus_chain ∙ ap (λ o. appended o p) is in
-        let more : k + 1 ≡ length (l ++ (p ∷ [])) = omega (arith, length-append l (p ∷ [])) in
-        rw (whole, more, same_rest node_tally (inner v) at_right e)
+        let longer : k + 1 ≡ length (l ++ (p ∷ [])) = omega (arith, length-append l (p ∷ [])) in
+        rw (whole, longer, same_rest node_tally (inner v) at_right e)
 
   -- the parts of the left side, and the right
   pub plus_parts : {l : List DynamicTemplatePart} → chain n ≡ Some l

@@ -6,6 +6,7 @@ ghost use Rattle.sheet.specs.Tree.{Node};
 ghost use Rattle.sheet.specs.Nodes.{node};
 ghost use Rattle.arguments.specs.code.Views.{ExpressionIs, ExpressionWithin};
 
+use sheet::Sheet;
 use sheet_heads::node::{Head, read_head};
 use wire::Cursor;
 
@@ -23,14 +24,14 @@ pub enum Expression {
 }
 
 // The expression at a cursor, with so many levels left, its own among them.
-pub fn read_expression(sheet: &[u8], source: &[u8], c: Cursor, levels: usize) -> Expression
+pub fn read_expression(sheet: &Sheet, c: Cursor, levels: usize) -> Expression
     ensures { Bounded
         ((n : Node) (t : List ℕ)
-        → node source.now levels (drop c.at sheet.now) ≡ ok n t
-        → ExpressionIs sheet.now (node source.now (levels - 1)) result n t)
-        (ExpressionWithin (length sheet.now) levels result) }
+        → node sheet.now.source.now levels (drop c.at sheet.now.bytes.now) ≡ ok n t
+        → ExpressionIs sheet.now.bytes.now (node sheet.now.source.now (levels - 1)) result n t)
+        (ExpressionWithin (length sheet.now.bytes.now) levels result) }
 {
-    let Ok(((_, head), next)) = read_head(sheet, source, c, levels) else {
+    let Ok(((_, head), next)) = read_head(sheet, c, levels) else {
         return Expression::Other;
     };
     match head {

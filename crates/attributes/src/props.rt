@@ -11,6 +11,7 @@ ghost use Rattle.attributes.specs.Attributes.{value_of};
 ghost use Rattle.attributes.specs.code.Views.{pair_as, PairWithin, ValueIs, ValueWithin, prop_in, PropIs, PropWithin};
 
 use super::pairs::Pair;
+use sheet::Sheet;
 use sheet_heads::node::{Head, read_head};
 use sheet_heads::parts::{Property, read_property};
 use sheet_nodes::check::check_property;
@@ -34,14 +35,14 @@ pub struct Keyed {
 }
 
 // The node at a cursor, with so many levels left, its own among them.
-pub fn read_value(sheet: &[u8], source: &[u8], c: Cursor, levels: usize) -> Value
+pub fn read_value(sheet: &Sheet, c: Cursor, levels: usize) -> Value
     ensures { Bounded
         ((v : Node) (t : List ℕ)
-        → node source.now levels (drop c.at sheet.now) ≡ ok v t
-        → ValueIs sheet.now source.now (levels - 1) result (shape v))
-        (ValueWithin (length sheet.now) levels result) }
+        → node sheet.now.source.now levels (drop c.at sheet.now.bytes.now) ≡ ok v t
+        → ValueIs sheet.now.bytes.now sheet.now.source.now (levels - 1) result (shape v))
+        (ValueWithin (length sheet.now.bytes.now) levels result) }
 {
-    let Ok(((_, head), next)) = read_head(sheet, source, c, levels) else {
+    let Ok(((_, head), next)) = read_head(sheet, c, levels) else {
         return Value::Other;
     };
     match head {
@@ -52,26 +53,19 @@ pub fn read_value(sheet: &[u8], source: &[u8], c: Cursor, levels: usize) -> Valu
 }
 
 // The pair of a key and the value at a cursor.
-pub fn read_pair(
-    sheet: &[u8],
-    source: &[u8],
-    start: usize,
-    end: usize,
-    c: Cursor,
-    levels: usize,
-) -> Pair
-    requires { Part (length sheet.now) start end }
+pub fn read_pair(sheet: &Sheet, start: usize, end: usize, c: Cursor, levels: usize) -> Pair
+    requires { Part (length sheet.now.bytes.now) start end }
     ensures { Bounded
         ((v : Node) (t : List ℕ)
-        → node source.now levels (drop c.at sheet.now) ≡ ok v t
-        → pair_as sheet.now result ≡ record { key = part sheet.now start end; value = value_of (shape v) })
-        (PairWithin (length sheet.now) result) }
+        → node sheet.now.source.now levels (drop c.at sheet.now.bytes.now) ≡ ok v t
+        → pair_as sheet.now.bytes.now result ≡ record { key = part sheet.now.bytes.now start end; value = value_of (shape v) })
+        (PairWithin (length sheet.now.bytes.now) result) }
 {
-    match read_value(sheet, source, c, levels) {
+    match read_value(sheet, c, levels) {
         Value::Text(from, to) => Pair {
             key_start: start,
             key_end: end,
-            value: is_exact(&sheet[from..to]).then_some((from, to)),
+            value: is_exact(&sheet.bytes[from..to]).then_some((from, to)),
         },
         Value::Object(_, _) | Value::Other => Pair {
             key_start: start,
@@ -96,11 +90,11 @@ fn prop_of(sheet: &[u8], p: Property, value: Cursor) -> Option<Keyed>
 }
 
 // The property at a cursor, with so many levels left for its nodes.
-pub fn read_prop(sheet: &[u8], source: &[u8], c: Cursor, levels: usize) -> Reading<Option<Keyed>>
-    ensures { Bounded (PropIs sheet.now (node source.now levels) c.at result)
-        (PropWithin (length sheet.now) result) }
+pub fn read_prop(sheet: &Sheet, c: Cursor, levels: usize) -> Reading<Option<Keyed>>
+    ensures { Bounded (PropIs sheet.now.bytes.now (node sheet.now.source.now levels) c.at result)
+        (PropWithin (length sheet.now.bytes.now) result) }
 {
-    let (p, value) = read_property(sheet, c)?;
-    let (_, next) = check_property(sheet, source, c, levels)?;
-    Ok((prop_of(sheet, p, value), next))
+    let (p, value) = read_property(sheet.bytes, c)?;
+    let (_, next) = check_property(sheet, c, levels)?;
+    Ok((prop_of(sheet.bytes, p, value), next))
 }

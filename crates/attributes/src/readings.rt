@@ -18,6 +18,7 @@ ghost use Rattle.attributes.specs.code.Views.{pairs_in, attributes_as, Pairs, At
 
 use super::pairs::{Pair, insert, insert_known};
 use super::props::{Value, read_pair, read_prop, read_value};
+use sheet::Sheet;
 use sheet_heads::parts::{read_argument, read_attributes};
 use text::bytes::equal;
 use wire::Cursor;
@@ -31,30 +32,23 @@ pub enum ImportAttributes {
 }
 
 // So many properties: each key with a string value is kept, and anything else is passed over.
-fn parse_known(
-    sheet: &[u8],
-    source: &[u8],
-    c: Cursor,
-    count: usize,
-    levels: usize,
-    pairs: &mut [Pair],
-) -> usize
+fn parse_known(sheet: &Sheet, c: Cursor, count: usize, levels: usize, pairs: &mut [Pair]) -> usize
     requires { (count ≤ property_limit) × (property_limit ≤ length pairs.old) }
     ensures { Bounded
         ((ps : Properties) (t : List ℕ)
-        → properties (node source.now levels) count (drop c.at sheet.now) ≡ ok ps t
-        → pairs_in sheet.now pairs.new result ≡ static_pairs [] (props ps))
-        (Pairs (length sheet.now) pairs.new result) }
+        → properties (node sheet.now.source.now levels) count (drop c.at sheet.now.bytes.now) ≡ ok ps t
+        → pairs_in sheet.now.bytes.now pairs.new result ≡ static_pairs [] (props ps))
+        (Pairs (length sheet.now.bytes.now) pairs.new result) }
 {
     let mut at = c;
     let mut n = 0;
     for _ in 0..count {
-        let Ok((prop, next)) = read_prop(sheet, source, at, levels) else {
+        let Ok((prop, next)) = read_prop(sheet, at, levels) else {
             return n;
         };
         if let Some(k) = prop {
-            let p = read_pair(sheet, source, k.start, k.end, k.value, levels);
-            n = insert_known(sheet, pairs, n, p);
+            let p = read_pair(sheet, k.start, k.end, k.value, levels);
+            n = insert_known(sheet.bytes, pairs, n, p);
         }
         at = next;
     }
@@ -64,8 +58,7 @@ fn parse_known(
 // The Object behind a declaration, if there is one. Values that are no strings are skipped. The table is left free behind the rows of the answer,
 // and all of it where the bytes are no such Object.
 pub fn parse_import_attributes(
-    sheet: &[u8],
-    source: &[u8],
+    sheet: &Sheet,
     c: Cursor,
     has_object: bool,
     levels: usize,
@@ -74,24 +67,23 @@ pub fn parse_import_attributes(
     requires { property_limit ≤ length pairs.old }
     ensures { Lent
         ((a : Attributes) (t : List ℕ)
-        → behind has_object (attributes_object source.now levels) (drop c.at sheet.now) ≡ ok a t
-        → attributes_as sheet.now pairs.new result ≡ static_attributes a)
-        (AttributesWithin (length sheet.now) pairs.new result)
+        → behind has_object (attributes_object sheet.now.source.now levels) (drop c.at sheet.now.bytes.now) ≡ ok a t
+        → attributes_as sheet.now.bytes.now pairs.new result ≡ static_attributes a)
+        (AttributesWithin (length sheet.now.bytes.now) pairs.new result)
         (Free pairs.old pairs.new) }
 {
     if !has_object {
         return ImportAttributes::None;
     }
-    let Ok(((_, count), next)) = read_attributes(sheet, source, c, levels) else {
+    let Ok(((_, count), next)) = read_attributes(sheet, c, levels) else {
         return ImportAttributes::Unknown;
     };
-    ImportAttributes::Known(parse_known(sheet, source, next, count, levels - 1, pairs))
+    ImportAttributes::Known(parse_known(sheet, next, count, levels - 1, pairs))
 }
 
 // So many properties of an Object: one without a key that can be read makes all of it unknown.
 fn parse_import_attributes_from_object_lit(
-    sheet: &[u8],
-    source: &[u8],
+    sheet: &Sheet,
     c: Cursor,
     count: usize,
     levels: usize,
@@ -100,18 +92,18 @@ fn parse_import_attributes_from_object_lit(
     requires { (count ≤ property_limit) × (property_limit ≤ length pairs.old) }
     ensures { Bounded
         ((ps : Properties) (t : List ℕ)
-        → properties (node source.now levels) count (drop c.at sheet.now) ≡ ok ps t
-        → attributes_as sheet.now pairs.new result ≡ object_attributes [] (props ps))
-        (AttributesWithin (length sheet.now) pairs.new result) }
+        → properties (node sheet.now.source.now levels) count (drop c.at sheet.now.bytes.now) ≡ ok ps t
+        → attributes_as sheet.now.bytes.now pairs.new result ≡ object_attributes [] (props ps))
+        (AttributesWithin (length sheet.now.bytes.now) pairs.new result) }
 {
     let mut at = c;
     let mut n = 0;
     for _ in 0..count {
-        let Ok((Some(k), next)) = read_prop(sheet, source, at, levels) else {
+        let Ok((Some(k), next)) = read_prop(sheet, at, levels) else {
             return ImportAttributes::Unknown;
         };
-        let p = read_pair(sheet, source, k.start, k.end, k.value, levels);
-        n = insert(sheet, pairs, n, p);
+        let p = read_pair(sheet, k.start, k.end, k.value, levels);
+        n = insert(sheet.bytes, pairs, n, p);
         at = next;
     }
     ImportAttributes::Known(n)
@@ -120,8 +112,7 @@ fn parse_import_attributes_from_object_lit(
 // The Object of an import type, if there is one. The table is left free as above. Apart from `parse_import_attributes`, whose reading keeps
 // other pairs: one function with a closure for the reading is no plainer.
 pub fn parse_type_attributes(
-    sheet: &[u8],
-    source: &[u8],
+    sheet: &Sheet,
     c: Cursor,
     has_object: bool,
     levels: usize,
@@ -130,39 +121,33 @@ pub fn parse_type_attributes(
     requires { property_limit ≤ length pairs.old }
     ensures { Lent
         ((a : Attributes) (t : List ℕ)
-        → behind has_object (attributes_object source.now levels) (drop c.at sheet.now) ≡ ok a t
-        → attributes_as sheet.now pairs.new result ≡ type_attributes a)
-        (AttributesWithin (length sheet.now) pairs.new result)
+        → behind has_object (attributes_object sheet.now.source.now levels) (drop c.at sheet.now.bytes.now) ≡ ok a t
+        → attributes_as sheet.now.bytes.now pairs.new result ≡ type_attributes a)
+        (AttributesWithin (length sheet.now.bytes.now) pairs.new result)
         (Free pairs.old pairs.new) }
 {
     if !has_object {
         return ImportAttributes::None;
     }
-    let Ok(((_, count), next)) = read_attributes(sheet, source, c, levels) else {
+    let Ok(((_, count), next)) = read_attributes(sheet, c, levels) else {
         return ImportAttributes::Unknown;
     };
-    parse_import_attributes_from_object_lit(sheet, source, next, count, levels - 1, pairs)
+    parse_import_attributes_from_object_lit(sheet, next, count, levels - 1, pairs)
 }
 
 // The value of `with` or `assert`.
-fn parse_nested(
-    sheet: &[u8],
-    source: &[u8],
-    c: Cursor,
-    levels: usize,
-    pairs: &mut [Pair],
-) -> ImportAttributes
+fn parse_nested(sheet: &Sheet, c: Cursor, levels: usize, pairs: &mut [Pair]) -> ImportAttributes
     requires { property_limit ≤ length pairs.old }
     ensures { Bounded
         ((v : Node) (t : List ℕ)
-        → node source.now levels (drop c.at sheet.now) ≡ ok v t
-        → attributes_as sheet.now pairs.new result ≡ of_object (object_attributes []) (shape v))
-        (AttributesWithin (length sheet.now) pairs.new result) }
+        → node sheet.now.source.now levels (drop c.at sheet.now.bytes.now) ≡ ok v t
+        → attributes_as sheet.now.bytes.now pairs.new result ≡ of_object (object_attributes []) (shape v))
+        (AttributesWithin (length sheet.now.bytes.now) pairs.new result) }
 {
-    match read_value(sheet, source, c, levels) {
+    match read_value(sheet, c, levels) {
         Value::Text(_, _) | Value::Other => ImportAttributes::Unknown,
         Value::Object(n, next) => {
-            parse_import_attributes_from_object_lit(sheet, source, next, n, levels - 1, pairs)
+            parse_import_attributes_from_object_lit(sheet, next, n, levels - 1, pairs)
         }
     }
 }
@@ -184,8 +169,7 @@ fn is_attributes_key(sheet: &[u8], start: usize, end: usize, had_with: bool) -> 
 
 // So many properties of the second argument of a dynamic import.
 fn parse_argument_properties(
-    sheet: &[u8],
-    source: &[u8],
+    sheet: &Sheet,
     c: Cursor,
     count: usize,
     levels: usize,
@@ -194,23 +178,23 @@ fn parse_argument_properties(
     requires { property_limit ≤ length pairs.old }
     ensures { Bounded
         ((ps : Properties) (t : List ℕ)
-        → properties (node source.now levels) count (drop c.at sheet.now) ≡ ok ps t
-        → attributes_as sheet.now pairs.new result ≡ argument_properties false none (props ps))
-        (AttributesWithin (length sheet.now) pairs.new result) }
+        → properties (node sheet.now.source.now levels) count (drop c.at sheet.now.bytes.now) ≡ ok ps t
+        → attributes_as sheet.now.bytes.now pairs.new result ≡ argument_properties false none (props ps))
+        (AttributesWithin (length sheet.now.bytes.now) pairs.new result) }
 {
     let mut at = c;
     let mut had_with = false;
     let mut found = ImportAttributes::None;
     for _ in 0..count {
-        let Ok((Some(k), next)) = read_prop(sheet, source, at, levels) else {
+        let Ok((Some(k), next)) = read_prop(sheet, at, levels) else {
             return ImportAttributes::Unknown;
         };
-        if is_attributes_key(sheet, k.start, k.end, had_with) {
-            found = parse_nested(sheet, source, k.value, levels, pairs);
+        if is_attributes_key(sheet.bytes, k.start, k.end, had_with) {
+            found = parse_nested(sheet, k.value, levels, pairs);
             let ImportAttributes::Known(_) = found else {
                 return found;
             };
-            had_with = is_with(sheet, k.start, k.end);
+            had_with = is_with(sheet.bytes, k.start, k.end);
         }
         at = next;
     }
@@ -219,8 +203,7 @@ fn parse_argument_properties(
 
 // From the arguments behind the first of a call, so many of them. The table is left free as above.
 pub fn parse_dynamic_import_attributes(
-    sheet: &[u8],
-    source: &[u8],
+    sheet: &Sheet,
     c: Cursor,
     count: usize,
     levels: usize,
@@ -229,24 +212,22 @@ pub fn parse_dynamic_import_attributes(
     requires { property_limit ≤ length pairs.old }
     ensures { Lent
         ((xs : Arguments) (t : List ℕ)
-        → arguments (node source.now levels) source.now count (drop c.at sheet.now) ≡ ok xs t
-        → attributes_as sheet.now pairs.new result ≡ dynamic_attributes xs)
-        (AttributesWithin (length sheet.now) pairs.new result)
+        → arguments (node sheet.now.source.now levels) sheet.now.source.now count (drop c.at sheet.now.bytes.now) ≡ ok xs t
+        → attributes_as sheet.now.bytes.now pairs.new result ≡ dynamic_attributes xs)
+        (AttributesWithin (length sheet.now.bytes.now) pairs.new result)
         (Free pairs.old pairs.new) }
 {
     if count == 0 {
         return ImportAttributes::None;
     }
-    let Ok(((spread, _), value)) = read_argument(sheet, source, c) else {
+    let Ok(((spread, _), value)) = read_argument(sheet, c) else {
         return ImportAttributes::Unknown;
     };
     if spread {
         return ImportAttributes::Unknown;
     }
-    match read_value(sheet, source, value, levels) {
+    match read_value(sheet, value, levels) {
         Value::Text(_, _) | Value::Other => ImportAttributes::Unknown,
-        Value::Object(n, next) => {
-            parse_argument_properties(sheet, source, next, n, levels - 1, pairs)
-        }
+        Value::Object(n, next) => { parse_argument_properties(sheet, next, n, levels - 1, pairs) }
     }
 }

@@ -3,7 +3,7 @@ use Rattle.laws.proofs.Prelude.{◌≡◌, refl, ap, ◌∙◌, Bool, true, fals
 use Rattle.laws.proofs.Prelude.{length, get_or, take, drop, drop_of_length-le, drop-cons, eq-eqb, ne_eqb}
 use lib.ListN.{take-append-drop}
 use Rattle.laws.{specs.Codec.All, proofs.Onward.carried_to}
-use Rattle.text.specs.{declared.position.Position.Position, Ranges.within, Utf8.continuation, Position.utf16}
+use Rattle.text.specs.{declared.position.Position.Position, Ranges.within, Utf8.continuation, code.Places.First}
 use Rattle.citation.specs.Columns.{begins_four, from_line, fours_in, recounted}
 
 -- no more of them than characters
@@ -21,7 +21,7 @@ fours_most (suc n) (b ∷ s) = by (within continuation b) (begins_four b) (fours
 pub fours_none : (s : List ℕ) → fours_in 0 s ≡ 0
 fours_none s = omega (arith, fours_most 0 s)
 
-pub fours_past : (n : ℕ) → fours_in n [] ≡ 0
+fours_past : (n : ℕ) → fours_in n [] ≡ 0
 unfolding fours_in
 fours_past n = refl
 
@@ -49,12 +49,12 @@ pub from_next : (n b : ℕ) (s : List ℕ) → eqb b 0x0A ≡ true → from_line
 unfolding from_line
 from_next n b s e = rw e
 
-pub from_none : (n : ℕ) → from_line n [] ≡ []
+from_none : (n : ℕ) → from_line n [] ≡ []
 unfolding from_line
 from_none n = refl
 
 -- up to the first LF
-pub from_end : (n : ℕ) (s : List ℕ) (at end : ℕ) → at ≤ end → end ≤ length s → ((k : ℕ) → at ≤ k → k < end → get_or s k 0 ≡ 0x0A → ⊥)
+from_end : (n : ℕ) (s : List ℕ) (at end : ℕ) → at ≤ end → end ≤ length s → ((k : ℕ) → at ≤ k → k < end → get_or s k 0 ≡ 0x0A → ⊥)
     → from_line (suc n) (drop at s) ≡ from_line (suc n) (drop end s)
 from_end n s at end l h none =
     carried_to (λ k. from_line (suc n) (drop at s) ≡ from_line (suc n) (drop k s)) at end l refl
@@ -66,60 +66,37 @@ from_end n s at end l h none =
 
 -- ---- as the code goes
 
--- past the LF at `end`, or none
-module _ (left : ℕ) (s : List ℕ) (at end : ℕ) (some : 0 < left) (h : end ≤ length s) (l : at ≤ end)
-    (none : (k : ℕ) → at ≤ k → k < end → get_or s k 0 ≡ 0x0A → ⊥) where
-  pub next_line : end < length s → get_or s end 0 ≡ 0x0A → from_line left (drop at s) ≡ from_line (left - 1) (drop (end + 1) s)
-  next_line i e =
-      let more : left ≡ suc (left - 1) = omega arith in
-      ap (λ (n : ℕ). from_line n (drop at s)) more
-      ∙ from_end (left - 1) s at end l h none
-      ∙ rw (drop-cons s end 0 i, add-one) (from_next (left - 1) (get_or s end 0) (drop (suc end) s) (eq-eqb (get_or s end 0) 0x0A e))
+-- at a line, past the LF at `end`, or none
+pub this_line : (n : ℕ) (s : List ℕ) → n ≡ 0 → from_line n s ≡ s
+this_line n s none = rw (none, from_zero)
 
-  pub no_line : length s ≤ end → from_line left (drop at s) ≡ drop end s
-  no_line i =
-      let more : left ≡ suc (left - 1) = omega arith in
-      ap (λ (n : ℕ). from_line n (drop at s)) more ∙ from_end (left - 1) s at end l h none ∙ rw (drop_of_length-le s i) (from_none (suc (left - 1)))
+pub next_line : (n less : ℕ) (s : List ℕ) (at end : ℕ) → n ≡ less + 1 → First 0x0A s at end → end < length s
+    → from_line n (drop at s) ≡ from_line less (drop (end + 1) s)
+next_line n less s at end more f i =
+    let one : n ≡ suc less = omega arith in
+    ap (λ (k : ℕ). from_line k (drop at s)) one
+    ∙ from_end less s at end f.passed.from f.passed.to f.passed.each
+    ∙ rw (drop-cons s end 0 i, add-one) (from_next less (get_or s end 0) (drop (suc end) s) (eq-eqb (get_or s end 0) 0x0A (f.there i)))
 
--- the units that a byte adds say whether it begins a character, and whether that has four bytes
-abbrev Added : ℕ → ℕ → Type 0
-Added b added = added ≡ cond (within continuation b) 0 (utf16 b)
+pub no_line : (n : ℕ) (s : List ℕ) (at end : ℕ) → 0 < n → First 0x0A s at end → length s ≤ end → from_line n (drop at s) ≡ drop end s
+no_line n s at end some f i =
+    let more : n ≡ suc (n - 1) = omega arith in
+    ap (λ (k : ℕ). from_line k (drop at s)) more
+    ∙ from_end (n - 1) s at end f.passed.from f.passed.to f.passed.each
+    ∙ rw (drop_of_length-le s i) (from_none (suc (n - 1)))
 
-pub added_few : (b added : ℕ) → Added b added → added ≤ 2
-added_few b added e = rw e (by (within continuation b) (begins_four b))
-  where
-    by : (on four : Bool) → cond on 0 (cond four 2 1) ≤ 2
-    by true four = omega arith
-    by false true = omega arith
-    by false false = omega arith
+-- past a byte that goes on with a character, and past one that begins a character
+pub fours_kept : (n : ℕ) (s : List ℕ) (i : ℕ) → i < length s → within continuation (get_or s i 0) ≡ true → fours_in n (drop i s) ≡ fours_in n (drop (i + 1) s)
+fours_kept n s i l e = rw (drop-cons s i 0 l, add-one) (fours_on n (get_or s i 0) (drop (suc i) s) e)
 
-begun : (b added : ℕ) → Added b added → 0 < added → (within continuation b ≡ false) × (added - 1 ≡ cond (begins_four b) 1 0)
-begun b added e some = by (within continuation b) refl (begins_four b) refl
-  where
-    by : (on : Bool) → within continuation b ≡ on → (four : Bool) → begins_four b ≡ four →
-        (within continuation b ≡ false) × (added - 1 ≡ cond (begins_four b) 1 0)
-    by true o four f = let none = rw o at e in absurd (omega arith)
-    by false o true f = let two = rw (o, f) at e in (o, rw f (omega arith))
-    by false o false f = let one = rw (o, f) at e in (o, rw f (omega arith))
+pub fours_taken : (n : ℕ) (s : List ℕ) (i : ℕ) → i < length s → 0 < n → within continuation (get_or s i 0) ≡ false
+    → fours_in n (drop i s) ≡ cond (begins_four (get_or s i 0)) 1 0 + fours_in (n - 1) (drop (i + 1) s)
+fours_taken n s i l some e =
+    let more : n ≡ suc (n - 1) = omega arith in
+    ap (λ (k : ℕ). fours_in k (drop i s)) more ∙ rw (drop-cons s i 0 l, add-one) (fours_next (n - 1) (get_or s i 0) (drop (suc i) s) e)
 
-going : (b added : ℕ) → Added b added → added ≤ 0 → within continuation b ≡ true
-going b added e none = by (within continuation b) refl (begins_four b) refl
-  where
-    by : (on : Bool) → within continuation b ≡ on → (four : Bool) → begins_four b ≡ four → within continuation b ≡ true
-    by true o four f = o
-    by false o true f = let two = rw (o, f) at e in absurd (omega arith)
-    by false o false f = let one = rw (o, f) at e in absurd (omega arith)
-
-module _ (s : List ℕ) (i added : ℕ) (l : i < length s) (e : Added (get_or s i 0) added) where
-  pub fours_begun : (left : ℕ) → 0 < added → (left ≡ 0 → ⊥) → fours_in left (drop i s) ≡ (added - 1) + fours_in (left - 1) (drop (i + 1) s)
-  fours_begun left some more =
-      let (first, four) = begun (get_or s i 0) added e some in
-      let one : left ≡ suc (left - 1) = omega arith in
-      ap (λ (n : ℕ). fours_in n (drop i s)) one
-      ∙ rw (drop-cons s i 0 l, add-one, four) (fours_next (left - 1) (get_or s i 0) (drop (suc i) s) first)
-
-  pub fours_gone : (left : ℕ) → added ≤ 0 → fours_in left (drop i s) ≡ fours_in left (drop (i + 1) s)
-  fours_gone left none = rw (drop-cons s i 0 l, add-one) (fours_on left (get_or s i 0) (drop (suc i) s) (going (get_or s i 0) added e none))
+pub fours_end : (n : ℕ) (s : List ℕ) (i : ℕ) → length s ≤ i → fours_in n (drop i s) ≡ 0
+fours_end n s i l = rw (drop_of_length-le s l) (fours_past n)
 
 -- ---- behind the last of them
 

@@ -4,7 +4,7 @@ mod Apart
 pub mod ColumnsRight
 pub mod Lengths
 pub mod Few
-mod Digits
+mod Texts
 pub mod Printing
 pub mod Whole
 mod Cases

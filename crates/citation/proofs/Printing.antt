@@ -2,16 +2,16 @@
 use Rattle.laws.proofs.Prelude.{◌≡◌, refl, ap, List, [], ◌∷◌, ◌++◌, append_assoc, flat_map, ℕ, zero, suc, ◌+◌, get_or, drop, length-append, get_or-drop, drop-drop}
 use Rattle.laws.proofs.Lists.{flat_map_append}
 use Rattle.text.specs.declared.position.Position.{Position}
-use Rattle.report.{specs.ModuleInfo.ModuleInfo, specs.Answer.zeros, specs.Buffer.Buffer, proofs.Buffers.wrote_append}
+use Rattle.report.{specs.ModuleInfo.ModuleInfo, specs.Answer.zeros, specs.declared.writer.Writer.Writer, proofs.Buffers.more_append}
 use Rattle.citation.specs.{code.Cites.Printed, Columns.recounted}
 use Rattle.citation.specs.Citation.{Line, printed, cite_each, cite_noted, lines, citation}
 
 -- some lines, and then others
-pub both : {source : List ℕ} {a b : List Line} {before between after : Buffer} {m n : ℕ} → Printed source before a between m → Printed source between b after n
+pub both : {source : List ℕ} {a b : List Line} {before between after : Writer} {m n : ℕ} → Printed source before a between m → Printed source between b after n
     → Printed source before (a ++ b) after (m + n)
-both {source} {a} {b} p q =
+both {source} {a} {b} {before} p q =
     record {
-      written = rw (flat_map_append (printed source) a b, wrote_append, ← p.written) q.written;
+      written = rw (flat_map_append (printed source) a b, more_append, ← p.written) q.written;
       counted = rw (length-append, p.counted, q.counted);
     }
 

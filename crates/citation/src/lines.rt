@@ -2,27 +2,27 @@
 ghost use Rattle.std.specs.Prelude.{◌≡◌, ◌<◌};
 ghost use mathlib.Core.List.{flat_map};
 ghost use Rattle.report.specs.Valid.{ValidPosition};
-ghost use Rattle.report.specs.Buffer.{wrote, buffer_as};
+ghost use Rattle.report.specs.Buffer.{Wrote};
 ghost use Rattle.citation.specs.Columns.{recounted_range};
 ghost use Rattle.citation.specs.Citation.{digits, hex_digit, is_escaped, escaped, cite_position, cite_range, printed, title};
 ghost use Rattle.citation.specs.code.Printable.{Printable};
 
 use super::columns::recounted;
-use report::writer::Pen;
+use report::writer::Writer;
 use text::position::Position;
 
 // Writes a number in decimal, in at most so many places.
-pub fn put_digits(place: Pen, out: &mut [u8], places: usize, n: usize) -> Pen
-    ensures { buffer_as out.new result ≡ wrote (buffer_as out.old place) (digits places n) }
+#[tactic(auto, using(report::proofs::Buffers::more_append, report::proofs::Buffers::wrote_none), unfolding(crate::specs::Citation::digits))]
+pub fn put_digits(places: usize, n: usize, w: &mut Writer)
+    ensures { Wrote w.old w.new (digits places n) }
 {
     if places == 0 {
-        return place;
+        return;
     }
-    if n < 10 {
-        return place.put(out, (0x30 + n) as u8);
+    if 10 <= n {
+        put_digits(places - 1, n / 10, w);
     }
-    let p = put_digits(place, out, places - 1, n / 10);
-    p.put(out, (0x30 + n % 10) as u8)
+    w.put((0x30 + n % 10) as u8);
 }
 
 // A hexadecimal digit, in upper case.
@@ -37,92 +37,84 @@ fn hex_digit(n: u8) -> u8
 fn is_escaped(b: u8) -> bool
     ensures { result ≡ is_escaped b }
 {
-    if b < 32 {
-        return true;
-    }
-    if b == 127 {
-        return true;
-    }
-    b == 0x5C
+    b < 32 || b == 127 || b == b'\\'
 }
 
 // Writes a byte of a text.
-fn put_escaped(place: Pen, out: &mut [u8], b: u8) -> Pen
-    ensures { buffer_as out.new result ≡ wrote (buffer_as out.old place) (escaped b) }
+#[tactic(auto, using(report::proofs::Buffers::more_append, report::proofs::Buffers::more_cons), unfolding(crate::specs::Citation::escaped))]
+fn put_escaped(b: u8, w: &mut Writer)
+    ensures { Wrote w.old w.new (escaped b) }
 {
     if is_escaped(b) {
-        let p = place.put_bytes(out, b"\\x");
-        let p = p.put(out, hex_digit(b / 16));
-        return p.put(out, hex_digit(b % 16));
+        w.put_bytes(b"\\x");
+        w.put(hex_digit(b / 16));
+        w.put(hex_digit(b % 16));
+    } else {
+        w.put(b);
     }
-    place.put(out, b)
 }
 
 // Writes a text.
-pub fn put_text(place: Pen, out: &mut [u8], text: &[u8]) -> Pen
-    ensures { buffer_as out.new result
-        ≡ wrote (buffer_as out.old place) (flat_map escaped text.now) }
+#[tactic(auto, using(report::proofs::Buffers::more_append, report::proofs::Buffers::more_nil, crate::proofs::Texts::text_on, crate::proofs::Texts::text_end))]
+pub fn put_text(text: &[u8], w: &mut Writer)
+    ensures { Wrote w.old w.new (flat_map escaped text.now) }
 {
-    let mut p = place;
-    let mut i = 0;
-    while i < text.len() {
-        p = put_escaped(p, out, text[i]);
-        i += 1;
+    for b in text {
+        put_escaped(*b, w);
     }
-    p
 }
 
 // Writes line:column, from 1.
-fn put_position(place: Pen, out: &mut [u8], position: Position) -> Pen
+#[tactic(auto, using(report::proofs::Buffers::more_append, report::proofs::Buffers::more_cons), unfolding(crate::specs::Citation::cite_position))]
+fn put_position(position: Position, w: &mut Writer)
     requires { Printable position }
-    ensures { buffer_as out.new result ≡ wrote (buffer_as out.old place) (cite_position position) }
+    ensures { Wrote w.old w.new (cite_position position) }
 {
-    let p = put_digits(place, out, 20, position.line + 1);
-    let p = p.put(out, b':');
-    put_digits(p, out, 20, position.column + 1)
+    put_digits(20, position.line + 1, w);
+    w.put(b':');
+    put_digits(20, position.column + 1, w);
 }
 
 // Writes the positions at a range's start and at its end, recounted in UTF-16 code units.
-fn put_range(place: Pen, out: &mut [u8], source: &[u8], start: Position, end: Position) -> Pen
+#[tactic(auto, using(report::proofs::Buffers::more_append, report::proofs::Buffers::more_cons), unfolding(crate::specs::Citation::cite_range))]
+fn put_range(source: &[u8], start: Position, end: Position, w: &mut Writer)
     requires { ValidPosition start × ValidPosition end }
-    ensures { buffer_as out.new result
-        ≡ wrote (buffer_as out.old place)
+    ensures { Wrote w.old w.new
         (cite_range (recounted_range source.now (record { start = start; end = end }))) }
 {
-    let p = put_position(place, out, recounted(source, start));
-    let p = p.put(out, b'-');
-    let last = recounted(source, end);
-    put_position(p, out, last)
+    put_position(recounted(source, start), w);
+    w.put(b'-');
+    put_position(recounted(source, end), w);
 }
 
 // Writes a line: letter, space, range, space, text.
+#[tactic(auto, using(report::proofs::Buffers::more_append, report::proofs::Buffers::more_cons), unfolding(crate::specs::Citation::printed))]
 pub fn put_line(
-    place: Pen,
-    out: &mut [u8],
     source: &[u8],
     letter: u8,
     start: Position,
     end: Position,
     text: &[u8],
-) -> Pen
+    w: &mut Writer,
+)
     requires { ValidPosition start × ValidPosition end }
-    ensures { buffer_as out.new result
-        ≡ wrote (buffer_as out.old place)
+    ensures { Wrote w.old w.new
         (printed source.now (record { letter = letter; range = record { start = start; end = end }; text = text.now })) }
 {
-    let p = place.put(out, letter);
-    let p = p.put(out, b' ');
-    let p = put_range(p, out, source, start, end);
-    let p = p.put(out, b' ');
-    let p = put_text(p, out, text);
-    p.put(out, b'\n')
+    w.put(letter);
+    w.put(b' ');
+    put_range(source, start, end, w);
+    w.put(b' ');
+    put_text(text, w);
+    w.put(b'\n');
 }
 
 // Writes a word and a number, on a line of their own.
-pub fn put_title(place: Pen, out: &mut [u8], word: &[u8], n: usize) -> Pen
-    ensures { buffer_as out.new result ≡ wrote (buffer_as out.old place) (title word.now n) }
+#[tactic(auto, using(report::proofs::Buffers::more_append, report::proofs::Buffers::more_cons), unfolding(crate::specs::Citation::title))]
+pub fn put_title(word: &[u8], n: usize, w: &mut Writer)
+    ensures { Wrote w.old w.new (title word.now n) }
 {
-    let p = place.put_bytes(out, word);
-    let p = put_digits(p, out, 20, n);
-    p.put(out, b'\n')
+    w.put_bytes(word);
+    put_digits(20, n, w);
+    w.put(b'\n');
 }

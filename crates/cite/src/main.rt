@@ -18,6 +18,7 @@ use std::io;
 use std::io::Write;
 
 // Where the source of an accepted sheet stands: behind the media byte.
+#[tactic(auto, unfolding(sheet_codec::specs::Encode::encode_sheet))]
 fn find_source(sheet: &[u8]) -> TextRead
     ensures { Bounded
         ((t : Sheet) → SheetOf sheet.now t → part sheet.now result.from result.to ≡ t.source)

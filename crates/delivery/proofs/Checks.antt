@@ -1,5 +1,5 @@
 -- So many modules, checked one after the other, and nothing behind them.
-use Rattle.laws.proofs.Prelude.{◌≡◌, refl, ap, ◌∙◌, List, [], ◌∷◌, ℕ, zero, suc, ◌-◌, ◌≤◌, ◌<◌, arith, length, drop, drop_of_length-le, drop-cons, le-leb}
+use Rattle.laws.proofs.Prelude.{◌≡◌, refl, ap, ◌∙◌, List, [], ◌∷◌, ℕ, zero, suc, ◌+◌, ◌≤◌, ◌<◌, arith, length, drop, drop_of_length-le, drop-cons, le-leb}
 use Rattle.laws.proofs.Prelude.{lt-leb}
 use Rattle.laws.specs.Decoded.{ok, no, on_ok}
 use Rattle.laws.proofs.Decoding.{on_ok_ok, on_ok_no, map_map}
@@ -11,14 +11,13 @@ use Rattle.std.specs.Prelude.{Option, Some, None}
 use Rattle.delivery.proofs.Deliveries.{stand}
 
 -- one module more, a refused one, none
-pub times_more : (n : ℕ) (u : List ℕ) {w : List ℕ} → 0 < n → on_ok forget (named_sheet u) ≡ ok tt w
-    → on_ok forget (times named_sheet n u) ≡ on_ok forget (times named_sheet (n - 1) w)
+pub times_more : (n less : ℕ) (u : List ℕ) {w : List ℕ} → n ≡ less + 1 → on_ok forget (named_sheet u) ≡ ok tt w
+    → on_ok forget (times named_sheet n u) ≡ on_ok forget (times named_sheet less w)
 unfolding times
-times_more zero u h e = absurd (omega arith)
-times_more (suc n) u {w} h e =
+times_more n less u {w} more e =
     let (m, is, _) = on_ok_ok forget (named_sheet u) e in
-    let down : suc n - 1 ≡ n = omega arith in
-    rw (is, down, map_map forget (m ∷◌) (times named_sheet n w))
+    let one : n ≡ suc less = omega arith in
+    rw (one, is, map_map forget (m ∷◌) (times named_sheet less w))
 
 pub times_stop : (n : ℕ) (u : List ℕ) {r : ℕ} → 0 < n → on_ok forget (named_sheet u) ≡ no r → on_ok forget (times named_sheet n u) ≡ no r
 unfolding times
@@ -80,3 +79,6 @@ module _ (s : List ℕ) where
       pub as_counted : 1 ≤ n → n ≤ module_limit → (r : Option Checked) → CheckedAs s (last_modules n u) r → CheckedAs s (decode_delivery s) r
       unfolding decode_delivery counted_modules
       as_counted some few r h = rw (le-leb (length s) delivery_limit size, counted, le-leb 1 n some, le-leb n module_limit few) h
+
+-- what is asked of a delivery before its modules, one after the other
+pub ruleset asked = (too_long, no_count, none, too_many, as_counted)

@@ -1,17 +1,14 @@
 -- The entries of a report, read one after the other.
-use Rattle.laws.proofs.Prelude.{◌≡◌, refl, sym, ap, ◌∙◌, Bool, cond, not, ◌&&◌, List, append_assoc, flat_map, Option, none-ne-some, ℕ, ◌+◌, ◌-◌, ◌≤◌}
-use Rattle.laws.proofs.Prelude.{arith, length, take, length-take}
+use Rattle.laws.proofs.Prelude.{◌≡◌, refl, sym, ap, ◌∙◌, List, append_assoc, flat_map, ℕ, ◌+◌, ◌-◌, ◌≤◌, arith, length, take, length-take}
 use Rattle.std.specs.Prelude.{None, Option, Some}
-use Rattle.laws.proofs.Options.{some-injective}
 use Rattle.laws.proofs.Lists.{part_part}
 use Rattle.wire.specs.Number.{encode_number}
-use Rattle.report.specs.{declared.names.StaticDependencyKind.StaticDependencyKind, Valid.ValidDependency, Valid.Valid}
-use Rattle.report.specs.ModuleInfo.{DependencyDescriptor, static, dynamic, ModuleInfo}
+use Rattle.report.specs.{ModuleInfo.ModuleInfo, Valid.ValidDependency, Valid.Valid}
 use Rattle.report.specs.Encode.{encode_list, encode_dependency, encode}
-use Rattle.report_reader.{specs.code.FromPlace.Number, specs.code.Dependencies.Named, specs.code.Dependencies.named_in, proofs.FromBytes.flag_read}
+use Rattle.report_reader.{specs.code.FromPlace.Number, proofs.FromBytes.flag_read}
 use Rattle.report_reader.proofs.Lists.{Stand}
-use Rattle.delivery.specs.{Asks.left_out, Asks.relative, declared.entries.Late.Late, code.Views.late_as, code.Views.LateInside}
-use Rattle.delivery.specs.Order.{Answer, not_in_order, entries_of, among, late_in, entries_in_turn}
+use Rattle.delivery.specs.{declared.entries.Late.Late, code.Views.late_as, code.Views.LateInside}
+use Rattle.delivery.specs.Order.{Answer, not_in_order, entries_of, entries_in_turn}
 use Rattle.delivery.proofs.Reported.{Report}
 
 -- the dependencies stand behind the script flag and their count
@@ -24,22 +21,6 @@ entries_start {info = info} valid bytes script counted =
     let (long, e) = counted.read (length info.dependencies) valid.dependencies.0 _
     (e ∙ append_assoc (encode_number (length info.dependencies)) (flat_map encode_dependency info.dependencies) _) in
     (_, (sym long, valid.dependencies.1, e))
-
--- a static dependency is late by its kind and its text, a dynamic one never
-module _ (earlier : List (List ℕ)) where
-  pub static_late : {kind : StaticDependencyKind} {x : List ℕ} {b : Bool} (d : DependencyDescriptor) →
-      Some (record { kind = kind; text = x }) ≡ named_in d
-      → (not (left_out kind) && (relative x && not (among x earlier))) ≡ b → cond b (Some x) None ≡ late_in earlier d
-  static_late {kind} {x} (static d) named e =
-      let same = some-injective (record { kind = kind; text = x }) (record { kind = d.kind; text = d.specifier.text }) named in
-      let k : kind ≡ d.kind = ap (λ (n : Named). n.kind) same in
-      let y : x ≡ d.specifier.text = ap (λ (n : Named). n.text) same in
-      rw (← e, k, y)
-  static_late {kind} {x} (dynamic d) named e = absurd (none-ne-some _ (sym named))
-
-  pub dynamic_late : (d : DependencyDescriptor) → None ≡ named_in d → None ≡ late_in earlier d
-  dynamic_late (static d) named = absurd (none-ne-some _ named)
-  dynamic_late (dynamic d) named = refl
 
 -- an entry that is late in a report at the front of the work buffer is late there in the whole
 late_whole : (work : List ℕ) (n i : ℕ) (r : Option Late) (behind : Answer) → LateInside (take n work) r

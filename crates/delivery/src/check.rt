@@ -25,6 +25,7 @@ pub struct Checked {
 }
 
 // A length, and as many bytes.
+#[tactic(auto, using(wire::proofs::FieldsAtPlace::bytes_past, wire::proofs::FieldsAtPlace::bytes_at), unfolding(report::specs::Decode::text))]
 fn check_sheet(delivery: &[u8], c: Cursor) -> Reading<usize>
     ensures { text_as delivery.now result ≡ text (drop c.at delivery.now) }
 {
@@ -37,6 +38,7 @@ fn check_sheet(delivery: &[u8], c: Cursor) -> Reading<usize>
 }
 
 // A name text, and a sheet.
+#[tactic(auto, unfolding(crate::specs::Delivery::named_sheet))]
 fn check_module(delivery: &[u8], c: Cursor) -> Result<Cursor, Refusal>
     ensures { passed_as delivery.now result ≡ on_ok forget (named_sheet (drop c.at delivery.now)) }
 {
@@ -46,6 +48,7 @@ fn check_module(delivery: &[u8], c: Cursor) -> Result<Cursor, Refusal>
 }
 
 // So many modules.
+#[tactic(auto, using(crate::proofs::Checks::times_more, crate::proofs::Checks::times_stop, crate::proofs::Checks::times_none))]
 fn check_modules(delivery: &[u8], c: Cursor, count: usize) -> Result<Cursor, Refusal>
     ensures { passed_as delivery.now result ≡ on_ok forget (times named_sheet count (drop c.at delivery.now)) }
 {
@@ -57,6 +60,7 @@ fn check_modules(delivery: &[u8], c: Cursor, count: usize) -> Result<Cursor, Ref
 }
 
 // The modules of a count that is not outside 1 to 64, and nothing behind them.
+#[tactic(auto, using(crate::proofs::Checks::bytes_follow_lem, crate::proofs::Checks::all_checked, crate::proofs::Checks::not_passed))]
 fn check_counted(delivery: &[u8], c: Cursor, count: usize) -> Option<Checked>
     ensures { CheckedAs delivery.now (last_modules count (drop c.at delivery.now)) result }
 {
@@ -68,6 +72,7 @@ fn check_counted(delivery: &[u8], c: Cursor, count: usize) -> Option<Checked>
 }
 
 // A delivery: its size, its count, its modules, and nothing behind them; none where it is refused, whatever the reason.
+#[tactic(auto, using(crate::proofs::Checks::asked))]
 pub fn check_delivery(delivery: &[u8]) -> Option<Checked>
     ensures { CheckedAs delivery.now (decode_delivery delivery.now) result }
 {

@@ -40,6 +40,7 @@ fn of_delivery(refusal: Refusal) -> Refused
 }
 
 // The first refused sheet of so many modules, if not each gets its report.
+#[tactic(auto, using(crate::proofs::Along::all_passed), unfolding(crate::specs::Order::sheets_in_turn))]
 fn judge_sheets(delivery: &[u8], first: usize, count: usize, work: &mut [u8]) -> Result<(), Refused>
     ensures { Leaving
         ((ms : List Module) (t : List ℕ)
@@ -62,6 +63,7 @@ fn judge_sheets(delivery: &[u8], first: usize, count: usize, work: &mut [u8]) ->
 }
 
 // The first entry that is late in the report of a sheet, which is made again. A sheet that is refused has none.
+#[tactic(auto, using(crate::proofs::Reported::refused_number))]
 fn judge_module(
     sheet: &[u8],
     delivery: &[u8],
@@ -83,6 +85,7 @@ fn judge_module(
 }
 
 // The first entry that is late in so many modules, whose sheets all get their reports.
+#[tactic(auto, using(crate::proofs::Along::all_passed), unfolding(crate::specs::Order::modules_in_turn))]
 fn judge_order(delivery: &[u8], first: usize, count: usize, work: &mut [u8]) -> Option<LateModule>
     ensures { Bounded
         ((ms : List Module) (t : List ℕ)
@@ -105,6 +108,7 @@ fn judge_order(delivery: &[u8], first: usize, count: usize, work: &mut [u8]) -> 
 }
 
 // The answer to a delivery. The work buffer has what was written last.
+#[tactic(auto, using(crate::proofs::Orders::none_refused), unfolding(crate::specs::Order::order_of))]
 pub fn judge(delivery: &[u8], work: &mut [u8]) -> Judgement
     ensures { Told (judgement_as work.new)
         (order_of (length work.old) delivery.now)

@@ -18,6 +18,7 @@ pub struct ModuleRead {
     pub sheet_to: usize,
 }
 
+#[tactic(auto, unfolding(crate::specs::Delivery::encode_module))]
 pub fn read_module(delivery: &[u8], at: usize) -> ModuleRead
     ensures { ModuleIn delivery.now at result }
 {
@@ -32,6 +33,7 @@ pub fn read_module(delivery: &[u8], at: usize) -> ModuleRead
 }
 
 // Is a text the name of one of so many modules?
+#[tactic(auto, using(crate::proofs::Along::no_module), unfolding(crate::specs::Order::among))]
 pub fn is_name(delivery: &[u8], first: usize, count: usize, text: &[u8]) -> bool
     ensures { (ms : List Module) (t : List ℕ) → Modules delivery.now first count ms t → result ≡ among text.now (names_of ms) }
 {
@@ -49,6 +51,7 @@ pub fn is_name(delivery: &[u8], first: usize, count: usize, text: &[u8]) -> bool
 }
 
 // Does a name of so many modules occur twice?
+#[tactic(auto, using(crate::proofs::Along::all_passed), unfolding(crate::specs::Order::repeated))]
 pub fn has_name_twice(delivery: &[u8], first: usize, count: usize) -> bool
     ensures { (ms : List Module) (t : List ℕ) → Modules delivery.now first count ms t → result ≡ repeated [] ms }
 {

@@ -1,12 +1,13 @@
 -- There are as many dependencies as the check of the tree counts.
-use Rattle.std.specs.Prelude.{Some, None}
+use Rattle.std.specs.Prelude.{Some, None, Result, Ok, Err}
 use Rattle.laws.proofs.Prelude.{◌≡◌, refl, sym, ap, ◌∙◌, Bool, true, false, cond, ◌&&◌, List, [], ◌∷◌, ◌++◌, map, flat_map, Option, ℕ, arith, length}
 use Rattle.laws.proofs.Prelude.{length-append}
 use mathlib.Core.List.{map-append}
-use Rattle.laws.specs.Decoded.{ok}
+use Rattle.laws.proofs.Decoding.{refused, value}
 use Rattle.text.specs.Truth.{one}
 use Rattle.wire.specs.Number.{encode_number}
-use Rattle.sheet.{specs.declared.fields.Span.Span, proofs.Walks.walks_related}
+use Rattle.wire.specs.{declared.Cursor.Cursor, declared.refusals.Refusal.Refusal}
+use Rattle.sheet.{specs.code.Commented.Commented, specs.declared.fields.Span.Span, proofs.Walks.walks_related}
 use Rattle.sheet.specs.Tree.{Quoted, Node, Arguments, no_arguments, argument}
 use Rattle.sheet.specs.Shape.{shape, is_require, is_augmentation}
 use Rattle.sheet.specs.Walk.{Visit, called, importing, expression, imported, exported, typed, required, declared, start_of}
@@ -15,11 +16,11 @@ use Rattle.report.specs.declared.names.StaticDependencyKind.TheVariants as stati
 use Rattle.report.specs.{declared.names.DynamicDependencyKind.DynamicDependencyKind, ModuleInfo.SpecifierWithRange, ModuleInfo.DependencyDescriptor}
 use Rattle.report.specs.declared.names.DynamicDependencyKind.TheVariants as dynamics
 use Rattle.report.specs.ModuleInfo as info
-use Rattle.report.{specs.Encode.encode_list, specs.Encode.encode_dependency, specs.Buffer.Buffer, specs.Buffer.wrote, proofs.Buffers.wrote_append}
+use Rattle.report.{specs.Encode.encode_list, specs.Encode.encode_dependency, specs.Buffer.Written, specs.Buffer.more, proofs.Buffers.more_append}
 use Rattle.arguments.specs.Argument.{replaced_in}
-use Rattle.dep_entries.specs.code.{Notes.all_noted, Written.wrote_entries}
+use Rattle.dep_entries.specs.{declared.Items.Items, code.Notes.all_noted, code.Written.types_of, code.Written.Collected, code.Written.items_as, code.Written.with_entries}
 use Rattle.dep_entries.specs.Entries.{dynamic_kind, static_entry, call_entry, module_entry, Noted, beside}
-use Rattle.dep.specs.code.Walk.{after_node}
+use Rattle.dep.specs.code.Walk.{walked_as, Answered, after_node, with_dependencies}
 use Rattle.dep.specs.Collect.{entry_of, collector, collect, text_of, noting, collect_noted}
 
 module _ (source : List ℕ) (types : ℕ → Option SpecifierWithRange) where
@@ -83,18 +84,20 @@ module _ (source : List ℕ) (types : ℕ → Option SpecifierWithRange) where
   noted_bytes [] = refl
   noted_bytes (e ∷ l) = ap (encode_dependency e.entry ++◌) (noted_bytes l)
 
-  -- their number, and then their entries
-  pub program_written : (w : Buffer) (n : Node) {count : ℕ} → count ≡ entries n
-      → {w1 : Buffer} → w1 ≡ wrote w (encode_number count) → (notes : List ℕ) {w2 : Buffer} {notes' t v : List ℕ} →
-      ok (after_node source types (w1, notes) n) t ≡ ok (w2, notes') v
-      → (w2 ≡ wrote w (encode_list encode_dependency (collect source types n))) × (notes' ≡ all_noted notes (collect_noted source types n))
-  unfolding encode_list
-  program_written w n {count} as_many {w1} number_first notes {w2} {notes'} then_entries =
-      let last : (w2, notes') ≡ wrote_entries (w1, notes) (collect_noted source types n) = cc in
-      let bytes = noted_bytes (collect_noted source types n) ∙ ap (flat_map encode_dependency) (noted_first n) in (
-        ap (λ p. p.0) last
-            ∙ ap (λ w. wrote w (flat_map (λ e. encode_dependency e.entry) (collect_noted source types n))) number_first
-            ∙ rw (bytes, as_many, ← counted n)
-            (sym (wrote_append w (encode_number (length (collect source types n))) (flat_map encode_dependency (collect source types n)))),
-        ap (λ p. p.1) last,
-      )
+-- a walk's answer that is a value has the items
+pub items_answered : (s : List ℕ) (after : Items) (r : Result Cursor Refusal) {w : Collected} → Answered (walked_as s after r) w → items_as after ≡ w
+items_answered s after (Ok next) (t, e) = value e
+items_answered s after (Err r) (t, e) = absurd (refused e)
+
+-- the number of a tree's dependencies, and then their entries
+pub program_written : (c : Commented) (w : Collected) (n : Node) {count : ℕ} → count ≡ entries n → {w1 : Written} → w1 ≡ more w.written (encode_number count)
+    → after_node c (record w { written = w1 }) n ≡ with_dependencies c w n
+unfolding encode_list with_entries
+program_written c w n as_many number_first =
+    let types = types_of c in
+    let l = collect_noted c.source types n in
+    let bytes = noted_bytes c.source types l ∙ ap (flat_map encode_dependency) (noted_first c.source types n) in
+    ap (λ (v : Written). record { writer = w.writer; written = v; loan = w.loan; notes = all_noted w.notes l })
+    (ap (λ w. more w (flat_map (λ e. encode_dependency e.entry) l)) number_first
+    ∙ rw (bytes, as_many, ← counted c.source types n)
+    (sym (more_append w.written (encode_number (length (collect c.source types n))) (flat_map encode_dependency (collect c.source types n)))))

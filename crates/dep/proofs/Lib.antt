@@ -1,4 +1,5 @@
 pub mod HeadSpans
+pub mod Left
 pub mod Loops
 pub mod Arms
 pub mod Counted

@@ -1,4 +1,3 @@
 pub mod Wrote
 pub mod Noting
 pub mod ArgumentSpans
-pub mod Fields

@@ -1,5 +1,5 @@
 -- A row stored behind those that are noted, or left out.
-use Rattle.laws.proofs.Prelude.{◌≡◌, refl, List, [], ◌∷◌, ℕ, suc, ◌+◌, ◌-◌, ◌≤◌, ◌<◌, arith, add-one, length, get_or, set, lt-ltb, le-ltb}
+use Rattle.laws.proofs.Prelude.{◌≡◌, refl, Bool, true, false, cond, List, [], ◌∷◌, ℕ, suc, ◌+◌, ◌-◌, ◌≤◌, ◌<◌, arith, add-one, length, get_or, set, length-set, ltb, lt-ltb, le-ltb}
 use Rattle.dep_entries.specs.code.Notes.{noted}
 
 pub note_stored : (notes : List ℕ) (start number : ℕ) → get_or notes 0 0 + 1 < length notes - 1
@@ -14,3 +14,14 @@ pub note_left : (notes : List ℕ) (start number : ℕ) → length notes - 1 ≤
 unfolding noted
 note_left [] start number h = refl
 note_left (count ∷ numbers) start number h = rw (le-ltb (count + 1) (length numbers) (omega arith))
+
+-- there is as much room as before
+pub noted_size : (notes : List ℕ) (start number : ℕ) → length (noted notes start number) ≡ length notes
+unfolding noted
+noted_size [] start number = refl
+noted_size (count ∷ numbers) start number = by_room (ltb (count + 1) (length numbers))
+  where
+    by_room : (t : Bool) →
+        length (cond t ((count + 2) ∷ set (set numbers count start) (count + 1) number) (count ∷ numbers)) ≡ length (count ∷ numbers)
+    by_room true = rw (length-set, length-set) refl
+    by_room false = refl

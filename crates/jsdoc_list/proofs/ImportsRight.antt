@@ -1,6 +1,6 @@
 -- The JSDoc imports of a sheet are those that are demanded.
 use Rattle.std.specs.Prelude.{Some}
-use Rattle.laws.proofs.Prelude.{◌≡◌, refl, sym, ap, ◌∙◌, Bool, true, false, cond, true≢false, List, [], Memᴰ, Memᴰ_not_nil, Option, ℕ, ◌+◌, ◌≤◌}
+use Rattle.laws.proofs.Prelude.{◌≡◌, refl, sym, ap, ◌∙◌, Bool, true, false, cond, true≢false, List, [], Memᴰ, Memᴰ_not_nil, ℕ, ◌+◌, ◌≤◌}
 use Rattle.laws.proofs.Prelude.{◌<◌, zero-add, arith, length, get_or}
 use mathlib.Core.Path.{subst}
 use native.Mathlib.Decide.{dec_lt}

@@ -1,6 +1,6 @@
 -- The import that is reported of a reading, and where it stands in the source.
 use Rattle.std.specs.Prelude.{Some}
-use Rattle.laws.proofs.Prelude.{◌≡◌, refl, ap, sym, ◌∙◌, true, List, [], ◌∷◌, ◌++◌, append_assoc, Option, ℕ, ◌+◌, ◌-◌, ◌≤◌, arith, length, take, drop}
+use Rattle.laws.proofs.Prelude.{◌≡◌, refl, ap, sym, ◌∙◌, true, List, [], ◌∷◌, ◌++◌, append_assoc, ℕ, ◌+◌, ◌-◌, ◌≤◌, arith, length, take, drop}
 use Rattle.laws.proofs.Prelude.{length-append, length-drop}
 use lib.Seq.{take_at, append_snoc}
 use Rattle.text.specs.{declared.utf8.Encoding.TheVariants.Utf8, Utf8.formed}

@@ -1,6 +1,6 @@
 -- A comment that is alike in two sources gives the same JSDoc imports in both, with the same origins.
 use Rattle.std.specs.Prelude.{Some}
-use Rattle.laws.proofs.Prelude.{◌≡◌, refl, ap, sym, ◌∙◌, List, [], ◌∷◌, Option, ℕ, zero, suc, ◌+◌, zero-add, add-zero, add-one, arith, get_or}
+use Rattle.laws.proofs.Prelude.{◌≡◌, refl, ap, sym, ◌∙◌, List, [], ◌∷◌, ℕ, zero, suc, ◌+◌, zero-add, add-zero, add-one, arith, get_or}
 use native.Mathlib.Nat.{add-suc, suc-add}
 use Rattle.wire.specs.Fields.{value_of}
 use Rattle.analysis.specs.Mode.{Mode}

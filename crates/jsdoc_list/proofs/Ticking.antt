@@ -1,13 +1,13 @@
 -- The ticks of all comments are those of the readings that are listed in them.
 use Rattle.laws.proofs.Prelude.{◌≡◌, refl, sym, ap, ◌∙◌, Bool, true, false, cond, true≢false, ◌⊎◌, ⊎_elim, inl, inr, List, [], ◌∷◌, ◌++◌, ℕ, zero, suc, ◌+◌}
 use Rattle.laws.proofs.Prelude.{◌-◌, ◌≤◌, ◌<◌, zero-le, suc-le-suc, add-one, arith, length, take, drop, get_or, length-append, length-drop}
-use Rattle.laws.proofs.Prelude.{get_or-eq_default, drop-drop, length-take-le, get_or-drop}
+use Rattle.laws.proofs.Prelude.{get_or-eq_default, drop-drop, drop-cons, drop_of_length-le, length-take-le, get_or-drop}
 use native.Mathlib.Decide.{dec_lt}
 use lib.{ListN.get_or-append, Seq.get_or-append-add, Seq.get_or-take}
 use Rattle.analysis.{specs.Mode.Mode, specs.Mode.mode_number, proofs.Modes.number_small}
 use Rattle.jsdoc.{specs.Grammar.Listed, specs.code.Ticks.Ticks, specs.Listing.listing, proofs.Listing.listing_ticks}
 use Rattle.jsdoc.proofs.Ticked.{ticks_iff, ticks_unique, ticks_nothing}
-use Rattle.sheet.specs.{declared.comments.Comment.Comment, code.Tables.rows, Fit.comment_of, Fit.Fit, Lookups.body_span, Lookups.body}
+use Rattle.sheet.specs.{declared.comments.Comment.Comment, Fit.no_comment, Fit.comment_of, Fit.Fit, Lookups.body_span, Lookups.body}
 use Rattle.sheet.proofs.Bodies.{BodyWithin, placed_body}
 use Rattle.jsdoc_list.specs.Imports.{is_star_opened, ticked_by, ticked_by_all, ticks_of}
 use Rattle.jsdoc_list.specs.Demand.{StarOpened}
@@ -143,24 +143,24 @@ ticks_small {source} {cs} fit q = go (get_or (ticks_of source cs) q 0) refl
 
 -- ---- the turns of the code
 
--- where the ticks of a comment's body are put in place of its part, and where nothing is done
-module _ (source : List ℕ) (c : Comment) (l : List ℕ) where
-  pub ticked_part : {p : List ℕ} → BodyWithin source c → is_star_opened source c ≡ true → Ticks (Listed (body source c)) (length (body source c)) p
-      → take (body_span c).start l ++ (p ++ drop ((body_span c).end - (body_span c).start) (drop (body_span c).start l)) ≡ ticked_by source c l
-  unfolding ticked_by
-  ticked_part w o k =
-      let n : (body_span c).start + ((body_span c).end - (body_span c).start) ≡ (body_span c).end = omega (arith, w.order) in
-      rw (o, drop-drop ((body_span c).end - (body_span c).start) (body_span c).start l, n, ticks_unique k (listing_ticks (body source c)))
+-- where the ticks of a comment's body are put in place of its part
+pub ticked_part : (source : List ℕ) (c : Comment) (l : List ℕ) {p : List ℕ} → BodyWithin source c → is_star_opened source c ≡ true
+    → Ticks (Listed (body source c)) (length (body source c)) p
+    → take (body_span c).start l ++ (p ++ drop ((body_span c).end - (body_span c).start) (drop (body_span c).start l)) ≡ ticked_by source c l
+unfolding ticked_by
+ticked_part source c l w o k =
+    let n : (body_span c).start + ((body_span c).end - (body_span c).start) ≡ (body_span c).end = omega (arith, w.order) in
+    rw (o, drop-drop ((body_span c).end - (body_span c).start) (body_span c).start l, n, ticks_unique k (listing_ticks (body source c)))
 
-  pub ticked_not : is_star_opened source c ≡ false → l ≡ ticked_by source c l
-  unfolding ticked_by
-  ticked_not o = rw o
+-- the comments from the kth on: it, and the others
+pub comment_first : (cs : List Comment) (k : ℕ) → k < length cs → drop k cs ≡ comment_of cs k ∷ drop (k + 1) cs
+comment_first cs k h = rw (add-one k) (drop-cons cs k no_comment h)
 
-pub rows_next : (row : ℕ → Comment) (n k : ℕ) → k < n → rows row k (n - k) ≡ row k ∷ rows row (k + 1) (n - (k + 1))
-unfolding rows
-rows_next row n k h = let e : n - k ≡ suc (n - suc k) = omega arith in rw (e, add-one k)
-
-pub tick_more : (source l : List ℕ) (row : ℕ → Comment) (n k : ℕ) → k < n
-    → ticked_by_all source (rows row k (n - k)) l ≡ ticked_by_all source (rows row (k + 1) (n - (k + 1))) (ticked_by source (row k) l)
+pub tick_more : (source l : List ℕ) (cs : List Comment) (k : ℕ) → k < length cs
+    → ticked_by_all source (drop k cs) l ≡ ticked_by_all source (drop (k + 1) cs) (ticked_by source (comment_of cs k) l)
 unfolding ticked_by_all
-tick_more source l row n k h = rw (rows_next row n k h)
+tick_more source l cs k h = rw (comment_first cs k h)
+
+pub tick_none : (source l : List ℕ) (cs : List Comment) (k : ℕ) → length cs ≤ k → ticked_by_all source (drop k cs) l ≡ l
+unfolding ticked_by_all
+tick_none source l cs k h = rw (drop_of_length-le cs h)

@@ -1,10 +1,11 @@
 -- The turns of the loops over the ticks, and the bytes that are written.
+use Rattle.std.specs.Prelude.{Some}
 use Rattle.laws.proofs.Prelude.{◌≡◌, refl, ap, sym, ◌∙◌, true, false, List, [], ◌∷◌, ◌++◌, append-nil, flat_map, ℕ, suc, ◌+◌, ◌-◌, ◌≤◌, ◌<◌, add-one, arith}
-use Rattle.laws.proofs.Prelude.{length, drop, get_or, length-drop, drop-cons}
-use Rattle.text.specs.{declared.utf8.Encoding.TheVariants.Utf8, Utf8.formed, Bytes.part}
+use Rattle.laws.proofs.Prelude.{length, drop, get_or, length-drop, drop-cons, drop_of_length-le}
+use Rattle.text.specs.{declared.utf8.Encoding.TheVariants.Utf8, Utf8.formed, Bytes.part, code.Places.Passing}
 use Rattle.laws.proofs.Onward.{carried_to}
 use Rattle.wire.specs.{Fields.value_of, Number.encode_number}
-use Rattle.jsdoc.specs.{Parsed.ok, Reader.parse_quote}
+use Rattle.jsdoc.specs.{Reader.parse_quote, declared.answers.Part.Part, code.Answers.Spells, code.Answers.quote_mark}
 use Rattle.sheet.specs.{declared.comments.Comment.Comment, Fit.Fit, declared.names.MediaType.MediaType, Media.is_java_script}
 use Rattle.report.specs.Encode.{encode_list, encode_specifier, encode_jsdoc}
 use Rattle.report.{specs.Decode.modes, specs.Range.range_of, proofs.Modes.mode_numbers}
@@ -44,25 +45,41 @@ module _ (ticks : List ℕ) (q : ℕ) (h : q < length ticks) where
       let n : get_or ticks q 0 ≡ suc (get_or ticks q 0 - 1) = first_mode_lem (get_or ticks q 0) e in
       ap count_of (first_tick ticks q h ∙ ap (◌∷ drop (q + 1) ticks) n) ∙ sym (add-one (count_of (drop (q + 1) ticks)))
 
+-- none from the end on
+module _ (ticks : List ℕ) (q : ℕ) (h : length ticks ≤ q) where
+  pub count_end : count_of (drop q ticks) ≡ 0
+  unfolding count_of
+  count_end = rw (drop_of_length-le ticks h)
+
+  pub imports_end : (source : List ℕ) → flat_map encode_jsdoc (imports_from source q (drop q ticks)) ≡ []
+  unfolding imports_from flat_map
+  imports_end source = rw (drop_of_length-le ticks h)
+
 -- places without a tick are passed
-module _ (ticks : List ℕ) (q r : ℕ) (l : q ≤ r) (h : r ≤ length ticks) (none : (k : ℕ) → q ≤ k → k < r → get_or ticks k 0 ≡ 0) where
+module _ (ticks : List ℕ) (q r : ℕ) (p : Passing (λ k. get_or ticks k 0 ≡ 0) q (length ticks) r) where
   pub count_skip : count_of (drop q ticks) ≡ count_of (drop r ticks)
-  count_skip = carried_to (λ k. count_of (drop q ticks) ≡ count_of (drop k ticks)) q r l refl (λ k g n e. e ∙ count_next ticks k (omega arith) (none k g n))
+  count_skip =
+      carried_to (λ k. count_of (drop q ticks) ≡ count_of (drop k ticks)) q r p.from refl (λ k g n e. e ∙ count_next ticks k (omega arith) (p.each k g n))
 
   pub unticked_skip : (source : List ℕ) → imports_from source q (drop q ticks) ≡ imports_from source r (drop r ticks)
   unticked_skip source =
-      carried_to (λ k. imports_from source q (drop q ticks) ≡ imports_from source k (drop k ticks)) q r l refl
-      (λ k g n e. e ∙ unticked_next source ticks k (omega arith) (none k g n))
+      carried_to (λ k. imports_from source q (drop q ticks) ≡ imports_from source k (drop k ticks)) q r p.from refl
+      (λ k g n e. e ∙ unticked_next source ticks k (omega arith) (p.each k g n))
 
--- the bytes of an import whose quote was read
-pub encode_import : (source : List ℕ) (at number from to past : ℕ) → number ≤ 2 →
-    parse_quote (drop at source) ≡ ok (part source from to) (drop past source) → past ≤ length source
-    → encode_any encode_jsdoc (import_at source at (value_of modes number))
-    ≡ 1 ∷ (encode_specifier (record { text = part source from to; range = range_of source (record { start = at; end = past }) }) ++ (number ∷ []))
-unfolding import_at encode_jsdoc
-encode_import source at number from to past small e l =
-    let n : length source - length (drop past source) ≡ past = omega (arith, length-drop past source) in
-    rw (e, n, mode_numbers.forth number (omega arith))
+-- the bytes of an import, by what is read of its quote
+module _ (source : List ℕ) (at number : ℕ) where
+  pub encode_import : (quote : Part) → Spells source at quote_mark (parse_quote (drop at source)) (Some quote) → number ≤ 2
+      → encode_any encode_jsdoc (import_at source at (value_of modes number))
+      ≡ 1 ∷ (encode_specifier (record { text = part source quote.from quote.to; range = range_of source (record { start = at; end = quote.past }) }) ++ (number ∷ []))
+  unfolding import_at encode_jsdoc
+  encode_import quote read small =
+      let n : length source - length (drop quote.past source) ≡ quote.past = omega (arith, length-drop quote.past source, read.bounds) in
+      rw (← read.answer, n, mode_numbers.forth number (omega arith))
+
+-- at each tick an import is read
+pub all_read_lem : {source : List ℕ} {cs : List Comment} → Fit source cs → formed Utf8 0 source ≡ true
+    → length (imports_from source 0 (ticks_of source cs)) ≡ count_of (ticks_of source cs)
+all_read_lem {source} {cs} fit f = count_all source (ticks_of source cs) 0 (standings fit f)
 
 -- the bytes of all imports
 module _ (source : List ℕ) (cs : List Comment) (media : MediaType) where
@@ -70,8 +87,8 @@ module _ (source : List ℕ) (cs : List Comment) (media : MediaType) where
   unfolding jsdoc_imports encode_list flat_map
   encode_none h = rw h (append-nil (encode_number 0))
 
-  pub encode_all : Fit source cs → formed Utf8 0 source ≡ true → is_java_script media ≡ true
+  pub encode_all : is_java_script media ≡ true → length (imports_from source 0 (ticks_of source cs)) ≡ count_of (ticks_of source cs)
       → encode_list encode_jsdoc (jsdoc_imports media source cs)
       ≡ encode_number (count_of (ticks_of source cs)) ++ flat_map encode_jsdoc (imports_from source 0 (ticks_of source cs))
   unfolding jsdoc_imports encode_list
-  encode_all fit f h = rw (h, count_all source (ticks_of source cs) 0 (standings fit f))
+  encode_all h e = rw (h, e)

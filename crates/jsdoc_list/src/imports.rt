@@ -1,22 +1,19 @@
 // The JSDoc imports of all comments, by ticks over the source.
-ghost use Rattle.std.specs.Prelude.{◌≡◌, ℕ, ◌*◌, ◌≤◌, length, get_or, replicate};
+ghost use Rattle.std.specs.Prelude.{◌≡◌, ℕ, ◌≤◌, length, get_or, replicate};
 ghost use mathlib.Core.List.{flat_map};
 ghost use Rattle.laws.specs.code.Told.{Beside};
 ghost use Rattle.wire.specs.Fields.{value_of};
-ghost use Rattle.sheet.specs.code.Tables.{comments_in};
-ghost use Rattle.sheet.specs.Fit.{Fit};
 ghost use Rattle.sheet.specs.Lookups.{HoldsMarks};
 ghost use Rattle.report.specs.Encode.{encode_jsdoc, encode_list};
 ghost use Rattle.report.specs.Decode.{modes};
-ghost use Rattle.report.specs.Range.{IndexOf};
-ghost use Rattle.report.specs.Buffer.{wrote, buffer_as};
-ghost use Rattle.pragmas.specs.code.Held.{Commented};
+ghost use Rattle.report.specs.Buffer.{Wrote};
 ghost use Rattle.pragmas.specs.code.Views.{encode_any};
 ghost use Rattle.jsdoc_list.specs.Imports.{is_star_opened, ticked_by, ticks_of, ticks_in, count_of, import_at, imports_from, jsdoc_imports};
 
 use jsdoc::quote::quote_at;
-use report::writer::Pen;
-use sheet::comments::{Comment, comment_at};
+use report::writer::Writer;
+use sheet::commented::Comments;
+use sheet::comments::Comment;
 use sheet::fields::Span;
 use sheet::lookups::{body, body_span};
 use sheet::names::{MediaType, is_block, is_javascript};
@@ -32,6 +29,7 @@ pub fn is_star_opened(source: &[u8], c: Comment) -> bool
 }
 
 // Ticks the readings of a comment at its body.
+#[tactic(auto, using(crate::proofs::Ticking::ticked_part, sheet::proofs::Bodies::body_within), unfolding(sheet::specs::Lookups::body_span, crate::specs::Imports::ticked_by))]
 fn tick_comment(source: &[u8], c: Comment, ticks: &mut [u8])
     requires holds_marks { HoldsMarks c }
     requires end_in_bounds { c.span.end ≤ length source.now }
@@ -39,26 +37,27 @@ fn tick_comment(source: &[u8], c: Comment, ticks: &mut [u8])
     ensures { ticks.new ≡ ticked_by source.now c ticks.old }
 {
     if is_star_opened(source, c) {
-        let span = body_span(c);
-        let start = span.start;
-        let end = span.end;
+        let Span { start, end } = body_span(c);
         jsdoc::imports::tick_imports(&source[start..end], &mut ticks[start..end]);
     }
 }
 
 // Ticks each place of the source at which the place of a reading begins with 1 + the number of its mode; each other keeps its 0.
-fn tick_comments(source: &[u8], comments: &[u32], n: usize, ticks: &mut [u8])
-    requires n_in_bounds { 3 * n ≤ length comments.now }
-    requires fit { Fit source.now (comments_in comments.now n) }
-    requires ticks_value { ticks.old ≡ replicate (length source.now) 0 }
-    ensures { ticks.new ≡ ticks_of source.now (comments_in comments.now n) }
+#[tactic(auto, using(sheet::proofs::Marks::holds_marks_lem, crate::proofs::Ticking::tick_more, crate::proofs::Ticking::tick_none, crate::proofs::Ticking::ticks_small, crate::proofs::Turns::all_read_lem))]
+fn tick_comments(comments: &Comments, ticks: &mut [u8])
+    requires { ticks.old ≡ replicate (length comments.now.source) 0 }
+    ensures value { ticks.new ≡ ticks_of comments.now.source comments.now.comments }
+    ensures small { (q : ℕ) → get_or ticks.new q 0 ≤ 3 }
+    ensures all_read { length (imports_from comments.now.source 0 ticks.new) ≡ count_of ticks.new }
 {
-    for k in 0..n {
-        tick_comment(source, comment_at(comments, k), ticks);
+    let source = comments.source();
+    for k in 0..comments.len() {
+        tick_comment(source, comments.at(k), ticks);
     }
 }
 
 // How many places are ticked. The step is not one: a run of zeros is passed at once.
+#[tactic(auto, using(crate::proofs::Turns::count_next, crate::proofs::Turns::count_one_lem, crate::proofs::Turns::count_skip, crate::proofs::Turns::count_end))]
 fn count_ticks(ticks: &[u8]) -> usize
     ensures { result ≡ count_of ticks.now }
 {
@@ -76,76 +75,63 @@ fn count_ticks(ticks: &[u8]) -> usize
 }
 
 // Writes the import whose quote begins at `at`, with the mode of that number.
-fn put_import(
-    source: &[u8],
-    index: &[u32],
-    at: usize,
-    number: u8,
-    out: &mut [u8],
-    place: Pen,
-) -> Pen
-    requires index_of { IndexOf source.now index.now }
-    requires at_in_bounds { at ≤ length source.now }
+#[tactic(auto, using(report::proofs::Buffers::wrote_none), unfolding(crate::specs::Imports::import_at))]
+fn put_import(comments: &Comments, at: usize, number: u8, w: &mut Writer)
+    requires at_in_bounds { at ≤ length comments.now.source }
     requires number_bound { number ≤ 2 }
-    ensures { buffer_as out.new result
-        ≡ wrote (buffer_as out.old place) (encode_any encode_jsdoc (import_at source.now at (value_of modes number))) }
+    ensures { Wrote w.old w.new
+        (encode_any encode_jsdoc (import_at comments.now.source at (value_of modes number))) }
 {
+    let source = comments.source();
     let Some(quote) = quote_at(source, at) else {
-        return place;
+        return;
     };
     let span = Span {
         start: at,
         end: quote.past,
     };
-    let p = place.put(out, 1);
-    let p = p.put_specifier(out, &source[quote.from..quote.to], source, index, span);
-    p.put(out, number)
+    w.put(1);
+    w.put_specifier(&source[quote.from..quote.to], comments, span);
+    w.put(number);
 }
 
 // Writes the imports at the places that are ticked. The step is not one: a run of zeros is passed at once.
-fn put_imports(source: &[u8], index: &[u32], ticks: &[u8], out: &mut [u8], place: Pen) -> Pen
-    requires index_of { IndexOf source.now index.now }
-    requires ticks_len { length ticks.now ≡ length source.now }
+#[tactic(auto, using(crate::proofs::Turns::unticked_next, crate::proofs::Turns::unticked_skip, crate::proofs::Turns::ticked_next, crate::proofs::Turns::imports_end, report::proofs::Buffers::more_append, report::proofs::Buffers::more_nil))]
+fn put_imports(comments: &Comments, ticks: &[u8], w: &mut Writer)
+    requires ticks_len { length ticks.now ≡ length comments.now.source }
     requires by_index { (q : ℕ) → get_or ticks.now q 0 ≤ 3 }
-    ensures { buffer_as out.new result
-        ≡ wrote (buffer_as out.old place) (flat_map encode_jsdoc (imports_from source.now 0 ticks.now)) }
+    ensures { Wrote w.old w.new (flat_map encode_jsdoc (imports_from comments.now.source 0 ticks.now)) }
 {
-    let mut p = place;
     let mut q = 0;
     while q < ticks.len() {
         let tick = ticks[q];
         if tick == 0 {
             q = next_nonzero(ticks, q + 1);
         } else {
-            p = put_import(source, index, q, tick - 1, out, p);
+            put_import(comments, q, tick - 1, w);
             q += 1;
         }
     }
-    p
 }
 
 // Writes the JSDoc imports of a sheet of this media. `ticks` is lent to work in, comes cleared, and is left with the ticks.
+#[tactic(auto, using(report::proofs::Buffers::more_append, crate::proofs::Turns::encode_none, crate::proofs::Turns::encode_all))]
 pub fn analyze_jsdoc_imports(
     media: MediaType,
-    source: &[u8],
-    comments: &[u32],
-    n: usize,
-    index: &[u32],
+    comments: &Comments,
     ticks: &mut [u8],
-    out: &mut [u8],
-    place: Pen,
-) -> Pen
-    requires commented { Commented source.now comments.now n index.now }
-    requires ticks_value { ticks.old ≡ replicate (length source.now) 0 }
+    w: &mut Writer,
+)
+    requires { ticks.old ≡ replicate (length comments.now.source) 0 }
     ensures { Beside
-        (buffer_as out.new result
-        ≡ wrote (buffer_as out.old place) (encode_list encode_jsdoc (jsdoc_imports media source.now (comments_in comments.now n))))
-        (ticks.new ≡ ticks_in media source.now (comments_in comments.now n)) }
+        (Wrote w.old w.new (encode_list encode_jsdoc (jsdoc_imports media comments.now.source comments.now.comments)))
+        (ticks.new ≡ ticks_in media comments.now.source comments.now.comments) }
 {
     if is_javascript(media) {
-        tick_comments(source, comments, n, ticks);
-        let p = place.put_number(out, count_ticks(ticks));
-        return put_imports(source, index, ticks, out, p);
+        tick_comments(comments, ticks);
+        w.put_number(count_ticks(ticks));
+        put_imports(comments, ticks, w);
+    } else {
+        w.put_number(0);
     }
-    place.put_number(out, 0)
 }

@@ -1,21 +1,21 @@
 -- What the judge says of an accepted sheet is what the writers ask, and what demand 3 is shown from.
-use Rattle.laws.proofs.Prelude.{◌≡◌, refl, sym, ap, ◌∙◌, true, List, [], ◌∷◌, ℕ, ◌+◌, ◌/◌, ◌≤◌, ◌<◌, arith, ltb, length, ltb-true}
+use Rattle.laws.proofs.Prelude.{◌≡◌, refl, sym, ap, ◌∙◌, true, List, [], ◌∷◌, ℕ, ◌≤◌, ◌<◌, arith, ltb, length, ltb-true, take}
 use Rattle.laws.specs.Decoded.{Decoded, ok, no}
 use Rattle.laws.{specs.Codec.All, specs.Codec.IfThere, proofs.Decoding.refused, proofs.Lists.of_members}
-use Rattle.text.specs.{declared.utf8.Encoding.TheVariants.Utf8, Utf8.well_formed, Position.characters, Position.Indexed, Bytes.part}
+use Rattle.text.specs.{declared.utf8.Encoding.TheVariants.Utf8, Utf8.well_formed, Position.characters, Bytes.part}
 use Rattle.text.proofs.{Columns.counted, WellFormed.well_formed_iff}
 use Rattle.wire.specs.Refusals.{of_sheets, one_of}
-use Rattle.sheet.specs.Limits.{source_limit, comment_limit, group_limit, depth_limit, comment_numbers, group_numbers, groups_start, index_start, table_numbers}
-use Rattle.sheet.specs.code.Tables.{comments_part, groups_part, index_part}
-use Rattle.sheet.{specs.Fit.Fit, specs.Sheet.Sheet, specs.Sheet.accept, specs.Judge.judge, proofs.TableRows.rows_length, proofs.Reaches.walk_right}
+use Rattle.sheet.specs.Limits.{source_limit, depth_limit}
+use Rattle.sheet.specs.declared.{comments.CommentRow.CommentRow, groups.GroupRow.GroupRow}
+use Rattle.sheet.specs.{code.Commented.Commented, code.Lent.IndexOf, code.Lent.Lends, code.Lent.commented_by}
+use Rattle.sheet.{specs.Fit.Fit, specs.Sheet.Sheet, specs.Sheet.accept, specs.Judge.judge, proofs.Reaches.walk_right}
 use Rattle.sheet.specs.Walk.{Visit, start_of, visits}
 use Rattle.sheet_codec.{specs.Limits.FieldsFit, specs.SheetOf.SheetOf, proofs.Sheets.accepts_exactly, proofs.Quotations.strings_quoted}
 use Rattle.sheet_codec.proofs.Refusals.{passes, Decision, decided, cut_off_lem, judged_sheet, judged_refusal}
 use Rattle.sheet_check.specs.{declared.check.Parts.Parts, code.Accepts.Accepts}
-use Rattle.sheet_check.proofs.Lent.{part_length, renewed, part_renewed, front_kept, length_kept}
-use Rattle.report.specs.{Range.IndexOf, ModuleInfo.DependencyDescriptor, Encode.encode}
+use Rattle.report.specs.{ModuleInfo.DependencyDescriptor, Encode.encode}
 use Rattle.report.specs.Answer.{Outcome, outcome_as, refused_with, fitted}
-use Rattle.pragmas.{specs.Pragmas.types_at, specs.Present.Present, specs.code.Held.Held, proofs.Present.present, proofs.Present.types_present}
+use Rattle.pragmas.{specs.Pragmas.types_at, specs.Present.Present, proofs.Present.present, proofs.Present.types_present}
 use Rattle.pragmas.specs.Texts.{TypesShown, types_of, Texts}
 use Rattle.pragmas.proofs.Texts.{types_shown, texts}
 use Rattle.jsdoc_list.{specs.Demand.OnlyRight, proofs.ImportsRight.only_right}
@@ -23,7 +23,7 @@ use Rattle.dep.{specs.Collect.entry_of, proofs.EntryAttributes.attributes_right}
 use Rattle.dep.specs.InTurn.{InTurn, Worded, EntryOf}
 use Rattle.dep.proofs.Turns.{turn_member, turns_with, collect_turns}
 use Rattle.module_info.specs.Information.{module_info, default_info, answer_of}
-use Rattle.module_info.specs.code.Pieces.{PartsOf, RootOf, HeldBy, AcceptsIn}
+use Rattle.module_info.specs.code.Pieces.{commented, PartsOf}
 use Rattle.module_info.specs.{Empty.EmptyRight, Demands.OfAccepted, Demands.Demands}
 use Rattle.module_info.proofs.{Numbers.number_right, Empty.empty_right, Fine.Fine, Reports.entries_fine, Reports.report_right, Revised.unchanged}
 
@@ -40,7 +40,7 @@ pragmas_present : (t : Sheet) → Present t (module_info t)
 unfolding module_info
 pragmas_present t = present t (module_info t) refl refl refl refl refl
 
-module _ {s comments groups : List ℕ} {p : Parts} (a : Accepts s comments groups p) where
+module _ {s : List ℕ} {comments : List CommentRow} {groups : List GroupRow} {p : Parts} (a : Accepts s comments groups p) where
   meets : SheetOf s a.sheet
   meets = (accepts_exactly s a.sheet).0 a.accepted
 
@@ -56,24 +56,26 @@ module _ {s comments groups : List ℕ} {p : Parts} (a : Accepts s comments grou
   pub source_short : length (part s p.source_start p.source_end) ≤ source_limit
   source_short = rw a.source within.source.0
 
-  lent : comment_numbers ≤ length comments → group_numbers ≤ length groups → {index : List ℕ} → IndexOf (part s p.source_start p.source_end) index
-      → Held (part s p.source_start p.source_end) comments p.comments groups p.groups index
-  lent c g {index} indexed =
-      let n : p.comments ≤ comment_limit = rw (← a.comments, rows_length) at within.comments.0 in
-      let m : p.groups ≤ group_limit = rw (← a.groups, rows_length) at within.groups.0 in (
-        record { utf8 = rw a.source formed_source; short = source_short; room = omega arith; fit = rw (a.source, a.comments) fit; indexed = indexed },
-        record { room = omega arith; grouped = rw a.groups (rw (← a.comments, rows_length) at within.groups.1) },
-      )
+  -- what is lent
+  pub lent : {index : List ℕ} → IndexOf (part s p.source_start p.source_end) index
+      → Lends (commented_by s (part s p.source_start p.source_end) (take p.comments comments) (take p.groups groups)) index
+  lent {index} indexed = record {
+    utf8 = rw a.source formed_source;
+    short = source_short;
+    fit = rw (a.source, a.comments) fit;
+    grouped = rw (a.comments, a.groups) within.groups.1;
+    indexed = indexed;
+  }
 
   -- the parts are those of every sheet that the bytes are
   module _ {t : Sheet} (e : accept s ≡ ok t []) where
-    pub parts_of : PartsOf t (part s p.source_start p.source_end) comments groups p
-    parts_of =
-        rw (same_sheet e a.accepted)
-        (record { media = a.media; source_is = a.source; comments_are = a.comments; groups_are = a.groups; program = a.program })
+    pub commented_of : commented_by s (part s p.source_start p.source_end) (take p.comments comments) (take p.groups groups) ≡ commented s t
+    commented_of = rw (same_sheet e a.accepted, ← a.source, ← a.comments, ← a.groups)
 
-    pub root_of : RootOf t s p
-    root_of = rw (same_sheet e a.accepted) (record { root = a.root; count = a.entries; reaches = a.reaches })
+    pub parts_of : {c : Commented} → c ≡ commented s t → PartsOf t c.bytes c p
+    parts_of i =
+        rw (i, same_sheet e a.accepted)
+        (record { comments = refl; media = a.media; program = a.program; root = a.root; count = a.entries; reaches = a.reaches })
 
   -- the demands
   pub demanded : {size : ℕ} {outcome : Outcome} {buffer : List ℕ}
@@ -136,34 +138,6 @@ module _ {s comments groups : List ℕ} {p : Parts} (a : Accepts s comments grou
 
       shown : (P : Sheet → Type 0) → P a.sheet → OfAccepted s P
       shown P h t e = rw (same_sheet ((accepts_exactly s t).1 e) a.accepted) h
-
--- the index is written into the table, behind its comments and groups
-module _ {s : List ℕ} (table : List ℕ) {p : Parts} (room : table_numbers ≤ length table) (a : Accepts s (comments_part table) (groups_part table) p)
-    (index : List ℕ) (kept : length index ≡ length (index_part table)) where
-  pub indexed_in : Indexed characters (part s p.source_start p.source_end) index (length (part s p.source_start p.source_end) / 64 + 1)
-      → AcceptsIn s (renewed table index_start table_numbers index) p
-  indexed_in positions =
-      let short = source_short a in
-      record {
-        room = omega (arith, length_kept table index_start table_numbers (omega arith) room index kept);
-        accepts =
-            rw (
-              front_kept table index_start table_numbers (omega arith) room index kept 0 groups_start (omega arith) (omega arith),
-              front_kept table index_start table_numbers (omega arith) room index kept groups_start index_start (omega arith) (omega arith),
-            ) a;
-        indexed =
-            rw (part_renewed table index_start table_numbers (omega arith) room index kept)
-            (record { long = omega (arith, kept, part_length table index_start table_numbers (omega arith) room); positions = positions });
-      }
-
--- what is lent to the writers of its report
-pub held : {s tables : List ℕ} {p : Parts} → AcceptsIn s tables p → HeldBy (part s p.source_start p.source_end) tables p
-held {tables = tables} a =
-    let room = a.room in (
-      room,
-      lent a.accepts (omega (arith, part_length tables 0 groups_start (omega arith) (omega arith)))
-          (omega (arith, part_length tables groups_start index_start (omega arith) (omega arith))) a.indexed,
-    )
 
 -- a refusal fits a byte
 pub refusal_small : (s : List ℕ) {r : ℕ} → 0 < length s → accept s ≡ no r → r < 256

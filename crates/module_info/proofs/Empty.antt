@@ -1,6 +1,6 @@
 -- What no bytes get, and the information of the smallest sheet.
 use Rattle.std.specs.Prelude.{None}
-use Rattle.laws.proofs.Prelude.{◌≡◌, refl, false, [], flat_map, Option, ℕ, arith}
+use Rattle.laws.proofs.Prelude.{◌≡◌, refl, false, [], flat_map, ℕ, arith}
 use Rattle.laws.specs.Decoded.{ok}
 use Rattle.text.specs.{Utf8.formed, Position.is_boundary}
 use Rattle.wire.specs.Fields.{byte, below, numbered, flag, bytes}

@@ -6,7 +6,6 @@ pub mod Reports
 pub mod Empty
 pub mod Revised
 pub mod Accepted
-pub mod Cleared
 pub mod Notes
 pub mod Cases
 pub mod MapCases

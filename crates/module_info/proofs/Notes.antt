@@ -7,10 +7,12 @@ use Rattle.laws.{specs.Decoded.ok, specs.Decoded.no, proofs.Lists.flat_map_appen
 use Rattle.wire.specs.Refusals as refusals
 use Rattle.sheet.specs.{Sheet.Sheet, Sheet.accept, Judge.judge}
 use Rattle.sheet_codec.proofs.Refusals.{judged_sheet, judged_refusal}
-use Rattle.std.specs.Prelude.{Err}
+use Rattle.std.specs.Prelude.{Ok, Err}
+use Rattle.std.specs.Result.{is_err}
+use Rattle.std.proofs.lemmas.Bool.{false≢true}
 use Rattle.wire.specs.{declared.refusals.Refusal.Refusal, Refusals.number_of}
 use Rattle.report.specs.{ModuleInfo.ModuleInfo, Encode.encode}
-use Rattle.report.specs.Answer.{Answer, zeros, accepted, refused_with, fitted, outcome_as}
+use Rattle.report.specs.Answer.{Answer, zeros, accepted, refused_with, fitted, Outcome, outcome_as}
 use Rattle.pragmas.specs.Pragmas.{types_at}
 use Rattle.arguments.specs.Argument.{replaced_in}
 use Rattle.dep_entries.specs.{Entries.Noted, code.Notes.all_noted}
@@ -121,13 +123,15 @@ refused_ten size r buffer m e = by_room (leb (length (encode m)) size) e
     by_room false e = ap (λ (x : Answer). x.number) e
 
 -- the notes of a report that was accepted, and of one that was refused, whose notes were cleared
-pub accepted_notes : (size : ℕ) {notes : List ℕ} (l : List Noted) → notes ≡ all_noted (zeros size) l → notes ≡ notes_with size l 0
-accepted_notes size l e = e ∙ all_held size l
+pub accepted_notes : (size : ℕ) (o : Outcome) (buffer : List ℕ) {notes : List ℕ} (l : List Noted) → is_err o ≡ false → notes ≡ all_noted (zeros size) l
+    → notes ≡ notes_with size l (outcome_as o buffer).number
+accepted_notes size (Ok n) buffer l accepts e = e ∙ all_held size l
+accepted_notes size (Err r) buffer l accepts e = absurd (false≢true (sym accepts))
 
-pub refused_notes : (size room : ℕ) (r : Refusal) {notes : List ℕ} (buffer : List ℕ) (l : List Noted) (m : ModuleInfo) →
-    outcome_as (Err r) buffer ≡ fitted room (encode m) → notes ≡ zeros size
-    → notes ≡ notes_with size l (number_of r)
-refused_notes size room r buffer l m e cleared = rw (refused_ten room r buffer m e, none_held size) cleared
+pub refused_notes : (size room : ℕ) (o : Outcome) (buffer : List ℕ) {notes : List ℕ} (l : List Noted) (m : ModuleInfo) → is_err o ≡ true
+    → outcome_as o buffer ≡ fitted room (encode m) → notes ≡ zeros size → notes ≡ notes_with size l (outcome_as o buffer).number
+refused_notes size room (Ok n) buffer l m refuses e cleared = absurd (false≢true refuses)
+refused_notes size room (Err r) buffer l m refuses e cleared = rw (refused_ten room r buffer m e, none_held size) cleared
 
 -- notes of nothing stay cleared
 pub nothing_noted : (size : ℕ) {notes : List ℕ} (number : ℕ) → notes ≡ zeros size → notes ≡ notes_with size [] number

@@ -1,6 +1,6 @@
 -- A true revision, as the definitions compute: one letter of a comment is another, and so is the entry from it; the entry from the next comment stays.
 use Rattle.std.specs.Prelude.{None}
-use Rattle.laws.proofs.Prelude.{◌≡◌, refl, false, inl, inr, List, [], ◌∷◌, ◌++◌, Option, ℕ, code, arith}
+use Rattle.laws.proofs.Prelude.{◌≡◌, refl, false, inl, inr, List, [], ◌∷◌, ◌++◌, ℕ, code, arith}
 use Rattle.laws.specs.{Decoded.ok, Ascii.ascii}
 use Rattle.text.specs.Utf8.{admits, length_by, char_length, code_by, char_at, formed}
 use Rattle.text.specs.{Ranges.in_ranges, Bytes.begins}

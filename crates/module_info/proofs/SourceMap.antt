@@ -6,8 +6,8 @@ use Rattle.text.{specs.declared.utf8.Encoding.TheVariants.Utf8, specs.Position.c
 use Rattle.text.proofs.WellFormed.{well_formed_iff}
 use Rattle.wire.specs.Refusals.{of_sheets, one_of}
 use Rattle.analysis.specs.Place.{text_of}
-use Rattle.sheet.specs.{declared.groups.Group.Group, declared.comments.Comment.Comment, Sheet.Sheet, Sheet.accept, Judge.judge, code.Tables.comments_in, code.Tables.groups_in}
-use Rattle.sheet.{specs.code.Views.program_of, proofs.Bodies.placed_body}
+use Rattle.sheet.specs.{declared.groups.Group.Group, declared.comments.Comment.Comment, Sheet.Sheet, Sheet.accept, Judge.judge, code.Commented.Commented}
+use Rattle.sheet.proofs.Bodies.{placed_body}
 use Rattle.sheet.specs.Lookups.{end_group, body_span, body}
 use Rattle.sheet_codec.{specs.Limits.FieldsFit, proofs.Sheets.accepts_exactly}
 use Rattle.sheet_codec.proofs.Refusals.{Decision, decided, judged_sheet, judged_refusal}
@@ -98,9 +98,7 @@ module _ (s : List ℕ) where
         (rw (size, place, ← in_sheet, ← in_source), (omega arith, omega arith))
 
 -- the last reading in the trailing group at the program's end is that of the sheet
-pub map_read : {t : Sheet} {source comments groups : List ℕ} {p : Parts} → PartsOf t source comments groups p → {f : Option Group} (r : Option (Comment × Capture))
-    → f ≡ end_group (program_of p.program) (groups_in groups p.groups)
-    → r ≡ last_of (taken_by StandardSourceMap source) (in_group (comments_in comments p.comments) f) → read_as source r ≡ standard_map t
+pub map_read : {t : Sheet} {s : List ℕ} {c : Commented} {p : Parts} → PartsOf t s c p → {f : Option Group} (r : Option (Comment × Capture))
+    → f ≡ end_group p.program c.groups → r ≡ last_of (taken_by StandardSourceMap c.source) (in_group c.comments f) → read_as c.source r ≡ standard_map t
 unfolding end_comments read_standard standard_map_in
-map_read {source = source} o r found last =
-    rw (← o.source_is, ← o.comments_are, ← o.groups_are, ← o.program, ← found) (read_counted StandardSourceMap source r Last _ last)
+map_read {c = c} o r found last = read_counted StandardSourceMap c.source r Last _ last ∙ rw (found, o.comments, o.program)

@@ -8,191 +8,104 @@ ghost use Rattle.std.specs.Prelude.{◌≡◌, List, [], ℕ, length, replicate}
 ghost use Rattle.laws.specs.Decoded.{ok};
 ghost use Rattle.laws.specs.code.Told.{Beside};
 ghost use Rattle.sheet.specs.Sheet.{Sheet, accept};
-ghost use Rattle.report.specs.Buffer.{wrote, buffer_as};
+ghost use Rattle.report.specs.Buffer.{Wrote};
 ghost use Rattle.report.specs.Encode.{encode};
 ghost use Rattle.report.specs.Answer.{zeros, Outcome, outcome_as, fitted};
 ghost use Rattle.dep_entries.specs.code.Notes.{all_noted};
 ghost use Rattle.module_info.specs.Information.{module_info, default_info, packed};
 ghost use Rattle.module_info.specs.Replaced.{noted, notes_with, NotesRight};
-ghost use Rattle.module_info.specs.code.Pieces.{dependency_bytes, head_bytes, rest_bytes, PartsIn, RootOf, HeldBy, AcceptsIn};
+ghost use Rattle.module_info.specs.code.Pieces.{dependency_bytes, head_bytes, rest_bytes, commented, PartsOf, AcceptsIn};
 ghost use Rattle.module_info.specs.Demands.{Demands};
 
 use self::judge::judge;
 use dep::walk::analyze_program_dependencies;
-use dep_entries::Counts;
+use dep_entries::Items;
 use jsdoc_list::imports::analyze_jsdoc_imports;
 use pragmas::readings::Rule;
 use pragmas::references::analyze_ts_references;
 use pragmas::{analyze_first, analyze_source_map_url};
-use report::writer::{Outcome, Pen, finish, refuse_all};
-use sheet::limits::{GROUPS_START, INDEX_START, SOURCE_LIMIT, TABLE_NUMBERS};
-use sheet::lookups::{end_group, head_group};
+use report::writer::{Outcome, Writer, refuse_all};
+use sheet::commented::Comments;
+use sheet::limits::SOURCE_LIMIT;
+use sheet::tables::Tables;
 use sheet_check::check::Parts;
 use wire::Cursor;
 
-// The script flag and the dependencies, with their rows in the notes.
-fn put_dependencies(
-    sheet: &[u8],
-    source: &[u8],
-    parts: Parts,
-    tables: &[u32; TABLE_NUMBERS],
-    out: &mut [u8],
-    notes: &mut [usize],
-    place: Pen,
-) -> Pen
-    requires { HeldBy source.now tables.now parts }
-    ensures { (t : Sheet) → PartsIn t source.now tables.now parts → RootOf t sheet.now parts
-        → (buffer_as out.new result ≡ wrote (buffer_as out.old place) (dependency_bytes t))
-        × (notes.new ≡ all_noted notes.old (noted t)) }
+// The comments of an accepted sheet.
+#[tactic(auto, using(crate::proofs::Accepted::commented_of))]
+pub fn comments_of<'a>(sheet: &'a [u8], parts: Parts, tables: &'a Tables) -> Comments<'a>
+    requires { AcceptsIn sheet.now tables.now parts }
+    ensures { (t : Sheet) → accept sheet.now ≡ ok t [] → result ≡ commented sheet.now t }
 {
-    let counts = Counts {
-        comments: parts.comments,
-        groups: parts.groups,
-    };
-    let root = Cursor { at: parts.root };
-    let program = parts.program;
-    let p = place.put_flag(out, program.script);
-    analyze_program_dependencies(
-        sheet,
-        source,
-        root,
-        parts.entries,
-        parts.reach,
-        tables,
-        counts,
-        out,
-        notes,
-        p,
+    let start = parts.source_start;
+    let end = parts.source_end;
+    let source = &sheet[start..end];
+    let bytes = sheet;
+    Comments::new(
+        sheet::Sheet { bytes, source },
+        &tables.comments[..parts.comments],
+        &tables.groups[..parts.groups],
+        &tables.index,
     )
 }
 
-// What the head group gives: references, self types and both JSX sources.
-fn put_head(source: &[u8], parts: Parts, tables: &[u32], out: &mut [u8], place: Pen) -> Pen
-    requires { HeldBy source.now tables.now parts }
-    ensures { (t : Sheet) → PartsIn t source.now tables.now parts
-        → buffer_as out.new result ≡ wrote (buffer_as out.old place) (head_bytes t) }
+// The script flag and the dependencies, with their rows in the notes.
+fn put_dependencies(comments: &Comments, parts: Parts, w: &mut Writer, notes: &mut [usize])
+    ensures { (t : Sheet) → PartsOf t comments.now.bytes comments.now parts
+        → Wrote w.old w.new (dependency_bytes t) × (notes.new ≡ all_noted notes.old (noted t)) }
 {
-    let comments = &tables[0..GROUPS_START];
-    let groups = &tables[GROUPS_START..INDEX_START];
-    let index = &tables[INDEX_START..TABLE_NUMBERS];
-    let n = parts.comments;
+    let root = Cursor { at: parts.root };
+    w.put_flag(parts.program.script);
+    let mut items = Items { writer: w, notes };
+    analyze_program_dependencies(comments, root, parts.entries, parts.reach, &mut items);
+}
+
+// What the head group gives: references, self types and both JSX sources.
+fn put_head(comments: &Comments, parts: Parts, w: &mut Writer)
+    ensures { Wrote w.old w.new (head_bytes parts.media parts.program comments.now) }
+{
     let media = parts.media;
-    let head = head_group(groups, parts.groups, parts.program);
-    let p = analyze_ts_references(source, comments, n, index, head, out, place);
-    let own = Rule::TsSelfTypes;
-    let p = analyze_first(own, media, source, comments, n, index, head, out, p);
-    let jsx = Rule::JsxImportSource;
-    let p = analyze_first(jsx, media, source, comments, n, index, head, out, p);
-    let jsx_types = Rule::JsxImportSourceTypes;
-    analyze_first(jsx_types, media, source, comments, n, index, head, out, p)
+    let head = comments.head_group(parts.program);
+    analyze_ts_references(comments, head, w);
+    analyze_first(Rule::TsSelfTypes, media, comments, head, w);
+    analyze_first(Rule::JsxImportSource, media, comments, head, w);
+    analyze_first(Rule::JsxImportSourceTypes, media, comments, head, w);
 }
 
 // The JSDoc imports and the source map. `ticks` is lent to work in, and comes cleared. Where they are too few, there are more here: ticks for the
 // longest source take longer to clear than many a sheet takes. The compiler inlines no function that calls itself, so these are not on the stack
 // while the tree is walked.
-fn put_rest(
-    source: &[u8],
-    parts: Parts,
-    tables: &[u32],
-    ticks: &mut [u8],
-    out: &mut [u8],
-    place: Pen,
-) -> Pen
-    requires ticks_value { ticks.old ≡ replicate (length ticks.old) 0 }
-    requires held_by { HeldBy source.now tables.now parts }
-    ensures { (t : Sheet) → PartsIn t source.now tables.now parts
-        → buffer_as out.new result ≡ wrote (buffer_as out.old place) (rest_bytes t) }
+#[tactic(auto, using(report::proofs::Buffers::more_append), unfolding(crate::specs::code::Pieces::rest_bytes, pragmas::specs::Pragmas::last_by))]
+fn put_rest(comments: &Comments, parts: Parts, ticks: &mut [u8], w: &mut Writer)
+    requires { ticks.old ≡ replicate (length ticks.old) 0 }
+    ensures { Wrote w.old w.new (rest_bytes parts.media parts.program comments.now) }
 {
-    let n = parts.comments;
-    let media = parts.media;
-    let long = source.len();
+    let long = comments.source().len();
     if ticks.len() < long {
         let mut more = [0u8; SOURCE_LIMIT];
-        return put_rest(source, parts, tables, &mut more, out, place);
+        return put_rest(comments, parts, &mut more, w);
     }
-    let comments = &tables[0..GROUPS_START];
-    let groups = &tables[GROUPS_START..INDEX_START];
-    let index = &tables[INDEX_START..TABLE_NUMBERS];
-    let p = analyze_jsdoc_imports(
-        media,
-        source,
-        comments,
-        n,
-        index,
-        &mut ticks[0..long],
-        out,
-        place,
-    );
-    let end = end_group(groups, parts.groups, parts.program);
-    analyze_source_map_url(source, comments, n, index, end, out, p)
+    analyze_jsdoc_imports(parts.media, comments, &mut ticks[0..long], w);
+    let end = comments.end_group(parts.program);
+    analyze_source_map_url(comments, end, w);
 }
 
-// The parts of the report of an accepted sheet, one after the other. The notes take a row for each dependency.
-fn put_noted_report(
-    sheet: &[u8],
-    parts: Parts,
-    tables: &[u32; TABLE_NUMBERS],
-    out: &mut [u8],
-    notes: &mut [usize],
-    place: Pen,
-) -> Pen
-    requires { AcceptsIn sheet.now tables.now parts }
-    ensures { (t : Sheet) → accept sheet.now ≡ ok t []
-        → (buffer_as out.new result ≡ wrote (buffer_as out.old place) (encode (module_info t)))
-        × (notes.new ≡ all_noted notes.old (noted t)) }
+// The parts of the report of a sheet, one after the other. The notes take a row for each dependency.
+fn put_noted_report(comments: &Comments, parts: Parts, w: &mut Writer, notes: &mut [usize])
+    ensures { (t : Sheet) → PartsOf t comments.now.bytes comments.now parts
+        → Wrote w.old w.new (encode (module_info t)) × (notes.new ≡ all_noted notes.old (noted t)) }
 {
-    let start = parts.source_start;
-    let end = parts.source_end;
-    let source = &sheet[start..end];
-    let p = put_dependencies(sheet, source, parts, tables, out, notes, place);
-    let p = put_head(source, parts, tables, out, p);
-    if source.len() <= 4096 {
-        let mut ticks = [0u8; 4096];
-        return put_rest(source, parts, tables, &mut ticks, out, p);
-    }
-    // more are made there
-    let mut few = [0u8; 1];
-    put_rest(source, parts, tables, &mut few, out, p)
-}
-
-// The report alone: there is no room for notes.
-fn put_report(
-    sheet: &[u8],
-    parts: Parts,
-    tables: &[u32; TABLE_NUMBERS],
-    out: &mut [u8],
-    place: Pen,
-) -> Pen
-    requires { AcceptsIn sheet.now tables.now parts }
-    ensures { (t : Sheet) → accept sheet.now ≡ ok t []
-        → buffer_as out.new result ≡ wrote (buffer_as out.old place) (encode (module_info t)) }
-{
-    let mut none = [0usize; 0];
-    put_noted_report(sheet, parts, tables, out, &mut none, place)
-}
-
-// The report of an accepted sheet: the buffer goes into a writer, and is held there to the end.
-fn write_report(
-    sheet: &[u8],
-    parts: Parts,
-    tables: &[u32; TABLE_NUMBERS],
-    buffer: &mut [u8],
-) -> Outcome
-    requires { AcceptsIn sheet.now tables.now parts }
-    ensures { (t : Sheet) → accept sheet.now ≡ ok t []
-        → outcome_as result buffer.new ≡ fitted (length buffer.old) (encode (module_info t)) }
-{
-    let mut w = report::lent::new(buffer);
-    let start = w.place;
-    w.place = put_report(sheet, parts, tables, &mut *w.out, start);
-    w.finish()
+    put_dependencies(comments, parts, w, notes);
+    put_head(comments, parts, w);
+    let mut ticks = [0u8; 4096];
+    put_rest(comments, parts, &mut ticks, w);
 }
 
 // The report of an accepted sheet with its notes, which come cleared and are cleared where the report is refused.
 pub fn write_noted_report(
     sheet: &[u8],
     parts: Parts,
-    tables: &[u32; TABLE_NUMBERS],
+    tables: &Tables,
     buffer: &mut [u8],
     notes: &mut [usize],
 ) -> Outcome
@@ -202,32 +115,40 @@ pub fn write_noted_report(
         → (outcome_as result buffer.new ≡ fitted (length buffer.old) (encode (module_info t)))
         × (notes.new ≡ notes_with (length notes.old) (noted t) (outcome_as result buffer.new).number) }
 {
-    let start = Pen { at: 0 };
-    let place = put_noted_report(sheet, parts, tables, buffer, notes, start);
-    match finish(buffer, place) {
-        Ok(n) => Ok(n),
-        Err(refusal) => {
-            notes.fill(0);
-            Err(refusal)
-        }
+    let comments = comments_of(sheet, parts, tables);
+    let mut w = Writer::new(buffer);
+    put_noted_report(&comments, parts, &mut w, notes);
+    let outcome = w.finish();
+    if outcome.is_err() {
+        notes.fill(0);
     }
+    outcome
+}
+
+// The report of an accepted sheet.
+fn write_report(sheet: &[u8], parts: Parts, tables: &Tables, buffer: &mut [u8]) -> Outcome
+    requires { AcceptsIn sheet.now tables.now parts }
+    ensures { (t : Sheet) → accept sheet.now ≡ ok t []
+        → outcome_as result buffer.new ≡ fitted (length buffer.old) (encode (module_info t)) }
+{
+    let mut none = [0usize; 0];
+    write_noted_report(sheet, parts, tables, buffer, &mut none)
 }
 
 // The report of the default information: eight zero bytes.
 pub fn write_default(buffer: &mut [u8]) -> Outcome
     ensures { outcome_as result buffer.new ≡ fitted (length buffer.old) (encode default_info) }
 {
-    let bytes = [0u8; 8];
-    let start = Pen { at: 0 };
-    let place = start.put_bytes(buffer, &bytes);
-    finish(buffer, place)
+    let mut w = Writer::new(buffer);
+    w.put_bytes(&[0; 8]);
+    w.finish()
 }
 
 // The report of a sheet, or the first refusal that it meets; of no bytes the default report.
 pub fn module_info(sheet: &[u8], buffer: &mut [u8]) -> Outcome
     ensures { Demands sheet.now (length buffer.old) result buffer.new }
 {
-    let mut tables = [0u32; TABLE_NUMBERS];
+    let mut tables = Tables::new();
     match judge(sheet, &mut tables) {
         Ok(None) => write_default(buffer),
         Ok(Some(parts)) => write_report(sheet, parts, &tables, buffer),
@@ -241,7 +162,7 @@ pub fn module_info_with_replaced(sheet: &[u8], buffer: &mut [u8], notes: &mut [u
     ensures { Beside (Demands sheet.now (length buffer.old) result buffer.new)
         (NotesRight sheet.now (length notes.old) (outcome_as result buffer.new).number notes.new) }
 {
-    let mut tables = [0u32; TABLE_NUMBERS];
+    let mut tables = Tables::new();
     notes.fill(0);
     match judge(sheet, &mut tables) {
         Ok(None) => write_default(buffer),

@@ -3,21 +3,22 @@ ghost use Rattle.std.specs.Prelude.{◌≡◌, [], ◌+◌, ◌<◌, ◌^◌, le
 ghost use Rattle.laws.specs.Decoded.{ok};
 ghost use Rattle.laws.specs.code.Told.{Bounded};
 ghost use Rattle.sheet.specs.Sheet.{Sheet, accept};
-ghost use Rattle.report.specs.Range.{IndexOf};
 ghost use Rattle.pragmas.specs.SourceMap.{standard_map};
 ghost use Rattle.pragmas.specs.code.Views.{ReadIn};
 ghost use Rattle.module_info.specs.code.Pieces.{AcceptsIn};
 ghost use Rattle.module_info.specs.code.Located.{located};
 ghost use Rattle.module_info.specs.SourceMap.{given, MapOutcome, map_of, map_as, TextInside, SourceMapRight, map_number, map_places};
 
+use super::comments_of;
 use super::judge::judge;
 use analysis::Capture;
 use pragmas::readings::{Counts, Rule, comment_source_to_span, find_reading};
+use sheet::commented::Comments;
 use sheet::comments::Comment;
-use sheet::limits::{GROUPS_START, INDEX_START, TABLE_NUMBERS};
-use sheet::lookups::{body_span, end_group};
+use sheet::lookups::body_span;
+use sheet::tables::Tables;
 use sheet_check::check::Parts;
-use text::position::{Position, indexed_position};
+use text::position::Position;
 use wire::refusals::Refusal;
 
 // From which byte of the sheet to which the specifier stands, and its positions in the source.
@@ -33,57 +34,45 @@ pub struct SourceMap {
 pub type MapOutcome = Result<Option<SourceMap>, Refusal>;
 
 // Where a reading of the source stands in the sheet, whose source begins at `base`.
+#[tactic(auto, using(sheet::proofs::Marks::holds_marks_lem, sheet::proofs::Bodies::placed_body, pragmas::proofs::Captures::capture_within))]
 fn locate(
-    source: &[u8],
-    index: &[u32],
+    comments: &Comments,
     base: usize,
     reading: Option<(Comment, Capture)>,
 ) -> Option<SourceMap>
-    requires index_of { IndexOf source.now index.now × ReadIn source.now reading }
-    requires source_bound { base + length source.now < 2 ^ 64 }
-    ensures { result ≡ located source.now base reading }
+    requires read_in { ReadIn comments.now.source reading }
+    requires source_bound { base + length comments.now.source < 2 ^ 64 }
+    ensures { result ≡ located comments.now.source base reading }
 {
     let (c, found) = reading?;
-    let span = comment_source_to_span(c, found);
     let body = base + body_span(c).start;
+    let (start, end) = comments.positions(comment_source_to_span(c, found));
     Some(SourceMap {
         from: body + found.from,
         to: body + found.to,
-        start: indexed_position(source, index, span.start),
-        end: indexed_position(source, index, span.end),
+        start,
+        end,
     })
 }
 
 // The source map of an accepted sheet.
-fn read_source_map(sheet: &[u8], parts: Parts, tables: &[u32]) -> Option<SourceMap>
+fn read_source_map(sheet: &[u8], parts: Parts, tables: &Tables) -> Option<SourceMap>
     requires { AcceptsIn sheet.now tables.now parts }
     ensures { Bounded
         ((t : Sheet) → accept sheet.now ≡ ok t [] → map_of sheet.now result ≡ standard_map t)
         (TextInside sheet.now result) }
 {
-    let start = parts.source_start;
-    let end = parts.source_end;
-    let source = &sheet[start..end];
-    let comments = &tables[0..GROUPS_START];
-    let groups = &tables[GROUPS_START..INDEX_START];
-    let index = &tables[INDEX_START..TABLE_NUMBERS];
-    let group = end_group(groups, parts.groups, parts.program);
-    let reading = find_reading(
-        source,
-        comments,
-        parts.comments,
-        group,
-        Counts::Last,
-        Rule::StandardSourceMap,
-    );
-    locate(source, index, start, reading)
+    let comments = comments_of(sheet, parts, tables);
+    let group = comments.end_group(parts.program);
+    let reading = find_reading(&comments, group, Counts::Last, Rule::StandardSourceMap);
+    locate(&comments, parts.source_start, reading)
 }
 
 // The source map of a sheet by ECMA-426, or the first refusal that it meets; of no bytes none.
 pub fn source_map(sheet: &[u8]) -> MapOutcome
     ensures { SourceMapRight sheet.now result }
 {
-    let mut tables = [0u32; TABLE_NUMBERS];
+    let mut tables = Tables::new();
     let Some(parts) = judge(sheet, &mut tables)? else {
         return Ok(None);
     };

@@ -1,71 +1,67 @@
 // Prints whether the delivery on standard input is in order.
 #![tactic(auto)]
 
-ghost use Rattle.std.specs.Prelude.{◌≡◌, [], ◌++◌, ◌+◌, ◌*◌, ◌≤◌, length, take};
+ghost use Rattle.std.specs.Prelude.{◌≡◌, ◌++◌, ◌+◌, ◌*◌, ◌≤◌, length, take};
 ghost use Rattle.laws.specs.code.Told.{Bounded};
-ghost use Rattle.report.specs.Buffer.{holds, wrote, buffer_as};
+ghost use Rattle.report.specs.Buffer.{Wrote};
 ghost use Rattle.citation.specs.Citation.{decimal};
 ghost use Rattle.wire.specs.Refusals.{number_of};
 ghost use Rattle.delivery.specs.Order.{not_in_order, refused, order_of};
 ghost use Rattle.order.specs.Printed.{work_room, line_room, printed_answer, printed_order};
 
-use citation::cite::written;
 use citation::lines::{put_digits, put_text};
 use delivery::check::DELIVERY_LIMIT;
 use delivery::judge::judge;
 use input::read_input;
-use report::writer::Pen;
+use report::writer::Writer;
 use std::io;
 use std::io::Write;
 use wire::refusals::Refusal;
 
 // Writes a word and a number.
-fn put_counted(place: Pen, line: &mut [u8], word: &[u8], n: usize) -> Pen
-    ensures { buffer_as line.new result ≡ wrote (buffer_as line.old place) (word.now ++ decimal n) }
+#[tactic(auto, using(report::proofs::Buffers::more_append))]
+fn put_counted(word: &[u8], n: usize, w: &mut Writer)
+    ensures { Wrote w.old w.new (word.now ++ decimal n) }
 {
-    let p = place.put_bytes(line, word);
-    put_digits(p, line, 20, n)
+    w.put_bytes(word);
+    put_digits(20, n, w);
 }
 
 // Writes `module I entry J NAME`.
-fn put_late(line: &mut [u8], index: usize, entry: usize, specifier: &[u8]) -> Pen
-    ensures { buffer_as line.new result
-        ≡ wrote (holds (length line.old) []) (printed_answer (not_in_order index entry specifier.now)) }
+fn put_late(index: usize, entry: usize, specifier: &[u8], w: &mut Writer)
+    ensures { Wrote w.old w.new (printed_answer (not_in_order index entry specifier.now)) }
 {
-    let start = Pen { at: 0 };
-    let p = put_counted(start, line, b"module ", index);
-    let p = put_counted(p, line, b" entry ", entry);
-    let p = p.put(line, b' ');
-    let p = put_text(p, line, specifier);
-    p.put(line, b'\n')
+    put_counted(b"module ", index, w);
+    put_counted(b" entry ", entry, w);
+    w.put(b' ');
+    put_text(specifier, w);
+    w.put(b'\n');
 }
 
 // Writes `refused N module I`.
-fn put_refused(line: &mut [u8], refusal: Refusal, index: usize) -> Pen
-    ensures { buffer_as line.new result
-        ≡ wrote (holds (length line.old) []) (printed_answer (refused (number_of refusal) index)) }
+fn put_refused(refusal: Refusal, index: usize, w: &mut Writer)
+    ensures { Wrote w.old w.new (printed_answer (refused (number_of refusal) index)) }
 {
-    let start = Pen { at: 0 };
-    let p = put_counted(start, line, b"refused ", usize::from(refusal.number()));
-    let p = put_counted(p, line, b" module ", index);
-    p.put(line, b'\n')
+    put_counted(b"refused ", usize::from(refusal.number()), w);
+    put_counted(b" module ", index, w);
+    w.put(b'\n');
 }
 
 // Writes the line for a delivery.
-fn put_order(delivery: &[u8], work: &mut [u8], line: &mut [u8]) -> Pen
+#[tactic(auto, using(crate::proofs::Shown::answer_short), unfolding(crate::specs::Printed::printed_answer))]
+fn put_order(delivery: &[u8], work: &mut [u8], w: &mut Writer)
     ensures { Bounded
-        (buffer_as line.new result
-        ≡ wrote (holds (length line.old) []) (printed_answer (order_of (length work.old) delivery.now)))
+        (Wrote w.old w.new (printed_answer (order_of (length work.old) delivery.now)))
         (length (printed_answer (order_of (length work.old) delivery.now)) ≤ 4 * length work.old + 64) }
 {
     match judge(delivery, work) {
-        Ok(None) => (Pen { at: 0 }).put_bytes(line, b"in order\n"),
+        Ok(None) => w.put_bytes(b"in order\n"),
         Ok(Some(first)) => {
-            let from = first.late.specifier.from;
-            let to = first.late.specifier.to;
-            put_late(line, first.module, first.late.entry, &work[from..to])
+            let specifier = first.late.specifier;
+            let name = &work[specifier.from..specifier.to];
+            put_late(first.module, first.late.entry, name, w);
         }
-        Err(refused) => put_refused(line, refused.refusal, refused.module),
+        Err(refused) => put_refused(refused.refusal, refused.module, w),
     }
 }
 
@@ -77,8 +73,9 @@ fn print_order(delivery: &[u8], work: &mut [u8], line: &mut [u8]) -> usize
         ((result ≡ length (printed_order delivery.now)) × (take result line.new ≡ printed_order delivery.now))
         (result ≤ length line.new) }
 {
-    let place = put_order(delivery, work, line);
-    written(line, place)
+    let mut w = Writer::new(line);
+    put_order(delivery, work, &mut w);
+    w.written()
 }
 
 // Room for the line of every delivery.

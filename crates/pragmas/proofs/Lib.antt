@@ -3,7 +3,6 @@ pub mod Both
 pub mod Taken
 pub mod Written
 pub mod Captures
-pub mod Reached
 pub mod Present
 pub mod PathFirst
 pub mod Texts

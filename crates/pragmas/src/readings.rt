@@ -1,26 +1,26 @@
 // The comments that a rule reads, and what it captures there.
-ghost use Rattle.std.specs.Prelude.{◌≡◌, ◌-◌, ◌*◌, ◌≤◌, length};
+ghost use Rattle.std.specs.Prelude.{◌≡◌, ◌-◌, ◌≤◌, length, slice_range};
+ghost use Rattle.laws.specs.Codec.{IfThere};
 ghost use Rattle.laws.specs.code.Told.{Bounded};
 ghost use Rattle.wire.specs.Optional.{encode_optional};
 ghost use Rattle.analysis.specs.Place.{Inside, FoundWithin};
-ghost use Rattle.sheet.specs.code.Tables.{comments_in};
-ghost use Rattle.sheet.specs.Fit.{Placed, Fit};
+ghost use Rattle.sheet.specs.Fit.{Placed};
 ghost use Rattle.sheet.specs.Lookups.{HoldsMarks, body_span};
+ghost use Rattle.sheet.specs.code.Lent.{Reached};
 ghost use Rattle.report.specs.Encode.{encode_specifier};
-ghost use Rattle.report.specs.Range.{IndexOf};
-ghost use Rattle.report.specs.Buffer.{wrote, buffer_as};
-ghost use Rattle.pragmas.specs.code.Held.{Reached};
+ghost use Rattle.report.specs.Buffer.{Wrote};
 ghost use Rattle.pragmas.specs.Readings.{place_in, specifier_in, first_of};
-ghost use Rattle.pragmas.specs.Pragmas.{in_group, given_to};
-ghost use Rattle.pragmas.specs.code.Views.{asked, find_rule, taken_by, counted, read_as, ReadIn, CaptureIn, comments_from};
+ghost use Rattle.pragmas.specs.Pragmas.{in_group, given_to, last_in};
+ghost use Rattle.pragmas.specs.code.Views.{asked, find_rule, taken_by, counted, read_as, ReadIn, CaptureIn};
 
 use analysis::{
     Capture, find_deno_types, find_jsx_import_source, find_jsx_import_source_types,
     find_source_mapping_url, find_ts_self_types, find_ts_types, place_of, specifier,
 };
 use ecma426::find_source_map;
-use report::writer::Pen;
-use sheet::comments::{Comment, comment_at};
+use report::writer::Writer;
+use sheet::commented::Comments;
+use sheet::comments::Comment;
 use sheet::fields::Span;
 use sheet::groups::Group;
 use sheet::lookups::{body, body_span};
@@ -100,77 +100,77 @@ pub fn read(source: &[u8], c: Comment, rule: Rule) -> RuleRead
     None
 }
 
-// The reading that counts among the comments of a table from one row to another, sought from the start or from the end: one loop for both, since
-// a range and its `rev()` are two types, and would need two loops.
+// The reading that counts among the comments from one index to another, sought from the start or from the end: one loop for both, since a range and
+// its `rev()` are two types, and would need two loops.
 fn reading_between(
-    source: &[u8],
-    comments: &[u32],
-    n: usize,
+    comments: &Comments,
     start: usize,
     end: usize,
     counts: Counts,
     rule: Rule,
 ) -> RuleRead
-    requires n_in_bounds { (3 * n ≤ length comments.now) × (start ≤ end) × (end ≤ n) }
-    requires fit { Fit source.now (comments_in comments.now n) }
+    requires { (start ≤ end) × (end ≤ length comments.now.comments) }
     ensures { Bounded
-        (result ≡ counted counts (taken_by rule source.now) (comments_from comments.now start end))
-        (ReadIn source.now result) }
+        (result ≡ counted counts (taken_by rule comments.now.source) (slice_range comments.now.comments start end))
+        (ReadIn comments.now.source result) }
 {
     for passed in 0..end - start {
         let k = match counts {
             Counts::First => start + passed,
             Counts::Last => end - 1 - passed,
         };
-        let reading = read(source, comment_at(comments, k), rule);
-        if reading.is_some() {
-            return reading;
+        let c = comments.at(k);
+        if let Some(taken) = read(comments.source(), c, rule) {
+            return Some(taken);
         }
     }
     None
 }
 
 // The reading that counts among the comments of a group.
+#[tactic(auto, using(crate::proofs::Between::counted_nothing))]
 pub fn find_reading(
-    source: &[u8],
-    comments: &[u32],
-    n: usize,
+    comments: &Comments,
     found: Option<Group>,
     counts: Counts,
     rule: Rule,
 ) -> RuleRead
-    requires n_in_bounds { 3 * n ≤ length comments.now }
-    requires fit { Fit source.now (comments_in comments.now n) }
-    requires reached { Reached n found }
+    requires { Reached comments.now found }
     ensures { Bounded
-        (result ≡ counted counts (taken_by rule source.now) (in_group (comments_in comments.now n) found))
-        (ReadIn source.now result) }
+        (result ≡ counted counts (taken_by rule comments.now.source) (in_group comments.now.comments found))
+        (ReadIn comments.now.source result) }
 {
     let g = found?;
-    let end = g.first + g.count;
-    reading_between(source, comments, n, g.first, end, counts, rule)
+    reading_between(comments, g.first, comments.end_of(g), counts, rule)
 }
 
 // The first of them, where the sheet's media is one that the rule asks for.
 pub fn first_reading(
     media: MediaType,
-    source: &[u8],
-    comments: &[u32],
-    n: usize,
+    comments: &Comments,
     found: Option<Group>,
     rule: Rule,
 ) -> RuleRead
-    requires n_in_bounds { 3 * n ≤ length comments.now }
-    requires fit { Fit source.now (comments_in comments.now n) }
-    requires reached { Reached n found }
+    requires { Reached comments.now found }
     ensures { Bounded
-        (result ≡ first_of (taken_by rule source.now) (given_to (asked rule) media (in_group (comments_in comments.now n) found)))
-        (ReadIn source.now result) }
+        (result ≡ first_of (taken_by rule comments.now.source) (given_to (asked rule) media (in_group comments.now.comments found)))
+        (ReadIn comments.now.source result) }
 {
     if asks_media(rule, media) {
-        return find_reading(source, comments, n, found, Counts::First, rule);
+        return find_reading(comments, found, Counts::First, rule);
     }
     None
+}
+
+// The last comment of a group.
+pub fn last_comment(comments: &Comments, found: Option<Group>) -> Option<Comment>
+    requires { Reached comments.now found }
+    ensures { Bounded
+        (result ≡ last_in comments.now.comments found)
+        (IfThere (Placed comments.now.source) result) }
+{
+    let g = found?;
+    Some(comments.at(comments.end_of(g) - 1))
 }
 
 // Where a capture in a comment stands in the source, with its marks.
@@ -187,40 +187,27 @@ pub fn comment_source_to_span(c: Comment, found: Capture) -> Span
 }
 
 // Writes the specifier of a capture in a comment.
-pub fn put_capture(
-    source: &[u8],
-    index: &[u32],
-    c: Comment,
-    found: Capture,
-    out: &mut [u8],
-    place: Pen,
-) -> Pen
-    requires { IndexOf source.now index.now × CaptureIn source.now c found }
-    ensures { buffer_as out.new result
-        ≡ wrote (buffer_as out.old place) (encode_specifier (specifier_in source.now c found)) }
+#[tactic(auto, using(crate::proofs::Captures::capture_within), unfolding(crate::specs::Readings::specifier_in))]
+pub fn put_capture(comments: &Comments, c: Comment, found: Capture, w: &mut Writer)
+    requires { CaptureIn comments.now.source c found }
+    ensures { Wrote w.old w.new (encode_specifier (specifier_in comments.now.source c found)) }
 {
     let span = comment_source_to_span(c, found);
-    let text = specifier(body(source, c), found);
-    place.put_specifier(out, text, source, index, span)
+    let text = specifier(body(comments.source(), c), found);
+    w.put_specifier(text, comments, span);
 }
 
 // Writes a reading as an optional.
-pub fn put_reading(
-    source: &[u8],
-    index: &[u32],
-    reading: RuleRead,
-    out: &mut [u8],
-    place: Pen,
-) -> Pen
-    requires { IndexOf source.now index.now × ReadIn source.now reading }
-    ensures { buffer_as out.new result
-        ≡ wrote (buffer_as out.old place) (encode_optional encode_specifier (read_as source.now reading)) }
+#[tactic(auto, using(report::proofs::Buffers::more_cons), unfolding(wire::specs::Optional::encode_optional))]
+pub fn put_reading(comments: &Comments, reading: RuleRead, w: &mut Writer)
+    requires { ReadIn comments.now.source reading }
+    ensures { Wrote w.old w.new (encode_optional encode_specifier (read_as comments.now.source reading)) }
 {
     match reading {
         Some((c, found)) => {
-            let p = place.put(out, 1);
-            put_capture(source, index, c, found, out, p)
+            w.put(1);
+            put_capture(comments, c, found, w);
         }
-        None => place.put(out, 0),
+        None => w.put(0),
     }
 }

@@ -1,19 +1,17 @@
 // The references of the head group.
-ghost use Rattle.std.specs.Prelude.{◌≡◌, ◌*◌, ◌≤◌, length, option_map};
+ghost use Rattle.std.specs.Prelude.{◌≡◌, ◌≤◌, length, slice_range, option_map};
 ghost use mathlib.Core.List.{flat_map};
 ghost use Rattle.laws.specs.code.Told.{Told};
 ghost use Rattle.laws.specs.Codec.{IfThere};
 ghost use Rattle.analysis.specs.Row.{find};
 ghost use Rattle.analysis.specs.Patterns.{resolution_mode_row};
-ghost use Rattle.sheet.specs.code.Tables.{comments_in};
-ghost use Rattle.sheet.specs.Fit.{Placed, Fit};
+ghost use Rattle.sheet.specs.Fit.{Placed};
+ghost use Rattle.sheet.specs.code.Lent.{Reached};
 ghost use Rattle.report.specs.Encode.{encode_list, encode_reference};
-ghost use Rattle.report.specs.Range.{IndexOf};
-ghost use Rattle.report.specs.Buffer.{wrote, buffer_as};
-ghost use Rattle.pragmas.specs.code.Held.{Commented, Reached};
+ghost use Rattle.report.specs.Buffer.{Wrote};
 ghost use Rattle.pragmas.specs.Readings.{all_of};
 ghost use Rattle.pragmas.specs.Pragmas.{in_group, mode_by, reference, references_in};
-ghost use Rattle.pragmas.specs.code.Views.{comments_from, reference_as, ReferenceIn, encode_any};
+ghost use Rattle.pragmas.specs.code.Views.{reference_as, ReferenceIn, encode_any};
 
 use super::readings::put_capture;
 use analysis::mode::{TypeScriptTypesResolutionMode, from_str, mode_number};
@@ -21,8 +19,9 @@ use analysis::{
     Capture, find_path_reference, find_resolution_mode, find_types_reference,
     is_comment_triple_slash_reference, specifier,
 };
-use report::writer::Pen;
-use sheet::comments::{Comment, comment_at};
+use report::writer::Writer;
+use sheet::commented::Comments;
+use sheet::comments::Comment;
 use sheet::groups::Group;
 use sheet::lookups::body;
 use sheet::names::is_block;
@@ -65,41 +64,34 @@ pub fn read_reference(source: &[u8], c: Comment) -> Option<Reference>
 }
 
 // Writes the reference of a comment, if it has one.
-fn put_reference(
-    source: &[u8],
-    index: &[u32],
-    c: Comment,
-    reference: Option<Reference>,
-    out: &mut [u8],
-    place: Pen,
-) -> Pen
-    requires { IndexOf source.now index.now × IfThere (ReferenceIn source.now c) reference }
-    ensures { buffer_as out.new result
-        ≡ wrote (buffer_as out.old place) (encode_any encode_reference (option_map (reference_as source.now c) reference)) }
+#[tactic(auto, using(report::proofs::Buffers::wrote_none, report::proofs::Buffers::more_cons, report::proofs::Buffers::more_append), unfolding(report::specs::Encode::encode_reference))]
+fn put_reference(comments: &Comments, c: Comment, reference: Option<Reference>, w: &mut Writer)
+    requires { IfThere (ReferenceIn comments.now.source c) reference }
+    ensures { Wrote w.old w.new
+        (encode_any encode_reference (option_map (reference_as comments.now.source c) reference)) }
 {
     match reference {
         Some(Reference::Path(k)) => {
-            let p = place.put(out, 0);
-            put_capture(source, index, c, k, out, p)
+            w.put(0);
+            put_capture(comments, c, k, w);
         }
         Some(Reference::Types(k, mode)) => {
-            let p = place.put(out, 1);
-            let p = put_capture(source, index, c, k, out, p);
-            p.put(out, mode_number(mode))
+            w.put(1);
+            put_capture(comments, c, k, w);
+            w.put(mode_number(mode));
         }
-        None => place,
+        None => {}
     }
 }
 
-// How many references the comments of a table give, from one row to another.
-fn count_between(source: &[u8], comments: &[u32], n: usize, start: usize, end: usize) -> usize
-    requires n_in_bounds { (3 * n ≤ length comments.now) × (start ≤ end) × (end ≤ n) }
-    requires fit { Fit source.now (comments_in comments.now n) }
-    ensures { result ≡ length (all_of (reference source.now) (comments_from comments.now start end)) }
+// How many references the comments give, from one index to another.
+fn count_between(comments: &Comments, start: usize, end: usize) -> usize
+    requires { (start ≤ end) × (end ≤ length comments.now.comments) }
+    ensures { result ≡ length (all_of (reference comments.now.source) (slice_range comments.now.comments start end)) }
 {
     let mut count = 0;
     for k in start..end {
-        if read_reference(source, comment_at(comments, k)).is_some() {
+        if read_reference(comments.source(), comments.at(k)).is_some() {
             count += 1;
         }
     }
@@ -107,55 +99,31 @@ fn count_between(source: &[u8], comments: &[u32], n: usize, start: usize, end: u
 }
 
 // Writes each of them.
-fn put_between(
-    source: &[u8],
-    comments: &[u32],
-    n: usize,
-    index: &[u32],
-    start: usize,
-    end: usize,
-    out: &mut [u8],
-    place: Pen,
-) -> Pen
-    requires commented { Commented source.now comments.now n index.now }
-    requires start_le_end { (start ≤ end) × (end ≤ n) }
-    ensures { buffer_as out.new result
-        ≡ wrote (buffer_as out.old place)
-        (flat_map encode_reference (all_of (reference source.now) (comments_from comments.now start end))) }
+fn put_between(comments: &Comments, start: usize, end: usize, w: &mut Writer)
+    requires { (start ≤ end) × (end ≤ length comments.now.comments) }
+    ensures { Wrote w.old w.new
+        (flat_map encode_reference (all_of (reference comments.now.source) (slice_range comments.now.comments start end))) }
 {
-    let mut p = place;
     for k in start..end {
-        let c = comment_at(comments, k);
-        let reference = read_reference(source, c);
-        p = put_reference(source, index, c, reference, out, p);
+        let c = comments.at(k);
+        let reference = read_reference(comments.source(), c);
+        put_reference(comments, c, reference, w);
     }
-    p
 }
 
 // The references of a group: how many, and then each.
-pub fn analyze_ts_references(
-    source: &[u8],
-    comments: &[u32],
-    n: usize,
-    index: &[u32],
-    found: Option<Group>,
-    out: &mut [u8],
-    place: Pen,
-) -> Pen
-    requires commented { Commented source.now comments.now n index.now }
-    requires reached { Reached n found }
-    ensures { buffer_as out.new result
-        ≡ wrote (buffer_as out.old place)
-        (encode_list encode_reference (references_in source.now (in_group (comments_in comments.now n) found))) }
+pub fn analyze_ts_references(comments: &Comments, found: Option<Group>, w: &mut Writer)
+    requires { Reached comments.now found }
+    ensures { Wrote w.old w.new
+        (encode_list encode_reference (references_in comments.now.source (in_group comments.now.comments found))) }
 {
     match found {
         Some(g) => {
             let start = g.first;
-            let end = g.first + g.count;
-            let count = count_between(source, comments, n, start, end);
-            let p = place.put_number(out, count);
-            put_between(source, comments, n, index, start, end, out, p)
+            let end = comments.end_of(g);
+            w.put_number(count_between(comments, start, end));
+            put_between(comments, start, end, w);
         }
-        None => place.put(out, 0),
+        None => w.put(0),
     }
 }

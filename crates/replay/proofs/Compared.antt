@@ -4,8 +4,7 @@ use Rattle.laws.proofs.Prelude.{add-one, eqb, leb, length, get_or, drop, drop_of
 use Rattle.laws.proofs.Prelude.{eq-eqb, ne_eqb, eqb-true}
 use Rattle.text.specs.Bytes.{same}
 use Rattle.text.proofs.Words.{same_sound, same_refl, other_length}
-use Rattle.std.specs.Prelude.{Ok, Err}
-use Rattle.report.specs.Answer.{Answer, zeros, Outcome, outcome_as}
+use Rattle.report.specs.Answer.{Answer, zeros}
 use Rattle.replay.specs.Compared.{padded, same_answer}
 
 zero_at : (n i : ℕ) → get_or (zeros n) i 0 ≡ 0
@@ -51,11 +50,6 @@ module _ (buffer report : List ℕ) (i : ℕ) where
     pub held_agree : get_or buffer i 0 ≡ get_or report i 0 →
         same (drop i buffer) (drop i (padded (length buffer) report)) ≡ same (drop (i + 1) buffer) (drop (i + 1) (padded (length buffer) report))
     held_agree e = rw (heads, eq-eqb _ _ e)
-
--- the answer holds what the buffer has
-pub outcome_buffer : (o : Outcome) (buffer : List ℕ) → (outcome_as o buffer).buffer ≡ buffer
-outcome_buffer (Ok n) buffer = refl
-outcome_buffer (Err r) buffer = refl
 
 made_of : {n m l k : ℕ} {x y : List ℕ} → n ≡ m → l ≡ k → x ≡ y
     → ◌≡◌ {A = Answer} (record { number = n; written = l; buffer = x }) (record { number = m; written = k; buffer = y })

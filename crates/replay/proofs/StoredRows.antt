@@ -1,6 +1,6 @@
 -- Rows of the list at a place of it, and the counts of those that are left.
 use Rattle.laws.proofs.Prelude.{◌≡◌, refl, ap, ◌∙◌, List, [], ◌∷◌, ℕ, zero, suc, ◌+◌, ◌-◌, ◌*◌, ◌≤◌, ◌<◌, arith, length, get_or, drop, drop_of_length-le}
-use Rattle.laws.proofs.Prelude.{drop-cons}
+use Rattle.laws.proofs.Prelude.{drop-cons, length-drop}
 use Rattle.laws.specs.Decoded.{Decoded, ok, no, on_ok, and_then, return}
 use Rattle.laws.proofs.Decoding.{on_ok_ok, on_ok_no}
 use Rattle.wire.{specs.Fields.byte, proofs.FieldsAtPlace.byte_at}
@@ -28,13 +28,16 @@ module _ (s : List ℕ) (at : ℕ) where
         fourth,
       )
 
-pub four_short : (s : List ℕ) → length s < 4 → four_bytes s ≡ no 2
+four_short : (s : List ℕ) → length s < 4 → four_bytes s ≡ no 2
 unfolding four_bytes byte
 four_short [] h = refl
 four_short (a ∷ []) h = refl
 four_short (a ∷ b ∷ []) h = refl
 four_short (a ∷ b ∷ c ∷ []) h = refl
 four_short (a ∷ b ∷ c ∷ d ∷ s) h = absurd (omega arith)
+
+pub four_cut : (s : List ℕ) (at : ℕ) → length s < at + 4 → four_bytes (drop at s) ≡ no 2
+four_cut s at h = four_short (drop at s) (rw length-drop (omega arith))
 
 -- counts, and the rows that are left with nothing behind them
 abbrev pub onward : ℕ → Counts → Decoded (List Row) → Option Counts
@@ -58,14 +61,13 @@ module _ (size : ℕ) where
   tally_short s h = rw (four_short s h)
 
   module _ (k : Counts) where
-    pub row_counted : (n : ℕ) (s : List ℕ) {t : List ℕ} {ran : Ran} → 0 < n → on_ok (ran_of size) (row s) ≡ ok ran t
-        → onward size k (rows n s) ≡ onward size (counted k ran) (rows (n - 1) t)
+    pub row_counted : (n less : ℕ) (s : List ℕ) {t : List ℕ} {ran : Ran} → n ≡ less + 1 → on_ok (ran_of size) (row s) ≡ ok ran t
+        → onward size k (rows n s) ≡ onward size (counted k ran) (rows less t)
     unfolding rows
-    row_counted zero s h e = absurd (omega arith)
-    row_counted (suc n) s {t} {ran} h e =
-        let down : suc n - 1 ≡ n = omega arith in
+    row_counted n less s {t} {ran} more e =
+        let one : n ≡ suc less = omega arith in
         let (r, read, told) = on_ok_ok (ran_of size) (row s) e in
-        rw (down, read) (go r (rows n t) ∙ ap (λ q. onward size (counted k q) (rows n t)) told)
+        rw (one, read) (go r (rows less t) ∙ ap (λ q. onward size (counted k q) (rows less t)) told)
       where
         go : (r : Row) (x : Decoded (List Row)) → onward size k (and_then x (λ l. return (r ∷ l))) ≡ onward size (counted k (ran_of size r)) x
         go r (ok l []) = refl
@@ -86,3 +88,6 @@ module _ (size : ℕ) where
     unfolding rows
     bytes_left zero s at h l = rw (drop-cons s at 0 l)
     bytes_left (suc n) s at h l = absurd (omega arith)
+
+-- the rows of a list, from its count to its end
+pub ruleset in_rows = (tally_rows, tally_short, row_counted, row_missing, rows_done, bytes_left)

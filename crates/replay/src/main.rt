@@ -42,6 +42,7 @@ struct Counts {
 }
 
 // A number of four bytes.
+#[tactic(auto, using(crate::proofs::StoredRows::four_at))]
 fn number_at(list: &[u8], at: usize) -> usize
     requires { at + 4 ≤ length list.now }
     ensures { Bounded (four_bytes (drop at list.now) ≡ ok result (drop (at + 4) list.now))
@@ -53,6 +54,7 @@ fn number_at(list: &[u8], at: usize) -> usize
 }
 
 // Where the bytes behind a length at a place start and end, if the list holds them whole.
+#[tactic(auto, using(crate::proofs::StoredRows::four_cut, wire::proofs::FieldsAtPlace::bytes_past, wire::proofs::FieldsAtPlace::bytes_at), unfolding(crate::specs::Stored::piece))]
 fn stretch_at(list: &[u8], at: usize) -> Option<(usize, usize)>
     ensures { Told (stretch_as list.now)
         (piece (drop at list.now))
@@ -73,6 +75,7 @@ fn stretch_at(list: &[u8], at: usize) -> Option<(usize, usize)>
 }
 
 // The report begins the buffer, and every byte behind it is zero.
+#[tactic(auto, using(crate::proofs::Compared::held_end, crate::proofs::Compared::held_differ, crate::proofs::Compared::held_agree))]
 fn holds_report(buffer: &[u8], report: &[u8]) -> bool
     ensures { result ≡ same buffer.now (padded (length buffer.now) report.now) }
 {
@@ -105,13 +108,9 @@ fn length_of(outcome: Outcome) -> usize
 fn is_stored(outcome: Outcome, buffer: &[u8], number: u8, report: &[u8]) -> bool
     ensures { result ≡ same_answer (outcome_as outcome buffer.now) (stored_answer (length buffer.now) number report.now) }
 {
-    if number_of(outcome) != number {
-        return false;
-    }
-    if length_of(outcome) != report.len() {
-        return false;
-    }
-    holds_report(buffer, report)
+    number_of(outcome) == number
+        && length_of(outcome) == report.len()
+        && holds_report(buffer, report)
 }
 
 // Runs a sheet, in a buffer that holds something else before, and compares the answer.
@@ -127,6 +126,7 @@ fn run(sheet: &[u8], number: u8, report: &[u8], buffer: &mut [u8]) -> Ran
 }
 
 // Runs the sheet at a place of the list, and says where the next stands; none where the list ends too early.
+#[tactic(auto, using(wire::proofs::FieldsAtPlace::byte_past, wire::proofs::FieldsAtPlace::byte_at), unfolding(crate::specs::Stored::row))]
 fn replay_one(list: &[u8], at: usize, buffer: &mut [u8]) -> Option<(Ran, usize)>
     ensures { Told (step_as list.now)
         (on_ok (ran_of (length buffer.old)) (row (drop at list.now)))
@@ -171,6 +171,7 @@ fn print_line(rt: &impl Print, n: u64, what: &str) -> io::Result<()> {
 }
 
 // Runs every sheet of the list, and counts; none where the list is not read just to its end.
+#[tactic(auto, using(crate::proofs::StoredRows::in_rows))]
 fn replay(list: &[u8], buffer: &mut [u8]) -> Option<Counts>
     ensures { Bounded (result ≡ tally_of (length buffer.old) (stored_rows list.now)) (Printable result) }
 {

@@ -1,5 +1,5 @@
 -- The end of a report: what is cleared behind it, and the answer for the bytes that were written.
-use Rattle.laws.proofs.Prelude.{◌≡◌, refl, Bool, true, false, List, [], append-nil, ℕ, suc, ◌+◌, ◌-◌, ◌≤◌, ◌<◌, zero-add, add-one, arith, leb, length, take}
+use Rattle.laws.proofs.Prelude.{◌≡◌, refl, Bool, true, false, List, [], append-nil, ℕ, suc, ◌+◌, ◌-◌, ◌≤◌, ◌<◌, zero-add, add-one, arith, leb, ltb, ltb-true, ltb-false, length, take}
 use Rattle.laws.proofs.Prelude.{set, length-set, length-take-le, take_all}
 use native.Mathlib.Nat.{sub-eq-zero_of_le}
 use lib.Seq.{take-suc-set, append_snoc}
@@ -17,11 +17,15 @@ module _ (out : List ℕ) (at : ℕ) where
   cleared_end h = rw (take_all at out h, sub-eq-zero_of_le h, append-nil)
 
   -- the bytes before the place are the report, the zeros behind it being cleared or being none
-  pub accepted_front : at < length out → record { number = 0; written = at; buffer = cleared_from at out } ≡ accepted (length out) (take at out)
-  accepted_front h = rw (length-take-le at out (omega arith))
-
-  pub accepted_whole : length out ≤ at → record { number = 0; written = length out; buffer = out } ≡ accepted (length out) (take at out)
-  accepted_whole h = let none : length out - length out ≡ 0 = omega arith in rw (take_all at out h, none, append-nil)
+  pub accepted_at : record { number = 0; written = length (take at out); buffer = cleared_from at out } ≡ accepted (length out) (take at out)
+  accepted_at = by_room (ltb at (length out)) refl
+    where
+      by_room : (t : Bool) → ltb at (length out) ≡ t → record { number = 0; written = length (take at out); buffer = cleared_from at out } ≡ accepted (length out) (take at out)
+      by_room true e = rw (length-take-le at out (omega (arith, ltb-true at (length out) e)))
+      by_room false e =
+          let past : length out - at ≡ 0 = omega (arith, ltb-false at (length out) e) in
+          let none : length out - length out ≡ 0 = omega arith in
+          rw (take_all at out (omega (arith, ltb-false at (length out) e)), past, none, append-nil)
 
 -- what stands in a buffer once all the bytes are written into it from its front on gives their answer
 pub answered_fitted : {n size : ℕ} (bytes : List ℕ) {w : Buffer} → n ≡ size → w ≡ wrote (holds size []) bytes → answered n w ≡ fitted size bytes

@@ -1,10 +1,12 @@
 -- Writing into a buffer part by part: a byte has room or not, parts one after the other are written as one, and no byte changes nothing.
-use Rattle.laws.proofs.Prelude.{◌≡◌, refl, Bool, true, false, cond, List, [], ◌∷◌, ◌++◌, append_assoc, append-nil, ℕ, ◌+◌, ◌≤◌, ◌<◌, add-one, arith, eqb}
-use Rattle.laws.proofs.Prelude.{leb, length, take, set, length-append, length-take, length-set, length-take-le, take_all, leb-false, le-leb, lt-leb, ne_eqb}
+use Rattle.laws.proofs.Prelude.{◌≡◌, refl, sym, ◌∙◌, Bool, true, false, cond, List, [], ◌∷◌, ◌++◌, append_assoc, append-nil, ℕ, ◌+◌, ◌≤◌, ◌<◌, add-one, arith, eqb}
+use Rattle.laws.proofs.Prelude.{leb, length, take, drop, set, length-append, length-drop, length-take, length-set, length-take-le, take_all, leb-false, le-leb, lt-leb, ne_eqb}
 use native.Mathlib.Nat.{add_assoc}
 use lib.Seq.{take-suc-set}
-use Rattle.report.specs.declared.writer.Pen.{Pen}
-use Rattle.report.specs.Buffer.{Buffer, holds, full, wrote, full_place, buffer_as}
+use borrow.Rule.Slice.PartMut.{put_mid}
+use Rattle.std.proofs.lemmas.Slice.{take-put_mid}
+use Rattle.report.specs.declared.writer.Writer.{Writer}
+use Rattle.report.specs.Buffer.{Buffer, holds, full, wrote, full_place, buffer_as, Written, written_as, more, Wrote, Keeps}
 
 pub wrote_append : (w : Buffer) (a b : List ℕ) → wrote w (a ++ b) ≡ wrote (wrote w a) b
 unfolding wrote
@@ -21,23 +23,23 @@ wrote_append (holds size xs) a b = by_room (leb (length xs + length a) size) ref
 pub wrote_cons : (w : Buffer) (b : ℕ) (bs : List ℕ) → wrote w (b ∷ bs) ≡ wrote (wrote w (b ∷ [])) bs
 wrote_cons w b bs = wrote_append w (b ∷ []) bs
 
-pub wrote_nil : (out : List ℕ) (p : Pen) → wrote (buffer_as out p) [] ≡ buffer_as out p
+pub wrote_nil : (out : List ℕ) (p : ℕ) → wrote (buffer_as out p) [] ≡ buffer_as out p
 unfolding wrote
-wrote_nil out p = by_full (eqb p.at full_place)
+wrote_nil out p = by_full (eqb p full_place)
   where
     by_full : (t : Bool) →
-        wrote (cond t (full (length out)) (holds (length out) (take p.at out))) [] ≡ cond t (full (length out)) (holds (length out) (take p.at out))
+        wrote (cond t (full (length out)) (holds (length out) (take p out))) [] ≡ cond t (full (length out)) (holds (length out) (take p out))
     by_full true = refl
     by_full false =
-        let room : length (take p.at out) + 0 ≤ length out = omega (arith, length-take p.at out) in
-        rw (le-leb (length (take p.at out) + 0) (length out) room, append-nil)
+        let room : length (take p out) + 0 ≤ length out = omega (arith, length-take p out) in
+        rw (le-leb (length (take p out) + 0) (length out) room, append-nil)
 
-module _ (out : List ℕ) (at b : ℕ) where
+module _ (out : List ℕ) (at : ℕ) where
   -- no buffer is as long as the largest number
-  pub put_room : length out < 9223372036854775808 → at < length out →
-      buffer_as (set out at b) (record { at = at + 1 }) ≡ wrote (buffer_as out (record { at = at })) (b ∷ [])
+  pub put_room : (b : ℕ) → length out < 9223372036854775808 → at < length out →
+      buffer_as (set out at b) (at + 1) ≡ wrote (buffer_as out at) (b ∷ [])
   unfolding wrote
-  put_room l h =
+  put_room b l h =
       rw (
         ne_eqb (at + 1) full_place (λ e. omega (arith, e, l, h)),
         ne_eqb at full_place (λ e. omega (arith, e, l, h)),
@@ -48,10 +50,102 @@ module _ (out : List ℕ) (at b : ℕ) where
         take-suc-set out at b h,
       )
 
-  pub put_none : length out ≤ at → full (length out) ≡ wrote (buffer_as out (record { at = at })) (b ∷ [])
+  pub bytes_room : (s : List ℕ) → length out < 9223372036854775808 → at + length s ≤ length out →
+      buffer_as (put_mid at (length s) out s) (at + length s) ≡ wrote (buffer_as out at) s
   unfolding wrote
-  put_none h = by_full (eqb at full_place)
+  bytes_room s l h =
+      let front : take (at + length s) (put_mid at (length s) out s) ≡ take at out ++ s = take-put_mid at (length s) out s (at + length s) refl (omega arith) in
+      let size : length (put_mid at (length s) out s) ≡ length out = omega (arith, length-append (take at out) (s ++ drop (length s) (drop at out)), length-append s (drop (length s) (drop at out)), length-take-le at out (omega arith), length-drop (length s) (drop at out), length-drop at out) in
+      rw (
+        ne_eqb (at + length s) full_place (λ e. omega (arith, e, l, h)),
+        ne_eqb at full_place (λ e. omega (arith, e, l, h)),
+        size,
+        front,
+        length-take-le at out (omega arith),
+        le-leb (at + length s) (length out) h,
+      )
+
+  pub bytes_none : (s : List ℕ) → 0 < length s → length out < at + length s → full (length out) ≡ wrote (buffer_as out at) s
+  unfolding wrote
+  bytes_none s some h = by_full (eqb at full_place)
+    where
+      by_full : (t : Bool) → full (length out) ≡ wrote (cond t (full (length out)) (holds (length out) (take at out))) s
+      by_full true = refl
+      by_full false =
+          let long : length out < length (take at out) + length s = omega (arith, length-take at out) in
+          rw (lt-leb (length (take at out) + length s) (length out) long)
+
+  pub put_none : (b : ℕ) → length out ≤ at → full (length out) ≡ wrote (buffer_as out at) (b ∷ [])
+  unfolding wrote
+  put_none b h = by_full (eqb at full_place)
     where
       by_full : (t : Bool) → full (length out) ≡ wrote (cond t (full (length out)) (holds (length out) (take at out))) (b ∷ [])
       by_full true = refl
       by_full false = rw (take_all at out h, lt-leb (length out + 1) (length out) (omega arith))
+
+-- a writer at another place, or with another buffer under the same loan
+pub wrote_here : (before after : Writer) (bs : List ℕ) →
+    after.out.ghost_name ≡ before.out.ghost_name → buffer_as after.out.now after.at ≡ wrote (buffer_as before.out.now before.at) bs → Wrote before after bs
+unfolding written_as more
+wrote_here before after bs e h = λ i. record { loan = e i; buffer = h i }
+
+-- what a writer has written, part by part
+pub more_append : (w : Written) (a b : List ℕ) → more w (a ++ b) ≡ more (more w a) b
+unfolding more
+more_append w a b = λ i. record { loan = w.loan; buffer = wrote_append w.buffer a b i }
+
+pub more_cons : (w : Written) (b : ℕ) (bs : List ℕ) → more w (b ∷ bs) ≡ more (more w (b ∷ [])) bs
+more_cons w b bs = more_append w (b ∷ []) bs
+
+pub more_nil : (w : Writer) → more (written_as w) [] ≡ written_as w
+unfolding written_as more
+more_nil w = λ i. record { loan = w.out.ghost_name; buffer = wrote_nil w.out.now w.at i }
+
+pub wrote_none : (w : Writer) → Wrote w w []
+wrote_none w = sym (more_nil w)
+
+-- how many bytes a buffer has
+size_of : Buffer → ℕ
+size_of (holds n xs) = n
+size_of (full n) = n
+
+size_of_wrote : (b : Buffer) (bs : List ℕ) → size_of (wrote b bs) ≡ size_of b
+unfolding wrote size_of
+size_of_wrote (full n) bs = refl
+size_of_wrote (holds n xs) bs = by_room (leb (length xs + length bs) n)
+  where
+    by_room : (t : Bool) → size_of (cond t (holds n (xs ++ bs)) (full n)) ≡ n
+    by_room true = refl
+    by_room false = refl
+
+size_of_lent : (out : List ℕ) (at : ℕ) → size_of (buffer_as out at) ≡ length out
+unfolding size_of
+size_of_lent out at = by_full (eqb at full_place)
+  where
+    by_full : (t : Bool) → size_of (cond t (full (length out)) (holds (length out) (take at out))) ≡ length out
+    by_full true = refl
+    by_full false = refl
+
+-- what is written leaves the buffer the same, and as long
+pub wrote_keeps : (before after : Writer) (bs : List ℕ) → Wrote before after bs → Keeps before after
+unfolding written_as more
+wrote_keeps before after bs h = record {
+  loan = λ i. (h i).loan;
+  size =
+      sym (size_of_lent after.out.now after.at)
+      ∙ (λ i. size_of (h i).buffer)
+      ∙ size_of_wrote (buffer_as before.out.now before.at) bs
+      ∙ size_of_lent before.out.now before.at;
+}
+
+-- the bytes of what was written
+pub wrote_buffer : (before after : Writer) (bs : List ℕ) → Wrote before after bs →
+    buffer_as after.out.now after.at ≡ wrote (buffer_as before.out.now before.at) bs
+unfolding written_as more
+wrote_buffer before after bs h = λ i. (h i).buffer
+
+pub keeps_same : (w : Writer) → Keeps w w
+keeps_same w = record { loan = refl; size = refl }
+
+pub keeps_then : {a b c : Writer} → Keeps a b → Keeps b c → Keeps a c
+keeps_then h k = record { loan = k.loan ∙ h.loan; size = k.size ∙ h.size }

@@ -1,6 +1,7 @@
--- A buffer that is written from the front, and stops where it is full.
-use Rattle.std.specs.Prelude.{cond, List, ◌++◌, ℕ, ◌+◌, eqb, leb, length, take}
-use Rattle.report.specs.declared.writer.Pen.{Pen}
+-- A lent buffer that is written from the front, and stops where it is full.
+use Rattle.std.specs.Prelude.{◌≡◌, cond, List, ◌++◌, ℕ, ◌+◌, eqb, leb, length, take}
+use Rattle.std.specs.Borrow.{GName}
+use Rattle.report.specs.declared.writer.Writer.{Writer}
 
 -- how many bytes a buffer has, and those that begin it, what is behind them being left free; or some byte found no room, and all its bytes are left free
 pub data Buffer : Type 0 where
@@ -17,5 +18,26 @@ abbrev pub full_place : ℕ
 full_place = 18446744073709551615
 
 -- what a buffer with a place in it stands for
-abbrev pub buffer_as : List ℕ → Pen → Buffer
-buffer_as out p = cond (eqb p.at full_place) (full (length out)) (holds (length out) (take p.at out))
+abbrev pub buffer_as : List ℕ → ℕ → Buffer
+buffer_as out at = cond (eqb at full_place) (full (length out)) (holds (length out) (take at out))
+
+-- what a writer has written: into which buffer, by the name of its loan, and what stands there
+pub record Written : Type 0 where
+  pub loan : GName
+  pub buffer : Buffer
+
+unfoldable pub written_as : Writer → Written
+written_as w = record { loan = w.out.ghost_name; buffer = buffer_as w.out.now w.at }
+
+-- the same with more bytes behind
+unfoldable pub more : Written → List ℕ → Written
+more w bs = record { loan = w.loan; buffer = wrote w.buffer bs }
+
+-- a writer before and after bytes are written
+abbrev pub Wrote : Writer → Writer → List ℕ → Type 0
+Wrote before after bs = written_as after ≡ more (written_as before) bs
+
+-- a writer before and after what is left free: the buffer is the same, and as long
+pub record Keeps (before after : Writer) : Type 0 where
+  pub loan : after.out.ghost_name ≡ before.out.ghost_name
+  pub size : length after.out.now ≡ length before.out.now

@@ -1,6 +1,6 @@
 -- The ranges of a source's spans.
-use Rattle.std.specs.Prelude.{◌≡◌, List, ℕ, ◌+◌, ◌*◌, ◌/◌, ◌≤◌, ◌<◌, length}
-use Rattle.text.specs.Position.{characters, position_of, Boundary, Indexed}
+use Rattle.std.specs.Prelude.{◌≡◌, List, ℕ, ◌≤◌, length}
+use Rattle.text.specs.Position.{characters, position_of, Boundary}
 use Rattle.sheet.specs.declared.fields.Span.{Span}
 use Rattle.report.specs.ModuleInfo.{PositionRange}
 
@@ -19,8 +19,3 @@ pub record RangeAt (source : List ℕ) (range : PositionRange) (place : Span) : 
 pub record InSource (source : List ℕ) (sp : Span) : Type 0 where
   pub start : sp.start ≤ length source
   pub end : sp.end ≤ length source
-
--- an index with the position at each 64th byte of the source
-pub record IndexOf (source index : List ℕ) : Type 0 where
-  pub long : 2 * (length source / 64) + 1 < length index
-  pub positions : Indexed characters source index (length source / 64 + 1)

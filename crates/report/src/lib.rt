@@ -1,7 +1,6 @@
 // The report: its values, their encoding, and the writer into a lent buffer.
 #![tactic(auto)]
 
-pub mod lent;
 pub mod names;
 pub mod origins;
 pub mod writer;

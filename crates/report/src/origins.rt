@@ -1,9 +1,9 @@
 // Which rule gave an entry of the report, and where it was read.
 ghost use Rattle.std.specs.Prelude.{◌≡◌};
 ghost use Rattle.report.specs.Origin.{rule_number, encode_origin};
-ghost use Rattle.report.specs.Buffer.{wrote, buffer_as};
+ghost use Rattle.report.specs.Buffer.{Wrote};
 
-use super::writer::Pen;
+use super::writer::Writer;
 
 // The rules that give references, pragmas and JSDoc imports, with their numbers.
 #[derive(Clone, Copy, Debug, PartialEq, Eq)]
@@ -27,10 +27,10 @@ fn rule_number(rule: EntryRule) -> u8
 }
 
 // Writes the rule's number and the place in the source.
-pub fn put_origin(rule: EntryRule, offset: usize, out: &mut [u8], place: Pen) -> Pen
-    ensures { buffer_as out.new result
-        ≡ wrote (buffer_as out.old place) (encode_origin (record { rule = rule; offset = offset })) }
+#[tactic(auto, using(crate::proofs::Buffers::more_cons, crate::proofs::Buffers::more_append), unfolding(crate::specs::Origin::encode_origin))]
+pub fn put_origin(rule: EntryRule, offset: usize, w: &mut Writer)
+    ensures { Wrote w.old w.new (encode_origin (record { rule = rule; offset = offset })) }
 {
-    let p = place.put(out, rule_number(rule));
-    p.put_number(out, offset)
+    w.put(rule_number(rule));
+    w.put_number(offset);
 }

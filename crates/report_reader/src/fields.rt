@@ -70,6 +70,7 @@ pub fn read_text(report: &[u8], at: usize) -> TextRead
 }
 
 // A range: the lines and columns of its start and its end.
+#[tactic(auto, unfolding(report::specs::Encode::encode_range, report::specs::Encode::encode_position))]
 pub fn read_range(report: &[u8], at: usize) -> RangeRead
     ensures { Bounded
         (ReadsBack encode_range ValidRange report.now at (record { start = result.start; end = result.end }) result.next)
@@ -127,6 +128,7 @@ fn skip_part(report: &[u8], at: usize, keyed: bool) -> usize
 }
 
 // Skips so many of them.
+#[tactic(auto, using(crate::proofs::Lists::no_item))]
 fn skip_parts(report: &[u8], at: usize, keyed: bool, count: usize) -> usize
     ensures { Skips (flat_map (encode_element keyed)) (λ l. (length l ≡ count) × All (ValidElement keyed) l) report.now at result }
 {
@@ -138,6 +140,7 @@ fn skip_parts(report: &[u8], at: usize, keyed: bool, count: usize) -> usize
 }
 
 // Skips a list of them.
+#[tactic(auto, unfolding(report::specs::Encode::encode_list))]
 pub fn skip_list(report: &[u8], at: usize, keyed: bool) -> usize
     ensures { Skips (encode_list (encode_element keyed)) (λ l. Short l × All (ValidElement keyed) l) report.now at result }
 {

@@ -1,5 +1,5 @@
 -- What is answered of both buffers, the report's and that of the rules, is as demanded.
-use Rattle.laws.proofs.Prelude.{◌≡◌, refl, sym, ap, ◌∙◌, Bool, true, false, cond, ◌↔◌, List, [], ◌++◌, ℕ, ◌≤◌, ◌<◌, zero-add, arith, eqb, leb, length, take}
+use Rattle.laws.proofs.Prelude.{◌≡◌, refl, sym, ap, ◌∙◌, Bool, true, false, cond, ◌↔◌, List, [], ℕ, ◌≤◌, ◌<◌, arith, leb, length}
 use Rattle.laws.proofs.Prelude.{leb-true, leb-false, le-leb, lt-leb}
 use Rattle.laws.{specs.Decoded.ok, specs.Decoded.no, proofs.Decoding.refused}
 use Rattle.text.{specs.declared.utf8.Encoding.TheVariants.Utf8, proofs.WellFormed.well_formed_iff}
@@ -8,11 +8,13 @@ use Rattle.wire.specs.Refusals as refusals
 use Rattle.sheet.specs.{Sheet.Sheet, Sheet.accept, Judge.judge}
 use Rattle.sheet_codec.{specs.SheetOf.SheetOf, proofs.Sheets.accepts_exactly}
 use Rattle.sheet_codec.proofs.Refusals.{apart, Decision, decided, cut_off_lem, judged_sheet, judged_refusal}
+use Rattle.sheet.specs.declared.{comments.CommentRow.CommentRow, groups.GroupRow.GroupRow}
 use Rattle.sheet_check.specs.{declared.check.Parts.Parts, code.Accepts.Accepts}
 use Rattle.std.specs.Prelude.{Ok, Err}
+use Rattle.wire.specs.declared.refusals.Refusal.TheVariants.{Rules}
 use Rattle.wire.{specs.declared.refusals.Refusal.Refusal, specs.Refusals.number_of, proofs.RefusalNumbers.some_number}
 use Rattle.report.specs.{ModuleInfo.ModuleInfo, Encode.encode}
-use Rattle.report.specs.Answer.{Answer, accepted, refused_with, fitted, answered, outcome_as}
+use Rattle.report.specs.Answer.{Answer, zeros, accepted, refused_with, fitted, outcome_as}
 use Rattle.module_info.{specs.Information.module_info, specs.Information.default_info, specs.Demands.Demands, proofs.Notes.refused_ten}
 use Rattle.rules.specs.Rules.{Ruled, rules_of, Answers, refused_both, both_fitted, both_of, both_as, report_of, DemandsOfBoth}
 use Rattle.module_info.proofs.Accepted.{demanded, refusal_demanded, empty_demanded}
@@ -29,27 +31,31 @@ accepted_in size a {n} {buffer} e = by (leb (length a) size) refl e
     by true h f = (h, f)
     by false h f = let never : 0 ≡ refusals.buffer = ap (λ (x : Answer). x.number) f in absurd (omega arith)
 
--- and one of refusal of bytes that have none
-refused_in : (size : ℕ) (a : List ℕ) (r : Refusal) {buffer : List ℕ} → outcome_as (Err r) buffer ≡ fitted size a → leb (length a) size ≡ false
+-- and one of refusal of bytes that have none, whose buffer is zero
+refused_in : (size : ℕ) (a : List ℕ) (r : Refusal) {buffer : List ℕ} → outcome_as (Err r) buffer ≡ fitted size a
+    → (leb (length a) size ≡ false) × (buffer ≡ zeros size)
 unfolding fitted
 refused_in size a r {buffer} e = by (leb (length a) size) refl e
   where
-    by : (x : Bool) → leb (length a) size ≡ x → outcome_as (Err r) buffer ≡ cond x (accepted size a) (refused_with refusals.buffer size) → leb (length a) size ≡ false
+    by : (x : Bool) → leb (length a) size ≡ x → outcome_as (Err r) buffer ≡ cond x (accepted size a) (refused_with refusals.buffer size)
+        → (leb (length a) size ≡ false) × (buffer ≡ zeros size)
     by true h f = let never : number_of r ≡ 0 = ap (λ (x : Answer). x.number) f in absurd (omega (arith, some_number r))
-    by false h f = h
+    by false h f = (h, ap (λ (x : Answer). x.buffer) f)
 
 module _ (size room : ℕ) where
   -- the report has no room
   pub first_refused : (m : ModuleInfo) (b : List ℕ) (r : Refusal) {buffer : List ℕ} → outcome_as (Err r) buffer ≡ fitted size (encode m)
       → refused_both (number_of r) size room ≡ both_fitted size room (encode m) b
   unfolding both_fitted
-  first_refused m b r {buffer} e = rw (refused_ten size r buffer m e, refused_in size (encode m) r e)
+  first_refused m b r {buffer} e = rw (refused_ten size r buffer m e, (refused_in size (encode m) r e).0)
 
   -- it has room, and the rules have none
-  pub second_refused : (a b : List ℕ) (r : Refusal) {n : ℕ} {buffer rules : List ℕ} → outcome_as (Ok n) buffer ≡ fitted size a → outcome_as (Err r) rules ≡ fitted room b
-      → refused_both refusals.rules size room ≡ both_fitted size room a b
+  pub second_refused : (a b : List ℕ) (r : Refusal) {n : ℕ} {buffer cleared rules : List ℕ} → outcome_as (Ok n) buffer ≡ fitted size a → cleared ≡ zeros size
+      → outcome_as (Err r) rules ≡ fitted room b → both_as (Err Rules) cleared rules ≡ both_fitted size room a b
   unfolding both_fitted
-  second_refused a b r e f = rw ((accepted_in size a e).0, refused_in room b r f)
+  second_refused a b r e zero f =
+      let (none, clear) = refused_in room b r f in
+      rw ((accepted_in size a e).0, none, zero, clear)
 
   -- or they have room too
   pub both_accepted : (a b : List ℕ) {n k : ℕ} {buffer rules : List ℕ} → outcome_as (Ok n) buffer ≡ fitted size a → outcome_as (Ok k) rules ≡ fitted room b
@@ -130,7 +136,7 @@ module _ (s : List ℕ) {size room : ℕ} {o : Ruled} {buffer rules : List ℕ} 
           let same : q ≡ refusals.rules = cc in
           apart of_sheets among same refl
 
-  pub sheet_both : {comments groups : List ℕ} {p : Parts} → Accepts s comments groups p
+  pub sheet_both : {comments : List CommentRow} {groups : List GroupRow} {p : Parts} → Accepts s comments groups p
       → ((t : Sheet) → accept s ≡ ok t [] → both_as o buffer rules ≡ both_fitted size room (encode (module_info t)) (rules_of t)) →
       DemandsOfBoth s size room o buffer rules
   unfolding both_of

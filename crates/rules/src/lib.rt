@@ -4,10 +4,8 @@
 ghost use Rattle.std.specs.Prelude.{◌≡◌, ℕ, ◌+◌, ◌*◌, ◌≤◌, length, Ok};
 ghost use mathlib.Core.List.{List, [], flat_map};
 ghost use Rattle.laws.specs.Decoded.{ok};
-ghost use Rattle.sheet.specs.Limits.{source_limit};
 ghost use Rattle.sheet.specs.Sheet.{Sheet, accept};
-ghost use Rattle.sheet.specs.code.Tables.{comments_in, groups_in, comments_part, groups_part};
-ghost use Rattle.report.specs.Buffer.{holds, wrote, buffer_as};
+ghost use Rattle.report.specs.Buffer.{Wrote};
 ghost use Rattle.report.specs.Origin.{encode_origin};
 ghost use Rattle.report.specs.Encode.{encode};
 ghost use Rattle.report.specs.Answer.{outcome_as, fitted};
@@ -15,7 +13,7 @@ ghost use Rattle.pragmas.specs.Origins.{types_origins};
 ghost use Rattle.dep.specs.Collect.{starts_of};
 ghost use Rattle.module_info.specs.Information.{module_info, default_info};
 ghost use Rattle.module_info.specs.Replaced.{noted};
-ghost use Rattle.module_info.specs.code.Pieces.{PartsIn, HeldBy, AcceptsIn};
+ghost use Rattle.module_info.specs.code.Pieces.{AcceptsIn};
 ghost use Rattle.rules.specs.code.Pieces.{comment_origins};
 ghost use Rattle.rules.specs.code.Rows.{starts_from};
 ghost use Rattle.wire.specs.Refusals.{number_of};
@@ -23,11 +21,12 @@ ghost use Rattle.rules.specs.Rules.{Ruled, rules_of, refused_both, both_fitted, 
 
 use jsdoc_list::notes::put_jsdoc_origins;
 use module_info::judge::judge;
-use module_info::{write_default, write_noted_report};
+use module_info::{comments_of, write_default, write_noted_report};
 use pragmas::origins::{put_end_origins, put_head_origins, put_types_origins};
-use report::writer::{Pen, clear_from, finish};
-use sheet::limits::{ENTRY_LIMIT, GROUPS_START, INDEX_START, SOURCE_LIMIT, TABLE_NUMBERS};
-use sheet::lookups::{end_group, head_group};
+use report::writer::{Outcome, Writer, clear_from};
+use sheet::commented::Comments;
+use sheet::limits::{ENTRY_LIMIT, SOURCE_LIMIT};
+use sheet::tables::Tables;
 use sheet_check::check::Parts;
 use wire::refusals::Refusal;
 
@@ -45,75 +44,44 @@ pub type Ruled = Result<Lengths, Refusal>;
 const NOTE_NUMBERS: usize = 1 + 2 * ENTRY_LIMIT;
 
 // Writes the origins of types, dependency by dependency, by where the node of each starts.
-fn put_types_rules(
-    source: &[u8],
-    parts: Parts,
-    tables: &[u32],
-    notes: &[usize],
-    out: &mut [u8],
-    place: Pen,
-) -> Pen
-    requires held_by { HeldBy source.now tables.now parts }
-    requires entries_in_bounds { 1 + 2 * parts.entries ≤ length notes.now }
-    ensures { buffer_as out.new result
-        ≡ wrote (buffer_as out.old place)
+fn put_types_rules(comments: &Comments, parts: Parts, notes: &[usize], w: &mut Writer)
+    requires { 1 + 2 * parts.entries ≤ length notes.now }
+    ensures { Wrote w.old w.new
         (flat_map encode_origin (flat_map
-        (types_origins source.now (comments_in (comments_part tables.now) parts.comments)
-        (groups_in (groups_part tables.now) parts.groups))
+        (types_origins comments.now.source comments.now.comments comments.now.groups)
         (starts_from notes.now 0 parts.entries))) }
 {
-    let comments = &tables[0..GROUPS_START];
-    let groups = &tables[GROUPS_START..INDEX_START];
-    let n = parts.comments;
-    let m = parts.groups;
-    let mut p = place;
     for k in 0..parts.entries {
-        let start = notes[1 + 2 * k];
-        p = put_types_origins(source, comments, n, groups, m, start, out, p);
+        put_types_origins(comments, notes[1 + 2 * k], w);
     }
-    p
 }
 
 // Writes those of what the head group gives, of the JSDoc imports and of the source map. `origins` is lent to work in.
-fn put_comment_rules(
-    source: &[u8],
-    parts: Parts,
-    tables: &[u32],
-    origins: &mut [u16],
-    out: &mut [u8],
-    place: Pen,
-) -> Pen
-    requires held_by { HeldBy source.now tables.now parts }
-    requires source_limit_in_bounds { source_limit ≤ length origins.old }
-    ensures { (t : Sheet) → PartsIn t source.now tables.now parts
-        → buffer_as out.new result ≡ wrote (buffer_as out.old place) (flat_map encode_origin (comment_origins t)) }
+#[tactic(auto, using(report::proofs::Buffers::more_append, laws::proofs::Lists::flat_map_append), unfolding(crate::specs::code::Pieces::comment_origins))]
+fn put_comment_rules(comments: &Comments, parts: Parts, origins: &mut [u16], w: &mut Writer)
+    requires { length comments.now.source ≤ length origins.old }
+    ensures { Wrote w.old w.new
+        (flat_map encode_origin (comment_origins parts.media parts.program comments.now)) }
 {
-    let comments = &tables[0..GROUPS_START];
-    let groups = &tables[GROUPS_START..INDEX_START];
-    let n = parts.comments;
-    let media = parts.media;
-    let head = head_group(groups, parts.groups, parts.program);
-    let p = put_head_origins(media, source, comments, n, head, out, place);
-    let p = put_jsdoc_origins(media, source, comments, n, origins, out, p);
-    let end = end_group(groups, parts.groups, parts.program);
-    put_end_origins(source, comments, n, end, out, p)
+    let head = comments.head_group(parts.program);
+    put_head_origins(parts.media, comments, head, w);
+    put_jsdoc_origins(parts.media, comments, origins, w);
+    let end = comments.end_group(parts.program);
+    put_end_origins(comments, end, w);
 }
 
-// Writes the rules of an accepted sheet from the front, with the starts of its dependencies' nodes in the notes.
-fn put_rules(sheet: &[u8], parts: Parts, tables: &[u32], notes: &[usize], out: &mut [u8]) -> Pen
+// Writes the rules of an accepted sheet, with the starts of its dependencies' nodes in the notes.
+fn put_rules(sheet: &[u8], parts: Parts, tables: &Tables, notes: &[usize], w: &mut Writer)
     requires accepts_in { AcceptsIn sheet.now tables.now parts }
     requires entries_in_bounds { 1 + 2 * parts.entries ≤ length notes.now }
     ensures { (t : Sheet) → accept sheet.now ≡ ok t []
         → starts_from notes.now 0 parts.entries ≡ starts_of (noted t)
-        → buffer_as out.new result ≡ wrote (holds (length out.old) []) (rules_of t) }
+        → Wrote w.old w.new (rules_of t) }
 {
+    let comments = comments_of(sheet, parts, tables);
     let mut origins = [0u16; SOURCE_LIMIT];
-    let start = parts.source_start;
-    let end = parts.source_end;
-    let source = &sheet[start..end];
-    let first = Pen { at: 0 };
-    let p = put_types_rules(source, parts, tables, notes, out, first);
-    put_comment_rules(source, parts, tables, &mut origins, out, p)
+    put_types_rules(&comments, parts, notes, w);
+    put_comment_rules(&comments, parts, &mut origins, w);
 }
 
 // A refusal: both buffers are zero.
@@ -126,18 +94,21 @@ fn refuse_both(refusal: Refusal, first: &mut [u8], second: &mut [u8]) -> Ruled
     Err(refusal)
 }
 
-// The end of the rules beside an accepted report of that length: every byte past them is zero; refusal 16 where a byte found no room.
-fn finish_rules(size: usize, place: Pen, buffer: &mut [u8], rules: &mut [u8]) -> Ruled
-    ensures { (a b : List ℕ) → outcome_as (Ok size) buffer.old ≡ fitted (length buffer.old) a
-        → buffer_as rules.old place ≡ wrote (holds (length rules.old) []) b
-        → both_as result buffer.new rules.new ≡ both_fitted (length buffer.old) (length rules.old) a b }
+// Both lengths, where the rules found room beside an accepted report of that length; else refusal 16, and the report's buffer is zero too.
+fn finish_rules(size: usize, rules: Outcome, buffer: &mut [u8]) -> Ruled
+    ensures { (a b out : List ℕ) (room : ℕ) → outcome_as (Ok size) buffer.old ≡ fitted (length buffer.old) a
+        → outcome_as rules out ≡ fitted room b
+        → both_as result buffer.new out ≡ both_fitted (length buffer.old) room a b }
 {
-    match finish(rules, place) {
+    match rules {
         Ok(length) => Ok(Lengths {
             report: size,
             rules: length,
         }),
-        Err(_) => refuse_both(Refusal::Rules, buffer, rules),
+        Err(_) => {
+            clear_from(buffer, 0);
+            Err(Refusal::Rules)
+        }
     }
 }
 
@@ -145,7 +116,7 @@ fn finish_rules(size: usize, place: Pen, buffer: &mut [u8], rules: &mut [u8]) ->
 fn write_ruled_report(
     sheet: &[u8],
     parts: Parts,
-    tables: &[u32; TABLE_NUMBERS],
+    tables: &Tables,
     buffer: &mut [u8],
     rules: &mut [u8],
 ) -> Ruled
@@ -158,8 +129,9 @@ fn write_ruled_report(
     match write_noted_report(sheet, parts, tables, buffer, &mut notes) {
         Err(refusal) => refuse_both(refusal, buffer, rules),
         Ok(n) => {
-            let place = put_rules(sheet, parts, tables, &notes, rules);
-            finish_rules(n, place, buffer, rules)
+            let mut w = Writer::new(rules);
+            put_rules(sheet, parts, tables, &notes, &mut w);
+            finish_rules(n, w.finish(), buffer)
         }
     }
 }
@@ -171,10 +143,7 @@ fn write_ruled_default(buffer: &mut [u8], rules: &mut [u8]) -> Ruled
 {
     match write_default(buffer) {
         Err(refusal) => refuse_both(refusal, buffer, rules),
-        Ok(n) => {
-            let none = Pen { at: 0 };
-            finish_rules(n, none, buffer, rules)
-        }
+        Ok(n) => finish_rules(n, Writer::new(rules).finish(), buffer),
     }
 }
 
@@ -183,7 +152,7 @@ pub fn with_rules(sheet: &[u8], buffer: &mut [u8], rules: &mut [u8]) -> Ruled
     ensures { DemandsOfBoth sheet.now (length buffer.old) (length rules.old) result
         buffer.new rules.new }
 {
-    let mut tables = [0u32; TABLE_NUMBERS];
+    let mut tables = Tables::new();
     match judge(sheet, &mut tables) {
         Ok(None) => write_ruled_default(buffer, rules),
         Ok(Some(parts)) => write_ruled_report(sheet, parts, &tables, buffer, rules),

@@ -1,17 +1,16 @@
 -- Which comments are in some group, from the longest group that begins at each.
 use Rattle.laws.proofs.Prelude.{◌≡◌, refl, sym, ◌∙◌, Bool, true, false, cond, ◌&&◌, ◌||◌, or-true, true≢false, false≢true, and-eq-true_iff, ◌⊎◌, inl, inr}
-use Rattle.laws.proofs.Prelude.{⊎_elim, ◌↔◌, List, [], ◌∷◌, ◌++◌, Memᴰ, Memᴰ_head, Memᴰ_tail, Memᴰ_not_nil, Memᴰ_cases_cons, ℕ}
-use Rattle.laws.proofs.Prelude.{zero, suc, ◌+◌, ◌-◌, ◌≤◌, ◌<◌, not-suc-le-zero, le_of_suc-le-suc, add-one, arith, eqb, leb, ltb, length}
-use Rattle.laws.proofs.Prelude.{get_or, replicate, length-replicate, leb-true, le-leb, ltb-true, ltb-false, eqb-true}
-use Rattle.laws.proofs.Prelude.{lt-ltb, le-ltb}
+use Rattle.laws.proofs.Prelude.{⊎_elim, ◌↔◌, List, [], ◌∷◌, Memᴰ, Memᴰ_head, Memᴰ_tail, Memᴰ_not_nil, Memᴰ_cases_cons, ℕ}
+use Rattle.laws.proofs.Prelude.{zero, suc, ◌+◌, ◌≤◌, ◌<◌, not-suc-le-zero, le_of_suc-le-suc, add-one, arith, eqb, leb, ltb, length}
+use Rattle.laws.proofs.Prelude.{get_or, replicate, leb-true, le-leb, ltb-true, ltb-false, eqb-true}
+use Rattle.laws.proofs.Prelude.{lt-ltb, le-ltb, drop, drop-cons, drop_of_length-le}
 use mathlib.Core.Bool.{or_assoc}
 use Prim.Native.Nat.{max}
-use native.Mathlib.Nat.{zero-max, max-zero, sub-eq-zero_of_le, eq-or-lt_of_le}
-use lib.{Dec.leb-suc-suc, ListN.get_or-replicate, ListN.get_or-append}
+use native.Mathlib.Nat.{zero-max, max-zero, eq-or-lt_of_le}
+use lib.{Dec.leb-suc-suc, ListN.get_or-replicate}
 use borrow.Author.Tests.{eqb-false}
-use Rattle.sheet.specs.{declared.groups.Group.Group, Fit.Holds, Fit.HeldBySome, code.Covering.longest_at}
+use Rattle.sheet.specs.{declared.groups.Group.Group, Fit.Holds, Fit.HeldBySome, Fit.no_group, Fit.group_of, code.Covering.longest_at}
 use Rattle.sheet.specs.Comments.{holds, in_some, covered}
-use Rattle.sheet.specs.code.Tables.{rows, group_in, groups_in}
 
 -- a number is below the larger of two just where it is below one of them
 below_max : (j a b : ℕ) → ltb j (max a b) ≡ (ltb j a || ltb j b)
@@ -138,27 +137,20 @@ module _ {gs : List Group} {i far : ℕ} (p : Passed gs i far) {long far' : ℕ}
   pass_stop l n h = uncovered gs n i h (rw (begun_here gs i, farther i (omega arith)) (le-ltb i far' l))
 
 -- what is kept for the first n comments, with the groups from the kth on, is what was kept with all the groups
-pub record Keeping (table : List ℕ) (m n : ℕ) (longest₀ longest : List ℕ) (k : ℕ) : Type 0 where
-  pub most : k ≤ m
-  pub rest : (i : ℕ) → i < n → max (get_or longest i 0) (longest_at (rows (group_in table) k (m - k)) i) ≡ max (get_or longest₀ i 0) (longest_at (groups_in table m) i)
+pub record Keeping (gs : List Group) (n : ℕ) (longest₀ longest : List ℕ) (k : ℕ) : Type 0 where
+  pub rest : (i : ℕ) → i < n → max (get_or longest i 0) (longest_at (drop k gs) i) ≡ max (get_or longest₀ i 0) (longest_at gs i)
 
-module _ {table : List ℕ} {m n : ℕ} {longest₀ longest : List ℕ} {k : ℕ} (h : Keeping table m n longest₀ longest k) where
-  pub keep_more : {longest' : List ℕ} → k < m
-      → ((i : ℕ) → i < n → get_or longest' i 0 ≡ max (get_or longest i 0) (cond (eqb (group_in table k).first i) (group_in table k).count 0))
-      → Keeping table m n longest₀ longest' (k + 1)
-  unfolding rows longest_at
-  keep_more {longest'} l raised =
-      let left : m - k ≡ suc (m - suc k) = omega arith in
-      record { most = omega arith; rest = λ i x. rw (add-one k) (omega (arith, rw left at (h.rest i x), raised i x)) }
+module _ {gs : List Group} {n : ℕ} {longest₀ longest : List ℕ} {k : ℕ} (h : Keeping gs n longest₀ longest k) where
+  pub keep_more : {longest' : List ℕ} → k < length gs
+      → ((i : ℕ) → i < n → get_or longest' i 0 ≡ max (get_or longest i 0) (cond (eqb (group_of gs k).first i) (group_of gs k).count 0))
+      → Keeping gs n longest₀ longest' (k + 1)
+  unfolding longest_at
+  keep_more {longest'} l raised = record { rest = λ i x. rw (add-one k) (omega (arith, rw (drop-cons gs k no_group l) at (h.rest i x), raised i x)) }
 
-  pub keep_all : m ≤ k → (i : ℕ) → i < n → get_or longest i 0 ≡ max (get_or longest₀ i 0) (longest_at (groups_in table m) i)
-  unfolding rows longest_at
-  keep_all x i l = rw (sub-eq-zero_of_le x, max-zero) at (h.rest i l)
+  pub keep_all : length gs ≤ k → (i : ℕ) → i < n → get_or longest i 0 ≡ max (get_or longest₀ i 0) (longest_at gs i)
+  unfolding longest_at
+  keep_all x i l = rw (drop_of_length-le gs x, max-zero) at (h.rest i l)
 
 -- from zeros
-pub keep_zeros : {longest : List ℕ} (n : ℕ) (rest : List ℕ) → longest ≡ replicate n 0 ++ rest → (i : ℕ) → i < n → {x y : ℕ} → x ≡ max (get_or longest i 0) y →
-    x ≡ y
-keep_zeros n rest e i l f =
-    let zeros : List ℕ = replicate n 0 in
-    let h : i < length zeros = rw length-replicate l in
-    rw (e, get_or-append zeros rest 0 i h, get_or-replicate {A = ℕ} n i 0 0 l, zero-max) at f
+pub keep_zeros : {longest : List ℕ} (n : ℕ) → longest ≡ replicate n 0 → (i : ℕ) → i < n → {x y : ℕ} → x ≡ max (get_or longest i 0) y → x ≡ y
+keep_zeros n e i l f = rw (e, get_or-replicate {A = ℕ} n i 0 0 l, zero-max) at f

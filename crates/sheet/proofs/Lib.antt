@@ -1,6 +1,5 @@
 pub mod EnumNumbers
 pub mod TableRows
-pub mod Stores
 pub mod Chains
 pub mod Filling
 pub mod CommentCodecs

@@ -1,30 +1,16 @@
--- What is known of a table's comments and groups by their index, of the comments of a group, and of the groups that are looked up.
-use Rattle.laws.proofs.Prelude.{◌≡◌, Bool, true, false, cond, List, [], ◌∷◌, Option, none-ne-some, ℕ, suc, ◌+◌, ◌-◌, ◌≤◌, ◌<◌, zero-le, suc-le-suc}
-use Rattle.laws.proofs.Prelude.{zero-add, length}
+-- What is known of a comment, and of the groups that are looked up.
+use Rattle.laws.proofs.Prelude.{◌≡◌, Bool, true, false, cond, List, [], ◌∷◌, Option, none-ne-some, ℕ, suc, ◌≤◌, ◌<◌, zero-le, suc-le-suc}
+use Rattle.laws.proofs.Prelude.{length}
 use Rattle.std.specs.Prelude.{None, Option, Some}
 use Rattle.laws.proofs.Options.{some-injective}
 use Rattle.sheet.specs.{declared.comments.Comment.Comment, declared.groups.Group.Group, Program.Program, declared.names.Side.Side}
-use Rattle.sheet.specs.code.Tables.{rows, comment_in, comments_in}
-use Rattle.sheet.specs.Fit.{Placed, Fit, Reaching, group_of, Grouped}
+use Rattle.sheet.specs.Fit.{Placed, Reaching, group_of, Grouped}
 use Rattle.sheet.specs.declared.names.Side.TheVariants.{Leading, Trailing}
-use Rattle.sheet.specs.Lookups.{stands_at, group_at, head_by, head_group, comments_of, last_comment_of}
-use Rattle.sheet.proofs.TableRows.{rows_length, rows_part, rows_last, comment_row_lem}
+use Rattle.sheet.specs.Lookups.{stands_at, group_at, head_by, head_group}
 
 -- a comment does not reach past the source
 pub placed_within : (source : List ℕ) (c : Comment) → Placed source c → c.span.end ≤ length source
 placed_within source c p = p.end.0
-
-module _ {source : List ℕ} (table : List ℕ) (n : ℕ) (f : Fit source (comments_in table n)) where
-  pub row_placed : (k : ℕ) → k < n → Placed source (comment_in table k)
-  row_placed k l = rw (comment_row_lem table n k l) at (f.each k (rw rows_length l))
-
--- the comments of a group are rows one after the other
-module _ (table : List ℕ) (n : ℕ) (g : Group) (r : Reaching n g) where
-  pub group_comments : comments_of (comments_in table n) g ≡ rows (comment_in table) g.first g.count
-  group_comments = rw zero-add at (rows_part (comment_in table) 0 n g.first g.count r.reach)
-
-  pub group_last : last_comment_of (comments_in table n) g ≡ Some (comment_in table (g.first + (g.count - 1)))
-  group_last = rw group_comments (rows_last (comment_in table) g.first g.count r.some)
 
 -- what holds of each group holds of the one that is found
 found_each : (Q : Group → Type 0) (gs : List Group) (side : Side) (position : ℕ) → ((k : ℕ) → k < length gs → Q (group_of gs k)) → {g : Group}

@@ -1,105 +1,122 @@
 -- The search for the group of a side at a position, in rows that ascend.
-use Rattle.std.specs.Prelude.{Some, None}
-use Rattle.laws.proofs.Prelude.{◌≡◌, refl, Bool, true, false, and-eq-true_iff, ◌⊎◌, inl, inr, List, ℕ, zero, suc, ◌+◌, ◌≤◌, ◌<◌, zero-le}
-use Rattle.laws.proofs.Prelude.{suc-le-suc, add-zero, zero-add, not-suc-le-zero, le_of_suc-le-suc, arith, eqb, ltb, ltb-true, ltb-false, eqb-true}
-use native.Mathlib.Nat.{add-suc, suc-add, eq-or-lt_of_le}
-use Rattle.wire.proofs.Numbered.{one_number}
-use Rattle.sheet.specs.{declared.groups.Group.Group, declared.names.Side.Side, Names.side_number, Comments.precedes, Comments.may_follow, Fit.Ascending}
-use Rattle.sheet.specs.code.Tables.{rows, group_in, groups_in}
+use Rattle.std.specs.Prelude.{Some, None, Result, Ok, Err, option_map}
+use Rattle.std.specs.Result.{result_ok}
+use Rattle.std.specs.declared.cmp.Ordering.{Ordering}
+use Rattle.std.specs.declared.cmp.Ordering.TheVariants.{Less, Equal, Greater}
+use Rattle.std.specs.Ordering.{nat_cmp, ordering_then, ordering_index}
+use Rattle.std.specs.List.Sorted.{IsSearchInRange, IsBinarySearchResult, IsNonDecreasingBy}
+use Rattle.std.proofs.lemmas.Bool.{cases_lt}
+use Rattle.std.proofs.lemmas.Bool.Decides.{nat_tests}
+use Rattle.std.proofs.lemmas.List.Sorted.{IsNonDecreasingBy-from_default}
+use Rattle.std.proofs.lemmas.List.{length-map}
+use Rattle.laws.proofs.Prelude.{◌≡◌, refl, sym, ap, ◌∙◌, true, false, ◌⊎◌, inl, inr, ⊎_elim, List, [], ◌∷◌, ℕ, zero, suc, ◌≤◌, ◌<◌, zero-le, suc-le-suc, ◌&&◌}
+use Rattle.laws.proofs.Prelude.{not-suc-le-zero, le_of_suc-le-suc, arith, eqb, length, get_or}
+use native.Mathlib.Nat.{eq-or-lt_of_le}
+use Rattle.sheet.specs.declared.{groups.Group.Group, groups.GroupRow.GroupRow, names.Side.Side}
+use Rattle.sheet.specs.declared.names.Side.TheVariants.{Leading, Trailing}
+use Rattle.sheet.specs.contracts.names.SideOrd.TheImpl as side_ord
+use Rattle.sheet.specs.{Names.side_number, Fit.Ascending, Fit.Precedes, Fit.group_of}
+use Rattle.sheet.specs.code.Tables.{group_in, groups_in}
 use Rattle.sheet.specs.Lookups.{stands_at, group_at}
-use Rattle.sheet.proofs.{EnumNumbers.side_numbers, TableRows.rows_length, TableRows.group_row_lem}
-use Rattle.sheet.proofs.Order.{in_order, irreflexive, precedes_trans, otherwise}
+use Rattle.sheet.proofs.TableRows.{no_group_row, group_row_lem}
 
-module _ (g : Group) (side : Side) (position : ℕ) where
-  stands : stands_at g side position ≡ true → (g.side ≡ side) × (g.position ≡ position)
-  stands e =
-      let (s, p) = (and-eq-true_iff (eqb (side_number g.side) (side_number side)) (eqb g.position position)).0 e in
-      (one_number side_numbers (eqb-true (side_number g.side) (side_number side) s), eqb-true g.position position p)
+-- a side's number and a position against those sought
+abbrev compared : ℕ → ℕ → ℕ → ℕ → Ordering
+compared a p s q = ordering_then (nat_cmp a s) (nat_cmp p q)
 
-  elsewhere : ((g.side ≡ side) × (g.position ≡ position) → ⊥) → stands_at g side position ≡ false
-  elsewhere h = go (stands_at g side position) refl
-    where
-      go : (b : Bool) → stands_at g side position ≡ b → b ≡ false
-      go true e = absurd (h (stands e))
-      go false e = refl
+-- and before another's
+abbrev Below : ℕ → ℕ → ℕ → ℕ → Type 0
+Below a p b r = (a < b) ⊎ ((a ≡ b) × (p < r))
 
-  -- a group that comes before the place sought, or behind it, does not stand there
-  before_other : may_follow g side position ≡ true → stands_at g side position ≡ false
-  before_other e = elsewhere (λ h. irreflexive side position (rw (h.0, h.1) at e))
+module _ (a p s q : ℕ) where
+  there : compared a p s q ≡ Equal → (eqb a s && eqb p q) ≡ true
+  there e = grind (arith, nat_tests)
 
-  behind_other : precedes side position g.side g.position ≡ true → stands_at g side position ≡ false
-  behind_other e = elsewhere (λ h. irreflexive side position (rw (h.0, h.1) at e))
+  before : compared a p s q ≡ Less → (eqb a s && eqb p q) ≡ false
+  before e = grind (arith, nat_tests)
 
--- among rows none of which stands there no group is found; else the first that does
-module _ (row : ℕ → Group) (side : Side) (position : ℕ) where
-  none_there : (k n : ℕ) → ((i : ℕ) → i < n → stands_at (row (k + i)) side position ≡ false) → group_at (rows row k n) side position ≡ None
-  unfolding rows group_at
-  none_there k zero h = refl
-  none_there k (suc n) h =
-      let first : stands_at (row k) side position ≡ false = rw add-zero at (h 0 (suc-le-suc zero-le)) in
-      rw first (none_there (suc k) n (λ i l. rw (add-suc, ← suc-add) at (h (suc i) (suc-le-suc l))))
+  behind : compared a p s q ≡ Greater → (eqb a s && eqb p q) ≡ false
+  behind e = grind (arith, nat_tests)
 
-  first_there : (k n i : ℕ) → i < n → ((j : ℕ) → j < i → stands_at (row (k + j)) side position ≡ false) → stands_at (row (k + i)) side position ≡ true
-      → group_at (rows row k n) side position ≡ Some (row (k + i))
-  unfolding rows group_at
-  first_there k zero i l h e = absurd (not-suc-le-zero l)
-  first_there k (suc n) zero l h e = rw add-zero (rw (rw add-zero at e))
-  first_there k (suc n) (suc i) l h e =
-      let first : stands_at (row k) side position ≡ false = rw add-zero at (h 0 (suc-le-suc zero-le)) in
-      rw (first, add-suc, ← suc-add)
-      (first_there (suc k) n i (le_of_suc-le-suc l) (λ j m. rw (add-suc, ← suc-add) at (h (suc j) (suc-le-suc m))) (rw (add-suc, ← suc-add) at e))
+  rises : (b r : ℕ) → Below a p b r → ordering_index (compared a p s q) ≤ ordering_index (compared b r s q)
+  rises b r (inl h) = grind (arith, nat_tests)
+  rises b r (inr h) = grind (arith, nat_tests)
 
--- the rows before lo come before the place sought, and those from hi on behind it
-pub record Searched (table : List ℕ) (m : ℕ) (side : Side) (position lo hi : ℕ) : Type 0 where
-  pub order : lo ≤ hi
-  pub most : hi ≤ m
-  pub below : (k : ℕ) → k < lo → may_follow (group_in table k) side position ≡ true
-  pub above : (k : ℕ) → hi ≤ k → k < m → precedes side position (group_in table k).side (group_in table k).position ≡ true
+  earlier : (b r : ℕ) → Below a p b r → (eqb b s && eqb r q) ≡ true → (eqb a s && eqb p q) ≡ false
+  earlier b r (inl h) e = grind (arith, nat_tests)
+  earlier b r (inr h) e = grind (arith, nat_tests)
 
-module _ {table : List ℕ} {m : ℕ} {side : Side} {position lo hi : ℕ} (s : Searched table m side position lo hi) where
-  -- nothing is left to search
-  pub search_none : hi ≤ lo → group_at (groups_in table m) side position ≡ None
-  search_none h = none_there (group_in table) side position 0 m (λ i l. rw zero-add (go i l (ltb i lo) refl))
-    where
-      go : (i : ℕ) → i < m → (b : Bool) → ltb i lo ≡ b → stands_at (group_in table i) side position ≡ false
-      go i l true e = before_other (group_in table i) side position (s.below i (ltb-true i lo e))
-      go i l false e = behind_other (group_in table i) side position (s.above i (omega (arith, ltb-false i lo e)) l)
+-- among groups none of which stands there none is found; else the first that does
+module _ (side : Side) (position : ℕ) where
+  none_there : (gs : List Group) → ((i : ℕ) → i < length gs → stands_at (group_of gs i) side position ≡ false) → group_at gs side position ≡ None
+  unfolding group_at
+  none_there [] h = refl
+  none_there (g ∷ gs) h = rw (h 0 (suc-le-suc zero-le)) (none_there gs (λ i l. h (suc i) (suc-le-suc l)))
 
-  module _ (asc : Ascending (groups_in table m)) (mid : ℕ) (l : mid < m) where
-    -- a row comes before a later one
-    rise : (j k : ℕ) → j < k → k < m → may_follow (group_in table j) (group_in table k).side (group_in table k).position ≡ true
-    rise j k i h =
-        in_order (group_in table j).side (group_in table j).position (group_in table k).side (group_in table k).position
-        (rw (group_row_lem table m j (omega arith), group_row_lem table m k h) at (asc.rise j k i (rw rows_length h)))
+  first_there : (gs : List Group) (i : ℕ) → i < length gs → ((j : ℕ) → j < i → stands_at (group_of gs j) side position ≡ false)
+      → stands_at (group_of gs i) side position ≡ true → group_at gs side position ≡ Some (group_of gs i)
+  unfolding group_at
+  first_there [] i l h e = absurd (not-suc-le-zero l)
+  first_there (g ∷ gs) zero l h e = rw e refl
+  first_there (g ∷ gs) (suc i) l h e =
+      rw (h 0 (suc-le-suc zero-le)) (first_there gs i (le_of_suc-le-suc l) (λ j m. h (suc j) (suc-le-suc m)) e)
 
-    pub search_found : stands_at (group_in table mid) side position ≡ true → group_at (groups_in table m) side position ≡ Some (group_in table mid)
-    search_found e =
-        let (s, p) = stands (group_in table mid) side position e in
-        let there : (j : ℕ) → j < mid → may_follow (group_in table j) side position ≡ true = λ j i. rw (s, p) at (rise j mid i l) in
-        rw zero-add at (first_there (group_in table) side position 0 m mid l (λ j i. rw zero-add (before_other (group_in table j) side position (there j i)))
-        (rw zero-add e))
+-- sides compare by their numbers
+by_number : (s t : Side) → side_ord.ghosts.cmp s t ≡ nat_cmp (side_number s) (side_number t)
+by_number Leading Leading = refl
+by_number Leading Trailing = refl
+by_number Trailing Leading = refl
+by_number Trailing Trailing = refl
 
-    pub search_up : may_follow (group_in table mid) side position ≡ true → mid < hi → Searched table m side position (mid + 1) hi
-    search_up e y = record {
-      order = omega arith;
-      most = s.most;
-      below = λ k i. go k (eq-or-lt_of_le (let h : k ≤ mid = omega arith in h));
-      above = s.above;
-    }
+-- how the place of a row's group compares with the one sought
+abbrev pub place_order : Side → ℕ → GroupRow → Ordering
+place_order side position row = ordering_then (side_ord.ghosts.cmp row.side side) (nat_cmp row.position position)
+
+module _ (rows : List GroupRow) (side : Side) (position : ℕ) where
+  -- the same in numbers
+  abbrev order : GroupRow → Ordering
+  order r = compared (side_number r.side) r.position (side_number side) position
+
+  in_numbers : (r : GroupRow) → order r ≡ place_order side position r
+  in_numbers r = ap (λ o. ordering_then o (nat_cmp r.position position)) (sym (by_number r.side side))
+
+  abbrev row : ℕ → GroupRow
+  row i = get_or rows i no_group_row
+
+  module _ (asc : Ascending (groups_in rows)) where
+    below : (i j : ℕ) → i < j → j < length rows → Below (side_number (row i).side) (row i).position (side_number (row j).side) (row j).position
+    below i j l h =
+        let first : i < length rows = omega arith in
+        by (rw (group_row_lem rows i first, group_row_lem rows j h) at (asc.rise i j l (rw length-map h)))
       where
-        go : (k : ℕ) → (k ≡ mid) ⊎ (k < mid) → may_follow (group_in table k) side position ≡ true
-        go k (inl x) = rw x e
-        go k (inr x) = let g = group_in table k in let h = group_in table mid in precedes_trans g.side g.position h.side h.position side position
-            (rise k mid x l) e
+        by : Precedes (group_in (row i)) (group_in (row j)) → Below (side_number (row i).side) (row i).position (side_number (row j).side) (row j).position
+        by (inl x) = inl x
+        by (inr x) = inr (ap side_number x.0, x.1)
 
-    pub search_down : stands_at (group_in table mid) side position ≡ false → may_follow (group_in table mid) side position ≡ false → lo ≤ mid
-        → Searched table m side position lo mid
-    search_down d e x = record { order = x; most = omega arith; below = s.below; above = λ k h i. go k i (eq-or-lt_of_le h) }
+    rising : IsNonDecreasingBy (λ r. ordering_index (place_order side position r)) rows
+    rising = IsNonDecreasingBy-from_default (λ r. ordering_index (place_order side position r)) rows no_group_row
+        (λ i j l h. rw (← in_numbers (row i), ← in_numbers (row j)) (go i j h (eq-or-lt_of_le l)))
       where
-        behind : precedes side position (group_in table mid).side (group_in table mid).position ≡ true
-        behind = otherwise (group_in table mid).side (group_in table mid).position side position d e
+        go : (i j : ℕ) → j < length rows → (i ≡ j) ⊎ (i < j) → ordering_index (order (row i)) ≤ ordering_index (order (row j))
+        go i j h (inl e) = rw e (omega arith)
+        go i j h (inr l) =
+            rises (side_number (row i).side) (row i).position (side_number side) position (side_number (row j).side) (row j).position (below i j l h)
 
-        go : (k : ℕ) → k < m → (mid ≡ k) ⊎ (mid < k) → precedes side position (group_in table k).side (group_in table k).position ≡ true
-        go k i (inl h) = rw (← h) behind
-        go k i (inr h) = let g = group_in table mid in let n = group_in table k in precedes_trans side position g.side g.position n.side
-            n.position behind (rise mid k h i)
+    pub searched : (r : Result ℕ ℕ) → IsSearchInRange r (length rows) → IsBinarySearchResult (place_order side position) rows r
+        → group_at (groups_in rows) side position ≡ option_map (λ i. group_in (row i)) (result_ok r)
+    searched (Ok i) inside equal =
+        let stands = there (side_number (row i).side) (row i).position (side_number side) position (in_numbers (row i) ∙ equal no_group_row) in
+        first_there side position (groups_in rows) i (rw length-map inside)
+        (λ j l. let h : j < length rows = omega arith in
+        rw (group_row_lem rows j h)
+        (earlier (side_number (row j).side) (row j).position (side_number side) position (side_number (row i).side) (row i).position (below j i l inside) stands))
+        (rw (group_row_lem rows i inside) stands)
+        ∙ ap Some (group_row_lem rows i inside)
+    searched (Err i) inside parted =
+        let (low, high) = parted rising in
+        none_there side position (groups_in rows) (λ k l. let h : k < length rows = rw length-map at l in
+        rw (group_row_lem rows k h)
+        (⊎_elim
+        (λ less. before (side_number (row k).side) (row k).position (side_number side) position (in_numbers (row k) ∙ low k no_group_row zero-le less))
+        (λ most. behind (side_number (row k).side) (row k).position (side_number side) position (in_numbers (row k) ∙ high k no_group_row most h))
+        (cases_lt k i)))

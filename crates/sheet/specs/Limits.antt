@@ -1,5 +1,5 @@
--- Document 01's limits of a sheet, and the sizes of tables that follow from them.
-use Rattle.std.specs.Prelude.{ℕ, ◌+◌, ◌*◌, ◌/◌}
+-- Document 01's limits of a sheet, and how many dependencies it can have.
+use Rattle.std.specs.Prelude.{ℕ, ◌/◌}
 
 -- bytes of a sheet
 abbrev pub sheet_limit : ℕ
@@ -36,27 +36,3 @@ entry_bytes = 9
 -- dependencies
 abbrev pub entry_limit : ℕ
 entry_limit = sheet_limit / entry_bytes
-
--- numbers in a table of comments, three for each
-abbrev pub comment_numbers : ℕ
-comment_numbers = 3 * comment_limit
-
--- of groups, four for each
-abbrev pub group_numbers : ℕ
-group_numbers = 4 * group_limit
-
--- in the index of the source, two for each 64 bytes and two for what is left
-abbrev pub index_numbers : ℕ
-index_numbers = 2 * (source_limit / 64 + 1)
-
--- where the groups' numbers start in the one table that is lent, behind the comments'
-abbrev pub groups_start : ℕ
-groups_start = comment_numbers
-
--- where the index's do
-abbrev pub index_start : ℕ
-index_start = groups_start + group_numbers
-
--- in the whole of it
-abbrev pub table_numbers : ℕ
-table_numbers = index_start + index_numbers

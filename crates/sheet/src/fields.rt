@@ -5,6 +5,7 @@ ghost use Rattle.text.specs.Position.{is_boundary};
 ghost use Rattle.wire.specs.code.Views.{read_as, Past};
 ghost use Rattle.sheet.specs.Fields.{position, end_from, span};
 
+use crate::Sheet;
 use text::position::goes_on;
 use wire::refusals::Refusal;
 use wire::{Cursor, Reading};
@@ -25,13 +26,13 @@ fn is_boundary(source: &[u8], p: usize) -> bool
 }
 
 #[tactic(auto, unfolding(crate::specs::Fields::position))]
-pub fn read_position(sheet: &[u8], source: &[u8], c: Cursor) -> Reading<usize>
-    ensures { Told (read_as sheet.now)
-        (position source.now (drop c.at sheet.now))
-        (Past c.at (length sheet.now)) result }
+pub fn read_position(sheet: &Sheet, c: Cursor) -> Reading<usize>
+    ensures { Told (read_as sheet.now.bytes.now)
+        (position sheet.now.source.now (drop c.at sheet.now.bytes.now))
+        (Past c.at (length sheet.now.bytes.now)) result }
 {
-    let (p, next) = c.number(sheet)?;
-    if is_boundary(source, p) {
+    let (p, next) = c.number(sheet.bytes)?;
+    if is_boundary(sheet.source, p) {
         Ok((p, next))
     } else {
         Err(Refusal::Position)
@@ -40,12 +41,12 @@ pub fn read_position(sheet: &[u8], source: &[u8], c: Cursor) -> Reading<usize>
 
 // A position that does not precede `start`.
 #[tactic(auto, unfolding(crate::specs::Fields::end_from))]
-pub fn read_end(sheet: &[u8], source: &[u8], c: Cursor, start: usize) -> Reading<usize>
-    ensures { Told (read_as sheet.now)
-        (end_from source.now start (drop c.at sheet.now))
-        (Past c.at (length sheet.now)) result }
+pub fn read_end(sheet: &Sheet, c: Cursor, start: usize) -> Reading<usize>
+    ensures { Told (read_as sheet.now.bytes.now)
+        (end_from sheet.now.source.now start (drop c.at sheet.now.bytes.now))
+        (Past c.at (length sheet.now.bytes.now)) result }
 {
-    let (end, next) = read_position(sheet, source, c)?;
+    let (end, next) = read_position(sheet, c)?;
     if start <= end {
         Ok((end, next))
     } else {
@@ -54,12 +55,12 @@ pub fn read_end(sheet: &[u8], source: &[u8], c: Cursor, start: usize) -> Reading
 }
 
 #[tactic(auto, unfolding(crate::specs::Fields::span))]
-pub fn read_span(sheet: &[u8], source: &[u8], c: Cursor) -> Reading<Span>
-    ensures { Told (read_as sheet.now)
-        (span source.now (drop c.at sheet.now))
-        (Past c.at (length sheet.now)) result }
+pub fn read_span(sheet: &Sheet, c: Cursor) -> Reading<Span>
+    ensures { Told (read_as sheet.now.bytes.now)
+        (span sheet.now.source.now (drop c.at sheet.now.bytes.now))
+        (Past c.at (length sheet.now.bytes.now)) result }
 {
-    let (start, next) = read_position(sheet, source, c)?;
-    let (end, next) = read_end(sheet, source, next, start)?;
+    let (start, next) = read_position(sheet, c)?;
+    let (end, next) = read_end(sheet, next, start)?;
     Ok((Span { start, end }, next))
 }

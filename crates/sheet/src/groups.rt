@@ -1,15 +1,15 @@
-// Groups of comments, read into a table of four numbers a row.
-ghost use Rattle.std.specs.Prelude.{◌≡◌, ◌&&◌, ◌+◌, ◌*◌, ◌≤◌, ◌<◌, leb, ltb, length, drop};
-ghost use Rattle.std.proofs.lemmas.List.Edits.{sets};
-ghost use Rattle.laws.specs.code.Left.{KeptFrom};
-ghost use Rattle.laws.specs.code.Told.{Leaving, Told};
+// Groups of comments, read into a table.
+ghost use Rattle.std.specs.Prelude.{◌≡◌, ◌&&◌, ◌+◌, ◌<◌, leb, ltb, length, drop};
+ghost use Rattle.laws.specs.code.Told.{Told};
 ghost use Rattle.wire.specs.code.Views.{read_as, Past};
 ghost use Rattle.sheet.specs.Comments.{precedes, anywhere, group, groups};
-ghost use Rattle.sheet.specs.code.Tables.{group_row, group_in};
+ghost use Rattle.sheet.specs.code.Tables.{group_in};
 ghost use Rattle.sheet.specs.code.Views.{after_as, groups_as};
 
 use super::fields::read_position;
-use super::names::{Side, side_number, side_of};
+use super::names::{Side, side_of};
+use crate::Sheet;
+use std::mem::size_of;
 use wire::refusals::Refusal;
 use wire::{Cursor, Reading};
 
@@ -20,6 +20,42 @@ pub struct Group {
     pub position: usize,
     pub first: usize,
     pub count: usize,
+}
+
+// A group in a row of a table, which takes 16 bytes.
+#[derive(Clone, Copy, Default)]
+pub struct GroupRow {
+    pub(crate) side: Side,
+    pub(crate) position: u32,
+    pub(crate) first: u32,
+    pub(crate) count: u32,
+}
+
+const _: () = prove!(size_of::<GroupRow>() == 16);
+
+impl GroupRow {
+    fn new(g: Group) -> GroupRow
+        requires { (g.position < 4294967296) × (g.first < 4294967296) × (g.count < 4294967296) }
+        ensures { group_in result ≡ g }
+    {
+        GroupRow {
+            side: g.side,
+            position: g.position as u32,
+            first: g.first as u32,
+            count: g.count as u32,
+        }
+    }
+
+    pub fn group(self) -> Group
+        ensures { result ≡ group_in self }
+    {
+        Group {
+            side: self.side,
+            position: self.position as usize,
+            first: self.first as usize,
+            count: self.count as usize,
+        }
+    }
 }
 
 // Does one side and position come before another: by side, then by position?
@@ -50,24 +86,23 @@ fn reaches(first: usize, count: usize, total: usize) -> bool
 // A group of comments among `total`, behind another or the first.
 #[tactic(auto, unfolding(crate::specs::Comments::group, wire::specs::Fields::numbered))]
 fn read_group(
-    sheet: &[u8],
-    source: &[u8],
+    sheet: &Sheet,
     c: Cursor,
     total: usize,
     before: Option<(Side, usize)>,
 ) -> Reading<Group>
-    ensures { Told (read_as sheet.now)
-        (group source.now total (after_as before) (drop c.at sheet.now))
-        (Past c.at (length sheet.now)) result }
+    ensures { Told (read_as sheet.now.bytes.now)
+        (group sheet.now.source.now total (after_as before) (drop c.at sheet.now.bytes.now))
+        (Past c.at (length sheet.now.bytes.now)) result }
 {
-    let (side, next) = c.below(sheet, 2)?;
-    let (position, next) = read_position(sheet, source, next)?;
+    let (side, next) = c.below(sheet.bytes, 2)?;
+    let (position, next) = read_position(sheet, next)?;
     let side = side_of(side);
     if !may_follow(before, side, position) {
         return Err(Refusal::Comments);
     }
-    let (first, next) = next.number(sheet)?;
-    let (count, next) = next.number(sheet)?;
+    let (first, next) = next.number(sheet.bytes)?;
+    let (count, next) = next.number(sheet.bytes)?;
     if !reaches(first, count, total) {
         return Err(Refusal::Comments);
     }
@@ -80,56 +115,21 @@ fn read_group(
     Ok((group, next))
 }
 
-// Stores a group in the kth row of a table.
-fn put_group(table: &mut [u32], k: usize, g: Group)
-    requires k_in_bounds { 4 * k + 3 < length table.old }
-    requires position_bound { (g.position < 4294967296) × (g.first < 4294967296) × (g.count < 4294967296) }
-    ensures { table.new ≡ sets table.old (4 * k) (group_row g) }
-{
-    let at = 4 * k;
-    table[at] = side_number(g.side);
-    table[at + 1] = g.position as u32;
-    table[at + 2] = g.first as u32;
-    table[at + 3] = g.count as u32;
-}
-
-// The group in the kth row of a table.
-pub fn group_at(table: &[u32], k: usize) -> Group
-    requires { 4 * k + 3 < length table.now }
-    ensures { result ≡ group_in table.now k }
-{
-    let at = 4 * k;
-    let side = side_of(table[at] as usize);
-    let position = table[at + 1] as usize;
-    let first = table[at + 2] as usize;
-    let count = table[at + 3] as usize;
-    Group {
-        side,
-        position,
-        first,
-        count,
-    }
-}
-
-// Reads m groups of comments among `total` into the first m rows of a table, which a refusal leaves free. Behind these nothing is changed.
+// Reads as many groups, of comments among `total`, as the table has rows, which a refusal leaves free.
 pub fn read_groups(
-    sheet: &[u8],
-    source: &[u8],
+    sheet: &Sheet,
     c: Cursor,
     total: usize,
-    m: usize,
-    table: &mut [u32],
+    table: &mut [GroupRow],
 ) -> Result<Cursor, Refusal>
-    requires { 4 * m ≤ length table.old }
-    ensures { Leaving
-        (groups_as sheet.now table.new m result ≡ groups source.now total anywhere m (drop c.at sheet.now))
-        (KeptFrom (4 * m) table.old table.new) }
+    ensures { groups_as sheet.now.bytes.now table.new result
+        ≡ groups sheet.now.source.now total anywhere (length table.old) (drop c.at sheet.now.bytes.now) }
 {
     let mut next = c;
     let mut before = None;
-    for k in 0..m {
-        let (g, after) = read_group(sheet, source, next, total, before)?;
-        put_group(table, k, g);
+    for row in table.iter_mut() {
+        let (g, after) = read_group(sheet, next, total, before)?;
+        *row = GroupRow::new(g);
         before = Some((g.side, g.position));
         next = after;
     }

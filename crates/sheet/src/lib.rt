@@ -1,6 +1,7 @@
 // The sheet's positions, comments, groups and program, read field by field; its nodes are read in sheet_heads and sheet_nodes.
 #![tactic(auto)]
 
+pub mod commented;
 pub mod comments;
 pub mod covering;
 pub mod fields;
@@ -9,3 +10,11 @@ pub mod limits;
 pub mod lookups;
 pub mod names;
 pub mod program;
+pub mod tables;
+
+// A sheet's bytes, and its source among them: what fields and nodes are read from.
+#[derive(Clone, Copy)]
+pub struct Sheet<'a> {
+    pub bytes: &'a [u8],
+    pub source: &'a [u8],
+}

@@ -27,20 +27,5 @@ pub const ENTRY_BYTES: usize = 9;
 // Dependencies.
 pub const ENTRY_LIMIT: usize = SHEET_LIMIT / ENTRY_BYTES;
 
-// Numbers in a table of comments, three for each.
-pub const COMMENT_NUMBERS: usize = 3 * COMMENT_LIMIT;
-
-// Of groups, four for each.
-pub const GROUP_NUMBERS: usize = 4 * GROUP_LIMIT;
-
-// In the index of the source, two for each 64 bytes and two for what is left.
+// Numbers in the index of the source, two for each 64 bytes and two for what is left.
 pub const INDEX_NUMBERS: usize = 2 * (SOURCE_LIMIT / 64 + 1);
-
-// In the one table that is lent, which has the comments' numbers, then the groups', then the index's.
-pub const TABLE_NUMBERS: usize = INDEX_START + INDEX_NUMBERS;
-
-// Where the groups' numbers start in it.
-pub const GROUPS_START: usize = COMMENT_NUMBERS;
-
-// Where the index's do.
-pub const INDEX_START: usize = GROUPS_START + GROUP_NUMBERS;

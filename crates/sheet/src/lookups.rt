@@ -1,65 +1,44 @@
 // The groups and the comments that the readings ask for.
-ghost use Rattle.std.specs.Prelude.{◌≡◌, ◌*◌, ◌≤◌, length};
+ghost use Rattle.std.specs.Prelude.{◌≡◌, ◌≤◌, length};
 ghost use Rattle.sheet.specs.Comments.{opening, closing};
 ghost use Rattle.sheet.specs.code.Tables.{groups_in};
 ghost use Rattle.sheet.specs.Fit.{Ascending};
-ghost use Rattle.sheet.specs.Lookups.{stands_at, group_at, end_group, head_group, HoldsMarks, body_span, body};
+ghost use Rattle.sheet.specs.Lookups.{group_at, end_group, head_group, HoldsMarks, body_span, body};
 
 use super::comments::Comment;
 use super::fields::Span;
-use super::groups::{Group, group_at, precedes};
+use super::groups::{Group, GroupRow};
 use super::names::{CommentKind, Side};
 use super::program::Program;
 
-fn stands_at(g: Group, side: Side, position: usize) -> bool
-    ensures { result ≡ stands_at g side position }
+// The group of a side at a position.
+pub fn find_group(groups: &[GroupRow], side: Side, position: usize) -> Option<Group>
+    requires { Ascending (groups_in groups.now) }
+    ensures { result ≡ group_at (groups_in groups.now) side position }
 {
-    g.side == side && g.position == position
-}
-
-// The group of a side at a position, among the m groups of a table.
-pub fn find_group(table: &[u32], m: usize, side: Side, position: usize) -> Option<Group>
-    requires m_in_bounds { 4 * m ≤ length table.now }
-    requires ascending { Ascending (groups_in table.now m) }
-    ensures { result ≡ group_at (groups_in table.now m) side position }
-{
-    let mut lo = 0;
-    let mut hi = m;
-    while lo < hi {
-        let mid = lo + (hi - lo) / 2;
-        let g = group_at(table, mid);
-        if stands_at(g, side, position) {
-            return Some(g);
-        }
-        if precedes(g.side, g.position, side, position) {
-            lo = mid + 1;
-        } else {
-            hi = mid;
-        }
-    }
-    None
+    let place = |row: &GroupRow| (row.side, row.position as usize);
+    let at = groups.binary_search_by_key(&(side, position), place).ok()?;
+    Some(groups[at].group())
 }
 
 // The trailing group at the program's end.
-pub fn end_group(table: &[u32], m: usize, program: Program) -> Option<Group>
-    requires m_in_bounds { 4 * m ≤ length table.now }
-    requires ascending { Ascending (groups_in table.now m) }
-    ensures { result ≡ end_group program (groups_in table.now m) }
+pub fn end_group(groups: &[GroupRow], program: Program) -> Option<Group>
+    requires { Ascending (groups_in groups.now) }
+    ensures { result ≡ end_group program (groups_in groups.now) }
 {
-    find_group(table, m, Side::Trailing, program.span.end)
+    find_group(groups, Side::Trailing, program.span.end)
 }
 
 // The head group.
 #[tactic(auto, unfolding(crate::specs::Lookups::head_group))]
-pub fn head_group(table: &[u32], m: usize, program: Program) -> Option<Group>
-    requires m_in_bounds { 4 * m ≤ length table.now }
-    requires ascending { Ascending (groups_in table.now m) }
-    ensures { result ≡ head_group program (groups_in table.now m) }
+pub fn head_group(groups: &[GroupRow], program: Program) -> Option<Group>
+    requires { Ascending (groups_in groups.now) }
+    ensures { result ≡ head_group program (groups_in groups.now) }
 {
     match program.first {
-        Some(item) => find_group(table, m, Side::Leading, item),
-        None if program.shebang => end_group(table, m, program),
-        None => find_group(table, m, Side::Leading, program.span.start),
+        Some(item) => find_group(groups, Side::Leading, item),
+        None if program.shebang => end_group(groups, program),
+        None => find_group(groups, Side::Leading, program.span.start),
     }
 }
 

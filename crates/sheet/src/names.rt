@@ -1,10 +1,10 @@
 // The enums of a sheet, and the value of each number.
-// No `TryFrom`: a byte above the last number is refused where it is read, by its limit, and a row of a table is read back without a refusal.
+// No `TryFrom`: a byte above the last number is refused where it is read, by its limit.
 ghost use Rattle.std.specs.Prelude.{◌≡◌};
 ghost use Rattle.wire.specs.Fields.{value_of};
 ghost use Rattle.sheet.specs.Media.{is_java_script, is_jsx};
 ghost use Rattle.sheet.specs.Comments.{is_block};
-ghost use Rattle.sheet.specs.Names.{media_types, kind_number, comment_kinds, side_number, sides, import_phases};
+ghost use Rattle.sheet.specs.Names.{media_types, comment_kinds, sides, import_phases};
 
 #[derive(Clone, Copy)]
 pub enum MediaType {
@@ -56,8 +56,9 @@ pub fn is_jsx(media: MediaType) -> bool
 }
 
 // The last two are the HTML-like comments of ECMAScript's Annex B.
-#[derive(Clone, Copy)]
+#[derive(Clone, Copy, Default)]
 pub enum CommentKind {
+    #[default]
     Line,
     Block,
     HtmlOpen,
@@ -75,12 +76,6 @@ pub fn comment_kind(n: usize) -> CommentKind
     }
 }
 
-pub fn kind_number(kind: CommentKind) -> u32
-    ensures { result ≡ kind_number kind }
-{
-    kind as u32
-}
-
 pub fn is_block(kind: CommentKind) -> bool
     ensures { result ≡ is_block kind }
 {
@@ -88,8 +83,9 @@ pub fn is_block(kind: CommentKind) -> bool
 }
 
 // The side of a group at its position: the leading ones come first.
-#[derive(Clone, Copy, PartialEq, Eq, PartialOrd, Ord)]
+#[derive(Clone, Copy, Default, PartialEq, Eq, PartialOrd, Ord)]
 pub enum Side {
+    #[default]
     Leading,
     Trailing,
 }
@@ -101,12 +97,6 @@ pub fn side_of(n: usize) -> Side
         0 => Side::Leading,
         _ => Side::Trailing,
     }
-}
-
-pub fn side_number(side: Side) -> u32
-    ensures { result ≡ side_number side }
-{
-    side as u32
 }
 
 #[derive(Clone, Copy)]

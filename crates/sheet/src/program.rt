@@ -7,6 +7,7 @@ ghost use Rattle.sheet.specs.Fields.{position};
 ghost use Rattle.sheet.specs.Program.{program};
 
 use super::fields::{Span, read_position, read_span};
+use crate::Sheet;
 use wire::{Cursor, Reading};
 
 #[derive(Clone, Copy)]
@@ -19,14 +20,14 @@ pub struct Program {
 }
 
 #[tactic(auto, unfolding(wire::specs::Optional::optional))]
-fn read_first_item(sheet: &[u8], source: &[u8], c: Cursor) -> Reading<Option<usize>>
-    ensures { Told (read_as sheet.now)
-        (optional (position source.now) (drop c.at sheet.now))
-        (Past c.at (length sheet.now)) result }
+fn read_first_item(sheet: &Sheet, c: Cursor) -> Reading<Option<usize>>
+    ensures { Told (read_as sheet.now.bytes.now)
+        (optional (position sheet.now.source.now) (drop c.at sheet.now.bytes.now))
+        (Past c.at (length sheet.now.bytes.now)) result }
 {
-    let (has_item, next) = c.flag(sheet)?;
+    let (has_item, next) = c.flag(sheet.bytes)?;
     if has_item {
-        let (p, next) = read_position(sheet, source, next)?;
+        let (p, next) = read_position(sheet, next)?;
         Ok((Some(p), next))
     } else {
         Ok((None, next))
@@ -34,15 +35,15 @@ fn read_first_item(sheet: &[u8], source: &[u8], c: Cursor) -> Reading<Option<usi
 }
 
 #[tactic(auto, unfolding(crate::specs::Program::program))]
-pub fn read_program(sheet: &[u8], source: &[u8], c: Cursor) -> Reading<Program>
-    ensures { Told (read_as sheet.now)
-        (program source.now (drop c.at sheet.now))
-        (Past c.at (length sheet.now)) result }
+pub fn read_program(sheet: &Sheet, c: Cursor) -> Reading<Program>
+    ensures { Told (read_as sheet.now.bytes.now)
+        (program sheet.now.source.now (drop c.at sheet.now.bytes.now))
+        (Past c.at (length sheet.now.bytes.now)) result }
 {
-    let (script, next) = c.flag(sheet)?;
-    let (span, next) = read_span(sheet, source, next)?;
-    let (shebang, next) = next.flag(sheet)?;
-    let (first, next) = read_first_item(sheet, source, next)?;
+    let (script, next) = c.flag(sheet.bytes)?;
+    let (span, next) = read_span(sheet, next)?;
+    let (shebang, next) = next.flag(sheet.bytes)?;
+    let (first, next) = read_first_item(sheet, next)?;
     let program = Program {
         script,
         span,

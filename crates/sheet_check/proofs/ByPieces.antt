@@ -1,9 +1,8 @@
 -- `accept` from the pieces of a sheet.
-use Rattle.laws.proofs.Prelude.{◌≡◌, List, ℕ, ◌≤◌}
-use Rattle.laws.specs.Decoded.{ok, and_then, Decoder, ◌>>=◌, return}
-use Rattle.laws.proofs.Decoding.{value, then_ok, then_then}
-use Rattle.wire.{specs.Text.count, proofs.TextCodec.count_codec}
-use Rattle.sheet.specs.{Limits.comment_limit, declared.comments.Comment.Comment, Comments.comments, Program.Program, Tree.Node}
+use Rattle.laws.proofs.Prelude.{◌≡◌, List, ℕ}
+use Rattle.laws.specs.Decoded.{and_then, Decoder, ◌>>=◌, return}
+use Rattle.laws.proofs.Decoding.{then_then}
+use Rattle.sheet.specs.{Program.Program, Tree.Node}
 use Rattle.sheet.specs.Sheet.{Sheet, sheet, sized, decode_sheet, accept}
 use Rattle.sheet_check.specs.code.Pieces.{source_fields, comment_fields, group_fields, Front, front, tree}
 
@@ -20,11 +19,3 @@ with_tree f = do
 pub accept_by_pieces : (s : List ℕ) → accept s ≡ and_then (sized s) (λ u t. and_then (front t) with_tree)
 unfolding accept decode_sheet sheet front source_fields comment_fields group_fields tree
 accept_by_pieces s = simp then_then
-
--- there are at most 1,024 comments
-pub few_comments : (source s : List ℕ) {p : ℕ × List Comment} {t : List ℕ} → comment_fields source s ≡ ok p t → p.0 ≤ comment_limit
-unfolding comment_fields
-few_comments source s e =
-    let (n, u, a, e) = then_ok (count comment_limit s) _ e in
-    let (cs, v, b, e) = then_ok (comments source 0 n u) _ e in
-    rw (← value e) ((count_codec comment_limit).sound s n u a).1.0

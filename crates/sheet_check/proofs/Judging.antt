@@ -2,9 +2,10 @@
 use Rattle.laws.proofs.Prelude.{◌≡◌, refl, List, ℕ, ◌≤◌, ◌<◌, length, drop, le-leb, lt-leb}
 use Rattle.laws.specs.Decoded.{ok, no}
 use Rattle.text.specs.Bytes.{part}
+use Rattle.sheet.specs.declared.{comments.CommentRow.CommentRow, groups.GroupRow.GroupRow}
 use Rattle.sheet.specs.{Limits.sheet_limit, Sheet.sized, Sheet.accept}
 use Rattle.sheet_check.specs.declared.front.Front as declared
-use Rattle.sheet_check.specs.{declared.tree.Tree.Tree, code.Pieces.front, code.Pieces.tree, code.Views.front_of, code.Views.Stands, code.Accepts.Accepts}
+use Rattle.sheet_check.specs.{declared.tree.Tree.Tree, code.Pieces.front, code.Pieces.tree, code.Views.front_of, code.Views.Inside, code.Views.Stands, code.Accepts.Accepts}
 use Rattle.sheet_check.proofs.ByPieces.{whole, accept_by_pieces}
 
 pub too_many : (s : List ℕ) → sheet_limit < length s → accept s ≡ no 1
@@ -17,12 +18,13 @@ module _ (s : List ℕ) (few : length s ≤ sheet_limit) where
   pub refused_front : {r : ℕ} → front s ≡ no r → accept s ≡ no r
   refused_front e = rw (accept_by_pieces s, fits, e)
 
-  module _ (comment_table group_table : List ℕ) (t : declared.Front) (at : ℕ) (e : front s ≡ ok (front_of s comment_table group_table t) (drop at s)) where
+  module _ (comment_table : List CommentRow) (group_table : List GroupRow) (t : declared.Front) (at : ℕ)
+      (e : front s ≡ ok (front_of s comment_table group_table t) (drop at s)) where
     pub refused_tree : {r : ℕ} → tree (part s t.source_start t.source_end) (drop at s) ≡ no r → accept s ≡ no r
     refused_tree h = rw (accept_by_pieces s, fits, e, h)
 
     pub accepts : (x : Tree)
-        → (t.source_start ≤ t.source_end) × (t.source_end ≤ length s)
+        → Inside (length s) t
         → Stands s (part s t.source_start t.source_end) at x
         → Accepts s comment_table group_table (record {
           media = t.media;
@@ -36,15 +38,16 @@ module _ (s : List ℕ) (few : length s ≤ sheet_limit) where
           reach = x.reach;
         })
     unfolding tree
-    accepts x places stands =
+    accepts x inside stands =
         record {
           sheet = whole (front_of s comment_table group_table t) (x.program, stands.root);
           accepted = rw (accept_by_pieces s, fits, e, stands.before, stands.stands, stands.cooked);
           media = refl;
           source = refl;
-          places = places;
+          places = inside.places;
           comments = refl;
           groups = refl;
+          few = inside.few;
           program = refl;
           root = stands.stands;
           entries = stands.gives;

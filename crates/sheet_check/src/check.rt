@@ -1,14 +1,13 @@
 // The check of a whole sheet.
-ghost use Rattle.laws.specs.code.Left.{Free};
-ghost use Rattle.laws.specs.code.Told.{Leaving};
-ghost use Rattle.sheet.specs.code.Tables.{comments_part, groups_part};
 ghost use Rattle.sheet_check.specs.code.Accepts.{Judges};
 
 use super::front::read_front;
 use super::tree::check_tree;
-use sheet::limits::{COMMENT_LIMIT, SHEET_LIMIT, TABLE_NUMBERS};
+use sheet::Sheet;
+use sheet::limits::{COMMENT_LIMIT, SHEET_LIMIT};
 use sheet::names::MediaType;
 use sheet::program::Program;
+use sheet::tables::Tables;
 use wire::refusals::Refusal;
 
 // What the report is made from: places in the sheet, and how many rows its tables have.
@@ -25,16 +24,14 @@ pub struct Parts {
     pub reach: usize,
 }
 
-// Judges a sheet: its parts if it meets none of refusals 1 to 9, or the first that it meets. The table for its comments and groups is lent, and
+// Judges a sheet: its parts if it meets none of refusals 1 to 9, or the first that it meets. The tables for its comments and groups are lent, and
 // `longest` to work in. Left free: `longest`, the rows behind those of the sheet, the index, and after a refusal all rows.
 pub fn check_sheet(
     sheet: &[u8],
-    tables: &mut [u32; TABLE_NUMBERS],
+    tables: &mut Tables,
     longest: &mut [u32; COMMENT_LIMIT],
 ) -> Result<Parts, Refusal>
-    ensures { Leaving
-        (Judges sheet.now (comments_part tables.new) (groups_part tables.new) result)
-        (Free tables.old tables.new × Free longest.old longest.new) }
+    ensures { Judges sheet.now tables.new.comments tables.new.groups result }
 {
     if SHEET_LIMIT < sheet.len() {
         return Err(Refusal::SheetLength);
@@ -42,7 +39,9 @@ pub fn check_sheet(
     let (front, next) = read_front(sheet, tables, longest)?;
     let start = front.source_start;
     let end = front.source_end;
-    let tree = check_tree(sheet, &sheet[start..end], next)?;
+    let source = &sheet[start..end];
+    let bytes = sheet;
+    let tree = check_tree(&Sheet { bytes, source }, next)?;
     Ok(Parts {
         media: front.media,
         source_start: start,

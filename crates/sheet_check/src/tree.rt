@@ -1,6 +1,7 @@
 // The program and the root of a sheet, with refusals 8 and 9 behind them.
 ghost use Rattle.sheet_check.specs.code.Views.{TreeFound};
 
+use sheet::Sheet;
 use sheet::limits::DEPTH_LIMIT;
 use sheet::program::{Program, read_program};
 use sheet_nodes::root::check_root;
@@ -18,14 +19,14 @@ pub struct Tree {
 }
 
 // Reads the program and checks the root, behind which the sheet ends; then refusal 8, then refusal 9.
-pub fn check_tree(sheet: &[u8], source: &[u8], c: Cursor) -> Result<Tree, Refusal>
-    ensures { TreeFound sheet.now source.now c.at result }
+pub fn check_tree(sheet: &Sheet, c: Cursor) -> Result<Tree, Refusal>
+    ensures { TreeFound sheet.now.bytes.now sheet.now.source.now c.at result }
 {
-    let (program, next) = read_program(sheet, source, c)?;
-    let (root, after) = check_root(sheet, source, next, DEPTH_LIMIT)?;
+    let (program, next) = read_program(sheet, c)?;
+    let (root, after) = check_root(sheet, next, DEPTH_LIMIT)?;
     let found = root.tally;
     let end = after.at;
-    if end < sheet.len() {
+    if end < sheet.bytes.len() {
         return Err(Refusal::Trailing);
     }
     if found.uncooked {

@@ -14,6 +14,7 @@ ghost use Rattle.sheet_heads.specs.code.Head.{import_equals_start, module_start,
 ghost use Rattle.sheet_heads.specs.code.Views.{tag_number, specifier_as, fields_as, head_as, Part, PastSpecifier, PastFields, PastHead};
 
 use super::quoted::{Quoted, Tag, read_quoted, read_string_text, read_tag};
+use sheet::Sheet;
 use sheet::fields::{Span, read_span};
 use sheet::limits::{PROPERTY_LIMIT, TEXT_LIMIT};
 use sheet::names::{ImportPhase, import_phase};
@@ -79,13 +80,13 @@ fn read_other(sheet: &[u8], c: Cursor) -> Reading<Head>
     Ok((Head::Other(n), next))
 }
 
-fn read_string(sheet: &[u8], source: &[u8], c: Cursor, span: Span) -> Reading<Head>
-    requires { Part (length source.now) span.start span.end }
-    ensures { Told (fields_as sheet.now)
-        (on_ok string_head (string_text source.now span (drop c.at sheet.now)))
-        (PastFields c.at (length sheet.now)) result }
+fn read_string(sheet: &Sheet, c: Cursor, span: Span) -> Reading<Head>
+    requires { Part (length sheet.now.source.now) span.start span.end }
+    ensures { Told (fields_as sheet.now.bytes.now)
+        (on_ok string_head (string_text sheet.now.source.now span (drop c.at sheet.now.bytes.now)))
+        (PastFields c.at (length sheet.now.bytes.now)) result }
 {
-    let (start, next) = read_string_text(sheet, source, c, span)?;
+    let (start, next) = read_string_text(sheet, c, span)?;
     Ok((Head::String(start, next.at), next))
 }
 
@@ -141,26 +142,26 @@ fn read_call(sheet: &[u8], c: Cursor) -> Reading<Head>
 
 // A String, and the flag of the attributes behind it.
 #[tactic(auto, unfolding(crate::specs::code::Head::specifier_start))]
-fn read_specifier(sheet: &[u8], source: &[u8], c: Cursor, levels: usize) -> Reading<(Quoted, bool)>
-    ensures { Told (specifier_as sheet.now)
-        (specifier_start source.now levels (drop c.at sheet.now))
-        (PastSpecifier c.at (length sheet.now)) result }
+fn read_specifier(sheet: &Sheet, c: Cursor, levels: usize) -> Reading<(Quoted, bool)>
+    ensures { Told (specifier_as sheet.now.bytes.now)
+        (specifier_start sheet.now.source.now levels (drop c.at sheet.now.bytes.now))
+        (PastSpecifier c.at (length sheet.now.bytes.now)) result }
 {
-    let (specifier, next) = read_quoted(sheet, source, c, levels)?;
-    let (has_object, next) = next.flag(sheet)?;
+    let (specifier, next) = read_quoted(sheet, c, levels)?;
+    let (has_object, next) = next.flag(sheet.bytes)?;
     Ok(((specifier, has_object), next))
 }
 
 #[tactic(auto, unfolding(crate::specs::code::Head::import_start, wire::specs::Fields::numbered))]
-fn read_import(sheet: &[u8], source: &[u8], c: Cursor, levels: usize) -> Reading<Head>
-    ensures { Told (fields_as sheet.now)
-        (import_start source.now levels (drop c.at sheet.now))
-        (PastFields c.at (length sheet.now)) result }
+fn read_import(sheet: &Sheet, c: Cursor, levels: usize) -> Reading<Head>
+    ensures { Told (fields_as sheet.now.bytes.now)
+        (import_start sheet.now.source.now levels (drop c.at sheet.now.bytes.now))
+        (PastFields c.at (length sheet.now.bytes.now)) result }
 {
-    let (type_only, next) = c.flag(sheet)?;
-    let (phase, next) = next.below(sheet, 3)?;
-    let (side_effect, next) = next.flag(sheet)?;
-    let ((specifier, has_object), next) = read_specifier(sheet, source, next, levels)?;
+    let (type_only, next) = c.flag(sheet.bytes)?;
+    let (phase, next) = next.below(sheet.bytes, 3)?;
+    let (side_effect, next) = next.flag(sheet.bytes)?;
+    let ((specifier, has_object), next) = read_specifier(sheet, next, levels)?;
     Ok((
         Head::Import {
             type_only,
@@ -174,15 +175,15 @@ fn read_import(sheet: &[u8], source: &[u8], c: Cursor, levels: usize) -> Reading
 }
 
 #[tactic(auto, unfolding(crate::specs::code::Head::named_export_start))]
-fn read_named_export(sheet: &[u8], source: &[u8], c: Cursor, levels: usize) -> Reading<Head>
-    ensures { Told (fields_as sheet.now)
-        (named_export_start source.now levels (drop c.at sheet.now))
-        (PastFields c.at (length sheet.now)) result }
+fn read_named_export(sheet: &Sheet, c: Cursor, levels: usize) -> Reading<Head>
+    ensures { Told (fields_as sheet.now.bytes.now)
+        (named_export_start sheet.now.source.now levels (drop c.at sheet.now.bytes.now))
+        (PastFields c.at (length sheet.now.bytes.now)) result }
 {
-    let (type_only, next) = c.flag(sheet)?;
-    let (named, next) = next.flag(sheet)?;
+    let (type_only, next) = c.flag(sheet.bytes)?;
+    let (named, next) = next.flag(sheet.bytes)?;
     if named {
-        let ((specifier, has_object), next) = read_specifier(sheet, source, next, levels)?;
+        let ((specifier, has_object), next) = read_specifier(sheet, next, levels)?;
         return Ok((
             Head::ExportFrom {
                 type_only,
@@ -196,13 +197,13 @@ fn read_named_export(sheet: &[u8], source: &[u8], c: Cursor, levels: usize) -> R
 }
 
 #[tactic(auto, unfolding(crate::specs::code::Head::export_all_start))]
-fn read_export_all(sheet: &[u8], source: &[u8], c: Cursor, levels: usize) -> Reading<Head>
-    ensures { Told (fields_as sheet.now)
-        (export_all_start source.now levels (drop c.at sheet.now))
-        (PastFields c.at (length sheet.now)) result }
+fn read_export_all(sheet: &Sheet, c: Cursor, levels: usize) -> Reading<Head>
+    ensures { Told (fields_as sheet.now.bytes.now)
+        (export_all_start sheet.now.source.now levels (drop c.at sheet.now.bytes.now))
+        (PastFields c.at (length sheet.now.bytes.now)) result }
 {
-    let (type_only, next) = c.flag(sheet)?;
-    let ((specifier, has_object), next) = read_specifier(sheet, source, next, levels)?;
+    let (type_only, next) = c.flag(sheet.bytes)?;
+    let ((specifier, has_object), next) = read_specifier(sheet, next, levels)?;
     Ok((
         Head::ExportAll {
             type_only,
@@ -214,38 +215,38 @@ fn read_export_all(sheet: &[u8], source: &[u8], c: Cursor, levels: usize) -> Rea
 }
 
 #[tactic(auto, unfolding(crate::specs::code::Head::import_type_start))]
-fn read_import_type(sheet: &[u8], source: &[u8], c: Cursor, levels: usize) -> Reading<Head>
-    ensures { Told (fields_as sheet.now)
-        (import_type_start source.now levels (drop c.at sheet.now))
-        (PastFields c.at (length sheet.now)) result }
+fn read_import_type(sheet: &Sheet, c: Cursor, levels: usize) -> Reading<Head>
+    ensures { Told (fields_as sheet.now.bytes.now)
+        (import_type_start sheet.now.source.now levels (drop c.at sheet.now.bytes.now))
+        (PastFields c.at (length sheet.now.bytes.now)) result }
 {
-    let (x, next) = read_quoted(sheet, source, c, levels)?;
-    let (n, next) = next.number(sheet)?;
+    let (x, next) = read_quoted(sheet, c, levels)?;
+    let (n, next) = next.number(sheet.bytes)?;
     Ok((Head::ImportType(x, n), next))
 }
 
 #[tactic(auto, unfolding(crate::specs::code::Head::import_equals_start))]
-fn read_import_equals(sheet: &[u8], source: &[u8], c: Cursor, levels: usize) -> Reading<Head>
-    ensures { Told (fields_as sheet.now)
-        (import_equals_start source.now levels (drop c.at sheet.now))
-        (PastFields c.at (length sheet.now)) result }
+fn read_import_equals(sheet: &Sheet, c: Cursor, levels: usize) -> Reading<Head>
+    ensures { Told (fields_as sheet.now.bytes.now)
+        (import_equals_start sheet.now.source.now levels (drop c.at sheet.now.bytes.now))
+        (PastFields c.at (length sheet.now.bytes.now)) result }
 {
-    let (external, next) = c.flag(sheet)?;
+    let (external, next) = c.flag(sheet.bytes)?;
     if external {
-        return read_import_require(sheet, source, next, levels);
+        return read_import_require(sheet, next, levels);
     }
     Ok((Head::ImportEquals, next))
 }
 
 #[tactic(auto, unfolding(crate::specs::code::Head::import_require_start))]
-fn read_import_require(sheet: &[u8], source: &[u8], c: Cursor, levels: usize) -> Reading<Head>
-    ensures { Told (fields_as sheet.now)
-        (import_require_start source.now levels (drop c.at sheet.now))
-        (PastFields c.at (length sheet.now)) result }
+fn read_import_require(sheet: &Sheet, c: Cursor, levels: usize) -> Reading<Head>
+    ensures { Told (fields_as sheet.now.bytes.now)
+        (import_require_start sheet.now.source.now levels (drop c.at sheet.now.bytes.now))
+        (PastFields c.at (length sheet.now.bytes.now)) result }
 {
-    let (type_only, next) = c.flag(sheet)?;
-    let (export, next) = next.flag(sheet)?;
-    let (specifier, next) = read_quoted(sheet, source, next, levels)?;
+    let (type_only, next) = c.flag(sheet.bytes)?;
+    let (export, next) = next.flag(sheet.bytes)?;
+    let (specifier, next) = read_quoted(sheet, next, levels)?;
     Ok((
         Head::ImportRequire {
             type_only,
@@ -257,62 +258,55 @@ fn read_import_require(sheet: &[u8], source: &[u8], c: Cursor, levels: usize) ->
 }
 
 #[tactic(auto, unfolding(crate::specs::code::Head::module_start, wire::specs::Optional::optional))]
-fn read_module(sheet: &[u8], source: &[u8], c: Cursor, levels: usize) -> Reading<Head>
-    ensures { Told (fields_as sheet.now)
-        (module_start source.now levels (drop c.at sheet.now))
-        (PastFields c.at (length sheet.now)) result }
+fn read_module(sheet: &Sheet, c: Cursor, levels: usize) -> Reading<Head>
+    ensures { Told (fields_as sheet.now.bytes.now)
+        (module_start sheet.now.source.now levels (drop c.at sheet.now.bytes.now))
+        (PastFields c.at (length sheet.now.bytes.now)) result }
 {
-    let (named, next) = c.flag(sheet)?;
+    let (named, next) = c.flag(sheet.bytes)?;
     if named {
-        let (x, next) = read_quoted(sheet, source, next, levels)?;
-        let (n, next) = next.number(sheet)?;
+        let (x, next) = read_quoted(sheet, next, levels)?;
+        let (n, next) = next.number(sheet.bytes)?;
         return Ok((Head::NamedModule(x, n), next));
     }
-    let (n, next) = next.number(sheet)?;
+    let (n, next) = next.number(sheet.bytes)?;
     Ok((Head::Module(n), next))
 }
 
 // The fields of a head, by the span and the tag, where so many levels are left below the node.
 #[tactic(auto, unfolding(crate::specs::code::Head::start))]
-fn read_fields(
-    sheet: &[u8],
-    source: &[u8],
-    c: Cursor,
-    levels: usize,
-    span: Span,
-    tag: Tag,
-) -> Reading<Head>
-    requires { Part (length source.now) span.start span.end }
-    ensures { Told (fields_as sheet.now)
-        (start source.now levels span (tag_number tag) (drop c.at sheet.now))
-        (PastFields c.at (length sheet.now)) result }
+fn read_fields(sheet: &Sheet, c: Cursor, levels: usize, span: Span, tag: Tag) -> Reading<Head>
+    requires { Part (length sheet.now.source.now) span.start span.end }
+    ensures { Told (fields_as sheet.now.bytes.now)
+        (start sheet.now.source.now levels span (tag_number tag) (drop c.at sheet.now.bytes.now))
+        (PastFields c.at (length sheet.now.bytes.now)) result }
 {
     match tag {
-        Tag::Other => read_other(sheet, c),
-        Tag::String => read_string(sheet, source, c, span),
-        Tag::Name => read_name(sheet, c),
-        Tag::Template => read_template(sheet, c),
-        Tag::Binary => read_binary(sheet, c),
-        Tag::Object => read_object(sheet, c),
-        Tag::Call => read_call(sheet, c),
-        Tag::Import => read_import(sheet, source, c, levels),
-        Tag::NamedExport => read_named_export(sheet, source, c, levels),
-        Tag::ExportAll => read_export_all(sheet, source, c, levels),
-        Tag::ImportType => read_import_type(sheet, source, c, levels),
-        Tag::ImportEquals => read_import_equals(sheet, source, c, levels),
-        Tag::Module => read_module(sheet, source, c, levels),
+        Tag::Other => read_other(sheet.bytes, c),
+        Tag::String => read_string(sheet, c, span),
+        Tag::Name => read_name(sheet.bytes, c),
+        Tag::Template => read_template(sheet.bytes, c),
+        Tag::Binary => read_binary(sheet.bytes, c),
+        Tag::Object => read_object(sheet.bytes, c),
+        Tag::Call => read_call(sheet.bytes, c),
+        Tag::Import => read_import(sheet, c, levels),
+        Tag::NamedExport => read_named_export(sheet, c, levels),
+        Tag::ExportAll => read_export_all(sheet, c, levels),
+        Tag::ImportType => read_import_type(sheet, c, levels),
+        Tag::ImportEquals => read_import_equals(sheet, c, levels),
+        Tag::Module => read_module(sheet, c, levels),
     }
 }
 
 // The head of a node, with so many levels left, its own among them.
 #[tactic(auto, unfolding(crate::specs::code::Head::head))]
-pub fn read_head(sheet: &[u8], source: &[u8], c: Cursor, levels: usize) -> Reading<(Span, Head)>
-    ensures { Told (head_as sheet.now)
-        (head source.now levels (drop c.at sheet.now))
-        (PastHead c.at (length sheet.now) levels) result }
+pub fn read_head(sheet: &Sheet, c: Cursor, levels: usize) -> Reading<(Span, Head)>
+    ensures { Told (head_as sheet.now.bytes.now)
+        (head sheet.now.source.now levels (drop c.at sheet.now.bytes.now))
+        (PastHead c.at (length sheet.now.bytes.now) levels) result }
 {
-    let (tag, next) = read_tag(sheet, c, levels)?;
-    let (span, next) = read_span(sheet, source, next)?;
-    let (head, next) = read_fields(sheet, source, next, levels - 1, span, tag)?;
+    let (tag, next) = read_tag(sheet.bytes, c, levels)?;
+    let (span, next) = read_span(sheet, next)?;
+    let (head, next) = read_fields(sheet, next, levels - 1, span, tag)?;
     Ok(((span, head), next))
 }

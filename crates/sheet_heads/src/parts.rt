@@ -9,6 +9,7 @@ ghost use Rattle.sheet_heads.specs.code.Parts.{argument_head, key_head, property
 ghost use Rattle.sheet_heads.specs.code.Views.{piece_as, nodes_of, property_as, PastPiece, PastPieces, PastProperty, PastAttributes};
 
 use super::quoted::{Tag, read_tag_of};
+use sheet::Sheet;
 use sheet::fields::{Span, read_span};
 use sheet::limits::{PROPERTY_LIMIT, TEXT_LIMIT};
 use text::utf8::Encoding;
@@ -70,13 +71,13 @@ pub fn read_pieces(sheet: &[u8], c: Cursor, count: usize) -> Reading<bool>
 
 // An argument up to its node: is it spread, and its span.
 #[tactic(auto, unfolding(crate::specs::code::Parts::argument_head))]
-pub fn read_argument(sheet: &[u8], source: &[u8], c: Cursor) -> Reading<(bool, Span)>
-    ensures { Told (read_as sheet.now)
-        (argument_head source.now (drop c.at sheet.now))
-        (Past c.at (length sheet.now)) result }
+pub fn read_argument(sheet: &Sheet, c: Cursor) -> Reading<(bool, Span)>
+    ensures { Told (read_as sheet.now.bytes.now)
+        (argument_head sheet.now.source.now (drop c.at sheet.now.bytes.now))
+        (Past c.at (length sheet.now.bytes.now)) result }
 {
-    let (spread, next) = c.flag(sheet)?;
-    let (span, next) = read_span(sheet, source, next)?;
+    let (spread, next) = c.flag(sheet.bytes)?;
+    let (span, next) = read_span(sheet, next)?;
     Ok(((spread, span), next))
 }
 
@@ -125,18 +126,13 @@ pub fn read_property(sheet: &[u8], c: Cursor) -> Reading<Property>
 
 // An Object that holds attributes up to its properties, with so many levels left, its own among them: its span and the number of its properties.
 #[tactic(auto, unfolding(crate::specs::code::Parts::attributes_head))]
-pub fn read_attributes(
-    sheet: &[u8],
-    source: &[u8],
-    c: Cursor,
-    levels: usize,
-) -> Reading<(Span, usize)>
-    ensures { Told (read_as sheet.now)
-        (attributes_head source.now levels (drop c.at sheet.now))
-        (PastAttributes c.at (length sheet.now) levels) result }
+pub fn read_attributes(sheet: &Sheet, c: Cursor, levels: usize) -> Reading<(Span, usize)>
+    ensures { Told (read_as sheet.now.bytes.now)
+        (attributes_head sheet.now.source.now levels (drop c.at sheet.now.bytes.now))
+        (PastAttributes c.at (length sheet.now.bytes.now) levels) result }
 {
-    let (_, next) = read_tag_of(sheet, c, Tag::Object, levels)?;
-    let (span, next) = read_span(sheet, source, next)?;
-    let (count, next) = next.count(sheet, PROPERTY_LIMIT)?;
+    let (_, next) = read_tag_of(sheet.bytes, c, Tag::Object, levels)?;
+    let (span, next) = read_span(sheet, next)?;
+    let (count, next) = next.count(sheet.bytes, PROPERTY_LIMIT)?;
     Ok(((span, count), next))
 }

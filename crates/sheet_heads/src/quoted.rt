@@ -6,6 +6,7 @@ ghost use Rattle.sheet.specs.Quotation.{looks_quoted};
 ghost use Rattle.sheet.specs.Nodes.{judge_tag, tag, string_text, quoted};
 ghost use Rattle.sheet_heads.specs.code.Views.{OfTag, tag_number, tag_as, quoted_as, Part, PastTag, PastQuoted};
 
+use sheet::Sheet;
 use sheet::fields::{Span, read_span};
 use sheet::limits::TEXT_LIMIT;
 use text::utf8::Encoding;
@@ -110,14 +111,14 @@ fn looks_quoted(text: &[u8]) -> bool
 
 // Where the text of a String starts whose span was read; before it, the source there must look like one.
 #[tactic(auto, unfolding(sheet::specs::Nodes::string_text))]
-pub fn read_string_text(sheet: &[u8], source: &[u8], c: Cursor, span: Span) -> Reading<usize>
-    requires { Part (length source.now) span.start span.end }
-    ensures { Told (text_as sheet.now)
-        (string_text source.now span (drop c.at sheet.now))
-        (PastText c.at (length sheet.now)) result }
+pub fn read_string_text(sheet: &Sheet, c: Cursor, span: Span) -> Reading<usize>
+    requires { Part (length sheet.now.source.now) span.start span.end }
+    ensures { Told (text_as sheet.now.bytes.now)
+        (string_text sheet.now.source.now span (drop c.at sheet.now.bytes.now))
+        (PastText c.at (length sheet.now.bytes.now)) result }
 {
-    if looks_quoted(&source[span.start..span.end]) {
-        c.text(sheet, Encoding::Wtf8, TEXT_LIMIT)
+    if looks_quoted(&sheet.source[span.start..span.end]) {
+        c.text(sheet.bytes, Encoding::Wtf8, TEXT_LIMIT)
     } else {
         Err(Refusal::Quotation)
     }
@@ -125,14 +126,14 @@ pub fn read_string_text(sheet: &[u8], source: &[u8], c: Cursor, span: Span) -> R
 
 // A String, with so many levels left, its own among them.
 #[tactic(auto, unfolding(sheet::specs::Nodes::quoted))]
-pub fn read_quoted(sheet: &[u8], source: &[u8], c: Cursor, levels: usize) -> Reading<Quoted>
-    ensures { Told (quoted_as sheet.now)
-        (quoted source.now levels (drop c.at sheet.now))
-        (PastQuoted c.at (length sheet.now)) result }
+pub fn read_quoted(sheet: &Sheet, c: Cursor, levels: usize) -> Reading<Quoted>
+    ensures { Told (quoted_as sheet.now.bytes.now)
+        (quoted sheet.now.source.now levels (drop c.at sheet.now.bytes.now))
+        (PastQuoted c.at (length sheet.now.bytes.now)) result }
 {
-    let (_, next) = read_tag_of(sheet, c, Tag::String, levels)?;
-    let (span, next) = read_span(sheet, source, next)?;
-    let (start, next) = read_string_text(sheet, source, next, span)?;
+    let (_, next) = read_tag_of(sheet.bytes, c, Tag::String, levels)?;
+    let (span, next) = read_span(sheet, next)?;
+    let (start, next) = read_string_text(sheet, next, span)?;
     let end = next.at;
     Ok((Quoted { span, start, end }, next))
 }

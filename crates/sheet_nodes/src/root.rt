@@ -11,6 +11,7 @@ ghost use Rattle.sheet_nodes.specs.code.Reach.{furthest, Reaches, ReachesIn};
 
 use super::check::check_node;
 use super::tally::{NodeTally, Tally, add, holding};
+use sheet::Sheet;
 use sheet_heads::node::{Head, read_head};
 use wire::{Cursor, Reading};
 
@@ -39,27 +40,21 @@ fn further(reach: usize, entries: usize, here: usize) -> usize
 }
 
 // So many children, one after the other.
-fn check_children(
-    sheet: &[u8],
-    source: &[u8],
-    c: Cursor,
-    count: usize,
-    levels: usize,
-) -> Reading<Children>
-    requires { c.at ≤ length sheet.now }
+fn check_children(sheet: &Sheet, c: Cursor, count: usize, levels: usize) -> Reading<Children>
+    requires { c.at ≤ length sheet.now.bytes.now }
     ensures { Reaching
-        (children_as sheet.now result
-        ≡ on_ok tally_all (nodes (node source.now levels) count (drop c.at sheet.now)))
-        (PastChildren c.at (length sheet.now) result)
+        (children_as sheet.now.bytes.now result
+        ≡ on_ok tally_all (nodes (node sheet.now.source.now levels) count (drop c.at sheet.now.bytes.now)))
+        (PastChildren c.at (length sheet.now.bytes.now) result)
         (PastWith (λ children next. (ns : Nodes) (t : List ℕ)
-        → nodes (node source.now levels) count (drop c.at sheet.now) ≡ ok ns t
+        → nodes (node sheet.now.source.now levels) count (drop c.at sheet.now.bytes.now) ≡ ok ns t
         → Reaches children.reach ns) result) }
 {
     let mut at = c;
     let mut total = Tally::default();
     let mut reach = 0;
     for k in 0..count {
-        let (j, next) = check_node(sheet, source, at, levels)?;
+        let (j, next) = check_node(sheet, at, levels)?;
         total = add(total, Tally::from(j));
         at = next;
         reach = further(reach, j.entries, k + 1);
@@ -74,25 +69,25 @@ fn check_children(
 }
 
 // The root at a cursor, as `check_node` has it.
-pub fn check_root(sheet: &[u8], source: &[u8], c: Cursor, levels: usize) -> Reading<Root>
+pub fn check_root(sheet: &Sheet, c: Cursor, levels: usize) -> Reading<Root>
     ensures { Reaching
-        (root_as sheet.now result
-        ≡ on_ok node_tally (node source.now levels (drop c.at sheet.now)))
-        (PastRoot c.at (length sheet.now) result)
+        (root_as sheet.now.bytes.now result
+        ≡ on_ok node_tally (node sheet.now.source.now levels (drop c.at sheet.now.bytes.now)))
+        (PastRoot c.at (length sheet.now.bytes.now) result)
         (PastWith (λ root next. (n : Node) (t : List ℕ)
-        → node source.now levels (drop c.at sheet.now) ≡ ok n t
+        → node sheet.now.source.now levels (drop c.at sheet.now.bytes.now) ≡ ok n t
         → ReachesIn root.reach n) result) }
 {
-    let ((_, head), next) = read_head(sheet, source, c, levels)?;
+    let ((_, head), next) = read_head(sheet, c, levels)?;
     match head {
         Head::Other(n) => {
-            let (children, next) = check_children(sheet, source, next, n, levels - 1)?;
+            let (children, next) = check_children(sheet, next, n, levels - 1)?;
             let tally = holding(false, false, children.tally);
             let reach = children.reach;
             Ok((Root { tally, reach }, next))
         }
         _ => {
-            let (tally, next) = check_node(sheet, source, c, levels)?;
+            let (tally, next) = check_node(sheet, c, levels)?;
             Ok((Root { tally, reach: 0 }, next))
         }
     }

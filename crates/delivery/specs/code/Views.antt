@@ -1,5 +1,5 @@
 -- What the code's answers stand for, in a delivery s.
-use Rattle.std.specs.Prelude.{◌≡◌, cond, ℕ, length, drop}
+use Rattle.std.specs.Prelude.{◌≡◌, ℕ, length, drop}
 use mathlib.Core.List.{List, [], ◌++◌, flat_map}
 use Rattle.std.specs.Prelude.{None, Option, Some, option_map, IfSome, Result, Ok, Err}
 use Rattle.laws.specs.Decoded.{Decoded, ok, no}

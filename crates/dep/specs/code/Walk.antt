@@ -1,8 +1,11 @@
--- What the answers of the walk stand for, in a sheet s with the buffer, and the bounds that they keep.
-use Rattle.std.specs.Prelude.{◌≡◌, true, List, ◌++◌, ◌⊎◌, ℕ, ◌≤◌, length}
-use Rattle.std.specs.Prelude.{None, Option, Some}
-use Rattle.laws.specs.Decoded.{Decoded, ok}
-use Rattle.wire.specs.code.Views.{Reading, reading_as, PastWith}
+-- What the answers of the walk stand for, in a sheet s with the items, and the bounds that they keep.
+use Rattle.std.specs.Prelude.{◌≡◌, true, List, ◌++◌, ◌⊎◌, ℕ, ◌≤◌, Result, Ok, Err, IfOk, length, drop}
+use Rattle.std.specs.Prelude.{None, Some}
+use Rattle.laws.specs.Decoded.{Decoded, ok, no}
+use Rattle.wire.specs.Refusals.{number_of}
+use Rattle.wire.specs.declared.Cursor.{Cursor}
+use Rattle.wire.specs.declared.refusals.Refusal.{Refusal}
+use Rattle.sheet.specs.code.Commented.{Commented}
 use Rattle.sheet.specs.declared.names.ImportPhase.{ImportPhase}
 use Rattle.sheet.specs.declared.fields.Span.{Span}
 use Rattle.sheet.specs.Tree.{Node, Nodes, Arguments, no_arguments, Properties, no_properties, Attributes}
@@ -17,15 +20,17 @@ use Rattle.sheet_heads.specs.code.Head.{import_require_head, module_head}
 use Rattle.sheet_heads.specs.code.Views.{head_of, HeadWithin}
 use Rattle.report.specs.declared.names.DynamicDependencyKind.{DynamicDependencyKind}
 use Rattle.report.specs.declared.names.DynamicDependencyKind.TheVariants as dynamics
-use Rattle.report.specs.declared.writer.Pen.{Pen}
-use Rattle.report.specs.ModuleInfo.{SpecifierWithRange}
+use Rattle.report.specs.Encode.{encode_list, encode_dependency}
 use Rattle.report.specs.Range.{InSource}
+use Rattle.report.specs.Buffer.{more}
 use Rattle.attributes.specs.Attributes.{static_attributes, type_attributes}
+use Rattle.dep_entries.specs.declared.Items.{Items}
 use Rattle.dep_entries.specs.declared.CallHead.{CallHead}
 use Rattle.dep_entries.specs.declared.StaticDependencyDescriptor.{StaticDependencyDescriptor}
 use Rattle.dep_entries.specs.Entries.{dynamic_kind, Noted}
-use Rattle.dep_entries.specs.code.Written.{Written, written_as, wrote_entries, static_of, entry_of_call}
-use Rattle.dep.specs.Collect.{noting, collect_noted}
+use Rattle.dep_entries.specs.code.Notes.{all_noted}
+use Rattle.dep_entries.specs.code.Written.{types_of, Collected, items_as, with_entries, KeepsItems, static_of, entry_of_call}
+use Rattle.dep.specs.Collect.{collect, noting, collect_noted}
 
 -- the span of a head's String is one of the source
 abbrev pub Spanned : List ℕ → Head → Type 0
@@ -48,8 +53,8 @@ Spanned source (module_head None n) = Unit {0}
 Spanned source (module_head (Some x) n) = InSource source x.span
 
 -- a cursor past a head that was read
-abbrev pub PastHead : List ℕ → List ℕ → ℕ → h.Head → Type 0
-PastHead s source at x = (at ≤ length s) × HeadWithin (length s) x × Spanned source (head_of s x)
+abbrev pub PastHead : Commented → ℕ → h.Head → Type 0
+PastHead c at x = (at ≤ length c.bytes) × HeadWithin (length c.bytes) x × Spanned c.source (head_of c.bytes x)
 
 -- the head of a call: an import, or a call of an expression
 abbrev pub Calls : h.Head → Type 0
@@ -68,64 +73,74 @@ callees_of dynamics.ImportDefer = 0
 callees_of dynamics.ImportSource = 0
 callees_of dynamics.Require = 1
 
--- an answer of the walk: what is written, and the bytes behind, or a refusal
-abbrev pub walked_as : List ℕ → List ℕ → List ℕ → Reading Pen → Decoded Written
-walked_as s out notes = reading_as (λ p next. written_as out notes p) s
+-- an answer of the walk: the items after it, and the bytes behind what was walked, or a refusal
+abbrev pub walked_as : List ℕ → Items → Result Cursor Refusal → Decoded Collected
+walked_as s after (Ok next) = ok (items_as after) (drop next.at s)
+walked_as s after (Err r) = no (number_of r)
 
 -- the value w was answered, whatever is left behind it
-abbrev pub Answered : Decoded Written → Written → Type 0
+abbrev pub Answered : Decoded Collected → Collected → Type 0
 Answered x w = (t : List ℕ) × (x ≡ ok w t)
 
--- a cursor that is not past the n bytes
-abbrev pub PastWalked : ℕ → Reading Pen → Type 0
-PastWalked n = PastWith (λ p next. next.at ≤ n)
+-- a cursor that is not past the n bytes; and the items, where the bytes are nothing that is walked, are left free
+abbrev pub PastWalked : ℕ → Items → Items → Result Cursor Refusal → Type 0
+PastWalked n before after r = IfOk r (λ next. next.at ≤ n) × KeepsItems before after
 
-module _ (source : List ℕ) (types : ℕ → Option SpecifierWithRange) where
+module _ (c : Commented) where
   -- the entries of parts of a node
   abbrev pub note_all : Nodes → List Noted
-  note_all = walk_all (noting source types)
+  note_all = walk_all (noting c.source (types_of c))
 
   abbrev pub note_of : Arguments → List Noted
-  note_of = walk_of (noting source types)
+  note_of = walk_of (noting c.source (types_of c))
 
   abbrev pub note_in : Properties → List Noted
-  note_in = walk_in (noting source types)
+  note_in = walk_in (noting c.source (types_of c))
 
   abbrev pub note_with : Attributes → List Noted
-  note_with = walk_with (noting source types)
+  note_with = walk_with (noting c.source (types_of c))
 
   -- what is written after the entries of a node, and of parts of one
-  abbrev pub after_node : Written → Node → Written
-  after_node w n = wrote_entries w (collect_noted source types n)
+  abbrev pub after_node : Collected → Node → Collected
+  after_node w n = with_entries w (collect_noted c.source (types_of c) n)
 
-  abbrev pub after_nodes : Written → Nodes → Written
-  after_nodes w ns = wrote_entries w (note_all ns)
+  abbrev pub after_nodes : Collected → Nodes → Collected
+  after_nodes w ns = with_entries w (note_all ns)
 
-  abbrev pub after_arguments : Written → Arguments → Written
-  after_arguments w xs = wrote_entries w (note_of xs)
+  abbrev pub after_arguments : Collected → Arguments → Collected
+  after_arguments w xs = with_entries w (note_of xs)
 
-  abbrev pub after_argument : Written → (Arguments → Arguments) → Written
+  abbrev pub after_argument : Collected → (Arguments → Arguments) → Collected
   after_argument w add = after_arguments w (add no_arguments)
 
-  abbrev pub after_properties : Written → Properties → Written
-  after_properties w ps = wrote_entries w (note_in ps)
+  abbrev pub after_properties : Collected → Properties → Collected
+  after_properties w ps = with_entries w (note_in ps)
 
-  abbrev pub after_property : Written → (Properties → Properties) → Written
+  abbrev pub after_property : Collected → (Properties → Properties) → Collected
   after_property w add = after_properties w (add no_properties)
 
-  abbrev pub after_with : Written → Attributes → Written
-  after_with w a = wrote_entries w (note_with a)
+  abbrev pub after_with : Collected → Attributes → Collected
+  after_with w a = with_entries w (note_with a)
 
   -- an import or an export
-  abbrev pub after_import : List ℕ → StaticDependencyDescriptor → Written → Attributes → Written
-  after_import s d w a = wrote_entries w (static_of source types s d (static_attributes a))
+  abbrev pub after_import : StaticDependencyDescriptor → Collected → Attributes → Collected
+  after_import d w a = with_entries w (static_of c d (static_attributes a))
 
   -- a call without its callee: its entry behind what it holds
-  abbrev pub after_call : CallHead → Written → Arguments × Nodes → Written
-  after_call d w p =
-      wrote_entries w (note_of p.0 ++ (note_all p.1 ++ entry_of_call source types d p.0))
+  abbrev pub after_call : CallHead → Collected → Arguments × Nodes → Collected
+  after_call d w p = with_entries w (note_of p.0 ++ (note_all p.1 ++ entry_of_call c d p.0))
 
   -- an import type: its entry before what it holds
-  abbrev pub after_typed : List ℕ → StaticDependencyDescriptor → Written → Nodes × Attributes → Written
-  after_typed s d w p =
-      wrote_entries w (static_of source types s d (type_attributes p.1) ++ (note_all p.0 ++ note_with p.1))
+  abbrev pub after_typed : StaticDependencyDescriptor → Collected → Nodes × Attributes → Collected
+  after_typed d w p =
+      with_entries w (static_of c d (type_attributes p.1) ++ (note_all p.0 ++ note_with p.1))
+
+  -- the number of a tree's dependencies, and their entries
+  abbrev pub with_dependencies : Collected → Node → Collected
+  with_dependencies w n =
+      record {
+        writer = w.writer;
+        written = more w.written (encode_list encode_dependency (collect c.source (types_of c) n));
+        loan = w.loan;
+        notes = all_noted w.notes (collect_noted c.source (types_of c) n);
+      }

@@ -4,19 +4,14 @@ use Rattle.module_info.proofs.module_info.Goals as goal
 pub returns-in-Ok-None : goal.returns-in-Ok-None
 returns-in-Ok-None c =
     let none = c.in-Ok-None in
-    empty_demanded _ (rw (none.is, none.field-0-is) at c.judge.ensures.answer) c.write_default.ensures
-
-pub write_report-requires : goal.write_report-requires
-write_report-requires c =
-    let some = c.in-Ok-Some in
-    rw (some.is, some.field-0-is) at c.judge.ensures.answer
+    empty_demanded _ (rw (none.is, none.field-0-is) at c.judge.ensures) c.write_default.ensures
 
 pub returns-in-Err : goal.returns-in-Err
 returns-in-Err c =
-    let (some, refused) = rw c.in-Err.is at c.judge.ensures.answer in
+    let (some, refused) = rw c.in-Err.is at c.judge.ensures in
     refusal_demanded _ some refused c.refuse_all.ensures
 
 pub returns-in-Ok-Some : goal.returns-in-Ok-Some
 returns-in-Ok-Some c =
     let some = c.in-Ok-Some in
-    demanded (rw (some.is, some.field-0-is) at c.judge.ensures.answer).accepts c.write_report.ensures
+    demanded (rw (some.is, some.field-0-is) at c.judge.ensures).accepts c.write_report.ensures

@@ -1,25 +1,19 @@
 use Rattle.laws.proofs.Prelude.{length}
 use Rattle.module_info.proofs.Accepted.{demanded, refusal_demanded, empty_demanded}
-use Rattle.module_info.proofs.Notes.{empty_notes, refusal_notes, sheet_notes, cleared_whole}
+use Rattle.module_info.proofs.Notes.{empty_notes, refusal_notes, sheet_notes}
 use Rattle.module_info.proofs.module_info_with_replaced.Goals as goal
 
 pub returns-in-Ok-None : goal.returns-in-Ok-None
 returns-in-Ok-None c =
-    let none = rw (c.in-Ok-None.is, c.in-Ok-None.field-0-is) at c.judge.ensures.answer in
+    let none = rw (c.in-Ok-None.is, c.in-Ok-None.field-0-is) at c.judge.ensures in
     record {
       answer = empty_demanded _ none c.write_default.ensures;
       beside = empty_notes (length c.args.notes.now) _ none (c.fill.ensures.after (λ y e. e));
     }
 
-pub write_noted_report-requires : goal.write_noted_report-requires
-write_noted_report-requires c = record {
-  accepts_in = rw (c.in-Ok-Some.is, c.in-Ok-Some.field-0-is) at c.judge.ensures.answer;
-  notes_value = cleared_whole (length c.args.notes.now) (c.fill.ensures.after (λ y e. e));
-}
-
 pub returns-in-Err : goal.returns-in-Err
 returns-in-Err c =
-    let (some, refused) = rw c.in-Err.is at c.judge.ensures.answer in
+    let (some, refused) = rw c.in-Err.is at c.judge.ensures in
     record {
       answer = refusal_demanded _ some refused c.refuse_all.ensures;
       beside = refusal_notes (length c.args.notes.now) _ some refused (c.fill.ensures.after (λ y e. e));
@@ -27,7 +21,7 @@ returns-in-Err c =
 
 pub returns-in-Ok-Some : goal.returns-in-Ok-Some
 returns-in-Ok-Some c =
-    let accepts = (rw (c.in-Ok-Some.is, c.in-Ok-Some.field-0-is) at c.judge.ensures.answer).accepts in
+    let accepts = (rw (c.in-Ok-Some.is, c.in-Ok-Some.field-0-is) at c.judge.ensures).accepts in
     let written = c.write_noted_report.ensures in
     let numbered = (written accepts.sheet accepts.accepted).1 in
     record {

@@ -1,11 +1,10 @@
-use Rattle.module_info.proofs.{Written.dependencies_written, Written.dependencies_noted}
+use Rattle.laws.proofs.Prelude.{rules}
+use Rattle.report.specs.Buffer.{written_as}
+use Rattle.module_info.proofs.Written.{dependencies_written}
 use Rattle.module_info.proofs.put_dependencies.Goals as goal
 
 pub returns : goal.returns
-returns c =
-    λ t o r.
-    let walked = c.analyze_program_dependencies.ensures.answer in (
-      dependencies_written o r _ c.put_flag-p.ensures
-          (λ n l e k far. (walked n l e k far).0),
-      dependencies_noted o r _ (λ n l e k far. (walked n l e k far).1),
-    )
+returns c = λ t o.
+    let walked = c.analyze_program_dependencies in
+    let done = dependencies_written o (written_as c.args.w.now) _ walked.new.items c.put_flag.ensures walked.ensures.answer in
+    search rules

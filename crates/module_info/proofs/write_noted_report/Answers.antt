@@ -1,31 +1,29 @@
-use Rattle.laws.proofs.Prelude.{◌≡◌, ap, ◌∙◌, [], length}
-use Rattle.report.{specs.Encode.encode, specs.Answer.zeros, proofs.Answers.answered_fitted}
-use Rattle.report.specs.Buffer.{holds, wrote, buffer_as}
+use Rattle.laws.proofs.Prelude.{rules, sym, ap, ◌∙◌, length}
+use Rattle.report.specs.{Encode.encode, Answer.zeros}
 use Rattle.dep_entries.specs.code.Notes.{all_noted}
 use Rattle.module_info.specs.{Information.module_info, Replaced.noted}
-use Rattle.module_info.proofs.{Notes.accepted_notes, Notes.refused_notes}
+use Rattle.module_info.proofs.{Accepted.parts_of, Notes.accepted_notes, Notes.refused_notes}
+use Rattle.module_info.proofs.Written.{same_loan, finished, come_back}
 use Rattle.module_info.proofs.write_noted_report.Goals as goal
 
-pub returns-in-Ok : goal.returns-in-Ok
-returns-in-Ok c =
+pub returns-then-is_err : goal.returns-then-is_err
+returns-then-is_err c =
     λ t e.
     let a = c.args in
-    let put = c.put_noted_report-place in
-    let (written, numbered) = put.ensures t e in
-    let whole : buffer_as put.new.out put.result ≡ wrote (holds (length a.buffer.now) []) (encode (module_info t)) = written in
-    let answer = rw c.in-Ok.is at c.finish.ensures ∙
-    answered_fitted (encode (module_info t)) put.auto.out whole in
-    (answer, accepted_notes (length a.notes.now) (noted t) (numbered ∙ ap (λ l. all_noted l (noted t)) c.requires.notes_value))
+    let w = c.put_noted_report.new.w in
+    let o = c.finish-outcome.result in
+    let (written, rows) = c.put_noted_report.ensures t (parts_of c.requires.accepts_in.accepts e (c.comments_of-comments.ensures t e)) in
+    let same = same_loan c.new-w.ensures w (encode (module_info t)) written in
+    let answer = come_back o _ c.finish-outcome.new.self.0 (search (rules, same)) (c.finish-outcome.ensures ∙ finished c.new-w.ensures w (encode (module_info t)) written) in
+    (answer, refused_notes (length a.notes.now) (length a.buffer.now) o _ (noted t) (module_info t) (sym c.is_err.ensures.value ∙ c.if-is_err.true) answer (c.fill.ensures.after (λ y e. e) ∙ ap zeros c.put_noted_report.auto.notes))
 
-pub returns-in-Err : goal.returns-in-Err
-returns-in-Err c =
+pub returns-else-is_err : goal.returns-else-is_err
+returns-else-is_err c =
     λ t e.
     let a = c.args in
-    let put = c.put_noted_report-place in
-    let (written, numbered) = put.ensures t e in
-    let whole : buffer_as put.new.out put.result ≡ wrote (holds (length a.buffer.now) []) (encode (module_info t)) = written in
-    let answer = rw c.in-Err.is at c.finish.ensures ∙ answered_fitted (encode (module_info t)) put.auto.out whole in (
-      answer,
-      refused_notes (length a.notes.now) (length a.buffer.now) c.in-Err.refusal c.finish.new.out (noted t) (module_info t)
-          answer (c.fill.ensures.after (λ y e. e) ∙ ap zeros put.auto.notes),
-    )
+    let w = c.put_noted_report.new.w in
+    let o = c.finish-outcome.result in
+    let (written, rows) = c.put_noted_report.ensures t (parts_of c.requires.accepts_in.accepts e (c.comments_of-comments.ensures t e)) in
+    let same = same_loan c.new-w.ensures w (encode (module_info t)) written in
+    let answer = come_back o _ c.finish-outcome.new.self.0 (search (rules, same)) (c.finish-outcome.ensures ∙ finished c.new-w.ensures w (encode (module_info t)) written) in
+    (answer, accepted_notes (length a.notes.now) o _ (noted t) (sym c.is_err.ensures.value ∙ c.if-is_err.false) (rows ∙ ap (λ l. all_noted l (noted t)) c.requires.notes_value))

@@ -1,21 +1,16 @@
-use Rattle.laws.proofs.Prelude.{arith, length, length-take}
+use Rattle.laws.proofs.Prelude.{◌≡◌, rules, arith, length-take}
 use Rattle.citation.proofs.Whole.{all_written}
-use Rattle.order.specs.Printed.{printed_order}
+use Rattle.report.proofs.Buffers.{wrote_keeps}
 use Rattle.order.proofs.print_order.Goals as goal
 
 pub returns : goal.returns
 returns c =
-    let put = c.put_order-place in
-    let line = put.new.line in
-    let short = rw c.requires.work_len at put.ensures.bounds in record {
-      answer = all_written
-          line
-          put.result
-          (length c.args.line.now)
-          (printed_order c.args.delivery.now)
-          (rw c.requires.work_len at put.ensures.answer)
-          (omega (arith, short, c.requires.line_room_in_bounds))
-          c.written.result
-          c.written.ensures;
-      bounds = omega (arith, c.written.ensures, length-take put.result.at line);
+    let put = c.put_order.ensures in
+    let line = rw c.requires.work_len at put.answer in
+    let short = rw c.requires.work_len at put.bounds in
+    let keeps = wrote_keeps _ _ _ line in
+    let lent : c.new-w.result.out.now ≡ c.args.line.now = search rules in
+    record {
+      answer = all_written _ _ line (search rules) (rw lent (omega (arith, short, c.requires.line_room_in_bounds))) (search rules) c.written.ensures;
+      bounds = rw c.written.ensures (search (rules, length-take));
     }

@@ -1,16 +1,8 @@
-use Rattle.order.proofs.{Shown.late_written}
+use Rattle.report.proofs.Buffers.{more_append}
+use Rattle.order.specs.Printed.{printed_answer}
 use Rattle.order.proofs.put_late.Goals as goal
 
 pub returns : goal.returns
+unfolding printed_answer
 returns c =
-    let a = c.args in
-    late_written
-    _
-    a.index
-    a.entry
-    a.specifier.now
-    c.put_counted-p.ensures
-    c.put_counted-p-2.ensures
-    c.put-p.ensures
-    c.put_text-p.ensures
-    c.put.ensures
+    simp (c.put_text.ensures, c.put.ensures, c.put_counted-2.ensures, c.put_counted.ensures, ← more_append) at c.put-2.ensures

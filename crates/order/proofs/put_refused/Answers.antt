@@ -1,15 +1,8 @@
-use Rattle.wire.specs.Refusals.{number_of}
-use Rattle.order.proofs.{Shown.refused_written}
+use Rattle.report.proofs.Buffers.{more_append}
+use Rattle.order.specs.Printed.{printed_answer}
 use Rattle.order.proofs.put_refused.Goals as goal
 
 pub returns : goal.returns
+unfolding printed_answer
 returns c =
-    let a = c.args in
-    let counted = rw (c.from.ensures, c.number.ensures) at c.put_counted-p.ensures in
-    refused_written
-    _
-    (number_of a.refusal)
-    a.index
-    counted
-    c.put_counted-p-2.ensures
-    c.put.ensures
+    simp (c.put_counted-2.ensures, c.put_counted.ensures, c.from.ensures, c.number.ensures, ← more_append) at c.put.ensures

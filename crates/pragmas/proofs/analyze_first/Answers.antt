@@ -6,4 +6,4 @@ pub returns : goal.returns
 returns c =
     let read = c.first_reading-reading in
     let a = c.args in
-    rw (← read_counted a.rule a.source.now read.result First _ read.ensures.answer) c.put_reading.ensures
+    rw (← read_counted a.rule a.comments.now.source read.result First _ read.ensures.answer) c.put_reading.ensures

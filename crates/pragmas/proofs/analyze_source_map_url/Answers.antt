@@ -5,6 +5,6 @@ use Rattle.pragmas.proofs.analyze_source_map_url.Goals as goal
 pub returns : goal.returns
 unfolding read_by
 returns c =
-    let source = c.args.source.now in
+    let source = c.args.comments.now.source in
     let read = c.find_reading-reading in
     rw (← read_counted SourceMapUrl source read.result Last _ read.ensures.answer) c.put_reading.ensures

@@ -1,5 +1,5 @@
 use Rattle.std.specs.Prelude.{Some, None, MatchOption, Option}
-use Rattle.laws.proofs.Prelude.{◌≡◌, rules, List, ℕ, refl}
+use Rattle.laws.proofs.Prelude.{◌≡◌, rules, List, ℕ}
 use Rattle.laws.specs.code.Told.{Told, Bounded}
 use Rattle.analysis.specs.declared.Capture.{Capture}
 use Rattle.sheet.specs.declared.comments.Comment.{Comment}

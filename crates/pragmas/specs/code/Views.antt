@@ -1,5 +1,5 @@
 -- What the answers of the code stand for, and the rules that it reads comments by.
-use Rattle.std.specs.Prelude.{cond, List, [], ℕ, ◌-◌, length}
+use Rattle.std.specs.Prelude.{cond, List, [], ℕ, length}
 use Rattle.std.specs.Prelude.{None, Option, Some, option_map}
 use Rattle.laws.specs.Codec.{IfThere}
 use Rattle.analysis.specs.declared.Capture.{Capture}
@@ -7,7 +7,6 @@ use Rattle.analysis.specs.Row.{find}
 use Rattle.analysis.specs.Place.{Inside}
 use Rattle.ecma426.specs.Reader.{find_source_map}
 use Rattle.sheet.specs.declared.comments.Comment.{Comment}
-use Rattle.sheet.specs.code.Tables.{rows, comment_in}
 use Rattle.sheet.specs.Fit.{Placed}
 use Rattle.sheet.specs.Lookups.{body}
 use Rattle.report.specs.ModuleInfo.{SpecifierWithRange, TypeScriptReference, path, types}
@@ -74,10 +73,6 @@ origin_as entry = option_map (λ t. origin_of entry t.0)
 
 abbrev pub ReadIn : List ℕ → Option (Comment × Capture) → Type 0
 ReadIn source = IfThere (λ t. CaptureIn source t.0 t.1)
-
--- the comments of a table from one row to another
-abbrev pub comments_from : List ℕ → ℕ → ℕ → List Comment
-comments_from table start end = rows (comment_in table) start (end - start)
 
 abbrev pub reference_as : List ℕ → Comment → Reference → TypeScriptReference
 reference_as source c (reference.Path k) = path (specifier_in source c k)

@@ -1,17 +1,13 @@
-use Rattle.laws.proofs.Prelude.{refl, ◌∙◌, length}
-use Rattle.report.proofs.Answers.{answered_fitted}
-use Rattle.rules.proofs.{BothBuffers.second_refused, BothBuffers.both_accepted}
+use Rattle.laws.proofs.Prelude.{sub-zero, length}
+use Rattle.rules.proofs.BothBuffers.{second_refused, both_accepted}
 use Rattle.rules.proofs.finish_rules.Goals as goal
 
 pub returns-in-Ok : goal.returns-in-Ok
 returns-in-Ok c =
-    λ a b e h.
-    let args = c.args in
-    both_accepted (length args.buffer.now) (length args.rules.now) a b e (rw c.in-Ok.is at c.finish.ensures ∙ answered_fitted b refl h)
+    λ a b out room report rules.
+    both_accepted (length c.args.buffer.now) room a b report (rw c.in-Ok.is at rules)
 
 pub returns-in-Err : goal.returns-in-Err
 returns-in-Err c =
-    λ a b e h.
-    let args = c.args in
-    let refused = rw c.in-Err.is at c.finish.ensures ∙ answered_fitted b refl h in
-    rw c.finish.auto.out at c.refuse_both.ensures ∙ second_refused (length args.buffer.now) (length args.rules.now) a b _ e refused
+    λ a b out room report rules.
+    second_refused (length c.args.buffer.now) room a b c.in-Err.field-0 report (rw sub-zero at c.clear_from.ensures) (rw c.in-Err.is at rules)

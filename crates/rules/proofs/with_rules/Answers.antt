@@ -3,18 +3,14 @@ use Rattle.rules.proofs.with_rules.Goals as goal
 
 pub returns-in-Ok-None : goal.returns-in-Ok-None
 returns-in-Ok-None c =
-    empty_both _ (rw (c.in-Ok-None.is, c.in-Ok-None.field-0-is) at c.judge.ensures.answer) c.write_ruled_default.ensures
-
-pub write_ruled_report-requires : goal.write_ruled_report-requires
-write_ruled_report-requires c =
-    rw (c.in-Ok-Some.is, c.in-Ok-Some.field-0-is) at c.judge.ensures.answer
+    empty_both _ (rw (c.in-Ok-None.is, c.in-Ok-None.field-0-is) at c.judge.ensures) c.write_ruled_default.ensures
 
 pub returns-in-Err : goal.returns-in-Err
 returns-in-Err c =
-    let (some, refused) = rw c.in-Err.is at c.judge.ensures.answer in
+    let (some, refused) = rw c.in-Err.is at c.judge.ensures in
     refusal_both _ some refused c.refuse_both.ensures
 
 pub returns-in-Ok-Some : goal.returns-in-Ok-Some
 returns-in-Ok-Some c =
-    sheet_both _ (rw (c.in-Ok-Some.is, c.in-Ok-Some.field-0-is) at c.judge.ensures.answer).accepts
+    sheet_both _ (rw (c.in-Ok-Some.is, c.in-Ok-Some.field-0-is) at c.judge.ensures).accepts
     c.write_ruled_report.ensures

@@ -1,7 +1,8 @@
-use Rattle.laws.proofs.Prelude.{sym, ◌∙◌, [], length}
-use Rattle.module_info.specs.Information.{default_info}
-use Rattle.report.{specs.Encode.encode, proofs.Buffers.wrote_nil}
-use Rattle.rules.proofs.{BothBuffers.first_refused}
+use Rattle.laws.proofs.Prelude.{rules, ap, ◌∙◌, [], length}
+use Rattle.report.{specs.Encode.encode, proofs.Buffers.wrote_none}
+use Rattle.module_info.{specs.Information.default_info, proofs.Written.same_loan, proofs.Written.finished, proofs.Written.come_back}
+use Rattle.rules.specs.Rules.{both_fitted}
+use Rattle.rules.proofs.BothBuffers.{first_refused}
 use Rattle.rules.proofs.write_ruled_default.Goals as goal
 
 pub returns-in-Err : goal.returns-in-Err
@@ -13,8 +14,11 @@ returns-in-Err c =
 
 pub returns-in-Ok : goal.returns-in-Ok
 returns-in-Ok c =
-    let args = c.args in
-    let accepted = rw c.in-Ok.is at c.write_default.ensures in
+    let room = length c.args.rules.now in
+    let w = c.new.result in
     let kept = c.write_default.auto.buffer in
-    rw kept at (c.finish_rules.ensures (encode default_info) [] (rw kept accepted)
-    (sym (wrote_nil args.rules.now (record { at = 0 }))))
+    let accepted = rw c.in-Ok.is at c.write_default.ensures in
+    let same = same_loan c.new.ensures w [] (wrote_none w) in
+    let written = c.finish.ensures ∙ finished c.new.ensures w [] (wrote_none w) in
+    c.finish_rules.ensures (encode default_info) [] _ room (rw kept accepted) (come_back c.finish.result _ c.finish.new.self.0 (search (rules, same)) written)
+    ∙ ap (λ n. both_fitted n room (encode default_info) []) kept

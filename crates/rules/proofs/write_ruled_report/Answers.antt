@@ -1,13 +1,13 @@
-use Rattle.laws.proofs.Prelude.{sym, ap, ◌∙◌, [], ℕ, ◌+◌, ◌*◌, length, replicate, length-replicate}
+use Rattle.laws.proofs.Prelude.{rules, ap, ◌∙◌, ℕ, ◌+◌, ◌*◌, length, replicate, length-replicate}
 use Rattle.sheet.specs.Limits.{entry_limit}
-use Rattle.report.specs.{Encode.encode, Buffer.holds, Buffer.wrote}
-use Rattle.module_info.specs.Information.{module_info}
-use Rattle.rules.specs.Rules.{rules_of}
+use Rattle.report.specs.Encode.{encode}
+use Rattle.module_info.{specs.Information.module_info, proofs.Written.same_loan, proofs.Written.finished, proofs.Written.come_back}
+use Rattle.rules.specs.Rules.{rules_of, both_fitted}
 use Rattle.rules.proofs.{BothBuffers.first_refused, Origins.few_rows, Origins.starts_held}
 use Rattle.rules.proofs.write_ruled_report.Goals as goal
 
-pub put_rules-place-requires : goal.put_rules-place-requires
-put_rules-place-requires c =
+pub put_rules-requires : goal.put_rules-requires
+put_rules-requires c =
     let written = c.write_noted_report in
     record {
       accepts_in = c.requires;
@@ -27,13 +27,16 @@ pub returns-in-Ok : goal.returns-in-Ok
 returns-in-Ok c =
     λ t e.
     let accepts = c.requires.accepts in
-    let written = c.write_noted_report in
-    let (fits, rows) = written.ensures t e in
+    let room = length c.args.rules.now in
+    let (fits, rows) = c.write_noted_report.ensures t e in
+    let kept = c.write_noted_report.auto.buffer in
     let accepted = rw c.in-Ok.is at fits in
     let noted = rw c.in-Ok.is at rows in
     let starts = starts_held accepts e _ (few_rows accepts (replicate {A = ℕ} (1 + 2 * entry_limit) 0) (length-replicate {A = ℕ} _ 0)) noted in
-    let put = c.put_rules-place in
-    let kept = written.auto.buffer in
-    let kept_too = put.auto.out in
-    rw (kept, kept_too) at (c.finish_rules.ensures (encode (module_info t)) (rules_of t) (rw kept accepted)
-    (put.ensures t e starts ∙ ap (λ n. wrote (holds n []) (rules_of t)) (sym kept_too)))
+    let w = c.put_rules.new.w in
+    let put = c.put_rules.ensures t e starts in
+    let same = same_loan c.new-w.ensures w (rules_of t) put in
+    let written = c.finish.ensures ∙ finished c.new-w.ensures w (rules_of t) put in
+    c.finish_rules.ensures (encode (module_info t)) (rules_of t) _ room (rw kept accepted)
+    (come_back c.finish.result _ c.finish.new.self.0 (search (rules, same)) written)
+    ∙ ap (λ n. both_fitted n room (encode (module_info t)) (rules_of t)) kept

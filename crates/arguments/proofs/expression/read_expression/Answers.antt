@@ -7,7 +7,7 @@ pub returns-in_default : goal.returns-in_default
 returns-in_default c =
     let a = c.args in
     record {
-      answer = λ n t e. absurd (no_head a.source.now a.levels _ e (told c.read_head.ensures c.in_default.is));
+      answer = λ n t e. absurd (no_head a.sheet.now.source.now a.levels _ e (told c.read_head.ensures c.in_default.is));
       bounds = tt;
     }
 
@@ -16,7 +16,7 @@ returns-then-plus c =
     let a = c.args in
     let past = bounded c.read_head.ensures c.in-Ok.is in
     record {
-      answer = λ n t e. reads_plus a.sheet.now a.source.now a.c.at a.levels c.read_head.ensures.answer c.in-Ok.is e c.in-Binary.is c.if-plus.true;
+      answer = λ n t e. reads_plus a.sheet.now.bytes.now a.sheet.now.source.now a.c.at a.levels c.read_head.ensures.answer c.in-Ok.is e c.in-Binary.is c.if-plus.true;
       bounds = past.0;
     }
 
@@ -25,7 +25,7 @@ returns-in-String c =
     let a = c.args in
     let past = bounded c.read_head.ensures c.in-Ok.is in
     record {
-      answer = λ n t e. reads_string a.sheet.now a.source.now a.c.at a.levels c.read_head.ensures.answer c.in-Ok.is e c.in-String.is;
+      answer = λ n t e. reads_string a.sheet.now.bytes.now a.sheet.now.source.now a.c.at a.levels c.read_head.ensures.answer c.in-Ok.is e c.in-String.is;
       bounds = (past.0, rw c.in-String.is at past.3);
     }
 
@@ -34,7 +34,7 @@ returns-in-Template c =
     let a = c.args in
     let past = bounded c.read_head.ensures c.in-Ok.is in
     record {
-      answer = λ n t e. reads_template a.sheet.now a.source.now a.c.at a.levels c.read_head.ensures.answer c.in-Ok.is e c.in-Template.is;
+      answer = λ n t e. reads_template a.sheet.now.bytes.now a.sheet.now.source.now a.c.at a.levels c.read_head.ensures.answer c.in-Ok.is e c.in-Template.is;
       bounds = (past.0, rw c.in-Template.is at past.3);
     }
 
@@ -42,7 +42,7 @@ pub returns-else-plus : goal.returns-else-plus
 returns-else-plus c =
     let a = c.args in
     record {
-      answer = λ n t e. reads_minus a.sheet.now a.source.now a.c.at a.levels c.read_head.ensures.answer c.in-Ok.is e c.in-Binary.is c.if-plus.false;
+      answer = λ n t e. reads_minus a.sheet.now.bytes.now a.sheet.now.source.now a.c.at a.levels c.read_head.ensures.answer c.in-Ok.is e c.in-Binary.is c.if-plus.false;
       bounds = tt;
     }
 
@@ -51,7 +51,7 @@ returns-in_default-head c =
     let a = c.args in
     let none = c.in_default-head in
     record {
-      answer = λ n t e. reads_other a.sheet.now a.source.now a.c.at a.levels c.read_head.ensures.answer c.in-Ok.is e
+      answer = λ n t e. reads_other a.sheet.now.bytes.now a.sheet.now.source.now a.c.at a.levels c.read_head.ensures.answer c.in-Ok.is e
           (one_of_others c.in-Ok.head none.not-String none.not-Template none.not-Binary);
       bounds = tt;
     }

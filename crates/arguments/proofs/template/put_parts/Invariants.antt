@@ -1,13 +1,14 @@
 use Rattle.laws.proofs.Prelude.{◌≡◌, List, [], ℕ, ◌+◌, ◌-◌, drop}
 use Rattle.laws.specs.Decoded.{ok}
 use Rattle.sheet.specs.{Tree.Pieces, Nodes.many, Nodes.piece}
-use Rattle.report.{specs.Buffer.wrote, specs.Buffer.buffer_as}
+use Rattle.report.specs.Buffer.{written_as, more, Keeps}
 use Rattle.arguments.specs.{Argument.template_parts, code.Views.encode_parts}
 use Rattle.arguments.proofs.template.put_parts.Given as goal
 
 -- the parts of the pieces that are left, behind those that were written
 abbrev pub invariant-loop-k : goal.invariant-loop-k
 invariant-loop-k l =
-    (ps : Pieces) (u : List ℕ) → many [] piece (l.holes + 1) (drop l.initial.at.at l.sheet) ≡ ok ps u
+    Keeps l.fn.w l.w
+    × ((ps : Pieces) (u : List ℕ) → many [] piece (l.holes + 1) (drop l.initial.at.at l.sheet) ≡ ok ps u
     → (qs : Pieces) × (many [] piece (l.holes + 1 - l.k) (drop l.at.at l.sheet) ≡ ok qs u)
-    × (wrote (buffer_as l.initial.out l.initial.p) (encode_parts (template_parts ps)) ≡ wrote (buffer_as l.out l.p) (encode_parts (template_parts qs)))
+    × (more (written_as l.fn.w) (encode_parts (template_parts ps)) ≡ more (written_as l.w) (encode_parts (template_parts qs))))

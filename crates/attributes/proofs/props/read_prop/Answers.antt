@@ -10,15 +10,15 @@ pub returns-in_err-p : goal.returns-in_err-p
 returns-in_err-p c =
     let a = c.args in
     rw (handed _ c.from_residual.ensures) (record {
-      answer = property_by_head (node a.source.now a.levels) (drop a.c.at a.sheet.now) ∙ rw (told c.read_property.ensures c.in_err-p.was);
+      answer = property_by_head (node a.sheet.now.source.now a.levels) (drop a.c.at a.sheet.now.bytes.now) ∙ rw (told c.read_property.ensures c.in_err-p.was);
       bounds = tt;
     })
 
 pub returns : goal.returns
 returns c =
     let a = c.args in
-    let s = a.sheet.now in
-    let inner = node a.source.now a.levels in
+    let s = a.sheet.now.bytes.now in
+    let inner = node a.sheet.now.source.now a.levels in
     let p = c.in_ok-p in
     let next = c.in_ok-next.next in
     let (add, item, is) = on_ok_ok gain (property_item inner (drop a.c.at s)) (told c.check_property.ensures c.in_ok-next.was) in

@@ -7,7 +7,7 @@ pub returns-in_default : goal.returns-in_default
 returns-in_default c =
     let a = c.args in
     record {
-      answer = λ v t e. absurd (no_head a.source.now a.levels _ e (told c.read_head.ensures c.in_default.is));
+      answer = λ v t e. absurd (no_head a.sheet.now.source.now a.levels _ e (told c.read_head.ensures c.in_default.is));
       bounds = tt;
     }
 
@@ -16,7 +16,7 @@ returns-in-String c =
     let a = c.args in
     let past = bounded c.read_head.ensures c.in-Ok.is in
     record {
-      answer = λ v t e. text_is a.sheet.now a.source.now a.c.at a.levels c.read_head.ensures.answer c.in-Ok.is e c.in-String.is;
+      answer = λ v t e. text_is a.sheet.now.bytes.now a.sheet.now.source.now a.c.at a.levels c.read_head.ensures.answer c.in-Ok.is e c.in-String.is;
       bounds = rw c.in-String.is at past.3;
     }
 
@@ -25,7 +25,7 @@ returns-in-Object c =
     let a = c.args in
     let past = bounded c.read_head.ensures c.in-Ok.is in
     record {
-      answer = λ v t e. object_is a.sheet.now a.source.now a.c.at a.levels c.read_head.ensures.answer c.in-Ok.is e c.in-Object.is;
+      answer = λ v t e. object_is a.sheet.now.bytes.now a.sheet.now.source.now a.c.at a.levels c.read_head.ensures.answer c.in-Ok.is e c.in-Object.is;
       bounds = (past.0, rw c.in-Object.is at past.3);
     }
 
@@ -33,7 +33,7 @@ pub returns-in_default-head : goal.returns-in_default-head
 returns-in_default-head c =
     let a = c.args in
     record {
-      answer = λ v t e. other_is a.sheet.now a.source.now a.c.at a.levels c.read_head.ensures.answer c.in-Ok.is e
+      answer = λ v t e. other_is a.sheet.now.bytes.now a.sheet.now.source.now a.c.at a.levels c.read_head.ensures.answer c.in-Ok.is e
           (one_of_others c.in-Ok.head c.in_default-head.not-String c.in_default-head.not-Object);
       bounds = tt;
     }

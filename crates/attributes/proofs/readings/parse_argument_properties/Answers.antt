@@ -23,7 +23,7 @@ returns-in_default-2 c =
 
 pub returns-in_default-found : goal.returns-in_default-found
 returns-in_default-found c =
-    let s = c.args.sheet.now in
+    let s = c.args.sheet.now.bytes.now in
     let l = c.loop in
     let arm = c.in-Ok-Some-default in
     let k = arm.k in
@@ -40,7 +40,7 @@ returns-in_default-found c =
 pub loop-preserved : goal.loop-preserved
 loop-preserved c =
     let a = c.args in
-    let s = a.sheet.now in
+    let s = a.sheet.now.bytes.now in
     let l = c.loop in
     let found = attributes_as s l.pairs l.found in
     let arm = c.in-Ok-Some-default in

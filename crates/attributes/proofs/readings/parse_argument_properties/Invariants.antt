@@ -10,6 +10,6 @@ after p es = argument_properties p.0 p.1 es
 
 abbrev pub invariant-loop : goal.invariant-loop
 invariant-loop l =
-    AttributesWithin (length l.sheet) l.pairs l.found
-    × Going after (node l.source l.levels) (false, none) l.count (drop l.initial.at.at l.sheet)
-    (l.had_with, attributes_as l.sheet l.pairs l.found) l.counter (drop l.at.at l.sheet)
+    AttributesWithin (length l.sheet.bytes.now) l.pairs l.found
+    × Going after (node l.sheet.source.now l.levels) (false, none) l.count (drop l.initial.at.at l.sheet.bytes.now)
+    (l.had_with, attributes_as l.sheet.bytes.now l.pairs l.found) l.counter (drop l.at.at l.sheet.bytes.now)

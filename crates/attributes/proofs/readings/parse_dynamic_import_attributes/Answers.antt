@@ -11,7 +11,7 @@ unfolding dynamic_attributes
 returns-then-count-eq0 c =
     let a = c.args in
     record {
-      answer = λ xs t e. sym (ap dynamic_attributes (no_arguments_lem (node a.source.now a.levels) a.source.now a.count _ (omega arith) e));
+      answer = λ xs t e. sym (ap dynamic_attributes (no_arguments_lem (node a.sheet.now.source.now a.levels) a.sheet.now.source.now a.count _ (omega arith) e));
       bounds = tt;
       left = refl;
     }
@@ -20,7 +20,7 @@ pub returns-in_default : goal.returns-in_default
 returns-in_default c =
     let a = c.args in
     record {
-      answer = λ xs t e. absurd (no_first (node a.source.now a.levels) a.source.now a.count _ (omega arith) e (told c.read_argument.ensures c.in_default.is));
+      answer = λ xs t e. absurd (no_first (node a.sheet.now.source.now a.levels) a.sheet.now.source.now a.count _ (omega arith) e (told c.read_argument.ensures c.in_default.is));
       bounds = tt;
       left = refl;
     }
@@ -30,7 +30,7 @@ returns-then-spread c =
     let a = c.args in
     record {
       answer = λ xs t e.
-          let (n, u, x, is) = first_argument (node a.source.now a.levels) a.source.now _ a.count (omega arith) e (told c.read_argument.ensures c.in-Ok.is) in
+          let (n, u, x, is) = first_argument (node a.sheet.now.source.now a.levels) a.sheet.now.source.now _ a.count (omega arith) e (told c.read_argument.ensures c.in-Ok.is) in
           sym (is ∙ ap (λ b. cond b unknown (of_object (argument_properties false none) (shape n))) c.if-spread.true);
       bounds = tt;
       left = refl;
@@ -41,7 +41,7 @@ returns-in-Text c =
     let a = c.args in
     record {
       answer = λ xs t e.
-          let (n, u, x, is) = first_argument (node a.source.now a.levels) a.source.now _ a.count (omega arith) e (told c.read_argument.ensures c.in-Ok.is) in
+          let (n, u, x, is) = first_argument (node a.sheet.now.source.now a.levels) a.sheet.now.source.now _ a.count (omega arith) e (told c.read_argument.ensures c.in-Ok.is) in
           sym (is ∙ ap (λ b. cond b unknown (of_object (argument_properties false none) (shape n))) c.if-spread.false
           ∙ no_object _ _ _ _ (c.read_value.ensures.answer n u x) (argument_properties false none) c.in-Text.is);
       bounds = tt;
@@ -53,7 +53,7 @@ returns-in-Object c =
     let a = c.args in
     record {
       answer = λ xs t e.
-          let (n, u, x, is) = first_argument (node a.source.now a.levels) a.source.now _ a.count (omega arith) e (told c.read_argument.ensures c.in-Ok.is) in
+          let (n, u, x, is) = first_argument (node a.sheet.now.source.now a.levels) a.sheet.now.source.now _ a.count (omega arith) e (told c.read_argument.ensures c.in-Ok.is) in
           let (ps, v, object, y) = rw c.in-Object.is at (c.read_value.ensures.answer n u x) in
           c.parse_argument_properties.ensures.answer ps v y
           ∙ sym (is ∙ ap (λ b. cond b unknown (of_object (argument_properties false none) (shape n))) c.if-spread.false

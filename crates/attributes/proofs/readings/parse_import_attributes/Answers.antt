@@ -20,7 +20,7 @@ pub returns-in_default : goal.returns-in_default
 returns-in_default c =
     let a = c.args in
     record {
-      answer = λ x t e. absurd (no_attributes a.source.now a.levels _ (rw c.if-not-has_object.false at e) (told c.read_attributes.ensures c.in_default.is));
+      answer = λ x t e. absurd (no_attributes a.sheet.now.source.now a.levels _ (rw c.if-not-has_object.false at e) (told c.read_attributes.ensures c.in_default.is));
       bounds = tt;
       left = refl;
     }
@@ -31,7 +31,7 @@ returns c =
     let a = c.args in
     record {
       answer = λ y t e.
-          let (ps, x, object) = behind_attributes a.source.now a.levels _ (rw c.if-not-has_object.false at e) (told c.read_attributes.ensures c.in-Ok.is) in
+          let (ps, x, object) = behind_attributes a.sheet.now.source.now a.levels _ (rw c.if-not-has_object.false at e) (told c.read_attributes.ensures c.in-Ok.is) in
           ap known (c.parse_known.ensures.answer ps t x) ∙ ap static_attributes object;
       bounds = c.parse_known.ensures.bounds;
       left = c.parse_known.auto.pairs;

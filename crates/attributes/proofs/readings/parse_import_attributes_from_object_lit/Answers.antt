@@ -21,7 +21,7 @@ pub loop-preserved : goal.loop-preserved
 unfolding object_attributes
 loop-preserved c =
     let a = c.args in
-    let s = a.sheet.now in
+    let s = a.sheet.now.bytes.now in
     let pairs = pairs_in s c.loop.pairs c.loop.n in
     let arm = c.in-Ok-Some-default in
     let (v, value, read) = rw (arm.is, arm.field-0-0-is) at c.read_prop.ensures.answer in

@@ -7,5 +7,5 @@ use Rattle.attributes.proofs.readings.parse_import_attributes_from_object_lit.Gi
 abbrev pub invariant-loop : goal.invariant-loop
 invariant-loop l =
     (l.n ≤ l.counter)
-    × Pairs (length l.sheet) l.pairs l.n
-    × Going object_attributes (node l.source l.levels) [] l.count (drop l.initial.at.at l.sheet) (pairs_in l.sheet l.pairs l.n) l.counter (drop l.at.at l.sheet)
+    × Pairs (length l.sheet.bytes.now) l.pairs l.n
+    × Going object_attributes (node l.sheet.source.now l.levels) [] l.count (drop l.initial.at.at l.sheet.bytes.now) (pairs_in l.sheet.bytes.now l.pairs l.n) l.counter (drop l.at.at l.sheet.bytes.now)

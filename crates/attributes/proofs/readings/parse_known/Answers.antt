@@ -14,7 +14,7 @@ pub loop-preserved : goal.loop-preserved
 unfolding static_pairs
 loop-preserved c =
     let a = c.args in
-    let s = a.sheet.now in
+    let s = a.sheet.now.bytes.now in
     let l = c.loop in
     elim c.match-prop.branch [
       | in-Some w ↦

@@ -19,7 +19,7 @@ pub returns-in_default : goal.returns-in_default
 returns-in_default c =
     let a = c.args in
     record {
-      answer = λ x t e. absurd (no_attributes a.source.now a.levels _ (rw c.if-not-has_object.false at e) (told c.read_attributes.ensures c.in_default.is));
+      answer = λ x t e. absurd (no_attributes a.sheet.now.source.now a.levels _ (rw c.if-not-has_object.false at e) (told c.read_attributes.ensures c.in_default.is));
       bounds = tt;
       left = refl;
     }
@@ -30,7 +30,7 @@ returns c =
     let a = c.args in
     record {
       answer = λ y t e.
-          let (ps, x, object) = behind_attributes a.source.now a.levels _ (rw c.if-not-has_object.false at e) (told c.read_attributes.ensures c.in-Ok.is) in
+          let (ps, x, object) = behind_attributes a.sheet.now.source.now a.levels _ (rw c.if-not-has_object.false at e) (told c.read_attributes.ensures c.in-Ok.is) in
           c.parse_import_attributes_from_object_lit.ensures.answer ps t x ∙ ap type_attributes object;
       bounds = c.parse_import_attributes_from_object_lit.ensures.bounds;
       left = c.parse_import_attributes_from_object_lit.auto.pairs;

@@ -1,9 +1,7 @@
-use Rattle.laws.proofs.Prelude.{◌≡◌, map, take, flat_map}
-use Rattle.report.{specs.Encode.encode_key_value, specs.Buffer.wrote, specs.Buffer.buffer_as}
+use Rattle.laws.proofs.Prelude.{map, take, flat_map}
+use Rattle.report.{specs.Encode.encode_key_value, specs.Buffer.Wrote}
 use Rattle.attributes.specs.code.Views.{pair_as}
 use Rattle.attributes.proofs.writer.put_pairs.Given as goal
 
 abbrev pub invariant-loop-pair : goal.invariant-loop-pair
-invariant-loop-pair l =
-    buffer_as l.out l.p
-    ≡ wrote (buffer_as l.initial.out l.initial.p) (flat_map encode_key_value (map (pair_as l.sheet) (take l.pair-index (take l.n l.pairs))))
+invariant-loop-pair l = Wrote l.fn.w l.w (flat_map encode_key_value (map (pair_as l.sheet) (take l.pair-index (take l.n l.pairs))))

@@ -4,6 +4,7 @@ use Rattle.report.specs.ModuleInfo.{static, dynamic}
 use Rattle.report.specs.Encode.{encode_attributes, encode_static, encode_dynamic, encode_dependency}
 use Rattle.report_reader.proofs.FromBytes.{byte_read, flag_read}
 use Rattle.report_reader.proofs.KindsTold.{small, told, apart}
+use Rattle.report.proofs.Buffers.{keeps_then}
 use Rattle.citation.proofs.{Printing.both}
 use Rattle.citation.proofs.cite.cite_dependency.Goals as goal
 
@@ -28,6 +29,7 @@ returns-in-Static c =
             told kind.ensures (Dynamic d.kind) (byte _ (small (Dynamic d.kind)) _ e).0))
       ];
       bounds = omega (arith, first.ensures.bounds, c.cite_optional-second.ensures.bounds);
+      left = keeps_then first.ensures.left c.cite_optional-second.ensures.left;
     }
 
 pub returns-in-Dynamic : goal.returns-in-Dynamic
@@ -50,4 +52,5 @@ returns-in-Dynamic c =
             (both p q, c.skip_attributes-in-Dynamic.ensures d.import_attributes v.import_attributes t e)
       ];
       bounds = omega (arith, first.ensures.bounds, c.cite_optional-second-in-Dynamic.ensures.bounds);
+      left = keeps_then first.ensures.left c.cite_optional-second-in-Dynamic.ensures.left;
     }

@@ -9,9 +9,10 @@ returns-in-Dependency c =
 pub returns-in-Reference : goal.returns-in-Reference
 returns-in-Reference c = rw c.in-Reference.is (record {
   answer = c.cite_reference.ensures.answer;
+  left = c.cite_reference.ensures.left;
   bounds = omega (arith, c.cite_reference.ensures.bounds);
 })
 
 pub returns-in-JsDoc : goal.returns-in-JsDoc
 returns-in-JsDoc c = rw c.in-JsDoc.is
-    (record { answer = c.cite_jsdoc.ensures.answer; bounds = omega (arith, c.cite_jsdoc.ensures.bounds) })
+    (record { answer = c.cite_jsdoc.ensures.answer; bounds = omega (arith, c.cite_jsdoc.ensures.bounds); left = c.cite_jsdoc.ensures.left })

@@ -15,4 +15,5 @@ returns c =
           let (p, e) = line.ensures.answer i.specifier v _ (e ∙ append_assoc (encode_specifier i.specifier) (mode_number i.mode ∷ []) t) in
           (p, (byte_read mode.ensures (mode_number i.mode) (omega (arith, number_small i.mode)) t e).1);
       bounds = line.ensures.bounds;
+      left = line.ensures.left;
     }

@@ -1,4 +1,5 @@
 use Rattle.laws.proofs.Prelude.{refl, append-nil, flat_map, arith}
+use Rattle.report.proofs.Buffers.{wrote_keeps}
 use Rattle.citation.proofs.cite.cite_range.Goals as goal
 
 pub returns : goal.returns
@@ -8,4 +9,5 @@ returns c = record {
       let (p, e) = c.read_range-range.ensures.answer r v t e in
       (record { written = rw (append-nil, ← p) c.put_line.ensures; counted = refl }, e);
   bounds = omega arith;
+  left = wrote_keeps _ _ _ c.put_line.ensures;
 }

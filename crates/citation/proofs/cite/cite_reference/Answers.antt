@@ -14,6 +14,7 @@ returns-then-kind-eq0 c =
         | types s mode ↦ λ v t e. absurd (omega (arith, (byte 1 (omega arith) _ e).0))
       ];
       bounds = c.cite_specifier-line.ensures.bounds;
+      left = c.cite_specifier-line.ensures.left;
     }
 
 pub returns : goal.returns
@@ -30,4 +31,5 @@ returns c =
             (p, (byte_read read.ensures (mode_number mode) (omega (arith, number_small mode)) t e).1)
       ];
       bounds = line.ensures.bounds;
+      left = line.ensures.left;
     }

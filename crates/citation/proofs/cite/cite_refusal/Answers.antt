@@ -1,4 +1,5 @@
-use Rattle.laws.proofs.Prelude.{rules, arith, length, length-take}
+use Rattle.laws.proofs.Prelude.{◌≡◌, rules, arith, length-take}
+use Rattle.report.proofs.Buffers.{wrote_keeps}
 use Rattle.citation.specs.Citation.{refusal}
 use Rattle.citation.proofs.{Whole.all_written, Lengths.refusal_short}
 use Rattle.citation.proofs.cite.cite_refusal.Goals as goal
@@ -6,11 +7,12 @@ use Rattle.citation.proofs.cite.cite_refusal.Goals as goal
 pub returns : goal.returns
 unfolding refusal
 returns c =
-    let a = c.args in
-    let p = c.put_title-p in
-    let n = c.written in record {
-      answer = all_written p.new.out p.result (length a.out.now) (refusal a.number) p.ensures
-          (omega (arith, refusal_short a.number (omega arith))) n.result n.ensures;
-      bounds = omega (arith, n.ensures, length-take p.result.at p.new.out);
+    let title = rw c.from.ensures at c.put_title.ensures in
+    let keeps = wrote_keeps _ _ _ title in
+    let short = refusal_short c.args.number (omega arith) in
+    let lent : c.new-w.result.out.now ≡ c.args.out.now = search rules in
+    record {
+      answer = all_written _ _ title (search rules) (rw lent (omega arith)) (search rules) c.written.ensures;
+      bounds = rw c.written.ensures (search (rules, length-take));
       left = search rules;
     }

@@ -1,7 +1,7 @@
-use Rattle.laws.proofs.Prelude.{rules, sym, ◌∙◌, length-take-le}
-use Rattle.arguments.proofs.Chains.{check_passed, check_failed}
+use Rattle.laws.proofs.Prelude.{rules, sym, length-take-le}
+use Rattle.arguments.proofs.Chains.{check_passed}
 use Rattle.delivery.specs.Right.{names_of}
-use Rattle.delivery.proofs.{Reported.reported, Reported.refused_number, ReportEntries.late_in_module, ReportEntries.inside_whole}
+use Rattle.delivery.proofs.{Reported.reported, ReportEntries.late_in_module, ReportEntries.inside_whole}
 use Rattle.delivery.proofs.judge.judge_module.Goals as goal
 
 pub slice_bounds-late_entry-end : goal.slice_bounds-late_entry-end
@@ -13,12 +13,6 @@ pub slice_bounds-late_entry-end-2 : goal.slice_bounds-late_entry-end-2
 slice_bounds-late_entry-end-2 c =
     let is = check_passed c.ok.ensures.value c.in_ok-n.was in
     sym (length-take-le _ _ (reported (rw is at c.module_info.ensures)).1.within)
-
-pub returns-in_err-n : goal.returns-in_err-n
-returns-in_err-n c =
-    let (r, is) = check_failed c.ok.ensures.value c.in_err-n.was in
-    let (number, some) = refused_number (rw is at c.module_info.ensures) in
-    rw c.from_residual.ensures (record { answer = λ ms t p zero i behind. absurd (some (sym number ∙ zero)); bounds = tt; left = search rules })
 
 pub returns : goal.returns
 returns c =

@@ -1,7 +1,7 @@
 use Rattle.laws.proofs.Prelude.{refl, sym, ap, ◌∙◌, [], ◌∷◌, ◌++◌, ◌+◌}
 use Rattle.laws.{proofs.Lists.all_member, proofs.Lists.middle_member}
 use Rattle.delivery.specs.{Delivery.Module, Order.modules_in_turn, Right.Reported, Right.names_of}
-use Rattle.delivery.proofs.Along.{at_first, one_more, all_passed, name_more}
+use Rattle.delivery.proofs.Along.{at_first, one_more, name_more}
 use Rattle.delivery.proofs.{Turns.module_here}
 use Rattle.delivery.proofs.judge.judge_order.Goals as goal
 
@@ -48,24 +48,5 @@ loop-i-preserved c =
           ),
     )
 
-pub returns : goal.returns
-unfolding modules_in_turn
-returns c =
-    let l = c.loop-i in record {
-      answer = λ ms t p all.
-          let (earlier, rest, along, e) = l.invariant.1 ms t p all in
-          sym (e ∙ rw (all_passed c.loop-i-test.false along));
-      bounds = tt;
-    }
-
 pub loop-i-init : goal.loop-i-init
 loop-i-init c = (refl, λ ms t p all. ([], ms, at_first p, refl))
-
-pub slice_bounds-judge_module-count : goal.slice_bounds-judge_module-count
-slice_bounds-judge_module-count c = c.read_module-module.ensures.sheet.order
-
-pub slice_bounds-judge_module-start : goal.slice_bounds-judge_module-start
-slice_bounds-judge_module-start c = c.read_module-module.ensures.sheet.order
-
-pub slice_bounds-judge_module-end : goal.slice_bounds-judge_module-end
-slice_bounds-judge_module-end c = c.read_module-module.ensures.sheet.end

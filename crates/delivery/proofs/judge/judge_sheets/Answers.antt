@@ -1,6 +1,6 @@
 use Rattle.laws.proofs.Prelude.{rules, refl, sym, ap, ◌∙◌, [], ◌∷◌, ◌++◌}
-use Rattle.delivery.specs.{Delivery.Module, Order.sheets_in_turn}
-use Rattle.delivery.proofs.Along.{at_first, one_more, all_passed}
+use Rattle.delivery.specs.Delivery.{Module}
+use Rattle.delivery.proofs.Along.{at_first, one_more}
 use Rattle.delivery.proofs.{Turns.refused_here, Turns.reported_here, Reported.reported, Reported.refused_number}
 use Rattle.delivery.proofs.judge.judge_sheets.Goals as goal
 
@@ -36,24 +36,5 @@ loop-i-preserved c =
           (earlier ++ (m ∷ []), after, on _ next, λ behind. e behind ∙ reported_here is _ l.i behind zero),
     )
 
-pub returns : goal.returns
-unfolding sheets_in_turn
-returns c =
-    let l = c.loop-i in record {
-      answer = λ ms t p behind.
-          let (earlier, rest, along, e) = l.invariant.1 ms t p in
-          sym (e behind ∙ rw (all_passed c.loop-i-test.false along));
-      left = search rules;
-    }
-
 pub loop-i-init : goal.loop-i-init
 loop-i-init c = (refl, λ ms t p. ([], ms, at_first p, λ behind. refl))
-
-pub slice_bounds-module_info-count : goal.slice_bounds-module_info-count
-slice_bounds-module_info-count c = c.read_module-module.ensures.sheet.order
-
-pub slice_bounds-module_info-start : goal.slice_bounds-module_info-start
-slice_bounds-module_info-start c = c.read_module-module.ensures.sheet.order
-
-pub slice_bounds-module_info-end : goal.slice_bounds-module_info-end
-slice_bounds-module_info-end c = c.read_module-module.ensures.sheet.end

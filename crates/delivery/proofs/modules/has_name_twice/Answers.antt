@@ -1,6 +1,6 @@
 use Rattle.laws.proofs.Prelude.{refl, sym, ap, ◌∙◌, [], ◌∷◌, ◌++◌, known}
 use Rattle.delivery.specs.{Delivery.Module, Order.repeated, Right.names_of}
-use Rattle.delivery.proofs.Along.{at_first, one_more, all_passed, name_more}
+use Rattle.delivery.proofs.Along.{at_first, one_more, name_more}
 use Rattle.delivery.proofs.{Turns.repeated_here}
 use Rattle.delivery.proofs.modules.has_name_twice.Goals as goal
 
@@ -27,20 +27,5 @@ loop-i-preserved c =
           ap (λ names. repeated names after) (sym (name_more earlier m)),
     )
 
-pub returns : goal.returns
-unfolding repeated
-returns c = λ ms t p.
-    let (earlier, rest, along, e) = c.loop-i.invariant ms t p in
-    sym (e ∙ rw (all_passed c.loop-i-test.false along))
-
 pub loop-i-init : goal.loop-i-init
 loop-i-init c = λ ms t p. ([], ms, at_first p, refl)
-
-pub slice_bounds-is_name-count : goal.slice_bounds-is_name-count
-slice_bounds-is_name-count c = c.read_module-module.ensures.name.order
-
-pub slice_bounds-is_name-start : goal.slice_bounds-is_name-start
-slice_bounds-is_name-start c = c.read_module-module.ensures.name.order
-
-pub slice_bounds-is_name-end : goal.slice_bounds-is_name-end
-slice_bounds-is_name-end c = c.read_module-module.ensures.name.end

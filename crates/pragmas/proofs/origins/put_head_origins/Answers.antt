@@ -11,11 +11,11 @@ returns c =
     let jsx = c.first_reading-jsx_source in
     let self = c.first_reading-self_types in
     let a = c.args in
-    let source = a.source.now in
-    head_written a.media source _ _ c.put_reference_origins-p.ensures
+    let source = a.comments.now.source in
+    head_written a.media source _ _ c.put_reference_origins.ensures
     (rw (origin_counted rule.TsSelfTypes source self.result First _ self.ensures.answer SelfTypes)
-    at c.put_reading_origin-p.ensures)
-    (rw (origin_counted rule.JsxImportSource source jsx.result First _ jsx.ensures.answer JsxImportSource)
-    at c.put_reading_origin-p-2.ensures)
-    (rw (origin_counted rule.JsxImportSourceTypes source types.result First _ types.ensures.answer JsxImportSourceTypes)
     at c.put_reading_origin.ensures)
+    (rw (origin_counted rule.JsxImportSource source jsx.result First _ jsx.ensures.answer JsxImportSource)
+    at c.put_reading_origin-2.ensures)
+    (rw (origin_counted rule.JsxImportSourceTypes source types.result First _ types.ensures.answer JsxImportSourceTypes)
+    at c.put_reading_origin-3.ensures)

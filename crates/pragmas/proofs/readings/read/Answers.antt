@@ -1,4 +1,4 @@
-use Rattle.laws.proofs.Prelude.{rules, known}
+use Rattle.laws.proofs.Prelude.{known}
 use Rattle.sheet.proofs.{Marks.holds_marks_lem}
 use Rattle.pragmas.proofs.readings.read.Goals as goal
 

@@ -1,10 +1,7 @@
-use Rattle.laws.proofs.Prelude.{◌≡◌, ◌-◌, ◌+◌, ◌<◌, ◌≤◌, arith}
+use Rattle.laws.proofs.Prelude.{◌≡◌, ◌-◌, ◌+◌, ◌<◌, arith}
 use Rattle.report_reader.specs.code.Elements.{encode_element, ValidElement}
-use Rattle.report_reader.proofs.Lists.{next_item, no_item}
+use Rattle.report_reader.proofs.Lists.{next_item}
 use Rattle.report_reader.proofs.fields.skip_parts.Goals as goal
-
-pub loop-init : goal.loop-init
-loop-init c = λ l v t e. (l, (omega (arith, v.0), v.1, e))
 
 pub loop-preserved : goal.loop-preserved
 loop-preserved c = λ l v t e.
@@ -15,11 +12,3 @@ loop-preserved c = λ l v t e.
     let one : a.count - (i.counter + 1) ≡ a.count - i.counter - 1 = omega arith in
     let (x, l, _, v, e, on) = next_item (encode_element a.keyed) (ValidElement a.keyed) a.report.now t i.place (a.count - i.counter) l more p in
     rw one (l, on c.skip_part-place.result (c.skip_part-place.ensures x v _ e))
-
-pub returns : goal.returns
-returns c = λ l v t e.
-    let a = c.args in
-    let i = c.loop in
-    let (l, p) = i.invariant l v t e in
-    let none : a.count - i.counter ≤ 0 = omega (arith, c.loop-test.false) in
-    (no_item (encode_element a.keyed) (ValidElement a.keyed) a.report.now t i.place (a.count - i.counter) l none p).1

@@ -11,30 +11,30 @@ returns-in_err-program c =
 
 pub returns-in_err-root : goal.returns-in_err-root
 returns-in_err-root c =
-    let s = c.args.sheet.now in
+    let s = c.args.sheet.now.bytes.now in
     rw (handed _ c.from_residual-in_err-root.ensures)
-    (root_refused c.args.source.now _ (told c.read_program.ensures c.in_ok-program.was)
+    (root_refused c.args.sheet.now.source.now _ (told c.read_program.ensures c.in_ok-program.was)
     (seen (root_as s) c.check_root.ensures.answer c.in_err-root.was))
 
 pub returns-then-end-sheet : goal.returns-then-end-sheet
 returns-then-end-sheet c =
-    let s = c.args.sheet.now in
+    let s = c.args.sheet.now.bytes.now in
     let found = seen (root_as s) c.check_root.ensures.answer c.in_ok-root.was in
-    bytes_follow_lem c.args.source.now _ (told c.read_program.ensures c.in_ok-program.was)
+    bytes_follow_lem c.args.sheet.now.source.now _ (told c.read_program.ensures c.in_ok-program.was)
     (rw (drop-cons s _ 0 c.if-end-sheet.true) at found)
 
 pub returns-then-found : goal.returns-then-found
 returns-then-found c =
-    let s = c.args.sheet.now in
+    let s = c.args.sheet.now.bytes.now in
     let found = seen (root_as s) c.check_root.ensures.answer c.in_ok-root.was in
-    root_uncooked c.args.source.now _ (told c.read_program.ensures c.in_ok-program.was)
+    root_uncooked c.args.sheet.now.source.now _ (told c.read_program.ensures c.in_ok-program.was)
     (rw (drop_of_length-le s c.if-end-sheet.false) at found) c.if-found.true
 
 pub returns : goal.returns
 returns c =
     let a = c.args in
-    let s = a.sheet.now in
+    let s = a.sheet.now.bytes.now in
     let found = seen (root_as s) c.check_root.ensures.answer c.in_ok-root.was in
     let reaches = rw c.in_ok-root.was at c.check_root.ensures.reach in
-    tree_stands s a.source.now a.c.at _ (told c.read_program.ensures c.in_ok-program.was)
+    tree_stands s a.sheet.now.source.now a.c.at _ (told c.read_program.ensures c.in_ok-program.was)
     (rw (drop_of_length-le s c.if-end-sheet.false) at found) c.if-found.false refl reaches

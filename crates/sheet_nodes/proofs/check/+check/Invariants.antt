@@ -9,18 +9,18 @@ use Rattle.sheet_nodes.proofs.check.+check.Given as goal
 
 abbrev pub invariant-check_arguments-loop : goal.invariant-check_arguments-loop
 invariant-check_arguments-loop l =
-    Loop behind_passed no_arguments (argument_item (node l.source l.levels) l.source) (λ p. p.entries) l.sheet l.fn.c.at l.count
-    (on_ok passed (arguments (node l.source l.levels) l.source l.count (drop l.fn.c.at l.sheet))) l.counter l.total l.at.at
+    Loop behind_passed no_arguments (argument_item (node l.sheet.source.now l.levels) l.sheet.source.now) (λ p. p.entries) l.sheet.bytes.now l.fn.c.at l.count
+    (on_ok passed (arguments (node l.sheet.source.now l.levels) l.sheet.source.now l.count (drop l.fn.c.at l.sheet.bytes.now))) l.counter l.total l.at.at
 
 abbrev pub invariant-check_nodes-loop : goal.invariant-check_nodes-loop
 invariant-check_nodes-loop l =
-    Loop after_nodes none (node_item (node l.source l.levels)) (λ t. t.entries) l.sheet l.fn.c.at l.count
-    (on_ok tally_all (nodes (node l.source l.levels) l.count (drop l.fn.c.at l.sheet))) l.counter l.total l.at.at
+    Loop after_nodes none (node_item (node l.sheet.source.now l.levels)) (λ t. t.entries) l.sheet.bytes.now l.fn.c.at l.count
+    (on_ok tally_all (nodes (node l.sheet.source.now l.levels) l.count (drop l.fn.c.at l.sheet.bytes.now))) l.counter l.total l.at.at
 
 abbrev pub invariant-check_properties-loop : goal.invariant-check_properties-loop
 invariant-check_properties-loop l =
-    Loop after_properties no_properties (property_item (node l.source l.levels)) (λ t. t.entries) l.sheet l.fn.c.at l.count
-    (on_ok tally_in (properties (node l.source l.levels) l.count (drop l.fn.c.at l.sheet))) l.counter l.total l.at.at
+    Loop after_properties no_properties (property_item (node l.sheet.source.now l.levels)) (λ t. t.entries) l.sheet.bytes.now l.fn.c.at l.count
+    (on_ok tally_in (properties (node l.sheet.source.now l.levels) l.count (drop l.fn.c.at l.sheet.bytes.now))) l.counter l.total l.at.at
 
 -- six for each level that is left; a member that calls another on the same level is above it
 abbrev pub decreases-check_arguments : goal.decreases-check_arguments

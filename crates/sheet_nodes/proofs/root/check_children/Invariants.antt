@@ -9,6 +9,6 @@ use Rattle.sheet_nodes.proofs.root.check_children.Given as goal
 
 abbrev pub invariant-loop-k : goal.invariant-loop-k
 invariant-loop-k l =
-    Loop after_nodes none (node_item (node l.source l.levels)) (λ t. t.entries) l.sheet l.fn.c.at l.count
-    (on_ok tally_all (nodes (node l.source l.levels) l.count (drop l.fn.c.at l.sheet))) l.k l.total l.at.at
-    × Reached (node l.source l.levels) l.count (drop l.fn.c.at l.sheet) l.k l.reach (drop l.at.at l.sheet)
+    Loop after_nodes none (node_item (node l.sheet.source.now l.levels)) (λ t. t.entries) l.sheet.bytes.now l.fn.c.at l.count
+    (on_ok tally_all (nodes (node l.sheet.source.now l.levels) l.count (drop l.fn.c.at l.sheet.bytes.now))) l.k l.total l.at.at
+    × Reached (node l.sheet.source.now l.levels) l.count (drop l.fn.c.at l.sheet.bytes.now) l.k l.reach (drop l.at.at l.sheet.bytes.now)

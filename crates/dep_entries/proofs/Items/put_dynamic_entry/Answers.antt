@@ -1,0 +1,18 @@
+use Rattle.laws.proofs.Prelude.{rules, arith}
+use Rattle.report.specs.Encode.{encode_dependency, encode_dynamic}
+use Rattle.report.proofs.Buffers.{more_append, more_cons, wrote_keeps, keeps_then}
+use Rattle.dep_entries.proofs.Wrote.{adds_one}
+use Rattle.dep_entries.proofs.Items.put_dynamic_entry.Goals as goal
+
+-- `put_dynamic_entry`: the fields of the entry in turn.
+
+pub returns : goal.returns
+unfolding encode_dependency encode_dynamic
+returns c =
+    record {
+      answer = λ v k xs t stands are.
+          let (written, counted) = c.put_argument-replaced.ensures.answer v k (rw (c.sheet-sheet.ensures.bytes, c.sheet-sheet.ensures.source) stands) in
+          let read = c.parse_dynamic_import_attributes-attributes.ensures.answer xs t (rw (c.sheet-sheet.ensures.bytes, c.sheet-sheet.ensures.source) are) in
+          grind (arith, adds_one, more_append, more_cons, written, counted, read);
+      left = search (rules, keeps_then, wrote_keeps);
+    }

@@ -1,0 +1,13 @@
+use Rattle.laws.proofs.Prelude.{refl}
+use Rattle.std.proofs.lemmas.List.{length-map}
+use Rattle.sheet.proofs.TableRows.{comment_row_lem}
+use Rattle.sheet.proofs.commented.Comments.at.Goals as goal
+
+pub bounds-rows-k : goal.bounds-rows-k
+bounds-rows-k c = rw (← c.self.view_is, length-map) at c.requires
+
+pub returns : goal.returns
+returns c =
+    let inside = rw (← c.self.view_is) at c.requires in
+    rw (← c.self.view_is, c.comment.ensures, ← (comment_row_lem c.self.inside.rows.now c.args.k (rw length-map at inside)))
+    (record { answer = refl; bounds = c.self.invariant.fit.each c.args.k inside })

@@ -19,10 +19,6 @@ wrote_append (holds size xs) a b = by_room (leb (length xs + length a) size) ref
         let over : size < length xs + (length a + length b) = omega (arith, leb-false (length xs + length a) size e) in
         rw (e, length-append a b, lt-leb (length xs + (length a + length b)) size over)
 
--- a byte, and then the others
-pub wrote_cons : (w : Buffer) (b : ℕ) (bs : List ℕ) → wrote w (b ∷ bs) ≡ wrote (wrote w (b ∷ [])) bs
-wrote_cons w b bs = wrote_append w (b ∷ []) bs
-
 pub wrote_nil : (out : List ℕ) (p : ℕ) → wrote (buffer_as out p) [] ≡ buffer_as out p
 unfolding wrote
 wrote_nil out p = by_full (eqb p full_place)

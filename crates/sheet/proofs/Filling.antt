@@ -46,3 +46,6 @@ module _ {A S R : Type 0} {item : S → Decoder A} {leaves : A → S} {read : R 
   fill_all h =
       let none : n - k ≡ 0 = omega arith in
       f.rest ∙ rw (none, append-nil, take_all k table (omega (arith, f.long)))
+
+-- the start, a refusal on the way, and the end
+pub ruleset filled = (fill_none, fill_stop, fill_all)

@@ -120,6 +120,7 @@ impl<'a> Comments<'a> {
     }
 
     // The positions at a span's start and at its end.
+    #[tactic(auto, using(text::proofs::Positions::indexed))]
     pub fn positions(&self, span: Span) -> (Position, Position)
         requires { (span.start ≤ length self.now.source) × (span.end ≤ length self.now.source) }
         ensures { (result.0 ≡ position_of characters self.now.source span.start)

@@ -100,6 +100,7 @@ fn read_comment(sheet: &Sheet, c: Cursor, last: usize) -> Reading<Comment>
 }
 
 // Reads as many comments as the table has rows, which a refusal leaves free.
+#[tactic(auto, using(crate::proofs::Filling::filled))]
 pub fn read_comments(sheet: &Sheet, c: Cursor, table: &mut [CommentRow]) -> Result<Cursor, Refusal>
     ensures { comments_as sheet.now.bytes.now table.new result
         ≡ comments sheet.now.source.now 0 (length table.old) (drop c.at sheet.now.bytes.now) }

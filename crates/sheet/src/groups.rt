@@ -116,6 +116,7 @@ fn read_group(
 }
 
 // Reads as many groups, of comments among `total`, as the table has rows, which a refusal leaves free.
+#[tactic(auto, using(crate::proofs::Filling::filled))]
 pub fn read_groups(
     sheet: &Sheet,
     c: Cursor,

@@ -53,3 +53,5 @@ module _ (s : List ℕ) (few : length s ≤ sheet_limit) where
           entries = stands.gives;
           reaches = stands.reaches;
         }
+
+pub ruleset judged = (too_many, refused_front, refused_tree, accepts)

@@ -16,3 +16,5 @@ count_within limit s {n} {t} e = ((count_codec limit).sound s n t e).1.0
 pub rows_first : {R : Type 0} {n : ℕ} (table rows : List R) → n ≤ length table → length rows ≡ length (take n table) → (rest : List R)
     → take n (rows ++ rest) ≡ rows
 rows_first {n = n} table rows inside kept rest = take_at rows rest n (kept ∙ length-take-le n table inside)
+
+pub ruleset lent_rows = (count_within, rows_first)

@@ -26,6 +26,7 @@ pub struct Parts {
 
 // Judges a sheet: its parts if it meets none of refusals 1 to 9, or the first that it meets. The tables for its comments and groups are lent, and
 // `longest` to work in. Left free: `longest`, the rows behind those of the sheet, the index, and after a refusal all rows.
+#[tactic(auto, using(crate::proofs::Judging::judged))]
 pub fn check_sheet(
     sheet: &[u8],
     tables: &mut Tables,

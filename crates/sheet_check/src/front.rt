@@ -27,6 +27,7 @@ pub struct Front {
 }
 
 // The media byte, and where the source starts, which ends at the cursor.
+#[tactic(auto, unfolding(crate::specs::code::Pieces::source_fields, wire::specs::Fields::numbered))]
 fn read_source(sheet: &[u8]) -> Reading<(MediaType, usize)>
     ensures { Told (source_as sheet.now)
         (source_fields sheet.now)
@@ -39,6 +40,7 @@ fn read_source(sheet: &[u8]) -> Reading<(MediaType, usize)>
 }
 
 // Reads the comments into a table; their number.
+#[tactic(auto, using(crate::proofs::Lent::lent_rows), unfolding(crate::specs::code::Pieces::comment_fields))]
 fn read_comment_table(
     sheet: &Sheet,
     c: Cursor,
@@ -54,6 +56,7 @@ fn read_comment_table(
 }
 
 // Reads the groups of n comments into a table; their number. `longest` is lent to work in.
+#[tactic(auto, using(crate::proofs::Lent::lent_rows), unfolding(crate::specs::code::Pieces::group_fields))]
 fn read_group_table(
     sheet: &Sheet,
     c: Cursor,
@@ -77,6 +80,7 @@ fn read_group_table(
 }
 
 // Reads all that stands in front of the program. Left free: `longest`, the rows behind those that were read, and after a refusal all rows.
+#[tactic(auto, unfolding(crate::specs::code::Pieces::front))]
 pub fn read_front(
     sheet: &[u8],
     tables: &mut Tables,

@@ -3,9 +3,6 @@ use Rattle.std.proofs.lemmas.List.{length-map}
 use Rattle.sheet.proofs.TableRows.{comment_row_lem}
 use Rattle.sheet.proofs.commented.Comments.at.Goals as goal
 
-pub bounds-rows-k : goal.bounds-rows-k
-bounds-rows-k c = rw (← c.self.view_is, length-map) at c.requires
-
 pub returns : goal.returns
 returns c =
     let inside = rw (← c.self.view_is) at c.requires in

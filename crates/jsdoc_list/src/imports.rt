@@ -1,7 +1,9 @@
 // The JSDoc imports of all comments, by ticks over the source.
-ghost use Rattle.std.specs.Prelude.{◌≡◌, ℕ, ◌≤◌, length, get_or, replicate};
+ghost use Rattle.std.specs.Prelude.{◌≡◌, true, ℕ, ◌≤◌, length, get_or, replicate};
 ghost use mathlib.Core.List.{flat_map};
 ghost use Rattle.laws.specs.code.Told.{Beside};
+ghost use Rattle.text.specs.declared.utf8.Encoding.TheVariants.{Utf8};
+ghost use Rattle.text.specs.Utf8.{formed};
 ghost use Rattle.wire.specs.Fields.{value_of};
 ghost use Rattle.sheet.specs.Lookups.{HoldsMarks};
 ghost use Rattle.report.specs.Encode.{encode_jsdoc, encode_list};
@@ -45,7 +47,8 @@ fn tick_comment(source: &[u8], c: Comment, ticks: &mut [u8])
 // Ticks each place of the source at which the place of a reading begins with 1 + the number of its mode; each other keeps its 0.
 #[tactic(auto, using(sheet::proofs::Marks::holds_marks_lem, crate::proofs::Ticking::tick_more, crate::proofs::Ticking::tick_none, crate::proofs::Ticking::ticks_small, crate::proofs::Turns::all_read_lem))]
 fn tick_comments(comments: &Comments, ticks: &mut [u8])
-    requires { ticks.old ≡ replicate (length comments.now.source) 0 }
+    requires utf8 { formed Utf8 0 comments.now.source ≡ true }
+    requires ticks_value { ticks.old ≡ replicate (length comments.now.source) 0 }
     ensures value { ticks.new ≡ ticks_of comments.now.source comments.now.comments }
     ensures small { (q : ℕ) → get_or ticks.new q 0 ≤ 3 }
     ensures all_read { length (imports_from comments.now.source 0 ticks.new) ≡ count_of ticks.new }
@@ -122,7 +125,8 @@ pub fn analyze_jsdoc_imports(
     ticks: &mut [u8],
     w: &mut Writer,
 )
-    requires { ticks.old ≡ replicate (length comments.now.source) 0 }
+    requires utf8 { formed Utf8 0 comments.now.source ≡ true }
+    requires ticks_value { ticks.old ≡ replicate (length comments.now.source) 0 }
     ensures { Beside
         (Wrote w.old w.new (encode_list encode_jsdoc (jsdoc_imports media comments.now.source comments.now.comments)))
         (ticks.new ≡ ticks_in media comments.now.source comments.now.comments) }

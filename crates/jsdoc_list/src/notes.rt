@@ -77,7 +77,8 @@ fn put_comment_origins(source: &[u8], c: Comment, origins: &mut [u16], w: &mut W
 // Writes the origins of the imports of all comments.
 #[tactic(auto, using(sheet::proofs::Marks::holds_marks_lem, crate::proofs::Openers::comment_next, crate::proofs::Openers::comments_end, report::proofs::Buffers::more_append, report::proofs::Buffers::more_nil))]
 fn put_origins(comments: &Comments, origins: &mut [u16], w: &mut Writer)
-    requires { length comments.now.source ≤ length origins.old }
+    requires short { length comments.now.source ≤ source_limit }
+    requires source_in_bounds { length comments.now.source ≤ length origins.old }
     ensures { Wrote w.old w.new
         (flat_map encode_origin (flat_map (origins_of comments.now.source) comments.now.comments)) }
 {
@@ -90,7 +91,8 @@ fn put_origins(comments: &Comments, origins: &mut [u16], w: &mut Writer)
 // Writes the origins of the JSDoc imports of a sheet of this media. `origins` is lent to work in.
 #[tactic(auto, using(report::proofs::Buffers::wrote_none), unfolding(laws::proofs::Prelude::flat_map, crate::specs::Origins::jsdoc_origins))]
 pub fn put_jsdoc_origins(media: MediaType, comments: &Comments, origins: &mut [u16], w: &mut Writer)
-    requires { length comments.now.source ≤ length origins.old }
+    requires short { length comments.now.source ≤ source_limit }
+    requires source_in_bounds { length comments.now.source ≤ length origins.old }
     ensures { Wrote w.old w.new
         (flat_map encode_origin (jsdoc_origins media comments.now.source comments.now.comments)) }
 {

@@ -23,7 +23,7 @@ use Rattle.dep.{specs.Collect.entry_of, proofs.EntryAttributes.attributes_right}
 use Rattle.dep.specs.InTurn.{InTurn, Worded, EntryOf}
 use Rattle.dep.proofs.Turns.{turn_member, turns_with, collect_turns}
 use Rattle.module_info.specs.Information.{module_info, default_info, answer_of}
-use Rattle.module_info.specs.code.Pieces.{commented, PartsOf}
+use Rattle.module_info.specs.code.Pieces.{commented, Sound, PartsOf}
 use Rattle.module_info.specs.{Empty.EmptyRight, Demands.OfAccepted, Demands.Demands}
 use Rattle.module_info.proofs.{Numbers.number_right, Empty.empty_right, Fine.Fine, Reports.entries_fine, Reports.report_right, Revised.unchanged}
 
@@ -60,12 +60,13 @@ module _ {s : List ℕ} {comments : List CommentRow} {groups : List GroupRow} {p
   pub lent : {index : List ℕ} → IndexOf (part s p.source_start p.source_end) index
       → Lends (commented_by s (part s p.source_start p.source_end) (take p.comments comments) (take p.groups groups)) index
   lent {index} indexed = record {
-    utf8 = rw a.source formed_source;
-    short = source_short;
     fit = rw (a.source, a.comments) fit;
     grouped = rw (a.comments, a.groups) within.groups.1;
     indexed = indexed;
   }
+
+  pub sound : {c : Commented} → c ≡ commented s a.sheet → Sound c.source
+  sound i = rw i (formed_source, within.source.0)
 
   -- the parts are those of every sheet that the bytes are
   module _ {t : Sheet} (e : accept s ≡ ok t []) where

@@ -14,7 +14,7 @@ ghost use Rattle.report.specs.Answer.{zeros, Outcome, outcome_as, fitted};
 ghost use Rattle.dep_entries.specs.code.Notes.{all_noted};
 ghost use Rattle.module_info.specs.Information.{module_info, default_info, packed};
 ghost use Rattle.module_info.specs.Replaced.{noted, notes_with, NotesRight};
-ghost use Rattle.module_info.specs.code.Pieces.{dependency_bytes, head_bytes, rest_bytes, commented, PartsOf, AcceptsIn};
+ghost use Rattle.module_info.specs.code.Pieces.{dependency_bytes, head_bytes, rest_bytes, commented, Sound, PartsOf, AcceptsIn};
 ghost use Rattle.module_info.specs.Demands.{Demands};
 
 use self::judge::judge;
@@ -77,7 +77,8 @@ fn put_head(comments: &Comments, parts: Parts, w: &mut Writer)
 // while the tree is walked.
 #[tactic(auto, using(report::proofs::Buffers::more_append), unfolding(crate::specs::code::Pieces::rest_bytes, pragmas::specs::Pragmas::last_by))]
 fn put_rest(comments: &Comments, parts: Parts, ticks: &mut [u8], w: &mut Writer)
-    requires { ticks.old ≡ replicate (length ticks.old) 0 }
+    requires ticks_value { ticks.old ≡ replicate (length ticks.old) 0 }
+    requires sound { Sound comments.now.source }
     ensures { Wrote w.old w.new (rest_bytes parts.media parts.program comments.now) }
 {
     let long = comments.source().len();
@@ -92,6 +93,7 @@ fn put_rest(comments: &Comments, parts: Parts, ticks: &mut [u8], w: &mut Writer)
 
 // The parts of the report of a sheet, one after the other. The notes take a row for each dependency.
 fn put_noted_report(comments: &Comments, parts: Parts, w: &mut Writer, notes: &mut [usize])
+    requires { Sound comments.now.source }
     ensures { (t : Sheet) → PartsOf t comments.now.bytes comments.now parts
         → Wrote w.old w.new (encode (module_info t)) × (notes.new ≡ all_noted notes.old (noted t)) }
 {

@@ -4,6 +4,7 @@
 ghost use Rattle.std.specs.Prelude.{◌≡◌, ℕ, ◌+◌, ◌*◌, ◌≤◌, length, Ok};
 ghost use mathlib.Core.List.{List, [], flat_map};
 ghost use Rattle.laws.specs.Decoded.{ok};
+ghost use Rattle.sheet.specs.Limits.{source_limit};
 ghost use Rattle.sheet.specs.Sheet.{Sheet, accept};
 ghost use Rattle.report.specs.Buffer.{Wrote};
 ghost use Rattle.report.specs.Origin.{encode_origin};
@@ -59,7 +60,8 @@ fn put_types_rules(comments: &Comments, parts: Parts, notes: &[usize], w: &mut W
 // Writes those of what the head group gives, of the JSDoc imports and of the source map. `origins` is lent to work in.
 #[tactic(auto, using(report::proofs::Buffers::more_append, laws::proofs::Lists::flat_map_append), unfolding(crate::specs::code::Pieces::comment_origins))]
 fn put_comment_rules(comments: &Comments, parts: Parts, origins: &mut [u16], w: &mut Writer)
-    requires { length comments.now.source ≤ length origins.old }
+    requires short { length comments.now.source ≤ source_limit }
+    requires source_in_bounds { length comments.now.source ≤ length origins.old }
     ensures { Wrote w.old w.new
         (flat_map encode_origin (comment_origins parts.media parts.program comments.now)) }
 {

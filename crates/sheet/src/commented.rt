@@ -1,10 +1,7 @@
 // The comments of a source, in their groups, and the index of its positions.
-ghost use Rattle.std.specs.Prelude.{◌≡◌, true, ◌+◌, ◌≤◌, ◌<◌, length};
+ghost use Rattle.std.specs.Prelude.{◌≡◌, ◌+◌, ◌≤◌, ◌<◌, length};
 ghost use Rattle.laws.specs.code.Told.{Bounded};
-ghost use Rattle.text.specs.declared.utf8.Encoding.TheVariants.{Utf8};
 ghost use Rattle.text.specs.Position.{characters, position_of};
-ghost use Rattle.text.specs.Utf8.{formed};
-ghost use Rattle.sheet.specs.Limits.{source_limit};
 ghost use Rattle.sheet.specs.Lookups.{group_at, end_group, head_group};
 ghost use Rattle.sheet.specs.Fit.{Placed, Fit, comment_of, Reaching};
 ghost use Rattle.sheet.specs.code.Lent.{Lends, Reached, commented_by};
@@ -67,8 +64,6 @@ impl<'a> Comments<'a> {
 
     pub fn source(&self) -> &'a [u8]
         ensures value { result.now ≡ self.now.source }
-        ensures utf8 { formed Utf8 0 result.now ≡ true }
-        ensures short { length result.now ≤ source_limit }
         ensures fit { Fit result.now self.now.comments }
     {
         self.sheet.source
@@ -94,6 +89,7 @@ impl<'a> Comments<'a> {
         requires { Reaching (length self.now.comments) g }
         ensures { result ≡ g.first + g.count }
     {
+        // opens the value: the sum is no larger than the number of rows
         let _ = &self.rows;
         g.first + g.count
     }

@@ -31,7 +31,7 @@ pub struct CommentRow {
 const _: () = prove!(size_of::<CommentRow>() == 12);
 
 impl CommentRow {
-    fn new(c: Comment) -> CommentRow
+    pub fn new(c: Comment) -> CommentRow
         requires { (c.span.start < 4294967296) × (c.span.end < 4294967296) }
         ensures { comment_in result ≡ c }
     {

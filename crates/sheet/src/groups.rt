@@ -34,7 +34,7 @@ pub struct GroupRow {
 const _: () = prove!(size_of::<GroupRow>() == 16);
 
 impl GroupRow {
-    fn new(g: Group) -> GroupRow
+    pub fn new(g: Group) -> GroupRow
         requires { (g.position < 4294967296) × (g.first < 4294967296) × (g.count < 4294967296) }
         ensures { group_in result ≡ g }
     {

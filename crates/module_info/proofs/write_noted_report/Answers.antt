@@ -2,9 +2,14 @@ use Rattle.laws.proofs.Prelude.{rules, sym, ap, ◌∙◌, length}
 use Rattle.report.specs.{Encode.encode, Answer.zeros}
 use Rattle.dep_entries.specs.code.Notes.{all_noted}
 use Rattle.module_info.specs.{Information.module_info, Replaced.noted}
-use Rattle.module_info.proofs.{Accepted.parts_of, Notes.accepted_notes, Notes.refused_notes}
+use Rattle.module_info.proofs.{Accepted.parts_of, Accepted.sound, Notes.accepted_notes, Notes.refused_notes}
 use Rattle.module_info.proofs.Written.{same_loan, finished, come_back}
 use Rattle.module_info.proofs.write_noted_report.Goals as goal
+
+pub put_noted_report-requires : goal.put_noted_report-requires
+put_noted_report-requires c =
+    let a = c.requires.accepts_in.accepts in
+    sound a (c.comments_of-comments.ensures a.sheet a.accepted)
 
 pub returns-then-is_err : goal.returns-then-is_err
 returns-then-is_err c =

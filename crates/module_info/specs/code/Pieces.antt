@@ -1,12 +1,14 @@
 -- The report in the pieces that functions write, and what these are of.
-use Rattle.std.specs.Prelude.{◌≡◌, List, [], ◌++◌, ℕ, ◌<◌, length, drop, Option, Some, None, Result, Ok, Err}
+use Rattle.std.specs.Prelude.{◌≡◌, true, List, [], ◌++◌, ℕ, ◌≤◌, ◌<◌, length, drop, Option, Some, None, Result, Ok, Err}
 use Rattle.laws.specs.Decoded.{ok, no}
 use Rattle.text.specs.Bytes.{part}
+use Rattle.text.specs.declared.utf8.Encoding.TheVariants.{Utf8}
+use Rattle.text.specs.Utf8.{formed}
 use Rattle.wire.specs.declared.refusals.Refusal.{Refusal}
 use Rattle.wire.specs.Refusals.{number_of}
 use Rattle.wire.specs.Fields.{encode_flag}
 use Rattle.wire.specs.Optional.{encode_optional}
-use Rattle.sheet.specs.Limits.{depth_limit}
+use Rattle.sheet.specs.Limits.{depth_limit, source_limit}
 use Rattle.sheet.specs.declared.comments.Comment.{Comment}
 use Rattle.sheet.specs.declared.names.MediaType.{MediaType}
 use Rattle.sheet.specs.Lookups.{head_group, end_group}
@@ -29,6 +31,10 @@ use Rattle.dep.specs.Collect.{collect}
 -- a sheet in its bytes s: its source with the comments in it, in their groups
 abbrev pub commented : List ℕ → Sheet → Commented
 commented s t = record { bytes = s; source = t.source; comments = t.comments; groups = t.groups }
+
+-- a source is well-formed and no longer than a sheet's may be
+abbrev pub Sound : List ℕ → Type 0
+Sound source = (formed Utf8 0 source ≡ true) × (length source ≤ source_limit)
 
 -- the script flag and the dependencies
 unfoldable pub dependency_bytes : Sheet → List ℕ

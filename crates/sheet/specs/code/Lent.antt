@@ -1,14 +1,11 @@
 -- A sheet with its comments and groups in tables, and the index of its source's positions, as they are lent to the readings.
-use Rattle.std.specs.Prelude.{◌≡◌, true, List, ℕ, ◌+◌, ◌*◌, ◌/◌, ◌≤◌, ◌<◌, length}
+use Rattle.std.specs.Prelude.{List, ℕ, ◌+◌, ◌*◌, ◌/◌, ◌<◌, length}
 use Rattle.std.specs.Prelude.{Option}
 use Rattle.laws.specs.Codec.{IfThere}
-use Rattle.text.specs.declared.utf8.Encoding.TheVariants.{Utf8}
-use Rattle.text.specs.Utf8.{formed}
 use Rattle.text.specs.Position.{characters, Indexed}
 use Rattle.sheet.specs.declared.comments.CommentRow.{CommentRow}
 use Rattle.sheet.specs.declared.groups.Group.{Group}
 use Rattle.sheet.specs.declared.groups.GroupRow.{GroupRow}
-use Rattle.sheet.specs.Limits.{source_limit}
 use Rattle.sheet.specs.code.Tables.{comments_in, groups_in}
 use Rattle.sheet.specs.code.Commented.{Commented}
 use Rattle.sheet.specs.Fit.{Fit, Grouped, Reaching}
@@ -25,8 +22,6 @@ commented_by bytes source rows groups =
 
 -- what holds of them, with an index of the source's positions
 pub record Lends (c : Commented) (index : List ℕ) : Type 0 where
-  pub utf8 : formed Utf8 0 c.source ≡ true
-  pub short : length c.source ≤ source_limit
   pub fit : Fit c.source c.comments
   pub grouped : Grouped (length c.comments) c.groups
   pub indexed : IndexOf c.source index

@@ -1,6 +1,6 @@
 -- Arguments in a source that is an empty string, as the definitions compute.
 use Rattle.std.specs.Prelude.{Some, None}
-use Rattle.laws.proofs.Prelude.{◌≡◌, refl, List, [], ◌∷◌, ◌++◌, map, Option, ℕ, length}
+use Rattle.laws.proofs.Prelude.{◌≡◌, refl, List, [], ◌∷◌, ◌++◌, map, ℕ, length}
 use Rattle.laws.specs.Decoded.{Decoded, ok, on_ok}
 use Rattle.laws.specs.Ascii.{ascii}
 use Rattle.text.specs.{Bytes.begins, Lossy.replacing, Position.is_boundary}

@@ -2,18 +2,19 @@
 use Rattle.std.specs.Prelude.{Some, None, Result, Ok, Err}
 use Rattle.std.specs.Result.{result_ok}
 use Rattle.laws.proofs.Prelude.{◌≡◌, refl, sym, ap, ◌∙◌, ◌⊎◌, inl, inr, List, [], ◌∷◌, ◌++◌, append-nil, flat_map, Option, ℕ, ◌+◌, arith}
-use Rattle.laws.proofs.Prelude.{length, drop, length-append}
+use Rattle.laws.proofs.Prelude.{length, length-append}
+use Rattle.std.specs.Borrow.{Bor}
 use Rattle.laws.specs.Decoded.{Decoded, ok, no, on_ok, Decoder}
 use Rattle.laws.proofs.{Lists.flat_map_append, Decoding.refused, Decoding.same_rest}
-use Rattle.text.specs.{Lossy.lossy, Bytes.part}
-use Rattle.wire.specs.{declared.Cursor.Cursor, Text.encode_text, Optional.encode_optional}
+use Rattle.text.specs.Lossy.{lossy}
+use Rattle.wire.specs.{Text.encode_text, Optional.encode_optional}
 use Rattle.sheet.specs.{Tree.Node, Shape.shape}
 use Rattle.sheet_nodes.specs.{declared.tally.NodeTally.NodeTally, code.Tallies.node_tally}
 use Rattle.report.{specs.ModuleInfo.DynamicTemplatePart, specs.Buffer.Written, specs.Buffer.more, proofs.Buffers.more_append}
 use Rattle.arguments.specs.declared.expression.Expression.{Expression}
 use Rattle.arguments.specs.declared.expression.Expression.TheVariants as expression
 use Rattle.arguments.specs.Argument.{operand, appended, chain}
-use Rattle.arguments.specs.code.Views.{encode_parts, IsString, IsTemplate, IsPlus, ExpressionIs, parts_as, counted}
+use Rattle.arguments.specs.code.Views.{encode_parts, IsString, IsTemplate, IsPlus, ExpressionIs, counted}
 
 -- parts one behind the other
 pub more_parts : (w : Written) (l m : List DynamicTemplatePart) → more w (encode_parts (l ++ m)) ≡ more (more w (encode_parts l)) (encode_parts m)
@@ -65,18 +66,18 @@ checked_refused is e = refused (sym e ∙ ap (on_ok node_tally) is)
 abbrev Counts : Decoder Node → List ℕ → Option (ℕ × List ℕ) → Type 0
 Counts inner v y = (n : Node) (t : List ℕ) → inner v ≡ ok n t → y ≡ counted (chain n) t
 
-module _ {s : List ℕ} {from to : ℕ} {next : Cursor} {n : Node} {t : List ℕ} (r : IsString s from to next n t) where
-  pub string_operand : operand (shape n) ≡ Some (lossy (part s from to))
+module _ {text next : List ℕ} {n : Node} {t : List ℕ} (r : IsString text next n t) where
+  pub string_operand : operand (shape n) ≡ Some (lossy text)
   string_operand = rw r.is
 
-  pub string_chain : chain n ≡ Some (Some (lossy (part s from to)) ∷ [])
+  pub string_chain : chain n ≡ Some (Some (lossy text) ∷ [])
   unfolding chain
   string_chain = rw r.is
 
-  pub string_counted : parts_as s (Some (1, next)) ≡ counted (chain n) t
+  pub string_counted : Some (1, next) ≡ counted (chain n) t
   string_counted = rw (string_chain, r.past)
 
-module _ {s : List ℕ} {holes : ℕ} {next : Cursor} {n : Node} (r : IsTemplate s holes next n) where
+module _ {holes : ℕ} {s : List ℕ} {n : Node} (r : IsTemplate holes s n) where
   template_operand : operand (shape n) ≡ None
   template_operand = rw r.is
 
@@ -84,7 +85,7 @@ module _ {s : List ℕ} {holes : ℕ} {next : Cursor} {n : Node} (r : IsTemplate
   unfolding chain
   template_chain = rw r.is
 
-module _ {s : List ℕ} {inner : Decoder Node} {next : Cursor} {n : Node} {t : List ℕ} (r : IsPlus s inner next n t) where
+module _ {inner : Decoder Node} {s : List ℕ} {n : Node} {t : List ℕ} (r : IsPlus inner s n t) where
   plus_operand : operand (shape n) ≡ None
   plus_operand = rw r.is
 
@@ -92,11 +93,11 @@ module _ {s : List ℕ} {inner : Decoder Node} {next : Cursor} {n : Node} {t : L
   unfolding chain
   plus_chain = rw r.is
 
-  pub plus_unknown : Counts inner (drop next.at s) None → None ≡ counted (chain n) t
+  pub plus_unknown : Counts inner s None → None ≡ counted (chain n) t
   plus_unknown f = rw (plus_chain, uncounted (chain r.left) r.between (f r.left r.between r.first))
 
   -- the left side was counted, and v stands behind it
-  module _ {k : ℕ} {v : List ℕ} (f : Counts inner (drop next.at s) (Some (k, v))) where
+  module _ {k : ℕ} {v : List ℕ} (f : Counts inner s (Some (k, v))) where
     pub at_right : inner v ≡ ok r.right t
     at_right = let (l, is, total, past) = has_count (chain r.left) r.between (f r.left r.between r.first) in ap inner past ∙ r.second
 
@@ -114,14 +115,15 @@ module _ {s : List ℕ} {inner : Decoder Node} {next : Cursor} {n : Node} {t : L
   plus_parts e = has_parts (chain r.left) (operand (shape r.right)) (sym plus_chain ∙ e)
 
 -- an expression that is no part of a chain: no text beside a plus, and no chain
-module _ (s : List ℕ) (inner : Decoder Node) {x : Expression} (n : Node) (t : List ℕ) (is : ExpressionIs s inner x n t) where
+module _ (inner : Decoder Node) {x : Expression} (n : Node) (t : List ℕ) (is : ExpressionIs inner x n t) where
   pub no_text :
-      ((holes : ℕ) × (next : Cursor) × (x ≡ expression.Template holes next)) ⊎ (((next : Cursor) × (x ≡ expression.Plus next)) ⊎ (x ≡ expression.Other))
+      ((holes : ℕ) × (next : Bor (List ℕ)) × (x ≡ expression.Template holes next))
+      ⊎ (((next : Bor (List ℕ)) × (x ≡ expression.Plus next)) ⊎ (x ≡ expression.Other))
       → operand (shape n) ≡ None
   no_text (inl (holes, next, e)) = template_operand (rw e at is)
   no_text (inr (inl (next, e))) = plus_operand (rw e at is)
   no_text (inr (inr e)) = (rw e at is).side
 
-  pub not_a_chain : ((holes : ℕ) × (next : Cursor) × (x ≡ expression.Template holes next)) ⊎ (x ≡ expression.Other) → chain n ≡ None
+  pub not_a_chain : ((holes : ℕ) × (next : Bor (List ℕ)) × (x ≡ expression.Template holes next)) ⊎ (x ≡ expression.Other) → chain n ≡ None
   not_a_chain (inl (holes, next, e)) = template_chain (rw e at is)
   not_a_chain (inr e) = (rw e at is).parts

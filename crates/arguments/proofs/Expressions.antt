@@ -1,32 +1,18 @@
 -- What stands behind the head of an expression, by the head.
-use Rattle.std.specs.Prelude.{None, Ok}
-use Rattle.laws.proofs.Prelude.{◌≡◌, refl, Bool, true, false, List, [], ◌∷◌, ℕ, ◌-◌, ◌+◌, arith, drop, seen, rules}
-use types.Run.{OneOf, miss}
-use denote.Enum.Declared.{tag_of}
+use Rattle.std.specs.Prelude.{None}
+use Rattle.std.specs.Borrow.{Bor}
+use Rattle.laws.proofs.Prelude.{◌≡◌, refl, Bool, true, false, List, [], ℕ, ◌-◌, ◌+◌, arith}
 use Rattle.laws.{specs.Decoded.ok, proofs.Decoding.then_ok}
-use Rattle.wire.specs.{declared.Cursor.Cursor, code.Views.Reading}
 use Rattle.sheet.specs.{declared.fields.Span.Span, Shape.anything, Shape.shape}
 use Rattle.sheet.specs.Tree.{Node, other, string, name, template, binary, object, import_call, call, import_decl, named_export, export_from, export_all}
 use Rattle.sheet.specs.Tree.{import_type, import_equals, import_require, module_decl}
 use Rattle.sheet.specs.Nodes.{many, piece, nodes, node}
-use Rattle.sheet_heads.specs.{declared.node.Head.Head, code.Rest.rest, code.Views.head_of, code.Views.head_as}
+use Rattle.sheet_heads.specs.{declared.node.Head.Head, code.Rest.rest, code.Views.head_of}
 use Rattle.sheet_heads.specs.declared.node.Head.TheVariants as head
 use Rattle.sheet_heads.specs.code.Head as heads
 use Rattle.sheet_heads.proofs.{ByHead.behind_head, Shapes.shape_by_head}
-use Rattle.sheet_heads.specs.contracts.node.Head.{the_type}
-use Rattle.arguments.specs.declared.expression.Expression.TheVariants as expression
-use Rattle.arguments.specs.{Argument.chain, Argument.argument_of, code.Views.Unknown, code.Views.ExpressionIs}
-
--- the variants besides String, Template and Binary
-abbrev others : List ℕ
-others = 0 ∷ 2 ∷ 5 ∷ 6 ∷ 7 ∷ 8 ∷ 9 ∷ 10 ∷ 11 ∷ 12 ∷ 13 ∷ 14 ∷ 15 ∷ 16 ∷ []
-
-pub one_of_others : (x : Head) → ((from to : ℕ) → x ≡ head.String from to → ⊥) → ((holes : ℕ) → x ≡ head.Template holes → ⊥) →
-    ((plus : Bool) → x ≡ head.Binary plus → ⊥) → OneOf others (tag_of the_type x)
-one_of_others (head.String from to) no_string no_template no_binary = absurd (no_string from to refl)
-one_of_others (head.Template holes) no_string no_template no_binary = absurd (no_template holes refl)
-one_of_others (head.Binary plus) no_string no_template no_binary = absurd (no_binary plus refl)
-one_of_others x no_string no_template no_binary = search rules
+use Rattle.arguments.specs.Argument.{chain, argument_of}
+use Rattle.arguments.specs.code.Views.{Unknown, IsString, IsTemplate, IsPlus}
 
 -- a node that is anything else is no chain
 no_chain : (n : Node) → shape n ≡ anything → chain n ≡ None
@@ -49,43 +35,45 @@ no_chain (import_require sp type_only export x) e = refl
 no_chain (module_decl sp x ns) e = refl
 
 -- an expression, from its head and what follows it
-module _ (s source : List ℕ) (at levels : ℕ) {r : Reading (Span × Head)} {sp : Span} {x : Head} {next : Cursor} {n : Node} {t : List ℕ}
-    (says : head_as s r ≡ heads.head source levels (drop at s)) (is : r ≡ Ok ((sp, x), next)) (whole : node source levels (drop at s) ≡ ok n t) where
-  follows : rest source (levels - 1) (sp, head_of s x) (drop next.at s) ≡ ok n t
-  follows = behind_head source levels (drop at s) whole (seen (head_as s) says is)
+module _ (source s : List ℕ) (levels : ℕ) (x : Head) {sp : Span} {next : List ℕ} {n : Node} {t : List ℕ}
+    (whole : node source levels s ≡ ok n t) (read : heads.head source levels s ≡ ok (sp, head_of x) next) where
+  follows : rest source (levels - 1) (sp, head_of x) next ≡ ok n t
+  follows = behind_head source levels s whole read
 
-  pub reads_string : {from to : ℕ} → x ≡ head.String from to → ExpressionIs s (node source (levels - 1)) (expression.String from to next) n t
+  pub reads_string : {text : Bor (List ℕ)} → x ≡ head.String text → IsString text.now next n t
   reads_string h = let e = rw h at follows in record { span = sp; is = cc; past = cc }
 
-  pub reads_template : {holes : ℕ} → x ≡ head.Template holes → ExpressionIs s (node source (levels - 1)) (expression.Template holes next) n t
+  pub reads_template : {holes : ℕ} → x ≡ head.Template holes → IsTemplate holes next n
   reads_template {holes} h =
-      let (ps, u, pieces, behind) = then_ok (many [] piece (holes + 1) (drop next.at s)) _ (rw h at follows) in
+      let (ps, u, pieces, behind) = then_ok (many [] piece (holes + 1) next) _ (rw h at follows) in
       let (ns, v, held, e) = then_ok (nodes (node source (levels - 1)) holes u) _ behind in
       record { span = sp; pieces = ps; nodes = ns; behind = u; is = cc; read = pieces }
 
-  pub reads_plus : {plus : Bool} → x ≡ head.Binary plus → plus ≡ true → ExpressionIs s (node source (levels - 1)) (expression.Plus next) n t
+  pub reads_plus : {plus : Bool} → x ≡ head.Binary plus → plus ≡ true → IsPlus (node source (levels - 1)) next n t
   reads_plus h on =
-      let (l, u, left, behind) = then_ok (node source (levels - 1) (drop next.at s)) _ (rw (h, on) at follows) in
+      let (l, u, left, behind) = then_ok (node source (levels - 1) next) _ (rw (h, on) at follows) in
       let (m, v, right, e) = then_ok (node source (levels - 1) u) _ behind in
       record { span = sp; left = l; right = m; between = u; is = cc; first = left; second = cc }
 
   pub reads_minus : {plus : Bool} → x ≡ head.Binary plus → plus ≡ false → Unknown n
   unfolding chain argument_of
   reads_minus h off =
-      let (l, u, left, behind) = then_ok (node source (levels - 1) (drop next.at s)) _ (rw (h, off) at follows) in
+      let (l, u, left, behind) = then_ok (node source (levels - 1) next) _ (rw (h, off) at follows) in
       let (m, v, right, e) = then_ok (node source (levels - 1) u) _ behind in
       let minus : binary sp false l m ≡ n = cc in
       rw (← minus) (record { side = refl; parts = refl; whole = refl; single = refl })
 
-  pub reads_other : OneOf others (tag_of the_type x) → Unknown n
+  pub reads_other : ((text : Bor (List ℕ)) → x ≡ head.String text → ⊥) → ((holes : ℕ) → x ≡ head.Template holes → ⊥) →
+      ((plus : Bool) → x ≡ head.Binary plus → ⊥) → Unknown n
   unfolding chain argument_of
-  reads_other k =
+  reads_other no_string no_template no_binary =
       rw follows at
-      ((shape_by_head s source (levels - 1) sp Unknown others
-      (λ n e. record { side = rw e; parts = no_chain n e; whole = rw e; single = rw e })
-      (λ i. absurd (miss others 1 tt i))
-      (λ i x. record { side = refl; parts = refl; whole = refl; single = refl })
-      (λ i. absurd (miss others 3 tt i))
-      (λ i. absurd (miss others 4 tt i))
-      (λ i ps. record { side = refl; parts = refl; whole = refl; single = refl })
-      x k).at (drop next.at s))
+      ((shape_by_head source (levels - 1) sp Unknown x
+      (record {
+        others = λ n e. record { side = rw e; parts = no_chain n e; whole = rw e; single = rw e };
+        strings = λ y h. absurd (no_string y h);
+        names = λ y h. record { side = refl; parts = refl; whole = refl; single = refl };
+        templates = λ holes h ps ns. absurd (no_template holes h);
+        operations = λ plus h l r. absurd (no_binary plus h);
+        objects = λ n h ps. record { side = refl; parts = refl; whole = refl; single = refl };
+      })).at next)

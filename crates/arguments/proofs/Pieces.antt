@@ -1,17 +1,17 @@
 -- Pieces of a template read one after the other, and the parts that they give.
-use Rattle.std.specs.Prelude.{Some, None, option_map}
+use Rattle.std.specs.Prelude.{Some, None}
+use Rattle.std.specs.Borrow.{Bor}
 use Rattle.laws.proofs.Prelude.{◌≡◌, refl, sym, ap, ◌∙◌, Bool, true, false, List, [], ◌∷◌, ◌++◌, append-nil, Option, ℕ, zero, suc, ◌+◌, ◌-◌, ◌≤◌, ◌<◌}
-use Rattle.laws.proofs.Prelude.{arith, ltb, length, length-take, length-drop, lt-ltb, le-ltb, ltb-true, ltb-false}
+use Rattle.laws.proofs.Prelude.{arith, ltb, length, lt-ltb, le-ltb, ltb-true, ltb-false}
 use Rattle.std.specs.Int.{from_bool}
 use Rattle.laws.{specs.Decoded.ok, proofs.Decoding.then_ok}
-use Rattle.text.specs.{declared.utf8.Encoding.TheVariants.Wtf8, Lossy.lossy, Bytes.part}
+use Rattle.text.specs.{declared.utf8.Encoding.TheVariants.Wtf8, Lossy.lossy}
 use Rattle.wire.specs.{Text.text, Optional.optional}
 use Rattle.sheet.specs.{Limits.text_limit, Tree.Pieces, Nodes.many, Nodes.piece}
-use Rattle.wire.specs.declared.Cursor.{Cursor}
 use Rattle.sheet_heads.specs.code.Views.{piece_of}
 use Rattle.sheet_heads.proofs.Many.{many_first, many_next, many_end}
 use Rattle.report.specs.ModuleInfo as info
-use Rattle.arguments.specs.code.Views.{hole_parts}
+use Rattle.arguments.specs.code.Views.{piece_in, hole_parts}
 use Rattle.arguments.specs.Argument.{piece_parts, template_parts, of_pieces, one_piece}
 
 -- a piece is added in front
@@ -65,21 +65,14 @@ module _ (holes k : ℕ) (h : k ≤ holes) where
       (qs, rw down at behind, rw hole_follows at (sym (ap template_parts is) ∙ next_parts p left t some behind))
 
 -- a piece that was read, cooked or not
-pub piece_is : (s : List ℕ) (x : Option ℕ) (next : Cursor) → piece_of s x next ≡ (option_map (λ from. part s from next.at) x ∷◌)
-piece_is s None next = refl
-piece_is s (Some from) next = refl
+pub piece_is : (x : Option (Bor (List ℕ))) → piece_of x ≡ (piece_in x ∷◌)
+piece_is None = refl
+piece_is (Some text) = refl
 
--- a piece of a sheet s is a part if it has text
-module _ (s : List ℕ) (from to : ℕ) where
-  pub text_part : from < to → to ≤ length s → piece_parts (Some (part s from to)) ≡ Some (lossy (part s from to)) ∷ []
-  text_part h k = some_text (part s from to) (simp (length-take, length-drop) (omega arith))
-    where
-      some_text : (x : List ℕ) → 0 < length x → piece_parts (Some x) ≡ Some (lossy x) ∷ []
-      some_text [] h = absurd (omega arith)
-      some_text (b ∷ x) h = refl
-
-  pub no_part : to ≤ from → piece_parts (Some (part s from to)) ≡ []
-  no_part h = let none : to - from ≡ 0 = omega arith in rw none
+-- a piece is a part if it has text
+pub text_part : (x : List ℕ) → 0 < length x → piece_parts (Some x) ≡ Some (lossy x) ∷ []
+text_part [] h = absurd (omega arith)
+text_part (b ∷ x) h = refl
 
 pub hole_count : (has_hole : Bool) → length (hole_parts has_hole) ≡ from_bool has_hole
 hole_count true = refl

@@ -1,5 +1,5 @@
 // The argument of a dynamic import, and its writer.
-ghost use Rattle.std.specs.Prelude.{◌≡◌, List, [], ℕ, ◌+◌, ◌≤◌, length, drop};
+ghost use Rattle.std.specs.Prelude.{◌≡◌, List, [], ℕ, ◌+◌, ◌≤◌};
 ghost use Rattle.laws.specs.Decoded.{ok};
 ghost use Rattle.laws.specs.code.Told.{Bounded, Leaving};
 ghost use Rattle.wire.specs.Number.{largest};
@@ -16,75 +16,72 @@ use super::bin::{put_bin, visit_bin};
 use super::expression::{Expression, read_expression};
 use super::template::{count_parts, put_parts};
 use report::writer::Writer;
-use sheet::Sheet;
 use sheet_heads::parts::read_piece;
-use wire::Cursor;
 
-// Offsets into the sheet stand for the Rust's `Vec` of parts.
+// Bytes of the sheet stand for the Rust's `Vec` of parts.
 #[derive(Clone, Copy)]
-pub enum DynamicArgument {
+pub enum DynamicArgument<'a> {
     Expr,
-    // A text.
-    String(usize, usize),
-    // The place is that of the pieces.
+    String(&'a [u8]),
+    // The bytes begin with the pieces.
     Template {
         parts: usize,
         holes: usize,
-        at: usize,
+        pieces: &'a [u8],
     },
-    // The number of parts, and the place of the node.
-    Chain(usize, usize),
+    // The number of parts, and the bytes that begin with the node.
+    Chain(usize, &'a [u8]),
 }
 
 // A template by its holes: one of one piece is its text.
-fn parse_template(sheet: &[u8], c: Cursor, holes: usize) -> DynamicArgument
+fn parse_template(pieces: &[u8], holes: usize) -> DynamicArgument<'_>
     requires { holes ≤ largest }
     ensures { Bounded
         ((source : List ℕ) (levels : ℕ) (ps : Pieces) (u : List ℕ)
-        → many [] piece (holes + 1) (drop c.at sheet.now) ≡ ok ps u
-        → Stands sheet.now source levels result (of_pieces ps) (replaced_in (one_piece ps)))
-        (ArgumentWithin (length sheet.now) result) }
+        → many [] piece (holes + 1) pieces.now ≡ ok ps u
+        → Stands source levels result (of_pieces ps) (replaced_in (one_piece ps)))
+        (ArgumentWithin result) }
 {
     if holes == 0 {
-        return match read_piece(sheet, c) {
-            Ok((Some(from), next)) => DynamicArgument::String(from, next.at),
+        return match read_piece(pieces) {
+            Ok((Some(text), _)) => DynamicArgument::String(text),
             Ok((None, _)) => DynamicArgument::Expr,
             Err(_) => DynamicArgument::Expr,
         };
     }
     DynamicArgument::Template {
-        parts: count_parts(sheet, c, holes),
+        parts: count_parts(pieces, holes),
         holes,
-        at: c.at,
+        pieces,
     }
 }
 
-// The argument whose node is at a cursor, with so many levels left, its own among them.
-pub fn parse_argument(sheet: &Sheet, c: Cursor, levels: usize) -> DynamicArgument
+// The argument whose node is at the front of some bytes, with so many levels left, its own among them.
+pub fn parse_argument<'a>(source: &[u8], s: &'a [u8], levels: usize) -> DynamicArgument<'a>
     ensures { Bounded
         ((n : Node) (t : List ℕ)
-        → node sheet.now.source.now levels (drop c.at sheet.now.bytes.now) ≡ ok n t
-        → Stands sheet.now.bytes.now sheet.now.source.now levels result (argument_of n) (replaced_in (single_text (shape n))))
-        (ArgumentWithin (length sheet.now.bytes.now) result) }
+        → node source.now levels s.now ≡ ok n t
+        → Stands source.now levels result (argument_of n) (replaced_in (single_text (shape n))))
+        (ArgumentWithin result) }
 {
-    match read_expression(sheet, c, levels) {
-        Expression::String { from, to, .. } => DynamicArgument::String(from, to),
-        Expression::Template(holes, next) => parse_template(sheet.bytes, next, holes),
-        Expression::Plus(_) => match visit_bin(sheet, c, levels) {
-            Some((n, _)) => DynamicArgument::Chain(n, c.at),
+    match read_expression(source, s, levels) {
+        Expression::String { text, .. } => DynamicArgument::String(text),
+        Expression::Template(holes, pieces) => parse_template(pieces, holes),
+        Expression::Plus(_) => match visit_bin(source, s, levels) {
+            Some((parts, _)) => DynamicArgument::Chain(parts, s),
             None => DynamicArgument::Expr,
         },
         Expression::Other => DynamicArgument::Expr,
     }
 }
 
-// Writes an argument, and counts the surrogates that are replaced in its single text: parts are not counted. Where the sheet has no such argument,
+// Writes an argument, and counts the surrogates that are replaced in its single text: parts are not counted. Where the bytes hold no such argument,
 // the buffer is left free.
-pub fn put_argument(sheet: &Sheet, levels: usize, a: DynamicArgument, w: &mut Writer) -> usize
-    requires { ArgumentWithin (length sheet.now.bytes.now) a }
+pub fn put_argument(source: &[u8], levels: usize, a: DynamicArgument, w: &mut Writer) -> usize
+    requires { ArgumentWithin a }
     ensures { Leaving
         ((v : info.DynamicArgument) (replacements : ℕ)
-        → Stands sheet.now.bytes.now sheet.now.source.now levels a v replacements
+        → Stands source.now levels a.entry v replacements
         → (Wrote w.old w.new (encode_argument v)) × (result ≡ replacements))
         (Keeps w.old w.new) }
 {
@@ -93,20 +90,24 @@ pub fn put_argument(sheet: &Sheet, levels: usize, a: DynamicArgument, w: &mut Wr
             w.put(0);
             0
         }
-        DynamicArgument::String(from, to) => {
+        DynamicArgument::String(text) => {
             w.put(1);
-            w.put_lossy_text(&sheet.bytes[from..to])
+            w.put_lossy_text(text)
         }
-        DynamicArgument::Template { parts, holes, at } => {
+        DynamicArgument::Template {
+            parts,
+            holes,
+            pieces,
+        } => {
             w.put(2);
             w.put_number(parts);
-            put_parts(sheet.bytes, Cursor { at }, holes, w);
+            put_parts(pieces, holes, w);
             0
         }
-        DynamicArgument::Chain(parts, at) => {
+        DynamicArgument::Chain(parts, s) => {
             w.put(2);
             w.put_number(parts);
-            put_bin(sheet, Cursor { at }, levels, w);
+            put_bin(source, s, levels, w);
             0
         }
     }

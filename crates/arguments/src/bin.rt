@@ -1,5 +1,5 @@
 // A chain of pluses whose leftmost side is a String.
-ghost use Rattle.std.specs.Prelude.{◌≡◌, List, ℕ, drop};
+ghost use Rattle.std.specs.Prelude.{◌≡◌, List, ℕ};
 ghost use Rattle.std.specs.Prelude.{Some};
 ghost use Rattle.laws.specs.Decoded.{ok};
 ghost use Rattle.laws.specs.code.Told.{Bounded, Leaving};
@@ -16,23 +16,22 @@ ghost use Rattle.arguments.specs.code.Views.{encode_parts, parts_as, counted, Pa
 use super::expression::{Expression, read_expression};
 use super::part::{put_expr, put_string};
 use report::writer::Writer;
-use sheet::Sheet;
 use sheet_nodes::check::check_node;
-use wire::Cursor;
 
-// How many parts the chain at a cursor has, with the cursor past it, or none if it is no chain; so many levels are left, its own among them.
-pub fn visit_bin(sheet: &Sheet, c: Cursor, levels: usize) -> Option<(usize, Cursor)>
+// How many parts the chain at the front of some bytes has, with what is left behind it, or none if it is no chain; so many levels are left, its own
+// among them.
+pub fn visit_bin<'a>(source: &[u8], s: &'a [u8], levels: usize) -> Option<(usize, &'a [u8])>
     ensures { Bounded
         ((n : Node) (t : List ℕ)
-        → node sheet.now.source.now levels (drop c.at sheet.now.bytes.now) ≡ ok n t
-        → parts_as sheet.now.bytes.now result ≡ counted (chain n) t)
+        → node source.now levels s.now ≡ ok n t
+        → parts_as result ≡ counted (chain n) t)
         (PartsWithin levels result) }
 {
-    match read_expression(sheet, c, levels) {
+    match read_expression(source, s, levels) {
         Expression::String { next, .. } => Some((1, next)),
         Expression::Plus(next) => {
-            let (n, next) = visit_bin(sheet, next, levels - 1)?;
-            let (_, next) = check_node(sheet, next, levels - 1).ok()?;
+            let (n, next) = visit_bin(source, next, levels - 1)?;
+            let (_, next) = check_node(source, next, levels - 1).ok()?;
             Some((n + 1, next))
         }
         Expression::Template(_, _) | Expression::Other => None,
@@ -40,41 +39,41 @@ pub fn visit_bin(sheet: &Sheet, c: Cursor, levels: usize) -> Option<(usize, Curs
 }
 
 // Writes the part of the right side of a plus.
-fn put_operand(sheet: &Sheet, c: Cursor, levels: usize, w: &mut Writer)
+fn put_operand(source: &[u8], s: &[u8], levels: usize, w: &mut Writer)
     ensures { Leaving
         ((n : Node) (t : List ℕ)
-        → node sheet.now.source.now levels (drop c.at sheet.now.bytes.now) ≡ ok n t
+        → node source.now levels s.now ≡ ok n t
         → Wrote w.old w.new (encode_optional encode_text (operand (shape n))))
         (Keeps w.old w.new) }
 {
-    match read_expression(sheet, c, levels) {
-        Expression::String { from, to, .. } => put_string(sheet.bytes, from, to, w),
+    match read_expression(source, s, levels) {
+        Expression::String { text, .. } => put_string(text, w),
         Expression::Template(_, _) | Expression::Plus(_) | Expression::Other => put_expr(w),
     }
 }
 
-// Writes the parts of a chain: the left side, then the right. Answers the cursor past it. Where the bytes are no chain, the buffer is left free.
-pub fn put_bin(sheet: &Sheet, c: Cursor, levels: usize, w: &mut Writer) -> Cursor
+// Writes the parts of a chain: the left side, then the right. Answers what is left behind it. Where the bytes are no chain, the buffer is left free.
+pub fn put_bin<'a>(source: &[u8], s: &'a [u8], levels: usize, w: &mut Writer) -> &'a [u8]
     ensures { Leaving
         ((n : Node) (t : List ℕ) (l : List DynamicTemplatePart)
-        → node sheet.now.source.now levels (drop c.at sheet.now.bytes.now) ≡ ok n t
+        → node source.now levels s.now ≡ ok n t
         → chain n ≡ Some l
-        → (Wrote w.old w.new (encode_parts l)) × (drop result.at sheet.now.bytes.now ≡ t))
+        → (Wrote w.old w.new (encode_parts l)) × (result.now ≡ t))
         (Keeps w.old w.new) }
 {
-    match read_expression(sheet, c, levels) {
-        Expression::String { from, to, next } => {
-            put_string(sheet.bytes, from, to, w);
+    match read_expression(source, s, levels) {
+        Expression::String { text, next } => {
+            put_string(text, w);
             next
         }
         Expression::Plus(next) => {
-            let next = put_bin(sheet, next, levels - 1, w);
-            put_operand(sheet, next, levels - 1, w);
-            match check_node(sheet, next, levels - 1) {
+            let next = put_bin(source, next, levels - 1, w);
+            put_operand(source, next, levels - 1, w);
+            match check_node(source, next, levels - 1) {
                 Ok((_, next)) => next,
                 Err(_) => next,
             }
         }
-        Expression::Template(_, _) | Expression::Other => c,
+        Expression::Template(_, _) | Expression::Other => s,
     }
 }

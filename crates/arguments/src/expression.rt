@@ -1,41 +1,35 @@
 // What an expression is to the argument that it stands in.
-ghost use Rattle.std.specs.Prelude.{◌≡◌, List, ℕ, ◌-◌, length, drop};
+ghost use Rattle.std.specs.Prelude.{◌≡◌, List, ℕ, ◌-◌};
 ghost use Rattle.laws.specs.Decoded.{ok};
 ghost use Rattle.laws.specs.code.Told.{Bounded};
 ghost use Rattle.sheet.specs.Tree.{Node};
 ghost use Rattle.sheet.specs.Nodes.{node};
 ghost use Rattle.arguments.specs.code.Views.{ExpressionIs, ExpressionWithin};
 
-use sheet::Sheet;
 use sheet_heads::node::{Head, read_head};
-use wire::Cursor;
 
-// A String with its text in the sheet, a Template with its holes, or a Binary that is a plus, with the cursor past the head.
+// A String with its text, a Template with its holes, or a Binary that is a plus, with the bytes behind the head.
 #[derive(Clone, Copy)]
-pub enum Expression {
-    String {
-        from: usize,
-        to: usize,
-        next: Cursor,
-    },
-    Template(usize, Cursor),
-    Plus(Cursor),
+pub enum Expression<'a> {
+    String { text: &'a [u8], next: &'a [u8] },
+    Template(usize, &'a [u8]),
+    Plus(&'a [u8]),
     Other,
 }
 
-// The expression at a cursor, with so many levels left, its own among them.
-pub fn read_expression(sheet: &Sheet, c: Cursor, levels: usize) -> Expression
+// The expression at the front of some bytes, with so many levels left, its own among them.
+pub fn read_expression<'a>(source: &[u8], s: &'a [u8], levels: usize) -> Expression<'a>
     ensures { Bounded
         ((n : Node) (t : List ℕ)
-        → node sheet.now.source.now levels (drop c.at sheet.now.bytes.now) ≡ ok n t
-        → ExpressionIs sheet.now.bytes.now (node sheet.now.source.now (levels - 1)) result n t)
-        (ExpressionWithin (length sheet.now.bytes.now) levels result) }
+        → node source.now levels s.now ≡ ok n t
+        → ExpressionIs (node source.now (levels - 1)) result n t)
+        (ExpressionWithin levels result) }
 {
-    let Ok(((_, head), next)) = read_head(sheet, c, levels) else {
+    let Ok(((_, head), next)) = read_head(source, s, levels) else {
         return Expression::Other;
     };
     match head {
-        Head::String(from, to) => Expression::String { from, to, next },
+        Head::String(text) => Expression::String { text, next },
         Head::Template(holes) => Expression::Template(holes, next),
         Head::Binary(plus) => {
             if plus {

@@ -1,51 +1,60 @@
--- The search for a pair's place among rows: each key before it is less.
-use Rattle.laws.proofs.Prelude.{◌≡◌, sym, ◌∙◌, List, ◌∷◌, ◌++◌, append_assoc, ℕ, suc, ◌+◌, ◌≤◌, ◌<◌, add-one, map, length, get_or, set, take, drop}
+-- The search for a pair's place among rows: each key before it is less. And how many pairs there are with it.
+use Rattle.laws.proofs.Prelude.{arith, ◌≡◌, sym, ◌∙◌, List, [], ◌∷◌, ◌++◌, append_assoc, ℕ, suc, ◌+◌, ◌≤◌, ◌<◌, add-one, length, get_or, take, drop}
 use Rattle.laws.proofs.Prelude.{drop-cons, drop_of_length-le}
-use Rattle.std.specs.List as list
+use Rattle.std.specs.Prelude.{None, Some, Result, Ok, Err}
+use Rattle.laws.specs.code.Told.{Told}
+use Rattle.std.specs.declared.cmp.Ordering.{Ordering}
 use Rattle.std.specs.declared.cmp.Ordering.TheVariants.{Less, Equal, Greater}
-use Rattle.std.proofs.lemmas.List.{set_split, take_more, get_or-map, length-map}
+use Rattle.std.proofs.lemmas.List.{set_split, take_more}
 use Rattle.text.specs.Bytes.{order}
-use Rattle.report.specs.ModuleInfo.{KeyValue}
-use Rattle.attributes.specs.declared.pairs.Pair.{Pair}
-use Rattle.attributes.specs.Attributes.{insert}
-use Rattle.attributes.specs.code.Views.{pair_as}
+use Rattle.report.specs.ModuleInfo.{ImportAttribute, KeyValue}
+use Rattle.attributes.specs.Attributes.{placed, insert, insert_known}
+use Rattle.attributes.specs.code.{Views.slot_as, Views.SlotWithin}
 
-module _ (s : List ℕ) (a : KeyValue) (rows : List Pair) where
-  abbrev l : List KeyValue
-  l = map (pair_as s) rows
-
+module _ (a : KeyValue) (l : List KeyValue) where
   -- the first i pairs stay before it
-  abbrev pub Sought : ℕ → Type 0
-  Sought i = insert a l ≡ take i l ++ insert a (drop i l)
+  pub record Sought (i : ℕ) : Type 0 where
+    pub split : insert a l ≡ take i l ++ insert a (drop i l)
+
+  -- its place
+  abbrev Placed : Result ℕ ℕ → Type 0
+  Placed = Told (slot_as a l) (insert a l) (SlotWithin (length l))
 
   -- how its key compares with that of the ith
-  module _ (i : ℕ) (d : Pair) (h : i < length rows) (f : Sought i) where
-    abbrev x : KeyValue
-    x = pair_as s (get_or rows i d)
-
-    within : i < length l
-    within = rw length-map h
-
-    here : get_or l i x ≡ x
-    here = get_or-map (pair_as s) rows i d x h
-
+  module _ (i : ℕ) (x : KeyValue) (h : i < length l) (is : (d : KeyValue) → get_or l i d ≡ x) (f : Sought i) where
     next : drop i l ≡ x ∷ drop (suc i) l
-    next = rw here at (drop-cons l i x within)
+    next = rw is at (drop-cons l i x h)
 
-    pub sought_greater : order a.key x.key ≡ Greater → Sought (i + 1)
+    pub sought_greater : Greater ≡ order a.key x.key → Sought (i + 1)
     unfolding insert
-    sought_greater e = f ∙ rw (next, e, take_more l i x within, here, append_assoc, add-one)
+    sought_greater e = record { split = f.split ∙ rw (next, ← e, take_more l i x h, is x, append_assoc, add-one) }
 
-    pub sought_less : order a.key x.key ≡ Less → list.insert l i a ≡ insert a l
+    pub sought_less : Less ≡ order a.key x.key → Placed (Err i)
     unfolding insert
-    sought_less e = sym (f ∙ rw (next, e))
+    sought_less e = record { answer = sym (f.split ∙ rw (next, ← e)); bounds = omega arith }
 
-    pub sought_equal : order a.key x.key ≡ Equal → set l i a ≡ insert a l
+    pub sought_equal : Equal ≡ order a.key x.key → Placed (Ok i)
     unfolding insert
-    sought_equal e = set_split l i a within ∙ sym (f ∙ rw (next, e))
+    sought_equal e = record { answer = set_split l i a h ∙ sym (f.split ∙ rw (next, ← e)); bounds = h }
 
-  -- no row is left
-  pub sought_all : (i n : ℕ) → n ≡ i → length rows ≤ i → Sought i → list.insert l n a ≡ insert a l
+  -- none is left
+  pub sought_all : (i : ℕ) → i ≡ length l → Sought i → Placed (Err i)
   unfolding insert
-  sought_all i n q h f = let all : length l ≤ i = rw length-map h in
-      let none = drop_of_length-le l all in sym (f ∙ rw (q, none))
+  sought_all i q f =
+      let none : drop i l ≡ [] = drop_of_length-le l (omega arith) in
+      record { answer = sym (f.split ∙ rw none); bounds = omega arith }
+
+-- one more pair at most
+pub insert_length : (a : KeyValue) (pairs : List KeyValue) → length (insert a pairs) ≤ length pairs + 1
+unfolding insert
+insert_length a [] = omega arith
+insert_length a (b ∷ pairs) = by_order (order a.key b.key) (insert_length a pairs)
+  where
+    by_order : (o : Ordering) → length (insert a pairs) ≤ length pairs + 1 → length (placed o a b pairs (insert a pairs)) ≤ length (b ∷ pairs) + 1
+    by_order Less h = omega arith
+    by_order Equal h = omega arith
+    by_order Greater h = omega arith
+
+pub insert_known_length : (k : List ℕ) (v : ImportAttribute) (pairs : List KeyValue) → length (insert_known k v pairs) ≤ length pairs + 1
+insert_known_length k None pairs = omega arith
+insert_known_length k (Some x) pairs = insert_length (record { key = k; value = Some x }) pairs

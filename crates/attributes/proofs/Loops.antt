@@ -1,5 +1,5 @@
 -- A loop over the properties of an Object: going on from what was found so far gives what going through all of them gives.
-use Rattle.laws.proofs.Prelude.{◌≡◌, sym, ap, ◌∙◌, List, [], ◌∷◌, ℕ, ◌+◌, ◌-◌, ◌≤◌, ◌<◌, sub-zero, arith}
+use Rattle.laws.proofs.Prelude.{◌≡◌, sym, ap, ◌∙◌, List, [], ◌∷◌, ℕ, ◌+◌, ◌-◌, ◌≤◌, ◌<◌, arith}
 use Rattle.laws.specs.Decoded.{Decoded, ok, no, on_ok, Decoder}
 use Rattle.laws.proofs.Decoding.{refused, on_ok_ok}
 use Rattle.sheet.specs.Tree.{Node, Properties, no_properties}
@@ -15,9 +15,6 @@ module _ {W R : Type 0} (after : W → List Prop → R) (inner : Decoder Node) w
   -- n properties of s₀ give what those of s behind the first i give where w was found before them
   pub record Going (w₀ : W) (n : ℕ) (s₀ : List ℕ) (w : W) (i : ℕ) (s : List ℕ) : Type 0 where
     pub rest : from w₀ n s₀ ≡ from w (n - i) s
-
-  pub begins : (w : W) (n : ℕ) (s : List ℕ) → Going w n s w 0 s
-  begins w n s = record { rest = rw sub-zero }
 
 module _ {W R : Type 0} {after : W → List Prop → R} {inner : Decoder Node} {w₀ : W} {n : ℕ} {s₀ : List ℕ} {w : W} {i : ℕ} {s : List ℕ}
     (g : Going after inner w₀ n s₀ w i s) where

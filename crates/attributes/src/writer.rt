@@ -1,50 +1,48 @@
 // The attributes of an import in the report.
-ghost use Rattle.std.specs.Prelude.{length};
 ghost use mathlib.Core.List.{flat_map};
 ghost use Rattle.report.specs.Encode.{encode_key_value, encode_attributes};
 ghost use Rattle.report.specs.Buffer.{Wrote};
-ghost use Rattle.attributes.specs.code.Views.{pair_as, pairs_in, attributes_as, PairWithin, Pairs, AttributesWithin};
+ghost use Rattle.attributes.specs.code.Rows.{pair_as};
+ghost use Rattle.attributes.specs.code.Views.{attributes_as};
 
-use super::pairs::Pair;
+use super::pairs::{Pair, Pairs};
 use super::readings::ImportAttributes;
 use report::writer::Writer;
 
 // Writes a pair.
 #[tactic(auto, using(report::proofs::Buffers::more_append, report::proofs::Buffers::more_cons), unfolding(report::specs::Encode::encode_key_value, wire::specs::Optional::encode_optional))]
-fn put_pair(sheet: &[u8], pair: Pair, w: &mut Writer)
-    requires { PairWithin (length sheet.now) pair }
-    ensures { Wrote w.old w.new (encode_key_value (pair_as sheet.now pair)) }
+fn put_pair(pair: Pair, w: &mut Writer)
+    ensures { Wrote w.old w.new (encode_key_value (pair_as pair.entry)) }
 {
-    w.put_text(&sheet[pair.key_start..pair.key_end]);
+    w.put_text(pair.key);
     w.put_flag(pair.value.is_some());
-    if let Some((from, to)) = pair.value {
-        w.put_text(&sheet[from..to]);
+    if let Some(value) = pair.value {
+        w.put_text(value);
     }
 }
 
-// Writes the first n pairs of a table.
-fn put_pairs(sheet: &[u8], pairs: &[Pair], n: usize, w: &mut Writer)
-    requires { Pairs (length sheet.now) pairs.now n }
-    ensures { Wrote w.old w.new (flat_map encode_key_value (pairs_in sheet.now pairs.now n)) }
+// Writes the pairs of a table.
+#[tactic(auto, using(report::proofs::Buffers::wrote_none, crate::proofs::PairRows::one_more), unfolding(laws::proofs::Prelude::flat_map))]
+fn put_pairs(pairs: &Pairs, w: &mut Writer)
+    ensures { Wrote w.old w.new (flat_map encode_key_value pairs.now) }
 {
-    for pair in &pairs[..n] {
-        put_pair(sheet, *pair, w);
+    for i in 0..pairs.len() {
+        put_pair(pairs.at(i), w);
     }
 }
 
 // Writes the attributes of an import.
-#[tactic(auto, using(report::proofs::Buffers::more_append, report::proofs::Buffers::more_cons, crate::proofs::PairRows::known_length), unfolding(report::specs::Encode::encode_attributes, report::specs::Encode::encode_list))]
-pub fn put_attributes(sheet: &[u8], pairs: &[Pair], attributes: ImportAttributes, w: &mut Writer)
-    requires { AttributesWithin (length sheet.now) pairs.now attributes }
-    ensures { Wrote w.old w.new (encode_attributes (attributes_as sheet.now pairs.now attributes)) }
+#[tactic(auto, using(report::proofs::Buffers::more_append, report::proofs::Buffers::more_cons), unfolding(report::specs::Encode::encode_attributes, report::specs::Encode::encode_list))]
+pub fn put_attributes(attributes: ImportAttributes, w: &mut Writer)
+    ensures { Wrote w.old w.new (encode_attributes (attributes_as attributes.entry)) }
 {
     match attributes {
         ImportAttributes::None => w.put(0),
         ImportAttributes::Unknown => w.put(1),
-        ImportAttributes::Known(n) => {
+        ImportAttributes::Known(pairs) => {
             w.put(2);
-            w.put_number(n);
-            put_pairs(sheet, pairs, n, w);
+            w.put_number(pairs.len());
+            put_pairs(pairs, w);
         }
     }
 }

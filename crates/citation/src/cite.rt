@@ -23,12 +23,15 @@ use report_reader::fields::{
     read_number, read_range, read_text, skip_attributes, skip_list, skip_optional_specifier,
 };
 
-// How many lines were written, and the place behind what was read of the report.
+// What a report is cited over: its source, and the numbers beside its dependencies. Other items have none.
 #[derive(Clone, Copy)]
-pub struct Cited {
-    pub lines: usize,
-    pub next: usize,
+struct Citing<'a> {
+    source: &'a [u8],
+    numbers: &'a [usize],
 }
+
+// How many lines were written, and the bytes of the report behind what was read of it.
+type Cited<'a> = (usize, &'a [u8]);
 
 // The items of the report's lists.
 #[derive(Clone, Copy)]
@@ -38,119 +41,6 @@ pub enum Kind {
     JsDoc,
 }
 
-// Cites a text that is given, with the range that is read.
-fn cite_range(
-    report: &[u8],
-    source: &[u8],
-    at: usize,
-    letter: u8,
-    text: &[u8],
-    w: &mut Writer,
-) -> Cited
-    ensures { Lent
-        (Cites encode_range ValidRange report.now source.now at
-        (λ range. record { letter = letter; range = range; text = text.now } ∷ []) w.old w.new result)
-        (result.lines ≤ 1)
-        (Keeps w.old w.new) }
-{
-    let range = read_range(report, at);
-    put_line(source, letter, range.start, range.end, text, w);
-    Cited {
-        lines: 1,
-        next: range.next,
-    }
-}
-
-// Cites a text and its range.
-#[tactic(auto, unfolding(report::specs::Encode::encode_specifier))]
-fn cite_specifier(report: &[u8], source: &[u8], at: usize, letter: u8, w: &mut Writer) -> Cited
-    ensures { Lent
-        (Cites encode_specifier ValidSpecifier report.now source.now at (cite_specifier letter) w.old w.new result)
-        (result.lines ≤ 1)
-        (Keeps w.old w.new) }
-{
-    let text = read_text(report, at);
-    cite_range(
-        report,
-        source,
-        text.to,
-        letter,
-        &report[text.from..text.to],
-        w,
-    )
-}
-
-// Cites a text and its range, if they are there.
-fn cite_optional(report: &[u8], source: &[u8], at: usize, letter: u8, w: &mut Writer) -> Cited
-    ensures { Lent
-        (Cites (encode_optional encode_specifier) (IfThere ValidSpecifier) report.now source.now at (cite_optional letter)
-        w.old w.new result)
-        (result.lines ≤ 1)
-        (Keeps w.old w.new) }
-{
-    let flag = read_number(report, at);
-    if flag.value == 0 {
-        return Cited {
-            lines: 0,
-            next: flag.next,
-        };
-    }
-    cite_specifier(report, source, flag.next, letter, w)
-}
-
-// Cites a reference: R.
-fn cite_reference(report: &[u8], source: &[u8], at: usize, w: &mut Writer) -> Cited
-    ensures { Lent
-        (Cites encode_reference ValidReference report.now source.now at cite_reference w.old w.new result)
-        (result.lines ≤ 1)
-        (Keeps w.old w.new) }
-{
-    let kind = read_number(report, at);
-    let line = cite_specifier(report, source, kind.next, b'R', w);
-    if kind.value == 0 {
-        return line;
-    }
-    let mode = read_number(report, line.next);
-    Cited {
-        lines: line.lines,
-        next: mode.next,
-    }
-}
-
-// Cites a JSDoc import: J.
-fn cite_jsdoc(report: &[u8], source: &[u8], at: usize, w: &mut Writer) -> Cited
-    ensures { Lent
-        (Cites encode_jsdoc ValidJsDoc report.now source.now at cite_jsdoc w.old w.new result)
-        (result.lines ≤ 1)
-        (Keeps w.old w.new) }
-{
-    let kind = read_number(report, at);
-    let line = cite_specifier(report, source, kind.next, b'J', w);
-    let mode = read_number(report, line.next);
-    Cited {
-        lines: line.lines,
-        next: mode.next,
-    }
-}
-
-// Cites a dynamic argument with its range, and `?` where it has no single text.
-fn cite_argument(report: &[u8], source: &[u8], at: usize, letter: u8, w: &mut Writer) -> Cited
-    ensures { Lent
-        (Cites encode_ranged ValidRanged report.now source.now at (λ a. cite_argument letter a.0 a.1) w.old w.new result)
-        (result.lines ≤ 1)
-        (Keeps w.old w.new) }
-{
-    let kind = read_number(report, at);
-    match kind.value {
-        1 => cite_specifier(report, source, kind.next, letter, w),
-        2 => {
-            let next = skip_list(report, kind.next, false);
-            cite_range(report, source, next, letter, b"?", w)
-        }
-        _ => cite_range(report, source, kind.next, letter, b"?", w),
-    }
-}
-
 // The letter of a dependency, by how many characters were replaced in its text.
 fn dependency_letter(number: usize) -> u8
     ensures { result ≡ dependency_letter number }
@@ -158,130 +48,196 @@ fn dependency_letter(number: usize) -> u8
     if number == 0 { b'D' } else { b'd' }
 }
 
-// Cites a dependency, and T for its types, which stand before it in the report and are read again.
-fn cite_dependency(report: &[u8], source: &[u8], at: usize, letter: u8, w: &mut Writer) -> Cited
-    ensures { Lent
-        (Cites encode_dependency ValidDependency report.now source.now at (cite_dependency letter) w.old w.new result)
-        (result.lines ≤ 2)
-        (Keeps w.old w.new) }
-{
-    let kind = read_number(report, at);
-    let types = kind.next;
-    let next = skip_optional_specifier(report, types);
-    match dependency_kind(kind.value) {
-        DependencyKind::Static(_) => {
-            let first = cite_specifier(report, source, next, letter, w);
-            let second = cite_optional(report, source, types, b'T', w);
-            let side_effect = read_number(report, first.next);
-            Cited {
-                lines: first.lines + second.lines,
-                next: skip_attributes(report, side_effect.next),
+impl Citing<'_> {
+    // The number at a place, 0 where there is none.
+    fn number_at(&self, at: usize) -> usize
+        ensures { result ≡ get_or self.now.numbers.now at 0 }
+    {
+        self.numbers.get(at).copied().unwrap_or(0)
+    }
+
+    // Cites a text that is given, with the range that is read.
+    fn cite_range<'a>(&self, report: &'a [u8], letter: u8, text: &[u8], w: &mut Writer) -> Cited<'a>
+        ensures { Lent
+            (Cites encode_range ValidRange report.now self.now.source.now
+            (λ range. record { letter = letter; range = range; text = text.now } ∷ []) w.old w.new result)
+            (result.0 ≤ 1)
+            (Keeps w.old w.new) }
+    {
+        let (range, next) = read_range(report);
+        put_line(self.source, letter, range, text, w);
+        (1, next)
+    }
+
+    // Cites a text and its range.
+    #[tactic(auto, unfolding(report::specs::Encode::encode_specifier))]
+    fn cite_specifier<'a>(&self, report: &'a [u8], letter: u8, w: &mut Writer) -> Cited<'a>
+        ensures { Lent
+            (Cites encode_specifier ValidSpecifier report.now self.now.source.now (cite_specifier letter) w.old w.new result)
+            (result.0 ≤ 1)
+            (Keeps w.old w.new) }
+    {
+        let (text, next) = read_text(report);
+        self.cite_range(next, letter, text, w)
+    }
+
+    // Cites a text and its range, if they are there.
+    fn cite_optional<'a>(&self, report: &'a [u8], letter: u8, w: &mut Writer) -> Cited<'a>
+        ensures { Lent
+            (Cites (encode_optional encode_specifier) (IfThere ValidSpecifier) report.now self.now.source.now (cite_optional letter)
+            w.old w.new result)
+            (result.0 ≤ 1)
+            (Keeps w.old w.new) }
+    {
+        let (flag, next) = read_number(report);
+        if flag == 0 {
+            return (0, next);
+        }
+        self.cite_specifier(next, letter, w)
+    }
+
+    // Cites a reference: R.
+    fn cite_reference<'a>(&self, report: &'a [u8], w: &mut Writer) -> Cited<'a>
+        ensures { Lent
+            (Cites encode_reference ValidReference report.now self.now.source.now cite_reference w.old w.new result)
+            (result.0 ≤ 1)
+            (Keeps w.old w.new) }
+    {
+        let (kind, next) = read_number(report);
+        let (lines, next) = self.cite_specifier(next, b'R', w);
+        if kind == 0 {
+            return (lines, next);
+        }
+        let (_, next) = read_number(next);
+        (lines, next)
+    }
+
+    // Cites a JSDoc import: J.
+    fn cite_jsdoc<'a>(&self, report: &'a [u8], w: &mut Writer) -> Cited<'a>
+        ensures { Lent
+            (Cites encode_jsdoc ValidJsDoc report.now self.now.source.now cite_jsdoc w.old w.new result)
+            (result.0 ≤ 1)
+            (Keeps w.old w.new) }
+    {
+        let (_, next) = read_number(report);
+        let (lines, next) = self.cite_specifier(next, b'J', w);
+        let (_, next) = read_number(next);
+        (lines, next)
+    }
+
+    // Cites a dynamic argument with its range, and `?` where it has no single text.
+    fn cite_argument<'a>(&self, report: &'a [u8], letter: u8, w: &mut Writer) -> Cited<'a>
+        ensures { Lent
+            (Cites encode_ranged ValidRanged report.now self.now.source.now (λ a. cite_argument letter a.0 a.1) w.old w.new result)
+            (result.0 ≤ 1)
+            (Keeps w.old w.new) }
+    {
+        let (kind, next) = read_number(report);
+        match kind {
+            1 => self.cite_specifier(next, letter, w),
+            2 => self.cite_range(skip_list(next, false), letter, b"?", w),
+            _ => self.cite_range(next, letter, b"?", w),
+        }
+    }
+
+    // Cites a dependency, and T for its types, which stand before it in the report and are read again.
+    fn cite_dependency<'a>(&self, report: &'a [u8], letter: u8, w: &mut Writer) -> Cited<'a>
+        ensures { Lent
+            (Cites encode_dependency ValidDependency report.now self.now.source.now (cite_dependency letter) w.old w.new result)
+            (result.0 ≤ 2)
+            (Keeps w.old w.new) }
+    {
+        let (kind, types) = read_number(report);
+        let next = skip_optional_specifier(types);
+        match dependency_kind(kind) {
+            DependencyKind::Static(_) => {
+                let (first, next) = self.cite_specifier(next, letter, w);
+                let (second, _) = self.cite_optional(types, b'T', w);
+                let (_, next) = read_number(next);
+                (first + second, skip_attributes(next))
+            }
+            DependencyKind::Dynamic(_) => {
+                let (first, next) = self.cite_argument(next, letter, w);
+                let (second, _) = self.cite_optional(types, b'T', w);
+                (first + second, skip_attributes(next))
             }
         }
-        DependencyKind::Dynamic(_) => {
-            let first = cite_argument(report, source, next, letter, w);
-            let second = cite_optional(report, source, types, b'T', w);
-            Cited {
-                lines: first.lines + second.lines,
-                next: skip_attributes(report, first.next),
-            }
+    }
+
+    // Cites an item of a list, with the number beside it.
+    fn cite_item<'a>(
+        &self,
+        report: &'a [u8],
+        kind: Kind,
+        number: usize,
+        w: &mut Writer,
+    ) -> Cited<'a>
+        ensures { Lent
+            (Cites (encode_item kind) (ValidItem kind) report.now self.now.source.now (cite_item kind number) w.old w.new result)
+            (result.0 ≤ 2)
+            (Keeps w.old w.new) }
+    {
+        match kind {
+            Kind::Dependency => self.cite_dependency(report, dependency_letter(number), w),
+            Kind::Reference => self.cite_reference(report, w),
+            Kind::JsDoc => self.cite_jsdoc(report, w),
         }
     }
-}
 
-// Cites an item of a list, with the number beside it.
-fn cite_item(
-    report: &[u8],
-    source: &[u8],
-    at: usize,
-    kind: Kind,
-    number: usize,
-    w: &mut Writer,
-) -> Cited
-    ensures { Lent
-        (Cites (encode_item kind) (ValidItem kind) report.now source.now at (cite_item kind number) w.old w.new result)
-        (result.lines ≤ 2)
-        (Keeps w.old w.new) }
-{
-    match kind {
-        Kind::Dependency => cite_dependency(report, source, at, dependency_letter(number), w),
-        Kind::Reference => cite_reference(report, source, at, w),
-        Kind::JsDoc => cite_jsdoc(report, source, at, w),
+    // Cites so many items.
+    fn cite_items<'a>(
+        &self,
+        report: &'a [u8],
+        kind: Kind,
+        count: usize,
+        w: &mut Writer,
+    ) -> Cited<'a>
+        requires { count ≤ largest }
+        ensures { Lent
+            (Cites (flat_map (encode_item kind)) (λ l. (length l ≡ count)
+            × All (ValidItem kind) l) report.now self.now.source.now (cite_each (cite_item kind) self.now.numbers.now) w.old w.new result)
+            (result.0 ≤ 2 * count)
+            (Keeps w.old w.new) }
+    {
+        let mut lines = 0;
+        let mut next = report;
+        for k in 0..count {
+            let number = self.number_at(2 * k + 1);
+            let (item, behind) = self.cite_item(next, kind, number, w);
+            lines += item;
+            next = behind;
+        }
+        (lines, next)
     }
-}
 
-// The number at a place, 0 where there is none.
-fn number_at(numbers: &[usize], at: usize) -> usize
-    ensures { result ≡ get_or numbers.now at 0 }
-{
-    numbers.get(at).copied().unwrap_or(0)
-}
-
-// Cites so many items.
-fn cite_items(
-    report: &[u8],
-    source: &[u8],
-    at: usize,
-    kind: Kind,
-    count: usize,
-    numbers: &[usize],
-    w: &mut Writer,
-) -> Cited
-    requires { count ≤ largest }
-    ensures { Lent
-        (Cites (flat_map (encode_item kind)) (λ l. (length l ≡ count)
-        × All (ValidItem kind) l) report.now source.now at (cite_each (cite_item kind) numbers.now) w.old w.new result)
-        (result.lines ≤ 2 * count)
-        (Keeps w.old w.new) }
-{
-    let mut lines = 0;
-    let mut next = at;
-    for k in 0..count {
-        let number = number_at(numbers, 2 * k + 1);
-        let item = cite_item(report, source, next, kind, number, w);
-        lines += item.lines;
-        next = item.next;
+    // Cites a list.
+    #[tactic(auto, unfolding(report::specs::Encode::encode_list))]
+    fn cite_list<'a>(&self, report: &'a [u8], kind: Kind, w: &mut Writer) -> Cited<'a>
+        ensures { Lent
+            (Cites (encode_list (encode_item kind)) (λ l. Short l
+            × All (ValidItem kind) l) report.now self.now.source.now (cite_each (cite_item kind) self.now.numbers.now) w.old w.new result)
+            (result.0 ≤ 2 * largest)
+            (Keeps w.old w.new) }
+    {
+        let (count, next) = read_number(report);
+        self.cite_items(next, kind, count, w)
     }
-    Cited { lines, next }
-}
 
-// Cites a list.
-#[tactic(auto, unfolding(report::specs::Encode::encode_list))]
-fn cite_list(
-    report: &[u8],
-    source: &[u8],
-    at: usize,
-    kind: Kind,
-    numbers: &[usize],
-    w: &mut Writer,
-) -> Cited
-    ensures { Lent
-        (Cites (encode_list (encode_item kind)) (λ l. Short l
-        × All (ValidItem kind) l) report.now source.now at (cite_each (cite_item kind) numbers.now) w.old w.new result)
-        (result.lines ≤ 2 * largest)
-        (Keeps w.old w.new) }
-{
-    let count = read_number(report, at);
-    cite_items(report, source, count.next, kind, count.value, numbers, w)
-}
-
-// Cites what is in a report: D or d and T, R, S, X, Y, J, M. The numbers are those beside the dependencies; other items have none.
-fn cite_lines(report: &[u8], source: &[u8], numbers: &[usize], w: &mut Writer) -> Cited
-    ensures { Leaving
-        (Cites encode Valid report.now source.now 0 (lines numbers.now) w.old w.new result)
-        (Keeps w.old w.new) }
-{
-    let is_script = read_number(report, 0);
-    let d = cite_list(report, source, is_script.next, Kind::Dependency, numbers, w);
-    let r = cite_list(report, source, d.next, Kind::Reference, numbers, w);
-    let s = cite_optional(report, source, r.next, b'S', w);
-    let x = cite_optional(report, source, s.next, b'X', w);
-    let y = cite_optional(report, source, x.next, b'Y', w);
-    let j = cite_list(report, source, y.next, Kind::JsDoc, numbers, w);
-    let m = cite_optional(report, source, j.next, b'M', w);
-    Cited {
-        lines: d.lines + r.lines + s.lines + x.lines + y.lines + j.lines + m.lines,
-        next: m.next,
+    // Cites what is in a report: D or d and T, R, S, X, Y, J, M.
+    fn cite_lines<'a>(&self, report: &'a [u8], w: &mut Writer) -> Cited<'a>
+        ensures { Leaving
+            (Cites encode Valid report.now self.now.source.now (lines self.now.numbers.now) w.old w.new result)
+            (Keeps w.old w.new) }
+    {
+        let (_, next) = read_number(report);
+        let (d, next) = self.cite_list(next, Kind::Dependency, w);
+        let (r, next) = self.cite_list(next, Kind::Reference, w);
+        let (s, next) = self.cite_optional(next, b'S', w);
+        let (x, next) = self.cite_optional(next, b'X', w);
+        let (y, next) = self.cite_optional(next, b'Y', w);
+        let (j, next) = self.cite_list(next, Kind::JsDoc, w);
+        let (m, next) = self.cite_optional(next, b'M', w);
+        (d + r + s + x + y + j + m, next)
     }
 }
 
@@ -299,11 +255,15 @@ pub fn cite_report(report: &[u8], source: &[u8], numbers: &[usize], out: &mut [u
         (Free out.old out.new) }
 {
     let wide = &source[..last_four(source)];
+    let citing = Citing {
+        source: wide,
+        numbers,
+    };
     let mut w = Writer::new(out);
-    let counted = cite_lines(report, wide, numbers, &mut w);
+    let (lines, _) = citing.cite_lines(report, &mut w);
     w.at = 0;
-    put_title(b"module ", counted.lines, &mut w);
-    cite_lines(report, wide, numbers, &mut w);
+    put_title(b"module ", lines, &mut w);
+    citing.cite_lines(report, &mut w);
     w.written()
 }
 

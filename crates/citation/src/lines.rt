@@ -9,6 +9,7 @@ ghost use Rattle.citation.specs.code.Printable.{Printable};
 
 use super::columns::recounted;
 use report::writer::Writer;
+use report_reader::fields::PositionRange;
 use text::position::Position;
 
 // Writes a number in decimal, in at most so many places.
@@ -77,33 +78,26 @@ fn put_position(position: Position, w: &mut Writer)
 
 // Writes the positions at a range's start and at its end, recounted in UTF-16 code units.
 #[tactic(auto, using(report::proofs::Buffers::more_append, report::proofs::Buffers::more_cons), unfolding(crate::specs::Citation::cite_range))]
-fn put_range(source: &[u8], start: Position, end: Position, w: &mut Writer)
-    requires { ValidPosition start × ValidPosition end }
+fn put_range(source: &[u8], range: PositionRange, w: &mut Writer)
+    requires { ValidPosition range.start × ValidPosition range.end }
     ensures { Wrote w.old w.new
-        (cite_range (recounted_range source.now (record { start = start; end = end }))) }
+        (cite_range (recounted_range source.now (record { start = range.start; end = range.end }))) }
 {
-    put_position(recounted(source, start), w);
+    put_position(recounted(source, range.start), w);
     w.put(b'-');
-    put_position(recounted(source, end), w);
+    put_position(recounted(source, range.end), w);
 }
 
 // Writes a line: letter, space, range, space, text.
 #[tactic(auto, using(report::proofs::Buffers::more_append, report::proofs::Buffers::more_cons), unfolding(crate::specs::Citation::printed))]
-pub fn put_line(
-    source: &[u8],
-    letter: u8,
-    start: Position,
-    end: Position,
-    text: &[u8],
-    w: &mut Writer,
-)
-    requires { ValidPosition start × ValidPosition end }
+pub fn put_line(source: &[u8], letter: u8, range: PositionRange, text: &[u8], w: &mut Writer)
+    requires { ValidPosition range.start × ValidPosition range.end }
     ensures { Wrote w.old w.new
-        (printed source.now (record { letter = letter; range = record { start = start; end = end }; text = text.now })) }
+        (printed source.now (record { letter = letter; range = record { start = range.start; end = range.end }; text = text.now })) }
 {
     w.put(letter);
     w.put(b' ');
-    put_range(source, start, end, w);
+    put_range(source, range, w);
     w.put(b' ');
     put_text(text, w);
     w.put(b'\n');

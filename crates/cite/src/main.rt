@@ -3,28 +3,25 @@
 
 ghost use Rattle.std.specs.Prelude.{◌≡◌, ◌≤◌, length, take};
 ghost use Rattle.laws.specs.code.Told.{Bounded, Meant};
-ghost use Rattle.text.specs.Bytes.{part};
 ghost use Rattle.sheet.specs.Sheet.{Sheet};
 ghost use Rattle.sheet_codec.specs.SheetOf.{SheetOf};
-ghost use Rattle.report_reader.specs.code.FromPlace.{Inside};
 ghost use Rattle.cite.specs.Cited.{report_room, note_room, line_room, cited, EditorColumns, KeptLines};
 
 use citation::cite::{cite_refusal, cite_report};
 use input::read_input;
 use module_info::module_info_with_replaced;
-use report_reader::fields::{TextRead, read_text};
+use report_reader::fields::{read_number, read_text};
 use sheet::limits::SHEET_LIMIT;
 use std::io;
 use std::io::Write;
 
-// Where the source of an accepted sheet stands: behind the media byte.
-#[tactic(auto, unfolding(sheet_codec::specs::Encode::encode_sheet))]
-fn find_source(sheet: &[u8]) -> TextRead
-    ensures { Bounded
-        ((t : Sheet) → SheetOf sheet.now t → part sheet.now result.from result.to ≡ t.source)
-        (Inside sheet.now result.from result.to) }
+// The source of an accepted sheet, which stands behind the media byte.
+fn find_source(sheet: &[u8]) -> &[u8]
+    ensures { (t : Sheet) → SheetOf sheet.now t → result.now ≡ t.source }
 {
-    read_text(sheet, 1)
+    let (_, next) = read_number(sheet);
+    let (source, _) = read_text(next);
+    source
 }
 
 // Writes the lines for a sheet, and answers how many bytes they are.
@@ -38,10 +35,8 @@ fn cite(sheet: &[u8], report: &mut [u8], notes: &mut [usize], lines: &mut [u8]) 
         (EditorColumns sheet.now × KeptLines sheet.now) }
 {
     let source = find_source(sheet);
-    let from = source.from;
-    let to = source.to;
     match module_info_with_replaced(sheet, report, notes) {
-        Ok(n) => cite_report(&report[..n], &sheet[from..to], &notes[1..], lines),
+        Ok(n) => cite_report(&report[..n], source, &notes[1..], lines),
         Err(refusal) => cite_refusal(refusal.number(), lines),
     }
 }

@@ -1,15 +1,15 @@
 -- The modules of a delivery, read one after the other.
-use Rattle.laws.proofs.Prelude.{◌≡◌, refl, sym, ap, ◌∙◌, List, [], ◌∷◌, ◌++◌, append_assoc, append-nil, flat_map, ℕ, ◌+◌, ◌-◌, ◌≤◌, ◌<◌, arith, drop}
+use Rattle.laws.proofs.Prelude.{◌≡◌, refl, sym, ap, ◌∙◌, List, [], ◌∷◌, ◌++◌, append_assoc, append-nil, flat_map, ℕ, ◌+◌, ◌-◌, ◌≤◌, ◌<◌, arith}
 use Rattle.laws.proofs.Prelude.{length-append}
 use mathlib.Core.List.{map-append}
 use Rattle.laws.proofs.Lists.{all_append, flat_map_append}
 use Rattle.delivery.specs.{Delivery.Module, Delivery.encode_module, Right.names_of, code.Views.ValidModule, code.Views.Modules}
 
--- i of the modules are passed, and the others stand from a place on
-pub record Along (s t : List ℕ) (first count : ℕ) (ms : List Module) (at i : ℕ) (earlier rest : List Module) : Type 0 where
+-- i of the modules are passed, and the others stand at the front of s
+pub record Along (first t : List ℕ) (count : ℕ) (ms : List Module) (s : List ℕ) (i : ℕ) (earlier rest : List Module) : Type 0 where
   pub whole : ms ≡ earlier ++ rest
-  pub passed : Modules s first i earlier (flat_map encode_module rest ++ t)
-  pub here : Modules s at (count - i) rest t
+  pub passed : Modules first i earlier (flat_map encode_module rest ++ t)
+  pub here : Modules s (count - i) rest t
 
 -- the bytes of one module more in front
 front : (t : List ℕ) (earlier : List Module) (m : Module) (behind : List Module)
@@ -18,11 +18,11 @@ front : (t : List ℕ) (earlier : List Module) (m : Module) (behind : List Modul
 unfolding flat_map
 front t earlier m behind = rw (flat_map_append encode_module earlier (m ∷ [])) (simp (append_assoc, append-nil))
 
-module _ {s t : List ℕ} where
+module _ {t : List ℕ} where
   -- the next module, and those behind it once it is read
-  pub next_module : {at left : ℕ} {ms : List Module} → 0 < left → Modules s at left ms t
-      → (m : Module) × (rest : List Module) × (ms ≡ m ∷ rest) × ValidModule m × (drop at s ≡ encode_module m ++ (flat_map encode_module rest ++ t))
-      × ((next : ℕ) → drop next s ≡ flat_map encode_module rest ++ t → Modules s next (left - 1) rest t)
+  pub next_module : {s : List ℕ} {left : ℕ} {ms : List Module} → 0 < left → Modules s left ms t
+      → (m : Module) × (rest : List Module) × (ms ≡ m ∷ rest) × ValidModule m × (s ≡ encode_module m ++ (flat_map encode_module rest ++ t))
+      × ((next : List ℕ) → next ≡ flat_map encode_module rest ++ t → Modules next (left - 1) rest t)
   unfolding flat_map
   next_module {ms = []} h p = absurd (omega (arith, p.counted))
   next_module {ms = m ∷ rest} h p = (
@@ -35,12 +35,12 @@ module _ {s t : List ℕ} where
         record { counted = omega (arith, p.counted); valid = p.valid.1; stand = d },
   )
 
-  pub no_module : {at left : ℕ} {ms : List Module} → left ≤ 0 → Modules s at left ms t → ms ≡ []
+  pub no_module : {s : List ℕ} {left : ℕ} {ms : List Module} → left ≤ 0 → Modules s left ms t → ms ≡ []
   no_module {ms = []} h p = refl
   no_module {ms = m ∷ rest} h p = absurd (omega (arith, p.counted))
 
-  module _ {first count : ℕ} {ms : List Module} where
-    pub at_first : Modules s first count ms t → Along s t first count ms first 0 [] ms
+  module _ {first : List ℕ} {count : ℕ} {ms : List Module} where
+    pub at_first : Modules first count ms t → Along first t count ms first 0 [] ms
     unfolding flat_map
     at_first p =
         record {
@@ -50,11 +50,11 @@ module _ {s t : List ℕ} where
         }
 
     -- the next module, and the way on from it
-    pub one_more : {at i : ℕ} {earlier rest : List Module} → i < count → Along s t first count ms at i earlier rest
-        → (m : Module) × (behind : List Module) × (rest ≡ m ∷ behind) × ValidModule m × (drop at s ≡ encode_module m ++ (flat_map encode_module behind ++ t))
-        × ((next : ℕ) → drop next s ≡ flat_map encode_module behind ++ t → Along s t first count ms next (i + 1) (earlier ++ (m ∷ [])) behind)
+    pub one_more : {s : List ℕ} {i : ℕ} {earlier rest : List Module} → i < count → Along first t count ms s i earlier rest
+        → (m : Module) × (behind : List Module) × (rest ≡ m ∷ behind) × ValidModule m × (s ≡ encode_module m ++ (flat_map encode_module behind ++ t))
+        × ((next : List ℕ) → next ≡ flat_map encode_module behind ++ t → Along first t count ms next (i + 1) (earlier ++ (m ∷ [])) behind)
     unfolding flat_map
-    one_more {at} {i} {earlier} {rest} h a =
+    one_more {s} {i} {earlier} {rest} h a =
         let less : 0 < count - i = omega arith in
         let (m, behind, is, v, there, on) = next_module less a.here in (
           m,
@@ -76,7 +76,7 @@ module _ {s t : List ℕ} where
               },
         )
 
-    pub all_passed : {at i : ℕ} {earlier rest : List Module} → count ≤ i → Along s t first count ms at i earlier rest → rest ≡ []
+    pub all_passed : {s : List ℕ} {i : ℕ} {earlier rest : List Module} → count ≤ i → Along first t count ms s i earlier rest → rest ≡ []
     all_passed h a = no_module (omega arith) a.here
 
 -- the names with one more

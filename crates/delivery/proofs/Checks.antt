@@ -1,12 +1,12 @@
 -- So many modules, checked one after the other, and nothing behind them.
-use Rattle.laws.proofs.Prelude.{◌≡◌, refl, ap, ◌∙◌, List, [], ◌∷◌, ℕ, zero, suc, ◌+◌, ◌≤◌, ◌<◌, arith, length, drop, drop_of_length-le, drop-cons, le-leb}
+use Rattle.laws.proofs.Prelude.{◌≡◌, refl, ap, ◌∙◌, List, [], ◌∷◌, ℕ, zero, suc, ◌+◌, ◌≤◌, ◌<◌, arith, length, drop_of_length-le, drop-cons, le-leb}
 use Rattle.laws.proofs.Prelude.{lt-leb}
 use Rattle.laws.specs.Decoded.{ok, no, on_ok}
 use Rattle.laws.proofs.Decoding.{on_ok_ok, on_ok_no, map_map}
 use Rattle.wire.specs.Number.{number}
 use Rattle.report.specs.Decode.{times}
 use Rattle.delivery.specs.Delivery.{Module, delivery_limit, module_limit, named_sheet, last_modules, counted_modules, decode_delivery}
-use Rattle.delivery.specs.{code.Views.forget, code.Views.CheckedAs, declared.check.Checked.Checked}
+use Rattle.delivery.specs.{code.Views.forget, code.Views.CheckedAs, code.Views.Modules, declared.check.Checked.Checked}
 use Rattle.std.specs.Prelude.{Option, Some, None}
 use Rattle.delivery.proofs.Deliveries.{stand}
 
@@ -39,44 +39,44 @@ module _ (n : ℕ) (u : List ℕ) {ms : List Module} {w : List ℕ} (is : times 
   unfolding last_modules
   none_behind none = rw (is, none)
 
-module _ (s : List ℕ) (at n end : ℕ) (passed : on_ok forget (times named_sheet n (drop at s)) ≡ ok tt (drop end s)) where
-  pub bytes_follow_lem : end < length s → CheckedAs s (last_modules n (drop at s)) None
+module _ (n : ℕ) (s behind : List ℕ) (passed : on_ok forget (times named_sheet n s) ≡ ok tt behind) where
+  pub bytes_follow_lem : 0 < length behind → CheckedAs (last_modules n s) None
   bytes_follow_lem h =
-      let (ms, is, _) = on_ok_ok forget (times named_sheet n (drop at s)) passed in
-      (8, some_behind n (drop at s) is (drop-cons s end 0 h))
+      let (ms, is, _) = on_ok_ok forget (times named_sheet n s) passed in
+      (8, some_behind n s is (drop-cons behind 0 0 h))
 
-  pub all_checked : length s ≤ end → CheckedAs s (last_modules n (drop at s)) (Some (record { count = n; first = at }))
+  pub all_checked : length behind ≤ 0 → (ms : List Module) × (last_modules n s ≡ ok ms []) × Modules s n ms []
   all_checked h =
-      let (ms, is, _) = on_ok_ok forget (times named_sheet n (drop at s)) passed in
-      let none = drop_of_length-le s h in
-      let (there, long, valid) = stand n (drop at s) {ms = ms} {t = []} (is ∙ ap (λ w. ok ms w) none) in
-      (ms, none_behind n (drop at s) is none, record { counted = long; valid = valid; stand = there })
+      let (ms, is, _) = on_ok_ok forget (times named_sheet n s) passed in
+      let none = drop_of_length-le behind {i = 0} h in
+      let (there, long, valid) = stand n s {ms = ms} {t = []} (is ∙ ap (λ w. ok ms w) none) in
+      (ms, none_behind n s is none, record { counted = long; valid = valid; stand = there })
 
-pub not_passed : (s : List ℕ) (at n : ℕ) {r : ℕ} → on_ok forget (times named_sheet n (drop at s)) ≡ no r → CheckedAs s (last_modules n (drop at s)) None
+pub not_passed : (n : ℕ) (s : List ℕ) {r : ℕ} → on_ok forget (times named_sheet n s) ≡ no r → CheckedAs (last_modules n s) None
 unfolding last_modules
-not_passed s at n {r} e = (r, rw (on_ok_no forget (times named_sheet n (drop at s)) e))
+not_passed n s {r} e = (r, rw (on_ok_no forget (times named_sheet n s) e))
 
 -- the size, and the count
 module _ (s : List ℕ) where
-  pub too_long : delivery_limit < length s → CheckedAs s (decode_delivery s) None
+  pub too_long : delivery_limit < length s → CheckedAs (decode_delivery s) None
   unfolding decode_delivery
   too_long h = (11, rw (lt-leb (length s) delivery_limit h))
 
   module _ (size : length s ≤ delivery_limit) where
-    pub no_count : {r : ℕ} → number s ≡ no r → CheckedAs s (decode_delivery s) None
+    pub no_count : {r : ℕ} → number s ≡ no r → CheckedAs (decode_delivery s) None
     unfolding decode_delivery counted_modules
     no_count {r} e = (r, rw (le-leb (length s) delivery_limit size, e))
 
     module _ {n : ℕ} {u : List ℕ} (counted : number s ≡ ok n u) where
-      pub none : n < 1 → CheckedAs s (decode_delivery s) None
+      pub none : n < 1 → CheckedAs (decode_delivery s) None
       unfolding decode_delivery counted_modules
       none h = (11, rw (le-leb (length s) delivery_limit size, counted, lt-leb 1 n h))
 
-      pub too_many : 1 ≤ n → module_limit < n → CheckedAs s (decode_delivery s) None
+      pub too_many : 1 ≤ n → module_limit < n → CheckedAs (decode_delivery s) None
       unfolding decode_delivery counted_modules
       too_many some h = (11, rw (le-leb (length s) delivery_limit size, counted, le-leb 1 n some, lt-leb n module_limit h))
 
-      pub as_counted : 1 ≤ n → n ≤ module_limit → (r : Option Checked) → CheckedAs s (last_modules n u) r → CheckedAs s (decode_delivery s) r
+      pub as_counted : 1 ≤ n → n ≤ module_limit → (r : Option Checked) → CheckedAs (last_modules n u) r → CheckedAs (decode_delivery s) r
       unfolding decode_delivery counted_modules
       as_counted some few r h = rw (le-leb (length s) delivery_limit size, counted, le-leb 1 n some, le-leb n module_limit few) h
 

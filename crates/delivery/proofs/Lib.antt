@@ -7,3 +7,4 @@ pub mod ReportEntries
 pub mod Judging
 pub mod InTurn
 pub mod Orders
+pub mod Short

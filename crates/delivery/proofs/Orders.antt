@@ -56,10 +56,10 @@ once earlier (m ∷ ms) fresh differs = by (among m.name earlier) refl (λ h. on
 refused_not_in_order : {r i : ℕ} → in_order ≡ refused r i → ⊥
 refused_not_in_order e = let z : ◌≡◌ {A = ℕ} 0 1 = cc in omega arith
 
-refused_not_late : {r i j k : ℕ} {x : List ℕ} → not_in_order j k x ≡ refused r i → ⊥
+pub refused_not_late : {r i j k : ℕ} {x : List ℕ} → not_in_order j k x ≡ refused r i → ⊥
 refused_not_late e = let z : ◌≡◌ {A = ℕ} 0 1 = cc in omega arith
 
-late_not_in_order : {j k : ℕ} {x : List ℕ} → not_in_order j k x ≡ in_order → ⊥
+pub late_not_in_order : {j k : ℕ} {x : List ℕ} → not_in_order j k x ≡ in_order → ⊥
 late_not_in_order e = let z : ◌≡◌ {A = ℕ} 0 1 = cc in omega arith
 
 -- where no sheet is answered as refused, each gets its report
@@ -73,7 +73,7 @@ data Verdict (size : ℕ) (ms : List Module) (a : Answer) : Type 0 where
   late : (i j : ℕ) (x : List ℕ) → a ≡ not_in_order i j x → All (Reported size) ms → FirstLate ms i j x → Verdict size ms a
 
 module _ (size : ℕ) (ms : List Module) where
-  abbrev answer : Answer
+  abbrev pub answer : Answer
   answer = sheets_in_turn size 0 ms (modules_in_turn [] 0 ms)
 
   verdict : Verdict size ms answer

@@ -1,20 +1,19 @@
 -- The entries of a report, read one after the other.
-use Rattle.laws.proofs.Prelude.{◌≡◌, refl, sym, ap, ◌∙◌, List, append_assoc, flat_map, ℕ, ◌+◌, ◌-◌, ◌≤◌, arith, length, take, length-take}
+use Rattle.laws.proofs.Prelude.{◌≡◌, sym, ap, ◌∙◌, List, append_assoc, flat_map, ℕ, length, take}
 use Rattle.std.specs.Prelude.{None, Option, Some}
-use Rattle.laws.proofs.Lists.{part_part}
 use Rattle.wire.specs.Number.{encode_number}
-use Rattle.report.specs.{ModuleInfo.ModuleInfo, Valid.ValidDependency, Valid.Valid}
+use Rattle.report.specs.{ModuleInfo.DependencyDescriptor, ModuleInfo.ModuleInfo, Valid.ValidDependency, Valid.Valid}
 use Rattle.report.specs.Encode.{encode_list, encode_dependency, encode}
-use Rattle.report_reader.{specs.code.FromPlace.Number, proofs.FromBytes.flag_read}
+use Rattle.report_reader.{specs.code.FromFront.Number, proofs.FromBytes.flag_read}
 use Rattle.report_reader.proofs.Lists.{Stand}
-use Rattle.delivery.specs.{declared.entries.Late.Late, code.Views.late_as, code.Views.LateInside}
-use Rattle.delivery.specs.Order.{Answer, not_in_order, entries_of, entries_in_turn}
-use Rattle.delivery.proofs.Reported.{Report}
+use Rattle.delivery.specs.{declared.entries.Late.Late, code.Views.late_as, code.Views.LateReport}
+use Rattle.delivery.specs.Order.{Answer, in_order, entries_of, entries_in_turn}
+use Rattle.delivery.proofs.{Reported.Report, Orders.late_not_in_order}
 
 -- the dependencies stand behind the script flag and their count
-pub entries_start : {report : List ℕ} {info : ModuleInfo} {script behind count next : ℕ} → Valid info → report ≡ encode info
-    → Number report 0 script behind → Number report behind count next →
-    (u : List ℕ) × Stand encode_dependency ValidDependency report u next count info.dependencies
+pub entries_start : {report : List ℕ} {info : ModuleInfo} {script count : ℕ} {behind next : List ℕ} → Valid info → report ≡ encode info
+    → Number report script behind → Number behind count next →
+    (u : List ℕ) × Stand encode_dependency ValidDependency u next count info.dependencies
 unfolding encode encode_list
 entries_start {info = info} valid bytes script counted =
     let e = flag_read script info.is_script _ bytes in
@@ -22,25 +21,27 @@ entries_start {info = info} valid bytes script counted =
     (e ∙ append_assoc (encode_number (length info.dependencies)) (flat_map encode_dependency info.dependencies) _) in
     (_, (sym long, valid.dependencies.1, e))
 
--- an entry that is late in a report at the front of the work buffer is late there in the whole
-late_whole : (work : List ℕ) (n i : ℕ) (r : Option Late) (behind : Answer) → LateInside (take n work) r
-    → late_as (take n work) i r behind ≡ late_as work i r behind
-late_whole work n i None behind h = refl
-late_whole work n i (Some l) behind h =
-    let x = l.specifier in
-    let within : x.from + (x.to - x.from) ≤ n = omega (arith, h.order, h.end, length-take n work) in
-    ap (not_in_order i l.entry) (part_part work n x.from (x.to - x.from) within)
+-- what is told of the first late entry in a report
+abbrev Told : List (List ℕ) → List ℕ → Option Late → Type 0
+Told names report o =
+    (info : ModuleInfo) → Valid info → report ≡ encode info → (i : ℕ) (behind : Answer) → late_as i o behind ≡ entries_in_turn names i 0 info.dependencies behind
 
--- and it is one of the sheet's entries
-pub late_in_module : {s work : List ℕ} {n : ℕ} → Report s n work → (names : List (List ℕ)) (r : Option Late) → LateInside (take n work) r
-    → ((info : ModuleInfo) → Valid info → take n work ≡ encode info
-    → (i : ℕ) (behind : Answer) → late_as (take n work) i r behind ≡ entries_in_turn names i 0 info.dependencies behind)
-    → (i : ℕ) (behind : Answer) → late_as work i r behind ≡ entries_in_turn names i 0 (entries_of s) behind
-late_in_module {s} {work} {n} report names r h f i behind =
-    sym (late_whole work n i r behind h)
-    ∙ f report.info report.valid report.bytes i behind
-    ∙ ap (λ ds. entries_in_turn names i 0 ds behind) (sym report.entries)
+module _ {s work : List ℕ} {n : ℕ} (report : Report s n work) (names : List (List ℕ)) (o : Option Late) (told : Told names (take n work) o) where
+  in_sheet : (i : ℕ) (behind : Answer) → late_as i o behind ≡ entries_in_turn names i 0 (entries_of s) behind
+  in_sheet i behind = told report.info report.valid report.bytes i behind ∙ ap (λ ds. entries_in_turn names i 0 ds behind) (sym report.entries)
 
-pub inside_whole : (work : List ℕ) (n : ℕ) (r : Option Late) → LateInside (take n work) r → LateInside work r
-inside_whole work n None h = tt
-inside_whole work n (Some l) h = record { order = h.order; end = omega (arith, h.end, length-take n work) }
+  pub none_late : o ≡ None → LateReport names (entries_of s) work None
+  none_late e i behind = rw e at (in_sheet i behind)
+
+  pub some_late : {l : Late} → o ≡ Some l → LateReport names (entries_of s) work (Some n)
+  some_late e = (report.info, report.valid, report.bytes, sym report.entries, λ i z. late_not_in_order (rw e at (in_sheet i in_order) ∙ z))
+
+-- where one is late it is found again
+pub late_again : (names : List (List ℕ)) {ds : List DependencyDescriptor} (work : List ℕ) (n : ℕ) (o : Option Late)
+    → LateReport names ds work (Some n)
+    → Told names (take n work) o
+    → ((i : ℕ) (behind : Answer) → late_as i o behind ≡ entries_in_turn names i 0 ds behind) × (o ≡ None → ⊥)
+late_again names {ds} work n o (info, valid, bytes, same, late) told = (found, λ e. late 0 (sym (rw e at (found 0 in_order))))
+  where
+    found : (i : ℕ) (behind : Answer) → late_as i o behind ≡ entries_in_turn names i 0 ds behind
+    found i behind = told info valid bytes i behind ∙ ap (λ ds. entries_in_turn names i 0 ds behind) same

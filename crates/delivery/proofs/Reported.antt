@@ -1,6 +1,6 @@
 -- What the report function answers of a sheet: a refusal's number, which is not 0, or a report, which lists the sheet's entries.
 use Rattle.laws.proofs.Prelude.{◌≡◌, refl, sym, ap, ◌∙◌, Bool, true, false, List, [], ◌++◌, ℕ, ◌-◌, ◌≤◌, arith, leb, length, take, length-append}
-use Rattle.laws.proofs.Prelude.{take-append_seam}
+use Rattle.laws.proofs.Prelude.{take-append_seam, leb-true}
 use Rattle.wire.specs.Refusals.{of_sheets, one_of}
 use Rattle.wire.specs.Refusals as refusals
 use Rattle.sheet.specs.{Judge.judge, Sheet.Sheet}
@@ -52,6 +52,22 @@ module _ (s : List ℕ) (size : ℕ) where
       by : Question s size (λ m. Unit {0}) → ⊥
       by (asked info a p) = by_room (encode info) (leb (length (encode info)) size) refl a.answer
       by (refused q among e) = apart of_sheets among (sym (ap (λ (x : Answer). x.number) e) ∙ is) outside
+
+  -- where no refusal is answered, its report is no longer than the buffer
+  pub report_fits : number_of size s ≡ 0 → (info : ModuleInfo) × (entries_of s ≡ info.dependencies) × (length (encode info) ≤ size)
+  unfolding one_of fitted
+  report_fits none = by (question (λ m. Unit {0}) (λ e. tt) (λ t h. tt))
+    where
+      by_room : (info : ModuleInfo) → Asked s size info → (b : Bool) → leb (length (encode info)) size ≡ b
+          → (info : ModuleInfo) × (entries_of s ≡ info.dependencies) × (length (encode info) ≤ size)
+      by_room info a true h = (info, a.entries, leb-true (length (encode info)) size h)
+      by_room info a false h =
+          let ten : ◌≡◌ {A = ℕ} 0 refusals.buffer = sym none ∙ ap (λ (x : Answer). x.number) (rw h at a.answer) in
+          absurd (omega arith)
+
+      by : Question s size (λ m. Unit {0}) → (info : ModuleInfo) × (entries_of s ≡ info.dependencies) × (length (encode info) ≤ size)
+      by (asked info a p) = by_room info a (leb (length (encode info)) size) refl
+      by (refused r among e) = absurd (apart of_sheets among (sym (ap (λ (x : Answer). x.number) e) ∙ none) refl)
 
 -- a report that was answered: the encoding of information whose dependencies are the sheet's entries
 pub record Report (s : List ℕ) (n : ℕ) (buffer : List ℕ) : Type 0 where

@@ -1,18 +1,17 @@
 // The judgement of a delivery: refusals 11 and 12, then its sheets, then its order.
-ghost use Rattle.std.specs.Prelude.{◌≡◌, List, [], ℕ, length};
+ghost use Rattle.std.specs.Prelude.{◌≡◌, ◌≤◌, List, [], ℕ, length, IfSome};
 ghost use Rattle.laws.specs.Codec.{All};
 ghost use Rattle.laws.specs.code.Left.{Free};
-ghost use Rattle.laws.specs.code.Told.{Bounded, Leaving, Lent, Told};
+ghost use Rattle.laws.specs.code.Told.{Leaving, Lent};
 ghost use Rattle.delivery.specs.Delivery.{Module};
-ghost use Rattle.delivery.specs.Order.{Answer, entries_of, number_of, entries_in_turn, sheets_in_turn, modules_in_turn, order_of};
+ghost use Rattle.delivery.specs.Order.{Answer, entries_of, number_of, sheets_in_turn, modules_in_turn, order_of};
 ghost use Rattle.delivery.specs.Right.{Reported, names_of};
-ghost use Rattle.delivery.specs.code.Views.{Modules, late_as, LateInside, late_module_as, LateModuleInside, sheets_as, judgement_as, JudgementInside};
+ghost use Rattle.delivery.specs.code.Views.{Modules, LateReport, late_module_as, sheets_as, judgement_as};
 
 use super::check::check_delivery;
 use super::entries::{Late, late_entry};
 use super::modules::{has_name_twice, read_module};
 use module_info::module_info;
-use report_reader::fields::TextRead;
 use wire::refusals::Refusal;
 
 // A refusal, and the module that it is about: the first one, where it is about the delivery.
@@ -24,13 +23,13 @@ pub struct Refused {
 
 // The first entry that is late, and its module. Its specifier stands in the work buffer.
 #[derive(Clone, Copy)]
-pub struct LateModule {
+pub struct LateModule<'a> {
     pub module: usize,
-    pub late: Late,
+    pub late: Late<'a>,
 }
 
 // The answer: the first entry that is late, or none where all is in order; or a refusal.
-pub type Judgement = Result<Option<LateModule>, Refused>;
+pub type Judgement<'a> = Result<Option<LateModule<'a>>, Refused>;
 
 // A refusal of the delivery.
 fn of_delivery(refusal: Refusal) -> Refused
@@ -41,85 +40,72 @@ fn of_delivery(refusal: Refusal) -> Refused
 
 // The first refused sheet of so many modules, if not each gets its report.
 #[tactic(auto, using(crate::proofs::Along::all_passed), unfolding(crate::specs::Order::sheets_in_turn))]
-fn judge_sheets(delivery: &[u8], first: usize, count: usize, work: &mut [u8]) -> Result<(), Refused>
+fn judge_sheets(first: &[u8], count: usize, work: &mut [u8]) -> Result<(), Refused>
     ensures { Leaving
         ((ms : List Module) (t : List ℕ)
-        → Modules delivery.now first count ms t
+        → Modules first.now count ms t
         → (behind : Answer)
         → sheets_as result behind ≡ sheets_in_turn (length work.old) 0 ms behind)
         (Free work.old work.new) }
 {
-    let mut at = first;
+    let mut next = first;
     for i in 0..count {
-        let module = read_module(delivery, at);
-        let from = module.sheet_from;
-        let to = module.sheet_to;
-        if let Err(refusal) = module_info(&delivery[from..to], work) {
+        let (module, behind) = read_module(next);
+        if let Err(refusal) = module_info(module.sheet, work) {
             return Err(Refused { refusal, module: i });
         }
-        at = to;
+        next = behind;
     }
     Ok(())
 }
 
-// The first entry that is late in the report of a sheet, which is made again. A sheet that is refused has none.
+// How long the report of a sheet is, which is made again, if an entry in it is late. A sheet that is refused has none.
 #[tactic(auto, using(crate::proofs::Reported::refused_number))]
-fn judge_module(
-    sheet: &[u8],
-    delivery: &[u8],
-    first: usize,
-    earlier: usize,
-    work: &mut [u8],
-) -> Option<Late>
+fn judge_module(sheet: &[u8], first: &[u8], earlier: usize, work: &mut [u8]) -> Option<usize>
     ensures { Lent
         ((ms : List Module) (t : List ℕ)
-        → Modules delivery.now first earlier ms t
+        → Modules first.now earlier ms t
         → number_of (length work.old) sheet.now ≡ 0
-        → (i : ℕ) (behind : Answer)
-        → late_as work.new i result behind ≡ entries_in_turn (names_of ms) i 0 (entries_of sheet.now) behind)
-        (LateInside work.new result)
+        → LateReport (names_of ms) (entries_of sheet.now) work.new result)
+        (IfSome result (λ n. n ≤ length work.new))
         (Free work.old work.new) }
 {
     let n = module_info(sheet, work).ok()?;
-    late_entry(&work[..n], delivery, first, earlier)
+    late_entry(&work[..n], first, earlier)?;
+    Some(n)
 }
 
-// The first entry that is late in so many modules, whose sheets all get their reports.
+// The first entry that is late in so many modules, whose sheets all get their reports. It is read again where no other report is made any more.
 #[tactic(auto, using(crate::proofs::Along::all_passed), unfolding(crate::specs::Order::modules_in_turn))]
-fn judge_order(delivery: &[u8], first: usize, count: usize, work: &mut [u8]) -> Option<LateModule>
-    ensures { Bounded
-        ((ms : List Module) (t : List ℕ)
-        → Modules delivery.now first count ms t
+fn judge_order<'a>(first: &[u8], count: usize, work: &'a mut [u8]) -> Option<LateModule<'a>>
+    ensures { (ms : List Module) (t : List ℕ)
+        → Modules first.now count ms t
         → All (Reported (length work.old)) ms
-        → late_module_as work.new result ≡ modules_in_turn [] 0 ms)
-        (LateModuleInside work.new result) }
+        → late_module_as result ≡ modules_in_turn [] 0 ms }
 {
-    let mut at = first;
+    let mut next = first;
     for i in 0..count {
-        let module = read_module(delivery, at);
-        let from = module.sheet_from;
-        let to = module.sheet_to;
-        if let Some(late) = judge_module(&delivery[from..to], delivery, first, i, work) {
+        let (module, behind) = read_module(next);
+        if let Some(n) = judge_module(module.sheet, first, i, work) {
+            let late = late_entry(&work[..n], first, i)?;
             return Some(LateModule { module: i, late });
         }
-        at = to;
+        next = behind;
     }
     None
 }
 
 // The answer to a delivery. The work buffer has what was written last.
 #[tactic(auto, using(crate::proofs::Orders::none_refused), unfolding(crate::specs::Order::order_of))]
-pub fn judge(delivery: &[u8], work: &mut [u8]) -> Judgement
-    ensures { Told (judgement_as work.new)
-        (order_of (length work.old) delivery.now)
-        (JudgementInside work.new) result }
+pub fn judge<'a>(delivery: &[u8], work: &'a mut [u8]) -> Judgement<'a>
+    ensures { judgement_as result ≡ order_of (length work.old) delivery.now }
 {
     let Some(modules) = check_delivery(delivery) else {
         return Err(of_delivery(Refusal::Delivery));
     };
-    if has_name_twice(delivery, modules.first, modules.count) {
+    if has_name_twice(modules.first, modules.count) {
         return Err(of_delivery(Refusal::NameTwice));
     }
-    judge_sheets(delivery, modules.first, modules.count, work)?;
-    Ok(judge_order(delivery, modules.first, modules.count, work))
+    judge_sheets(modules.first, modules.count, work)?;
+    Ok(judge_order(modules.first, modules.count, work))
 }

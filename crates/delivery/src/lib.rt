@@ -6,7 +6,7 @@ pub mod entries;
 pub mod judge;
 pub mod modules;
 
-ghost use Rattle.std.specs.Prelude.{◌≡◌, List, ℕ, length};
+ghost use Rattle.std.specs.Prelude.{◌≡◌, length};
 ghost use Rattle.delivery.specs.Promise.{LoadOrder, order_as, load_order_as, OrderPromised, packed};
 ghost use Rattle.delivery.specs.code.Views.{judgement_as};
 
@@ -22,9 +22,9 @@ pub struct NotInOrder {
 // The answer to a delivery: the first entry that is late, or none where all is in order; or a refusal.
 pub type LoadOrder = Result<Option<NotInOrder>, Refused>;
 
-// A judgement without the place of the specifier.
+// A judgement without the specifier.
 fn order_of(judgement: Judgement) -> LoadOrder
-    ensures { (work : List ℕ) → load_order_as result ≡ order_as (judgement_as work judgement) }
+    ensures { load_order_as result ≡ order_as (judgement_as judgement.entry) }
 {
     match judgement? {
         None => Ok(None),
@@ -39,9 +39,9 @@ fn order_of(judgement: Judgement) -> LoadOrder
 pub fn order(delivery: &[u8], work: &mut [u8]) -> LoadOrder
     ensures { OrderPromised delivery.now (length work.old) result work.new }
 {
-    let judgement = judge(delivery, work);
+    let order = order_of(judge(delivery, work));
     work.fill(0);
-    order_of(judgement)
+    order
 }
 
 // The answer in one number.

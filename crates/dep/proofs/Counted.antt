@@ -1,12 +1,10 @@
 -- There are as many dependencies as the check of the tree counts.
-use Rattle.std.specs.Prelude.{Some, None, Result, Ok, Err}
+use Rattle.std.specs.Prelude.{Some, None}
 use Rattle.laws.proofs.Prelude.{◌≡◌, refl, sym, ap, ◌∙◌, Bool, true, false, cond, ◌&&◌, List, [], ◌∷◌, ◌++◌, map, flat_map, Option, ℕ, arith, length}
 use Rattle.laws.proofs.Prelude.{length-append}
 use mathlib.Core.List.{map-append}
-use Rattle.laws.proofs.Decoding.{refused, value}
 use Rattle.text.specs.Truth.{one}
 use Rattle.wire.specs.Number.{encode_number}
-use Rattle.wire.specs.{declared.Cursor.Cursor, declared.refusals.Refusal.Refusal}
 use Rattle.sheet.{specs.code.Commented.Commented, specs.declared.fields.Span.Span, proofs.Walks.walks_related}
 use Rattle.sheet.specs.Tree.{Quoted, Node, Arguments, no_arguments, argument}
 use Rattle.sheet.specs.Shape.{shape, is_require, is_augmentation}
@@ -18,9 +16,9 @@ use Rattle.report.specs.declared.names.DynamicDependencyKind.TheVariants as dyna
 use Rattle.report.specs.ModuleInfo as info
 use Rattle.report.{specs.Encode.encode_list, specs.Encode.encode_dependency, specs.Buffer.Written, specs.Buffer.more, proofs.Buffers.more_append}
 use Rattle.arguments.specs.Argument.{replaced_in}
-use Rattle.dep_entries.specs.{declared.Items.Items, code.Notes.all_noted, code.Written.types_of, code.Written.Collected, code.Written.items_as, code.Written.with_entries}
+use Rattle.dep_entries.specs.{code.Notes.all_noted, code.Written.types_of, code.Written.Collected, code.Written.with_entries}
 use Rattle.dep_entries.specs.Entries.{dynamic_kind, static_entry, call_entry, module_entry, Noted, beside}
-use Rattle.dep.specs.code.Walk.{walked_as, Answered, after_node, with_dependencies}
+use Rattle.dep.specs.code.Walk.{after_node, with_dependencies}
 use Rattle.dep.specs.Collect.{entry_of, collector, collect, text_of, noting, collect_noted}
 
 module _ (source : List ℕ) (types : ℕ → Option SpecifierWithRange) where
@@ -83,11 +81,6 @@ module _ (source : List ℕ) (types : ℕ → Option SpecifierWithRange) where
   unfolding flat_map
   noted_bytes [] = refl
   noted_bytes (e ∷ l) = ap (encode_dependency e.entry ++◌) (noted_bytes l)
-
--- a walk's answer that is a value has the items
-pub items_answered : (s : List ℕ) (after : Items) (r : Result Cursor Refusal) {w : Collected} → Answered (walked_as s after r) w → items_as after ≡ w
-items_answered s after (Ok next) (t, e) = value e
-items_answered s after (Err r) (t, e) = absurd (refused e)
 
 -- the number of a tree's dependencies, and then their entries
 pub program_written : (c : Commented) (w : Collected) (n : Node) {count : ℕ} → count ≡ entries n → {w1 : Written} → w1 ≡ more w.written (encode_number count)

@@ -1,5 +1,5 @@
 pub mod HeadSpans
-pub mod Left
+pub mod Added
 pub mod Loops
 pub mod Arms
 pub mod Counted

@@ -1,47 +1,47 @@
 -- The entries of a root's children up to the last that has one are those of the root.
-use Rattle.laws.proofs.Prelude.{◌≡◌, refl, sym, ap, ◌∙◌, List, ◌++◌, ℕ, zero, suc, ◌-◌, arith}
-use Rattle.laws.specs.Decoded.{Decoded, ok, on_ok, Decoder}
-use Rattle.laws.proofs.Decoding.{on_ok_ok}
-use Rattle.sheet.specs.{code.Commented.Commented, declared.fields.Span.Span, Nodes.many, Nodes.nodes}
-use Rattle.sheet.specs.Tree.{Node, other, Nodes, none, more}
-use Rattle.sheet_heads.proofs.Many.{many_first}
-use Rattle.sheet_nodes.specs.code.Reach.{Reaches, quiet, past}
-use Rattle.sheet_nodes.proofs.Loops.{node_item}
+use Rattle.std.specs.Prelude.{Some}
+use Rattle.laws.proofs.Prelude.{◌≡◌, ap, ◌∙◌, sym, List, ℕ, zero, suc, ◌-◌, arith}
+use Rattle.laws.specs.Decoded.{ok, on_ok, Decoder}
+use Rattle.sheet.specs.{code.Commented.Commented, declared.fields.Span.Span, Nodes.many, Nodes.nodes, Nodes.node}
+use Rattle.sheet.specs.Tree.{Node, other, Nodes, more}
+use Rattle.sheet_heads.specs.{declared.node.Head.Head, code.Head.head, code.Views.head_of}
+use Rattle.sheet_heads.specs.declared.node.Head.TheVariants as heads
+use Rattle.sheet_nodes.specs.code.Reach.{Reaches, quiet, past, ReachesIn}
+use Rattle.sheet_nodes.proofs.Reach.{children_are}
 use Rattle.dep_entries.specs.code.Written.{types_of, Collected, with_entries}
-use Rattle.dep.specs.Collect.{noting, collect_noted}
-use Rattle.dep.specs.code.Walk.{note_all, after_node, after_nodes, Answered}
+use Rattle.dep_entries.proofs.Wrote.{entries_append}
+use Rattle.dep.specs.Collect.{noting}
+use Rattle.dep.specs.code.Walk.{after_node, after_nodes, answered}
 use Rattle.dep.proofs.Counted.{noted_none}
 
-module _ (c : Commented) (inner : Decoder Node) (sp : Span) where
-  one_more : (k : ℕ) (u : List ℕ) {n : Node} {v : List ℕ} {ns : Nodes} {w : List ℕ} → inner u ≡ ok n v → nodes inner k v ≡ ok ns w
-      → nodes inner (suc k) u ≡ ok (more n ns) w
+module _ (c : Commented) (inner : Decoder Node) where
+  first_read : (k : ℕ) (u : List ℕ) {n : Node} {ns : Nodes} {t : List ℕ} → nodes inner (suc k) u ≡ ok (more n ns) t
+      → (v : List ℕ) × (inner u ≡ ok n v) × (nodes inner k v ≡ ok ns t)
   unfolding nodes many
-  one_more k u first others = rw (first, others)
+  first_read k u e = grind arith
+
+  first_walked : (w : Collected) (k : ℕ) (u : List ℕ) (ns : Nodes) {n : Node} {v : List ℕ} → inner u ≡ ok n v
+      → answered (on_ok (after_nodes c (after_node c w n)) (nodes inner k v)) ≡ Some (after_nodes c (after_node c w n) ns)
+      → answered (on_ok (after_nodes c w) (nodes inner (suc k) u)) ≡ Some (after_nodes c w (more n ns))
+  unfolding noting nodes many
+  first_walked w k u ns e f = grind (arith, entries_append)
 
   -- so many of the nodes that were read have the entries of all
-  first_noted : {k : ℕ} {ns : Nodes} → Reaches k ns → (count : ℕ) (u : List ℕ) {t : List ℕ} → nodes inner count u ≡ ok ns t
-      → (ms : Nodes) × (v : List ℕ) × (nodes inner k u ≡ ok ms v) × (note_all c ms ≡ note_all c ns)
-  unfolding nodes many noting
-  first_noted {ns = ns} (quiet e) count u read = (none, u, refl, sym (noted_none c.source (types_of c) (other sp ns) e))
-  first_noted (past r) zero u read = let z : ◌≡◌ {A = ℕ} 0 1 = cc in absurd (omega arith)
-  first_noted (past {k = k} {n = n} {ns = ns} r) (suc count) u {t} read =
-      let (add, v, item, m, others, is) = many_first none (node_item inner) (suc count) u (omega arith) read in
-      let (first, stands, adds) = on_ok_ok (λ n l. more n l) (inner u) item in
-      let whole : more first m ≡ more n ns = ap (λ f. f m) adds ∙ is in
-      let same_first : first ≡ n = cc in
-      let same_others : m ≡ ns = cc in
-      let down : suc count - 1 ≡ count = omega arith in
-      let (ms, w, behind, noted) = first_noted r count v ((rw down at others) ∙ ap (λ l. ok l t) same_others) in (
-        more first ms,
-        w,
-        one_more k u stands behind,
-        ap (λ f. collect_noted c.source (types_of c) f ++ note_all c ms) same_first ∙ ap (collect_noted c.source (types_of c) n ++◌) noted,
-      )
+  reach_walked : {k : ℕ} {ns : Nodes} → Reaches k ns → (sp : Span) (w : Collected) (count : ℕ) (u : List ℕ) {t : List ℕ} → nodes inner count u ≡ ok ns t
+      → answered (on_ok (after_nodes c w) (nodes inner k u)) ≡ Some (after_nodes c w ns)
+  unfolding noting nodes many
+  reach_walked {ns = ns} (quiet e) sp w count u read = ap (λ l. Some (with_entries w l)) (sym (noted_none c.source (types_of c) (other sp ns) e))
+  reach_walked (past r) sp w zero u read = let z : ◌≡◌ {A = ℕ} 0 1 = cc in absurd (omega arith)
+  reach_walked (past {k = k} {ns = ns} r) sp w (suc count) u read =
+      let (v, first, others) = first_read count u read in first_walked w k u ns first (reach_walked r sp _ count v others)
 
-  pub children_walked : (w : Collected) {k : ℕ} {ns : Nodes} → Reaches k ns → (count : ℕ) (u : List ℕ) {t : List ℕ} → nodes inner count u ≡ ok ns t
-      → {n : Node} → n ≡ other sp ns → {x : Decoded Collected} → x ≡ on_ok (after_nodes c w) (nodes inner k u) → Answered x (after_node c w n)
-  children_walked w reaches count u read made says =
-      let (ms, v, first, noted) = first_noted reaches count u read in (
-        v,
-        says ∙ ap (on_ok (after_nodes c w)) first ∙ ap (λ l. ok (with_entries w l) v) (noted ∙ sym (ap (collect_noted c.source (types_of c)) made)),
-      )
+-- the root, an Other: its children are walked up to the last that has an entry
+pub children_walked : (c : Commented) (w : Collected) (levels : ℕ) (u : List ℕ) {n : Node} {t : List ℕ} → node c.source levels u ≡ ok n t
+    → {reach : ℕ} → ReachesIn reach n
+    → (x : Head) {sp : Span} {v : List ℕ} → head c.source levels u ≡ ok (sp, head_of x) v
+    → {count : ℕ} → x ≡ heads.Other count
+    → answered (on_ok (after_nodes c w) (nodes (node c.source (levels - 1)) reach v)) ≡ Some (after_node c w n)
+unfolding noting
+children_walked c w levels u whole reaches x {sp} {v} read is =
+    let (ns, behind, made) = children_are c.source u levels x read whole is in
+    reach_walked c (node c.source (levels - 1)) (reaches sp ns made) sp w _ v behind ∙ ap (λ n. Some (after_node c w n)) (sym made)

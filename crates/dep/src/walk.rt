@@ -1,20 +1,19 @@
 // `DependencyCollector`: the walk over a tree, by recursion in which the levels left fall. It adds the entries of what a node holds, in the order
 // of the sheet, and the node's own.
-ghost use Rattle.std.specs.Prelude.{◌≡◌, List, ℕ, ◌≤◌, length, drop};
-ghost use Rattle.std.specs.Prelude.{Some};
-ghost use Rattle.laws.specs.Decoded.{ok, on_ok};
-ghost use Rattle.laws.specs.code.Told.{Leaving, Told};
+ghost use Rattle.std.specs.Prelude.{◌≡◌, List, ℕ, Some};
+ghost use Rattle.laws.specs.Decoded.{ok};
+ghost use Rattle.laws.specs.code.Told.{Leaving};
 ghost use Rattle.sheet.specs.Limits.{depth_limit};
 ghost use Rattle.sheet.specs.Tree.{Node, import_require};
 ghost use Rattle.sheet.specs.Nodes.{node, nodes, argument_item, arguments, property_item, properties, call_rest, attributes_object};
-ghost use Rattle.sheet.specs.Shape.{shape, is_require};
 ghost use Rattle.sheet.specs.Walked.{entries};
 ghost use Rattle.sheet_heads.specs.code.Rest.{behind, rest};
-ghost use Rattle.sheet_heads.specs.code.Head.{import_head, export_from_head, export_all_head, import_type_head, module_head};
-ghost use Rattle.sheet_heads.specs.code.Views.{quoted_of, head_of};
+ghost use Rattle.sheet_heads.specs.code.Views.{quoted_of, head_of, HeadWithin};
+ghost use Rattle.sheet_heads.specs.declared.node.Head.TheVariants.{Import, ExportFrom, ExportAll, ImportType, NamedModule};
 ghost use Rattle.sheet_nodes.specs.code.Reach.{ReachesIn};
-ghost use Rattle.dep_entries.specs.code.Written.{Quotes, items_as, KeepsItems};
-ghost use Rattle.dep.specs.code.Walk.{PastHead, Calls, Begins, callees_of, walked_as, Answered, PastWalked, with_dependencies};
+ghost use Rattle.report.specs.Range.{InSource};
+ghost use Rattle.dep_entries.specs.code.Written.{items_as, KeepsItems};
+ghost use Rattle.dep.specs.code.Walk.{Spanned, Calls, names_require, call_by, callees_of, walked_as, answered, Walks, with_dependencies};
 ghost use Rattle.dep.specs.code.Walk.{after_node, after_nodes, after_argument, after_arguments, after_properties, after_property, after_with};
 ghost use Rattle.dep.specs.code.Walk.{after_import, after_call};
 
@@ -26,8 +25,7 @@ use report::names::{DynamicDependencyKind, StaticDependencyKind};
 use sheet::commented::Comments;
 use sheet::fields::Span;
 use sheet::limits::DEPTH_LIMIT;
-use sheet::names::ImportPhase;
-use sheet_heads::node::{Head, read_head};
+use sheet_heads::node::{ExportHead, Head, ImportHead, RequireHead, read_head};
 use sheet_heads::parts::{nodes_of, read_argument, read_attributes, read_pieces, read_property};
 use sheet_heads::quoted::Quoted;
 use sheet_nodes::check::{check_attributes, check_nodes};
@@ -38,14 +36,14 @@ use wire::refusals::Refusal;
 // the bytes are no tree with so many, the report and the notes are left free.
 pub fn analyze_program_dependencies(
     comments: &Comments,
-    root: Cursor,
+    root: &[u8],
     count: usize,
     reach: usize,
     items: &mut Items,
 )
     ensures { Leaving
         ((n : Node) (t : List ℕ)
-        → node comments.now.source depth_limit (drop root.at comments.now.bytes) ≡ ok n t
+        → node comments.now.source depth_limit root.now ≡ ok n t
         → count ≡ entries n
         → ReachesIn reach n
         → items_as items.new ≡ with_dependencies comments.now (items_as items.old) n)
@@ -56,25 +54,30 @@ pub fn analyze_program_dependencies(
     let _ = collector.walk_root(root, reach, items);
 }
 
-// A sheet, with the comments of its source.
+// The comments of a source, for the types of its entries.
 #[derive(Drop)]
 pub struct DependencyCollector<'a> {
     pub comments: &'a Comments<'a>,
 }
 
-// Each method but the last three walks what stands at the cursor, and answers the cursor past it, or a refusal.
+// Each method but the last two walks what stands at the front of some bytes, and answers the bytes behind it, or a refusal.
 impl DependencyCollector<'_> {
     // The root: of an Other only the children up to the last that has an entry, so many.
-    fn walk_root(&self, root: Cursor, reach: usize, items: &mut Items) -> Result<Cursor, Refusal>
+    #[tactic(auto, using(sheet_heads::proofs::ByHead::no_head))]
+    fn walk_root<'s>(
+        &self,
+        root: &'s [u8],
+        reach: usize,
+        items: &mut Items,
+    ) -> Result<&'s [u8], Refusal>
         ensures { Leaving
             ((n : Node) (t : List ℕ)
-            → node self.now.comments.now.source depth_limit (drop root.at self.now.comments.now.bytes) ≡ ok n t
+            → node self.now.comments.now.source depth_limit root.now ≡ ok n t
             → ReachesIn reach n
-            → Answered (walked_as self.now.comments.now.bytes items.new result)
-            (after_node self.now.comments.now (items_as items.old) n))
+            → answered (walked_as items.new result) ≡ Some (after_node self.now.comments.now (items_as items.old) n))
             (KeepsItems items.old items.new) }
     {
-        let ((_, head), next) = read_head(self.comments.sheet(), root, DEPTH_LIMIT)?;
+        let ((_, head), next) = read_head(self.comments.source(), root, DEPTH_LIMIT)?;
         match head {
             Head::Other(_) => self.walk_nodes(next, reach, DEPTH_LIMIT - 1, items),
             _ => self.walk_node(root, DEPTH_LIMIT, items),
@@ -82,111 +85,94 @@ impl DependencyCollector<'_> {
     }
 
     // The entry of an import, and past its attributes.
-    fn visit_import_decl(
+    #[tactic(auto, unfolding(crate::specs::Collect::noting))]
+    fn visit_import_decl<'s>(
         &self,
-        cursor: Cursor,
+        s: &'s [u8],
         levels: usize,
         span: Span,
-        type_only: bool,
-        phase: ImportPhase,
-        is_side_effect: bool,
-        specifier: Quoted,
-        has_object: bool,
+        head: ImportHead<'_>,
         items: &mut Items,
-    ) -> Result<Cursor, Refusal>
-        requires { Quotes self.now.comments.now specifier × (cursor.at ≤ length self.now.comments.now.bytes) }
-        ensures { Told (walked_as self.now.comments.now.bytes items.new)
-            (on_ok (after_node self.now.comments.now (items_as items.old))
-            (rest self.now.comments.now.source levels (
-              span,
-              import_head type_only phase is_side_effect
-                  (quoted_of self.now.comments.now.bytes specifier) has_object,
-            ) (drop cursor.at self.now.comments.now.bytes)))
-            (PastWalked (length self.now.comments.now.bytes) items.old items.new) result }
+    ) -> Result<&'s [u8], Refusal>
+        requires { InSource self.now.comments.now.source head.specifier.span }
+        ensures { Walks (after_node self.now.comments.now)
+            (rest self.now.comments.now.source levels (span, head_of (Import head.entry)) s.now)
+            items.old items.new result }
     {
         let dependency = StaticDependencyDescriptor {
-            kind: import_kind(type_only, phase),
+            kind: import_kind(head.type_only, head.phase),
             span,
-            specifier,
-            is_side_effect,
+            specifier: head.specifier,
+            is_side_effect: head.side_effect,
         };
-        self.walk_import(cursor, has_object, levels, dependency, items)
+        self.walk_import(s, head.has_object, levels, dependency, items)
     }
 
     // The entry of an export of names from a module, and past its attributes.
-    fn visit_named_export(
+    #[tactic(auto, unfolding(crate::specs::Collect::noting))]
+    fn visit_named_export<'s>(
         &self,
-        cursor: Cursor,
+        s: &'s [u8],
         levels: usize,
         span: Span,
-        type_only: bool,
-        specifier: Quoted,
-        has_object: bool,
+        head: ExportHead<'_>,
         items: &mut Items,
-    ) -> Result<Cursor, Refusal>
-        requires { Quotes self.now.comments.now specifier × (cursor.at ≤ length self.now.comments.now.bytes) }
-        ensures { Told (walked_as self.now.comments.now.bytes items.new)
-            (on_ok (after_node self.now.comments.now (items_as items.old))
-            (rest self.now.comments.now.source levels
-            (span, export_from_head type_only (quoted_of self.now.comments.now.bytes specifier) has_object)
-            (drop cursor.at self.now.comments.now.bytes)))
-            (PastWalked (length self.now.comments.now.bytes) items.old items.new) result }
+    ) -> Result<&'s [u8], Refusal>
+        requires { InSource self.now.comments.now.source head.specifier.span }
+        ensures { Walks (after_node self.now.comments.now)
+            (rest self.now.comments.now.source levels (span, head_of (ExportFrom head.entry)) s.now)
+            items.old items.new result }
     {
         let dependency = StaticDependencyDescriptor {
-            kind: export_kind(type_only),
+            kind: export_kind(head.type_only),
             span,
-            specifier,
+            specifier: head.specifier,
             is_side_effect: false,
         };
-        self.walk_import(cursor, has_object, levels, dependency, items)
+        self.walk_import(s, head.has_object, levels, dependency, items)
     }
 
     // The entry of an export of all names of a module, and past its attributes. As `visit_named_export`, but each promises the entry of
     // another node; what the two share is `walk_import`.
-    fn visit_export_all(
+    #[tactic(auto, unfolding(crate::specs::Collect::noting))]
+    fn visit_export_all<'s>(
         &self,
-        cursor: Cursor,
+        s: &'s [u8],
         levels: usize,
         span: Span,
-        type_only: bool,
-        specifier: Quoted,
-        has_object: bool,
+        head: ExportHead<'_>,
         items: &mut Items,
-    ) -> Result<Cursor, Refusal>
-        requires { Quotes self.now.comments.now specifier × (cursor.at ≤ length self.now.comments.now.bytes) }
-        ensures { Told (walked_as self.now.comments.now.bytes items.new)
-            (on_ok (after_node self.now.comments.now (items_as items.old))
-            (rest self.now.comments.now.source levels
-            (span, export_all_head type_only (quoted_of self.now.comments.now.bytes specifier) has_object)
-            (drop cursor.at self.now.comments.now.bytes)))
-            (PastWalked (length self.now.comments.now.bytes) items.old items.new) result }
+    ) -> Result<&'s [u8], Refusal>
+        requires { InSource self.now.comments.now.source head.specifier.span }
+        ensures { Walks (after_node self.now.comments.now)
+            (rest self.now.comments.now.source levels (span, head_of (ExportAll head.entry)) s.now)
+            items.old items.new result }
     {
         let dependency = StaticDependencyDescriptor {
-            kind: export_kind(type_only),
+            kind: export_kind(head.type_only),
             span,
-            specifier,
+            specifier: head.specifier,
             is_side_effect: false,
         };
-        self.walk_import(cursor, has_object, levels, dependency, items)
+        self.walk_import(s, head.has_object, levels, dependency, items)
     }
 
     // The entry of an import type, with the attributes behind its children; then its children, and what the attributes hold.
+    #[tactic(auto, using(dep_entries::proofs::Wrote::entries_append, crate::proofs::Added::entries_cons), unfolding(sheet::specs::Nodes::type_rest, sheet::specs::Nodes::attributes, crate::specs::Collect::noting))]
     #[cycle(walk)]
-    fn visit_ts_import_type(
+    fn visit_ts_import_type<'s>(
         &self,
-        cursor: Cursor,
+        s: &'s [u8],
         count: usize,
         levels: usize,
         span: Span,
-        specifier: Quoted,
+        specifier: Quoted<'_>,
         items: &mut Items,
-    ) -> Result<Cursor, Refusal>
-        requires { Quotes self.now.comments.now specifier × (cursor.at ≤ length self.now.comments.now.bytes) }
-        ensures { Told (walked_as self.now.comments.now.bytes items.new)
-            (on_ok (after_node self.now.comments.now (items_as items.old))
-            (rest self.now.comments.now.source levels (span, import_type_head (quoted_of self.now.comments.now.bytes specifier) count)
-            (drop cursor.at self.now.comments.now.bytes)))
-            (PastWalked (length self.now.comments.now.bytes) items.old items.new) result }
+    ) -> Result<&'s [u8], Refusal>
+        requires { InSource self.now.comments.now.source specifier.span }
+        ensures { Walks (after_node self.now.comments.now)
+            (rest self.now.comments.now.source levels (span, head_of (ImportType specifier.entry count)) s.now)
+            items.old items.new result }
     {
         let dependency = StaticDependencyDescriptor {
             kind: StaticDependencyKind::ImportType,
@@ -194,354 +180,300 @@ impl DependencyCollector<'_> {
             specifier,
             is_side_effect: false,
         };
-        let sheet = self.comments.sheet();
-        let (_, next) = check_nodes(sheet, cursor, count, levels)?;
-        let (has_object, at) = next.flag(sheet.bytes)?;
-        items.put_with_entry(self.comments, at, has_object, levels, dependency, true);
-        self.walk_nodes(cursor, count, levels, items)?;
-        self.walk_attributes(at, has_object, levels, items)
+        let (_, next) = check_nodes(self.comments.source(), s, count, levels)?;
+        let (has_object, object) = next.flag()?;
+        items.put_with_entry(self.comments, object, has_object, levels, dependency, true);
+        self.walk_nodes(s, count, levels, items)?;
+        self.walk_attributes(object, has_object, levels, items)
     }
 
     // Behind the callee of a call: arguments and further children; then the call's entry, if it is an import or a require.
+    #[tactic(auto, using(dep_entries::proofs::Wrote::entries_append), unfolding(sheet::specs::Nodes::call_rest))]
     #[cycle(walk)]
-    fn visit_call_expr(
+    fn visit_call_expr<'s>(
         &self,
-        cursor: Cursor,
+        s: &'s [u8],
         levels: usize,
         call: CallHead,
         items: &mut Items,
-    ) -> Result<Cursor, Refusal>
-        ensures { Told (walked_as self.now.comments.now.bytes items.new)
-            (on_ok (after_call self.now.comments.now call (items_as items.old))
-            (call_rest (node self.now.comments.now.source levels) self.now.comments.now.source (drop cursor.at self.now.comments.now.bytes)))
-            (PastWalked (length self.now.comments.now.bytes) items.old items.new) result }
+    ) -> Result<&'s [u8], Refusal>
+        ensures { Walks (after_call self.now.comments.now call)
+            (call_rest (node self.now.comments.now.source levels) self.now.comments.now.source s.now)
+            items.old items.new result }
     {
-        let sheet = self.comments.sheet();
-        let (count, args) = cursor.number(sheet.bytes)?;
+        let (count, args) = s.number()?;
         let next = self.walk_arguments(args, count, levels, items)?;
-        let (more, next) = next.number(sheet.bytes)?;
+        let (more, next) = next.number()?;
         let next = self.walk_nodes(next, more, levels, items)?;
         items.put_call_entry(self.comments, args, count, levels, call);
         Ok(next)
     }
 
     // The entry of an import-equals that names a module.
-    fn visit_ts_import_equals_decl(
+    #[tactic(auto, using(crate::proofs::Added::adds_kept), unfolding(crate::specs::Collect::noting))]
+    fn visit_ts_import_equals_decl<'s>(
         &self,
-        cursor: Cursor,
+        s: &'s [u8],
         span: Span,
-        type_only: bool,
-        export: bool,
-        specifier: Quoted,
+        head: RequireHead<'_>,
         items: &mut Items,
-    ) -> Result<Cursor, Refusal>
-        requires { Quotes self.now.comments.now specifier × (cursor.at ≤ length self.now.comments.now.bytes) }
-        ensures { Told (walked_as self.now.comments.now.bytes items.new)
-            (ok (after_node self.now.comments.now (items_as items.old)
-            (import_require span type_only export (quoted_of self.now.comments.now.bytes specifier)))
-            (drop cursor.at self.now.comments.now.bytes))
-            (PastWalked (length self.now.comments.now.bytes) items.old items.new) result }
+    ) -> Result<&'s [u8], Refusal>
+        requires { InSource self.now.comments.now.source head.specifier.span }
+        ensures { Walks (after_node self.now.comments.now)
+            (ok (import_require span head.entry.type_only head.entry.export (quoted_of head.entry.specifier)) s.now)
+            items.old items.new result }
     {
         let dependency = StaticDependencyDescriptor {
-            kind: equals_kind(type_only, export),
+            kind: equals_kind(head.type_only, head.export),
             span,
-            specifier,
+            specifier: head.specifier,
             is_side_effect: false,
         };
         items.put_plain_entry(self.comments, dependency);
-        Ok(cursor)
+        Ok(s)
     }
 
     // The entry of a module declaration with a String, if it may be an augmentation; then its children.
+    #[tactic(auto, using(crate::proofs::Added::adds_kept, dep_entries::proofs::Wrote::entries_append), unfolding(crate::specs::Collect::noting))]
     #[cycle(walk)]
-    fn visit_ts_module_decl(
+    fn visit_ts_module_decl<'s>(
         &self,
-        cursor: Cursor,
+        s: &'s [u8],
         count: usize,
         levels: usize,
         span: Span,
-        specifier: Quoted,
+        specifier: Quoted<'_>,
         items: &mut Items,
-    ) -> Result<Cursor, Refusal>
-        requires { Quotes self.now.comments.now specifier × (cursor.at ≤ length self.now.comments.now.bytes) }
-        ensures { Told (walked_as self.now.comments.now.bytes items.new)
-            (on_ok (after_node self.now.comments.now (items_as items.old))
-            (rest self.now.comments.now.source levels (span, module_head (Some (quoted_of self.now.comments.now.bytes specifier)) count)
-            (drop cursor.at self.now.comments.now.bytes)))
-            (PastWalked (length self.now.comments.now.bytes) items.old items.new) result }
+    ) -> Result<&'s [u8], Refusal>
+        requires { InSource self.now.comments.now.source specifier.span }
+        ensures { Walks (after_node self.now.comments.now)
+            (rest self.now.comments.now.source levels (span, head_of (NamedModule specifier.entry count)) s.now)
+            items.old items.new result }
     {
         items.put_module_entry(self.comments, span, specifier);
-        self.walk_nodes(cursor, count, levels, items)
+        self.walk_nodes(s, count, levels, items)
     }
 
-    // The node at a cursor, with so many levels left, its own among them.
+    // The node at the front, with so many levels left, its own among them.
+    #[tactic(auto, using(sheet_heads::proofs::ByHead::node_by_head, crate::proofs::HeadSpans::head_spanned))]
     #[cycle(walk)]
-    fn walk_node(&self, cursor: Cursor, levels: usize, items: &mut Items) -> Result<Cursor, Refusal>
-        ensures { Told (walked_as self.now.comments.now.bytes items.new)
-            (on_ok (after_node self.now.comments.now (items_as items.old))
-            (node self.now.comments.now.source levels (drop cursor.at self.now.comments.now.bytes)))
-            (PastWalked (length self.now.comments.now.bytes) items.old items.new) result }
+    fn walk_node<'s>(
+        &self,
+        s: &'s [u8],
+        levels: usize,
+        items: &mut Items,
+    ) -> Result<&'s [u8], Refusal>
+        ensures { Walks (after_node self.now.comments.now)
+            (node self.now.comments.now.source levels s.now)
+            items.old items.new result }
     {
-        let ((span, head), next) = read_head(self.comments.sheet(), cursor, levels)?;
+        let ((span, head), next) = read_head(self.comments.source(), s, levels)?;
         self.walk_rest(next, levels - 1, span, head, items)
     }
 
     // What follows a head, with so many levels left below its node.
+    #[tactic(auto, using(dep_entries::proofs::Wrote::entries_nil), unfolding(crate::specs::Collect::noting, dep_entries::specs::Entries::module_entry, sheet::specs::Nodes::nodes, sheet::specs::Nodes::many))]
     #[cycle(walk)]
-    fn walk_rest(
+    fn walk_rest<'s>(
         &self,
-        cursor: Cursor,
+        s: &'s [u8],
         levels: usize,
         span: Span,
-        head: Head,
+        head: Head<'_>,
         items: &mut Items,
-    ) -> Result<Cursor, Refusal>
-        requires { PastHead self.now.comments.now cursor.at head }
-        ensures { Told (walked_as self.now.comments.now.bytes items.new)
-            (on_ok (after_node self.now.comments.now (items_as items.old))
-            (rest self.now.comments.now.source levels (span, head_of self.now.comments.now.bytes head) (drop cursor.at self.now.comments.now.bytes)))
-            (PastWalked (length self.now.comments.now.bytes) items.old items.new) result }
+    ) -> Result<&'s [u8], Refusal>
+        requires { HeadWithin head × Spanned self.now.comments.now.source (head_of head) }
+        ensures { Walks (after_node self.now.comments.now)
+            (rest self.now.comments.now.source levels (span, head_of head.entry) s.now)
+            items.old items.new result }
     {
         match head {
-            Head::Other(count) | Head::Module(count) => self.walk_nodes(
-                cursor, count, levels, items,
-            ),
-            Head::String(_, _) | Head::Name(_, _) | Head::NamedExport(_) | Head::ImportEquals => Ok(
-                cursor,
-            ),
-            Head::Template(count) => {
-                let (_, next) = read_pieces(self.comments.sheet().bytes, cursor, count + 1)?;
-                self.walk_nodes(next, count, levels, items)
+            Head::Other(n) | Head::Module(n) => self.walk_nodes(s, n, levels, items),
+            Head::String(_) | Head::Name(_) | Head::NamedExport(_) | Head::ImportEquals => Ok(s),
+            Head::Template(n) => {
+                let (_, next) = read_pieces(s, n + 1)?;
+                self.walk_nodes(next, n, levels, items)
             }
-            Head::Binary(_) => self.walk_nodes(cursor, 2, levels, items),
-            Head::Object(count) => self.walk_properties(cursor, count, levels, items),
-            Head::ImportCall(_) | Head::Call => self.walk_callee(cursor, levels, span, head, items),
-            Head::Import {
-                type_only,
-                phase,
-                side_effect,
-                specifier,
-                has_object,
-            } => {
-                self.visit_import_decl(
-                    cursor,
-                    levels,
-                    span,
-                    type_only,
-                    phase,
-                    side_effect,
-                    specifier,
-                    has_object,
-                    items,
-                )
-            }
-            Head::ExportFrom {
-                type_only,
-                specifier,
-                has_object,
-            } => {
-                self.visit_named_export(
-                    cursor, levels, span, type_only, specifier, has_object, items,
-                )
-            }
-            Head::ExportAll {
-                type_only,
-                specifier,
-                has_object,
-            } => {
-                self.visit_export_all(
-                    cursor, levels, span, type_only, specifier, has_object, items,
-                )
-            }
-            Head::ImportType(specifier, count) => {
-                self.visit_ts_import_type(cursor, count, levels, span, specifier, items)
-            }
-            Head::ImportRequire {
-                type_only,
-                export,
-                specifier,
-            } => {
-                self.visit_ts_import_equals_decl(cursor, span, type_only, export, specifier, items)
-            }
-            Head::NamedModule(specifier, count) => {
-                self.visit_ts_module_decl(cursor, count, levels, span, specifier, items)
-            }
+            Head::Binary(_) => self.walk_nodes(s, 2, levels, items),
+            Head::Object(n) => self.walk_properties(s, n, levels, items),
+            Head::ImportCall(_) | Head::Call => self.walk_callee(s, levels, span, head, items),
+            Head::Import(x) => self.visit_import_decl(s, levels, span, x, items),
+            Head::ExportFrom(x) => self.visit_named_export(s, levels, span, x, items),
+            Head::ExportAll(x) => self.visit_export_all(s, levels, span, x, items),
+            Head::ImportType(x, n) => self.visit_ts_import_type(s, n, levels, span, x, items),
+            Head::ImportRequire(x) => self.visit_ts_import_equals_decl(s, span, x, items),
+            Head::NamedModule(x, n) => self.visit_ts_module_decl(s, n, levels, span, x, items),
         }
     }
 
     // So many nodes, one after the other. This loop and those over arguments and properties as one function would take closures, which in a cycle of
     // calls state their own contracts: that is longer than the loops.
+    #[tactic(auto, using(crate::proofs::Loops::nodes_step, dep_entries::proofs::Wrote::entries_nil), unfolding(crate::specs::Collect::noting, sheet::specs::Nodes::nodes, sheet::specs::Nodes::many))]
     #[cycle(walk)]
-    fn walk_nodes(
+    fn walk_nodes<'s>(
         &self,
-        cursor: Cursor,
+        s: &'s [u8],
         count: usize,
         levels: usize,
         items: &mut Items,
-    ) -> Result<Cursor, Refusal>
-        requires { cursor.at ≤ length self.now.comments.now.bytes }
-        ensures { Told (walked_as self.now.comments.now.bytes items.new)
-            (on_ok (after_nodes self.now.comments.now (items_as items.old))
-            (nodes (node self.now.comments.now.source levels) count (drop cursor.at self.now.comments.now.bytes)))
-            (PastWalked (length self.now.comments.now.bytes) items.old items.new) result }
+    ) -> Result<&'s [u8], Refusal>
+        ensures { Walks (after_nodes self.now.comments.now)
+            (nodes (node self.now.comments.now.source levels) count s.now)
+            items.old items.new result }
     {
-        let mut at = cursor;
+        let mut left = s;
         for _ in 0..count {
-            at = self.walk_node(at, levels, items)?;
+            left = self.walk_node(left, levels, items)?;
         }
-        Ok(at)
+        Ok(left)
     }
 
     // An argument: its node.
+    #[tactic(auto, using(sheet_heads::proofs::ByHead::argument_by_head, crate::proofs::Added::entries_last), unfolding(crate::specs::Collect::noting))]
     #[cycle(walk)]
-    fn walk_argument(
+    fn walk_argument<'s>(
         &self,
-        cursor: Cursor,
+        s: &'s [u8],
         levels: usize,
         items: &mut Items,
-    ) -> Result<Cursor, Refusal>
-        ensures { Told (walked_as self.now.comments.now.bytes items.new)
-            (on_ok (after_argument self.now.comments.now (items_as items.old))
-            (argument_item (node self.now.comments.now.source levels) self.now.comments.now.source (drop cursor.at self.now.comments.now.bytes)))
-            (PastWalked (length self.now.comments.now.bytes) items.old items.new) result }
+    ) -> Result<&'s [u8], Refusal>
+        ensures { Walks (after_argument self.now.comments.now)
+            (argument_item (node self.now.comments.now.source levels) self.now.comments.now.source s.now)
+            items.old items.new result }
     {
-        let (_, next) = read_argument(self.comments.sheet(), cursor)?;
+        let (_, next) = read_argument(self.comments.source(), s)?;
         self.walk_node(next, levels, items)
     }
 
     // So many arguments.
+    #[tactic(auto, using(crate::proofs::Loops::arguments_step, dep_entries::proofs::Wrote::entries_nil), unfolding(crate::specs::Collect::noting, sheet::specs::Nodes::arguments, sheet::specs::Nodes::many))]
     #[cycle(walk)]
-    fn walk_arguments(
+    fn walk_arguments<'s>(
         &self,
-        cursor: Cursor,
+        s: &'s [u8],
         count: usize,
         levels: usize,
         items: &mut Items,
-    ) -> Result<Cursor, Refusal>
-        requires { cursor.at ≤ length self.now.comments.now.bytes }
-        ensures { Told (walked_as self.now.comments.now.bytes items.new)
-            (on_ok (after_arguments self.now.comments.now (items_as items.old))
-            (arguments (node self.now.comments.now.source levels) self.now.comments.now.source count (drop cursor.at self.now.comments.now.bytes)))
-            (PastWalked (length self.now.comments.now.bytes) items.old items.new) result }
+    ) -> Result<&'s [u8], Refusal>
+        ensures { Walks (after_arguments self.now.comments.now)
+            (arguments (node self.now.comments.now.source levels) self.now.comments.now.source count s.now)
+            items.old items.new result }
     {
-        let mut at = cursor;
+        let mut left = s;
         for _ in 0..count {
-            at = self.walk_argument(at, levels, items)?;
+            left = self.walk_argument(left, levels, items)?;
         }
-        Ok(at)
+        Ok(left)
     }
 
     // A property: its key, if that is a node, and its value.
+    #[tactic(auto, using(sheet_heads::proofs::ByHead::property_by_head), unfolding(crate::specs::Collect::noting, sheet::specs::Nodes::nodes, sheet::specs::Nodes::many))]
     #[cycle(walk)]
-    fn walk_property(
+    fn walk_property<'s>(
         &self,
-        cursor: Cursor,
+        s: &'s [u8],
         levels: usize,
         items: &mut Items,
-    ) -> Result<Cursor, Refusal>
-        ensures { Told (walked_as self.now.comments.now.bytes items.new)
-            (on_ok (after_property self.now.comments.now (items_as items.old))
-            (property_item (node self.now.comments.now.source levels) (drop cursor.at self.now.comments.now.bytes)))
-            (PastWalked (length self.now.comments.now.bytes) items.old items.new) result }
+    ) -> Result<&'s [u8], Refusal>
+        ensures { Walks (after_property self.now.comments.now)
+            (property_item (node self.now.comments.now.source levels) s.now)
+            items.old items.new result }
     {
-        let (property, next) = read_property(self.comments.sheet().bytes, cursor)?;
+        let (property, next) = read_property(s)?;
         self.walk_nodes(next, nodes_of(property), levels, items)
     }
 
     // So many properties.
+    #[tactic(auto, using(crate::proofs::Loops::properties_step, dep_entries::proofs::Wrote::entries_nil), unfolding(crate::specs::Collect::noting, sheet::specs::Nodes::properties, sheet::specs::Nodes::many))]
     #[cycle(walk)]
-    fn walk_properties(
+    fn walk_properties<'s>(
         &self,
-        cursor: Cursor,
+        s: &'s [u8],
         count: usize,
         levels: usize,
         items: &mut Items,
-    ) -> Result<Cursor, Refusal>
-        requires { cursor.at ≤ length self.now.comments.now.bytes }
-        ensures { Told (walked_as self.now.comments.now.bytes items.new)
-            (on_ok (after_properties self.now.comments.now (items_as items.old))
-            (properties (node self.now.comments.now.source levels) count (drop cursor.at self.now.comments.now.bytes)))
-            (PastWalked (length self.now.comments.now.bytes) items.old items.new) result }
+    ) -> Result<&'s [u8], Refusal>
+        ensures { Walks (after_properties self.now.comments.now)
+            (properties (node self.now.comments.now.source levels) count s.now)
+            items.old items.new result }
     {
-        let mut at = cursor;
+        let mut left = s;
         for _ in 0..count {
-            at = self.walk_property(at, levels, items)?;
+            left = self.walk_property(left, levels, items)?;
         }
-        Ok(at)
+        Ok(left)
     }
 
     // An Object that holds attributes, if there is one.
+    #[tactic(auto, using(crate::proofs::Arms::attributes_behind, dep_entries::proofs::Wrote::entries_nil), unfolding(crate::specs::Collect::noting))]
     #[cycle(walk)]
-    fn walk_attributes(
+    fn walk_attributes<'s>(
         &self,
-        cursor: Cursor,
+        s: &'s [u8],
         has_object: bool,
         levels: usize,
         items: &mut Items,
-    ) -> Result<Cursor, Refusal>
-        requires { cursor.at ≤ length self.now.comments.now.bytes }
-        ensures { Told (walked_as self.now.comments.now.bytes items.new)
-            (on_ok (after_with self.now.comments.now (items_as items.old))
-            (behind has_object (attributes_object self.now.comments.now.source levels) (drop cursor.at self.now.comments.now.bytes)))
-            (PastWalked (length self.now.comments.now.bytes) items.old items.new) result }
+    ) -> Result<&'s [u8], Refusal>
+        ensures { Walks (after_with self.now.comments.now)
+            (behind has_object (attributes_object self.now.comments.now.source levels) s.now)
+            items.old items.new result }
     {
         if has_object {
-            let ((_, count), next) = read_attributes(self.comments.sheet(), cursor, levels)?;
+            let ((_, count), next) = read_attributes(self.comments.source(), s, levels)?;
             return self.walk_properties(next, count, levels - 1, items);
         }
-        Ok(cursor)
+        Ok(s)
     }
 
     // The entry of an import or an export, and past its attributes, in which nothing is walked.
-    fn walk_import(
+    #[tactic(auto, using(crate::proofs::Added::adds_kept), unfolding(attributes::specs::Attributes::static_attributes))]
+    fn walk_import<'s>(
         &self,
-        cursor: Cursor,
+        s: &'s [u8],
         has_object: bool,
         levels: usize,
-        dependency: StaticDependencyDescriptor,
+        dependency: StaticDependencyDescriptor<'_>,
         items: &mut Items,
-    ) -> Result<Cursor, Refusal>
-        requires { Quotes self.now.comments.now dependency.specifier
-            × (cursor.at ≤ length self.now.comments.now.bytes) }
-        ensures { Told (walked_as self.now.comments.now.bytes items.new)
-            (on_ok (after_import self.now.comments.now dependency (items_as items.old))
-            (behind has_object (attributes_object self.now.comments.now.source levels) (drop cursor.at self.now.comments.now.bytes)))
-            (PastWalked (length self.now.comments.now.bytes) items.old items.new) result }
+    ) -> Result<&'s [u8], Refusal>
+        requires { InSource self.now.comments.now.source dependency.specifier.span }
+        ensures { Walks (after_import self.now.comments.now dependency.entry)
+            (behind has_object (attributes_object self.now.comments.now.source levels) s.now)
+            items.old items.new result }
     {
         if has_object {
-            let (_, next) = check_attributes(self.comments.sheet(), cursor, has_object, levels)?;
-            items.put_with_entry(self.comments, cursor, has_object, levels, dependency, false);
+            let (_, next) = check_attributes(self.comments.source(), s, has_object, levels)?;
+            items.put_with_entry(self.comments, s, has_object, levels, dependency, false);
             return Ok(next);
         }
         items.put_plain_entry(self.comments, dependency);
-        Ok(cursor)
+        Ok(s)
     }
 
     // A call: its callee, if that is an expression, and what follows it. Both forms of a call come here: what is called at one place is inlined, so that
     // a level of calls has fewer frames on the stack.
+    #[tactic(auto, using(dep_entries::proofs::Wrote::entries_nil, crate::proofs::Arms::call_walked), unfolding(crate::specs::Collect::noting, sheet::specs::Nodes::nodes, sheet::specs::Nodes::many))]
     #[cycle(walk)]
-    fn walk_callee(
+    fn walk_callee<'s>(
         &self,
-        cursor: Cursor,
+        s: &'s [u8],
         levels: usize,
         span: Span,
-        head: Head,
+        head: Head<'_>,
         items: &mut Items,
-    ) -> Result<Cursor, Refusal>
-        requires { (cursor.at ≤ length self.now.comments.now.bytes) × Calls head }
-        ensures { Told (walked_as self.now.comments.now.bytes items.new)
-            (on_ok (after_node self.now.comments.now (items_as items.old))
-            (rest self.now.comments.now.source levels (span, head_of self.now.comments.now.bytes head) (drop cursor.at self.now.comments.now.bytes)))
-            (PastWalked (length self.now.comments.now.bytes) items.old items.new) result }
+    ) -> Result<&'s [u8], Refusal>
+        requires { Calls head }
+        ensures { Walks (after_node self.now.comments.now)
+            (rest self.now.comments.now.source levels (span, head_of head.entry) s.now)
+            items.old items.new result }
     {
-        let call = self.call_of(cursor, levels, span, head);
-        let next = self.walk_nodes(cursor, callees(call.kind), levels, items)?;
+        let call = self.call_of(s, levels, span, head);
+        let next = self.walk_nodes(s, callees(call.kind), levels, items)?;
         self.visit_call_expr(next, levels, call, items)
     }
 
-    // A call up to its arguments, by its head: an import, or a call of the expression at the cursor.
-    fn call_of(&self, cursor: Cursor, levels: usize, span: Span, head: Head) -> CallHead
-        ensures { Begins self.now.comments.now.source levels span (drop cursor.at self.now.comments.now.bytes) head result }
+    // A call up to its arguments, by its head: an import, or a call of the expression at the front.
+    fn call_of(&self, s: &[u8], levels: usize, span: Span, head: Head<'_>) -> CallHead
+        ensures { result ≡ call_by self.now.comments.now.source levels span s.now head.entry }
     {
         match head {
             Head::ImportCall(phase) => CallHead {
@@ -552,23 +484,21 @@ impl DependencyCollector<'_> {
             _ => CallHead {
                 kind: DynamicDependencyKind::Require,
                 span,
-                listed: self.is_require(cursor, levels),
+                listed: self.is_require(s, levels),
             },
         }
     }
 
-    // Is the callee at the cursor the Name `require`?
-    fn is_require(&self, cursor: Cursor, levels: usize) -> bool
-        ensures { (n : Node) (t : List ℕ)
-            → node self.now.comments.now.source levels (drop cursor.at self.now.comments.now.bytes) ≡ ok n t
-            → result ≡ is_require (shape n) }
+    // Is the callee at the front the Name `require`?
+    #[tactic(auto, using(crate::proofs::Callee::callee_cut, crate::proofs::Callee::callee_named, crate::proofs::Callee::callee_unnamed))]
+    fn is_require(&self, s: &[u8], levels: usize) -> bool
+        ensures { result ≡ names_require (node self.now.comments.now.source levels s.now) }
     {
-        let sheet = self.comments.sheet();
-        let Ok(((_, head), _)) = read_head(sheet, cursor, levels) else {
+        let Ok(((_, head), _)) = read_head(self.comments.source(), s, levels) else {
             return false;
         };
         match head {
-            Head::Name(start, end) => sheet_heads::texts::is_require(&sheet.bytes[start..end]),
+            Head::Name(text) => sheet_heads::texts::is_require(text),
             _ => false,
         }
     }

@@ -1,7 +1,7 @@
 // The entries of dependencies in the report.
 #![tactic(auto)]
 
-ghost use Rattle.std.specs.Prelude.{◌≡◌, Bool, cond, List, ℕ, length, drop};
+ghost use Rattle.std.specs.Prelude.{◌≡◌, Bool, cond, List, ℕ};
 ghost use Rattle.std.specs.Prelude.{None, Some};
 ghost use Rattle.laws.specs.Decoded.{ok};
 ghost use Rattle.laws.specs.code.Told.{Leaving};
@@ -13,15 +13,15 @@ ghost use Rattle.sheet_heads.specs.code.Views.{quoted_of};
 ghost use Rattle.report.specs.ModuleInfo as info;
 ghost use Rattle.report.specs.Range.{InSource};
 ghost use Rattle.attributes.specs.Attributes.{type_attributes, static_attributes, dynamic_attributes};
-ghost use Rattle.attributes.specs.code.Views.{attributes_as, AttributesWithin};
+ghost use Rattle.attributes.specs.code.Views.{attributes_as};
 ghost use Rattle.arguments.specs.Argument.{single_text, replaced_in};
 ghost use Rattle.arguments.specs.code.Views.{Stands, ArgumentWithin};
 ghost use Rattle.dep_entries.specs.Entries.{import_kind, export_kind, equals_kind, dynamic_kind, call_entry, beside};
 ghost use Rattle.dep_entries.specs.code.Notes.{noted};
-ghost use Rattle.dep_entries.specs.code.Written.{types_of, Quotes, Adds, KeepsItems, static_of, dynamic_of, module_of, entry_of_call};
+ghost use Rattle.dep_entries.specs.code.Written.{types_of, Adds, KeepsItems, static_of, dynamic_of, module_of, entry_of_call};
 
 use arguments::argument::{DynamicArgument, parse_argument, put_argument};
-use attributes::pairs::Pair;
+use attributes::pairs::Pairs;
 use attributes::readings::{
     ImportAttributes, parse_dynamic_import_attributes, parse_import_attributes,
     parse_type_attributes,
@@ -32,13 +32,11 @@ use report::names::{DynamicDependencyKind, StaticDependencyKind, dynamic_number,
 use report::writer::Writer;
 use sheet::commented::Comments;
 use sheet::fields::Span;
-use sheet::limits::PROPERTY_LIMIT;
 use sheet::names::ImportPhase;
 use sheet_heads::parts::read_argument;
 use sheet_heads::quoted::Quoted;
-use sheet_heads::texts::declares;
+use sheet_heads::texts::is_augmentation;
 use sheet_nodes::check::check_node;
-use wire::Cursor;
 
 // The report so far, and the notes beside it: for each entry where its node starts, and how many characters were replaced in its text.
 #[derive(Drop)]
@@ -49,19 +47,19 @@ pub struct Items<'a, 'b> {
 
 // A static dependency without its attributes: its kind, and the span of its node. Is it for side effects only?
 #[derive(Clone, Copy)]
-pub struct StaticDependencyDescriptor {
+pub struct StaticDependencyDescriptor<'a> {
     pub span: Span,
-    pub specifier: Quoted,
+    pub specifier: Quoted<'a>,
     pub is_side_effect: bool,
     pub kind: StaticDependencyKind,
 }
 
-// A dynamic dependency: where its node starts, and offsets into the sheet for its argument.
+// A dynamic dependency without its attributes: where its node starts, and its argument.
 #[derive(Clone, Copy)]
-pub struct DynamicDependencyDescriptor {
+pub struct DynamicDependencyDescriptor<'a> {
     pub kind: DynamicDependencyKind,
     pub start: usize,
-    pub argument: DynamicArgument,
+    pub argument: DynamicArgument<'a>,
     pub argument_range: Span,
 }
 
@@ -136,80 +134,76 @@ fn note(notes: &mut [usize], start: usize, number: usize)
 }
 
 impl<'a, 'b> Items<'a, 'b> {
-    // The entry of a static dependency, with its attributes in the table.
+    // The entry of a static dependency, with its attributes.
     #[tactic(auto, using(crate::proofs::Wrote::adds_one, report::proofs::Buffers::more_append, report::proofs::Buffers::more_cons), unfolding(crate::specs::Entries::static_entry, report::specs::Encode::encode_dependency, report::specs::Encode::encode_static))]
     fn put_static_entry(
         &mut self,
         comments: &Comments,
         dependency: StaticDependencyDescriptor,
-        pairs: &[Pair],
         attributes: ImportAttributes,
     )
-        requires { Quotes comments.now dependency.specifier
-            × AttributesWithin (length comments.now.bytes) pairs.now attributes }
+        requires { InSource comments.now.source dependency.specifier.span }
         ensures { Adds self.old self.new
-            (static_of comments.now dependency (attributes_as comments.now.bytes pairs.now attributes)) }
+            (static_of comments.now dependency.entry (attributes_as attributes.entry)) }
     {
         let start = dependency.span.start;
         let specifier = dependency.specifier;
-        let sheet = comments.sheet();
-        let text = &sheet.bytes[specifier.start..specifier.end];
         self.writer.put(static_number(dependency.kind));
         analyze_ts_or_deno_types(comments, start, self.writer);
         let replaced = self
             .writer
-            .put_lossy_specifier(text, comments, specifier.span);
+            .put_lossy_specifier(specifier.text, comments, specifier.span);
         note(self.notes, start, replaced);
         self.writer.put_flag(dependency.is_side_effect);
-        put_attributes(sheet.bytes, pairs, attributes, self.writer);
+        put_attributes(attributes, self.writer);
     }
 
-    // The entry of an import type, or of a declaration, with the Object of its attributes at the cursor, if there is one. The table is here, and not in
-    // the walk, and is never inlined, so that no level of the walk has one on the stack. Where the bytes are no such Object, the buffer and the notes
-    // are left free.
+    // The entry of an import type, or of a declaration, with the Object of its attributes at the front of some bytes, if there is one. The table of
+    // pairs is here, and not in the walk, and is never inlined, so that no level of the walk has one on the stack. Where the bytes are no such Object,
+    // the buffer and the notes are left free.
     #[inline(never)]
     pub fn put_with_entry(
         &mut self,
         comments: &Comments,
-        cursor: Cursor,
+        s: &[u8],
         has_object: bool,
         levels: usize,
         dependency: StaticDependencyDescriptor,
         is_type: bool,
     )
-        requires { Quotes comments.now dependency.specifier }
+        requires { InSource comments.now.source dependency.specifier.span }
         ensures { Leaving
             ((a : Attributes) (t : List ℕ)
-            → behind has_object (attributes_object comments.now.source levels) (drop cursor.at comments.now.bytes) ≡ ok a t
+            → behind has_object (attributes_object comments.now.source levels) s.now ≡ ok a t
             → Adds self.old self.new
-            (static_of comments.now dependency (cond is_type (type_attributes a) (static_attributes a))))
+            (static_of comments.now dependency.entry (cond is_type (type_attributes a) (static_attributes a))))
             (KeepsItems self.old self.new) }
     {
-        let sheet = comments.sheet();
-        let mut pairs = [Pair::default(); PROPERTY_LIMIT];
+        let source = comments.source();
+        let mut pairs = Pairs::new();
         let attributes = if is_type {
-            parse_type_attributes(sheet, cursor, has_object, levels, &mut pairs)
+            parse_type_attributes(source, s, has_object, levels, &mut pairs)
         } else {
-            parse_import_attributes(sheet, cursor, has_object, levels, &mut pairs)
+            parse_import_attributes(source, s, has_object, levels, &mut pairs)
         };
-        self.put_static_entry(comments, dependency, &pairs, attributes);
+        self.put_static_entry(comments, dependency, attributes);
     }
 
     // The entry of a static dependency that has no attributes.
     pub fn put_plain_entry(&mut self, comments: &Comments, dependency: StaticDependencyDescriptor)
-        requires { Quotes comments.now dependency.specifier }
-        ensures { Adds self.old self.new (static_of comments.now dependency info.none) }
+        requires { InSource comments.now.source dependency.specifier.span }
+        ensures { Adds self.old self.new (static_of comments.now dependency.entry info.none) }
     {
-        self.put_static_entry(comments, dependency, &[], ImportAttributes::None);
+        self.put_static_entry(comments, dependency, ImportAttributes::None);
     }
 
     // `visit_ts_module_decl`: the entry of a module declaration with a String, if it may be an augmentation.
     #[tactic(auto, using(crate::proofs::Wrote::adds_none), unfolding(crate::specs::Entries::module_entry))]
     pub fn put_module_entry(&mut self, comments: &Comments, span: Span, specifier: Quoted)
-        requires { Quotes comments.now specifier }
-        ensures { Adds self.old self.new (module_of comments.now span (Some (quoted_of comments.now.bytes specifier))) }
+        requires { InSource comments.now.source specifier.span }
+        ensures { Adds self.old self.new (module_of comments.now span (Some (quoted_of specifier.entry))) }
     {
-        if declares(comments.sheet().bytes, specifier) {
+        if is_augmentation(specifier.text) {
             let dependency = StaticDependencyDescriptor {
                 kind: StaticDependencyKind::MaybeTsModuleAugmentation,
                 span,
@@ -220,45 +214,45 @@ impl<'a, 'b> Items<'a, 'b> {
         }
     }
 
-    // The entry of a dynamic dependency, with so many arguments behind the first at the cursor. The table is here as in `put_with_entry`. Where the
-    // bytes are no such arguments, the buffer and the notes are left free.
+    // The entry of a dynamic dependency, with so many arguments behind the first at the front of some bytes. The table of pairs is here as in
+    // `put_with_entry`. Where the bytes are no such arguments, the buffer and the notes are left free.
     #[inline(never)]
     fn put_dynamic_entry(
         &mut self,
         comments: &Comments,
-        cursor: Cursor,
+        s: &[u8],
         more: usize,
         levels: usize,
         dependency: DynamicDependencyDescriptor,
     )
         requires { InSource comments.now.source dependency.argument_range
-            × ArgumentWithin (length comments.now.bytes) dependency.argument }
+            × ArgumentWithin dependency.argument }
         ensures { Leaving
             ((v : info.DynamicArgument) (replacements : ℕ) (xs : Arguments) (t : List ℕ)
-            → Stands comments.now.bytes comments.now.source levels dependency.argument v replacements
-            → arguments (node comments.now.source levels) comments.now.source more (drop cursor.at comments.now.bytes) ≡ ok xs t
+            → Stands comments.now.source levels dependency.entry.argument v replacements
+            → arguments (node comments.now.source levels) comments.now.source more s.now ≡ ok xs t
             → Adds self.old self.new
-            (dynamic_of comments.now dependency v (dynamic_attributes xs) replacements))
+            (dynamic_of comments.now dependency.entry v (dynamic_attributes xs) replacements))
             (KeepsItems self.old self.new) }
     {
-        let sheet = comments.sheet();
+        let source = comments.source();
         let start = dependency.start;
-        let mut pairs = [Pair::default(); PROPERTY_LIMIT];
-        let attributes = parse_dynamic_import_attributes(sheet, cursor, more, levels, &mut pairs);
+        let mut pairs = Pairs::new();
+        let attributes = parse_dynamic_import_attributes(source, s, more, levels, &mut pairs);
         self.writer.put(dynamic_number(dependency.kind));
         analyze_ts_or_deno_types(comments, start, self.writer);
-        let replaced = put_argument(sheet, levels, dependency.argument, self.writer);
+        let replaced = put_argument(source, levels, dependency.argument, self.writer);
         note(self.notes, start, replaced);
         self.writer.put_span(comments, dependency.argument_range);
-        put_attributes(sheet.bytes, &pairs, attributes, self.writer);
+        put_attributes(attributes, self.writer);
     }
 
-    // The entry of a call by its first argument, whose node is at the cursor, with so many arguments behind it. Where the bytes are no such arguments,
-    // the buffer and the notes are left free.
+    // The entry of a call by its first argument, whose node is at the front of some bytes, with so many arguments behind it. Where the bytes are no
+    // such arguments, the buffer and the notes are left free.
     fn put_argument_entry(
         &mut self,
         comments: &Comments,
-        cursor: Cursor,
+        s: &[u8],
         more: usize,
         levels: usize,
         call: CallHead,
@@ -267,46 +261,46 @@ impl<'a, 'b> Items<'a, 'b> {
         requires { InSource comments.now.source range }
         ensures { Leaving
             ((dots : Bool) (n : Node) (xs : Arguments) (t u : List ℕ)
-            → node comments.now.source levels (drop cursor.at comments.now.bytes) ≡ ok n t
+            → node comments.now.source levels s.now ≡ ok n t
             → arguments (node comments.now.source levels) comments.now.source more t ≡ ok xs u
             → Adds self.old self.new
             (beside call.span.start (replaced_in (single_text (shape n)))
             (call_entry comments.now.source (types_of comments.now) call.kind call.span (argument dots range n xs))))
             (KeepsItems self.old self.new) }
     {
-        let sheet = comments.sheet();
+        let source = comments.source();
         let dependency = DynamicDependencyDescriptor {
             kind: call.kind,
             start: call.span.start,
-            argument: parse_argument(sheet, cursor, levels),
+            argument: parse_argument(source, s, levels),
             argument_range: range,
         };
         if more == 0 {
-            self.put_dynamic_entry(comments, cursor, 0, levels, dependency);
-        } else if let Ok((_, next)) = check_node(sheet, cursor, levels) {
+            self.put_dynamic_entry(comments, s, 0, levels, dependency);
+        } else if let Ok((_, next)) = check_node(source, s, levels) {
             self.put_dynamic_entry(comments, next, more, levels, dependency);
         }
     }
 
-    // The entry of a call that is listed, with so many arguments at the cursor; none if there is no argument. Where the bytes are no such arguments,
-    // the buffer and the notes are left free.
+    // The entry of a call that is listed, with so many arguments at the front of some bytes; none if there is no argument. Where the bytes are no such
+    // arguments, the buffer and the notes are left free.
     pub fn put_call_entry(
         &mut self,
         comments: &Comments,
-        cursor: Cursor,
+        s: &[u8],
         count: usize,
         levels: usize,
         call: CallHead,
     )
         ensures { Leaving
             ((xs : Arguments) (t : List ℕ)
-            → arguments (node comments.now.source levels) comments.now.source count (drop cursor.at comments.now.bytes) ≡ ok xs t
+            → arguments (node comments.now.source levels) comments.now.source count s.now ≡ ok xs t
             → Adds self.old self.new (entry_of_call comments.now call xs))
             (KeepsItems self.old self.new) }
     {
         if call.listed && 0 < count {
-            if let Ok(((_, range), at)) = read_argument(comments.sheet(), cursor) {
-                self.put_argument_entry(comments, at, count - 1, levels, call, range);
+            if let Ok(((_, range), next)) = read_argument(comments.source(), s) {
+                self.put_argument_entry(comments, next, count - 1, levels, call, range);
             }
         }
     }

@@ -2,11 +2,13 @@
 // The block stays plain numbers: it is the C interface.
 #![tactic(auto)]
 
-ghost use Rattle.std.specs.Prelude.{◌≡◌, [], ◌<◌, length, get_or};
-ghost use Rattle.laws.specs.code.Told.{Leaving};
+ghost use Rattle.std.specs.Prelude.{◌≡◌, [], ◌*◌, ◌≤◌, ◌<◌, get_or, MatchOption};
+ghost use Rattle.laws.specs.code.Told.{Bounded, Leaving};
 ghost use Rattle.desk.specs.Desk.{hand_in, turn, queue, first_waiting, with_sheet, without_front};
 ghost use Rattle.desk.specs.Fair.{Fair};
 ghost use Rattle.desk.specs.Block.{count_in, desk_as, HandedIn, Turned, handed_in_as, turned_as, Stands, Does, handed_in_number, turned_number};
+
+use std::marker::Model;
 
 // The depositors are 0 to 15.
 const DEPOSITORS: u32 = 16;
@@ -51,20 +53,62 @@ pub struct Served {
 // What a turn is answered: none where it is idle.
 pub type Turned = Option<Served>;
 
+// A depositor's number, below 16.
+#[derive(Clone, Copy)]
+struct Depositor {
+    number: u32,
+}
+
+impl Model for Depositor {
+    ghost use Rattle.std.specs.Prelude.{ℕ, ◌<◌};
+
+    ghost Value = { ℕ };
+
+    ghost view = { λ d. d.number };
+
+    ghost invariant = { λ d. d.number < 16 };
+
+    ghost inverse = { λ n. record { number = n } };
+}
+
+impl Depositor {
+    // The depositor of a number, if there is one.
+    fn new(number: u32) -> Option<Depositor>
+        ensures { MatchOption result (16 ≤ number) (λ d. (d ≡ number) × (d < 16)) }
+    {
+        if number < DEPOSITORS {
+            return Some(Depositor { number });
+        }
+        None
+    }
+
+    fn number(self) -> u32
+        ensures { Bounded (result ≡ self) (result < 16) }
+    {
+        self.number
+    }
+
+    // Where the depositor's numbers begin.
+    fn row(self) -> usize
+        ensures { Bounded (result ≡ 10 * self) (self < 16) }
+    {
+        ROW * self.number as usize
+    }
+}
+
 // How many sheets of a depositor wait.
-fn waiting(block: &[u32], depositor: u32) -> u32
-    requires { (length block.now ≡ 161) × (depositor < 16) }
+fn waiting(block: &[u32; NUMBERS], depositor: Depositor) -> u32
     ensures { result ≡ count_in block.now depositor }
 {
-    block[ROW * depositor as usize + COUNT].min(PLACES)
+    block[depositor.row() + COUNT].min(PLACES)
 }
 
 // Puts a sheet behind those of a depositor that wait.
-fn append(block: &mut [u32], depositor: u32, sheet: u32)
-    requires { (length block.old ≡ 161) × (depositor < 16) × (count_in block.old depositor < 8) }
+fn append(block: &mut [u32; NUMBERS], depositor: Depositor, sheet: u32)
+    requires { count_in block.old depositor < 8 }
     ensures { desk_as block.new ≡ with_sheet (desk_as block.old) depositor sheet }
 {
-    let row = ROW * depositor as usize;
+    let row = depositor.row();
     let count = waiting(block, depositor);
     let place = (block[row + FRONT] % PLACES + count) % PLACES;
     block[row + place as usize] = sheet;
@@ -72,13 +116,14 @@ fn append(block: &mut [u32], depositor: u32, sheet: u32)
 }
 
 // The first depositor, from the next one on, who has a sheet waiting.
-fn first_waiting(block: &[u32]) -> Option<u32>
-    requires { length block.now ≡ 161 }
+fn first_waiting(block: &[u32; NUMBERS]) -> Option<Depositor>
     ensures { result ≡ first_waiting (desk_as block.now) 0 16 }
 {
     let next = block[NEXT] % DEPOSITORS;
     for passed in 0..DEPOSITORS {
-        let depositor = (next + passed) % DEPOSITORS;
+        let depositor = Depositor {
+            number: (next + passed) % DEPOSITORS,
+        };
         if 0 < waiting(block, depositor) {
             return Some(depositor);
         }
@@ -87,18 +132,18 @@ fn first_waiting(block: &[u32]) -> Option<u32>
 }
 
 // Takes the front sheet of a depositor, and goes on to the depositor after that one.
-fn serve(block: &mut [u32], depositor: u32) -> u32
-    requires { (length block.old ≡ 161) × (depositor < 16) × (0 < count_in block.old depositor) }
+fn serve(block: &mut [u32; NUMBERS], depositor: Depositor) -> u32
+    requires { 0 < count_in block.old depositor }
     ensures { Leaving (result ≡ get_or (queue (desk_as block.old) depositor) 0 0)
         (desk_as block.new ≡ without_front (desk_as block.old) depositor) }
 {
-    let row = ROW * depositor as usize;
+    let row = depositor.row();
     let count = waiting(block, depositor);
     let front = block[row + FRONT] % PLACES;
     let sheet = block[row + front as usize];
     block[row + FRONT] = (front + 1) % PLACES;
     block[row + COUNT] = count - 1;
-    block[NEXT] = (depositor + 1) % DEPOSITORS;
+    block[NEXT] = (depositor.number() + 1) % DEPOSITORS;
     sheet
 }
 
@@ -113,13 +158,13 @@ pub fn fresh(block: &mut [u32; NUMBERS])
 pub fn hand_in(block: &mut [u32; NUMBERS], depositor: u32, sheet: u32) -> HandedIn
     ensures { Does (hand_in depositor sheet) block.old (handed_in_as depositor sheet result) block.new }
 {
-    if DEPOSITORS <= depositor {
+    let Some(known) = Depositor::new(depositor) else {
         return Err(Refused::NoDepositor);
-    }
-    if waiting(block, depositor) == PLACES {
+    };
+    if waiting(block, known) == PLACES {
         return Err(Refused::EightWaiting);
     }
-    append(block, depositor, sheet);
+    append(block, known, sheet);
     Ok(())
 }
 
@@ -127,9 +172,12 @@ pub fn hand_in(block: &mut [u32; NUMBERS], depositor: u32, sheet: u32) -> Handed
 pub fn turn(block: &mut [u32; NUMBERS]) -> Turned
     ensures { Does turn block.old (turned_as result) block.new }
 {
-    let depositor = first_waiting(block)?;
-    let sheet = serve(block, depositor);
-    Some(Served { depositor, sheet })
+    let first = first_waiting(block)?;
+    let sheet = serve(block, first);
+    Some(Served {
+        depositor: first.number(),
+        sheet,
+    })
 }
 
 // The answer to a hand-in in one number, the C interface.

@@ -5,8 +5,9 @@ use Rattle.laws.proofs.Lists.{flat_map_append}
 use Rattle.jsdoc.{specs.Origins.openers, proofs.Ticking.from_below, proofs.Openers.origins_first}
 use Rattle.sheet.specs.{declared.comments.Comment.Comment, Fit.comment_of, Lookups.body}
 use Rattle.report.specs.Origin.{encode_origin}
+use Rattle.pragmas.proofs.Turns.{comment_first}
 use Rattle.jsdoc_list.specs.Origins.{opener_at, openers_from, origins_of}
-use Rattle.jsdoc_list.proofs.{Ticking.comment_first, Turns.first_tick, Turns.first_mode_lem}
+use Rattle.jsdoc_list.proofs.{Turns.first_tick, Turns.first_mode_lem}
 
 module _ (body : List ℕ) (start : ℕ) (table : List ℕ) (q : ℕ) (h : q < length table) where
   pub opener_none : get_or table q 0 ≡ 0 → openers_from body start (drop q table) ≡ openers_from body start (drop (q + 1) table)

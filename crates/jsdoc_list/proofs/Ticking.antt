@@ -1,14 +1,15 @@
 -- The ticks of all comments are those of the readings that are listed in them.
 use Rattle.laws.proofs.Prelude.{◌≡◌, refl, sym, ap, ◌∙◌, Bool, true, false, cond, true≢false, ◌⊎◌, ⊎_elim, inl, inr, List, [], ◌∷◌, ◌++◌, ℕ, zero, suc, ◌+◌}
-use Rattle.laws.proofs.Prelude.{◌-◌, ◌≤◌, ◌<◌, zero-le, suc-le-suc, add-one, arith, length, take, drop, get_or, length-append, length-drop}
-use Rattle.laws.proofs.Prelude.{get_or-eq_default, drop-drop, drop-cons, drop_of_length-le, length-take-le, get_or-drop}
+use Rattle.laws.proofs.Prelude.{◌-◌, ◌≤◌, ◌<◌, zero-le, suc-le-suc, arith, length, take, drop, get_or, length-append, length-drop}
+use Rattle.laws.proofs.Prelude.{get_or-eq_default, drop-drop, drop_of_length-le, length-take-le, get_or-drop}
 use native.Mathlib.Decide.{dec_lt}
 use lib.{ListN.get_or-append, Seq.get_or-append-add, Seq.get_or-take}
 use Rattle.analysis.{specs.Mode.Mode, specs.Mode.mode_number, proofs.Modes.number_small}
 use Rattle.jsdoc.{specs.Grammar.Listed, specs.code.Ticks.Ticks, specs.Listing.listing, proofs.Listing.listing_ticks}
 use Rattle.jsdoc.proofs.Ticked.{ticks_iff, ticks_unique, ticks_nothing}
-use Rattle.sheet.specs.{declared.comments.Comment.Comment, Fit.no_comment, Fit.comment_of, Fit.Fit, Lookups.body_span, Lookups.body}
+use Rattle.sheet.specs.{declared.comments.Comment.Comment, Fit.comment_of, Fit.Fit, Lookups.body_span, Lookups.body}
 use Rattle.sheet.proofs.Bodies.{BodyWithin, placed_body}
+use Rattle.pragmas.proofs.Turns.{comment_first}
 use Rattle.jsdoc_list.specs.Imports.{is_star_opened, ticked_by, ticked_by_all, ticks_of}
 use Rattle.jsdoc_list.specs.Demand.{StarOpened}
 use Rattle.jsdoc_list.proofs.StarOpened.{opened_sound, opened_complete}
@@ -151,10 +152,6 @@ unfolding ticked_by
 ticked_part source c l w o k =
     let n : (body_span c).start + ((body_span c).end - (body_span c).start) ≡ (body_span c).end = omega (arith, w.order) in
     rw (o, drop-drop ((body_span c).end - (body_span c).start) (body_span c).start l, n, ticks_unique k (listing_ticks (body source c)))
-
--- the comments from the kth on: it, and the others
-pub comment_first : (cs : List Comment) (k : ℕ) → k < length cs → drop k cs ≡ comment_of cs k ∷ drop (k + 1) cs
-comment_first cs k h = rw (add-one k) (drop-cons cs k no_comment h)
 
 pub tick_more : (source l : List ℕ) (cs : List Comment) (k : ℕ) → k < length cs
     → ticked_by_all source (drop k cs) l ≡ ticked_by_all source (drop (k + 1) cs) (ticked_by source (comment_of cs k) l)

@@ -9,7 +9,7 @@ use Rattle.jsdoc.specs.{Reader.parse_quote, declared.answers.Part.Part, code.Ans
 use Rattle.sheet.specs.{declared.comments.Comment.Comment, Fit.Fit, declared.names.MediaType.MediaType, Media.is_java_script}
 use Rattle.report.specs.Encode.{encode_list, encode_specifier, encode_jsdoc}
 use Rattle.report.{specs.Decode.modes, specs.Range.range_of, proofs.Modes.mode_numbers}
-use Rattle.pragmas.{specs.code.Views.encode_any, proofs.Between.listed_each}
+use Rattle.pragmas.{specs.code.Views.encode_any, proofs.Turns.listed_each}
 use Rattle.jsdoc_list.specs.Imports.{ticks_of, count_of, import_at, imports_from, jsdoc_imports}
 use Rattle.jsdoc_list.proofs.{Entries.count_all, ImportsRight.standings}
 

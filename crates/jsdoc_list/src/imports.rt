@@ -1,51 +1,47 @@
 // The JSDoc imports of all comments, by ticks over the source.
-ghost use Rattle.std.specs.Prelude.{◌≡◌, true, ℕ, ◌≤◌, length, get_or, replicate};
+ghost use Rattle.std.specs.Prelude.{◌≡◌, true, ◌&&◌, ℕ, ◌≤◌, length, get_or, replicate};
 ghost use mathlib.Core.List.{flat_map};
+ghost use Rattle.laws.specs.Ascii.{ascii};
 ghost use Rattle.laws.specs.code.Told.{Beside};
+ghost use Rattle.text.specs.Bytes.{begins};
 ghost use Rattle.text.specs.declared.utf8.Encoding.TheVariants.{Utf8};
 ghost use Rattle.text.specs.Utf8.{formed};
 ghost use Rattle.wire.specs.Fields.{value_of};
-ghost use Rattle.sheet.specs.Lookups.{HoldsMarks};
+ghost use Rattle.sheet.specs.Comments.{is_block};
 ghost use Rattle.report.specs.Encode.{encode_jsdoc, encode_list};
 ghost use Rattle.report.specs.Decode.{modes};
 ghost use Rattle.report.specs.Buffer.{Wrote};
 ghost use Rattle.pragmas.specs.code.Views.{encode_any};
-ghost use Rattle.jsdoc_list.specs.Imports.{is_star_opened, ticked_by, ticks_of, ticks_in, count_of, import_at, imports_from, jsdoc_imports};
+ghost use Rattle.jsdoc_list.specs.Imports.{ticked_by, ticks_of, ticks_in, count_of, import_at, imports_from, jsdoc_imports};
 
 use jsdoc::quote::quote_at;
 use report::writer::Writer;
-use sheet::commented::Comments;
-use sheet::comments::Comment;
+use sheet::commented::{Comments, PlacedComment};
 use sheet::fields::Span;
-use sheet::lookups::{body, body_span};
-use sheet::names::{MediaType, is_block, is_javascript};
+use sheet::names::{CommentKind, MediaType, is_block, is_javascript};
 use text::bytes::{next_nonzero, starts_with};
 
 // Is it a block comment whose body begins with `*`?
-pub fn is_star_opened(source: &[u8], c: Comment) -> bool
-    requires holds_marks { HoldsMarks c }
-    requires end_in_bounds { c.span.end ≤ length source.now }
-    ensures { result ≡ is_star_opened source.now c }
+pub fn is_star_opened(kind: CommentKind, body: &[u8]) -> bool
+    ensures { result ≡ is_block kind && begins (ascii "*") body.now }
 {
-    is_block(c.kind) && starts_with(body(source, c), 0, b"*")
+    is_block(kind) && starts_with(body, 0, b"*")
 }
 
 // Ticks the readings of a comment at its body.
-#[tactic(auto, using(crate::proofs::Ticking::ticked_part, sheet::proofs::Bodies::body_within), unfolding(sheet::specs::Lookups::body_span, crate::specs::Imports::ticked_by))]
-fn tick_comment(source: &[u8], c: Comment, ticks: &mut [u8])
-    requires holds_marks { HoldsMarks c }
-    requires end_in_bounds { c.span.end ≤ length source.now }
-    requires ticks_len { length ticks.old ≡ length source.now }
-    ensures { ticks.new ≡ ticked_by source.now c ticks.old }
+#[tactic(auto, using(crate::proofs::Ticking::ticked_part, sheet::proofs::Bodies::placed_body), unfolding(crate::specs::Imports::ticked_by))]
+fn tick_comment(c: &PlacedComment, ticks: &mut [u8])
+    requires { length ticks.old ≡ length c.now.source }
+    ensures { ticks.new ≡ ticked_by c.now.source c.now.comment ticks.old }
 {
-    if is_star_opened(source, c) {
-        let Span { start, end } = body_span(c);
-        jsdoc::imports::tick_imports(&source[start..end], &mut ticks[start..end]);
+    if is_star_opened(c.comment().kind, c.body()) {
+        let Span { start, end } = c.body_span();
+        jsdoc::imports::tick_imports(c.body(), &mut ticks[start..end]);
     }
 }
 
 // Ticks each place of the source at which the place of a reading begins with 1 + the number of its mode; each other keeps its 0.
-#[tactic(auto, using(sheet::proofs::Marks::holds_marks_lem, crate::proofs::Ticking::tick_more, crate::proofs::Ticking::tick_none, crate::proofs::Ticking::ticks_small, crate::proofs::Turns::all_read_lem))]
+#[tactic(auto, using(crate::proofs::Ticking::tick_more, crate::proofs::Ticking::tick_none, crate::proofs::Ticking::ticks_small, crate::proofs::Turns::all_read_lem))]
 fn tick_comments(comments: &Comments, ticks: &mut [u8])
     requires utf8 { formed Utf8 0 comments.now.source ≡ true }
     requires ticks_value { ticks.old ≡ replicate (length comments.now.source) 0 }
@@ -53,9 +49,9 @@ fn tick_comments(comments: &Comments, ticks: &mut [u8])
     ensures small { (q : ℕ) → get_or ticks.new q 0 ≤ 3 }
     ensures all_read { length (imports_from comments.now.source 0 ticks.new) ≡ count_of ticks.new }
 {
-    let source = comments.source();
+    prove_eq!(ticks.len(), comments.source().len());
     for k in 0..comments.len() {
-        tick_comment(source, comments.at(k), ticks);
+        tick_comment(&comments.at(k), ticks);
     }
 }
 

@@ -1,6 +1,6 @@
 -- Laws of lists that the library does not have.
 use Rattle.laws.specs.Last.{last_of}
-use mathlib.Core.Path.{◌≡◌, refl, sym, ◌∙◌}
+use mathlib.Core.Path.{◌≡◌, refl, sym}
 use mathlib.Core.Logic.{⊎_elim}
 use mathlib.Core.List.Memᴰ
 use mathlib.Core.List.{List, [], ◌∷◌, ◌++◌, append_assoc, append-nil, flat_map, Memᴰ}
@@ -8,8 +8,8 @@ use Rattle.std.specs.Prelude.{None, Option, Some}
 use Rattle.laws.proofs.Options.{some-injective, none-ne-some}
 use Prim.Native.Nat.{ℕ, zero, suc, ◌+◌, ◌-◌, ◌≤◌, ◌<◌}
 use native.Mathlib.Omega.{arith}
-use lib.ListN.{length, get_or, set, take, drop, length-drop}
-use lib.Seq.{take-take, take-suc, drop-cons, get_or-drop, sets, drop-set-lt}
+use lib.ListN.{length, get_or, take, drop, length-drop}
+use lib.Seq.{take-take, take-suc, drop-cons, get_or-drop}
 use Rattle.laws.specs.{Codec.All, Codec.IfThere, Ordered.Ordered}
 
 pub flat_map_append : {A B : Type 0} (f : A → List B) (a b : List A) → flat_map f (a ++ b) ≡ flat_map f a ++ flat_map f b
@@ -76,11 +76,6 @@ module _ {A : Type 0} where
       let last : suc i + (j - suc i) ≡ j = omega arith in
       let there : j - suc i < length (drop (suc i) l) = omega (arith, length-drop (suc i) l) in
       rw (n, m, drop-cons l i d (omega arith), take-suc (drop (suc i) l) (j - suc i) d there, get_or-drop (suc i) l (j - suc i) d, last)
-
-  -- stores before a place change nothing from there on
-  pub drop_sets : (n : ℕ) (l : List A) (i : ℕ) (vs : List A) → i + length vs ≤ n → drop n (sets l i vs) ≡ drop n l
-  drop_sets n l i [] h = refl
-  drop_sets n l i (a ∷ vs) h = drop_sets n (set l i a) (suc i) vs (omega arith) ∙ drop-set-lt n l i a (omega arith)
 
   -- two lists in one order that have the same members are equal
   module _ (R : A → A → Type 0) (apart : (a b : A) → R a b → R b a → ⊥) where

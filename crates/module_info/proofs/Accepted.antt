@@ -1,186 +1,71 @@
--- What the judge says of an accepted sheet is what the writers ask, and what demand 3 is shown from.
-use Rattle.laws.proofs.Prelude.{◌≡◌, refl, sym, ap, ◌∙◌, true, List, [], ◌∷◌, ℕ, ◌≤◌, ◌<◌, arith, ltb, length, ltb-true, take}
-use Rattle.laws.specs.Decoded.{Decoded, ok, no}
-use Rattle.laws.{specs.Codec.All, specs.Codec.IfThere, proofs.Decoding.refused, proofs.Lists.of_members}
-use Rattle.text.specs.{declared.utf8.Encoding.TheVariants.Utf8, Utf8.well_formed, Position.characters, Bytes.part}
-use Rattle.text.proofs.{Columns.counted, WellFormed.well_formed_iff}
-use Rattle.wire.specs.Refusals.{of_sheets, one_of}
-use Rattle.sheet.specs.Limits.{source_limit, depth_limit}
+-- What the value of an accepted sheet promises.
+use Rattle.laws.proofs.Prelude.{◌≡◌, true, List, [], ℕ, ◌+◌, ◌/◌, ◌≤◌, length, take}
+use Rattle.std.proofs.lemmas.List.{take-map}
+use Rattle.laws.specs.Decoded.{Decoded, ok}
+use Rattle.text.specs.{declared.utf8.Encoding.TheVariants.Utf8, Utf8.well_formed, Position.characters, Position.Indexed}
+use Rattle.text.specs.{declared.position.PositionRow.PositionRow, code.Index.positions_in}
+use Rattle.text.proofs.WellFormed.{well_formed_iff}
+use Rattle.sheet.specs.{Limits.sheet_limit, Fit.Fit, Sheet.Sheet, Sheet.accept}
 use Rattle.sheet.specs.declared.{comments.CommentRow.CommentRow, groups.GroupRow.GroupRow}
-use Rattle.sheet.specs.{code.Commented.Commented, code.Lent.IndexOf, code.Lent.Lends, code.Lent.commented_by}
-use Rattle.sheet.{specs.Fit.Fit, specs.Sheet.Sheet, specs.Sheet.accept, specs.Judge.judge, proofs.Reaches.walk_right}
-use Rattle.sheet.specs.Walk.{Visit, start_of, visits}
-use Rattle.sheet_codec.{specs.Limits.FieldsFit, specs.SheetOf.SheetOf, proofs.Sheets.accepts_exactly, proofs.Quotations.strings_quoted}
-use Rattle.sheet_codec.proofs.Refusals.{passes, Decision, decided, cut_off_lem, judged_sheet, judged_refusal}
+use Rattle.sheet.specs.code.Lent.{Lends, commented_by}
+use Rattle.sheet_codec.{specs.Limits.FieldsFit, specs.SheetOf.SheetOf, proofs.Sheets.accepts_exactly}
 use Rattle.sheet_check.specs.{declared.check.Parts.Parts, code.Accepts.Accepts}
-use Rattle.report.specs.{ModuleInfo.DependencyDescriptor, Encode.encode}
-use Rattle.report.specs.Answer.{Outcome, outcome_as, refused_with, fitted}
-use Rattle.pragmas.{specs.Pragmas.types_at, specs.Present.Present, proofs.Present.present, proofs.Present.types_present}
-use Rattle.pragmas.specs.Texts.{TypesShown, types_of, Texts}
-use Rattle.pragmas.proofs.Texts.{types_shown, texts}
-use Rattle.jsdoc_list.{specs.Demand.OnlyRight, proofs.ImportsRight.only_right}
-use Rattle.dep.{specs.Collect.entry_of, proofs.EntryAttributes.attributes_right}
-use Rattle.dep.specs.InTurn.{InTurn, Worded, EntryOf}
-use Rattle.dep.proofs.Turns.{turn_member, turns_with, collect_turns}
-use Rattle.module_info.specs.Information.{module_info, default_info, answer_of}
 use Rattle.module_info.specs.code.Pieces.{commented, Sound, PartsOf}
-use Rattle.module_info.specs.{Empty.EmptyRight, Demands.OfAccepted, Demands.Demands}
-use Rattle.module_info.proofs.{Numbers.number_right, Empty.empty_right, Fine.Fine, Reports.entries_fine, Reports.report_right, Revised.unchanged}
-
--- a dependency of a visit
-record Known (t : Sheet) (v : Visit) (d : DependencyDescriptor) : Type 0 where
-  entry : entry_of t.source (types_at t) v ≡ d ∷ []
-  types : types_of d ≡ types_at t (start_of v)
 
 -- there is one such sheet
-same_sheet : {x : Decoded Sheet} {t u : Sheet} → x ≡ ok t [] → x ≡ ok u [] → t ≡ u
+pub same_sheet : {x : Decoded Sheet} {t u : Sheet} → x ≡ ok t [] → x ≡ ok u [] → t ≡ u
 same_sheet e f = cc
 
-pragmas_present : (t : Sheet) → Present t (module_info t)
-unfolding module_info
-pragmas_present t = present t (module_info t) refl refl refl refl refl
+-- an accepted sheet
+module _ (s : List ℕ) {t : Sheet} (e : accept s ≡ ok t []) where
+  pub meets : SheetOf s t
+  meets = (accepts_exactly s t).0 e
 
-module _ {s : List ℕ} {comments : List CommentRow} {groups : List GroupRow} {p : Parts} (a : Accepts s comments groups p) where
-  meets : SheetOf s a.sheet
-  meets = (accepts_exactly s a.sheet).0 a.accepted
-
-  within : FieldsFit a.sheet
+  pub within : FieldsFit t
   within = meets.encodes.within.fields
 
-  formed_source : well_formed Utf8 a.sheet.source ≡ true
-  formed_source = (well_formed_iff Utf8 a.sheet.source).1 within.source.1
+  pub formed_source : well_formed Utf8 t.source ≡ true
+  formed_source = (well_formed_iff Utf8 t.source).1 within.source.1
 
-  fit : Fit a.sheet.source a.sheet.comments
+  pub fit : Fit t.source t.comments
   fit = within.comments.1
 
-  pub source_short : length (part s p.source_start p.source_end) ≤ source_limit
-  source_short = rw a.source within.source.0
+  pub sound : Sound t.source
+  sound = (formed_source, within.source.0)
+
+  pub sheet_short : length s ≤ sheet_limit
+  sheet_short = rw meets.encodes.bytes at meets.encodes.within.bytes
+
+-- its parts, and the tables
+module _ {s : List ℕ} {comments : List CommentRow} {groups : List GroupRow} {p : Parts} (a : Accepts s comments groups p) where
+  pub source_sound : Sound p.front.source.now
+  source_sound = rw a.source (sound s a.accepted)
 
   -- what is lent
-  pub lent : {index : List ℕ} → IndexOf (part s p.source_start p.source_end) index
-      → Lends (commented_by s (part s p.source_start p.source_end) (take p.comments comments) (take p.groups groups)) index
-  lent {index} indexed = record {
-    fit = rw (a.source, a.comments) fit;
-    grouped = rw (a.comments, a.groups) within.groups.1;
-    indexed = indexed;
+  pub lent : (index : List PositionRow)
+      → Indexed characters p.front.source.now (take (length p.front.source.now / 64 + 1) (positions_in index))
+      → Lends (commented_by p.front.source.now (take p.front.comments comments) (take p.front.groups groups))
+      (positions_in (take (length p.front.source.now / 64 + 1) index))
+  lent index indexed = record {
+    fit = rw (a.source, a.comments) (fit s a.accepted);
+    grouped = rw (a.comments, a.groups) (within s a.accepted).groups.1;
+    indexed = rw take-map at indexed;
   }
 
-  pub sound : {c : Commented} → c ≡ commented s a.sheet → Sound c.source
-  sound i = rw i (formed_source, within.source.0)
-
-  -- the parts are those of every sheet that the bytes are
+  -- they are those of every sheet that the bytes are
   module _ {t : Sheet} (e : accept s ≡ ok t []) where
-    pub commented_of : commented_by s (part s p.source_start p.source_end) (take p.comments comments) (take p.groups groups) ≡ commented s t
+    pub commented_of : commented_by p.front.source.now (take p.front.comments comments) (take p.front.groups groups) ≡ commented t
     commented_of = rw (same_sheet e a.accepted, ← a.source, ← a.comments, ← a.groups)
 
-    pub parts_of : {c : Commented} → c ≡ commented s t → PartsOf t c.bytes c p
-    parts_of i =
-        rw (i, same_sheet e a.accepted)
-        (record { comments = refl; media = a.media; program = a.program; root = a.root; count = a.entries; reaches = a.reaches })
-
-  -- the demands
-  pub demanded : {size : ℕ} {outcome : Outcome} {buffer : List ℕ}
-      → ((t : Sheet) → accept s ≡ ok t [] → outcome_as outcome buffer ≡ fitted size (encode (module_info t))) → Demands s size outcome buffer
-  unfolding answer_of module_info
-  demanded {size} {outcome} {buffer} report = record {
-    answer = answer;
-    complete = λ t h. report t ((accepts_exactly s t).1 h);
-    empty = λ e. absurd (refused (sym cut_off_lem ∙ (rw e at a.accepted)));
-    number = rw answer (number_right s size);
-    dependencies = shown (λ t. _) in_turn;
-    walk = λ t h. walk_right t.root;
-    strings = shown (λ t. _) (strings_quoted a.sheet.source depth_limit a.sheet.root within.root);
-    jsdoc = shown (λ t. _) jsdoc_right;
-    revisions = λ t h r u i k revision. unchanged revision h.encodes.within.fields i.encodes.within.fields;
-    pragmas = shown (λ t. _) (pragmas_present a.sheet);
-    texts = shown (λ t. _) sheet_texts;
-    columns = shown (λ t. _) (counted characters a.sheet.source within.source.1);
-    report = shown (λ t. _) (report_right a.sheet meets.encodes.within types_there fine (pragmas_present a.sheet) sheet_texts jsdoc_right.right);
-  }
-    where
-      answer : outcome_as outcome buffer ≡ answer_of s size
-      answer = rw (judged_sheet s a.accepted) (report a.sheet a.accepted)
-
-      t : Sheet
-      t = a.sheet
-
-      types_there : (start : ℕ) → IfThere (TypesShown t) (types_at t start)
-      types_there = types_shown t formed_source fit
-
-      -- each entry with what the limits say of it
-      known_turns : InTurn (λ v d. Known t v d × Fine (Worded t.source v) d) (visits t.root) (module_info t).dependencies
-      known_turns = entries_fine t meets.encodes.within types_there (λ v d k. k.entry)
-          (collect_turns t.source (types_at t) (Known t) (λ v d e i. record { entry = e; types = i }) t.root)
-
-      fine : InTurn (λ v d. Fine (Worded t.source v) d) (visits t.root) (module_info t).dependencies
-      fine = turns_with known_turns (λ v i d p. p.1)
-
-      in_turn : InTurn (EntryOf t) (visits t.root) (module_info t).dependencies
-      in_turn =
-          turns_with known_turns λ v i d (k, f).
-          record {
-            entry = k.entry;
-            types = rw k.types (types_present t (start_of v));
-            attributes = attributes_right t.source (types_at t) v k.entry;
-            worded = f.worded;
-          }
-
-      typed : All (λ d. IfThere (TypesShown a.sheet) (types_of d)) (module_info a.sheet).dependencies
-      typed =
-          of_members _ _ (λ d m.
-          let (v, p) = turn_member known_turns m in
-          rw p.0.types (types_there (start_of v)))
-
-      sheet_texts : Texts t (module_info t)
-      sheet_texts = texts t formed_source fit (module_info t) (pragmas_present t) typed
-
-      jsdoc_right : OnlyRight t.media t.source t.comments (module_info t).jsdoc_imports
-      jsdoc_right = only_right fit formed_source t.media
-
-      shown : (P : Sheet → Type 0) → P a.sheet → OfAccepted s P
-      shown P h t e = rw (same_sheet ((accepts_exactly s t).1 e) a.accepted) h
-
--- a refusal fits a byte
-pub refusal_small : (s : List ℕ) {r : ℕ} → 0 < length s → accept s ≡ no r → r < 256
-unfolding one_of
-refusal_small s {r} some e = by (decided s)
-  where
-    by : Decision s → r < 256
-    by (Decision.empty f) = absurd (omega (arith, some, ap length f))
-    by (Decision.accepted t f) = absurd (refused (sym e ∙ f))
-    by (Decision.refused q among _ f) =
-        let g : no q ≡ no r = sym f ∙ e in
-        let same : q ≡ r = cc in
-        rw (← same) (ltb-true q 256 (passes (λ n. ltb n 256) of_sheets refl q among))
-
--- bytes that are no sheet: their answer and its number, and nothing is asked of them beyond
-module _ (s : List ℕ) {size : ℕ} {outcome : Outcome} {buffer : List ℕ} where
-  no_sheet : ((t : Sheet) → SheetOf s t → ⊥) → outcome_as outcome buffer ≡ answer_of s size → (s ≡ [] → EmptyRight size (outcome_as outcome buffer))
-      → Demands s size outcome buffer
-  no_sheet none answer empty = record {
-    answer = answer;
-    complete = λ t h. never t h;
-    empty = empty;
-    number = rw answer (number_right s size);
-    dependencies = λ t h. never t h;
-    walk = λ t h. never t h;
-    strings = λ t h. never t h;
-    jsdoc = λ t h. never t h;
-    revisions = λ t h. never t h;
-    pragmas = λ t h. never t h;
-    texts = λ t h. never t h;
-    columns = λ t h. never t h;
-    report = λ t h. never t h;
-  }
-    where
-      never : {P : Type 0} (t : Sheet) → SheetOf s t → P
-      never t h = absurd (none t h)
-
-  pub refusal_demanded : {r : ℕ} → 0 < length s → accept s ≡ no r → outcome_as outcome buffer ≡ refused_with r size → Demands s size outcome buffer
-  unfolding answer_of
-  refusal_demanded some e refusal =
-      no_sheet (λ t h. refused (sym e ∙ (accepts_exactly s t).1 h)) (rw (judged_refusal s some e) refusal) (λ f. absurd (omega (arith, some, ap length f)))
-
-  pub empty_demanded : s ≡ [] → outcome_as outcome buffer ≡ fitted size (encode default_info) → Demands s size outcome buffer
-  unfolding answer_of judge
-  empty_demanded e default = no_sheet (λ t h. refused (sym cut_off_lem ∙ (rw e at ((accepts_exactly s t).1 h)))) (rw e default) (λ f. empty_right default)
+    pub parts_of : PartsOf t s p
+    parts_of =
+        rw (same_sheet e a.accepted)
+        (record {
+          media = a.media;
+          program = a.program;
+          source = a.source;
+          place = rw a.source at a.place;
+          root = a.root;
+          count = a.entries;
+          reaches = a.reaches;
+        })

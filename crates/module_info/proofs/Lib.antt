@@ -6,6 +6,7 @@ pub mod Reports
 pub mod Empty
 pub mod Revised
 pub mod Accepted
+pub mod Demanded
 pub mod Notes
 pub mod Cases
 pub mod MapCases

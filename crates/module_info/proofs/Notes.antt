@@ -163,7 +163,3 @@ module _ {s : List ℕ} (size number : ℕ) {notes : List ℕ} where
 
   pub sheet_notes : {t : Sheet} → accept s ≡ ok t [] → notes ≡ notes_with size (noted t) number → NotesRight s size number notes
   sheet_notes e h = notes_right (rw (judged_sheet s e) h)
-
--- zeros, as many as there are
-pub cleared_whole : {notes : List ℕ} (size : ℕ) → notes ≡ zeros size → notes ≡ zeros (length notes)
-cleared_whole size e = rw (e, length-replicate)

@@ -6,13 +6,13 @@ use mathlib.Core.Path.{subst}
 use Rattle.laws.{specs.Codec.All, proofs.Lists.all_member, proofs.Lists.of_members}
 use Rattle.text.{specs.declared.utf8.Encoding.TheVariants.Utf8, specs.Utf8.formed, proofs.WellFormed.well_formed_iff}
 use Rattle.sheet.specs.{declared.comments.Comment.Comment, declared.groups.Group.Group, declared.names.Side.TheVariants.Leading, Fit.Fit, Recorded.spans}
-use Rattle.sheet.specs.Lookups.{group_at, head_group, end_group}
+use Rattle.sheet.specs.Lookups.{group_at, head_group, end_group, in_group}
 use Rattle.sheet.{specs.Revision.Lacks, specs.Revision.Revision, specs.Sheet.Sheet, proofs.VisitSpans.Reported, proofs.VisitSpans.visits_reported}
 use Rattle.sheet.specs.Walk.{Visit, start_of, visits}
 use Rattle.sheet.proofs.Revised.{Alike, Apart, characters_kept, units_kept, spans_apart, others_alike, group_alike}
 use Rattle.sheet_codec.specs.Limits.{FieldsFit}
 use Rattle.report.specs.ModuleInfo.{SpecifierWithRange}
-use Rattle.pragmas.specs.Pragmas.{in_group, head_comments, end_comments, types_at}
+use Rattle.pragmas.specs.Pragmas.{head_comments, end_comments, types_at}
 use Rattle.pragmas.proofs.Texts.{comment_index}
 use Rattle.pragmas.proofs.Revised.{references_kept, self_types_kept, jsx_import_source_kept, jsx_import_source_types_kept, head_origins_kept}
 use Rattle.pragmas.proofs.Revised.{source_map_kept, end_origins_kept, types_kept, types_origins_kept}

@@ -14,10 +14,10 @@ ghost use Rattle.report.specs.Answer.{zeros, Outcome, outcome_as, fitted};
 ghost use Rattle.dep_entries.specs.code.Notes.{all_noted};
 ghost use Rattle.module_info.specs.Information.{module_info, default_info, packed};
 ghost use Rattle.module_info.specs.Replaced.{noted, notes_with, NotesRight};
-ghost use Rattle.module_info.specs.code.Pieces.{dependency_bytes, head_bytes, rest_bytes, commented, Sound, PartsOf, AcceptsIn};
+ghost use Rattle.module_info.specs.code.Pieces.{dependency_bytes, head_bytes, rest_bytes};
 ghost use Rattle.module_info.specs.Demands.{Demands};
 
-use self::judge::judge;
+use self::judge::{Accepted, judge};
 use dep::walk::analyze_program_dependencies;
 use dep_entries::Items;
 use jsdoc_list::imports::analyze_jsdoc_imports;
@@ -25,101 +25,74 @@ use pragmas::readings::Rule;
 use pragmas::references::analyze_ts_references;
 use pragmas::{analyze_first, analyze_source_map_url};
 use report::writer::{Outcome, Writer, refuse_all};
-use sheet::commented::Comments;
 use sheet::limits::SOURCE_LIMIT;
 use sheet::tables::Tables;
-use sheet_check::check::Parts;
-use wire::Cursor;
-
-// The comments of an accepted sheet.
-#[tactic(auto, using(crate::proofs::Accepted::commented_of))]
-pub fn comments_of<'a>(sheet: &'a [u8], parts: Parts, tables: &'a Tables) -> Comments<'a>
-    requires { AcceptsIn sheet.now tables.now parts }
-    ensures { (t : Sheet) → accept sheet.now ≡ ok t [] → result ≡ commented sheet.now t }
-{
-    let start = parts.source_start;
-    let end = parts.source_end;
-    let source = &sheet[start..end];
-    let bytes = sheet;
-    Comments::new(
-        sheet::Sheet { bytes, source },
-        &tables.comments[..parts.comments],
-        &tables.groups[..parts.groups],
-        &tables.index,
-    )
-}
 
 // The script flag and the dependencies, with their rows in the notes.
-fn put_dependencies(comments: &Comments, parts: Parts, w: &mut Writer, notes: &mut [usize])
-    ensures { (t : Sheet) → PartsOf t comments.now.bytes comments.now parts
+fn put_dependencies(accepted: &Accepted, w: &mut Writer, notes: &mut [usize])
+    ensures { (t : Sheet) → accept accepted.now ≡ ok t []
         → Wrote w.old w.new (dependency_bytes t) × (notes.new ≡ all_noted notes.old (noted t)) }
 {
-    let root = Cursor { at: parts.root };
-    w.put_flag(parts.program.script);
+    let comments = accepted.comments();
+    let tree = accepted.parts().tree;
+    w.put_flag(tree.program.script);
     let mut items = Items { writer: w, notes };
-    analyze_program_dependencies(comments, root, parts.entries, parts.reach, &mut items);
+    analyze_program_dependencies(&comments, tree.root, tree.entries, tree.reach, &mut items);
 }
 
 // What the head group gives: references, self types and both JSX sources.
-fn put_head(comments: &Comments, parts: Parts, w: &mut Writer)
-    ensures { Wrote w.old w.new (head_bytes parts.media parts.program comments.now) }
+fn put_head(accepted: &Accepted, w: &mut Writer)
+    ensures { (t : Sheet) → accept accepted.now ≡ ok t [] → Wrote w.old w.new (head_bytes t) }
 {
-    let media = parts.media;
-    let head = comments.head_group(parts.program);
-    analyze_ts_references(comments, head, w);
-    analyze_first(Rule::TsSelfTypes, media, comments, head, w);
-    analyze_first(Rule::JsxImportSource, media, comments, head, w);
-    analyze_first(Rule::JsxImportSourceTypes, media, comments, head, w);
+    let comments = accepted.comments();
+    let parts = accepted.parts();
+    let head = comments.of(comments.head_group(parts.tree.program));
+    analyze_ts_references(&head, w);
+    analyze_first(Rule::TsSelfTypes, parts.front.media, &head, w);
+    analyze_first(Rule::JsxImportSource, parts.front.media, &head, w);
+    analyze_first(Rule::JsxImportSourceTypes, parts.front.media, &head, w);
 }
 
 // The JSDoc imports and the source map. `ticks` is lent to work in, and comes cleared. Where they are too few, there are more here: ticks for the
 // longest source take longer to clear than many a sheet takes. The compiler inlines no function that calls itself, so these are not on the stack
 // while the tree is walked.
-#[tactic(auto, using(report::proofs::Buffers::more_append), unfolding(crate::specs::code::Pieces::rest_bytes, pragmas::specs::Pragmas::last_by))]
-fn put_rest(comments: &Comments, parts: Parts, ticks: &mut [u8], w: &mut Writer)
-    requires ticks_value { ticks.old ≡ replicate (length ticks.old) 0 }
-    requires sound { Sound comments.now.source }
-    ensures { Wrote w.old w.new (rest_bytes parts.media parts.program comments.now) }
+#[tactic(auto, using(report::proofs::Buffers::more_append), unfolding(crate::specs::code::Pieces::rest_bytes, pragmas::specs::Pragmas::last_by, pragmas::specs::Pragmas::end_comments))]
+fn put_rest(accepted: &Accepted, ticks: &mut [u8], w: &mut Writer)
+    requires { ticks.old ≡ replicate (length ticks.old) 0 }
+    ensures { (t : Sheet) → accept accepted.now ≡ ok t [] → Wrote w.old w.new (rest_bytes t) }
 {
+    let comments = accepted.comments();
     let long = comments.source().len();
     if ticks.len() < long {
         let mut more = [0u8; SOURCE_LIMIT];
-        return put_rest(comments, parts, &mut more, w);
+        return put_rest(accepted, &mut more, w);
     }
-    analyze_jsdoc_imports(parts.media, comments, &mut ticks[0..long], w);
-    let end = comments.end_group(parts.program);
-    analyze_source_map_url(comments, end, w);
+    let parts = accepted.parts();
+    analyze_jsdoc_imports(parts.front.media, &comments, &mut ticks[0..long], w);
+    let end = comments.of(comments.end_group(parts.tree.program));
+    analyze_source_map_url(&end, w);
 }
 
 // The parts of the report of a sheet, one after the other. The notes take a row for each dependency.
-fn put_noted_report(comments: &Comments, parts: Parts, w: &mut Writer, notes: &mut [usize])
-    requires { Sound comments.now.source }
-    ensures { (t : Sheet) → PartsOf t comments.now.bytes comments.now parts
+fn put_noted_report(accepted: &Accepted, w: &mut Writer, notes: &mut [usize])
+    ensures { (t : Sheet) → accept accepted.now ≡ ok t []
         → Wrote w.old w.new (encode (module_info t)) × (notes.new ≡ all_noted notes.old (noted t)) }
 {
-    put_dependencies(comments, parts, w, notes);
-    put_head(comments, parts, w);
+    put_dependencies(accepted, w, notes);
+    put_head(accepted, w);
     let mut ticks = [0u8; 4096];
-    put_rest(comments, parts, &mut ticks, w);
+    put_rest(accepted, &mut ticks, w);
 }
 
 // The report of an accepted sheet with its notes, which come cleared and are cleared where the report is refused.
-pub fn write_noted_report(
-    sheet: &[u8],
-    parts: Parts,
-    tables: &Tables,
-    buffer: &mut [u8],
-    notes: &mut [usize],
-) -> Outcome
-    requires accepts_in { AcceptsIn sheet.now tables.now parts }
-    requires notes_value { notes.old ≡ zeros (length notes.old) }
-    ensures { (t : Sheet) → accept sheet.now ≡ ok t []
+pub fn write_noted_report(accepted: &Accepted, buffer: &mut [u8], notes: &mut [usize]) -> Outcome
+    requires { notes.old ≡ zeros (length notes.old) }
+    ensures { (t : Sheet) → accept accepted.now ≡ ok t []
         → (outcome_as result buffer.new ≡ fitted (length buffer.old) (encode (module_info t)))
         × (notes.new ≡ notes_with (length notes.old) (noted t) (outcome_as result buffer.new).number) }
 {
-    let comments = comments_of(sheet, parts, tables);
     let mut w = Writer::new(buffer);
-    put_noted_report(&comments, parts, &mut w, notes);
+    put_noted_report(accepted, &mut w, notes);
     let outcome = w.finish();
     if outcome.is_err() {
         notes.fill(0);
@@ -128,13 +101,12 @@ pub fn write_noted_report(
 }
 
 // The report of an accepted sheet.
-fn write_report(sheet: &[u8], parts: Parts, tables: &Tables, buffer: &mut [u8]) -> Outcome
-    requires { AcceptsIn sheet.now tables.now parts }
-    ensures { (t : Sheet) → accept sheet.now ≡ ok t []
+fn write_report(accepted: &Accepted, buffer: &mut [u8]) -> Outcome
+    ensures { (t : Sheet) → accept accepted.now ≡ ok t []
         → outcome_as result buffer.new ≡ fitted (length buffer.old) (encode (module_info t)) }
 {
     let mut none = [0usize; 0];
-    write_noted_report(sheet, parts, tables, buffer, &mut none)
+    write_noted_report(accepted, buffer, &mut none)
 }
 
 // The report of the default information: eight zero bytes.
@@ -153,7 +125,7 @@ pub fn module_info(sheet: &[u8], buffer: &mut [u8]) -> Outcome
     let mut tables = Tables::new();
     match judge(sheet, &mut tables) {
         Ok(None) => write_default(buffer),
-        Ok(Some(parts)) => write_report(sheet, parts, &tables, buffer),
+        Ok(Some(accepted)) => write_report(&accepted, buffer),
         Err(refusal) => refuse_all(buffer, refusal),
     }
 }
@@ -168,7 +140,7 @@ pub fn module_info_with_replaced(sheet: &[u8], buffer: &mut [u8], notes: &mut [u
     notes.fill(0);
     match judge(sheet, &mut tables) {
         Ok(None) => write_default(buffer),
-        Ok(Some(parts)) => write_noted_report(sheet, parts, &tables, buffer, notes),
+        Ok(Some(accepted)) => write_noted_report(&accepted, buffer, notes),
         Err(refusal) => refuse_all(buffer, refusal),
     }
 }

@@ -5,19 +5,16 @@ ghost use Rattle.laws.specs.code.Told.{Bounded};
 ghost use Rattle.sheet.specs.Sheet.{Sheet, accept};
 ghost use Rattle.pragmas.specs.SourceMap.{standard_map};
 ghost use Rattle.pragmas.specs.code.Views.{ReadIn};
-ghost use Rattle.module_info.specs.code.Pieces.{AcceptsIn};
 ghost use Rattle.module_info.specs.code.Located.{located};
 ghost use Rattle.module_info.specs.SourceMap.{given, MapOutcome, map_of, map_as, TextInside, SourceMapRight, map_number, map_places};
 
-use super::comments_of;
-use super::judge::judge;
+use super::judge::{Accepted, judge};
 use analysis::Capture;
 use pragmas::readings::{Counts, Rule, comment_source_to_span, find_reading};
 use sheet::commented::Comments;
 use sheet::comments::Comment;
 use sheet::lookups::body_span;
 use sheet::tables::Tables;
-use sheet_check::check::Parts;
 use text::position::Position;
 use wire::refusals::Refusal;
 
@@ -56,16 +53,16 @@ fn locate(
 }
 
 // The source map of an accepted sheet.
-fn read_source_map(sheet: &[u8], parts: Parts, tables: &Tables) -> Option<SourceMap>
-    requires { AcceptsIn sheet.now tables.now parts }
+fn read_source_map(accepted: &Accepted) -> Option<SourceMap>
     ensures { Bounded
-        ((t : Sheet) → accept sheet.now ≡ ok t [] → map_of sheet.now result ≡ standard_map t)
-        (TextInside sheet.now result) }
+        ((t : Sheet) → accept accepted.now ≡ ok t [] → map_of accepted.now result ≡ standard_map t)
+        (TextInside accepted.now result) }
 {
-    let comments = comments_of(sheet, parts, tables);
-    let group = comments.end_group(parts.program);
-    let reading = find_reading(&comments, group, Counts::Last, Rule::StandardSourceMap);
-    locate(&comments, parts.source_start, reading)
+    let comments = accepted.comments();
+    let parts = accepted.parts();
+    let end = comments.of(comments.end_group(parts.tree.program));
+    let reading = find_reading(&end, Counts::Last, Rule::StandardSourceMap);
+    locate(&comments, parts.front.source_start, reading)
 }
 
 // The source map of a sheet by ECMA-426, or the first refusal that it meets; of no bytes none.
@@ -73,10 +70,10 @@ pub fn source_map(sheet: &[u8]) -> MapOutcome
     ensures { SourceMapRight sheet.now result }
 {
     let mut tables = Tables::new();
-    let Some(parts) = judge(sheet, &mut tables)? else {
+    let Some(accepted) = judge(sheet, &mut tables)? else {
         return Ok(None);
     };
-    Ok(read_source_map(sheet, parts, &tables))
+    Ok(read_source_map(&accepted))
 }
 
 // The places of an answer, for C.

@@ -1,19 +1,15 @@
 -- How long the line for an answer is.
-use Rattle.std.specs.Prelude.{Option, Some, None, Result, Ok, Err}
-use Rattle.laws.proofs.Prelude.{List, ℕ, ◌+◌, ◌*◌, ◌-◌, ◌≤◌, arith, length, take, drop, length-append, length-take, length-drop}
-use Rattle.wire.specs.Refusals.{number_of}
+use Rattle.laws.proofs.Prelude.{◌≡◌, refl, List, ℕ, ◌+◌, ◌*◌, ◌≤◌, arith, length, length-append}
 use Rattle.citation.proofs.{Lengths.digits_most, Lengths.text_short}
-use Rattle.delivery.specs.{code.Views.judgement_as, declared.judge.LateModule.LateModule, declared.judge.Refused.Refused}
+use Rattle.delivery.{specs.Order.Answer, specs.Order.in_order, specs.Order.not_in_order, specs.Order.refused, specs.Order.order_of, proofs.Short.late_short}
 use Rattle.order.specs.Printed.{printed_answer}
 
 -- a line has at most four bytes for each of the work buffer's, and 64 besides
-pub answer_short : (work : List ℕ) (r : Result (Option LateModule) Refused) → length (printed_answer (judgement_as work r)) ≤ 4 * length work + 64
+pub order_short : (size : ℕ) (s : List ℕ) → length (printed_answer (order_of size s)) ≤ 4 * size + 64
 unfolding printed_answer
-answer_short work (Ok None) = omega arith
-answer_short work (Ok (Some l)) =
-    let from = l.late.specifier.from in
-    let long = l.late.specifier.to - from in
-    let specifier = take long (drop from work) in
-    simp length-append
-    (omega (arith, digits_most 20 l.«module», digits_most 20 l.late.entry, text_short specifier, length-take long (drop from work), length-drop from work))
-answer_short work (Err r) = simp length-append (omega (arith, digits_most 20 (number_of r.refusal), digits_most 20 r.«module»))
+order_short size s = by (order_of size s) refl
+  where
+    by : (a : Answer) → order_of size s ≡ a → length (printed_answer a) ≤ 4 * size + 64
+    by in_order e = omega arith
+    by (not_in_order i j x) e = simp length-append (omega (arith, digits_most 20 i, digits_most 20 j, text_short x, late_short size s e))
+    by (refused r i) e = simp length-append (omega (arith, digits_most 20 r, digits_most 20 i))

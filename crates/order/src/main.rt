@@ -48,7 +48,7 @@ fn put_refused(refusal: Refusal, index: usize, w: &mut Writer)
 }
 
 // Writes the line for a delivery.
-#[tactic(auto, using(crate::proofs::Shown::answer_short), unfolding(crate::specs::Printed::printed_answer))]
+#[tactic(auto, using(crate::proofs::Shown::order_short), unfolding(crate::specs::Printed::printed_answer))]
 fn put_order(delivery: &[u8], work: &mut [u8], w: &mut Writer)
     ensures { Bounded
         (Wrote w.old w.new (printed_answer (order_of (length work.old) delivery.now)))
@@ -56,11 +56,7 @@ fn put_order(delivery: &[u8], work: &mut [u8], w: &mut Writer)
 {
     match judge(delivery, work) {
         Ok(None) => w.put_bytes(b"in order\n"),
-        Ok(Some(first)) => {
-            let specifier = first.late.specifier;
-            let name = &work[specifier.from..specifier.to];
-            put_late(first.module, first.late.entry, name, w);
-        }
+        Ok(Some(first)) => put_late(first.module, first.late.entry, first.late.specifier, w),
         Err(refused) => put_refused(refused.refusal, refused.module, w),
     }
 }

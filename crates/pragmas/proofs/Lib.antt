@@ -1,4 +1,4 @@
-pub mod Between
+pub mod Turns
 pub mod Both
 pub mod Taken
 pub mod Written

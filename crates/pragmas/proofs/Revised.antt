@@ -8,13 +8,13 @@ use Rattle.laws.proofs.Lists.{all_member, of_members, last_member}
 use Rattle.analysis.specs.declared.{Capture.Capture}
 use Rattle.analysis.{specs.Row.Row, specs.Row.find, specs.Place.Inside, specs.Place.place_of, proofs.Boundaries.EachSpecifier, proofs.Boundaries.whole}
 use Rattle.sheet.specs.declared.{comments.Comment.Comment, groups.Group.Group, names.MediaType.MediaType, names.Side.TheVariants.Leading}
-use Rattle.sheet.specs.Lookups.{group_at, comments_of, body}
+use Rattle.sheet.specs.Lookups.{group_at, comments_of, in_group, body}
 use Rattle.sheet.proofs.Revised.{Alike}
 use Rattle.report.specs.ModuleInfo.{SpecifierWithRange}
 use Rattle.pragmas.specs.Asks.{Asks, path_rule, types_rule, self_types_rule, jsx_import_source_rule, jsx_import_source_types_rule, source_map_url_rule, ts_types_rule}
 use Rattle.pragmas.specs.Asks.{deno_types_rule}
 use Rattle.pragmas.specs.Readings.{place_in, specifier_in, read_by, first_of, last_of, all_of, optional}
-use Rattle.pragmas.specs.Pragmas.{in_group, mode_in, reference, references_in, given_to, first_by, last_by, ts_or_deno_types, types_by, last_in, types_in}
+use Rattle.pragmas.specs.Pragmas.{mode_in, reference, references_in, given_to, first_by, last_by, ts_or_deno_types, types_by, last_in, types_in}
 use Rattle.pragmas.specs.Origins.{origin_by, reference_origin, first_origin, head_origins, end_origins, ts_or_deno_origin, types_origin, types_origins}
 use Rattle.pragmas.proofs.Both.{of_reverse}
 

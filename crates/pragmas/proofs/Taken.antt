@@ -44,14 +44,6 @@ module _ (rule : Rule) (source : List ℕ) where
   made_counted {f = f} h Last cs = both_last (taken_by rule source) f cs (λ c m. h c)
 
   module _ (r : Option (Comment × Capture)) where
-    -- in one comment
-    module _ (c : Comment) (e : r ≡ taken_by rule source c) where
-      pub read_one : read_as source r ≡ read_rule rule source c
-      read_one = ap (option_map _) e ∙ both_made _ (specifier_made c)
-
-      pub origin_one : (entry : EntryRule) → origin_as entry r ≡ origin_rule entry c
-      origin_one entry = ap (option_map _) e ∙ both_made _ (origin_made entry c)
-
     -- in the first of some comments, or in the last
     module _ (counts : Counts) (cs : List Comment) (e : r ≡ counted counts (taken_by rule source) cs) where
       pub read_counted : read_as source r ≡ counted counts (read_rule rule source) cs

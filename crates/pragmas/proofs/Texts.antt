@@ -11,13 +11,13 @@ use Rattle.analysis.specs.Place.{mark_width, place_of, text_of}
 use Rattle.analysis.proofs.Boundaries.{Whole, EachSpecifier, whole}
 use Rattle.sheet.specs.{declared.comments.Comment.Comment, Comments.slice, declared.groups.Group.Group, declared.names.Side.TheVariants.Leading, Sheet.Sheet}
 use Rattle.sheet.specs.Fit.{Placed, comment_of, Fit}
-use Rattle.sheet.specs.Lookups.{group_at, head_group, end_group, comments_of, body_span, body}
+use Rattle.sheet.specs.Lookups.{group_at, head_group, end_group, in_group, comments_of, body_span, body}
 use Rattle.sheet.proofs.Bodies.{BodyWithin, placed_body, body_formed, body_boundary}
 use Rattle.report.specs.ModuleInfo.{SpecifierWithRange, TypeScriptReference, ModuleInfo}
 use Rattle.report.{specs.Range.range_of, specs.Stands.StandsAt, proofs.RangesApart.range_at}
 use Rattle.pragmas.specs.Asks.{Asks, self_types_rule, jsx_import_source_rule, jsx_import_source_types_rule}
 use Rattle.pragmas.specs.Readings.{place_in}
-use Rattle.pragmas.specs.Pragmas.{in_group, head_comments, end_comments, given_to, last_in, types_at}
+use Rattle.pragmas.specs.Pragmas.{head_comments, end_comments, given_to, last_in, types_at}
 use Rattle.pragmas.specs.Present.{Read, Reader, by_rule, by_reference, by_ts_or_deno_types, InOrder, FirstReading, Present}
 use Rattle.pragmas.specs.Texts.{written_if, ShownInMarks, ShownBare, ShownEither, ReferenceShown, TypesShown, types_of, Texts}
 use Rattle.pragmas.proofs.Present.{types_present}

@@ -4,12 +4,12 @@ use Rattle.laws.proofs.Prelude.{Bool, true, false, ⊎_elim, List, [], ◌∷◌
 use Rattle.laws.specs.Codec.{All}
 use Rattle.text.specs.{declared.utf8.Encoding.TheVariants.Utf8, WellFormed.WellFormed}
 use Rattle.analysis.specs.Row.{Row}
-use Rattle.sheet.specs.{Limits.source_limit, declared.fields.Span.Span, declared.comments.Comment.Comment, declared.groups.Group.Group, Lookups.head_group}
+use Rattle.sheet.specs.{Limits.source_limit, declared.fields.Span.Span, declared.comments.Comment.Comment, declared.groups.Group.Group, Lookups.head_group, Lookups.in_group}
 use Rattle.sheet.specs.Sheet.{Sheet}
 use Rattle.report.specs.ModuleInfo.{SpecifierWithRange, TypeScriptReference, path, types}
 use Rattle.report.specs.Stands.{StandsAt}
 use Rattle.report.proofs.Stands.{Good, bare_good, marks_good}
-use Rattle.pragmas.specs.Pragmas.{in_group, head_comments}
+use Rattle.pragmas.specs.Pragmas.{head_comments}
 use Rattle.pragmas.specs.Present.{Reader, by_reference, InOrder}
 use Rattle.pragmas.specs.Texts.{written_if, ShownInMarks, ShownBare, ShownEither, ReferenceShown, TypesShown}
 

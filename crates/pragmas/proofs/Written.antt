@@ -6,7 +6,7 @@ use Rattle.report.{specs.Buffer.Written, specs.Buffer.more, specs.Origin.encode_
 use Rattle.pragmas.specs.Asks.{self_types_rule, jsx_import_source_rule, jsx_import_source_types_rule}
 use Rattle.pragmas.specs.{Readings.all_of, code.Views.encode_any}
 use Rattle.pragmas.specs.Origins.{reference_origin, first_origin, head_origins}
-use Rattle.pragmas.proofs.Between.{optional_each}
+use Rattle.pragmas.proofs.Turns.{optional_each}
 
 pub head_written : (media : MediaType) (source : List ℕ) (cs : List Comment) (w : Written) {references self jsx all : Written}
     → references ≡ more w (flat_map encode_origin (all_of (reference_origin source) cs))

@@ -8,7 +8,7 @@ use Rattle.analysis.specs.Place.{text_of}
 use Rattle.analysis.specs.Patterns.{triple_slash_row, resolution_mode_row}
 use Rattle.sheet.specs.declared.comments.Comment.{Comment}
 use Rattle.sheet.specs.declared.groups.Group.{Group}
-use Rattle.sheet.specs.Lookups.{group_at, head_group, end_group, comments_of, last_comment_of, body}
+use Rattle.sheet.specs.Lookups.{group_at, head_group, end_group, in_group, last_comment_of, body}
 use Rattle.sheet.specs.Sheet.{Sheet}
 use Rattle.sheet.specs.declared.names.MediaType.{MediaType}
 use Rattle.sheet.specs.declared.names.Side.TheVariants.{Leading}
@@ -16,11 +16,6 @@ use Rattle.report.specs.ModuleInfo.{SpecifierWithRange, TypeScriptReference, pat
 use Rattle.pragmas.specs.Asks.{Asks, path_rule, types_rule, self_types_rule, jsx_import_source_rule, jsx_import_source_types_rule, source_map_url_rule}
 use Rattle.pragmas.specs.Asks.{ts_types_rule, deno_types_rule}
 use Rattle.pragmas.specs.Readings.{read_by, or_else, first_of, last_of, all_of}
-
--- the comments of a group, none if there is no such group
-abbrev pub in_group : List Comment → Option Group → List Comment
-in_group cs None = []
-in_group cs (Some g) = comments_of cs g
 
 -- the comments of the head group, and of the trailing group at the program's end
 unfoldable pub head_comments : Sheet → List Comment

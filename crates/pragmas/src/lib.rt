@@ -7,74 +7,62 @@ pub mod references;
 
 ghost use Rattle.laws.specs.code.Told.{Told};
 ghost use Rattle.wire.specs.Optional.{encode_optional};
-ghost use Rattle.sheet.specs.Fit.{Placed};
-ghost use Rattle.sheet.specs.code.Lent.{Reached};
 ghost use Rattle.report.specs.Encode.{encode_specifier};
 ghost use Rattle.report.specs.Buffer.{Wrote};
 ghost use Rattle.pragmas.specs.Asks.{source_map_url_rule};
 ghost use Rattle.pragmas.specs.Readings.{read_by, first_of, last_of};
-ghost use Rattle.pragmas.specs.Pragmas.{in_group, given_to, ts_or_deno_types, types_in};
+ghost use Rattle.pragmas.specs.Pragmas.{given_to, ts_or_deno_types, types_in};
 ghost use Rattle.pragmas.specs.code.Views.{asked, read_rule, read_as, ReadIn};
 
 use self::readings::{
     Counts, Rule, RuleRead, find_reading, first_reading, last_comment, put_reading, read,
 };
 use report::writer::Writer;
-use sheet::commented::Comments;
-use sheet::comments::Comment;
-use sheet::groups::Group;
+use sheet::commented::{Comments, PlacedComment};
 use sheet::names::{MediaType, Side};
 
 // `analyze_ts_self_types`, `analyze_jsx_import_source` and `analyze_jsx_import_source_types`, by the rule: the first comment that it reads, in the
 // media that it asks for.
-pub fn analyze_first(
-    rule: Rule,
-    media: MediaType,
-    comments: &Comments,
-    found: Option<Group>,
-    w: &mut Writer,
-)
-    requires { Reached comments.now found }
+pub fn analyze_first(rule: Rule, media: MediaType, comments: &Comments, w: &mut Writer)
     ensures { Wrote w.old w.new
         (encode_optional encode_specifier
-        (first_of (read_rule rule comments.now.source)
-        (given_to (asked rule) media (in_group comments.now.comments found)))) }
+        (first_of (read_rule rule comments.now.source) (given_to (asked rule) media comments.now.comments))) }
 {
-    let reading = first_reading(media, comments, found, rule);
+    let reading = first_reading(media, comments, rule);
     put_reading(comments, reading, w);
 }
 
 // The source map: the last comment that reads.
-pub fn analyze_source_map_url(comments: &Comments, found: Option<Group>, w: &mut Writer)
-    requires { Reached comments.now found }
+pub fn analyze_source_map_url(comments: &Comments, w: &mut Writer)
     ensures { Wrote w.old w.new
         (encode_optional encode_specifier
-        (last_of (read_by source_map_url_rule comments.now.source) (in_group comments.now.comments found))) }
+        (last_of (read_by source_map_url_rule comments.now.source) comments.now.comments)) }
 {
-    let reading = find_reading(comments, found, Counts::Last, Rule::SourceMapUrl);
+    let reading = find_reading(comments, Counts::Last, Rule::SourceMapUrl);
     put_reading(comments, reading, w);
 }
 
 // What the ts-types pattern reads in a comment, or else the deno-types one.
-fn read_types(source: &[u8], c: Comment) -> RuleRead
-    requires { Placed source.now c }
-    ensures { Told (read_as source.now)
-        (ts_or_deno_types source.now c)
-        (ReadIn source.now) result }
+#[tactic(auto, unfolding(crate::specs::Readings::read_by, crate::specs::Pragmas::ts_or_deno_types))]
+fn read_types(c: &PlacedComment) -> RuleRead
+    ensures { Told (read_as c.now.source)
+        (ts_or_deno_types c.now.source c.now.comment)
+        (ReadIn c.now.source) result }
 {
-    read(source, c, Rule::TsTypes).or_else(|| read(source, c, Rule::DenoTypes))
+    if let Some(taken) = read(c, Rule::TsTypes) {
+        return Some(taken);
+    }
+    read(c, Rule::DenoTypes)
 }
 
 // The types of an entry: the ts-types pattern, or else the deno-types one, in the last comment of the leading group at `start`.
+#[tactic(auto, unfolding(crate::specs::Pragmas::types_in))]
 pub fn analyze_ts_or_deno_types(comments: &Comments, start: usize, w: &mut Writer)
     ensures { Wrote w.old w.new
         (encode_optional encode_specifier
         (types_in comments.now.source comments.now.comments comments.now.groups start)) }
 {
-    let found = comments.group_at(Side::Leading, start);
-    let reading = match last_comment(comments, found) {
-        Some(c) => read_types(comments.source(), c),
-        None => None,
-    };
+    let group = comments.of(comments.group_at(Side::Leading, start));
+    let reading = last_comment(&group).and_then(|c| read_types(&c));
     put_reading(comments, reading, w);
 }

@@ -1,17 +1,15 @@
 // The comments that a rule reads, and what it captures there.
-ghost use Rattle.std.specs.Prelude.{◌≡◌, ◌-◌, ◌≤◌, length, slice_range};
-ghost use Rattle.laws.specs.Codec.{IfThere};
+ghost use Rattle.std.specs.Prelude.{◌≡◌, ◌-◌, length, option_map};
+ghost use Rattle.laws.specs.Last.{last_of};
 ghost use Rattle.laws.specs.code.Told.{Bounded};
 ghost use Rattle.wire.specs.Optional.{encode_optional};
 ghost use Rattle.analysis.specs.Place.{Inside, FoundWithin};
-ghost use Rattle.sheet.specs.Fit.{Placed};
 ghost use Rattle.sheet.specs.Lookups.{HoldsMarks, body_span};
-ghost use Rattle.sheet.specs.code.Lent.{Reached};
 ghost use Rattle.report.specs.Encode.{encode_specifier};
 ghost use Rattle.report.specs.Buffer.{Wrote};
 ghost use Rattle.pragmas.specs.Readings.{place_in, specifier_in, first_of};
-ghost use Rattle.pragmas.specs.Pragmas.{in_group, given_to, last_in};
-ghost use Rattle.pragmas.specs.code.Views.{asked, find_rule, taken_by, counted, read_as, ReadIn, CaptureIn};
+ghost use Rattle.pragmas.specs.Pragmas.{given_to};
+ghost use Rattle.pragmas.specs.code.Views.{asked, find_rule, taken_by, counted, read_as, ReadIn, CaptureIn, placed_in};
 
 use analysis::{
     Capture, find_deno_types, find_jsx_import_source, find_jsx_import_source_types,
@@ -19,10 +17,9 @@ use analysis::{
 };
 use ecma426::find_source_map;
 use report::writer::Writer;
-use sheet::commented::Comments;
+use sheet::commented::{Comments, PlacedComment};
 use sheet::comments::Comment;
 use sheet::fields::Span;
-use sheet::groups::Group;
 use sheet::lookups::{body, body_span};
 use sheet::names::{CommentKind, MediaType, is_block, is_javascript, is_jsx};
 
@@ -89,91 +86,63 @@ fn asks_media(rule: Rule, media: MediaType) -> bool
 }
 
 // What a rule reads in a comment.
-pub fn read(source: &[u8], c: Comment, rule: Rule) -> RuleRead
-    requires { Placed source.now c }
-    ensures { Bounded (result ≡ taken_by rule source.now c) (ReadIn source.now result) }
+pub fn read(c: &PlacedComment, rule: Rule) -> RuleRead
+    ensures { Bounded
+        (result ≡ taken_by rule c.now.source c.now.comment)
+        (ReadIn c.now.source result) }
 {
-    if takes(rule, c.kind) {
-        let found = find_by(body(source, c), rule)?;
-        return Some((c, found));
+    let comment = c.comment();
+    if takes(rule, comment.kind) {
+        let found = find_by(c.body(), rule)?;
+        return Some((comment, found));
     }
     None
 }
 
-// The reading that counts among the comments from one index to another, sought from the start or from the end: one loop for both, since a range and
-// its `rev()` are two types, and would need two loops.
-fn reading_between(
-    comments: &Comments,
-    start: usize,
-    end: usize,
-    counts: Counts,
-    rule: Rule,
-) -> RuleRead
-    requires { (start ≤ end) × (end ≤ length comments.now.comments) }
+// The reading that counts among the comments, sought from the first or from the last: one loop for both, since a range and its `rev()` are two types,
+// and would need two loops.
+#[tactic(auto, using(crate::proofs::Turns::first_next, crate::proofs::Turns::first_end, crate::proofs::Turns::seen_length, crate::proofs::Turns::seen_at, crate::proofs::Turns::counted_seen))]
+pub fn find_reading(comments: &Comments, counts: Counts, rule: Rule) -> RuleRead
     ensures { Bounded
-        (result ≡ counted counts (taken_by rule comments.now.source) (slice_range comments.now.comments start end))
+        (result ≡ counted counts (taken_by rule comments.now.source) comments.now.comments)
         (ReadIn comments.now.source result) }
 {
-    for passed in 0..end - start {
+    for passed in 0..comments.len() {
         let k = match counts {
-            Counts::First => start + passed,
-            Counts::Last => end - 1 - passed,
+            Counts::First => passed,
+            Counts::Last => comments.len() - 1 - passed,
         };
-        let c = comments.at(k);
-        if let Some(taken) = read(comments.source(), c, rule) {
+        if let Some(taken) = read(&comments.at(k), rule) {
             return Some(taken);
         }
     }
     None
 }
 
-// The reading that counts among the comments of a group.
-#[tactic(auto, using(crate::proofs::Between::counted_nothing))]
-pub fn find_reading(
-    comments: &Comments,
-    found: Option<Group>,
-    counts: Counts,
-    rule: Rule,
-) -> RuleRead
-    requires { Reached comments.now found }
-    ensures { Bounded
-        (result ≡ counted counts (taken_by rule comments.now.source) (in_group comments.now.comments found))
-        (ReadIn comments.now.source result) }
-{
-    let g = found?;
-    reading_between(comments, g.first, comments.end_of(g), counts, rule)
-}
-
 // The first of them, where the sheet's media is one that the rule asks for.
-pub fn first_reading(
-    media: MediaType,
-    comments: &Comments,
-    found: Option<Group>,
-    rule: Rule,
-) -> RuleRead
-    requires { Reached comments.now found }
+#[tactic(auto, unfolding(crate::specs::Readings::first_of))]
+pub fn first_reading(media: MediaType, comments: &Comments, rule: Rule) -> RuleRead
     ensures { Bounded
-        (result ≡ first_of (taken_by rule comments.now.source) (given_to (asked rule) media (in_group comments.now.comments found)))
+        (result ≡ first_of (taken_by rule comments.now.source) (given_to (asked rule) media comments.now.comments))
         (ReadIn comments.now.source result) }
 {
     if asks_media(rule, media) {
-        return find_reading(comments, found, Counts::First, rule);
+        return find_reading(comments, Counts::First, rule);
     }
     None
 }
 
-// The last comment of a group.
-pub fn last_comment(comments: &Comments, found: Option<Group>) -> Option<Comment>
-    requires { Reached comments.now found }
-    ensures { Bounded
-        (result ≡ last_in comments.now.comments found)
-        (IfThere (Placed comments.now.source) result) }
+// The last comment, if there is one.
+#[tactic(auto, using(crate::proofs::Turns::last_at))]
+pub fn last_comment<'a>(comments: &Comments<'a>) -> Option<PlacedComment<'a>>
+    ensures { result ≡ option_map (placed_in comments.now.source) (last_of comments.now.comments) }
 {
-    let g = found?;
-    Some(comments.at(comments.end_of(g) - 1))
+    let last = comments.len().checked_sub(1)?;
+    Some(comments.at(last))
 }
 
 // Where a capture in a comment stands in the source, with its marks.
+#[tactic(auto, unfolding(sheet::specs::Lookups::body_span, analysis::specs::Place::place_of, crate::specs::Readings::place_in))]
 pub fn comment_source_to_span(c: Comment, found: Capture) -> Span
     requires { HoldsMarks c × Inside found ((body_span c).end - (body_span c).start) }
     ensures { result ≡ place_in c found }
@@ -187,7 +156,7 @@ pub fn comment_source_to_span(c: Comment, found: Capture) -> Span
 }
 
 // Writes the specifier of a capture in a comment.
-#[tactic(auto, using(crate::proofs::Captures::capture_within), unfolding(crate::specs::Readings::specifier_in))]
+#[tactic(auto, using(crate::proofs::Captures::capture_within, sheet::proofs::Marks::holds_marks_lem, sheet::proofs::Bodies::placed_body), unfolding(crate::specs::Readings::specifier_in))]
 pub fn put_capture(comments: &Comments, c: Comment, found: Capture, w: &mut Writer)
     requires { CaptureIn comments.now.source c found }
     ensures { Wrote w.old w.new (encode_specifier (specifier_in comments.now.source c found)) }

@@ -1,16 +1,13 @@
 // The references of the head group.
-ghost use Rattle.std.specs.Prelude.{◌≡◌, ◌≤◌, length, slice_range, option_map};
+ghost use Rattle.std.specs.Prelude.{◌≡◌, length, option_map};
 ghost use mathlib.Core.List.{flat_map};
 ghost use Rattle.laws.specs.code.Told.{Told};
 ghost use Rattle.laws.specs.Codec.{IfThere};
 ghost use Rattle.analysis.specs.Row.{find};
 ghost use Rattle.analysis.specs.Patterns.{resolution_mode_row};
-ghost use Rattle.sheet.specs.Fit.{Placed};
-ghost use Rattle.sheet.specs.code.Lent.{Reached};
 ghost use Rattle.report.specs.Encode.{encode_list, encode_reference};
 ghost use Rattle.report.specs.Buffer.{Wrote};
-ghost use Rattle.pragmas.specs.Readings.{all_of};
-ghost use Rattle.pragmas.specs.Pragmas.{in_group, mode_by, reference, references_in};
+ghost use Rattle.pragmas.specs.Pragmas.{mode_by, reference, references_in};
 ghost use Rattle.pragmas.specs.code.Views.{reference_as, ReferenceIn, encode_any};
 
 use super::readings::put_capture;
@@ -20,10 +17,8 @@ use analysis::{
     is_comment_triple_slash_reference, specifier,
 };
 use report::writer::Writer;
-use sheet::commented::Comments;
+use sheet::commented::{Comments, PlacedComment};
 use sheet::comments::Comment;
-use sheet::groups::Group;
-use sheet::lookups::body;
 use sheet::names::is_block;
 
 // A reference of a comment: what is captured there, and of a types reference the mode.
@@ -42,17 +37,16 @@ fn resolution_mode(body: &[u8]) -> Option<TypeScriptTypesResolutionMode>
 }
 
 // The reference of a comment.
-pub fn read_reference(source: &[u8], c: Comment) -> Option<Reference>
-    requires { Placed source.now c }
-    ensures { Told (option_map (reference_as source.now c))
-        (reference source.now c)
-        (IfThere (ReferenceIn source.now c)) result }
+#[tactic(auto, unfolding(crate::specs::Readings::read_by, crate::specs::Pragmas::mode_in, crate::specs::Pragmas::reference))]
+pub fn read_reference(c: &PlacedComment) -> Option<Reference>
+    ensures { Told (option_map (reference_as c.now.source c.now.comment))
+        (reference c.now.source c.now.comment)
+        (IfThere (ReferenceIn c.now.source c.now.comment)) result }
 {
-    let kind = c.kind;
-    if is_block(kind) {
+    if is_block(c.comment().kind) {
         return None;
     }
-    let text = body(source, c);
+    let text = c.body();
     if is_comment_triple_slash_reference(text) {
         if let Some(found) = find_types_reference(text) {
             return Some(Reference::Types(found, resolution_mode(text)));
@@ -84,14 +78,14 @@ fn put_reference(comments: &Comments, c: Comment, reference: Option<Reference>, 
     }
 }
 
-// How many references the comments give, from one index to another.
-fn count_between(comments: &Comments, start: usize, end: usize) -> usize
-    requires { (start ≤ end) × (end ≤ length comments.now.comments) }
-    ensures { result ≡ length (all_of (reference comments.now.source) (slice_range comments.now.comments start end)) }
+// How many references the comments give.
+#[tactic(auto, using(crate::proofs::Turns::all_next, crate::proofs::Turns::all_end), unfolding(crate::specs::Pragmas::references_in))]
+fn count_references(comments: &Comments) -> usize
+    ensures { result ≡ length (references_in comments.now.source comments.now.comments) }
 {
     let mut count = 0;
-    for k in start..end {
-        if read_reference(comments.source(), comments.at(k)).is_some() {
+    for k in 0..comments.len() {
+        if read_reference(&comments.at(k)).is_some() {
             count += 1;
         }
     }
@@ -99,31 +93,24 @@ fn count_between(comments: &Comments, start: usize, end: usize) -> usize
 }
 
 // Writes each of them.
-fn put_between(comments: &Comments, start: usize, end: usize, w: &mut Writer)
-    requires { (start ≤ end) × (end ≤ length comments.now.comments) }
+#[tactic(auto, using(crate::proofs::Turns::each_next, crate::proofs::Turns::each_end, report::proofs::Buffers::more_append, report::proofs::Buffers::more_nil), unfolding(crate::specs::Pragmas::references_in))]
+fn put_references(comments: &Comments, w: &mut Writer)
     ensures { Wrote w.old w.new
-        (flat_map encode_reference (all_of (reference comments.now.source) (slice_range comments.now.comments start end))) }
+        (flat_map encode_reference (references_in comments.now.source comments.now.comments)) }
 {
-    for k in start..end {
+    for k in 0..comments.len() {
         let c = comments.at(k);
-        let reference = read_reference(comments.source(), c);
-        put_reference(comments, c, reference, w);
+        let reference = read_reference(&c);
+        put_reference(comments, c.comment(), reference, w);
     }
 }
 
-// The references of a group: how many, and then each.
-pub fn analyze_ts_references(comments: &Comments, found: Option<Group>, w: &mut Writer)
-    requires { Reached comments.now found }
+// The references of the comments: how many, and then each.
+#[tactic(auto, using(report::proofs::Buffers::more_append), unfolding(report::specs::Encode::encode_list))]
+pub fn analyze_ts_references(comments: &Comments, w: &mut Writer)
     ensures { Wrote w.old w.new
-        (encode_list encode_reference (references_in comments.now.source (in_group comments.now.comments found))) }
+        (encode_list encode_reference (references_in comments.now.source comments.now.comments)) }
 {
-    match found {
-        Some(g) => {
-            let start = g.first;
-            let end = comments.end_of(g);
-            w.put_number(count_between(comments, start, end));
-            put_between(comments, start, end, w);
-        }
-        None => w.put(0),
-    }
+    w.put_number(count_references(comments));
+    put_references(comments, w);
 }

@@ -1,34 +1,25 @@
--- Rows of the list at a place of it, and the counts of those that are left.
-use Rattle.laws.proofs.Prelude.{◌≡◌, refl, ap, ◌∙◌, List, [], ◌∷◌, ℕ, zero, suc, ◌+◌, ◌-◌, ◌*◌, ◌≤◌, ◌<◌, arith, length, get_or, drop, drop_of_length-le}
-use Rattle.laws.proofs.Prelude.{drop-cons, length-drop}
+-- Rows of the list, and the counts of those that are left.
+use Rattle.laws.proofs.Prelude.{◌≡◌, refl, ap, ◌∙◌, List, [], ◌∷◌, ℕ, zero, suc, ◌+◌, ◌*◌, ◌≤◌, ◌<◌, arith, length, get_or, drop}
 use Rattle.laws.specs.Decoded.{Decoded, ok, no, on_ok, and_then, return}
 use Rattle.laws.proofs.Decoding.{on_ok_ok, on_ok_no}
-use Rattle.wire.{specs.Fields.byte, proofs.FieldsAtPlace.byte_at}
+use Rattle.wire.specs.Fields.{byte}
 use Rattle.sheet.specs.Sheet.{ending}
 use Rattle.replay.specs.Stored.{Row, four_bytes, row, rows, stored_rows}
 use Rattle.replay.specs.Compared.{ran_of, counted, counted_all, none_yet, tally_of}
 use Rattle.replay.specs.declared.{Ran.Ran, Counts.Counts}
 use Rattle.std.specs.Prelude.{Option, Some, None}
 
-module _ (s : List ℕ) (at : ℕ) where
-  pub four_at : at + 4 ≤ length s
-      → four_bytes (drop at s) ≡ ok (get_or s at 0 + 256 * get_or s (at + 1) 0 + 65536 * (get_or s (at + 2) 0 + 256 * get_or s (at + 3) 0)) (drop (at + 4) s)
-  unfolding four_bytes
-  four_at h =
-      let second : at + 1 + 1 ≡ at + 2 = omega arith in
-      let third : at + 2 + 1 ≡ at + 3 = omega arith in
-      let fourth : at + 3 + 1 ≡ at + 4 = omega arith in
-      rw (
-        byte_at s at (omega arith),
-        byte_at s (at + 1) (omega arith),
-        second,
-        byte_at s (at + 2) (omega arith),
-        third,
-        byte_at s (at + 3) (omega arith),
-        fourth,
-      )
+-- a number of four bytes, or too few
+pub four_front : (s : List ℕ) → 4 ≤ length s
+    → four_bytes s ≡ ok (get_or s 0 0 + 256 * get_or s 1 0 + 65536 * (get_or s 2 0 + 256 * get_or s 3 0)) (drop 4 s)
+unfolding four_bytes byte
+four_front [] h = absurd (omega arith)
+four_front (a ∷ []) h = absurd (omega arith)
+four_front (a ∷ b ∷ []) h = absurd (omega arith)
+four_front (a ∷ b ∷ c ∷ []) h = absurd (omega arith)
+four_front (a ∷ b ∷ c ∷ d ∷ s) h = refl
 
-four_short : (s : List ℕ) → length s < 4 → four_bytes s ≡ no 2
+pub four_short : (s : List ℕ) → length s < 4 → four_bytes s ≡ no 2
 unfolding four_bytes byte
 four_short [] h = refl
 four_short (a ∷ []) h = refl
@@ -36,8 +27,10 @@ four_short (a ∷ b ∷ []) h = refl
 four_short (a ∷ b ∷ c ∷ []) h = refl
 four_short (a ∷ b ∷ c ∷ d ∷ s) h = absurd (omega arith)
 
-pub four_cut : (s : List ℕ) (at : ℕ) → length s < at + 4 → four_bytes (drop at s) ≡ no 2
-four_cut s at h = four_short (drop at s) (rw length-drop (omega arith))
+-- a byte, as it is split off
+pub byte_first : (s : List ℕ) {b : ℕ} {t : List ℕ} → s ≡ b ∷ t → byte s ≡ ok b t
+unfolding byte
+byte_first s e = rw e
 
 -- counts, and the rows that are left with nothing behind them
 abbrev pub onward : ℕ → Counts → Decoded (List Row) → Option Counts
@@ -56,9 +49,9 @@ module _ (size : ℕ) where
       go (ok l (b ∷ u)) = refl
       go (no r) = refl
 
-  pub tally_short : (s : List ℕ) → length s < 4 → tally_of size (stored_rows s) ≡ None
+  pub tally_short : (s : List ℕ) {r : ℕ} → four_bytes s ≡ no r → tally_of size (stored_rows s) ≡ None
   unfolding stored_rows
-  tally_short s h = rw (four_short s h)
+  tally_short s e = rw e
 
   module _ (k : Counts) where
     pub row_counted : (n less : ℕ) (s : List ℕ) {t : List ℕ} {ran : Ran} → n ≡ less + 1 → on_ok (ran_of size) (row s) ≡ ok ran t
@@ -79,15 +72,17 @@ module _ (size : ℕ) where
     row_missing zero s h e = absurd (omega arith)
     row_missing (suc n) s h e = rw (on_ok_no (ran_of size) (row s) e)
 
-    pub rows_done : (n : ℕ) (s : List ℕ) (at : ℕ) → n ≤ 0 → at ≡ length s → onward size k (rows n (drop at s)) ≡ Some k
+    pub rows_done : (n : ℕ) (s : List ℕ) → n ≤ 0 → length s ≡ 0 → onward size k (rows n s) ≡ Some k
     unfolding rows
-    rows_done zero s at h e = rw (drop_of_length-le s {i = at} (omega arith))
-    rows_done (suc n) s at h e = absurd (omega arith)
+    rows_done zero [] h e = refl
+    rows_done zero (b ∷ s) h e = absurd (omega arith)
+    rows_done (suc n) s h e = absurd (omega arith)
 
-    pub bytes_left : (n : ℕ) (s : List ℕ) (at : ℕ) → n ≤ 0 → at < length s → onward size k (rows n (drop at s)) ≡ None
+    pub bytes_left : (n : ℕ) (s : List ℕ) → n ≤ 0 → (length s ≡ 0 → ⊥) → onward size k (rows n s) ≡ None
     unfolding rows
-    bytes_left zero s at h l = rw (drop-cons s at 0 l)
-    bytes_left (suc n) s at h l = absurd (omega arith)
+    bytes_left zero [] h l = absurd (l refl)
+    bytes_left zero (b ∷ s) h l = refl
+    bytes_left (suc n) s h l = absurd (omega arith)
 
 -- the rows of a list, from its count to its end
 pub ruleset in_rows = (tally_rows, tally_short, row_counted, row_missing, rows_done, bytes_left)

@@ -5,16 +5,16 @@
 // length and bytes of the report. Numbers take four bytes, low byte first.
 #![tactic(auto)]
 
-ghost use Rattle.std.specs.Prelude.{◌≡◌, List, ℕ, ◌+◌, ◌≤◌, length, drop};
-ghost use Rattle.laws.specs.Decoded.{ok, on_ok};
+ghost use Rattle.std.specs.Prelude.{◌≡◌, List, ℕ, ◌+◌, ◌≤◌, length};
+ghost use Rattle.laws.specs.Decoded.{on_ok};
 ghost use Rattle.laws.specs.code.Told.{Bounded, Told};
 ghost use Rattle.input.specs.code.InputWithin.{InputWithin};
 ghost use Rattle.text.specs.Bytes.{same};
 ghost use Rattle.report.specs.Answer.{outcome_as};
 ghost use Rattle.replay.specs.Stored.{four_bytes, piece, row, stored_rows};
 ghost use Rattle.replay.specs.Compared.{padded, stored_answer, same_answer, ran_of, counted, tally_of};
-ghost use Rattle.replay.specs.code.Views.{stretch_as, step_as};
-ghost use Rattle.replay.specs.code.Bounds.{StretchWithin, NextWithin, Room, Printable};
+ghost use Rattle.replay.specs.code.Views.{number_as, piece_as, step_as};
+ghost use Rattle.replay.specs.code.Bounds.{NumberFits, Room, Printable};
 
 use input::read_input;
 use module_info::module_info;
@@ -42,36 +42,27 @@ struct Counts {
 }
 
 // A number of four bytes.
-#[tactic(auto, using(crate::proofs::StoredRows::four_at))]
-fn number_at(list: &[u8], at: usize) -> usize
-    requires { at + 4 ≤ length list.now }
-    ensures { Bounded (four_bytes (drop at list.now) ≡ ok result (drop (at + 4) list.now))
-        (result ≤ 4294967295) }
+#[tactic(auto, using(crate::proofs::StoredRows::four_short))]
+fn number(list: &[u8]) -> Option<(usize, &[u8])>
+    ensures { Told number_as (four_bytes list.now) NumberFits result }
 {
-    let low = byte_at(list, at) + 256 * byte_at(list, at + 1);
-    let high = byte_at(list, at + 2) + 256 * byte_at(list, at + 3);
-    (low + 65536 * high) as usize
+    match list {
+        [a, b, c, d, next @ ..] => {
+            let low = *a as usize + 256 * (*b as usize);
+            let high = *c as usize + 256 * (*d as usize);
+            Some((low + 65536 * high, next))
+        }
+        _ => None,
+    }
 }
 
-// Where the bytes behind a length at a place start and end, if the list holds them whole.
-#[tactic(auto, using(crate::proofs::StoredRows::four_cut, wire::proofs::FieldsAtPlace::bytes_past, wire::proofs::FieldsAtPlace::bytes_at), unfolding(crate::specs::Stored::piece))]
-fn stretch_at(list: &[u8], at: usize) -> Option<(usize, usize)>
-    ensures { Told (stretch_as list.now)
-        (piece (drop at list.now))
-        (StretchWithin (length list.now)) result }
+// The bytes behind a length, if the list holds them whole.
+#[tactic(auto, unfolding(crate::specs::Stored::piece, wire::specs::Fields::bytes))]
+fn piece(list: &[u8]) -> Option<(&[u8], &[u8])>
+    ensures { piece_as result ≡ piece list.now }
 {
-    if list.len() < 4 {
-        return None;
-    }
-    if list.len() - 4 < at {
-        return None;
-    }
-    let start = at + 4;
-    let long = number_at(list, at);
-    if list.len() - start < long {
-        return None;
-    }
-    Some((start, start + long))
+    let (n, next) = number(list)?;
+    next.split_at_checked(n)
 }
 
 // The report begins the buffer, and every byte behind it is zero.
@@ -125,19 +116,15 @@ fn run(sheet: &[u8], number: u8, report: &[u8], buffer: &mut [u8]) -> Ran
     }
 }
 
-// Runs the sheet at a place of the list, and says where the next stands; none where the list ends too early.
-#[tactic(auto, using(wire::proofs::FieldsAtPlace::byte_past, wire::proofs::FieldsAtPlace::byte_at), unfolding(crate::specs::Stored::row))]
-fn replay_one(list: &[u8], at: usize, buffer: &mut [u8]) -> Option<(Ran, usize)>
-    ensures { Told (step_as list.now)
-        (on_ok (ran_of (length buffer.old)) (row (drop at list.now)))
-        (NextWithin (length list.now)) result }
+// Runs the first sheet of a list; none where the list ends too early.
+#[tactic(auto, using(crate::proofs::StoredRows::byte_first, wire::proofs::FieldsAtFront::byte_none), unfolding(crate::specs::Stored::row))]
+fn replay_one<'a>(list: &'a [u8], buffer: &mut [u8]) -> Option<(Ran, &'a [u8])>
+    ensures { step_as result ≡ on_ok (ran_of (length buffer.old)) (row list.now) }
 {
-    let (start, end) = stretch_at(list, at)?;
-    if list.len() <= end {
-        return None;
-    }
-    let (from, next) = stretch_at(list, end + 1)?;
-    let ran = run(&list[start..end], list[end], &list[from..next], buffer);
+    let (sheet, next) = piece(list)?;
+    let (number, next) = next.split_first()?;
+    let (report, next) = piece(next)?;
+    let ran = run(sheet, *number, report, buffer);
     Some((ran, next))
 }
 
@@ -175,22 +162,18 @@ fn print_line(rt: &impl Print, n: u64, what: &str) -> io::Result<()> {
 fn replay(list: &[u8], buffer: &mut [u8]) -> Option<Counts>
     ensures { Bounded (result ≡ tally_of (length buffer.old) (stored_rows list.now)) (Printable result) }
 {
-    if list.len() < 4 {
-        return None;
-    }
     let mut counts = Counts {
         accepted: 0,
         refused: 0,
         differ: 0,
     };
-    let rows = number_at(list, 0);
-    let mut at = 4;
+    let (rows, mut next) = number(list)?;
     for _ in 0..rows {
-        let (ran, next) = replay_one(list, at, buffer)?;
+        let (ran, behind) = replay_one(next, buffer)?;
         counts = counts.with(ran);
-        at = next;
+        next = behind;
     }
-    if at == list.len() { Some(counts) } else { None }
+    if next.is_empty() { Some(counts) } else { None }
 }
 
 // The counts, or that the list is odd.

@@ -1,21 +1,10 @@
 -- The end of a report: what is cleared behind it, and the answer for the bytes that were written.
-use Rattle.laws.proofs.Prelude.{◌≡◌, refl, Bool, true, false, List, [], append-nil, ℕ, suc, ◌+◌, ◌-◌, ◌≤◌, ◌<◌, zero-add, add-one, arith, leb, ltb, ltb-true, ltb-false, length, take}
-use Rattle.laws.proofs.Prelude.{set, length-set, length-take-le, take_all}
-use native.Mathlib.Nat.{sub-eq-zero_of_le}
-use lib.Seq.{take-suc-set, append_snoc}
+use Rattle.laws.proofs.Prelude.{◌≡◌, refl, Bool, true, false, List, [], append-nil, ℕ, ◌-◌, zero-add, arith, leb, ltb, ltb-true, ltb-false, length, take}
+use Rattle.laws.proofs.Prelude.{length-take-le, take_all}
 use Rattle.report.specs.Buffer.{Buffer, holds, wrote}
 use Rattle.report.specs.Answer.{cleared_from, accepted, fitted, answered}
 
 module _ (out : List ℕ) (at : ℕ) where
-  -- one byte more is zero
-  pub cleared_more : at < length out → cleared_from at out ≡ cleared_from (at + 1) (set out at 0)
-  cleared_more h =
-      let n : length out - at ≡ suc (length out - (at + 1)) = omega arith in
-      rw (n, length-set, add-one, take-suc-set out at 0 h, append_snoc)
-
-  pub cleared_end : length out ≤ at → cleared_from at out ≡ out
-  cleared_end h = rw (take_all at out h, sub-eq-zero_of_le h, append-nil)
-
   -- the bytes before the place are the report, the zeros behind it being cleared or being none
   pub accepted_at : record { number = 0; written = length (take at out); buffer = cleared_from at out } ≡ accepted (length out) (take at out)
   accepted_at = by_room (ltb at (length out)) refl

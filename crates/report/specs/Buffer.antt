@@ -13,7 +13,7 @@ unfoldable pub wrote : Buffer → List ℕ → Buffer
 wrote (holds size xs) bs = cond (leb (length xs + length bs) size) (holds size (xs ++ bs)) (full size)
 wrote (full size) bs = full size
 
--- the place that stands for full: the largest number of the machine, which is no place in any buffer
+-- full: past every buffer, the largest number of the machine
 abbrev pub full_place : ℕ
 full_place = 18446744073709551615
 

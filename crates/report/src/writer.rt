@@ -16,7 +16,7 @@ use sheet::fields::Span;
 use text::position::Position;
 use wire::refusals::Refusal;
 
-// The place that stands for full: no buffer is so long.
+// Past every buffer: full.
 const FULL: usize = 18446744073709551615;
 
 // The lent buffer, and where the next byte goes, or `FULL` once a byte found no room.

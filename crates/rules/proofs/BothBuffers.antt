@@ -2,14 +2,11 @@
 use Rattle.laws.proofs.Prelude.{◌≡◌, refl, sym, ap, ◌∙◌, Bool, true, false, cond, ◌↔◌, List, [], ℕ, ◌≤◌, ◌<◌, arith, leb, length}
 use Rattle.laws.proofs.Prelude.{leb-true, leb-false, le-leb, lt-leb}
 use Rattle.laws.{specs.Decoded.ok, specs.Decoded.no, proofs.Decoding.refused}
-use Rattle.text.{specs.declared.utf8.Encoding.TheVariants.Utf8, proofs.WellFormed.well_formed_iff}
 use Rattle.wire.specs.Refusals.{of_sheets, one_of}
 use Rattle.wire.specs.Refusals as refusals
 use Rattle.sheet.specs.{Sheet.Sheet, Sheet.accept, Judge.judge}
 use Rattle.sheet_codec.{specs.SheetOf.SheetOf, proofs.Sheets.accepts_exactly}
 use Rattle.sheet_codec.proofs.Refusals.{apart, Decision, decided, cut_off_lem, judged_sheet, judged_refusal}
-use Rattle.sheet.specs.declared.{comments.CommentRow.CommentRow, groups.GroupRow.GroupRow}
-use Rattle.sheet_check.specs.{declared.check.Parts.Parts, code.Accepts.Accepts}
 use Rattle.std.specs.Prelude.{Ok, Err}
 use Rattle.wire.specs.declared.refusals.Refusal.TheVariants.{Rules}
 use Rattle.wire.{specs.declared.refusals.Refusal.Refusal, specs.Refusals.number_of, proofs.RefusalNumbers.some_number}
@@ -17,7 +14,8 @@ use Rattle.report.specs.{ModuleInfo.ModuleInfo, Encode.encode}
 use Rattle.report.specs.Answer.{Answer, zeros, accepted, refused_with, fitted, outcome_as}
 use Rattle.module_info.{specs.Information.module_info, specs.Information.default_info, specs.Demands.Demands, proofs.Notes.refused_ten}
 use Rattle.rules.specs.Rules.{Ruled, rules_of, Answers, refused_both, both_fitted, both_of, both_as, report_of, DemandsOfBoth}
-use Rattle.module_info.proofs.Accepted.{demanded, refusal_demanded, empty_demanded}
+use Rattle.module_info.proofs.Accepted.{same_sheet, formed_source, fit}
+use Rattle.module_info.proofs.Demanded.{demanded, refusal_demanded, empty_demanded}
 use Rattle.rules.proofs.Origins.{rules_right}
 
 -- an answer of acceptance is one of bytes that have room
@@ -136,20 +134,21 @@ module _ (s : List ℕ) {size room : ℕ} {o : Ruled} {buffer rules : List ℕ} 
           let same : q ≡ refusals.rules = cc in
           apart of_sheets among same refl
 
-  pub sheet_both : {comments : List CommentRow} {groups : List GroupRow} {p : Parts} → Accepts s comments groups p
-      → ((t : Sheet) → accept s ≡ ok t [] → both_as o buffer rules ≡ both_fitted size room (encode (module_info t)) (rules_of t)) →
-      DemandsOfBoth s size room o buffer rules
+  pub sheet_both : {t : Sheet} → accept s ≡ ok t [] → both_as o buffer rules ≡ both_fitted size room (encode (module_info t)) (rules_of t)
+      → DemandsOfBoth s size room o buffer rules
   unfolding both_of
-  sheet_both a answer = record {
-    answer = rw (judged_sheet s a.accepted) (answer a.sheet a.accepted);
-    complete = λ t h. answer t ((accepts_exactly s t).1 h);
+  sheet_both {t} e answer = record {
+    answer = rw (judged_sheet s e) answer;
+    complete = λ u h. rw (same_sheet ((accepts_exactly s u).1 h) e) answer;
     sixteen = (
-      λ e.
-          let (room_first, none_second) = (is_sixteen size room _ _).0 (sym (number_is o buffer rules (answer a.sheet a.accepted)) ∙ e) in
-          (a.sheet, (accepts_exactly s a.sheet).0 a.accepted, room_first, none_second),
-      λ (t, h, i, j). number_is o buffer rules (answer t ((accepts_exactly s t).1 h)) ∙ (is_sixteen size room _ _).1 (i, j),
+      λ f.
+          let (room_first, none_second) = (is_sixteen size room _ _).0 (sym (number_is o buffer rules answer) ∙ f) in
+          (t, (accepts_exactly s t).0 e, room_first, none_second),
+      λ (u, h, i, j).
+          let is = same_sheet ((accepts_exactly s u).1 h) e in
+          number_is o buffer rules answer ∙ (is_sixteen size room _ _).1 (rw is at i, rw is at j),
     );
-    report = λ other. demanded a
-        (λ t e. part_of o buffer rules ∙ as_before size room (encode (module_info t)) (rules_of t) (answer t e) (λ f. other (number_is o buffer rules refl ∙ f)));
-    origins = λ t h. rules_right t ((well_formed_iff Utf8 t.source).1 h.encodes.within.fields.source.1) h.encodes.within.fields.comments.1;
+    report = λ other. demanded e
+        (part_of o buffer rules ∙ as_before size room (encode (module_info t)) (rules_of t) answer (λ f. other (number_is o buffer rules refl ∙ f)));
+    origins = λ u h. rules_right u (formed_source s ((accepts_exactly s u).1 h)) (fit s ((accepts_exactly s u).1 h));
   }

@@ -4,10 +4,8 @@ use Rattle.laws.proofs.Prelude.{add-one, length, drop, get_or, drop_of_length-le
 use lib.ListN.{length-map}
 use Rattle.laws.{specs.Aligned.Aligned, specs.Codec.All, specs.Decoded.ok, proofs.Aligned.aligned_append, proofs.Lists.flat_map_append}
 use Rattle.text.specs.{declared.utf8.Encoding.TheVariants.Utf8, Utf8.formed}
-use Rattle.sheet.specs.{Fit.Fit, Limits.entry_limit, Walked.entries, Sheet.Sheet, Sheet.accept, code.Commented.Commented}
-use Rattle.sheet_codec.proofs.{Sheets.accepts_exactly, EntryBytes.few_entries}
-use Rattle.sheet.specs.declared.{comments.CommentRow.CommentRow, groups.GroupRow.GroupRow}
-use Rattle.sheet_check.specs.{declared.check.Parts.Parts, code.Accepts.Accepts}
+use Rattle.sheet.specs.{Fit.Fit, Limits.entry_limit, Walked.entries, Sheet.Sheet, Sheet.accept}
+use Rattle.sheet_codec.proofs.EntryBytes.{few_entries}
 use Rattle.report.{specs.Origin.encode_origin, specs.Buffer.Written, specs.Buffer.more, proofs.Buffers.more_append}
 use Rattle.pragmas.specs.Asks.{self_types_rule, jsx_import_source_rule, jsx_import_source_types_rule}
 use Rattle.pragmas.specs.Pragmas.{head_comments, end_comments, types_at}
@@ -17,11 +15,11 @@ use Rattle.pragmas.proofs.GivenFrom.{types_from_lem, references_from, first_from
 use Rattle.jsdoc_list.{proofs.Origins.jsdoc_origins_kept}
 use Rattle.dep_entries.specs.Entries.{Noted}
 use Rattle.dep.{specs.Collect.starts_of, proofs.Counted.counted, proofs.Counted.noted_first, proofs.Turns.types_at_start}
-use Rattle.module_info.specs.{Information.module_info, Replaced.noted, Replaced.notes_with, code.Pieces.PartsOf}
+use Rattle.module_info.specs.{Information.module_info, Replaced.noted, Replaced.notes_with}
 use Rattle.rules.specs.code.{Pieces.comment_origins, Rows.starts_from}
 use Rattle.rules.specs.Rules.{types_in, entries_of, OriginFor, origins_in, rules_of}
 use Rattle.rules.specs.Rules as entry
-use Rattle.module_info.proofs.{Notes.held_whole, Notes.start_noted, Accepted.parts_of}
+use Rattle.module_info.proofs.{Notes.held_whole, Notes.start_noted, Accepted.meets}
 
 -- a relation to what a function gives
 aligned_of : {A B C : Type 0} {P : B → C → Type 0} (f : A → B) {l : List A} {m : List C} → Aligned (λ a. P (f a)) l m → Aligned P (map f l) m
@@ -54,11 +52,11 @@ module _ (t : Sheet) where
       (aligned_of entry.source_map_url (source_map_from t.source (end_comments t) t.media))))
 
 -- the origins in the pieces that functions write
-pub rules_written : {t : Sheet} {s : List ℕ} {c : Commented} {p : Parts} → PartsOf t s c p → (u : Written) {v w : Written} {starts : List ℕ}
-    → starts ≡ starts_of (noted t) → v ≡ more u (flat_map encode_origin (flat_map (types_origins c.source c.comments c.groups) starts))
-    → w ≡ more v (flat_map encode_origin (comment_origins p.media p.program c)) → w ≡ more u (rules_of t)
-unfolding rules_of origins_in comment_origins head_comments end_comments
-rules_written o u are types rest = rw (rest, types, are, o.comments, o.media, o.program) (simp (flat_map_append, more_append))
+pub rules_written : (t : Sheet) (u : Written) {v w : Written} {starts : List ℕ} → starts ≡ starts_of (noted t)
+    → v ≡ more u (flat_map encode_origin (flat_map (types_origins t.source t.comments t.groups) starts))
+    → w ≡ more v (flat_map encode_origin (comment_origins t)) → w ≡ more u (rules_of t)
+unfolding rules_of origins_in comment_origins
+rules_written t u are types rest = rw (rest, types, are) (simp (flat_map_append, more_append))
 
 -- ---- the starts in the rows of the notes
 
@@ -87,16 +85,16 @@ noted_many : (t : Sheet) → length (noted t) ≡ entries t.root
 noted_many t =
     sym (length-map (noted t) (λ (e : Noted). e.entry)) ∙ ap length (noted_first t.source (types_at t) t.root) ∙ counted t.source (types_at t) t.root
 
--- there is room for the rows of all dependencies of an accepted sheet, and the starts in them are theirs
-module _ {s : List ℕ} {comments : List CommentRow} {groups : List GroupRow} {p : Parts} (a : Accepts s comments groups p) where
-  pub few_rows : (notes : List ℕ) → length notes ≡ 1 + 2 * entry_limit → 1 + 2 * p.entries ≤ length notes
-  few_rows notes long = omega (arith, long, few_entries ((accepts_exactly s a.sheet).0 a.accepted), a.entries)
+-- there is room for the rows of all dependencies of an accepted sheet
+pub few_rows : (s : List ℕ) {t : Sheet} → accept s ≡ ok t [] → (notes : List ℕ) → length notes ≡ 1 + 2 * entry_limit → 1 + 2 * entries t.root ≤ length notes
+few_rows s e notes long = omega (arith, long, few_entries (meets s e))
 
-  pub starts_held : {t : Sheet} → accept s ≡ ok t [] → {notes : List ℕ} (size : ℕ) → 1 + 2 * p.entries ≤ size → notes ≡ notes_with size (noted t) 0
-      → starts_from notes 0 p.entries ≡ starts_of (noted t)
-  starts_held {t} e {notes} size room held =
-      let as_many : length (noted t) ≡ p.entries = noted_many t ∙ (parts_of a e refl).count in
-      let rows = held ∙ held_whole size (noted t) (rw (← as_many) at room) in
-      rw (← as_many, rows)
-      (starts_behind _ (starts_of (noted t)) (λ i h. start_noted (noted t) _ _ i (rw (length-map (noted t) (λ (e : Noted). e.start)) at h)) 0
-      (length (noted t)) (zero-add _ ∙ sym (length-map (noted t) (λ (e : Noted). e.start))))
+-- and the starts in them are theirs
+pub starts_held : (t : Sheet) {notes : List ℕ} (size : ℕ) → 1 + 2 * entries t.root ≤ size → notes ≡ notes_with size (noted t) 0
+    → starts_from notes 0 (entries t.root) ≡ starts_of (noted t)
+starts_held t {notes} size room held =
+    let as_many = noted_many t in
+    let rows = held ∙ held_whole size (noted t) (rw (← as_many) at room) in
+    rw (← as_many, rows)
+    (starts_behind _ (starts_of (noted t)) (λ i h. start_noted (noted t) _ _ i (rw (length-map (noted t) (λ (e : Noted). e.start)) at h)) 0
+    (length (noted t)) (zero-add _ ∙ sym (length-map (noted t) (λ (e : Noted). e.start))))

@@ -4,8 +4,8 @@
 ghost use Rattle.std.specs.Prelude.{◌≡◌, ℕ, ◌+◌, ◌*◌, ◌≤◌, length, Ok};
 ghost use mathlib.Core.List.{List, [], flat_map};
 ghost use Rattle.laws.specs.Decoded.{ok};
-ghost use Rattle.sheet.specs.Limits.{source_limit};
 ghost use Rattle.sheet.specs.Sheet.{Sheet, accept};
+ghost use Rattle.sheet.specs.Walked.{entries};
 ghost use Rattle.report.specs.Buffer.{Wrote};
 ghost use Rattle.report.specs.Origin.{encode_origin};
 ghost use Rattle.report.specs.Encode.{encode};
@@ -14,21 +14,18 @@ ghost use Rattle.pragmas.specs.Origins.{types_origins};
 ghost use Rattle.dep.specs.Collect.{starts_of};
 ghost use Rattle.module_info.specs.Information.{module_info, default_info};
 ghost use Rattle.module_info.specs.Replaced.{noted};
-ghost use Rattle.module_info.specs.code.Pieces.{AcceptsIn};
 ghost use Rattle.rules.specs.code.Pieces.{comment_origins};
 ghost use Rattle.rules.specs.code.Rows.{starts_from};
 ghost use Rattle.wire.specs.Refusals.{number_of};
 ghost use Rattle.rules.specs.Rules.{Ruled, rules_of, refused_both, both_fitted, both_as, DemandsOfBoth, ruled_number, ruled_lengths};
 
 use jsdoc_list::notes::put_jsdoc_origins;
-use module_info::judge::judge;
-use module_info::{comments_of, write_default, write_noted_report};
+use module_info::judge::{Accepted, judge};
+use module_info::{write_default, write_noted_report};
 use pragmas::origins::{put_end_origins, put_head_origins, put_types_origins};
 use report::writer::{Outcome, Writer, clear_from};
-use sheet::commented::Comments;
 use sheet::limits::{ENTRY_LIMIT, SOURCE_LIMIT};
 use sheet::tables::Tables;
-use sheet_check::check::Parts;
 use wire::refusals::Refusal;
 
 // Both lengths.
@@ -45,45 +42,45 @@ pub type Ruled = Result<Lengths, Refusal>;
 const NOTE_NUMBERS: usize = 1 + 2 * ENTRY_LIMIT;
 
 // Writes the origins of types, dependency by dependency, by where the node of each starts.
-fn put_types_rules(comments: &Comments, parts: Parts, notes: &[usize], w: &mut Writer)
-    requires { 1 + 2 * parts.entries ≤ length notes.now }
-    ensures { Wrote w.old w.new
+fn put_types_rules(accepted: &Accepted, notes: &[usize], w: &mut Writer)
+    requires { (t : Sheet) → accept accepted.now ≡ ok t [] → 1 + 2 * entries t.root ≤ length notes.now }
+    ensures { (t : Sheet) → accept accepted.now ≡ ok t [] → Wrote w.old w.new
         (flat_map encode_origin (flat_map
-        (types_origins comments.now.source comments.now.comments comments.now.groups)
-        (starts_from notes.now 0 parts.entries))) }
+        (types_origins t.source t.comments t.groups)
+        (starts_from notes.now 0 (entries t.root)))) }
 {
-    for k in 0..parts.entries {
-        put_types_origins(comments, notes[1 + 2 * k], w);
+    let comments = accepted.comments();
+    let tree = accepted.parts().tree;
+    for k in 0..tree.entries {
+        put_types_origins(&comments, notes[1 + 2 * k], w);
     }
 }
 
-// Writes those of what the head group gives, of the JSDoc imports and of the source map. `origins` is lent to work in.
-#[tactic(auto, using(report::proofs::Buffers::more_append, laws::proofs::Lists::flat_map_append), unfolding(crate::specs::code::Pieces::comment_origins))]
-fn put_comment_rules(comments: &Comments, parts: Parts, origins: &mut [u16], w: &mut Writer)
-    requires short { length comments.now.source ≤ source_limit }
-    requires source_in_bounds { length comments.now.source ≤ length origins.old }
-    ensures { Wrote w.old w.new
-        (flat_map encode_origin (comment_origins parts.media parts.program comments.now)) }
+// Writes those of what the head group gives, of the JSDoc imports and of the source map.
+#[tactic(auto, using(report::proofs::Buffers::more_append, laws::proofs::Lists::flat_map_append), unfolding(crate::specs::code::Pieces::comment_origins, pragmas::specs::Pragmas::head_comments, pragmas::specs::Pragmas::end_comments))]
+fn put_comment_rules(accepted: &Accepted, w: &mut Writer)
+    ensures { (t : Sheet) → accept accepted.now ≡ ok t []
+        → Wrote w.old w.new (flat_map encode_origin (comment_origins t)) }
 {
-    let head = comments.head_group(parts.program);
-    put_head_origins(parts.media, comments, head, w);
-    put_jsdoc_origins(parts.media, comments, origins, w);
-    let end = comments.end_group(parts.program);
-    put_end_origins(comments, end, w);
+    let comments = accepted.comments();
+    let parts = accepted.parts();
+    let head = comments.of(comments.head_group(parts.tree.program));
+    put_head_origins(parts.front.media, &head, w);
+    let mut origins = [0u16; SOURCE_LIMIT];
+    put_jsdoc_origins(parts.front.media, &comments, &mut origins, w);
+    let end = comments.of(comments.end_group(parts.tree.program));
+    put_end_origins(&end, w);
 }
 
 // Writes the rules of an accepted sheet, with the starts of its dependencies' nodes in the notes.
-fn put_rules(sheet: &[u8], parts: Parts, tables: &Tables, notes: &[usize], w: &mut Writer)
-    requires accepts_in { AcceptsIn sheet.now tables.now parts }
-    requires entries_in_bounds { 1 + 2 * parts.entries ≤ length notes.now }
-    ensures { (t : Sheet) → accept sheet.now ≡ ok t []
-        → starts_from notes.now 0 parts.entries ≡ starts_of (noted t)
+fn put_rules(accepted: &Accepted, notes: &[usize], w: &mut Writer)
+    requires { (t : Sheet) → accept accepted.now ≡ ok t [] → 1 + 2 * entries t.root ≤ length notes.now }
+    ensures { (t : Sheet) → accept accepted.now ≡ ok t []
+        → starts_from notes.now 0 (entries t.root) ≡ starts_of (noted t)
         → Wrote w.old w.new (rules_of t) }
 {
-    let comments = comments_of(sheet, parts, tables);
-    let mut origins = [0u16; SOURCE_LIMIT];
-    put_types_rules(&comments, parts, notes, w);
-    put_comment_rules(&comments, parts, &mut origins, w);
+    put_types_rules(accepted, notes, w);
+    put_comment_rules(accepted, w);
 }
 
 // A refusal: both buffers are zero.
@@ -115,24 +112,17 @@ fn finish_rules(size: usize, rules: Outcome, buffer: &mut [u8]) -> Ruled
 }
 
 // The report of an accepted sheet, and its rules.
-fn write_ruled_report(
-    sheet: &[u8],
-    parts: Parts,
-    tables: &Tables,
-    buffer: &mut [u8],
-    rules: &mut [u8],
-) -> Ruled
-    requires { AcceptsIn sheet.now tables.now parts }
-    ensures { (t : Sheet) → accept sheet.now ≡ ok t []
+fn write_ruled_report(accepted: &Accepted, buffer: &mut [u8], rules: &mut [u8]) -> Ruled
+    ensures { (t : Sheet) → accept accepted.now ≡ ok t []
         → both_as result buffer.new rules.new
         ≡ both_fitted (length buffer.old) (length rules.old) (encode (module_info t)) (rules_of t) }
 {
     let mut notes = [0usize; NOTE_NUMBERS];
-    match write_noted_report(sheet, parts, tables, buffer, &mut notes) {
+    match write_noted_report(accepted, buffer, &mut notes) {
         Err(refusal) => refuse_both(refusal, buffer, rules),
         Ok(n) => {
             let mut w = Writer::new(rules);
-            put_rules(sheet, parts, tables, &notes, &mut w);
+            put_rules(accepted, &notes, &mut w);
             finish_rules(n, w.finish(), buffer)
         }
     }
@@ -157,7 +147,7 @@ pub fn with_rules(sheet: &[u8], buffer: &mut [u8], rules: &mut [u8]) -> Ruled
     let mut tables = Tables::new();
     match judge(sheet, &mut tables) {
         Ok(None) => write_ruled_default(buffer, rules),
-        Ok(Some(parts)) => write_ruled_report(sheet, parts, &tables, buffer, rules),
+        Ok(Some(accepted)) => write_ruled_report(&accepted, buffer, rules),
         Err(refusal) => refuse_both(refusal, buffer, rules),
     }
 }

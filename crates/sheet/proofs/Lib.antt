@@ -10,6 +10,7 @@ pub mod Quotations
 pub mod Search
 pub mod Coverings
 pub mod Members
+pub mod GroupFit
 pub mod Bodies
 pub mod CommentCases
 pub mod NameCases

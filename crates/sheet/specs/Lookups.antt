@@ -40,6 +40,11 @@ comments_of cs g = take g.count (drop g.first cs)
 abbrev pub last_comment_of : List Comment → Group → Option Comment
 last_comment_of cs g = last_of (comments_of cs g)
 
+-- the comments of a group, none if there is no such group
+abbrev pub in_group : List Comment → Option Group → List Comment
+in_group cs None = []
+in_group cs (Some g) = comments_of cs g
+
 -- the comment is no shorter than its marks
 abbrev pub HoldsMarks : Comment → Type 0
 HoldsMarks c = c.span.start + (length (opening c.kind) + length (closing c.kind)) ≤ c.span.end

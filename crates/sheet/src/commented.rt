@@ -1,28 +1,93 @@
 // The comments of a source, in their groups, and the index of its positions.
-ghost use Rattle.std.specs.Prelude.{◌≡◌, ◌+◌, ◌≤◌, ◌<◌, length};
+ghost use Rattle.std.specs.Prelude.{◌≡◌, [], ◌≤◌, ◌<◌, length};
+ghost use Rattle.laws.specs.Codec.{IfThere};
 ghost use Rattle.laws.specs.code.Told.{Bounded};
 ghost use Rattle.text.specs.Position.{characters, position_of};
-ghost use Rattle.sheet.specs.Lookups.{group_at, end_group, head_group};
-ghost use Rattle.sheet.specs.Fit.{Placed, Fit, comment_of, Reaching};
+ghost use Rattle.text.specs.code.Index.{positions_in};
+ghost use Rattle.sheet.specs.Lookups.{group_at, end_group, head_group, in_group, body, body_span};
+ghost use Rattle.sheet.specs.Fit.{Placed, Fit, Reaching, comment_of};
+ghost use Rattle.sheet.specs.code.Tables.{comments_in};
 ghost use Rattle.sheet.specs.code.Lent.{Lends, Reached, commented_by};
 
 use super::comments::{Comment, CommentRow};
 use super::fields::Span;
 use super::groups::{Group, GroupRow};
-use super::lookups::{end_group, find_group, head_group};
+use super::lookups::{Groups, body, body_span};
 use super::names::Side;
 use super::program::Program;
-use crate::Sheet;
 use std::marker::Model;
-use text::position::{Position, indexed_position, later_position};
+use text::position::{Position, PositionRow, indexed_position, later_position};
 
-// A sheet, its comments and their groups in tables, and the index of its source's positions.
+// The rows of the comments of a group; none if there is no such group.
+fn rows_of(rows: &[CommentRow], found: Option<Group>) -> &[CommentRow]
+    requires { IfThere (Reaching (length rows.now)) found }
+    ensures { comments_in result.now ≡ in_group (comments_in rows.now) found }
+{
+    match found {
+        Some(g) => &rows[g.first..g.first + g.count],
+        None => &[],
+    }
+}
+
+// A comment with the source that it stands in.
+#[derive(Drop)]
+pub struct PlacedComment<'a> {
+    source: &'a [u8],
+    comment: Comment,
+}
+
+impl<'a> Model for PlacedComment<'a> {
+    ghost use Rattle.sheet.specs.code.Commented.{CommentIn};
+
+    ghost Value = { CommentIn };
+
+    ghost view = { λ c. record { source = c.source.now; comment = c.comment } };
+
+    ghost use Rattle.sheet.specs.Fit.{Placed};
+
+    ghost invariant = { λ c. Placed c.source.now c.comment };
+}
+
+impl<'a> PlacedComment<'a> {
+    pub fn new(source: &'a [u8], comment: Comment) -> PlacedComment<'a>
+        requires { Placed source.now comment }
+        ensures { result ≡ record { source = source.now; comment = comment } }
+    {
+        PlacedComment { source, comment }
+    }
+
+    pub fn comment(&self) -> Comment
+        ensures { Bounded (result ≡ self.now.comment) (Placed self.now.source result) }
+    {
+        self.comment
+    }
+
+    // The text of its body.
+    #[tactic(auto, using(crate::proofs::Marks::holds_marks_lem))]
+    pub fn body(&self) -> &'a [u8]
+        ensures { result.now ≡ body self.now.source self.now.comment }
+    {
+        body(self.source, self.comment)
+    }
+
+    // Where its body stands.
+    #[tactic(auto, using(crate::proofs::Marks::holds_marks_lem), unfolding(crate::specs::Lookups::body_span))]
+    pub fn body_span(&self) -> Span
+        ensures { Bounded
+            (result ≡ body_span self.now.comment)
+            ((result.start ≤ result.end) × (result.end ≤ length self.now.source)) }
+    {
+        body_span(self.comment)
+    }
+}
+
+// A source, its comments and their groups in tables, and the index of its positions.
 #[derive(Drop)]
 pub struct Comments<'a> {
-    sheet: Sheet<'a>,
+    source: &'a [u8],
     rows: &'a [CommentRow],
-    groups: &'a [GroupRow],
-    index: &'a [u32],
+    groups: Groups<'a>,
+    index: &'a [PositionRow],
 }
 
 impl<'a> Model for Comments<'a> {
@@ -30,43 +95,38 @@ impl<'a> Model for Comments<'a> {
 
     ghost Value = { Commented };
 
-    ghost use Rattle.sheet.specs.code.Lent.{commented_by, Lends};
+    ghost use Rattle.sheet.specs.code.Lent.{grouped_by, Lends};
 
-    ghost view = { λ c. commented_by c.sheet.bytes.now c.sheet.source.now c.rows.now c.groups.now };
+    ghost view = { λ c. grouped_by c.source.now c.rows.now c.groups };
 
-    ghost invariant = { λ c. Lends (commented_by c.sheet.bytes.now c.sheet.source.now c.rows.now c.groups.now) c.index.now };
+    ghost use Rattle.text.specs.code.Index.{positions_in};
+
+    ghost invariant = { λ c. Lends (grouped_by c.source.now c.rows.now c.groups) (positions_in c.index.now) };
 }
 
 impl<'a> Comments<'a> {
     pub fn new(
-        sheet: Sheet<'a>,
+        source: &'a [u8],
         rows: &'a [CommentRow],
         groups: &'a [GroupRow],
-        index: &'a [u32],
+        index: &'a [PositionRow],
     ) -> Comments<'a>
-        requires { Lends (commented_by sheet.bytes.now sheet.source.now rows.now groups.now) index.now }
-        ensures { result ≡ commented_by sheet.entry.bytes.now sheet.entry.source.now rows.now groups.now }
+        requires { Lends (commented_by source.now rows.now groups.now) (positions_in index.now) }
+        ensures { result ≡ commented_by source.now rows.now groups.now }
     {
         Comments {
-            sheet,
+            source,
             rows,
-            groups,
+            groups: Groups::new(groups),
             index,
         }
-    }
-
-    pub fn sheet(&self) -> &Sheet<'a>
-        ensures bytes { result.now.bytes.now ≡ self.now.bytes }
-        ensures source { result.now.source.now ≡ self.now.source }
-    {
-        &self.sheet
     }
 
     pub fn source(&self) -> &'a [u8]
         ensures value { result.now ≡ self.now.source }
         ensures fit { Fit result.now self.now.comments }
     {
-        self.sheet.source
+        self.source
     }
 
     pub fn len(&self) -> usize
@@ -76,43 +136,46 @@ impl<'a> Comments<'a> {
     }
 
     // The kth comment.
-    pub fn at(&self, k: usize) -> Comment
+    pub fn at(&self, k: usize) -> PlacedComment<'a>
         requires { k < length self.now.comments }
-        ensures { Bounded (result ≡ comment_of self.now.comments k) (Placed self.now.source result) }
+        ensures { result ≡ record { source = self.now.source; comment = comment_of self.now.comments k } }
     {
         let rows = self.rows;
-        rows[k].comment()
-    }
-
-    // The index behind the last comment of a group.
-    pub fn end_of(&self, g: Group) -> usize
-        requires { Reaching (length self.now.comments) g }
-        ensures { result ≡ g.first + g.count }
-    {
-        // opens the value: the sum is no larger than the number of rows
-        let _ = &self.rows;
-        g.first + g.count
+        PlacedComment::new(self.source, rows[k].comment())
     }
 
     // The group of a side at a position.
     pub fn group_at(&self, side: Side, position: usize) -> Option<Group>
         ensures { Bounded (result ≡ group_at self.now.groups side position) (Reached self.now result) }
     {
-        find_group(self.groups, side, position)
+        self.groups.find_group(side, position)
     }
 
     // The trailing group at the program's end.
     pub fn end_group(&self, program: Program) -> Option<Group>
         ensures { Bounded (result ≡ end_group program self.now.groups) (Reached self.now result) }
     {
-        end_group(self.groups, program)
+        self.groups.end_group(program)
     }
 
     // The head group.
     pub fn head_group(&self, program: Program) -> Option<Group>
         ensures { Bounded (result ≡ head_group program self.now.groups) (Reached self.now result) }
     {
-        head_group(self.groups, program)
+        self.groups.head_group(program)
+    }
+
+    // The comments of a group, in no groups; none if there is no such group.
+    pub fn of(&self, found: Option<Group>) -> Comments<'a>
+        requires { Reached self.now found }
+        ensures { result ≡ record { source = self.now.source; comments = in_group self.now.comments found; groups = [] } }
+    {
+        Comments {
+            source: self.source,
+            rows: rows_of(self.rows, found),
+            groups: Groups::new(&[]),
+            index: self.index,
+        }
     }
 
     // The positions at a span's start and at its end.
@@ -122,8 +185,8 @@ impl<'a> Comments<'a> {
         ensures { (result.0 ≡ position_of characters self.now.source span.start)
             × (result.1 ≡ position_of characters self.now.source span.end) }
     {
-        let start = indexed_position(self.sheet.source, self.index, span.start);
-        let end = later_position(self.sheet.source, self.index, start, span.start, span.end);
+        let start = indexed_position(self.source, self.index, span.start);
+        let end = later_position(self.source, self.index, start, span.start, span.end);
         (start, end)
     }
 }

@@ -1,5 +1,5 @@
 // Comments, read into a table.
-ghost use Rattle.std.specs.Prelude.{◌≡◌, ◌<◌, length, drop};
+ghost use Rattle.std.specs.Prelude.{◌≡◌, ◌<◌, length};
 ghost use Rattle.laws.specs.code.Told.{Told};
 ghost use Rattle.wire.specs.code.Views.{read_as, Past};
 ghost use Rattle.sheet.specs.Comments.{enclosed, marked, comment, comments};
@@ -8,7 +8,6 @@ ghost use Rattle.sheet.specs.code.Views.{comments_as};
 
 use super::fields::{Span, read_end, read_position};
 use super::names::{CommentKind, comment_kind};
-use crate::Sheet;
 use std::mem::size_of;
 use wire::refusals::Refusal;
 use wire::{Cursor, Reading};
@@ -79,19 +78,17 @@ fn is_marked(text: &[u8], kind: CommentKind) -> bool
 
 // A comment that starts no earlier than `last`, the end of the one before.
 #[tactic(auto, unfolding(crate::specs::Comments::comment, wire::specs::Fields::numbered))]
-fn read_comment(sheet: &Sheet, c: Cursor, last: usize) -> Reading<Comment>
-    ensures { Told (read_as sheet.now.bytes.now)
-        (comment sheet.now.source.now last (drop c.at sheet.now.bytes.now))
-        (Past c.at (length sheet.now.bytes.now)) result }
+fn read_comment<'a>(source: &[u8], s: &'a [u8], last: usize) -> Reading<'a, Comment>
+    ensures { Told read_as (comment source.now last s.now) (Past (length s.now)) result }
 {
-    let (kind, next) = c.below(sheet.bytes, 4)?;
-    let (start, next) = read_position(sheet, next)?;
+    let (kind, next) = s.below(4)?;
+    let (start, next) = read_position(source, next)?;
     if start < last {
         return Err(Refusal::Comments);
     }
-    let (end, next) = read_end(sheet, next, start)?;
+    let (end, next) = read_end(source, next, start)?;
     let kind = comment_kind(kind);
-    if is_marked(&sheet.source[start..end], kind) {
+    if is_marked(&source[start..end], kind) {
         let span = Span { start, end };
         Ok((Comment { kind, span }, next))
     } else {
@@ -101,14 +98,17 @@ fn read_comment(sheet: &Sheet, c: Cursor, last: usize) -> Reading<Comment>
 
 // Reads as many comments as the table has rows, which a refusal leaves free.
 #[tactic(auto, using(crate::proofs::Filling::filled))]
-pub fn read_comments(sheet: &Sheet, c: Cursor, table: &mut [CommentRow]) -> Result<Cursor, Refusal>
-    ensures { comments_as sheet.now.bytes.now table.new result
-        ≡ comments sheet.now.source.now 0 (length table.old) (drop c.at sheet.now.bytes.now) }
+pub fn read_comments<'a>(
+    source: &[u8],
+    s: &'a [u8],
+    table: &mut [CommentRow],
+) -> Result<&'a [u8], Refusal>
+    ensures { comments_as table.new result ≡ comments source.now 0 (length table.old) s.now }
 {
-    let mut next = c;
+    let mut next = s;
     let mut last = 0;
     for row in table.iter_mut() {
-        let (found, after) = read_comment(sheet, next, last)?;
+        let (found, after) = read_comment(source, next, last)?;
         *row = CommentRow::new(found);
         last = found.span.end;
         next = after;

@@ -1,11 +1,10 @@
 // Positions and spans in the source.
-ghost use Rattle.std.specs.Prelude.{◌≡◌, length, drop};
+ghost use Rattle.std.specs.Prelude.{◌≡◌, length};
 ghost use Rattle.laws.specs.code.Told.{Told};
 ghost use Rattle.text.specs.Position.{is_boundary};
 ghost use Rattle.wire.specs.code.Views.{read_as, Past};
 ghost use Rattle.sheet.specs.Fields.{position, end_from, span};
 
-use crate::Sheet;
 use text::position::goes_on;
 use wire::refusals::Refusal;
 use wire::{Cursor, Reading};
@@ -26,13 +25,11 @@ fn is_boundary(source: &[u8], p: usize) -> bool
 }
 
 #[tactic(auto, unfolding(crate::specs::Fields::position))]
-pub fn read_position(sheet: &Sheet, c: Cursor) -> Reading<usize>
-    ensures { Told (read_as sheet.now.bytes.now)
-        (position sheet.now.source.now (drop c.at sheet.now.bytes.now))
-        (Past c.at (length sheet.now.bytes.now)) result }
+pub fn read_position<'a>(source: &[u8], s: &'a [u8]) -> Reading<'a, usize>
+    ensures { Told read_as (position source.now s.now) (Past (length s.now)) result }
 {
-    let (p, next) = c.number(sheet.bytes)?;
-    if is_boundary(sheet.source, p) {
+    let (p, next) = s.number()?;
+    if is_boundary(source, p) {
         Ok((p, next))
     } else {
         Err(Refusal::Position)
@@ -41,12 +38,10 @@ pub fn read_position(sheet: &Sheet, c: Cursor) -> Reading<usize>
 
 // A position that does not precede `start`.
 #[tactic(auto, unfolding(crate::specs::Fields::end_from))]
-pub fn read_end(sheet: &Sheet, c: Cursor, start: usize) -> Reading<usize>
-    ensures { Told (read_as sheet.now.bytes.now)
-        (end_from sheet.now.source.now start (drop c.at sheet.now.bytes.now))
-        (Past c.at (length sheet.now.bytes.now)) result }
+pub fn read_end<'a>(source: &[u8], s: &'a [u8], start: usize) -> Reading<'a, usize>
+    ensures { Told read_as (end_from source.now start s.now) (Past (length s.now)) result }
 {
-    let (end, next) = read_position(sheet, c)?;
+    let (end, next) = read_position(source, s)?;
     if start <= end {
         Ok((end, next))
     } else {
@@ -55,12 +50,10 @@ pub fn read_end(sheet: &Sheet, c: Cursor, start: usize) -> Reading<usize>
 }
 
 #[tactic(auto, unfolding(crate::specs::Fields::span))]
-pub fn read_span(sheet: &Sheet, c: Cursor) -> Reading<Span>
-    ensures { Told (read_as sheet.now.bytes.now)
-        (span sheet.now.source.now (drop c.at sheet.now.bytes.now))
-        (Past c.at (length sheet.now.bytes.now)) result }
+pub fn read_span<'a>(source: &[u8], s: &'a [u8]) -> Reading<'a, Span>
+    ensures { Told read_as (span source.now s.now) (Past (length s.now)) result }
 {
-    let (start, next) = read_position(sheet, c)?;
-    let (end, next) = read_end(sheet, next, start)?;
+    let (start, next) = read_position(source, s)?;
+    let (end, next) = read_end(source, next, start)?;
     Ok((Span { start, end }, next))
 }

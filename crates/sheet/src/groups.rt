@@ -1,5 +1,5 @@
 // Groups of comments, read into a table.
-ghost use Rattle.std.specs.Prelude.{◌≡◌, ◌&&◌, ◌+◌, ◌<◌, leb, ltb, length, drop};
+ghost use Rattle.std.specs.Prelude.{◌≡◌, ◌&&◌, ◌+◌, ◌<◌, leb, ltb, length};
 ghost use Rattle.laws.specs.code.Told.{Told};
 ghost use Rattle.wire.specs.code.Views.{read_as, Past};
 ghost use Rattle.sheet.specs.Comments.{precedes, anywhere, group, groups};
@@ -8,7 +8,6 @@ ghost use Rattle.sheet.specs.code.Views.{after_as, groups_as};
 
 use super::fields::read_position;
 use super::names::{Side, side_of};
-use crate::Sheet;
 use std::mem::size_of;
 use wire::refusals::Refusal;
 use wire::{Cursor, Reading};
@@ -85,24 +84,22 @@ fn reaches(first: usize, count: usize, total: usize) -> bool
 
 // A group of comments among `total`, behind another or the first.
 #[tactic(auto, unfolding(crate::specs::Comments::group, wire::specs::Fields::numbered))]
-fn read_group(
-    sheet: &Sheet,
-    c: Cursor,
+fn read_group<'a>(
+    source: &[u8],
+    s: &'a [u8],
     total: usize,
     before: Option<(Side, usize)>,
-) -> Reading<Group>
-    ensures { Told (read_as sheet.now.bytes.now)
-        (group sheet.now.source.now total (after_as before) (drop c.at sheet.now.bytes.now))
-        (Past c.at (length sheet.now.bytes.now)) result }
+) -> Reading<'a, Group>
+    ensures { Told read_as (group source.now total (after_as before) s.now) (Past (length s.now)) result }
 {
-    let (side, next) = c.below(sheet.bytes, 2)?;
-    let (position, next) = read_position(sheet, next)?;
+    let (side, next) = s.below(2)?;
+    let (position, next) = read_position(source, next)?;
     let side = side_of(side);
     if !may_follow(before, side, position) {
         return Err(Refusal::Comments);
     }
-    let (first, next) = next.number(sheet.bytes)?;
-    let (count, next) = next.number(sheet.bytes)?;
+    let (first, next) = next.number()?;
+    let (count, next) = next.number()?;
     if !reaches(first, count, total) {
         return Err(Refusal::Comments);
     }
@@ -117,19 +114,18 @@ fn read_group(
 
 // Reads as many groups, of comments among `total`, as the table has rows, which a refusal leaves free.
 #[tactic(auto, using(crate::proofs::Filling::filled))]
-pub fn read_groups(
-    sheet: &Sheet,
-    c: Cursor,
+pub fn read_groups<'a>(
+    source: &[u8],
+    s: &'a [u8],
     total: usize,
     table: &mut [GroupRow],
-) -> Result<Cursor, Refusal>
-    ensures { groups_as sheet.now.bytes.now table.new result
-        ≡ groups sheet.now.source.now total anywhere (length table.old) (drop c.at sheet.now.bytes.now) }
+) -> Result<&'a [u8], Refusal>
+    ensures { groups_as table.new result ≡ groups source.now total anywhere (length table.old) s.now }
 {
-    let mut next = c;
+    let mut next = s;
     let mut before = None;
     for row in table.iter_mut() {
-        let (g, after) = read_group(sheet, next, total, before)?;
+        let (g, after) = read_group(source, next, total, before)?;
         *row = GroupRow::new(g);
         before = Some((g.side, g.position));
         next = after;

@@ -11,10 +11,3 @@ pub mod lookups;
 pub mod names;
 pub mod program;
 pub mod tables;
-
-// A sheet's bytes, and its source among them: what fields and nodes are read from.
-#[derive(Clone, Copy)]
-pub struct Sheet<'a> {
-    pub bytes: &'a [u8],
-    pub source: &'a [u8],
-}

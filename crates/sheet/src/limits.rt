@@ -1,4 +1,4 @@
-// Document 01's limits of a sheet, and the sizes of tables that follow from them.
+// The limits of a sheet, as document 01 has them, and the sizes of the tables that follow from them.
 
 // Bytes of a sheet.
 pub const SHEET_LIMIT: usize = 65536;
@@ -27,5 +27,5 @@ pub const ENTRY_BYTES: usize = 9;
 // Dependencies.
 pub const ENTRY_LIMIT: usize = SHEET_LIMIT / ENTRY_BYTES;
 
-// Numbers in the index of the source, two for each 64 bytes and two for what is left.
-pub const INDEX_NUMBERS: usize = 2 * (SOURCE_LIMIT / 64 + 1);
+// Positions in the index of the source: one for each 64 bytes, and one for what is left.
+pub const INDEX_ROWS: usize = SOURCE_LIMIT / 64 + 1;

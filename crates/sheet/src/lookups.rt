@@ -10,35 +10,64 @@ use super::fields::Span;
 use super::groups::{Group, GroupRow};
 use super::names::{CommentKind, Side};
 use super::program::Program;
+use std::marker::Model;
 
-// The group of a side at a position.
-pub fn find_group(groups: &[GroupRow], side: Side, position: usize) -> Option<Group>
-    requires { Ascending (groups_in groups.now) }
-    ensures { result ≡ group_at (groups_in groups.now) side position }
-{
-    let place = |row: &GroupRow| (row.side, row.position as usize);
-    let at = groups.binary_search_by_key(&(side, position), place).ok()?;
-    Some(groups[at].group())
+// The groups of comments, in order.
+#[derive(Drop)]
+pub struct Groups<'a> {
+    rows: &'a [GroupRow],
 }
 
-// The trailing group at the program's end.
-pub fn end_group(groups: &[GroupRow], program: Program) -> Option<Group>
-    requires { Ascending (groups_in groups.now) }
-    ensures { result ≡ end_group program (groups_in groups.now) }
-{
-    find_group(groups, Side::Trailing, program.span.end)
+impl<'a> Model for Groups<'a> {
+    ghost use Rattle.std.specs.Prelude.{List};
+    ghost use Rattle.sheet.specs.declared.groups.Group.{Group};
+
+    ghost Value = { List Group };
+
+    ghost use Rattle.sheet.specs.code.Tables.{groups_in};
+
+    ghost view = { λ g. groups_in g.rows.now };
+
+    ghost use Rattle.sheet.specs.Fit.{Ascending};
+
+    ghost invariant = { λ g. Ascending (groups_in g.rows.now) };
 }
 
-// The head group.
-#[tactic(auto, unfolding(crate::specs::Lookups::head_group))]
-pub fn head_group(groups: &[GroupRow], program: Program) -> Option<Group>
-    requires { Ascending (groups_in groups.now) }
-    ensures { result ≡ head_group program (groups_in groups.now) }
-{
-    match program.first {
-        Some(item) => find_group(groups, Side::Leading, item),
-        None if program.shebang => end_group(groups, program),
-        None => find_group(groups, Side::Leading, program.span.start),
+impl<'a> Groups<'a> {
+    pub fn new(rows: &'a [GroupRow]) -> Groups<'a>
+        requires { Ascending (groups_in rows.now) }
+        ensures { result ≡ groups_in rows.now }
+    {
+        Groups { rows }
+    }
+
+    // The group of a side at a position.
+    pub fn find_group(&self, side: Side, position: usize) -> Option<Group>
+        ensures { result ≡ group_at self.now side position }
+    {
+        let place = |row: &GroupRow| (row.side, row.position as usize);
+        let rows = self.rows;
+        let at = rows.binary_search_by_key(&(side, position), place).ok()?;
+        Some(rows[at].group())
+    }
+
+    // The trailing group at the program's end.
+    pub fn end_group(&self, program: Program) -> Option<Group>
+        ensures { result ≡ end_group program self.now }
+    {
+        self.find_group(Side::Trailing, program.span.end)
+    }
+
+    // The head group.
+    #[tactic(auto, unfolding(crate::specs::Lookups::head_group))]
+    pub fn head_group(&self, program: Program) -> Option<Group>
+        ensures { result ≡ head_group program self.now }
+    {
+        match program.first {
+            Some(item) => self.find_group(Side::Leading, item),
+            None if program.shebang => self.end_group(program),
+            None => self.find_group(Side::Leading, program.span.start),
+        }
     }
 }
 

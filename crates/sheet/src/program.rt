@@ -1,5 +1,5 @@
 // The program of a sheet.
-ghost use Rattle.std.specs.Prelude.{length, drop};
+ghost use Rattle.std.specs.Prelude.{length};
 ghost use Rattle.laws.specs.code.Told.{Told};
 ghost use Rattle.wire.specs.Optional.{optional};
 ghost use Rattle.wire.specs.code.Views.{read_as, Past};
@@ -7,7 +7,6 @@ ghost use Rattle.sheet.specs.Fields.{position};
 ghost use Rattle.sheet.specs.Program.{program};
 
 use super::fields::{Span, read_position, read_span};
-use crate::Sheet;
 use wire::{Cursor, Reading};
 
 #[derive(Clone, Copy)]
@@ -20,14 +19,12 @@ pub struct Program {
 }
 
 #[tactic(auto, unfolding(wire::specs::Optional::optional))]
-fn read_first_item(sheet: &Sheet, c: Cursor) -> Reading<Option<usize>>
-    ensures { Told (read_as sheet.now.bytes.now)
-        (optional (position sheet.now.source.now) (drop c.at sheet.now.bytes.now))
-        (Past c.at (length sheet.now.bytes.now)) result }
+fn read_first_item<'a>(source: &[u8], s: &'a [u8]) -> Reading<'a, Option<usize>>
+    ensures { Told read_as (optional (position source.now) s.now) (Past (length s.now)) result }
 {
-    let (has_item, next) = c.flag(sheet.bytes)?;
+    let (has_item, next) = s.flag()?;
     if has_item {
-        let (p, next) = read_position(sheet, next)?;
+        let (p, next) = read_position(source, next)?;
         Ok((Some(p), next))
     } else {
         Ok((None, next))
@@ -35,15 +32,13 @@ fn read_first_item(sheet: &Sheet, c: Cursor) -> Reading<Option<usize>>
 }
 
 #[tactic(auto, unfolding(crate::specs::Program::program))]
-pub fn read_program(sheet: &Sheet, c: Cursor) -> Reading<Program>
-    ensures { Told (read_as sheet.now.bytes.now)
-        (program sheet.now.source.now (drop c.at sheet.now.bytes.now))
-        (Past c.at (length sheet.now.bytes.now)) result }
+pub fn read_program<'a>(source: &[u8], s: &'a [u8]) -> Reading<'a, Program>
+    ensures { Told read_as (program source.now s.now) (Past (length s.now)) result }
 {
-    let (script, next) = c.flag(sheet.bytes)?;
-    let (span, next) = read_span(sheet, next)?;
-    let (shebang, next) = next.flag(sheet.bytes)?;
-    let (first, next) = read_first_item(sheet, next)?;
+    let (script, next) = s.flag()?;
+    let (span, next) = read_span(source, next)?;
+    let (shebang, next) = next.flag()?;
+    let (first, next) = read_first_item(source, next)?;
     let program = Program {
         script,
         span,

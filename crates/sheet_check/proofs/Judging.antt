@@ -1,7 +1,6 @@
 -- The ways out of the check of a sheet.
-use Rattle.laws.proofs.Prelude.{◌≡◌, refl, List, ℕ, ◌≤◌, ◌<◌, length, drop, le-leb, lt-leb}
+use Rattle.laws.proofs.Prelude.{◌≡◌, refl, List, ℕ, ◌≤◌, ◌<◌, length, le-leb, lt-leb}
 use Rattle.laws.specs.Decoded.{ok, no}
-use Rattle.text.specs.Bytes.{part}
 use Rattle.sheet.specs.declared.{comments.CommentRow.CommentRow, groups.GroupRow.GroupRow}
 use Rattle.sheet.specs.{Limits.sheet_limit, Sheet.sized, Sheet.accept}
 use Rattle.sheet_check.specs.declared.front.Front as declared
@@ -18,33 +17,20 @@ module _ (s : List ℕ) (few : length s ≤ sheet_limit) where
   pub refused_front : {r : ℕ} → front s ≡ no r → accept s ≡ no r
   refused_front e = rw (accept_by_pieces s, fits, e)
 
-  module _ (comment_table : List CommentRow) (group_table : List GroupRow) (t : declared.Front) (at : ℕ)
-      (e : front s ≡ ok (front_of s comment_table group_table t) (drop at s)) where
-    pub refused_tree : {r : ℕ} → tree (part s t.source_start t.source_end) (drop at s) ≡ no r → accept s ≡ no r
+  module _ (comment_table : List CommentRow) (group_table : List GroupRow) (t : declared.Front) {u : List ℕ}
+      (e : front s ≡ ok (front_of comment_table group_table t) u) where
+    pub refused_tree : {r : ℕ} → tree t.source.now u ≡ no r → accept s ≡ no r
     refused_tree h = rw (accept_by_pieces s, fits, e, h)
 
-    pub accepts : (x : Tree)
-        → Inside (length s) t
-        → Stands s (part s t.source_start t.source_end) at x
-        → Accepts s comment_table group_table (record {
-          media = t.media;
-          source_start = t.source_start;
-          source_end = t.source_end;
-          comments = t.comments;
-          groups = t.groups;
-          program = x.program;
-          root = x.root;
-          entries = x.entries;
-          reach = x.reach;
-        })
+    pub accepts : (x : Tree) → Inside s t → Stands t.source.now u x → Accepts s comment_table group_table (record { front = t; tree = x })
     unfolding tree
     accepts x inside stands =
         record {
-          sheet = whole (front_of s comment_table group_table t) (x.program, stands.root);
+          sheet = whole (front_of comment_table group_table t) (x.program, stands.root);
           accepted = rw (accept_by_pieces s, fits, e, stands.before, stands.stands, stands.cooked);
           media = refl;
           source = refl;
-          places = inside.places;
+          place = inside.place;
           comments = refl;
           groups = refl;
           few = inside.few;

@@ -1,5 +1,5 @@
 -- The tree of a sheet from its program and what the check of its root found.
-use Rattle.laws.proofs.Prelude.{◌≡◌, ap, ◌∙◌, true, false, List, [], ◌∷◌, ℕ, drop}
+use Rattle.laws.proofs.Prelude.{◌≡◌, ap, ◌∙◌, true, false, List, [], ◌∷◌, ℕ, ◌<◌, arith, length}
 use Rattle.laws.specs.Decoded.{ok, no, on_ok}
 use Rattle.laws.proofs.Decoding.{on_ok_ok, on_ok_no}
 use Rattle.sheet.specs.{Limits.depth_limit, Tree.Node, Program.Program, Program.program, Nodes.node}
@@ -11,9 +11,10 @@ module _ (source s : List ℕ) {p : Program} {t : List ℕ} (before : program so
   unfolding tree
   root_refused e = rw (before, on_ok_no node_tally (node source depth_limit t) e)
 
-  pub bytes_follow_lem : {j : NodeTally} {b : ℕ} {u : List ℕ} → on_ok node_tally (node source depth_limit t) ≡ ok j (b ∷ u) → tree source s ≡ no 8
+  pub bytes_follow : {j : NodeTally} (u : List ℕ) → on_ok node_tally (node source depth_limit t) ≡ ok j u → 0 < length u → tree source s ≡ no 8
   unfolding tree
-  bytes_follow_lem e =
+  bytes_follow [] e h = absurd (omega arith)
+  bytes_follow (b ∷ u) e h =
       let (root, stands, found) = on_ok_ok node_tally (node source depth_limit t) e in
       rw (before, stands)
 
@@ -24,11 +25,11 @@ module _ (source s : List ℕ) {p : Program} {t : List ℕ} (before : program so
       rw (before, stands, ap (λ j. j.uncooked) found ∙ h)
 
 -- the root ends the sheet, and no call in it meets refusal 9
-pub tree_stands : (s source : List ℕ) (at : ℕ) (x : Tree) {j : NodeTally} → program source (drop at s) ≡ ok x.program (drop x.root s)
-    → on_ok node_tally (node source depth_limit (drop x.root s)) ≡ ok j [] → j.uncooked ≡ false → j.entries ≡ x.entries
-    → ((n : Node) (t : List ℕ) → node source depth_limit (drop x.root s) ≡ ok n t → ReachesIn x.reach n) → Stands s source at x
-tree_stands s source at x before e h gives reaches =
-    let (root, stands, found) = on_ok_ok node_tally (node source depth_limit (drop x.root s)) e in
+pub tree_stands : (source s : List ℕ) (x : Tree) {j : NodeTally} → program source s ≡ ok x.program x.root.now
+    → on_ok node_tally (node source depth_limit x.root.now) ≡ ok j [] → j.uncooked ≡ false → j.entries ≡ x.entries
+    → ((n : Node) (t : List ℕ) → node source depth_limit x.root.now ≡ ok n t → ReachesIn x.reach n) → Stands source s x
+tree_stands source s x before e h gives reaches =
+    let (root, stands, found) = on_ok_ok node_tally (node source depth_limit x.root.now) e in
     record {
       root = root;
       before = before;
@@ -37,3 +38,5 @@ tree_stands s source at x before e h gives reaches =
       gives = ap (λ j. j.entries) found ∙ gives;
       reaches = reaches root [] stands;
     }
+
+pub ruleset trees = (root_refused, bytes_follow, root_uncooked, tree_stands)

@@ -1,41 +1,38 @@
 // The program and the root of a sheet, with refusals 8 and 9 behind them.
 ghost use Rattle.sheet_check.specs.code.Views.{TreeFound};
 
-use sheet::Sheet;
 use sheet::limits::DEPTH_LIMIT;
 use sheet::program::{Program, read_program};
 use sheet_nodes::root::check_root;
-use wire::Cursor;
 use wire::refusals::Refusal;
 
-// The program, where the root stands in the sheet, how many dependencies it gives, and how many of its children there are up to the last that
-// gives one, if it is an Other.
+// The program, the bytes of the root, how many dependencies it gives, and how many of its children there are up to the last that gives one, if it is
+// an Other.
 #[derive(Clone, Copy)]
-pub struct Tree {
+pub struct Tree<'a> {
     pub program: Program,
-    pub root: usize,
+    pub root: &'a [u8],
     pub entries: usize,
     pub reach: usize,
 }
 
 // Reads the program and checks the root, behind which the sheet ends; then refusal 8, then refusal 9.
-pub fn check_tree(sheet: &Sheet, c: Cursor) -> Result<Tree, Refusal>
-    ensures { TreeFound sheet.now.bytes.now sheet.now.source.now c.at result }
+#[tactic(auto, using(crate::proofs::Trees::trees), unfolding(crate::specs::code::Pieces::tree))]
+pub fn check_tree<'a>(source: &[u8], s: &'a [u8]) -> Result<Tree<'a>, Refusal>
+    ensures { TreeFound source.now s.now result }
 {
-    let (program, next) = read_program(sheet, c)?;
-    let (root, after) = check_root(sheet, next, DEPTH_LIMIT)?;
-    let found = root.tally;
-    let end = after.at;
-    if end < sheet.bytes.len() {
+    let (program, root) = read_program(source, s)?;
+    let (found, after) = check_root(source, root, DEPTH_LIMIT)?;
+    if !after.is_empty() {
         return Err(Refusal::Trailing);
     }
-    if found.uncooked {
+    if found.tally.uncooked {
         return Err(Refusal::Uncooked);
     }
     Ok(Tree {
         program,
-        root: next.at,
-        entries: found.entries,
-        reach: root.reach,
+        root,
+        entries: found.tally.entries,
+        reach: found.reach,
     })
 }

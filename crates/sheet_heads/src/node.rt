@@ -1,33 +1,59 @@
 // The head of a node: its tag, its span and its fields up to its first child.
-ghost use Rattle.std.specs.Prelude.{length, drop};
+ghost use Rattle.std.specs.Prelude.{length};
 ghost use Rattle.laws.specs.Decoded.{on_ok};
 ghost use Rattle.laws.specs.code.Told.{Told};
 ghost use Rattle.text.specs.declared.utf8.Encoding.TheVariants.{Utf8};
 ghost use Rattle.wire.specs.Fields.{flag};
 ghost use Rattle.wire.specs.Number.{number};
 ghost use Rattle.wire.specs.Text.{count, text};
+ghost use Rattle.wire.specs.code.Views.{Past};
 ghost use Rattle.sheet.specs.Limits.{text_limit, property_limit};
 ghost use Rattle.sheet.specs.Nodes.{string_text};
 ghost use Rattle.sheet_heads.specs.code.Head.{other_head, string_head, name_head, template_head, binary_head, object_head, call_start, specifier_start};
 ghost use Rattle.sheet_heads.specs.code.Head.{import_start, named_export_start, export_all_start, import_type_start, import_require_start};
 ghost use Rattle.sheet_heads.specs.code.Head.{import_equals_start, module_start, start, head};
-ghost use Rattle.sheet_heads.specs.code.Views.{tag_number, specifier_as, fields_as, head_as, Part, PastSpecifier, PastFields, PastHead};
+ghost use Rattle.sheet_heads.specs.code.Views.{tag_number, specifier_as, fields_as, head_as, Part, PastFields, PastHead};
 
 use super::quoted::{Quoted, Tag, read_quoted, read_string_text, read_tag};
-use sheet::Sheet;
 use sheet::fields::{Span, read_span};
 use sheet::limits::{PROPERTY_LIMIT, TEXT_LIMIT};
 use sheet::names::{ImportPhase, import_phase};
 use text::utf8::Encoding;
 use wire::{Cursor, Reading};
 
-// What stands before a node's first child. A text is from a place of the sheet to another.
+// What an import declaration says.
 #[derive(Clone, Copy)]
-pub enum Head {
+pub struct ImportHead<'a> {
+    pub type_only: bool,
+    pub phase: ImportPhase,
+    pub side_effect: bool,
+    pub specifier: Quoted<'a>,
+    pub has_object: bool,
+}
+
+// What an export with a String says.
+#[derive(Clone, Copy)]
+pub struct ExportHead<'a> {
+    pub type_only: bool,
+    pub specifier: Quoted<'a>,
+    pub has_object: bool,
+}
+
+// What an `import x = require(..)` says.
+#[derive(Clone, Copy)]
+pub struct RequireHead<'a> {
+    pub type_only: bool,
+    pub export: bool,
+    pub specifier: Quoted<'a>,
+}
+
+// What stands before a node's first child.
+#[derive(Clone, Copy)]
+pub enum Head<'a> {
     // The number of children.
     Other(usize),
-    String(usize, usize),
-    Name(usize, usize),
+    String(&'a [u8]),
+    Name(&'a [u8]),
     // The number of holes; the pieces follow, one more.
     Template(usize),
     // Is it a plus?
@@ -36,103 +62,87 @@ pub enum Head {
     Object(usize),
     ImportCall(ImportPhase),
     Call,
-    Import {
-        type_only: bool,
-        phase: ImportPhase,
-        side_effect: bool,
-        specifier: Quoted,
-        has_object: bool,
-    },
+    Import(ImportHead<'a>),
     // Without a String: type-only.
     NamedExport(bool),
     // With a String.
-    ExportFrom {
-        type_only: bool,
-        specifier: Quoted,
-        has_object: bool,
-    },
-    ExportAll {
-        type_only: bool,
-        specifier: Quoted,
-        has_object: bool,
-    },
+    ExportFrom(ExportHead<'a>),
+    ExportAll(ExportHead<'a>),
     // The number of children.
-    ImportType(Quoted, usize),
+    ImportType(Quoted<'a>, usize),
     // Not external.
     ImportEquals,
     // External.
-    ImportRequire {
-        type_only: bool,
-        export: bool,
-        specifier: Quoted,
-    },
+    ImportRequire(RequireHead<'a>),
     // The number of children, without and with a String.
     Module(usize),
-    NamedModule(Quoted, usize),
+    NamedModule(Quoted<'a>, usize),
 }
 
-fn read_other(sheet: &[u8], c: Cursor) -> Reading<Head>
-    ensures { Told (fields_as sheet.now)
-        (on_ok other_head (number (drop c.at sheet.now)))
-        (PastFields c.at (length sheet.now)) result }
+fn read_other(s: &[u8]) -> Reading<'_, Head<'_>>
+    ensures { Told fields_as
+        (on_ok other_head (number s.now))
+        (PastFields (length s.now)) result }
 {
-    let (n, next) = c.number(sheet)?;
+    let (n, next) = s.number()?;
     Ok((Head::Other(n), next))
 }
 
-fn read_string(sheet: &Sheet, c: Cursor, span: Span) -> Reading<Head>
-    requires { Part (length sheet.now.source.now) span.start span.end }
-    ensures { Told (fields_as sheet.now.bytes.now)
-        (on_ok string_head (string_text sheet.now.source.now span (drop c.at sheet.now.bytes.now)))
-        (PastFields c.at (length sheet.now.bytes.now)) result }
+fn read_string<'a>(source: &[u8], s: &'a [u8], span: Span) -> Reading<'a, Head<'a>>
+    requires { Part (length source.now) span.start span.end }
+    ensures { Told fields_as
+        (on_ok string_head (string_text source.now span s.now))
+        (PastFields (length s.now)) result }
 {
-    let (start, next) = read_string_text(sheet, c, span)?;
-    Ok((Head::String(start, next.at), next))
+    let (x, next) = read_string_text(source, s, span)?;
+    Ok((Head::String(x), next))
 }
 
-fn read_name(sheet: &[u8], c: Cursor) -> Reading<Head>
-    ensures { Told (fields_as sheet.now)
-        (on_ok name_head (text Utf8 text_limit (drop c.at sheet.now)))
-        (PastFields c.at (length sheet.now)) result }
+fn read_name(s: &[u8]) -> Reading<'_, Head<'_>>
+    ensures { Told fields_as
+        (on_ok name_head (text Utf8 text_limit s.now))
+        (PastFields (length s.now)) result }
 {
-    let (start, next) = c.text(sheet, Encoding::Utf8, TEXT_LIMIT)?;
-    Ok((Head::Name(start, next.at), next))
+    let (x, next) = s.text(Encoding::Utf8, TEXT_LIMIT)?;
+    Ok((Head::Name(x), next))
 }
 
-fn read_template(sheet: &[u8], c: Cursor) -> Reading<Head>
-    ensures { Told (fields_as sheet.now)
-        (on_ok template_head (number (drop c.at sheet.now)))
-        (PastFields c.at (length sheet.now)) result }
+#[tactic(auto, using(crate::proofs::Counts::number_within))]
+fn read_template(s: &[u8]) -> Reading<'_, Head<'_>>
+    ensures { Told fields_as
+        (on_ok template_head (number s.now))
+        (PastFields (length s.now)) result }
 {
-    let (holes, next) = c.number(sheet)?;
+    let (holes, next) = s.number()?;
     Ok((Head::Template(holes), next))
 }
 
-fn read_binary(sheet: &[u8], c: Cursor) -> Reading<Head>
-    ensures { Told (fields_as sheet.now)
-        (on_ok binary_head (flag (drop c.at sheet.now)))
-        (PastFields c.at (length sheet.now)) result }
+fn read_binary(s: &[u8]) -> Reading<'_, Head<'_>>
+    ensures { Told fields_as
+        (on_ok binary_head (flag s.now))
+        (PastFields (length s.now)) result }
 {
-    let (plus, next) = c.flag(sheet)?;
+    let (plus, next) = s.flag()?;
     Ok((Head::Binary(plus), next))
 }
 
-fn read_object(sheet: &[u8], c: Cursor) -> Reading<Head>
-    ensures { Told (fields_as sheet.now)
-        (on_ok object_head (count property_limit (drop c.at sheet.now)))
-        (PastFields c.at (length sheet.now)) result }
+#[tactic(auto, using(crate::proofs::Counts::count_within))]
+fn read_object(s: &[u8]) -> Reading<'_, Head<'_>>
+    ensures { Told fields_as
+        (on_ok object_head (count property_limit s.now))
+        (PastFields (length s.now)) result }
 {
-    let (n, next) = c.count(sheet, PROPERTY_LIMIT)?;
+    let (n, next) = s.count(PROPERTY_LIMIT)?;
     Ok((Head::Object(n), next))
 }
 
 #[tactic(auto, unfolding(crate::specs::code::Head::call_start))]
-fn read_call(sheet: &[u8], c: Cursor) -> Reading<Head>
-    ensures { Told (fields_as sheet.now)
-        (call_start (drop c.at sheet.now))
-        (PastFields c.at (length sheet.now)) result }
+fn read_call(s: &[u8]) -> Reading<'_, Head<'_>>
+    ensures { Told fields_as
+        (call_start s.now)
+        (PastFields (length s.now)) result }
 {
-    let (callee, next) = c.below(sheet, 4)?;
+    let (callee, next) = s.below(4)?;
     if callee < 3 {
         Ok((Head::ImportCall(import_phase(callee)), next))
     } else {
@@ -142,171 +152,169 @@ fn read_call(sheet: &[u8], c: Cursor) -> Reading<Head>
 
 // A String, and the flag of the attributes behind it.
 #[tactic(auto, unfolding(crate::specs::code::Head::specifier_start))]
-fn read_specifier(sheet: &Sheet, c: Cursor, levels: usize) -> Reading<(Quoted, bool)>
-    ensures { Told (specifier_as sheet.now.bytes.now)
-        (specifier_start sheet.now.source.now levels (drop c.at sheet.now.bytes.now))
-        (PastSpecifier c.at (length sheet.now.bytes.now)) result }
+fn read_specifier<'a>(source: &[u8], s: &'a [u8], levels: usize) -> Reading<'a, (Quoted<'a>, bool)>
+    ensures { Told specifier_as
+        (specifier_start source.now levels s.now)
+        (Past (length s.now)) result }
 {
-    let (specifier, next) = read_quoted(sheet, c, levels)?;
-    let (has_object, next) = next.flag(sheet.bytes)?;
+    let (specifier, next) = read_quoted(source, s, levels)?;
+    let (has_object, next) = next.flag()?;
     Ok(((specifier, has_object), next))
 }
 
 #[tactic(auto, unfolding(crate::specs::code::Head::import_start, wire::specs::Fields::numbered))]
-fn read_import(sheet: &Sheet, c: Cursor, levels: usize) -> Reading<Head>
-    ensures { Told (fields_as sheet.now.bytes.now)
-        (import_start sheet.now.source.now levels (drop c.at sheet.now.bytes.now))
-        (PastFields c.at (length sheet.now.bytes.now)) result }
+fn read_import<'a>(source: &[u8], s: &'a [u8], levels: usize) -> Reading<'a, Head<'a>>
+    ensures { Told fields_as
+        (import_start source.now levels s.now)
+        (PastFields (length s.now)) result }
 {
-    let (type_only, next) = c.flag(sheet.bytes)?;
-    let (phase, next) = next.below(sheet.bytes, 3)?;
-    let (side_effect, next) = next.flag(sheet.bytes)?;
-    let ((specifier, has_object), next) = read_specifier(sheet, next, levels)?;
-    Ok((
-        Head::Import {
-            type_only,
-            phase: import_phase(phase),
-            side_effect,
-            specifier,
-            has_object,
-        },
-        next,
-    ))
+    let (type_only, next) = s.flag()?;
+    let (phase, next) = next.below(3)?;
+    let (side_effect, next) = next.flag()?;
+    let ((specifier, has_object), next) = read_specifier(source, next, levels)?;
+    let head = ImportHead {
+        type_only,
+        phase: import_phase(phase),
+        side_effect,
+        specifier,
+        has_object,
+    };
+    Ok((Head::Import(head), next))
 }
 
 #[tactic(auto, unfolding(crate::specs::code::Head::named_export_start))]
-fn read_named_export(sheet: &Sheet, c: Cursor, levels: usize) -> Reading<Head>
-    ensures { Told (fields_as sheet.now.bytes.now)
-        (named_export_start sheet.now.source.now levels (drop c.at sheet.now.bytes.now))
-        (PastFields c.at (length sheet.now.bytes.now)) result }
+fn read_named_export<'a>(source: &[u8], s: &'a [u8], levels: usize) -> Reading<'a, Head<'a>>
+    ensures { Told fields_as
+        (named_export_start source.now levels s.now)
+        (PastFields (length s.now)) result }
 {
-    let (type_only, next) = c.flag(sheet.bytes)?;
-    let (named, next) = next.flag(sheet.bytes)?;
+    let (type_only, next) = s.flag()?;
+    let (named, next) = next.flag()?;
     if named {
-        let ((specifier, has_object), next) = read_specifier(sheet, next, levels)?;
-        return Ok((
-            Head::ExportFrom {
-                type_only,
-                specifier,
-                has_object,
-            },
-            next,
-        ));
+        let ((specifier, has_object), next) = read_specifier(source, next, levels)?;
+        let head = ExportHead {
+            type_only,
+            specifier,
+            has_object,
+        };
+        return Ok((Head::ExportFrom(head), next));
     }
     Ok((Head::NamedExport(type_only), next))
 }
 
 #[tactic(auto, unfolding(crate::specs::code::Head::export_all_start))]
-fn read_export_all(sheet: &Sheet, c: Cursor, levels: usize) -> Reading<Head>
-    ensures { Told (fields_as sheet.now.bytes.now)
-        (export_all_start sheet.now.source.now levels (drop c.at sheet.now.bytes.now))
-        (PastFields c.at (length sheet.now.bytes.now)) result }
+fn read_export_all<'a>(source: &[u8], s: &'a [u8], levels: usize) -> Reading<'a, Head<'a>>
+    ensures { Told fields_as
+        (export_all_start source.now levels s.now)
+        (PastFields (length s.now)) result }
 {
-    let (type_only, next) = c.flag(sheet.bytes)?;
-    let ((specifier, has_object), next) = read_specifier(sheet, next, levels)?;
-    Ok((
-        Head::ExportAll {
-            type_only,
-            specifier,
-            has_object,
-        },
-        next,
-    ))
+    let (type_only, next) = s.flag()?;
+    let ((specifier, has_object), next) = read_specifier(source, next, levels)?;
+    let head = ExportHead {
+        type_only,
+        specifier,
+        has_object,
+    };
+    Ok((Head::ExportAll(head), next))
 }
 
 #[tactic(auto, unfolding(crate::specs::code::Head::import_type_start))]
-fn read_import_type(sheet: &Sheet, c: Cursor, levels: usize) -> Reading<Head>
-    ensures { Told (fields_as sheet.now.bytes.now)
-        (import_type_start sheet.now.source.now levels (drop c.at sheet.now.bytes.now))
-        (PastFields c.at (length sheet.now.bytes.now)) result }
+fn read_import_type<'a>(source: &[u8], s: &'a [u8], levels: usize) -> Reading<'a, Head<'a>>
+    ensures { Told fields_as
+        (import_type_start source.now levels s.now)
+        (PastFields (length s.now)) result }
 {
-    let (x, next) = read_quoted(sheet, c, levels)?;
-    let (n, next) = next.number(sheet.bytes)?;
+    let (x, next) = read_quoted(source, s, levels)?;
+    let (n, next) = next.number()?;
     Ok((Head::ImportType(x, n), next))
 }
 
 #[tactic(auto, unfolding(crate::specs::code::Head::import_equals_start))]
-fn read_import_equals(sheet: &Sheet, c: Cursor, levels: usize) -> Reading<Head>
-    ensures { Told (fields_as sheet.now.bytes.now)
-        (import_equals_start sheet.now.source.now levels (drop c.at sheet.now.bytes.now))
-        (PastFields c.at (length sheet.now.bytes.now)) result }
+fn read_import_equals<'a>(source: &[u8], s: &'a [u8], levels: usize) -> Reading<'a, Head<'a>>
+    ensures { Told fields_as
+        (import_equals_start source.now levels s.now)
+        (PastFields (length s.now)) result }
 {
-    let (external, next) = c.flag(sheet.bytes)?;
+    let (external, next) = s.flag()?;
     if external {
-        return read_import_require(sheet, next, levels);
+        return read_import_require(source, next, levels);
     }
     Ok((Head::ImportEquals, next))
 }
 
 #[tactic(auto, unfolding(crate::specs::code::Head::import_require_start))]
-fn read_import_require(sheet: &Sheet, c: Cursor, levels: usize) -> Reading<Head>
-    ensures { Told (fields_as sheet.now.bytes.now)
-        (import_require_start sheet.now.source.now levels (drop c.at sheet.now.bytes.now))
-        (PastFields c.at (length sheet.now.bytes.now)) result }
+fn read_import_require<'a>(source: &[u8], s: &'a [u8], levels: usize) -> Reading<'a, Head<'a>>
+    ensures { Told fields_as
+        (import_require_start source.now levels s.now)
+        (PastFields (length s.now)) result }
 {
-    let (type_only, next) = c.flag(sheet.bytes)?;
-    let (export, next) = next.flag(sheet.bytes)?;
-    let (specifier, next) = read_quoted(sheet, next, levels)?;
-    Ok((
-        Head::ImportRequire {
-            type_only,
-            export,
-            specifier,
-        },
-        next,
-    ))
+    let (type_only, next) = s.flag()?;
+    let (export, next) = next.flag()?;
+    let (specifier, next) = read_quoted(source, next, levels)?;
+    let head = RequireHead {
+        type_only,
+        export,
+        specifier,
+    };
+    Ok((Head::ImportRequire(head), next))
 }
 
 #[tactic(auto, unfolding(crate::specs::code::Head::module_start, wire::specs::Optional::optional))]
-fn read_module(sheet: &Sheet, c: Cursor, levels: usize) -> Reading<Head>
-    ensures { Told (fields_as sheet.now.bytes.now)
-        (module_start sheet.now.source.now levels (drop c.at sheet.now.bytes.now))
-        (PastFields c.at (length sheet.now.bytes.now)) result }
+fn read_module<'a>(source: &[u8], s: &'a [u8], levels: usize) -> Reading<'a, Head<'a>>
+    ensures { Told fields_as
+        (module_start source.now levels s.now)
+        (PastFields (length s.now)) result }
 {
-    let (named, next) = c.flag(sheet.bytes)?;
+    let (named, next) = s.flag()?;
     if named {
-        let (x, next) = read_quoted(sheet, next, levels)?;
-        let (n, next) = next.number(sheet.bytes)?;
+        let (x, next) = read_quoted(source, next, levels)?;
+        let (n, next) = next.number()?;
         return Ok((Head::NamedModule(x, n), next));
     }
-    let (n, next) = next.number(sheet.bytes)?;
+    let (n, next) = next.number()?;
     Ok((Head::Module(n), next))
 }
 
 // The fields of a head, by the span and the tag, where so many levels are left below the node.
 #[tactic(auto, unfolding(crate::specs::code::Head::start))]
-fn read_fields(sheet: &Sheet, c: Cursor, levels: usize, span: Span, tag: Tag) -> Reading<Head>
-    requires { Part (length sheet.now.source.now) span.start span.end }
-    ensures { Told (fields_as sheet.now.bytes.now)
-        (start sheet.now.source.now levels span (tag_number tag) (drop c.at sheet.now.bytes.now))
-        (PastFields c.at (length sheet.now.bytes.now)) result }
+fn read_fields<'a>(
+    source: &[u8],
+    s: &'a [u8],
+    levels: usize,
+    span: Span,
+    tag: Tag,
+) -> Reading<'a, Head<'a>>
+    requires { Part (length source.now) span.start span.end }
+    ensures { Told fields_as
+        (start source.now levels span (tag_number tag) s.now)
+        (PastFields (length s.now)) result }
 {
     match tag {
-        Tag::Other => read_other(sheet.bytes, c),
-        Tag::String => read_string(sheet, c, span),
-        Tag::Name => read_name(sheet.bytes, c),
-        Tag::Template => read_template(sheet.bytes, c),
-        Tag::Binary => read_binary(sheet.bytes, c),
-        Tag::Object => read_object(sheet.bytes, c),
-        Tag::Call => read_call(sheet.bytes, c),
-        Tag::Import => read_import(sheet, c, levels),
-        Tag::NamedExport => read_named_export(sheet, c, levels),
-        Tag::ExportAll => read_export_all(sheet, c, levels),
-        Tag::ImportType => read_import_type(sheet, c, levels),
-        Tag::ImportEquals => read_import_equals(sheet, c, levels),
-        Tag::Module => read_module(sheet, c, levels),
+        Tag::Other => read_other(s),
+        Tag::String => read_string(source, s, span),
+        Tag::Name => read_name(s),
+        Tag::Template => read_template(s),
+        Tag::Binary => read_binary(s),
+        Tag::Object => read_object(s),
+        Tag::Call => read_call(s),
+        Tag::Import => read_import(source, s, levels),
+        Tag::NamedExport => read_named_export(source, s, levels),
+        Tag::ExportAll => read_export_all(source, s, levels),
+        Tag::ImportType => read_import_type(source, s, levels),
+        Tag::ImportEquals => read_import_equals(source, s, levels),
+        Tag::Module => read_module(source, s, levels),
     }
 }
 
 // The head of a node, with so many levels left, its own among them.
-#[tactic(auto, unfolding(crate::specs::code::Head::head))]
-pub fn read_head(sheet: &Sheet, c: Cursor, levels: usize) -> Reading<(Span, Head)>
-    ensures { Told (head_as sheet.now.bytes.now)
-        (head sheet.now.source.now levels (drop c.at sheet.now.bytes.now))
-        (PastHead c.at (length sheet.now.bytes.now) levels) result }
+#[tactic(auto, using(sheet::proofs::CommentCodecs::span_part), unfolding(crate::specs::code::Head::head))]
+pub fn read_head<'a>(source: &[u8], s: &'a [u8], levels: usize) -> Reading<'a, (Span, Head<'a>)>
+    ensures { Told head_as
+        (head source.now levels s.now)
+        (PastHead (length s.now) levels) result }
 {
-    let (tag, next) = read_tag(sheet.bytes, c, levels)?;
-    let (span, next) = read_span(sheet, next)?;
-    let (head, next) = read_fields(sheet, next, levels - 1, span, tag)?;
+    let (tag, next) = read_tag(s, levels)?;
+    let (span, next) = read_span(source, next)?;
+    let (head, next) = read_fields(source, next, levels - 1, span, tag)?;
     Ok(((span, head), next))
 }

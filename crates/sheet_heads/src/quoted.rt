@@ -1,12 +1,11 @@
 // Tags, and Strings that other nodes hold.
-ghost use Rattle.std.specs.Prelude.{◌≡◌, true, List, ℕ, ◌≤◌, ◌<◌, eqb, ltb, length, drop};
-ghost use Rattle.laws.specs.code.Told.{Bounded, Told};
-ghost use Rattle.wire.specs.code.Views.{text_as, PastText};
+ghost use Rattle.std.specs.Prelude.{◌≡◌, true, ◌+◌, eqb, ltb, length};
+ghost use Rattle.laws.specs.code.Told.{Told};
+ghost use Rattle.wire.specs.code.Views.{text_as, Past};
 ghost use Rattle.sheet.specs.Quotation.{looks_quoted};
 ghost use Rattle.sheet.specs.Nodes.{judge_tag, tag, string_text, quoted};
-ghost use Rattle.sheet_heads.specs.code.Views.{OfTag, tag_number, tag_as, quoted_as, Part, PastTag, PastQuoted};
+ghost use Rattle.sheet_heads.specs.code.Views.{OfTag, tag_number, tag_as, quoted_as, Part, PastTag};
 
-use sheet::Sheet;
 use sheet::fields::{Span, read_span};
 use sheet::limits::TEXT_LIMIT;
 use text::utf8::Encoding;
@@ -56,21 +55,21 @@ impl TryFrom<usize> for Tag {
     }
 }
 
-// A String: its span in the source, and where its text stands in the sheet.
+// A String: its span in the source, and its text.
 #[derive(Clone, Copy)]
-pub struct Quoted {
+pub struct Quoted<'a> {
     pub span: Span,
-    pub start: usize,
-    pub end: usize,
+    pub text: &'a [u8],
 }
 
 // A tag that its place allows: is a level left for its node?
-fn judge_tag(tag: Tag, next: Cursor, levels: usize) -> Reading<Tag>
-    ensures { Bounded ((s : List ℕ) → tag_as s result ≡ judge_tag true levels (tag_number tag) (drop next.at s))
-        ((at n : ℕ) → at < next.at → next.at ≤ n → PastTag at n levels result) }
+fn judge_tag(s: &[u8], tag: Tag, levels: usize) -> Reading<'_, Tag>
+    ensures { Told tag_as
+        (judge_tag true levels (tag_number tag) s.now)
+        (PastTag (length s.now + 1) levels) result }
 {
     if 0 < levels {
-        Ok((tag, next))
+        Ok((tag, s))
     } else {
         Err(Refusal::Limit)
     }
@@ -78,27 +77,27 @@ fn judge_tag(tag: Tag, next: Cursor, levels: usize) -> Reading<Tag>
 
 // The tag of any node.
 #[tactic(auto, unfolding(sheet::specs::Nodes::tag))]
-pub fn read_tag(sheet: &[u8], c: Cursor, levels: usize) -> Reading<Tag>
-    ensures { Told (tag_as sheet.now)
-        (tag (λ t. ltb t 13) levels (drop c.at sheet.now))
-        (PastTag c.at (length sheet.now) levels) result }
+pub fn read_tag(s: &[u8], levels: usize) -> Reading<'_, Tag>
+    ensures { Told tag_as
+        (tag (λ t. ltb t 13) levels s.now)
+        (PastTag (length s.now) levels) result }
 {
-    let (t, next) = c.byte(sheet)?;
-    judge_tag(Tag::try_from(t)?, next, levels)
+    let (t, next) = s.byte()?;
+    judge_tag(next, Tag::try_from(t)?, levels)
 }
 
 // The tag of a node where only one is allowed.
 #[tactic(auto, unfolding(sheet::specs::Nodes::tag))]
-pub fn read_tag_of(sheet: &[u8], c: Cursor, wanted: Tag, levels: usize) -> Reading<Tag>
-    ensures { Told (tag_as sheet.now)
-        (tag (eqb (tag_number wanted)) levels (drop c.at sheet.now))
-        (PastTag c.at (length sheet.now) levels) result }
+pub fn read_tag_of(s: &[u8], wanted: Tag, levels: usize) -> Reading<'_, Tag>
+    ensures { Told tag_as
+        (tag (eqb (tag_number wanted)) levels s.now)
+        (PastTag (length s.now) levels) result }
 {
-    let (t, next) = c.byte(sheet)?;
+    let (t, next) = s.byte()?;
     if wanted as usize != t {
         return Err(Refusal::Byte);
     }
-    judge_tag(wanted, next, levels)
+    judge_tag(next, wanted, levels)
 }
 
 // Has the text at least two bytes, and does it begin and end with the same mark?
@@ -109,31 +108,30 @@ fn looks_quoted(text: &[u8]) -> bool
     matches!(text, [b'"', .., b'"'] | [b'\'', .., b'\''])
 }
 
-// Where the text of a String starts whose span was read; before it, the source there must look like one.
+// The text of a String whose span was read; before it, the source there must look like one.
 #[tactic(auto, unfolding(sheet::specs::Nodes::string_text))]
-pub fn read_string_text(sheet: &Sheet, c: Cursor, span: Span) -> Reading<usize>
-    requires { Part (length sheet.now.source.now) span.start span.end }
-    ensures { Told (text_as sheet.now.bytes.now)
-        (string_text sheet.now.source.now span (drop c.at sheet.now.bytes.now))
-        (PastText c.at (length sheet.now.bytes.now)) result }
+pub fn read_string_text<'a>(source: &[u8], s: &'a [u8], span: Span) -> Reading<'a, &'a [u8]>
+    requires { Part (length source.now) span.start span.end }
+    ensures { Told text_as
+        (string_text source.now span s.now)
+        (Past (length s.now)) result }
 {
-    if looks_quoted(&sheet.source[span.start..span.end]) {
-        c.text(sheet.bytes, Encoding::Wtf8, TEXT_LIMIT)
+    if looks_quoted(&source[span.start..span.end]) {
+        s.text(Encoding::Wtf8, TEXT_LIMIT)
     } else {
         Err(Refusal::Quotation)
     }
 }
 
 // A String, with so many levels left, its own among them.
-#[tactic(auto, unfolding(sheet::specs::Nodes::quoted))]
-pub fn read_quoted(sheet: &Sheet, c: Cursor, levels: usize) -> Reading<Quoted>
-    ensures { Told (quoted_as sheet.now.bytes.now)
-        (quoted sheet.now.source.now levels (drop c.at sheet.now.bytes.now))
-        (PastQuoted c.at (length sheet.now.bytes.now)) result }
+#[tactic(auto, using(sheet::proofs::CommentCodecs::span_part), unfolding(sheet::specs::Nodes::quoted))]
+pub fn read_quoted<'a>(source: &[u8], s: &'a [u8], levels: usize) -> Reading<'a, Quoted<'a>>
+    ensures { Told quoted_as
+        (quoted source.now levels s.now)
+        (Past (length s.now)) result }
 {
-    let (_, next) = read_tag_of(sheet.bytes, c, Tag::String, levels)?;
-    let (span, next) = read_span(sheet, next)?;
-    let (start, next) = read_string_text(sheet, next, span)?;
-    let end = next.at;
-    Ok((Quoted { span, start, end }, next))
+    let (_, next) = read_tag_of(s, Tag::String, levels)?;
+    let (span, next) = read_span(source, next)?;
+    let (text, next) = read_string_text(source, next, span)?;
+    Ok((Quoted { span, text }, next))
 }

@@ -1,11 +1,9 @@
 // The texts of Names and Strings that the walk tells apart.
-ghost use Rattle.std.specs.Prelude.{◌≡◌, length};
+ghost use Rattle.std.specs.Prelude.{◌≡◌};
 ghost use Rattle.laws.specs.Ascii.{ascii};
-ghost use Rattle.text.specs.Bytes.{same, part};
+ghost use Rattle.text.specs.Bytes.{same};
 ghost use Rattle.sheet.specs.Shape.{is_augmentation, has_star};
-ghost use Rattle.sheet_heads.specs.code.Views.{QuotedPart};
 
-use super::quoted::Quoted;
 use text::bytes::equal;
 
 // The Name `require`.
@@ -27,12 +25,4 @@ pub fn is_augmentation(x: &[u8]) -> bool
     ensures { result ≡ is_augmentation x.now }
 {
     !has_star(x) || x.starts_with(b"./") || x.starts_with(b"../") || x.starts_with(b"/")
-}
-
-// The same of a String in the sheet.
-pub fn declares(sheet: &[u8], x: Quoted) -> bool
-    requires { QuotedPart (length sheet.now) x }
-    ensures { result ≡ is_augmentation (part sheet.now x.start x.end) }
-{
-    is_augmentation(&sheet[x.start..x.end])
 }

@@ -1,17 +1,17 @@
 -- What is found in a node, from what is found in the nodes that it holds.
-use Rattle.laws.proofs.Prelude.{◌≡◌, refl, sym, ap, ◌∙◌, Bool, false, List, ℕ, add-zero, zero-add}
+use Rattle.laws.proofs.Prelude.{◌≡◌, refl, sym, ap, ◌∙◌, Bool, true, false, List, ℕ, ◌-◌, add-zero, zero-add}
 use mathlib.Core.Bool.{or-false}
 use Rattle.laws.specs.Decoded.{Decoded, ok, no, and_then, on_ok, Decoder, ◌>>=◌, return}
 use Rattle.laws.proofs.Decoding.{refused, map_map, built}
-use Rattle.text.specs.Bytes.{part}
 use Rattle.wire.specs.{Fields.flag, Number.number}
 use Rattle.sheet.specs.{declared.fields.Span.Span, Walked.uncooked}
 use Rattle.sheet.specs.Tree.{Node, other, binary, Nodes, none, more, spread, other_property, child_key, string_key, name_key, Arguments, Properties, Attributes}
 use Rattle.sheet.specs.Tree.{with_object}
-use Rattle.sheet.specs.Nodes.{many, nodes, attributes}
+use Rattle.sheet.specs.Nodes.{many, nodes, attributes, attributes_object}
 use Rattle.sheet_heads.specs.{declared.parts.Property.Property, code.Rest.behind, code.Views.property_of, code.Views.nodes_of}
 use Rattle.sheet_heads.specs.declared.parts.Property.TheVariants as property
-use Rattle.sheet_heads.proofs.ByHead.{property_rest}
+use Rattle.sheet_heads.specs.code.Parts.{attributes_head}
+use Rattle.sheet_heads.proofs.ByHead.{property_rest, attributes_rest, attributes_by_head}
 use Rattle.sheet_nodes.specs.declared.tally.{Tally.Tally, NodeTally.NodeTally, Passed.Passed}
 use Rattle.sheet_nodes.specs.code.Tallies.{node_tally, tally_all, tally_in, tally_with, gain, plus, passed, passed_all, tally_typed}
 use Rattle.sheet_nodes.specs.code.Answers.{with_own, with_nodes}
@@ -58,14 +58,14 @@ module _ (inner : Decoder Node) where
       go (no r) = refl
 
   -- a property: one node, or two with a child for its key
-  pub property_holds : (s : List ℕ) (p : Property) (u : List ℕ) → on_ok tally_all (nodes inner (nodes_of p) u) ≡ on_ok gain (property_rest inner (property_of s p) u)
-  property_holds s property.Spread u = rw (nodes_one u) (alike inner tally_all gain (λ n. more n none) spread (λ n. refl) (inner u))
-  property_holds s property.Other u = rw (nodes_one u) (alike inner tally_all gain (λ n. more n none) other_property (λ n. refl) (inner u))
-  property_holds s property.ChildKey u = rw (nodes_two u) (alike_two inner tally_all gain (λ k v. more k (more v none)) child_key (λ k v. refl) (inner u))
-  property_holds s (property.StringKey from to) u = rw (nodes_one u)
-      (alike inner tally_all gain (λ n. more n none) (string_key (part s from to)) (λ n. refl) (inner u))
-  property_holds s (property.NameKey from to) u = rw (nodes_one u)
-      (alike inner tally_all gain (λ n. more n none) (name_key (part s from to)) (λ n. refl) (inner u))
+  pub property_holds : (p : Property) (u : List ℕ) → on_ok tally_all (nodes inner (nodes_of p) u) ≡ on_ok gain (property_rest inner (property_of p) u)
+  property_holds property.Spread u = rw (nodes_one u) (alike inner tally_all gain (λ n. more n none) spread (λ n. refl) (inner u))
+  property_holds property.Other u = rw (nodes_one u) (alike inner tally_all gain (λ n. more n none) other_property (λ n. refl) (inner u))
+  property_holds property.ChildKey u = rw (nodes_two u) (alike_two inner tally_all gain (λ k v. more k (more v none)) child_key (λ k v. refl) (inner u))
+  property_holds (property.StringKey x) u = rw (nodes_one u)
+      (alike inner tally_all gain (λ n. more n none) (string_key x.now) (λ n. refl) (inner u))
+  property_holds (property.NameKey x) u = rw (nodes_one u)
+      (alike inner tally_all gain (λ n. more n none) (name_key x.now) (λ n. refl) (inner u))
 
 abbrev pub pair : {A B : Type 0} → A → B → Decoder (A × B)
 pair a b = return (a, b)
@@ -113,3 +113,8 @@ nodes_attributes object' (no r) e g = absurd (refused e)
 pub object_holds : (sp : Span) (x : Decoded Properties) → on_ok tally_in x ≡ on_ok tally_with (and_then x (λ ps. return (with_object sp ps)))
 object_holds sp (ok ps t) = refl
 object_holds sp (no r) = refl
+
+-- one behind a flag that is 1, from its head
+pub object_behind : {b : Bool} (source : List ℕ) (levels : ℕ) (u : List ℕ) → b ≡ true
+    → behind b (attributes_object source levels) u ≡ and_then (attributes_head source levels u) (attributes_rest source (levels - 1))
+object_behind source levels u h = rw (h, attributes_by_head source levels u)

@@ -1,6 +1,6 @@
--- What the loops over nodes, arguments and properties keep: what was found so far, with what is to come, is what there is in all.
-use Rattle.laws.proofs.Prelude.{◌≡◌, sym, ap, ◌∙◌, Bool, List, ℕ, ◌+◌, ◌-◌, ◌≤◌, ◌<◌, arith, length, drop, sub-zero}
-use Rattle.laws.specs.Decoded.{Decoded, ok, no, on_ok, Decoder}
+-- What the loops over nodes, arguments and properties keep: what is found so far, with what is to come, is what is found in all.
+use Rattle.laws.proofs.Prelude.{◌≡◌, sym, ap, ◌∙◌, Bool, false, List, ℕ, ◌+◌, ◌-◌, ◌≤◌, ◌<◌, arith, sub-zero}
+use Rattle.laws.specs.Decoded.{ok, no, on_ok, Decoder}
 use Rattle.laws.proofs.Decoding.{on_ok_ok, on_ok_no, on_ok_same}
 use Rattle.laws.proofs.Answers.{Yields, ends, behind}
 use Rattle.sheet.specs.declared.fields.Span.{Span}
@@ -9,44 +9,28 @@ use Rattle.sheet.specs.Nodes.{many, nodes, argument_item, arguments, property_it
 use Rattle.sheet_heads.specs.code.Parts.{PropertyHead, spread_head, other_property_head, child_key_head, string_key_head, name_key_head, property_head, argument_head}
 use Rattle.sheet_heads.proofs.ByHead.{argument_by_head, property_by_head, property_rest}
 use Rattle.sheet_heads.proofs.Many.{found, found_step, found_stop, found_end}
-use Rattle.sheet_nodes.specs.declared.tally.{Tally.Tally, NodeTally.NodeTally}
+use Rattle.sheet_nodes.specs.declared.tally.{Tally.Tally, NodeTally.NodeTally, Passed.Passed}
 use Rattle.sheet_nodes.specs.code.Tallies.{node_tally, tally_of, tally_all, tally_in, gain, plus, with_argument, passed}
-use Rattle.sheet_nodes.proofs.Adds.{nothing, plus_assoc, nothing_plus, plus_nothing, no_passed, behind_passed, one_more, all_passed}
+use Rattle.sheet_nodes.proofs.Adds.{nothing, is_nothing, plus_assoc, nothing_plus, plus_nothing, is_no_passed, behind_passed, one_more, all_passed, none_more}
 
--- a loop over so many items from a place of s on, in all of which `whole` is found: w was found in those that are done, before the cursor
-pub record Loop {L W : Type 0} (after : W → L → W) (end : L) (item : Decoder (L → L)) (entries : W → ℕ) (s : List ℕ) (at count : ℕ) (whole : Decoded W)
-    (done : ℕ) (w : W) (next : ℕ) : Type 0 where
-  pub room : at + entries w ≤ next
-  pub within : next ≤ length s
-  pub in_all : whole ≡ found after end item w (count - done) (drop next s)
+-- what is found in all of so many items, of which so many are done: in these w
+module _ {L W : Type 0} (after : W → L → W) (end : L) (item : Decoder (L → L)) where
+  abbrev found_from : W → ℕ → ℕ → Decoder W
+  found_from w count done = found after end item w (count - done)
 
--- an item that is read: where w was found before it, `more w` is found with it
-pub record Read {L W : Type 0} (after : W → L → W) (item : Decoder (L → L)) (more : W → W) (u v : List ℕ) : Type 0 where
-  pub add : L → L
-  pub is : item u ≡ ok add v
-  pub adds : (w : W) (l : L) → after w (add l) ≡ after (more w) l
-
-module _ {L W : Type 0} {after : W → L → W} {end : L} {item : Decoder (L → L)} {entries : W → ℕ} {s : List ℕ} {at count : ℕ} {whole : Decoded W} where
-  pub loop_first : {w : W} → entries w ≡ 0 → at ≤ length s → whole ≡ found after end item w count (drop at s)
-      → Loop after end item entries s at count whole 0 w at
-  loop_first h l e = record { room = omega arith; within = l; in_all = rw sub-zero e }
-
-  module _ {done next : ℕ} {w : W} (l : Loop after end item entries s at count whole done w next) where
-    pub loop_step : {more : W → W} {next' : ℕ} → done < count → Read after item more (drop next s) (drop next' s)
-        → next + entries (more w) ≤ next' + entries w → next' ≤ length s → Loop after end item entries s at count whole (done + 1) (more w) next'
-    loop_step {more} {next'} h r k m =
+  module _ (w w' : W) (count done : ℕ) (u : List ℕ) where
+    from_step : {add : L → L} {v : List ℕ} → done < count → item u ≡ ok add v → ((l : L) → after w (add l) ≡ after w' l)
+        → found_from w count done u ≡ found_from w' count (done + 1) v
+    from_step h is adds =
         let down : count - (done + 1) ≡ count - done - 1 = omega arith in
-        record {
-          room = omega (arith, l.room);
-          within = m;
-          in_all = rw down (l.in_all ∙ found_step after end item w (more w) (count - done) (drop next s) (omega arith) r.is (r.adds w));
-        }
+        rw down (found_step after end item w w' (count - done) u (omega arith) is adds)
 
-    pub loop_stop : done < count → {r : ℕ} → item (drop next s) ≡ no r → no r ≡ whole
-    loop_stop h is = sym (l.in_all ∙ found_stop after end item w (count - done) (drop next s) (omega arith) is)
+  module _ (w : W) (count done : ℕ) (u : List ℕ) where
+    from_stop : {r : ℕ} → done < count → item u ≡ no r → found_from w count done u ≡ no r
+    from_stop h is = found_stop after end item w (count - done) u (omega arith) is
 
-    pub loop_end : count ≤ done → ok (after w end) (drop next s) ≡ whole
-    loop_end h = sym (l.in_all ∙ found_end after end item w (count - done) (drop next s) (omega arith))
+    from_end : count ≤ done → found_from w count done u ≡ ok (after w end) u
+    from_end h = found_end after end item w (count - done) u (omega arith)
 
 -- a property adds what it would be by itself
 abbrev Adds : (Properties → Properties) → Type 0
@@ -66,51 +50,69 @@ module _ (inner : Decoder Node) where
   abbrev pub node_item : Decoder (Nodes → Nodes)
   node_item s = on_ok (λ n l. more n l) (inner s)
 
-  pub nodes_all : (k : ℕ) (u : List ℕ) → on_ok tally_all (nodes inner k u) ≡ found after_nodes none node_item nothing k u
-  unfolding nodes
-  nodes_all k u = sym (on_ok_same (λ ns. nothing_plus (tally_all ns)) (many none node_item k u))
+  -- what is found in all of so many nodes, of which so many are done: in these t
+  unfoldable pub from_nodes : Tally → ℕ → ℕ → Decoder Tally
+  from_nodes = found_from after_nodes none node_item
 
-  module _ (u : List ℕ) where
-    pub node_read : {j : NodeTally} {v : List ℕ} → on_ok node_tally (inner u) ≡ ok j v
-        → Read after_nodes node_item (λ t. plus t (tally_of j)) u v
-    node_read e =
+  pub nodes_first : {t : Tally} (count : ℕ) (u : List ℕ) → (t.entries ≡ 0) × (t.uncooked ≡ false)
+      → on_ok tally_all (nodes inner count u) ≡ from_nodes t count 0 u
+  unfolding nodes from_nodes
+  nodes_first count u h = rw (is_nothing h, sub-zero) (sym (on_ok_same (λ ns. nothing_plus (tally_all ns)) (many none node_item count u)))
+
+  module _ (t : Tally) (count done : ℕ) (u : List ℕ) where
+    pub nodes_step : {j : NodeTally} {v : List ℕ} → done < count → on_ok node_tally (inner u) ≡ ok j v
+        → from_nodes t count done u ≡ from_nodes (plus t (tally_of j)) count (done + 1) v
+    unfolding from_nodes
+    nodes_step {j} h e =
         let (n, is, gives) = on_ok_ok node_tally (inner u) e in
-        record {
-          add = λ l. more n l;
-          is = ap (on_ok (λ n l. more n l)) is;
-          adds = λ t ns. sym (plus_assoc t (tally_of (node_tally n)) (tally_all ns)) ∙ ap (λ j. plus (plus t (tally_of j)) (tally_all ns)) gives;
-        }
+        from_step after_nodes none node_item t (plus t (tally_of j)) count done u h (ap (on_ok (λ n l. more n l)) is)
+        (λ ns. sym (plus_assoc t (tally_of (node_tally n)) (tally_all ns)) ∙ ap (λ j. plus (plus t (tally_of j)) (tally_all ns)) gives)
 
-    pub node_cut : {r : ℕ} → on_ok node_tally (inner u) ≡ no r → node_item u ≡ no r
-    node_cut e = ap (on_ok (λ n l. more n l)) (on_ok_no node_tally (inner u) e)
+    pub nodes_stop : {r : ℕ} → done < count → on_ok node_tally (inner u) ≡ no r → from_nodes t count done u ≡ no r
+    unfolding from_nodes
+    nodes_stop h e = from_stop after_nodes none node_item t count done u h (ap (on_ok (λ n l. more n l)) (on_ok_no node_tally (inner u) e))
+
+    pub nodes_end : count ≤ done → from_nodes t count done u ≡ ok t u
+    unfolding from_nodes
+    nodes_end h = from_end after_nodes none node_item t count done u h ∙ ap (λ t. ok t u) (plus_nothing t)
 
   module _ (source : List ℕ) where
-    pub arguments_all : (k : ℕ) (u : List ℕ) → on_ok passed (arguments inner source k u)
-        ≡ found behind_passed no_arguments (argument_item inner source) no_passed k u
-    unfolding arguments
-    arguments_all k u = sym (on_ok_same all_passed (many no_arguments (argument_item inner source) k u))
+    unfoldable pub from_arguments : Passed → ℕ → ℕ → Decoder Passed
+    from_arguments = found_from behind_passed no_arguments (argument_item inner source)
 
-    module _ (u : List ℕ) where
+    pub arguments_first : {p : Passed} (count : ℕ) (u : List ℕ)
+        → (p.entries ≡ 0) × ((p.uncooked ≡ false) × ((p.any ≡ false) × (p.template ≡ false)))
+        → on_ok passed (arguments inner source count u) ≡ from_arguments p count 0 u
+    unfolding arguments from_arguments
+    arguments_first count u h = rw (is_no_passed h, sub-zero) (sym (on_ok_same all_passed (many no_arguments (argument_item inner source) count u)))
+
+    module _ (p : Passed) (count done : ℕ) (u : List ℕ) where
       follows : {a : Bool × Span} {v : List ℕ} {n : Node} {w : List ℕ} → argument_head source u ≡ ok a v → inner v ≡ ok n w
           → argument_item inner source u ≡ ok (argument a.0 a.1 n) w
       follows e is = rw (argument_by_head inner source u, e, is)
 
-      pub argument_read : {a : Bool × Span} {v : List ℕ} {j : NodeTally} {w : List ℕ} → argument_head source u ≡ ok a v → on_ok node_tally (inner v) ≡ ok j w
-          → Read behind_passed (argument_item inner source) (λ p. with_argument p j) u w
-      argument_read {a} {v} e f =
+      pub arguments_step : {a : Bool × Span} {v : List ℕ} {j : NodeTally} {w : List ℕ} → done < count → argument_head source u ≡ ok a v
+          → on_ok node_tally (inner v) ≡ ok j w → from_arguments p count done u ≡ from_arguments (with_argument p j) count (done + 1) w
+      unfolding from_arguments
+      arguments_step {a} {v} {j} h e f =
           let (n, is, gives) = on_ok_ok node_tally (inner v) f in
-          record {
-            add = argument a.0 a.1 n;
-            is = follows e is;
-            adds = λ p xs. one_more p a.0 a.1 n xs ∙ ap (λ j. behind_passed (with_argument p j) xs) gives;
-          }
+          from_step behind_passed no_arguments (argument_item inner source) p (with_argument p j) count done u h (follows e is)
+          (λ xs. one_more p a.0 a.1 n xs ∙ ap (λ j. behind_passed (with_argument p j) xs) gives)
 
-      pub argument_stop : {a : Bool × Span} {v : List ℕ} {r : ℕ} → argument_head source u ≡ ok a v → on_ok node_tally (inner v) ≡ no r
-          → argument_item inner source u ≡ no r
-      argument_stop {a} {v} e f = rw (argument_by_head inner source u, e, on_ok_no node_tally (inner v) f)
+      pub arguments_stop : {a : Bool × Span} {v : List ℕ} {r : ℕ} → done < count → argument_head source u ≡ ok a v → on_ok node_tally (inner v) ≡ no r
+          → from_arguments p count done u ≡ no r
+      unfolding from_arguments
+      arguments_stop {a} {v} h e f =
+          from_stop behind_passed no_arguments (argument_item inner source) p count done u h
+          (rw (argument_by_head inner source u, e, on_ok_no node_tally (inner v) f))
 
-      pub argument_cut : {r : ℕ} → argument_head source u ≡ no r → argument_item inner source u ≡ no r
-      argument_cut e = rw (argument_by_head inner source u, e)
+      pub arguments_cut : {r : ℕ} → done < count → argument_head source u ≡ no r → from_arguments p count done u ≡ no r
+      unfolding from_arguments
+      arguments_cut h e = from_stop behind_passed no_arguments (argument_item inner source) p count done u h (rw (argument_by_head inner source u, e))
+
+      pub arguments_end : count ≤ done → from_arguments p count done u ≡ ok p u
+      unfolding from_arguments
+      arguments_end h = from_end behind_passed no_arguments (argument_item inner source) p count done u h ∙ ap (λ p. ok p u) (none_more p)
 
   -- each property that is read adds what it would be by itself
   by_kind : (h : PropertyHead) → Yields Adds (property_rest inner h)
@@ -125,21 +127,34 @@ module _ (inner : Decoder Node) where
   property_adds : Yields Adds (property_item inner)
   property_adds = record { at = λ u. rw (property_by_head inner u) ((behind property_head by_kind).at u) }
 
-  pub properties_all : (k : ℕ) (u : List ℕ) → on_ok tally_in (properties inner k u) ≡ found after_properties no_properties (property_item inner) nothing k u
-  unfolding properties
-  properties_all k u = sym (on_ok_same (λ ps. nothing_plus (tally_in ps)) (many no_properties (property_item inner) k u))
+  unfoldable pub from_properties : Tally → ℕ → ℕ → Decoder Tally
+  from_properties = found_from after_properties no_properties (property_item inner)
 
-  module _ (u : List ℕ) where
-    pub property_read : {g : Tally} {v : List ℕ} → on_ok gain (property_item inner u) ≡ ok g v
-        → Read after_properties (property_item inner) (λ t. plus t g) u v
-    property_read e =
+  pub properties_first : {t : Tally} (count : ℕ) (u : List ℕ) → (t.entries ≡ 0) × (t.uncooked ≡ false)
+      → on_ok tally_in (properties inner count u) ≡ from_properties t count 0 u
+  unfolding properties from_properties
+  properties_first count u h = rw (is_nothing h, sub-zero) (sym (on_ok_same (λ ps. nothing_plus (tally_in ps)) (many no_properties (property_item inner) count u)))
+
+  module _ (t : Tally) (count done : ℕ) (u : List ℕ) where
+    pub properties_step : {g : Tally} {v : List ℕ} → done < count → on_ok gain (property_item inner u) ≡ ok g v
+        → from_properties t count done u ≡ from_properties (plus t g) count (done + 1) v
+    unfolding from_properties
+    properties_step {g} h e =
         let (add, is, gives) = on_ok_ok gain (property_item inner u) e in
         let adds : Adds add = rw is at (property_adds.at u) in
-        record {
-          add = add;
-          is = is;
-          adds = λ t ps. ap (plus t) (adds ps) ∙ sym (plus_assoc t (gain add) (tally_in ps)) ∙ ap (λ g. plus (plus t g) (tally_in ps)) gives;
-        }
+        from_step after_properties no_properties (property_item inner) t (plus t g) count done u h is
+        (λ ps. ap (plus t) (adds ps) ∙ sym (plus_assoc t (gain add) (tally_in ps)) ∙ ap (λ g. plus (plus t g) (tally_in ps)) gives)
 
-    pub property_cut : {r : ℕ} → on_ok gain (property_item inner u) ≡ no r → property_item inner u ≡ no r
-    property_cut e = on_ok_no gain (property_item inner u) e
+    pub properties_stop : {r : ℕ} → done < count → on_ok gain (property_item inner u) ≡ no r → from_properties t count done u ≡ no r
+    unfolding from_properties
+    properties_stop h e = from_stop after_properties no_properties (property_item inner) t count done u h (on_ok_no gain (property_item inner u) e)
+
+    pub properties_end : count ≤ done → from_properties t count done u ≡ ok t u
+    unfolding from_properties
+    properties_end h = from_end after_properties no_properties (property_item inner) t count done u h ∙ ap (λ t. ok t u) (plus_nothing t)
+
+pub ruleset nodes_looped = (nodes_first, nodes_step, nodes_stop, nodes_end)
+
+pub ruleset arguments_looped = (arguments_first, arguments_step, arguments_stop, arguments_cut, arguments_end)
+
+pub ruleset properties_looped = (properties_first, properties_step, properties_stop, properties_end)

@@ -1,5 +1,5 @@
 // The check of the root of a tree, which also finds how far its children have entries.
-ghost use Rattle.std.specs.Prelude.{◌≡◌, List, ℕ, ◌≤◌, length, drop};
+ghost use Rattle.std.specs.Prelude.{◌≡◌, List, ℕ, length};
 ghost use Rattle.laws.specs.Decoded.{ok, on_ok};
 ghost use Rattle.laws.specs.code.Told.{Reaching};
 ghost use Rattle.sheet.specs.Tree.{Node, Nodes};
@@ -11,9 +11,8 @@ ghost use Rattle.sheet_nodes.specs.code.Reach.{furthest, Reaches, ReachesIn};
 
 use super::check::check_node;
 use super::tally::{NodeTally, Tally, add, holding};
-use sheet::Sheet;
 use sheet_heads::node::{Head, read_head};
-use wire::{Cursor, Reading};
+use wire::Reading;
 
 // What was found in the root, and how many of its children there are up to the last that has an entry, if it is an Other.
 #[derive(Clone, Copy)]
@@ -40,54 +39,54 @@ fn further(reach: usize, entries: usize, here: usize) -> usize
 }
 
 // So many children, one after the other.
-fn check_children(sheet: &Sheet, c: Cursor, count: usize, levels: usize) -> Reading<Children>
-    requires { c.at ≤ length sheet.now.bytes.now }
+#[tactic(auto, using(crate::proofs::Loops::nodes_looped, crate::proofs::Reach::reaching))]
+fn check_children<'a>(
+    source: &[u8],
+    s: &'a [u8],
+    count: usize,
+    levels: usize,
+) -> Reading<'a, Children>
     ensures { Reaching
-        (children_as sheet.now.bytes.now result
-        ≡ on_ok tally_all (nodes (node sheet.now.source.now levels) count (drop c.at sheet.now.bytes.now)))
-        (PastChildren c.at (length sheet.now.bytes.now) result)
+        (children_as result
+        ≡ on_ok tally_all (nodes (node source.now levels) count s.now))
+        (PastChildren (length s.now) result)
         (PastWith (λ children next. (ns : Nodes) (t : List ℕ)
-        → nodes (node sheet.now.source.now levels) count (drop c.at sheet.now.bytes.now) ≡ ok ns t
+        → nodes (node source.now levels) count s.now ≡ ok ns t
         → Reaches children.reach ns) result) }
 {
-    let mut at = c;
-    let mut total = Tally::default();
+    let mut next = s;
+    let mut tally = Tally::default();
     let mut reach = 0;
     for k in 0..count {
-        let (j, next) = check_node(sheet, at, levels)?;
-        total = add(total, Tally::from(j));
-        at = next;
+        let (j, after) = check_node(source, next, levels)?;
+        tally = add(tally, Tally::from(j));
+        next = after;
         reach = further(reach, j.entries, k + 1);
     }
-    Ok((
-        Children {
-            tally: total,
-            reach,
-        },
-        at,
-    ))
+    Ok((Children { tally, reach }, next))
 }
 
-// The root at a cursor, as `check_node` has it.
-pub fn check_root(sheet: &Sheet, c: Cursor, levels: usize) -> Reading<Root>
+// The root, as `check_node` has it.
+#[tactic(auto, using(sheet_heads::proofs::ByHead::node_by_head, crate::proofs::Arms::other_holds, crate::proofs::Reach::other_reaches, crate::proofs::Reach::unlike_reaches))]
+pub fn check_root<'a>(source: &[u8], s: &'a [u8], levels: usize) -> Reading<'a, Root>
     ensures { Reaching
-        (root_as sheet.now.bytes.now result
-        ≡ on_ok node_tally (node sheet.now.source.now levels (drop c.at sheet.now.bytes.now)))
-        (PastRoot c.at (length sheet.now.bytes.now) result)
+        (root_as result
+        ≡ on_ok node_tally (node source.now levels s.now))
+        (PastRoot (length s.now) result)
         (PastWith (λ root next. (n : Node) (t : List ℕ)
-        → node sheet.now.source.now levels (drop c.at sheet.now.bytes.now) ≡ ok n t
+        → node source.now levels s.now ≡ ok n t
         → ReachesIn root.reach n) result) }
 {
-    let ((_, head), next) = read_head(sheet, c, levels)?;
+    let ((_, head), next) = read_head(source, s, levels)?;
     match head {
         Head::Other(n) => {
-            let (children, next) = check_children(sheet, next, n, levels - 1)?;
+            let (children, next) = check_children(source, next, n, levels - 1)?;
             let tally = holding(false, false, children.tally);
             let reach = children.reach;
             Ok((Root { tally, reach }, next))
         }
         _ => {
-            let (tally, next) = check_node(sheet, c, levels)?;
+            let (tally, next) = check_node(source, s, levels)?;
             Ok((Root { tally, reach: 0 }, next))
         }
     }

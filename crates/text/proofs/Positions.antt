@@ -1,11 +1,14 @@
 -- Positions from one place of a text to another, how far they go, and an index of them.
-use Rattle.laws.proofs.Prelude.{◌≡◌, refl, ◌∙◌, Bool, true, false, cond, List, [], ◌∷◌, ◌++◌, ℕ, ◌+◌, ◌-◌, ◌*◌, ◌/◌, ◌≤◌, ◌<◌, not-suc-le-zero, arith}
-use Rattle.laws.proofs.Prelude.{add-one, eqb, length, get_or, set, take, drop, length-set, length-take-le, get_or-set_same, get_or-set_other}
+use Rattle.laws.proofs.Prelude.{◌≡◌, refl, ◌∙◌, Bool, true, false, cond, List, [], ◌∷◌, ◌++◌, ℕ, ◌+◌, ◌-◌, ◌*◌, ◌/◌, ◌%◌, ◌≤◌, ◌<◌, not-suc-le-zero, arith}
+use Rattle.laws.proofs.Prelude.{add-one, eqb, ltb, length, get_or, set, take, drop, length-append, length-take-le, ltb-true}
 use native.Mathlib.Nat.{add-sub_of_le, mod-eq-sub-mul-div}
-use lib.Seq.{take-add, take-suc, drop-set-lt}
+use lib.ListN.{get_or-append}
+use lib.Seq.{take-add, take-suc, get_or_at}
 use borrow.Author.Count.{below_more}
-use Rattle.text.specs.{declared.position.Position.Position, Ranges.within, Utf8.continuation}
-use Rattle.text.specs.Position.{Units, characters, step, walk, start_position, position_of, stored, kept, Indexed, indexed_position}
+use Rattle.std.proofs.lemmas.List.{length-map, map-set, take_more_set}
+use Rattle.text.specs.{declared.position.Position.Position, declared.position.PositionRow.PositionRow, Ranges.within, Utf8.continuation}
+use Rattle.text.specs.Position.{Units, characters, step, walk, start_position, position_of, Indexed, indexed_position}
+use Rattle.text.specs.code.Index.{position_in, positions_in}
 
 -- a walk goes on where another ends
 pub walk_append : (unit : Units) (p : Position) (s t : List ℕ) → walk unit p (s ++ t) ≡ walk unit (walk unit p s) t
@@ -61,49 +64,34 @@ bounded s at h e =
     let most = walk_bounded start_position (take at s) in
     rw e (omega (arith, length-take-le at s h))
 
--- what is stored is kept, and what was kept elsewhere stays
-kept_same : (t : List ℕ) (n : ℕ) (p : Position) → 2 * n + 1 < length t → kept (stored t n p) n ≡ p
-kept_same t n p l =
-    simp (
-      get_or-set_other (set t (2 * n) p.line) (2 * n + 1) (2 * n) p.column 0 (omega arith),
-      get_or-set_same (set t (2 * n) p.line) (2 * n + 1) p.column 0 (simp length-set l),
-      get_or-set_same t (2 * n) p.line 0 (omega arith),
-    )
+-- an index of no position is right, and so is one with the position at the next 64th byte behind it
+module _ {unit : Units} {s : List ℕ} where
+  pub index_none : Indexed unit s []
+  index_none = record { right = λ k l. absurd (not-suc-le-zero l) }
 
-kept_other : (t : List ℕ) (n k : ℕ) (p : Position) → k < n → kept (stored t n p) k ≡ kept t k
-kept_other t n k p l =
-    simp (
-      get_or-set_other (set t (2 * n) p.line) (2 * n + 1) (2 * k) p.column 0 (omega arith),
-      get_or-set_other (set t (2 * n) p.line) (2 * n + 1) (2 * k + 1) p.column 0 (omega arith),
-      get_or-set_other t (2 * n) (2 * k) p.line 0 (omega arith),
-      get_or-set_other t (2 * n) (2 * k + 1) p.line 0 (omega arith),
-    )
+  index_one_more : {ps : List Position} → Indexed unit s ps → (p : Position) → p ≡ position_of unit s (64 * length ps) → Indexed unit s (ps ++ p ∷ [])
+  index_one_more {ps} h p e = record {
+    right = λ k l. below_more (λ k. get_or (ps ++ p ∷ []) k start_position ≡ position_of unit s (64 * k)) (length ps)
+        (λ k i. get_or-append ps (p ∷ []) start_position k i ∙ h.right k i)
+        (get_or_at ps p [] start_position (length ps) refl ∙ e)
+        k (omega (arith, l, length-append ps (p ∷ [])));
+  }
 
--- an index of no position is right, and so is one with the next position stored
-pub index_none : (unit : Units) (s t : List ℕ) → Indexed unit s t 0
-index_none unit s t = record { right = λ k l. absurd (not-suc-le-zero l) }
+  -- in the first n rows of a table, with the next row stored
+  pub index_more : (rows : List PositionRow) (n : ℕ) (row : PositionRow) → Indexed unit s (take n (positions_in rows)) → n < length rows
+      → position_in row ≡ position_of unit s (64 * n) → Indexed unit s (take (n + 1) (positions_in (set rows n row)))
+  index_more rows n row h l e =
+      let long : length (take n (positions_in rows)) ≡ n = omega (arith, length-take-le n (positions_in rows) (rw length-map (omega arith))) in
+      rw (map-set position_in rows n row, take_more_set (positions_in rows) n (position_in row) (rw length-map l))
+      (index_one_more h (position_in row) (rw long e))
 
-pub index_more : {unit : Units} {s t : List ℕ} {n : ℕ} → Indexed unit s t n → (p : Position) → 2 * n + 1 < length t → p ≡ position_of unit s (64 * n)
-    → Indexed unit s (stored t n p) (n + 1)
-index_more {unit} {s} {t} {n} h p l e = record {
-  right = below_more (λ k. kept (stored t n p) k ≡ position_of unit s (64 * k)) n (λ k i. kept_other t n k p i ∙ h.right k i) (kept_same t n p l ∙ e);
-}
-
--- an index is as it was from the nth position on
-pub record Untouched (before after : List ℕ) (n : ℕ) : Type 0 where
-  pub from : (m : ℕ) → 2 * n ≤ m → drop m after ≡ drop m before
-
-pub untouched_none : (t : List ℕ) (n : ℕ) → Untouched t t n
-untouched_none t n = record { from = λ m l. refl }
-
-pub untouched_more : {before after : List ℕ} {n : ℕ} → Untouched before after n → (p : Position) → Untouched before (stored after n p) (n + 1)
-untouched_more {after = t} {n = n} h p = record {
-  from = λ m l. drop-set-lt m (set t (2 * n) p.line) (2 * n + 1) p.column (omega arith) ∙ drop-set-lt m t (2 * n) p.line (omega arith) ∙
-      h.from m (omega arith);
-}
-
--- by a right index the position is that of the text
-pub indexed : {unit : Units} {s index : List ℕ} {n : ℕ} → Indexed unit s index n → (at : ℕ) → at / 64 < n →
-    indexed_position unit s index at ≡ position_of unit s at
-unfolding indexed_position
-indexed {unit} {s} h at l = rw (h.right (at / 64) l, mod-eq-sub-mul-div) (onward unit s (64 * (at / 64)) at (omega arith))
+  -- by a right index the position is that of the text
+  pub indexed : {index : List Position} → Indexed unit s index → (at : ℕ) → indexed_position unit s index at ≡ position_of unit s at
+  unfolding indexed_position
+  indexed {index} h at = go (ltb (at / 64) (length index)) refl
+    where
+      go : (b : Bool) → ltb (at / 64) (length index) ≡ b → cond b (walk unit (get_or index (at / 64) start_position) (take (at % 64) (drop (64 * (at / 64)) s)))
+          (position_of unit s at) ≡ position_of unit s at
+      go false e = refl
+      go true e =
+          rw (h.right (at / 64) (ltb-true (at / 64) (length index) e), mod-eq-sub-mul-div) (onward unit s (64 * (at / 64)) at (omega arith))

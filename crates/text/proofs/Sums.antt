@@ -1,6 +1,6 @@
 -- The position past some bytes, by how many of them end a line and how many begin a character.
 use Rattle.laws.proofs.Prelude.{◌≡◌, refl, sym, ap, ◌∙◌, Bool, true, false, cond, List, [], ◌∷◌, ℕ, suc, zero-le, suc-le-suc, ◌+◌, ◌-◌, ◌≤◌, ◌<◌, arith, add-one}
-use Rattle.laws.proofs.Prelude.{eqb, length, get_or, take, drop, length-drop, length-take, drop-drop, get_or-drop, lt-leb, eq-eqb, ne_eqb}
+use Rattle.laws.proofs.Prelude.{eqb, length, get_or, take, drop, length-drop, length-take, take_all, get_or-drop, lt-leb, eq-eqb, ne_eqb}
 use lib.Seq.{take-suc, take-add, get_or-take}
 use Rattle.std.specs.Prelude.{count_by}
 use Rattle.std.proofs.lemmas.List.Sums.{sum_by-cons}
@@ -25,15 +25,13 @@ module _ (p : ℕ → Bool) where
 begins_ascii : (b : ℕ) → b < 128 → begins_one b ≡ true
 begins_ascii b h = rw (lt-leb 128 b h)
 
-pub begun_ascii : (s : List ℕ) (from k n : ℕ) → from + n ≤ length s → k ≤ n → ((i : ℕ) → i < n → get_or s (from + i) 0 < 128)
-    → n - k ≡ count_by begins_one (take (n - k) (drop (from + k) s))
-begun_ascii s from k n l g h =
-    let t = take (n - k) (drop (from + k) s) in
-    let w : length t ≡ n - k = omega (arith, length-take (n - k) (drop (from + k) s), length-drop (from + k) s) in
+pub begun_ascii : (s : List ℕ) (k n : ℕ) → n ≤ length s → k ≤ n → ((i : ℕ) → i < n → get_or s i 0 < 128) → n - k ≡ count_by begins_one (take (n - k) (drop k s))
+begun_ascii s k n l g h =
+    let t = take (n - k) (drop k s) in
+    let w : length t ≡ n - k = omega (arith, length-take (n - k) (drop k s), length-drop k s) in
     sym (
     count_all begins_one t (λ i b.
-    let q : from + k + i ≡ from + (k + i) = omega arith in
-    rw (get_or-take (n - k) (drop (from + k) s) i 0 (rw w at b), get_or-drop, q) (begins_ascii _ (h (k + i) (omega arith))))
+    rw (get_or-take (n - k) (drop k s) i 0 (rw w at b), get_or-drop) (begins_ascii _ (h (k + i) (omega arith))))
     ∙ w
     )
 
@@ -73,51 +71,46 @@ walk_column p (b ∷ t) h =
     omega (arith, walk_column (step characters p b) t (λ k l. h (suc k) (omega arith)), step_column p b (h 0 (omega arith)), one_more begins_one b t)
 
 -- an LF at the end of a text
-pub ended_column : (p : Position) (s : List ℕ) (from m : ℕ) → from + m < length s → get_or s (from + m) 0 ≡ 0x0A
-    → (walk characters p (take (m + 1) (drop from s))).column ≡ 0
+pub ended_column : (p : Position) (s : List ℕ) (m : ℕ) → m < length s → get_or s m 0 ≡ 0x0A → (walk characters p (take (m + 1) s)).column ≡ 0
 unfolding walk
-ended_column p s from m l h =
-    let i : m < length (drop from s) = simp length-drop (omega arith) in
-    rw (add-one, take-suc (drop from s) m 0 i, walk_append, get_or-drop) (step_ends _ _ h)
+ended_column p s m l h = rw (add-one, take-suc s m 0 l, walk_append) (step_ends _ _ h)
 
 -- from the last LF of n bytes on, each byte that begins a character is a column
-pub block_column : (p : Position) (s : List ℕ) (from last n : ℕ) → from + n ≤ length s → last ≤ n
-    → ((k : ℕ) → last ≤ k → k < n → get_or s (from + k) 0 ≡ 0x0A → ⊥)
-    → (walk characters p (take n (drop from s))).column
-    ≡ (walk characters p (take last (drop from s))).column + count_by begins_one (take (n - last) (drop (from + last) s))
-block_column p s from last n l g h =
+pub block_column : (p : Position) (s : List ℕ) (last n : ℕ) → n ≤ length s → last ≤ n → ((k : ℕ) → last ≤ k → k < n → get_or s k 0 ≡ 0x0A → ⊥)
+    → (walk characters p (take n s)).column ≡ (walk characters p (take last s)).column + count_by begins_one (take (n - last) (drop last s))
+block_column p s last n l g h =
     let d : n ≡ last + (n - last) = omega arith in
-    let e : walk characters p (take n (drop from s)) ≡ walk characters (walk characters p (take last (drop from s))) (take (n - last) (drop (from + last) s)) =
-    ap (λ (m : ℕ). walk characters p (take m (drop from s))) d ∙ rw (take-add, walk_append, drop-drop) in
+    let e : walk characters p (take n s) ≡ walk characters (walk characters p (take last s)) (take (n - last) (drop last s)) =
+    ap (λ (m : ℕ). walk characters p (take m s)) d ∙ rw (take-add, walk_append) in
     rw e (walk_column _ _ (λ k b q. h (last + k) (omega arith) (omega (arith, long k b)) (rw (moved k (omega (arith, long k b))) at q)))
   where
-    long : (k : ℕ) → k < length (take (n - last) (drop (from + last) s)) → k < n - last
-    long k b = omega (arith, length-take (n - last) (drop (from + last) s), b)
+    long : (k : ℕ) → k < length (take (n - last) (drop last s)) → k < n - last
+    long k b = omega (arith, length-take (n - last) (drop last s), b)
 
-    moved : (k : ℕ) → k < n - last → get_or (take (n - last) (drop (from + last) s)) k 0 ≡ get_or s (from + (last + k)) 0
-    moved k b =
-        let q : from + last + k ≡ from + (last + k) = omega arith in
-        rw (get_or-take (n - last) (drop (from + last) s) k 0 b, get_or-drop, q)
+    moved : (k : ℕ) → k < n - last → get_or (take (n - last) (drop last s)) k 0 ≡ get_or s (last + k) 0
+    moved k b = rw (get_or-take (n - last) (drop last s) k 0 b, get_or-drop)
 
 pub same_place : (q : Position) {l c : ℕ} → l ≡ q.line → c ≡ q.column → record { line = l; column = c } ≡ q
 same_place q e f = rw (e, f)
 
--- the position past 64 bytes, by their lines, the place past their last LF and what begins behind it
-module _ (p : Position) (s : List ℕ) (from : ℕ) (fits : from + 64 ≤ length s) (last : ℕ) (within : last ≤ 64)
-    (none : (k : ℕ) → last ≤ k → k < 64 → get_or s (from + k) 0 ≡ 0x0A → ⊥) where
-  pub block_unbroken : last ≡ 0
-      → (walk characters p (take 64 (drop from s))).column ≡ p.column + count_by begins_one (take (64 - last) (drop (from + last) s))
+-- the position past a block, by its lines, the place past its last LF and what begins behind it
+module _ (p : Position) (s : List ℕ) (block : length s ≡ 64) (last : ℕ) (within : last ≤ 64)
+    (none : (k : ℕ) → last ≤ k → k < 64 → get_or s k 0 ≡ 0x0A → ⊥) where
+  past_last : (walk characters p s).column ≡ (walk characters p (take last s)).column + count_by begins_one (take (64 - last) (drop last s))
+  past_last =
+      ap (λ (t : List ℕ). (walk characters p t).column) (sym (take_all 64 s (omega arith)))
+      ∙ block_column p s last 64 (omega arith) within none
+
+  pub block_unbroken : last ≡ 0 → (walk characters p s).column ≡ p.column + count_by begins_one (take (64 - last) (drop last s))
   unfolding walk
   block_unbroken z =
-      let e : (walk characters p (take last (drop from s))).column ≡ p.column = rw z in
-      let b = block_column p s from last 64 fits within none in
-      omega arith
+      let e : (walk characters p (take last s)).column ≡ p.column = rw z in
+      omega (arith, past_last)
 
-  pub block_broken : (last ≡ 0 → ⊥) → ((m : ℕ) → last ≡ m + 1 → get_or s (from + m) 0 ≡ 0x0A)
-      → (walk characters p (take 64 (drop from s))).column ≡ count_by begins_one (take (64 - last) (drop (from + last) s))
+  pub block_broken : (last ≡ 0 → ⊥) → ((m : ℕ) → last ≡ m + 1 → get_or s m 0 ≡ 0x0A)
+      → (walk characters p s).column ≡ count_by begins_one (take (64 - last) (drop last s))
   block_broken z f =
       let d : last ≡ last - 1 + 1 = omega arith in
-      let e : (walk characters p (take last (drop from s))).column ≡ 0 =
-      ap (λ (m : ℕ). (walk characters p (take m (drop from s))).column) d ∙ ended_column p s from (last - 1) (omega arith) (f (last - 1) d) in
-      let b = block_column p s from last 64 fits within none in
-      omega arith
+      let e : (walk characters p (take last s)).column ≡ 0 =
+      ap (λ (m : ℕ). (walk characters p (take m s)).column) d ∙ ended_column p s (last - 1) (omega arith) (f (last - 1) d) in
+      omega (arith, past_last)

@@ -1,5 +1,5 @@
 -- Lines and columns of a text, from 0: a line ends at LF, a column counts characters, each by its units.
-use Rattle.std.specs.Prelude.{◌≡◌, Bool, false, cond, not, ◌&&◌, ◌⊎◌, ◌↔◌, ℕ, ◌+◌, ◌*◌, ◌≤◌, ◌<◌, ◌/◌, ◌%◌, eqb, leb, length, get_or, take, drop, set}
+use Rattle.std.specs.Prelude.{◌≡◌, Bool, false, cond, not, ◌&&◌, ◌⊎◌, ◌↔◌, ℕ, ◌+◌, ◌*◌, ◌≤◌, ◌<◌, ◌/◌, ◌%◌, eqb, leb, ltb, length, get_or, take, drop}
 use mathlib.Core.List.{List, [], ◌∷◌, ◌++◌, flat_map}
 use Rattle.text.specs.declared.position.Position.{Position}
 use Rattle.text.specs.declared.utf8.Encoding.TheVariants.{Utf8}
@@ -78,17 +78,13 @@ pub record Counted (unit : Units) (s : List ℕ) : Type 0 where
 
 -- ---- an index of positions
 
--- an index holds the position at each 64th byte in two numbers: stored as the kth, and what is kept there
-abbrev pub stored : List ℕ → ℕ → Position → List ℕ
-stored index k p = set (set index (2 * k) p.line) (2 * k + 1) p.column
+-- the positions of an index are those at each 64th byte of a text
+pub record Indexed (unit : Units) (s : List ℕ) (index : List Position) : Type 0 where
+  pub right : (k : ℕ) → k < length index → get_or index k start_position ≡ position_of unit s (64 * k)
 
-abbrev pub kept : List ℕ → ℕ → Position
-kept index k = record { line = get_or index (2 * k) 0; column = get_or index (2 * k + 1) 0 }
-
--- the first n positions of an index are those at each 64th byte of a text
-pub record Indexed (unit : Units) (s index : List ℕ) (n : ℕ) : Type 0 where
-  pub right : (k : ℕ) → k < n → kept index k ≡ position_of unit s (64 * k)
-
--- the position at a place by an index: from the one that is kept for the last 64th byte not past it
-unfoldable pub indexed_position : Units → List ℕ → List ℕ → ℕ → Position
-indexed_position unit s index at = walk unit (kept index (at / 64)) (take (at % 64) (drop (64 * (at / 64)) s))
+-- the position at a place by an index: from the one that it has for the last 64th byte not past it; if it has none, from the start of the text
+unfoldable pub indexed_position : Units → List ℕ → List Position → ℕ → Position
+indexed_position unit s index at =
+    cond (ltb (at / 64) (length index))
+    (walk unit (get_or index (at / 64) start_position) (take (at % 64) (drop (64 * (at / 64)) s)))
+    (position_of unit s at)

@@ -2,3 +2,4 @@
 pub mod Totals
 pub mod Places
 pub mod Rows
+pub mod Index

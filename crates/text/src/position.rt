@@ -1,18 +1,49 @@
 // Lines and columns of a text, from 0: a line ends at LF, a column counts characters.
-ghost use Rattle.std.specs.Prelude.{◌≡◌, ℕ, ◌+◌, ◌-◌, ◌*◌, ◌/◌, ◌≤◌, ◌<◌, length, get_or, take, drop, count_by};
+ghost use Rattle.std.specs.Prelude.{◌≡◌, ℕ, ◌+◌, ◌-◌, ◌/◌, ◌≤◌, ◌<◌, length, get_or, take, drop, count_by};
 ghost use Rattle.laws.specs.code.Left.{KeptFrom};
 ghost use Rattle.laws.specs.code.Told.{Bounded, Leaving};
 ghost use Rattle.text.specs.Ranges.{within};
 ghost use Rattle.text.specs.Utf8.{continuation};
 ghost use Rattle.text.specs.code.Totals.{begins_one};
-ghost use Rattle.text.specs.Position.{characters, step, walk, position_of, stored, kept, Indexed, indexed_position};
+ghost use Rattle.text.specs.Position.{characters, step, walk, position_of, Indexed, indexed_position};
+ghost use Rattle.text.specs.code.Index.{position_in, positions_in};
 
 use super::blocks::{all_in_block, count_in};
+use std::mem::size_of;
 
 #[derive(Clone, Copy, Debug, PartialEq, Eq)]
 pub struct Position {
     pub line: usize,
     pub column: usize,
+}
+
+// A position in a row of a table, which takes 8 bytes.
+#[derive(Clone, Copy, Default)]
+pub struct PositionRow {
+    line: u32,
+    column: u32,
+}
+
+const _: () = prove!(size_of::<PositionRow>() == 8);
+
+impl PositionRow {
+    pub fn new(p: Position) -> PositionRow
+        requires { (p.line < 4294967296) × (p.column < 4294967296) }
+        ensures { position_in result ≡ p }
+    {
+        PositionRow {
+            line: p.line as u32,
+            column: p.column as u32,
+        }
+    }
+
+    pub fn position(self) -> Position
+        ensures { Bounded (result ≡ position_in self) ((result.line < 4294967296) × (result.column < 4294967296)) }
+    {
+        let line = self.line as usize;
+        let column = self.column as usize;
+        Position { line, column }
+    }
 }
 
 // Does the byte go on with a character?
@@ -55,64 +86,38 @@ fn scan(s: &[u8], start: Position, from: usize, at: usize) -> Position
     p
 }
 
-// Stores a position as the kth of the index.
-fn put(index: &mut [u32], k: usize, p: Position)
-    requires { (2 * k + 1 < length index.old) × (p.line < 4294967296) × (p.column < 4294967296) }
-    ensures { index.new ≡ stored index.old k p }
-{
-    let at = 2 * k;
-    index[at] = p.line as u32;
-    index[at + 1] = p.column as u32;
-}
-
-// The kth position of the index.
-fn get(index: &[u32], k: usize) -> Position
-    requires { 2 * k + 1 < length index.now }
-    ensures { Bounded (result ≡ kept index.now k) ((result.line < 4294967296) × (result.column < 4294967296)) }
-{
-    let at = 2 * k;
-    let line = index[at] as usize;
-    let column = index[at + 1] as usize;
-    Position { line, column }
-}
-
-// The place past the last LF among the 64 bytes at `from`, 0 for none.
-fn past_last(s: &[u8], from: usize) -> u8
-    requires { from + 64 ≤ length s.now }
-    ensures { (result ≤ 64) × ((k : ℕ) → result ≤ k → k < 64 → get_or s.now (from + k) 0 ≡ 0x0A → ⊥)
-        × ((m : ℕ) → result ≡ m + 1 → get_or s.now (from + m) 0 ≡ 0x0A) }
+// The place past the last LF of a block, 0 for none.
+fn past_last(block: &[u8; 64]) -> u8
+    ensures { (result ≤ 64) × ((k : ℕ) → result ≤ k → k < 64 → get_or block.now k 0 ≡ 0x0A → ⊥)
+        × ((m : ℕ) → result ≡ m + 1 → get_or block.now m 0 ≡ 0x0A) }
 {
     let mut last: u8 = 0;
     for i in 0..64u8 {
-        let here = if s[from + i as usize] == 0x0A {
-            i + 1
-        } else {
-            0
-        };
+        let here = if block[i as usize] == 0x0A { i + 1 } else { 0 };
         last = last.max(here);
     }
     last
 }
 
-// How many of the 64 bytes at `from`, from the kth on, begin a character: of ASCII, each does.
-fn begun_from(s: &[u8], from: usize, k: u8) -> u8
-    requires { (from + 64 ≤ length s.now) × (k ≤ 64) }
-    ensures { result ≡ count_by begins_one (take (64 - k) (drop (from + k) s.now)) }
+// How many bytes of a block, from the kth on, begin a character: of ASCII, each does.
+fn begun_from(block: &[u8; 64], k: u8) -> u8
+    requires { k ≤ 64 }
+    ensures { result ≡ count_by begins_one (take (64 - k) (drop k block.now)) }
 {
-    if all_in_block::<64, _>(s, from, |b| b < 128) {
+    if all_in_block::<64, _>(block, 0, |b| b < 128) {
         return 64 - k;
     }
-    count_in(&s[from + k as usize..from + 64], |b| !goes_on(b))
+    count_in(&block[k as usize..], |b| !goes_on(b))
 }
 
-// The position past the 64 bytes at `from`, where that at `from` is `p`.
-fn scan_block(s: &[u8], p: Position, from: usize) -> Position
-    requires { (from + 64 ≤ length s.now) × (p.line < 4294967296) × (p.column < 4294967296) }
-    ensures { result ≡ walk characters p (take 64 (drop from s.now)) }
+// The position past a block, where that at its start is `p`.
+fn scan_block(block: &[u8; 64], p: Position) -> Position
+    requires { (p.line < 4294967296) × (p.column < 4294967296) }
+    ensures { result ≡ walk characters p block.now }
 {
-    let lines = count_in(&s[from..from + 64], |b| b == 0x0A);
-    let last = past_last(s, from);
-    let begun = begun_from(s, from, last);
+    let lines = count_in(block, |b| b == 0x0A);
+    let last = past_last(block);
+    let begun = begun_from(block, last);
     let line = p.line + (lines as usize);
     if last == 0 {
         return Position {
@@ -126,35 +131,49 @@ fn scan_block(s: &[u8], p: Position, from: usize) -> Position
     }
 }
 
-// Fills the index: the line and the column at each 64th byte of the text. Behind these nothing is changed.
-pub fn build_index(s: &[u8], index: &mut [u32])
-    requires { (length s.now < 4294967296) × (2 * (length s.now / 64) + 1 < length index.old) }
+// Fills the index: the position at each 64th byte of the text. Behind these no row is changed.
+pub fn build_index(s: &[u8], index: &mut [PositionRow])
+    requires { (length s.now < 4294967296) × (length s.now / 64 < length index.old) }
     ensures { Leaving
-        (Indexed characters s.now index.new (length s.now / 64 + 1))
-        (KeptFrom (2 * (length s.now / 64) + 2) index.old index.new) }
+        (Indexed characters s.now (take (length s.now / 64 + 1) (positions_in index.new)))
+        (KeptFrom (length s.now / 64 + 1) index.old index.new) }
 {
     let mut p = Position { line: 0, column: 0 };
-    put(index, 0, p);
-    for k in 0..s.len() / 64 {
-        p = scan_block(s, p, 64 * k);
-        put(index, k + 1, p);
+    let mut rest = s;
+    for row in index.iter_mut() {
+        *row = PositionRow::new(p);
+        let Some((block, next)) = rest.split_first_chunk::<64>() else {
+            return;
+        };
+        p = scan_block(block, p);
+        rest = next;
     }
 }
 
-// The position at `at`, from the last place in the index that is not past it: at most 63 bytes are read.
-#[tactic(auto, unfolding(crate::specs::Position::indexed_position))]
-pub fn indexed_position(s: &[u8], index: &[u32], at: usize) -> Position
-    requires { (at ≤ length s.now) × (2 * (at / 64) + 1 < length index.now) }
-    ensures { result ≡ indexed_position characters s.now index.now at }
+// The position at `at`, from the last place in the index that is not past it: at most 63 bytes are read. Where the index has no row for it, from
+// the start of the text.
+#[tactic(auto, unfolding(crate::specs::Position::indexed_position, crate::specs::Position::position_of))]
+pub fn indexed_position(s: &[u8], index: &[PositionRow], at: usize) -> Position
+    requires { at ≤ length s.now }
+    ensures { result ≡ indexed_position characters s.now (positions_in index.now) at }
 {
     let k = at / 64;
-    scan(s, get(index, k), 64 * k, at)
+    match index.get(k) {
+        Some(row) => scan(s, row.position(), 64 * k, at),
+        None => scan(s, Position { line: 0, column: 0 }, 0, at),
+    }
 }
 
 // The position at `at`, where that at `from` is `start`: counted from there where that is nearer than the index.
-pub fn later_position(s: &[u8], index: &[u32], start: Position, from: usize, at: usize) -> Position
+pub fn later_position(
+    s: &[u8],
+    index: &[PositionRow],
+    start: Position,
+    from: usize,
+    at: usize,
+) -> Position
     requires { (from ≤ length s.now) × (at ≤ length s.now) × (start ≡ position_of characters s.now from)
-        × (2 * (length s.now / 64) + 1 < length index.now) × Indexed characters s.now index.now (length s.now / 64 + 1) }
+        × Indexed characters s.now (positions_in index.now) }
     ensures { result ≡ position_of characters s.now at }
 {
     if from <= at && at - from < at % 64 {

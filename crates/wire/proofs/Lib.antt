@@ -1,5 +1,5 @@
-pub mod FieldsAtPlace
-pub mod Groups
+pub mod FieldsAtFront
+pub mod NumberGroups
 pub mod Lengths
 pub mod NumberCodec
 pub mod TextCodec

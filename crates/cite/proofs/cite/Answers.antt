@@ -42,7 +42,7 @@ returns-in-Err c =
     ) at c.module_info_with_replaced.ensures.answer in
     let cited = c.cite_refusal.ensures in
     let notes = rw c.requires.notes_len at c.module_info_with_replaced.ensures.beside in
-    let source = c.find_source-source.ensures.answer in
+    let source = c.find_source-source.ensures in
     record {
       answer = record { answer = rw (refused_lines _ source demands notes ∙ ap refusal (sym c.number.ensures)) cited.answer; bounds = cited.bounds };
       meaning = (editor_columns demands, kept_lines demands);
@@ -59,7 +59,7 @@ returns-in-Ok c =
       c.in-Ok.is,
     ) at c.module_info_with_replaced.ensures.beside) in
     let cited = c.cite_report.ensures in
-    let source = c.find_source-source.ensures.answer in
+    let source = c.find_source-source.ensures in
     record {
       answer = record { answer = rw (found.lines _ source) (cited.answer found.info found.valid found.bytes); bounds = cited.bounds };
       meaning = (editor_columns demands, kept_lines demands);

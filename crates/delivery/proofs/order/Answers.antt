@@ -1,4 +1,4 @@
-use Rattle.laws.proofs.Prelude.{ap, ◌∙◌, length}
+use Rattle.laws.proofs.Prelude.{rules, ap, ◌∙◌, length}
 use Rattle.report.specs.Answer.{zeros}
 use Rattle.delivery.specs.Promise.{order_as}
 use Rattle.delivery.proofs.{Deliveries.decodes_exactly, Orders.order_right}
@@ -7,10 +7,9 @@ use Rattle.delivery.proofs.order.Goals as goal
 pub returns : goal.returns
 returns c =
     let a = c.args in
-    let judge = c.judge-judgement in
     record {
       decodes = decodes_exactly a.delivery.now;
-      defined = c.order_of.ensures judge.new.work ∙ ap order_as judge.ensures.answer;
+      defined = c.order_of-order.ensures ∙ ap order_as c.judge.ensures;
       right = order_right (length a.work.now) a.delivery.now;
-      cleared = c.fill.ensures.after (λ y e. e) ∙ ap zeros judge.auto.work;
+      cleared = c.fill.ensures.after (λ y e. e) ∙ ap zeros (search rules);
     }

@@ -7,11 +7,10 @@ use Rattle.text.specs.Lossy.{replaced}
 use Rattle.sheet.specs.declared.fields.Span.{Span}
 use Rattle.sheet.specs.Tree.{Quoted, Arguments}
 use Rattle.sheet.specs.code.Commented.{Commented}
-use Rattle.sheet_heads.specs.declared.quoted.Quoted as q
-use Rattle.sheet_heads.specs.code.Views.{quoted_of, QuotedPart}
+use Rattle.sheet_heads.specs.code.Views.{quoted_of}
 use Rattle.report.specs.ModuleInfo.{SpecifierWithRange, ImportAttributes, DynamicArgument, dynamic}
 use Rattle.report.specs.Encode.{encode_dependency}
-use Rattle.report.specs.Range.{range_of, InSource}
+use Rattle.report.specs.Range.{range_of}
 use Rattle.report.specs.Buffer.{Written, written_as, more, Keeps}
 use Rattle.pragmas.specs.Pragmas.{types_in}
 use Rattle.arguments.specs.Argument.{replaced_in}
@@ -25,10 +24,6 @@ use Rattle.dep_entries.specs.code.Notes.{all_noted}
 -- the types that the comments of a source give
 abbrev pub types_of : Commented → ℕ → Option SpecifierWithRange
 types_of c = types_in c.source c.comments c.groups
-
--- a String of the sheet whose span is one of the source
-abbrev pub Quotes : Commented → q.Quoted → Type 0
-Quotes c x = QuotedPart (length c.bytes) x × InSource c.source x.span
 
 -- what is written: the report so far, and the notes beside it, by the name of their loan
 pub record Collected : Type 0 where
@@ -60,7 +55,7 @@ module _ (c : Commented) where
   -- the entry of a static dependency, with its attributes
   abbrev pub static_of : StaticDependencyDescriptor → ImportAttributes → List Noted
   static_of d a =
-      let x = quoted_of c.bytes d.specifier in
+      let x = quoted_of d.specifier in
       record {
         entry = static_entry c.source (types_of c) d.kind d.span x d.is_side_effect a;
         start = d.span.start;

@@ -6,5 +6,5 @@ abbrev pub Free : {A : Type 0} → List A → List A → Type 0
 Free before after = length after ≡ length before
 
 -- left free in front of place n, and from there on as it was
-abbrev pub KeptFrom : ℕ → List ℕ → List ℕ → Type 0
+abbrev pub KeptFrom : {A : Type 0} → ℕ → List A → List A → Type 0
 KeptFrom n before after = Free before after × (drop n after ≡ drop n before)

@@ -1,4 +1,4 @@
-use Rattle.module_info.proofs.Accepted.{demanded, refusal_demanded, empty_demanded}
+use Rattle.module_info.proofs.Demanded.{demanded, refusal_demanded, empty_demanded}
 use Rattle.module_info.proofs.module_info.Goals as goal
 
 pub returns-in-Ok-None : goal.returns-in-Ok-None
@@ -13,5 +13,5 @@ returns-in-Err c =
 
 pub returns-in-Ok-Some : goal.returns-in-Ok-Some
 returns-in-Ok-Some c =
-    let some = c.in-Ok-Some in
-    demanded (rw (some.is, some.field-0-is) at c.judge.ensures).accepts c.write_report.ensures
+    let (is, (t, e)) = rw (c.in-Ok-Some.is, c.in-Ok-Some.field-0-is) at c.judge.ensures in
+    demanded e (c.write_report.ensures t (rw is e))

@@ -1,5 +1,5 @@
 use Rattle.laws.proofs.Prelude.{length}
-use Rattle.module_info.proofs.Accepted.{demanded, refusal_demanded, empty_demanded}
+use Rattle.module_info.proofs.Demanded.{demanded, refusal_demanded, empty_demanded}
 use Rattle.module_info.proofs.Notes.{empty_notes, refusal_notes, sheet_notes}
 use Rattle.module_info.proofs.module_info_with_replaced.Goals as goal
 
@@ -21,10 +21,9 @@ returns-in-Err c =
 
 pub returns-in-Ok-Some : goal.returns-in-Ok-Some
 returns-in-Ok-Some c =
-    let accepts = (rw (c.in-Ok-Some.is, c.in-Ok-Some.field-0-is) at c.judge.ensures).accepts in
-    let written = c.write_noted_report.ensures in
-    let numbered = (written accepts.sheet accepts.accepted).1 in
+    let (is, (t, e)) = rw (c.in-Ok-Some.is, c.in-Ok-Some.field-0-is) at c.judge.ensures in
+    let (report, rows) = c.write_noted_report.ensures t (rw is e) in
     record {
-      answer = demanded accepts (λ t e. (written t e).0);
-      beside = sheet_notes _ _ accepts.accepted (rw c.fill.auto.self at numbered);
+      answer = demanded e report;
+      beside = sheet_notes _ _ e (rw c.fill.auto.self at rows);
     }

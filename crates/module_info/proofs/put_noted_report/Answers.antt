@@ -3,6 +3,6 @@ use Rattle.module_info.proofs.put_noted_report.Goals as goal
 
 pub returns : goal.returns
 returns c =
-    λ t o.
-    let (dependencies, rows) = c.put_dependencies.ensures t o in
-    (report_written o _ dependencies c.put_head.ensures c.put_rest.ensures, rows)
+    λ t e.
+    let (dependencies, rows) = c.put_dependencies.ensures t e in
+    (report_written t _ dependencies (c.put_head.ensures t e) (c.put_rest.ensures t e), rows)

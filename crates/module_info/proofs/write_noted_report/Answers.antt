@@ -2,14 +2,9 @@ use Rattle.laws.proofs.Prelude.{rules, sym, ap, ◌∙◌, length}
 use Rattle.report.specs.{Encode.encode, Answer.zeros}
 use Rattle.dep_entries.specs.code.Notes.{all_noted}
 use Rattle.module_info.specs.{Information.module_info, Replaced.noted}
-use Rattle.module_info.proofs.{Accepted.parts_of, Accepted.sound, Notes.accepted_notes, Notes.refused_notes}
+use Rattle.module_info.proofs.Notes.{accepted_notes, refused_notes}
 use Rattle.module_info.proofs.Written.{same_loan, finished, come_back}
 use Rattle.module_info.proofs.write_noted_report.Goals as goal
-
-pub put_noted_report-requires : goal.put_noted_report-requires
-put_noted_report-requires c =
-    let a = c.requires.accepts_in.accepts in
-    sound a (c.comments_of-comments.ensures a.sheet a.accepted)
 
 pub returns-then-is_err : goal.returns-then-is_err
 returns-then-is_err c =
@@ -17,7 +12,7 @@ returns-then-is_err c =
     let a = c.args in
     let w = c.put_noted_report.new.w in
     let o = c.finish-outcome.result in
-    let (written, rows) = c.put_noted_report.ensures t (parts_of c.requires.accepts_in.accepts e (c.comments_of-comments.ensures t e)) in
+    let (written, rows) = c.put_noted_report.ensures t e in
     let same = same_loan c.new-w.ensures w (encode (module_info t)) written in
     let answer = come_back o _ c.finish-outcome.new.self.0 (search (rules, same)) (c.finish-outcome.ensures ∙ finished c.new-w.ensures w (encode (module_info t)) written) in
     (answer, refused_notes (length a.notes.now) (length a.buffer.now) o _ (noted t) (module_info t) (sym c.is_err.ensures.value ∙ c.if-is_err.true) answer (c.fill.ensures.after (λ y e. e) ∙ ap zeros c.put_noted_report.auto.notes))
@@ -28,7 +23,7 @@ returns-else-is_err c =
     let a = c.args in
     let w = c.put_noted_report.new.w in
     let o = c.finish-outcome.result in
-    let (written, rows) = c.put_noted_report.ensures t (parts_of c.requires.accepts_in.accepts e (c.comments_of-comments.ensures t e)) in
+    let (written, rows) = c.put_noted_report.ensures t e in
     let same = same_loan c.new-w.ensures w (encode (module_info t)) written in
     let answer = come_back o _ c.finish-outcome.new.self.0 (search (rules, same)) (c.finish-outcome.ensures ∙ finished c.new-w.ensures w (encode (module_info t)) written) in
-    (answer, accepted_notes (length a.notes.now) o _ (noted t) (sym c.is_err.ensures.value ∙ c.if-is_err.false) (rows ∙ ap (λ l. all_noted l (noted t)) c.requires.notes_value))
+    (answer, accepted_notes (length a.notes.now) o _ (noted t) (sym c.is_err.ensures.value ∙ c.if-is_err.false) (rows ∙ ap (λ l. all_noted l (noted t)) c.requires))

@@ -9,6 +9,7 @@ use Rattle.ecma426.specs.Reader.{find_source_map}
 use Rattle.sheet.specs.declared.comments.Comment.{Comment}
 use Rattle.sheet.specs.Fit.{Placed}
 use Rattle.sheet.specs.Lookups.{body}
+use Rattle.sheet.specs.code.Commented.{CommentIn}
 use Rattle.report.specs.ModuleInfo.{SpecifierWithRange, TypeScriptReference, path, types}
 use Rattle.report.specs.declared.origins.EntryRule.{EntryRule}
 use Rattle.report.specs.Origin.{Origin}
@@ -53,6 +54,10 @@ taken_by rule source = on_rule rule source (λ c k. (c, k))
 
 abbrev pub read_rule : Rule → List ℕ → Comment → Option SpecifierWithRange
 read_rule rule source = on_rule rule source (specifier_in source)
+
+-- a comment with the source that it stands in
+abbrev pub placed_in : List ℕ → Comment → CommentIn
+placed_in source c = record { source = source; comment = c }
 
 -- the answer that counts among those of some comments
 abbrev pub counted : {A : Type 0} → Counts → (Comment → Option A) → List Comment → Option A

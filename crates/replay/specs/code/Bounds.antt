@@ -1,16 +1,12 @@
--- The bounds that the functions keep: places within the list, and counts that cannot overflow.
-use Rattle.std.specs.Prelude.{ℕ, ◌+◌, ◌≤◌, Option, Some, None}
+-- The bounds that the functions keep: numbers of four bytes, and counts that cannot overflow.
+use Rattle.std.specs.Prelude.{List, ℕ, ◌+◌, ◌≤◌, Option, Some, None}
+use Rattle.std.specs.Borrow.{Bor}
 use Rattle.replay.specs.declared.{Ran.Ran, Counts.Counts}
 
--- a part's bytes stand in a list of so many
-abbrev pub StretchWithin : ℕ → Option (ℕ × ℕ) → Type 0
-StretchWithin n (Some p) = (p.0 ≤ p.1) × (p.1 ≤ n)
-StretchWithin n None = Unit {0}
-
--- the next row stands in it, or at its end
-abbrev pub NextWithin : ℕ → Option (Ran × ℕ) → Type 0
-NextWithin n (Some p) = p.1 ≤ n
-NextWithin n None = Unit {0}
+-- a number of four bytes
+abbrev pub NumberFits : Option (ℕ × Bor (List ℕ)) → Type 0
+NumberFits (Some p) = p.0 ≤ 4294967295
+NumberFits None = Unit {0}
 
 -- so many more sheets can be counted
 abbrev pub Room : ℕ → Counts → Type 0

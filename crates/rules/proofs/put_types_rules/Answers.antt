@@ -9,11 +9,13 @@ unfolding flat_map
 loop-k-preserved c =
     let a = c.args in
     let l = c.loop-k in
-    l.invariant ∙ rw (starts_next a.notes.now l.k a.parts.entries c.loop-k-test.true, flat_map_append, more_append, ← c.put_types_origins.ensures)
+    l.invariant ∙ rw (starts_next a.notes.now l.k c.parts.result.tree.entries c.loop-k-test.true, flat_map_append, more_append, ← c.put_types_origins.ensures)
 
 pub returns : goal.returns
 unfolding flat_map
 returns c =
+    λ t e.
     let a = c.args in
     let l = c.loop-k in
-    sym (l.invariant ∙ rw (starts_end a.notes.now l.k a.parts.entries c.loop-k-test.false) (more_nil l.w))
+    let done = rw (starts_end a.notes.now l.k c.parts.result.tree.entries c.loop-k-test.false) at l.invariant in
+    rw (c.comments-comments.ensures.comments t e, ← (c.parts.ensures.parts t e).count) at (sym (done ∙ more_nil l.w))

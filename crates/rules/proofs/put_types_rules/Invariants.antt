@@ -11,5 +11,5 @@ bytes c starts = flat_map encode_origin (flat_map (types_origins c.source c.comm
 
 abbrev pub invariant-loop-k : goal.invariant-loop-k
 invariant-loop-k l =
-    more (written_as l.fn.w) (bytes l.comments (starts_from l.notes 0 l.fn.parts.entries))
-    ≡ more (written_as l.w) (bytes l.comments (starts_from l.notes l.k (l.fn.parts.entries - l.k)))
+    more (written_as l.fn.w) (bytes l.comments (starts_from l.notes 0 l.k-end))
+    ≡ more (written_as l.w) (bytes l.comments (starts_from l.notes l.k (l.k-end - l.k)))

@@ -12,5 +12,5 @@ returns-in-Err c =
 
 pub returns-in-Ok-Some : goal.returns-in-Ok-Some
 returns-in-Ok-Some c =
-    sheet_both _ (rw (c.in-Ok-Some.is, c.in-Ok-Some.field-0-is) at c.judge.ensures).accepts
-    c.write_ruled_report.ensures
+    let (is, (t, e)) = rw (c.in-Ok-Some.is, c.in-Ok-Some.field-0-is) at c.judge.ensures in
+    sheet_both _ e (c.write_ruled_report.ensures t (rw is e))

@@ -8,11 +8,9 @@ use Rattle.rules.proofs.write_ruled_report.Goals as goal
 
 pub put_rules-requires : goal.put_rules-requires
 put_rules-requires c =
+    λ t e.
     let written = c.write_noted_report in
-    record {
-      accepts_in = c.requires;
-      entries_in_bounds = few_rows c.requires.accepts written.new.notes (written.auto.notes ∙ length-replicate {A = ℕ} _ 0);
-    }
+    few_rows _ e written.new.notes (written.auto.notes ∙ length-replicate {A = ℕ} _ 0)
 
 pub returns-in-Err : goal.returns-in-Err
 returns-in-Err c =
@@ -26,13 +24,12 @@ returns-in-Err c =
 pub returns-in-Ok : goal.returns-in-Ok
 returns-in-Ok c =
     λ t e.
-    let accepts = c.requires.accepts in
     let room = length c.args.rules.now in
     let (fits, rows) = c.write_noted_report.ensures t e in
     let kept = c.write_noted_report.auto.buffer in
     let accepted = rw c.in-Ok.is at fits in
     let noted = rw c.in-Ok.is at rows in
-    let starts = starts_held accepts e _ (few_rows accepts (replicate {A = ℕ} (1 + 2 * entry_limit) 0) (length-replicate {A = ℕ} _ 0)) noted in
+    let starts = starts_held t _ (few_rows _ e (replicate {A = ℕ} (1 + 2 * entry_limit) 0) (length-replicate {A = ℕ} _ 0)) noted in
     let w = c.put_rules.new.w in
     let put = c.put_rules.ensures t e starts in
     let same = same_loan c.new-w.ensures w (rules_of t) put in

@@ -1,5 +1,6 @@
--- What the answers of the code stand for, in a sheet s, with what the tables of comments and groups hold.
-use Rattle.std.specs.Prelude.{◌≡◌, false, List, [], ℕ, ◌≤◌, Result, Ok, Err, take, drop}
+-- What the answers of the code stand for, with what the tables of comments and groups hold.
+use Rattle.std.specs.Prelude.{◌≡◌, false, List, [], ℕ, ◌+◌, ◌-◌, ◌≤◌, Result, Ok, Err, length, take}
+use Rattle.std.specs.Borrow.{Bor}
 use Rattle.laws.specs.Decoded.{Decoded, ok, no}
 use Rattle.text.specs.Bytes.{part}
 use Rattle.wire.specs.declared.refusals.Refusal.{Refusal}
@@ -21,54 +22,64 @@ use Rattle.sheet_check.specs.declared.front.Front as declared
 use Rattle.sheet_check.specs.declared.tree.Tree.{Tree}
 use Rattle.sheet_check.specs.code.Pieces.{Front, tree}
 
-abbrev pub source_as : List ℕ → Reading (MediaType × ℕ) → Decoded (MediaType × List ℕ)
-source_as s = reading_as (λ p next. (p.0, part s p.1 next.at)) s
+abbrev pub source_as : Reading (MediaType × Bor (List ℕ)) → Decoded (MediaType × List ℕ)
+source_as = reading_as (λ p. (p.0, p.1.now))
 
--- the source stands among the n bytes of the sheet
-abbrev pub WithinSource : ℕ → Reading (MediaType × ℕ) → Type 0
-WithinSource n = PastWith (λ p next. (p.1 ≤ next.at) × (next.at ≤ n))
+-- x stands at a place of s
+pub record StandsAt (s : List ℕ) (at : ℕ) (x : List ℕ) : Type 0 where
+  pub inside : at + length x ≤ length s
+  pub there : part s at (at + length x) ≡ x
+
+-- x stands in s, right in front of so many bytes, with which s ends
+pub record InFront (s x : List ℕ) (left : ℕ) : Type 0 where
+  pub fits : length x + left ≤ length s
+  pub stands : StandsAt s (length s - left - length x) x
+
+-- the source stands in the sheet s, right in front of the bytes that are left
+abbrev pub WithinSource : List ℕ → Reading (MediaType × Bor (List ℕ)) → Type 0
+WithinSource s = PastWith (λ p next. InFront s p.1.now (length next.now))
 
 -- how many comments were read, and these, in the first rows of a table
-abbrev pub comment_table_as : List ℕ → List CommentRow → Reading ℕ → Decoded (ℕ × List Comment)
-comment_table_as s table = reading_as (λ n next. (n, comments_in (take n table))) s
+abbrev pub comment_table_as : List CommentRow → Reading ℕ → Decoded (ℕ × List Comment)
+comment_table_as table = reading_as (λ n. (n, comments_in (take n table)))
 
-abbrev pub group_table_as : List ℕ → List GroupRow → Reading ℕ → Decoded (List Group)
-group_table_as s table = reading_as (λ m next. groups_in (take m table)) s
+abbrev pub group_table_as : List GroupRow → Reading ℕ → Decoded (List Group)
+group_table_as table = reading_as (λ m. groups_in (take m table))
 
 -- no more than a limit
 abbrev pub WithinLimit : ℕ → Reading ℕ → Type 0
 WithinLimit limit = PastWith (λ n next. n ≤ limit)
 
--- what the numbers that were read stand for
-abbrev pub front_of : List ℕ → List CommentRow → List GroupRow → declared.Front → Front
-front_of s comments groups t =
+-- what the front that was read stands for
+abbrev pub front_of : List CommentRow → List GroupRow → declared.Front → Front
+front_of comments groups t =
     record {
       media = t.media;
-      source = part s t.source_start t.source_end;
+      source = t.source.now;
       comments = comments_in (take t.comments comments);
       groups = groups_in (take t.groups groups);
     }
 
-abbrev pub front_as : List ℕ → List CommentRow → List GroupRow → Reading declared.Front → Decoded Front
-front_as s comments groups = reading_as (λ t next. front_of s comments groups t) s
+abbrev pub front_as : List CommentRow → List GroupRow → Reading declared.Front → Decoded Front
+front_as comments groups = reading_as (front_of comments groups)
 
--- the source stands among the n bytes of the sheet, and there is room for the rows
-pub record Inside (n : ℕ) (t : declared.Front) : Type 0 where
-  pub places : (t.source_start ≤ t.source_end) × (t.source_end ≤ n)
+-- the source stands in the sheet s, and there is room for the rows
+pub record Inside (s : List ℕ) (t : declared.Front) : Type 0 where
+  pub place : StandsAt s t.source_start t.source.now
   pub few : (t.comments ≤ comment_limit) × (t.groups ≤ group_limit)
 
-abbrev pub WithinFront : ℕ → Reading declared.Front → Type 0
-WithinFront n = PastWith (λ t next. Inside n t)
+abbrev pub WithinFront : List ℕ → Reading declared.Front → Type 0
+WithinFront s = PastWith (λ t next. Inside s t)
 
--- a program at a place of the sheet, with a root behind it that ends the sheet, in which no call meets refusal 9
-pub record Stands (s source : List ℕ) (at : ℕ) (t : Tree) : Type 0 where
+-- a program, with a root behind it that ends the sheet, in which no call meets refusal 9
+pub record Stands (source s : List ℕ) (t : Tree) : Type 0 where
   pub root : Node
-  pub before : program source (drop at s) ≡ ok t.program (drop t.root s)
-  pub stands : node source depth_limit (drop t.root s) ≡ ok root []
+  pub before : program source s ≡ ok t.program t.root.now
+  pub stands : node source depth_limit t.root.now ≡ ok root []
   pub cooked : uncooked root ≡ false
   pub gives : entries root ≡ t.entries
   pub reaches : ReachesIn t.reach root
 
-abbrev pub TreeFound : List ℕ → List ℕ → ℕ → Result Tree Refusal → Type 0
-TreeFound s source at (Ok t) = Stands s source at t
-TreeFound s source at (Err r) = tree source (drop at s) ≡ no (number_of r)
+abbrev pub TreeFound : List ℕ → List ℕ → Result Tree Refusal → Type 0
+TreeFound source s (Ok t) = Stands source s t
+TreeFound source s (Err r) = tree source s ≡ no (number_of r)

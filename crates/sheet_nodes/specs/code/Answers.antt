@@ -1,11 +1,9 @@
 -- What is found in a node, made from what is found in others, and the bounds that the answers of the code keep.
-use Rattle.std.specs.Prelude.{Bool, false, ◌&&◌, ◌||◌, List, ℕ, ◌+◌, ◌≤◌, ◌<◌}
+use Rattle.std.specs.Prelude.{Bool, false, ◌&&◌, ◌||◌, List, ℕ, ◌+◌, ◌≤◌, ◌<◌, length}
+use Rattle.std.specs.Borrow.{Bor}
 use Rattle.laws.specs.Decoded.{Decoded}
 use Rattle.text.specs.Truth.{one}
-use Rattle.wire.specs.declared.Cursor.{Cursor}
 use Rattle.wire.specs.code.Views.{Reading, reading_as, PastWith}
-use Rattle.sheet_heads.specs.declared.node.Head.{Head}
-use Rattle.sheet_heads.specs.code.Views.{HeadWithin}
 use Rattle.sheet_nodes.specs.declared.tally.Tally.{Tally}
 use Rattle.sheet_nodes.specs.declared.tally.NodeTally.{NodeTally}
 use Rattle.sheet_nodes.specs.declared.tally.Passed.{Passed}
@@ -35,39 +33,35 @@ called_by e p =
     }
 
 -- the answers about the root and about its children, without how far entries reach
-abbrev pub root_as : List ℕ → Reading Root → Decoded NodeTally
-root_as = reading_as (λ root next. root.tally)
+abbrev pub root_as : Reading Root → Decoded NodeTally
+root_as = reading_as (λ root. root.tally)
 
-abbrev pub children_as : List ℕ → Reading Children → Decoded Tally
-children_as = reading_as (λ children next. children.tally)
+abbrev pub children_as : Reading Children → Decoded Tally
+children_as = reading_as (λ children. children.tally)
 
--- a cursor past a head, which took a byte at least
-abbrev pub Begun : ℕ → ℕ → Head → Type 0
-Begun n at h = (0 < at) × (at ≤ n) × HeadWithin n h
+-- what is left of n bytes behind a node: each entry took a byte at least
+abbrev pub PastNode : ℕ → NodeTally → Bor (List ℕ) → Type 0
+PastNode n j next = (length next.now < n) × (j.entries + length next.now ≤ n)
 
--- a cursor past a node: each entry took a byte at least
-abbrev pub PastNode : ℕ → ℕ → NodeTally → Cursor → Type 0
-PastNode at n j next = (at < next.at) × (next.at ≤ n) × (at + j.entries ≤ next.at)
+abbrev pub PastChecked : ℕ → Reading NodeTally → Type 0
+PastChecked n = PastWith (PastNode n)
 
-abbrev pub PastChecked : ℕ → ℕ → Reading NodeTally → Type 0
-PastChecked at n = PastWith (PastNode at n)
-
-abbrev pub PastRoot : ℕ → ℕ → Reading Root → Type 0
-PastRoot at n = PastWith (λ root. PastNode at n root.tally)
+abbrev pub PastRoot : ℕ → Reading Root → Type 0
+PastRoot n = PastWith (λ root. PastNode n root.tally)
 
 -- and behind a head, which took one
-abbrev pub PastRest : ℕ → ℕ → Reading NodeTally → Type 0
-PastRest at n = PastWith (λ j next. (at ≤ next.at) × (next.at ≤ n) × (at + j.entries ≤ next.at + 1))
+abbrev pub PastRest : ℕ → Reading NodeTally → Type 0
+PastRest n = PastWith (λ j next. (length next.now ≤ n) × (j.entries + length next.now ≤ n + 1))
 
--- so many entries more, and no more than the bytes up to the cursor
-abbrev pub PastMore : ℕ → ℕ → ℕ → Cursor → Type 0
-PastMore at n entries next = (next.at ≤ n) × (at + entries ≤ next.at)
+-- behind so many entries
+abbrev pub PastMore : ℕ → ℕ → Bor (List ℕ) → Type 0
+PastMore n entries next = entries + length next.now ≤ n
 
-abbrev pub PastTally : ℕ → ℕ → Reading Tally → Type 0
-PastTally at n = PastWith (λ t. PastMore at n t.entries)
+abbrev pub PastTally : ℕ → Reading Tally → Type 0
+PastTally n = PastWith (λ t. PastMore n t.entries)
 
-abbrev pub PastChildren : ℕ → ℕ → Reading Children → Type 0
-PastChildren at n = PastWith (λ children. PastMore at n children.tally.entries)
+abbrev pub PastChildren : ℕ → Reading Children → Type 0
+PastChildren n = PastWith (λ children. PastMore n children.tally.entries)
 
-abbrev pub PastPassed : ℕ → ℕ → Reading Passed → Type 0
-PastPassed at n = PastWith (λ p. PastMore at n p.entries)
+abbrev pub PastPassed : ℕ → Reading Passed → Type 0
+PastPassed n = PastWith (λ p. PastMore n p.entries)

@@ -7,7 +7,7 @@ use Rattle.arguments.proofs.argument.parse_argument.Goals as goal
 pub returns-in-String : goal.returns-in-String
 returns-in-String c = record {
   answer = λ n t e. string_argument (rw c.in-String.is at (c.read_expression.ensures.answer n t e));
-  bounds = (rw c.in-String.is at c.read_expression.ensures.bounds).1;
+  bounds = tt;
 }
 
 pub returns-in-Template : goal.returns-in-Template
@@ -17,7 +17,7 @@ returns-in-Template c =
       answer = λ n t e.
           let template = rw c.in-Template.is at (c.read_expression.ensures.answer n t e) in
           rw ((template_argument template).0, (template_argument template).1)
-          (c.parse_template.ensures.answer a.sheet.now.source.now a.levels template.pieces template.behind template.read);
+          (c.parse_template.ensures.answer a.source.now a.levels template.pieces template.behind template.read);
       bounds = c.parse_template.ensures.bounds;
     }
 

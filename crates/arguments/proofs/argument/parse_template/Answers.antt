@@ -1,4 +1,4 @@
-use Rattle.laws.proofs.Prelude.{refl, ap, [], ◌+◌, arith, drop, told, bounded}
+use Rattle.laws.proofs.Prelude.{refl, ap, [], ◌+◌, arith, told}
 use Rattle.sheet.specs.Nodes.{piece}
 use Rattle.sheet_heads.proofs.Many.{many_refused}
 use Rattle.arguments.specs.Argument.{replaced_in}
@@ -10,10 +10,9 @@ returns-in-Ok-Some-default c =
     let a = c.args in
     let arm = c.in-Ok-Some-default in
     let read = rw arm.field-0-0-is at (told c.read_piece.ensures arm.is) in
-    let past = rw arm.field-0-0-is at (bounded c.read_piece.ensures arm.is) in
     record {
-      answer = λ source levels ps u e. rw (one_only a.holes (drop a.c.at a.sheet.now) e c.if-holes-eq0.true read) (refl, refl);
-      bounds = (past.2.1, past.1);
+      answer = λ source levels ps u e. rw (one_only a.holes a.pieces.now e c.if-holes-eq0.true read) (refl, refl);
+      bounds = tt;
     }
 
 pub returns-in-Ok-None-default : goal.returns-in-Ok-None-default
@@ -22,7 +21,7 @@ returns-in-Ok-None-default c =
     let arm = c.in-Ok-None-default in
     let read = rw arm.field-0-0-is at (told c.read_piece.ensures arm.is) in
     record {
-      answer = λ source levels ps u e. rw (one_only a.holes (drop a.c.at a.sheet.now) e c.if-holes-eq0.true read) (refl, refl);
+      answer = λ source levels ps u e. rw (one_only a.holes a.pieces.now e c.if-holes-eq0.true read) (refl, refl);
       bounds = tt;
     }
 
@@ -31,7 +30,7 @@ returns-in-Err c =
     let a = c.args in
     record {
       answer = λ source levels ps u e.
-          absurd (many_refused [] piece (a.holes + 1) (drop a.c.at a.sheet.now) (omega arith) (told c.read_piece.ensures c.in-Err.is) e);
+          absurd (many_refused [] piece (a.holes + 1) a.pieces.now (omega arith) (told c.read_piece.ensures c.in-Err.is) e);
       bounds = tt;
     }
 
@@ -40,7 +39,7 @@ returns c =
     let a = c.args in
     record {
       answer = λ source levels ps u e.
-          let (is, none) = of_parts a.holes (drop a.c.at a.sheet.now) e c.if-holes-eq0.false in
+          let (is, none) = of_parts a.holes a.pieces.now e c.if-holes-eq0.false in
           ((ps, u, e, c.count_parts.ensures ps u e, is), ap replaced_in none);
       bounds = c.requires;
     }

@@ -23,9 +23,9 @@ returns-in-Ok t c =
           let plus = rw c.in-Plus.is at (c.read_expression.ensures.answer n u e) in
           let (m, first, whole) = plus_parts plus is in
           let left = c.put_bin-next.ensures.answer plus.left plus.between m plus.first first in
-          let second = ap (node a.sheet.now.source.now (a.levels - 1)) left.1 ∙ plus.second in (
+          let second = ap (node a.source.now (a.levels - 1)) left.1 ∙ plus.second in (
             rw (← whole, more_parts, ← left.0, encode_one) (c.put_operand.ensures.answer plus.right u second),
-            same_rest node_tally (node a.sheet.now.source.now (a.levels - 1) _) second (told c.check_node.ensures c.in-Ok.is),
+            same_rest node_tally (node a.source.now (a.levels - 1) _) second (told c.check_node.ensures c.in-Ok.is),
           );
       left = keeps_then c.put_bin-next.ensures.left c.put_operand.ensures.left;
     }
@@ -38,12 +38,12 @@ returns-in-Err t c =
           let plus = rw c.in-Plus.is at (c.read_expression.ensures.answer n u e) in
           let (m, first, whole) = plus_parts plus is in
           let left = c.put_bin-next.ensures.answer plus.left plus.between m plus.first first in
-          absurd (checked_refused (ap (node a.sheet.now.source.now (a.levels - 1)) left.1 ∙ plus.second) (told c.check_node.ensures c.in-Err.is));
+          absurd (checked_refused (ap (node a.source.now (a.levels - 1)) left.1 ∙ plus.second) (told c.check_node.ensures c.in-Err.is));
       left = keeps_then c.put_bin-next.ensures.left c.put_operand.ensures.left;
     }
 
 pub returns-in-Template : goal.returns-in-Template
 returns-in-Template t c = record {
-  answer = λ n u l e is. absurd (no_parts (not_a_chain _ _ _ _ (c.read_expression.ensures.answer n u e) c.in-Template.is) is);
+  answer = λ n u l e is. absurd (no_parts (not_a_chain _ _ _ (c.read_expression.ensures.answer n u e) c.in-Template.is) is);
   left = keeps_same _;
 }

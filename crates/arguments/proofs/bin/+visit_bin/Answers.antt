@@ -7,7 +7,7 @@ returns-in-String t c =
     let past = rw c.in-String.is at c.read_expression.ensures.bounds in
     record {
       answer = λ n u e. string_counted (rw c.in-String.is at (c.read_expression.ensures.answer n u e));
-      bounds = past.0;
+      bounds = past;
     }
 
 pub returns-in_err-n-in-Plus : goal.returns-in_err-n-in-Plus
@@ -41,6 +41,6 @@ returns-in_ok-next-in-Plus t c =
 
 pub returns-in-Template : goal.returns-in-Template
 returns-in-Template t c = record {
-  answer = λ n u e. rw (not_a_chain _ _ _ _ (c.read_expression.ensures.answer n u e) c.in-Template.is);
+  answer = λ n u e. rw (not_a_chain _ _ _ (c.read_expression.ensures.answer n u e) c.in-Template.is);
   bounds = tt;
 }

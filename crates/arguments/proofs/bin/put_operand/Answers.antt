@@ -10,6 +10,6 @@ returns-in-String c = record {
 
 pub returns-in-Template : goal.returns-in-Template
 returns-in-Template c = record {
-  answer = λ n t e. rw (no_text _ _ _ _ (c.read_expression.ensures.answer n t e) c.in-Template.is) c.put_expr.ensures;
+  answer = λ n t e. rw (no_text _ _ _ (c.read_expression.ensures.answer n t e) c.in-Template.is) c.put_expr.ensures;
   left = wrote_keeps _ _ _ c.put_expr.ensures;
 }

@@ -1,4 +1,4 @@
-use Rattle.laws.proofs.Prelude.{ap, [], ◌+◌, ◌-◌, arith, ltb, length, drop, length-append, sub-zero, told, bounded}
+use Rattle.laws.proofs.Prelude.{ap, [], ◌+◌, ◌-◌, arith, ltb, length, length-append, sub-zero, told}
 use Rattle.sheet.specs.{Nodes.piece}
 use Rattle.sheet_heads.proofs.Many.{many_refused, many_end}
 use Rattle.arguments.specs.Argument.{template_parts}
@@ -10,31 +10,27 @@ loop-k-init c = (omega arith, λ ps u e. (ps, rw sub-zero e, omega arith))
 
 pub returns-in_default : goal.returns-in_default
 returns-in_default c ps u e =
-    let s = c.args.sheet.now in
     let l = c.loop-k in
     let (qs, read, total) = l.invariant.1 ps u e in
-    absurd (many_refused [] piece (c.args.holes + 1 - l.k) (drop l.at.at s) (omega arith) (told c.read_piece.ensures c.in_default.is) read)
+    absurd (many_refused [] piece (c.args.holes + 1 - l.k) l.s.now (omega arith) (told c.read_piece.ensures c.in_default.is) read)
 
 pub loop-k-preserved : goal.loop-k-preserved
 loop-k-preserved c =
-    let s = c.args.sheet.now in
     let l = c.loop-k in
     let holes = c.args.holes in
     let is = rw piece_is at (told c.read_piece.ensures c.in-Ok.is) in
-    let past = bounded c.read_piece.ensures c.in-Ok.is in
     let hole = hole_count (ltb l.k holes) in
     let cooked = c.count_piece.ensures in (
       omega (arith, one_most (ltb l.k holes), cooked.bounds),
       λ ps u e.
           let (qs, read, total) = l.invariant.1 ps u e in
-          let (rs, behind, parts) = piece_next holes l.k (omega arith) (drop l.at.at s) _ is read in
-          (rs, behind, omega (arith, simp length-append at (ap length parts), cooked.answer s past.1, hole)),
+          let (rs, behind, parts) = piece_next holes l.k (omega arith) l.s.now _ is read in
+          (rs, behind, omega (arith, simp length-append at (ap length parts), cooked.answer, hole)),
     )
 
 pub returns : goal.returns
 returns c ps u e =
-    let s = c.args.sheet.now in
     let l = c.loop-k in
     let (qs, read, total) = l.invariant.1 ps u e in
-    let none = ap (λ ps. length (template_parts ps)) (many_end [] piece (c.args.holes + 1 - l.k) (drop l.at.at s) (omega arith) read) in
+    let none = ap (λ ps. length (template_parts ps)) (many_end [] piece (c.args.holes + 1 - l.k) l.s.now (omega arith) read) in
     omega arith

@@ -1,4 +1,4 @@
-use Rattle.laws.proofs.Prelude.{◌≡◌, List, [], ℕ, ◌+◌, ◌-◌, ◌*◌, ◌≤◌, length, drop}
+use Rattle.laws.proofs.Prelude.{◌≡◌, List, [], ℕ, ◌+◌, ◌-◌, ◌*◌, ◌≤◌, length}
 use Rattle.laws.specs.Decoded.{ok}
 use Rattle.sheet.specs.{Tree.Pieces, Nodes.many, Nodes.piece}
 use Rattle.arguments.specs.Argument.{template_parts}
@@ -8,6 +8,6 @@ use Rattle.arguments.proofs.template.count_parts.Given as goal
 abbrev pub invariant-loop-k : goal.invariant-loop-k
 invariant-loop-k l =
     (l.parts ≤ 2 * l.k)
-    × ((ps : Pieces) (u : List ℕ) → many [] piece (l.holes + 1) (drop l.initial.at.at l.sheet) ≡ ok ps u
-    → (qs : Pieces) × (many [] piece (l.holes + 1 - l.k) (drop l.at.at l.sheet) ≡ ok qs u)
+    × ((ps : Pieces) (u : List ℕ) → many [] piece (l.holes + 1) l.initial.s ≡ ok ps u
+    → (qs : Pieces) × (many [] piece (l.holes + 1 - l.k) l.s ≡ ok qs u)
     × (length (template_parts ps) ≡ l.parts + length (template_parts qs)))

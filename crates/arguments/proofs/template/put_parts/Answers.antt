@@ -1,4 +1,4 @@
-use Rattle.laws.proofs.Prelude.{refl, sym, ◌∙◌, [], ◌+◌, ◌-◌, sub-zero, flat_map, arith, drop, told}
+use Rattle.laws.proofs.Prelude.{refl, sym, ◌∙◌, [], ◌+◌, ◌-◌, sub-zero, flat_map, arith, told}
 use Rattle.sheet.specs.{Nodes.piece}
 use Rattle.sheet_heads.proofs.Many.{many_refused, many_end}
 use Rattle.report.proofs.Buffers.{more_nil, wrote_keeps, keeps_same, keeps_then}
@@ -12,10 +12,9 @@ pub returns-in_default : goal.returns-in_default
 returns-in_default c =
     record {
       answer = λ ps u e.
-          let s = c.args.sheet.now in
           let l = c.loop-k in
           let (qs, read, total) = l.invariant.1 ps u e in
-          absurd (many_refused [] piece (c.args.holes + 1 - l.k) (drop l.at.at s) (omega arith) (told c.read_piece.ensures c.in_default.is) read);
+          absurd (many_refused [] piece (c.args.holes + 1 - l.k) l.s.now (omega arith) (told c.read_piece.ensures c.in_default.is) read);
       left = c.loop-k.invariant.0;
     }
 
@@ -23,11 +22,10 @@ pub loop-k-preserved : goal.loop-k-preserved
 loop-k-preserved c = (
   keeps_then c.loop-k.invariant.0 (keeps_then (wrote_keeps _ _ _ c.put_piece.ensures) (wrote_keeps _ _ _ c.put_hole.ensures)),
   λ ps u e.
-      let s = c.args.sheet.now in
       let l = c.loop-k in
       let (qs, read, total) = l.invariant.1 ps u e in
       let is = rw piece_is at (told c.read_piece.ensures c.in-Ok.is) in
-      let (rs, behind, parts) = piece_next c.args.holes l.k (omega arith) (drop l.at.at s) _ is read in
+      let (rs, behind, parts) = piece_next c.args.holes l.k (omega arith) l.s.now _ is read in
       (rs, behind, total ∙ rw (parts, more_parts, ← c.put_piece.ensures, more_parts, ← c.put_hole.ensures)),
 )
 
@@ -35,9 +33,8 @@ pub returns : goal.returns
 unfolding flat_map
 returns c = record {
   answer = λ ps u e.
-      let s = c.args.sheet.now in
       let l = c.loop-k in
       let (qs, read, total) = l.invariant.1 ps u e in
-      sym (total ∙ rw (many_end [] piece (c.args.holes + 1 - l.k) (drop l.at.at s) (omega arith) read) (more_nil l.w));
+      sym (total ∙ rw (many_end [] piece (c.args.holes + 1 - l.k) l.s.now (omega arith) read) (more_nil l.w));
   left = c.loop-k.invariant.0;
 }

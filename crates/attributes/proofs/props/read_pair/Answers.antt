@@ -1,9 +1,12 @@
-use Rattle.attributes.proofs.Shapes.{no_string}
+use Rattle.attributes.proofs.Shapes.{string_value, no_string}
 use Rattle.attributes.proofs.props.read_pair.Goals as goal
+use Rattle.attributes.proofs.props.read_pair.Goals.{in-Text, in-Object}
 
-pub returns-in-Object : goal.returns-in-Object
-returns-in-Object c =
-    record {
-      answer = λ v t e. rw (no_string _ _ _ _ (c.read_value.ensures.answer v t e) c.in-Object.is);
-      bounds = record { key = c.requires; value = tt };
-    }
+pub returns : goal.returns
+returns c v t e =
+    elim c.match-read_value.branch [
+      | in-Text w ↦
+          let is = rw w.in-Text.is at (c.read_value.ensures.answer v t e) in
+          rw (w.value-is, w.then_some-value.ensures, w.is_exact.ensures.answer, string_value w.in-Text.text _ is)
+      | in-Object w ↦ rw (w.value-is, no_string _ _ _ (c.read_value.ensures.answer v t e) w.in-Object.is)
+    ]

@@ -1,11 +1,9 @@
-use Rattle.laws.proofs.Prelude.{[], ◌≤◌, length, drop}
+use Rattle.laws.proofs.Prelude.{[], ◌≤◌, length}
 use Rattle.sheet.specs.{Nodes.node}
-use Rattle.attributes.specs.{Attributes.object_attributes, code.Views.pairs_in, code.Views.Pairs}
+use Rattle.attributes.specs.{Attributes.object_attributes}
 use Rattle.attributes.proofs.Loops.{Going}
 use Rattle.attributes.proofs.readings.parse_import_attributes_from_object_lit.Given as goal
 
 abbrev pub invariant-loop : goal.invariant-loop
 invariant-loop l =
-    (l.n ≤ l.counter)
-    × Pairs (length l.sheet.bytes.now) l.pairs l.n
-    × Going object_attributes (node l.sheet.source.now l.levels) [] l.count (drop l.initial.at.at l.sheet.bytes.now) (pairs_in l.sheet.bytes.now l.pairs l.n) l.counter (drop l.at.at l.sheet.bytes.now)
+    (length l.pairs ≤ l.counter) × Going object_attributes (node l.source l.levels) [] l.count l.s l.pairs l.counter l.at

@@ -6,7 +6,7 @@ use Rattle.delivery.proofs.entries.late_entry.Given as goal
 
 abbrev pub invariant-loop-i : goal.invariant-loop-i
 invariant-loop-i l =
-    (ms : List Module) (t : List ℕ) → Modules l.delivery l.first l.earlier ms t → (info : ModuleInfo) → Valid info → l.report ≡ encode info
+    (ms : List Module) (t : List ℕ) → Modules l.first l.earlier ms t → (info : ModuleInfo) → Valid info → l.report ≡ encode info
     → (k : ℕ) (behind : Answer)
-    → (ds : List DependencyDescriptor) × (u : List ℕ) × Stand encode_dependency ValidDependency l.report u l.at (l.i-end - l.i) ds
+    → (ds : List DependencyDescriptor) × (u : List ℕ) × Stand encode_dependency ValidDependency u l.next (l.count - l.i) ds
     × (entries_in_turn (names_of ms) k 0 info.dependencies behind ≡ entries_in_turn (names_of ms) k l.i ds behind)

@@ -1,28 +1,44 @@
-use Rattle.laws.proofs.Prelude.{refl, sym, ap, ◌∙◌, [], ◌∷◌, ◌++◌, ◌+◌}
+use Rattle.laws.proofs.Prelude.{refl, sym, ap, ◌∙◌, [], ◌∷◌, ◌++◌, ◌+◌, length-take-le}
 use Rattle.laws.{proofs.Lists.all_member, proofs.Lists.middle_member}
 use Rattle.delivery.specs.{Delivery.Module, Order.modules_in_turn, Right.Reported, Right.names_of}
 use Rattle.delivery.proofs.Along.{at_first, one_more, name_more}
-use Rattle.delivery.proofs.{Turns.module_here}
+use Rattle.delivery.proofs.{Turns.module_here, ReportEntries.late_again}
 use Rattle.delivery.proofs.judge.judge_order.Goals as goal
+
+pub slice_bounds-late_entry-end : goal.slice_bounds-late_entry-end
+slice_bounds-late_entry-end c = sym (length-take-le _ _ (rw c.in-Some.is at c.judge_module.ensures.bounds))
+
+pub returns-in_err-late : goal.returns-in_err-late
+returns-in_err-late c =
+    let l = c.loop-i in
+    λ ms t p all.
+    let (earlier, rest, along, e) = l.invariant.1 ms t p all in
+    let (m, after, is, v, there, on) = one_more c.loop-i-test.true along in
+    let (read, _) = c.read_module.ensures m v _ there in
+    let judged = rw (
+      l.invariant.0,
+      ap (λ (m : Module). m.sheet) read,
+      c.in-Some.is,
+    ) at c.judge_module.ensures.answer in
+    let zero = all_member (Reported _) ms all (middle_member earlier after (along.whole ∙ ap (earlier ++◌) is)) in
+    absurd ((late_again (names_of earlier) _ _ c.late_entry.result (judged earlier _ along.passed zero) (c.late_entry.ensures earlier _ along.passed)).1 c.in_err-late.was)
 
 pub returns-in-Some : goal.returns-in-Some
 returns-in-Some c =
     let l = c.loop-i in
-    let found = c.in-Some.is in record {
-      answer = λ ms t p all.
-          let (earlier, rest, along, e) = l.invariant.1 ms t p all in
-          let (m, after, is, v, there, on) = one_more c.loop-i-test.true along in
-          let (read, _) = c.read_module-module.ensures.answer m v _ there in
-          let judged = rw (
-            l.invariant.0,
-            ap (λ (m : Module). m.sheet) read,
-            found,
-          ) at c.judge_module.ensures.answer in
-          let zero = all_member (Reported _) ms all (middle_member earlier after (along.whole ∙ ap (earlier ++◌) is)) in
-          judged earlier _ along.passed zero l.i (modules_in_turn (names_of earlier ++ (m.name ∷ [])) (l.i + 1) after) ∙
-          sym (e ∙ module_here is (names_of earlier) l.i);
-      bounds = rw found at c.judge_module.ensures.bounds;
-    }
+    λ ms t p all.
+    let (earlier, rest, along, e) = l.invariant.1 ms t p all in
+    let (m, after, is, v, there, on) = one_more c.loop-i-test.true along in
+    let (read, _) = c.read_module.ensures m v _ there in
+    let judged = rw (
+      l.invariant.0,
+      ap (λ (m : Module). m.sheet) read,
+      c.in-Some.is,
+    ) at c.judge_module.ensures.answer in
+    let zero = all_member (Reported _) ms all (middle_member earlier after (along.whole ∙ ap (earlier ++◌) is)) in
+    let (found, _) = late_again (names_of earlier) _ _ c.late_entry.result (judged earlier _ along.passed zero) (c.late_entry.ensures earlier _ along.passed) in
+    rw c.in_ok-late.was at (found l.i (modules_in_turn (names_of earlier ++ (m.name ∷ [])) (l.i + 1) after)) ∙
+    sym (e ∙ module_here is (names_of earlier) l.i)
 
 pub loop-i-preserved : goal.loop-i-preserved
 loop-i-preserved c =
@@ -31,7 +47,7 @@ loop-i-preserved c =
       λ ms t p all.
           let (earlier, rest, along, e) = l.invariant.1 ms t p all in
           let (m, after, is, v, there, on) = one_more c.loop-i-test.true along in
-          let (read, next) = c.read_module-module.ensures.answer m v _ there in
+          let (read, next) = c.read_module.ensures m v _ there in
           let judged = rw (
             l.invariant.0,
             ap (λ (m : Module). m.sheet) read,

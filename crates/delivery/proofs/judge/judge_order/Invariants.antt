@@ -7,6 +7,6 @@ use Rattle.delivery.proofs.judge.judge_order.Given as goal
 abbrev pub invariant-loop-i : goal.invariant-loop-i
 invariant-loop-i l =
     (length l.work ≡ length l.initial.work)
-    × ((ms : List Module) (t : List ℕ) → Modules l.delivery l.first l.count ms t → All (Reported (length l.initial.work)) ms
-    → (earlier : List Module) × (rest : List Module) × Along l.delivery t l.first l.count ms l.at l.i earlier rest
+    × ((ms : List Module) (t : List ℕ) → Modules l.first l.count ms t → All (Reported (length l.initial.work)) ms
+    → (earlier : List Module) × (rest : List Module) × Along l.first t l.count ms l.next l.i earlier rest
     × (modules_in_turn [] 0 ms ≡ modules_in_turn (names_of earlier) l.i rest))

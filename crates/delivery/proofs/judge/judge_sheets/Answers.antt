@@ -10,7 +10,7 @@ returns-in-Err c =
       answer = λ ms t p behind.
           let (earlier, rest, along, e) = l.invariant.1 ms t p in
           let (m, after, is, v, there, on) = one_more c.loop-i-test.true along in
-          let (read, _) = c.read_module-module.ensures.answer m v _ there in
+          let (read, _) = c.read_module.ensures m v _ there in
           let (number, some) = refused_number (rw (
             l.invariant.0,
             ap (λ (m : Module). m.sheet) read,
@@ -27,7 +27,7 @@ loop-i-preserved c =
       λ ms t p.
           let (earlier, rest, along, e) = l.invariant.1 ms t p in
           let (m, after, is, v, there, on) = one_more c.loop-i-test.true along in
-          let (read, next) = c.read_module-module.ensures.answer m v _ there in
+          let (read, next) = c.read_module.ensures m v _ there in
           let (zero, _) = reported (rw (
             l.invariant.0,
             ap (λ (m : Module). m.sheet) read,

@@ -6,6 +6,6 @@ use Rattle.delivery.proofs.judge.judge_sheets.Given as goal
 abbrev pub invariant-loop-i : goal.invariant-loop-i
 invariant-loop-i l =
     (length l.work ≡ length l.initial.work)
-    × ((ms : List Module) (t : List ℕ) → Modules l.delivery l.first l.count ms t
-    → (earlier : List Module) × (rest : List Module) × Along l.delivery t l.first l.count ms l.at l.i earlier rest
+    × ((ms : List Module) (t : List ℕ) → Modules l.first l.count ms t
+    → (earlier : List Module) × (rest : List Module) × Along l.first t l.count ms l.next l.i earlier rest
     × ((behind : Answer) → sheets_in_turn (length l.initial.work) 0 ms behind ≡ sheets_in_turn (length l.initial.work) l.i rest behind))

@@ -9,7 +9,7 @@ returns-then-is_name c =
     λ ms t p.
     let (earlier, rest, along, e) = c.loop-i.invariant ms t p in
     let (m, after, is, v, there, on) = one_more c.loop-i-test.true along in
-    let (read, _) = c.read_module-module.ensures.answer m v _ there in
+    let (read, _) = c.read_module.ensures m v _ there in
     let found = known (c.is_name.ensures earlier _ along.passed) c.if-is_name.true in
     sym (e ∙ repeated_here is (names_of earlier) (rw (ap (λ (m : Module). m.name) read) at found))
 
@@ -18,7 +18,7 @@ loop-i-preserved c =
     λ ms t p.
     let (earlier, rest, along, e) = c.loop-i.invariant ms t p in
     let (m, after, is, v, there, on) = one_more c.loop-i-test.true along in
-    let (read, next) = c.read_module-module.ensures.answer m v _ there in
+    let (read, next) = c.read_module.ensures m v _ there in
     let found = known (c.is_name.ensures earlier _ along.passed) c.if-is_name.false in (
       earlier ++ (m ∷ []),
       after,

@@ -5,5 +5,5 @@ use Rattle.delivery.proofs.modules.has_name_twice.Given as goal
 
 abbrev pub invariant-loop-i : goal.invariant-loop-i
 invariant-loop-i l =
-    (ms : List Module) (t : List ℕ) → Modules l.delivery l.first l.count ms t
-    → (earlier : List Module) × (rest : List Module) × Along l.delivery t l.first l.count ms l.at l.i earlier rest × (repeated [] ms ≡ repeated (names_of earlier) rest)
+    (ms : List Module) (t : List ℕ) → Modules l.first l.count ms t
+    → (earlier : List Module) × (rest : List Module) × Along l.first t l.count ms l.next l.i earlier rest × (repeated [] ms ≡ repeated (names_of earlier) rest)

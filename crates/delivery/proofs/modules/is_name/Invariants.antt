@@ -4,5 +4,5 @@ use Rattle.delivery.proofs.modules.is_name.Given as goal
 
 abbrev pub invariant-loop : goal.invariant-loop
 invariant-loop l =
-    (ms : List Module) (t : List ℕ) → Modules l.delivery l.first l.count ms t
-    → (rest : List Module) × Modules l.delivery l.at (l.count - l.counter) rest t × (among l.text (names_of ms) ≡ among l.text (names_of rest))
+    (ms : List Module) (t : List ℕ) → Modules l.first l.count ms t
+    → (rest : List Module) × Modules l.next (l.count - l.counter) rest t × (among l.text (names_of ms) ≡ among l.text (names_of rest))

@@ -1,4 +1,4 @@
-use Rattle.laws.proofs.Prelude.{◌≡◌, ap, ◌∙◌, List, ℕ, drop, told}
+use Rattle.laws.proofs.Prelude.{◌≡◌, ap, ◌∙◌, List, ℕ, told}
 use Rattle.laws.specs.Decoded.{ok, Decoder}
 use Rattle.laws.proofs.Decoding.{same_rest}
 use Rattle.sheet.specs.Tree.{Node, Arguments, no_arguments}
@@ -25,12 +25,11 @@ unfolding call_entry
 returns-then-more-eq0 c =
     let a = c.args in
     let source = a.comments.now.source in
-    let s = drop a.cursor.at a.comments.now.bytes in
     record {
       answer = λ dots n xs t u is are.
-          c.put_dynamic_entry.ensures.answer (argument_of n) (replaced_in (single_text (shape n))) xs s
-          (rw (c.sheet-sheet.ensures.bytes, c.sheet-sheet.ensures.source) at c.parse_argument.ensures.answer n t is)
-          (none-anywhere (node source a.levels) source t (rw c.if-more-eq0.true at are) s);
+          c.put_dynamic_entry.ensures.answer (argument_of n) (replaced_in (single_text (shape n))) xs a.s.now
+          (rw c.source-source.ensures.value at c.parse_argument.ensures.answer n t is)
+          (none-anywhere (node source a.levels) source t (rw c.if-more-eq0.true at are) a.s.now);
       left = c.put_dynamic_entry.ensures.left;
     }
 
@@ -39,12 +38,11 @@ unfolding call_entry
 returns-in-Ok c =
     let a = c.args in
     let source = a.comments.now.source in
-    let x = node source a.levels (drop a.cursor.at a.comments.now.bytes) in
     record {
       answer = λ dots n xs t u is are.
           c.put_dynamic_entry-in-Ok.ensures.answer (argument_of n) (replaced_in (single_text (shape n))) xs u
-          (rw (c.sheet-sheet.ensures.bytes, c.sheet-sheet.ensures.source) at c.parse_argument.ensures.answer n t is)
+          (rw c.source-source.ensures.value at c.parse_argument.ensures.answer n t is)
           (ap (arguments (node source a.levels) source a.more)
-          (same_rest node_tally x is (told (rw (c.sheet-sheet.ensures.bytes, c.sheet-sheet.ensures.source) at c.check_node.ensures) c.in-Ok.is)) ∙ are);
+          (same_rest node_tally (node source a.levels a.s.now) is (told (rw c.source-source.ensures.value at c.check_node.ensures) c.in-Ok.is)) ∙ are);
       left = c.put_dynamic_entry-in-Ok.ensures.left;
     }

@@ -1,9 +1,7 @@
-use Rattle.laws.proofs.Prelude.{sym, ap, ◌∙◌, drop, told}
+use Rattle.laws.proofs.Prelude.{told}
 use Rattle.sheet.specs.Nodes.{node}
 use Rattle.sheet_heads.proofs.FirstArgument.{first, no_first, no_arguments_lem}
-use Rattle.arguments.specs.Argument.{replaced_in}
-use Rattle.dep_entries.specs.Entries.{first_text, beside, call_entry}
-use Rattle.dep_entries.specs.code.Written.{types_of, items_as, with_entries}
+use Rattle.dep_entries.specs.Entries.{call_entry}
 use Rattle.dep_entries.proofs.Wrote.{adds_none, items_same}
 use Rattle.dep_entries.proofs.ArgumentSpans.{argument_spanned}
 use Rattle.dep_entries.proofs.Items.put_call_entry.Goals.{else-call-via-then-call+else-count-gt0, else-call-via-else-call}
@@ -14,22 +12,18 @@ use Rattle.dep_entries.proofs.Items.put_call_entry.Goals as goal
 pub put_argument_entry-requires : goal.put_argument_entry-requires
 put_argument_entry-requires c =
     let a = c.args in
-    argument_spanned a.comments.now.source (drop a.cursor.at a.comments.now.bytes)
-    (told (rw (c.sheet.ensures.bytes, c.sheet.ensures.source) at c.read_argument.ensures) c.in-Ok.is)
+    argument_spanned a.comments.now.source a.s.now
+    (told (rw c.source.ensures.value at c.read_argument.ensures) c.in-Ok.is)
 
 pub returns-in-Ok : goal.returns-in-Ok
 returns-in-Ok c =
     let a = c.args in
     let source = a.comments.now.source in
-    let read = told (rw (c.sheet.ensures.bytes, c.sheet.ensures.source) at c.read_argument.ensures) c.in-Ok.is in
+    let read = told (rw c.source.ensures.value at c.read_argument.ensures) c.in-Ok.is in
     record {
       answer = λ xs t is.
-          let f = first (node source a.levels) source a.count (drop a.cursor.at a.comments.now.bytes) c.if-count-gt0.true is read in
-          rw c.if-call.true
-          (c.put_argument_entry.ensures.answer _ f.node f.others f.between t f.read f.behind
-          ∙ ap (λ xs. with_entries (items_as a.self.now)
-          (beside a.call.span.start (replaced_in (first_text xs)) (call_entry source (types_of a.comments.now) a.call.kind a.call.span xs)))
-          (sym f.are));
+          let f = first (node source a.levels) source a.count a.s.now c.if-count-gt0.true is read in
+          rw (c.if-call.true, f.are) (c.put_argument_entry.ensures.answer _ f.node f.others f.between t f.read f.behind);
       left = c.put_argument_entry.ensures.left;
     }
 
@@ -37,22 +31,22 @@ pub returns-in_default : goal.returns-in_default
 returns-in_default c =
     let a = c.args in
     let source = a.comments.now.source in
-    let inner = node source a.levels in
-    let u = drop a.cursor.at a.comments.now.bytes in
-    let read = told (rw (c.sheet.ensures.bytes, c.sheet.ensures.source) at c.read_argument.ensures) c.in_default.is in
-    record { answer = λ xs t is. absurd (no_first inner source a.count u c.if-count-gt0.true is read); left = items_same a.self.now }
+    let read = told (rw c.source.ensures.value at c.read_argument.ensures) c.in_default.is in
+    record {
+      answer = λ xs t is. absurd (no_first (node source a.levels) source a.count a.s.now c.if-count-gt0.true is read);
+      left = items_same a.self.now;
+    }
 
 pub returns-else-call : goal.returns-else-call
 unfolding call_entry
 returns-else-call c =
     let a = c.args in
     let source = a.comments.now.source in
-    let inner = node source a.levels in
-    let u = drop a.cursor.at a.comments.now.bytes in
     let nothing = adds_none a.self.now in
     record {
       answer = λ xs t is. elim c.else-call.branch [
-        | else-call-via-then-call+else-count-gt0 w ↦ rw (w.if-call.true, no_arguments_lem inner source a.count u w.if-count-gt0.false is) nothing
+        | else-call-via-then-call+else-count-gt0 w ↦
+            rw (w.if-call.true, no_arguments_lem (node source a.levels) source a.count a.s.now w.if-count-gt0.false is) nothing
         | else-call-via-else-call w ↦ rw w.if-call.false nothing
       ];
       left = items_same a.self.now;

@@ -11,8 +11,8 @@ unfolding encode_dependency encode_dynamic
 returns c =
     record {
       answer = λ v k xs t stands are.
-          let (written, counted) = c.put_argument-replaced.ensures.answer v k (rw (c.sheet-sheet.ensures.bytes, c.sheet-sheet.ensures.source) stands) in
-          let read = c.parse_dynamic_import_attributes-attributes.ensures.answer xs t (rw (c.sheet-sheet.ensures.bytes, c.sheet-sheet.ensures.source) are) in
+          let (written, counted) = c.put_argument-replaced.ensures.answer v k (rw c.source-source.ensures.value stands) in
+          let read = c.parse_dynamic_import_attributes-attributes.ensures xs t (rw c.source-source.ensures.value are) in
           grind (arith, adds_one, more_append, more_cons, written, counted, read);
       left = search (rules, keeps_then, wrote_keeps);
     }

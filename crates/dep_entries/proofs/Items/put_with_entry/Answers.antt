@@ -9,16 +9,14 @@ use Rattle.dep_entries.proofs.Items.put_with_entry.Goals as goal
 pub returns : goal.returns
 returns c =
     let a = c.args in
-    let bytes = c.sheet-sheet.ensures.bytes in
-    let source = c.sheet-sheet.ensures.source in
     record {
       answer = λ b t is. c.put_static_entry.ensures
           ∙ ap (λ x. with_entries (items_as a.self.now) (static_of a.comments.now a.dependency x))
           elim c.if-is_type.branch [
-            | then-is_type w ↦ rw (w.if-is_type.true, w.pairs-is, w.attributes-is)
-                (rw bytes at (w.parse_type_attributes-attributes.ensures.answer b t (rw (bytes, source) is)))
-            | else-is_type w ↦ rw (w.if-is_type.false, w.pairs-is, w.attributes-is)
-                (rw bytes at (w.parse_import_attributes-attributes.ensures.answer b t (rw (bytes, source) is)))
+            | then-is_type w ↦ rw (w.if-is_type.true, w.attributes-is)
+                (w.parse_type_attributes-attributes.ensures b t (rw c.source-source.ensures.value is))
+            | else-is_type w ↦ rw (w.if-is_type.false, w.attributes-is)
+                (w.parse_import_attributes-attributes.ensures b t (rw c.source-source.ensures.value is))
           ];
       left = adds_keeps a.self.now c.put_static_entry.new.self _ c.put_static_entry.ensures;
     }

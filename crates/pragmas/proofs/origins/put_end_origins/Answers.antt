@@ -1,7 +1,7 @@
 use Rattle.report.specs.declared.origins.EntryRule.TheVariants.{SourceMap}
 use Rattle.pragmas.specs.{declared.readings.Counts.TheVariants.Last, declared.readings.Rule.TheVariants.SourceMapUrl, Readings.read_by}
 use Rattle.pragmas.specs.Origins.{origin_by, end_origins}
-use Rattle.pragmas.proofs.{Taken.origin_counted, Between.optional_each}
+use Rattle.pragmas.proofs.{Taken.origin_counted, Turns.optional_each}
 use Rattle.pragmas.proofs.origins.put_end_origins.Goals as goal
 
 pub returns : goal.returns

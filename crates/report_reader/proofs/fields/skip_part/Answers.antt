@@ -8,7 +8,7 @@ unfolding encode_key_value
 returns-then-keyed c =
     rw c.if-keyed.true
     (λ a v t e.
-    let (_, e) = c.read_text-key.ensures.answer a.key v.key _ (e ∙ append_assoc (encode_text a.key) (encode_optional encode_text a.value) t) in
+    let (_, e) = c.read_text.ensures a.key v.key _ (e ∙ append_assoc (encode_text a.key) (encode_optional encode_text a.value) t) in
     c.skip_optional_text.ensures a.value v.value t e)
 
 pub returns : goal.returns

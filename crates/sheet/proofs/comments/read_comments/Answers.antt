@@ -5,7 +5,7 @@ use Rattle.sheet.proofs.comments.read_comments.Goals as goal
 
 pub new-requires : goal.new-requires
 new-requires c =
-    let judged = ((comment_codec c.args.sheet.now.source.now _).sound _ _ _ (told c.read_comment.ensures c.in_ok-found.was)).1 in
+    let judged = ((comment_codec c.args.source.now _).sound _ _ _ (told c.read_comment.ensures c.in_ok-found.was)).1 in
     (omega (arith, judged.small.0), omega (arith, judged.small.1))
 
 pub loop-row-preserved : goal.loop-row-preserved

@@ -2,10 +2,10 @@ use Rattle.laws.proofs.Prelude.{arith}
 use Rattle.sheet_heads.specs.code.Parts.{key_head}
 use Rattle.sheet_heads.proofs.parts.read_key.Goals as goal
 
-pub returns-in_err-start-in-2 : goal.returns-in_err-start-in-2
+pub returns-in_err-x-in-2 : goal.returns-in_err-x-in-2
 unfolding key_head
-returns-in_err-start-in-2 c = rw c.in-2.is (grind arith)
+returns-in_err-x-in-2 c = rw c.in-2.is (grind arith)
 
-pub returns-in_ok-start-in-2 : goal.returns-in_ok-start-in-2
+pub returns-in_ok-x-in-2 : goal.returns-in_ok-x-in-2
 unfolding key_head
-returns-in_ok-start-in-2 c = rw c.in-2.is (grind arith)
+returns-in_ok-x-in-2 c = rw c.in-2.is (grind arith)

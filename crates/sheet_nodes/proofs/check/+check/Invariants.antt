@@ -1,26 +1,24 @@
-use Rattle.laws.proofs.Prelude.{◌+◌, ◌*◌, drop}
+use Rattle.laws.proofs.Prelude.{◌≡◌, ◌+◌, ◌*◌, ◌≤◌, length}
 use Rattle.laws.specs.Decoded.{on_ok}
-use Rattle.sheet.specs.Tree.{none, no_arguments, no_properties}
-use Rattle.sheet.specs.Nodes.{node, nodes, argument_item, arguments, property_item, properties}
+use Rattle.sheet.specs.Nodes.{node, nodes, arguments, properties}
 use Rattle.sheet_nodes.specs.code.Tallies.{passed, tally_all, tally_in}
-use Rattle.sheet_nodes.proofs.Adds.{behind_passed}
-use Rattle.sheet_nodes.proofs.Loops.{Loop, after_nodes, after_properties, node_item}
+use Rattle.sheet_nodes.proofs.Loops.{from_nodes, from_arguments, from_properties}
 use Rattle.sheet_nodes.proofs.check.+check.Given as goal
 
 abbrev pub invariant-check_arguments-loop : goal.invariant-check_arguments-loop
 invariant-check_arguments-loop l =
-    Loop behind_passed no_arguments (argument_item (node l.sheet.source.now l.levels) l.sheet.source.now) (λ p. p.entries) l.sheet.bytes.now l.fn.c.at l.count
-    (on_ok passed (arguments (node l.sheet.source.now l.levels) l.sheet.source.now l.count (drop l.fn.c.at l.sheet.bytes.now))) l.counter l.total l.at.at
+    (l.total.entries + length l.next ≤ length l.fn.s)
+    × (on_ok passed (arguments (node l.source l.levels) l.source l.count l.fn.s) ≡ from_arguments (node l.source l.levels) l.source l.total l.count l.counter l.next)
 
 abbrev pub invariant-check_nodes-loop : goal.invariant-check_nodes-loop
 invariant-check_nodes-loop l =
-    Loop after_nodes none (node_item (node l.sheet.source.now l.levels)) (λ t. t.entries) l.sheet.bytes.now l.fn.c.at l.count
-    (on_ok tally_all (nodes (node l.sheet.source.now l.levels) l.count (drop l.fn.c.at l.sheet.bytes.now))) l.counter l.total l.at.at
+    (l.total.entries + length l.next ≤ length l.fn.s)
+    × (on_ok tally_all (nodes (node l.source l.levels) l.count l.fn.s) ≡ from_nodes (node l.source l.levels) l.total l.count l.counter l.next)
 
 abbrev pub invariant-check_properties-loop : goal.invariant-check_properties-loop
 invariant-check_properties-loop l =
-    Loop after_properties no_properties (property_item (node l.sheet.source.now l.levels)) (λ t. t.entries) l.sheet.bytes.now l.fn.c.at l.count
-    (on_ok tally_in (properties (node l.sheet.source.now l.levels) l.count (drop l.fn.c.at l.sheet.bytes.now))) l.counter l.total l.at.at
+    (l.total.entries + length l.next ≤ length l.fn.s)
+    × (on_ok tally_in (properties (node l.source l.levels) l.count l.fn.s) ≡ from_properties (node l.source l.levels) l.total l.count l.counter l.next)
 
 -- six for each level that is left; a member that calls another on the same level is above it
 abbrev pub decreases-check_arguments : goal.decreases-check_arguments
@@ -31,6 +29,9 @@ decreases-check_attributes l = 6 * l.levels
 
 abbrev pub decreases-check_call : goal.decreases-check_call
 decreases-check_call l = 6 * l.levels + 2
+
+abbrev pub decreases-check_holding : goal.decreases-check_holding
+decreases-check_holding l = 6 * l.levels + 2
 
 abbrev pub decreases-check_node : goal.decreases-check_node
 decreases-check_node l = 6 * l.levels

@@ -1,43 +1,61 @@
-use Rattle.laws.proofs.Prelude.{arith, ◌≡◌, refl, ◌∙◌, ◌+◌, ◌*◌, ◌-◌}
+use Rattle.laws.proofs.Prelude.{arith, ◌≡◌, refl, ap, ◌∙◌, sym, ◌+◌, ◌*◌, ◌-◌, ◌/◌, ◌≤◌, ◌<◌, length, drop, drop-drop, length-drop, length-set}
+use lib.Seq.{drop-set-lt}
 use Rattle.text.specs.Position.{characters, walk, position_of}
-use Rattle.text.proofs.Positions.{scanned, bounded, index_none, index_more, untouched_none, untouched_more}
+use Rattle.text.proofs.Positions.{scanned, bounded, index_none, index_more}
 use Rattle.text.proofs.position.build_index.Goals as goal
 
-pub loop-k-init : goal.loop-k-init
+pub loop-row-init : goal.loop-row-init
 unfolding position_of walk
-loop-k-init c =
-    let a = c.args in (
-      refl,
-      refl,
-      rw c.put.ensures (index_more (index_none characters a.s.now a.index.now) _ (omega arith) refl),
-      untouched_none _ _,
-    )
+loop-row-init c = (refl, refl, omega arith, refl, index_none, refl)
+
+pub new-requires : goal.new-requires
+new-requires c =
+    let (_, at, within, _, _, _) = c.loop-row.invariant in
+    let b = bounded c.args.s.now (64 * c.loop-row.row-index) within at in
+    (omega arith, omega arith)
+
+pub returns-in_default : goal.returns-in_default
+returns-in_default c =
+    let s = c.args.s.now in
+    let l = c.loop-row in
+    let (long, at, within, left, indexed, kept) = l.invariant in
+    let short : length s - 64 * l.row-index < 64 = rw (left, length-drop) at (c.in_default.ensures).cases in
+    let last : length s / 64 ≡ l.row-index = omega arith in
+    let row = c.new.result in
+    record {
+      answer = rw last (index_more l.index l.row-index row indexed (omega arith) (c.new.ensures ∙ at));
+      left = rw last (
+        length-set l.index l.row-index row ∙ long,
+        drop-set-lt (l.row-index + 1) l.index l.row-index row (omega arith) ∙ sym (drop-drop 1 l.row-index l.index) ∙ ap (drop 1) kept ∙ drop-drop 1 l.row-index _,
+      );
+    }
 
 pub scan_block-p-requires : goal.scan_block-p-requires
 scan_block-p-requires c =
-    let k = c.loop-k.k in
-    let b = bounded c.args.s.now (64 * k) (omega arith) c.loop-k.invariant.1 in
-    (omega arith, omega arith, omega arith)
+    let (_, at, within, _, _, _) = c.loop-row.invariant in
+    let b = bounded c.args.s.now (64 * c.loop-row.row-index) within at in
+    (omega arith, omega arith)
 
-pub put-requires-in-loop-k : goal.put-requires-in-loop-k
-put-requires-in-loop-k c =
+pub loop-row-preserved : goal.loop-row-preserved
+loop-row-preserved c =
     let s = c.args.s.now in
-    let l = c.loop-k in
-    let d : 64 * (l.k + 1) - 64 * l.k ≡ 64 = omega arith in
-    let e = scanned characters s (64 * l.k) (64 * (l.k + 1)) (omega arith) {q = c.scan_block-p.result} l.invariant.1
-    (rw d c.scan_block-p.ensures) in
-    let b = bounded s (64 * (l.k + 1)) (omega arith) e in
-    omega arith
-
-pub loop-k-preserved : goal.loop-k-preserved
-loop-k-preserved c =
-    let s = c.args.s.now in
-    let l = c.loop-k in
-    let d : 64 * (l.k + 1) - 64 * l.k ≡ 64 = omega arith in
-    let e = scanned characters s (64 * l.k) (64 * (l.k + 1)) (omega arith) {q = c.scan_block-p.result} l.invariant.1
-    (rw d c.scan_block-p.ensures) in (
-      c.put-in-loop-k.auto.index ∙ l.invariant.0,
-      e,
-      rw c.put-in-loop-k.ensures (index_more l.invariant.2 _ (omega arith) e),
-      rw c.put-in-loop-k.ensures (untouched_more l.invariant.3 _),
+    let l = c.loop-row in
+    let (long, at, within, left, indexed, kept) = l.invariant in
+    let (block, behind, most) = (c.in-Some.ensures).cases in
+    let room : 64 * (l.row-index + 1) ≤ length s = omega (arith, most, ap length left ∙ length-drop (64 * l.row-index) s) in
+    let next : 64 * l.row-index + 64 ≡ 64 * (l.row-index + 1) = omega arith in
+    let step : 64 * (l.row-index + 1) - 64 * l.row-index ≡ 64 = omega arith in
+    let row = c.new.result in (
+      length-set l.index l.row-index row ∙ long,
+      scanned characters s (64 * l.row-index) (64 * (l.row-index + 1)) (omega arith) at
+          (rw (step, ← left, ← block) c.scan_block-p.ensures),
+      room,
+      behind ∙ ap (drop 64) left ∙ drop-drop 64 (64 * l.row-index) s ∙ ap (λ n. drop n s) next,
+      index_more l.index l.row-index row indexed (omega arith) (c.new.ensures ∙ at),
+      drop-set-lt (l.row-index + 1) l.index l.row-index row (omega arith) ∙ sym (drop-drop 1 l.row-index l.index) ∙ ap (drop 1) kept ∙ drop-drop 1 l.row-index _,
     )
+
+pub returns : goal.returns
+returns c =
+    let (_, _, within, _, _, _) = c.loop-row.invariant in
+    absurd (omega arith)

@@ -17,7 +17,4 @@ returns-then-at-from c =
     scanned characters a.s.now a.from a.at c.if-from-at.true p.2 c.scan.ensures
 
 pub returns : goal.returns
-returns c =
-    let p = c.requires in
-    let a = c.args in
-    c.indexed_position.ensures ∙ indexed p.4 a.at (omega arith)
+returns c = c.indexed_position.ensures ∙ indexed c.requires.3 c.args.at

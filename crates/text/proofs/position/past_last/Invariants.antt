@@ -6,4 +6,4 @@ abbrev pub Past : ℕ → (ℕ → ℕ) → ℕ → Type 0
 Past last at i = ((k : ℕ) → last ≤ k → k < i → at k ≡ 0x0A → ⊥) × ((m : ℕ) → last ≡ m + 1 → at m ≡ 0x0A)
 
 abbrev pub invariant-loop-i : goal.invariant-loop-i
-invariant-loop-i l = (l.last ≤ l.i) × Past l.last (λ k. get_or l.s (l.from + k) 0) l.i
+invariant-loop-i l = (l.last ≤ l.i) × Past l.last (λ k. get_or l.block k 0) l.i

@@ -1,39 +1,41 @@
-use Rattle.laws.proofs.Prelude.{◌+◌, ◌*◌, drop}
+use Rattle.laws.proofs.Prelude.{◌≡◌, ◌+◌, ◌-◌, ◌*◌}
 use Rattle.laws.specs.Decoded.{on_ok}
-use Rattle.sheet.specs.Tree.{none, no_arguments, no_properties}
-use Rattle.sheet.specs.Nodes.{node, nodes, argument_item, arguments, property_item, properties}
-use Rattle.sheet_nodes.proofs.Loops.{node_item}
-use Rattle.dep_entries.specs.code.Written.{items_as}
-use Rattle.dep.specs.code.Walk.{note_all, note_of, note_in, after_nodes, after_arguments, after_properties}
-use Rattle.dep.proofs.Loops.{Loop}
+use Rattle.laws.specs.code.Told.{Leaving}
+use Rattle.sheet.specs.Nodes.{node, nodes, arguments, properties}
+use Rattle.dep_entries.specs.code.Written.{items_as, KeepsItems}
+use Rattle.dep.specs.code.Walk.{after_nodes, after_arguments, after_properties}
 use Rattle.dep.proofs.walk.DependencyCollector.+walk.Given as goal
 
+-- what is written of all is what is written, behind the items so far, of those that are left
 abbrev pub invariant-walk_arguments-loop : goal.invariant-walk_arguments-loop
 invariant-walk_arguments-loop l =
     let c = l.self.comments.now in
     let inner = node c.source l.levels in
     let i = l.initial in
-    Loop (note_of c) no_arguments (argument_item inner c.source) c.bytes l.count
-    (on_ok (after_arguments c (items_as i.items)) (arguments inner c.source l.count (drop i.at.at c.bytes)))
-    l.counter i.items l.items l.at.at
+    Leaving
+    (on_ok (after_arguments c (items_as i.items)) (arguments inner c.source l.count i.left)
+    ≡ on_ok (after_arguments c (items_as l.items)) (arguments inner c.source (l.count - l.counter) l.left))
+    (KeepsItems i.items l.items)
 
 abbrev pub invariant-walk_nodes-loop : goal.invariant-walk_nodes-loop
 invariant-walk_nodes-loop l =
     let c = l.self.comments.now in
     let inner = node c.source l.levels in
     let i = l.initial in
-    Loop (note_all c) none (node_item inner) c.bytes l.count
-    (on_ok (after_nodes c (items_as i.items)) (nodes inner l.count (drop i.at.at c.bytes)))
-    l.counter i.items l.items l.at.at
+    Leaving
+    (on_ok (after_nodes c (items_as i.items)) (nodes inner l.count i.left)
+    ≡ on_ok (after_nodes c (items_as l.items)) (nodes inner (l.count - l.counter) l.left))
+    (KeepsItems i.items l.items)
 
 abbrev pub invariant-walk_properties-loop : goal.invariant-walk_properties-loop
 invariant-walk_properties-loop l =
     let c = l.self.comments.now in
     let inner = node c.source l.levels in
     let i = l.initial in
-    Loop (note_in c) no_properties (property_item inner) c.bytes l.count
-    (on_ok (after_properties c (items_as i.items)) (properties inner l.count (drop i.at.at c.bytes)))
-    l.counter i.items l.items l.at.at
+    Leaving
+    (on_ok (after_properties c (items_as i.items)) (properties inner l.count i.left)
+    ≡ on_ok (after_properties c (items_as l.items)) (properties inner (l.count - l.counter) l.left))
+    (KeepsItems i.items l.items)
 
 -- six for each level that is left; a member that calls another on the same level is above it
 abbrev pub decreases-visit_call_expr : goal.decreases-visit_call_expr

@@ -1,0 +1,17 @@
+-- What the code does with some bytes s, if the bytes of a valid value stand at their front: it finds those behind them, and the value.
+use Rattle.std.specs.Prelude.{◌≡◌, List, ◌++◌, ℕ, ◌≤◌}
+use Rattle.wire.specs.Number.{largest, encode_number}
+
+module _ {A : Type 0} (encode : A → List ℕ) (Valid : A → Type 0) (s : List ℕ) where
+  -- the value is the one whose bytes stand there
+  abbrev pub ReadsBack : A → List ℕ → Type 0
+  ReadsBack value next = (a : A) → Valid a → (t : List ℕ) → s ≡ encode a ++ t → (value ≡ a) × (next ≡ t)
+
+  -- only the bytes behind it are found
+  abbrev pub Skips : List ℕ → Type 0
+  Skips next = (a : A) → Valid a → (t : List ℕ) → s ≡ encode a ++ t → next ≡ t
+
+-- a number that can be written is read
+pub record Number (s : List ℕ) (value : ℕ) (next : List ℕ) : Type 0 where
+  pub small : value ≤ largest
+  pub read : ReadsBack encode_number (λ n. n ≤ largest) s value next

@@ -1,5 +1,0 @@
-use Rattle.wire.proofs.Cursor.+groups.Given as goal
-
--- the groups that are left fall at each call
-abbrev pub decreases-groups : goal.decreases-groups
-decreases-groups l = l.left

@@ -2,6 +2,7 @@ pub mod Spelling
 pub mod Ends
 pub mod Apart
 pub mod Search
+pub mod Leftmost
 pub mod RowSteps
 pub mod Meaning
 pub mod Order

@@ -1,12 +1,12 @@
 -- What each row matches, step by step, as its finder goes through it.
 use Rattle.std.specs.Prelude.{Option, Some, None, is_some}
-use Rattle.laws.proofs.Prelude.{◌≡◌, refl, sym, ap, ◌∙◌, true, false, true≢false, List, [], ◌∷◌, flat_map, none-ne-some, ℕ, zero, suc, ◌+◌, ◌≤◌}
-use Rattle.laws.proofs.Prelude.{arith, length, drop, length-drop, eq-eqb}
+use Rattle.laws.proofs.Prelude.{◌≡◌, refl, sym, ap, ◌∙◌, true, false, true≢false, cond, List, [], ◌∷◌, flat_map, none-ne-some, ℕ, zero, suc, ◌+◌, ◌<◌}
+use Rattle.laws.proofs.Prelude.{arith, ltb, drop, le-ltb, lt-ltb}
 use Rattle.laws.proofs.Options.{some-injective}
 use lib.Dec.{eqb-suc-zero}
 use Rattle.laws.specs.Ascii.{ascii}
 use Rattle.text.specs.declared.class.Class.TheVariants.{White, NotWhite, WhiteOrStar, NotLf, Quote, NotQuote, SourceMark}
-use Rattle.text.{specs.Ranges.in_ranges, proofs.Runs.class_fits}
+use Rattle.text.{specs.Ranges.in_ranges, proofs.Runs.run_stops, proofs.Runs.run_goes_on}
 use Rattle.text.specs.Class.{ranges, outside, member, class_at, run_end}
 use Rattle.analysis.specs.declared.Capture.{Capture}
 use Rattle.analysis.specs.Letters.{fold_case, behind, on_match, word_at}
@@ -14,7 +14,7 @@ use Rattle.analysis.specs.Row.{Row, ◌▸◌, one_at, done, start, word, one, l
 use Rattle.analysis.specs.code.Matcher.{assigned_at, BeginsWithAtSign}
 use Rattle.analysis.specs.Patterns.{equals, quoted, quoted_some, bare, reference_end, triple_slash_row, attribute_row, jsx_row, source_mapping_url_row}
 use Rattle.analysis.specs.Patterns.{pragma_row, deno_types_row}
-use Rattle.analysis.proofs.Ends.{ends_begin, ends_stop, ends_go_on, longest_last}
+use Rattle.analysis.proofs.Ends.{ends_begin, ends_stop, ends_go_on, end_behind, longest_last}
 use Rattle.analysis.proofs.Apart.{Apart, past_run, white_apart, quote_apart, word_apart, at_apart, either_apart, from_apart, to_apart}
 use Rattle.analysis.proofs.Search.{anchored}
 
@@ -83,6 +83,11 @@ assigned r h w s at k = by_word (word_at w s at)
     by_word (Some e) = past_run (white_equals (longest White r)) s e k ∙ by_equals (word_at (ascii "=") s (run_end White s e))
     by_word None = refl
 
+-- a captured text that is not empty
+abbrev pub with_text : Option Capture → Option Capture
+with_text (Some k) = cond (ltb k.from k.to) (Some k) None
+with_text None = None
+
 -- the captured values
 module _ (s : List ℕ) (at : ℕ) where
   pub quoted_row : match_at quoted s at ≡ first (on_match (one_at Quote s at) [] (λ e.
@@ -90,11 +95,42 @@ module _ (s : List ℕ) (at : ℕ) where
   unfolding match_at all
   quoted_row = ap first (on (one_at Quote s at) λ e. past_run closes s e (record { quoted = true; from = e; to = 0 }))
 
-  pub quoted_some_row : match_at quoted_some s at ≡ first (on_match (one_at Quote s at) [] (λ e. on_match (one_at NotQuote s e) [] (λ d.
-      on_match (one_at Quote s (run_end NotQuote s d)) [] (λ b. record { quoted = true; from = e; to = run_end NotQuote s d } ∷ []))))
-  unfolding match_at all
-  quoted_some_row = ap first (on (one_at Quote s at) λ e. on (one_at NotQuote s e) λ d.
-      past_run closes s d (record { quoted = true; from = e; to = 0 }))
+  -- with text between the marks: the same, where there is some
+  pub quoted_some_row : match_at quoted_some s at ≡ with_text (match_at quoted s at)
+  unfolding match_at all first
+  quoted_some_row =
+      ap first (on (one_at Quote s at) λ e. on (one_at NotQuote s e) λ d. past_run closes s d (record { quoted = true; from = e; to = 0 }))
+      ∙ by (one_at Quote s at) ∙ ap with_text (sym quoted_row)
+    where
+      value : ℕ → ℕ → Option ℕ → List Capture
+      value e end m = on_match m [] (λ d. record { quoted = true; from = e; to = end } ∷ [])
+
+      ended : ℕ → ℕ → List Capture
+      ended e end = value e end (one_at Quote s end)
+
+      empty : (e : ℕ) (m : Option ℕ) → None ≡ with_text (first (value e e m))
+      empty e (Some d) = rw (le-ltb e e (omega arith))
+      empty e None = refl
+
+      filled : (e end : ℕ) → e < end → (m : Option ℕ) → first (value e end m) ≡ with_text (first (value e end m))
+      filled e end h (Some d) = rw (lt-ltb e end h)
+      filled e end h None = refl
+
+      by : (m : Option ℕ) → first (on_match m [] (λ e. on_match (one_at NotQuote s e) [] (λ d. ended e (run_end NotQuote s d))))
+          ≡ with_text (first (on_match m [] (λ e. ended e (run_end NotQuote s e))))
+      by (Some e) = go (class_at NotQuote (drop e s)) refl
+        where
+          go : (n : ℕ) → n ≡ class_at NotQuote (drop e s)
+              → first (on_match (behind e n) [] (λ d. ended e (run_end NotQuote s d))) ≡ with_text (first (ended e (run_end NotQuote s e)))
+          go zero p =
+              let stop : run_end NotQuote s e ≡ e = omega (arith, run_stops NotQuote (drop e s) (sym p)) in
+              rw stop (empty e (one_at Quote s e))
+          go (suc n) p =
+              let z : suc n ≡ 0 → ⊥ = λ y. omega arith in
+              let same : run_end NotQuote s (e + suc n) ≡ run_end NotQuote s e = rw (← p) at (end_behind NotQuote s e (rw (← p) z)) in
+              let more : e < run_end NotQuote s e = omega (arith, run_goes_on NotQuote (drop e s) p z) in
+              rw (eqb-suc-zero n, same) (filled e (run_end NotQuote s e) more (one_at Quote s (run_end NotQuote s e)))
+      by None = refl
 
   pub bare_row : match_at bare s at
       ≡ first (on_match (one_at NotWhite s at) [] (λ e. record { quoted = false; from = at; to = run_end NotWhite s e } ∷ []))
@@ -128,12 +164,6 @@ module _ (s : List ℕ) (at : ℕ) where
       on_match (assigned_at w s e) [] (λ d. all quoted s d no_capture)))
   unfolding match_at all
   attribute_row_lem w = ap first (on (one_at White s at) λ e. assigned quoted white_quote w s e no_capture)
-
-  pub attribute_ends : (w : List ℕ) → length s ≤ at → match_at (attribute_row w) s at ≡ None
-  unfolding first
-  attribute_ends w h =
-      let z : class_at White (drop at s) ≡ 0 = omega (arith, class_fits White (drop at s), length-drop at s) in
-      rw (attribute_row_lem w, eq-eqb _ 0 z)
 
 -- the patterns that are anchored
 module _ (s : List ℕ) where

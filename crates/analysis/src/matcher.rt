@@ -26,11 +26,10 @@ fn fold_case(code: u32) -> u32
 
 // The same as `letter_at`, by the rows of characters.
 #[tactic(auto, unfolding(crate::specs::Letters::letter_at))]
-fn wide_letter_at(s: &[u8], at: usize, letter: u8) -> usize
-    requires { at ≤ length s.now }
-    ensures { Bounded (result ≡ letter_at letter (drop at s.now)) (at + result ≤ length s.now) }
+fn wide_letter_at(s: &[u8], letter: u8) -> usize
+    ensures { Bounded (result ≡ letter_at letter s.now) (result ≤ length s.now) }
 {
-    let c = char_at(s, at, Encoding::Utf8);
+    let c = char_at(s, 0, Encoding::Utf8);
     if fold_case(c.code) == fold_case(u32::from(letter)) {
         c.len
     } else {
@@ -38,16 +37,18 @@ fn wide_letter_at(s: &[u8], at: usize, letter: u8) -> usize
     }
 }
 
-// The length in bytes of the letter at `at`, whatever its case, 0 where it does not stand there.
+// The length in bytes of the letter, whatever its case, that the text begins with, 0 where there is none.
 #[tactic(auto, using(crate::proofs::Spelling::ascii_letter))]
-fn letter_at(s: &[u8], at: usize, letter: u8) -> usize
-    requires { at ≤ length s.now }
-    ensures { Bounded (result ≡ letter_at letter (drop at s.now)) (at + result ≤ length s.now) }
+fn letter_at(s: &[u8], letter: u8) -> usize
+    ensures { Bounded (result ≡ letter_at letter s.now) (result ≤ length s.now) }
 {
-    if at < s.len() && s[at] < 0x80 {
-        return usize::from(fold_case(u32::from(s[at])) == fold_case(u32::from(letter)));
+    match s {
+        [b, ..] if *b < 0x80 => {
+            let same = fold_case(u32::from(*b)) == fold_case(u32::from(letter));
+            usize::from(same)
+        }
+        _ => wide_letter_at(s, letter),
     }
-    wide_letter_at(s, at, letter)
 }
 
 // Where the character of the class ends that stands at `at`.
@@ -63,13 +64,14 @@ pub fn one_at(s: &[u8], at: usize, class: Class) -> Option<usize>
 }
 
 // Where the word ends that begins at `at`, letter by letter.
+#[tactic(auto, using(crate::proofs::Spelling::word_misses, crate::proofs::Spelling::word_goes_on, crate::proofs::Spelling::word_ends))]
 pub fn match_word(s: &[u8], at: usize, word: &[u8]) -> Option<usize>
     requires { at ≤ length s.now }
     ensures { Bounded (result ≡ word_at word.now s.now at) (EndsBy result (length s.now)) }
 {
     let mut i = at;
     for letter in word {
-        let n = letter_at(s, i, *letter);
+        let n = letter_at(&s[i..], *letter);
         if n == 0 {
             return None;
         }
@@ -112,15 +114,7 @@ pub fn quoted_some_at(s: &[u8], at: usize) -> Option<Capture>
     requires { at ≤ length s.now }
     ensures { Bounded (result ≡ match_at quoted_some s.now at) (FoundWithin result (length s.now)) }
 {
-    let from = one_at(s, at, Class::Quote)?;
-    let first = one_at(s, from, Class::NotQuote)?;
-    let to = run_end(s, first, Class::NotQuote);
-    one_at(s, to, Class::Quote)?;
-    Some(Capture {
-        quoted: true,
-        from,
-        to,
-    })
+    quoted_at(s, at).filter(|found| found.from < found.to)
 }
 
 // (\S+)
@@ -139,6 +133,7 @@ pub fn bare_at(s: &[u8], at: usize) -> Option<Capture>
 }
 
 // .*?/>
+#[tactic(auto, using(crate::proofs::RowSteps::reference_hit, crate::proofs::RowSteps::reference_stop, crate::proofs::RowSteps::reference_goes_on))]
 pub fn reference_ends(s: &[u8], at: usize) -> bool
     requires { at ≤ length s.now }
     ensures { result ≡ is_found (match_at reference_end s.now at) }
@@ -172,13 +167,7 @@ pub fn find_attribute(body: &[u8], word: &[u8]) -> Option<Capture>
     ensures { Bounded (result ≡ find (attribute_row word.now) body.now)
         (FoundWithin result (length body.now)) }
 {
-    for i in 0..body.len() {
-        let found = attribute_at(body, i, word);
-        if found.is_some() {
-            return found;
-        }
-    }
-    None
+    (0..=body.len()).find_map(|at| attribute_at(body, at, word))
 }
 
 // ^[\s*]*WORD\s+(\S+), the word beginning with @

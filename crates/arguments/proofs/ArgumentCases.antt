@@ -10,7 +10,7 @@ use Rattle.wire.specs.Number.{last_group, groups, number}
 use Rattle.wire.specs.{Text.count, Text.text, Optional.optional}
 use Rattle.sheet.specs.{Limits.depth_limit, Comments.enclosed, Quotation.looks_quoted}
 use Rattle.sheet.specs.Fields.{position, end_from, span}
-use Rattle.sheet.specs.Nodes.{many, tag, piece, nodes, string_text, string_fields, name_fields, template_fields, binary_fields, fields, node}
+use Rattle.sheet.specs.Nodes.{many, tag, piece, nodes, text_behind, string_fields, name_fields, template_fields, binary_fields, fields, node}
 use Rattle.report.specs.ModuleInfo.{DynamicArgument, expr, string, template}
 use Rattle.arguments.specs.Argument.{chain, argument_of}
 
@@ -64,6 +64,6 @@ cases =
 
 as_stated : map (λ x. (x.0, on_ok argument_of (node (ascii "\"\"") depth_limit x.0))) cases ≡ cases
 unfolding byte below flag bytes last_group groups number count text admits length_by char_length formed replacing begins enclosed looks_quoted is_boundary
-    position end_from span many tag optional piece nodes string_text string_fields
+    position end_from span many tag optional piece nodes text_behind string_fields
     name_fields template_fields binary_fields fields node chain argument_of
 as_stated = refl

@@ -11,6 +11,7 @@ use Rattle.wire.specs.{Text.encode_text, Optional.encode_optional}
 use Rattle.sheet.specs.{Tree.Node, Shape.shape}
 use Rattle.sheet_nodes.specs.{declared.tally.NodeTally.NodeTally, code.Tallies.node_tally}
 use Rattle.report.{specs.ModuleInfo.DynamicTemplatePart, specs.Buffer.Written, specs.Buffer.more, proofs.Buffers.more_append}
+use Rattle.arguments.specs.declared.template_pieces.TemplatePieces.{TemplatePieces}
 use Rattle.arguments.specs.declared.expression.Expression.{Expression}
 use Rattle.arguments.specs.declared.expression.Expression.TheVariants as expression
 use Rattle.arguments.specs.Argument.{operand, appended, chain}
@@ -117,13 +118,13 @@ module _ {inner : Decoder Node} {s : List ℕ} {n : Node} {t : List ℕ} (r : Is
 -- an expression that is no part of a chain: no text beside a plus, and no chain
 module _ (inner : Decoder Node) {x : Expression} (n : Node) (t : List ℕ) (is : ExpressionIs inner x n t) where
   pub no_text :
-      ((holes : ℕ) × (next : Bor (List ℕ)) × (x ≡ expression.Template holes next))
+      ((pieces : TemplatePieces) × (x ≡ expression.Template pieces))
       ⊎ (((next : Bor (List ℕ)) × (x ≡ expression.Plus next)) ⊎ (x ≡ expression.Other))
       → operand (shape n) ≡ None
-  no_text (inl (holes, next, e)) = template_operand (rw e at is)
+  no_text (inl (pieces, e)) = template_operand (rw e at is)
   no_text (inr (inl (next, e))) = plus_operand (rw e at is)
   no_text (inr (inr e)) = (rw e at is).side
 
-  pub not_a_chain : ((holes : ℕ) × (next : Bor (List ℕ)) × (x ≡ expression.Template holes next)) ⊎ (x ≡ expression.Other) → chain n ≡ None
-  not_a_chain (inl (holes, next, e)) = template_chain (rw e at is)
+  pub not_a_chain : ((pieces : TemplatePieces) × (x ≡ expression.Template pieces)) ⊎ (x ≡ expression.Other) → chain n ≡ None
+  not_a_chain (inl (pieces, e)) = template_chain (rw e at is)
   not_a_chain (inr e) = (rw e at is).parts

@@ -34,7 +34,7 @@ pub fn visit_bin<'a>(source: &[u8], s: &'a [u8], levels: usize) -> Option<(usize
             let (_, next) = check_node(source, next, levels - 1).ok()?;
             Some((n + 1, next))
         }
-        Expression::Template(_, _) | Expression::Other => None,
+        Expression::Template(_) | Expression::Other => None,
     }
 }
 
@@ -48,7 +48,7 @@ fn put_operand(source: &[u8], s: &[u8], levels: usize, w: &mut Writer)
 {
     match read_expression(source, s, levels) {
         Expression::String { text, .. } => put_string(text, w),
-        Expression::Template(_, _) | Expression::Plus(_) | Expression::Other => put_expr(w),
+        Expression::Template(_) | Expression::Plus(_) | Expression::Other => put_expr(w),
     }
 }
 
@@ -74,6 +74,6 @@ pub fn put_bin<'a>(source: &[u8], s: &'a [u8], levels: usize, w: &mut Writer) ->
                 Err(_) => next,
             }
         }
-        Expression::Template(_, _) | Expression::Other => s,
+        Expression::Template(_) | Expression::Other => s,
     }
 }

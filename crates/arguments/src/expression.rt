@@ -6,13 +6,14 @@ ghost use Rattle.sheet.specs.Tree.{Node};
 ghost use Rattle.sheet.specs.Nodes.{node};
 ghost use Rattle.arguments.specs.code.Views.{ExpressionIs, ExpressionWithin};
 
+use super::template_pieces::TemplatePieces;
 use sheet_heads::node::{Head, read_head};
 
-// A String with its text, a Template with its holes, or a Binary that is a plus, with the bytes behind the head.
+// A String with its text, a Template with its pieces, or a Binary that is a plus, with the bytes behind the head.
 #[derive(Clone, Copy)]
 pub enum Expression<'a> {
     String { text: &'a [u8], next: &'a [u8] },
-    Template(usize, &'a [u8]),
+    Template(TemplatePieces<'a>),
     Plus(&'a [u8]),
     Other,
 }
@@ -30,7 +31,7 @@ pub fn read_expression<'a>(source: &[u8], s: &'a [u8], levels: usize) -> Express
     };
     match head {
         Head::String(text) => Expression::String { text, next },
-        Head::Template(holes) => Expression::Template(holes, next),
+        Head::Template(holes) => Expression::Template(TemplatePieces { holes, bytes: next }),
         Head::Binary(plus) => {
             if plus {
                 return Expression::Plus(next);

@@ -6,3 +6,4 @@ pub mod bin;
 pub mod expression;
 pub mod part;
 pub mod template;
+pub mod template_pieces;

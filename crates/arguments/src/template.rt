@@ -2,7 +2,6 @@
 ghost use Rattle.std.specs.Prelude.{◌≡◌, List, [], ℕ, ◌+◌, ◌≤◌, length};
 ghost use Rattle.laws.specs.Decoded.{ok};
 ghost use Rattle.laws.specs.code.Told.{Bounded, Leaving};
-ghost use Rattle.wire.specs.Number.{largest};
 ghost use Rattle.sheet.specs.Tree.{Pieces};
 ghost use Rattle.sheet.specs.Nodes.{many, piece};
 ghost use Rattle.report.specs.Buffer.{Wrote, Keeps};
@@ -10,6 +9,7 @@ ghost use Rattle.arguments.specs.Argument.{piece_parts, template_parts};
 ghost use Rattle.arguments.specs.code.Views.{encode_parts, piece_in, hole_parts};
 
 use super::part::{put_expr, put_string};
+use super::template_pieces::TemplatePieces;
 use report::writer::Writer;
 use sheet_heads::parts::read_piece;
 
@@ -24,17 +24,18 @@ fn count_piece(piece: Option<&[u8]>) -> usize
 }
 
 // How many parts the pieces and the holes between them give.
-pub fn count_parts(pieces: &[u8], holes: usize) -> usize
-    requires { holes ≤ largest }
-    ensures { (ps : Pieces) (u : List ℕ) → many [] piece (holes + 1) pieces.now ≡ ok ps u → length (template_parts ps) ≡ result }
+pub fn count_parts(pieces: TemplatePieces) -> usize
+    ensures { (ps : Pieces) (u : List ℕ)
+        → many [] piece (pieces.entry.holes + 1) pieces.entry.bytes.now ≡ ok ps u
+        → length (template_parts ps) ≡ result }
 {
-    let mut s = pieces;
+    let mut s = pieces.bytes;
     let mut parts: usize = 0;
-    for k in 0..holes + 1 {
+    for k in 0..pieces.holes + 1 {
         let Ok((piece, next)) = read_piece(s) else {
             return 0;
         };
-        parts += count_piece(piece) + usize::from(k < holes);
+        parts += count_piece(piece) + usize::from(k < pieces.holes);
         s = next;
     }
     parts
@@ -63,21 +64,20 @@ fn put_hole(has_hole: bool, w: &mut Writer)
 }
 
 // Writes the parts of the pieces and of the holes between them. Where the bytes are no such pieces, the buffer is left free.
-pub fn put_parts(pieces: &[u8], holes: usize, w: &mut Writer)
-    requires { holes ≤ largest }
+pub fn put_parts(pieces: TemplatePieces, w: &mut Writer)
     ensures { Leaving
         ((ps : Pieces) (u : List ℕ)
-        → many [] piece (holes + 1) pieces.now ≡ ok ps u
+        → many [] piece (pieces.entry.holes + 1) pieces.entry.bytes.now ≡ ok ps u
         → Wrote w.old w.new (encode_parts (template_parts ps)))
         (Keeps w.old w.new) }
 {
-    let mut s = pieces;
-    for k in 0..holes + 1 {
+    let mut s = pieces.bytes;
+    for k in 0..pieces.holes + 1 {
         let Ok((piece, next)) = read_piece(s) else {
             return;
         };
         put_piece(piece, w);
-        put_hole(k < holes, w);
+        put_hole(k < pieces.holes, w);
         s = next;
     }
 }

@@ -1,55 +1,30 @@
 -- Keys in the order of their bytes, and a pair put in its place among them.
-use Rattle.laws.proofs.Prelude.{◌≡◌, refl, sym, ap, ◌∙◌, Bool, true, false, cond, ◌⊎◌, inl, inr, ⊎_elim, ◌↔◌, List, [], ◌∷◌, Memᴰ, Memᴰ_head}
-use Rattle.laws.proofs.Prelude.{Memᴰ_tail, Memᴰ_not_nil, Memᴰ_cases_cons, ℕ, ◌<◌, arith, ltb, ltb-true, ltb-false, lt-ltb, le-ltb}
+use Rattle.laws.proofs.Prelude.{◌≡◌, refl, sym, ap, ◌∙◌, ◌⊎◌, inl, inr, ⊎_elim, ◌↔◌, List, [], ◌∷◌, Memᴰ, Memᴰ_head}
+use Rattle.laws.proofs.Prelude.{Memᴰ_tail, Memᴰ_not_nil, Memᴰ_cases_cons, ℕ}
+use Rattle.std.specs.Cmp.{IsTotalOrder}
+use Rattle.std.specs.Ordering.{ordering_reverse}
 use Rattle.std.specs.declared.cmp.Ordering.{Ordering}
-use Rattle.text.{specs.Bytes.order, proofs.Words.order_flips, proofs.Words.order_same}
 use Rattle.std.specs.declared.cmp.Ordering.TheVariants.{Less, Equal, Greater}
+use Rattle.std.proofs.lemmas.Cmp.{nat_list_cmp_total}
+use Rattle.text.{specs.Bytes.order, proofs.Words.order_flips, proofs.Words.order_is, proofs.Words.order_same}
 use Rattle.report.specs.{Ascending.Ascends, ModuleInfo.KeyValue}
 use Rattle.attributes.specs.Attributes.{placed, insert}
 
--- ---- the order
+-- ---- the order, which is total as the library's is
 
-less_first : (p q : Bool) (o : Ordering) → cond p Less (cond q Greater o) ≡ Less → (p ≡ true) ⊎ ((p ≡ false) × (q ≡ false) × (o ≡ Less))
-less_first true q o e = inl refl
-less_first false true o e = let z : ◌≡◌ {A = ℕ} 0 1 = cc in absurd (omega arith)
-less_first false false o e = inr (refl, refl, e)
-
--- the first bytes differ, or are equal and the rest is less
-first_bytes : (x y : ℕ) (a b : List ℕ) → order (x ∷ a) (y ∷ b) ≡ Less → (x < y) ⊎ ((x ≡ y) × (order a b ≡ Less))
-unfolding order
-first_bytes x y a b e =
-    ⊎_elim (λ p. inl (ltb-true x y p)) (λ (p, q, f). inr (omega (arith, ltb-false x y p, ltb-false y x q), f)) (less_first (ltb x y) (ltb y x) (order a b) e)
-
-by_first : (x y : ℕ) (a b : List ℕ) → (x < y) ⊎ ((x ≡ y) × (order a b ≡ Less)) → order (x ∷ a) (y ∷ b) ≡ Less
-unfolding order
-by_first x y a b (inl l) = rw (lt-ltb x y l)
-by_first x y a b (inr (e, f)) = rw (le-ltb x y (omega arith), le-ltb y x (omega arith)) f
-
-order_trans : (a b c : List ℕ) → order a b ≡ Less → order b c ≡ Less → order a c ≡ Less
-unfolding order
-order_trans a [] [] e f = let z : ◌≡◌ {A = ℕ} 0 1 = cc in absurd (omega arith)
-order_trans [] [] (z ∷ c) e f = refl
-order_trans (x ∷ a) [] (z ∷ c) e f = let z : ◌≡◌ {A = ℕ} 0 1 = cc in absurd (omega arith)
-order_trans a (y ∷ b) [] e f = let z : ◌≡◌ {A = ℕ} 0 1 = cc in absurd (omega arith)
-order_trans [] (y ∷ b) (z ∷ c) e f = refl
-order_trans (x ∷ a) (y ∷ b) (z ∷ c) e f =
-    by_first x z a c
-    (⊎_elim
-    (λ l. ⊎_elim (λ m. inl (omega arith)) (λ (m, g). inl (omega arith)) (first_bytes y z b c f))
-    (λ (l, d). ⊎_elim (λ m. inl (omega arith)) (λ (m, g). inr (omega arith, order_trans a b c d g)) (first_bytes y z b c f))
-    (first_bytes x y a b e))
-
-order_self : (a : List ℕ) → order a a ≡ Equal
-unfolding order
-order_self [] = refl
-order_self (x ∷ a) = rw (le-ltb x x (omega arith)) (order_self a)
+pub order_total : IsTotalOrder order
+order_total = record {
+  antisymm = λ a b. sym (order_is a b) ∙ nat_list_cmp_total.antisymm a b ∙ ap ordering_reverse (order_is b a);
+  trans = λ a b c e f. sym (order_is a c) ∙ nat_list_cmp_total.trans a b c (order_is a b ∙ e) (order_is b c ∙ f);
+  congr = λ a b c e. sym (order_is a c) ∙ nat_list_cmp_total.congr a b c (order_is a b ∙ e) ∙ order_is b c;
+}
 
 -- what is less or greater is another text
 pub less_apart : {a b : List ℕ} → order a b ≡ Less → a ≡ b → ⊥
 less_apart {a} {b} e i =
-    let equal : order a b ≡ Equal = rw i (order_self b) in
-    let z : ◌≡◌ {A = ℕ} 0 1 = cc in
-    omega arith
+    let less : order b b ≡ Less = rw i at e in
+    let turned : Less ≡ Greater = rw less at (order_total.antisymm b b) in
+    cc
 
 greater_apart : {a b : List ℕ} → order a b ≡ Greater → a ≡ b → ⊥
 greater_apart {a} {b} e i = less_apart {a = b} {b = a} (order_flips a b e) (sym i)
@@ -75,7 +50,7 @@ insert_member a (c ∷ l) h b = by_order (order a.key c.key) refl (insert_member
         later m =
             ⊎_elim
             (λ i. less_apart {a = a.key} {b = b.key} (rw i e))
-            (λ i. less_apart {a = a.key} {b = b.key} (order_trans a.key c.key b.key e (h.0 b i)))
+            (λ i. less_apart {a = a.key} {b = b.key} (order_total.trans a.key c.key b.key e (h.0 b i)))
             (Memᴰ_cases_cons m)
     by_order Equal e k =
         let same = order_same a.key c.key e in (
@@ -96,7 +71,7 @@ insert_ascends a [] h = (λ b m. absurd (Memᴰ_not_nil m), tt)
 insert_ascends a (c ∷ l) h = by_order (order a.key c.key) refl (insert_ascends a l h.1)
   where
     by_order : (o : Ordering) → order a.key c.key ≡ o → Ascends (insert a l) → Ascends (placed o a c l (insert a l))
-    by_order Less e f = (λ b m. ⊎_elim (λ i. rw i e) (λ i. order_trans a.key c.key b.key e (h.0 b i)) (Memᴰ_cases_cons m), h)
+    by_order Less e f = (λ b m. ⊎_elim (λ i. rw i e) (λ i. order_total.trans a.key c.key b.key e (h.0 b i)) (Memᴰ_cases_cons m), h)
     by_order Equal e f = let same = order_same a.key c.key e in (λ b m. rw same (h.0 b m), h.1)
     by_order Greater e f = (λ b m. ⊎_elim (λ i. rw i (order_flips a.key c.key e)) (λ (i, n). h.0 b i) ((insert_member a l h.1 b).0 m), f)
 

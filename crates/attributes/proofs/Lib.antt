@@ -1,5 +1,6 @@
 pub mod PairRows
 pub mod Insertion
+pub mod Kept
 pub mod Shapes
 pub mod Seen
 pub mod Loops

@@ -1,14 +1,13 @@
 -- Pairs in the first rows of a table: how many there are, one instead of another or before it, and the bytes of each.
-use Rattle.laws.proofs.Prelude.{◌≡◌, sym, ap, ◌∙◌, List, append_assoc, append-nil, flat_map, ℕ, ◌+◌, ◌-◌, ◌≤◌, ◌<◌, arith, length, get_or, set, take, drop, length-drop, length-take, length-take-le}
+use Rattle.laws.proofs.Prelude.{◌≡◌, sym, ap, ◌∙◌, List, append_assoc, append-nil, flat_map, map, ℕ, ◌+◌, ◌-◌, ◌≤◌, ◌<◌, arith, length, get_or, set, take, drop, length-drop, length-take, length-take-le}
 use Rattle.laws.proofs.Lists.{flat_map_append}
 use Rattle.report.specs.{declared.writer.Writer.Writer, ModuleInfo.KeyValue, Encode.encode_key_value, Buffer.Wrote}
 use Rattle.report.proofs.Buffers.{more_append}
 use Rattle.attributes.specs.declared.pairs.Pair.{Pair}
-use Rattle.attributes.specs.code.Rows.{pair_as, row_as, pairs_in}
-use Rattle.std.specs.Prelude.{Option, Some}
+use Rattle.attributes.specs.code.Rows.{pair_as, pairs_in}
 use Rattle.std.specs.List as list
 use Rattle.std.proofs.Math.Seq.{paste, take-set-lt}
-use Rattle.std.proofs.lemmas.List.{set-append_left, take_more, take_more_set, take-take, get_or-map, get_or-take, length-map, map-set, map-append, take-map, drop-map}
+use Rattle.std.proofs.lemmas.List.{set-append_left, take_more, take_more_set, take-take, get_or-map, length-map, map-set, map-append, take-map, drop-map}
 use Rattle.std.proofs.lemmas.List.Edits.{take-paste}
 use Rattle.std.proofs.lemmas.Slice.{between_is}
 
@@ -26,36 +25,36 @@ row_opened t n i p h l =
     ∙ rw (← take-set-lt (i + 1) t i p (omega arith), take_more_set t i p (omega arith), append_assoc, between_is t i n, take-take i n t)
 
 -- in rows that hold the pairs l
-module _ (rows : List (Option Pair)) (n : ℕ) (l : List KeyValue) (e : pairs_in rows n ≡ l) where
-  pub pairs_length : n ≤ length rows → n ≡ length l
-  pairs_length h = rw (← e, length-map) (sym (length-take-le n rows h))
+module _ (rows : List Pair) (l : List KeyValue) (e : map pair_as rows ≡ l) where
+  pub pairs_length : length rows ≡ length l
+  pairs_length = rw (← e, length-map)
 
   -- the ith
-  pub row_is : (i : ℕ) (r : Option Pair) (d : KeyValue) → i < length l → get_or l i d ≡ row_as (get_or rows i r)
-  row_is i r d h =
+  pub row_is : (i : ℕ) (r : Pair) (d : KeyValue) → i < length l → get_or l i d ≡ pair_as (get_or rows i r)
+  row_is i r d h = rw (← e) (get_or-map pair_as rows i r d (omega (arith, pairs_length)))
+
+-- in the first n rows, which hold the pairs l
+module _ (rows : List Pair) (n : ℕ) (l : List KeyValue) (e : pairs_in rows n ≡ l) where
+  pub rows_filled : n ≤ length rows → n ≡ length l
+  rows_filled h = rw (← e, length-map) (sym (length-take-le n rows h))
+
+  -- one instead of another
+  pub set_pairs : (i : ℕ) (p : Pair) → i < length l → pairs_in (set rows i p) n ≡ set l i (pair_as p)
+  set_pairs i p h =
       let among : i < length (pairs_in rows n) = rw e h in
-      let taken : i < length (take n rows) = omega (arith, length-map (take n rows) row_as) in
-      let below : i < n = omega (arith, length-take n rows) in
-      rw (← e) (get_or-map row_as (take n rows) i r d taken ∙ ap row_as (get_or-take n rows i r below))
+      let below : i < n = omega (arith, length-map (take n rows) pair_as, length-take n rows) in
+      rw (take-set-lt n rows i p below, map-set pair_as (take n rows) i p, e)
 
-  module _ (i : ℕ) (p : Pair) where
-    -- instead of another
-    pub set_pairs : i < length l → pairs_in (set rows i (Some p)) n ≡ set l i (pair_as p)
-    set_pairs h =
-        let among : i < length (pairs_in rows n) = rw e h in
-        let below : i < n = omega (arith, length-map (take n rows) row_as, length-take n rows) in
-        rw (take-set-lt n rows i (Some p) below, map-set row_as (take n rows) i (Some p), e)
-
-    -- before it
-    pub insert_pairs : (rows' : List (Option Pair)) → take (n + 1) rows' ≡ list.insert (take n rows) i (Some p)
-        → pairs_in rows' (n + 1) ≡ list.insert l i (pair_as p)
-    insert_pairs rows' opened = rw (opened, ← e) (simp (map-append, take-map, drop-map))
+  -- one before it
+  pub insert_pairs : (i : ℕ) (p : Pair) (rows' : List Pair) → take (n + 1) rows' ≡ list.insert (take n rows) i p
+      → pairs_in rows' (n + 1) ≡ list.insert l i (pair_as p)
+  insert_pairs i p rows' opened = rw (opened, ← e) (simp (map-append, take-map, drop-map))
 
 -- the bytes of one more pair
-pub one_more : (before now after : Writer) (l : List KeyValue) (i : ℕ) (a : KeyValue) → i < length l
-    → ((d : KeyValue) → get_or l i d ≡ a)
-    → Wrote before now (flat_map encode_key_value (take i l))
-    → Wrote now after (encode_key_value a)
-    → Wrote before after (flat_map encode_key_value (take (i + 1) l))
+pub one_more : (before now after : Writer) (rows : List Pair) (i : ℕ) (d : Pair) → i < length rows
+    → Wrote before now (flat_map encode_key_value (map pair_as (take i rows)))
+    → Wrote now after (encode_key_value (pair_as (get_or rows i d)))
+    → Wrote before after (flat_map encode_key_value (map pair_as (take (i + 1) rows)))
 unfolding flat_map
-one_more before now after l i a h is so_far one = rw (take_more l i a h, is a, flat_map_append, append-nil, more_append, ← so_far) one
+one_more before now after rows i d h so_far one =
+    rw (take_more rows i d h, map-append, flat_map_append, append-nil, more_append, ← so_far) one

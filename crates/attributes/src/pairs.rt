@@ -1,15 +1,15 @@
 // Pairs of keys and values in a table, with keys that ascend.
-ghost use Rattle.std.specs.Prelude.{◌≡◌, [], ◌+◌, ◌≤◌, ◌<◌, get_or, length, take};
+ghost use Rattle.std.specs.Prelude.{◌≡◌, [], ◌+◌, ◌≤◌, ◌<◌, get_or, length, take, map};
 ghost use Rattle.std.specs.List as list;
-ghost use Rattle.laws.specs.code.Told.{Told};
+ghost use Rattle.laws.specs.code.Told.{Told, Bounded};
 ghost use Rattle.sheet.specs.Limits.{property_limit};
 ghost use Rattle.report.specs.ModuleInfo.{KeyValue};
-ghost use Rattle.attributes.specs.Attributes.{insert, insert_known};
+ghost use Rattle.report.specs.Ascending.{Ascends};
+ghost use Rattle.attributes.specs.Attributes.{insert};
 ghost use Rattle.attributes.specs.code.Rows.{pair_as};
 ghost use Rattle.attributes.specs.code.Views.{slot_as, SlotWithin};
 
 use sheet::limits::PROPERTY_LIMIT;
-use std::cmp::Ordering;
 use std::marker::Model;
 use text::bytes::compare;
 
@@ -20,10 +20,10 @@ pub struct Pair<'a> {
     pub value: Option<&'a [u8]>,
 }
 
-// A row for each property, the first n of them with the pairs. A row without one is all zeros, so that a new table is made where it stands.
+// A row for each property, the first n of them with the pairs.
 #[derive(Drop)]
 pub struct Pairs<'a> {
-    rows: [Option<Pair<'a>>; PROPERTY_LIMIT],
+    rows: [Pair<'a>; PROPERTY_LIMIT],
     n: usize,
 }
 
@@ -31,6 +31,7 @@ impl<'a> Model for Pairs<'a> {
     ghost use Rattle.std.specs.Prelude.{◌≡◌, List, ◌≤◌, length};
     ghost use Rattle.sheet.specs.Limits.{property_limit};
     ghost use Rattle.report.specs.ModuleInfo.{KeyValue};
+    ghost use Rattle.report.specs.Ascending.{Ascends};
 
     ghost Value = { List KeyValue };
 
@@ -38,25 +39,30 @@ impl<'a> Model for Pairs<'a> {
 
     ghost view = { λ p. pairs_in p.rows p.n };
 
-    ghost invariant = { λ p. (length p.rows ≡ property_limit) × (p.n ≤ property_limit) };
+    ghost invariant = { λ p. (length p.rows ≡ property_limit) × (p.n ≤ property_limit)
+        × Ascends (pairs_in p.rows p.n) };
 }
 
 // Puts a pair before the ith of n rows, and moves the others up.
 #[tactic(auto, using(crate::proofs::PairRows::row_opened))]
-fn insert_before<'a>(rows: &mut [Option<Pair<'a>>], n: usize, i: usize, p: Pair<'a>)
+fn insert_before<'a>(rows: &mut [Pair<'a>], n: usize, i: usize, p: Pair<'a>)
     requires { (i ≤ n) × (n < length rows.old) }
-    ensures { take (n + 1) rows.new ≡ list.insert (take n rows.old) i (Some p.entry) }
+    ensures { take (n + 1) rows.new ≡ list.insert (take n rows.old) i p.entry }
 {
     rows.copy_within(i..n, i + 1);
-    rows[i] = Some(p);
+    rows[i] = p;
 }
 
 impl<'a> Pairs<'a> {
     pub fn new() -> Pairs<'a>
         ensures { result ≡ [] }
     {
+        let blank = Pair {
+            key: &[],
+            value: None,
+        };
         Pairs {
-            rows: [None; PROPERTY_LIMIT],
+            rows: [blank; PROPERTY_LIMIT],
             n: 0,
         }
     }
@@ -67,42 +73,37 @@ impl<'a> Pairs<'a> {
         self.n = 0;
     }
 
+    // The pairs in order.
+    pub(crate) fn as_slice(&self) -> &[Pair<'a>]
+        ensures { Bounded (map pair_as result.now ≡ self.now) (Ascends self.now) }
+    {
+        &self.rows[..self.n]
+    }
+
     #[tactic(auto, using(crate::proofs::PairRows::pairs_length))]
-    pub(crate) fn len(&self) -> usize
+    pub fn len(&self) -> usize
         ensures { result ≡ length self.now }
     {
-        self.n
+        self.as_slice().len()
     }
 
     // The ith pair.
     #[tactic(auto, using(crate::proofs::PairRows::row_is))]
-    pub(crate) fn at(&self, i: usize) -> Pair<'a>
+    pub fn at(&self, i: usize) -> Pair<'a>
         requires { i < length self.now }
         ensures { (d : KeyValue) → get_or self.now i d ≡ pair_as result }
     {
-        let rows = &self.rows;
-        rows[i].unwrap_or(Pair {
-            key: &[],
-            value: None,
-        })
+        self.as_slice()[i]
     }
 
     // The row of a pair with the same key, or else the row that the pair belongs before.
-    #[tactic(auto, using(crate::proofs::Insertion::sought_all))]
     fn find(&self, p: Pair<'a>) -> Result<usize, usize>
         ensures { Told (slot_as (pair_as p.entry) self.now)
             (insert (pair_as p.entry) self.now)
             (SlotWithin (length self.now)) result }
     {
-        let n = self.len();
-        for i in 0..n {
-            match compare(p.key, self.at(i).key) {
-                Ordering::Less => return Err(i),
-                Ordering::Equal => return Ok(i),
-                Ordering::Greater => {}
-            }
-        }
-        Err(n)
+        self.as_slice()
+            .binary_search_by(|row| compare(row.key, p.key))
     }
 
     // Puts a pair in its place, instead of one with the same key.
@@ -112,22 +113,12 @@ impl<'a> Pairs<'a> {
         ensures { self.new ≡ insert (pair_as p.entry) self.old }
     {
         match self.find(p) {
-            Ok(same) => self.rows[same] = Some(p),
+            Ok(same) => self.rows[same] = p,
             Err(i) => {
                 let n = self.n;
                 insert_before(&mut self.rows, n, i, p);
                 self.n += 1;
             }
-        }
-    }
-
-    // The same for a pair whose value is known; any other is passed over.
-    pub fn insert_known(&mut self, p: Pair<'a>)
-        requires { length self.old < property_limit }
-        ensures { self.new ≡ insert_known (pair_as p.entry).key (pair_as p.entry).value self.old }
-    {
-        if p.value.is_some() {
-            self.insert(p);
         }
     }
 }

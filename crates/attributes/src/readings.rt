@@ -1,5 +1,6 @@
 // The three readings of attributes of src/ast/dep.rs.
-ghost use Rattle.std.specs.Prelude.{◌≡◌, false, List, [], ℕ, ◌≤◌};
+ghost use Rattle.std.specs.Prelude.{◌≡◌, Bool, false, List, [], ℕ, ◌≤◌};
+ghost use Rattle.std.specs.Fn.{FnReturnsAt};
 ghost use Rattle.laws.specs.Decoded.{ok};
 ghost use Rattle.laws.specs.Ascii.{ascii};
 ghost use Rattle.text.specs.Bytes.{same};
@@ -7,13 +8,12 @@ ghost use Rattle.sheet.specs.Limits.{property_limit};
 ghost use Rattle.sheet.specs.Tree.{Node, Arguments, Properties, Attributes};
 ghost use Rattle.sheet.specs.Nodes.{node, properties, arguments, attributes_object};
 ghost use Rattle.sheet.specs.Shape.{shape};
-ghost use Rattle.sheet_heads.specs.code.Rest.{behind};
-ghost use Rattle.report.specs.ModuleInfo.{none};
+ghost use Rattle.report.specs.ModuleInfo.{KeyValue, none};
 ghost use Rattle.attributes.specs.Attributes.{props, static_pairs, static_attributes, object_attributes, type_attributes, of_object};
 ghost use Rattle.attributes.specs.Attributes.{argument_properties, dynamic_attributes, is_attributes_key};
-ghost use Rattle.attributes.specs.code.Views.{attributes_as, known_if};
+ghost use Rattle.attributes.specs.code.Views.{attributes_as, known_if, object_in, Tests, kept, all_keyed};
 
-use super::pairs::Pairs;
+use super::pairs::{Pair, Pairs};
 use super::props::{Value, read_pair, read_prop, read_value};
 use sheet_heads::parts::{read_argument, read_attributes};
 use text::bytes::equal;
@@ -25,93 +25,83 @@ pub enum ImportAttributes<'t, 'a> {
     Known(&'t Pairs<'a>),
 }
 
-// So many properties: each key with a string value is kept, and anything else is passed over.
-fn parse_known<'a>(source: &[u8], s: &'a [u8], count: usize, levels: usize, pairs: &mut Pairs<'a>)
-    requires { count ≤ property_limit }
-    ensures { (ps : Properties) (t : List ℕ)
-        → properties (node source.now levels) count s.now ≡ ok ps t
-        → pairs.new ≡ static_pairs [] (props ps) }
-{
-    let mut at = s;
-    pairs.clear();
-    for _ in 0..count {
-        let Ok((prop, next)) = read_prop(source, at, levels) else {
-            return;
-        };
-        if let Some(k) = prop {
-            pairs.insert_known(read_pair(source, k, levels));
-        }
-        at = next;
-    }
-}
-
-// The Object behind a declaration, if there is one, read into the table. Values that are no strings are skipped.
+// The Object of a declaration, if there is one, read into the table. Values that are no strings are skipped.
 pub fn parse_import_attributes<'t, 'a>(
     source: &[u8],
-    s: &'a [u8],
-    has_object: bool,
+    object: Option<&'a [u8]>,
     levels: usize,
     pairs: &'t mut Pairs<'a>,
 ) -> ImportAttributes<'t, 'a>
-    ensures { (a : Attributes) (t : List ℕ)
-        → behind has_object (attributes_object source.now levels) s.now ≡ ok a t
+    ensures { (a : Attributes) (t u : List ℕ)
+        → object_in (attributes_object source.now levels) object.entry u ≡ ok a t
         → attributes_as result ≡ static_attributes a }
 {
-    if !has_object {
+    let Some(s) = object else {
         return ImportAttributes::None;
-    }
+    };
     let Ok(((_, count), next)) = read_attributes(source, s, levels) else {
         return ImportAttributes::Unknown;
     };
-    parse_known(source, next, count, levels - 1, pairs);
+    let is_known = |pair: &Pair| pair.value.is_some();
+    parse_import_attributes_from_object_lit(source, next, count, levels - 1, is_known, pairs);
     ImportAttributes::Known(pairs)
 }
 
-// So many properties of an Object, read into the table: can each key be read? If not, all of them are unknown.
-fn parse_import_attributes_from_object_lit<'a>(
+// So many properties of an Object: the pairs that count are read into the table. Can each key be read?
+fn parse_import_attributes_from_object_lit<'a, F: Fn(&Pair<'a>) -> bool>(
     source: &[u8],
     s: &'a [u8],
     count: usize,
     levels: usize,
+    counts: F,
     pairs: &mut Pairs<'a>,
 ) -> bool
-    requires { count ≤ property_limit }
-    ensures { (ps : Properties) (t : List ℕ)
+    requires few { count ≤ property_limit }
+    requires callable { F.IsAlwaysCallable counts }
+    ensures { (f : KeyValue → Bool) (ps : Properties) (t : List ℕ)
+        → Tests (FnReturnsAt F.Fn counts) f
         → properties (node source.now levels) count s.now ≡ ok ps t
-        → known_if result pairs.new ≡ object_attributes [] (props ps) }
+        → (pairs.new ≡ kept f [] (props ps)) × (result ≡ all_keyed (props ps)) }
 {
     let mut at = s;
+    let mut all_keyed = true;
     pairs.clear();
     for _ in 0..count {
-        let Ok((Some(k), next)) = read_prop(source, at, levels) else {
+        let Ok((prop, next)) = read_prop(source, at, levels) else {
             return false;
         };
-        pairs.insert(read_pair(source, k, levels));
+        match prop {
+            Some(k) => {
+                let pair = read_pair(source, k, levels);
+                if counts(&pair) {
+                    pairs.insert(pair);
+                }
+            }
+            None => all_keyed = false,
+        }
         at = next;
     }
-    true
+    all_keyed
 }
 
-// The Object of an import type, if there is one, read into the table. Apart from `parse_import_attributes`, whose reading keeps other pairs: one
-// function with a closure for the reading is no plainer.
+// The Object of an import type, if there is one, read into the table.
 pub fn parse_type_attributes<'t, 'a>(
     source: &[u8],
-    s: &'a [u8],
-    has_object: bool,
+    object: Option<&'a [u8]>,
     levels: usize,
     pairs: &'t mut Pairs<'a>,
 ) -> ImportAttributes<'t, 'a>
-    ensures { (a : Attributes) (t : List ℕ)
-        → behind has_object (attributes_object source.now levels) s.now ≡ ok a t
+    ensures { (a : Attributes) (t u : List ℕ)
+        → object_in (attributes_object source.now levels) object.entry u ≡ ok a t
         → attributes_as result ≡ type_attributes a }
 {
-    if !has_object {
+    let Some(s) = object else {
         return ImportAttributes::None;
-    }
+    };
     let Ok(((_, count), next)) = read_attributes(source, s, levels) else {
         return ImportAttributes::Unknown;
     };
-    if parse_import_attributes_from_object_lit(source, next, count, levels - 1, pairs) {
+    if parse_import_attributes_from_object_lit(source, next, count, levels - 1, |_| true, pairs) {
         ImportAttributes::Known(pairs)
     } else {
         ImportAttributes::Unknown
@@ -127,7 +117,7 @@ fn parse_nested<'a>(source: &[u8], s: &'a [u8], levels: usize, pairs: &mut Pairs
     match read_value(source, s, levels) {
         Value::Text(_) | Value::Other => false,
         Value::Object(n, next) => {
-            parse_import_attributes_from_object_lit(source, next, n, levels - 1, pairs)
+            parse_import_attributes_from_object_lit(source, next, n, levels - 1, |_| true, pairs)
         }
     }
 }

@@ -26,8 +26,9 @@ fn put_pair(pair: Pair, w: &mut Writer)
 fn put_pairs(pairs: &Pairs, w: &mut Writer)
     ensures { Wrote w.old w.new (flat_map encode_key_value pairs.now) }
 {
-    for i in 0..pairs.len() {
-        put_pair(pairs.at(i), w);
+    let rows = pairs.as_slice();
+    for pair in rows {
+        put_pair(*pair, w);
     }
 }
 

@@ -1,4 +1,4 @@
 -- What the values of the code stand for. No promise leads here: these definitions are checked, not believed.
 pub mod Cites
-pub mod Items
+pub mod Ranged
 pub mod Printable

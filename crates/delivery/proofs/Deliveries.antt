@@ -14,7 +14,6 @@ use Rattle.report.specs.{Encode.encode_list, Decode.times, Valid.Short}
 use Rattle.report.specs.Decode as report
 use Rattle.delivery.specs.Delivery.{Module, delivery_limit, module_limit, encode_module, encode_delivery, NameFits, DeliveryOf, named_sheet, last_modules}
 use Rattle.delivery.specs.Delivery.{counted_modules, decode_delivery}
-use Rattle.delivery.specs.code.Views.{ValidModule}
 
 -- so many items
 module _ {A : Type 0} {d : Decoder A} {f : A → List ℕ} {P : A → Type 0} (k : Codec d f P) where
@@ -64,16 +63,6 @@ module_codec =
     codec_of (built_then (text_codec Utf8 text_limit (omega arith)) (λ name. built_end sheet_codec_lem (λ sheet. record { name = name; sheet = sheet })))
     (λ m v. ((m.name, m.sheet), refl, (v.0, v.1)))
     (λ p v. (refl, (v.0, v.1)))
-
-valid_module : (m : Module) → ModuleFits m → ValidModule m
-valid_module m v = record { name = omega (arith, v.0.0); sheet = v.1 }
-
--- the modules that were decoded stand there
-pub stand : (n : ℕ) (u : List ℕ) {ms : List Module} {t : List ℕ} → times named_sheet n u ≡ ok ms t
-    → (u ≡ flat_map encode_module ms ++ t) × (length ms ≡ n) × All ValidModule ms
-stand n u {ms} {t} e =
-    let (i, (long, fit)) = (times_codec module_codec n).sound u ms t e in
-    (i, long, of_members ValidModule ms (λ m j. valid_module m (all_member ModuleFits ms fit j)))
 
 -- where modules are answered nothing is left
 pub none_left : (n : ℕ) (u : List ℕ) {ms : List Module} {t : List ℕ} → last_modules n u ≡ ok ms t → (t ≡ []) × (times named_sheet n u ≡ ok ms [])

@@ -1,7 +1,7 @@
 -- Which entries are late: the tests and what they say.
 use Rattle.std.specs.Prelude.{Some, None}
 use Rattle.laws.proofs.Prelude.{◌≡◌, refl, sym, ap, ◌∙◌, Bool, true, false, false≢true, ◌||◌, or-true, ◌⊎◌, inl, inr, ⊎_elim, List, [], ◌∷◌, Memᴰ}
-use Rattle.laws.proofs.Prelude.{Memᴰ_head, Memᴰ_tail, Memᴰ_not_nil, Memᴰ_cases_cons, Option, ℕ, arith, drop}
+use Rattle.laws.proofs.Prelude.{Memᴰ_head, Memᴰ_tail, Memᴰ_not_nil, Memᴰ_cases_cons, ℕ, arith, drop}
 use mathlib.Core.List.Memᴰ
 use Rattle.laws.specs.Ascii.{ascii}
 use Rattle.text.specs.Bytes.{begins, same}

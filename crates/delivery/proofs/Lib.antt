@@ -1,6 +1,5 @@
 pub mod Deliveries
-pub mod Checks
-pub mod Along
+pub mod Rows
 pub mod Turns
 pub mod Reported
 pub mod ReportEntries

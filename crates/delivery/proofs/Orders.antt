@@ -5,6 +5,8 @@ use mathlib.Core.List.Memᴰ
 use Rattle.laws.specs.Codec.{All}
 use Rattle.laws.specs.Decoded.{Decoded, ok, no}
 use Rattle.wire.specs.Refusals.{one_of}
+use Rattle.wire.specs.Refusals as refusals
+use Rattle.delivery.specs.code.Views.{unnumbered}
 use Rattle.delivery.specs.Delivery.{Module, DeliveryOf, decode_delivery}
 use Rattle.delivery.specs.Order.{Answer, in_order, not_in_order, refused, among, repeated, modules_in_turn, sheets_in_turn, order_in, order_of}
 use Rattle.delivery.specs.Right.{NamesDiffer, Reported, InOrder, FirstRefused, FirstLate, JudgedRight, OrderRight}
@@ -65,6 +67,31 @@ late_not_in_order e = let z : ◌≡◌ {A = ℕ} 0 1 = cc in omega arith
 -- where no sheet is answered as refused, each gets its report
 pub none_refused : (size : ℕ) (ms : List Module) → ((behind : Answer) → behind ≡ sheets_in_turn size 0 ms behind) → All (Reported size) ms
 none_refused size ms h = first_refused_or size ms (λ v. v) (λ r i f. absurd (refused_not_in_order (h in_order ∙ refusal_answered size in_order f)))
+
+-- what is answered where no modules were read, and where some were
+module _ (size : ℕ) (s : List ℕ) where
+  pub none_read : unnumbered (decode_delivery s) ≡ no 0 → order_of size s ≡ refused refusals.delivery 0
+  unfolding order_of
+  none_read e = by (decode_delivery s) e
+    where
+      by : (x : Decoded (List Module)) → unnumbered x ≡ no 0 → order_in size x ≡ refused refusals.delivery 0
+      by (ok ms t) e = let z : ◌≡◌ {A = ℕ} 0 1 = cc in absurd (omega arith)
+      by (no r) e = refl
+
+  module _ {ms : List Module} (read : unnumbered (decode_delivery s) ≡ ok ms []) where
+    some_read : order_of size s ≡ order_in size (ok ms [])
+    unfolding order_of
+    some_read = by (decode_delivery s) read
+      where
+        by : (x : Decoded (List Module)) → unnumbered x ≡ ok ms [] → order_in size x ≡ order_in size (ok ms [])
+        by (ok l t) e = ap (order_in size) e
+        by (no r) e = let z : ◌≡◌ {A = ℕ} 0 1 = cc in absurd (omega arith)
+
+    pub names_twice : repeated [] ms ≡ true → order_of size s ≡ refused refusals.name_twice 0
+    names_twice e = some_read ∙ rw e
+
+    pub names_differ : repeated [] ms ≡ false → order_of size s ≡ sheets_in_turn size 0 ms (modules_in_turn [] 0 ms)
+    names_differ e = some_read ∙ rw e
 
 -- modules whose names differ: a refused sheet, or all in order, or the first entry that is late
 data Verdict (size : ℕ) (ms : List Module) (a : Answer) : Type 0 where

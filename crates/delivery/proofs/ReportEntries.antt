@@ -6,7 +6,7 @@ use Rattle.report.specs.{ModuleInfo.DependencyDescriptor, ModuleInfo.ModuleInfo,
 use Rattle.report.specs.Encode.{encode_list, encode_dependency, encode}
 use Rattle.report_reader.{specs.code.FromFront.Number, proofs.FromBytes.flag_read}
 use Rattle.report_reader.proofs.Lists.{Stand}
-use Rattle.delivery.specs.{declared.entries.Late.Late, code.Views.late_as, code.Views.LateReport}
+use Rattle.delivery.specs.{declared.entries.Late.Late, code.Views.late_as, code.Views.TellsLate, code.Views.LateReport}
 use Rattle.delivery.specs.Order.{Answer, in_order, entries_of, entries_in_turn}
 use Rattle.delivery.proofs.{Reported.Report, Orders.late_not_in_order}
 
@@ -21,12 +21,7 @@ entries_start {info = info} valid bytes script counted =
     (e ∙ append_assoc (encode_number (length info.dependencies)) (flat_map encode_dependency info.dependencies) _) in
     (_, (sym long, valid.dependencies.1, e))
 
--- what is told of the first late entry in a report
-abbrev Told : List (List ℕ) → List ℕ → Option Late → Type 0
-Told names report o =
-    (info : ModuleInfo) → Valid info → report ≡ encode info → (i : ℕ) (behind : Answer) → late_as i o behind ≡ entries_in_turn names i 0 info.dependencies behind
-
-module _ {s work : List ℕ} {n : ℕ} (report : Report s n work) (names : List (List ℕ)) (o : Option Late) (told : Told names (take n work) o) where
+module _ {s work : List ℕ} {n : ℕ} (report : Report s n work) (names : List (List ℕ)) (o : Option Late) (told : TellsLate names (take n work) o) where
   in_sheet : (i : ℕ) (behind : Answer) → late_as i o behind ≡ entries_in_turn names i 0 (entries_of s) behind
   in_sheet i behind = told report.info report.valid report.bytes i behind ∙ ap (λ ds. entries_in_turn names i 0 ds behind) (sym report.entries)
 
@@ -39,7 +34,7 @@ module _ {s work : List ℕ} {n : ℕ} (report : Report s n work) (names : List 
 -- where one is late it is found again
 pub late_again : (names : List (List ℕ)) {ds : List DependencyDescriptor} (work : List ℕ) (n : ℕ) (o : Option Late)
     → LateReport names ds work (Some n)
-    → Told names (take n work) o
+    → TellsLate names (take n work) o
     → ((i : ℕ) (behind : Answer) → late_as i o behind ≡ entries_in_turn names i 0 ds behind) × (o ≡ None → ⊥)
 late_again names {ds} work n o (info, valid, bytes, same, late) told = (found, λ e. late 0 (sym (rw e at (found 0 in_order))))
   where

@@ -1,11 +1,11 @@
 -- The specifier of the first entry that is late is no longer than the work buffer.
-use Rattle.laws.proofs.Prelude.{◌≡◌, refl, sym, ap, ◌∙◌, Bool, true, false, cond, List, [], ◌∷◌, ◌++◌, flat_map, Memᴰ, ℕ, ◌≤◌, arith, length, length-append}
+use Rattle.laws.proofs.Prelude.{◌≡◌, sym, ap, ◌∙◌, Bool, true, false, cond, List, [], Memᴰ, ℕ, ◌≤◌, arith, length, length-append}
 use Rattle.laws.{specs.Decoded.Decoded, specs.Decoded.ok, specs.Decoded.no, proofs.Lists.all_member, proofs.Lists.middle_member, proofs.Lists.part_flat_map}
 use Rattle.wire.specs.Text.{encode_text}
 use Rattle.report.specs.ModuleInfo.{StaticDependencyDescriptor, DependencyDescriptor, static, ModuleInfo}
 use Rattle.report.specs.Encode.{encode_list, encode_specifier, encode_static, encode_dependency, encode}
 use Rattle.delivery.specs.{Delivery.Module, Delivery.decode_delivery, Asks.Asks, Right.Reported}
-use Rattle.delivery.specs.Order.{Answer, not_in_order, refused, repeated, order_in, order_of}
+use Rattle.delivery.specs.Order.{not_in_order, refused, repeated, order_in, order_of}
 use Rattle.delivery.proofs.{Reported.report_fits, Orders.answer, Orders.judged_right, Orders.refused_not_late}
 
 text_short : (d : StaticDependencyDescriptor) → length d.specifier.text ≤ length (encode_dependency (static d))

@@ -1,21 +1,10 @@
 -- The definitions' passes, one module or entry at a time.
-use Rattle.laws.proofs.Prelude.{◌≡◌, Bool, ◌||◌, List, [], ◌∷◌, ◌++◌, Option, ℕ, ◌+◌, ne_eqb}
-use Rattle.text.specs.Bytes.{same}
+use Rattle.laws.proofs.Prelude.{◌≡◌, List, [], ◌∷◌, ◌++◌, Option, ℕ, ◌+◌, ne_eqb}
 use Rattle.report.specs.ModuleInfo.{DependencyDescriptor}
-use Rattle.delivery.specs.{Delivery.Module, Right.names_of}
-use Rattle.delivery.specs.Order.{Answer, refused, entries_of, number_of, among, repeated, late_in, late_at, entries_in_turn, modules_in_turn, sheets_in_turn}
+use Rattle.delivery.specs.{Delivery.Module}
+use Rattle.delivery.specs.Order.{Answer, refused, entries_of, number_of, late_in, late_at, entries_in_turn, modules_in_turn, sheets_in_turn}
 
 module _ {m : Module} {ms rest : List Module} (is : ms ≡ m ∷ rest) where
-  -- a text is the first name, or it is not
-  pub among_here : (x : List ℕ) {b : Bool} → same m.name x ≡ b → among x (names_of ms) ≡ b || among x (names_of rest)
-  unfolding among
-  among_here x h = rw (is, h)
-
-  -- the first name occurred before, or it did not
-  pub repeated_here : (earlier : List (List ℕ)) {b : Bool} → among m.name earlier ≡ b → repeated earlier ms ≡ b || repeated (earlier ++ (m.name ∷ [])) rest
-  unfolding repeated
-  repeated_here earlier h = rw (is, h)
-
   -- the first sheet is refused, or it is not
   module _ (size i : ℕ) (behind : Answer) where
     pub refused_here : {r : ℕ} → number_of size m.sheet ≡ r → (r ≡ 0 → ⊥) → sheets_in_turn size i ms behind ≡ refused r i

@@ -1,16 +1,15 @@
 // The judgement of a delivery: refusals 11 and 12, then its sheets, then its order.
-ghost use Rattle.std.specs.Prelude.{◌≡◌, ◌≤◌, List, [], ℕ, length, IfSome};
+ghost use Rattle.std.specs.Prelude.{◌≡◌, ◌≤◌, [], length, IfSome};
 ghost use Rattle.laws.specs.Codec.{All};
 ghost use Rattle.laws.specs.code.Left.{Free};
 ghost use Rattle.laws.specs.code.Told.{Leaving, Lent};
-ghost use Rattle.delivery.specs.Delivery.{Module};
 ghost use Rattle.delivery.specs.Order.{Answer, entries_of, number_of, sheets_in_turn, modules_in_turn, order_of};
 ghost use Rattle.delivery.specs.Right.{Reported, names_of};
-ghost use Rattle.delivery.specs.code.Views.{Modules, LateReport, late_module_as, sheets_as, judgement_as};
+ghost use Rattle.delivery.specs.code.Views.{modules_in, LateReport, late_module_as, sheets_as, judgement_as};
 
-use super::check::check_delivery;
+use super::check::{MODULE_LIMIT, check_delivery};
 use super::entries::{Late, late_entry};
-use super::modules::{has_name_twice, read_module};
+use super::modules::{ModuleRead, has_name_twice};
 use module_info::module_info;
 use wire::refusals::Refusal;
 
@@ -38,74 +37,69 @@ fn of_delivery(refusal: Refusal) -> Refused
     Refused { refusal, module: 0 }
 }
 
-// The first refused sheet of so many modules, if not each gets its report.
-#[tactic(auto, using(crate::proofs::Along::all_passed), unfolding(crate::specs::Order::sheets_in_turn))]
-fn judge_sheets(first: &[u8], count: usize, work: &mut [u8]) -> Result<(), Refused>
+// The first refused sheet of the modules, if not each gets its report.
+#[tactic(auto, using(crate::proofs::Rows::rows_end), unfolding(crate::specs::Order::sheets_in_turn))]
+fn judge_sheets(modules: &[ModuleRead], work: &mut [u8]) -> Result<(), Refused>
     ensures { Leaving
-        ((ms : List Module) (t : List ℕ)
-        → Modules first.now count ms t
-        → (behind : Answer)
-        → sheets_as result behind ≡ sheets_in_turn (length work.old) 0 ms behind)
+        ((behind : Answer)
+        → sheets_as result behind ≡ sheets_in_turn (length work.old) 0 (modules_in modules.now) behind)
         (Free work.old work.new) }
 {
-    let mut next = first;
-    for i in 0..count {
-        let (module, behind) = read_module(next);
+    for (i, module) in modules.iter().enumerate() {
         if let Err(refusal) = module_info(module.sheet, work) {
             return Err(Refused { refusal, module: i });
         }
-        next = behind;
     }
     Ok(())
 }
 
 // How long the report of a sheet is, which is made again, if an entry in it is late. A sheet that is refused has none.
 #[tactic(auto, using(crate::proofs::Reported::refused_number))]
-fn judge_module(sheet: &[u8], first: &[u8], earlier: usize, work: &mut [u8]) -> Option<usize>
+fn judge_module(sheet: &[u8], earlier: &[ModuleRead], work: &mut [u8]) -> Option<usize>
     ensures { Lent
-        ((ms : List Module) (t : List ℕ)
-        → Modules first.now earlier ms t
-        → number_of (length work.old) sheet.now ≡ 0
-        → LateReport (names_of ms) (entries_of sheet.now) work.new result)
+        (number_of (length work.old) sheet.now ≡ 0
+        → LateReport (names_of (modules_in earlier.now)) (entries_of sheet.now) work.new result)
         (IfSome result (λ n. n ≤ length work.new))
         (Free work.old work.new) }
 {
     let n = module_info(sheet, work).ok()?;
-    late_entry(&work[..n], first, earlier)?;
+    late_entry(&work[..n], earlier)?;
     Some(n)
 }
 
-// The first entry that is late in so many modules, whose sheets all get their reports. It is read again where no other report is made any more.
-#[tactic(auto, using(crate::proofs::Along::all_passed), unfolding(crate::specs::Order::modules_in_turn))]
-fn judge_order<'a>(first: &[u8], count: usize, work: &'a mut [u8]) -> Option<LateModule<'a>>
-    ensures { (ms : List Module) (t : List ℕ)
-        → Modules first.now count ms t
-        → All (Reported (length work.old)) ms
-        → late_module_as result ≡ modules_in_turn [] 0 ms }
+// The first entry that is late in the modules, whose sheets all get their reports.
+// It is read once more: the answer borrows from the buffer.
+#[tactic(auto, using(crate::proofs::Rows::rows_end), unfolding(crate::specs::Order::modules_in_turn))]
+fn judge_order<'a>(modules: &[ModuleRead], work: &'a mut [u8]) -> Option<LateModule<'a>>
+    ensures { All (Reported (length work.old)) (modules_in modules.now)
+        → late_module_as result ≡ modules_in_turn [] 0 (modules_in modules.now) }
 {
-    let mut next = first;
-    for i in 0..count {
-        let (module, behind) = read_module(next);
-        if let Some(n) = judge_module(module.sheet, first, i, work) {
-            let late = late_entry(&work[..n], first, i)?;
+    for (i, module) in modules.iter().enumerate() {
+        let earlier = &modules[..i];
+        if let Some(n) = judge_module(module.sheet, earlier, work) {
+            let late = late_entry(&work[..n], earlier)?;
             return Some(LateModule { module: i, late });
         }
-        next = behind;
     }
     None
 }
 
 // The answer to a delivery. The work buffer has what was written last.
-#[tactic(auto, using(crate::proofs::Orders::none_refused), unfolding(crate::specs::Order::order_of))]
+#[tactic(auto, using(crate::proofs::Orders::none_read))]
 pub fn judge<'a>(delivery: &[u8], work: &'a mut [u8]) -> Judgement<'a>
     ensures { judgement_as result ≡ order_of (length work.old) delivery.now }
 {
-    let Some(modules) = check_delivery(delivery) else {
+    let none = ModuleRead {
+        name: &[],
+        sheet: &[],
+    };
+    let mut rows = [none; MODULE_LIMIT];
+    let Some(modules) = check_delivery(delivery, &mut rows) else {
         return Err(of_delivery(Refusal::Delivery));
     };
-    if has_name_twice(modules.first, modules.count) {
+    if has_name_twice(modules) {
         return Err(of_delivery(Refusal::NameTwice));
     }
-    judge_sheets(modules.first, modules.count, work)?;
-    Ok(judge_order(modules.first, modules.count, work))
+    judge_sheets(modules, work)?;
+    Ok(judge_order(modules, work))
 }

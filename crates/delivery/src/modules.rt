@@ -1,13 +1,19 @@
-// The modules of a delivery that was checked, read one after the other.
-ghost use Rattle.std.specs.Prelude.{◌≡◌, List, [], ℕ};
+// The modules of a delivery, read one after the other into rows.
+ghost use Rattle.std.specs.Prelude.{◌≡◌, [], length};
+ghost use Rattle.wire.specs.code.Views.{text_as, reading_as};
+ghost use Rattle.report.specs.Decode.{text, times};
 ghost use Rattle.report_reader.specs.code.FromFront.{ReadsBack};
-ghost use Rattle.delivery.specs.Delivery.{Module, encode_module};
+ghost use Rattle.delivery.specs.Delivery.{named_sheet, encode_module};
 ghost use Rattle.delivery.specs.Order.{among, repeated};
 ghost use Rattle.delivery.specs.Right.{names_of};
-ghost use Rattle.delivery.specs.code.Views.{module_as, ValidModule, Modules};
+ghost use Rattle.delivery.specs.code.Views.{module_as, modules_in, rows_as, ValidModule};
 
 use report_reader::fields::read_text;
+use sheet::limits::TEXT_LIMIT;
 use text::bytes::equal;
+use text::utf8::Encoding;
+use wire::refusals::Refusal;
+use wire::{Cursor, Reading};
 
 // A module's name and its sheet.
 #[derive(Clone, Copy)]
@@ -26,34 +32,55 @@ pub fn read_module(s: &[u8]) -> (ModuleRead<'_>, &[u8])
     (ModuleRead { name, sheet }, next)
 }
 
-// Is a text the name of one of so many modules?
-#[tactic(auto, using(crate::proofs::Along::no_module), unfolding(crate::specs::Order::among))]
-pub fn is_name(first: &[u8], count: usize, text: &[u8]) -> bool
-    ensures { (ms : List Module) (t : List ℕ) → Modules first.now count ms t → result ≡ among text.now (names_of ms) }
+// A length, and as many bytes.
+#[tactic(auto, unfolding(report::specs::Decode::text, wire::specs::Fields::bytes))]
+fn read_sheet(s: &[u8]) -> Reading<'_, &[u8]>
+    ensures { text_as result ≡ text s.now }
 {
-    let mut next = first;
-    for _ in 0..count {
-        let (module, behind) = read_module(next);
-        if equal(module.name, text) {
-            return true;
-        }
-        next = behind;
-    }
-    false
+    let (n, next) = s.number()?;
+    next.split_at_checked(n).ok_or(Refusal::CutOff)
 }
 
-// Does a name of so many modules occur twice?
-#[tactic(auto, using(crate::proofs::Along::all_passed), unfolding(crate::specs::Order::repeated))]
-pub fn has_name_twice(first: &[u8], count: usize) -> bool
-    ensures { (ms : List Module) (t : List ℕ) → Modules first.now count ms t → result ≡ repeated [] ms }
+// A name text, and a sheet.
+#[tactic(auto, unfolding(crate::specs::Delivery::named_sheet))]
+pub fn check_module(s: &[u8]) -> Reading<'_, ModuleRead<'_>>
+    ensures { reading_as module_as result ≡ named_sheet s.now }
 {
-    let mut next = first;
-    for i in 0..count {
-        let (module, behind) = read_module(next);
-        if is_name(first, i, module.name) {
+    let (name, next) = s.text(Encoding::Utf8, TEXT_LIMIT)?;
+    let (sheet, next) = read_sheet(next)?;
+    Ok((ModuleRead { name, sheet }, next))
+}
+
+// Reads a module for each row.
+#[tactic(auto, using(crate::proofs::Rows::row_refused, crate::proofs::Rows::row_read, crate::proofs::Rows::rows_read, crate::proofs::Rows::rows_start))]
+pub fn read_modules<'a>(s: &'a [u8], rows: &mut [ModuleRead<'a>]) -> Result<&'a [u8], Refusal>
+    ensures { rows_as rows.new result ≡ times named_sheet (length rows.old) s.now }
+{
+    let mut next = s;
+    for row in rows.iter_mut() {
+        let (module, behind) = check_module(next)?;
+        *row = module;
+        next = behind;
+    }
+    Ok(next)
+}
+
+// Is a text the name of one of the modules?
+pub fn is_name(modules: &[ModuleRead], text: &[u8]) -> bool
+    ensures { result ≡ among text.now (names_of (modules_in modules.now)) }
+{
+    modules.iter().any(|m| equal(m.name, text))
+}
+
+// Does a name of the modules occur twice?
+#[tactic(auto, using(crate::proofs::Rows::rows_end), unfolding(crate::specs::Order::repeated))]
+pub fn has_name_twice(modules: &[ModuleRead]) -> bool
+    ensures { result ≡ repeated [] (modules_in modules.now) }
+{
+    for (i, module) in modules.iter().enumerate() {
+        if is_name(&modules[..i], module.name) {
             return true;
         }
-        next = behind;
     }
     false
 }

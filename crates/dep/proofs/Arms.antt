@@ -1,15 +1,17 @@
 -- What is written for a call, from what is written for its parts, and attributes by their head.
 use Rattle.std.specs.Borrow.{Bor}
-use Rattle.laws.proofs.Prelude.{◌≡◌, ◌⊎◌, Bool, true, List, [], inl, inr, ℕ, ◌-◌, arith}
+use Rattle.laws.proofs.Prelude.{◌≡◌, ◌⊎◌, Bool, true, false, List, [], inl, inr, ℕ, ◌-◌, arith}
 use Rattle.laws.specs.Decoded.{Decoded, ok, and_then, on_ok, Decoder, ◌>>=◌, return}
 use Rattle.sheet.specs.{code.Commented.Commented, declared.fields.Span.Span}
 use Rattle.sheet.specs.declared.names.ImportPhase.TheVariants.{Evaluation, Source, Defer}
-use Rattle.sheet.specs.Tree.{Node, call}
+use Rattle.std.specs.Bool.{then_some}
+use Rattle.sheet.specs.Tree.{Node, call, Attributes}
 use Rattle.sheet.specs.Nodes.{many, nodes, call_rest, node, attributes_object}
 use Rattle.sheet_heads.specs.{declared.node.Head.Head, code.Rest.behind, code.Rest.rest, code.Views.head_of, code.Parts.attributes_head}
 use Rattle.sheet_heads.proofs.ByHead.{attributes_by_head, attributes_rest}
 use Rattle.report.specs.declared.names.DynamicDependencyKind.TheVariants as dynamics
 use Rattle.sheet_heads.specs.declared.node.Head.TheVariants as head
+use Rattle.attributes.specs.code.Views.{object_in}
 use Rattle.dep_entries.specs.code.Written.{Collected, with_entries}
 use Rattle.dep_entries.proofs.Wrote.{entries_append}
 use Rattle.dep.specs.Collect.{noting}
@@ -20,6 +22,13 @@ use Rattle.dep.proofs.Added.{entries_last}
 pub attributes_behind : (source : List ℕ) (levels : ℕ) (u : List ℕ) (b : Bool) → b ≡ true
     → behind b (attributes_object source levels) u ≡ and_then (attributes_head source levels u) (attributes_rest source (levels - 1))
 attributes_behind source levels u b is = rw is (attributes_by_head source levels u)
+
+-- attributes behind their flag, as those of the Object that may be there
+pub object_behind : (d : Decoder Attributes) (b : Bool) (s : Bor (List ℕ)) {a : Attributes} {t : List ℕ} → behind b d s.now ≡ ok a t
+    → object_in d (then_some b s) s.now ≡ ok a t
+unfolding object_in
+object_behind d true s e = e
+object_behind d false s e = e
 
 -- the head of a node that holds nothing and has no entry
 abbrev pub Leaf : Head → Type 0

@@ -1,4 +1,3 @@
-pub mod HeadSpans
 pub mod Added
 pub mod Loops
 pub mod Arms

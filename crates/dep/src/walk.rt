@@ -8,12 +8,12 @@ ghost use Rattle.sheet.specs.Tree.{Node, import_require};
 ghost use Rattle.sheet.specs.Nodes.{node, nodes, argument_item, arguments, property_item, properties, call_rest, attributes_object};
 ghost use Rattle.sheet.specs.Walked.{entries};
 ghost use Rattle.sheet_heads.specs.code.Rest.{behind, rest};
-ghost use Rattle.sheet_heads.specs.code.Views.{quoted_of, head_of, HeadWithin};
+ghost use Rattle.sheet_heads.specs.code.Views.{quoted_of, head_of, HeadWithin, Spanned};
 ghost use Rattle.sheet_heads.specs.declared.node.Head.TheVariants.{Import, ExportFrom, ExportAll, ImportType, NamedModule};
 ghost use Rattle.sheet_nodes.specs.code.Reach.{ReachesIn};
 ghost use Rattle.report.specs.Range.{InSource};
 ghost use Rattle.dep_entries.specs.code.Written.{items_as, KeepsItems};
-ghost use Rattle.dep.specs.code.Walk.{Spanned, Calls, names_require, call_by, callees_of, walked_as, answered, Walks, with_dependencies};
+ghost use Rattle.dep.specs.code.Walk.{Calls, names_require, call_by, callees_of, walked_as, answered, Walks, with_dependencies};
 ghost use Rattle.dep.specs.code.Walk.{after_node, after_nodes, after_argument, after_arguments, after_properties, after_property, after_with};
 ghost use Rattle.dep.specs.code.Walk.{after_import, after_call};
 
@@ -158,7 +158,7 @@ impl DependencyCollector<'_> {
     }
 
     // The entry of an import type, with the attributes behind its children; then its children, and what the attributes hold.
-    #[tactic(auto, using(dep_entries::proofs::Wrote::entries_append, crate::proofs::Added::entries_cons), unfolding(sheet::specs::Nodes::type_rest, sheet::specs::Nodes::attributes, crate::specs::Collect::noting))]
+    #[tactic(auto, using(dep_entries::proofs::Wrote::entries_append, crate::proofs::Added::entries_cons, crate::proofs::Arms::object_behind), unfolding(sheet::specs::Nodes::type_rest, sheet::specs::Nodes::attributes, crate::specs::Collect::noting))]
     #[cycle(walk)]
     fn visit_ts_import_type<'s>(
         &self,
@@ -182,7 +182,12 @@ impl DependencyCollector<'_> {
         };
         let (_, next) = check_nodes(self.comments.source(), s, count, levels)?;
         let (has_object, object) = next.flag()?;
-        items.put_with_entry(self.comments, object, has_object, levels, dependency, true);
+        items.put_type_entry(
+            self.comments,
+            has_object.then_some(object),
+            levels,
+            dependency,
+        );
         self.walk_nodes(s, count, levels, items)?;
         self.walk_attributes(object, has_object, levels, items)
     }
@@ -255,7 +260,7 @@ impl DependencyCollector<'_> {
     }
 
     // The node at the front, with so many levels left, its own among them.
-    #[tactic(auto, using(sheet_heads::proofs::ByHead::node_by_head, crate::proofs::HeadSpans::head_spanned))]
+    #[tactic(auto, using(sheet_heads::proofs::ByHead::node_by_head))]
     #[cycle(walk)]
     fn walk_node<'s>(
         &self,
@@ -282,7 +287,7 @@ impl DependencyCollector<'_> {
         head: Head<'_>,
         items: &mut Items,
     ) -> Result<&'s [u8], Refusal>
-        requires { HeadWithin head × Spanned self.now.comments.now.source (head_of head) }
+        requires { HeadWithin head × Spanned self.now.comments.now.source head }
         ensures { Walks (after_node self.now.comments.now)
             (rest self.now.comments.now.source levels (span, head_of head.entry) s.now)
             items.old items.new result }
@@ -442,7 +447,7 @@ impl DependencyCollector<'_> {
     {
         if has_object {
             let (_, next) = check_attributes(self.comments.source(), s, has_object, levels)?;
-            items.put_with_entry(self.comments, s, has_object, levels, dependency, false);
+            items.put_with_entry(self.comments, s, levels, dependency);
             return Ok(next);
         }
         items.put_plain_entry(self.comments, dependency);

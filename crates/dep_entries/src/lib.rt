@@ -1,21 +1,20 @@
 // The entries of dependencies in the report.
 #![tactic(auto)]
 
-ghost use Rattle.std.specs.Prelude.{◌≡◌, Bool, cond, List, ℕ};
+ghost use Rattle.std.specs.Prelude.{◌≡◌, Bool, List, ℕ};
 ghost use Rattle.std.specs.Prelude.{None, Some};
 ghost use Rattle.laws.specs.Decoded.{ok};
 ghost use Rattle.laws.specs.code.Told.{Leaving};
 ghost use Rattle.sheet.specs.Tree.{Node, Attributes, Arguments, argument};
 ghost use Rattle.sheet.specs.Nodes.{node, arguments, attributes_object};
 ghost use Rattle.sheet.specs.Shape.{shape};
-ghost use Rattle.sheet_heads.specs.code.Rest.{behind};
 ghost use Rattle.sheet_heads.specs.code.Views.{quoted_of};
 ghost use Rattle.report.specs.ModuleInfo as info;
 ghost use Rattle.report.specs.Range.{InSource};
 ghost use Rattle.attributes.specs.Attributes.{type_attributes, static_attributes, dynamic_attributes};
-ghost use Rattle.attributes.specs.code.Views.{attributes_as};
+ghost use Rattle.attributes.specs.code.Views.{attributes_as, object_in};
 ghost use Rattle.arguments.specs.Argument.{single_text, replaced_in};
-ghost use Rattle.arguments.specs.code.Views.{Stands, ArgumentWithin};
+ghost use Rattle.arguments.specs.code.Views.{Stands};
 ghost use Rattle.dep_entries.specs.Entries.{import_kind, export_kind, equals_kind, dynamic_kind, call_entry, beside};
 ghost use Rattle.dep_entries.specs.code.Notes.{noted};
 ghost use Rattle.dep_entries.specs.code.Written.{types_of, Adds, KeepsItems, static_of, dynamic_of, module_of, entry_of_call};
@@ -28,7 +27,7 @@ use attributes::readings::{
 };
 use attributes::writer::put_attributes;
 use pragmas::analyze_ts_or_deno_types;
-use report::names::{DynamicDependencyKind, StaticDependencyKind, dynamic_number, static_number};
+use report::names::{DynamicDependencyKind, StaticDependencyKind};
 use report::writer::Writer;
 use sheet::commented::Comments;
 use sheet::fields::Span;
@@ -148,7 +147,7 @@ impl<'a, 'b> Items<'a, 'b> {
     {
         let start = dependency.span.start;
         let specifier = dependency.specifier;
-        self.writer.put(static_number(dependency.kind));
+        self.writer.put(u8::from(dependency.kind));
         analyze_ts_or_deno_types(comments, start, self.writer);
         let replaced = self
             .writer
@@ -158,34 +157,49 @@ impl<'a, 'b> Items<'a, 'b> {
         put_attributes(attributes, self.writer);
     }
 
-    // The entry of an import type, or of a declaration, with the Object of its attributes at the front of some bytes, if there is one. The table of
-    // pairs is here, and not in the walk, and is never inlined, so that no level of the walk has one on the stack. Where the bytes are no such Object,
-    // the buffer and the notes are left free.
+    // The entry of an import or an export, with the Object of its attributes at the front of some bytes. The table
+    // of pairs is here, and not in the walk, and is never inlined, so that no level of the walk has one on the
+    // stack. Where the bytes are no such Object, the buffer and the notes are left free.
     #[inline(never)]
     pub fn put_with_entry(
         &mut self,
         comments: &Comments,
-        s: &[u8],
-        has_object: bool,
+        object: &[u8],
         levels: usize,
         dependency: StaticDependencyDescriptor,
-        is_type: bool,
     )
         requires { InSource comments.now.source dependency.specifier.span }
         ensures { Leaving
             ((a : Attributes) (t : List ℕ)
-            → behind has_object (attributes_object comments.now.source levels) s.now ≡ ok a t
-            → Adds self.old self.new
-            (static_of comments.now dependency.entry (cond is_type (type_attributes a) (static_attributes a))))
+            → attributes_object comments.now.source levels object.now ≡ ok a t
+            → Adds self.old self.new (static_of comments.now dependency.entry (static_attributes a)))
             (KeepsItems self.old self.new) }
     {
         let source = comments.source();
         let mut pairs = Pairs::new();
-        let attributes = if is_type {
-            parse_type_attributes(source, s, has_object, levels, &mut pairs)
-        } else {
-            parse_import_attributes(source, s, has_object, levels, &mut pairs)
-        };
+        let attributes = parse_import_attributes(source, Some(object), levels, &mut pairs);
+        self.put_static_entry(comments, dependency, attributes);
+    }
+
+    // The same of an import type, with the Object of its attributes, if there is one.
+    #[inline(never)]
+    pub fn put_type_entry(
+        &mut self,
+        comments: &Comments,
+        object: Option<&[u8]>,
+        levels: usize,
+        dependency: StaticDependencyDescriptor,
+    )
+        requires { InSource comments.now.source dependency.specifier.span }
+        ensures { Leaving
+            ((a : Attributes) (t u : List ℕ)
+            → object_in (attributes_object comments.now.source levels) object.entry u ≡ ok a t
+            → Adds self.old self.new (static_of comments.now dependency.entry (type_attributes a)))
+            (KeepsItems self.old self.new) }
+    {
+        let source = comments.source();
+        let mut pairs = Pairs::new();
+        let attributes = parse_type_attributes(source, object, levels, &mut pairs);
         self.put_static_entry(comments, dependency, attributes);
     }
 
@@ -214,10 +228,37 @@ impl<'a, 'b> Items<'a, 'b> {
         }
     }
 
-    // The entry of a dynamic dependency, with so many arguments behind the first at the front of some bytes. The table of pairs is here as in
-    // `put_with_entry`. Where the bytes are no such arguments, the buffer and the notes are left free.
-    #[inline(never)]
+    // The entry of a dynamic dependency, with its attributes. Where the bytes of its argument are no such argument,
+    // the buffer and the notes are left free.
     fn put_dynamic_entry(
+        &mut self,
+        comments: &Comments,
+        levels: usize,
+        dependency: DynamicDependencyDescriptor,
+        attributes: ImportAttributes,
+    )
+        requires { InSource comments.now.source dependency.argument_range }
+        ensures { Leaving
+            ((v : info.DynamicArgument) (replacements : ℕ)
+            → Stands comments.now.source levels dependency.entry.argument v replacements
+            → Adds self.old self.new
+            (dynamic_of comments.now dependency.entry v (attributes_as attributes.entry) replacements))
+            (KeepsItems self.old self.new) }
+    {
+        let source = comments.source();
+        let start = dependency.start;
+        self.writer.put(u8::from(dependency.kind));
+        analyze_ts_or_deno_types(comments, start, self.writer);
+        let replaced = put_argument(source, levels, dependency.argument, self.writer);
+        note(self.notes, start, replaced);
+        self.writer.put_span(comments, dependency.argument_range);
+        put_attributes(attributes, self.writer);
+    }
+
+    // The same with so many arguments behind the first at the front of some bytes. The table of pairs is here as
+    // in `put_with_entry`.
+    #[inline(never)]
+    fn put_options_entry(
         &mut self,
         comments: &Comments,
         s: &[u8],
@@ -225,8 +266,7 @@ impl<'a, 'b> Items<'a, 'b> {
         levels: usize,
         dependency: DynamicDependencyDescriptor,
     )
-        requires { InSource comments.now.source dependency.argument_range
-            × ArgumentWithin dependency.argument }
+        requires { InSource comments.now.source dependency.argument_range }
         ensures { Leaving
             ((v : info.DynamicArgument) (replacements : ℕ) (xs : Arguments) (t : List ℕ)
             → Stands comments.now.source levels dependency.entry.argument v replacements
@@ -236,15 +276,9 @@ impl<'a, 'b> Items<'a, 'b> {
             (KeepsItems self.old self.new) }
     {
         let source = comments.source();
-        let start = dependency.start;
         let mut pairs = Pairs::new();
         let attributes = parse_dynamic_import_attributes(source, s, more, levels, &mut pairs);
-        self.writer.put(dynamic_number(dependency.kind));
-        analyze_ts_or_deno_types(comments, start, self.writer);
-        let replaced = put_argument(source, levels, dependency.argument, self.writer);
-        note(self.notes, start, replaced);
-        self.writer.put_span(comments, dependency.argument_range);
-        put_attributes(attributes, self.writer);
+        self.put_dynamic_entry(comments, levels, dependency, attributes);
     }
 
     // The entry of a call by its first argument, whose node is at the front of some bytes, with so many arguments behind it. Where the bytes are no
@@ -276,9 +310,9 @@ impl<'a, 'b> Items<'a, 'b> {
             argument_range: range,
         };
         if more == 0 {
-            self.put_dynamic_entry(comments, s, 0, levels, dependency);
+            self.put_dynamic_entry(comments, levels, dependency, ImportAttributes::None);
         } else if let Ok((_, next)) = check_node(source, s, levels) {
-            self.put_dynamic_entry(comments, next, more, levels, dependency);
+            self.put_options_entry(comments, next, more, levels, dependency);
         }
     }
 

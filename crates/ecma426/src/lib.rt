@@ -1,7 +1,7 @@
 // The comment that names a source map, as ECMA-426 has it.
 #![tactic(auto)]
 
-ghost use Rattle.std.specs.Prelude.{◌≡◌, true, ◌↔◌, ◌+◌, ◌≤◌, length, drop};
+ghost use Rattle.std.specs.Prelude.{◌≡◌, true, ◌↔◌, ◌≤◌, length};
 ghost use Rattle.laws.specs.code.Told.{Bounded, Meant};
 ghost use Rattle.analysis.specs.Place.{FoundWithin};
 ghost use Rattle.ecma426.specs.WhiteSpace.{is_space, ByUnicode};
@@ -28,15 +28,14 @@ pub fn is_space(code: u32) -> bool
     }
 }
 
-// The length in bytes of the character of the kind at `at`, 0 where none stands there. `text::class` has its own, by its classes, with a shorter way for
-// ASCII, which one function for both would take from it.
-fn one_at<F: Fn(u32) -> bool>(s: &[u8], at: usize, kind: &F) -> usize
+// The length in bytes of the character of the kind that the text begins with, 0 where there is none. `text::class` has its own, by its classes, with a
+// shorter way for ASCII, which one function for both would take from it.
+fn one_at<F: Fn(u32) -> bool>(s: &[u8], kind: &F) -> usize
     requires callable { F.IsAlwaysCallable kind.now }
-    requires starts { at ≤ length s.now }
-    ensures ends { at + result ≤ length s.now }
-    ensures answer { OfKind (F.post kind.now) λ test. result ≡ one_at test (drop at s.now) }
+    ensures ends { result ≤ length s.now }
+    ensures answer { OfKind (F.post kind.now) λ test. result ≡ one_at test s.now }
 {
-    let c = char_at(s, at, Encoding::Utf8);
+    let c = char_at(s, 0, Encoding::Utf8);
     if kind(c.code) { c.len } else { 0 }
 }
 
@@ -50,7 +49,7 @@ fn row_end<F: Fn(u32) -> bool>(s: &[u8], at: usize, kind: &F) -> usize
 {
     let mut i = at;
     loop {
-        let n = one_at(s, i, kind);
+        let n = one_at(&s[i..], kind);
         if n == 0 {
             return i;
         }

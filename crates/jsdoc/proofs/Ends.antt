@@ -1,5 +1,5 @@
 -- A list that ends another.
-use Rattle.laws.proofs.Prelude.{◌≡◌, sym, ap, ◌∙◌, ◌++◌, append_assoc, ℕ, ◌≤◌, arith, length, take, drop, length-append}
+use Rattle.laws.proofs.Prelude.{◌≡◌, sym, ap, ◌∙◌, ◌++◌, append_assoc, ℕ, ◌-◌, ◌≤◌, arith, length, take, drop, length-append, drop-append_seam}
 use lib.ListN.{take-append-drop}
 use Rattle.jsdoc.specs.Grammar.{Bytes}
 
@@ -14,3 +14,8 @@ ends_drop k s = (take k s, sym (take-append-drop k s))
 
 pub ends_shorter : {s t : Bytes} → Ends s t → length t ≤ length s
 ends_shorter {t} (p, e) = omega (arith, ap length e, length-append p t)
+
+pub ends_at : {s t : Bytes} → Ends s t → drop (length s - length t) s ≡ t
+ends_at {s} {t} (p, e) =
+    let n : length s - length t ≡ length p = omega (arith, ap length e, length-append p t) in
+    rw n (rw e (drop-append_seam p t))

@@ -11,7 +11,6 @@ pub mod Listing
 pub mod Marking
 pub mod Ticked
 pub mod Ticking
-pub mod Moved
 pub mod Noted
 pub mod Noting
 pub mod Openers

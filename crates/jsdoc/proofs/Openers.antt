@@ -1,23 +1,16 @@
 -- The origins that the parsers give at each place of a body are the first places that read.
 use Rattle.std.specs.Prelude.{Option, Some, None}
 use Rattle.std.proofs.lemmas.List.{set-get_or}
-use Rattle.laws.proofs.Prelude.{◌≡◌, refl, sym, ne_eqb, Bool, true, false, cond, eqb, set, get_or, replicate, ◌+◌, ◌-◌, ◌⊎◌, ⊎_elim, inl, inr, List, ℕ, zero, suc, ◌≤◌, ◌<◌, arith, ℕ_discrete, length, drop}
+use Rattle.laws.proofs.Prelude.{◌≡◌, refl, sym, ne_eqb, Bool, true, false, cond, eqb, set, get_or, replicate, ◌+◌, ◌-◌, ◌⊎◌, ⊎_elim, inl, inr, List, ℕ, zero, suc, ◌≤◌, ◌<◌, arith, ℕ_discrete, length, drop, length-drop}
 use Rattle.analysis.specs.Mode.{Mode}
 use Rattle.jsdoc.specs.Grammar.{Bytes, Brace, Declaration, Reading, From}
 use Rattle.jsdoc.specs.{Parsed.Parser, Parsed.value, Reader.Hit, Reader.hit, code.Origins.Origins, code.Origins.ReadsBy}
 use Rattle.jsdoc.specs.Origins.{note_of, openers_by, openers}
-use Rattle.jsdoc.proofs.{ReadingPlace.with_kind, Apart.never_both, Listing.answered, Noted.origins_more, Noted.origins_unique}
+use Rattle.jsdoc.proofs.{ReadingPlace.with_kind, Apart.never_both, Noted.origins_more, Noted.origins_unique}
 use Rattle.jsdoc.specs.code.Marks.{Mark, Stays, hit_marked, all_marked, readings_marked}
 use Rattle.jsdoc.proofs.Ticking.{Kind, braces, declarations, from_below}
 use Rattle.jsdoc.proofs.Noting.{Early, early_none, origins_turn}
-
--- one turn notes what the parser reads
-turned : {R : Bytes → Bytes → Bytes → Mode → Type 0} {p : Parser Hit} → Kind R p → (b : Bytes) (n : ℕ) → n < length b → {P : ℕ → ℕ → Type 0} {l : List ℕ}
-    → Origins P (length b) l → ((k q : ℕ) (m : Mode) → From R b n q m → P k q → k ≤ n)
-    → Origins (λ k q. P k q ⊎ ((k ≡ n) × ReadsBy R b n q)) (length b) (note_of n (drop n b) (value (p (drop n b))) l)
-turned K b n h {l = l} o behind =
-    let a = answered K (drop n b) in
-    rw (a.note n l) at (origins_turn K b n h o behind a.import a.is)
+use Rattle.jsdoc.proofs.Marking.{hit_fits, kept_by_all}
 
 module _ (b : Bytes) where
   -- the readings from before n and the Brace reading from n, and the Declaration from n
@@ -44,9 +37,9 @@ module _ (b : Bytes) where
   openers_by_lem zero h = early_none b
   openers_by_lem (suc n) h =
       origins_more (on n) (λ k q x. (k, omega arith, back n k q x))
-      (turned declarations b n h
-      (turned braces b n h (openers_by_lem n (omega arith)) (λ k q m f x. omega (arith, x.0)))
-      (λ k q m f x. omega (arith, (on n k q (inl x)).0)))
+      (origins_turn declarations b n h
+      (origins_turn braces b n h (openers_by_lem n (omega arith)) (λ k q m f x. omega (arith, x.0)) _ refl)
+      (λ k q m f x. omega (arith, (on n k q (inl x)).0)) _ refl)
 
   pub origins_first : Origins (ReadsBy Reading b) (length b) (openers b)
   unfolding openers
@@ -64,46 +57,48 @@ note_stays x i k m h = go (eqb x 0) refl
     go true e = rw (ne_eqb (i + 1) 0 (λ z. omega (arith, z)))
     go false e = rw e
 
-hit_noted : (i : ℕ) (s : Bytes) (o : Option Hit) (l : List ℕ) → note_of i s o l ≡ hit_marked note 0 i s o l
-hit_noted i s None l = refl
-hit_noted i s (Some (hit q e m)) l = go (eqb (get_or l (i + (length s - length q)) 0) 0)
-  where
-    at : ℕ
-    at = i + (length s - length q)
-
-    go : (z : Bool) → cond z (set l at (i + 1)) l ≡ set l at (cond z (i + 1) (get_or l at 0))
-    go true = refl
-    go false = sym (set-get_or l at 0)
-
-module _ {R : Bytes → Bytes → Bytes → Mode → Type 0} {p : Parser Hit} (K : Kind R p) (b : Bytes) {P : ℕ → ℕ → Type 0} {l : List ℕ}
-    (o : Origins P (length b) l) (apart : (j k q : ℕ) (m : Mode) → P j q → From R b k q m → ⊥) where
-  all_noted : (n : ℕ) → n ≤ length b → Origins (λ k q. P k q ⊎ Early R b n k q) (length b) (all_marked note 0 p n b l)
-  all_noted zero h = origins_more (λ k q x. inl x) (λ k q x. (k, omega arith, ⊎_elim (λ y. y) (λ y. absurd (omega (arith, y.0))) x)) o
-  all_noted (suc n) h =
-      origins_more more (λ k q x. (k, omega arith, less k q x))
-      (rw hit_noted at (turned K b n h (all_noted n (omega arith)) behind))
+module _ {R : Bytes → Bytes → Bytes → Mode → Type 0} {p : Parser Hit} (K : Kind R p) (b : Bytes) where
+  -- where the body is left from place i on
+  hit_noted : (i : ℕ) → i < length b → (o : Option Hit) → value (p (drop i b)) ≡ o → (l : List ℕ)
+      → note_of i (drop i b) o l ≡ hit_marked note 0 (length b) (drop i b) o l
+  hit_noted i h None is l = refl
+  hit_noted i h (Some (hit q e m)) is l =
+      let at : i + (length (drop i b) - length q) ≡ length b - length q = omega (arith, hit_fits K (drop i b) is, length-drop i b) in
+      let from : length b - length (drop i b) ≡ i = omega (arith, length-drop i b) in
+      rw (at, from) (go (length b - length q) (eqb (get_or l (length b - length q) 0) 0))
     where
-      behind : (k q : ℕ) (m : Mode) → From R b n q m → P k q ⊎ Early R b n k q → k ≤ n
-      behind k q m f (inl x) = absurd (apart k n q m x f)
-      behind k q m f (inr x) = omega (arith, x.0)
+      go : (q : ℕ) (z : Bool) → cond z (set l q (i + 1)) l ≡ set l q (cond z (i + 1) (get_or l q 0))
+      go q true = refl
+      go q false = sym (set-get_or l q 0)
 
-      more : (k q : ℕ) → (P k q ⊎ Early R b n k q) ⊎ ((k ≡ n) × ReadsBy R b n q) → P k q ⊎ Early R b (suc n) k q
-      more k q (inl (inl x)) = inl x
-      more k q (inl (inr x)) = inr (omega (arith, x.0), x.1)
-      more k q (inr x) = inr (omega (arith, x.0), rw x.0 x.1)
+  module _ {P : ℕ → ℕ → Type 0} (apart : (j k q : ℕ) (m : Mode) → P j q → From R b k q m → ⊥) where
+    all_noted : {l : List ℕ} → Origins P (length b) l → Origins (λ k q. P k q ⊎ Early R b (length b) k q) (length b) (all_marked note 0 p (length b) b l)
+    all_noted {l} o =
+        kept_by_all note 0 p b (λ i l. Origins (λ k q. P k q ⊎ Early R b i k q) (length b) l)
+        (λ i l h o. origins_more (more i) (λ k q x. (k, omega arith, less i k q x)) (rw (← hit_noted i h _ refl l) (origins_turn K b i h o (behind i) _ refl)))
+        l (origins_more (λ k q x. inl x) (λ k q x. (k, omega arith, ⊎_elim (λ y. y) (λ y. absurd (omega (arith, y.0))) x)) o)
+      where
+        behind : (i k q : ℕ) (m : Mode) → From R b i q m → P k q ⊎ Early R b i k q → k ≤ i
+        behind i k q m f (inl x) = absurd (apart k i q m x f)
+        behind i k q m f (inr x) = omega (arith, x.0)
 
-      less : (k q : ℕ) → P k q ⊎ Early R b (suc n) k q → (P k q ⊎ Early R b n k q) ⊎ ((k ≡ n) × ReadsBy R b n q)
-      less k q (inl x) = inl (inl x)
-      less k q (inr (g, x)) = go (ℕ_discrete k n)
-        where
-          go : Dec (k ≡ n) → (P k q ⊎ Early R b n k q) ⊎ ((k ≡ n) × ReadsBy R b n q)
-          go (yes e) = inr (e, rw e at x)
-          go (no e) = inl (inr (omega arith, x))
+        more : (i k q : ℕ) → (P k q ⊎ Early R b i k q) ⊎ ((k ≡ i) × ReadsBy R b i q) → P k q ⊎ Early R b (i + 1) k q
+        more i k q (inl (inl x)) = inl x
+        more i k q (inl (inr x)) = inr (omega (arith, x.0), x.1)
+        more i k q (inr x) = inr (omega (arith, x.0), rw x.0 x.1)
+
+        less : (i k q : ℕ) → P k q ⊎ Early R b (i + 1) k q → (P k q ⊎ Early R b i k q) ⊎ ((k ≡ i) × ReadsBy R b i q)
+        less i k q (inl x) = inl (inl x)
+        less i k q (inr (g, x)) = go (ℕ_discrete k i)
+          where
+            go : Dec (k ≡ i) → (P k q ⊎ Early R b i k q) ⊎ ((k ≡ i) × ReadsBy R b i q)
+            go (yes e) = inr (e, rw e at x)
+            go (no e) = inl (inr (omega arith, x))
 
 readings_noted : (b : Bytes) → Origins (ReadsBy Reading b) (length b) (readings_marked note 0 b (replicate (length b) 0))
 readings_noted b =
     origins_more on (λ k q x. (k, omega arith, back k q x.0 x.1 x.1.reads))
-    (all_noted declarations b (all_noted braces b (early_none b) none (length b) (omega arith)) apart (length b) (omega arith))
+    (all_noted declarations b apart (all_noted braces b none (early_none b)))
   where
     none : (j k q : ℕ) (m : Mode) → Early Brace b 0 j q → From Brace b k q m → ⊥
     none j k q m x f = omega (arith, x.0)

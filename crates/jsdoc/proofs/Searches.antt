@@ -1,56 +1,38 @@
--- The search for `import` from a brace, from one place to the next; and that it ends at one place for all braces before that.
-use Rattle.laws.proofs.Prelude.{◌≡◌, refl, sym, ap, ◌∙◌, Bool, true, false, cond, ◌⊎◌, ⊎_elim, inl, inr, [], ◌∷◌, ◌++◌, ℕ, zero, suc, ◌+◌, ◌-◌, ◌≤◌, ◌<◌}
-use Rattle.std.specs.Prelude.{Option, None}
-use Rattle.laws.proofs.Prelude.{code, arith, length, drop, get_or, length-drop, drop_of_length-le, drop-drop, eqb, ne_eqb}
+-- The search for `import` from a brace, step by step; and that all braces that it passes have one reading.
+use Rattle.laws.proofs.Prelude.{◌≡◌, refl, sym, ap, ◌∙◌, Bool, true, false, cond, ◌⊎◌, ⊎_elim, inl, inr, [], ◌∷◌, ℕ, zero, suc, ◌+◌, ◌-◌, ◌≤◌, ◌<◌, code, arith}
+use Rattle.laws.proofs.Prelude.{length, take, take_all, drop, get_or, eqb, ne_eqb, ℕ_discrete}
 use Rattle.laws.specs.Ascii.{ascii}
 use Rattle.text.specs.Bytes.{begins}
-use Rattle.jsdoc.specs.{Grammar.Bytes, code.Answers.Imports, code.Answers.Scans, declared.answers.JsDocImport.JsDocImport}
-use Rattle.jsdoc.specs.Parsed.{ok, backtrace, value}
-use Rattle.jsdoc.specs.Reader.{tag, word, seek, sought, parse_call, parse_jsdoc_dynamic_import}
-use Rattle.jsdoc.specs.declared.answers.Searched.{Searched}
+use Rattle.jsdoc.specs.{Grammar.Bytes, code.Answers.Scans, declared.answers.Searched.Searched}
+use Rattle.jsdoc.specs.Reader.{tag, seek, sought, parse_call, parse_jsdoc_dynamic_import}
 use Rattle.jsdoc.proofs.{Texts.tag_complete, Steps.cons_at}
 
-module _ (s : Bytes) (i : ℕ) where
-  pub search_ended : length s ≤ i → (seek (drop i s) ≡ drop i s) × (begins (ascii "import") (drop i s) ≡ false)
-  unfolding seek begins
-  search_ended h = rw (drop_of_length-le s h) (refl, refl)
+pub search_ended : (s : Bytes) → length s < 1 → seek s ≡ s
+unfolding seek
+search_ended [] h = refl
+search_ended (x ∷ s) h = absurd (omega arith)
 
-  module _ (l : i < length s) where
-    pub search_closed : get_or s i 0 ≡ code "}" → (seek (drop i s) ≡ drop i s) × (begins (ascii "import") (drop i s) ≡ false)
-    unfolding seek begins
-    search_closed e = rw (cons_at s i l, e) (refl, refl)
+pub search_closed : (s : Bytes) → get_or s 0 0 ≡ code "}" → seek s ≡ s
+unfolding seek
+search_closed [] e = refl
+search_closed (x ∷ s) e = rw e
 
-    module _ (n : get_or s i 0 ≡ code "}" → ⊥) where
-      pub search_found : begins (ascii "import") (drop i s) ≡ true → seek (drop i s) ≡ drop i s
-      unfolding seek
-      search_found b =
-          let b' : begins (ascii "import") (get_or s i 0 ∷ drop (i + 1) s) ≡ true = rw (← cons_at s i l) b in
-          rw (cons_at s i l, ne_eqb (get_or s i 0) (code "}") n, b')
+pub search_found : (s : Bytes) → begins (ascii "import") s ≡ true → seek s ≡ s
+unfolding seek
+search_found [] b = refl
+search_found (x ∷ s) b = go (eqb x (code "}"))
+  where
+    go : (c : Bool) → cond c (x ∷ s) (cond (begins (ascii "import") (x ∷ s)) (x ∷ s) (seek s)) ≡ x ∷ s
+    go true = refl
+    go false = rw b
 
-      pub search_further : begins (ascii "import") (drop i s) ≡ false → seek (drop i s) ≡ seek (drop (i + 1) s)
-      unfolding seek
-      search_further b =
-          let b' : begins (ascii "import") (get_or s i 0 ∷ drop (i + 1) s) ≡ false = rw (← cons_at s i l) b in
-          rw (cons_at s i l, ne_eqb (get_or s i 0) (code "}") n, b')
+pub search_further : (s : Bytes) → (get_or s 0 0 ≡ code "}" → ⊥) → begins (ascii "import") s ≡ false → seek s ≡ seek (take (length s - 1) (drop 1 s))
+unfolding seek
+search_further [] n b = refl
+search_further (x ∷ s) n b = rw (ne_eqb x (code "}") n, b, take_all (suc (length s) - 1) s (omega arith))
 
--- ---- what is answered where a search ends
-
-pub no_brace : (s : Bytes) → tag (ascii "{") s ≡ backtrace → Scans s (record { found = None; end = 0 })
-unfolding parse_jsdoc_dynamic_import sought
-no_brace s e = record { import = record { answer = rw e; bounds = tt }; end = rw e; inside = omega arith }
-
-module _ (s : Bytes) {a : Bytes} (i : ℕ) (t : tag (ascii "{") s ≡ ok tt a) (e : seek a ≡ drop i s) (h : i ≤ length s) where
-  pub no_import : begins (ascii "import") (drop i s) ≡ false → Scans s (record { found = None; end = i })
-  unfolding parse_jsdoc_dynamic_import parse_call sought word tag
-  no_import b = record { import = record { answer = rw (t, e, b); bounds = tt }; end = rw (t, e); inside = h }
-
-  pub call_read : {r : Option JsDocImport} → Imports s (value (parse_call (drop i s))) r → Scans s (record { found = r; end = i })
-  unfolding parse_jsdoc_dynamic_import sought
-  call_read r = record { import = record { answer = rw (t, e) r.answer; bounds = r.bounds }; end = rw (t, e); inside = h }
-
--- ---- one end for all braces before it
-
-seek_stays : (x : ℕ) (s : Bytes) → (seek (x ∷ s) ≡ x ∷ s) ⊎ (seek (x ∷ s) ≡ seek s)
+-- it stays, or goes on
+pub seek_stays : (x : ℕ) (s : Bytes) → (seek (x ∷ s) ≡ x ∷ s) ⊎ (seek (x ∷ s) ≡ seek s)
 unfolding seek
 seek_stays x s = go (eqb x (code "}")) (begins (ascii "import") (x ∷ s))
   where
@@ -59,50 +41,44 @@ seek_stays x s = go (eqb x (code "}")) (begins (ascii "import") (x ∷ s))
     go false true = inl refl
     go false false = inr refl
 
-seek_shorter : (s : Bytes) → length (seek s) ≤ length s
+pub seek_shorter : (s : Bytes) → length (seek s) ≤ length s
 unfolding seek
 seek_shorter [] = omega arith
 seek_shorter (x ∷ s) = ⊎_elim (λ e. omega (arith, ap length e)) (λ e. omega (arith, ap length e, seek_shorter s)) (seek_stays x s)
 
 -- the search goes on to the same end from each place that it passes
-seek_later : (j n : ℕ) (s : Bytes) → j ≤ n → seek s ≡ drop n s → seek (drop j s) ≡ drop n s
-seek_later zero n s h e = e
-seek_later (suc j) n [] h e = e
-seek_later (suc j) zero (x ∷ s) h e = absurd (omega arith)
-seek_later (suc j) (suc n) (x ∷ s) h e = seek_later j n s (omega arith) (⊎_elim (λ g. absurd (longer g)) (λ g. sym g ∙ e) (seek_stays x s))
-  where
-    longer : seek (x ∷ s) ≡ x ∷ s → ⊥
-    longer g = omega (arith, ap length (sym g ∙ e), length-drop n s)
+seek_later : (k : ℕ) (s : Bytes) → k + length (seek s) ≤ length s → seek (drop k s) ≡ seek s
+seek_later zero s h = refl
+seek_later (suc k) [] h = refl
+seek_later (suc k) (x ∷ s) h =
+    ⊎_elim (λ g. absurd (omega (arith, h, ap length g))) (λ g. seek_later k s (omega (arith, h, ap length g)) ∙ sym g) (seek_stays x s)
 
--- at a brace the rest is what the search goes over
-brace_at : (b : Bytes) (k : ℕ) {t : Bytes} → drop k b ≡ ascii "{" ++ t → parse_jsdoc_dynamic_import (drop k b) ≡ parse_call (seek (drop (k + 1) b))
+-- at a brace what is left is searched
+brace_read : (t : Bytes) → parse_jsdoc_dynamic_import (code "{" ∷ t) ≡ parse_call (seek t)
 unfolding parse_jsdoc_dynamic_import
-brace_at b k {t} e =
-    let i : t ≡ drop (k + 1) b = sym (ap (drop 1) e) ∙ drop-drop 1 k b in
-    rw (tag_complete (ascii "{") e, i)
+brace_read t = rw (tag_complete (ascii "{") {t = t} refl)
 
-module _ (b : Bytes) (i : ℕ) (l : i < length b) (o : get_or b i 0 ≡ code "{") (r : Searched) (t : Scans (drop i b) r) where
-  here : drop i b ≡ ascii "{" ++ drop (i + 1) b
-  here = rw (cons_at b i l, o)
+pub brace_sought : (t : Bytes) → sought (code "{" ∷ t) ≡ seek t
+unfolding sought
+brace_sought t = rw (tag_complete (ascii "{") {t = t} refl)
 
-  end_at : seek (drop (i + 1) b) ≡ drop (i + r.end) b
-  unfolding sought
-  end_at =
-      let e = rw (tag_complete (ascii "{") here) at t.end in
-      sym e ∙ drop-drop r.end i b
+-- and elsewhere nothing is
+none_sought : (x : ℕ) (t : Bytes) → (x ≡ code "{" → ⊥) → sought (x ∷ t) ≡ x ∷ t
+unfolding sought tag begins
+none_sought x t n = rw (ne_eqb x (code "{") n)
 
-  -- the next brace to look at is a later one
-  pub search_goes_on : 0 < r.end
-  search_goes_on =
-      omega (arith, seek_shorter (drop (i + 1) b), ap length end_at, length-drop (i + 1) b, length-drop (i + r.end) b, length-drop i b, t.inside)
-
-  -- each brace in between has the same reading
-  pub same_reading : (k : ℕ) {u : Bytes} → i < k → k < i + r.end → drop k b ≡ ascii "{" ++ u →
-      parse_jsdoc_dynamic_import (drop k b) ≡ parse_jsdoc_dynamic_import (drop i b)
-  same_reading k g h e =
-      let n : i + 1 + (k - i) ≡ k + 1 = omega arith in
-      let m : i + 1 + (r.end - 1) ≡ i + r.end = omega (arith, search_goes_on) in
-      let f : seek (drop (i + 1) b) ≡ drop (r.end - 1) (drop (i + 1) b) = rw (drop-drop (r.end - 1) (i + 1) b, m) end_at in
-      let s : seek (drop (k - i) (drop (i + 1) b)) ≡ drop (r.end - 1) (drop (i + 1) b) = seek_later (k - i) (r.end - 1) (drop (i + 1) b) (omega arith) f in
-      let s' : seek (drop (k + 1) b) ≡ seek (drop (i + 1) b) = rw (drop-drop (k - i) (i + 1) b, n) at s ∙ sym f in
-      brace_at b k e ∙ ap parse_call s' ∙ sym (brace_at b i here)
+-- each brace before the place where the search from a brace ended has the same reading
+pub same_reading : (s : Bytes) {r : Searched} → Scans s r → (k : ℕ) → k + length r.end.now < length s → get_or s k 0 ≡ code "{"
+    → parse_jsdoc_dynamic_import (drop k s) ≡ parse_jsdoc_dynamic_import s
+same_reading s t zero h e = refl
+same_reading [] t (suc k) h e = absurd (omega arith)
+same_reading (x ∷ s) {r} t (suc k) h e = go (ℕ_discrete x (code "{"))
+  where
+    go : Dec (x ≡ code "{") → parse_jsdoc_dynamic_import (drop k s) ≡ parse_jsdoc_dynamic_import (x ∷ s)
+    go (no n) = absurd (omega (arith, h, ap length t.end, ap length (none_sought x s n)))
+    go (yes b) =
+        let to : sought (x ∷ s) ≡ seek s = rw b (brace_sought s) in
+        let here : parse_jsdoc_dynamic_import (x ∷ s) ≡ parse_call (seek s) = rw b (brace_read s) in
+        let later : parse_jsdoc_dynamic_import (drop k s) ≡ parse_call (seek (drop (k + 1) s)) =
+        rw (cons_at s k (omega arith), e) (brace_read (drop (k + 1) s)) in
+        later ∙ ap parse_call (seek_later (k + 1) s (omega (arith, h, ap length t.end, ap length to))) ∙ sym here

@@ -1,114 +1,89 @@
--- The pieces from a place of the bytes on: what is found there, by what stands there.
-use Rattle.laws.proofs.Prelude.{◌≡◌, refl, sym, ap, true, false, cond, [], ◌∷◌, ℕ, suc, ◌+◌, ◌-◌, ◌≤◌, ◌<◌, add-one, sub-zero, arith, length, drop, get_or}
-use Rattle.laws.proofs.Prelude.{length-drop, drop_of_length-le, length-append, drop-cons, drop-drop, eq-eqb, ne_eqb}
-use Rattle.text.specs.declared.class.Class.TheVariants.{White, Alphabetic, NameRest}
-use Rattle.text.{specs.Bytes.begins, specs.Class.class_at, specs.Class.run_length, proofs.Words.begins_sound}
+-- The pieces at the front of some bytes, as the code finds them.
+use Rattle.laws.proofs.Prelude.{◌≡◌, refl, Bool, true, false, cond, [], ◌∷◌, ℕ, zero, suc, ◌+◌, ◌-◌, ◌≤◌, ◌<◌, add-one, arith, length, take, drop, get_or}
+use Rattle.laws.proofs.Prelude.{length-drop, drop-cons, drop-drop, eq-eqb, ne_eqb, eqb, eqb-true, none-ne-some}
+use Rattle.std.specs.Prelude.{Option, Some, None, MatchOption, nat_eq}
+use Rattle.std.specs.Borrow.{Bor}
+use Rattle.std.specs.Cmp.Lexicographic.{pointwise}
+use Rattle.text.specs.declared.class.Class.TheVariants.{Alphabetic, NameRest}
+use Rattle.text.specs.{Bytes.begins, Class.class_at, Class.run_length, code.Places.First}
 use Rattle.jsdoc.specs.Grammar.{Bytes}
-use Rattle.jsdoc.specs.Parsed.{ok, backtrace, on_parsed}
-use Rattle.jsdoc.specs.Reader.{skip, skip_whitespace, whitespace, tag, up_to, before, is_mark, parse_quote, past_ident, parse_ident}
-use Rattle.jsdoc.specs.code.Answers.{Finds, Spells, quote_mark, name_mark}
-use Rattle.std.specs.Prelude.{Some, None, slice_get}
-use Rattle.std.proofs.lemmas.Option.{slice_get_within}
-use Rattle.laws.proofs.Options.{none-ne-some, some-injective}
-use Rattle.jsdoc.proofs.Texts.{up_to_sound}
+use Rattle.jsdoc.specs.Parsed.{Parsed, ok, backtrace}
+use Rattle.jsdoc.specs.Reader.{skip, tag, up_to, past_ident, parse_ident}
+use Rattle.jsdoc.specs.code.Answers.{rest_as, from_first}
 
 -- the byte at a place, and what is left behind it
 pub cons_at : (s : Bytes) (i : ℕ) → i < length s → drop i s ≡ get_or s i 0 ∷ drop (i + 1) s
 cons_at s i h = rw (add-one, drop-cons s i 0)
 
-module _ (s : Bytes) (i : ℕ) where
-  -- a word
-  module _ (w : Bytes) where
-    word_fits : i ≤ length s → begins w (drop i s) ≡ true → i + length w ≤ length s
-    word_fits h e = omega (arith, length-drop i s, ap length (begins_sound w (drop i s) e), length-append w (drop (length w) (drop i s)))
+-- a word
+begins_front : (w s : Bytes) → pointwise nat_eq (take (length w) s) w ≡ begins w s
+unfolding begins
+begins_front [] s = refl
+begins_front (y ∷ w) [] = refl
+begins_front (y ∷ w) (x ∷ s) = rw (begins_front w s)
 
-    pub tag_found : i ≤ length s → begins w (drop i s) ≡ true → Finds s (tag w (drop i s)) (Some (i + length w))
-    unfolding tag
-    tag_found h e = record { answer = rw (e, drop-drop (length w) i s); bounds = word_fits h e }
+pub stripped : (w s : Bytes) (r : Option (Bor Bytes))
+    → MatchOption r (pointwise nat_eq (take (length w) s) w ≡ false)
+    (λ t. (pointwise nat_eq (take (length w) s) w ≡ true) × ((t.now ≡ drop (length w) s) × (length t.now + length w ≡ length s)))
+    → rest_as r ≡ tag w s
+unfolding tag
+stripped w s None m = rw (← begins_front w s, m)
+stripped w s (Some t) m = rw (← begins_front w s, m.0, m.1.0)
 
-    pub tag_missing : begins w (drop i s) ≡ false → Finds s (tag w (drop i s)) None
-    unfolding tag
-    tag_missing e = record { answer = rw e; bounds = tt }
+-- what is left behind the first of some bytes
+abbrev pub behind : Option Bytes → Parsed (Unit {0})
+behind None = backtrace
+behind (Some []) = backtrace
+behind (Some (x ∷ s)) = ok tt s
 
-  -- white space
-  module _ {r : ℕ} (e : r ≡ i + run_length White (drop i s)) where
-    pub white_skipped : ok tt (drop r s) ≡ skip_whitespace (drop i s)
-    unfolding skip_whitespace skip
-    white_skipped = rw (e, drop-drop (run_length White (drop i s)) i s)
+-- from the first m on
+module _ (m : ℕ) where
+  first_at : (s : Bytes) (i : ℕ) → i < length s → ((k : ℕ) → k < i → get_or s k 0 ≡ m → ⊥) → get_or s i 0 ≡ m → from_first m s ≡ Some (drop i s)
+  unfolding from_first
+  first_at [] i h f e = absurd (omega arith)
+  first_at (x ∷ s) zero h f e = rw (eq-eqb x m e)
+  first_at (x ∷ s) (suc i) h f e = rw (ne_eqb x m (f 0 (omega arith))) (first_at s i (omega arith) (λ k l. f (suc k) (omega arith)) e)
 
-    pub white_found : r ≤ length s → (r ≡ i → ⊥) → Finds s (whitespace (drop i s)) (Some r)
-    unfolding whitespace skip
-    white_found h n = record {
-      answer = rw (ne_eqb (run_length White (drop i s)) 0 (λ z. n (omega arith)), e, drop-drop (run_length White (drop i s)) i s);
-      bounds = h;
-    }
+  first_none : (s : Bytes) → ((k : ℕ) → k < length s → get_or s k 0 ≡ m → ⊥) → from_first m s ≡ None
+  unfolding from_first
+  first_none [] f = refl
+  first_none (x ∷ s) f = rw (ne_eqb x m (f 0 (omega arith))) (first_none s (λ k l. f (suc k) (omega arith)))
 
-    pub white_missing : r ≡ i → Finds s (whitespace (drop i s)) None
-    unfolding whitespace
-    white_missing z = record { answer = rw (eq-eqb (run_length White (drop i s)) 0 (omega arith)); bounds = tt }
+  pub first_found : (s : Bytes) {r : ℕ} → First m s 0 r → r < length s → from_first m s ≡ Some (drop r s)
+  first_found s {r} f h = first_at s r h (λ k l. f.passed.each k (omega arith) l) (f.there h)
 
-  -- a run up to a byte
-  module _ (m : ℕ) where
-    pub up_to_ended : length s ≤ i → up_to m (drop i s) ≡ backtrace
-    unfolding up_to
-    up_to_ended h = rw (drop_of_length-le s h)
+  pub first_missing : (s : Bytes) {r : ℕ} → First m s 0 r → length s ≤ r → from_first m s ≡ None
+  first_missing s {r} f h = first_none s (λ k l. f.passed.each k (omega arith) (omega arith))
 
-    pub up_to_here : i < length s → get_or s i 0 ≡ m → up_to m (drop i s) ≡ ok tt (drop (i + 1) s)
-    unfolding up_to
-    up_to_here h e = rw (cons_at s i h, eq-eqb (get_or s i 0) m e)
+  -- and past it
+  pub up_to_is : (s : Bytes) → up_to m s ≡ behind (from_first m s)
+  unfolding from_first up_to
+  up_to_is [] = refl
+  up_to_is (x ∷ s) = go (eqb x m) (up_to_is s)
+    where
+      go : (c : Bool) → up_to m s ≡ behind (from_first m s) → cond c (ok tt s) (up_to m s) ≡ behind (cond c (Some (x ∷ s)) (from_first m s))
+      go true e = refl
+      go false e = e
 
-    pub up_to_further : i < length s → (get_or s i 0 ≡ m → ⊥) → up_to m (drop i s) ≡ up_to m (drop (i + 1) s)
-    unfolding up_to
-    up_to_further h e = rw (cons_at s i h, ne_eqb (get_or s i 0) m e)
+-- it is there, no more is left than was, and it begins with m
+pub first_left : (m : ℕ) (s t : Bytes) → from_first m s ≡ Some t → (0 < length t) × ((length t ≤ length s) × (get_or t 0 0 ≡ m))
+unfolding from_first
+first_left m [] t e = absurd (none-ne-some _ e)
+first_left m (x ∷ s) t e = go (eqb x m) refl e (first_left m s t)
+  where
+    go : (c : Bool) → eqb x m ≡ c → cond c (Some (x ∷ s)) (from_first m s) ≡ Some t → (from_first m s ≡ Some t → (0 < length t) × ((length t ≤ length s) × (get_or t 0 0 ≡ m)))
+        → (0 < length t) × ((length t ≤ suc (length s)) × (get_or t 0 0 ≡ m))
+    go true z e f = let i : x ∷ s ≡ t = cc in rw (← i) (omega arith, (omega arith, eqb-true x m z))
+    go false z e f = let (a, (b, c)) = f e in (a, (omega arith, c))
 
--- a name that begins the bytes
-module _ (s : Bytes) {n : ℕ} (e : n ≡ class_at Alphabetic (drop 0 s)) where
-  pub ident_missing : n ≡ 0 → Spells s 0 name_mark (parse_ident s) None
+-- a name
+module _ (s : Bytes) {n : ℕ} (e : n ≡ class_at Alphabetic s) where
+  pub ident_missing : n ≡ 0 → parse_ident s ≡ backtrace
   unfolding parse_ident
-  ident_missing z = record { answer = rw (← e, z); bounds = tt }
+  ident_missing z = rw (← e, z)
 
-  pub ident_found : (n ≡ 0 → ⊥) → {r : ℕ} → r ≡ n + run_length NameRest (drop n s) → r ≤ length s → Spells s 0 name_mark (parse_ident s) (Some (record { from = 0; to = r; past = r }))
+  pub ident_found : (n ≡ 0 → ⊥) → {r : ℕ} → r ≡ n + run_length NameRest (drop n s) → r ≤ length s → parse_ident s ≡ ok (take r s) (drop r s)
   unfolding parse_ident past_ident skip
   ident_found z {r} f h =
       let g : length s - length (drop r s) ≡ r = omega (arith, length-drop r s) in
-      record {
-        answer = rw (← e, ne_eqb n 0 z, drop-drop (run_length NameRest (drop n s)) n s, ← f, g, sub-zero);
-        bounds = (omega arith, omega arith, h, omega arith, omega arith);
-      }
-
--- a quote that begins the bytes
-pub quote_empty : (s : Bytes) → slice_get s 0 ≡ None → Spells s 0 quote_mark (parse_quote s) None
-unfolding parse_quote
-quote_empty [] h = record { answer = refl; bounds = tt }
-quote_empty (x ∷ s) h = absurd (none-ne-some x (sym h))
-
-module _ (s : Bytes) {m : ℕ} (first : slice_get s 0 ≡ Some m) where
-  quote_first : parse_quote s ≡ cond (is_mark m) (on_parsed (up_to m (drop 1 s)) (λ z t. ok (before (drop 1 s) (m ∷ t)) t) backtrace) backtrace
-  unfolding parse_quote
-  quote_first = go s first
-    where
-      go : (s : Bytes) → slice_get s 0 ≡ Some m
-          → parse_quote s ≡ cond (is_mark m) (on_parsed (up_to m (drop 1 s)) (λ z t. ok (before (drop 1 s) (m ∷ t)) t) backtrace) backtrace
-      go [] h = absurd (none-ne-some m h)
-      go (x ∷ s) h = rw (some-injective x m h)
-
-  pub quote_some : 1 ≤ length s
-  quote_some = slice_get_within s 0 m first
-
-  pub quote_unmarked : is_mark m ≡ false → Spells s 0 quote_mark (parse_quote s) None
-  quote_unmarked k = record { answer = rw (quote_first, k); bounds = tt }
-
-  module _ (k : is_mark m ≡ true) where
-    pub quote_open : up_to m (drop 1 s) ≡ backtrace → Spells s 0 quote_mark (parse_quote s) None
-    quote_open e = record { answer = rw (quote_first, k, e); bounds = tt }
-
-    module _ {j : ℕ} (e : up_to m (drop 1 s) ≡ ok tt (drop j s)) (h : j ≤ length s) where
-      pub quote_long : 2 ≤ j
-      quote_long =
-          let (w, (f, i)) = up_to_sound m (drop 1 s) (drop j s) e in
-          omega (arith, ap length i, length-append w (m ∷ drop j s), length-drop 1 s, length-drop j s)
-
-      pub quote_closed : Spells s 0 quote_mark (parse_quote s) (Some (record { from = 1; to = j - 1; past = j }))
-      quote_closed =
-          let i : length (drop 1 s) - suc (length (drop j s)) ≡ j - 1 - 1 = omega (arith, length-drop 1 s, length-drop j s, quote_long) in
-          record { answer = rw (quote_first, k, e, i); bounds = (omega (arith, quote_long), omega arith, h, omega arith, omega (arith, quote_long)) }
+      rw (← e, ne_eqb n 0 z, drop-drop (run_length NameRest (drop n s)) n s, ← f, g)

@@ -57,6 +57,9 @@ up_to_sound m (x ∷ s) t {z} e = go (eqb x m) refl e (up_to_sound m s t)
     go true h e ih = ([], (tt, cc (eqb-true x m h)))
     go false h e ih = let (w, (f, r)) = ih e in (x ∷ w, ((eqb-false x m h, f), ap (λ (l : Bytes). x ∷ l) r))
 
+pub up_to_shorter : (m : ℕ) (s t : Bytes) → up_to m s ≡ ok tt t → length t < length s
+up_to_shorter m s t e = let (w, r) = up_to_sound m s t e in omega (arith, ap length r.1, length-append w (m ∷ t))
+
 up_to_past : (m : ℕ) (w t : Bytes) → Without m w → up_to m (w ++ m ∷ t) ≡ ok tt t
 unfolding up_to
 up_to_past m [] t h = rw (eq-eqb m m refl)
@@ -113,6 +116,9 @@ specifier_sound p s q e t m h =
 
 pub quote_shorter : {k s t : Bytes} → Quote k s t → length t < length s
 quote_shorter {k} {t} r = omega (arith, ap length r.first, ap length r.rest.1, length-append k (r.mark ∷ t))
+
+pub quote_left : (k s t : Bytes) → parse_quote s ≡ ok k t → length t < length s
+quote_left k s t e = quote_shorter (quote_sound k s t e)
 
 -- ---- names
 

@@ -1,21 +1,15 @@
 -- The ticks of the readings from the places before one, and what the reading from that place adds.
 use Rattle.laws.proofs.Prelude.{◌≡◌, sym, ap, ◌∙◌, ◌⊎◌, ⊎_elim, inl, inr, List, none-ne-some, ℕ, ◌+◌, ◌<◌, arith, length}
-use Rattle.laws.proofs.Prelude.{drop, set, replicate, length-drop, drop-drop}
+use Rattle.laws.proofs.Prelude.{drop, replicate, ◌-◌, length-drop, drop-drop}
 use Rattle.std.specs.Prelude.{Option, Some, None}
-use Rattle.analysis.specs.Mode.{Mode, mode_number}
+use Rattle.analysis.specs.Mode.{Mode}
 use Rattle.jsdoc.specs.Grammar.{Bytes, Brace, Declaration, Reading, From, Listed}
-use Rattle.jsdoc.specs.{Parsed.Parser, Parsed.value, code.Ticks.Ticks, declared.answers.JsDocImport.JsDocImport}
-use Rattle.jsdoc.specs.Reader.{Hit, parse_jsdoc_dynamic_import, parse_jsdoc_import_decl}
-use Rattle.jsdoc.specs.code.Answers.{Imports, Room}
-use Rattle.jsdoc.proofs.{Texts.quote_shorter, Ends.ends_shorter, Suffixes.reading_ends}
+use Rattle.jsdoc.specs.{Parsed.Parser, Parsed.value, code.Ticks.Ticks, Listing.tick_at}
+use Rattle.jsdoc.specs.Reader.{Hit, hit, parse_jsdoc_dynamic_import, parse_jsdoc_import_decl}
+use Rattle.jsdoc.proofs.{Texts.quote_shorter, Ends.Ends, Ends.ends_at, Ends.ends_shorter, Ends.ends_trans, Suffixes.reading_ends}
 use Rattle.jsdoc.proofs.Agrees.{Agrees, brace_agrees, declaration_agrees}
 use Rattle.jsdoc.proofs.ReadingPlace.{with_kind, one_place, place_quote}
 use Rattle.jsdoc.proofs.Ticked.{ticks_iff, ticks_set, ticks_nothing}
-
--- the tick of an import found from place i on
-abbrev pub ticked : ℕ → Option JsDocImport → List ℕ → List ℕ
-ticked i None l = l
-ticked i (Some import) l = set l (i + import.start) (mode_number import.mode + 1)
 
 -- a kind of readings, and the parser that reads them
 pub record Kind (R : Bytes → Bytes → Bytes → Mode → Type 0) (p : Parser Hit) : Type 0 where
@@ -32,44 +26,45 @@ pub place_below : {b : Bytes} {k q : ℕ} {m : Mode} → From Reading b k q m �
 place_below {b} {q} r = let (t, i) = place_quote r.reads in omega (arith, quote_shorter i, length-drop q b)
 
 module _ {R : Bytes → Bytes → Bytes → Mode → Type 0} {p : Parser Hit} (K : Kind R p) (b : Bytes) (i : ℕ) (h : i < length b) where
-  pub found : (m : JsDocImport) → Imports (drop i b) (value (p (drop i b))) (Some m) → From R b i (i + m.start) m.mode
-  found m r = record {
-    end = i + m.end;
-    inside = omega (arith, r.bounds, length-drop i b);
-    reads = rw (drop-drop m.start i b, drop-drop m.end i b) at ((K.agrees (drop i b) (drop m.start (drop i b)) (drop m.end (drop i b)) m.mode).1 (sym r.answer));
-  }
+  -- the place in b of what is left of its rest from i on
+  abbrev pub place : Bytes → ℕ
+  place t = i + (length (drop i b) - length t)
 
-  pub room : (r : Option JsDocImport) → Imports (drop i b) (value (p (drop i b))) r → Room (length b) i r
-  room (Some m) r =
-      let f = found m r in
-      place_below (with_kind f (K.reading f.reads))
-  room None r = tt
+  ends_there : {t : Bytes} → Ends (drop i b) t → drop (place t) b ≡ t
+  ends_there {t} e = sym (drop-drop (length (drop i b) - length t) i b) ∙ ends_at e
+
+  pub found : {q e : Bytes} {m : Mode} → value (p (drop i b)) ≡ Some (hit q e m) → From R b i (place q) m
+  found {q} {e} {m} is =
+      let r = (K.agrees (drop i b) q e m).1 is in
+      let (x, y) = reading_ends (K.reading r) in
+      record {
+        end = place e;
+        inside = omega (arith, length-drop i b);
+        reads = rw (ends_there x, ends_there (ends_trans x y)) r;
+      }
 
   -- from one place there is one reading
-  module _ {q : ℕ} {m : JsDocImport} {n : Mode} (r : Imports (drop i b) (value (p (drop i b))) (Some m)) (g : From R b i q n) where
-    pub only_one : (q ≡ i + m.start) × (n ≡ m.mode)
-    only_one =
-        let f = found m r in
-        let u = (K.agrees _ _ _ _).0 g.reads in
-        let v = (K.agrees _ _ _ _).0 f.reads in
-        let s : drop q b ≡ drop (i + m.start) b = cc in
-        let x = place_below (with_kind g (K.reading g.reads)) in
-        let y = place_below (with_kind f (K.reading f.reads)) in
-        (omega (arith, ap length s, length-drop q b, length-drop (i + m.start) b), (cc))
+  pub only_one : {q e : Bytes} {m : Mode} → value (p (drop i b)) ≡ Some (hit q e m) → {k : ℕ} {n : Mode} → From R b i k n → (k ≡ place q) × (n ≡ m)
+  only_one {q} {e} {m} is {k} g =
+      let u = (K.agrees _ _ _ _).0 g.reads in
+      let s : drop k b ≡ q = cc in
+      let x = place_below (with_kind g (K.reading g.reads)) in
+      let y = ends_shorter (reading_ends (K.reading g.reads)).0 in
+      (omega (arith, ap length s, length-drop k b, length-drop i b, y), (cc))
 
   -- one turn: the reading from place i, if there is one, is ticked
   pub ticks_turn : {P : ℕ → Mode → Type 0} {l : List ℕ} → Ticks P (length b) l → ((q : ℕ) (m : Mode) → P q m → Listed b q m)
-      → (r : Option JsDocImport) → Imports (drop i b) (value (p (drop i b))) r → Ticks (λ q m. P q m ⊎ From R b i q m) (length b) (ticked i r l)
-  ticks_turn {P} k listed (Some m) r =
-      let f = found m r in
+      → (o : Option Hit) → value (p (drop i b)) ≡ o → Ticks (λ q m. P q m ⊎ From R b i q m) (length b) (tick_at i (drop i b) o l)
+  ticks_turn {P} k listed (Some (hit q e m)) is =
+      let f = found is in
       let w = with_kind f (K.reading f.reads) in
-      ticks_set (i + m.start) m.mode (place_below w) k
+      ticks_set (place q) m (place_below w) k
       (λ x y t. inl t)
       (inr f)
-      (λ x y t. ⊎_elim inl (λ g. inr (only_one r g)) t)
-      (λ y t. let (j, g) = listed (i + m.start) y t in (one_place g w).1)
-  ticks_turn k listed None r =
-      ticks_iff (λ q m t. inl t) (λ q m t. ⊎_elim (λ x. x) (λ g. absurd (none-ne-some _ (r.answer ∙ (K.agrees _ _ _ _).0 g.reads))) t) k
+      (λ x y t. ⊎_elim inl (λ g. inr (only_one is g)) t)
+      (λ y t. let (j, g) = listed (place q) y t in (one_place g w).1)
+  ticks_turn k listed None is =
+      ticks_iff (λ q m t. inl t) (λ q m t. ⊎_elim (λ x. x) (λ g. absurd (none-ne-some _ (sym is ∙ (K.agrees _ _ _ _).0 g.reads))) t) k
 
 -- a reading begins inside the body
 pub from_below : {b : Bytes} {k q : ℕ} {m : Mode} → From Reading b k q m → k < length b

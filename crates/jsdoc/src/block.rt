@@ -1,79 +1,65 @@
 // Attributes, and blocks of them.
-ghost use Rattle.std.specs.Prelude.{◌≡◌, ◌≤◌, length, drop};
+ghost use Rattle.std.specs.Prelude.{◌≡◌};
+ghost use Rattle.jsdoc.specs.Parsed.{ok};
 ghost use Rattle.jsdoc.specs.Reader.{unnamed, attribute_mode, parse_attribute, comma, separated_list, parse_import_attribute_block_for_resolution_mode};
-ghost use Rattle.jsdoc.specs.code.Answers.{Finds, Gives};
+ghost use Rattle.jsdoc.specs.code.Answers.{rest_as, value_as};
 
-use super::answers::Mode;
+use super::answers::{Mode, ParseResult};
 use super::pieces::{skip_whitespace, tag, word};
-use super::quote::{parse_key, quote_at};
+use super::quote::{parse_key, parse_quote};
 use analysis::mode::from_str;
 use text::bytes::equal;
 
 // The mode of an attribute by its key and its value; none where it is no `resolution-mode`.
+#[tactic(auto, unfolding(crate::specs::Reader::attribute_mode))]
 fn attribute_mode(key: &[u8], value: &[u8]) -> Option<Mode>
     ensures { result ≡ attribute_mode key.now value.now }
 {
-    if equal(key, b"resolution-mode") {
-        Some(from_str(value))
-    } else {
-        None
-    }
+    equal(key, b"resolution-mode").then(|| from_str(value))
 }
 
-fn parse_attribute(s: &[u8], at: usize) -> Option<(Option<Mode>, usize)>
-    requires { at ≤ length s.now }
-    ensures { Gives s.now (parse_attribute (drop at s.now)) result }
+#[tactic(auto, unfolding(crate::specs::Reader::parse_attribute))]
+fn parse_attribute(s: &[u8]) -> ParseResult<'_, Option<Mode>>
+    ensures { value_as result ≡ parse_attribute s.now }
 {
-    let key = parse_key(s, at)?;
-    let colon = skip_whitespace(s, key.past);
-    let quote = word(s, colon, b":")?;
-    let value = quote_at(s, quote)?;
-    let mode = attribute_mode(&s[key.from..key.to], &s[value.from..value.to]);
-    Some((mode, value.past))
+    let (key, s) = parse_key(s)?;
+    let s = word(skip_whitespace(s), b":")?;
+    let (value, s) = parse_quote(s)?;
+    Some((attribute_mode(key, value), s))
 }
 
-// Past the comma at `at` and the white space around it.
-fn comma(s: &[u8], at: usize) -> Option<usize>
-    requires { at ≤ length s.now }
-    ensures { Finds s.now (comma (drop at s.now)) result }
+// Past a comma and the white space around it.
+#[tactic(auto, unfolding(crate::specs::Reader::comma))]
+fn comma(s: &[u8]) -> Option<&[u8]>
+    ensures { rest_as result ≡ comma s.now }
 {
-    let past = skip_whitespace(s, at);
-    word(s, past, b",")
+    word(skip_whitespace(s), b",")
 }
 
-// The attributes from `at` on, parted by commas: the first mode among them, and the place past them.
-fn separated_list(s: &[u8], at: usize) -> Option<(Option<Mode>, usize)>
-    requires { at ≤ length s.now }
-    ensures { Gives s.now (separated_list unnamed (drop at s.now)) result }
+// Attributes parted by commas: the first mode among them, and what is left.
+#[tactic(auto, using(crate::proofs::Blocks::attributes_none, crate::proofs::Blocks::attributes_last, crate::proofs::Blocks::attributes_next, crate::proofs::Blocks::attributes_shorter))]
+fn separated_list(s: &[u8]) -> (Option<Mode>, &[u8])
+    ensures { ok result.0 result.1.now ≡ separated_list unnamed s.now }
 {
-    let mut i = at;
+    let mut rest = s;
     let mut mode = None;
-    while let Some((n, past)) = parse_attribute(s, i) {
+    while let Some((n, past)) = parse_attribute(rest) {
         mode = mode.or(n);
-        let Some(next) = comma(s, past) else {
-            return Some((mode, past));
+        let Some(next) = comma(past) else {
+            return (mode, past);
         };
-        i = next;
+        rest = next;
     }
-    Some((mode, i))
+    (mode, rest)
 }
 
-// The block that begins `rest`: its mode.
-pub fn parse_import_attribute_block_for_resolution_mode(rest: &[u8]) -> Option<(Mode, usize)>
-    ensures { Gives rest.now (parse_import_attribute_block_for_resolution_mode rest.now) result }
+// A block: its mode.
+#[tactic(auto, unfolding(crate::specs::Reader::parse_import_attribute_block_for_resolution_mode))]
+pub fn parse_import_attribute_block_for_resolution_mode(s: &[u8]) -> ParseResult<'_, Mode>
+    ensures { value_as result ≡ parse_import_attribute_block_for_resolution_mode s.now }
 {
-    let first = word(rest, 0, b"{")?;
-    let (mode, past) = separated_list(rest, first)?;
-    let close = skip_whitespace(rest, past);
-    let end = tag(rest, close, b"}")?;
-    Some((mode.flatten(), end))
-}
-
-// The block at `at`.
-pub fn block_at(s: &[u8], at: usize) -> Option<(Mode, usize)>
-    requires { at ≤ length s.now }
-    ensures { Gives s.now (parse_import_attribute_block_for_resolution_mode (drop at s.now)) result }
-{
-    let (mode, past) = parse_import_attribute_block_for_resolution_mode(&s[at..])?;
-    Some((mode, at + past))
+    let s = word(s, b"{")?;
+    let (mode, s) = separated_list(s);
+    let s = tag(skip_whitespace(s), b"}")?;
+    Some((mode.flatten(), s))
 }

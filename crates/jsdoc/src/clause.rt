@@ -1,43 +1,43 @@
 // What a declaration imports: `{A, B}`, `* as N` or `A`.
-ghost use Rattle.std.specs.Prelude.{◌≤◌, length, drop};
+ghost use Rattle.std.specs.Prelude.{◌≡◌};
 ghost use Rattle.jsdoc.specs.Reader.{skip_named_imports, skip_default_import, skip_namespace_import, skip_clause};
-ghost use Rattle.jsdoc.specs.code.Answers.{Finds};
+ghost use Rattle.jsdoc.specs.code.Answers.{rest_as};
 
 use super::pieces::{tag, up_to, whitespace, word};
-use super::quote::ident_at;
+use super::quote::parse_ident;
 
-fn skip_named_imports(s: &[u8], at: usize) -> Option<usize>
-    requires { at ≤ length s.now }
-    ensures { Finds s.now (skip_named_imports (drop at s.now)) result }
+#[tactic(auto, unfolding(crate::specs::Reader::skip_named_imports))]
+fn skip_named_imports(s: &[u8]) -> Option<&[u8]>
+    ensures { rest_as result ≡ skip_named_imports s.now }
 {
-    let past = tag(s, at, b"{")?;
-    up_to(s, past, b'}')
+    let s = tag(s, b"{")?;
+    up_to(s, b'}')
 }
 
-fn skip_default_import(s: &[u8], at: usize) -> Option<usize>
-    requires { at ≤ length s.now }
-    ensures { Finds s.now (skip_default_import (drop at s.now)) result }
+#[tactic(auto, unfolding(crate::specs::Reader::skip_default_import))]
+fn skip_default_import(s: &[u8]) -> Option<&[u8]>
+    ensures { rest_as result ≡ skip_default_import s.now }
 {
-    let name = ident_at(s, at)?;
-    whitespace(s, name.past)
+    let (_, s) = parse_ident(s)?;
+    whitespace(s)
 }
 
-fn skip_namespace_import(s: &[u8], at: usize) -> Option<usize>
-    requires { at ≤ length s.now }
-    ensures { Finds s.now (skip_namespace_import (drop at s.now)) result }
+#[tactic(auto, unfolding(crate::specs::Reader::skip_namespace_import))]
+fn skip_namespace_import(s: &[u8]) -> Option<&[u8]>
+    ensures { rest_as result ≡ skip_namespace_import s.now }
 {
-    let a = word(s, at, b"*")?;
-    let b = tag(s, a, b"as")?;
-    let c = whitespace(s, b)?;
-    skip_default_import(s, c)
+    let s = word(s, b"*")?;
+    let s = tag(s, b"as")?;
+    let s = whitespace(s)?;
+    skip_default_import(s)
 }
 
-// Past the clause at `at`.
-pub fn skip_clause(s: &[u8], at: usize) -> Option<usize>
-    requires { at ≤ length s.now }
-    ensures { Finds s.now (skip_clause (drop at s.now)) result }
+// Past the clause.
+#[tactic(auto, unfolding(crate::specs::Reader::skip_clause))]
+pub fn skip_clause(s: &[u8]) -> Option<&[u8]>
+    ensures { rest_as result ≡ skip_clause s.now }
 {
-    skip_named_imports(s, at)
-        .or_else(|| skip_namespace_import(s, at))
-        .or_else(|| skip_default_import(s, at))
+    skip_named_imports(s)
+        .or_else(|| skip_namespace_import(s))
+        .or_else(|| skip_default_import(s))
 }

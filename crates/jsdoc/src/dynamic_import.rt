@@ -1,95 +1,100 @@
 // `{import("./a.ts", {with: {..}}).A}`
-ghost use Rattle.std.specs.Prelude.{◌≤◌, length, drop};
+ghost use Rattle.std.specs.Prelude.{◌≡◌};
 ghost use Rattle.jsdoc.specs.Parsed.{value};
-ghost use Rattle.jsdoc.specs.Reader.{second_param_start, parse_second_param_obj_with_leading_comma, close_call, parse_tail, parse_call};
-ghost use Rattle.jsdoc.specs.code.Answers.{Finds, Gives, Imports, Scans};
+ghost use Rattle.jsdoc.specs.Reader.{second_param_start, parse_second_param_obj_with_leading_comma, close_call, parse_tail, seek, parse_call};
+ghost use Rattle.jsdoc.specs.code.Answers.{rest_as, value_as, hit_as, Scans};
 
-use super::answers::{JsDocImport, Mode, Searched};
-use super::block::block_at;
+use super::answers::{JsDocImport, Mode, ParseResult, Searched};
+use super::block::parse_import_attribute_block_for_resolution_mode;
 use super::pieces::{skip_whitespace, tag, up_to, word};
-use super::quote::quote_at;
+use super::quote::parse_quote;
 use text::bytes::starts_with;
 
-// Past `, {with:` at `at`.
-fn second_param_start(s: &[u8], at: usize) -> Option<usize>
-    requires { at ≤ length s.now }
-    ensures { Finds s.now (second_param_start (drop at s.now)) result }
+// Past `, {with:`.
+#[tactic(auto, unfolding(crate::specs::Reader::second_param_start))]
+fn second_param_start(s: &[u8]) -> Option<&[u8]>
+    ensures { rest_as result ≡ second_param_start s.now }
 {
-    let brace = word(s, at, b",")?;
-    let with = word(s, brace, b"{")?;
-    let colon = word(s, with, b"with")?;
-    word(s, colon, b":")
+    let s = word(s, b",")?;
+    let s = word(s, b"{")?;
+    let s = word(s, b"with")?;
+    word(s, b":")
 }
 
-// `, {with: {..}}` at `at`.
-fn parse_second_param_obj_with_leading_comma(s: &[u8], at: usize) -> Option<(Mode, usize)>
-    requires { at ≤ length s.now }
-    ensures { Gives s.now (parse_second_param_obj_with_leading_comma (drop at s.now)) result }
+// `, {with: {..}}`
+#[tactic(auto, unfolding(crate::specs::Reader::parse_second_param_obj_with_leading_comma))]
+fn parse_second_param_obj_with_leading_comma(s: &[u8]) -> ParseResult<'_, Mode>
+    ensures { value_as result ≡ parse_second_param_obj_with_leading_comma s.now }
 {
-    let block = second_param_start(s, at)?;
-    let (mode, past) = block_at(s, block)?;
-    let close = skip_whitespace(s, past);
-    let end = word(s, close, b"}")?;
-    Some((mode, end))
+    let s = second_param_start(s)?;
+    let (mode, s) = parse_import_attribute_block_for_resolution_mode(s)?;
+    let s = word(skip_whitespace(s), b"}")?;
+    Some((mode, s))
 }
 
-// `)` at `at`, and then a closing brace.
-fn close_call(s: &[u8], at: usize, mode: Mode) -> Option<(Mode, usize)>
-    requires { at ≤ length s.now }
-    ensures { Gives s.now (close_call mode (drop at s.now)) result }
+// `)`, and then a closing brace.
+#[tactic(auto, unfolding(crate::specs::Reader::close_call))]
+fn close_call(s: &[u8], mode: Mode) -> ParseResult<'_, Mode>
+    ensures { value_as result ≡ close_call mode s.now }
 {
-    let run = tag(s, at, b")")?;
-    let past = up_to(s, run, b'}')?;
-    Some((mode, past))
+    let s = tag(s, b")")?;
+    let s = up_to(s, b'}')?;
+    Some((mode, s))
 }
 
-// What follows the quote, from `at` on: the mode.
-fn parse_tail(s: &[u8], at: usize) -> Option<(Mode, usize)>
-    requires { at ≤ length s.now }
-    ensures { Gives s.now (parse_tail (drop at s.now)) result }
+// What follows the quote: the mode.
+#[tactic(auto, unfolding(crate::specs::Reader::parse_tail))]
+fn parse_tail(s: &[u8]) -> ParseResult<'_, Mode>
+    ensures { value_as result ≡ parse_tail s.now }
 {
-    let param = skip_whitespace(s, at);
-    let (mode, past) = parse_second_param_obj_with_leading_comma(s, param).unwrap_or((None, param));
-    close_call(s, past, mode)
+    let s = skip_whitespace(s);
+    let (mode, s) = parse_second_param_obj_with_leading_comma(s).unwrap_or((None, s));
+    close_call(s, mode)
 }
 
-// The call of `import` at `at`.
-fn parse_call(s: &[u8], at: usize) -> Option<JsDocImport>
-    requires { at ≤ length s.now }
-    ensures { Imports s.now (value (parse_call (drop at s.now))) result }
+// The call of `import`.
+#[tactic(auto, unfolding(crate::specs::Reader::parse_call))]
+fn parse_call(s: &[u8]) -> Option<JsDocImport<'_>>
+    ensures { hit_as result ≡ value (parse_call s.now) }
 {
-    let paren = word(s, at, b"import")?;
-    let start = word(s, paren, b"(")?;
-    let quote = quote_at(s, start)?;
-    let end = quote.past;
-    let (mode, _) = parse_tail(s, end)?;
+    let s = word(s, b"import")?;
+    let start = word(s, b"(")?;
+    let (_, end) = parse_quote(start)?;
+    let (mode, _) = parse_tail(end)?;
     Some(JsDocImport { start, end, mode })
 }
 
-// The reading from the brace that begins `rest`, and the place at which its search ended: a brace before that has no other reading.
-pub fn parse_jsdoc_dynamic_import(rest: &[u8]) -> Searched
+// From the first `import` on, or from a `}` before it.
+#[tactic(auto, using(crate::proofs::Searches::search_ended, crate::proofs::Searches::search_closed, crate::proofs::Searches::search_found, crate::proofs::Searches::search_further))]
+fn seek(s: &[u8]) -> &[u8]
+    ensures { result.now ≡ seek s.now }
+{
+    let mut rest = s;
+    'scan: while let [b, next @ ..] = rest {
+        if *b == b'}' || starts_with(rest, 0, b"import") {
+            break 'scan;
+        }
+        rest = next;
+    }
+    rest
+}
+
+// The reading from a brace, and where its search ended: a brace before that has no other reading.
+#[tactic(auto, unfolding(crate::specs::Reader::parse_jsdoc_dynamic_import, crate::specs::Reader::sought))]
+pub fn parse_jsdoc_dynamic_import(rest: &[u8]) -> Searched<'_>
     ensures { Scans rest.now result }
 {
-    let Some(first) = tag(rest, 0, b"{") else {
-        return Searched {
+    match tag(rest, b"{") {
+        Some(s) => {
+            let end = seek(s);
+            Searched {
+                found: parse_call(end),
+                end,
+            }
+        }
+        None => Searched {
             found: None,
-            end: 0,
-        };
-    };
-    for i in first..rest.len() {
-        if rest[i] == b'}' {
-            return Searched {
-                found: None,
-                end: i,
-            };
-        }
-        if starts_with(rest, i, b"import") {
-            let found = parse_call(rest, i);
-            return Searched { found, end: i };
-        }
-    }
-    Searched {
-        found: None,
-        end: rest.len(),
+            end: rest,
+        },
     }
 }

@@ -1,44 +1,42 @@
 // `@import A from "./a.ts" with {..}`
-ghost use Rattle.std.specs.Prelude.{◌≤◌, length, drop};
+ghost use Rattle.std.specs.Prelude.{◌≡◌};
 ghost use Rattle.jsdoc.specs.Parsed.{value};
 ghost use Rattle.jsdoc.specs.Reader.{parse_attributes, parse_from, parse_jsdoc_import_decl};
-ghost use Rattle.jsdoc.specs.code.Answers.{Gives, Imports};
+ghost use Rattle.jsdoc.specs.code.Answers.{value_as, hit_as};
 
-use super::answers::{JsDocImport, Mode};
-use super::block::block_at;
+use super::answers::{JsDocImport, Mode, ParseResult};
+use super::block::parse_import_attribute_block_for_resolution_mode;
 use super::clause::skip_clause;
 use super::pieces::{skip_whitespace, tag, whitespace, word};
-use super::quote::quote_at;
+use super::quote::parse_quote;
 
-// `with {..}` at `at`, with the white space before it.
-fn parse_attributes(s: &[u8], at: usize) -> Option<(Mode, usize)>
-    requires { at ≤ length s.now }
-    ensures { Gives s.now (parse_attributes (drop at s.now)) result }
+// `with {..}`, with the white space before it.
+#[tactic(auto, unfolding(crate::specs::Reader::parse_attributes))]
+fn parse_attributes(s: &[u8]) -> ParseResult<'_, Mode>
+    ensures { value_as result ≡ parse_attributes s.now }
 {
-    let a = skip_whitespace(s, at);
-    let b = word(s, a, b"with")?;
-    block_at(s, b)
+    let s = word(skip_whitespace(s), b"with")?;
+    parse_import_attribute_block_for_resolution_mode(s)
 }
 
-// What follows the clause, from `at` on.
-fn parse_from(s: &[u8], at: usize) -> Option<JsDocImport>
-    requires { at ≤ length s.now }
-    ensures { Imports s.now (value (parse_from (drop at s.now))) result }
+// What follows the clause.
+#[tactic(auto, unfolding(crate::specs::Reader::parse_from))]
+fn parse_from(s: &[u8]) -> Option<JsDocImport<'_>>
+    ensures { hit_as result ≡ value (parse_from s.now) }
 {
-    let a = skip_whitespace(s, at);
-    let start = word(s, a, b"from")?;
-    let quote = quote_at(s, start)?;
-    let end = quote.past;
-    let (mode, _) = parse_attributes(s, end).unwrap_or((None, end));
+    let start = word(skip_whitespace(s), b"from")?;
+    let (_, end) = parse_quote(start)?;
+    let (mode, _) = parse_attributes(end).unwrap_or((None, end));
     Some(JsDocImport { start, end, mode })
 }
 
 // The declaration that begins `rest`.
-pub fn parse_jsdoc_import_decl(rest: &[u8]) -> Option<JsDocImport>
-    ensures { Imports rest.now (value (parse_jsdoc_import_decl rest.now)) result }
+#[tactic(auto, unfolding(crate::specs::Reader::parse_jsdoc_import_decl))]
+pub fn parse_jsdoc_import_decl(rest: &[u8]) -> Option<JsDocImport<'_>>
+    ensures { hit_as result ≡ value (parse_jsdoc_import_decl rest.now) }
 {
-    let a = tag(rest, 0, b"@import")?;
-    let b = whitespace(rest, a)?;
-    let c = skip_clause(rest, b)?;
-    parse_from(rest, c)
+    let s = tag(rest, b"@import")?;
+    let s = whitespace(s)?;
+    let s = skip_clause(s)?;
+    parse_from(s)
 }

@@ -4,7 +4,8 @@ ghost use Rattle.jsdoc.specs.Origins.{openers};
 
 use super::marks::mark_readings;
 
-// Notes at each place of `body` at which the quote of a reading begins 1 + the first place that reads it, and at each other 0.
+// Notes at each place of `body` at which the quote of a reading begins 1 + the first place that reads it, and
+// at each other 0.
 pub fn note_origins(body: &[u8], origins: &mut [u16])
     requires body_len_bound { length body.now ≤ 65535 }
     requires origins_len { length origins.old ≡ length body.now }

@@ -1,11 +1,11 @@
 -- The turns of the loops over the openers and over the comments, and the bytes that are written.
+use Rattle.std.specs.Prelude.{map}
 use Rattle.laws.proofs.Prelude.{◌≡◌, refl, ap, ◌∙◌, List, [], ◌∷◌, ◌++◌, flat_map, ℕ, zero, suc, ◌+◌, ◌-◌, ◌≤◌, ◌<◌, arith, length, drop, get_or}
 use Rattle.laws.proofs.Prelude.{drop_of_length-le}
-use Rattle.laws.proofs.Lists.{flat_map_append}
 use Rattle.jsdoc.{specs.Origins.openers, proofs.Ticking.from_below, proofs.Openers.origins_first}
-use Rattle.sheet.specs.{declared.comments.Comment.Comment, Fit.comment_of, Lookups.body}
+use Rattle.sheet.specs.{declared.comments.Comment.Comment, Lookups.body}
 use Rattle.report.specs.Origin.{encode_origin}
-use Rattle.pragmas.proofs.Turns.{comment_first}
+use Rattle.sheet.specs.code.Commented.{placed_in}
 use Rattle.jsdoc_list.specs.Origins.{opener_at, openers_from, origins_of}
 use Rattle.jsdoc_list.proofs.{Turns.first_tick, Turns.first_mode_lem}
 
@@ -36,15 +36,8 @@ openers_within b q = go (get_or (openers b) q 0) refl
     go zero e = omega arith
     go (suc k) e = omega (arith, from_below ((origins_first b).sound q k (omega arith)).1)
 
--- one comment after the other
-module _ (source : List ℕ) (cs : List Comment) (k : ℕ) where
-  pub comment_next : k < length cs
-      → flat_map encode_origin (flat_map (origins_of source) (drop k cs))
-      ≡ flat_map encode_origin (origins_of source (comment_of cs k)) ++ flat_map encode_origin (flat_map (origins_of source) (drop (k + 1) cs))
-  unfolding flat_map
-  comment_next h =
-      rw (comment_first cs k h) (flat_map_append encode_origin (origins_of source (comment_of cs k)) (flat_map (origins_of source) (drop (k + 1) cs)))
-
-  pub comments_end : length cs ≤ k → flat_map encode_origin (flat_map (origins_of source) (drop k cs)) ≡ []
-  unfolding flat_map
-  comments_end h = rw (drop_of_length-le cs h)
+-- comments with their source give the same
+pub origins_placed : (source : List ℕ) (cs : List Comment) → flat_map (λ c. origins_of c.source c.comment) (map (placed_in source) cs) ≡ flat_map (origins_of source) cs
+unfolding flat_map
+origins_placed source [] = refl
+origins_placed source (c ∷ cs) = ap (origins_of source c ++◌) (origins_placed source cs)

@@ -1,15 +1,17 @@
 -- The ticks of all comments are those of the readings that are listed in them.
+use Rattle.std.specs.Prelude.{fold, map}
 use Rattle.laws.proofs.Prelude.{◌≡◌, refl, sym, ap, ◌∙◌, Bool, true, false, cond, true≢false, ◌⊎◌, ⊎_elim, inl, inr, List, [], ◌∷◌, ◌++◌, ℕ, zero, suc, ◌+◌}
 use Rattle.laws.proofs.Prelude.{◌-◌, ◌≤◌, ◌<◌, zero-le, suc-le-suc, arith, length, take, drop, get_or, length-append, length-drop}
-use Rattle.laws.proofs.Prelude.{get_or-eq_default, drop-drop, drop_of_length-le, length-take-le, get_or-drop}
+use Rattle.laws.proofs.Prelude.{get_or-eq_default, drop-drop, length-take-le, get_or-drop}
 use native.Mathlib.Decide.{dec_lt}
 use lib.{ListN.get_or-append, Seq.get_or-append-add, Seq.get_or-take}
+use Rattle.laws.specs.Codec.{All}
 use Rattle.analysis.{specs.Mode.Mode, specs.Mode.mode_number, proofs.Modes.number_small}
 use Rattle.jsdoc.{specs.Grammar.Listed, specs.code.Ticks.Ticks, specs.Listing.listing, proofs.Listing.listing_ticks}
 use Rattle.jsdoc.proofs.Ticked.{ticks_iff, ticks_unique, ticks_nothing}
 use Rattle.sheet.specs.{declared.comments.Comment.Comment, Fit.comment_of, Fit.Fit, Lookups.body_span, Lookups.body}
+use Rattle.sheet.specs.code.Commented.{placed_in}
 use Rattle.sheet.proofs.Bodies.{BodyWithin, placed_body}
-use Rattle.pragmas.proofs.Turns.{comment_first}
 use Rattle.jsdoc_list.specs.Imports.{is_star_opened, ticked_by, ticked_by_all, ticks_of}
 use Rattle.jsdoc_list.specs.Demand.{StarOpened}
 use Rattle.jsdoc_list.proofs.StarOpened.{opened_sound, opened_complete}
@@ -145,19 +147,21 @@ ticks_small {source} {cs} fit q = go (get_or (ticks_of source cs) q 0) refl
 -- ---- the turns of the code
 
 -- where the ticks of a comment's body are put in place of its part
-pub ticked_part : (source : List ℕ) (c : Comment) (l : List ℕ) {p : List ℕ} → BodyWithin source c → is_star_opened source c ≡ true
+pub ticked_part : (source : List ℕ) (c : Comment) (l : List ℕ) {p : List ℕ} → (body_span c).start ≤ (body_span c).end → is_star_opened source c ≡ true
     → Ticks (Listed (body source c)) (length (body source c)) p
     → take (body_span c).start l ++ (p ++ drop ((body_span c).end - (body_span c).start) (drop (body_span c).start l)) ≡ ticked_by source c l
 unfolding ticked_by
 ticked_part source c l w o k =
-    let n : (body_span c).start + ((body_span c).end - (body_span c).start) ≡ (body_span c).end = omega (arith, w.order) in
+    let n : (body_span c).start + ((body_span c).end - (body_span c).start) ≡ (body_span c).end = omega (arith, w) in
     rw (o, drop-drop ((body_span c).end - (body_span c).start) (body_span c).start l, n, ticks_unique k (listing_ticks (body source c)))
 
-pub tick_more : (source l : List ℕ) (cs : List Comment) (k : ℕ) → k < length cs
-    → ticked_by_all source (drop k cs) l ≡ ticked_by_all source (drop (k + 1) cs) (ticked_by source (comment_of cs k) l)
-unfolding ticked_by_all
-tick_more source l cs k h = rw (comment_first cs k h)
+-- comments with their source: they are of it, and they are ticked as without it
+module _ (source : List ℕ) where
+  pub of_source : (cs : List Comment) → All (λ c. c.source ≡ source) (map (placed_in source) cs)
+  of_source [] = tt
+  of_source (c ∷ cs) = (refl, of_source cs)
 
-pub tick_none : (source l : List ℕ) (cs : List Comment) (k : ℕ) → length cs ≤ k → ticked_by_all source (drop k cs) l ≡ l
-unfolding ticked_by_all
-tick_none source l cs k h = rw (drop_of_length-le cs h)
+  pub ticked_placed : (cs : List Comment) (l : List ℕ) → fold (λ t c. ticked_by c.source c.comment t) l (map (placed_in source) cs) ≡ ticked_by_all source cs l
+  unfolding ticked_by_all
+  ticked_placed [] l = refl
+  ticked_placed (c ∷ cs) l = ticked_placed cs (ticked_by source c l)

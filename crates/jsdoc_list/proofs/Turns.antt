@@ -1,14 +1,13 @@
 -- The turns of the loops over the ticks, and the bytes that are written.
-use Rattle.std.specs.Prelude.{Some}
 use Rattle.laws.proofs.Prelude.{◌≡◌, refl, ap, sym, ◌∙◌, true, false, List, [], ◌∷◌, ◌++◌, append-nil, flat_map, ℕ, suc, ◌+◌, ◌-◌, ◌≤◌, ◌<◌, add-one, arith}
-use Rattle.laws.proofs.Prelude.{length, drop, get_or, length-drop, drop-cons, drop_of_length-le}
-use Rattle.text.specs.{declared.utf8.Encoding.TheVariants.Utf8, Utf8.formed, Bytes.part, code.Places.Passing}
+use Rattle.laws.proofs.Prelude.{length, drop, get_or, drop-cons, drop_of_length-le}
+use Rattle.text.specs.{declared.utf8.Encoding.TheVariants.Utf8, Utf8.formed, code.Places.Passing}
 use Rattle.laws.proofs.Onward.{carried_to}
 use Rattle.wire.specs.{Fields.value_of, Number.encode_number}
-use Rattle.jsdoc.specs.{Reader.parse_quote, declared.answers.Part.Part, code.Answers.Spells, code.Answers.quote_mark}
 use Rattle.sheet.specs.{declared.comments.Comment.Comment, Fit.Fit, declared.names.MediaType.MediaType, Media.is_java_script}
-use Rattle.report.specs.Encode.{encode_list, encode_specifier, encode_jsdoc}
-use Rattle.report.{specs.Decode.modes, specs.Range.range_of, proofs.Modes.mode_numbers}
+use Rattle.report.specs.Encode.{encode_list, encode_jsdoc}
+use Rattle.analysis.specs.Mode.{mode_number}
+use Rattle.report.{specs.Decode.modes, proofs.Modes.mode_numbers}
 use Rattle.pragmas.{specs.code.Views.encode_any, proofs.Turns.listed_each}
 use Rattle.jsdoc_list.specs.Imports.{ticks_of, count_of, import_at, imports_from, jsdoc_imports}
 use Rattle.jsdoc_list.proofs.{Entries.count_all, ImportsRight.standings}
@@ -66,15 +65,9 @@ module _ (ticks : List ℕ) (q r : ℕ) (p : Passing (λ k. get_or ticks k 0 ≡
       carried_to (λ k. imports_from source q (drop q ticks) ≡ imports_from source k (drop k ticks)) q r p.from refl
       (λ k g n e. e ∙ unticked_next source ticks k (omega arith) (p.each k g n))
 
--- the bytes of an import, by what is read of its quote
-module _ (source : List ℕ) (at number : ℕ) where
-  pub encode_import : (quote : Part) → Spells source at quote_mark (parse_quote (drop at source)) (Some quote) → number ≤ 2
-      → encode_any encode_jsdoc (import_at source at (value_of modes number))
-      ≡ 1 ∷ (encode_specifier (record { text = part source quote.from quote.to; range = range_of source (record { start = at; end = quote.past }) }) ++ (number ∷ []))
-  unfolding import_at encode_jsdoc
-  encode_import quote read small =
-      let n : length source - length (drop quote.past source) ≡ quote.past = omega (arith, length-drop quote.past source, read.bounds) in
-      rw (← read.answer, n, mode_numbers.forth number (omega arith))
+-- the number of the mode of a number
+pub mode_byte : (number : ℕ) → number ≤ 2 → mode_number (value_of modes number) ≡ number
+mode_byte number small = mode_numbers.forth number (omega arith)
 
 -- at each tick an import is read
 pub all_read_lem : {source : List ℕ} {cs : List Comment} → Fit source cs → formed Utf8 0 source ≡ true

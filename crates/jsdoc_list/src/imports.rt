@@ -1,57 +1,54 @@
 // The JSDoc imports of all comments, by ticks over the source.
-ghost use Rattle.std.specs.Prelude.{◌≡◌, true, ◌&&◌, ℕ, ◌≤◌, length, get_or, replicate};
+ghost use Rattle.std.specs.Prelude.{◌≡◌, true, ℕ, ◌≤◌, length, get_or, replicate};
 ghost use mathlib.Core.List.{flat_map};
-ghost use Rattle.laws.specs.Ascii.{ascii};
 ghost use Rattle.laws.specs.code.Told.{Beside};
-ghost use Rattle.text.specs.Bytes.{begins};
 ghost use Rattle.text.specs.declared.utf8.Encoding.TheVariants.{Utf8};
 ghost use Rattle.text.specs.Utf8.{formed};
 ghost use Rattle.wire.specs.Fields.{value_of};
-ghost use Rattle.sheet.specs.Comments.{is_block};
 ghost use Rattle.report.specs.Encode.{encode_jsdoc, encode_list};
 ghost use Rattle.report.specs.Decode.{modes};
 ghost use Rattle.report.specs.Buffer.{Wrote};
 ghost use Rattle.pragmas.specs.code.Views.{encode_any};
-ghost use Rattle.jsdoc_list.specs.Imports.{ticked_by, ticks_of, ticks_in, count_of, import_at, imports_from, jsdoc_imports};
+ghost use Rattle.jsdoc_list.specs.Imports.{is_star_opened, ticked_by, ticks_of, ticks_in, count_of, import_at, imports_from, jsdoc_imports};
 
-use jsdoc::quote::quote_at;
+use jsdoc::quote::parse_quote;
 use report::writer::Writer;
 use sheet::commented::{Comments, PlacedComment};
 use sheet::fields::Span;
-use sheet::names::{CommentKind, MediaType, is_block, is_javascript};
+use sheet::names::{MediaType, is_block, is_javascript};
 use text::bytes::{next_nonzero, starts_with};
 
 // Is it a block comment whose body begins with `*`?
-pub fn is_star_opened(kind: CommentKind, body: &[u8]) -> bool
-    ensures { result ≡ is_block kind && begins (ascii "*") body.now }
+pub fn is_star_opened(c: &PlacedComment) -> bool
+    ensures { result ≡ is_star_opened c.now.source c.now.comment }
 {
-    is_block(kind) && starts_with(body, 0, b"*")
+    is_block(c.comment().kind) && starts_with(c.body(), 0, b"*")
 }
 
 // Ticks the readings of a comment at its body.
-#[tactic(auto, using(crate::proofs::Ticking::ticked_part, sheet::proofs::Bodies::placed_body), unfolding(crate::specs::Imports::ticked_by))]
+#[tactic(auto, using(crate::proofs::Ticking::ticked_part), unfolding(crate::specs::Imports::ticked_by))]
 fn tick_comment(c: &PlacedComment, ticks: &mut [u8])
     requires { length ticks.old ≡ length c.now.source }
     ensures { ticks.new ≡ ticked_by c.now.source c.now.comment ticks.old }
 {
-    if is_star_opened(c.comment().kind, c.body()) {
+    if is_star_opened(c) {
         let Span { start, end } = c.body_span();
         jsdoc::imports::tick_imports(c.body(), &mut ticks[start..end]);
     }
 }
 
 // Ticks each place of the source at which the place of a reading begins with 1 + the number of its mode; each other keeps its 0.
-#[tactic(auto, using(crate::proofs::Ticking::tick_more, crate::proofs::Ticking::tick_none, crate::proofs::Ticking::ticks_small, crate::proofs::Turns::all_read_lem))]
+#[tactic(auto, using(crate::proofs::Ticking::ticks_small, crate::proofs::Turns::all_read_lem))]
 fn tick_comments(comments: &Comments, ticks: &mut [u8])
-    requires utf8 { formed Utf8 0 comments.now.source ≡ true }
-    requires ticks_value { ticks.old ≡ replicate (length comments.now.source) 0 }
+    requires { ticks.old ≡ replicate (length comments.now.source) 0 }
     ensures value { ticks.new ≡ ticks_of comments.now.source comments.now.comments }
     ensures small { (q : ℕ) → get_or ticks.new q 0 ≤ 3 }
-    ensures all_read { length (imports_from comments.now.source 0 ticks.new) ≡ count_of ticks.new }
+    ensures all_read { formed Utf8 0 comments.now.source ≡ true
+        → length (imports_from comments.now.source 0 ticks.new) ≡ count_of ticks.new }
 {
     prove_eq!(ticks.len(), comments.source().len());
-    for k in 0..comments.len() {
-        tick_comment(&comments.at(k), ticks);
+    for c in comments.iter() {
+        tick_comment(&c, ticks);
     }
 }
 
@@ -74,7 +71,7 @@ fn count_ticks(ticks: &[u8]) -> usize
 }
 
 // Writes the import whose quote begins at `at`, with the mode of that number.
-#[tactic(auto, using(report::proofs::Buffers::wrote_none), unfolding(crate::specs::Imports::import_at))]
+#[tactic(auto, using(report::proofs::Buffers::wrote_none, report::proofs::Buffers::more_append, report::proofs::Buffers::more_cons, std::proofs::lemmas::Slice::between_to_end, crate::proofs::Turns::mode_byte, jsdoc::proofs::Texts::quote_left), unfolding(crate::specs::Imports::import_at, report::specs::Encode::encode_jsdoc))]
 fn put_import(comments: &Comments, at: usize, number: u8, w: &mut Writer)
     requires at_in_bounds { at ≤ length comments.now.source }
     requires number_bound { number ≤ 2 }
@@ -82,15 +79,15 @@ fn put_import(comments: &Comments, at: usize, number: u8, w: &mut Writer)
         (encode_any encode_jsdoc (import_at comments.now.source at (value_of modes number))) }
 {
     let source = comments.source();
-    let Some(quote) = quote_at(source, at) else {
+    let Some((text, rest)) = parse_quote(&source[at..]) else {
         return;
     };
     let span = Span {
         start: at,
-        end: quote.past,
+        end: source.len() - rest.len(),
     };
     w.put(1);
-    w.put_specifier(&source[quote.from..quote.to], comments, span);
+    w.put_specifier(text, comments, span);
     w.put(number);
 }
 

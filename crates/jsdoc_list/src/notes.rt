@@ -1,7 +1,6 @@
 // Where the JSDoc imports of all comments are read: for each its rule, and the first `{` or `@import` that reads it.
 ghost use Rattle.std.specs.Prelude.{◌≡◌, ℕ, ◌<◌, ◌≤◌, length, get_or};
 ghost use mathlib.Core.List.{flat_map};
-ghost use Rattle.jsdoc.specs.Origins.{openers};
 ghost use Rattle.sheet.specs.Limits.{source_limit};
 ghost use Rattle.sheet.specs.Lookups.{body, body_span};
 ghost use Rattle.report.specs.Buffer.{Wrote};
@@ -45,42 +44,31 @@ fn put_openers(c: &PlacedComment, origins: &[u16], w: &mut Writer)
     }
 }
 
-// Writes the origins of the readings of a comment's body.
-#[tactic(auto, using(crate::proofs::Openers::openers_within))]
-fn put_body_origins(c: &PlacedComment, origins: &mut [u16], w: &mut Writer)
-    requires body_len_bound { length (body c.now.source c.now.comment) ≤ source_limit }
-    requires origins_len { length origins.old ≡ length (body c.now.source c.now.comment) }
-    ensures { Wrote w.old w.new (flat_map encode_origin
-        (openers_from (body c.now.source c.now.comment) (body_span c.now.comment).start
-        (openers (body c.now.source c.now.comment)))) }
-{
-    note_origins(c.body(), origins);
-    put_openers(c, origins, w);
-}
-
 // Writes the origins of the imports of a comment.
-#[tactic(auto, using(report::proofs::Buffers::wrote_none, sheet::proofs::Bodies::placed_body), unfolding(laws::proofs::Prelude::flat_map, crate::specs::Origins::origins_of))]
+#[tactic(auto, using(crate::proofs::Openers::openers_within, report::proofs::Buffers::wrote_none, sheet::proofs::Bodies::placed_body), unfolding(laws::proofs::Prelude::flat_map, crate::specs::Origins::origins_of))]
 fn put_comment_origins(c: &PlacedComment, origins: &mut [u16], w: &mut Writer)
     requires source_len_bound { length c.now.source ≤ source_limit }
     requires source_in_bounds { length c.now.source ≤ length origins.old }
     ensures { Wrote w.old w.new (flat_map encode_origin (origins_of c.now.source c.now.comment)) }
 {
-    if is_star_opened(c.comment().kind, c.body()) {
+    if is_star_opened(c) {
         let Span { start, end } = c.body_span();
-        put_body_origins(c, &mut origins[start..end], w);
+        let noted = &mut origins[start..end];
+        note_origins(c.body(), noted);
+        put_openers(c, noted, w);
     }
 }
 
 // Writes the origins of the imports of all comments.
-#[tactic(auto, using(crate::proofs::Openers::comment_next, crate::proofs::Openers::comments_end, report::proofs::Buffers::more_append, report::proofs::Buffers::more_nil))]
+#[tactic(auto, using(laws::proofs::Lists::flat_map_append, report::proofs::Buffers::more_append, report::proofs::Buffers::more_nil), unfolding(laws::proofs::Prelude::flat_map))]
 fn put_origins(comments: &Comments, origins: &mut [u16], w: &mut Writer)
     requires short { length comments.now.source ≤ source_limit }
     requires source_in_bounds { length comments.now.source ≤ length origins.old }
     ensures { Wrote w.old w.new
         (flat_map encode_origin (flat_map (origins_of comments.now.source) comments.now.comments)) }
 {
-    for k in 0..comments.len() {
-        put_comment_origins(&comments.at(k), origins, w);
+    for c in comments.iter() {
+        put_comment_origins(&c, origins, w);
     }
 }
 

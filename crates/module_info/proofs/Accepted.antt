@@ -1,12 +1,10 @@
 -- What the value of an accepted sheet promises.
-use Rattle.laws.proofs.Prelude.{◌≡◌, true, List, [], ℕ, ◌+◌, ◌/◌, ◌≤◌, length, take}
-use Rattle.std.proofs.lemmas.List.{take-map}
+use Rattle.laws.proofs.Prelude.{◌≡◌, true, List, [], ℕ, ◌≤◌, length}
 use Rattle.laws.specs.Decoded.{Decoded, ok}
-use Rattle.text.specs.{declared.utf8.Encoding.TheVariants.Utf8, Utf8.well_formed, Position.characters, Position.Indexed}
-use Rattle.text.specs.{declared.position.PositionRow.PositionRow, code.Index.positions_in}
+use Rattle.text.specs.{declared.utf8.Encoding.TheVariants.Utf8, Utf8.well_formed}
+use Rattle.text.specs.{declared.position.PositionRow.PositionRow, code.Index.positions_in, code.Index.IndexOf}
 use Rattle.text.proofs.WellFormed.{well_formed_iff}
 use Rattle.sheet.specs.{Limits.sheet_limit, Fit.Fit, Sheet.Sheet, Sheet.accept}
-use Rattle.sheet.specs.declared.{comments.CommentRow.CommentRow, groups.GroupRow.GroupRow}
 use Rattle.sheet.specs.code.Lent.{Lends, commented_by}
 use Rattle.sheet_codec.{specs.Limits.FieldsFit, specs.SheetOf.SheetOf, proofs.Sheets.accepts_exactly}
 use Rattle.sheet_check.specs.{declared.check.Parts.Parts, code.Accepts.Accepts}
@@ -36,25 +34,23 @@ module _ (s : List ℕ) {t : Sheet} (e : accept s ≡ ok t []) where
   pub sheet_short : length s ≤ sheet_limit
   sheet_short = rw meets.encodes.bytes at meets.encodes.within.bytes
 
--- its parts, and the tables
-module _ {s : List ℕ} {comments : List CommentRow} {groups : List GroupRow} {p : Parts} (a : Accepts s comments groups p) where
+-- its parts
+module _ {s : List ℕ} {p : Parts} (a : Accepts s p) where
   pub source_sound : Sound p.front.source.now
   source_sound = rw a.source (sound s a.accepted)
 
   -- what is lent
-  pub lent : (index : List PositionRow)
-      → Indexed characters p.front.source.now (take (length p.front.source.now / 64 + 1) (positions_in index))
-      → Lends (commented_by p.front.source.now (take p.front.comments comments) (take p.front.groups groups))
-      (positions_in (take (length p.front.source.now / 64 + 1) index))
+  pub lent : (index : List PositionRow) → IndexOf p.front.source.now (positions_in index)
+      → Lends (commented_by p.front.source.now p.front.comments.now p.front.groups.now) (positions_in index)
   lent index indexed = record {
     fit = rw (a.source, a.comments) (fit s a.accepted);
     grouped = rw (a.comments, a.groups) (within s a.accepted).groups.1;
-    indexed = rw take-map at indexed;
+    indexed = indexed;
   }
 
   -- they are those of every sheet that the bytes are
   module _ {t : Sheet} (e : accept s ≡ ok t []) where
-    pub commented_of : commented_by p.front.source.now (take p.front.comments comments) (take p.front.groups groups) ≡ commented t
+    pub commented_of : commented_by p.front.source.now p.front.comments.now p.front.groups.now ≡ commented t
     commented_of = rw (same_sheet e a.accepted, ← a.source, ← a.comments, ← a.groups)
 
     pub parts_of : PartsOf t s p
@@ -65,6 +61,8 @@ module _ {s : List ℕ} {comments : List CommentRow} {groups : List GroupRow} {p
           program = a.program;
           source = a.source;
           place = rw a.source at a.place;
+          comments = a.comments;
+          groups = a.groups;
           root = a.root;
           count = a.entries;
           reaches = a.reaches;

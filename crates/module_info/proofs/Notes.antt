@@ -1,6 +1,6 @@
 -- What cleared notes hold once rows are noted in them.
 use Rattle.laws.proofs.Prelude.{◌≡◌, refl, sym, ap, ◌∙◌, Bool, true, false, cond, List, [], ◌∷◌, ◌++◌, append-nil, append_assoc, flat_map, ℕ, zero, suc, ◌+◌}
-use Rattle.laws.proofs.Prelude.{◌-◌, ◌*◌, ◌/◌, ◌≤◌, ◌<◌, sub-zero, add-one, arith, eqb, leb, ltb, length, get_or, take, set, length-append, length-replicate}
+use Rattle.laws.proofs.Prelude.{◌-◌, ◌*◌, ◌/◌, ◌≤◌, ◌<◌, sub-zero, add-one, arith, eqb, leb, ltb, length, take, set, length-append, length-replicate}
 use Rattle.laws.proofs.Prelude.{take_all, length-take-le, ltb-true, ltb-false, lt-ltb, le-ltb}
 use lib.Seq.{take-append-le}
 use Rattle.laws.{specs.Decoded.ok, specs.Decoded.no, proofs.Lists.flat_map_append}
@@ -17,7 +17,7 @@ use Rattle.pragmas.specs.Pragmas.{types_at}
 use Rattle.arguments.specs.Argument.{replaced_in}
 use Rattle.dep_entries.specs.{Entries.Noted, code.Notes.all_noted}
 use Rattle.dep_entries.specs.code.Notes as code
-use Rattle.dep.specs.Collect.{text_of, numbers_of, starts_of}
+use Rattle.dep.specs.Collect.{text_of, numbers_of}
 use Rattle.dep.{specs.Replaced.NumberOf, proofs.Counted.noted_first, proofs.Turns.turns_with, proofs.Turns.noted_turns, proofs.Replaced.number_right}
 use Rattle.module_info.specs.Information.{module_info}
 use Rattle.module_info.specs.Replaced.{noted, noted_in, counted, held, notes_with, NotesRight}
@@ -99,15 +99,6 @@ held_whole zero l h = absurd (omega arith)
 held_whole (suc room) l h =
     let same : suc room - (1 + 2 * length l) ≡ room - 2 * length l = omega arith in
     rw (take_all (room / 2) l (omega arith), rows_long l, same)
-
--- where the kth of them starts
-pub start_noted : (l : List Noted) (rest : List ℕ) (count k : ℕ) → k < length l → get_or (count ∷ (numbers_of l ++ rest)) (1 + 2 * k) 0 ≡ get_or (starts_of l) k 0
-unfolding flat_map
-start_noted [] rest count k h = absurd (omega arith)
-start_noted (e ∷ l) rest count zero h = refl
-start_noted (e ∷ l) rest count (suc k) h =
-    let next : 1 + 2 * suc k ≡ suc (suc (1 + 2 * k)) = omega arith in
-    rw next (start_noted l rest e.number k (omega arith))
 
 -- where there are no rows, all is zero
 pub none_held : (size : ℕ) → held size [] ≡ zeros size

@@ -1,26 +1,25 @@
 -- The source map by ECMA-426: an answer that stands for `source_map_of` is right, whatever the bytes.
-use Rattle.std.specs.Prelude.{Some, None, Ok, Err}
-use Rattle.laws.proofs.Prelude.{◌≡◌, refl, sym, ap, ◌∙◌, true, ◌↔◌, List, [], Option, ℕ, ◌+◌, ◌-◌, ◌≤◌, ◌<◌, arith, length, take, drop, drop-drop}
+use Rattle.std.specs.Prelude.{Some, None, Ok, Err, option_map}
+use Rattle.laws.proofs.Prelude.{◌≡◌, sym, ap, ◌∙◌, true, ◌↔◌, List, [], Option, ℕ, ◌+◌, ◌-◌, ◌<◌, arith, length, take, drop, drop-drop}
 use Rattle.laws.{specs.Decoded.ok, specs.Decoded.no, proofs.Lists.part_part}
 use Rattle.text.{specs.declared.utf8.Encoding.TheVariants.Utf8, specs.Position.characters, proofs.Columns.counted}
 use Rattle.text.proofs.WellFormed.{well_formed_iff}
 use Rattle.wire.specs.Refusals.{of_sheets, one_of}
 use Rattle.analysis.specs.Place.{text_of}
-use Rattle.sheet.specs.{declared.comments.Comment.Comment, Sheet.Sheet, Sheet.accept, Judge.judge}
+use Rattle.sheet.specs.{Sheet.Sheet, Sheet.accept, Judge.judge}
 use Rattle.sheet.proofs.Bodies.{placed_body}
 use Rattle.sheet.specs.Lookups.{body_span, body}
 use Rattle.sheet_codec.{specs.Limits.FieldsFit, proofs.Sheets.accepts_exactly}
 use Rattle.sheet_codec.proofs.Refusals.{Decision, decided, judged_sheet, judged_refusal}
 use Rattle.sheet_check.specs.code.Views.{StandsAt}
 use Rattle.report.specs.ModuleInfo.{SpecifierWithRange}
-use Rattle.analysis.specs.declared.Capture.{Capture}
-use Rattle.pragmas.specs.declared.readings.{Counts.TheVariants.Last, Rule.TheVariants.StandardSourceMap}
+use Rattle.pragmas.specs.declared.readings.Rule.TheVariants.{StandardSourceMap}
 use Rattle.pragmas.specs.{Readings.specifier_in, Readings.last_of, Pragmas.end_comments}
 use Rattle.pragmas.specs.SourceMap.{read_standard, standard_map_in, standard_map}
-use Rattle.pragmas.specs.code.Views.{taken_by, read_as, ReadIn}
-use Rattle.pragmas.proofs.{SourceMap.standard_present, SourceMap.standard_shown, Taken.read_counted}
+use Rattle.pragmas.specs.code.{Views.taken_by, Captured.Captured, Captured.CaptureIn, Captured.specifier_as}
+use Rattle.pragmas.proofs.{SourceMap.standard_present, SourceMap.standard_shown, Counted.read_last}
 use Rattle.wire.specs.{declared.refusals.Refusal.Refusal, Refusals.number_of}
-use Rattle.module_info.specs.{Information.answer_of, code.Located.located}
+use Rattle.module_info.specs.{Information.answer_of, code.Located.place_from}
 use Rattle.module_info.specs.SourceMap.{MapOutcome, given, refused, source_map_of, map_of, map_as, TextInside, AnswerInside, MapRight, SourceMapRight}
 use Rattle.module_info.proofs.Numbers.{refusal_number, number_refusal}
 
@@ -76,27 +75,27 @@ module _ (s : List ℕ) where
 
   -- ---- where the run stands
 
-  module _ {base : ℕ} {source : List ℕ} (stands : StandsAt s base source) where
-    -- the text of a reading of the source is a part of the sheet
-    pub located_as : (r : Option (Comment × Capture)) → ReadIn source r → (map_of s (located source base r) ≡ read_as source r) × TextInside s (located source base r)
-    unfolding specifier_in
-    located_as None h = (refl, tt)
-    located_as (Some (c, k)) h =
-        let w = placed_body source c h.placed in
-        let i = h.inside in
-        let inside = stands.inside in
-        let b = (body_span c).start in
-        let size : base + b + k.to - (base + b + k.from) ≡ k.to - k.from = omega arith in
-        let place : base + b + k.from ≡ base + (b + k.from) = omega arith in
-        let in_source : text_of (body source c) k ≡ take (k.to - k.from) (drop (b + k.from) source) =
-        part_part (drop b source) ((body_span c).end - b) k.from (k.to - k.from) (omega arith) ∙ rw drop-drop in
-        let in_sheet : take (k.to - k.from) (drop (b + k.from) source) ≡ take (k.to - k.from) (drop (base + (b + k.from)) s) =
-        ap (λ x. take (k.to - k.from) (drop (b + k.from) x)) (sym stands.there)
-        ∙ part_part (drop base s) (base + length source - base) (b + k.from) (k.to - k.from) (omega arith) ∙ rw drop-drop in
-        (rw (size, place, ← in_sheet, ← in_source), (omega arith, omega arith))
+  -- the text of a reading of the source is a part of the sheet
+  pub located_as : {base : ℕ} (t : Captured) → StandsAt s base t.source → CaptureIn t.source t.comment t.capture
+      → (map_of s (Some (place_from base t)) ≡ Some (specifier_as t)) × TextInside s (Some (place_from base t))
+  unfolding specifier_in
+  located_as {base} t stands h =
+      let source = t.source in
+      let k = t.capture in
+      let w = placed_body source t.comment h.placed in
+      let i = h.inside in
+      let inside = stands.inside in
+      let b = (body_span t.comment).start in
+      let size : base + b + k.to - (base + b + k.from) ≡ k.to - k.from = omega arith in
+      let place : base + b + k.from ≡ base + (b + k.from) = omega arith in
+      let in_source : text_of (body source t.comment) k ≡ take (k.to - k.from) (drop (b + k.from) source) =
+      part_part (drop b source) ((body_span t.comment).end - b) k.from (k.to - k.from) (omega arith) ∙ rw drop-drop in
+      let in_sheet : take (k.to - k.from) (drop (b + k.from) source) ≡ take (k.to - k.from) (drop (base + (b + k.from)) s) =
+      ap (λ x. take (k.to - k.from) (drop (b + k.from) x)) (sym stands.there)
+      ∙ part_part (drop base s) (base + length source - base) (b + k.from) (k.to - k.from) (omega arith) ∙ rw drop-drop in
+      (rw (size, place, ← in_sheet, ← in_source), (omega arith, omega arith))
 
 -- the last reading in the trailing group at the program's end is that of the sheet
-pub map_read : (t : Sheet) (r : Option (Comment × Capture)) → r ≡ last_of (taken_by StandardSourceMap t.source) (end_comments t)
-    → read_as t.source r ≡ standard_map t
+pub map_read : (t : Sheet) → option_map specifier_as (last_of (taken_by StandardSourceMap t.source) (end_comments t)) ≡ standard_map t
 unfolding read_standard standard_map_in
-map_read t r last = read_counted StandardSourceMap t.source r Last _ last
+map_read t = read_last StandardSourceMap t.source (end_comments t)

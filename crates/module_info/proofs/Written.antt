@@ -5,6 +5,7 @@ use Rattle.wire.specs.{Fields.encode_flag}
 use Rattle.sheet.specs.{Limits.depth_limit, Tree.Node, Nodes.node, Walked.entries, Sheet.Sheet, code.Commented.Commented}
 use Rattle.sheet_nodes.specs.code.Reach.{ReachesIn}
 use Rattle.sheet_check.specs.declared.check.Parts.{Parts}
+use Rattle.std.specs.Prelude.{Some}
 use Rattle.std.specs.Borrow.{MutBor}
 use Rattle.report.specs.{declared.writer.Writer.Writer, Encode.encode, Buffer.buffer_as, Buffer.Written, Buffer.written_as, Buffer.more, Buffer.Wrote, Buffer.Keeps}
 use Rattle.report.specs.Answer.{Answer, Outcome, outcome_as, answered, fitted}
@@ -15,15 +16,15 @@ use Rattle.module_info.specs.{Information.module_info, Replaced.noted}
 use Rattle.module_info.specs.code.Pieces.{dependency_bytes, head_bytes, rest_bytes, commented, PartsOf}
 
 -- once bytes are written into a new writer: the buffer is the one that was lent, and the answer
-module _ {new : Writer} {out : MutBor (List ℕ)} (begins : new ≡ record { out = out; at = 0 }) (w : Writer) (bytes : List ℕ) (h : Wrote new w bytes) where
-  kept : Keeps (record { out = out; at = 0 }) w
-  kept = wrote_keeps (record { out = out; at = 0 }) w bytes (rw begins at h)
+module _ {new : Writer} {out : MutBor (List ℕ)} (begins : new ≡ record { out = out; at = Some 0 }) (w : Writer) (bytes : List ℕ) (h : Wrote new w bytes) where
+  kept : Keeps (record { out = out; at = Some 0 }) w
+  kept = wrote_keeps (record { out = out; at = Some 0 }) w bytes (rw begins at h)
 
   pub same_loan : out.ghost_name ≡ w.out.ghost_name
   same_loan = sym kept.loan
 
   pub finished : answered (length w.out.now) (buffer_as w.out.now w.at) ≡ fitted (length out.now) bytes
-  finished = answered_fitted bytes kept.size (wrote_buffer (record { out = out; at = 0 }) w bytes (rw begins at h))
+  finished = answered_fitted bytes kept.size (wrote_buffer (record { out = out; at = Some 0 }) w bytes (rw begins at h))
 
 -- what is left in the writer is what is left in the buffer
 pub come_back : (o : Outcome) (buffer out : List ℕ) {a : Answer} → buffer ≡ out → outcome_as o out ≡ a → outcome_as o buffer ≡ a

@@ -2,23 +2,23 @@
 ghost use Rattle.std.specs.Prelude.{◌≡◌, []};
 ghost use Rattle.laws.specs.Decoded.{ok};
 ghost use Rattle.sheet.specs.Sheet.{Sheet, accept};
-ghost use Rattle.module_info.specs.code.Pieces.{commented, Sound, PartsOf, IsAccepted, ChecksAs};
-ghost use Rattle.module_info.specs.code.Judged.{JudgedAs};
+ghost use Rattle.module_info.specs.code.Pieces.{commented, Sound, PartsOf, AcceptsIn, IsAccepted};
+ghost use Rattle.module_info.specs.code.Judged.{ChecksAs, JudgedAs};
 
 use sheet::commented::Comments;
 use sheet::limits::COMMENT_LIMIT;
 use sheet::tables::Tables;
 use sheet_check::check::{Parts, check_sheet};
 use std::marker::Model;
-use text::position::build_index;
+use text::position::{PositionRow, build_index};
 use wire::refusals::Refusal;
 
-// The bytes of an accepted sheet, what the check found in them, and the tables with its comments, its groups and the index of its source's positions.
+// The bytes of an accepted sheet, what the check found in them, and the index of its source's positions.
 #[derive(Drop)]
 pub struct Accepted<'a> {
     sheet: &'a [u8],
     parts: Parts<'a>,
-    tables: &'a Tables,
+    index: &'a [PositionRow],
 }
 
 impl<'a> Model for Accepted<'a> {
@@ -30,10 +30,21 @@ impl<'a> Model for Accepted<'a> {
 
     ghost view = { λ a. a.sheet.now };
 
-    ghost invariant = { λ a. AcceptsIn a.sheet.now a.tables.now a.parts };
+    ghost invariant = { λ a. AcceptsIn a.sheet.now a.index.now a.parts };
 }
 
 impl<'a> Accepted<'a> {
+    pub fn new(sheet: &'a [u8], parts: Parts<'a>, index: &'a [PositionRow]) -> Accepted<'a>
+        requires { AcceptsIn sheet.now index.now parts }
+        ensures { result ≡ sheet.now }
+    {
+        Accepted {
+            sheet,
+            parts,
+            index,
+        }
+    }
+
     pub fn parts(&self) -> Parts<'a>
         ensures accepted { IsAccepted self.now }
         ensures parts { (t : Sheet) → accept self.now ≡ ok t [] → PartsOf t self.now result }
@@ -46,26 +57,26 @@ impl<'a> Accepted<'a> {
         ensures comments { (t : Sheet) → accept self.now ≡ ok t [] → result ≡ commented t }
         ensures sound { Sound result.source }
     {
-        let Accepted { parts, tables, .. } = self;
-        let front = parts.front;
-        Comments::new(
-            front.source,
-            &tables.comments[..front.comments],
-            &tables.groups[..front.groups],
-            &tables.index[..front.source.len() / 64 + 1],
-        )
+        let front = self.parts.front;
+        Comments::new(front.source, front.comments, front.groups, self.index)
     }
 }
 
-// Checks a sheet: its parts, with its comments, its groups and the index of its source's positions in the tables, or the first refusal. The table that
-// only the check works in is here, so that its room on the stack is free again for what follows.
-fn check<'a>(sheet: &'a [u8], tables: &mut Tables) -> Result<Parts<'a>, Refusal>
-    ensures { ChecksAs sheet.now tables.new result }
+// Checks a sheet: its comments, its groups and the index of its source's positions are in the tables then, or the
+// answer is the first refusal. The table that only the check works in is here, so that its room on the stack is
+// free again for what follows.
+fn check<'a>(sheet: &'a [u8], tables: &'a mut Tables) -> Result<Accepted<'a>, Refusal>
+    ensures { ChecksAs sheet.now result }
 {
     let mut longest = [0u32; COMMENT_LIMIT];
-    let parts = check_sheet(sheet, tables, &mut longest)?;
-    build_index(parts.front.source, &mut tables.index);
-    Ok(parts)
+    let Tables {
+        comments,
+        groups,
+        index,
+    } = tables;
+    let parts = check_sheet(sheet, comments, groups, &mut longest)?;
+    build_index(parts.front.source, index);
+    Ok(Accepted::new(sheet, parts, index))
 }
 
 // An accepted sheet, or the first refusal; of no bytes neither. The tables are lent to it.
@@ -75,10 +86,5 @@ pub fn judge<'a>(sheet: &'a [u8], tables: &'a mut Tables) -> Result<Option<Accep
     if sheet.len() == 0 {
         return Ok(None);
     }
-    let parts = check(sheet, tables)?;
-    Ok(Some(Accepted {
-        sheet,
-        parts,
-        tables,
-    }))
+    Ok(Some(check(sheet, tables)?))
 }

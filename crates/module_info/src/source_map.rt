@@ -4,15 +4,13 @@ ghost use Rattle.laws.specs.Decoded.{ok};
 ghost use Rattle.laws.specs.code.Told.{Bounded};
 ghost use Rattle.sheet.specs.Sheet.{Sheet, accept};
 ghost use Rattle.pragmas.specs.SourceMap.{standard_map};
-ghost use Rattle.pragmas.specs.code.Views.{ReadIn};
-ghost use Rattle.module_info.specs.code.Located.{located};
+ghost use Rattle.pragmas.specs.code.Captured.{CaptureIn};
+ghost use Rattle.module_info.specs.code.Located.{place_from};
 ghost use Rattle.module_info.specs.SourceMap.{given, MapOutcome, map_of, map_as, TextInside, SourceMapRight, map_number, map_places};
 
 use super::judge::{Accepted, judge};
-use analysis::Capture;
-use pragmas::readings::{Counts, Rule, comment_source_to_span, find_reading};
-use sheet::commented::Comments;
-use sheet::comments::Comment;
+use pragmas::readings::{Rule, find_last};
+use pragmas::taken::Taken;
 use sheet::lookups::body_span;
 use sheet::tables::Tables;
 use text::position::Position;
@@ -31,25 +29,22 @@ pub struct SourceMap {
 pub type MapOutcome = Result<Option<SourceMap>, Refusal>;
 
 // Where a reading of the source stands in the sheet, whose source begins at `base`.
-#[tactic(auto, using(sheet::proofs::Marks::holds_marks_lem, sheet::proofs::Bodies::placed_body, pragmas::proofs::Captures::capture_within))]
-fn locate(
-    comments: &Comments,
-    base: usize,
-    reading: Option<(Comment, Capture)>,
-) -> Option<SourceMap>
-    requires read_in { ReadIn comments.now.source reading }
-    requires source_bound { base + length comments.now.source < 2 ^ 64 }
-    ensures { result ≡ located comments.now.source base reading }
+#[tactic(auto, using(sheet::proofs::Marks::holds_marks_lem, sheet::proofs::Bodies::placed_body))]
+fn locate(base: usize, taken: &Taken) -> SourceMap
+    requires { base + length taken.now.source < 2 ^ 64 }
+    ensures { Bounded
+        (result ≡ place_from base taken.now)
+        (CaptureIn taken.now.source taken.now.comment taken.now.capture) }
 {
-    let (c, found) = reading?;
-    let body = base + body_span(c).start;
-    let (start, end) = comments.positions(comment_source_to_span(c, found));
-    Some(SourceMap {
+    let found = taken.capture();
+    let body = base + body_span(taken.comment()).start;
+    let (start, end) = taken.positions();
+    SourceMap {
         from: body + found.from,
         to: body + found.to,
         start,
         end,
-    })
+    }
 }
 
 // The source map of an accepted sheet.
@@ -61,8 +56,8 @@ fn read_source_map(accepted: &Accepted) -> Option<SourceMap>
     let comments = accepted.comments();
     let parts = accepted.parts();
     let end = comments.of(comments.end_group(parts.tree.program));
-    let reading = find_reading(&end, Counts::Last, Rule::StandardSourceMap);
-    locate(&comments, parts.front.source_start, reading)
+    let taken = find_last(&end, Rule::StandardSourceMap)?;
+    Some(locate(parts.front.source_start, &taken))
 }
 
 // The source map of a sheet by ECMA-426, or the first refusal that it meets; of no bytes none.

@@ -1,7 +1,6 @@
 pub mod Turns
 pub mod Both
-pub mod Taken
-pub mod Written
+pub mod Counted
 pub mod Captures
 pub mod Present
 pub mod PathFirst

@@ -1,66 +1,64 @@
--- The turns of the loops over comments: those from an index on, and what a rule answers of them.
+-- The turns of the loops over comments: what a rule answers of those that are left.
 use Rattle.std.specs.Prelude.{Some, None}
-use Rattle.laws.proofs.Prelude.{◌≡◌, refl, ◌∙◌, List, [], ◌∷◌, ◌++◌, append-nil, flat_map, Option, ℕ, ◌+◌, ◌-◌, ◌≤◌, ◌<◌, add-one, arith, length, drop, drop-cons}
-use Rattle.laws.proofs.Prelude.{drop_of_length-le}
+use Rattle.laws.proofs.Prelude.{◌≡◌, refl, ap, ◌∙◌, List, [], ◌∷◌, ◌++◌, append-nil, flat_map, Option, ℕ, cond, arith, length}
+use Rattle.std.specs.Prelude.{option_map, is_some, map}
+use Rattle.std.specs.List.{filter}
 use Rattle.laws.specs.Last.{last_of as last}
-use mathlib.Core.List.{reverse}
-use Rattle.std.proofs.lemmas.List.{length-reverse, get_or-reverse}
-use Rattle.sheet.specs.{declared.comments.Comment.Comment}
-use Rattle.sheet.specs.Fit.{no_comment, comment_of}
-use Rattle.pragmas.specs.declared.readings.Counts.{Counts, TheVariants.First, TheVariants.Last}
+use mathlib.Core.List.{reverse, reverse-cons, reverse-append}
+use Rattle.std.proofs.lemmas.List.{map-append}
+use Rattle.sheet.specs.declared.comments.Comment.{Comment}
+use Rattle.sheet.specs.code.Commented.{CommentIn, placed_in}
 use Rattle.pragmas.specs.Readings.{or_else, first_of, last_of, listed, optional, all_of}
-use Rattle.pragmas.specs.code.Views.{counted, encode_any}
+use Rattle.pragmas.specs.code.Views.{encode_any}
 
--- the comments from the kth on: it, and the others
-pub comment_first : (cs : List Comment) (k : ℕ) → k < length cs → drop k cs ≡ comment_of cs k ∷ drop (k + 1) cs
-comment_first cs k h = rw (add-one k) (drop-cons cs k no_comment h)
+-- what comes last is first from the end
+pub turn_back : {A : Type 0} (rest all : List A) (a : A) → all ≡ rest ++ (a ∷ []) → reverse all ≡ a ∷ reverse rest
+turn_back rest all a e = rw e (reverse-append rest (a ∷ []))
 
-module _ {A : Type 0} (f : Comment → Option A) (cs : List Comment) (k : ℕ) where
-  pub first_next : k < length cs → first_of f (drop k cs) ≡ or_else (f (comment_of cs k)) (first_of f (drop (k + 1) cs))
+reverse_map : {A B : Type 0} (f : A → B) (l : List A) → reverse (map f l) ≡ map f (reverse l)
+reverse_map f [] = refl
+reverse_map f (a ∷ l) = rw (reverse-cons a l, reverse-cons (f a) (map f l), map-append f (reverse l) (a ∷ []), reverse_map f l) refl
+
+one_more : {A B : Type 0} (o : Option A) (b : B) (l : List B) (m : List A) → length l ≡ length m → length (cond (is_some o) (b ∷ l) l) ≡ length (listed o m)
+one_more (Some a) b l m e = omega (arith, e)
+one_more None b l m e = e
+
+-- what is answered of comments with their source
+module _ {A : Type 0} (source : List ℕ) (f : CommentIn → Option A) where
+  pub first_placed : (cs : List Comment) → first_of f (map (placed_in source) cs) ≡ first_of (λ c. f (placed_in source c)) cs
   unfolding first_of
-  first_next h = rw (comment_first cs k h)
+  first_placed [] = refl
+  first_placed (c ∷ cs) = ap (or_else (f (placed_in source c))) (first_placed cs)
 
-  pub first_end : length cs ≤ k → first_of f (drop k cs) ≡ None
-  unfolding first_of
-  first_end h = rw (drop_of_length-le cs h)
+  pub last_placed : (cs : List Comment) → first_of f (reverse (map (placed_in source) cs)) ≡ last_of (λ c. f (placed_in source c)) cs
+  unfolding last_of
+  last_placed cs = rw (reverse_map (placed_in source) cs) (first_placed (reverse cs))
 
-  pub all_next : k < length cs → all_of f (drop k cs) ≡ listed (f (comment_of cs k)) (all_of f (drop (k + 1) cs))
+  pub all_placed : (cs : List Comment) → all_of f (map (placed_in source) cs) ≡ all_of (λ c. f (placed_in source c)) cs
   unfolding all_of
-  all_next h = rw (comment_first cs k h)
+  all_placed [] = refl
+  all_placed (c ∷ cs) = ap (listed (f (placed_in source c))) (all_placed cs)
 
-  pub all_end : length cs ≤ k → all_of f (drop k cs) ≡ []
+  pub count_placed : (cs : List Comment) → length (filter (λ c. is_some (f c)) (map (placed_in source) cs)) ≡ length (all_of (λ c. f (placed_in source c)) cs)
   unfolding all_of
-  all_end h = rw (drop_of_length-le cs h)
+  count_placed [] = refl
+  count_placed (c ∷ cs) = one_more (f (placed_in source c)) (placed_in source c) _ _ (count_placed cs)
 
--- the comments in the order in which they are looked at, and the index of the one that comes behind so many
-abbrev pub seen : Counts → List Comment → List Comment
-seen First cs = cs
-seen Last cs = reverse cs
+-- the last of them
+module _ (source : List ℕ) where
+  pub last_is : (cs : List Comment) (rest : List CommentIn) (c : CommentIn) → map (placed_in source) cs ≡ rest ++ (c ∷ [])
+      → option_map (placed_in source) (last cs) ≡ Some c
+  last_is [] [] c e = cc
+  last_is [] (d ∷ rest) c e = cc
+  last_is (b ∷ []) [] c e = cc
+  last_is (b ∷ []) (d ∷ []) c e = cc
+  last_is (b ∷ []) (d ∷ d' ∷ rest) c e = cc
+  last_is (b ∷ b' ∷ cs) [] c e = cc
+  last_is (b ∷ b' ∷ cs) (d ∷ rest) c e = last_is (b' ∷ cs) rest c cc
 
-abbrev pub index : Counts → ℕ → ℕ → ℕ
-index First total passed = passed
-index Last total passed = total - 1 - passed
-
-pub seen_length : (counts : Counts) (cs : List Comment) → length (seen counts cs) ≡ length cs
-seen_length First cs = refl
-seen_length Last cs = length-reverse cs
-
-pub seen_at : (counts : Counts) (cs : List Comment) (k : ℕ) → k < length cs → comment_of (seen counts cs) k ≡ comment_of cs (index counts (length cs) k)
-seen_at First cs k h = refl
-seen_at Last cs k h = get_or-reverse cs k no_comment h
-
-pub counted_seen : {A : Type 0} (f : Comment → Option A) (counts : Counts) (cs : List Comment) → counted counts f cs ≡ first_of f (seen counts cs)
-unfolding last_of
-counted_seen f First cs = refl
-counted_seen f Last cs = refl
-
-last_behind : (c : Comment) (cs : List Comment) → last (c ∷ cs) ≡ Some (comment_of (c ∷ cs) (length cs))
-last_behind c [] = refl
-last_behind c (d ∷ cs) = last_behind d cs
-
-pub last_at : (cs : List Comment) → 0 < length cs → last cs ≡ Some (comment_of cs (length cs - 1))
-last_at [] h = absurd (omega arith)
-last_at (c ∷ cs) h = let n : length (c ∷ cs) - 1 ≡ length cs = omega arith in rw n (last_behind c cs)
+  pub last_none : (cs : List Comment) → map (placed_in source) cs ≡ [] → option_map (placed_in source) (last cs) ≡ None
+  last_none [] e = refl
+  last_none (c ∷ cs) e = cc
 
 -- the bytes of what is there, one more or none
 pub listed_each : {A : Type 0} (e : A → List ℕ) (o : Option A) (l : List A) → flat_map e (listed o l) ≡ encode_any e o ++ flat_map e l
@@ -72,12 +70,6 @@ pub optional_each : {A : Type 0} (e : A → List ℕ) (o : Option A) → flat_ma
 unfolding flat_map
 optional_each e o = listed_each e o [] ∙ append-nil (encode_any e o)
 
-module _ {A : Type 0} (e : A → List ℕ) (f : Comment → Option A) (cs : List Comment) (k : ℕ) where
-  -- the bytes of the kth, and then those of the others
-  pub each_next : k < length cs
-      → flat_map e (all_of f (drop k cs)) ≡ encode_any e (f (comment_of cs k)) ++ flat_map e (all_of f (drop (k + 1) cs))
-  each_next h = rw (all_next f cs k h) (listed_each e (f (comment_of cs k)) (all_of f (drop (k + 1) cs)))
-
-  pub each_end : length cs ≤ k → flat_map e (all_of f (drop k cs)) ≡ []
-  unfolding flat_map
-  each_end h = rw (all_end f cs k h)
+pub each_end : {C A : Type 0} (e : A → List ℕ) (f : C → Option A) (all : List C) → all ≡ [] → flat_map e (all_of f all) ≡ []
+unfolding all_of flat_map
+each_end e f all is = rw is refl

@@ -27,15 +27,15 @@ abbrev pub or_else : {A : Type 0} → Option A → Option A → Option A
 or_else None b = b
 or_else (Some a) b = Some a
 
--- the first answer among those of some comments, and the last
-unfoldable pub first_of : {A : Type 0} → (Comment → Option A) → List Comment → Option A
+-- the first answer among those of some values, as comments, and the last
+unfoldable pub first_of : {C A : Type 0} → (C → Option A) → List C → Option A
 first_of f [] = None
 first_of f (c ∷ cs) = or_else (f c) (first_of f cs)
 
-unfoldable pub last_of : {A : Type 0} → (Comment → Option A) → List Comment → Option A
+unfoldable pub last_of : {C A : Type 0} → (C → Option A) → List C → Option A
 last_of f cs = first_of f (reverse cs)
 
--- all answers, in the order of their comments
+-- all answers, in order
 abbrev pub listed : {A : Type 0} → Option A → List A → List A
 listed None l = l
 listed (Some a) l = a ∷ l
@@ -44,6 +44,6 @@ listed (Some a) l = a ∷ l
 abbrev pub optional : {A : Type 0} → Option A → List A
 optional o = listed o []
 
-unfoldable pub all_of : {A : Type 0} → (Comment → Option A) → List Comment → List A
+unfoldable pub all_of : {C A : Type 0} → (C → Option A) → List C → List A
 all_of f [] = []
 all_of f (c ∷ cs) = listed (f c) (all_of f cs)

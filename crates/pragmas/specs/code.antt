@@ -1,2 +1,3 @@
 -- What the values of the code stand for. No promise leads here: these definitions are checked, not believed.
 pub mod Views
+pub mod Captured

@@ -6,8 +6,9 @@ ghost use Rattle.pragmas.specs.Readings.{all_of};
 ghost use Rattle.pragmas.specs.Origins.{reference_origin, head_origins, end_origins, ts_or_deno_origin, types_origins};
 ghost use Rattle.pragmas.specs.code.Views.{origin_as, encode_any};
 
-use super::readings::{Counts, Rule, RuleRead, find_reading, first_reading, last_comment, read};
+use super::readings::{Rule, find_last, first_reading, last_comment, read};
 use super::references::{Reference, read_reference};
+use super::taken::Taken;
 use report::origins::{EntryRule, put_origin};
 use report::writer::Writer;
 use sheet::commented::{Comments, PlacedComment};
@@ -15,11 +16,11 @@ use sheet::names::{MediaType, Side};
 
 // Writes the rule and the comment of a reading, if there is one.
 #[tactic(auto, using(report::proofs::Buffers::wrote_none))]
-fn put_reading_origin(entry: EntryRule, reading: RuleRead, w: &mut Writer)
-    ensures { Wrote w.old w.new (encode_any encode_origin (origin_as entry reading)) }
+fn put_reading_origin(entry: EntryRule, reading: Option<Taken>, w: &mut Writer)
+    ensures { Wrote w.old w.new (encode_any encode_origin (origin_as entry reading.entry)) }
 {
-    if let Some((c, _)) = reading {
-        put_origin(entry, c.span.start, w);
+    if let Some(taken) = reading {
+        put_origin(entry, taken.comment().span.start, w);
     }
 }
 
@@ -36,18 +37,19 @@ fn put_reference_origin(c: &PlacedComment, w: &mut Writer)
     }
 }
 
-// Writes those of the references of the comments. A closure that writes would need a longer contract than this loop.
-#[tactic(auto, using(crate::proofs::Turns::each_next, crate::proofs::Turns::each_end, report::proofs::Buffers::more_append, report::proofs::Buffers::more_nil))]
+// Writes those of the references of the comments.
+#[tactic(auto, using(crate::proofs::Turns::all_placed, crate::proofs::Turns::listed_each, crate::proofs::Turns::each_end, report::proofs::Buffers::more_append, report::proofs::Buffers::more_nil), unfolding(crate::specs::Readings::all_of))]
 fn put_reference_origins(comments: &Comments, w: &mut Writer)
     ensures { Wrote w.old w.new
         (flat_map encode_origin (all_of (reference_origin comments.now.source) comments.now.comments)) }
 {
-    for k in 0..comments.len() {
-        put_reference_origin(&comments.at(k), w);
+    for c in comments.iter() {
+        put_reference_origin(&c, w);
     }
 }
 
 // Writes those of the head group: references, self types, the JSX source and its types.
+#[tactic(auto, using(crate::proofs::Counted::origin_first, crate::proofs::Turns::optional_each, laws::proofs::Lists::flat_map_append, report::proofs::Buffers::more_append), unfolding(crate::specs::Readings::read_by, crate::specs::Origins::origin_by, crate::specs::Origins::first_origin, crate::specs::Origins::head_origins))]
 pub fn put_head_origins(media: MediaType, comments: &Comments, w: &mut Writer)
     ensures { Wrote w.old w.new
         (flat_map encode_origin (head_origins media comments.now.source comments.now.comments)) }
@@ -62,11 +64,12 @@ pub fn put_head_origins(media: MediaType, comments: &Comments, w: &mut Writer)
 }
 
 // Writes that of the group at the program's end: the source map.
+#[tactic(auto, using(crate::proofs::Counted::origin_last, crate::proofs::Turns::optional_each), unfolding(crate::specs::Readings::read_by, crate::specs::Origins::origin_by, crate::specs::Origins::end_origins))]
 pub fn put_end_origins(comments: &Comments, w: &mut Writer)
     ensures { Wrote w.old w.new
         (flat_map encode_origin (end_origins comments.now.source comments.now.comments)) }
 {
-    let reading = find_reading(comments, Counts::Last, Rule::SourceMapUrl);
+    let reading = find_last(comments, Rule::SourceMapUrl);
     put_reading_origin(EntryRule::SourceMap, reading, w);
 }
 

@@ -1,26 +1,25 @@
 // The comments that a rule reads, and what it captures there.
-ghost use Rattle.std.specs.Prelude.{◌≡◌, ◌-◌, length, option_map};
-ghost use Rattle.laws.specs.Last.{last_of};
+ghost use Rattle.std.specs.Prelude.{◌≡◌, length, option_map};
+ghost use Rattle.laws.specs.Last.{last_of as last};
 ghost use Rattle.laws.specs.code.Told.{Bounded};
 ghost use Rattle.wire.specs.Optional.{encode_optional};
-ghost use Rattle.analysis.specs.Place.{Inside, FoundWithin};
-ghost use Rattle.sheet.specs.Lookups.{HoldsMarks, body_span};
+ghost use Rattle.analysis.specs.Place.{FoundWithin};
+ghost use Rattle.sheet.specs.code.Commented.{placed_in};
 ghost use Rattle.report.specs.Encode.{encode_specifier};
 ghost use Rattle.report.specs.Buffer.{Wrote};
-ghost use Rattle.pragmas.specs.Readings.{place_in, specifier_in, first_of};
+ghost use Rattle.pragmas.specs.Readings.{first_of, last_of};
 ghost use Rattle.pragmas.specs.Pragmas.{given_to};
-ghost use Rattle.pragmas.specs.code.Views.{asked, find_rule, taken_by, counted, read_as, ReadIn, CaptureIn, placed_in};
+ghost use Rattle.pragmas.specs.code.Captured.{specifier_as};
+ghost use Rattle.pragmas.specs.code.Views.{asked, find_rule, taken_by};
 
+use super::taken::Taken;
 use analysis::{
     Capture, find_deno_types, find_jsx_import_source, find_jsx_import_source_types,
-    find_source_mapping_url, find_ts_self_types, find_ts_types, place_of, specifier,
+    find_source_mapping_url, find_ts_self_types, find_ts_types,
 };
 use ecma426::find_source_map;
 use report::writer::Writer;
 use sheet::commented::{Comments, PlacedComment};
-use sheet::comments::Comment;
-use sheet::fields::Span;
-use sheet::lookups::{body, body_span};
 use sheet::names::{CommentKind, MediaType, is_block, is_javascript, is_jsx};
 
 // The rules that give one specifier.
@@ -35,84 +34,79 @@ pub enum Rule {
     DenoTypes,
 }
 
-// Which of the comments that read counts.
-#[derive(Clone, Copy)]
-pub enum Counts {
-    First,
-    Last,
-}
-
-// A comment that a rule reads, with what is captured in its body.
-pub type RuleRead = Option<(Comment, Capture)>;
-
-// The finder of a rule.
-fn find_by(body: &[u8], rule: Rule) -> Option<Capture>
-    ensures { Bounded (result ≡ find_rule rule body.now) (FoundWithin result (length body.now)) }
-{
-    match rule {
-        Rule::TsSelfTypes => find_ts_self_types(body),
-        Rule::JsxImportSource => find_jsx_import_source(body),
-        Rule::JsxImportSourceTypes => find_jsx_import_source_types(body),
-        Rule::SourceMapUrl => find_source_mapping_url(body),
-        Rule::StandardSourceMap => find_source_map(body),
-        Rule::TsTypes => find_ts_types(body),
-        Rule::DenoTypes => find_deno_types(body),
+impl Rule {
+    // What it finds in a body.
+    fn find(self, body: &[u8]) -> Option<Capture>
+        ensures { Bounded (result ≡ find_rule self body.now) (FoundWithin result (length body.now)) }
+    {
+        match self {
+            Rule::TsSelfTypes => find_ts_self_types(body),
+            Rule::JsxImportSource => find_jsx_import_source(body),
+            Rule::JsxImportSourceTypes => find_jsx_import_source_types(body),
+            Rule::SourceMapUrl => find_source_mapping_url(body),
+            Rule::StandardSourceMap => find_source_map(body),
+            Rule::TsTypes => find_ts_types(body),
+            Rule::DenoTypes => find_deno_types(body),
+        }
     }
-}
 
-// Does the rule take comments of this kind? The JSX rules take block comments only.
-fn takes(rule: Rule, kind: CommentKind) -> bool
-    ensures { result ≡ (asked rule).kind kind }
-{
-    match rule {
-        Rule::JsxImportSource | Rule::JsxImportSourceTypes => is_block(kind),
-        Rule::TsSelfTypes
-        | Rule::SourceMapUrl
-        | Rule::StandardSourceMap
-        | Rule::TsTypes
-        | Rule::DenoTypes => true,
+    // Does it take comments of this kind? The JSX rules take block comments only.
+    fn takes(self, kind: CommentKind) -> bool
+        ensures { result ≡ (asked self).kind kind }
+    {
+        match self {
+            Rule::JsxImportSource | Rule::JsxImportSourceTypes => is_block(kind),
+            Rule::TsSelfTypes
+            | Rule::SourceMapUrl
+            | Rule::StandardSourceMap
+            | Rule::TsTypes
+            | Rule::DenoTypes => true,
+        }
     }
-}
 
-// Does the rule ask for this media?
-fn asks_media(rule: Rule, media: MediaType) -> bool
-    ensures { result ≡ (asked rule).media media }
-{
-    match rule {
-        Rule::JsxImportSource | Rule::JsxImportSourceTypes => is_jsx(media),
-        Rule::TsSelfTypes => is_javascript(media),
-        Rule::SourceMapUrl | Rule::StandardSourceMap | Rule::TsTypes | Rule::DenoTypes => true,
+    // Does it ask for this media?
+    fn asks(self, media: MediaType) -> bool
+        ensures { result ≡ (asked self).media media }
+    {
+        match self {
+            Rule::JsxImportSource | Rule::JsxImportSourceTypes => is_jsx(media),
+            Rule::TsSelfTypes => is_javascript(media),
+            Rule::SourceMapUrl | Rule::StandardSourceMap | Rule::TsTypes | Rule::DenoTypes => true,
+        }
     }
 }
 
 // What a rule reads in a comment.
-pub fn read(c: &PlacedComment, rule: Rule) -> RuleRead
-    ensures { Bounded
-        (result ≡ taken_by rule c.now.source c.now.comment)
-        (ReadIn c.now.source result) }
+pub fn read<'a>(c: &PlacedComment<'a>, rule: Rule) -> Option<Taken<'a>>
+    ensures { result ≡ taken_by rule c.now.source c.now.comment }
 {
-    let comment = c.comment();
-    if takes(rule, comment.kind) {
-        let found = find_by(c.body(), rule)?;
-        return Some((comment, found));
+    if !rule.takes(c.comment().kind) {
+        return None;
+    }
+    let found = rule.find(c.body())?;
+    Some(Taken::new(c, found))
+}
+
+// What it reads in the first of the comments that it reads.
+#[tactic(auto, using(crate::proofs::Turns::first_placed), unfolding(crate::specs::Readings::first_of))]
+pub fn find_first<'a>(comments: &'a Comments<'a>, rule: Rule) -> Option<Taken<'a>>
+    ensures { result ≡ first_of (taken_by rule comments.now.source) comments.now.comments }
+{
+    for c in comments.iter() {
+        if let Some(taken) = read(&c, rule) {
+            return Some(taken);
+        }
     }
     None
 }
 
-// The reading that counts among the comments, sought from the first or from the last: one loop for both, since a range and its `rev()` are two types,
-// and would need two loops.
-#[tactic(auto, using(crate::proofs::Turns::first_next, crate::proofs::Turns::first_end, crate::proofs::Turns::seen_length, crate::proofs::Turns::seen_at, crate::proofs::Turns::counted_seen))]
-pub fn find_reading(comments: &Comments, counts: Counts, rule: Rule) -> RuleRead
-    ensures { Bounded
-        (result ≡ counted counts (taken_by rule comments.now.source) comments.now.comments)
-        (ReadIn comments.now.source result) }
+// And in the last of them.
+#[tactic(auto, using(crate::proofs::Turns::last_placed, crate::proofs::Turns::turn_back), unfolding(crate::specs::Readings::first_of))]
+pub fn find_last<'a>(comments: &'a Comments<'a>, rule: Rule) -> Option<Taken<'a>>
+    ensures { result ≡ last_of (taken_by rule comments.now.source) comments.now.comments }
 {
-    for passed in 0..comments.len() {
-        let k = match counts {
-            Counts::First => passed,
-            Counts::Last => comments.len() - 1 - passed,
-        };
-        if let Some(taken) = read(&comments.at(k), rule) {
+    for c in comments.iter().rev() {
+        if let Some(taken) = read(&c, rule) {
             return Some(taken);
         }
     }
@@ -121,61 +115,37 @@ pub fn find_reading(comments: &Comments, counts: Counts, rule: Rule) -> RuleRead
 
 // The first of them, where the sheet's media is one that the rule asks for.
 #[tactic(auto, unfolding(crate::specs::Readings::first_of))]
-pub fn first_reading(media: MediaType, comments: &Comments, rule: Rule) -> RuleRead
-    ensures { Bounded
-        (result ≡ first_of (taken_by rule comments.now.source) (given_to (asked rule) media comments.now.comments))
-        (ReadIn comments.now.source result) }
+pub fn first_reading<'a>(
+    media: MediaType,
+    comments: &'a Comments<'a>,
+    rule: Rule,
+) -> Option<Taken<'a>>
+    ensures { result ≡ first_of (taken_by rule comments.now.source)
+        (given_to (asked rule) media comments.now.comments) }
 {
-    if asks_media(rule, media) {
-        return find_reading(comments, Counts::First, rule);
+    if rule.asks(media) {
+        return find_first(comments, rule);
     }
     None
 }
 
 // The last comment, if there is one.
-#[tactic(auto, using(crate::proofs::Turns::last_at))]
-pub fn last_comment<'a>(comments: &Comments<'a>) -> Option<PlacedComment<'a>>
-    ensures { result ≡ option_map (placed_in comments.now.source) (last_of comments.now.comments) }
+#[tactic(auto, using(crate::proofs::Turns::last_is, crate::proofs::Turns::last_none))]
+pub fn last_comment<'a>(comments: &'a Comments<'a>) -> Option<PlacedComment<'a>>
+    ensures { result ≡ option_map (placed_in comments.now.source) (last comments.now.comments) }
 {
-    let last = comments.len().checked_sub(1)?;
-    Some(comments.at(last))
-}
-
-// Where a capture in a comment stands in the source, with its marks.
-#[tactic(auto, unfolding(sheet::specs::Lookups::body_span, analysis::specs::Place::place_of, crate::specs::Readings::place_in))]
-pub fn comment_source_to_span(c: Comment, found: Capture) -> Span
-    requires { HoldsMarks c × Inside found ((body_span c).end - (body_span c).start) }
-    ensures { result ≡ place_in c found }
-{
-    let place = place_of(found);
-    let start = body_span(c).start;
-    Span {
-        start: start + place.from,
-        end: start + place.to,
-    }
-}
-
-// Writes the specifier of a capture in a comment.
-#[tactic(auto, using(crate::proofs::Captures::capture_within, sheet::proofs::Marks::holds_marks_lem, sheet::proofs::Bodies::placed_body), unfolding(crate::specs::Readings::specifier_in))]
-pub fn put_capture(comments: &Comments, c: Comment, found: Capture, w: &mut Writer)
-    requires { CaptureIn comments.now.source c found }
-    ensures { Wrote w.old w.new (encode_specifier (specifier_in comments.now.source c found)) }
-{
-    let span = comment_source_to_span(c, found);
-    let text = specifier(body(comments.source(), c), found);
-    w.put_specifier(text, comments, span);
+    comments.iter().next_back()
 }
 
 // Writes a reading as an optional.
 #[tactic(auto, using(report::proofs::Buffers::more_cons), unfolding(wire::specs::Optional::encode_optional))]
-pub fn put_reading(comments: &Comments, reading: RuleRead, w: &mut Writer)
-    requires { ReadIn comments.now.source reading }
-    ensures { Wrote w.old w.new (encode_optional encode_specifier (read_as comments.now.source reading)) }
+pub fn put_reading(reading: Option<Taken>, w: &mut Writer)
+    ensures { Wrote w.old w.new (encode_optional encode_specifier (option_map specifier_as reading.entry)) }
 {
     match reading {
-        Some((c, found)) => {
+        Some(taken) => {
             w.put(1);
-            put_capture(comments, c, found, w);
+            taken.put(w);
         }
         None => w.put(0),
     }

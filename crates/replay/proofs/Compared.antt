@@ -1,55 +1,39 @@
--- A buffer beside a report with zeros behind it: from one place to the next; and what an outcome's answer holds.
-use Rattle.laws.proofs.Prelude.{◌≡◌, refl, ◌∙◌, Bool, true, false, ◌&&◌, and-eq-true_iff, List, [], ◌∷◌, ◌++◌, ℕ, zero, suc, ◌+◌, ◌-◌, ◌≤◌, ◌<◌, arith}
-use Rattle.laws.proofs.Prelude.{add-one, eqb, leb, length, get_or, drop, drop_of_length-le, length-append, length-replicate, drop-cons, leb-true, leb-false}
-use Rattle.laws.proofs.Prelude.{eq-eqb, ne_eqb, eqb-true}
+-- A buffer beside a report with zeros behind it; and what an outcome's answer holds.
+use Rattle.laws.proofs.Prelude.{◌≡◌, refl, Bool, true, false, ◌&&◌, and-eq-true_iff, List, [], ◌∷◌, ◌++◌, ℕ, ◌+◌, ◌-◌, arith, eqb, length, take, drop, eq-eqb, eqb-true}
+use Rattle.std.specs.Prelude.{◌==◌, nat_eq}
+use Rattle.std.specs.List.{list_all}
+use Rattle.std.specs.Cmp.Lexicographic.{pointwise}
 use Rattle.text.specs.Bytes.{same}
-use Rattle.text.proofs.Words.{same_sound, same_refl, other_length}
+use Rattle.text.proofs.Words.{same_sound, same_refl}
 use Rattle.report.specs.Answer.{Answer, zeros}
 use Rattle.replay.specs.Compared.{padded, same_answer}
 
-zero_at : (n i : ℕ) → get_or (zeros n) i 0 ≡ 0
-zero_at zero i = refl
-zero_at (suc n) zero = refl
-zero_at (suc n) (suc i) = zero_at n i
+-- a report, and what is behind it
+held : (buffer report behind : List ℕ)
+    → same buffer (report ++ behind) ≡ (pointwise nat_eq (take (length report) buffer) report && same (drop (length report) buffer) behind)
+unfolding same
+held buffer [] behind = refl
+held [] (y ∷ report) behind = refl
+held (x ∷ buffer) (y ∷ report) behind = rw (held buffer report behind) (go (eqb x y) (pointwise nat_eq (take (length report) buffer) report) _)
+  where
+    go : (a b c : Bool) → (a && (b && c)) ≡ ((a && b) && c)
+    go true b c = refl
+    go false b c = refl
 
-padded_at : (report : List ℕ) (n i : ℕ) → get_or (report ++ zeros n) i 0 ≡ get_or report i 0
-padded_at [] n i = zero_at n i
-padded_at (x ∷ report) n zero = refl
-padded_at (x ∷ report) n (suc i) = padded_at report n i
+zeros_held : (s : List ℕ) → same s (zeros (length s)) ≡ list_all (λ b. b == 0) s
+unfolding same
+zeros_held [] = refl
+zeros_held (b ∷ s) = rw (zeros_held s)
 
-padded_length : (size : ℕ) (report : List ℕ) → length (padded size report) ≡ length report + (size - length report)
-padded_length size report = length-append report (zeros (size - length report)) ∙ rw length-replicate
+module _ (buffer report : List ℕ) where
+  pub other_front : pointwise nat_eq (take (length report) buffer) report ≡ false → same buffer (padded (length buffer) report) ≡ false
+  other_front e = rw (held buffer report (zeros (length buffer - length report)), e)
 
-module _ (buffer report : List ℕ) (i : ℕ) where
-  -- at the end the lengths are left to compare
-  pub held_end : length buffer ≤ i → same buffer (padded (length buffer) report) ≡ same (drop i buffer) (drop i (padded (length buffer) report))
-      → same buffer (padded (length buffer) report) ≡ leb (length report) (length buffer)
-  unfolding same
-  held_end h so_far = by_room (leb (length report) (length buffer)) refl
-    where
-      by_room : (b : Bool) → leb (length report) (length buffer) ≡ b → same buffer (padded (length buffer) report) ≡ b
-      by_room true e =
-          let room = leb-true (length report) (length buffer) e in
-          so_far
-          ∙ rw (drop_of_length-le buffer h, drop_of_length-le (padded (length buffer) report) {i = i} (rw (padded_length (length buffer) report) (omega arith)))
-      by_room false e =
-          let none = leb-false (length report) (length buffer) e in
-          other_length buffer (padded (length buffer) report) (λ l. omega (arith, padded_length (length buffer) report))
-
-  module _ (h : i < length buffer) where
-    heads : same (drop i buffer) (drop i (padded (length buffer) report))
-        ≡ (eqb (get_or buffer i 0) (get_or report i 0) && same (drop (i + 1) buffer) (drop (i + 1) (padded (length buffer) report)))
-    unfolding same
-    heads =
-        let long : i < length (padded (length buffer) report) = rw (padded_length (length buffer) report) (omega arith) in
-        rw (add-one, drop-cons buffer i 0 h, drop-cons (padded (length buffer) report) i 0 long, padded_at report (length buffer - length report) i)
-
-    pub held_differ : (get_or buffer i 0 ≡ get_or report i 0 → ⊥) → same (drop i buffer) (drop i (padded (length buffer) report)) ≡ false
-    held_differ n = rw (heads, ne_eqb _ _ n)
-
-    pub held_agree : get_or buffer i 0 ≡ get_or report i 0 →
-        same (drop i buffer) (drop i (padded (length buffer) report)) ≡ same (drop (i + 1) buffer) (drop (i + 1) (padded (length buffer) report))
-    held_agree e = rw (heads, eq-eqb _ _ e)
+  pub zeros_behind : {behind : List ℕ} → behind ≡ drop (length report) buffer → length behind + length report ≡ length buffer
+      → pointwise nat_eq (take (length report) buffer) report ≡ true → same buffer (padded (length buffer) report) ≡ list_all (λ b. b == 0) behind
+  zeros_behind {behind} is long e =
+      let left : length buffer - length report ≡ length behind = omega arith in
+      rw (held buffer report (zeros (length buffer - length report)), e, left, ← is) (zeros_held behind)
 
 made_of : {n m l k : ℕ} {x y : List ℕ} → n ≡ m → l ≡ k → x ≡ y
     → ◌≡◌ {A = Answer} (record { number = n; written = l; buffer = x }) (record { number = m; written = k; buffer = y })

@@ -1,7 +1,8 @@
 -- Rows of the list, and the counts of those that are left.
-use Rattle.laws.proofs.Prelude.{◌≡◌, refl, ap, ◌∙◌, List, [], ◌∷◌, ℕ, zero, suc, ◌+◌, ◌*◌, ◌≤◌, ◌<◌, arith, length, get_or, drop}
+use Rattle.laws.proofs.Prelude.{◌≡◌, refl, ap, ◌∙◌, List, [], ◌∷◌, ℕ, zero, suc, ◌+◌, ◌≤◌, ◌<◌, arith, length, take, drop}
 use Rattle.laws.specs.Decoded.{Decoded, ok, no, on_ok, and_then, return}
 use Rattle.laws.proofs.Decoding.{on_ok_ok, on_ok_no}
+use Rattle.std.specs.Int.{from_le_bytes, w32}
 use Rattle.wire.specs.Fields.{byte}
 use Rattle.sheet.specs.Sheet.{ending}
 use Rattle.replay.specs.Stored.{Row, four_bytes, row, rows, stored_rows}
@@ -10,14 +11,13 @@ use Rattle.replay.specs.declared.{Ran.Ran, Counts.Counts}
 use Rattle.std.specs.Prelude.{Option, Some, None}
 
 -- a number of four bytes, or too few
-pub four_front : (s : List ℕ) → 4 ≤ length s
-    → four_bytes s ≡ ok (get_or s 0 0 + 256 * get_or s 1 0 + 65536 * (get_or s 2 0 + 256 * get_or s 3 0)) (drop 4 s)
+pub four_front : (s : List ℕ) → 4 ≤ length s → four_bytes s ≡ ok (from_le_bytes w32 (take 4 s)) (drop 4 s)
 unfolding four_bytes byte
 four_front [] h = absurd (omega arith)
 four_front (a ∷ []) h = absurd (omega arith)
 four_front (a ∷ b ∷ []) h = absurd (omega arith)
 four_front (a ∷ b ∷ c ∷ []) h = absurd (omega arith)
-four_front (a ∷ b ∷ c ∷ d ∷ s) h = refl
+four_front (a ∷ b ∷ c ∷ d ∷ s) h = ap (λ n. ok n s) (omega arith)
 
 pub four_short : (s : List ℕ) → length s < 4 → four_bytes s ≡ no 2
 unfolding four_bytes byte

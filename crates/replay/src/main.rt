@@ -5,7 +5,8 @@
 // length and bytes of the report. Numbers take four bytes, low byte first.
 #![tactic(auto)]
 
-ghost use Rattle.std.specs.Prelude.{◌≡◌, List, ℕ, ◌+◌, ◌≤◌, length};
+ghost use Rattle.std.specs.Prelude.{◌≡◌, ◌==◌, List, ℕ, ◌+◌, ◌≤◌, length};
+ghost use Rattle.std.specs.List.{list_all};
 ghost use Rattle.laws.specs.Decoded.{on_ok};
 ghost use Rattle.laws.specs.code.Told.{Bounded, Told};
 ghost use Rattle.input.specs.code.InputWithin.{InputWithin};
@@ -21,7 +22,6 @@ use module_info::module_info;
 use report::writer::Outcome;
 use std::fs::File;
 use std::io;
-use text::bytes::byte_at;
 
 // The bytes that are read at most.
 const SPACE: usize = 131072;
@@ -42,18 +42,12 @@ struct Counts {
 }
 
 // A number of four bytes.
-#[tactic(auto, using(crate::proofs::StoredRows::four_short))]
+#[tactic(auto, using(crate::proofs::StoredRows::four_front, crate::proofs::StoredRows::four_short))]
 fn number(list: &[u8]) -> Option<(usize, &[u8])>
     ensures { Told number_as (four_bytes list.now) NumberFits result }
 {
-    match list {
-        [a, b, c, d, next @ ..] => {
-            let low = *a as usize + 256 * (*b as usize);
-            let high = *c as usize + 256 * (*d as usize);
-            Some((low + 65536 * high, next))
-        }
-        _ => None,
-    }
+    let (bytes, next) = list.split_first_chunk()?;
+    Some((u32::from_le_bytes(*bytes) as usize, next))
 }
 
 // The bytes behind a length, if the list holds them whole.
@@ -65,17 +59,22 @@ fn piece(list: &[u8]) -> Option<(&[u8], &[u8])>
     next.split_at_checked(n)
 }
 
+// Is every byte zero?
+fn all_zero(bytes: &[u8]) -> bool
+    ensures { result ≡ list_all (λ b. b == 0) bytes.now }
+{
+    bytes.iter().all(|b| *b == 0)
+}
+
 // The report begins the buffer, and every byte behind it is zero.
-#[tactic(auto, using(crate::proofs::Compared::held_end, crate::proofs::Compared::held_differ, crate::proofs::Compared::held_agree))]
+#[tactic(auto, using(crate::proofs::Compared::other_front, crate::proofs::Compared::zeros_behind))]
 fn holds_report(buffer: &[u8], report: &[u8]) -> bool
     ensures { result ≡ same buffer.now (padded (length buffer.now) report.now) }
 {
-    for i in 0..buffer.len() {
-        if byte_at(buffer, i) != byte_at(report, i) {
-            return false;
-        }
+    match buffer.strip_prefix(report) {
+        Some(behind) => all_zero(behind),
+        None => false,
     }
-    report.len() <= buffer.len()
 }
 
 // The number of an answer.

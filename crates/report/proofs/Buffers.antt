@@ -1,12 +1,13 @@
 -- Writing into a buffer part by part: a byte has room or not, parts one after the other are written as one, and no byte changes nothing.
-use Rattle.laws.proofs.Prelude.{◌≡◌, refl, sym, ◌∙◌, Bool, true, false, cond, List, [], ◌∷◌, ◌++◌, append_assoc, append-nil, ℕ, ◌+◌, ◌≤◌, ◌<◌, add-one, arith, eqb}
-use Rattle.laws.proofs.Prelude.{leb, length, take, drop, set, length-append, length-drop, length-take, length-set, length-take-le, take_all, leb-false, le-leb, lt-leb, ne_eqb}
+use Rattle.laws.proofs.Prelude.{◌≡◌, refl, sym, ◌∙◌, Bool, true, false, cond, List, [], ◌∷◌, ◌++◌, append_assoc, append-nil, ℕ, ◌+◌, ◌≤◌, ◌<◌, add-one, arith, Option}
+use Rattle.laws.proofs.Prelude.{leb, length, take, drop, set, length-append, length-drop, length-take, length-set, length-take-le, take_all, leb-false, le-leb, lt-leb}
+use Rattle.std.specs.Prelude.{None, Some}
 use native.Mathlib.Nat.{add_assoc}
 use lib.Seq.{take-suc-set}
 use borrow.Rule.Slice.PartMut.{put_mid}
 use Rattle.std.proofs.lemmas.Slice.{take-put_mid}
 use Rattle.report.specs.declared.writer.Writer.{Writer}
-use Rattle.report.specs.Buffer.{Buffer, holds, full, wrote, full_place, buffer_as, Written, written_as, more, Wrote, Keeps}
+use Rattle.report.specs.Buffer.{Buffer, holds, full, wrote, buffer_as, Written, written_as, more, Wrote, Keeps}
 
 pub wrote_append : (w : Buffer) (a b : List ℕ) → wrote w (a ++ b) ≡ wrote (wrote w a) b
 unfolding wrote
@@ -19,65 +20,41 @@ wrote_append (holds size xs) a b = by_room (leb (length xs + length a) size) ref
         let over : size < length xs + (length a + length b) = omega (arith, leb-false (length xs + length a) size e) in
         rw (e, length-append a b, lt-leb (length xs + (length a + length b)) size over)
 
-pub wrote_nil : (out : List ℕ) (p : ℕ) → wrote (buffer_as out p) [] ≡ buffer_as out p
+pub wrote_nil : (out : List ℕ) (p : Option ℕ) → wrote (buffer_as out p) [] ≡ buffer_as out p
 unfolding wrote
-wrote_nil out p = by_full (eqb p full_place)
-  where
-    by_full : (t : Bool) →
-        wrote (cond t (full (length out)) (holds (length out) (take p out))) [] ≡ cond t (full (length out)) (holds (length out) (take p out))
-    by_full true = refl
-    by_full false =
-        let room : length (take p out) + 0 ≤ length out = omega (arith, length-take p out) in
-        rw (le-leb (length (take p out) + 0) (length out) room, append-nil)
+wrote_nil out None = refl
+wrote_nil out (Some p) =
+    let room : length (take p out) + 0 ≤ length out = omega (arith, length-take p out) in
+    rw (le-leb (length (take p out) + 0) (length out) room, append-nil)
 
 module _ (out : List ℕ) (at : ℕ) where
-  -- no buffer is as long as the largest number
-  pub put_room : (b : ℕ) → length out < 9223372036854775808 → at < length out →
-      buffer_as (set out at b) (at + 1) ≡ wrote (buffer_as out at) (b ∷ [])
+  pub put_room : (b : ℕ) → at < length out → buffer_as (set out at b) (Some (at + 1)) ≡ wrote (buffer_as out (Some at)) (b ∷ [])
   unfolding wrote
-  put_room b l h =
-      rw (
-        ne_eqb (at + 1) full_place (λ e. omega (arith, e, l, h)),
-        ne_eqb at full_place (λ e. omega (arith, e, l, h)),
-        length-take-le at out (omega arith),
-        le-leb (at + 1) (length out) (omega arith),
-        length-set,
-        add-one,
-        take-suc-set out at b h,
-      )
+  put_room b h =
+      rw (length-take-le at out (omega arith), le-leb (at + 1) (length out) (omega arith), length-set, add-one, take-suc-set out at b h)
 
-  pub bytes_room : (s : List ℕ) → length out < 9223372036854775808 → at + length s ≤ length out →
-      buffer_as (put_mid at (length s) out s) (at + length s) ≡ wrote (buffer_as out at) s
+  pub put_none : (b : ℕ) → length out ≤ at → full (length out) ≡ wrote (buffer_as out (Some at)) (b ∷ [])
   unfolding wrote
-  bytes_room s l h =
+  put_none b h = rw (take_all at out h, lt-leb (length out + 1) (length out) (omega arith))
+
+  pub bytes_room : (s : List ℕ) → at + length s ≤ length out →
+      buffer_as (put_mid at (length s) out s) (Some (at + length s)) ≡ wrote (buffer_as out (Some at)) s
+  unfolding wrote
+  bytes_room s h =
       let front : take (at + length s) (put_mid at (length s) out s) ≡ take at out ++ s = take-put_mid at (length s) out s (at + length s) refl (omega arith) in
       let size : length (put_mid at (length s) out s) ≡ length out = omega (arith, length-append (take at out) (s ++ drop (length s) (drop at out)), length-append s (drop (length s) (drop at out)), length-take-le at out (omega arith), length-drop (length s) (drop at out), length-drop at out) in
-      rw (
-        ne_eqb (at + length s) full_place (λ e. omega (arith, e, l, h)),
-        ne_eqb at full_place (λ e. omega (arith, e, l, h)),
-        size,
-        front,
-        length-take-le at out (omega arith),
-        le-leb (at + length s) (length out) h,
-      )
+      rw (size, front, length-take-le at out (omega arith), le-leb (at + length s) (length out) h)
 
-  pub bytes_none : (s : List ℕ) → 0 < length s → length out < at + length s → full (length out) ≡ wrote (buffer_as out at) s
+  pub bytes_none : (s : List ℕ) → 0 < length s → length out < at + length s → full (length out) ≡ wrote (buffer_as out (Some at)) s
   unfolding wrote
-  bytes_none s some h = by_full (eqb at full_place)
-    where
-      by_full : (t : Bool) → full (length out) ≡ wrote (cond t (full (length out)) (holds (length out) (take at out))) s
-      by_full true = refl
-      by_full false =
-          let long : length out < length (take at out) + length s = omega (arith, length-take at out) in
-          rw (lt-leb (length (take at out) + length s) (length out) long)
+  bytes_none s some h =
+      let long : length out < length (take at out) + length s = omega (arith, length-take at out) in
+      rw (lt-leb (length (take at out) + length s) (length out) long)
 
-  pub put_none : (b : ℕ) → length out ≤ at → full (length out) ≡ wrote (buffer_as out at) (b ∷ [])
-  unfolding wrote
-  put_none b h = by_full (eqb at full_place)
-    where
-      by_full : (t : Bool) → full (length out) ≡ wrote (cond t (full (length out)) (holds (length out) (take at out))) (b ∷ [])
-      by_full true = refl
-      by_full false = rw (take_all at out h, lt-leb (length out + 1) (length out) (omega arith))
+-- nothing is written once the buffer is full
+pub full_stays : (out bs : List ℕ) → full (length out) ≡ wrote (buffer_as out None) bs
+unfolding wrote
+full_stays out bs = refl
 
 -- a writer at another place, or with another buffer under the same loan
 pub wrote_here : (before after : Writer) (bs : List ℕ) →
@@ -100,6 +77,12 @@ more_nil w = λ i. record { loan = w.out.ghost_name; buffer = wrote_nil w.out.no
 pub wrote_none : (w : Writer) → Wrote w w []
 wrote_none w = sym (more_nil w)
 
+-- a byte, or bytes, written where there is room or none
+pub ruleset room = (wrote_here, wrote_none, put_room, put_none, bytes_room, bytes_none, full_stays)
+
+-- what is written part by part
+pub ruleset parts = (more_append, more_cons, more_nil)
+
 -- how many bytes a buffer has
 size_of : Buffer → ℕ
 size_of (holds n xs) = n
@@ -114,13 +97,10 @@ size_of_wrote (holds n xs) bs = by_room (leb (length xs + length bs) n)
     by_room true = refl
     by_room false = refl
 
-size_of_lent : (out : List ℕ) (at : ℕ) → size_of (buffer_as out at) ≡ length out
+size_of_lent : (out : List ℕ) (at : Option ℕ) → size_of (buffer_as out at) ≡ length out
 unfolding size_of
-size_of_lent out at = by_full (eqb at full_place)
-  where
-    by_full : (t : Bool) → size_of (cond t (full (length out)) (holds (length out) (take at out))) ≡ length out
-    by_full true = refl
-    by_full false = refl
+size_of_lent out None = refl
+size_of_lent out (Some at) = refl
 
 -- what is written leaves the buffer the same, and as long
 pub wrote_keeps : (before after : Writer) (bs : List ℕ) → Wrote before after bs → Keeps before after

@@ -1,6 +1,6 @@
 -- Reports byte by byte, as document 01 states them: what the definitions encode and decode.
 use Rattle.std.specs.Prelude.{Some, None}
-use Rattle.laws.proofs.Prelude.{◌≡◌, refl, true, false, List, [], ◌∷◌, map, flat_map, Option, ℕ}
+use Rattle.laws.proofs.Prelude.{◌≡◌, refl, true, false, List, [], ◌∷◌, map, flat_map, ℕ}
 use Rattle.laws.specs.{Decoded.ok, Ascii.ascii}
 use Rattle.wire.specs.Fields.{byte, below, numbered, flag, bytes}
 use Rattle.wire.specs.Number.{last_group, groups, number, encode_groups, encode_number}

@@ -3,6 +3,7 @@ pub mod ReadBack
 pub mod Buffers
 pub mod Answers
 mod Numbers
+mod Lossy
 pub mod Modes
 mod Cases
 pub mod Ranges

@@ -17,3 +17,5 @@ module _ (n : ℕ) where
   unfolding encode_groups
   next_group zero l h = absurd (omega arith)
   next_group (suc left) l h = let down : suc left - 1 ≡ left = omega arith in rw (le-ltb n 128 h, down)
+
+pub ruleset groups_left = (no_group_lem, last_group_lem, next_group)

@@ -1,6 +1,6 @@
 -- A valid module's information is read back from its report, so that no two have one report.
 use Rattle.std.specs.Prelude.{Some, None}
-use Rattle.laws.proofs.Prelude.{◌≡◌, refl, true, false, List, [], ◌∷◌, ◌++◌, append_assoc, flat_map, Option, ℕ, length}
+use Rattle.laws.proofs.Prelude.{◌≡◌, refl, true, false, List, [], ◌∷◌, ◌++◌, append_assoc, flat_map, ℕ, length}
 use Rattle.laws.specs.{Decoded.ok, Decoded.Decoder, Codec.IfThere, Codec.All}
 use Rattle.wire.{specs.Fields.byte, specs.Text.encode_text, specs.Optional.encode_optional, specs.Optional.optional, proofs.NumberCodec.number_codec}
 use Rattle.wire.proofs.{TextCodec.flag_codec, TextCodec.bytes_codec, Numbered.numbered_codec}

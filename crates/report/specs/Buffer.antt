@@ -1,5 +1,5 @@
 -- A lent buffer that is written from the front, and stops where it is full.
-use Rattle.std.specs.Prelude.{◌≡◌, cond, List, ◌++◌, ℕ, ◌+◌, eqb, leb, length, take}
+use Rattle.std.specs.Prelude.{◌≡◌, cond, List, ◌++◌, ℕ, ◌+◌, leb, length, take, None, Option, Some}
 use Rattle.std.specs.Borrow.{GName}
 use Rattle.report.specs.declared.writer.Writer.{Writer}
 
@@ -13,13 +13,15 @@ unfoldable pub wrote : Buffer → List ℕ → Buffer
 wrote (holds size xs) bs = cond (leb (length xs + length bs) size) (holds size (xs ++ bs)) (full size)
 wrote (full size) bs = full size
 
--- full: past every buffer, the largest number of the machine
-abbrev pub full_place : ℕ
-full_place = 18446744073709551615
+-- what a buffer with a place in it stands for, or without one once it is full
+abbrev pub buffer_as : List ℕ → Option ℕ → Buffer
+buffer_as out (Some at) = holds (length out) (take at out)
+buffer_as out None = full (length out)
 
--- what a buffer with a place in it stands for
-abbrev pub buffer_as : List ℕ → ℕ → Buffer
-buffer_as out at = cond (eqb at full_place) (full (length out)) (holds (length out) (take at out))
+-- the bytes of it before the place, or all
+abbrev pub standing : List ℕ → Option ℕ → List ℕ
+standing out (Some at) = take at out
+standing out None = out
 
 -- what a writer has written: into which buffer, by the name of its loan, and what stands there
 pub record Written : Type 0 where

@@ -7,7 +7,6 @@ use Rattle.wire.specs.Refusals as refusals
 use Rattle.wire.specs.Fields.{byte, Values, numbered, flag, bytes}
 use Rattle.wire.specs.Number.{number}
 use Rattle.wire.specs.Optional.{optional}
-use Rattle.analysis.specs.declared.mode.TypeScriptTypesResolutionMode.{TypeScriptTypesResolutionMode}
 use Rattle.analysis.specs.declared.mode.TypeScriptTypesResolutionMode.TheVariants.{Import, Require}
 use Rattle.analysis.specs.Mode.{Mode}
 use Rattle.report.specs.declared.names.DependencyKind.{DependencyKind}

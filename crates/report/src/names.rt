@@ -1,7 +1,8 @@
-// The kinds of dependencies, the number of each, and the kind of each number.
+// The kinds of dependencies, references, arguments and attributes by their numbers. Any other is the last.
 ghost use Rattle.std.specs.Prelude.{◌≡◌};
 ghost use Rattle.wire.specs.Fields.{value_of};
 ghost use Rattle.report.specs.Names.{static_number, dynamic_number, dependency_kinds};
+ghost use Rattle.report.specs.code.Kinds.{reference_kinds, argument_kinds, attributes_kinds};
 
 #[derive(Clone, Copy, Debug, PartialEq, Eq)]
 pub enum StaticDependencyKind {
@@ -16,10 +17,12 @@ pub enum StaticDependencyKind {
     MaybeTsModuleAugmentation = 8,
 }
 
-pub fn static_number(kind: StaticDependencyKind) -> u8
-    ensures { result ≡ static_number kind }
-{
-    kind as u8
+impl From<StaticDependencyKind> for u8 {
+    ghost from_gives = { λ kind n. n ≡ static_number kind };
+
+    fn from(kind: StaticDependencyKind) -> u8 {
+        kind as u8
+    }
 }
 
 #[derive(Clone, Copy, Debug, PartialEq, Eq)]
@@ -30,10 +33,12 @@ pub enum DynamicDependencyKind {
     Require = 12,
 }
 
-pub fn dynamic_number(kind: DynamicDependencyKind) -> u8
-    ensures { result ≡ dynamic_number kind }
-{
-    kind as u8
+impl From<DynamicDependencyKind> for u8 {
+    ghost from_gives = { λ kind n. n ≡ dynamic_number kind };
+
+    fn from(kind: DynamicDependencyKind) -> u8 {
+        kind as u8
+    }
 }
 
 // A kind of either enum.
@@ -43,22 +48,79 @@ pub enum DependencyKind {
     Dynamic(DynamicDependencyKind),
 }
 
-pub fn dependency_kind(n: usize) -> DependencyKind
-    ensures { result ≡ value_of dependency_kinds n }
-{
-    match n {
-        0 => DependencyKind::Static(StaticDependencyKind::Import),
-        1 => DependencyKind::Static(StaticDependencyKind::ImportDefer),
-        2 => DependencyKind::Static(StaticDependencyKind::ImportSource),
-        3 => DependencyKind::Static(StaticDependencyKind::ImportType),
-        4 => DependencyKind::Static(StaticDependencyKind::ImportEquals),
-        5 => DependencyKind::Static(StaticDependencyKind::Export),
-        6 => DependencyKind::Static(StaticDependencyKind::ExportType),
-        7 => DependencyKind::Static(StaticDependencyKind::ExportEquals),
-        8 => DependencyKind::Static(StaticDependencyKind::MaybeTsModuleAugmentation),
-        9 => DependencyKind::Dynamic(DynamicDependencyKind::Import),
-        10 => DependencyKind::Dynamic(DynamicDependencyKind::ImportDefer),
-        11 => DependencyKind::Dynamic(DynamicDependencyKind::ImportSource),
-        _ => DependencyKind::Dynamic(DynamicDependencyKind::Require),
+impl From<usize> for DependencyKind {
+    ghost from_gives = { λ n kind. kind ≡ value_of dependency_kinds n };
+
+    fn from(n: usize) -> DependencyKind {
+        match n {
+            0 => DependencyKind::Static(StaticDependencyKind::Import),
+            1 => DependencyKind::Static(StaticDependencyKind::ImportDefer),
+            2 => DependencyKind::Static(StaticDependencyKind::ImportSource),
+            3 => DependencyKind::Static(StaticDependencyKind::ImportType),
+            4 => DependencyKind::Static(StaticDependencyKind::ImportEquals),
+            5 => DependencyKind::Static(StaticDependencyKind::Export),
+            6 => DependencyKind::Static(StaticDependencyKind::ExportType),
+            7 => DependencyKind::Static(StaticDependencyKind::ExportEquals),
+            8 => DependencyKind::Static(StaticDependencyKind::MaybeTsModuleAugmentation),
+            9 => DependencyKind::Dynamic(DynamicDependencyKind::Import),
+            10 => DependencyKind::Dynamic(DynamicDependencyKind::ImportDefer),
+            11 => DependencyKind::Dynamic(DynamicDependencyKind::ImportSource),
+            _ => DependencyKind::Dynamic(DynamicDependencyKind::Require),
+        }
+    }
+}
+
+#[derive(Clone, Copy, Debug, PartialEq, Eq)]
+pub enum ReferenceKind {
+    Path,
+    Types,
+}
+
+impl From<usize> for ReferenceKind {
+    ghost from_gives = { λ n kind. kind ≡ value_of reference_kinds n };
+
+    fn from(n: usize) -> ReferenceKind {
+        match n {
+            0 => ReferenceKind::Path,
+            _ => ReferenceKind::Types,
+        }
+    }
+}
+
+#[derive(Clone, Copy, Debug, PartialEq, Eq)]
+pub enum ArgumentKind {
+    Expr,
+    String,
+    Template,
+}
+
+impl From<usize> for ArgumentKind {
+    ghost from_gives = { λ n kind. kind ≡ value_of argument_kinds n };
+
+    fn from(n: usize) -> ArgumentKind {
+        match n {
+            0 => ArgumentKind::Expr,
+            1 => ArgumentKind::String,
+            _ => ArgumentKind::Template,
+        }
+    }
+}
+
+#[derive(Clone, Copy, Debug, PartialEq, Eq)]
+pub enum AttributesKind {
+    None,
+    Unknown,
+    Known,
+}
+
+impl From<usize> for AttributesKind {
+    ghost from_gives = { λ n kind. kind ≡ value_of attributes_kinds n };
+
+    fn from(n: usize) -> AttributesKind {
+        match n {
+            0 => AttributesKind::None,
+            1 => AttributesKind::Unknown,
+            _ => AttributesKind::Known,
+        }
     }
 }

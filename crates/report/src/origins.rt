@@ -20,10 +20,12 @@ pub enum EntryRule {
     DenoTypes = 10,
 }
 
-fn rule_number(rule: EntryRule) -> u8
-    ensures { result ≡ rule_number rule }
-{
-    rule as u8
+impl From<EntryRule> for u8 {
+    ghost from_gives = { λ rule n. n ≡ rule_number rule };
+
+    fn from(rule: EntryRule) -> u8 {
+        rule as u8
+    }
 }
 
 // Writes the rule's number and the place in the source.
@@ -31,6 +33,6 @@ fn rule_number(rule: EntryRule) -> u8
 pub fn put_origin(rule: EntryRule, offset: usize, w: &mut Writer)
     ensures { Wrote w.old w.new (encode_origin (record { rule = rule; offset = offset })) }
 {
-    w.put(rule_number(rule));
+    w.put(u8::from(rule));
     w.put_number(offset);
 }

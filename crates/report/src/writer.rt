@@ -1,5 +1,5 @@
 // The writer into a lent buffer: it fills the buffer from the front, and once a byte finds no room nothing more is written.
-ghost use Rattle.std.specs.Prelude.{◌≡◌, [], ◌∷◌, length, take};
+ghost use Rattle.std.specs.Prelude.{◌≡◌, [], ◌∷◌, length};
 ghost use Rattle.text.specs.Lossy.{lossy, replaced};
 ghost use Rattle.wire.specs.Fields.{encode_flag};
 ghost use Rattle.wire.specs.Number.{encode_number};
@@ -7,7 +7,7 @@ ghost use Rattle.wire.specs.Text.{encode_text};
 ghost use Rattle.wire.specs.Refusals.{number_of};
 ghost use Rattle.report.specs.Encode.{encode_position, encode_range, encode_specifier};
 ghost use Rattle.report.specs.Range.{range_of, InSource};
-ghost use Rattle.report.specs.Buffer.{buffer_as, Wrote};
+ghost use Rattle.report.specs.Buffer.{buffer_as, standing, Wrote};
 ghost use Rattle.report.specs.Answer.{cleared_from, refused_with, answered, outcome_as};
 ghost use Rattle.report.specs.code.Lossy.{Replacing};
 
@@ -16,14 +16,11 @@ use sheet::fields::Span;
 use text::position::Position;
 use wire::refusals::Refusal;
 
-// Past every buffer: full.
-const FULL: usize = 18446744073709551615;
-
-// The lent buffer, and where the next byte goes, or `FULL` once a byte found no room.
+// The lent buffer, and where the next byte goes; nowhere once a byte found no room.
 #[derive(Drop)]
 pub struct Writer<'a> {
     pub out: &'a mut [u8],
-    pub at: usize,
+    pub at: Option<usize>,
 }
 
 // The report's length, or a refusal.
@@ -32,20 +29,22 @@ pub type Outcome = Result<usize, Refusal>;
 impl<'a> Writer<'a> {
     // Nothing is written yet.
     pub fn new(out: &'a mut [u8]) -> Writer<'a>
-        ensures { result ≡ record { out = out.entry; at = 0 } }
+        ensures { result ≡ record { out = out.entry; at = Some 0 } }
     {
-        Writer { out, at: 0 }
+        Writer { out, at: Some(0) }
     }
 
     // Writes a byte.
+    #[tactic(auto, using(crate::proofs::Buffers::room))]
     pub fn put(&mut self, b: u8)
         ensures { Wrote self.old self.new (b ∷ []) }
     {
-        if self.at < self.out.len() {
-            self.out[self.at] = b;
-            self.at += 1;
-        } else {
-            self.at = FULL;
+        match self.at {
+            Some(at) if at < self.out.len() => {
+                self.out[at] = b;
+                self.at = Some(at + 1);
+            }
+            _ => self.at = None,
         }
     }
 
@@ -58,6 +57,7 @@ impl<'a> Writer<'a> {
     }
 
     // Writes a number, in at most five groups.
+    #[tactic(auto, using(crate::proofs::Buffers::parts, crate::proofs::Numbers::groups_left), unfolding(wire::specs::Number::encode_number))]
     pub fn put_number(&mut self, n: usize)
         ensures { Wrote self.old self.new (encode_number n) }
     {
@@ -72,16 +72,19 @@ impl<'a> Writer<'a> {
     }
 
     // Writes bytes.
+    #[tactic(auto, using(crate::proofs::Buffers::room, std::proofs::lemmas::List::nil_from_length))]
     pub fn put_bytes(&mut self, s: &[u8])
         ensures { Wrote self.old self.new s.now }
     {
-        let at = self.at;
+        let Some(at) = self.at else {
+            return;
+        };
         let room = self.out.len().saturating_sub(at);
         if room < s.len() {
-            self.at = FULL;
+            self.at = None;
         } else if 0 < s.len() {
             self.out[at..at + s.len()].copy_from_slice(s);
-            self.at = at + s.len();
+            self.at = Some(at + s.len());
         }
     }
 
@@ -95,6 +98,7 @@ impl<'a> Writer<'a> {
     }
 
     // Writes the bytes of a text in WTF-8, with U+FFFD for each surrogate, and counts these.
+    #[tactic(auto, using(crate::proofs::Buffers::parts, crate::proofs::Lossy::characters_left))]
     fn put_lossy(&mut self, s: &[u8]) -> usize
         ensures { Replacing (Wrote self.old self.new (lossy s.now)) (result ≡ replaced s.now) }
     {
@@ -169,20 +173,22 @@ impl<'a> Writer<'a> {
 
     // How many bytes stand in the buffer.
     pub fn written(&self) -> usize
-        ensures { result ≡ length (take self.now.at self.now.out.now) }
+        ensures { result ≡ length (standing self.now.out.now self.now.at) }
     {
-        self.at.min(self.out.len())
+        let size = self.out.len();
+        self.at.map_or(size, |at| at.min(size))
     }
 
     // The end of the report: every byte past it is zero; refusal 10 where a byte found no room.
+    #[tactic(auto, using(crate::proofs::Answers::accepted_at))]
     pub fn finish(self) -> Outcome
         ensures { outcome_as result self.exit.0.now
             ≡ answered (length self.entry.out.now) (buffer_as self.entry.out.now self.entry.at) }
     {
         let Writer { out, at } = self;
-        if at == FULL {
+        let Some(at) = at else {
             return refuse_all(out, Refusal::Buffer);
-        }
+        };
         clear_from(out, at);
         Ok(at.min(out.len()))
     }

@@ -1,15 +1,16 @@
 -- What a report's fields read as, from the bytes that stand for them.
-use Rattle.std.specs.Prelude.{Some, None, Ok, Err, MatchOption, unwrap_or}
+use Rattle.std.specs.Prelude.{not, Some, None, Ok, Err, MatchOption, unwrap_or}
 use Rattle.std.specs.{Borrow.Bor, Result.result_unwrap_or, List.IsSplitAt}
 use Rattle.laws.proofs.Prelude.{◌≡◌, refl, sym, ap, ◌∙◌, Bool, true, false, List, ◌∷◌, ◌++◌, append_assoc, Option, ℕ, ◌≤◌, ◌<◌, arith, length, take}
-use Rattle.laws.proofs.Prelude.{drop, length-append, take-append_seam, drop-append_seam, lt-ltb}
-use Rattle.laws.{specs.Decoded.ok, specs.Decoded.no, proofs.Decoding.refused}
-use Rattle.wire.{specs.Fields.encode_flag, specs.Text.encode_text, specs.Optional.encode_optional, proofs.NumberCodec.number_codec}
+use Rattle.laws.proofs.Prelude.{drop, length-append, take-append_seam, drop-append_seam, eqb, lt-ltb}
+use Rattle.laws.{specs.Decoded.ok, specs.Decoded.no, specs.Codec.IfThere, proofs.Decoding.refused}
+use Rattle.wire.{specs.Fields.encode_flag, specs.Fields.value_of, specs.Text.encode_text, specs.Optional.encode_optional, proofs.NumberCodec.number_codec}
 use Rattle.wire.specs.code.Views.{Reading, read_as}
 use Rattle.wire.specs.Number.{largest, number, encode_groups, encode_number}
-use Rattle.report.specs.ModuleInfo.{DynamicArgument, expr, string, template}
-use Rattle.report.specs.{Encode.encode_list, Encode.encode_argument, Valid.Short}
-use Rattle.report_reader.specs.code.FromFront.{ReadsBack, Number}
+use Rattle.report.specs.declared.names.ArgumentKind.TheVariants as arguments
+use Rattle.report.specs.ModuleInfo.{DynamicTemplatePart, DynamicArgument, expr, string, template}
+use Rattle.report.specs.{code.Kinds.argument_kinds, Encode.encode_list, Encode.encode_argument, Valid.Short}
+use Rattle.report_reader.specs.code.FromFront.{ReadsBack, Skips, Number, Flag}
 
 -- a number, as the wire's reader answers it
 module _ (s : List ℕ) where
@@ -42,40 +43,35 @@ module _ {s : List ℕ} {value : ℕ} {next : List ℕ} (number : Number s value
   flag_read true t e = (byte_read 1 (omega arith) t e).1
   flag_read false t e = (byte_read 0 (omega arith) t e).1
 
-  -- what may be there, by the byte before it
-  module _ {A : Type 0} (f : A → List ℕ) where
-    pub none_there : value ≡ 0 → (o : Option A) (t : List ℕ) → s ≡ encode_optional f o ++ t → (o ≡ None) × (next ≡ t)
-    unfolding encode_optional
-    none_there z None t e = (refl, (byte_read 0 (omega arith) t e).1)
-    none_there z (Some a) t e = let one = (byte_read 1 (omega arith) (f a ++ t) e).0 in absurd (omega arith)
-
-    pub some_there : (value ≡ 0 → ⊥) → (o : Option A) (t : List ℕ) → s ≡ encode_optional f o ++ t →
-        (a : A) × (o ≡ Some a) × (next ≡ f a ++ t)
-    unfolding encode_optional
-    some_there z None t e = absurd (z (byte_read 0 (omega arith) t e).0)
-    some_there z (Some a) t e = (a, refl, (byte_read 1 (omega arith) (f a ++ t) e).1)
+  -- the flag that it stands for
+  pub flag_told : Flag s (not (eqb value 0)) next
+  flag_told false v t e = let (n, d) = byte_read 0 (omega arith) t e in (rw n, d)
+  flag_told true v t e = let (n, d) = byte_read 1 (omega arith) t e in (rw n, d)
 
   -- a dynamic argument, by its kind
-  pub text_argument : value ≡ 1 → (x : DynamicArgument) (t : List ℕ) → s ≡ encode_argument x ++ t
-      → (y : List ℕ) × (x ≡ string y) × (next ≡ encode_text y ++ t)
-  unfolding encode_argument
-  text_argument h expr t e = absurd (omega (arith, (byte_read 0 (omega arith) t e).0))
-  text_argument h (string y) t e = (y, refl, (byte_read 1 (omega arith) (encode_text y ++ t) e).1)
-  text_argument h (template l) t e = absurd (omega (arith, (byte_read 2 (omega arith) (encode_list (encode_optional encode_text) l ++ t) e).0))
-
-  pub parts_argument : value ≡ 2 → (x : DynamicArgument) (t : List ℕ) → s ≡ encode_argument x ++ t
-      → (l : List (Option (List ℕ))) × (x ≡ template l) × (next ≡ encode_list (encode_optional encode_text) l ++ t)
-  unfolding encode_argument
-  parts_argument h expr t e = absurd (omega (arith, (byte_read 0 (omega arith) t e).0))
-  parts_argument h (string y) t e = absurd (omega (arith, (byte_read 1 (omega arith) (encode_text y ++ t) e).0))
-  parts_argument h (template l) t e = (l, refl, (byte_read 2 (omega arith) (encode_list (encode_optional encode_text) l ++ t) e).1)
-
-  pub no_argument : (value ≡ 1 → ⊥) → (value ≡ 2 → ⊥) → (x : DynamicArgument) (t : List ℕ) → s ≡ encode_argument x ++ t
+  pub expr_argument : arguments.Expr ≡ value_of argument_kinds value → (x : DynamicArgument) (t : List ℕ)
+      → s ≡ encode_argument x ++ t
       → (x ≡ expr) × (next ≡ t)
   unfolding encode_argument
-  no_argument h k expr t e = (refl, (byte_read 0 (omega arith) t e).1)
-  no_argument h k (string y) t e = absurd (h (byte_read 1 (omega arith) (encode_text y ++ t) e).0)
-  no_argument h k (template l) t e = absurd (k (byte_read 2 (omega arith) (encode_list (encode_optional encode_text) l ++ t) e).0)
+  expr_argument h expr t e = (refl, (byte_read 0 (omega arith) t e).1)
+  expr_argument h (string y) t e = let h = rw (byte_read 1 (omega arith) (encode_text y ++ t) e).0 at h in cc
+  expr_argument h (template l) t e = let h = rw (byte_read 2 (omega arith) (encode_list (encode_optional encode_text) l ++ t) e).0 at h in cc
+
+  pub string_argument : arguments.String ≡ value_of argument_kinds value → (x : DynamicArgument) (t : List ℕ)
+      → s ≡ encode_argument x ++ t
+      → (y : List ℕ) × (x ≡ string y) × (next ≡ encode_text y ++ t)
+  unfolding encode_argument
+  string_argument h expr t e = let h = rw (byte_read 0 (omega arith) t e).0 at h in cc
+  string_argument h (string y) t e = (y, refl, (byte_read 1 (omega arith) (encode_text y ++ t) e).1)
+  string_argument h (template l) t e = let h = rw (byte_read 2 (omega arith) (encode_list (encode_optional encode_text) l ++ t) e).0 at h in cc
+
+  pub template_argument : arguments.Template ≡ value_of argument_kinds value → (x : DynamicArgument) (t : List ℕ)
+      → s ≡ encode_argument x ++ t
+      → (l : List DynamicTemplatePart) × (x ≡ template l) × (next ≡ encode_list (encode_optional encode_text) l ++ t)
+  unfolding encode_argument
+  template_argument h expr t e = let h = rw (byte_read 0 (omega arith) t e).0 at h in cc
+  template_argument h (string y) t e = let h = rw (byte_read 1 (omega arith) (encode_text y ++ t) e).0 at h in cc
+  template_argument h (template l) t e = (l, refl, (byte_read 2 (omega arith) (encode_list (encode_optional encode_text) l ++ t) e).1)
 
   -- a text, by the number of its bytes
   text_read : value ≤ length next → ReadsBack encode_text Short s (take value next) (drop value next)
@@ -96,3 +92,24 @@ module _ {s : List ℕ} {value : ℕ} {next : List ℕ} (number : Number s value
       → {v : Bor (List ℕ) × Bor (List ℕ)} → v ≡ unwrap_or r d → ReadsBack encode_text Short s v.0.now v.1.now
   text_or (Some p) d h is = rw (is, h.1, h.2) (text_read h.0)
   text_or None d h is = text_short _ _ h
+
+-- what may be there, by the flag before it
+module _ {s next : List ℕ} {value : Bool} (flag : Flag s value next) {A : Type 0} (f : A → List ℕ) where
+  pub none_there : value ≡ false → (o : Option A) (t : List ℕ) → s ≡ encode_optional f o ++ t
+      → (o ≡ None) × (next ≡ t)
+  unfolding encode_optional
+  none_there z None t e = (refl, (flag false tt t e).1)
+  none_there z (Some a) t e = let h = (flag true tt (f a ++ t) e).0 in cc
+
+  pub some_there : value ≡ true → (o : Option A) (t : List ℕ) → s ≡ encode_optional f o ++ t
+      → (a : A) × (o ≡ Some a) × (next ≡ f a ++ t)
+  unfolding encode_optional
+  some_there z None t e = let h = (flag false tt t e).0 in cc
+  some_there z (Some a) t e = (a, refl, (flag true tt (f a ++ t) e).1)
+
+  pub none_skipped : (P : A → Type 0) → value ≡ false → Skips (encode_optional f) (IfThere P) s next
+  none_skipped P z o v t e = (none_there z o t e).1
+
+  pub some_skipped : (P : A → Type 0) {behind : List ℕ} → value ≡ true → Skips f P next behind
+      → Skips (encode_optional f) (IfThere P) s behind
+  some_skipped P z skips o v t e = let (a, p, e) = some_there z o t e in skips a (rw p at v) t e

@@ -1,4 +1,3 @@
 -- What the values of the code stand for. No promise leads here: these definitions are checked, not believed.
-pub mod Elements
 pub mod FromFront
 pub mod Dependencies

@@ -5,18 +5,16 @@ ghost use Rattle.report_reader.specs.code.FromFront.{Skips};
 ghost use Rattle.report_reader.specs.code.Dependencies.{ReadsDependency};
 
 use super::fields::{
-    read_number, read_range, read_text, skip_attributes, skip_list, skip_optional_specifier,
+    Element, Specifier, TemplatePart, Text, read_flag, read_number, read_range, read_text,
+    skip_attributes, skip_list, skip_optional,
 };
-use report::names::{DependencyKind, StaticDependencyKind, dependency_kind};
+use report::names::{ArgumentKind, DependencyKind, StaticDependencyKind};
 
-// A static dependency: its kind, and its specifier's text. Nothing of a dynamic one.
+// A static dependency: its kind, and its specifier's text.
 #[derive(Clone, Copy)]
-pub enum DependencyRead<'a> {
-    Static {
-        kind: StaticDependencyKind,
-        specifier: &'a [u8],
-    },
-    Dynamic,
+pub struct StaticRead<'a> {
+    pub kind: StaticDependencyKind,
+    pub specifier: &'a [u8],
 }
 
 // Skips the argument of a dynamic dependency.
@@ -24,35 +22,29 @@ fn skip_argument(s: &[u8]) -> &[u8]
     ensures { Skips encode_argument ValidArgument s.now result.now }
 {
     let (kind, next) = read_number(s);
-    match kind {
-        1 => {
-            let (_, next) = read_text(next);
-            next
-        }
-        2 => skip_list(next, false),
-        _ => next,
+    match ArgumentKind::from(kind) {
+        ArgumentKind::Expr => next,
+        ArgumentKind::String => Text::skip(next),
+        ArgumentKind::Template => skip_list::<TemplatePart>(next),
     }
 }
 
-// A dependency.
-pub fn read_dependency(s: &[u8]) -> (DependencyRead<'_>, &[u8])
+// A dependency, of which only a static one is told.
+pub fn read_dependency(s: &[u8]) -> (Option<StaticRead<'_>>, &[u8])
     ensures { ReadsDependency s.now result }
 {
-    let (number, next) = read_number(s);
-    let next = skip_optional_specifier(next);
-    match dependency_kind(number) {
+    let (kind, next) = read_number(s);
+    let next = skip_optional::<Specifier>(next);
+    match DependencyKind::from(kind) {
         DependencyKind::Static(kind) => {
             let (specifier, next) = read_text(next);
             let (_, next) = read_range(next);
-            let (_, next) = read_number(next);
-            (
-                DependencyRead::Static { kind, specifier },
-                skip_attributes(next),
-            )
+            let (_, next) = read_flag(next);
+            (Some(StaticRead { kind, specifier }), skip_attributes(next))
         }
         DependencyKind::Dynamic(_) => {
             let (_, next) = read_range(skip_argument(next));
-            (DependencyRead::Dynamic, skip_attributes(next))
+            (None, skip_attributes(next))
         }
     }
 }

@@ -1,16 +1,19 @@
 // The reading of a report's fields from the front of some bytes: what is read, and the bytes behind it. Nothing is said of what is read where no such
 // field stands.
-ghost use Rattle.std.specs.Prelude.{◌≡◌, length};
+ghost use Rattle.std.specs.Prelude.{◌≡◌, List, ℕ, length};
 ghost use mathlib.Core.List.{flat_map};
 ghost use Rattle.laws.specs.Codec.{IfThere, All};
 ghost use Rattle.laws.specs.code.Told.{Bounded};
 ghost use Rattle.wire.specs.Text.{encode_text};
 ghost use Rattle.wire.specs.Optional.{encode_optional};
-ghost use Rattle.report.specs.Encode.{encode_list, encode_range, encode_specifier, encode_attributes};
-ghost use Rattle.report.specs.Valid.{Short, ValidPosition, ValidRange, ValidSpecifier, ValidAttributes};
-ghost use Rattle.report_reader.specs.code.FromFront.{ReadsBack, Skips, Number};
-ghost use Rattle.report_reader.specs.code.Elements.{encode_element, ValidElement};
+ghost use Rattle.report.specs.ModuleInfo.{SpecifierWithRange, KeyValue, DynamicTemplatePart};
+ghost use Rattle.report.specs.Encode.{encode_list, encode_range, encode_specifier};
+ghost use Rattle.report.specs.Encode.{encode_key_value, encode_attributes};
+ghost use Rattle.report.specs.Valid.{Short, ValidPosition, ValidRange, ValidSpecifier};
+ghost use Rattle.report.specs.Valid.{ValidKeyValue, ValidAttributes};
+ghost use Rattle.report_reader.specs.code.FromFront.{ReadsBack, Skips, Number, Flag};
 
+use report::names::AttributesKind;
 use text::position::Position;
 use wire::Cursor;
 
@@ -26,6 +29,15 @@ pub fn read_number(s: &[u8]) -> (usize, &[u8])
     ensures { Number s.now result.0 result.1.now }
 {
     s.number().unwrap_or((0, &[]))
+}
+
+// A flag: a byte, 0 or 1.
+#[tactic(auto, using(crate::proofs::FromBytes::flag_told))]
+pub fn read_flag(s: &[u8]) -> (bool, &[u8])
+    ensures { Flag s.now result.0 result.1.now }
+{
+    let (byte, next) = read_number(s);
+    (byte != 0, next)
 }
 
 // A text: a number, and as many bytes.
@@ -60,66 +72,117 @@ pub fn read_range(s: &[u8]) -> (PositionRange, &[u8])
     (range, next)
 }
 
-fn skip_optional_text(s: &[u8]) -> &[u8]
-    ensures { Skips (encode_optional encode_text) (IfThere Short) s.now result.now }
-{
-    let (flag, next) = read_number(s);
-    if flag == 0 {
-        return next;
-    }
-    let (_, next) = read_text(next);
-    next
+// What is skipped, after a flag or in a list.
+pub trait Element {
+    ghost Item: { Type 0 };
+
+    ghost encode: { Item → List ℕ };
+
+    ghost Valid: { Item → Type 0 };
+
+    fn skip(s: &[u8]) -> &[u8]
+        ensures { Skips encode Valid s.now result.now };
 }
 
-pub fn skip_optional_specifier(s: &[u8]) -> &[u8]
-    ensures { Skips (encode_optional encode_specifier) (IfThere ValidSpecifier) s.now result.now }
-{
-    let (flag, next) = read_number(s);
-    if flag == 0 {
-        return next;
-    }
-    let (_, next) = read_text(next);
-    let (_, next) = read_range(next);
-    next
-}
+pub struct Text;
 
-// Skips an attribute, which has a key, or a part of a template.
-fn skip_part(s: &[u8], keyed: bool) -> &[u8]
-    ensures { Skips (encode_element keyed) (ValidElement keyed) s.now result.now }
-{
-    if keyed {
+impl Element for Text {
+    ghost Item = { List ℕ };
+
+    ghost encode = { encode_text };
+
+    ghost Valid = { Short };
+
+    fn skip(s: &[u8]) -> &[u8] {
         let (_, next) = read_text(s);
-        return skip_optional_text(next);
+        next
     }
-    skip_optional_text(s)
 }
 
-// Skips so many of them.
-fn skip_parts(s: &[u8], keyed: bool, count: usize) -> &[u8]
-    ensures { Skips (flat_map (encode_element keyed)) (λ l. (length l ≡ count) × All (ValidElement keyed) l) s.now result.now }
+// A text and its range.
+pub struct Specifier;
+
+impl Element for Specifier {
+    ghost Item = { SpecifierWithRange };
+
+    ghost encode = { encode_specifier };
+
+    ghost Valid = { ValidSpecifier };
+
+    #[tactic(auto, unfolding(report::specs::Encode::encode_specifier))]
+    fn skip(s: &[u8]) -> &[u8] {
+        let (_, next) = read_text(s);
+        let (_, next) = read_range(next);
+        next
+    }
+}
+
+// An attribute: its key, and its value if that is a text.
+pub struct Attribute;
+
+impl Element for Attribute {
+    ghost Item = { KeyValue };
+
+    ghost encode = { encode_key_value };
+
+    ghost Valid = { ValidKeyValue };
+
+    #[tactic(auto, unfolding(report::specs::Encode::encode_key_value))]
+    fn skip(s: &[u8]) -> &[u8] {
+        let (_, next) = read_text(s);
+        skip_optional::<Text>(next)
+    }
+}
+
+// A part of a template: its text, if it has one.
+pub struct TemplatePart;
+
+impl Element for TemplatePart {
+    ghost Item = { DynamicTemplatePart };
+
+    ghost encode = { encode_optional encode_text };
+
+    ghost Valid = { IfThere Short };
+
+    fn skip(s: &[u8]) -> &[u8] {
+        skip_optional::<Text>(s)
+    }
+}
+
+// Skips an element if it is there.
+pub fn skip_optional<E: Element>(s: &[u8]) -> &[u8]
+    ensures { Skips (encode_optional E.encode) (IfThere E.Valid) s.now result.now }
+{
+    let (flag, next) = read_flag(s);
+    if flag { E::skip(next) } else { next }
+}
+
+// Skips so many elements.
+fn skip_elements<E: Element>(s: &[u8], count: usize) -> &[u8]
+    ensures { Skips (flat_map E.encode) (λ l. (length l ≡ count) × All E.Valid l) s.now result.now }
 {
     let mut next = s;
     for _ in 0..count {
-        next = skip_part(next, keyed);
+        next = E::skip(next);
     }
     next
 }
 
-// Skips a list of them.
+// Skips a list.
 #[tactic(auto, unfolding(report::specs::Encode::encode_list))]
-pub fn skip_list(s: &[u8], keyed: bool) -> &[u8]
-    ensures { Skips (encode_list (encode_element keyed)) (λ l. Short l × All (ValidElement keyed) l) s.now result.now }
+pub fn skip_list<E: Element>(s: &[u8]) -> &[u8]
+    ensures { Skips (encode_list E.encode) (λ l. Short l × All E.Valid l) s.now result.now }
 {
     let (count, next) = read_number(s);
-    skip_parts(next, keyed, count)
+    skip_elements::<E>(next, count)
 }
 
 pub fn skip_attributes(s: &[u8]) -> &[u8]
     ensures { Skips encode_attributes ValidAttributes s.now result.now }
 {
     let (kind, next) = read_number(s);
-    if kind == 2 {
-        return skip_list(next, true);
+    match AttributesKind::from(kind) {
+        AttributesKind::Known => skip_list::<Attribute>(next),
+        AttributesKind::None | AttributesKind::Unknown => next,
     }
-    next
 }

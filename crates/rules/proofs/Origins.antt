@@ -1,12 +1,13 @@
 -- Origins and entries stand one to one, and how the origins are written.
-use Rattle.laws.proofs.Prelude.{◌≡◌, refl, sym, ap, ◌∙◌, true, List, [], ◌∷◌, map, flat_map, ℕ, zero, suc, ◌+◌, ◌-◌, ◌*◌, ◌≤◌, ◌<◌, zero-add, arith}
-use Rattle.laws.proofs.Prelude.{add-one, length, drop, get_or, drop_of_length-le, drop-cons}
+use Rattle.laws.proofs.Prelude.{◌≡◌, refl, sym, ap, ◌∙◌, true, List, [], ◌∷◌, map, flat_map, ℕ, zero, suc, ◌+◌, ◌*◌, ◌≤◌, ◌<◌, arith}
+use Rattle.laws.proofs.Prelude.{◌++◌, add-one, length, take, drop, get_or, drop_of_length-le, drop-cons}
 use lib.ListN.{length-map}
 use Rattle.laws.{specs.Aligned.Aligned, specs.Codec.All, specs.Decoded.ok, proofs.Aligned.aligned_append, proofs.Lists.flat_map_append}
 use Rattle.text.specs.{declared.utf8.Encoding.TheVariants.Utf8, Utf8.formed}
+use Rattle.sheet.specs.code.Commented.{Commented}
 use Rattle.sheet.specs.{Fit.Fit, Limits.entry_limit, Walked.entries, Sheet.Sheet, Sheet.accept}
 use Rattle.sheet_codec.proofs.EntryBytes.{few_entries}
-use Rattle.report.{specs.Origin.encode_origin, specs.Buffer.Written, specs.Buffer.more, proofs.Buffers.more_append}
+use Rattle.report.{specs.Origin.encode_origin, specs.declared.writer.Writer.Writer, specs.Buffer.Written, specs.Buffer.written_as, specs.Buffer.more, proofs.Buffers.more_append, proofs.Buffers.more_nil}
 use Rattle.pragmas.specs.Asks.{self_types_rule, jsx_import_source_rule, jsx_import_source_types_rule}
 use Rattle.pragmas.specs.Pragmas.{head_comments, end_comments, types_at}
 use Rattle.pragmas.specs.Texts.{types_of}
@@ -14,12 +15,13 @@ use Rattle.pragmas.specs.Origins.{types_origins, head_origins}
 use Rattle.pragmas.proofs.GivenFrom.{types_from_lem, references_from, first_from, source_map_from}
 use Rattle.jsdoc_list.{proofs.Origins.jsdoc_origins_kept}
 use Rattle.dep_entries.specs.Entries.{Noted}
-use Rattle.dep.{specs.Collect.starts_of, proofs.Counted.counted, proofs.Counted.noted_first, proofs.Turns.types_at_start}
+use Rattle.std.specs.Simd.{first_chunks}
+use Rattle.dep.{specs.Collect.starts_of, specs.Collect.numbers_of, proofs.Counted.counted, proofs.Counted.noted_first, proofs.Turns.types_at_start}
 use Rattle.module_info.specs.{Information.module_info, Replaced.noted, Replaced.notes_with}
-use Rattle.rules.specs.code.{Pieces.comment_origins, Rows.starts_from}
+use Rattle.rules.specs.code.{Pieces.comment_origins, Rows.starts_in}
 use Rattle.rules.specs.Rules.{types_in, entries_of, OriginFor, origins_in, rules_of}
 use Rattle.rules.specs.Rules as entry
-use Rattle.module_info.proofs.{Notes.held_whole, Notes.start_noted, Accepted.meets}
+use Rattle.module_info.proofs.{Notes.held_whole, Accepted.meets}
 
 -- a relation to what a function gives
 aligned_of : {A B C : Type 0} {P : B → C → Type 0} (f : A → B) {l : List A} {m : List C} → Aligned (λ a. P (f a)) l m → Aligned P (map f l) m
@@ -60,25 +62,26 @@ rules_written t u are types rest = rw (rest, types, are) (simp (flat_map_append,
 
 -- ---- the starts in the rows of the notes
 
-module _ (notes : List ℕ) (k n : ℕ) where
-  pub starts_next : k < n → starts_from notes k (n - k) ≡ get_or notes (1 + 2 * k) 0 ∷ starts_from notes (k + 1) (n - (k + 1))
-  unfolding starts_from
-  starts_next h =
-      let more : n - k ≡ suc (n - (k + 1)) = omega arith in
-      rw more
+-- the origins of types in bytes, for nodes that start there
+abbrev pub types_bytes : Commented → List ℕ → List ℕ
+types_bytes c starts = flat_map encode_origin (flat_map (types_origins c.source c.comments c.groups) starts)
 
-  pub starts_end : n ≤ k → starts_from notes k (n - k) ≡ []
-  unfolding starts_from
-  starts_end h =
-      let none : n - k ≡ 0 = omega arith in
-      rw none
+module _ (c : Commented) (rows : List (List ℕ)) (i : ℕ) where
+  pub types_next : (u : Written) (d : List ℕ) {v : Written} → i < length rows
+      → v ≡ more u (flat_map encode_origin (types_origins c.source c.comments c.groups (get_or (get_or rows i d) 0 0)))
+      → more u (types_bytes c (starts_in (drop i rows))) ≡ more v (types_bytes c (starts_in (drop (i + 1) rows)))
+  unfolding flat_map
+  types_next u d h e = rw (add-one, drop-cons rows i d h, e, flat_map_append, more_append)
 
-starts_behind : (notes starts : List ℕ) → ((i : ℕ) → i < length starts → get_or notes (1 + 2 * i) 0 ≡ get_or starts i 0)
-    → (k n : ℕ) → k + n ≡ length starts → starts_from notes k n ≡ drop k starts
-unfolding starts_from
-starts_behind notes starts at k zero e = sym (drop_of_length-le starts {i = k} (omega arith))
-starts_behind notes starts at k (suc n) e =
-    rw (drop-cons starts k 0 (omega arith), at k (omega arith), add-one k) (ap (get_or starts k 0 ∷◌) (starts_behind notes starts at (suc k) n (omega arith)))
+  pub types_end : (w : Writer) → length rows ≤ i → more (written_as w) (types_bytes c (starts_in (drop i rows))) ≡ written_as w
+  unfolding flat_map
+  types_end w h = rw (drop_of_length-le rows h) (more_nil w)
+
+rows_start : (l : List Noted) (rest : List ℕ) (k : ℕ) → length l ≤ k → starts_in (take (length l) (first_chunks 2 k (numbers_of l ++ rest))) ≡ starts_of l
+unfolding flat_map
+rows_start [] rest k h = refl
+rows_start (e ∷ l) rest zero h = absurd (omega arith)
+rows_start (e ∷ l) rest (suc k) h = ap (e.start ∷◌) (rows_start l rest k (omega arith))
 
 -- each dependency is noted
 noted_many : (t : Sheet) → length (noted t) ≡ entries t.root
@@ -86,15 +89,13 @@ noted_many t =
     sym (length-map (noted t) (λ (e : Noted). e.entry)) ∙ ap length (noted_first t.source (types_at t) t.root) ∙ counted t.source (types_at t) t.root
 
 -- there is room for the rows of all dependencies of an accepted sheet
-pub few_rows : (s : List ℕ) {t : Sheet} → accept s ≡ ok t [] → (notes : List ℕ) → length notes ≡ 1 + 2 * entry_limit → 1 + 2 * entries t.root ≤ length notes
-few_rows s e notes long = omega (arith, long, few_entries (meets s e))
+pub few_rows : (s : List ℕ) {t : Sheet} → accept s ≡ ok t [] → entries t.root ≤ entry_limit
+few_rows s e = few_entries (meets s e)
 
 -- and the starts in them are theirs
-pub starts_held : (t : Sheet) {notes : List ℕ} (size : ℕ) → 1 + 2 * entries t.root ≤ size → notes ≡ notes_with size (noted t) 0
-    → starts_from notes 0 (entries t.root) ≡ starts_of (noted t)
-starts_held t {notes} size room held =
-    let as_many = noted_many t in
-    let rows = held ∙ held_whole size (noted t) (rw (← as_many) at room) in
-    rw (← as_many, rows)
-    (starts_behind _ (starts_of (noted t)) (λ i h. start_noted (noted t) _ _ i (rw (length-map (noted t) (λ (e : Noted). e.start)) at h)) 0
-    (length (noted t)) (zero-add _ ∙ sym (length-map (noted t) (λ (e : Noted). e.start))))
+pub starts_held : (t : Sheet) {notes tail : List ℕ} {rows : List (List ℕ)} (k n : ℕ) → rows ≡ first_chunks 2 k tail → tail ≡ drop 1 notes
+    → entries t.root ≡ n → n ≤ k → 1 + 2 * n ≤ length notes → notes ≡ notes_with (length notes) (noted t) 0 → starts_in (take n rows) ≡ starts_of (noted t)
+starts_held t {notes} k n chunks behind count few room held =
+    let as_many = noted_many t ∙ count in
+    let whole = held ∙ held_whole (length notes) (noted t) (omega (arith, as_many, room)) in
+    rw (chunks, behind, whole, ← as_many) (rows_start (noted t) _ k (omega (arith, as_many, few)))

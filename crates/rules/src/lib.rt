@@ -1,11 +1,11 @@
 // Each entry with its rule: beside the report, how each types specifier, reference, pragma and JSDoc import was found.
 #![tactic(auto)]
 
-ghost use Rattle.std.specs.Prelude.{◌≡◌, ℕ, ◌+◌, ◌*◌, ◌≤◌, length, Ok};
+ghost use Rattle.std.specs.Prelude.{◌≡◌, ℕ, ◌+◌, ◌*◌, length, Ok};
 ghost use mathlib.Core.List.{List, [], flat_map};
 ghost use Rattle.laws.specs.Decoded.{ok};
+ghost use Rattle.sheet.specs.Limits.{entry_limit};
 ghost use Rattle.sheet.specs.Sheet.{Sheet, accept};
-ghost use Rattle.sheet.specs.Walked.{entries};
 ghost use Rattle.report.specs.Buffer.{Wrote};
 ghost use Rattle.report.specs.Origin.{encode_origin};
 ghost use Rattle.report.specs.Encode.{encode};
@@ -13,9 +13,9 @@ ghost use Rattle.report.specs.Answer.{outcome_as, fitted};
 ghost use Rattle.pragmas.specs.Origins.{types_origins};
 ghost use Rattle.dep.specs.Collect.{starts_of};
 ghost use Rattle.module_info.specs.Information.{module_info, default_info};
-ghost use Rattle.module_info.specs.Replaced.{noted};
+ghost use Rattle.module_info.specs.Replaced.{noted, notes_with};
 ghost use Rattle.rules.specs.code.Pieces.{comment_origins};
-ghost use Rattle.rules.specs.code.Rows.{starts_from};
+ghost use Rattle.rules.specs.code.Rows.{starts_in};
 ghost use Rattle.wire.specs.Refusals.{number_of};
 ghost use Rattle.rules.specs.Rules.{Ruled, rules_of, refused_both, both_fitted, both_as, DemandsOfBoth, ruled_number, ruled_lengths};
 
@@ -38,21 +38,30 @@ pub struct Lengths {
 // What is answered: both lengths, or a refusal.
 pub type Ruled = Result<Lengths, Refusal>;
 
-// Room for how many numbers are noted, and for the rows of as many dependencies as a sheet can have.
+// Room for the notes: how many numbers follow, and a row for each of as many dependencies as a sheet can have.
 const NOTE_NUMBERS: usize = 1 + 2 * ENTRY_LIMIT;
 
+// The rows in the notes of an accepted sheet, one for each dependency.
+fn rows_in<'a>(accepted: &Accepted, notes: &'a [usize]) -> &'a [[usize; 2]]
+    requires { length notes.now ≡ 1 + 2 * entry_limit }
+    ensures { (t : Sheet) → accept accepted.now ≡ ok t []
+        → notes.now ≡ notes_with (length notes.now) (noted t) 0
+        → starts_in result.now ≡ starts_of (noted t) }
+{
+    let (rows, _) = notes[1..].as_chunks::<2>();
+    &rows[..accepted.parts().tree.entries]
+}
+
 // Writes the origins of types, dependency by dependency, by where the node of each starts.
-fn put_types_rules(accepted: &Accepted, notes: &[usize], w: &mut Writer)
-    requires { (t : Sheet) → accept accepted.now ≡ ok t [] → 1 + 2 * entries t.root ≤ length notes.now }
+fn put_types_rules(accepted: &Accepted, rows: &[[usize; 2]], w: &mut Writer)
     ensures { (t : Sheet) → accept accepted.now ≡ ok t [] → Wrote w.old w.new
         (flat_map encode_origin (flat_map
         (types_origins t.source t.comments t.groups)
-        (starts_from notes.now 0 (entries t.root)))) }
+        (starts_in rows.now))) }
 {
     let comments = accepted.comments();
-    let tree = accepted.parts().tree;
-    for k in 0..tree.entries {
-        put_types_origins(&comments, notes[1 + 2 * k], w);
+    for row in rows {
+        put_types_origins(&comments, row[0], w);
     }
 }
 
@@ -72,14 +81,13 @@ fn put_comment_rules(accepted: &Accepted, w: &mut Writer)
     put_end_origins(&end, w);
 }
 
-// Writes the rules of an accepted sheet, with the starts of its dependencies' nodes in the notes.
-fn put_rules(accepted: &Accepted, notes: &[usize], w: &mut Writer)
-    requires { (t : Sheet) → accept accepted.now ≡ ok t [] → 1 + 2 * entries t.root ≤ length notes.now }
+// Writes the rules of an accepted sheet, with the starts of its dependencies' nodes in the rows.
+fn put_rules(accepted: &Accepted, rows: &[[usize; 2]], w: &mut Writer)
     ensures { (t : Sheet) → accept accepted.now ≡ ok t []
-        → starts_from notes.now 0 (entries t.root) ≡ starts_of (noted t)
+        → starts_in rows.now ≡ starts_of (noted t)
         → Wrote w.old w.new (rules_of t) }
 {
-    put_types_rules(accepted, notes, w);
+    put_types_rules(accepted, rows, w);
     put_comment_rules(accepted, w);
 }
 
@@ -122,7 +130,7 @@ fn write_ruled_report(accepted: &Accepted, buffer: &mut [u8], rules: &mut [u8]) 
         Err(refusal) => refuse_both(refusal, buffer, rules),
         Ok(n) => {
             let mut w = Writer::new(rules);
-            put_rules(accepted, &notes, &mut w);
+            put_rules(accepted, rows_in(accepted, &notes), &mut w);
             finish_rules(n, w.finish(), buffer)
         }
     }

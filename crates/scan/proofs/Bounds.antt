@@ -1,12 +1,13 @@
 -- The scan sum of n bytes is at most n(n − 1), halved; of a star-opened body at most (n − 1)(n − 2), halved, which a star and braces reach.
+use Rattle.std.specs.Prelude.{◌^◌}
 use Rattle.laws.proofs.Prelude.{◌≡◌, refl, ap, ◌∙◌, Bool, true, false, cond, false≢true, and-eq-true_iff, List, [], ◌∷◌, ℕ, zero, suc, ◌+◌, ◌-◌, ◌*◌, ◌≤◌}
-use Rattle.laws.proofs.Prelude.{code, arith, eqb, length, replicate, length-replicate, eqb-true}
+use Rattle.laws.proofs.Prelude.{◌<◌, code, arith, eqb, length, drop, length-drop, replicate, length-replicate, eqb-true}
 use native.Mathlib.Nat.{mul-suc, suc-mul, mul-le-mul}
 use borrow.Author.Tests.{eqb-false}
 use Rattle.text.specs.Bytes.{begins}
 use Rattle.scan.specs.Scan.{scan_length, scan_sum, star_opened, longest}
 use Rattle.scan.specs.Dearest.{star_and_braces, Dearest}
-use Rattle.scan.proofs.Steps.{ends, within, other, brace, no_brace}
+use Rattle.scan.proofs.Steps.{ends, within, other, brace, no_brace, left, at_end, back_brace, back_other}
 
 -- one byte more adds 2n to n(n − 1)
 grows : (n : ℕ) → suc n * (suc n - 1) ≡ n * (n - 1) + 2 * n
@@ -31,6 +32,12 @@ small s h =
     let less : length s - 1 ≤ longest = omega arith in
     let below : length s * (length s - 1) ≤ longest * longest = mul-le-mul h less in
     omega (arith, sum_bound s)
+
+-- also what is left of a body, and one more scan over it
+pub room : (s : List ℕ) (i : ℕ) → length s ≤ longest → scan_sum (drop i s) + scan_length (drop i s) < 2 ^ 64
+room s i h = omega (arith, within (drop i s), small (drop i s) (omega (arith, length-drop i s)), length-drop i s)
+
+pub ruleset sums = (at_end, left, back_brace, back_other, room)
 
 -- the star adds nothing
 starred : (s : List ℕ) → scan_sum (code "*" ∷ s) ≡ scan_sum s

@@ -1,6 +1,7 @@
 -- Scan length and scan sum from one byte on, by those from the next byte on.
-use Rattle.laws.proofs.Prelude.{◌≡◌, refl, sym, true, false, List, [], ◌∷◌, ℕ, suc, ◌+◌, ◌-◌, ◌≤◌, ◌<◌, code, arith, zero-add, add-one, length, get_or, drop}
+use Rattle.laws.proofs.Prelude.{◌≡◌, refl, sym, true, false, List, [], ◌∷◌, ℕ, suc, ◌+◌, ◌-◌, ◌≤◌, ◌<◌, code, arith, zero-add, add-one, length, get_or, take, drop, length-drop, take_all}
 use Rattle.laws.proofs.Prelude.{drop-cons, eq-eqb, ne_eqb}
+use lib.Seq.{drop-length}
 use native.Mathlib.Nat.{add_comm, zero-min, min-zero, suc-min-suc}
 use Rattle.laws.specs.Ascii.{ascii}
 use Rattle.text.specs.Bytes.{begins}
@@ -39,16 +40,29 @@ module _ (x : ℕ) (s : List ℕ) where
   unfolding scan_sum
   no_brace n = rw (ne_eqb _ _ n, zero-add)
 
--- the scan length from one place of a body on, by that from the next place on
-module _ (s : List ℕ) (at : ℕ) (h : at < length s) where
-  pub at_close : get_or s at 0 ≡ code "}" → 0 ≡ scan_length (drop at s)
-  at_close e = rw (drop-cons s at 0 h) (sym (close _ _ e))
+-- the scan length of what is left of a body, by that from the next byte on
+pub at_close : (s : List ℕ) → 0 < length s → get_or s 0 0 ≡ code "}" → 0 ≡ scan_length s
+at_close [] h e = absurd (omega arith)
+at_close (x ∷ s) h e = sym (close x s e)
 
-  pub at_import : begins (ascii "import") (drop at s) ≡ true → 0 ≡ scan_length (drop at s)
-  at_import e = rw (drop-cons s at 0 h) (sym (word _ _ (rw (drop-cons s at 0 h) at e)))
+pub at_import : (s : List ℕ) → 0 < length s → begins (ascii "import") s ≡ true → 0 ≡ scan_length s
+at_import [] h e = absurd (omega arith)
+at_import (x ∷ s) h e = sym (word x s e)
 
-  pub at_other : (get_or s at 0 ≡ code "}" → ⊥) → begins (ascii "import") (drop at s) ≡ false → scan_length (drop (at + 1) s) + 1 ≡ scan_length (drop at s)
-  at_other n e = rw (add-one at, add-one, drop-cons s at 0 h) (sym (other _ _ n (rw (drop-cons s at 0 h) at e)))
+pub at_other : (s : List ℕ) → 0 < length s → (get_or s 0 0 ≡ code "}" → ⊥) → begins (ascii "import") s ≡ false
+    → scan_length (drop 1 s) + 1 ≡ scan_length s
+at_other [] h n e = absurd (omega arith)
+at_other (x ∷ s) h n e = rw add-one (sym (other x s n e))
+
+pub ruleset lengths = (within, at_close, at_import, at_other)
+
+-- the bytes of `&s[i..]`
+pub left : (s : List ℕ) (i : ℕ) → take (length s - i) (drop i s) ≡ drop i s
+left s i = take_all (length s - i) (drop i s) (omega (arith, length-drop i s))
+
+-- nothing is left at the end
+pub at_end : (s : List ℕ) → (0 ≡ scan_length (drop (length s) s)) × (0 ≡ scan_sum (drop (length s) s))
+at_end s = rw drop-length (sym ends, sym none)
 
 -- the scan sum from one place of a body on, by what the place behind it has
 module _ (s : List ℕ) (i : ℕ) (some : 0 < i) (h : i ≤ length s) where

@@ -1,7 +1,7 @@
 // The scan sum of a comment's body: how many bytes a search from each `{` goes over, all in all.
 #![tactic(auto)]
 
-ghost use Rattle.std.specs.Prelude.{◌≡◌, ◌+◌, ◌≤◌, ◌<◌, length, drop};
+ghost use Rattle.std.specs.Prelude.{◌≡◌, ◌≤◌, ◌<◌, length, drop};
 ghost use Rattle.scan.specs.Scan.{scan_length, scan_sum, scanned, longest};
 ghost use Rattle.scan.specs.Answers.{Counted, packed};
 
@@ -10,18 +10,20 @@ use text::bytes::starts_with;
 // The longest body, in bytes.
 pub const LONGEST: usize = 32764;
 
-// How far a scan goes from `at` on; `behind` is how far it goes from the next byte on.
-fn length_at(body: &[u8], at: usize, behind: u64) -> u64
-    requires { (at < length body.now) × (behind ≡ scan_length (drop (at + 1) body.now)) }
-    ensures { result ≡ scan_length (drop at body.now) }
+// How far a scan goes over what is left of a body; `behind` is how far it goes from the next byte on.
+#[tactic(auto, using(crate::proofs::Steps::lengths))]
+fn length_of(rest: &[u8], behind: u64) -> u64
+    requires { (0 < length rest.now) × (behind ≡ scan_length (drop 1 rest.now)) }
+    ensures { result ≡ scan_length rest.now }
 {
-    if body[at] == b'}' || starts_with(body, at, b"import") {
+    if rest[0] == b'}' || starts_with(rest, 0, b"import") {
         return 0;
     }
     behind + 1
 }
 
 // The scan sum, in one pass from the right: `ahead` is how far a scan goes from `i` on.
+#[tactic(auto, using(crate::proofs::Bounds::sums))]
 fn sum_of(body: &[u8]) -> u64
     requires { length body.now ≤ longest }
     ensures { result ≡ scan_sum body.now }
@@ -32,12 +34,13 @@ fn sum_of(body: &[u8]) -> u64
         if body[i] == b'{' {
             sum += ahead;
         }
-        ahead = length_at(body, i, ahead);
+        ahead = length_of(&body[i..], ahead);
     }
     sum
 }
 
 // The scan sum of a body, or nothing for one that is too long or not star-opened.
+#[tactic(auto, using(crate::proofs::Answered::counted, crate::proofs::Answered::too_long, crate::proofs::Answered::not_opened))]
 pub fn scan_sum(body: &[u8]) -> Option<u64>
     ensures { Counted body.now result }
 {
@@ -49,6 +52,7 @@ pub fn scan_sum(body: &[u8]) -> Option<u64>
 }
 
 // The same as one number, the C interface: 0 for nothing, else the sum and 1.
+#[tactic(auto, using(crate::proofs::Answered::answered_small))]
 pub fn scan_sum_answer(body: &[u8]) -> u64
     ensures { result ≡ packed (scanned body.now) }
 {

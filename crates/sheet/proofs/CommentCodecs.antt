@@ -1,12 +1,12 @@
 -- Codecs of positions, comments and groups: what holds of those that were decoded.
 use Rattle.laws.proofs.Prelude.{◌≡◌, refl, Bool, true, ◌&&◌, and-eq-true_iff, List, append-nil, ℕ, ◌+◌, ◌≤◌, leb, ltb, length, ltb-true, leb-true, lt-ltb}
 use Rattle.laws.proofs.Prelude.{le-leb}
-use Rattle.laws.{specs.Decoded.ok, specs.Codec.Codec, proofs.Decoding.value, proofs.Decoding.then_ok}
+use Rattle.laws.{specs.Decoded.ok, specs.Codec.Codec}
 use Rattle.laws.proofs.Codecs.{built_return, built_then, built_require, codec_of, codec_as, tested, built_free}
 use Rattle.text.{specs.Position.Boundary, specs.Position.is_boundary, proofs.Boundary.is_boundary_iff}
 use Rattle.wire.{specs.Number.largest, specs.Number.encode_number, proofs.NumberCodec.number_codec, proofs.Numbered.numbered_codec}
-use Rattle.sheet.specs.declared.{fields.Span.Span, comments.Comment.Comment, groups.Group.Group, names.Side.Side}
-use Rattle.sheet.specs.Fields.{position, end_from, span}
+use Rattle.sheet.specs.declared.{comments.Comment.Comment, groups.Group.Group, names.Side.Side}
+use Rattle.sheet.specs.Fields.{position, end_from}
 use Rattle.sheet.specs.Comments.{slice, marked, comment, encode_comment, group, encode_group}
 use Rattle.sheet.specs.Fit.{Placed, Reaching}
 use Rattle.sheet.proofs.{EnumNumbers.kind_numbers, EnumNumbers.side_numbers, Marks.marked_iff}
@@ -41,14 +41,10 @@ module _ (source : List ℕ) where
   unfolding end_from
   end_codec start = codec_as (tested position_codec (leb start) 6) (λ p v. (v.0, le-leb start p v.1)) (λ p v. (v.0, leb-true start p v.1))
 
-  -- a span is a part of the source
-  pub span_part : (s : List ℕ) {sp : Span} {t : List ℕ} → span source s ≡ ok sp t → (sp.start ≤ sp.end) × (sp.end ≤ length source)
-  unfolding span
-  span_part s e =
-      let (start, u, x, e) = then_ok (position source s) _ e in
-      let (end, v, y, e) = then_ok (end_from source start u) _ e in
-      let (at, order) = ((end_codec start).sound u end v y).1 in
-      rw (← value e) (order, at.boundary.0)
+  -- from a start to an end is a part of the source
+  pub span_part : {start : ℕ} (s : List ℕ) {end : ℕ} {t : List ℕ} → end_from source start s ≡ ok end t
+      → (start ≤ end) × (end ≤ length source)
+  span_part {start} s {end} {t} e = let (at, order) = ((end_codec start).sound s end t e).1 in (order, at.boundary.0)
 
   pub comment_codec : (last : ℕ) → Codec (comment source last) encode_comment (PlacedBehind source last)
   unfolding comment

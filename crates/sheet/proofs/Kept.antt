@@ -13,7 +13,7 @@ use Rattle.sheet.specs.Tree.{Quoted, Pieces, Node, Nodes, Arguments, Properties,
 use Rattle.sheet.specs.Fields.{position, end_from, span}
 use Rattle.sheet.specs.Comments.{slice, marked, chained, comment, group, anywhere, covered}
 use Rattle.sheet.specs.{Quotation.looks_quoted, Program.Program, Program.program, Sheet.Sheet, Sheet.sheet}
-use Rattle.sheet.specs.Nodes.{many, tag, string_text, quoted, piece, nodes, argument_item, arguments, keyed_item, property_item, properties, call_rest}
+use Rattle.sheet.specs.Nodes.{many, tag, text_behind, string_text, quoted, piece, nodes, argument_item, arguments, keyed_item, property_item, properties, call_rest}
 use Rattle.sheet.specs.Nodes.{attributes, type_rest, other_fields, string_fields, name_fields, template_fields, binary_fields, object_fields, call_fields}
 use Rattle.sheet.specs.Nodes.{import_fields, named_export_fields, export_all_fields, import_type_fields, import_equals_fields, module_fields, fields, node}
 use Rattle.sheet.specs.Nodes.{attributes_object}
@@ -69,7 +69,7 @@ module _ {P : (A : Type 0) → Decoder A → Type 0} (h : OfFields P) where
   tag_kept allowed levels = then a_byte (λ t. test kept (allowed t) three (test kept (ltb 0 levels) four (ends t)))
 
   string_text_kept : (source : List ℕ) (sp : Span) → P (List ℕ) (string_text source sp)
-  unfolding string_text
+  unfolding text_behind
   string_text_kept source sp = test kept (looks_quoted (slice source sp)) thirteen (text_kept h Wtf8 text_limit)
 
   quoted_kept : (source : List ℕ) (levels : ℕ) → P Quoted (quoted source levels)

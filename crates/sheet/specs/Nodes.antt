@@ -33,11 +33,14 @@ judge_tag allowed levels t = do
 unfoldable pub tag : (ℕ → Bool) → ℕ → Decoder ℕ
 tag allowed levels = byte >>= λ t. judge_tag (allowed t) levels t
 
--- the text of a String whose span is read; before it, refusal 13 where the source there is no quotation
-unfoldable pub string_text : List ℕ → Span → Decoder (List ℕ)
-string_text source sp = do
-  require (looks_quoted (slice source sp)) refusals.quotation
+-- the text of a String, by what the source has at its span; before it, refusal 13 where that is no quotation
+unfoldable pub text_behind : List ℕ → Decoder (List ℕ)
+text_behind quotation = do
+  require (looks_quoted quotation) refusals.quotation
   text Wtf8 text_limit
+
+abbrev pub string_text : List ℕ → Span → Decoder (List ℕ)
+string_text source sp = text_behind (slice source sp)
 
 -- a String, with so many levels left, its own among them
 unfoldable pub quoted : List ℕ → ℕ → Decoder Quoted

@@ -1,5 +1,5 @@
 // The comments of a source, in their groups, and the index of its positions.
-ghost use Rattle.std.specs.Prelude.{◌≡◌, [], ◌≤◌, ◌<◌, length};
+ghost use Rattle.std.specs.Prelude.{◌≡◌, [], ◌≤◌, ◌<◌, length, map};
 ghost use Rattle.laws.specs.Codec.{IfThere};
 ghost use Rattle.laws.specs.code.Told.{Bounded};
 ghost use Rattle.text.specs.Position.{characters, position_of};
@@ -7,6 +7,7 @@ ghost use Rattle.text.specs.code.Index.{positions_in};
 ghost use Rattle.sheet.specs.Lookups.{group_at, end_group, head_group, in_group, body, body_span};
 ghost use Rattle.sheet.specs.Fit.{Placed, Fit, Reaching, comment_of};
 ghost use Rattle.sheet.specs.code.Tables.{comments_in};
+ghost use Rattle.sheet.specs.code.Commented.{placed_in};
 ghost use Rattle.sheet.specs.code.Lent.{Lends, Reached, commented_by};
 
 use super::comments::{Comment, CommentRow};
@@ -29,10 +30,10 @@ fn rows_of(rows: &[CommentRow], found: Option<Group>) -> &[CommentRow]
     }
 }
 
-// A comment with the source that it stands in.
+// A comment of a source.
 #[derive(Drop)]
 pub struct PlacedComment<'a> {
-    source: &'a [u8],
+    comments: &'a Comments<'a>,
     comment: Comment,
 }
 
@@ -41,19 +42,26 @@ impl<'a> Model for PlacedComment<'a> {
 
     ghost Value = { CommentIn };
 
-    ghost view = { λ c. record { source = c.source.now; comment = c.comment } };
+    ghost view = { λ c. record { source = c.comments.now.source; comment = c.comment } };
 
     ghost use Rattle.sheet.specs.Fit.{Placed};
 
-    ghost invariant = { λ c. Placed c.source.now c.comment };
+    ghost invariant = { λ c. Placed c.comments.now.source c.comment };
 }
 
 impl<'a> PlacedComment<'a> {
-    pub fn new(source: &'a [u8], comment: Comment) -> PlacedComment<'a>
-        requires { Placed source.now comment }
-        ensures { result ≡ record { source = source.now; comment = comment } }
+    pub fn new(comments: &'a Comments<'a>, comment: Comment) -> PlacedComment<'a>
+        requires { Placed comments.now.source comment }
+        ensures { result ≡ record { source = comments.now.source; comment = comment } }
     {
-        PlacedComment { source, comment }
+        PlacedComment { comments, comment }
+    }
+
+    // Those of its source.
+    pub fn comments(&self) -> &'a Comments<'a>
+        ensures { result.now.source ≡ self.now.source }
+    {
+        self.comments
     }
 
     pub fn comment(&self) -> Comment
@@ -67,7 +75,8 @@ impl<'a> PlacedComment<'a> {
     pub fn body(&self) -> &'a [u8]
         ensures { result.now ≡ body self.now.source self.now.comment }
     {
-        body(self.source, self.comment)
+        let comments = self.comments;
+        body(comments.source(), self.comment)
     }
 
     // Where its body stands.
@@ -78,6 +87,56 @@ impl<'a> PlacedComment<'a> {
             ((result.start ≤ result.end) × (result.end ≤ length self.now.source)) }
     {
         body_span(self.comment)
+    }
+}
+
+// The comments of a source that are left, in order.
+#[derive(Drop)]
+pub struct PlacedComments<'a> {
+    comments: &'a Comments<'a>,
+    rows: &'a [CommentRow],
+}
+
+impl<'a> Model for PlacedComments<'a> {
+    ghost use Rattle.std.specs.Prelude.{List, All, map};
+    ghost use Rattle.sheet.specs.code.Commented.{CommentIn, placed_in};
+
+    ghost Value = { List CommentIn };
+
+    ghost use Rattle.sheet.specs.code.Tables.{comments_in};
+
+    ghost view = { λ it. map (placed_in it.comments.now.source) (comments_in it.rows.now) };
+
+    ghost use Rattle.sheet.specs.Fit.{Placed};
+
+    ghost invariant = { λ it. All (Placed it.comments.now.source) (comments_in it.rows.now) };
+}
+
+impl<'a> Iterator for PlacedComments<'a> {
+    ghost use Rattle.std.specs.Iterator.{YieldsFirst, item_count};
+
+    type Item = PlacedComment<'a>;
+
+    ghost next_gives = { YieldsFirst (λ rest. rest) };
+
+    ghost remaining = { item_count (λ rest. rest) };
+
+    fn next(&mut self) -> Option<PlacedComment<'a>> {
+        let (row, rest) = self.rows.split_first()?;
+        self.rows = rest;
+        Some(PlacedComment::new(self.comments, Comment::from(*row)))
+    }
+}
+
+impl<'a> DoubleEndedIterator for PlacedComments<'a> {
+    ghost use Rattle.std.specs.Iterator.{YieldsLast};
+
+    ghost next_back_gives = { YieldsLast (λ rest. rest) };
+
+    fn next_back(&mut self) -> Option<PlacedComment<'a>> {
+        let (row, rest) = self.rows.split_last()?;
+        self.rows = rest;
+        Some(PlacedComment::new(self.comments, Comment::from(*row)))
     }
 }
 
@@ -135,13 +194,23 @@ impl<'a> Comments<'a> {
         self.rows.len()
     }
 
+    // The comments, each with the source.
+    pub fn iter(&self) -> PlacedComments
+        ensures { result ≡ map (placed_in self.now.source) self.now.comments }
+    {
+        PlacedComments {
+            comments: self,
+            rows: self.rows,
+        }
+    }
+
     // The kth comment.
-    pub fn at(&self, k: usize) -> PlacedComment<'a>
+    pub fn at(&self, k: usize) -> PlacedComment
         requires { k < length self.now.comments }
         ensures { result ≡ record { source = self.now.source; comment = comment_of self.now.comments k } }
     {
         let rows = self.rows;
-        PlacedComment::new(self.source, rows[k].comment())
+        PlacedComment::new(self, Comment::from(rows[k]))
     }
 
     // The group of a side at a position.

@@ -7,7 +7,7 @@ ghost use Rattle.sheet.specs.code.Tables.{comment_in};
 ghost use Rattle.sheet.specs.code.Views.{comments_as};
 
 use super::fields::{Span, read_end, read_position};
-use super::names::{CommentKind, comment_kind};
+use super::names::CommentKind;
 use std::mem::size_of;
 use wire::refusals::Refusal;
 use wire::{Cursor, Reading};
@@ -40,14 +40,16 @@ impl CommentRow {
             end: c.span.end as u32,
         }
     }
+}
 
-    pub fn comment(self) -> Comment
-        ensures { result ≡ comment_in self }
-    {
-        let start = self.start as usize;
-        let end = self.end as usize;
+impl From<CommentRow> for Comment {
+    ghost from_gives = { λ row c. c ≡ comment_in row };
+
+    fn from(row: CommentRow) -> Comment {
+        let start = row.start as usize;
+        let end = row.end as usize;
         Comment {
-            kind: self.kind,
+            kind: row.kind,
             span: Span { start, end },
         }
     }
@@ -77,17 +79,17 @@ fn is_marked(text: &[u8], kind: CommentKind) -> bool
 }
 
 // A comment that starts no earlier than `last`, the end of the one before.
-#[tactic(auto, unfolding(crate::specs::Comments::comment, wire::specs::Fields::numbered))]
+#[tactic(auto, unfolding(crate::specs::Comments::comment, wire::specs::Fields::numbered, wire::specs::Fields::below))]
 fn read_comment<'a>(source: &[u8], s: &'a [u8], last: usize) -> Reading<'a, Comment>
     ensures { Told read_as (comment source.now last s.now) (Past (length s.now)) result }
 {
-    let (kind, next) = s.below(4)?;
+    let (kind, next) = s.byte()?;
+    let kind = CommentKind::try_from(kind)?;
     let (start, next) = read_position(source, next)?;
     if start < last {
         return Err(Refusal::Comments);
     }
     let (end, next) = read_end(source, next, start)?;
-    let kind = comment_kind(kind);
     if is_marked(&source[start..end], kind) {
         let span = Span { start, end };
         Ok((Comment { kind, span }, next))

@@ -1,5 +1,5 @@
 // Whether each comment is in some group, in one pass over the groups and one over the comments.
-ghost use Rattle.std.specs.Prelude.{◌≡◌, cond, ℕ, ◌<◌, max, eqb, length, get_or, replicate};
+ghost use Rattle.std.specs.Prelude.{◌≡◌, cond, ℕ, ◌<◌, max, eqb, length, get_or};
 ghost use Rattle.laws.specs.code.Left.{Free};
 ghost use Rattle.laws.specs.code.Told.{Leaving};
 ghost use Rattle.sheet.specs.Comments.{covered};
@@ -7,13 +7,6 @@ ghost use Rattle.sheet.specs.code.Tables.{groups_in};
 ghost use Rattle.sheet.specs.code.Covering.{longest_at};
 
 use super::groups::GroupRow;
-
-// Sets each number to 0.
-fn clear(longest: &mut [u32])
-    ensures { longest.new ≡ replicate (length longest.old) 0 }
-{
-    longest.fill(0);
-}
 
 // Keeps the count at a place, if there is one, unless a larger one stands there.
 fn raise(longest: &mut [u32], at: usize, count: u32)
@@ -41,7 +34,7 @@ pub fn is_covered(groups: &[GroupRow], longest: &mut [u32]) -> bool
         (result ≡ covered (groups_in groups.now) (length longest.old))
         (Free longest.old longest.new) }
 {
-    clear(longest);
+    longest.fill(0);
     keep_longest(groups, longest);
     let mut far = 0;
     for (i, count) in longest.iter().enumerate() {

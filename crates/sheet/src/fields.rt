@@ -4,6 +4,7 @@ ghost use Rattle.laws.specs.code.Told.{Told};
 ghost use Rattle.text.specs.Position.{is_boundary};
 ghost use Rattle.wire.specs.code.Views.{read_as, Past};
 ghost use Rattle.sheet.specs.Fields.{position, end_from, span};
+ghost use Rattle.sheet.specs.code.Views.{PastSpan};
 
 use text::position::goes_on;
 use wire::refusals::Refusal;
@@ -49,9 +50,9 @@ pub fn read_end<'a>(source: &[u8], s: &'a [u8], start: usize) -> Reading<'a, usi
     }
 }
 
-#[tactic(auto, unfolding(crate::specs::Fields::span))]
+#[tactic(auto, using(crate::proofs::CommentCodecs::span_part), unfolding(crate::specs::Fields::span))]
 pub fn read_span<'a>(source: &[u8], s: &'a [u8]) -> Reading<'a, Span>
-    ensures { Told read_as (span source.now s.now) (Past (length s.now)) result }
+    ensures { Told read_as (span source.now s.now) (PastSpan source.now (length s.now)) result }
 {
     let (start, next) = read_position(source, s)?;
     let (end, next) = read_end(source, next, start)?;

@@ -7,10 +7,13 @@ ghost use Rattle.sheet.specs.code.Tables.{group_in};
 ghost use Rattle.sheet.specs.code.Views.{after_as, groups_as};
 
 use super::fields::read_position;
-use super::names::{Side, side_of};
+use super::names::Side;
 use std::mem::size_of;
 use wire::refusals::Refusal;
 use wire::{Cursor, Reading};
+
+// Where a group stands: groups are in the order of their sides, and on a side in that of their positions.
+pub type Place = (Side, usize);
 
 // A group of comments on a side of a position; the index of its first comment, and their number.
 #[derive(Clone, Copy)]
@@ -44,15 +47,17 @@ impl GroupRow {
             count: g.count as u32,
         }
     }
+}
 
-    pub fn group(self) -> Group
-        ensures { result ≡ group_in self }
-    {
+impl From<GroupRow> for Group {
+    ghost from_gives = { λ row g. g ≡ group_in row };
+
+    fn from(row: GroupRow) -> Group {
         Group {
-            side: self.side,
-            position: self.position as usize,
-            first: self.first as usize,
-            count: self.count as usize,
+            side: row.side,
+            position: row.position as usize,
+            first: row.first as usize,
+            count: row.count as usize,
         }
     }
 }
@@ -64,16 +69,6 @@ pub fn precedes(side: Side, position: usize, side2: Side, position2: usize) -> b
     (side, position) < (side2, position2)
 }
 
-// May a group of this side and position come next, behind one of that side and position, if there is one?
-fn may_follow(before: Option<(Side, usize)>, side: Side, position: usize) -> bool
-    ensures { result ≡ after_as before side position }
-{
-    match before {
-        Some((side1, position1)) => precedes(side1, position1, side, position),
-        None => true,
-    }
-}
-
 // Are the comments of a group at least one, and all among `total`?
 fn reaches(first: usize, count: usize, total: usize) -> bool
     requires { (first < 4294967296) × (count < 4294967296) }
@@ -83,19 +78,20 @@ fn reaches(first: usize, count: usize, total: usize) -> bool
 }
 
 // A group of comments among `total`, behind another or the first.
-#[tactic(auto, unfolding(crate::specs::Comments::group, wire::specs::Fields::numbered))]
+#[tactic(auto, unfolding(crate::specs::Comments::group, wire::specs::Fields::numbered, wire::specs::Fields::below))]
 fn read_group<'a>(
     source: &[u8],
     s: &'a [u8],
     total: usize,
-    before: Option<(Side, usize)>,
+    before: Option<Place>,
 ) -> Reading<'a, Group>
     ensures { Told read_as (group source.now total (after_as before) s.now) (Past (length s.now)) result }
 {
-    let (side, next) = s.below(2)?;
+    let (side, next) = s.byte()?;
+    let side = Side::try_from(side)?;
     let (position, next) = read_position(source, next)?;
-    let side = side_of(side);
-    if !may_follow(before, side, position) {
+    // `None`, before the first group, comes before every place.
+    if before >= Some((side, position)) {
         return Err(Refusal::Comments);
     }
     let (first, next) = next.number()?;

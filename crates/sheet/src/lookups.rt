@@ -48,7 +48,7 @@ impl<'a> Groups<'a> {
         let place = |row: &GroupRow| (row.side, row.position as usize);
         let rows = self.rows;
         let at = rows.binary_search_by_key(&(side, position), place).ok()?;
-        Some(rows[at].group())
+        Some(Group::from(rows[at]))
     }
 
     // The trailing group at the program's end.

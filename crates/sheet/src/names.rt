@@ -1,10 +1,11 @@
-// The enums of a sheet, and the value of each number.
-// No `TryFrom`: a byte above the last number is refused where it is read, by its limit.
+// The enums of a sheet, each by the numbers of its values.
 ghost use Rattle.std.specs.Prelude.{◌≡◌};
-ghost use Rattle.wire.specs.Fields.{value_of};
 ghost use Rattle.sheet.specs.Media.{is_java_script, is_jsx};
 ghost use Rattle.sheet.specs.Comments.{is_block};
-ghost use Rattle.sheet.specs.Names.{media_types, comment_kinds, sides, import_phases};
+ghost use Rattle.sheet.specs.Names.{media_types, kind_number, comment_kinds, side_number, sides, import_phases};
+ghost use Rattle.sheet.specs.code.Views.{judged_by};
+
+use wire::refusals::Refusal;
 
 #[derive(Clone, Copy)]
 pub enum MediaType {
@@ -21,21 +22,26 @@ pub enum MediaType {
     Tsx,
 }
 
-pub fn media_type(n: usize) -> MediaType
-    ensures { result ≡ value_of media_types n }
-{
-    match n {
-        0 => MediaType::JavaScript,
-        1 => MediaType::Jsx,
-        2 => MediaType::Mjs,
-        3 => MediaType::Cjs,
-        4 => MediaType::TypeScript,
-        5 => MediaType::Mts,
-        6 => MediaType::Cts,
-        7 => MediaType::Dts,
-        8 => MediaType::Dmts,
-        9 => MediaType::Dcts,
-        _ => MediaType::Tsx,
+impl TryFrom<usize> for MediaType {
+    type Error = Refusal;
+
+    fn try_from(n: usize) -> Result<MediaType, Refusal>
+        ensures { result ≡ judged_by media_types n }
+    {
+        match n {
+            0 => Ok(MediaType::JavaScript),
+            1 => Ok(MediaType::Jsx),
+            2 => Ok(MediaType::Mjs),
+            3 => Ok(MediaType::Cjs),
+            4 => Ok(MediaType::TypeScript),
+            5 => Ok(MediaType::Mts),
+            6 => Ok(MediaType::Cts),
+            7 => Ok(MediaType::Dts),
+            8 => Ok(MediaType::Dmts),
+            9 => Ok(MediaType::Dcts),
+            10 => Ok(MediaType::Tsx),
+            _ => Err(Refusal::Byte),
+        }
     }
 }
 
@@ -65,14 +71,27 @@ pub enum CommentKind {
     HtmlClose,
 }
 
-pub fn comment_kind(n: usize) -> CommentKind
-    ensures { result ≡ value_of comment_kinds n }
-{
-    match n {
-        0 => CommentKind::Line,
-        1 => CommentKind::Block,
-        2 => CommentKind::HtmlOpen,
-        _ => CommentKind::HtmlClose,
+impl From<CommentKind> for u32 {
+    ghost from_gives = { λ kind n. n ≡ kind_number kind };
+
+    fn from(kind: CommentKind) -> u32 {
+        kind as u32
+    }
+}
+
+impl TryFrom<usize> for CommentKind {
+    type Error = Refusal;
+
+    fn try_from(n: usize) -> Result<CommentKind, Refusal>
+        ensures { result ≡ judged_by comment_kinds n }
+    {
+        match n {
+            0 => Ok(CommentKind::Line),
+            1 => Ok(CommentKind::Block),
+            2 => Ok(CommentKind::HtmlOpen),
+            3 => Ok(CommentKind::HtmlClose),
+            _ => Err(Refusal::Byte),
+        }
     }
 }
 
@@ -90,12 +109,25 @@ pub enum Side {
     Trailing,
 }
 
-pub fn side_of(n: usize) -> Side
-    ensures { result ≡ value_of sides n }
-{
-    match n {
-        0 => Side::Leading,
-        _ => Side::Trailing,
+impl From<Side> for u32 {
+    ghost from_gives = { λ side n. n ≡ side_number side };
+
+    fn from(side: Side) -> u32 {
+        side as u32
+    }
+}
+
+impl TryFrom<usize> for Side {
+    type Error = Refusal;
+
+    fn try_from(n: usize) -> Result<Side, Refusal>
+        ensures { result ≡ judged_by sides n }
+    {
+        match n {
+            0 => Ok(Side::Leading),
+            1 => Ok(Side::Trailing),
+            _ => Err(Refusal::Byte),
+        }
     }
 }
 
@@ -106,12 +138,17 @@ pub enum ImportPhase {
     Defer,
 }
 
-pub fn import_phase(n: usize) -> ImportPhase
-    ensures { result ≡ value_of import_phases n }
-{
-    match n {
-        0 => ImportPhase::Evaluation,
-        1 => ImportPhase::Source,
-        _ => ImportPhase::Defer,
+impl TryFrom<usize> for ImportPhase {
+    type Error = Refusal;
+
+    fn try_from(n: usize) -> Result<ImportPhase, Refusal>
+        ensures { result ≡ judged_by import_phases n }
+    {
+        match n {
+            0 => Ok(ImportPhase::Evaluation),
+            1 => Ok(ImportPhase::Source),
+            2 => Ok(ImportPhase::Defer),
+            _ => Err(Refusal::Byte),
+        }
     }
 }

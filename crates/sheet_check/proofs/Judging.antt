@@ -1,7 +1,6 @@
 -- The ways out of the check of a sheet.
 use Rattle.laws.proofs.Prelude.{◌≡◌, refl, List, ℕ, ◌≤◌, ◌<◌, length, le-leb, lt-leb}
 use Rattle.laws.specs.Decoded.{ok, no}
-use Rattle.sheet.specs.declared.{comments.CommentRow.CommentRow, groups.GroupRow.GroupRow}
 use Rattle.sheet.specs.{Limits.sheet_limit, Sheet.sized, Sheet.accept}
 use Rattle.sheet_check.specs.declared.front.Front as declared
 use Rattle.sheet_check.specs.{declared.tree.Tree.Tree, code.Pieces.front, code.Pieces.tree, code.Views.front_of, code.Views.Inside, code.Views.Stands, code.Accepts.Accepts}
@@ -17,16 +16,15 @@ module _ (s : List ℕ) (few : length s ≤ sheet_limit) where
   pub refused_front : {r : ℕ} → front s ≡ no r → accept s ≡ no r
   refused_front e = rw (accept_by_pieces s, fits, e)
 
-  module _ (comment_table : List CommentRow) (group_table : List GroupRow) (t : declared.Front) {u : List ℕ}
-      (e : front s ≡ ok (front_of comment_table group_table t) u) where
+  module _ (t : declared.Front) {u : List ℕ} (e : front s ≡ ok (front_of t) u) where
     pub refused_tree : {r : ℕ} → tree t.source.now u ≡ no r → accept s ≡ no r
     refused_tree h = rw (accept_by_pieces s, fits, e, h)
 
-    pub accepts : (x : Tree) → Inside s t → Stands t.source.now u x → Accepts s comment_table group_table (record { front = t; tree = x })
+    pub accepts : (x : Tree) → Inside s t → Stands t.source.now u x → Accepts s (record { front = t; tree = x })
     unfolding tree
     accepts x inside stands =
         record {
-          sheet = whole (front_of comment_table group_table t) (x.program, stands.root);
+          sheet = whole (front_of t) (x.program, stands.root);
           accepted = rw (accept_by_pieces s, fits, e, stands.before, stands.stands, stands.cooked);
           media = refl;
           source = refl;

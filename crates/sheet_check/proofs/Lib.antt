@@ -1,5 +1,4 @@
 pub mod ByPieces
-pub mod Lent
 pub mod Source
 pub mod Trees
 pub mod Judging

@@ -8,7 +8,7 @@ use Rattle.wire.specs.{Number.last_group, Number.number, Text.count, Text.text, 
 use Rattle.sheet.specs.Fields.{position, end_from, span}
 use Rattle.sheet.specs.Comments.{enclosed, marked, comment, group, covered, chained}
 use Rattle.sheet.specs.{Quotation.looks_quoted, Program.program}
-use Rattle.sheet.specs.Nodes.{many, tag, string_text, quoted, piece, nodes, argument_item, arguments, keyed_item, property_item, properties, attributes}
+use Rattle.sheet.specs.Nodes.{many, tag, text_behind, quoted, piece, nodes, argument_item, arguments, keyed_item, property_item, properties, attributes}
 use Rattle.sheet.specs.Nodes.{other_fields, string_fields, name_fields, template_fields, binary_fields, object_fields, call_rest, call_fields, import_fields}
 use Rattle.sheet.specs.Nodes.{named_export_fields, export_all_fields, import_type_fields, type_rest, import_equals_fields, module_fields, fields, node}
 use Rattle.sheet.specs.Nodes.{attributes_object}
@@ -59,7 +59,7 @@ cases =
 
 as_stated : map (λ c. refusal (accept c.0)) cases ≡ map (λ c. c.1) cases
 unfolding byte below numbered flag bytes last_group Rattle.wire.specs.Number.groups number count text admits length_by char_length formed begins same
-    is_boundary position end_from span enclosed looks_quoted marked comment group covered chained program many tag string_text quoted optional piece nodes
+    is_boundary position end_from span enclosed looks_quoted marked comment group covered chained program many tag text_behind quoted optional piece nodes
     argument_item arguments keyed_item property_item properties attributes other_fields string_fields name_fields template_fields binary_fields object_fields
     call_rest call_fields import_fields named_export_fields export_all_fields import_type_fields type_rest import_equals_fields module_fields fields node
     attributes_object sheet decode_sheet accept

@@ -2,8 +2,8 @@
 use Rattle.laws.proofs.Prelude.{◌≡◌, List, ◌∷◌, ◌++◌, append_assoc, ℕ, ◌+◌, ◌-◌, arith, length, length-append, take-append_seam, drop-append_seam}
 use Rattle.laws.specs.Decoded.{ok}
 use Rattle.text.specs.declared.utf8.Encoding.TheVariants.{Utf8}
-use Rattle.wire.specs.{Fields.below, Number.encode_number, Text.text, Text.encode_text}
-use Rattle.wire.proofs.TextCodec.{below_codec, text_codec}
+use Rattle.wire.specs.{Fields.byte, Number.encode_number, Text.text, Text.encode_text}
+use Rattle.wire.proofs.TextCodec.{byte_codec, text_codec}
 use Rattle.sheet.specs.Limits.{source_limit}
 use Rattle.sheet_check.specs.code.Views.{InFront}
 
@@ -17,9 +17,9 @@ between before x t s is =
       stands = rw start (record { inside = omega arith; there = rw (size, is, drop-append_seam, take-append_seam) });
     }
 
-pub source_stands : (s u : List ℕ) {media : ℕ} {x t : List ℕ} → below 11 s ≡ ok media u → text Utf8 source_limit u ≡ ok x t → InFront s x (length t)
+pub source_stands : (s u : List ℕ) {media : ℕ} {x t : List ℕ} → byte s ≡ ok media u → text Utf8 source_limit u ≡ ok x t → InFront s x (length t)
 unfolding encode_text
 source_stands s u {media} {x} {t} e f =
-    let first = ((below_codec 11).sound s media u e).0 in
+    let first = (byte_codec.sound s media u e).0 in
     let second = ((text_codec Utf8 source_limit (omega arith)).sound u x t f).0 in
     between (media ∷ encode_number (length x)) x t s (rw (first, second, append_assoc))

@@ -1,69 +1,70 @@
-// What stands in front of the program: the media byte, the source, and the tables of comments and groups.
+// What stands in front of the program: the media byte, the source, and the rows of comments and groups.
 ghost use Rattle.std.specs.Prelude.{◌≤◌};
 ghost use Rattle.laws.specs.code.Told.{Told};
 ghost use Rattle.sheet.specs.Limits.{comment_limit, group_limit};
 ghost use Rattle.sheet_check.specs.code.Pieces.{source_fields, comment_fields, group_fields, front};
-ghost use Rattle.sheet_check.specs.code.Views.{source_as, comment_table_as, group_table_as, front_as, WithinSource, WithinLimit, WithinFront};
+ghost use Rattle.sheet_check.specs.code.Views.{source_as, comment_rows_as, group_rows_as, front_as, WithinSource, WithinLimit, WithinFront};
 
 use sheet::comments::{CommentRow, read_comments};
 use sheet::covering::is_covered;
 use sheet::groups::{GroupRow, read_groups};
 use sheet::limits::{COMMENT_LIMIT, GROUP_LIMIT, SOURCE_LIMIT};
-use sheet::names::{MediaType, media_type};
-use sheet::tables::Tables;
+use sheet::names::MediaType;
 use text::utf8::Encoding;
 use wire::refusals::Refusal;
 use wire::{Cursor, Reading};
 
-// The media byte, the source and where it starts in the sheet, and how many rows the tables of comments and groups have.
+// The media byte, the source and where it starts in the sheet, and the rows of its comments and groups.
 #[derive(Clone, Copy)]
 pub struct Front<'a> {
     pub media: MediaType,
     pub source: &'a [u8],
     pub source_start: usize,
-    pub comments: usize,
-    pub groups: usize,
+    pub comments: &'a [CommentRow],
+    pub groups: &'a [GroupRow],
 }
 
 // The media byte and the source.
-#[tactic(auto, using(crate::proofs::Source::source_stands), unfolding(crate::specs::code::Pieces::source_fields, wire::specs::Fields::numbered))]
+#[tactic(auto, unfolding(crate::specs::code::Pieces::source_fields, wire::specs::Fields::numbered, wire::specs::Fields::below))]
 fn read_source(sheet: &[u8]) -> Reading<'_, (MediaType, &[u8])>
     ensures { Told source_as
         (source_fields sheet.now)
         (WithinSource sheet.now) result }
 {
-    let (media, next) = sheet.below(11)?;
+    let (media, next) = sheet.byte()?;
+    let media = MediaType::try_from(media)?;
     let (source, next) = next.text(Encoding::Utf8, SOURCE_LIMIT)?;
-    Ok(((media_type(media), source), next))
+    Ok(((media, source), next))
 }
 
-// Reads the comments into a table; their number.
-#[tactic(auto, using(crate::proofs::Lent::lent_rows), unfolding(crate::specs::code::Pieces::comment_fields))]
+// Reads the comments into the first rows of a table.
+#[tactic(auto, using(sheet_heads::proofs::Counts::count_within), unfolding(crate::specs::code::Pieces::comment_fields))]
 fn read_comment_table<'a>(
     source: &[u8],
     s: &'a [u8],
-    table: &mut [CommentRow; COMMENT_LIMIT],
-) -> Reading<'a, usize>
-    ensures { Told (comment_table_as table.new)
+    table: &'a mut [CommentRow; COMMENT_LIMIT],
+) -> Reading<'a, &'a [CommentRow]>
+    ensures { Told comment_rows_as
         (comment_fields source.now s.now)
         (WithinLimit comment_limit) result }
 {
     let (n, next) = s.count(COMMENT_LIMIT)?;
-    let next = read_comments(source, next, &mut table[..n])?;
-    Ok((n, next))
+    let comments = &mut table[..n];
+    let next = read_comments(source, next, comments)?;
+    Ok((comments, next))
 }
 
-// Reads the groups of n comments into a table; their number. `longest` is lent to work in.
-#[tactic(auto, using(crate::proofs::Lent::lent_rows), unfolding(crate::specs::code::Pieces::group_fields))]
+// Reads the groups of n comments into the first rows of a table. `longest` is lent to work in.
+#[tactic(auto, using(sheet_heads::proofs::Counts::count_within), unfolding(crate::specs::code::Pieces::group_fields))]
 fn read_group_table<'a>(
     source: &[u8],
     s: &'a [u8],
     n: usize,
-    table: &mut [GroupRow; GROUP_LIMIT],
+    table: &'a mut [GroupRow; GROUP_LIMIT],
     longest: &mut [u32; COMMENT_LIMIT],
-) -> Reading<'a, usize>
+) -> Reading<'a, &'a [GroupRow]>
     requires { n ≤ comment_limit }
-    ensures { Told (group_table_as table.new)
+    ensures { Told group_rows_as
         (group_fields source.now n s.now)
         (WithinLimit group_limit) result }
 {
@@ -71,27 +72,29 @@ fn read_group_table<'a>(
     let groups = &mut table[..m];
     let next = read_groups(source, next, n, groups)?;
     if is_covered(groups, &mut longest[..n]) {
-        Ok((m, next))
+        Ok((groups, next))
     } else {
         Err(Refusal::Comments)
     }
 }
 
-// Reads all that stands in front of the program. Left free: `longest`, the rows behind those that were read, and after a refusal all rows.
+// Reads all that stands in front of the program, comments and groups into the first rows of two tables. `longest`
+// is lent to work in.
 #[tactic(auto, unfolding(crate::specs::code::Pieces::front))]
 pub fn read_front<'a>(
     sheet: &'a [u8],
-    tables: &mut Tables,
+    comment_table: &'a mut [CommentRow; COMMENT_LIMIT],
+    group_table: &'a mut [GroupRow; GROUP_LIMIT],
     longest: &mut [u32; COMMENT_LIMIT],
 ) -> Reading<'a, Front<'a>>
-    ensures { Told (front_as tables.new.comments tables.new.groups)
+    ensures { Told front_as
         (front sheet.now)
         (WithinFront sheet.now) result }
 {
     let ((media, source), next) = read_source(sheet)?;
     let source_start = sheet.len() - next.len() - source.len();
-    let (comments, next) = read_comment_table(source, next, &mut tables.comments)?;
-    let (groups, next) = read_group_table(source, next, comments, &mut tables.groups, longest)?;
+    let (comments, next) = read_comment_table(source, next, comment_table)?;
+    let (groups, next) = read_group_table(source, next, comments.len(), group_table, longest)?;
     let front = Front {
         media,
         source,

@@ -6,7 +6,7 @@ use Rattle.laws.proofs.Decoding.{then_then}
 use Rattle.text.specs.declared.utf8.Encoding.{Encoding, TheVariants.Wtf8}
 use Rattle.wire.specs.{Number.number, Optional.optional}
 use Rattle.wire.specs.Text as wire
-use Rattle.sheet.specs.{declared.fields.Span.Span, declared.groups.Group.Group, Quotation.looks_quoted, Program.program, Nodes.many, Nodes.string_text}
+use Rattle.sheet.specs.{declared.fields.Span.Span, declared.groups.Group.Group, Quotation.looks_quoted, Program.program, Nodes.many, Nodes.text_behind, Nodes.string_text}
 use Rattle.sheet.specs.Fields as sheet
 use Rattle.sheet.specs.Comments.{slice, marked, chained, comment, comments, end_of, group, groups, anywhere, may_follow}
 use Rattle.sheet.proofs.EnumNumbers.{kind_numbers, side_numbers}
@@ -55,7 +55,7 @@ module _ (source : List ℕ) where
   pub string_fields_lem : {B : Type 0} {Has : B → List Entry → Type 0} (of : Span → List ℕ → B) →
       ((sp : Span) (x : List ℕ) → Has (of sp x) (string_fields source sp x))
       → Judges (sheet.span source >>= λ sp. string_text source sp >>= λ x. return (of sp x)) Has
-  unfolding sheet.span string_text
+  unfolding sheet.span text_behind
   string_fields_lem of h =
       same (λ s. simp then_then)
       (then (start_field source) (λ start u.

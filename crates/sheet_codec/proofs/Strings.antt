@@ -6,7 +6,7 @@ use Rattle.laws.proofs.Codecs.{Built, built_return, built_then, built_require, c
 use Rattle.text.specs.declared.utf8.Encoding.{Encoding, TheVariants.Wtf8}
 use Rattle.wire.{specs.Number.largest, specs.Text.text, specs.Text.encode_text, proofs.TextCodec.byte_codec, proofs.TextCodec.text_codec}
 use Rattle.sheet.specs.{Limits.text_limit, declared.fields.Span.Span, Comments.slice, Quotation.Quotation, Quotation.looks_quoted}
-use Rattle.sheet.specs.Nodes.{tag, string_text, quoted}
+use Rattle.sheet.specs.Nodes.{tag, text_behind, string_text, quoted}
 use Rattle.sheet.proofs.Quotations.{looks_quoted_iff}
 use Rattle.sheet_codec.specs.{Encode.encode_quoted, Limits.TextFits, Limits.QuotedFits}
 use Rattle.sheet_codec.proofs.Parts.{span_codec}
@@ -37,7 +37,7 @@ short_text_lem e = text_codec e text_limit (omega arith)
 
 -- of a String
 pub string_text_lem : (source : List ℕ) (sp : Span) → Codec (string_text source sp) encode_text (λ x. Quotation (slice source sp) × TextFits Wtf8 text_limit x)
-unfolding string_text
+unfolding text_behind
 string_text_lem source sp =
     record {
       complete = λ x v t. rw ((looks_quoted_iff (slice source sp)).1 v.0) ((short_text_lem Wtf8).complete x v.1 t);

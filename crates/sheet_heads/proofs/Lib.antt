@@ -2,6 +2,7 @@ pub mod ByHead
 pub mod Shapes
 pub mod Outside
 pub mod Counts
+pub mod Plain
 pub mod Many
 pub mod Pieces
 pub mod FirstArgument

@@ -6,18 +6,18 @@ ghost use Rattle.text.specs.declared.utf8.Encoding.TheVariants.{Utf8};
 ghost use Rattle.wire.specs.Fields.{flag};
 ghost use Rattle.wire.specs.Number.{number};
 ghost use Rattle.wire.specs.Text.{count, text};
-ghost use Rattle.wire.specs.code.Views.{Past};
 ghost use Rattle.sheet.specs.Limits.{text_limit, property_limit};
-ghost use Rattle.sheet.specs.Nodes.{string_text};
+ghost use Rattle.sheet.specs.Nodes.{text_behind};
+ghost use Rattle.sheet.specs.code.Views.{SpanIn};
 ghost use Rattle.sheet_heads.specs.code.Head.{other_head, string_head, name_head, template_head, binary_head, object_head, call_start, specifier_start};
 ghost use Rattle.sheet_heads.specs.code.Head.{import_start, named_export_start, export_all_start, import_type_start, import_require_start};
 ghost use Rattle.sheet_heads.specs.code.Head.{import_equals_start, module_start, start, head};
-ghost use Rattle.sheet_heads.specs.code.Views.{tag_number, specifier_as, fields_as, head_as, Part, PastFields, PastHead};
+ghost use Rattle.sheet_heads.specs.code.Views.{tag_number, specifier_as, fields_as, head_as, PastSpecifier, PastFields, PastPlain, PastHead};
 
 use super::quoted::{Quoted, Tag, read_quoted, read_string_text, read_tag};
 use sheet::fields::{Span, read_span};
 use sheet::limits::{PROPERTY_LIMIT, TEXT_LIMIT};
-use sheet::names::{ImportPhase, import_phase};
+use sheet::names::ImportPhase;
 use text::utf8::Encoding;
 use wire::{Cursor, Reading};
 
@@ -82,26 +82,25 @@ pub enum Head<'a> {
 fn read_other(s: &[u8]) -> Reading<'_, Head<'_>>
     ensures { Told fields_as
         (on_ok other_head (number s.now))
-        (PastFields (length s.now)) result }
+        (PastPlain (length s.now)) result }
 {
     let (n, next) = s.number()?;
     Ok((Head::Other(n), next))
 }
 
-fn read_string<'a>(source: &[u8], s: &'a [u8], span: Span) -> Reading<'a, Head<'a>>
-    requires { Part (length source.now) span.start span.end }
+fn read_string<'a>(quotation: &[u8], s: &'a [u8]) -> Reading<'a, Head<'a>>
     ensures { Told fields_as
-        (on_ok string_head (string_text source.now span s.now))
-        (PastFields (length s.now)) result }
+        (on_ok string_head (text_behind quotation.now s.now))
+        (PastPlain (length s.now)) result }
 {
-    let (x, next) = read_string_text(source, s, span)?;
+    let (x, next) = read_string_text(quotation, s)?;
     Ok((Head::String(x), next))
 }
 
 fn read_name(s: &[u8]) -> Reading<'_, Head<'_>>
     ensures { Told fields_as
         (on_ok name_head (text Utf8 text_limit s.now))
-        (PastFields (length s.now)) result }
+        (PastPlain (length s.now)) result }
 {
     let (x, next) = s.text(Encoding::Utf8, TEXT_LIMIT)?;
     Ok((Head::Name(x), next))
@@ -111,7 +110,7 @@ fn read_name(s: &[u8]) -> Reading<'_, Head<'_>>
 fn read_template(s: &[u8]) -> Reading<'_, Head<'_>>
     ensures { Told fields_as
         (on_ok template_head (number s.now))
-        (PastFields (length s.now)) result }
+        (PastPlain (length s.now)) result }
 {
     let (holes, next) = s.number()?;
     Ok((Head::Template(holes), next))
@@ -120,7 +119,7 @@ fn read_template(s: &[u8]) -> Reading<'_, Head<'_>>
 fn read_binary(s: &[u8]) -> Reading<'_, Head<'_>>
     ensures { Told fields_as
         (on_ok binary_head (flag s.now))
-        (PastFields (length s.now)) result }
+        (PastPlain (length s.now)) result }
 {
     let (plus, next) = s.flag()?;
     Ok((Head::Binary(plus), next))
@@ -130,7 +129,7 @@ fn read_binary(s: &[u8]) -> Reading<'_, Head<'_>>
 fn read_object(s: &[u8]) -> Reading<'_, Head<'_>>
     ensures { Told fields_as
         (on_ok object_head (count property_limit s.now))
-        (PastFields (length s.now)) result }
+        (PastPlain (length s.now)) result }
 {
     let (n, next) = s.count(PROPERTY_LIMIT)?;
     Ok((Head::Object(n), next))
@@ -140,13 +139,13 @@ fn read_object(s: &[u8]) -> Reading<'_, Head<'_>>
 fn read_call(s: &[u8]) -> Reading<'_, Head<'_>>
     ensures { Told fields_as
         (call_start s.now)
-        (PastFields (length s.now)) result }
+        (PastPlain (length s.now)) result }
 {
+    // The phase of an import, or 3 for any other callee.
     let (callee, next) = s.below(4)?;
-    if callee < 3 {
-        Ok((Head::ImportCall(import_phase(callee)), next))
-    } else {
-        Ok((Head::Call, next))
+    match ImportPhase::try_from(callee) {
+        Ok(phase) => Ok((Head::ImportCall(phase), next)),
+        Err(_) => Ok((Head::Call, next)),
     }
 }
 
@@ -155,26 +154,27 @@ fn read_call(s: &[u8]) -> Reading<'_, Head<'_>>
 fn read_specifier<'a>(source: &[u8], s: &'a [u8], levels: usize) -> Reading<'a, (Quoted<'a>, bool)>
     ensures { Told specifier_as
         (specifier_start source.now levels s.now)
-        (Past (length s.now)) result }
+        (PastSpecifier source.now (length s.now)) result }
 {
     let (specifier, next) = read_quoted(source, s, levels)?;
     let (has_object, next) = next.flag()?;
     Ok(((specifier, has_object), next))
 }
 
-#[tactic(auto, unfolding(crate::specs::code::Head::import_start, wire::specs::Fields::numbered))]
+#[tactic(auto, unfolding(crate::specs::code::Head::import_start, wire::specs::Fields::numbered, wire::specs::Fields::below))]
 fn read_import<'a>(source: &[u8], s: &'a [u8], levels: usize) -> Reading<'a, Head<'a>>
     ensures { Told fields_as
         (import_start source.now levels s.now)
-        (PastFields (length s.now)) result }
+        (PastFields source.now (length s.now)) result }
 {
     let (type_only, next) = s.flag()?;
-    let (phase, next) = next.below(3)?;
+    let (phase, next) = next.byte()?;
+    let phase = ImportPhase::try_from(phase)?;
     let (side_effect, next) = next.flag()?;
     let ((specifier, has_object), next) = read_specifier(source, next, levels)?;
     let head = ImportHead {
         type_only,
-        phase: import_phase(phase),
+        phase,
         side_effect,
         specifier,
         has_object,
@@ -186,7 +186,7 @@ fn read_import<'a>(source: &[u8], s: &'a [u8], levels: usize) -> Reading<'a, Hea
 fn read_named_export<'a>(source: &[u8], s: &'a [u8], levels: usize) -> Reading<'a, Head<'a>>
     ensures { Told fields_as
         (named_export_start source.now levels s.now)
-        (PastFields (length s.now)) result }
+        (PastFields source.now (length s.now)) result }
 {
     let (type_only, next) = s.flag()?;
     let (named, next) = next.flag()?;
@@ -206,7 +206,7 @@ fn read_named_export<'a>(source: &[u8], s: &'a [u8], levels: usize) -> Reading<'
 fn read_export_all<'a>(source: &[u8], s: &'a [u8], levels: usize) -> Reading<'a, Head<'a>>
     ensures { Told fields_as
         (export_all_start source.now levels s.now)
-        (PastFields (length s.now)) result }
+        (PastFields source.now (length s.now)) result }
 {
     let (type_only, next) = s.flag()?;
     let ((specifier, has_object), next) = read_specifier(source, next, levels)?;
@@ -222,7 +222,7 @@ fn read_export_all<'a>(source: &[u8], s: &'a [u8], levels: usize) -> Reading<'a,
 fn read_import_type<'a>(source: &[u8], s: &'a [u8], levels: usize) -> Reading<'a, Head<'a>>
     ensures { Told fields_as
         (import_type_start source.now levels s.now)
-        (PastFields (length s.now)) result }
+        (PastFields source.now (length s.now)) result }
 {
     let (x, next) = read_quoted(source, s, levels)?;
     let (n, next) = next.number()?;
@@ -233,7 +233,7 @@ fn read_import_type<'a>(source: &[u8], s: &'a [u8], levels: usize) -> Reading<'a
 fn read_import_equals<'a>(source: &[u8], s: &'a [u8], levels: usize) -> Reading<'a, Head<'a>>
     ensures { Told fields_as
         (import_equals_start source.now levels s.now)
-        (PastFields (length s.now)) result }
+        (PastFields source.now (length s.now)) result }
 {
     let (external, next) = s.flag()?;
     if external {
@@ -246,7 +246,7 @@ fn read_import_equals<'a>(source: &[u8], s: &'a [u8], levels: usize) -> Reading<
 fn read_import_require<'a>(source: &[u8], s: &'a [u8], levels: usize) -> Reading<'a, Head<'a>>
     ensures { Told fields_as
         (import_require_start source.now levels s.now)
-        (PastFields (length s.now)) result }
+        (PastFields source.now (length s.now)) result }
 {
     let (type_only, next) = s.flag()?;
     let (export, next) = next.flag()?;
@@ -263,7 +263,7 @@ fn read_import_require<'a>(source: &[u8], s: &'a [u8], levels: usize) -> Reading
 fn read_module<'a>(source: &[u8], s: &'a [u8], levels: usize) -> Reading<'a, Head<'a>>
     ensures { Told fields_as
         (module_start source.now levels s.now)
-        (PastFields (length s.now)) result }
+        (PastFields source.now (length s.now)) result }
 {
     let (named, next) = s.flag()?;
     if named {
@@ -276,7 +276,7 @@ fn read_module<'a>(source: &[u8], s: &'a [u8], levels: usize) -> Reading<'a, Hea
 }
 
 // The fields of a head, by the span and the tag, where so many levels are left below the node.
-#[tactic(auto, unfolding(crate::specs::code::Head::start))]
+#[tactic(auto, using(crate::proofs::Plain::plain_fields), unfolding(crate::specs::code::Head::start, sheet::specs::Nodes::text_behind))]
 fn read_fields<'a>(
     source: &[u8],
     s: &'a [u8],
@@ -284,14 +284,14 @@ fn read_fields<'a>(
     span: Span,
     tag: Tag,
 ) -> Reading<'a, Head<'a>>
-    requires { Part (length source.now) span.start span.end }
+    requires { SpanIn source.now span }
     ensures { Told fields_as
         (start source.now levels span (tag_number tag) s.now)
-        (PastFields (length s.now)) result }
+        (PastFields source.now (length s.now)) result }
 {
     match tag {
         Tag::Other => read_other(s),
-        Tag::String => read_string(source, s, span),
+        Tag::String => read_string(&source[span.start..span.end], s),
         Tag::Name => read_name(s),
         Tag::Template => read_template(s),
         Tag::Binary => read_binary(s),
@@ -307,11 +307,11 @@ fn read_fields<'a>(
 }
 
 // The head of a node, with so many levels left, its own among them.
-#[tactic(auto, using(sheet::proofs::CommentCodecs::span_part), unfolding(crate::specs::code::Head::head))]
+#[tactic(auto, unfolding(crate::specs::code::Head::head))]
 pub fn read_head<'a>(source: &[u8], s: &'a [u8], levels: usize) -> Reading<'a, (Span, Head<'a>)>
     ensures { Told head_as
         (head source.now levels s.now)
-        (PastHead (length s.now) levels) result }
+        (PastHead source.now (length s.now) levels) result }
 {
     let (tag, next) = read_tag(s, levels)?;
     let (span, next) = read_span(source, next)?;

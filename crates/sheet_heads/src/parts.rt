@@ -6,7 +6,7 @@ ghost use Rattle.wire.specs.code.Views.{read_as, Past};
 ghost use Rattle.sheet.specs.Nodes.{many, piece};
 ghost use Rattle.sheet.specs.Shape.{any_uncooked};
 ghost use Rattle.sheet_heads.specs.code.Parts.{argument_head, key_head, property_head, attributes_head};
-ghost use Rattle.sheet_heads.specs.code.Views.{piece_as, nodes_of, property_as, NoMore, PastAttributes};
+ghost use Rattle.sheet_heads.specs.code.Views.{piece_as, nodes_of, property_as, NoMore, PastArgument, PastAttributes};
 
 use super::quoted::{Tag, read_tag_of};
 use sheet::fields::{Span, read_span};
@@ -72,7 +72,7 @@ pub fn read_pieces(s: &[u8], count: usize) -> Reading<'_, bool>
 pub fn read_argument<'a>(source: &[u8], s: &'a [u8]) -> Reading<'a, (bool, Span)>
     ensures { Told read_as
         (argument_head source.now s.now)
-        (Past (length s.now)) result }
+        (PastArgument source.now (length s.now)) result }
 {
     let (spread, next) = s.flag()?;
     let (span, next) = read_span(source, next)?;

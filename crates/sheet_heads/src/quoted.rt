@@ -3,8 +3,8 @@ ghost use Rattle.std.specs.Prelude.{◌≡◌, true, ◌+◌, eqb, ltb, length};
 ghost use Rattle.laws.specs.code.Told.{Told};
 ghost use Rattle.wire.specs.code.Views.{text_as, Past};
 ghost use Rattle.sheet.specs.Quotation.{looks_quoted};
-ghost use Rattle.sheet.specs.Nodes.{judge_tag, tag, string_text, quoted};
-ghost use Rattle.sheet_heads.specs.code.Views.{OfTag, tag_number, tag_as, quoted_as, Part, PastTag};
+ghost use Rattle.sheet.specs.Nodes.{judge_tag, tag, text_behind, quoted};
+ghost use Rattle.sheet_heads.specs.code.Views.{OfTag, tag_number, tag_as, quoted_as, PastTag, PastQuoted};
 
 use sheet::fields::{Span, read_span};
 use sheet::limits::TEXT_LIMIT;
@@ -108,15 +108,14 @@ fn looks_quoted(text: &[u8]) -> bool
     matches!(text, [b'"', .., b'"'] | [b'\'', .., b'\''])
 }
 
-// The text of a String whose span was read; before it, the source there must look like one.
-#[tactic(auto, unfolding(sheet::specs::Nodes::string_text))]
-pub fn read_string_text<'a>(source: &[u8], s: &'a [u8], span: Span) -> Reading<'a, &'a [u8]>
-    requires { Part (length source.now) span.start span.end }
+// The text of a String whose span was read; before it, what the source has there must look like one.
+#[tactic(auto, unfolding(sheet::specs::Nodes::text_behind))]
+pub fn read_string_text<'a>(quotation: &[u8], s: &'a [u8]) -> Reading<'a, &'a [u8]>
     ensures { Told text_as
-        (string_text source.now span s.now)
+        (text_behind quotation.now s.now)
         (Past (length s.now)) result }
 {
-    if looks_quoted(&source[span.start..span.end]) {
+    if looks_quoted(quotation) {
         s.text(Encoding::Wtf8, TEXT_LIMIT)
     } else {
         Err(Refusal::Quotation)
@@ -124,14 +123,14 @@ pub fn read_string_text<'a>(source: &[u8], s: &'a [u8], span: Span) -> Reading<'
 }
 
 // A String, with so many levels left, its own among them.
-#[tactic(auto, using(sheet::proofs::CommentCodecs::span_part), unfolding(sheet::specs::Nodes::quoted))]
+#[tactic(auto, unfolding(sheet::specs::Nodes::quoted, sheet::specs::Nodes::text_behind))]
 pub fn read_quoted<'a>(source: &[u8], s: &'a [u8], levels: usize) -> Reading<'a, Quoted<'a>>
     ensures { Told quoted_as
         (quoted source.now levels s.now)
-        (Past (length s.now)) result }
+        (PastQuoted source.now (length s.now)) result }
 {
     let (_, next) = read_tag_of(s, Tag::String, levels)?;
     let (span, next) = read_span(source, next)?;
-    let (text, next) = read_string_text(source, next, span)?;
+    let (text, next) = read_string_text(&source[span.start..span.end], next)?;
     Ok((Quoted { span, text }, next))
 }

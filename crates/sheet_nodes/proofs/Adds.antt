@@ -1,12 +1,14 @@
 -- How what is found adds up.
-use Rattle.laws.proofs.Prelude.{◌≡◌, Bool, false, ℕ, not, ◌&&◌, ◌||◌, or-true, ◌+◌, add-zero, zero-add}
-use mathlib.Core.Bool.{and-false, or_assoc, or-false}
+use Rattle.std.specs.Prelude.{None, Option, Some, is_some}
+use Rattle.std.specs.Option.{option_or, unwrap_or}
+use Rattle.laws.proofs.Prelude.{◌≡◌, refl, Bool, false, ℕ, ◌||◌, ◌+◌, add-zero, zero-add}
+use mathlib.Core.Bool.{or_assoc, or-false}
 use native.Mathlib.Nat.{add_assoc}
 use Rattle.sheet.specs.{declared.fields.Span.Span, Shape.shape, Shape.is_uncooked, Walk.walk_of}
 use Rattle.sheet.specs.Tree.{Node, Arguments, no_arguments, argument}
-use Rattle.sheet.specs.Walked.{counting, entries, judging, uncooked}
+use Rattle.sheet.specs.Walked.{any_argument, first_uncooked, counting, entries, judging, uncooked}
 use Rattle.sheet_nodes.specs.declared.tally.{Tally.Tally, Passed.Passed}
-use Rattle.sheet_nodes.specs.code.Tallies.{node_tally, plus, with_argument, passed}
+use Rattle.sheet_nodes.specs.code.Tallies.{node_tally, plus, with_argument, first_of, passed}
 
 abbrev pub nothing : Tally
 nothing = record { entries = 0; uncooked = false }
@@ -27,14 +29,14 @@ pub plus_nothing : (t : Tally) → plus t nothing ≡ t
 plus_nothing t = rw (add-zero, or-false t.uncooked)
 
 abbrev pub no_passed : Passed
-no_passed = record { entries = 0; uncooked = false; any = false; template = false }
+no_passed = record { entries = 0; uncooked = false; first = None }
 
-pub is_no_passed : {p : Passed} → (p.entries ≡ 0) × ((p.uncooked ≡ false) × ((p.any ≡ false) × (p.template ≡ false))) → p ≡ no_passed
-is_no_passed h = go h.0 h.1.0 h.1.1.0 h.1.1.1
+pub is_no_passed : {p : Passed} → (p.entries ≡ 0) × ((p.uncooked ≡ false) × (p.first ≡ None)) → p ≡ no_passed
+is_no_passed h = go h.0 h.1.0 h.1.1
   where
-    go : {n : ℕ} {b c d : Bool} → n ≡ 0 → b ≡ false → c ≡ false → d ≡ false
-        → ◌≡◌ {A = Passed} (record { entries = n; uncooked = b; any = c; template = d }) no_passed
-    go e f g h = rw (e, f, g, h)
+    go : {n : ℕ} {b : Bool} {x : Option Bool} → n ≡ 0 → b ≡ false → x ≡ None
+        → ◌≡◌ {A = Passed} (record { entries = n; uncooked = b; first = x }) no_passed
+    go e f g = rw (e, f, g)
 
 -- arguments behind others
 abbrev pub behind_passed : Passed → Arguments → Passed
@@ -42,18 +44,37 @@ behind_passed p xs =
     record {
       entries = p.entries + (passed xs).entries;
       uncooked = p.uncooked || (passed xs).uncooked;
-      any = p.any || (passed xs).any;
-      template = p.template || (not p.any && (passed xs).template);
+      first = option_or p.first (passed xs).first;
     }
+
+first_stays : (x : Option Bool) (b : Bool) (y : Option Bool) → option_or (option_or x (Some b)) y ≡ option_or x (Some b)
+first_stays None b y = refl
+first_stays (Some a) b y = refl
+
+none_behind : (x : Option Bool) → option_or x None ≡ x
+none_behind None = refl
+none_behind (Some b) = refl
 
 pub one_more : (p : Passed) (dots : Bool) (sp : Span) (n : Node) (xs : Arguments) →
     behind_passed p (argument dots sp n xs) ≡ behind_passed (with_argument p (node_tally n)) xs
 one_more p dots sp n xs =
-    let first : Bool = p.template || (not p.any && is_uncooked (shape n)) in
-    rw (add_assoc p.entries (entries n) (walk_of counting xs), or_assoc p.uncooked (uncooked n) (walk_of judging xs), or-true p.any, or-false first)
+    rw (
+      add_assoc p.entries (entries n) (walk_of counting xs),
+      or_assoc p.uncooked (uncooked n) (walk_of judging xs),
+      first_stays p.first (is_uncooked (shape n)) (first_of xs),
+    )
 
 pub all_passed : (xs : Arguments) → behind_passed no_passed xs ≡ passed xs
 all_passed xs = rw zero-add
 
 pub none_more : (p : Passed) → behind_passed p no_arguments ≡ p
-none_more p = rw (add-zero, or-false p.uncooked, or-false p.any, and-false (not p.any), or-false p.template)
+none_more p = rw (add-zero, or-false p.uncooked, none_behind p.first)
+
+-- what the first argument says: is there one, and is it a template with an uncooked piece?
+pub any_first : (xs : Arguments) → is_some (first_of xs) ≡ any_argument xs
+any_first no_arguments = refl
+any_first (argument dots sp n xs) = refl
+
+pub uncooked_first : (xs : Arguments) → unwrap_or (first_of xs) false ≡ first_uncooked xs
+uncooked_first no_arguments = refl
+uncooked_first (argument dots sp n xs) = refl

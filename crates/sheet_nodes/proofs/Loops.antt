@@ -1,4 +1,5 @@
 -- What the loops over nodes, arguments and properties keep: what is found so far, with what is to come, is what is found in all.
+use Rattle.std.specs.Prelude.{None}
 use Rattle.laws.proofs.Prelude.{◌≡◌, sym, ap, ◌∙◌, Bool, false, List, ℕ, ◌+◌, ◌-◌, ◌≤◌, ◌<◌, arith, sub-zero}
 use Rattle.laws.specs.Decoded.{ok, no, on_ok, Decoder}
 use Rattle.laws.proofs.Decoding.{on_ok_ok, on_ok_no, on_ok_same}
@@ -81,7 +82,7 @@ module _ (inner : Decoder Node) where
     from_arguments = found_from behind_passed no_arguments (argument_item inner source)
 
     pub arguments_first : {p : Passed} (count : ℕ) (u : List ℕ)
-        → (p.entries ≡ 0) × ((p.uncooked ≡ false) × ((p.any ≡ false) × (p.template ≡ false)))
+        → (p.entries ≡ 0) × ((p.uncooked ≡ false) × (p.first ≡ None))
         → on_ok passed (arguments inner source count u) ≡ from_arguments p count 0 u
     unfolding arguments from_arguments
     arguments_first count u h = rw (is_no_passed h, sub-zero) (sym (on_ok_same all_passed (many no_arguments (argument_item inner source) count u)))

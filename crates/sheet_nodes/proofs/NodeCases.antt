@@ -9,7 +9,7 @@ use Rattle.wire.specs.Number.{last_group, groups, number}
 use Rattle.wire.specs.{Text.count, Text.text, Optional.optional}
 use Rattle.sheet.specs.Fields.{position, end_from, span}
 use Rattle.sheet.specs.{Comments.enclosed, Quotation.looks_quoted}
-use Rattle.sheet.specs.Nodes.{many, tag, string_text, quoted, piece, nodes, argument_item, arguments, keyed_item, property_item, properties, attributes}
+use Rattle.sheet.specs.Nodes.{many, tag, text_behind, quoted, piece, nodes, argument_item, arguments, keyed_item, property_item, properties, attributes}
 use Rattle.sheet.specs.Nodes.{other_fields, string_fields, name_fields, template_fields, binary_fields, object_fields, call_rest, call_fields, import_fields}
 use Rattle.sheet.specs.Nodes.{named_export_fields, export_all_fields, import_type_fields, type_rest, import_equals_fields, module_fields, fields, node}
 use Rattle.sheet.specs.Nodes.{attributes_object}
@@ -104,7 +104,7 @@ computed (levels, s, r) = (levels, s, on_ok node_tally (node source levels s))
 
 as_stated : map computed cases ≡ cases
 unfolding byte below numbered flag bytes last_group groups number count text admits length_by char_length formed begins enclosed looks_quoted same is_boundary
-    position end_from span many tag string_text quoted optional piece nodes argument_item arguments keyed_item property_item properties attributes other_fields
+    position end_from span many tag text_behind quoted optional piece nodes argument_item arguments keyed_item property_item properties attributes other_fields
     string_fields name_fields template_fields binary_fields object_fields call_rest call_fields import_fields named_export_fields export_all_fields import_type_fields
     type_rest import_equals_fields module_fields fields node attributes_object
 as_stated = refl

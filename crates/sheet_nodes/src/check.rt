@@ -32,7 +32,7 @@ pub fn check_node<'a>(source: &[u8], s: &'a [u8], levels: usize) -> Reading<'a, 
 
 // What follows a head, with so many levels left below its node: an arm for what each kind of node holds.
 #[cycle(check)]
-#[tactic(auto, using(crate::proofs::Arms::binary_holds))]
+#[tactic(auto, using(crate::proofs::Arms::binary_holds, crate::proofs::Adds::any_first, crate::proofs::Adds::uncooked_first))]
 fn check_rest<'a>(
     source: &[u8],
     s: &'a [u8],

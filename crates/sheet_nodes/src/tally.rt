@@ -1,4 +1,4 @@
-// What is found in nodes, and how it adds up. Truth values are joined by `|` and `&`: with `||` and `&&`, which test, the check is slower.
+// What is found in nodes, and how it adds up.
 ghost use Rattle.std.specs.Prelude.{◌≡◌, ◌+◌, ◌^◌, ◌<◌};
 ghost use Rattle.sheet_nodes.specs.code.Tallies.{tally_of, plus, with_argument, import_callee};
 ghost use Rattle.sheet_nodes.specs.code.Answers.{leaf_of, with_own, with_nodes, called_by};
@@ -19,13 +19,12 @@ pub struct NodeTally {
     pub template: bool,
 }
 
-// Of arguments also: is there one, is the first a template with an uncooked piece?
+// Of arguments also: is the first, if there is one, a template with an uncooked piece?
 #[derive(Clone, Copy, Default)]
 pub struct Passed {
     pub entries: usize,
     pub uncooked: bool,
-    pub any: bool,
-    pub template: bool,
+    pub first: Option<bool>,
 }
 
 // What a node counts for among others.
@@ -46,20 +45,19 @@ pub fn add(t: Tally, u: Tally) -> Tally
 {
     Tally {
         entries: t.entries + u.entries,
-        uncooked: t.uncooked | u.uncooked,
+        uncooked: t.uncooked || u.uncooked,
     }
 }
 
-// One argument more: its node counts for the template only if there was none before it.
+// One argument more: it is the first if there was none before it.
 pub fn add_argument(p: Passed, j: NodeTally) -> Passed
     requires { p.entries + j.entries < 2 ^ 64 }
     ensures { result ≡ with_argument p j }
 {
     Passed {
         entries: p.entries + j.entries,
-        uncooked: p.uncooked | j.uncooked,
-        any: true,
-        template: p.template | !p.any & j.template,
+        uncooked: p.uncooked || j.uncooked,
+        first: p.first.or(Some(j.template)),
     }
 }
 
@@ -95,9 +93,8 @@ pub fn join_passed(p: Passed, t: Tally) -> Passed
 {
     Passed {
         entries: p.entries + t.entries,
-        uncooked: p.uncooked | t.uncooked,
-        any: p.any,
-        template: p.template,
+        uncooked: p.uncooked || t.uncooked,
+        first: p.first,
     }
 }
 
@@ -113,11 +110,11 @@ pub fn called(callee: NodeTally, p: Passed) -> NodeTally
     requires { callee.entries + 1 + p.entries < 2 ^ 64 }
     ensures { result ≡ called_by callee p }
 {
-    let own = callee.require & p.any;
-    let first = callee.require & p.template;
+    let own = callee.require && p.first.is_some();
+    let first = callee.require && p.first.unwrap_or(false);
     NodeTally {
         entries: callee.entries + p.entries + usize::from(own),
-        uncooked: callee.uncooked | p.uncooked | first,
+        uncooked: callee.uncooked || p.uncooked || first,
         require: false,
         template: false,
     }

@@ -1,7 +1,7 @@
 -- What numbers stand for, by their first step.
 use Rattle.std.specs.Prelude.{Result, Ok, Err}
 use Rattle.laws.proofs.Prelude.{◌≡◌, refl, sym, ap, ◌∙◌, ◌⊎◌, inl, inr, List, ℕ, zero, suc, ◌+◌, ◌-◌, ◌≤◌, ◌<◌, arith, eqb, ltb, length, get_or, take}
-use Rattle.laws.proofs.Prelude.{drop, length-take, length-drop, take_all, ltb-false}
+use Rattle.laws.proofs.Prelude.{drop, length-take, length-drop, ltb-false}
 use borrow.Author.Tests.{eqb-false}
 use Rattle.text.{proofs.Formed.picked, specs.declared.class.Class.Class}
 use Rattle.analysis.specs.Row.{Row, done, longest, shortest, either}
@@ -10,22 +10,13 @@ use Rattle.steps.specs.declared.table.Plain.TheVariants.{One}
 use Rattle.steps.specs.declared.table.Step.TheVariants.{Done, Pass, Longest, Shortest, Either}
 use Rattle.steps.specs.Codes.{START, TO, WORD, ONE, LONGEST, FROM, EITHER}
 use Rattle.steps.specs.Table.{Decoded, row, ill, before, between, plain, class_of, at_class, argued_by, step_of, stepwise, row_by, row_in}
-use Rattle.steps.specs.Answers.{Fits, verdict_of}
+use Rattle.steps.specs.Answers.{StepWithin, verdict_of}
 
--- the step, if there is one, lies within n numbers, and has some
-abbrev pub Inside : Result Step Ill → ℕ → Type 0
-Inside (Ok Done) n = Unit {0}
-Inside (Ok (Pass p wide)) n = Fits p n × (0 < wide) × (wide ≤ n)
-Inside (Ok (Longest c)) n = 2 ≤ n
-Inside (Ok (Shortest c)) n = 2 ≤ n
-Inside (Ok (Either k)) n = 2 + k ≤ n
-Inside (Err x) n = Unit {0}
-
-class_inside : (step : Class → Step) (n : ℕ) → ((c : Class) → Inside (Ok (step c)) n) → (r : Result Class Ill) → Inside (at_class step r) n
+class_inside : (step : Class → Step) (n : ℕ) → ((c : Class) → StepWithin (Ok (step c)) n) → (r : Result Class Ill) → StepWithin (at_class step r) n
 class_inside step n h (Ok c) = h c
 class_inside step n h (Err x) = tt
 
-argued_inside : (code n left total : ℕ) → 2 + left ≤ total → Inside (argued_by code n left) total
+argued_inside : (code n left total : ℕ) → 2 + left ≤ total → StepWithin (argued_by code n left) total
 unfolding argued_by
 argued_inside code n left total l =
     picked P (eqb code WORD) (λ _. picked P (ltb left n) (λ _. tt) (λ h. let b = ltb-false left n h in (omega arith, omega arith, omega arith)))
@@ -36,9 +27,9 @@ argued_inside code n left total l =
     (λ _. class_inside Shortest total (λ c. omega arith) (class_of n))))))
   where
     P : Result Step Ill → Type 0
-    P x = Inside x total
+    P x = StepWithin x total
 
-step_inside : (t : List ℕ) → Inside (step_of t) (length t)
+step_inside : (t : List ℕ) → StepWithin (step_of t) (length t)
 unfolding step_of
 step_inside t =
     picked P (eqb (length t) 0) (λ _. tt)
@@ -50,18 +41,14 @@ step_inside t =
     (λ b. let more = eqb-false (length t) 1 b in argued_inside (get_or t 0 0) (get_or t 1 0) (length t - 2) (length t) (omega arith)))))))
   where
     P : Result Step Ill → Type 0
-    P x = Inside x (length t)
+    P x = StepWithin x (length t)
 
--- the step that was read, and that it lies within the numbers
-module _ (t : List ℕ) {x y : Step} (e : Ok x ≡ step_of t) (is : x ≡ y) where
-  pub read : step_of t ≡ Ok y
-  read = sym e ∙ ap Ok is
-
-  pub lies : Inside (Ok y) (length t)
-  lies = rw read at (step_inside t)
+-- the step that was read
+pub read : (t : List ℕ) {x y : Step} → Ok x ≡ step_of t → x ≡ y → step_of t ≡ Ok y
+read t e is = sym e ∙ ap Ok is
 
 -- what is alike of fewer numbers is alike with a step before them
-alike : (x : Result Step Ill) (t : List ℕ) → Inside x (length t) → {d e : List ℕ → Decoded} → ((u : List ℕ) → length u < length t → d u ≡ e u)
+alike : (x : Result Step Ill) (t : List ℕ) → StepWithin x (length t) → {d e : List ℕ → Decoded} → ((u : List ℕ) → length u < length t → d u ≡ e u)
     → stepwise x t d ≡ stepwise x t e
 alike (Ok Done) t i h = refl
 alike (Ok (Pass p wide)) t i h = ap (before (plain p t)) (h (drop wide t) (omega (arith, length-drop wide t, i.1, i.2)))
@@ -110,9 +97,9 @@ module _ (t : List ℕ) where
 
   -- either run
   pub runs : {x : Step} → Ok x ≡ step_of t → ((c : Class) × (x ≡ Longest c)) ⊎ ((c : Class) × (x ≡ Shortest c))
-      → (2 ≤ length t) × (verdict_of (row_in t) ≡ verdict_of (row_in (drop 2 t)))
-  runs e (inl (c, is)) = (lies t e is, judged_run Longest longest (λ c. refl) c (read t e is))
-  runs e (inr (c, is)) = (lies t e is, judged_run Shortest shortest (λ c. refl) c (read t e is))
+      → verdict_of (row_in t) ≡ verdict_of (row_in (drop 2 t))
+  runs e (inl (c, is)) = judged_run Longest longest (λ c. refl) c (read t e is)
+  runs e (inr (c, is)) = judged_run Shortest shortest (λ c. refl) c (read t e is)
 
   module _ {n : ℕ} (e : step_of t ≡ Ok (Either n)) where
     pub judged_first : {y : Ill} → Err y ≡ verdict_of (row_in (take n (drop 2 t))) → verdict_of (row_in t) ≡ Err y
@@ -128,7 +115,3 @@ module _ (t : List ℕ) where
         go : (d : Decoded) → Ok tt ≡ verdict_of d → verdict_of (between d (row_in (drop (2 + n) t))) ≡ verdict_of (row_in (drop (2 + n) t))
         go (row r) h = verdict_behind (either r) (row_in (drop (2 + n) t))
         go (ill i) h = absurd (err-ne-ok h)
-
--- what is left of numbers from one of them on
-pub from_on : (i : ℕ) (t : List ℕ) → take (length t - i) (drop i t) ≡ drop i t
-from_on i t = take_all (length t - i) (drop i t) (omega (arith, length-drop i t))

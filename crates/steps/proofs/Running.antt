@@ -10,7 +10,7 @@ use Rattle.analysis.specs.declared.Capture.{Capture}
 use Rattle.analysis.specs.Row.{Row, one_at, done, longest, shortest, run_ends, all, first}
 use Rattle.analysis.proofs.Ends.{ends_stop, ends_go_on, ends_begin, by_characters, end_behind}
 use Rattle.analysis.proofs.{Search.first_append, RowSteps.some_there, RowSteps.none_there}
-use Rattle.steps.specs.declared.{table.Ill.Ill, table.Plain.Plain}
+use Rattle.steps.specs.declared.{run.Reached.Reached, table.Ill.Ill, table.Plain.Plain}
 use Rattle.steps.specs.declared.table.Step.TheVariants.{Done, Pass, Longest, Shortest, Either}
 use Rattle.steps.specs.Table.{row, before, step_of, row_in}
 use Rattle.steps.specs.Answers.{Passes, Precedes, FirstOf}
@@ -26,18 +26,22 @@ miss a b {x = Some k} e t = absurd (true≢false (sym t))
 miss a b {x = None} e t = first_append a b ∙ rw (← e)
 
 -- the preferred match of the row that the numbers stand for
-abbrev pub Whole : List ℕ → List ℕ → ℕ → Capture → Option Capture → Type 0
+abbrev pub Whole : List ℕ → List ℕ → Reached → Option Capture → Type 0
 Whole = FirstOf (λ q. q)
 
--- the preferred match of the row at one place of a table and of the body is that of the row at another
-pub record Goes (s t : List ℕ) (at : ℕ) (k : Capture) (u : List ℕ) (end : ℕ) (l : Capture) : Type 0 where
-  pub on : (q : Row) → row_in t ≡ row q → (r : Row) × (row_in u ≡ row r) × (first (all q s at k) ≡ first (all r s end l))
+-- the same, reached at another place
+abbrev pub moved : Reached → ℕ → Reached
+moved m e = record { at = e; captured = m.captured }
 
-module _ {s t : List ℕ} {at : ℕ} {k : Capture} where
-  pub stays : Goes s t at k t at k
+-- the preferred match of the row at one place of a table, from how far it has come on, is that of the row at another
+pub record Goes (s t : List ℕ) (m : Reached) (u : List ℕ) (n : Reached) : Type 0 where
+  pub on : (q : Row) → row_in t ≡ row q → (r : Row) × (row_in u ≡ row r) × (first (all q s m.at m.captured) ≡ first (all r s n.at n.captured))
+
+module _ {s t : List ℕ} {m : Reached} where
+  pub stays : Goes s t m t m
   stays = record { on = λ q e. (q, e, refl) }
 
-  pub onward : {u v : List ℕ} {m n : ℕ} {l o : Capture} → Goes s t at k u m l → Goes s u m l v n o → Goes s t at k v n o
+  pub onward : {u v : List ℕ} {n o : Reached} → Goes s t m u n → Goes s u n v o → Goes s t m v o
   onward f g = record {
     on = λ q e.
         let (r, i, x) = f.on q e in
@@ -45,81 +49,81 @@ module _ {s t : List ℕ} {at : ℕ} {k : Capture} where
         (p, j, x ∙ y);
   }
 
-  pub arrives : {u : List ℕ} {end : ℕ} {l : Capture} {x : Option Capture} → Goes s t at k u end l → Whole u s end l x → Whole t s at k x
+  pub arrives : {u : List ℕ} {n : Reached} {x : Option Capture} → Goes s t m u n → Whole u s n x → Whole t s m x
   arrives f a = record { is = λ q e. let (r, i, v) = f.on q e in a.is r i ∙ sym v }
 
   -- by the first step
-  pub at_done : step_of t ≡ Ok Done → Whole t s at k (Some k)
+  pub at_done : step_of t ≡ Ok Done → Whole t s m (Some m.captured)
   unfolding all first
   at_done e = record { is = λ q i. let same : q ≡ done = cc (row_in_lem t e) in rw same }
 
-  pub at_bad : {y : Ill} {x : Option Capture} → step_of t ≡ Err y → Whole t s at k x
+  pub at_bad : {y : Ill} {x : Option Capture} → step_of t ≡ Err y → Whole t s m x
   at_bad e = record { is = λ q i. cc (row_in_lem t e) }
 
-  module _ {p : Plain} {wide : ℕ} (e : step_of t ≡ Ok (Pass p wide)) {x : Option (ℕ × Capture)} (f : Passes p t s at k x) where
-    pub passed : {end : ℕ} {l : Capture} → x ≡ Some (end, l) → Goes s t at k (drop wide t) end l
+  module _ {p : Plain} {wide : ℕ} (e : step_of t ≡ Ok (Pass p wide)) {x : Option Reached} (f : Passes p t s m x) where
+    pub passed : {n : Reached} → x ≡ Some n → Goes s t m (drop wide t) n
     passed is = record {
       on = λ q i.
           let (r, j, same) = before_row (row_in (drop wide t)) (sym (row_in_lem t e) ∙ i) in
-          (r, j, ap (λ (x : Row). first (all x s at k)) same ∙ ap first (f r) ∙ rw is);
+          (r, j, ap (λ (x : Row). first (all x s m.at m.captured)) same ∙ ap first (f r) ∙ rw is);
     }
 
-    pub unpassed : x ≡ None → Whole t s at k None
+    pub unpassed : x ≡ None → Whole t s m None
     unfolding first
     unpassed is = record {
       is = λ q i.
           let (r, j, same) = before_row (row_in (drop wide t)) (sym (row_in_lem t e) ∙ i) in
-          sym (ap (λ (x : Row). first (all x s at k)) same ∙ ap first (f r) ∙ rw is);
+          sym (ap (λ (x : Row). first (all x s m.at m.captured)) same ∙ ap first (f r) ∙ rw is);
     }
 
-  at_run : {step : Row → Row} {x : Option Capture} → row_in t ≡ before step (row_in (drop 2 t)) → FirstOf step (drop 2 t) s at k x → Whole t s at k x
+  at_run : {step : Row → Row} {x : Option Capture} → row_in t ≡ before step (row_in (drop 2 t)) → FirstOf step (drop 2 t) s m x → Whole t s m x
   at_run e f = record {
     is = λ q i.
         let (r, j, same) = before_row (row_in (drop 2 t)) (sym e ∙ i) in
         rw same (f.is r j);
   }
 
-  pub at_longest : {c : Class} {x : Option Capture} → step_of t ≡ Ok (Longest c) → FirstOf (longest c) (drop 2 t) s at k x → Whole t s at k x
+  pub at_longest : {c : Class} {x : Option Capture} → step_of t ≡ Ok (Longest c) → FirstOf (longest c) (drop 2 t) s m x → Whole t s m x
   at_longest e = at_run (row_in_lem t e)
 
-  pub at_shortest : {c : Class} {x : Option Capture} → step_of t ≡ Ok (Shortest c) → FirstOf (shortest c) (drop 2 t) s at k x → Whole t s at k x
+  pub at_shortest : {c : Class} {x : Option Capture} → step_of t ≡ Ok (Shortest c) → FirstOf (shortest c) (drop 2 t) s m x → Whole t s m x
   at_shortest e = at_run (row_in_lem t e)
 
-  module _ {n : ℕ} (e : step_of t ≡ Ok (Either n)) {x : Option Capture} (f : Whole (take n (drop 2 t)) s at k x) where
-    pub at_first : true ≡ is_some x → Whole t s at k x
+  module _ {n : ℕ} (e : step_of t ≡ Ok (Either n)) {x : Option Capture} (f : Whole (take n (drop 2 t)) s m x) where
+    pub at_first : true ≡ is_some x → Whole t s m x
     unfolding all
     at_first is = record {
       is = λ q i.
           let (a, j, b, h, same) = between_rows (row_in (take n (drop 2 t))) (row_in (drop (2 + n) t)) (sym (row_in_lem t e) ∙ i) in
-          rw same (hit (all a s at k) (all b s at k) (f.is a j) is);
+          rw same (hit (all a s m.at m.captured) (all b s m.at m.captured) (f.is a j) is);
     }
 
-    pub at_second : false ≡ is_some x → Goes s t at k (drop (2 + n) t) at k
+    pub at_second : false ≡ is_some x → Goes s t m (drop (2 + n) t) m
     unfolding all
     at_second is = record {
       on = λ q i.
           let (a, j, b, h, same) = between_rows (row_in (take n (drop 2 t))) (row_in (drop (2 + n) t)) (sym (row_in_lem t e) ∙ i) in
-          (b, h, ap (λ (x : Row). first (all x s at k)) same ∙ miss (all a s at k) (all b s at k) (f.is a j) is);
+          (b, h, ap (λ (x : Row). first (all x s m.at m.captured)) same ∙ miss (all a s m.at m.captured) (all b s m.at m.captured) (f.is a j) is);
     }
 
 -- a run, the shorter ones first, and the steps behind it: from one of its ends to the next
-pub record Shorter (c : Class) (t s : List ℕ) (k : Capture) (at e : ℕ) : Type 0 where
-  pub on : (q : Row) → row_in t ≡ row q → first (all (shortest c q) s at k) ≡ first (all (shortest c q) s e k)
+pub record Shorter (c : Class) (t s : List ℕ) (m : Reached) (e : ℕ) : Type 0 where
+  pub on : (q : Row) → row_in t ≡ row q → first (all (shortest c q) s m.at m.captured) ≡ first (all (shortest c q) s e m.captured)
 
-module _ {c : Class} {t s : List ℕ} {k : Capture} {at e : ℕ} {x : Option Capture} (f : Whole t s e k x) (before : Shorter c t s k at e) where
-  pub short_hit : true ≡ is_some x → FirstOf (shortest c) t s at k x
+module _ {c : Class} {t s : List ℕ} {m : Reached} {e : ℕ} {x : Option Capture} (f : Whole t s (moved m e) x) (before : Shorter c t s m e) where
+  pub short_hit : true ≡ is_some x → FirstOf (shortest c) t s m x
   unfolding all flat_map
-  short_hit is = record { is = λ q i. sym (before.on q i ∙ rw (ends_begin c s e).1 (sym (hit (all q s e k) _ (f.is q i) is))) }
+  short_hit is = record { is = λ q i. sym (before.on q i ∙ rw (ends_begin c s e).1 (sym (hit (all q s e m.captured) _ (f.is q i) is))) }
 
-  pub short_stop : false ≡ is_some x → None ≡ one_at c s e → FirstOf (shortest c) t s at k None
+  pub short_stop : false ≡ is_some x → None ≡ one_at c s e → FirstOf (shortest c) t s m None
   unfolding all flat_map first
-  short_stop is z = record { is = λ q i. sym (before.on q i ∙ rw (ends_stop c s e (none_there e _ z)) (miss (all q s e k) [] (f.is q i) is)) }
+  short_stop is z = record { is = λ q i. sym (before.on q i ∙ rw (ends_stop c s e (none_there e _ z)) (miss (all q s e m.captured) [] (f.is q i) is)) }
 
-  pub short_on : false ≡ is_some x → {d : ℕ} → Some d ≡ one_at c s e → (e < d) × Shorter c t s k at d
+  pub short_on : false ≡ is_some x → {d : ℕ} → Some d ≡ one_at c s e → (e < d) × Shorter c t s m d
   unfolding all flat_map
   short_on is z =
       let (n, there) = some_there e _ z in
-      (omega arith, rw there (record { on = λ q i. before.on q i ∙ rw (ends_go_on c s e refl n) (miss (all q s e k) _ (f.is q i) is) }))
+      (omega arith, rw there (record { on = λ q i. before.on q i ∙ rw (ends_go_on c s e refl n) (miss (all q s e m.captured) _ (f.is q i) is) }))
 
 -- the ends of runs from a place up to another, the longest first
 pub data Back (c : Class) (s : List ℕ) (at : ℕ) : ℕ → List ℕ → Type 0 where
@@ -145,14 +149,14 @@ back_run c s at = rw append-nil at (go at [] begin)
         (λ d z f l b. rw (ends_go_on c s d refl z, reverse-cons, append_assoc, ← end_behind c s d z) (f (d ∷ l) (more b z refl)))
 
 -- the longer ones first: the runs up to a place are left to be tried
-pub record Longer (c : Class) (t s : List ℕ) (k : Capture) (at e : ℕ) : Type 0 where
+pub record Longer (c : Class) (t s : List ℕ) (m : Reached) (e : ℕ) : Type 0 where
   pub left : List ℕ
-  pub ends : Back c s at e left
-  pub on : (q : Row) → row_in t ≡ row q → first (all (longest c q) s at k) ≡ first (flat_map (λ d. all q s d k) left)
+  pub ends : Back c s m.at e left
+  pub on : (q : Row) → row_in t ≡ row q → first (all (longest c q) s m.at m.captured) ≡ first (flat_map (λ d. all q s d m.captured) left)
 
-pub long_all : {c : Class} {t s : List ℕ} {k : Capture} {at e : ℕ} → e ≡ run_end c s at → Longer c t s k at e
+pub long_all : {c : Class} {t s : List ℕ} {m : Reached} {e : ℕ} → e ≡ run_end c s m.at → Longer c t s m e
 unfolding all
-long_all {c} {s = s} {at = at} p = record { left = reverse (run_ends c s at); ends = rw p (back_run c s at); on = λ q i. refl }
+long_all {c} {s = s} {m = m} p = record { left = reverse (run_ends c s m.at); ends = rw p (back_run c s m.at); on = λ q i. refl }
 
 -- a character of the class is as long as any
 class_length : (c : Class) (u : List ℕ) → (class_at c u ≡ 0 → ⊥) → class_at c u ≡ char_length Utf8 u
@@ -163,30 +167,31 @@ class_length c u z = go (member c (char_at Utf8 u).code) z
     go true z = refl
     go false z = absurd (z refl)
 
-module _ {c : Class} {t s : List ℕ} {k : Capture} {at e : ℕ} {x : Option Capture} (f : Whole t s e k x) (before : Longer c t s k at e) where
-  pub long_hit : true ≡ is_some x → FirstOf (longest c) t s at k x
+module _ {c : Class} {t s : List ℕ} {m : Reached} {e : ℕ} {x : Option Capture} (f : Whole t s (moved m e) x) (before : Longer c t s m e) where
+  pub long_hit : true ≡ is_some x → FirstOf (longest c) t s m x
   unfolding flat_map
   long_hit is = record {
     is = λ q i.
-        let (m, p) = back_head before.ends in
-        hit (all q s e k) (flat_map (λ d. all q s d k) m) (f.is q i) is ∙ sym (before.on q i ∙ ap (λ (l : List ℕ). first (flat_map (λ d. all q s d k) l)) p);
+        let (others, p) = back_head before.ends in
+        hit (all q s e m.captured) (flat_map (λ d. all q s d m.captured) others) (f.is q i) is
+        ∙ sym (before.on q i ∙ ap (λ (l : List ℕ). first (flat_map (λ d. all q s d m.captured) l)) p);
   }
 
-  pub long_stop : false ≡ is_some x → e ≤ at → FirstOf (longest c) t s at k None
+  pub long_stop : false ≡ is_some x → e ≤ m.at → FirstOf (longest c) t s m None
   unfolding flat_map first
   long_stop is h = record { is = λ q i. sym (before.on q i ∙ go q before.ends h (f.is q i)) }
     where
-      go : (q : Row) {d : ℕ} {l : List ℕ} → Back c s at d l → d ≤ at → x ≡ first (all q s d k) → first (flat_map (λ d. all q s d k) l) ≡ None
-      go q begin i g = miss (all q s at k) [] g is
+      go : (q : Row) {d : ℕ} {l : List ℕ} → Back c s m.at d l → d ≤ m.at → x ≡ first (all q s d m.captured) → first (flat_map (λ d. all q s d m.captured) l) ≡ None
+      go q begin i g = miss (all q s m.at m.captured) [] g is
       go q (more b z p) i g = absurd (omega (arith, back_onward b))
 
-  pub long_back : {r : ℕ} → false ≡ is_some x → at < e → Precedes s e r → (at ≤ r) × Longer c t s k at r
+  pub long_back : {r : ℕ} → false ≡ is_some x → m.at < e → Precedes s e r → (m.at ≤ r) × Longer c t s m r
   unfolding flat_map
   long_back {r} is h start = go e refl before.left before.ends before.on
     where
-      go : (d : ℕ) → d ≡ e → (l : List ℕ) → Back c s at d l
-          → ((q : Row) → row_in t ≡ row q → first (all (longest c q) s at k) ≡ first (flat_map (λ d. all q s d k) l)) → (at ≤ r) × Longer c t s k at r
+      go : (d : ℕ) → d ≡ e → (l : List ℕ) → Back c s m.at d l
+          → ((q : Row) → row_in t ≡ row q → first (all (longest c q) s m.at m.captured) ≡ first (flat_map (λ d. all q s d m.captured) l)) → (m.at ≤ r) × Longer c t s m r
       go _ same _ begin on = absurd (omega arith)
       go _ same _ (more {d} {e = y} {l} b z p) on =
           let first : r ≡ d = start d (omega arith) (omega (arith, class_length c (drop d s) z)) in
-          (omega (arith, back_onward b), record { left = l; ends = rw first b; on = λ q i. on q i ∙ miss (all q s y k) _ (rw (← same) at (f.is q i)) is })
+          (omega (arith, back_onward b), record { left = l; ends = rw first b; on = λ q i. on q i ∙ miss (all q s y m.captured) _ (rw (← same) at (f.is q i)) is })

@@ -1,11 +1,9 @@
 -- The ten tables stand for the ten rows; what a table answers.
-use Rattle.std.specs.Prelude.{Option, Some, None, is_some, Ok, Err}
+use Rattle.std.specs.Prelude.{Option, Some, None, Ok, Err}
 use Rattle.std.specs.Result.{result_unwrap_or}
-use Rattle.laws.proofs.Prelude.{◌≡◌, refl, sym, ap, ◌∙◌, true, false, true≢false, ⊎_elim, List, ℕ, ◌+◌, ◌≤◌, ◌<◌, arith, length, le-ltb, lt-ltb}
-use native.Mathlib.Nat.{eq-or-lt_of_le}
+use Rattle.laws.proofs.Prelude.{◌≡◌, refl, sym, ap, ◌∙◌, List, ℕ, ◌≤◌, ◌<◌, length, le-ltb, lt-ltb}
 use Rattle.analysis.specs.{declared.Capture.Capture, Prefers.Finds}
-use Rattle.analysis.specs.Row.{Row, all, no_capture, first, match_at, find}
-use Rattle.analysis.proofs.Search.{left_from, left_found, left_goes_on, left_ends}
+use Rattle.analysis.specs.Row.{Row, find}
 use Rattle.analysis.proofs.Preference.{preferred_found, finds}
 use Rattle.steps.specs.declared.{Pattern.Pattern, table.Ill.Ill, table.Ill.TheVariants.TooLong}
 use Rattle.steps.specs.declared.Pattern.TheVariants.{TripleSlash, Path, Types, ResolutionMode, JsxImportSource, JsxImportSourceTypes}
@@ -32,24 +30,6 @@ tables DenoTypes = refl
 stands_decoded : (t : List ℕ) → length t ≤ 255 → decode t ≡ row_in t
 unfolding decode
 stands_decoded t h = rw (le-ltb 255 (length t) h)
-
--- from one place of a body to the next
-module _ (q : Row) (s : List ℕ) (i : ℕ) {x : Option Capture} (e : x ≡ first (all q s i no_capture)) where
-  pub left_hit : i ≤ length s → true ≡ is_some x → left_from q s i ≡ x
-  unfolding match_at
-  left_hit h t = ⊎_elim (λ p. left_ends q s i (omega arith) ∙ sym e) (λ l. left_found q s i l e t) (eq-or-lt_of_le h)
-
-  pub left_miss : i < length s → false ≡ is_some x → left_from q s i ≡ left_from q s (i + 1)
-  unfolding match_at
-  left_miss h = left_goes_on q s i h e
-
-  pub left_over : length s ≤ i → false ≡ is_some x → left_from q s i ≡ None
-  unfolding match_at
-  left_over h t = left_ends q s i h ∙ sym e ∙ none x t
-    where
-      none : (x : Option Capture) → false ≡ is_some x → x ≡ None
-      none (Some k) t = absurd (true≢false (sym t))
-      none None t = refl
 
 -- what is found of a row is one only
 pub found_so : (q : Row) (s : List ℕ) (x : Option Capture) → Finds q s x → x ≡ find q s

@@ -5,10 +5,13 @@ use Rattle.text.specs.Utf8.{char_length}
 use Rattle.analysis.specs.declared.Capture.{Capture}
 use Rattle.analysis.specs.Row.{Row, all, first, find}
 use Rattle.analysis.specs.Prefers.{Finds}
+use Rattle.steps.specs.declared.run.Reached.{Reached}
 use Rattle.steps.specs.declared.table.Ill.{Ill}
 use Rattle.steps.specs.declared.table.Ill.TheVariants.{TooLong, UnknownStep, UnknownClass, UnknownMarks, CutOff}
 use Rattle.steps.specs.declared.table.Plain.{Plain}
 use Rattle.steps.specs.declared.table.Plain.TheVariants.{Start, Word, One, From, To}
+use Rattle.steps.specs.declared.table.Step.{Step}
+use Rattle.steps.specs.declared.table.Step.TheVariants.{Done, Pass, Longest, Shortest, Either}
 use Rattle.steps.specs.Written.{written}
 use Rattle.steps.specs.Table.{Decoded, row, ill, plain, row_in, decode}
 
@@ -20,32 +23,41 @@ Fits (One c) n = Unit {0}
 Fits (From quoted) n = Unit {0}
 Fits To n = Unit {0}
 
+-- the step, if there is one, lies within n numbers, and has some
+abbrev pub StepWithin : Result Step Ill → ℕ → Type 0
+StepWithin (Ok Done) n = Unit {0}
+StepWithin (Ok (Pass p wide)) n = Fits p n × (0 < wide) × (wide ≤ n)
+StepWithin (Ok (Longest c)) n = 2 ≤ n
+StepWithin (Ok (Shortest c)) n = 2 ≤ n
+StepWithin (Ok (Either k)) n = 2 + k ≤ n
+StepWithin (Err x) n = Unit {0}
+
 -- whether numbers stand for a row
 abbrev pub verdict_of : Decoded → Result (Unit {0}) Ill
 verdict_of (row r) = Ok tt
 verdict_of (ill x) = Err x
 
 -- the matches behind a plain step that was passed
-abbrev pub on_passed : Option (ℕ × Capture) → (ℕ → Capture → List Capture) → List Capture
-on_passed (Some p) f = f p.0 p.1
+abbrev pub on_passed : Option Reached → (ℕ → Capture → List Capture) → List Capture
+on_passed (Some m) f = f m.at m.captured
 on_passed None f = []
 
 -- whatever row is behind it, a plain step matches as it is passed
-abbrev pub Passes : Plain → List ℕ → List ℕ → ℕ → Capture → Option (ℕ × Capture) → Type 0
-Passes p t s at k r = (q : Row) → all (plain p t q) s at k ≡ on_passed r (λ e l. all q s e l)
+abbrev pub Passes : Plain → List ℕ → List ℕ → Reached → Option Reached → Type 0
+Passes p t s m r = (q : Row) → all (plain p t q) s m.at m.captured ≡ on_passed r (λ e l. all q s e l)
 
 -- the place that was reached, if any, is at most n
-abbrev pub PassedBy : Option (ℕ × Capture) → ℕ → Type 0
-PassedBy (Some p) n = p.0 ≤ n
+abbrev pub PassedBy : Option Reached → ℕ → Type 0
+PassedBy (Some m) n = m.at ≤ n
 PassedBy None n = Unit {0}
 
 -- a character that ends at a place begins at the other
 abbrev pub Precedes : List ℕ → ℕ → ℕ → Type 0
 Precedes s end r = (d : ℕ) → d < end → d + char_length Utf8 (drop d s) ≡ end → r ≡ d
 
--- the preferred match from a place on of the row that the numbers stand for, behind a step
-pub record FirstOf (step : Row → Row) (t s : List ℕ) (at : ℕ) (k : Capture) (r : Option Capture) : Type 0 where
-  pub is : (q : Row) → row_in t ≡ row q → r ≡ first (all (step q) s at k)
+-- the preferred match, from how far it has come on, of the row that the numbers stand for, behind a step
+pub record FirstOf (step : Row → Row) (t s : List ℕ) (m : Reached) (r : Option Capture) : Type 0 where
+  pub is : (q : Row) → row_in t ≡ row q → r ≡ first (all (step q) s m.at m.captured)
 
 -- the preferred match in a body of the row that the numbers stand for
 pub record FindsRow (t s : List ℕ) (r : Option Capture) : Type 0 where

@@ -15,7 +15,7 @@ use self::patterns::{
     DENO_TYPES, JSX_IMPORT_SOURCE, JSX_IMPORT_SOURCE_TYPES, PATH, RESOLUTION_MODE,
     SOURCE_MAPPING_URL, TRIPLE_SLASH, TS_SELF_TYPES, TS_TYPES, TYPES,
 };
-use self::run::match_from;
+use self::run::{Reached, match_from};
 use self::table::{Ill, check};
 use analysis::Capture;
 
@@ -44,18 +44,12 @@ pub enum Pattern {
 fn find_row(table: &[u8], body: &[u8]) -> Option<Capture>
     ensures { FindsRow table.now body.now result }
 {
-    let none = Capture {
+    let captured = Capture {
         quoted: false,
         from: 0,
         to: 0,
     };
-    for i in 0..=body.len() {
-        let found = match_from(table, body, i, none);
-        if found.is_some() {
-            return found;
-        }
-    }
-    None
+    (0..=body.len()).find_map(|at| match_from(table, body, Reached { at, captured }))
 }
 
 // Runs any table on any body.

@@ -8,28 +8,46 @@ use super::table::{Plain, Step, step_of};
 use analysis::Capture;
 use analysis::matcher::{match_word, one_at};
 use text::class::{Class, run_end};
+use text::position::goes_on;
 
-// Passes a plain step, with which the numbers begin, at a place: where it ends and what is captured behind it, if it is passed.
+// How far a match has come: up to which place, and what is captured before it.
+#[derive(Clone, Copy)]
+pub struct Reached {
+    pub at: usize,
+    pub captured: Capture,
+}
+
+// Passes a plain step, with which the numbers begin, and answers how far the match has come behind it, if it is passed.
 #[tactic(auto, unfolding(analysis::specs::Row::all))]
-fn pass(plain: Plain, steps: &[u8], body: &[u8], at: usize, k: Capture) -> Option<(usize, Capture)>
-    requires { (at ≤ length body.now) × (Fits plain (length steps.now)) }
-    ensures { Bounded (Passes plain steps.now body.now at k result)
+fn pass(plain: Plain, steps: &[u8], body: &[u8], from: Reached) -> Option<Reached>
+    requires { (from.at ≤ length body.now) × (Fits plain (length steps.now)) }
+    ensures { Bounded (Passes plain steps.now body.now from result)
         (PassedBy result (length body.now)) }
 {
+    let Reached { at, captured } = from;
     match plain {
-        Plain::Start if at == 0 => Some((at, k)),
+        Plain::Start if at == 0 => Some(from),
         Plain::Start => None,
-        Plain::Word(n) => Some((match_word(body, at, &steps[2..2 + n])?, k)),
-        Plain::One(class) => Some((one_at(body, at, class)?, k)),
-        Plain::From(quoted) => Some((
+        Plain::Word(n) => Some(Reached {
+            at: match_word(body, at, &steps[2..2 + n])?,
+            captured,
+        }),
+        Plain::One(class) => Some(Reached {
+            at: one_at(body, at, class)?,
+            captured,
+        }),
+        Plain::From(quoted) => Some(Reached {
             at,
-            Capture {
+            captured: Capture {
                 quoted,
                 from: at,
-                ..k
+                ..captured
             },
-        )),
-        Plain::To => Some((at, Capture { to: at, ..k })),
+        }),
+        Plain::To => Some(Reached {
+            at,
+            captured: Capture { to: at, ..captured },
+        }),
     }
 }
 
@@ -38,27 +56,22 @@ fn char_before(s: &[u8], end: usize) -> usize
     requires { (0 < end) × (end ≤ length s.now) }
     ensures { Bounded (Precedes s.now end result) (result < end) }
 {
-    for i in (1..end).rev() {
-        if s[i] < 0x80 || 0xBF < s[i] {
-            return i;
-        }
-    }
-    0
+    s[..end].iter().rposition(|b| !goes_on(*b)).unwrap_or(0)
 }
 
 // A run, the longer ones first, and the steps behind it: one character back at a time.
 #[cycle(run)]
-fn match_longest(steps: &[u8], body: &[u8], at: usize, class: Class, k: Capture) -> Option<Capture>
-    requires { at ≤ length body.now }
-    ensures { FirstOf (longest class) steps.now body.now at k result }
+fn match_longest(steps: &[u8], body: &[u8], from: Reached, class: Class) -> Option<Capture>
+    requires { from.at ≤ length body.now }
+    ensures { FirstOf (longest class) steps.now body.now from result }
 {
-    let mut end = run_end(body, at, class);
+    let mut end = run_end(body, from.at, class);
     loop {
-        let found = match_from(steps, body, end, k);
+        let found = match_from(steps, body, Reached { at: end, ..from });
         if found.is_some() {
             return found;
         }
-        if end <= at {
+        if end <= from.at {
             return None;
         }
         end = char_before(body, end);
@@ -67,48 +80,47 @@ fn match_longest(steps: &[u8], body: &[u8], at: usize, class: Class, k: Capture)
 
 // The shorter ones first.
 #[cycle(run)]
-fn match_shortest(steps: &[u8], body: &[u8], at: usize, class: Class, k: Capture) -> Option<Capture>
-    requires { at ≤ length body.now }
-    ensures { FirstOf (shortest class) steps.now body.now at k result }
+fn match_shortest(steps: &[u8], body: &[u8], from: Reached, class: Class) -> Option<Capture>
+    requires { from.at ≤ length body.now }
+    ensures { FirstOf (shortest class) steps.now body.now from result }
 {
-    let mut e = at;
+    let mut end = from.at;
     loop {
-        let found = match_from(steps, body, e, k);
+        let found = match_from(steps, body, Reached { at: end, ..from });
         if found.is_some() {
             return found;
         }
-        e = one_at(body, e, class)?;
+        end = one_at(body, end, class)?;
     }
 }
 
-// The preferred match from a place on of the row that the numbers stand for.
+// The preferred match, from how far it has come on, of the row that the numbers stand for.
 #[cycle(run)]
-pub fn match_from(steps: &[u8], body: &[u8], at: usize, k: Capture) -> Option<Capture>
-    requires { at ≤ length body.now }
-    ensures { FirstOf (λ q. q) steps.now body.now at k result }
+pub fn match_from(steps: &[u8], body: &[u8], from: Reached) -> Option<Capture>
+    requires { from.at ≤ length body.now }
+    ensures { FirstOf (λ q. q) steps.now body.now from result }
 {
     let mut rest = steps;
-    let mut here = at;
-    let mut captured = k;
+    let mut here = from;
     loop {
         let Ok(step) = step_of(rest) else {
             return None;
         };
         match step {
-            Step::Done => return Some(captured),
+            Step::Done => return Some(here.captured),
             Step::Pass(plain, wide) => {
-                (here, captured) = pass(plain, rest, body, here, captured)?;
+                here = pass(plain, rest, body, here)?;
                 rest = &rest[wide..];
             }
-            Step::Longest(class) => return match_longest(&rest[2..], body, here, class, captured),
-            Step::Shortest(class) => return match_shortest(&rest[2..], body, here, class, captured),
+            Step::Longest(class) => return match_longest(&rest[2..], body, here, class),
+            Step::Shortest(class) => return match_shortest(&rest[2..], body, here, class),
             Step::Either(n) => {
-                let end = 2 + n;
-                let found = match_from(&rest[2..end], body, here, captured);
+                let (first, second) = rest[2..].split_at(n);
+                let found = match_from(first, body, here);
                 if found.is_some() {
                     return found;
                 }
-                rest = &rest[end..];
+                rest = second;
             }
         }
     }

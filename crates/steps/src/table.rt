@@ -1,7 +1,8 @@
 // Tables of numbers: the step at the front of one, and whether the whole stands for a row.
-ghost use Rattle.std.specs.Prelude.{◌≡◌};
+ghost use Rattle.std.specs.Prelude.{◌≡◌, ◌+◌, length};
+ghost use Rattle.laws.specs.code.Told.{Bounded};
 ghost use Rattle.steps.specs.Table.{class_of, argued_by, step_of, row_in};
-ghost use Rattle.steps.specs.Answers.{verdict_of};
+ghost use Rattle.steps.specs.Answers.{StepWithin, verdict_of};
 
 use super::codes::{
     ALPHABETIC, EITHER, FROM, LONGEST, MARKED, NAME_REST, NOT_LF, NOT_QUOTE, NOT_WHITE, ONE, QUOTE,
@@ -66,7 +67,7 @@ fn class_of(n: u8) -> Result<Class, Ill>
 // The step of a code that has an argument, `n`, with so many numbers behind it.
 #[tactic(auto, unfolding(crate::specs::Table::argued_by))]
 fn argued(code: u8, n: u8, left: usize) -> Result<Step, Ill>
-    ensures { result ≡ argued_by code n left }
+    ensures { Bounded (result ≡ argued_by code n left) (StepWithin result (2 + left)) }
 {
     let count = usize::from(n);
     match code {
@@ -84,7 +85,7 @@ fn argued(code: u8, n: u8, left: usize) -> Result<Step, Ill>
 // The step that the numbers begin with.
 #[tactic(auto, unfolding(crate::specs::Table::step_of))]
 pub fn step_of(steps: &[u8]) -> Result<Step, Ill>
-    ensures { result ≡ step_of steps.now }
+    ensures { Bounded (result ≡ step_of steps.now) (StepWithin result (length steps.now)) }
 {
     match steps {
         [] => Ok(Step::Done),
@@ -107,9 +108,9 @@ pub fn check(steps: &[u8]) -> Result<(), Ill>
             Step::Pass(_, wide) => rest = &rest[wide..],
             Step::Longest(_) | Step::Shortest(_) => rest = &rest[2..],
             Step::Either(n) => {
-                let end = 2 + n;
-                check(&rest[2..end])?;
-                rest = &rest[end..];
+                let (first, second) = rest[2..].split_at(n);
+                check(first)?;
+                rest = second;
             }
         }
     }

@@ -1,14 +1,13 @@
 -- Positions from one place of a text to another, how far they go, and an index of them.
 use Rattle.laws.proofs.Prelude.{◌≡◌, refl, ◌∙◌, Bool, true, false, cond, List, [], ◌∷◌, ◌++◌, ℕ, ◌+◌, ◌-◌, ◌*◌, ◌/◌, ◌%◌, ◌≤◌, ◌<◌, not-suc-le-zero, arith}
-use Rattle.laws.proofs.Prelude.{add-one, eqb, ltb, length, get_or, set, take, drop, length-append, length-take-le, ltb-true}
+use Rattle.laws.proofs.Prelude.{add-one, eqb, ltb, length, get_or, set, take, drop, length-take-le, get_or-set_other, get_or-set_same, ltb-true}
 use native.Mathlib.Nat.{add-sub_of_le, mod-eq-sub-mul-div}
-use lib.ListN.{get_or-append}
-use lib.Seq.{take-add, take-suc, get_or_at}
+use lib.Seq.{take-add, take-suc}
 use borrow.Author.Count.{below_more}
-use Rattle.std.proofs.lemmas.List.{length-map, map-set, take_more_set}
+use Rattle.std.proofs.lemmas.List.{length-map, map-set}
 use Rattle.text.specs.{declared.position.Position.Position, declared.position.PositionRow.PositionRow, Ranges.within, Utf8.continuation}
 use Rattle.text.specs.Position.{Units, characters, step, walk, start_position, position_of, Indexed, indexed_position}
-use Rattle.text.specs.code.Index.{position_in, positions_in}
+use Rattle.text.specs.code.Index.{position_in, positions_in, IndexOf}
 
 -- a walk goes on where another ends
 pub walk_append : (unit : Units) (p : Position) (s t : List ℕ) → walk unit p (s ++ t) ≡ walk unit (walk unit p s) t
@@ -64,34 +63,33 @@ bounded s at h e =
     let most = walk_bounded start_position (take at s) in
     rw e (omega (arith, length-take-le at s h))
 
--- an index of no position is right, and so is one with the position at the next 64th byte behind it
+-- of no rows an index is right, and so it is of one more, where the next one has the position at its byte
 module _ {unit : Units} {s : List ℕ} where
-  pub index_none : Indexed unit s []
-  index_none = record { right = λ k l. absurd (not-suc-le-zero l) }
+  pub index_none : (index : List Position) → Indexed unit s index 0
+  index_none index = record { right = λ k l. absurd (not-suc-le-zero l) }
 
-  index_one_more : {ps : List Position} → Indexed unit s ps → (p : Position) → p ≡ position_of unit s (64 * length ps) → Indexed unit s (ps ++ p ∷ [])
-  index_one_more {ps} h p e = record {
-    right = λ k l. below_more (λ k. get_or (ps ++ p ∷ []) k start_position ≡ position_of unit s (64 * k)) (length ps)
-        (λ k i. get_or-append ps (p ∷ []) start_position k i ∙ h.right k i)
-        (get_or_at ps p [] start_position (length ps) refl ∙ e)
-        k (omega (arith, l, length-append ps (p ∷ [])));
-  }
-
-  -- in the first n rows of a table, with the next row stored
-  pub index_more : (rows : List PositionRow) (n : ℕ) (row : PositionRow) → Indexed unit s (take n (positions_in rows)) → n < length rows
-      → position_in row ≡ position_of unit s (64 * n) → Indexed unit s (take (n + 1) (positions_in (set rows n row)))
+  pub index_more : (rows : List PositionRow) (n : ℕ) (row : PositionRow) → Indexed unit s (positions_in rows) n → n < length rows
+      → position_in row ≡ position_of unit s (64 * n) → Indexed unit s (positions_in (set rows n row)) (n + 1)
   index_more rows n row h l e =
-      let long : length (take n (positions_in rows)) ≡ n = omega (arith, length-take-le n (positions_in rows) (rw length-map (omega arith))) in
-      rw (map-set position_in rows n row, take_more_set (positions_in rows) n (position_in row) (rw length-map l))
-      (index_one_more h (position_in row) (rw long e))
+      let ps = positions_in rows in
+      record {
+        right = λ k i. rw (map-set position_in rows n row)
+            (below_more (λ k. get_or (set ps n (position_in row)) k start_position ≡ position_of unit s (64 * k)) n
+            (λ k j. get_or-set_other ps n k (position_in row) start_position (λ x. omega arith) ∙ h.right k j)
+            (get_or-set_same ps n (position_in row) start_position (rw length-map l) ∙ e)
+            k (omega arith));
+      }
 
-  -- by a right index the position is that of the text
-  pub indexed : {index : List Position} → Indexed unit s index → (at : ℕ) → indexed_position unit s index at ≡ position_of unit s at
-  unfolding indexed_position
-  indexed {index} h at = go (ltb (at / 64) (length index)) refl
-    where
-      go : (b : Bool) → ltb (at / 64) (length index) ≡ b → cond b (walk unit (get_or index (at / 64) start_position) (take (at % 64) (drop (64 * (at / 64)) s)))
-          (position_of unit s at) ≡ position_of unit s at
-      go false e = refl
-      go true e =
-          rw (h.right (at / 64) (ltb-true (at / 64) (length index) e), mod-eq-sub-mul-div) (onward unit s (64 * (at / 64)) at (omega arith))
+-- by the index of a source the position is that of the source
+pub indexed : {s : List ℕ} {index : List Position} → IndexOf s index → (at : ℕ) → at ≤ length s
+    → indexed_position characters s index at ≡ position_of characters s at
+unfolding indexed_position
+indexed {s} {index} h at most = go (ltb (at / 64) (length index)) refl
+  where
+    go : (b : Bool) → ltb (at / 64) (length index) ≡ b
+        → cond b (walk characters (get_or index (at / 64) start_position) (take (at % 64) (drop (64 * (at / 64)) s))) (position_of characters s at)
+        ≡ position_of characters s at
+    go false e = refl
+    go true e =
+        let has = ltb-true (at / 64) (length index) e in
+        rw (h.right (at / 64) (omega arith), mod-eq-sub-mul-div) (onward characters s (64 * (at / 64)) at (omega arith))

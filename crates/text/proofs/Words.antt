@@ -1,11 +1,11 @@
 -- Two texts compared byte by byte: what the comparison says of them, and how it goes on from one place to the next.
-use Rattle.laws.proofs.Prelude.{◌≡◌, refl, sym, ap, ◌∙◌, ◌&&◌, Bool, true, false, cond, and-eq-true_iff, false≢true, List, [], ◌∷◌, ◌++◌, ℕ, arith, eqb}
+use Rattle.laws.proofs.Prelude.{◌≡◌, refl, sym, ap, ◌&&◌, Bool, true, false, cond, and-eq-true_iff, false≢true, List, [], ◌∷◌, ◌++◌, ℕ, arith, eqb}
 use Rattle.laws.proofs.Prelude.{ltb, ltb-true, length, drop, eqb-true, eq-eqb, ne_eqb, ltb-false}
 use Rattle.std.specs.declared.cmp.Ordering.{Ordering}
 use Rattle.std.specs.declared.cmp.Ordering.TheVariants.{Less, Equal, Greater}
 use Rattle.std.specs.Prelude.{nat_eq}
 use Rattle.std.specs.List.{starts_with}
-use Rattle.std.specs.Cmp.Lexicographic.{pointwise, slice_cmp, unequal}
+use Rattle.std.specs.Cmp.Lexicographic.{pointwise, slice_cmp}
 use Rattle.std.specs.Ordering.{nat_cmp, ordering_then}
 use borrow.Author.Tests.{eqb-false}
 use Rattle.text.specs.Bytes.{begins, same, order}
@@ -59,10 +59,6 @@ same_is [] [] = refl
 same_is [] (y ∷ b) = refl
 same_is (x ∷ a) [] = refl
 same_is (x ∷ a) (y ∷ b) = ap (eqb x y &&◌) (same_is a b)
-
--- two texts of different lengths are never the same
-pub other_length : (a b : List ℕ) → (length a ≡ length b → ⊥) → same a b ≡ false
-other_length a b n = sym (same_is a b) ∙ unequal nat_eq a b n
 
 pub order_is : (a b : List ℕ) → slice_cmp nat_cmp a b ≡ order a b
 unfolding order

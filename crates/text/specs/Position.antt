@@ -78,9 +78,9 @@ pub record Counted (unit : Units) (s : List ℕ) : Type 0 where
 
 -- ---- an index of positions
 
--- the positions of an index are those at each 64th byte of a text
-pub record Indexed (unit : Units) (s : List ℕ) (index : List Position) : Type 0 where
-  pub right : (k : ℕ) → k < length index → get_or index k start_position ≡ position_of unit s (64 * k)
+-- the first n positions of an index are those at each 64th byte of a text
+pub record Indexed (unit : Units) (s : List ℕ) (index : List Position) (n : ℕ) : Type 0 where
+  pub right : (k : ℕ) → k < n → get_or index k start_position ≡ position_of unit s (64 * k)
 
 -- the position at a place by an index: from the one that it has for the last 64th byte not past it; if it has none, from the start of the text
 unfoldable pub indexed_position : Units → List ℕ → List Position → ℕ → Position

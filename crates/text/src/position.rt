@@ -6,7 +6,7 @@ ghost use Rattle.text.specs.Ranges.{within};
 ghost use Rattle.text.specs.Utf8.{continuation};
 ghost use Rattle.text.specs.code.Totals.{begins_one};
 ghost use Rattle.text.specs.Position.{characters, step, walk, position_of, Indexed, indexed_position};
-ghost use Rattle.text.specs.code.Index.{position_in, positions_in};
+ghost use Rattle.text.specs.code.Index.{position_in, positions_in, IndexOf};
 
 use super::blocks::{all_in_block, count_in};
 use std::mem::size_of;
@@ -36,12 +36,14 @@ impl PositionRow {
             column: p.column as u32,
         }
     }
+}
 
-    pub fn position(self) -> Position
-        ensures { Bounded (result ≡ position_in self) ((result.line < 4294967296) × (result.column < 4294967296)) }
-    {
-        let line = self.line as usize;
-        let column = self.column as usize;
+impl From<PositionRow> for Position {
+    ghost from_gives = { λ row p. Bounded (p ≡ position_in row) ((p.line < 4294967296) × (p.column < 4294967296)) };
+
+    fn from(row: PositionRow) -> Position {
+        let line = row.line as usize;
+        let column = row.column as usize;
         Position { line, column }
     }
 }
@@ -135,7 +137,7 @@ fn scan_block(block: &[u8; 64], p: Position) -> Position
 pub fn build_index(s: &[u8], index: &mut [PositionRow])
     requires { (length s.now < 4294967296) × (length s.now / 64 < length index.old) }
     ensures { Leaving
-        (Indexed characters s.now (take (length s.now / 64 + 1) (positions_in index.new)))
+        (Indexed characters s.now (positions_in index.new) (length s.now / 64 + 1))
         (KeptFrom (length s.now / 64 + 1) index.old index.new) }
 {
     let mut p = Position { line: 0, column: 0 };
@@ -159,7 +161,7 @@ pub fn indexed_position(s: &[u8], index: &[PositionRow], at: usize) -> Position
 {
     let k = at / 64;
     match index.get(k) {
-        Some(row) => scan(s, row.position(), 64 * k, at),
+        Some(row) => scan(s, Position::from(*row), 64 * k, at),
         None => scan(s, Position { line: 0, column: 0 }, 0, at),
     }
 }
@@ -173,7 +175,7 @@ pub fn later_position(
     at: usize,
 ) -> Position
     requires { (from ≤ length s.now) × (at ≤ length s.now) × (start ≡ position_of characters s.now from)
-        × Indexed characters s.now (positions_in index.now) }
+        × IndexOf s.now (positions_in index.now) }
     ensures { result ≡ position_of characters s.now at }
 {
     if from <= at && at - from < at % 64 {

@@ -59,19 +59,3 @@ module _ {A : Type 0} (number : A → ℕ) where
               let far = leb-false (number a) (length l) e in
               let same : values.last ≡ a = sym (get_or-eq_default l values.last (omega arith)) ∙ back a in
               omega (arith, ap number same, last_number l values.last 0 order)
-
--- none of the first k numbers
-abbrev pub NoneOf : ℕ → ℕ → Type 0
-NoneOf n zero = Unit {0}
-NoneOf n (suc k) = NoneOf n k × (n ≡ k → ⊥)
-
-pub beyond : (n k : ℕ) → NoneOf n k → k ≤ n
-beyond n zero h = omega arith
-beyond n (suc k) h =
-    let below = beyond n k h.0 in
-    let other = h.1 in
-    omega arith
-
--- the last value is that of any other number
-pub last_value : {A : Type 0} (values : Values A) (n : ℕ) → NoneOf n (length values.front) → value_of values n ≡ values.last
-last_value values n h = get_or-eq_default values.front values.last (beyond n (length values.front) h)

@@ -6,7 +6,6 @@ use Rattle.std.specs.Prelude.{None, Option, Some, option_map}
 use Rattle.laws.specs.Codec.{IfThere}
 use Rattle.laws.specs.Decoded.{ok, Decoder}
 use Rattle.text.specs.Lossy.{lossy, replaced}
-use Rattle.wire.specs.Number.{largest}
 use Rattle.wire.specs.Text.{encode_text}
 use Rattle.wire.specs.Optional.{encode_optional}
 use Rattle.sheet.specs.declared.fields.Span.{Span}
@@ -68,14 +67,14 @@ pub record IsPlus (inner : Decoder Node) (s : List ℕ) (n : Node) (t : List ℕ
 -- what was read of an expression is the node n, with t behind it
 abbrev pub ExpressionIs : Decoder Node → Expression → Node → List ℕ → Type 0
 ExpressionIs inner (expression.String text next) n t = IsString text.now next.now n t
-ExpressionIs inner (expression.Template holes next) n t = IsTemplate holes next.now n
+ExpressionIs inner (expression.Template pieces) n t = IsTemplate pieces.holes pieces.bytes.now n
 ExpressionIs inner (expression.Plus next) n t = IsPlus inner next.now n t
 ExpressionIs inner expression.Other n t = Unknown n
 
--- a level was left for the node; there are no more holes than a number can say
+-- a level was left for the node
 abbrev pub ExpressionWithin : ℕ → Expression → Type 0
 ExpressionWithin levels (expression.String text next) = 0 < levels
-ExpressionWithin levels (expression.Template holes next) = (0 < levels) × (holes ≤ largest)
+ExpressionWithin levels (expression.Template pieces) = 0 < levels
 ExpressionWithin levels (expression.Plus next) = 0 < levels
 ExpressionWithin levels expression.Other = Unit {0}
 
@@ -94,18 +93,11 @@ PartsWithin levels = IfThere (λ (p : ℕ × Bor (List ℕ)). p.0 ≤ levels)
 abbrev pub Stands : List ℕ → ℕ → DynamicArgument → info.DynamicArgument → ℕ → Type 0
 Stands source levels argument.Expr v replacements = (v ≡ info.expr) × (replacements ≡ 0)
 Stands source levels (argument.String text) v replacements = (v ≡ info.string (lossy text.now)) × (replacements ≡ replaced text.now)
-Stands source levels (argument.Template k holes s) v replacements =
-    ((ps : Pieces) × (u : List ℕ) × (many [] piece (holes + 1) s.now ≡ ok ps u) × (length (template_parts ps) ≡ k)
+Stands source levels (argument.Template k pieces) v replacements =
+    ((ps : Pieces) × (u : List ℕ) × (many [] piece (pieces.holes + 1) pieces.bytes.now ≡ ok ps u) × (length (template_parts ps) ≡ k)
     × (v ≡ info.template (template_parts ps)))
     × (replacements ≡ 0)
 Stands source levels (argument.Chain k s) v replacements =
     ((n : Node) × (t : List ℕ) × (l : List DynamicTemplatePart)
     × (node source levels s.now ≡ ok n t) × (chain n ≡ Some l) × (length l ≡ k) × (v ≡ info.template l))
     × (replacements ≡ 0)
-
--- there are no more holes than a number can say
-abbrev pub ArgumentWithin : DynamicArgument → Type 0
-ArgumentWithin argument.Expr = Unit {0}
-ArgumentWithin (argument.String text) = Unit {0}
-ArgumentWithin (argument.Template k holes s) = holes ≤ largest
-ArgumentWithin (argument.Chain k s) = Unit {0}

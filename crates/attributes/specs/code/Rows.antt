@@ -1,5 +1,5 @@
 -- The pairs in the rows of a table.
-use Rattle.std.specs.Prelude.{List, [], ℕ, map, take, Option, None, Some, option_map}
+use Rattle.std.specs.Prelude.{List, ℕ, map, take, option_map}
 use Rattle.std.specs.Borrow.{Bor}
 use Rattle.report.specs.ModuleInfo.{KeyValue}
 use Rattle.attributes.specs.declared.pairs.Pair.{Pair}
@@ -7,11 +7,6 @@ use Rattle.attributes.specs.declared.pairs.Pair.{Pair}
 abbrev pub pair_as : Pair → KeyValue
 pair_as p = record { key = p.key.now; value = option_map (λ (x : Bor (List ℕ)). x.now) p.value }
 
--- in a row; where it has none, an empty one
-abbrev pub row_as : Option Pair → KeyValue
-row_as (Some p) = pair_as p
-row_as None = record { key = []; value = None }
-
 -- the pairs in the first n rows
-abbrev pub pairs_in : List (Option Pair) → ℕ → List KeyValue
-pairs_in rows n = map row_as (take n rows)
+abbrev pub pairs_in : List Pair → ℕ → List KeyValue
+pairs_in rows n = map pair_as (take n rows)

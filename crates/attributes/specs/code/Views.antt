@@ -1,15 +1,15 @@
 -- What the answers of the code stand for, and the bounds that they keep.
-use Rattle.std.specs.Prelude.{◌≡◌, Bool, true, false, cond, List, ◌∷◌, ℕ, ◌≤◌, ◌<◌, set}
+use Rattle.std.specs.Prelude.{◌≡◌, Bool, true, false, cond, List, [], ◌∷◌, ℕ, ◌≤◌, ◌<◌, set}
 use Rattle.std.specs.Prelude.{Option, None, Some, Result, Ok, Err}
 use Rattle.std.specs.Bool.{then_some}
 use Rattle.std.specs.Borrow.{Bor}
 use Rattle.std.specs.List as list
-use Rattle.laws.specs.Decoded.{ok, no, Decoder}
+use Rattle.laws.specs.Decoded.{Decoded, ok, no, Decoder}
 use Rattle.text.specs.Lossy.{exact}
 use Rattle.wire.specs.Refusals.{number_of}
 use Rattle.wire.specs.code.Views.{Reading}
 use Rattle.sheet.specs.Limits.{property_limit}
-use Rattle.sheet.specs.Tree.{Node, Properties}
+use Rattle.sheet.specs.Tree.{Node, Properties, Attributes, without}
 use Rattle.sheet.specs.Nodes.{node, property_item}
 use Rattle.sheet.specs.Nodes as nodes
 use Rattle.sheet.specs.Shape.{Shape, text, named, pieces, operation, properties, anything, shape}
@@ -22,7 +22,9 @@ use Rattle.attributes.specs.declared.props.Value.TheVariants as value
 use Rattle.attributes.specs.declared.props.Keyed.{Keyed}
 use Rattle.attributes.specs.declared.readings.ImportAttributes.{ImportAttributes}
 use Rattle.attributes.specs.declared.readings.ImportAttributes.TheVariants as import_attributes
-use Rattle.attributes.specs.Attributes.{Prop, keyless, keyed, props}
+use Rattle.attributes.specs.declared.pairs.Pair.{Pair}
+use Rattle.attributes.specs.code.Rows.{pair_as}
+use Rattle.attributes.specs.Attributes.{insert, value_of, Prop, keyless, keyed, props}
 
 -- what the code's answer stands for
 abbrev pub attributes_as : ImportAttributes → info.ImportAttributes
@@ -30,9 +32,34 @@ attributes_as import_attributes.None = none
 attributes_as import_attributes.Unknown = unknown
 attributes_as (import_attributes.Known l) = known l.now
 
+-- attributes from the bytes that begin with their Object, if there is one; else they are none, and u is left
+unfoldable pub object_in : Decoder Attributes → Option (Bor (List ℕ)) → List ℕ → Decoded Attributes
+object_in object None u = ok without u
+object_in object (Some s) u = object s.now
+
 -- the pairs of an Object where each key could be read
 abbrev pub known_if : Bool → List KeyValue → info.ImportAttributes
 known_if readable l = cond readable (known l) unknown
+
+-- a test of pairs that goes by f
+abbrev pub Tests : (Pair → Bool → Type 0) → (KeyValue → Bool) → Type 0
+Tests answers f = (p : Pair) (r : Bool) → answers p r → r ≡ f (pair_as p)
+
+-- a pair for which f is true, put in its place; any other is passed over
+abbrev pub insert_if : (KeyValue → Bool) → KeyValue → List KeyValue → List KeyValue
+insert_if f a l = cond (f a) (insert a l) l
+
+-- the pairs for which f is true, put in their places in turn
+unfoldable pub kept : (KeyValue → Bool) → List KeyValue → List Prop → List KeyValue
+kept f l [] = l
+kept f l (keyless ∷ es) = kept f l es
+kept f l (keyed k v ∷ es) = kept f (insert_if f (record { key = k; value = value_of v }) l) es
+
+-- each key can be read
+unfoldable pub all_keyed : List Prop → Bool
+all_keyed [] = true
+all_keyed (keyless ∷ es) = false
+all_keyed (keyed k v ∷ es) = all_keyed es
 
 -- some pairs with another instead of the ith, or before it
 abbrev pub slot_as : KeyValue → List KeyValue → Result ℕ ℕ → List KeyValue

@@ -15,11 +15,9 @@ use Rattle.sheet.specs.Shape.{shape, is_require}
 use Rattle.sheet.specs.Walk.{walk_all, walk_of, walk_in, walk_with}
 use Rattle.sheet_heads.specs.declared.node.Head as h
 use Rattle.sheet_heads.specs.declared.node.Head.TheVariants as head
-use Rattle.sheet_heads.specs.code.Head.{Head, import_head, export_from_head, export_all_head, import_type_head, import_require_head, module_head}
 use Rattle.report.specs.declared.names.DynamicDependencyKind.{DynamicDependencyKind}
 use Rattle.report.specs.declared.names.DynamicDependencyKind.TheVariants as dynamics
 use Rattle.report.specs.Encode.{encode_list, encode_dependency}
-use Rattle.report.specs.Range.{InSource}
 use Rattle.report.specs.Buffer.{more}
 use Rattle.attributes.specs.Attributes.{static_attributes}
 use Rattle.dep_entries.specs.declared.Items.{Items}
@@ -29,16 +27,6 @@ use Rattle.dep_entries.specs.Entries.{dynamic_kind, Noted}
 use Rattle.dep_entries.specs.code.Notes.{all_noted}
 use Rattle.dep_entries.specs.code.Written.{types_of, Collected, items_as, with_entries, KeepsItems, static_of, entry_of_call}
 use Rattle.dep.specs.Collect.{collect, noting, collect_noted}
-
--- the span of a head's String is one of the source
-abbrev pub Spanned : List ℕ → Head → Type 0
-Spanned source (import_head type_only phase side_effect x has_object) = InSource source x.span
-Spanned source (export_from_head type_only x has_object) = InSource source x.span
-Spanned source (export_all_head type_only x has_object) = InSource source x.span
-Spanned source (import_type_head x n) = InSource source x.span
-Spanned source (import_require_head type_only export x) = InSource source x.span
-Spanned source (module_head (Some x) n) = InSource source x.span
-Spanned source _ = Unit {0}
 
 -- the head of a call: an import, or a call of an expression
 abbrev pub Calls : h.Head → Type 0

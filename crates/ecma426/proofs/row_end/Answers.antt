@@ -1,15 +1,21 @@
-use Rattle.laws.proofs.Prelude.{arith, sym, ◌∙◌, known}
+use Rattle.laws.proofs.Prelude.{arith, sym, ap, ◌∙◌, length, length-drop, known}
+use Rattle.analysis.proofs.Spelling.{part_to_end}
 use Rattle.ecma426.proofs.{LongestRow.row_stops, LongestRow.row_goes_on}
 use Rattle.ecma426.proofs.row_end.Goals as goal
 
 pub returns-then-n-eq0-clause-answer : goal.returns-then-n-eq0-clause-answer
 returns-then-n-eq0-clause-answer g c = λ test says.
-    sym (c.loop-at.invariant.answer test says ∙ row_stops test c.args.s.now c.loop-at.i (known (c.one_at-n.ensures.answer test says) c.if-n-eq0.true))
+    let n = rw part_to_end at (c.one_at-n.ensures.answer test says) in
+    sym (c.loop-at.invariant.answer test says ∙ row_stops test c.args.s.now c.loop-at.i (known n c.if-n-eq0.true))
 
 pub loop-at-preserved : goal.loop-at-preserved
-loop-at-preserved g c = record {
-  onward = omega arith;
-  inside = c.one_at-n.ensures.ends;
-  answer = λ test says.
-      c.loop-at.invariant.answer test says ∙ row_goes_on test c.args.s.now c.loop-at.i (c.one_at-n.ensures.answer test says) c.if-n-eq0.false;
-}
+loop-at-preserved g c =
+    let s = c.args.s.now in
+    let i = c.loop-at.i in
+    record {
+      onward = omega arith;
+      inside = omega (arith, c.one_at-n.ensures.ends, ap length (part_to_end s i), length-drop i s);
+      answer = λ test says.
+          let n = rw part_to_end at (c.one_at-n.ensures.answer test says) in
+          c.loop-at.invariant.answer test says ∙ row_goes_on test s i n c.if-n-eq0.false;
+    }

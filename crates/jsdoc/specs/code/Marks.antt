@@ -1,11 +1,10 @@
 -- A table over a body in which readings are marked, whatever its cells are.
-use Rattle.std.specs.Prelude.{◌≡◌, List, ℕ, zero, suc, ◌+◌, ◌-◌, ◌<◌, length, drop, set, get_or}
+use Rattle.std.specs.Prelude.{◌≡◌, List, [], ◌∷◌, ℕ, ◌-◌, ◌<◌, length, set, get_or}
 use Rattle.std.specs.Prelude.{None, Option, Some}
 use Rattle.analysis.specs.Mode.{Mode}
 use Rattle.jsdoc.specs.Grammar.{Bytes}
 use Rattle.jsdoc.specs.Parsed.{Parser, value}
 use Rattle.jsdoc.specs.Reader.{Hit, hit, parse_jsdoc_dynamic_import, parse_jsdoc_import_decl}
-use Rattle.jsdoc.specs.declared.answers.JsDocImport.{JsDocImport}
 
 -- a cell is marked by what stands there, the place that reads and the mode
 abbrev pub Mark : Type 0 → Type 0
@@ -23,20 +22,15 @@ module _ {A : Type 0} (f : Mark A) (d : A) where
   abbrev pub mark_at : ℕ → ℕ → Mode → List A → List A
   mark_at i q m l = set l q (f (get_or l q d) i m)
 
-  -- an import found from place i on
-  abbrev pub marked : ℕ → Option JsDocImport → List A → List A
-  marked i None l = l
-  marked i (Some import) l = mark_at i (i + import.start) import.mode l
-
-  -- the reading of s, which begins at place i
+  -- the reading of s, which ends a body of n bytes
   abbrev pub hit_marked : ℕ → Bytes → Option Hit → List A → List A
-  hit_marked i s None l = l
-  hit_marked i s (Some (hit q e m)) l = mark_at i (i + (length s - length q)) m l
+  hit_marked n s None l = l
+  hit_marked n s (Some (hit q e m)) l = mark_at (n - length s) (n - length q) m l
 
-  -- the readings of a parser from the first n places of b
-  abbrev pub all_marked : Parser Hit → ℕ → Bytes → List A → List A
-  all_marked p zero b l = l
-  all_marked p (suc n) b l = hit_marked n (drop n b) (value (p (drop n b))) (all_marked p n b l)
+  -- the readings of a parser from each place of s, which ends a body of n bytes
+  unfoldable pub all_marked : Parser Hit → ℕ → Bytes → List A → List A
+  all_marked p n [] l = l
+  all_marked p n (x ∷ s) l = all_marked p n s (hit_marked n (x ∷ s) (value (p (x ∷ s))) l)
 
   abbrev pub readings_marked : Bytes → List A → List A
   readings_marked b l = all_marked parse_jsdoc_import_decl (length b) b (all_marked parse_jsdoc_dynamic_import (length b) b l)

@@ -1,12 +1,10 @@
 -- The report in the pieces that functions write, and what these are of.
-use Rattle.std.specs.Prelude.{◌≡◌, true, List, [], ◌++◌, ℕ, ◌+◌, ◌/◌, ◌≤◌, length, take, Result, Ok, Err}
-use Rattle.laws.specs.Decoded.{ok, no}
+use Rattle.std.specs.Prelude.{◌≡◌, true, List, [], ◌++◌, ℕ, ◌≤◌, length}
+use Rattle.laws.specs.Decoded.{ok}
 use Rattle.text.specs.declared.utf8.Encoding.TheVariants.{Utf8}
-use Rattle.text.specs.Position.{characters, Indexed}
 use Rattle.text.specs.Utf8.{formed}
-use Rattle.text.specs.code.Index.{positions_in}
-use Rattle.wire.specs.declared.refusals.Refusal.{Refusal}
-use Rattle.wire.specs.Refusals.{number_of}
+use Rattle.text.specs.declared.position.PositionRow.{PositionRow}
+use Rattle.text.specs.code.Index.{positions_in, IndexOf}
 use Rattle.wire.specs.Fields.{encode_flag}
 use Rattle.wire.specs.Optional.{encode_optional}
 use Rattle.sheet.specs.Limits.{depth_limit, source_limit}
@@ -14,7 +12,7 @@ use Rattle.sheet.specs.Nodes.{node}
 use Rattle.sheet.specs.Walked.{entries}
 use Rattle.sheet.specs.Sheet.{Sheet, accept}
 use Rattle.sheet.specs.code.Commented.{Commented}
-use Rattle.sheet.specs.declared.tables.Tables.{Tables}
+use Rattle.sheet.specs.code.Tables.{comments_in, groups_in}
 use Rattle.sheet_nodes.specs.code.Reach.{ReachesIn}
 use Rattle.sheet_check.specs.declared.check.Parts.{Parts}
 use Rattle.sheet_check.specs.code.Views.{StandsAt}
@@ -58,16 +56,13 @@ pub record PartsOf (t : Sheet) (s : List ℕ) (p : Parts) : Type 0 where
   pub program : p.tree.program ≡ t.program
   pub source : p.front.source.now ≡ t.source
   pub place : StandsAt s p.front.source_start t.source
+  pub comments : comments_in p.front.comments.now ≡ t.comments
+  pub groups : groups_in p.front.groups.now ≡ t.groups
   pub root : node t.source depth_limit p.tree.root.now ≡ ok t.root []
   pub count : entries t.root ≡ p.tree.entries
   pub reaches : ReachesIn p.tree.reach t.root
 
--- a sheet s is accepted, and its comments and groups are in the tables, with the index of its source's positions
-pub record AcceptsIn (s : List ℕ) (tables : Tables) (p : Parts) : Type 0 where
-  pub accepts : Accepts s tables.comments tables.groups p
-  pub indexed : Indexed characters p.front.source.now (take (length p.front.source.now / 64 + 1) (positions_in tables.index))
-
--- what the check says of a sheet, with what the tables hold
-abbrev pub ChecksAs : List ℕ → Tables → Result Parts Refusal → Type 0
-ChecksAs s tables (Ok p) = AcceptsIn s tables p
-ChecksAs s tables (Err r) = accept s ≡ no (number_of r)
+-- a sheet s is accepted with these parts, and has the index of its source's positions
+pub record AcceptsIn (s : List ℕ) (index : List PositionRow) (p : Parts) : Type 0 where
+  pub accepts : Accepts s p
+  pub indexed : IndexOf p.front.source.now (positions_in index)

@@ -1,5 +1,5 @@
-use Rattle.laws.proofs.Prelude.{◌≡◌, rules, arith, length-take}
-use Rattle.citation.proofs.Whole.{all_written}
+use Rattle.laws.proofs.Prelude.{◌≡◌, rules, arith}
+use Rattle.citation.proofs.Whole.{all_written, all_within}
 use Rattle.report.proofs.Buffers.{wrote_keeps}
 use Rattle.order.proofs.print_order.Goals as goal
 
@@ -12,5 +12,5 @@ returns c =
     let lent : c.new-w.result.out.now ≡ c.args.line.now = search rules in
     record {
       answer = all_written _ _ line (search rules) (rw lent (omega (arith, short, c.requires.line_room_in_bounds))) (search rules) c.written.ensures;
-      bounds = rw c.written.ensures (search (rules, length-take));
+      bounds = all_within c.put_order.new.w (search rules) c.written.ensures;
     }

@@ -1,28 +1,23 @@
 -- What the answers of the code stand for, and the rules that it reads comments by.
-use Rattle.std.specs.Prelude.{cond, List, [], ℕ, length}
+use Rattle.std.specs.Prelude.{cond, List, [], ℕ}
 use Rattle.std.specs.Prelude.{None, Option, Some, option_map}
-use Rattle.laws.specs.Codec.{IfThere}
 use Rattle.analysis.specs.declared.Capture.{Capture}
 use Rattle.analysis.specs.Row.{find}
-use Rattle.analysis.specs.Place.{Inside}
 use Rattle.ecma426.specs.Reader.{find_source_map}
 use Rattle.sheet.specs.declared.comments.Comment.{Comment}
-use Rattle.sheet.specs.Fit.{Placed}
 use Rattle.sheet.specs.Lookups.{body}
-use Rattle.sheet.specs.code.Commented.{CommentIn}
 use Rattle.report.specs.ModuleInfo.{SpecifierWithRange, TypeScriptReference, path, types}
 use Rattle.report.specs.declared.origins.EntryRule.{EntryRule}
 use Rattle.report.specs.Origin.{Origin}
-use Rattle.pragmas.specs.declared.readings.Counts.{Counts}
-use Rattle.pragmas.specs.declared.readings.Counts.TheVariants.{First, Last}
 use Rattle.pragmas.specs.declared.readings.Rule.{Rule}
 use Rattle.pragmas.specs.declared.readings.Rule.TheVariants.{TsSelfTypes, JsxImportSource, JsxImportSourceTypes, SourceMapUrl}
 use Rattle.pragmas.specs.declared.readings.Rule.TheVariants.{StandardSourceMap, TsTypes, DenoTypes}
 use Rattle.pragmas.specs.declared.references.Reference.{Reference}
 use Rattle.pragmas.specs.declared.references.Reference.TheVariants as reference
 use Rattle.pragmas.specs.Asks.{Asks, self_types_rule, jsx_import_source_rule, jsx_import_source_types_rule, source_map_url_rule, ts_types_rule, deno_types_rule}
-use Rattle.pragmas.specs.Readings.{specifier_in, first_of, last_of}
+use Rattle.pragmas.specs.Readings.{specifier_in}
 use Rattle.pragmas.specs.Origins.{origin_of}
+use Rattle.pragmas.specs.code.Captured.{Captured, specifier_as}
 
 -- what a rule asks; that of ECMA-426 asks what the report's source map does, but for what it finds
 abbrev pub asked : Rule → Asks
@@ -48,44 +43,20 @@ find_rule DenoTypes = find deno_types_rule.row
 abbrev pub on_rule : {A : Type 0} → Rule → List ℕ → (Comment → Capture → A) → Comment → Option A
 on_rule rule source make c = cond ((asked rule).kind c.kind) (option_map (make c) (find_rule rule (body source c))) None
 
--- the comment with what is captured there, and the specifier
-abbrev pub taken_by : Rule → List ℕ → Comment → Option (Comment × Capture)
-taken_by rule source = on_rule rule source (λ c k. (c, k))
+-- what a rule takes of a comment, and the specifier that it reads there
+abbrev pub taken_by : Rule → List ℕ → Comment → Option Captured
+taken_by rule source = on_rule rule source (λ c k. record { source = source; comment = c; capture = k })
 
 abbrev pub read_rule : Rule → List ℕ → Comment → Option SpecifierWithRange
 read_rule rule source = on_rule rule source (specifier_in source)
 
--- a comment with the source that it stands in
-abbrev pub placed_in : List ℕ → Comment → CommentIn
-placed_in source c = record { source = source; comment = c }
+-- how a reading was found, and what a reference gives
+abbrev pub origin_as : EntryRule → Option Captured → Option Origin
+origin_as entry = option_map (λ t. origin_of entry t.comment)
 
--- the answer that counts among those of some comments
-abbrev pub counted : {A : Type 0} → Counts → (Comment → Option A) → List Comment → Option A
-counted First = first_of
-counted Last = last_of
-
--- the capture and its marks lie in the body of a comment of the source
-pub record CaptureIn (source : List ℕ) (c : Comment) (k : Capture) : Type 0 where
-  pub placed : Placed source c
-  pub inside : Inside k (length (body source c))
-
--- the specifier of a reading, and how it was found
-abbrev pub read_as : List ℕ → Option (Comment × Capture) → Option SpecifierWithRange
-read_as source = option_map (λ t. specifier_in source t.0 t.1)
-
-abbrev pub origin_as : EntryRule → Option (Comment × Capture) → Option Origin
-origin_as entry = option_map (λ t. origin_of entry t.0)
-
-abbrev pub ReadIn : List ℕ → Option (Comment × Capture) → Type 0
-ReadIn source = IfThere (λ t. CaptureIn source t.0 t.1)
-
-abbrev pub reference_as : List ℕ → Comment → Reference → TypeScriptReference
-reference_as source c (reference.Path k) = path (specifier_in source c k)
-reference_as source c (reference.Types k mode) = types (specifier_in source c k) mode
-
-abbrev pub ReferenceIn : List ℕ → Comment → Reference → Type 0
-ReferenceIn source c (reference.Path k) = CaptureIn source c k
-ReferenceIn source c (reference.Types k mode) = CaptureIn source c k
+abbrev pub reference_as : Reference → TypeScriptReference
+reference_as (reference.Path t) = path (specifier_as t)
+reference_as (reference.Types t mode) = types (specifier_as t) mode
 
 -- the bytes of what is there, none if there is nothing
 abbrev pub encode_any : {A : Type 0} → (A → List ℕ) → Option A → List ℕ

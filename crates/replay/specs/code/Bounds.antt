@@ -1,7 +1,7 @@
 -- The bounds that the functions keep: numbers of four bytes, and counts that cannot overflow.
 use Rattle.std.specs.Prelude.{List, ℕ, ◌+◌, ◌≤◌, Option, Some, None}
 use Rattle.std.specs.Borrow.{Bor}
-use Rattle.replay.specs.declared.{Ran.Ran, Counts.Counts}
+use Rattle.replay.specs.declared.{Counts.Counts}
 
 -- a number of four bytes
 abbrev pub NumberFits : Option (ℕ × Bor (List ℕ)) → Type 0

@@ -1,5 +1,6 @@
 -- What the code does with some bytes s, if the bytes of a valid value stand at their front: it finds those behind them, and the value.
-use Rattle.std.specs.Prelude.{◌≡◌, List, ◌++◌, ℕ, ◌≤◌}
+use Rattle.std.specs.Prelude.{◌≡◌, Bool, List, ◌++◌, ℕ, ◌≤◌}
+use Rattle.wire.specs.Fields.{encode_flag}
 use Rattle.wire.specs.Number.{largest, encode_number}
 
 module _ {A : Type 0} (encode : A → List ℕ) (Valid : A → Type 0) (s : List ℕ) where
@@ -15,3 +16,7 @@ module _ {A : Type 0} (encode : A → List ℕ) (Valid : A → Type 0) (s : List
 pub record Number (s : List ℕ) (value : ℕ) (next : List ℕ) : Type 0 where
   pub small : value ≤ largest
   pub read : ReadsBack encode_number (λ n. n ≤ largest) s value next
+
+-- a flag is read
+abbrev pub Flag : List ℕ → Bool → List ℕ → Type 0
+Flag = ReadsBack encode_flag (λ b. Unit {0})

@@ -1,16 +1,9 @@
-use Rattle.laws.proofs.Prelude.{rules, ap, ◌∙◌, ℕ, ◌+◌, ◌*◌, length, replicate, length-replicate}
-use Rattle.sheet.specs.Limits.{entry_limit}
+use Rattle.laws.proofs.Prelude.{rules, ap, ◌∙◌, length}
 use Rattle.report.specs.Encode.{encode}
 use Rattle.module_info.{specs.Information.module_info, proofs.Written.same_loan, proofs.Written.finished, proofs.Written.come_back}
 use Rattle.rules.specs.Rules.{rules_of, both_fitted}
-use Rattle.rules.proofs.{BothBuffers.first_refused, Origins.few_rows, Origins.starts_held}
+use Rattle.rules.proofs.BothBuffers.{first_refused}
 use Rattle.rules.proofs.write_ruled_report.Goals as goal
-
-pub put_rules-requires : goal.put_rules-requires
-put_rules-requires c =
-    λ t e.
-    let written = c.write_noted_report in
-    few_rows _ e written.new.notes (written.auto.notes ∙ length-replicate {A = ℕ} _ 0)
 
 pub returns-in-Err : goal.returns-in-Err
 returns-in-Err c =
@@ -29,7 +22,7 @@ returns-in-Ok c =
     let kept = c.write_noted_report.auto.buffer in
     let accepted = rw c.in-Ok.is at fits in
     let noted = rw c.in-Ok.is at rows in
-    let starts = starts_held t _ (few_rows _ e (replicate {A = ℕ} (1 + 2 * entry_limit) 0) (length-replicate {A = ℕ} _ 0)) noted in
+    let starts = c.rows_in.ensures t e (rw (← c.write_noted_report.auto.notes) at noted) in
     let w = c.put_rules.new.w in
     let put = c.put_rules.ensures t e starts in
     let same = same_loan c.new-w.ensures w (rules_of t) put in

@@ -1,7 +1,6 @@
--- The starts in the rows of the notes.
-use Rattle.std.specs.Prelude.{List, [], ◌∷◌, ℕ, zero, suc, ◌+◌, ◌*◌, get_or}
+-- The rows of the notes.
+use Rattle.std.specs.Prelude.{List, map, ℕ, get_or}
 
--- of n rows from the kth on, behind the number in front of them
-unfoldable pub starts_from : List ℕ → ℕ → ℕ → List ℕ
-starts_from notes k zero = []
-starts_from notes k (suc n) = get_or notes (1 + 2 * k) 0 ∷ starts_from notes (k + 1) n
+-- where the nodes of dependencies start: the first number of each row
+abbrev pub starts_in : List (List ℕ) → List ℕ
+starts_in = map (λ row. get_or row 0 0)

@@ -12,3 +12,7 @@ pub record Commented : Type 0 where
 pub record CommentIn : Type 0 where
   pub source : List ℕ
   pub comment : Comment
+
+-- a comment as it stands in a source
+abbrev pub placed_in : List ℕ → Comment → CommentIn
+placed_in source c = record { source = source; comment = c }

@@ -2,8 +2,8 @@
 use Rattle.std.specs.Prelude.{List, ℕ, length}
 use Rattle.std.specs.Prelude.{Option}
 use Rattle.laws.specs.Codec.{IfThere}
-use Rattle.text.specs.Position.{characters, Indexed}
 use Rattle.text.specs.declared.position.Position.{Position}
+use Rattle.text.specs.code.Index.{IndexOf}
 use Rattle.sheet.specs.declared.comments.CommentRow.{CommentRow}
 use Rattle.sheet.specs.declared.groups.Group.{Group}
 use Rattle.sheet.specs.declared.groups.GroupRow.{GroupRow}
@@ -22,7 +22,7 @@ commented_by source rows groups = grouped_by source rows (groups_in groups)
 pub record Lends (c : Commented) (index : List Position) : Type 0 where
   pub fit : Fit c.source c.comments
   pub grouped : Grouped (length c.comments) c.groups
-  pub indexed : Indexed characters c.source index
+  pub indexed : IndexOf c.source index
 
 -- the group, if there is one, is of the comments
 abbrev pub Reached : Commented → Option Group → Type 0

@@ -1,5 +1,5 @@
--- What the answers of the code stand for, with what the tables of comments and groups hold.
-use Rattle.std.specs.Prelude.{◌≡◌, false, List, [], ℕ, ◌+◌, ◌-◌, ◌≤◌, Result, Ok, Err, length, take}
+-- What the answers of the code stand for.
+use Rattle.std.specs.Prelude.{◌≡◌, false, List, [], ℕ, ◌+◌, ◌-◌, ◌≤◌, Result, Ok, Err, length}
 use Rattle.std.specs.Borrow.{Bor}
 use Rattle.laws.specs.Decoded.{Decoded, ok, no}
 use Rattle.text.specs.Bytes.{part}
@@ -39,34 +39,34 @@ pub record InFront (s x : List ℕ) (left : ℕ) : Type 0 where
 abbrev pub WithinSource : List ℕ → Reading (MediaType × Bor (List ℕ)) → Type 0
 WithinSource s = PastWith (λ p next. InFront s p.1.now (length next.now))
 
--- how many comments were read, and these, in the first rows of a table
-abbrev pub comment_table_as : List CommentRow → Reading ℕ → Decoded (ℕ × List Comment)
-comment_table_as table = reading_as (λ n. (n, comments_in (take n table)))
+-- how many comments were read, and these, in rows of a table
+abbrev pub comment_rows_as : Reading (Bor (List CommentRow)) → Decoded (ℕ × List Comment)
+comment_rows_as = reading_as (λ rows. (length rows.now, comments_in rows.now))
 
-abbrev pub group_table_as : List GroupRow → Reading ℕ → Decoded (List Group)
-group_table_as table = reading_as (λ m. groups_in (take m table))
+abbrev pub group_rows_as : Reading (Bor (List GroupRow)) → Decoded (List Group)
+group_rows_as = reading_as (λ rows. groups_in rows.now)
 
--- no more than a limit
-abbrev pub WithinLimit : ℕ → Reading ℕ → Type 0
-WithinLimit limit = PastWith (λ n next. n ≤ limit)
+-- no more rows than a limit
+abbrev pub WithinLimit : {R : Type 0} → ℕ → Reading (Bor (List R)) → Type 0
+WithinLimit limit = PastWith (λ rows next. length rows.now ≤ limit)
 
 -- what the front that was read stands for
-abbrev pub front_of : List CommentRow → List GroupRow → declared.Front → Front
-front_of comments groups t =
+abbrev pub front_of : declared.Front → Front
+front_of t =
     record {
       media = t.media;
       source = t.source.now;
-      comments = comments_in (take t.comments comments);
-      groups = groups_in (take t.groups groups);
+      comments = comments_in t.comments.now;
+      groups = groups_in t.groups.now;
     }
 
-abbrev pub front_as : List CommentRow → List GroupRow → Reading declared.Front → Decoded Front
-front_as comments groups = reading_as (front_of comments groups)
+abbrev pub front_as : Reading declared.Front → Decoded Front
+front_as = reading_as front_of
 
--- the source stands in the sheet s, and there is room for the rows
+-- the source stands in the sheet s, and the rows are within their limits
 pub record Inside (s : List ℕ) (t : declared.Front) : Type 0 where
   pub place : StandsAt s t.source_start t.source.now
-  pub few : (t.comments ≤ comment_limit) × (t.groups ≤ group_limit)
+  pub few : (length t.comments.now ≤ comment_limit) × (length t.groups.now ≤ group_limit)
 
 abbrev pub WithinFront : List ℕ → Reading declared.Front → Type 0
 WithinFront s = PastWith (λ t next. Inside s t)

@@ -9,6 +9,7 @@ use Rattle.wire.specs.declared.refusals.Refusal.TheVariants as refusal
 use Rattle.sheet.specs.Limits.{property_limit}
 use Rattle.sheet.specs.declared.fields.Span.{Span}
 use Rattle.sheet.specs.Tree.{Quoted, Pieces}
+use Rattle.sheet.specs.code.Views.{SpanIn}
 use Rattle.sheet_heads.specs.code.Head.{Head, other_head, string_head, name_head, template_head, binary_head, object_head, import_call_head, call_head}
 use Rattle.sheet_heads.specs.code.Head.{import_head, named_export_head, export_from_head, export_all_head, import_type_head, import_equals_head}
 use Rattle.sheet_heads.specs.code.Head.{import_require_head, module_head}
@@ -104,15 +105,21 @@ nodes_of (property.NameKey x) = 1
 abbrev pub property_as : Reading Property → Decoded PropertyHead
 property_as = reading_as property_of
 
--- a part of n bytes
-abbrev pub Part : ℕ → ℕ → ℕ → Type 0
-Part n from to = (from ≤ to) × (to ≤ n)
-
 -- no more holes than a number can say, and at most 64 properties
 abbrev pub HeadWithin : h.Head → Type 0
 HeadWithin (head.Template holes) = holes ≤ largest
 HeadWithin (head.Object k) = k ≤ property_limit
 HeadWithin _ = Unit {0}
+
+-- a head's String has a span of the source
+abbrev pub Spanned : List ℕ → h.Head → Type 0
+Spanned source (head.Import d) = SpanIn source d.specifier.span
+Spanned source (head.ExportFrom d) = SpanIn source d.specifier.span
+Spanned source (head.ExportAll d) = SpanIn source d.specifier.span
+Spanned source (head.ImportType x n) = SpanIn source x.span
+Spanned source (head.ImportRequire d) = SpanIn source d.specifier.span
+Spanned source (head.NamedModule x n) = SpanIn source x.span
+Spanned source _ = Unit {0}
 
 -- no more than n bytes are left
 abbrev pub NoMore : {A : Type 0} → ℕ → Reading A → Type 0
@@ -122,11 +129,25 @@ NoMore n = PastWith (λ v next. length next.now ≤ n)
 abbrev pub PastTag : ℕ → ℕ → Reading Tag → Type 0
 PastTag n levels = PastWith (λ t next. (0 < levels) × (length next.now < n))
 
-abbrev pub PastFields : ℕ → Reading h.Head → Type 0
-PastFields n = PastWith (λ x next. (length next.now < n) × HeadWithin x)
+-- a String, an argument's head and a head's fields were read, with spans of the source
+abbrev pub PastQuoted : List ℕ → ℕ → Reading q.Quoted → Type 0
+PastQuoted source n = PastWith (λ x next. (length next.now < n) × SpanIn source x.span)
 
-abbrev pub PastHead : ℕ → ℕ → Reading (Span × h.Head) → Type 0
-PastHead n levels = PastWith (λ p next. (0 < levels) × (length next.now < n) × HeadWithin p.1)
+abbrev pub PastSpecifier : List ℕ → ℕ → Reading (q.Quoted × Bool) → Type 0
+PastSpecifier source n = PastWith (λ p next. (length next.now < n) × SpanIn source p.0.span)
+
+abbrev pub PastArgument : List ℕ → ℕ → Reading (Bool × Span) → Type 0
+PastArgument source n = PastWith (λ p next. (length next.now < n) × SpanIn source p.1)
+
+abbrev pub PastFields : List ℕ → ℕ → Reading h.Head → Type 0
+PastFields source n = PastWith (λ x next. (length next.now < n) × HeadWithin x × Spanned source x)
+
+-- the same of fields without a String that the node holds, whatever the source
+abbrev pub PastPlain : ℕ → Reading h.Head → Type 0
+PastPlain n r = (source : List ℕ) → PastFields source n r
+
+abbrev pub PastHead : List ℕ → ℕ → ℕ → Reading (Span × h.Head) → Type 0
+PastHead source n levels = PastWith (λ p next. (0 < levels) × (length next.now < n) × HeadWithin p.1 × Spanned source p.1)
 
 abbrev pub PastAttributes : ℕ → ℕ → Reading (Span × ℕ) → Type 0
 PastAttributes n levels = PastWith (λ p next. (0 < levels) × (length next.now < n) × (p.1 ≤ property_limit))

@@ -1,5 +1,6 @@
 -- What is found in a node, made from what is found in others, and the bounds that the answers of the code keep.
-use Rattle.std.specs.Prelude.{Bool, false, ◌&&◌, ◌||◌, List, ℕ, ◌+◌, ◌≤◌, ◌<◌, length}
+use Rattle.std.specs.Prelude.{Bool, false, ◌&&◌, ◌||◌, List, ℕ, ◌+◌, ◌≤◌, ◌<◌, length, is_some}
+use Rattle.std.specs.Option.{unwrap_or}
 use Rattle.std.specs.Borrow.{Bor}
 use Rattle.laws.specs.Decoded.{Decoded}
 use Rattle.text.specs.Truth.{one}
@@ -20,14 +21,14 @@ with_own own template t = record { entries = one own + t.entries; uncooked = t.u
 
 -- nodes behind arguments
 abbrev pub with_nodes : Passed → Tally → Passed
-with_nodes p t = record { entries = p.entries + t.entries; uncooked = p.uncooked || t.uncooked; any = p.any; template = p.template }
+with_nodes p t = record { entries = p.entries + t.entries; uncooked = p.uncooked || t.uncooked; first = p.first }
 
 -- a call: a listed one with an argument has an entry
 abbrev pub called_by : NodeTally → Passed → NodeTally
 called_by e p =
     record {
-      entries = e.entries + p.entries + one (e.require && p.any);
-      uncooked = e.uncooked || p.uncooked || (e.require && p.template);
+      entries = e.entries + p.entries + one (e.require && is_some p.first);
+      uncooked = e.uncooked || p.uncooked || (e.require && unwrap_or p.first false);
       require = false;
       template = false;
     }

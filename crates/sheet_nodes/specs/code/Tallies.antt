@@ -1,9 +1,10 @@
 -- What the check of a node finds: for the report, and for the node that holds it.
-use Rattle.std.specs.Prelude.{true, false, not, ◌&&◌, ◌||◌, ◌+◌}
-use Rattle.sheet.specs.Tree.{Node, Nodes, Arguments, Properties, no_properties, Attributes}
+use Rattle.std.specs.Prelude.{Bool, true, false, ◌||◌, ◌+◌, None, Option, Some}
+use Rattle.std.specs.Option.{option_or}
+use Rattle.sheet.specs.Tree.{Node, Nodes, Arguments, no_arguments, argument, Properties, no_properties, Attributes}
 use Rattle.sheet.specs.Shape.{shape, is_require, is_uncooked}
 use Rattle.sheet.specs.Walk.{walk_all, walk_of, walk_in, walk_with}
-use Rattle.sheet.specs.Walked.{any_argument, first_uncooked, counting, entries, judging, uncooked}
+use Rattle.sheet.specs.Walked.{counting, entries, judging, uncooked}
 use Rattle.sheet_nodes.specs.declared.tally.Tally.{Tally}
 use Rattle.sheet_nodes.specs.declared.tally.NodeTally.{NodeTally}
 use Rattle.sheet_nodes.specs.declared.tally.Passed.{Passed}
@@ -22,9 +23,14 @@ tally_in ps = record { entries = walk_in counting ps; uncooked = walk_in judging
 abbrev pub tally_with : Attributes → Tally
 tally_with a = record { entries = walk_with counting a; uncooked = walk_with judging a }
 
+-- the first argument, if there is one: is it a template with an uncooked piece?
+abbrev pub first_of : Arguments → Option Bool
+first_of no_arguments = None
+first_of (argument dots sp n xs) = Some (is_uncooked (shape n))
+
 -- in arguments
 abbrev pub passed : Arguments → Passed
-passed xs = record { entries = walk_of counting xs; uncooked = walk_of judging xs; any = any_argument xs; template = first_uncooked xs }
+passed xs = record { entries = walk_of counting xs; uncooked = walk_of judging xs; first = first_of xs }
 
 -- what a node counts for among others
 abbrev pub tally_of : NodeTally → Tally
@@ -38,14 +44,13 @@ plus t u = record { entries = t.entries + u.entries; uncooked = t.uncooked || u.
 abbrev pub gain : (Properties → Properties) → Tally
 gain add = tally_in (add no_properties)
 
--- one argument more: its node counts for the template if there was none before it
+-- one argument more: it is the first if there was none before it
 abbrev pub with_argument : Passed → NodeTally → Passed
 with_argument p j =
     record {
       entries = p.entries + j.entries;
       uncooked = p.uncooked || j.uncooked;
-      any = true;
-      template = p.template || (not p.any && j.template);
+      first = option_or p.first (Some j.template);
     }
 
 -- what stands for the callee of an import: it is listed as `require` is
@@ -58,8 +63,7 @@ passed_all p =
     record {
       entries = walk_of counting p.0 + walk_all counting p.1;
       uncooked = walk_of judging p.0 || walk_all judging p.1;
-      any = any_argument p.0;
-      template = first_uncooked p.0;
+      first = first_of p.0;
     }
 
 -- in what follows the head of an import type

@@ -29,7 +29,7 @@ returns-in-Template c =
     let past = bounded c.read_head.ensures c.in-Ok.is in
     record {
       answer = λ n t e. reads_template _ _ _ _ e (told c.read_head.ensures c.in-Ok.is) c.in-Template.is;
-      bounds = (past.0, rw c.in-Template.is at past.2);
+      bounds = past.0;
     }
 
 pub returns-else-plus : goal.returns-else-plus

@@ -12,12 +12,12 @@ pub returns-in_default : goal.returns-in_default
 returns-in_default c ps u e =
     let l = c.loop-k in
     let (qs, read, total) = l.invariant.1 ps u e in
-    absurd (many_refused [] piece (c.args.holes + 1 - l.k) l.s.now (omega arith) (told c.read_piece.ensures c.in_default.is) read)
+    absurd (many_refused [] piece (c.args.pieces.holes + 1 - l.k) l.s.now (omega arith) (told c.read_piece.ensures c.in_default.is) read)
 
 pub loop-k-preserved : goal.loop-k-preserved
 loop-k-preserved c =
     let l = c.loop-k in
-    let holes = c.args.holes in
+    let holes = c.args.pieces.holes in
     let is = rw piece_is at (told c.read_piece.ensures c.in-Ok.is) in
     let hole = hole_count (ltb l.k holes) in
     let cooked = c.count_piece.ensures in (
@@ -32,5 +32,5 @@ pub returns : goal.returns
 returns c ps u e =
     let l = c.loop-k in
     let (qs, read, total) = l.invariant.1 ps u e in
-    let none = ap (λ ps. length (template_parts ps)) (many_end [] piece (c.args.holes + 1 - l.k) l.s.now (omega arith) read) in
+    let none = ap (λ ps. length (template_parts ps)) (many_end [] piece (c.args.pieces.holes + 1 - l.k) l.s.now (omega arith) read) in
     omega arith

@@ -8,6 +8,6 @@ use Rattle.arguments.proofs.template.count_parts.Given as goal
 abbrev pub invariant-loop-k : goal.invariant-loop-k
 invariant-loop-k l =
     (l.parts ≤ 2 * l.k)
-    × ((ps : Pieces) (u : List ℕ) → many [] piece (l.holes + 1) l.initial.s ≡ ok ps u
-    → (qs : Pieces) × (many [] piece (l.holes + 1 - l.k) l.s ≡ ok qs u)
+    × ((ps : Pieces) (u : List ℕ) → many [] piece (l.pieces.holes + 1) l.initial.s ≡ ok ps u
+    → (qs : Pieces) × (many [] piece (l.pieces.holes + 1 - l.k) l.s ≡ ok qs u)
     × (length (template_parts ps) ≡ l.parts + length (template_parts qs)))

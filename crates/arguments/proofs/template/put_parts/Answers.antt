@@ -14,7 +14,7 @@ returns-in_default c =
       answer = λ ps u e.
           let l = c.loop-k in
           let (qs, read, total) = l.invariant.1 ps u e in
-          absurd (many_refused [] piece (c.args.holes + 1 - l.k) l.s.now (omega arith) (told c.read_piece.ensures c.in_default.is) read);
+          absurd (many_refused [] piece (c.args.pieces.holes + 1 - l.k) l.s.now (omega arith) (told c.read_piece.ensures c.in_default.is) read);
       left = c.loop-k.invariant.0;
     }
 
@@ -25,7 +25,7 @@ loop-k-preserved c = (
       let l = c.loop-k in
       let (qs, read, total) = l.invariant.1 ps u e in
       let is = rw piece_is at (told c.read_piece.ensures c.in-Ok.is) in
-      let (rs, behind, parts) = piece_next c.args.holes l.k (omega arith) l.s.now _ is read in
+      let (rs, behind, parts) = piece_next c.args.pieces.holes l.k (omega arith) l.s.now _ is read in
       (rs, behind, total ∙ rw (parts, more_parts, ← c.put_piece.ensures, more_parts, ← c.put_hole.ensures)),
 )
 
@@ -35,6 +35,6 @@ returns c = record {
   answer = λ ps u e.
       let l = c.loop-k in
       let (qs, read, total) = l.invariant.1 ps u e in
-      sym (total ∙ rw (many_end [] piece (c.args.holes + 1 - l.k) l.s.now (omega arith) read) (more_nil l.w));
+      sym (total ∙ rw (many_end [] piece (c.args.pieces.holes + 1 - l.k) l.s.now (omega arith) read) (more_nil l.w));
   left = c.loop-k.invariant.0;
 }

@@ -9,6 +9,6 @@ use Rattle.arguments.proofs.template.put_parts.Given as goal
 abbrev pub invariant-loop-k : goal.invariant-loop-k
 invariant-loop-k l =
     Keeps l.fn.w l.w
-    × ((ps : Pieces) (u : List ℕ) → many [] piece (l.holes + 1) l.initial.s ≡ ok ps u
-    → (qs : Pieces) × (many [] piece (l.holes + 1 - l.k) l.s ≡ ok qs u)
+    × ((ps : Pieces) (u : List ℕ) → many [] piece (l.pieces.holes + 1) l.initial.s ≡ ok ps u
+    → (qs : Pieces) × (many [] piece (l.pieces.holes + 1 - l.k) l.s ≡ ok qs u)
     × (more (written_as l.fn.w) (encode_parts (template_parts ps)) ≡ more (written_as l.w) (encode_parts (template_parts qs))))

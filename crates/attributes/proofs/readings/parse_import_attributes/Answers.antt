@@ -1,23 +1,28 @@
-use Rattle.laws.proofs.Prelude.{◌≡◌, ap, ◌∙◌, told}
+use Rattle.std.specs.Option.{is_some}
+use Rattle.laws.proofs.Prelude.{rules, ◌≡◌, ap, ◌∙◌, [], told}
 use Rattle.sheet.specs.Tree.{without}
 use Rattle.report.specs.ModuleInfo.{known}
-use Rattle.attributes.specs.Attributes.{static_attributes}
+use Rattle.attributes.specs.Attributes.{props, static_attributes}
+use Rattle.attributes.specs.code.Views.{object_in}
+use Rattle.attributes.proofs.Kept.{known_kept, has_value}
 use Rattle.attributes.proofs.{Objects.behind_attributes, Objects.no_attributes}
 use Rattle.attributes.proofs.readings.parse_import_attributes.Goals as goal
 
-pub returns-then-not-has_object : goal.returns-then-not-has_object
-unfolding static_attributes
-returns-then-not-has_object c y t e =
-    let nothing = rw c.if-not-has_object.true at e in
+pub returns-in_default : goal.returns-in_default
+unfolding static_attributes object_in
+returns-in_default c y t u e =
+    let nothing = rw c.in_default.is at e in
     let is : without ≡ y = cc in
     ap static_attributes is
 
-pub returns-in_default : goal.returns-in_default
-returns-in_default c x t e =
-    absurd (no_attributes _ _ _ (rw c.if-not-has_object.false at e) (told c.read_attributes.ensures c.in_default.is))
+pub returns-in_default-read_attributes : goal.returns-in_default-read_attributes
+unfolding object_in
+returns-in_default-read_attributes c x t u e =
+    absurd (no_attributes _ _ _ (rw c.in-Some.is at e) (told c.read_attributes.ensures c.in_default-read_attributes.is))
 
 pub returns : goal.returns
-unfolding static_attributes
-returns c y t e =
-    let (ps, x, object) = behind_attributes _ _ _ (rw c.if-not-has_object.false at e) (told c.read_attributes.ensures c.in-Ok.is) in
-    ap known (c.parse_known.ensures ps t x) ∙ ap static_attributes object
+unfolding static_attributes object_in
+returns c y t u e =
+    let (ps, x, object) = behind_attributes _ _ _ (rw c.in-Some.is at e) (told c.read_attributes.ensures c.in-Ok.is) in
+    let read = c.parse_import_attributes_from_object_lit.ensures (λ a. is_some a.value) ps t (λ p r says. search (rules, has_value)) x in
+    ap known (read.0 ∙ known_kept [] (props ps)) ∙ ap static_attributes object

@@ -1,33 +1,64 @@
-use Rattle.laws.proofs.Prelude.{rules, ◌≡◌, refl, sym, ap, ◌∙◌, arith}
-use Rattle.std.specs.Prelude.{None}
-use Rattle.report.specs.ModuleInfo.{unknown}
-use Rattle.attributes.specs.{Attributes.insert, Attributes.object_attributes, code.Rows.pair_as}
-use Rattle.attributes.proofs.{Insertion.insert_length, Loops.goes_on, Loops.stops, Loops.ends, Loops.settles}
+use Rattle.laws.proofs.Prelude.{rules, ◌≡◌, refl, sym, ap, ◌∙◌, Bool, true, false, ◌&&◌, List, arith}
+use Rattle.std.proofs.Math.Bool.{and-true}
+use Rattle.report.specs.ModuleInfo.{KeyValue}
+use Rattle.attributes.specs.{Attributes.insert, code.Rows.pair_as, code.Views.kept, code.Views.all_keyed, code.Views.insert_if}
+use Rattle.attributes.proofs.{Insertion.insert_length, Loops.goes_on, Loops.stops, Loops.ends}
 use Rattle.attributes.proofs.readings.parse_import_attributes_from_object_lit.Goals as goal
+use Rattle.attributes.proofs.readings.parse_import_attributes_from_object_lit.Goals.{in-Some+then-counts, in-Some+else-counts, in-None}
+
+and_false : (b c : Bool) → (b && false) ≡ (false && c)
+and_false true c = refl
+and_false false c = refl
+
+inserted : (f : KeyValue → Bool) (a b : KeyValue) (l : List KeyValue) → true ≡ f b → b ≡ a → insert_if f a l ≡ insert b l
+inserted f a b l e i = let counts : f a ≡ true = rw i at (sym e) in rw (counts, i)
+
+passed : (f : KeyValue → Bool) (a b : KeyValue) (l : List KeyValue) → false ≡ f b → b ≡ a → insert_if f a l ≡ l
+passed f a b l e i = let counts : f a ≡ false = rw i at (sym e) in rw counts
 
 pub returns-in_default : goal.returns-in_default
-unfolding object_attributes
-returns-in_default c ps t e =
-    let none : c.in_default.field-0.0 ≡ None = search rules in
-    let read = rw (c.in_default.is, none) at c.read_prop.ensures in
-    settles c.loop.invariant.1 ps t e c.loop-test.true read unknown (λ es. refl)
-
-pub returns-in_default-2 : goal.returns-in_default-2
-returns-in_default-2 c ps t e =
+returns-in_default g c f ps t tests e =
     let stop = rw c.in_default.is at c.read_prop.ensures in
-    absurd (stops c.loop.invariant.1 ps t e c.loop-test.true stop)
+    absurd (stops (c.loop.invariant.2 f tests) ps t e c.loop-test.true stop)
 
 pub loop-preserved : goal.loop-preserved
-unfolding object_attributes
-loop-preserved c =
-    let pairs = c.loop.pairs in
-    let arm = c.in-Ok-Some-default in
-    let (v, value, read) = rw (arm.is, arm.field-0-0-is) at c.read_prop.ensures in
-    let inserted = c.insert.ensures ∙ ap (λ p. insert p pairs) (c.read_pair.ensures v _ value) in (
-      let few = insert_length (pair_as c.read_pair.result) pairs in rw c.insert.ensures (omega arith),
-      goes_on c.loop.invariant.1 c.loop-test.true read (λ es. ap (λ l. object_attributes l es) (sym inserted)),
-    )
+unfolding kept all_keyed
+loop-preserved g c =
+    let l = c.loop in
+    let (always, few, going) = l.invariant in
+    elim c.match-prop.branch [
+      | in-Some+then-counts w ↦
+          let (v, value, read) = rw (c.in-Ok.is, w.in-Some.is) at c.read_prop.ensures in
+          let pair = w.read_pair-pair.ensures v _ value in (
+            always,
+            rw (w.pairs-is, w.insert.ensures) (let more = insert_length (pair_as w.read_pair-pair.result) l.pairs in omega arith),
+            λ f tests.
+                let counted = sym w.if-counts.true ∙ tests w.read_pair-pair.result w.counts.result (search rules) in
+                rw (w.pairs-is, w.all_keyed-is, w.insert.ensures) (goes_on (going f tests) c.loop-test.true read (λ es.
+                ap (λ m. (kept f m es, l.all_keyed && all_keyed es)) (inserted f _ _ l.pairs counted pair))),
+          )
+      | in-Some+else-counts w ↦
+          let (v, value, read) = rw (c.in-Ok.is, w.in-Some.is) at c.read_prop.ensures in
+          let pair = w.read_pair-pair.ensures v _ value in (
+            always,
+            rw w.pairs-is (omega arith),
+            λ f tests.
+                let counted = sym w.if-counts.false ∙ tests w.read_pair-pair.result w.counts.result (search rules) in
+                rw (w.pairs-is, w.all_keyed-is) (goes_on (going f tests) c.loop-test.true read (λ es.
+                ap (λ m. (kept f m es, l.all_keyed && all_keyed es)) (passed f _ _ l.pairs counted pair))),
+          )
+      | in-None w ↦
+          let read = rw (c.in-Ok.is, w.in-None.is) at c.read_prop.ensures in (
+            always,
+            rw w.pairs-is (omega arith),
+            λ f tests.
+                rw (w.pairs-is, w.all_keyed-is) (goes_on (going f tests) c.loop-test.true read (λ es.
+                ap (λ b. (kept f l.pairs es, b)) (and_false l.all_keyed (all_keyed es)))),
+          )
+    ]
 
 pub returns : goal.returns
-unfolding object_attributes
-returns c ps t e = ends c.loop.invariant.1 ps t e c.loop-test.false
+unfolding kept all_keyed
+returns g c f ps t tests e =
+    let all = ends (c.loop.invariant.2 f tests) ps t e c.loop-test.false in
+    (ap (λ p. p.0) all, sym (and-true c.loop.all_keyed) ∙ ap (λ p. p.1) all)

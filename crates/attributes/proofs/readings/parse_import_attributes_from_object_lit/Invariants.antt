@@ -1,9 +1,17 @@
-use Rattle.laws.proofs.Prelude.{[], ◌≤◌, length}
+use Rattle.laws.proofs.Prelude.{Bool, true, [], ◌≤◌, ◌&&◌, List, length}
+use Rattle.std.specs.Fn.{FnReturnsAt}
 use Rattle.sheet.specs.{Nodes.node}
-use Rattle.attributes.specs.{Attributes.object_attributes}
+use Rattle.report.specs.ModuleInfo.{KeyValue}
+use Rattle.attributes.specs.{Attributes.Prop, code.Views.Tests, code.Views.kept, code.Views.all_keyed}
 use Rattle.attributes.proofs.Loops.{Going}
 use Rattle.attributes.proofs.readings.parse_import_attributes_from_object_lit.Given as goal
 
+abbrev pub after : (KeyValue → Bool) → List KeyValue × Bool → List Prop → List KeyValue × Bool
+after f p es = (kept f p.0 es, p.1 && all_keyed es)
+
 abbrev pub invariant-loop : goal.invariant-loop
-invariant-loop l =
-    (length l.pairs ≤ l.counter) × Going object_attributes (node l.source l.levels) [] l.count l.s l.pairs l.counter l.at
+invariant-loop g l =
+    goal.F-IsAlwaysCallable g l.counts
+    × (length l.pairs ≤ l.counter)
+    × ((f : KeyValue → Bool) → Tests (FnReturnsAt g.F.Fn l.counts) f
+    → Going (after f) (node l.source l.levels) ([], true) l.count l.s (l.pairs, l.all_keyed) l.counter l.at)

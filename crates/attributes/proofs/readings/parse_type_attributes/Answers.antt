@@ -1,28 +1,33 @@
-use Rattle.laws.proofs.Prelude.{◌≡◌, ap, ◌∙◌, told}
+use Rattle.laws.proofs.Prelude.{rules, ◌≡◌, ap, ◌∙◌, true, told}
 use Rattle.sheet.specs.Tree.{without}
-use Rattle.attributes.specs.Attributes.{type_attributes}
+use Rattle.attributes.specs.Attributes.{props, type_attributes}
+use Rattle.attributes.specs.code.Views.{object_in}
+use Rattle.attributes.proofs.Kept.{all_read}
 use Rattle.attributes.proofs.{Objects.behind_attributes, Objects.no_attributes}
 use Rattle.attributes.proofs.readings.parse_type_attributes.Goals as goal
 
-pub returns-then-not-has_object : goal.returns-then-not-has_object
-unfolding type_attributes
-returns-then-not-has_object c y t e =
-    let nothing = rw c.if-not-has_object.true at e in
+pub returns-in_default : goal.returns-in_default
+unfolding type_attributes object_in
+returns-in_default c y t u e =
+    let nothing = rw c.in_default.is at e in
     let is : without ≡ y = cc in
     ap type_attributes is
 
-pub returns-in_default : goal.returns-in_default
-returns-in_default c x t e =
-    absurd (no_attributes _ _ _ (rw c.if-not-has_object.false at e) (told c.read_attributes.ensures c.in_default.is))
+pub returns-in_default-read_attributes : goal.returns-in_default-read_attributes
+unfolding object_in
+returns-in_default-read_attributes c x t u e =
+    absurd (no_attributes _ _ _ (rw c.in-Some.is at e) (told c.read_attributes.ensures c.in_default-read_attributes.is))
 
 pub returns-then-parse_import_attributes_from_object_lit : goal.returns-then-parse_import_attributes_from_object_lit
-unfolding type_attributes
-returns-then-parse_import_attributes_from_object_lit c y t e =
-    let (ps, x, object) = behind_attributes _ _ _ (rw c.if-not-has_object.false at e) (told c.read_attributes.ensures c.in-Ok.is) in
-    c.if-parse_import_attributes_from_object_lit.ensures ps t x ∙ ap type_attributes object
+unfolding type_attributes object_in
+returns-then-parse_import_attributes_from_object_lit c y t u e =
+    let (ps, x, object) = behind_attributes _ _ _ (rw c.in-Some.is at e) (told c.read_attributes.ensures c.in-Ok.is) in
+    let read = c.if-parse_import_attributes_from_object_lit.ensures (λ a. true) ps t (λ p r says. search rules) x in
+    all_read (props ps) read ∙ ap type_attributes object
 
 pub returns-else-parse_import_attributes_from_object_lit : goal.returns-else-parse_import_attributes_from_object_lit
-unfolding type_attributes
-returns-else-parse_import_attributes_from_object_lit c y t e =
-    let (ps, x, object) = behind_attributes _ _ _ (rw c.if-not-has_object.false at e) (told c.read_attributes.ensures c.in-Ok.is) in
-    c.if-parse_import_attributes_from_object_lit.ensures ps t x ∙ ap type_attributes object
+unfolding type_attributes object_in
+returns-else-parse_import_attributes_from_object_lit c y t u e =
+    let (ps, x, object) = behind_attributes _ _ _ (rw c.in-Some.is at e) (told c.read_attributes.ensures c.in-Ok.is) in
+    let read = c.if-parse_import_attributes_from_object_lit.ensures (λ a. true) ps t (λ p r says. search rules) x in
+    all_read (props ps) read ∙ ap type_attributes object

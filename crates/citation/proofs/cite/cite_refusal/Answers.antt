@@ -1,7 +1,7 @@
-use Rattle.laws.proofs.Prelude.{◌≡◌, rules, arith, length-take}
+use Rattle.laws.proofs.Prelude.{◌≡◌, rules, arith}
 use Rattle.report.proofs.Buffers.{wrote_keeps}
 use Rattle.citation.specs.Citation.{refusal}
-use Rattle.citation.proofs.{Whole.all_written, Lengths.refusal_short}
+use Rattle.citation.proofs.{Whole.all_written, Whole.all_within, Lengths.refusal_short}
 use Rattle.citation.proofs.cite.cite_refusal.Goals as goal
 
 pub returns : goal.returns
@@ -13,6 +13,6 @@ returns c =
     let lent : c.new-w.result.out.now ≡ c.args.out.now = search rules in
     record {
       answer = all_written _ _ title (search rules) (rw lent (omega arith)) (search rules) c.written.ensures;
-      bounds = rw c.written.ensures (search (rules, length-take));
+      bounds = all_within c.put_title.new.w (search rules) c.written.ensures;
       left = search rules;
     }

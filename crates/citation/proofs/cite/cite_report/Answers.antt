@@ -1,7 +1,7 @@
-use Rattle.laws.proofs.Prelude.{◌≡◌, rules, refl, sym, ap, ◌∙◌, [], append-nil, arith, length, take, length-take}
+use Rattle.laws.proofs.Prelude.{◌≡◌, rules, refl, sym, ap, ◌∙◌, [], append-nil, arith, length, take}
 use Rattle.report.{specs.Encode.encode, proofs.Buffers.more_append, proofs.Buffers.wrote_keeps, proofs.Buffers.keeps_then}
 use Rattle.citation.specs.Citation.{citation}
-use Rattle.citation.proofs.{Fours.recounted_front, Printing.citation_same, Whole.all_written, Lengths.citation_short}
+use Rattle.citation.proofs.{Fours.recounted_front, Printing.citation_same, Whole.all_written, Whole.all_within, Lengths.citation_short}
 use Rattle.citation.proofs.cite.cite_report.Goals as goal
 
 pub returns : goal.returns
@@ -24,6 +24,6 @@ returns c =
           let short = citation_short (take last.result source) numbers m v in
           rw (← wide) (all_written _ _ (rw (title, ← more_append, p.counted) at q.written) refl
           (omega (arith, short, ap length e, counted.left.size, ap length lent, c.requires)) (search rules) c.written.ensures);
-      bounds = rw c.written.ensures (search (rules, length-take));
+      bounds = all_within c.cite_lines.new.w (search rules) c.written.ensures;
       left = search rules;
     }

@@ -1,6 +1,5 @@
 use Rattle.laws.proofs.Prelude.{rules, sym, length-take-le}
 use Rattle.arguments.proofs.Chains.{check_passed}
-use Rattle.delivery.specs.Right.{names_of}
 use Rattle.delivery.proofs.{Reported.reported, ReportEntries.none_late, ReportEntries.some_late}
 use Rattle.delivery.proofs.judge.judge_module.Goals as goal
 
@@ -20,7 +19,7 @@ returns-in_err-late_entry c =
     let report = (reported (rw is at c.module_info.ensures)).1 in
     rw c.from_residual-in_err-late_entry.ensures
     (record {
-      answer = λ ms t p zero. none_late report (names_of ms) c.late_entry.result (c.late_entry.ensures ms t p) c.in_err-late_entry.was;
+      answer = λ zero. none_late report _ c.late_entry.result c.late_entry.ensures c.in_err-late_entry.was;
       bounds = tt;
       left = search rules;
     })
@@ -30,7 +29,7 @@ returns c =
     let is = check_passed c.ok.ensures.value c.in_ok-n.was in
     let report = (reported (rw is at c.module_info.ensures)).1 in
     record {
-      answer = λ ms t p zero. some_late report (names_of ms) c.late_entry.result (c.late_entry.ensures ms t p) c.in_ok-late_entry.was;
+      answer = λ zero. some_late report _ c.late_entry.result c.late_entry.ensures c.in_ok-late_entry.was;
       bounds = report.within;
       left = search rules;
     }

@@ -1,25 +1,15 @@
-use Rattle.laws.proofs.Prelude.{◌≡◌, sym, ap, ◌∙◌, ◌-◌, ◌+◌, arith, known}
-use Rattle.delivery.specs.{Delivery.Module}
-use Rattle.delivery.proofs.{Along.next_module, Turns.among_here}
+use Rattle.laws.proofs.Prelude.{◌∙◌, rules}
+use Rattle.std.proofs.Common.{tests}
+use Rattle.std.proofs.lemmas.Iterator.{YieldsList-from_slice}
+use Rattle.std.proofs.lemmas.Iterator.Search.{any_from_yields_List}
+use Rattle.text.specs.Bytes.{same}
+use Rattle.delivery.specs.declared.modules.ModuleRead.{ModuleRead}
+use Rattle.delivery.proofs.Rows.{among_rows}
 use Rattle.delivery.proofs.modules.is_name.Goals as goal
 
-pub returns-then-equal : goal.returns-then-equal
-returns-then-equal c =
-    λ ms t p.
+pub returns : goal.returns
+returns c =
     let text = c.args.text.now in
-    let (rest, p, e) = c.loop.invariant ms t p in
-    let (m, behind, is, v, there, on) = next_module (omega (arith, c.loop-test.true)) p in
-    let (read, _) = c.read_module.ensures m v _ there in
-    let name = ap (λ (m : Module). m.name) read in
-    sym (e ∙ among_here is text (rw name at (known c.equal.ensures c.if-equal.true)))
-
-pub loop-preserved : goal.loop-preserved
-loop-preserved c =
-    λ ms t p.
-    let text = c.args.text.now in
-    let (rest, p, e) = c.loop.invariant ms t p in
-    let (m, behind, is, v, there, on) = next_module (omega (arith, c.loop-test.true)) p in
-    let (read, next) = c.read_module.ensures m v _ there in
-    let name = ap (λ (m : Module). m.name) read in
-    let fewer : c.args.count - (c.loop.counter + 1) ≡ c.args.count - c.loop.counter - 1 = omega arith in
-    (behind, rw fewer (on _ next), e ∙ among_here is text (rw name at (known c.equal.ensures c.if-equal.false)))
+    let rows = c.args.modules.now in
+    any_from_yields_List (λ (r : ModuleRead). same r.name.now text) _ _ _ c.any.ensures.ran (YieldsList-from_slice rows cc) (λ x b q k. search (rules, tests))
+    ∙ among_rows text rows

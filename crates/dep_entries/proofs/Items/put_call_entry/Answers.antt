@@ -3,17 +3,10 @@ use Rattle.sheet.specs.Nodes.{node}
 use Rattle.sheet_heads.proofs.FirstArgument.{first, no_first, no_arguments_lem}
 use Rattle.dep_entries.specs.Entries.{call_entry}
 use Rattle.dep_entries.proofs.Wrote.{adds_none, items_same}
-use Rattle.dep_entries.proofs.ArgumentSpans.{argument_spanned}
 use Rattle.dep_entries.proofs.Items.put_call_entry.Goals.{else-call-via-then-call+else-count-gt0, else-call-via-else-call}
 use Rattle.dep_entries.proofs.Items.put_call_entry.Goals as goal
 
 -- `put_call_entry`: the entry by the first argument, if there is one and the call is listed.
-
-pub put_argument_entry-requires : goal.put_argument_entry-requires
-put_argument_entry-requires c =
-    let a = c.args in
-    argument_spanned a.comments.now.source a.s.now
-    (told (rw c.source.ensures.value at c.read_argument.ensures) c.in-Ok.is)
 
 pub returns-in-Ok : goal.returns-in-Ok
 returns-in-Ok c =

@@ -10,9 +10,8 @@ pub returns : goal.returns
 unfolding encode_dependency encode_dynamic
 returns c =
     record {
-      answer = λ v k xs t stands are.
+      answer = λ v k stands.
           let (written, counted) = c.put_argument-replaced.ensures.answer v k (rw c.source-source.ensures.value stands) in
-          let read = c.parse_dynamic_import_attributes-attributes.ensures xs t (rw c.source-source.ensures.value are) in
-          grind (arith, adds_one, more_append, more_cons, written, counted, read);
+          grind (arith, adds_one, more_append, more_cons, written, counted);
       left = search (rules, keeps_then, wrote_keeps);
     }

@@ -1,22 +1,18 @@
-use Rattle.laws.proofs.Prelude.{ap, ◌∙◌}
+use Rattle.laws.proofs.Prelude.{ap, ◌∙◌, []}
+use Rattle.attributes.specs.code.Views.{object_in}
 use Rattle.dep_entries.specs.code.Written.{items_as, with_entries, static_of}
 use Rattle.dep_entries.proofs.Wrote.{adds_keeps}
-use Rattle.dep_entries.proofs.Items.put_with_entry.Goals.{then-is_type, else-is_type}
 use Rattle.dep_entries.proofs.Items.put_with_entry.Goals as goal
 
 -- `put_with_entry`: the entry with the attributes that were read.
 
 pub returns : goal.returns
+unfolding object_in
 returns c =
     let a = c.args in
     record {
       answer = λ b t is. c.put_static_entry.ensures
           ∙ ap (λ x. with_entries (items_as a.self.now) (static_of a.comments.now a.dependency x))
-          elim c.if-is_type.branch [
-            | then-is_type w ↦ rw (w.if-is_type.true, w.attributes-is)
-                (w.parse_type_attributes-attributes.ensures b t (rw c.source-source.ensures.value is))
-            | else-is_type w ↦ rw (w.if-is_type.false, w.attributes-is)
-                (w.parse_import_attributes-attributes.ensures b t (rw c.source-source.ensures.value is))
-          ];
+          (c.parse_import_attributes-attributes.ensures b t [] (rw c.source-source.ensures.value is));
       left = adds_keeps a.self.now c.put_static_entry.new.self _ c.put_static_entry.ensures;
     }

@@ -1,21 +1,16 @@
-use Rattle.jsdoc.proofs.{Moved.part_to_end, Ticking.declarations, Ticking.room}
-use Rattle.jsdoc.proofs.Marking.{declaration_turn}
+use Rattle.laws.proofs.Prelude.{arith, ◌∙◌, length}
+use Rattle.jsdoc.specs.Reader.{parse_jsdoc_import_decl}
+use Rattle.jsdoc.specs.code.Marks.{all_marked}
+use Rattle.jsdoc.proofs.Marking.{one_less, declaration_turn}
 use Rattle.jsdoc.proofs.marks.mark_declarations.Goals as goal
 
-pub mark_one-requires-clause-room : goal.mark_one-requires-clause-room
-mark_one-requires-clause-room g c =
-    let b = c.args.body.now in
-    let t = rw (part_to_end b c.loop-i.i) at c.parse_jsdoc_import_decl.ensures in
-    rw (c.loop-i.auto.table, c.requires.same) (room declarations b c.loop-i.i c.loop-i-test.true _ t)
-
-pub loop-i-preserved : goal.loop-i-preserved
-loop-i-preserved g c =
-    let b = c.args.body.now in
-    let n = c.next_of-i.ensures.passed in
-    let t = rw (part_to_end b c.loop-i.i) at c.parse_jsdoc_import_decl.ensures in
+pub loop-at-preserved : goal.loop-at-preserved
+loop-at-preserved g c =
+    let n = length c.args.body.now in
     record {
-      inside = n.to;
+      left = omega (arith, one_less c.in-Some.at.now, c.in-Some.ensures.there, c.loop-at.invariant.left);
       answer = λ f says d.
-          declaration_turn f d b c.args.table.now c.loop-i.i c.loop-i-test.true (c.loop-i.invariant.answer f says d) _ t
-          c.next_of-i.result n.from n.to n.each (c.mark_one.ensures f says d);
+          ◌∙◌ {a = all_marked f d parse_jsdoc_import_decl n c.args.body.now c.args.table.now} (c.loop-at.invariant.answer f says d)
+          (declaration_turn f d n c.loop-at.rest.now c.in-Some.at.now c.loop-at.table c.mark_one.new.table _ c.in-Some.ensures.value (omega arith)
+          c.parse_jsdoc_import_decl.ensures (c.mark_one.ensures f says d));
     }

@@ -1,8 +1,12 @@
-use Rattle.laws.proofs.Prelude.{◌≡◌, length, drop}
-use Rattle.jsdoc_list.specs.Imports.{ticked_by_all, ticks_of}
+use Rattle.laws.proofs.Prelude.{◌≡◌, length}
+use Rattle.std.specs.Prelude.{fold}
+use Rattle.laws.specs.Codec.{All}
+use Rattle.jsdoc_list.specs.Imports.{ticked_by, ticks_of}
 use Rattle.jsdoc_list.proofs.imports.tick_comments.Given as goal
 
-abbrev pub invariant-loop-k : goal.invariant-loop-k
-invariant-loop-k l =
-    (length l.ticks ≡ length l.comments.source)
-    × (ticked_by_all l.comments.source (drop l.k l.comments.comments) l.ticks ≡ ticks_of l.comments.source l.comments.comments)
+abbrev pub invariant-loop-c : goal.invariant-loop-c
+invariant-loop-c l =
+    (goal.iterator-loop-c).can_next l.c-iterator × (goal.iterator-loop-c).is_finite l.c-iterator
+    × All (λ c. c.source ≡ l.comments.source) l.c-iterator
+    × (length l.ticks ≡ length l.comments.source)
+    × (fold (λ t c. ticked_by c.source c.comment t) l.ticks l.c-iterator ≡ ticks_of l.comments.source l.comments.comments)

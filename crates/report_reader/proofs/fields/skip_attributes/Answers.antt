@@ -1,27 +1,31 @@
-use Rattle.laws.proofs.Prelude.{arith}
+use Rattle.laws.proofs.Prelude.{◌≡◌, ap, ◌∙◌, ⊎_elim, arith}
+use Rattle.wire.specs.Fields.{value_of}
+use Rattle.report.specs.declared.names.AttributesKind.TheVariants.{Known}
+use Rattle.report.specs.code.Kinds.{attributes_kinds}
 use Rattle.report.specs.ModuleInfo.{none, unknown, known}
 use Rattle.report.specs.Encode.{encode_attributes}
 use Rattle.report_reader.proofs.{FromBytes.byte_read}
 use Rattle.report_reader.proofs.fields.skip_attributes.Goals as goal
 
-pub returns-then-kind-eq2 : goal.returns-then-kind-eq2
+pub returns-in-Known : goal.returns-in-Known
 unfolding encode_attributes
-returns-then-kind-eq2 c =
-    let n = c.read_number-kind in
-    let byte = byte_read n.ensures in
+returns-in-Known c =
+    let byte = byte_read c.read_number-kind.ensures in
     elim [
-      | none ↦ λ v t e. absurd (omega (arith, (byte 0 (omega arith) t e).0))
-      | unknown ↦ λ v t e. absurd (omega (arith, (byte 1 (omega arith) t e).0))
+      | none ↦ λ v t e. let h = rw (byte 0 (omega arith) t e).0 at c.in-Known.ensures in cc
+      | unknown ↦ λ v t e. let h = rw (byte 1 (omega arith) t e).0 at c.in-Known.ensures in cc
       | known l ↦ λ v t e. c.skip_list.ensures l v t (byte 2 (omega arith) _ e).1
     ]
 
-pub returns : goal.returns
+pub returns-in-None : goal.returns-in-None
 unfolding encode_attributes
-returns c =
-    let n = c.read_number-kind in
-    let byte = byte_read n.ensures in
+returns-in-None c =
+    let byte = byte_read c.read_number-kind.ensures in
     elim [
       | none ↦ λ v t e. (byte 0 (omega arith) t e).1
       | unknown ↦ λ v t e. (byte 1 (omega arith) t e).1
-      | known l ↦ λ v t e. absurd (c.if-kind-eq2.false (byte 2 (omega arith) _ e).0)
+      | known l ↦ λ v t e.
+          let is : c.from.result ≡ Known =
+          c.from.ensures ∙ ap (value_of attributes_kinds) (byte 2 (omega arith) _ e).0 in
+          ⊎_elim (λ h. cc) (λ h. cc) c.in-None.is
     ]

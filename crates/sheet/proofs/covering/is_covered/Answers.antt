@@ -5,7 +5,7 @@ use Rattle.sheet.proofs.Coverings.{pass_none, pass_more, pass_stop, keep_zeros}
 use Rattle.sheet.proofs.covering.is_covered.Goals as goal
 
 pub loop-i-init : goal.loop-i-init
-loop-i-init c = (λ j l. keep_zeros _ c.clear.ensures j (omega arith) (c.keep_longest.ensures j (omega arith)), pass_none _)
+loop-i-init c = (λ j l. keep_zeros _ (c.fill.ensures.after (λ y e. e)) j (omega arith) (c.keep_longest.ensures j (omega arith)), pass_none _)
 
 larger : (a b r : ℕ) → r ≡ ord_max nat_cmp a b → r ≡ max a b
 larger a b r e = search rules

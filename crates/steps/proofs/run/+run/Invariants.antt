@@ -15,23 +15,22 @@ decreases-match_shortest l = 2 * length l.steps.now + 1
 
 abbrev pub invariant-match_from-loop-step : goal.invariant-match_from-loop-step
 invariant-match_from-loop-step l =
-    (l.here ≤ length l.body) × (length l.rest ≤ length l.steps)
-    × Goes l.body l.steps l.at l.initial.captured l.rest l.here l.captured
+    (l.here.at ≤ length l.body) × (length l.rest ≤ length l.steps) × Goes l.body l.steps l.initial.here l.rest l.here
 
 abbrev pub decreases-match_from-loop-step : goal.decreases-match_from-loop-step
 decreases-match_from-loop-step l = length l.rest
 
 -- the class is not at hand in the loop: what is left to be tried is so for each class of which the end at first is a run's end
-abbrev pub invariant-match_longest-loop-k : goal.invariant-match_longest-loop-k
-invariant-match_longest-loop-k l =
-    (l.at ≤ l.end) × (l.end ≤ length l.body)
-    × ((c : Class) → Longer c l.steps l.body l.k l.at l.initial.end → Longer c l.steps l.body l.k l.at l.end)
+abbrev pub invariant-match_longest-loop-from : goal.invariant-match_longest-loop-from
+invariant-match_longest-loop-from l =
+    (l.from.at ≤ l.end) × (l.end ≤ length l.body)
+    × ((c : Class) → Longer c l.steps l.body l.from l.initial.end → Longer c l.steps l.body l.from l.end)
 
-abbrev pub decreases-match_longest-loop-k : goal.decreases-match_longest-loop-k
-decreases-match_longest-loop-k l = l.end
+abbrev pub decreases-match_longest-loop-from : goal.decreases-match_longest-loop-from
+decreases-match_longest-loop-from l = l.end
 
-abbrev pub invariant-match_shortest-loop-class : goal.invariant-match_shortest-loop-class
-invariant-match_shortest-loop-class l = (l.e ≤ length l.body) × Shorter l.class l.steps l.body l.k l.at l.e
+abbrev pub invariant-match_shortest-loop-from : goal.invariant-match_shortest-loop-from
+invariant-match_shortest-loop-from l = (l.end ≤ length l.body) × Shorter l.class l.steps l.body l.from l.end
 
-abbrev pub decreases-match_shortest-loop-class : goal.decreases-match_shortest-loop-class
-decreases-match_shortest-loop-class l = length l.body - l.e
+abbrev pub decreases-match_shortest-loop-from : goal.decreases-match_shortest-loop-from
+decreases-match_shortest-loop-from l = length l.body - l.end

@@ -6,7 +6,7 @@ use Rattle.text.proofs.position.build_index.Goals as goal
 
 pub loop-row-init : goal.loop-row-init
 unfolding position_of walk
-loop-row-init c = (refl, refl, omega arith, refl, index_none, refl)
+loop-row-init c = (refl, refl, omega arith, refl, index_none _, refl)
 
 pub new-requires : goal.new-requires
 new-requires c =

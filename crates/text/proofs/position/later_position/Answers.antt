@@ -17,4 +17,4 @@ returns-then-at-from c =
     scanned characters a.s.now a.from a.at c.if-from-at.true p.2 c.scan.ensures
 
 pub returns : goal.returns
-returns c = c.indexed_position.ensures ∙ indexed c.requires.3 c.args.at
+returns c = c.indexed_position.ensures ∙ indexed c.requires.3 c.args.at c.requires.1

@@ -1,13 +1,14 @@
-use Rattle.laws.proofs.Prelude.{arith}
-use Rattle.attributes.specs.code.Rows.{pair_as}
-use Rattle.attributes.proofs.Insertion.{sought_greater, sought_less, sought_equal}
+use Rattle.laws.proofs.Prelude.{rules}
+use Rattle.std.proofs.lemmas.Fn.{always_returns_same}
+use Rattle.text.specs.Bytes.{order}
+use Rattle.attributes.proofs.Insertion.{searched}
 use Rattle.attributes.proofs.pairs.Pairs.find.Goals as goal
 
-pub returns-in-Less : goal.returns-in-Less
-returns-in-Less c = sought_less _ _ c.loop-i.i (pair_as c.at.result) (omega arith) c.at.ensures c.loop-i.invariant c.in-Less.ensures
-
-pub returns-in-Equal : goal.returns-in-Equal
-returns-in-Equal c = sought_equal _ _ c.loop-i.i (pair_as c.at.result) (omega arith) c.at.ensures c.loop-i.invariant c.in-Equal.ensures
-
-pub loop-i-preserved : goal.loop-i-preserved
-loop-i-preserved c = sought_greater _ _ c.loop-i.i (pair_as c.at.result) (omega arith) c.at.ensures c.loop-i.invariant c.in-Greater.ensures
+pub returns : goal.returns
+returns c =
+    let rows = c.as_slice.result.now in
+    let pairs = c.as_slice.ensures in
+    let found = c.binary_search_by.ensures in
+    let by_key = found.position (λ row. order row.key.now c.args.p.key.now)
+    (always_returns_same _ _ _ (λ a r g called. (search rules, search rules))) in
+    rw pairs.answer at (searched c.args.p rows (rw pairs.answer pairs.bounds) _ found.bound by_key)

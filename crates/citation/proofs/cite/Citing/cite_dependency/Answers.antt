@@ -1,56 +1,49 @@
-use Rattle.laws.proofs.Prelude.{sym, ◌∙◌, ◌++◌, append_assoc, arith}
+use Rattle.laws.proofs.Prelude.{sym, ◌∙◌, ◌++◌, append_assoc}
 use Rattle.report.specs.declared.names.DependencyKind.TheVariants.{Static, Dynamic}
 use Rattle.report.specs.ModuleInfo.{static, dynamic}
 use Rattle.report.specs.Encode.{encode_attributes, encode_static, encode_dynamic, encode_dependency}
-use Rattle.report_reader.proofs.FromBytes.{byte_read, flag_read}
+use Rattle.report_reader.proofs.FromBytes.{byte_read}
 use Rattle.report_reader.proofs.KindsTold.{small, told, apart}
-use Rattle.report.proofs.Buffers.{keeps_then}
 use Rattle.citation.proofs.{Printing.both}
 use Rattle.citation.proofs.cite.Citing.cite_dependency.Goals as goal
 
-pub returns-in-Static : goal.returns-in-Static
+pub returns-in-Static-clause-answer : goal.returns-in-Static-clause-answer
 unfolding encode_dependency encode_static encode_dynamic
-returns-in-Static c =
+returns-in-Static-clause-answer c =
     let number = c.read_number-kind in
-    let kind = c.dependency_kind in
+    let kind = c.from in
     let first = c.cite_specifier-first in
-    let flag = c.read_number in
-    let byte = byte_read number.ensures in record {
-      answer = elim [
-        | static d ↦ λ v t e.
-            let types = simp append_assoc at (byte _ (small (Static d.kind)) _ e).1 in
-            let (p, e) = first.ensures.answer d.specifier v.specifier _
-            (c.skip_optional_specifier-next.ensures d.types_specifier v.types_specifier _ types) in
-            let (q, _) = c.cite_optional-second.ensures.answer d.types_specifier v.types_specifier _ types in
-            let e = flag_read flag.ensures d.side_effect _ e in
-            (both p q, c.skip_attributes.ensures d.import_attributes v.import_attributes t e)
-        | dynamic d ↦ λ v t e.
-            absurd (apart (sym c.in-Static.is ∙
-            told kind.ensures (Dynamic d.kind) (byte _ (small (Dynamic d.kind)) _ e).0))
-      ];
-      bounds = omega (arith, first.ensures.bounds, c.cite_optional-second.ensures.bounds);
-      left = keeps_then first.ensures.left c.cite_optional-second.ensures.left;
-    }
+    let flag = c.read_flag in
+    let byte = byte_read number.ensures in
+    elim [
+      | static d ↦ λ v t e.
+          let types = simp append_assoc at (byte _ (small (Static d.kind)) _ e).1 in
+          let (p, e) = first.ensures.answer d.specifier v.specifier _
+          (c.skip_optional-next.ensures d.types_specifier v.types_specifier _ types) in
+          let (q, _) = c.cite_optional-second.ensures.answer d.types_specifier v.types_specifier _ types in
+          let (_, e) = flag.ensures d.side_effect tt _ e in
+          (both p q, c.skip_attributes.ensures d.import_attributes v.import_attributes t e)
+      | dynamic d ↦ λ v t e.
+          absurd (apart (sym c.in-Static.is ∙
+          told kind.ensures (Dynamic d.kind) (byte _ (small (Dynamic d.kind)) _ e).0))
+    ]
 
-pub returns-in-Dynamic : goal.returns-in-Dynamic
+pub returns-in-Dynamic-clause-answer : goal.returns-in-Dynamic-clause-answer
 unfolding encode_dependency encode_static encode_dynamic
-returns-in-Dynamic c =
+returns-in-Dynamic-clause-answer c =
     let number = c.read_number-kind in
-    let kind = c.dependency_kind in
+    let kind = c.from in
     let first = c.cite_argument-first in
-    let byte = byte_read number.ensures in record {
-      answer = elim [
-        | static d ↦ λ v t e.
-            absurd (apart (sym (told kind.ensures (Static d.kind) (byte _ (small (Static d.kind)) _ e).0) ∙
-            c.in-Dynamic.is))
-        | dynamic d ↦ λ v t e.
-            let types = simp append_assoc at (byte _ (small (Dynamic d.kind)) _ e).1 in
-            let (p, e) = first.ensures.answer (d.argument, d.argument_range) (v.argument, v.argument_range)
-            (encode_attributes d.import_attributes ++ t)
-            (rw append_assoc (c.skip_optional_specifier-next.ensures d.types_specifier v.types_specifier _ types)) in
-            let (q, _) = c.cite_optional-second-in-Dynamic.ensures.answer d.types_specifier v.types_specifier _ types in
-            (both p q, c.skip_attributes-in-Dynamic.ensures d.import_attributes v.import_attributes t e)
-      ];
-      bounds = omega (arith, first.ensures.bounds, c.cite_optional-second-in-Dynamic.ensures.bounds);
-      left = keeps_then first.ensures.left c.cite_optional-second-in-Dynamic.ensures.left;
-    }
+    let byte = byte_read number.ensures in
+    elim [
+      | static d ↦ λ v t e.
+          absurd (apart (sym (told kind.ensures (Static d.kind) (byte _ (small (Static d.kind)) _ e).0) ∙
+          c.in-Dynamic.is))
+      | dynamic d ↦ λ v t e.
+          let types = simp append_assoc at (byte _ (small (Dynamic d.kind)) _ e).1 in
+          let (p, e) = first.ensures.answer (d.argument, d.argument_range) (v.argument, v.argument_range)
+          (encode_attributes d.import_attributes ++ t)
+          (rw append_assoc (c.skip_optional-next.ensures d.types_specifier v.types_specifier _ types)) in
+          let (q, _) = c.cite_optional-second-in-Dynamic.ensures.answer d.types_specifier v.types_specifier _ types in
+          (both p q, c.skip_attributes-in-Dynamic.ensures d.import_attributes v.import_attributes t e)
+    ]

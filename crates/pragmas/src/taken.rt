@@ -1,0 +1,106 @@
+// A comment that a rule reads, with what is captured in its body.
+ghost use Rattle.std.specs.Prelude.{◌≡◌, ◌-◌, length};
+ghost use Rattle.laws.specs.code.Told.{Bounded};
+ghost use Rattle.text.specs.Position.{characters, position_of};
+ghost use Rattle.analysis.specs.Place.{Inside};
+ghost use Rattle.sheet.specs.Lookups.{HoldsMarks, body_span, body};
+ghost use Rattle.report.specs.Encode.{encode_specifier};
+ghost use Rattle.report.specs.Buffer.{Wrote};
+ghost use Rattle.report.specs.Range.{InSource};
+ghost use Rattle.pragmas.specs.Readings.{place_in};
+ghost use Rattle.pragmas.specs.code.Captured.{Captured, CaptureIn, place_as, specifier_as};
+
+use analysis::{Capture, place_of, specifier};
+use report::writer::Writer;
+use sheet::commented::{Comments, PlacedComment};
+use sheet::comments::Comment;
+use sheet::fields::Span;
+use sheet::lookups::{body, body_span};
+use std::marker::Model;
+use text::position::Position;
+
+// Where a capture in a comment stands in the source, with its marks.
+#[tactic(auto, unfolding(sheet::specs::Lookups::body_span, analysis::specs::Place::place_of, crate::specs::Readings::place_in))]
+pub fn comment_source_to_span(c: Comment, found: Capture) -> Span
+    requires { HoldsMarks c × Inside found ((body_span c).end - (body_span c).start) }
+    ensures { result ≡ place_in c found }
+{
+    let place = place_of(found);
+    let start = body_span(c).start;
+    Span {
+        start: start + place.from,
+        end: start + place.to,
+    }
+}
+
+// What is captured in the body of a comment of a source.
+#[derive(Drop)]
+pub struct Taken<'a> {
+    comments: &'a Comments<'a>,
+    comment: Comment,
+    found: Capture,
+}
+
+impl<'a> Model for Taken<'a> {
+    ghost Value = { Captured };
+
+    ghost view = { λ t. record { source = t.comments.now.source; comment = t.comment; capture = t.found } };
+
+    ghost invariant = { λ t. CaptureIn t.comments.now.source t.comment t.found };
+}
+
+impl<'a> Taken<'a> {
+    pub fn new(c: &PlacedComment<'a>, found: Capture) -> Taken<'a>
+        requires { Inside found (length (body c.now.source c.now.comment)) }
+        ensures { result ≡ record { source = c.now.source; comment = c.now.comment; capture = found } }
+    {
+        Taken {
+            comments: c.comments(),
+            comment: c.comment(),
+            found,
+        }
+    }
+
+    pub fn comment(&self) -> Comment
+        ensures { result ≡ self.now.comment }
+    {
+        self.comment
+    }
+
+    pub fn capture(&self) -> Capture
+        ensures { Bounded
+            (result ≡ self.now.capture)
+            (CaptureIn self.now.source self.now.comment result) }
+    {
+        self.found
+    }
+
+    // Its place in the source: what is captured, with its marks.
+    #[tactic(auto, using(crate::proofs::Captures::capture_within, sheet::proofs::Marks::holds_marks_lem, sheet::proofs::Bodies::placed_body))]
+    pub fn place(&self) -> Span
+        ensures { Bounded (result ≡ place_as self.now) (InSource self.now.source result) }
+    {
+        comment_source_to_span(self.comment, self.found)
+    }
+
+    // The positions of its place.
+    pub fn positions(&self) -> (Position, Position)
+        ensures { (result.0 ≡ position_of characters self.now.source (place_as self.now).start)
+            × (result.1 ≡ position_of characters self.now.source (place_as self.now).end) }
+    {
+        let place = self.place();
+        let comments = self.comments;
+        comments.positions(place)
+    }
+
+    // Writes the specifier.
+    #[tactic(auto, using(sheet::proofs::Marks::holds_marks_lem, sheet::proofs::Bodies::placed_body), unfolding(crate::specs::Readings::specifier_in))]
+    pub fn put(&self, w: &mut Writer)
+        ensures { Wrote w.old w.new (encode_specifier (specifier_as self.now)) }
+    {
+        let place = self.place();
+        let comments = self.comments;
+        let text = specifier(body(comments.source(), self.comment), self.found);
+        w.put_specifier(text, comments, place);
+    }
+}

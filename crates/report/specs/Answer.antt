@@ -38,7 +38,11 @@ answered size (full n) = refused_with refusals.buffer size
 abbrev pub Outcome : Type 0
 Outcome = Result ℕ Refusal
 
--- what it stands for, with what the buffer has then
+-- what a length or a refusal stands for by the refusals' numbers, with what the buffer has then
+abbrev pub numbered_as : {E : Type 0} → (E → ℕ) → Result ℕ E → List ℕ → Answer
+numbered_as number (Ok n) buffer = record { number = 0; written = n; buffer = buffer }
+numbered_as number (Err r) buffer = record { number = number r; written = 0; buffer = buffer }
+
+-- what the code's answer stands for
 abbrev pub outcome_as : Outcome → List ℕ → Answer
-outcome_as (Ok n) buffer = record { number = 0; written = n; buffer = buffer }
-outcome_as (Err r) buffer = record { number = number_of r; written = 0; buffer = buffer }
+outcome_as = numbered_as number_of

@@ -1,14 +1,13 @@
 // The writer into a lent buffer: it fills the buffer from the front, and once a byte finds no room nothing more is written.
-ghost use Rattle.std.specs.Prelude.{◌≡◌, [], ◌∷◌, length};
+ghost use Rattle.std.specs.Prelude.{◌≡◌, [], ◌∷◌, ℕ, length};
 ghost use Rattle.text.specs.Lossy.{lossy, replaced};
 ghost use Rattle.wire.specs.Fields.{encode_flag};
 ghost use Rattle.wire.specs.Number.{encode_number};
 ghost use Rattle.wire.specs.Text.{encode_text};
-ghost use Rattle.wire.specs.Refusals.{number_of};
 ghost use Rattle.report.specs.Encode.{encode_position, encode_range, encode_specifier};
 ghost use Rattle.report.specs.Range.{range_of, InSource};
 ghost use Rattle.report.specs.Buffer.{buffer_as, standing, Wrote};
-ghost use Rattle.report.specs.Answer.{cleared_from, refused_with, answered, outcome_as};
+ghost use Rattle.report.specs.Answer.{cleared_from, refused_with, answered, numbered_as, outcome_as};
 ghost use Rattle.report.specs.code.Lossy.{Replacing};
 
 use sheet::commented::Comments;
@@ -203,9 +202,9 @@ pub fn clear_from(out: &mut [u8], at: usize)
     }
 }
 
-// A refusal: the whole buffer is zero.
-pub fn refuse_all(out: &mut [u8], refusal: Refusal) -> Outcome
-    ensures { outcome_as result out.new ≡ refused_with (number_of refusal) (length out.old) }
+// A refusal, of any number: the whole buffer is zero.
+pub fn refuse_all<E>(out: &mut [u8], refusal: E) -> Result<usize, E>
+    ensures { (number : E → ℕ) → numbered_as number result out.new ≡ refused_with (number refusal) (length out.old) }
 {
     clear_from(out, 0);
     Err(refusal)

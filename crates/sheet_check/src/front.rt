@@ -1,5 +1,5 @@
 // What stands in front of the program: the media byte, the source, and the rows of comments and groups.
-ghost use Rattle.std.specs.Prelude.{◌≤◌};
+ghost use Rattle.std.specs.Prelude.{◌≤◌, length};
 ghost use Rattle.laws.specs.code.Told.{Told};
 ghost use Rattle.sheet.specs.Limits.{comment_limit, group_limit};
 ghost use Rattle.sheet_check.specs.code.Pieces.{source_fields, comment_fields, group_fields, front};
@@ -38,12 +38,13 @@ fn read_source(sheet: &[u8]) -> Reading<'_, (MediaType, &[u8])>
 }
 
 // Reads the comments into the first rows of a table.
-#[tactic(auto, using(sheet_heads::proofs::Counts::count_within), unfolding(crate::specs::code::Pieces::comment_fields))]
+#[tactic(auto, using(sheet_heads::proofs::Counts::count_within, crate::proofs::Tables::first_rows), unfolding(crate::specs::code::Pieces::comment_fields))]
 fn read_comment_table<'a>(
     source: &[u8],
     s: &'a [u8],
-    table: &'a mut [CommentRow; COMMENT_LIMIT],
+    table: &'a mut [CommentRow],
 ) -> Reading<'a, &'a [CommentRow]>
+    requires { comment_limit ≤ length table.old }
     ensures { Told comment_rows_as
         (comment_fields source.now s.now)
         (WithinLimit comment_limit) result }
@@ -55,15 +56,16 @@ fn read_comment_table<'a>(
 }
 
 // Reads the groups of n comments into the first rows of a table. `longest` is lent to work in.
-#[tactic(auto, using(sheet_heads::proofs::Counts::count_within), unfolding(crate::specs::code::Pieces::group_fields))]
+#[tactic(auto, using(sheet_heads::proofs::Counts::count_within, crate::proofs::Tables::first_rows), unfolding(crate::specs::code::Pieces::group_fields))]
 fn read_group_table<'a>(
     source: &[u8],
     s: &'a [u8],
     n: usize,
-    table: &'a mut [GroupRow; GROUP_LIMIT],
-    longest: &mut [u32; COMMENT_LIMIT],
+    table: &'a mut [GroupRow],
+    longest: &mut [u32],
 ) -> Reading<'a, &'a [GroupRow]>
-    requires { n ≤ comment_limit }
+    requires groups_in_bounds { group_limit ≤ length table.old }
+    requires longest_in_bounds { n ≤ length longest.old }
     ensures { Told group_rows_as
         (group_fields source.now n s.now)
         (WithinLimit group_limit) result }
@@ -83,10 +85,13 @@ fn read_group_table<'a>(
 #[tactic(auto, unfolding(crate::specs::code::Pieces::front))]
 pub fn read_front<'a>(
     sheet: &'a [u8],
-    comment_table: &'a mut [CommentRow; COMMENT_LIMIT],
-    group_table: &'a mut [GroupRow; GROUP_LIMIT],
-    longest: &mut [u32; COMMENT_LIMIT],
+    comment_table: &'a mut [CommentRow],
+    group_table: &'a mut [GroupRow],
+    longest: &mut [u32],
 ) -> Reading<'a, Front<'a>>
+    requires comments_in_bounds { comment_limit ≤ length comment_table.old }
+    requires groups_in_bounds { group_limit ≤ length group_table.old }
+    requires longest_in_bounds { comment_limit ≤ length longest.old }
     ensures { Told front_as
         (front sheet.now)
         (WithinFront sheet.now) result }

@@ -128,7 +128,7 @@ pub fn read_attributes<'a>(source: &[u8], s: &'a [u8], levels: usize) -> Reading
         (attributes_head source.now levels s.now)
         (PastAttributes (length s.now) levels) result }
 {
-    let (_, next) = read_tag_of(s, Tag::Object, levels)?;
+    let (_, next) = read_tag_of(s, Tag::Object as usize, levels)?;
     let (span, next) = read_span(source, next)?;
     let (count, next) = next.count(PROPERTY_LIMIT)?;
     Ok(((span, count), next))

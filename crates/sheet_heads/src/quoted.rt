@@ -1,7 +1,7 @@
 // Tags, and Strings that other nodes hold.
 ghost use Rattle.std.specs.Prelude.{◌≡◌, true, ◌+◌, eqb, ltb, length};
 ghost use Rattle.laws.specs.code.Told.{Told};
-ghost use Rattle.wire.specs.code.Views.{text_as, Past};
+ghost use Rattle.wire.specs.code.Views.{read_as, text_as, Past};
 ghost use Rattle.sheet.specs.Quotation.{looks_quoted};
 ghost use Rattle.sheet.specs.Nodes.{judge_tag, tag, text_behind, quoted};
 ghost use Rattle.sheet_heads.specs.code.Views.{OfTag, tag_number, tag_as, quoted_as, PastTag, PastQuoted};
@@ -88,16 +88,19 @@ pub fn read_tag(s: &[u8], levels: usize) -> Reading<'_, Tag>
 
 // The tag of a node where only one is allowed.
 #[tactic(auto, unfolding(sheet::specs::Nodes::tag))]
-pub fn read_tag_of(s: &[u8], wanted: Tag, levels: usize) -> Reading<'_, Tag>
-    ensures { Told tag_as
-        (tag (eqb (tag_number wanted)) levels s.now)
+pub fn read_tag_of(s: &[u8], wanted: usize, levels: usize) -> Reading<'_, usize>
+    ensures { Told read_as
+        (tag (eqb wanted) levels s.now)
         (PastTag (length s.now) levels) result }
 {
     let (t, next) = s.byte()?;
-    if wanted as usize != t {
+    if wanted != t {
         return Err(Refusal::Byte);
     }
-    judge_tag(next, wanted, levels)
+    if levels == 0 {
+        return Err(Refusal::Limit);
+    }
+    Ok((t, next))
 }
 
 // Has the text at least two bytes, and does it begin and end with the same mark?
@@ -129,7 +132,7 @@ pub fn read_quoted<'a>(source: &[u8], s: &'a [u8], levels: usize) -> Reading<'a,
         (quoted source.now levels s.now)
         (PastQuoted source.now (length s.now)) result }
 {
-    let (_, next) = read_tag_of(s, Tag::String, levels)?;
+    let (_, next) = read_tag_of(s, Tag::String as usize, levels)?;
     let (span, next) = read_span(source, next)?;
     let (text, next) = read_string_text(&source[span.start..span.end], next)?;
     Ok((Quoted { span, text }, next))

@@ -1,3 +1,4 @@
+use Rattle.wire.specs.Refusals.{number_of}
 use Rattle.module_info.proofs.Demanded.{demanded, refusal_demanded, empty_demanded}
 use Rattle.module_info.proofs.module_info.Goals as goal
 
@@ -9,7 +10,7 @@ returns-in-Ok-None c =
 pub returns-in-Err : goal.returns-in-Err
 returns-in-Err c =
     let (some, refused) = rw c.in-Err.is at c.judge.ensures in
-    refusal_demanded _ some refused c.refuse_all.ensures
+    refusal_demanded _ some refused (c.refuse_all.ensures number_of)
 
 pub returns-in-Ok-Some : goal.returns-in-Ok-Some
 returns-in-Ok-Some c =

@@ -1,4 +1,5 @@
 use Rattle.laws.proofs.Prelude.{length}
+use Rattle.wire.specs.Refusals.{number_of}
 use Rattle.module_info.proofs.Demanded.{demanded, refusal_demanded, empty_demanded}
 use Rattle.module_info.proofs.Notes.{empty_notes, refusal_notes, sheet_notes}
 use Rattle.module_info.proofs.module_info_with_replaced.Goals as goal
@@ -15,7 +16,7 @@ pub returns-in-Err : goal.returns-in-Err
 returns-in-Err c =
     let (some, refused) = rw c.in-Err.is at c.judge.ensures in
     record {
-      answer = refusal_demanded _ some refused c.refuse_all.ensures;
+      answer = refusal_demanded _ some refused (c.refuse_all.ensures number_of);
       beside = refusal_notes (length c.args.notes.now) _ some refused (c.fill.ensures.after (λ y e. e));
     }
 

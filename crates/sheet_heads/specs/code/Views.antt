@@ -126,7 +126,7 @@ abbrev pub NoMore : {A : Type 0} → ℕ → Reading A → Type 0
 NoMore n = PastWith (λ v next. length next.now ≤ n)
 
 -- fewer than n bytes are left; after a tag also a level was
-abbrev pub PastTag : ℕ → ℕ → Reading Tag → Type 0
+abbrev pub PastTag : {A : Type 0} → ℕ → ℕ → Reading A → Type 0
 PastTag n levels = PastWith (λ t next. (0 < levels) × (length next.now < n))
 
 -- a String, an argument's head and a head's fields were read, with spans of the source

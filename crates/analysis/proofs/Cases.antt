@@ -77,6 +77,6 @@ table =
     ∷ []
 
 worked : map (λ t. find (row t) (body t)) table ≡ map answer table
-unfolding table row body answer encode in_ranges admits length_by char_length code_by char_at ranges outside member class_at fold_case letter_at word_at flat_map ends
-    all first places find
+unfolding table row body answer encode in_ranges admits length_by char_length code_by char_at ranges outside member class_at fold_case letter_at word_at
+    flat_map ends all first places find
 worked = refl

@@ -1,16 +1,13 @@
 -- A letter ends in the text, and a word goes on from one of its letters to the next. `word_at` answers where the letters that `Spelled` asks for end.
 use Rattle.std.specs.Prelude.{Some, None}
 use Rattle.laws.proofs.Prelude.{◌≡◌, refl, cond, List, [], ◌∷◌, ℕ, zero, suc, ◌+◌, ◌-◌, ◌≤◌, ◌<◌, add-one, arith, eqb, length, get_or, take, drop}
-use Rattle.laws.proofs.Prelude.{length-drop, drop_of_length-le, drop-cons, take_all, eqb-true, eq-eqb, ne_eqb}
+use Rattle.laws.proofs.Prelude.{drop_of_length-le, drop-cons, eqb-true, eq-eqb, ne_eqb}
 use lib.Dec.{eqb-suc-zero}
+use Rattle.std.proofs.lemmas.List.{take_rest}
 use Rattle.text.{specs.declared.utf8.Encoding.TheVariants.Utf8, specs.Utf8.code_by, specs.Utf8.char_at, specs.Characters.Stands, proofs.Ascii.ascii_one}
 use Rattle.text.proofs.{Formed.fits_if, Characters.stands_sound, Characters.stands_complete}
 use Rattle.analysis.specs.{Matches.Letter, Matches.Spelled}
 use Rattle.analysis.specs.Letters.{fold_case, letter_at, behind, on_match, word_at}
-
--- the bytes of `&s[at..]`
-pub part_to_end : (s : List ℕ) (at : ℕ) → take (length s - at) (drop at s) ≡ drop at s
-part_to_end s at = take_all (length s - at) (drop at s) (omega (arith, length-drop at s))
 
 -- a letter has no more bytes than the text
 pub letter_fits : (w : ℕ) (s : List ℕ) → letter_at w s ≤ length s
@@ -26,7 +23,7 @@ ascii_letter w s l h = rw (ascii_one Utf8 s 0 l h)
 -- a word from its letter k on, which has n bytes at `at`
 module _ (w s : List ℕ) (k at : ℕ) (h : k < length w) {n : ℕ} (e : n ≡ letter_at (get_or w k 0) (take (length s - at) (drop at s))) where
   there : n ≡ letter_at (get_or w k 0) (drop at s)
-  there = rw part_to_end at e
+  there = rw take_rest at e
 
   pub word_misses : n ≡ 0 → word_at (drop k w) s at ≡ None
   unfolding word_at

@@ -9,7 +9,7 @@ use Rattle.laws.proofs.{Lists.flat_map_append, Decoding.refused, Decoding.same_r
 use Rattle.text.specs.Lossy.{lossy}
 use Rattle.wire.specs.{Text.encode_text, Optional.encode_optional}
 use Rattle.sheet.specs.{Tree.Node, Shape.shape}
-use Rattle.sheet_nodes.specs.{declared.tally.NodeTally.NodeTally, code.Tallies.node_tally}
+use Rattle.sheet_nodes.specs.code.Tallies.{NodeTally, node_tally}
 use Rattle.report.{specs.ModuleInfo.DynamicTemplatePart, specs.Buffer.Written, specs.Buffer.more, proofs.Buffers.more_append}
 use Rattle.arguments.specs.declared.template_pieces.TemplatePieces.{TemplatePieces}
 use Rattle.arguments.specs.declared.expression.Expression.{Expression}

@@ -77,3 +77,6 @@ module _ (source s : List ℕ) (levels : ℕ) (x : Head) {sp : Span} {next : Lis
         operations = λ plus h l r. absurd (no_binary plus h);
         objects = λ n h ps. record { side = refl; parts = refl; whole = refl; single = refl };
       })).at next)
+
+-- each kind of expression
+pub ruleset reads = (reads_string, reads_template, reads_plus, reads_minus, reads_other)

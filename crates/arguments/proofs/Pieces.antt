@@ -1,7 +1,7 @@
 -- Pieces of a template read one after the other, and the parts that they give.
 use Rattle.std.specs.Prelude.{Some, None}
 use Rattle.std.specs.Borrow.{Bor}
-use Rattle.laws.proofs.Prelude.{◌≡◌, refl, sym, ap, ◌∙◌, Bool, true, false, List, [], ◌∷◌, ◌++◌, append-nil, Option, ℕ, zero, suc, ◌+◌, ◌-◌, ◌≤◌, ◌<◌}
+use Rattle.laws.proofs.Prelude.{◌≡◌, refl, sym, ap, ◌∙◌, Bool, true, false, cond, List, [], ◌∷◌, ◌++◌, append-nil, Option, ℕ, zero, suc, ◌+◌, ◌-◌, ◌≤◌, ◌<◌}
 use Rattle.laws.proofs.Prelude.{arith, ltb, length, lt-ltb, le-ltb, ltb-true, ltb-false}
 use Rattle.std.specs.Int.{from_bool}
 use Rattle.laws.{specs.Decoded.ok, proofs.Decoding.then_ok}
@@ -11,8 +11,13 @@ use Rattle.sheet.specs.{Limits.text_limit, Tree.Pieces, Nodes.many, Nodes.piece}
 use Rattle.sheet_heads.specs.code.Views.{piece_of}
 use Rattle.sheet_heads.proofs.Many.{many_first, many_next, many_end}
 use Rattle.report.specs.ModuleInfo as info
-use Rattle.arguments.specs.code.Views.{piece_in, hole_parts}
+use Rattle.report.specs.ModuleInfo.{DynamicTemplatePart}
+use Rattle.arguments.specs.code.Views.{piece_in}
 use Rattle.arguments.specs.Argument.{piece_parts, template_parts, of_pieces, one_piece}
+
+-- the part of a hole, if there is one: an expression
+abbrev pub hole_parts : Bool → List DynamicTemplatePart
+hole_parts has_hole = cond has_hole (None ∷ []) []
 
 -- a piece is added in front
 one_piece_lem : (s : List ℕ) {add : Pieces → Pieces} {t : List ℕ} → piece s ≡ ok add t → (p : Option (List ℕ)) × ((ps : Pieces) → add ps ≡ p ∷ ps)

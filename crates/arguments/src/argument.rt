@@ -15,6 +15,7 @@ use super::bin::{put_bin, visit_bin};
 use super::expression::{Expression, read_expression};
 use super::template::{count_parts, put_parts};
 use super::template_pieces::TemplatePieces;
+use report::names::ArgumentKind;
 use report::writer::Writer;
 use sheet_heads::parts::read_piece;
 
@@ -30,6 +31,7 @@ pub enum DynamicArgument<'a> {
 }
 
 // A template by its holes: one of one piece is its text.
+#[tactic(auto, using(crate::proofs::Pieces::of_parts, sheet_heads::proofs::Many::many_refused))]
 fn parse_template(pieces: TemplatePieces<'_>) -> DynamicArgument<'_>
     ensures { (source : List ℕ) (levels : ℕ) (ps : Pieces) (u : List ℕ)
         → many [] piece (pieces.entry.holes + 1) pieces.entry.bytes.now ≡ ok ps u
@@ -73,21 +75,21 @@ pub fn put_argument(source: &[u8], levels: usize, a: DynamicArgument, w: &mut Wr
 {
     match a {
         DynamicArgument::Expr => {
-            w.put(0);
+            w.put(ArgumentKind::Expr as u8);
             0
         }
         DynamicArgument::String(text) => {
-            w.put(1);
+            w.put(ArgumentKind::String as u8);
             w.put_lossy_text(text)
         }
         DynamicArgument::Template(parts, pieces) => {
-            w.put(2);
+            w.put(ArgumentKind::Template as u8);
             w.put_number(parts);
             put_parts(pieces, w);
             0
         }
         DynamicArgument::Chain(parts, s) => {
-            w.put(2);
+            w.put(ArgumentKind::Template as u8);
             w.put_number(parts);
             put_bin(source, s, levels, w);
             0

@@ -19,6 +19,7 @@ pub enum Expression<'a> {
 }
 
 // The expression at the front of some bytes, with so many levels left, its own among them.
+#[tactic(auto, using(sheet_heads::proofs::ByHead::no_head, crate::proofs::Expressions::reads))]
 pub fn read_expression<'a>(source: &[u8], s: &'a [u8], levels: usize) -> Expression<'a>
     ensures { Bounded
         ((n : Node) (t : List ℕ)

@@ -12,7 +12,7 @@ use report::writer::Writer;
 pub fn put_string(text: &[u8], w: &mut Writer)
     ensures { Wrote w.old w.new (encode_optional encode_text (Some (lossy text.now))) }
 {
-    w.put(1);
+    w.put_flag(true);
     w.put_lossy_text(text);
 }
 
@@ -21,5 +21,5 @@ pub fn put_string(text: &[u8], w: &mut Writer)
 pub fn put_expr(w: &mut Writer)
     ensures { Wrote w.old w.new (encode_optional encode_text None) }
 {
-    w.put(0);
+    w.put_flag(false);
 }

@@ -6,7 +6,7 @@ ghost use Rattle.sheet.specs.Tree.{Pieces};
 ghost use Rattle.sheet.specs.Nodes.{many, piece};
 ghost use Rattle.report.specs.Buffer.{Wrote, Keeps};
 ghost use Rattle.arguments.specs.Argument.{piece_parts, template_parts};
-ghost use Rattle.arguments.specs.code.Views.{encode_parts, piece_in, hole_parts};
+ghost use Rattle.arguments.specs.code.Views.{encode_parts, piece_in};
 
 use super::part::{put_expr, put_string};
 use super::template_pieces::TemplatePieces;
@@ -24,6 +24,7 @@ fn count_piece(piece: Option<&[u8]>) -> usize
 }
 
 // How many parts the pieces and the holes between them give.
+#[tactic(auto, using(sheet_heads::proofs::Many::many_refused))]
 pub fn count_parts(pieces: TemplatePieces) -> usize
     ensures { (ps : Pieces) (u : List ℕ)
         → many [] piece (pieces.entry.holes + 1) pieces.entry.bytes.now ≡ ok ps u
@@ -53,17 +54,8 @@ fn put_piece(piece: Option<&[u8]>, w: &mut Writer)
     }
 }
 
-// Writes the part of a hole, if there is one.
-#[tactic(auto, using(report::proofs::Buffers::more_nil, crate::proofs::Chains::encode_one), unfolding(laws::proofs::Prelude::flat_map))]
-fn put_hole(has_hole: bool, w: &mut Writer)
-    ensures { Wrote w.old w.new (encode_parts (hole_parts has_hole)) }
-{
-    if has_hole {
-        put_expr(w);
-    }
-}
-
 // Writes the parts of the pieces and of the holes between them. Where the bytes are no such pieces, the buffer is left free.
+#[tactic(auto, using(sheet_heads::proofs::Many::many_refused))]
 pub fn put_parts(pieces: TemplatePieces, w: &mut Writer)
     ensures { Leaving
         ((ps : Pieces) (u : List ℕ)
@@ -77,7 +69,9 @@ pub fn put_parts(pieces: TemplatePieces, w: &mut Writer)
             return;
         };
         put_piece(piece, w);
-        put_hole(k < pieces.holes, w);
+        if k < pieces.holes {
+            put_expr(w);
+        }
         s = next;
     }
 }

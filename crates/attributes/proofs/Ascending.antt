@@ -6,7 +6,7 @@ use Rattle.std.specs.Ordering.{ordering_reverse}
 use Rattle.std.specs.declared.cmp.Ordering.{Ordering}
 use Rattle.std.specs.declared.cmp.Ordering.TheVariants.{Less, Equal, Greater}
 use Rattle.std.proofs.lemmas.Cmp.{nat_list_cmp_total}
-use Rattle.text.{specs.Bytes.order, proofs.Words.order_flips, proofs.Words.order_is, proofs.Words.order_same}
+use Rattle.text.{specs.Bytes.order, proofs.Words.order_is, proofs.Words.order_same}
 use Rattle.report.specs.{Ascending.Ascends, ModuleInfo.KeyValue}
 use Rattle.attributes.specs.Attributes.{placed, insert}
 
@@ -18,6 +18,10 @@ order_total = record {
   trans = λ a b c e f. sym (order_is a c) ∙ nat_list_cmp_total.trans a b c (order_is a b ∙ e) (order_is b c ∙ f);
   congr = λ a b c e. sym (order_is a c) ∙ nat_list_cmp_total.congr a b c (order_is a b ∙ e) ∙ order_is b c;
 }
+
+-- what is greater one way is less the other way
+order_flips : (a b : List ℕ) → order a b ≡ Greater → order b a ≡ Less
+order_flips a b e = rw e at (order_total.antisymm b a)
 
 -- what is less or greater is another text
 pub less_apart : {a b : List ℕ} → order a b ≡ Less → a ≡ b → ⊥

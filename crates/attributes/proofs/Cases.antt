@@ -5,7 +5,8 @@ use Prim.Native.String.{String}
 use Rattle.laws.specs.Ascii.{ascii}
 use Rattle.text.specs.{Bytes.same, Bytes.order, Lossy.surrogates, Utf8.admits}
 use Rattle.sheet.specs.declared.fields.Span.{Span}
-use Rattle.sheet.specs.Tree.{Node, other, string, object, Arguments, no_arguments, argument, Properties, no_properties, spread, string_key, name_key, with_object}
+use Rattle.sheet.specs.Tree.{Node, other, string, object, Arguments, no_arguments, argument, Properties, no_properties, spread, string_key, name_key}
+use Rattle.sheet.specs.Tree.{with_object}
 use Rattle.sheet.specs.Tree as tree
 use Rattle.report.specs.ModuleInfo.{KeyValue, ImportAttributes, none, unknown, known}
 use Rattle.attributes.specs.Attributes.{insert, props, static_pairs, static_attributes, object_attributes, type_attributes, argument_properties}

@@ -1,5 +1,6 @@
 -- Pairs in the first rows of a table: how many there are, one instead of another or before it, and the bytes of each.
-use Rattle.laws.proofs.Prelude.{◌≡◌, sym, ap, ◌∙◌, List, append_assoc, append-nil, flat_map, map, ℕ, ◌+◌, ◌-◌, ◌≤◌, ◌<◌, arith, length, get_or, set, take, drop, length-drop, length-take, length-take-le}
+use Rattle.laws.proofs.Prelude.{◌≡◌, sym, ap, ◌∙◌, List, append_assoc, append-nil, flat_map, map, ℕ, ◌+◌, ◌-◌, ◌≤◌, ◌<◌, arith, length, get_or, set, take, drop}
+use Rattle.laws.proofs.Prelude.{length-drop, length-take, length-take-le}
 use Rattle.laws.proofs.Lists.{flat_map_append}
 use Rattle.report.specs.{declared.writer.Writer.Writer, ModuleInfo.KeyValue, Encode.encode_key_value, Buffer.Wrote}
 use Rattle.report.proofs.Buffers.{more_append}

@@ -253,7 +253,8 @@ keyless_unknown : (l : List KeyValue) (es : List Prop) → Memᴰ keyless es →
 unfolding object_attributes
 keyless_unknown l [] i = absurd (Memᴰ_not_nil i)
 keyless_unknown l (keyless ∷ es) i = refl
-keyless_unknown l (keyed k v ∷ es) i = ⊎_elim (λ (e : keyless ≡ keyed k v). absurd (unkeyed (sym e))) (keyless_unknown (insert (record { key = k; value = value_of v }) l) es) (Memᴰ_cases_cons i)
+keyless_unknown l (keyed k v ∷ es) i =
+    ⊎_elim (λ (e : keyless ≡ keyed k v). absurd (unkeyed (sym e))) (keyless_unknown (insert (record { key = k; value = value_of v }) l) es) (Memᴰ_cases_cons i)
 
 -- what is unknown is nothing else
 held_unknown : {v : Shape} → Holds v unknown → held v ≡ unknown

@@ -89,7 +89,8 @@ is_attributes_key had_with k = same k (ascii "with") || (same k (ascii "assert")
 
 -- such a key's Object is read; another key is passed over. `more` goes on with whether a `with` was met, and with what was found
 abbrev pub on_key : Bool → List ℕ → Shape → (Bool → ImportAttributes → ImportAttributes) → ImportAttributes → ImportAttributes
-on_key had_with k v more found = cond (is_attributes_key had_with k) (on_known (more (same k (ascii "with"))) (of_object (object_attributes []) v)) (more had_with found)
+on_key had_with k v more found =
+    cond (is_attributes_key had_with k) (on_known (more (same k (ascii "with"))) (of_object (object_attributes []) v)) (more had_with found)
 
 -- `parse_dynamic_import_attributes` on the properties of the second argument
 unfoldable pub argument_properties : Bool → ImportAttributes → List Prop → ImportAttributes

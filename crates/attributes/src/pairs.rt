@@ -107,7 +107,7 @@ impl<'a> Pairs<'a> {
     }
 
     // Puts a pair in its place, instead of one with the same key.
-    #[tactic(auto, using(crate::proofs::PairRows::set_pairs, crate::proofs::PairRows::insert_pairs))]
+    #[tactic(auto, using(crate::proofs::PairRows::set_pairs, crate::proofs::PairRows::insert_pairs, crate::proofs::PairRows::rows_filled, crate::proofs::Ascending::insert_ascends))]
     pub fn insert(&mut self, p: Pair<'a>)
         requires { length self.old < property_limit }
         ensures { self.new ≡ insert (pair_as p.entry) self.old }

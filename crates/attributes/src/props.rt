@@ -14,7 +14,7 @@ use sheet_heads::node::{Head, read_head};
 use sheet_heads::parts::{Property, read_property};
 use sheet_nodes::check::check_property;
 use text::lossy::is_exact;
-use wire::Reading;
+use wire::ReadResult;
 
 // What a node is to an attribute: a text; an Object, with the number of its properties and what is left at them; or anything else.
 #[derive(Clone, Copy)]
@@ -32,6 +32,7 @@ pub struct Keyed<'a> {
 }
 
 // The node that stands first, with so many levels left, its own among them.
+#[tactic(auto, using(sheet_heads::proofs::ByHead::no_head, crate::proofs::Shapes::other_is))]
 pub fn read_value<'a>(source: &[u8], s: &'a [u8], levels: usize) -> Value<'a>
     ensures { Bounded
         ((v : Node) (t : List ℕ) → node source.now levels s.now ≡ ok v t → ValueIs source.now (levels - 1) result (shape v))
@@ -72,7 +73,8 @@ fn prop_of<'a>(p: Property<'a>, value: &'a [u8]) -> Option<Keyed<'a>>
 }
 
 // The property that stands first, with so many levels left for its nodes.
-pub fn read_prop<'a>(source: &[u8], s: &'a [u8], levels: usize) -> Reading<'a, Option<Keyed<'a>>>
+#[tactic(auto, using(laws::proofs::Decoding::on_ok_ok, sheet_heads::proofs::ByHead::property_by_head, crate::proofs::Seen::prop_is))]
+pub fn read_prop<'a>(source: &[u8], s: &'a [u8], levels: usize) -> ReadResult<'a, Option<Keyed<'a>>>
     ensures { PropIs (node source.now levels) s.now result }
 {
     let (p, value) = read_property(s)?;

@@ -26,6 +26,7 @@ pub enum ImportAttributes<'t, 'a> {
 }
 
 // The Object of a declaration, if there is one, read into the table. Values that are no strings are skipped.
+#[tactic(auto, using(crate::proofs::Objects::no_attributes), unfolding(crate::specs::Attributes::static_attributes, crate::specs::code::Views::object_in))]
 pub fn parse_import_attributes<'t, 'a>(
     source: &[u8],
     object: Option<&'a [u8]>,
@@ -85,6 +86,7 @@ fn parse_import_attributes_from_object_lit<'a, F: Fn(&Pair<'a>) -> bool>(
 }
 
 // The Object of an import type, if there is one, read into the table.
+#[tactic(auto, using(crate::proofs::Objects::no_attributes), unfolding(crate::specs::Attributes::type_attributes, crate::specs::code::Views::object_in))]
 pub fn parse_type_attributes<'t, 'a>(
     source: &[u8],
     object: Option<&'a [u8]>,
@@ -109,6 +111,7 @@ pub fn parse_type_attributes<'t, 'a>(
 }
 
 // The value of `with` or `assert`, read into the table: is it an Object, and can each key be read?
+#[tactic(auto, using(crate::proofs::Kept::all_read))]
 fn parse_nested<'a>(source: &[u8], s: &'a [u8], levels: usize, pairs: &mut Pairs<'a>) -> bool
     ensures { (v : Node) (t : List ℕ)
         → node source.now levels s.now ≡ ok v t
@@ -171,6 +174,7 @@ fn parse_argument_properties<'t, 'a>(
 }
 
 // From the arguments behind the first of a call, so many of them, read into the table.
+#[tactic(auto, using(crate::proofs::Objects::first_argument, sheet_heads::proofs::FirstArgument::no_first, sheet_heads::proofs::FirstArgument::no_arguments_lem), unfolding(crate::specs::Attributes::dynamic_attributes))]
 pub fn parse_dynamic_import_attributes<'t, 'a>(
     source: &[u8],
     s: &'a [u8],

@@ -7,10 +7,11 @@ ghost use Rattle.attributes.specs.code.Views.{attributes_as};
 
 use super::pairs::{Pair, Pairs};
 use super::readings::ImportAttributes;
+use report::names::AttributesKind;
 use report::writer::Writer;
 
 // Writes a pair.
-#[tactic(auto, using(report::proofs::Buffers::more_append, report::proofs::Buffers::more_cons), unfolding(report::specs::Encode::encode_key_value, wire::specs::Optional::encode_optional))]
+#[tactic(auto, using(report::proofs::Buffers::parts), unfolding(report::specs::Encode::encode_key_value, wire::specs::Optional::encode_optional))]
 fn put_pair(pair: Pair, w: &mut Writer)
     ensures { Wrote w.old w.new (encode_key_value (pair_as pair.entry)) }
 {
@@ -33,15 +34,15 @@ fn put_pairs(pairs: &Pairs, w: &mut Writer)
 }
 
 // Writes the attributes of an import.
-#[tactic(auto, using(report::proofs::Buffers::more_append, report::proofs::Buffers::more_cons), unfolding(report::specs::Encode::encode_attributes, report::specs::Encode::encode_list))]
+#[tactic(auto, using(report::proofs::Buffers::parts), unfolding(report::specs::Encode::encode_attributes, report::specs::Encode::encode_list))]
 pub fn put_attributes(attributes: ImportAttributes, w: &mut Writer)
     ensures { Wrote w.old w.new (encode_attributes (attributes_as attributes.entry)) }
 {
     match attributes {
-        ImportAttributes::None => w.put(0),
-        ImportAttributes::Unknown => w.put(1),
+        ImportAttributes::None => w.put(AttributesKind::None as u8),
+        ImportAttributes::Unknown => w.put(AttributesKind::Unknown as u8),
         ImportAttributes::Known(pairs) => {
-            w.put(2);
+            w.put(AttributesKind::Known as u8);
             w.put_number(pairs.len());
             put_pairs(pairs, w);
         }

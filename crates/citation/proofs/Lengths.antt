@@ -167,7 +167,8 @@ module _ (source : List ℕ) where
   argument_short letter x r v = by_kind x (line_short (record { letter = letter; range = r; text = argument_text x }) v)
     where
       by_kind : (x : DynamicArgument) →
-          length (printed source (record { letter = letter; range = r; text = argument_text x })) ≤ 7 + 3 * length (encode_range r) + 4 * length (argument_text x)
+          length (printed source (record { letter = letter; range = r; text = argument_text x })) ≤ 7 + 3 * length (encode_range r) + 4 * length
+          (argument_text x)
           → length (flat_map (printed source) (cite_argument letter x r)) ≤ 4 * (length (encode_argument x) + length (encode_range r) + 1)
       by_kind expr h = simp length-append (omega (arith, range_long r))
       by_kind (string y) h = simp length-append (omega (arith, range_long r))

@@ -1,5 +1,5 @@
 -- Lines written one after the other.
-use Rattle.laws.proofs.Prelude.{◌≡◌, refl, ap, List, [], ◌∷◌, ◌++◌, append_assoc, flat_map, ℕ, zero, suc, ◌+◌, get_or, drop, length-append, get_or-drop, drop-drop}
+use Rattle.laws.proofs.Prelude.{◌≡◌, refl, ap, List, [], ◌∷◌, ◌++◌, append_assoc, flat_map, ℕ, zero, suc, ◌+◌, get_or, drop, length-append}
 use Rattle.laws.proofs.Lists.{flat_map_append}
 use Rattle.text.specs.declared.position.Position.{Position}
 use Rattle.report.{specs.ModuleInfo.ModuleInfo, specs.Answer.zeros, specs.declared.writer.Writer.Writer, proofs.Buffers.more_append}
@@ -16,9 +16,9 @@ both {source} {a} {b} {before} p q =
     }
 
 -- the lines of one item more
-pub cite_next : {A : Type 0} (f : ℕ → A → List Line) (numbers : List ℕ) (row : ℕ) (done : List Line) {a : A} {l l' : List A} → l ≡ a ∷ l'
-    → done ++ cite_each f (drop row numbers) l ≡ (done ++ f (get_or numbers (row + 1) 0) a) ++ cite_each f (drop (row + 2) numbers) l'
-cite_next f numbers row done e = rw (e, get_or-drop row numbers 1 0, drop-drop 2 row numbers, append_assoc)
+pub cite_next : {A : Type 0} (f : ℕ → A → List Line) (numbers : List ℕ) (done : List Line) {a : A} {l l' : List A} → l ≡ a ∷ l'
+    → done ++ cite_each f numbers l ≡ (done ++ f (get_or numbers 1 0) a) ++ cite_each f (drop 2 numbers) l'
+cite_next f numbers done e = rw (e, append_assoc)
 
 -- where numbers do not count
 pub each_plain : {A : Type 0} (f : A → List Line) (numbers : List ℕ) (l : List A) → cite_each (λ number. f) numbers l ≡ flat_map f l

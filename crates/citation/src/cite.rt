@@ -1,5 +1,5 @@
 // The citation of a report, read from its front and written line by line.
-ghost use Rattle.std.specs.Prelude.{◌≡◌, List, ℕ, ◌+◌, ◌*◌, ◌≤◌, length, get_or, take};
+ghost use Rattle.std.specs.Prelude.{◌≡◌, List, ℕ, ◌+◌, ◌*◌, ◌≤◌, length, get_or, take, drop};
 ghost use mathlib.Core.List.{[], ◌∷◌, flat_map};
 ghost use Rattle.laws.specs.code.Left.{Free};
 ghost use Rattle.laws.specs.Codec.{IfThere, All};
@@ -41,14 +41,17 @@ fn dependency_letter(number: usize) -> u8
     if number == 0 { b'D' } else { b'd' }
 }
 
-impl Citing<'_> {
-    // The number at a place, 0 where there is none.
-    fn number_at(&self, at: usize) -> usize
-        ensures { result ≡ get_or self.now.numbers.now at 0 }
-    {
-        self.numbers.get(at).copied().unwrap_or(0)
+// The number beside an item, the second of its two or 0, and the numbers behind them.
+fn next_number(numbers: &[usize]) -> (usize, &[usize])
+    ensures { (result.0 ≡ get_or numbers.now 1 0) × (result.1.now ≡ drop 2 numbers.now) }
+{
+    match numbers {
+        [_, number, behind @ ..] => (*number, behind),
+        _ => (0, &[]),
     }
+}
 
+impl Citing<'_> {
     // Cites a text that is given, with the range that is read.
     fn cite_range<'a>(&self, report: &'a [u8], letter: u8, text: &[u8], w: &mut Writer) -> Cited<'a>
         ensures answer { Cites encode_range ValidRange report.now self.now.source.now
@@ -171,11 +174,13 @@ impl Citing<'_> {
     {
         let mut lines = 0;
         let mut next = report;
-        for k in 0..count {
-            let number = self.number_at(2 * k + 1);
+        let mut numbers = self.numbers;
+        for _ in 0..count {
+            let (number, others) = next_number(numbers);
             let (item, behind) = I::cite(self, next, number, w);
             lines += item;
             next = behind;
+            numbers = others;
         }
         (lines, next)
     }

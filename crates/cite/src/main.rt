@@ -8,12 +8,11 @@ ghost use Rattle.sheet_codec.specs.SheetOf.{SheetOf};
 ghost use Rattle.cite.specs.Cited.{report_room, note_room, line_room, cited, EditorColumns, KeptLines};
 
 use citation::cite::{cite_refusal, cite_report};
-use input::read_input;
+use input::answer_input;
 use module_info::module_info_with_replaced;
 use report_reader::fields::{read_number, read_text};
 use sheet::limits::SHEET_LIMIT;
-use std::io;
-use std::io::Write;
+use std::{array, io};
 
 // The source of an accepted sheet, which stands behind the media byte.
 fn find_source(sheet: &[u8]) -> &[u8]
@@ -41,29 +40,14 @@ fn cite(sheet: &[u8], report: &mut [u8], notes: &mut [usize], lines: &mut [u8]) 
     }
 }
 
-// Room for the two numbers of each dependency of every report of 65,536 bytes, behind how many there are: a dependency has at least eight bytes.
-const NOTE_ROOM: usize = 1 + 65536 / 4;
+// Room for a report.
+const REPORT_ROOM: usize = 65536;
 
-fn report_buffer() -> [u8; 65536]
-    ensures { report_room ≡ length result }
-{
-    [0; 65536]
-}
+// Room for the two numbers of each dependency of every report, behind how many there are: a dependency has at least eight bytes.
+const NOTE_ROOM: usize = 1 + REPORT_ROOM / 4;
 
-fn note_buffer() -> [usize; NOTE_ROOM]
-    ensures { length result ≡ note_room }
-{
-    [0; NOTE_ROOM]
-}
-
-// Room for the lines of every report of 65,536 bytes.
-const LINE_ROOM: usize = 4 * 65536;
-
-fn line_buffer() -> [u8; LINE_ROOM]
-    ensures { line_room ≡ length result }
-{
-    [0; LINE_ROOM]
-}
+// Room for the lines of every report.
+const LINE_ROOM: usize = 4 * REPORT_ROOM;
 
 // One byte more than the longest sheet has, so that a longer one is refused.
 const INPUT_ROOM: usize = SHEET_LIMIT + 1;
@@ -71,16 +55,11 @@ const INPUT_ROOM: usize = SHEET_LIMIT + 1;
 // Nothing is cited of what cannot be read.
 fn main(rt: HostRuntime) -> io::Result<()> {
     let mut sheet = [0u8; INPUT_ROOM];
-    let mut stdin = rt.stdin();
-    let Ok(n) = read_input(&mut stdin, &mut sheet) else {
-        return eprintln!(rt; "cite: standard input cannot be read");
-    };
-    let mut report = report_buffer();
-    let mut notes = note_buffer();
-    let mut lines = line_buffer();
-    let length = cite(&sheet[..n], &mut report, &mut notes, &mut lines);
-    match rt.stdout().write_all(&lines[..length]) {
-        Ok(()) => Ok(()),
-        Err(_) => eprintln!(rt; "cite: standard output cannot be written to"),
-    }
+    let mut lines: [u8; LINE_ROOM] = array::repeat(0);
+    answer_input(rt, "cite", &mut sheet, |sheet| {
+        let mut report: [u8; REPORT_ROOM] = array::repeat(0);
+        let mut notes: [usize; NOTE_ROOM] = array::repeat(0);
+        let length = cite(sheet, &mut report, &mut notes, &mut lines);
+        &lines[..length]
+    })
 }

@@ -9,10 +9,9 @@ ghost use Rattle.dearest.specs.Input.{Digits, Asks, ReadOf};
 ghost use Rattle.dearest.specs.Output.{Written};
 ghost use Rattle.dearest.specs.code.Answers.{Settles};
 
-use input::read_input;
+use input::answer_input;
 use scan::LONGEST;
 use std::io;
-use std::io::Write;
 
 // The number from 1 to 32,764 whose decimal digits these are.
 fn read_numeral(digits: &[u8]) -> Option<usize>
@@ -71,14 +70,9 @@ fn dearest(front: &[u8], body: &mut [u8; LONGEST]) -> usize
 // Nothing is written to an input that cannot be read.
 fn main(rt: HostRuntime) -> io::Result<()> {
     let mut front = [0u8; 7];
-    let mut stdin = rt.stdin();
-    let Ok(read) = read_input(&mut stdin, &mut front) else {
-        return eprintln!(rt; "dearest: standard input cannot be read");
-    };
     let mut body = [0u8; LONGEST];
-    let size = dearest(&front[..read], &mut body);
-    match rt.stdout().write_all(&body[..size]) {
-        Ok(()) => Ok(()),
-        Err(_) => eprintln!(rt; "dearest: standard output cannot be written to"),
-    }
+    answer_input(rt, "dearest", &mut front, |front| {
+        let size = dearest(front, &mut body);
+        &body[..size]
+    })
 }

@@ -1,44 +1,43 @@
 -- Just the encodings of deliveries within the limits are decoded.
-use Rattle.laws.proofs.Prelude.{◌≡◌, refl, sym, ap, ◌∙◌, Bool, true, false, cond, ◌&&◌, ◌↔◌, List, [], ◌∷◌, ◌++◌, append_assoc, append-nil, flat_map}
-use Rattle.laws.proofs.Prelude.{Memᴰ, ℕ, zero, suc, ◌≤◌, arith, leb, length, length-append, leb-true, le-leb}
-use Rattle.laws.specs.Decoded.{ok, no, Decoder, ◌>>◌, return}
+use Rattle.laws.proofs.Prelude.{◌≡◌, refl, sym, ap, ◌∙◌, Bool, true, false, cond, ◌&&◌, and-eq-true_iff, ◌↔◌, List, [], ◌∷◌, ◌++◌, append_assoc, append-nil}
+use Rattle.laws.proofs.Prelude.{flat_map, Memᴰ, ℕ, zero, suc, ◌≤◌, arith, leb, length, length-append, leb-true, le-leb}
+use Rattle.laws.specs.Decoded.{Decoded, ok, no, Decoder, ◌>>◌, return, and_then, on_ok}
 use Rattle.laws.specs.Codec.{Codec, All}
-use Rattle.laws.proofs.Decoding.{refused, then_ok, on_ok_ok, require_ok}
+use Rattle.laws.proofs.Decoding.{refused, then_ok, require_ok}
 use Rattle.laws.proofs.Codecs.{built_then, codec_of, built_end}
 use Rattle.laws.proofs.Lists.{all_member, of_members, part_flat_map}
 use Rattle.text.specs.declared.utf8.Encoding.TheVariants.{Utf8}
 use Rattle.wire.{specs.Number.number, specs.Number.encode_number, specs.Text.encode_text, specs.Fields.bytes, proofs.NumberCodec.number_codec}
 use Rattle.wire.proofs.TextCodec.{bytes_codec, text_codec}
-use Rattle.sheet.specs.{Limits.text_limit, Sheet.ending}
+use Rattle.sheet.{specs.Limits.text_limit, specs.Sheet.ending, specs.Comments.chained, proofs.Chains.Chained, proofs.Chains.chained_codec}
 use Rattle.report.specs.{Encode.encode_list, Decode.times, Valid.Short}
 use Rattle.report.specs.Decode as report
 use Rattle.delivery.specs.Delivery.{Module, delivery_limit, module_limit, encode_module, encode_delivery, NameFits, DeliveryOf, named_sheet, last_modules}
 use Rattle.delivery.specs.Delivery.{counted_modules, decode_delivery}
 
--- so many items
-module _ {A : Type 0} {d : Decoder A} {f : A → List ℕ} {P : A → Type 0} (k : Codec d f P) where
-  times_codec : (n : ℕ) → Codec (times d n) (flat_map f) (λ l. (length l ≡ n) × All P l)
-  unfolding times flat_map
-  times_codec n = record { complete = complete n; sound = sound n }
-    where
-      complete : (n : ℕ) (l : List A) → (length l ≡ n) × All P l → (t : List ℕ) → times d n (flat_map f l ++ t) ≡ ok l t
-      complete zero [] v t = refl
-      complete zero (a ∷ l) v t = absurd (omega (arith, v.0))
-      complete (suc n) [] v t = absurd (omega (arith, v.0))
-      complete (suc n) (a ∷ l) v t =
-          rw (append_assoc (f a) (flat_map f l) t, k.complete a v.1.0 (flat_map f l ++ t), complete n l (omega (arith, v.0), v.1.1) t)
+-- so many items are a chain in which each leaves nothing
+pub times_chained : {A : Type 0} (d : Decoder A) (n : ℕ) (s : List ℕ) → times d n s ≡ chained (λ (u : Unit {0}). d) (λ a. tt) tt n s
+unfolding times chained
+times_chained d zero s = refl
+times_chained {A} d (suc n) s = go (times_chained d n) (d s)
+  where
+    go : ((t : List ℕ) → times d n t ≡ chained (λ (u : Unit {0}). d) (λ a. tt) tt n t) → (x : Decoded A)
+        → and_then x (λ a t. on_ok (a ∷◌) (times d n t)) ≡ and_then x (λ a t. on_ok (a ∷◌) (chained (λ (u : Unit {0}). d) (λ a. tt) tt n t))
+    go e (ok a t) = rw (e t)
+    go e (no r) = refl
 
-      sound : (n : ℕ) (s : List ℕ) (l : List A) (t : List ℕ) → times d n s ≡ ok l t → (s ≡ flat_map f l ++ t) × ((length l ≡ n) × All P l)
-      sound zero s l t e =
-          let p : [] ≡ l = cc in
-          let q : s ≡ t = cc in
-          rw (← p, q) (refl, (refl, tt))
-      sound (suc n) s l t e =
-          let (a, u, x, e) = then_ok (d s) _ e in
-          let (m, y, same) = on_ok_ok (a ∷◌) (times d n u) e in
-          let (i, v) = k.sound s a u x in
-          let (j, (long, w)) = sound n u m t y in
-          rw (← same) (i ∙ ap (f a ++◌) j ∙ sym (append_assoc (f a) (flat_map f m) t), (ap suc long, (v, w)))
+module _ {A : Type 0} {d : Decoder A} {f : A → List ℕ} {P : A → Type 0} (k : Codec d f P) where
+  each : (l : List A) → Chained (λ (u : Unit {0}). P) (λ a. tt) tt l ≡ All P l
+  each [] = refl
+  each (a ∷ l) = rw (each l)
+
+  times_codec : (n : ℕ) → Codec (times d n) (flat_map f) (λ l. (length l ≡ n) × All P l)
+  times_codec n =
+      let c = chained_codec {leaves = λ a. tt} (λ (u : Unit {0}). k) tt n in
+      record {
+        complete = λ l v t. times_chained d n _ ∙ c.complete l (rw (each l) v) t;
+        sound = λ s l t e. rw (each l) at (c.sound s l t (sym (times_chained d n s) ∙ e));
+      }
 
 -- the sheet: a length, and as many bytes
 sheet_codec_lem : Codec report.text encode_text Short
@@ -82,12 +81,9 @@ unfolding decode_delivery counted_modules encode_list
 decoded s {ms} {t} e = by_size (leb (length s) delivery_limit) refl e
   where
     by_count : (n : ℕ) → (leb 1 n && leb n module_limit) ≡ true → (1 ≤ n) × (n ≤ module_limit)
-    by_count n h = go (leb 1 n) refl (leb n module_limit) refl h
-      where
-        go : (a : Bool) → leb 1 n ≡ a → (b : Bool) → leb n module_limit ≡ b → (a && b) ≡ true → (1 ≤ n) × (n ≤ module_limit)
-        go true p true q h = (leb-true 1 n p, leb-true n module_limit q)
-        go true p false q h = let z : ◌≡◌ {A = Bool} false true = h in absurd (let z : ◌≡◌ {A = ℕ} 0 1 = cc in omega arith)
-        go false p b q h = let z : ◌≡◌ {A = Bool} false true = h in absurd (let z : ◌≡◌ {A = ℕ} 0 1 = cc in omega arith)
+    by_count n h =
+        let (some, few) = (and-eq-true_iff (leb 1 n) (leb n module_limit)).0 h in
+        (leb-true 1 n some, leb-true n module_limit few)
 
     by_size : (b : Bool) → leb (length s) delivery_limit ≡ b → cond b (counted_modules s) (no 11) ≡ ok ms t → (t ≡ []) × DeliveryOf s ms
     by_size true size e =

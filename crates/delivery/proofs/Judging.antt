@@ -1,15 +1,16 @@
 -- Which entries are late: the tests and what they say.
 use Rattle.std.specs.Prelude.{Some, None}
-use Rattle.laws.proofs.Prelude.{◌≡◌, refl, sym, ap, ◌∙◌, Bool, true, false, false≢true, ◌||◌, or-true, ◌⊎◌, inl, inr, ⊎_elim, List, [], ◌∷◌, Memᴰ}
+use Rattle.laws.proofs.Prelude.{◌≡◌, refl, sym, ap, ◌∙◌, Bool, true, false, false≢true, ◌||◌, or-true, inl, inr, ⊎_elim, List, [], ◌∷◌, Memᴰ}
 use Rattle.laws.proofs.Prelude.{Memᴰ_head, Memᴰ_tail, Memᴰ_not_nil, Memᴰ_cases_cons, ℕ, arith, drop}
 use mathlib.Core.List.Memᴰ
 use Rattle.laws.specs.Ascii.{ascii}
 use Rattle.text.specs.Bytes.{begins, same}
-use Rattle.text.proofs.Words.{begins_sound, begins_complete, same_sound, same_refl}
+use Rattle.text.proofs.Words.{begins_sound, same_sound, same_refl}
 use Rattle.report.specs.declared.names.StaticDependencyKind.{StaticDependencyKind}
 use Rattle.report.specs.declared.names.StaticDependencyKind.TheVariants as statics
 use Rattle.report.specs.ModuleInfo.{StaticDependencyDescriptor, DependencyDescriptor, static, dynamic}
-use Rattle.delivery.specs.Asks.{LeftOut, Relative, Asks, left_out, relative}
+use Rattle.sheet.specs.Shape.{is_relative}
+use Rattle.delivery.specs.Asks.{LeftOut, Relative, Asks, left_out}
 use Rattle.delivery.specs.{Order.among, Order.late_in, Right.EntryInOrder}
 
 -- a text is among names exactly when it is a member
@@ -44,7 +45,7 @@ out_left : {kind : StaticDependencyKind} → LeftOut kind → left_out kind ≡ 
 out_left h = ⊎_elim (λ e. rw e) (λ h. ⊎_elim (λ e. rw e) (λ e. rw e) h) h
 
 -- a text starts with `./`, `../` or `/`
-is_relative_lem : (x : List ℕ) → relative x ≡ true → Relative x
+is_relative_lem : (x : List ℕ) → is_relative x ≡ true → Relative x
 is_relative_lem x e = by (begins (ascii "./") x) refl (begins (ascii "../") x) refl (begins (ascii "/") x) refl e
   where
     by : (a : Bool) → begins (ascii "./") x ≡ a → (b : Bool) → begins (ascii "../") x ≡ b → (c : Bool) → begins (ascii "/") x ≡ c → (a || b || c) ≡ true →
@@ -54,21 +55,11 @@ is_relative_lem x e = by (begins (ascii "./") x) refl (begins (ascii "../") x) r
     by false p false q true r e = (drop 1 x, inr (inr (begins_sound (ascii "/") x r)))
     by false p false q false r e = absurd (false≢true e)
 
-relative_is : (x : List ℕ) → Relative x → relative x ≡ true
-relative_is x (rest, h) =
-    ⊎_elim
-    (λ e. some (inl (rw e (begins_complete (ascii "./") rest))))
-    (λ h. ⊎_elim (λ e. some (inr (inl (rw e (begins_complete (ascii "../") rest))))) (λ e. some (inr (inr (rw e (begins_complete (ascii "/") rest))))) h)
-    h
-  where
-    any : (a b c : Bool) → (a ≡ true) ⊎ ((b ≡ true) ⊎ (c ≡ true)) → (a || b || c) ≡ true
-    any true b c h = refl
-    any false true c h = refl
-    any false false true h = refl
-    any false false false h = ⊎_elim (λ e. e) (λ h. ⊎_elim (λ e. e) (λ e. e) h) h
-
-    some : (begins (ascii "./") x ≡ true) ⊎ ((begins (ascii "../") x ≡ true) ⊎ (begins (ascii "/") x ≡ true)) → relative x ≡ true
-    some = any (begins (ascii "./") x) (begins (ascii "../") x) (begins (ascii "/") x)
+relative_is : (x : List ℕ) → Relative x → is_relative x ≡ true
+unfolding begins
+relative_is x (rest, inl e) = rw e
+relative_is x (rest, inr (inl e)) = rw e
+relative_is x (rest, inr (inr e)) = rw e
 
 -- an entry asks for one text
 module _ {d : StaticDependencyDescriptor} {x : List ℕ} (a : Asks (static d) x) where
@@ -89,12 +80,12 @@ pub data LateOr (earlier : List (List ℕ)) (d : DependencyDescriptor) : Type 0 
 
 pub late_or : (earlier : List (List ℕ)) (d : DependencyDescriptor) → LateOr earlier d
 late_or earlier (dynamic d) = fine refl (λ x a. let e = a.is_static in let z : ◌≡◌ {A = ℕ} 0 1 = cc in absurd (omega arith))
-late_or earlier (static d) = by (left_out d.kind) refl (relative x) refl (among x earlier) refl
+late_or earlier (static d) = by (left_out d.kind) refl (is_relative x) refl (among x earlier) refl
   where
     x : List ℕ
     x = d.specifier.text
 
-    by : (a : Bool) → left_out d.kind ≡ a → (b : Bool) → relative x ≡ b → (c : Bool) → among x earlier ≡ c → LateOr earlier (static d)
+    by : (a : Bool) → left_out d.kind ≡ a → (b : Bool) → is_relative x ≡ b → (c : Bool) → among x earlier ≡ c → LateOr earlier (static d)
     by true p b q c r = fine (rw p) (λ y a. absurd (a.judged (rw (← (same_descriptor a)) (left_out_lem d.kind p))))
     by false p false q c r = fine (rw (p, q)) (λ y a. absurd (false≢true (sym q ∙ (rw (asks_text a) (relative_is y a.relative)))))
     by false p true q true r = fine (rw (p, q, r)) (λ y a. Memᴰ.cast (sym (asks_text a)) (among_member x earlier r))

@@ -1,7 +1,6 @@
 -- Which entries of a module are judged, and what they ask for.
-use Rattle.std.specs.Prelude.{◌≡◌, Bool, true, false, ◌||◌, ◌⊎◌, List, ◌++◌, ℕ}
+use Rattle.std.specs.Prelude.{◌≡◌, Bool, true, false, ◌⊎◌, List, ◌++◌, ℕ}
 use Rattle.laws.specs.Ascii.{ascii}
-use Rattle.text.specs.Bytes.{begins}
 use Rattle.report.specs.declared.names.StaticDependencyKind.{StaticDependencyKind}
 use Rattle.report.specs.declared.names.StaticDependencyKind.TheVariants as statics
 use Rattle.report.specs.ModuleInfo.{StaticDependencyDescriptor, DependencyDescriptor, static}
@@ -33,7 +32,3 @@ left_out statics.Export = false
 left_out statics.ExportType = true
 left_out statics.ExportEquals = false
 left_out statics.MaybeTsModuleAugmentation = true
-
--- does a text start with `./`, `../` or `/`?
-abbrev pub relative : List ℕ → Bool
-relative x = begins (ascii "./") x || begins (ascii "../") x || begins (ascii "/") x

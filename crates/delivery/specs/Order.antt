@@ -4,11 +4,12 @@ use Rattle.std.specs.Prelude.{None, Option, Some}
 use Rattle.laws.specs.Decoded.{Decoded, ok, no}
 use Rattle.text.specs.Bytes.{same}
 use Rattle.sheet.specs.Judge.{Judged, empty, sheet, refusal, judge}
+use Rattle.sheet.specs.Shape.{is_relative}
 use Rattle.report.specs.ModuleInfo.{DependencyDescriptor, static, dynamic}
 use Rattle.module_info.specs.Information.{module_info, default_info, answer_of}
 use Rattle.wire.specs.Refusals as refusals
 use Rattle.delivery.specs.Delivery.{Module, decode_delivery}
-use Rattle.delivery.specs.Asks.{left_out, relative}
+use Rattle.delivery.specs.Asks.{left_out}
 
 -- in order; not in order, with the module, the entry among its dependencies and the entry's specifier; or refused, with a number and the module.
 -- Modules and entries are counted from 0
@@ -44,7 +45,7 @@ repeated earlier (m ∷ ms) = among m.name earlier || repeated (earlier ++ (m.na
 abbrev pub late_in : List (List ℕ) → DependencyDescriptor → Option (List ℕ)
 late_in earlier (static d) =
     let x = d.specifier.text in
-    cond (not (left_out d.kind) && (relative x && not (among x earlier))) (Some x) None
+    cond (not (left_out d.kind) && (is_relative x && not (among x earlier))) (Some x) None
 late_in earlier (dynamic d) = None
 
 -- entry j of module i is late, or what is behind it is answered

@@ -3,7 +3,7 @@ use Rattle.std.specs.Prelude.{◌≡◌, ◌↔◌, List, [], ℕ, ◌+◌, ◌*
 use Rattle.laws.specs.Decoded.{ok}
 use Rattle.report.specs.Answer.{zeros}
 use Rattle.wire.specs.Refusals.{number_of}
-use Rattle.delivery.specs.declared.{NotInOrder.NotInOrder, judge.Refused.Refused}
+use Rattle.delivery.specs.declared.{NotInOrder.NotInOrder, judge.RefusedModule.RefusedModule}
 use Rattle.delivery.specs.Delivery.{Module, DeliveryOf, decode_delivery}
 use Rattle.delivery.specs.Order.{Answer, in_order, not_in_order, refused, order_of}
 use Rattle.delivery.specs.Right.{OrderRight}
@@ -21,7 +21,7 @@ order_as (refused r i) = no r i
 
 -- what the code answers: the first entry that is late, or none; or a refusal
 abbrev pub LoadOrder : Type 0
-LoadOrder = Result (Option NotInOrder) Refused
+LoadOrder = Result (Option NotInOrder) RefusedModule
 
 -- and what it stands for
 abbrev pub load_order_as : LoadOrder → Order

@@ -1,6 +1,7 @@
 // The entries of a module, judged in the report of its sheet.
 ghost use Rattle.std.specs.Prelude.{◌≡◌, not, ◌&&◌};
-ghost use Rattle.delivery.specs.Asks.{left_out, relative};
+ghost use Rattle.sheet.specs.Shape.{is_relative};
+ghost use Rattle.delivery.specs.Asks.{left_out};
 ghost use Rattle.delivery.specs.Order.{among};
 ghost use Rattle.delivery.specs.Right.{names_of};
 ghost use Rattle.delivery.specs.code.Views.{modules_in, JudgesEntry, TellsLate};
@@ -9,7 +10,7 @@ use super::modules::{ModuleRead, is_name};
 use report::names::StaticDependencyKind;
 use report_reader::dependencies::read_dependency;
 use report_reader::fields::read_number;
-use text::bytes::starts_with;
+use sheet_heads::texts::is_relative;
 
 // An entry that is late, and its specifier.
 #[derive(Clone, Copy)]
@@ -30,19 +31,10 @@ fn is_left_out(kind: StaticDependencyKind) -> bool
     )
 }
 
-// Does a specifier start with `./`, `../` or `/`?
-fn is_relative(specifier: &[u8]) -> bool
-    ensures { result ≡ relative specifier.now }
-{
-    starts_with(specifier, 0, b"./")
-        || starts_with(specifier, 0, b"../")
-        || starts_with(specifier, 0, b"/")
-}
-
 // Is a static entry judged, and its specifier no name of the earlier modules?
 fn is_late(kind: StaticDependencyKind, specifier: &[u8], earlier: &[ModuleRead]) -> bool
     ensures { result ≡ not (left_out kind)
-        && (relative specifier.now && not (among specifier.now (names_of (modules_in earlier.now)))) }
+        && (is_relative specifier.now && not (among specifier.now (names_of (modules_in earlier.now)))) }
 {
     !is_left_out(kind) && is_relative(specifier) && !is_name(earlier, specifier)
 }

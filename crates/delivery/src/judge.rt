@@ -15,7 +15,7 @@ use wire::refusals::Refusal;
 
 // A refusal, and the module that it is about: the first one, where it is about the delivery.
 #[derive(Clone, Copy, Debug, PartialEq, Eq)]
-pub struct Refused {
+pub struct RefusedModule {
     pub refusal: Refusal,
     pub module: usize,
 }
@@ -28,18 +28,18 @@ pub struct LateModule<'a> {
 }
 
 // The answer: the first entry that is late, or none where all is in order; or a refusal.
-pub type Judgement<'a> = Result<Option<LateModule<'a>>, Refused>;
+pub type Judgement<'a> = Result<Option<LateModule<'a>>, RefusedModule>;
 
 // A refusal of the delivery.
-fn of_delivery(refusal: Refusal) -> Refused
+fn of_delivery(refusal: Refusal) -> RefusedModule
     ensures { result ≡ record { refusal = refusal; «module» = 0 } }
 {
-    Refused { refusal, module: 0 }
+    RefusedModule { refusal, module: 0 }
 }
 
 // The first refused sheet of the modules, if not each gets its report.
 #[tactic(auto, using(crate::proofs::Rows::rows_end), unfolding(crate::specs::Order::sheets_in_turn))]
-fn judge_sheets(modules: &[ModuleRead], work: &mut [u8]) -> Result<(), Refused>
+fn judge_sheets(modules: &[ModuleRead], work: &mut [u8]) -> Result<(), RefusedModule>
     ensures { Leaving
         ((behind : Answer)
         → sheets_as result behind ≡ sheets_in_turn (length work.old) 0 (modules_in modules.now) behind)
@@ -47,7 +47,7 @@ fn judge_sheets(modules: &[ModuleRead], work: &mut [u8]) -> Result<(), Refused>
 {
     for (i, module) in modules.iter().enumerate() {
         if let Err(refusal) = module_info(module.sheet, work) {
-            return Err(Refused { refusal, module: i });
+            return Err(RefusedModule { refusal, module: i });
         }
     }
     Ok(())
@@ -85,7 +85,7 @@ fn judge_order<'a>(modules: &[ModuleRead], work: &'a mut [u8]) -> Option<LateMod
 }
 
 // The answer to a delivery. The work buffer has what was written last.
-#[tactic(auto, using(crate::proofs::Orders::none_read))]
+#[tactic(auto, using(crate::proofs::Orders::none_read, crate::proofs::Orders::names_twice))]
 pub fn judge<'a>(delivery: &[u8], work: &'a mut [u8]) -> Judgement<'a>
     ensures { judgement_as result ≡ order_of (length work.old) delivery.now }
 {

@@ -10,7 +10,7 @@ ghost use Rattle.std.specs.Prelude.{◌≡◌, length};
 ghost use Rattle.delivery.specs.Promise.{LoadOrder, order_as, load_order_as, OrderPromised, packed};
 ghost use Rattle.delivery.specs.code.Views.{judgement_as};
 
-use crate::judge::{Judgement, Refused, judge};
+use crate::judge::{Judgement, RefusedModule, judge};
 
 // The first entry that is late, and its module, both counted from 0.
 #[derive(Clone, Copy, Debug, PartialEq, Eq)]
@@ -20,7 +20,7 @@ pub struct NotInOrder {
 }
 
 // The answer to a delivery: the first entry that is late, or none where all is in order; or a refusal.
-pub type LoadOrder = Result<Option<NotInOrder>, Refused>;
+pub type LoadOrder = Result<Option<NotInOrder>, RefusedModule>;
 
 // A judgement without the specifier.
 fn order_of(judgement: Judgement) -> LoadOrder

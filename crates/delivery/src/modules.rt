@@ -1,6 +1,6 @@
 // The modules of a delivery, read one after the other into rows.
 ghost use Rattle.std.specs.Prelude.{◌≡◌, [], length};
-ghost use Rattle.wire.specs.code.Views.{text_as, reading_as};
+ghost use Rattle.wire.specs.code.Views.{text_as, read_with};
 ghost use Rattle.report.specs.Decode.{text, times};
 ghost use Rattle.report_reader.specs.code.FromFront.{ReadsBack};
 ghost use Rattle.delivery.specs.Delivery.{named_sheet, encode_module};
@@ -13,7 +13,7 @@ use sheet::limits::TEXT_LIMIT;
 use text::bytes::equal;
 use text::utf8::Encoding;
 use wire::refusals::Refusal;
-use wire::{Cursor, Reading};
+use wire::{Cursor, ReadResult};
 
 // A module's name and its sheet.
 #[derive(Clone, Copy)]
@@ -34,7 +34,7 @@ pub fn read_module(s: &[u8]) -> (ModuleRead<'_>, &[u8])
 
 // A length, and as many bytes.
 #[tactic(auto, unfolding(report::specs::Decode::text, wire::specs::Fields::bytes))]
-fn read_sheet(s: &[u8]) -> Reading<'_, &[u8]>
+fn read_sheet(s: &[u8]) -> ReadResult<'_, &[u8]>
     ensures { text_as result ≡ text s.now }
 {
     let (n, next) = s.number()?;
@@ -43,8 +43,8 @@ fn read_sheet(s: &[u8]) -> Reading<'_, &[u8]>
 
 // A name text, and a sheet.
 #[tactic(auto, unfolding(crate::specs::Delivery::named_sheet))]
-pub fn check_module(s: &[u8]) -> Reading<'_, ModuleRead<'_>>
-    ensures { reading_as module_as result ≡ named_sheet s.now }
+pub fn check_module(s: &[u8]) -> ReadResult<'_, ModuleRead<'_>>
+    ensures { read_with module_as result ≡ named_sheet s.now }
 {
     let (name, next) = s.text(Encoding::Utf8, TEXT_LIMIT)?;
     let (sheet, next) = read_sheet(next)?;
@@ -52,7 +52,7 @@ pub fn check_module(s: &[u8]) -> Reading<'_, ModuleRead<'_>>
 }
 
 // Reads a module for each row.
-#[tactic(auto, using(crate::proofs::Rows::row_refused, crate::proofs::Rows::row_read, crate::proofs::Rows::rows_read, crate::proofs::Rows::rows_start))]
+#[tactic(auto, using(sheet::proofs::Filling::filled, crate::proofs::Deliveries::times_chained))]
 pub fn read_modules<'a>(s: &'a [u8], rows: &mut [ModuleRead<'a>]) -> Result<&'a [u8], Refusal>
     ensures { rows_as rows.new result ≡ times named_sheet (length rows.old) s.now }
 {
@@ -73,7 +73,7 @@ pub fn is_name(modules: &[ModuleRead], text: &[u8]) -> bool
 }
 
 // Does a name of the modules occur twice?
-#[tactic(auto, using(crate::proofs::Rows::rows_end), unfolding(crate::specs::Order::repeated))]
+#[tactic(auto, using(crate::proofs::Rows::rows_end, crate::proofs::Rows::repeated_here), unfolding(crate::specs::Order::repeated))]
 pub fn has_name_twice(modules: &[ModuleRead]) -> bool
     ensures { result ≡ repeated [] (modules_in modules.now) }
 {

@@ -6,8 +6,8 @@ use Rattle.text.specs.{Bytes.begins, Bytes.same, Utf8.admits, Lossy.replacing}
 use Rattle.sheet.specs.declared.fields.Span.{Span}
 use Rattle.sheet.specs.declared.names.ImportPhase.TheVariants.{Evaluation, Source, Defer}
 use Rattle.sheet.specs.Tree.{Quoted, Node, other, string, name, object, import_call, call, import_decl, named_export, export_from, export_all, import_type}
-use Rattle.sheet.specs.Tree.{import_equals, import_require, module_decl, Nodes, none, more, Arguments, no_arguments, argument, no_properties, child_key, name_key}
-use Rattle.sheet.specs.Tree.{without, with_object}
+use Rattle.sheet.specs.Tree.{import_equals, import_require, module_decl, Nodes, none, more, Arguments, no_arguments, argument, no_properties, child_key}
+use Rattle.sheet.specs.Tree.{name_key, without, with_object}
 use Rattle.report.specs.declared.names.StaticDependencyKind.TheVariants as statics
 use Rattle.report.specs.declared.names.DynamicDependencyKind.TheVariants as dynamics
 use Rattle.report.specs.declared.names.DependencyKind.{DependencyKind, TheVariants.Static, TheVariants.Dynamic}

@@ -61,3 +61,12 @@ module _ (c : Commented) (inner : Decoder Node) (w : Collected) (count done : �
       → on_ok (after_properties c w) (properties inner (count - done) u) ≡ on_ok (after_properties c w') (properties inner (count - (done + 1)) v)
   unfolding noting properties many
   properties_step h e = grind (arith, property_by_head, entries_append, entries_last)
+
+-- a node, and no entry
+pub ruleset nodes_turn = (nodes_step, entries_nil)
+
+-- an argument, and no entry
+pub ruleset arguments_turn = (arguments_step, entries_nil)
+
+-- a property, and no entry
+pub ruleset properties_turn = (properties_step, entries_nil)

@@ -60,5 +60,6 @@ module _ (s r : List ℕ) (types types' : ℕ → Option SpecifierWithRange) whe
       (record {
         nothing = refl;
         both = λ {a} {b} {x} {y} e f. rw (flat_map_append _ a b, flat_map_append _ x y, e, f);
-        own = λ v. rows_beside (start_of v) (replaced_in (text_of v)) (entry_of s types v) (entry_of r types' v) (entry_one s types v ∙ sym (entry_one r types' v));
+        own = λ v. rows_beside (start_of v) (replaced_in (text_of v)) (entry_of s types v) (entry_of r types' v)
+            (entry_one s types v ∙ sym (entry_one r types' v));
       })

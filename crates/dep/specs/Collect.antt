@@ -11,7 +11,8 @@ use Rattle.report.specs.ModuleInfo.{SpecifierWithRange, DependencyDescriptor}
 use Rattle.report.specs.ModuleInfo as info
 use Rattle.attributes.specs.Attributes.{static_attributes, type_attributes}
 use Rattle.arguments.specs.Argument.{replaced_in}
-use Rattle.dep_entries.specs.Entries.{import_kind, export_kind, equals_kind, dynamic_kind, first_text, text_in, Noted, beside, static_entry, call_entry, module_entry}
+use Rattle.dep_entries.specs.Entries.{import_kind, export_kind, equals_kind, dynamic_kind, first_text, text_in, Noted, beside, static_entry, call_entry}
+use Rattle.dep_entries.specs.Entries.{module_entry}
 
 -- the text of a visit's entry as the sheet has it, in WTF-8: that of its String, or the single one of its argument
 abbrev pub text_of : Visit → Option (List ℕ)

@@ -1,5 +1,6 @@
 -- A row stored behind those that are noted, or left out.
-use Rattle.laws.proofs.Prelude.{◌≡◌, refl, Bool, true, false, cond, List, [], ◌∷◌, ℕ, suc, ◌+◌, ◌-◌, ◌≤◌, ◌<◌, arith, add-one, length, get_or, set, length-set, ltb, lt-ltb, le-ltb}
+use Rattle.laws.proofs.Prelude.{◌≡◌, refl, Bool, true, false, cond, List, [], ◌∷◌, ℕ, suc, ◌+◌, ◌-◌, ◌≤◌, ◌<◌, arith, add-one, length, get_or, set, length-set}
+use Rattle.laws.proofs.Prelude.{ltb, lt-ltb, le-ltb}
 use Rattle.dep_entries.specs.code.Notes.{noted}
 
 pub note_stored : (notes : List ℕ) (start number : ℕ) → get_or notes 0 0 + 1 < length notes - 1

@@ -36,7 +36,8 @@ adds_none i = sym (entries_nil i)
 
 module _ (before after : Items) where
   -- an entry is written, and its row noted
-  pub adds_one : (e : Noted) → after.writer.ghost_name ≡ before.writer.ghost_name → Wrote before.writer.now after.writer.now (encode_dependency e.entry) → after.notes.ghost_name ≡ before.notes.ghost_name →
+  pub adds_one : (e : Noted) → after.writer.ghost_name ≡ before.writer.ghost_name → Wrote before.writer.now after.writer.now (encode_dependency e.entry)
+      → after.notes.ghost_name ≡ before.notes.ghost_name →
       after.notes.now ≡ noted before.notes.now e.start e.number → Adds before after (e ∷ [])
   unfolding items_as with_entries flat_map
   adds_one e lent written loan notes =

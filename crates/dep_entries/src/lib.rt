@@ -134,7 +134,7 @@ fn note(notes: &mut [usize], start: usize, number: usize)
 
 impl<'a, 'b> Items<'a, 'b> {
     // The entry of a static dependency, with its attributes.
-    #[tactic(auto, using(crate::proofs::Wrote::adds_one, report::proofs::Buffers::more_append, report::proofs::Buffers::more_cons), unfolding(crate::specs::Entries::static_entry, report::specs::Encode::encode_dependency, report::specs::Encode::encode_static))]
+    #[tactic(auto, using(crate::proofs::Wrote::adds_one, report::proofs::Buffers::parts), unfolding(crate::specs::Entries::static_entry, report::specs::Encode::encode_dependency, report::specs::Encode::encode_static))]
     fn put_static_entry(
         &mut self,
         comments: &Comments,

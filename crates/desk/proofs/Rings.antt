@@ -24,7 +24,8 @@ module _ (block : List ℕ) (d : ℕ) where
   ring_last place zero = ap (λ k. get_or block (10 * d + k % 8) 0 ∷ []) (omega arith)
   ring_last place (suc n) =
       let e : place + 1 + n ≡ place + suc n = omega arith in
-      ap (λ l. get_or block (10 * d + place % 8) 0 ∷ l) (ring_last (place + 1) n ∙ ap (λ k. ring block d (place + 1) n ++ get_or block (10 * d + k % 8) 0 ∷ []) e)
+      ap (λ l. get_or block (10 * d + place % 8) 0 ∷ l)
+      (ring_last (place + 1) n ∙ ap (λ k. ring block d (place + 1) n ++ get_or block (10 * d + k % 8) 0 ∷ []) e)
 
 length_queues : (block : List ℕ) (d n : ℕ) → length (queues_in block d n) ≡ n
 unfolding queues_in

@@ -1,11 +1,13 @@
 -- The grammar and the reader agree: what the reader finds in a body is its reading, of which there is at most one.
-use Rattle.laws.proofs.Prelude.{◌≡◌, refl, sym, ap, ◌∙◌, Bool, true, false, cond, not, or-true, inl, inr, ⊎_elim, List, ◌++◌, ℕ, ◌+◌, ◌≤◌, ◌<◌, arith, eqb}
-use Rattle.laws.proofs.Prelude.{length, drop, none-ne-some, length-append, length-drop, drop-drop, eqb-true, eq-eqb}
+use Rattle.laws.proofs.Prelude.{◌≡◌, refl, sym, ap, ◌∙◌, Bool, true, false, cond, not, or-true, inl, inr, ⊎_elim, List, ◌++◌, ℕ, ◌+◌, ◌-◌, ◌≤◌, ◌<◌, arith, eqb}
+use Rattle.laws.proofs.Prelude.{length, take, drop, none-ne-some, length-append, length-drop, drop-drop, eqb-true, eq-eqb}
 use Rattle.std.specs.Prelude.{Option, Some, None}
 use Rattle.laws.specs.{Ascii.ascii, code.Told.Bounded, code.Told.Meant}
 use Rattle.text.specs.{declared.utf8.Encoding.TheVariants.Utf8, Ranges.in_ranges, Bytes.begins, Characters.Stands}
 use Rattle.text.specs.Utf8.{admits, length_by, char_length, code_by, char_at}
-use Rattle.text.proofs.Words.{begins_sound, begins_complete}
+use Rattle.text.proofs.Words.{begins_is, begins_sound, begins_complete}
+use Rattle.std.specs.{Prelude.nat_eq, List.starts_with}
+use Rattle.std.proofs.lemmas.List.{take_rest}
 use Rattle.analysis.specs.declared.Capture.{Capture}
 use Rattle.analysis.specs.Place.{FoundWithin}
 use Rattle.ecma426.specs.WhiteSpace.{is_space, not_space}
@@ -35,6 +37,10 @@ never : {k : Capture} → None ≡ Some k → ⊥
 never e = none-ne-some _ e
 
 module _ (body : List ℕ) where
+  -- the library's test of the word at a place
+  pub word_there : (at : ℕ) {b : Bool} → b ≡ starts_with nat_eq (take (length body - at) (drop at body)) word → begins word (drop at body) ≡ b
+  word_there at e = begins_is word (drop at body) ∙ sym (rw take_rest at e)
+
   -- a word stands just where the text from there on begins with it
   pub stands : (w : List ℕ) {at : ℕ} → 0 < length w → begins w (drop at body) ≡ true → Stands (Word w) body at (at + length w)
   stands w {at} some e =

@@ -10,7 +10,6 @@ ghost use Rattle.ecma426.specs.Reader.{one_at, row_end, marked, find_source_map}
 ghost use Rattle.ecma426.specs.code.Kinds.{OfKind};
 
 use analysis::Capture;
-use text::bytes::starts_with;
 use text::utf8::{Encoding, char_at};
 use text::white_space::is_white_space;
 
@@ -58,10 +57,11 @@ fn row_end<F: Fn(u32) -> bool>(s: &[u8], at: usize, kind: &F) -> usize
 }
 
 // Does the body begin with `#` or `@`?
+#[tactic(auto, using(text::proofs::Words::begins_is))]
 fn is_marked(body: &[u8]) -> bool
     ensures { result ≡ marked body.now }
 {
-    starts_with(body, 0, b"#") || starts_with(body, 0, b"@")
+    body.starts_with(b"#") || body.starts_with(b"@")
 }
 
 // ^[#@]\s*sourceMappingURL=(\S*)\s*$ in ECMAScript's regular expressions. The word is compared byte by byte, its case too.
@@ -73,7 +73,7 @@ pub fn find_source_map(body: &[u8]) -> Option<Capture>
         return None;
     }
     let at = row_end(body, 1, &is_space);
-    if !starts_with(body, at, b"sourceMappingURL=") {
+    if !body[at..].starts_with(b"sourceMappingURL=") {
         return None;
     }
     let from = at + WORD_LENGTH;

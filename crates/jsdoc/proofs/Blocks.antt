@@ -225,3 +225,6 @@ block_complete r =
       fold_mode r.list,
       r.mode_is,
     )
+
+-- no attribute, the last one, one with more behind it, and that less is left
+pub ruleset attributes_read = (attributes_none, attributes_last, attributes_next, attributes_shorter)

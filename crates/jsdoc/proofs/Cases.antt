@@ -11,8 +11,9 @@ use Rattle.analysis.specs.declared.mode.TypeScriptTypesResolutionMode.TheVariant
 use Rattle.jsdoc.specs.{Grammar.Bytes, Grammar.Listed, code.Ticks.Ticks, Listing.listing}
 use Rattle.jsdoc.specs.Reader.{skip, skip_whitespace, whitespace, tag, word, up_to, is_mark, parse_quote, past_ident, parse_ident, parse_key, attribute_mode}
 use Rattle.jsdoc.specs.Reader.{parse_attribute, comma, separated_list_by, separated_list, parse_import_attribute_block_for_resolution_mode}
-use Rattle.jsdoc.specs.Reader.{second_param_start, parse_second_param_obj_with_leading_comma, close_call, parse_tail, seek, parse_call, parse_jsdoc_dynamic_import}
-use Rattle.jsdoc.specs.Reader.{skip_named_imports, skip_default_import, skip_namespace_import, skip_clause, parse_attributes, parse_from, parse_jsdoc_import_decl}
+use Rattle.jsdoc.specs.Reader.{second_param_start, parse_second_param_obj_with_leading_comma, close_call, parse_tail, seek, parse_call}
+use Rattle.jsdoc.specs.Reader.{parse_jsdoc_dynamic_import, skip_named_imports, skip_default_import, skip_namespace_import, skip_clause, parse_attributes}
+use Rattle.jsdoc.specs.Reader.{parse_from, parse_jsdoc_import_decl}
 use Rattle.jsdoc.proofs.Listing.{listing_ticks}
 
 -- an import by the place of its quote and its mode
@@ -66,8 +67,9 @@ table =
 computed : map (λ c. listing (body c)) table ≡ map ticks table
 unfolding table listing flat_map alphabetic in_ranges admits length_by char_length code_by char_at encode outside ranges member class_at run begins same mode_of
     skip skip_whitespace whitespace tag word up_to is_mark parse_quote past_ident parse_ident parse_key attribute_mode parse_attribute comma
-    separated_list_by separated_list parse_import_attribute_block_for_resolution_mode second_param_start parse_second_param_obj_with_leading_comma close_call parse_tail seek
-    parse_call parse_jsdoc_dynamic_import skip_named_imports skip_default_import skip_namespace_import skip_clause parse_attributes parse_from parse_jsdoc_import_decl
+    separated_list_by separated_list parse_import_attribute_block_for_resolution_mode second_param_start parse_second_param_obj_with_leading_comma close_call
+    parse_tail seek parse_call parse_jsdoc_dynamic_import skip_named_imports skip_default_import skip_namespace_import skip_clause parse_attributes parse_from
+    parse_jsdoc_import_decl
 computed = refl
 
 -- just these imports are listed for the body

@@ -7,7 +7,7 @@ use Rattle.jsdoc.specs.Grammar.{Bytes, Brace, Declaration, Reading, From, Listed
 use Rattle.jsdoc.specs.{Parsed.Parser, Parsed.value, Reader.Hit, Reader.hit, code.Ticks.Ticks}
 use Rattle.jsdoc.specs.Listing.{tick_at, listing_by, listing}
 use Rattle.jsdoc.proofs.{ReadingPlace.with_kind, Ticked.ticks_iff}
-use Rattle.jsdoc.specs.code.Marks.{Mark, hit_marked, all_marked, readings_marked}
+use Rattle.jsdoc.specs.code.Marks.{Marking, hit_marked, all_marked, readings_marked}
 use Rattle.jsdoc.proofs.Ticking.{Kind, Before, later, braces, declarations, ticks_none, ticks_turn, from_below}
 use Rattle.jsdoc.proofs.Marking.{hit_fits, kept_by_all}
 
@@ -42,7 +42,7 @@ module _ (b : Bytes) where
 
 -- ---- the ticks of the code, which marks the readings of one kind and then those of the other
 
-abbrev pub tick : Mark ℕ
+abbrev pub tick : Marking ℕ
 tick x i m = mode_number m + 1
 
 module _ {R : Bytes → Bytes → Bytes → Mode → Type 0} {p : Parser Hit} (K : Kind R p) (b : Bytes) where

@@ -1,9 +1,10 @@
 -- The marks of the readings from each place of what is left of a body, step by step.
 use Rattle.std.specs.Prelude.{Option, Some, None}
-use Rattle.laws.proofs.Prelude.{◌≡◌, refl, sym, ap, ◌∙◌, Bool, true, false, cond, ⊎_elim, List, [], ◌∷◌, ℕ, zero, suc, ◌+◌, ◌-◌, ◌≤◌, ◌<◌, code, arith, ℕ_discrete}
-use Rattle.laws.proofs.Prelude.{eqb, ne_eqb, length, drop, get_or, get_or-set_same, none-ne-some, drop_of_length-le, take, length-drop, drop-drop, get_or-drop}
+use Rattle.laws.proofs.Prelude.{◌≡◌, refl, sym, ap, ◌∙◌, Bool, true, false, cond, ⊎_elim, List, [], ◌∷◌, ℕ, zero, suc, ◌+◌, ◌-◌, ◌≤◌, ◌<◌, code, arith}
+use Rattle.laws.proofs.Prelude.{ℕ_discrete, eqb, ne_eqb, length, drop, get_or, get_or-set_same, none-ne-some, drop_of_length-le, take, length-drop, drop-drop}
+use Rattle.laws.proofs.Prelude.{get_or-drop}
 use borrow.Author.Tests.{eqb-false}
-use Rattle.std.proofs.lemmas.{List.set-set, Slice.between_to_end}
+use Rattle.std.proofs.lemmas.List.{drop_more, set-set, take_rest}
 use Rattle.text.specs.Bytes.{begins}
 use Rattle.analysis.specs.Mode.{Mode}
 use Rattle.jsdoc.specs.Grammar.{Bytes}
@@ -11,8 +12,9 @@ use Rattle.jsdoc.specs.Parsed.{Parser, value}
 use Rattle.jsdoc.specs.Reader.{Hit, hit, tag, seek, sought, parse_jsdoc_dynamic_import, parse_jsdoc_import_decl}
 use Rattle.jsdoc.specs.{declared.answers.JsDocImport.JsDocImport, declared.answers.Searched.Searched}
 use Rattle.jsdoc.specs.code.Answers.{Room, Scans, hit_as, from_first}
-use Rattle.jsdoc.specs.code.Marks.{Mark, Stays, mark_at, hit_marked, all_marked}
-use Rattle.jsdoc.proofs.{Searches.search_ended, Searches.seek_stays, Searches.seek_shorter, Searches.brace_sought, Searches.same_reading, Steps.first_left, Steps.cons_at, Ends.ends_shorter, Suffixes.reading_ends, ReadingPlace.place_quote, Texts.quote_shorter}
+use Rattle.jsdoc.specs.code.Marks.{Marking, Stays, mark_at, hit_marked, all_marked}
+use Rattle.jsdoc.proofs.{Searches.search_ended, Searches.seek_stays, Searches.seek_shorter, Searches.brace_sought, Searches.same_reading, Steps.first_left}
+use Rattle.jsdoc.proofs.{Ends.ends_shorter, Suffixes.reading_ends, ReadingPlace.place_quote, Texts.quote_shorter}
 use Rattle.jsdoc.proofs.Ticking.{Kind, braces, declarations}
 
 -- the quote of a reading is there, and lies in what was read
@@ -22,7 +24,8 @@ hit_fits K s {q} {e} {m} is =
     let r = K.reading ((K.agrees s q e m).1 is) in
     (omega (arith, quote_shorter (place_quote r).1), ends_shorter (reading_ends r).0)
 
-pub room : {R : Bytes → Bytes → Bytes → Mode → Type 0} {p : Parser Hit} → Kind R p → (s : Bytes) (r : Option JsDocImport) → hit_as r ≡ value (p s) → Room (length s) r
+pub room : {R : Bytes → Bytes → Bytes → Mode → Type 0} {p : Parser Hit} → Kind R p → (s : Bytes) (r : Option JsDocImport) → hit_as r ≡ value (p s)
+    → Room (length s) r
 room K s None is = tt
 room K s (Some i) is = hit_fits K s (sym is)
 
@@ -53,9 +56,9 @@ search_shorter s {b} h t =
         omega (arith, ap length to, seek_shorter t)
 
 pub one_less : (b : Bytes) → length (take (length b - 1) (drop 1 b)) ≤ length b
-one_less b = rw (between_to_end b 1 (length b) (omega arith)) (omega (arith, length-drop 1 b))
+one_less b = rw take_rest (omega (arith, length-drop 1 b))
 
-module _ {A : Type 0} (f : Mark A) (d : A) where
+module _ {A : Type 0} (f : Marking A) (d : A) where
   module _ (p : Parser Hit) (n : ℕ) (m : ℕ) (other : (x : ℕ) (s : Bytes) → (x ≡ m → ⊥) → value (p (x ∷ s)) ≡ None) where
     -- up to the first byte that a reading begins with nothing is marked
     pub first_marked : (s : Bytes) {t : Bytes} (l : List A) → from_first m s ≡ Some t → all_marked f d p n s l ≡ all_marked f d p n t l
@@ -63,7 +66,8 @@ module _ {A : Type 0} (f : Mark A) (d : A) where
     first_marked [] l e = absurd (none-ne-some _ e)
     first_marked (x ∷ s) {t} l e = go (eqb x m) refl e (first_marked s l)
       where
-        go : (c : Bool) → eqb x m ≡ c → cond c (Some (x ∷ s)) (from_first m s) ≡ Some t → (from_first m s ≡ Some t → all_marked f d p n s l ≡ all_marked f d p n t l)
+        go : (c : Bool) → eqb x m ≡ c → cond c (Some (x ∷ s)) (from_first m s) ≡ Some t
+            → (from_first m s ≡ Some t → all_marked f d p n s l ≡ all_marked f d p n t l)
             → all_marked f d p n (x ∷ s) l ≡ all_marked f d p n t l
         go true z e g = let i : x ∷ s ≡ t = cc in ap (λ u. all_marked f d p n u l) i
         go false z e g = rw (other x s (eqb-false x m z)) (g e)
@@ -99,7 +103,7 @@ module _ {A : Type 0} (f : Mark A) (d : A) where
           rw none (rw end at t)
       go (suc k) i h l t =
           let within : i < length b = omega arith in
-          rw (cons_at b i within) (go k (i + 1) (omega arith) _ (rw (← cons_at b i within) (step i l within t)))
+          rw (drop_more b i 0 within) (go k (i + 1) (omega arith) _ (rw (← drop_more b i 0 within) (step i l within t)))
 
   -- ---- a brace
 
@@ -168,7 +172,8 @@ module _ {A : Type 0} (f : Mark A) (d : A) where
 
   module _ (n : ℕ) (s b : Bytes) (l u : List A) where
     pub brace_turn : (r : Searched) → Stays f → Some b ≡ from_first (code "{") s → length b ≤ n → length l ≡ n → Scans b r
-        → u ≡ hit_marked f d (length l) b (hit_as r.found) l → all_marked f d parse_jsdoc_dynamic_import n s l ≡ all_marked f d parse_jsdoc_dynamic_import n r.end.now u
+        → u ≡ hit_marked f d (length l) b (hit_as r.found) l
+        → all_marked f d parse_jsdoc_dynamic_import n s l ≡ all_marked f d parse_jsdoc_dynamic_import n r.end.now u
     brace_turn r stays h w z t e =
         let (some, (left, begins)) = first_left (code "{") s b (sym h) in
         first_marked parse_jsdoc_dynamic_import n (code "{") begins_brace s l (sym h)
@@ -181,4 +186,7 @@ module _ {A : Type 0} (f : Mark A) (d : A) where
     declaration_turn o h z t e =
         first_marked parse_jsdoc_import_decl n (code "@") begins_at s l (sym h)
         ∙ next_marked parse_jsdoc_import_decl n b l (first_left (code "@") s b (sym h)).0
-        ∙ rw (← t, e, z, between_to_end b 1 (length b) (omega arith))
+        ∙ rw (← t, e, z, take_rest)
+
+-- the loop over braces: its room, that it ends, its last turn and another
+pub ruleset braces_marked = (room_at_brace, search_shorter, braces_end, brace_turn)

@@ -1,13 +1,14 @@
 -- The origins that the parsers give at each place of a body are the first places that read.
 use Rattle.std.specs.Prelude.{Option, Some, None}
 use Rattle.std.proofs.lemmas.List.{set-get_or}
-use Rattle.laws.proofs.Prelude.{◌≡◌, refl, sym, ne_eqb, Bool, true, false, cond, eqb, set, get_or, replicate, ◌+◌, ◌-◌, ◌⊎◌, ⊎_elim, inl, inr, List, ℕ, zero, suc, ◌≤◌, ◌<◌, arith, ℕ_discrete, length, drop, length-drop}
+use Rattle.laws.proofs.Prelude.{◌≡◌, refl, sym, ne_eqb, Bool, true, false, cond, eqb, set, get_or, replicate, ◌+◌, ◌-◌, ◌⊎◌, ⊎_elim, inl, inr, List, ℕ, zero}
+use Rattle.laws.proofs.Prelude.{suc, ◌≤◌, ◌<◌, arith, ℕ_discrete, length, drop, length-drop}
 use Rattle.analysis.specs.Mode.{Mode}
 use Rattle.jsdoc.specs.Grammar.{Bytes, Brace, Declaration, Reading, From}
 use Rattle.jsdoc.specs.{Parsed.Parser, Parsed.value, Reader.Hit, Reader.hit, code.Origins.Origins, code.Origins.ReadsBy}
 use Rattle.jsdoc.specs.Origins.{note_of, openers_by, openers}
 use Rattle.jsdoc.proofs.{ReadingPlace.with_kind, Apart.never_both, Noted.origins_more, Noted.origins_unique}
-use Rattle.jsdoc.specs.code.Marks.{Mark, Stays, hit_marked, all_marked, readings_marked}
+use Rattle.jsdoc.specs.code.Marks.{Marking, Stays, hit_marked, all_marked, readings_marked}
 use Rattle.jsdoc.proofs.Ticking.{Kind, braces, declarations, from_below}
 use Rattle.jsdoc.proofs.Noting.{Early, early_none, origins_turn}
 use Rattle.jsdoc.proofs.Marking.{hit_fits, kept_by_all}
@@ -47,7 +48,7 @@ module _ (b : Bytes) where
 
 -- ---- the notes of the code, which marks the readings of one kind and then those of the other
 
-abbrev pub note : Mark ℕ
+abbrev pub note : Marking ℕ
 note x i m = cond (eqb x 0) (i + 1) x
 
 pub note_stays : Stays note

@@ -1,11 +1,12 @@
 -- The search for `import` from a brace, step by step; and that all braces that it passes have one reading.
 use Rattle.laws.proofs.Prelude.{◌≡◌, refl, sym, ap, ◌∙◌, Bool, true, false, cond, ◌⊎◌, ⊎_elim, inl, inr, [], ◌∷◌, ℕ, zero, suc, ◌+◌, ◌-◌, ◌≤◌, ◌<◌, code, arith}
-use Rattle.laws.proofs.Prelude.{length, take, take_all, drop, get_or, eqb, ne_eqb, ℕ_discrete}
+use Rattle.laws.proofs.Prelude.{length, take, drop, get_or, eqb, ne_eqb, ℕ_discrete}
 use Rattle.laws.specs.Ascii.{ascii}
 use Rattle.text.specs.Bytes.{begins}
 use Rattle.jsdoc.specs.{Grammar.Bytes, code.Answers.Scans, declared.answers.Searched.Searched}
 use Rattle.jsdoc.specs.Reader.{tag, seek, sought, parse_call, parse_jsdoc_dynamic_import}
-use Rattle.jsdoc.proofs.{Texts.tag_complete, Steps.cons_at}
+use Rattle.std.proofs.lemmas.List.{drop_more, take_rest}
+use Rattle.jsdoc.proofs.Texts.{tag_complete}
 
 pub search_ended : (s : Bytes) → length s < 1 → seek s ≡ s
 unfolding seek
@@ -29,7 +30,9 @@ search_found (x ∷ s) b = go (eqb x (code "}"))
 pub search_further : (s : Bytes) → (get_or s 0 0 ≡ code "}" → ⊥) → begins (ascii "import") s ≡ false → seek s ≡ seek (take (length s - 1) (drop 1 s))
 unfolding seek
 search_further [] n b = refl
-search_further (x ∷ s) n b = rw (ne_eqb x (code "}") n, b, take_all (suc (length s) - 1) s (omega arith))
+search_further (x ∷ s) n b = rw (ne_eqb x (code "}") n, b, take_rest (x ∷ s) 1)
+
+pub ruleset seeking = (search_ended, search_closed, search_found, search_further)
 
 -- it stays, or goes on
 pub seek_stays : (x : ℕ) (s : Bytes) → (seek (x ∷ s) ≡ x ∷ s) ⊎ (seek (x ∷ s) ≡ seek s)
@@ -80,5 +83,5 @@ same_reading (x ∷ s) {r} t (suc k) h e = go (ℕ_discrete x (code "{"))
         let to : sought (x ∷ s) ≡ seek s = rw b (brace_sought s) in
         let here : parse_jsdoc_dynamic_import (x ∷ s) ≡ parse_call (seek s) = rw b (brace_read s) in
         let later : parse_jsdoc_dynamic_import (drop k s) ≡ parse_call (seek (drop (k + 1) s)) =
-        rw (cons_at s k (omega arith), e) (brace_read (drop (k + 1) s)) in
+        rw (drop_more s k 0 (omega arith), e) (brace_read (drop (k + 1) s)) in
         later ∙ ap parse_call (seek_later (k + 1) s (omega (arith, h, ap length t.end, ap length to))) ∙ sym here

@@ -1,9 +1,11 @@
 -- The pieces at the front of some bytes, as the code finds them.
-use Rattle.laws.proofs.Prelude.{◌≡◌, refl, Bool, true, false, cond, [], ◌∷◌, ℕ, zero, suc, ◌+◌, ◌-◌, ◌≤◌, ◌<◌, add-one, arith, length, take, drop, get_or}
-use Rattle.laws.proofs.Prelude.{length-drop, drop-cons, drop-drop, eq-eqb, ne_eqb, eqb, eqb-true, none-ne-some}
+use Rattle.laws.proofs.Prelude.{◌≡◌, refl, sym, ◌∙◌, Bool, true, false, cond, [], ◌∷◌, ℕ, zero, suc, ◌+◌, ◌-◌, ◌≤◌, ◌<◌, arith, length, take, drop, get_or}
+use Rattle.laws.proofs.Prelude.{length-drop, drop-drop, eq-eqb, ne_eqb, eqb, eqb-true, none-ne-some}
 use Rattle.std.specs.Prelude.{Option, Some, None, MatchOption, nat_eq}
 use Rattle.std.specs.Borrow.{Bor}
 use Rattle.std.specs.Cmp.Lexicographic.{pointwise}
+use Rattle.std.proofs.lemmas.Cmp.{nat_list_eq_equiv}
+use Rattle.text.proofs.Words.{begins_is}
 use Rattle.text.specs.declared.class.Class.TheVariants.{Alphabetic, NameRest}
 use Rattle.text.specs.{Bytes.begins, Class.class_at, Class.run_length, code.Places.First}
 use Rattle.jsdoc.specs.Grammar.{Bytes}
@@ -11,16 +13,9 @@ use Rattle.jsdoc.specs.Parsed.{Parsed, ok, backtrace}
 use Rattle.jsdoc.specs.Reader.{skip, tag, up_to, past_ident, parse_ident}
 use Rattle.jsdoc.specs.code.Answers.{rest_as, from_first}
 
--- the byte at a place, and what is left behind it
-pub cons_at : (s : Bytes) (i : ℕ) → i < length s → drop i s ≡ get_or s i 0 ∷ drop (i + 1) s
-cons_at s i h = rw (add-one, drop-cons s i 0)
-
 -- a word
 begins_front : (w s : Bytes) → pointwise nat_eq (take (length w) s) w ≡ begins w s
-unfolding begins
-begins_front [] s = refl
-begins_front (y ∷ w) [] = refl
-begins_front (y ∷ w) (x ∷ s) = rw (begins_front w s)
+begins_front w s = nat_list_eq_equiv.symm (take (length w) s) w ∙ sym (begins_is w s)
 
 pub stripped : (w s : Bytes) (r : Option (Bor Bytes))
     → MatchOption r (pointwise nat_eq (take (length w) s) w ≡ false)
@@ -71,7 +66,8 @@ unfolding from_first
 first_left m [] t e = absurd (none-ne-some _ e)
 first_left m (x ∷ s) t e = go (eqb x m) refl e (first_left m s t)
   where
-    go : (c : Bool) → eqb x m ≡ c → cond c (Some (x ∷ s)) (from_first m s) ≡ Some t → (from_first m s ≡ Some t → (0 < length t) × ((length t ≤ length s) × (get_or t 0 0 ≡ m)))
+    go : (c : Bool) → eqb x m ≡ c → cond c (Some (x ∷ s)) (from_first m s) ≡ Some t
+        → (from_first m s ≡ Some t → (0 < length t) × ((length t ≤ length s) × (get_or t 0 0 ≡ m)))
         → (0 < length t) × ((length t ≤ suc (length s)) × (get_or t 0 0 ≡ m))
     go true z e f = let i : x ∷ s ≡ t = cc in rw (← i) (omega arith, (omega arith, eqb-true x m z))
     go false z e f = let (a, (b, c)) = f e in (a, (omega arith, c))

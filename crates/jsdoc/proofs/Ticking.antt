@@ -75,7 +75,8 @@ abbrev pub Before : (Bytes → Bytes → Bytes → Mode → Type 0) → Bytes �
 Before R b i q m = (k : ℕ) × (k < i) × From R b k q m
 
 -- a reading from i or before it is one from before a later place
-pub later : {R : Bytes → Bytes → Bytes → Mode → Type 0} {b : Bytes} {i j : ℕ} → i < j → (q : ℕ) (m : Mode) → Before R b i q m ⊎ From R b i q m → Before R b j q m
+pub later : {R : Bytes → Bytes → Bytes → Mode → Type 0} {b : Bytes} {i j : ℕ} → i < j → (q : ℕ) (m : Mode) → Before R b i q m ⊎ From R b i q m
+    → Before R b j q m
 later h q m (inl (k, l, f)) = (k, omega arith, f)
 later {i} h q m (inr f) = (i, h, f)
 

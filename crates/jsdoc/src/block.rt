@@ -37,7 +37,7 @@ fn comma(s: &[u8]) -> Option<&[u8]>
 }
 
 // Attributes parted by commas: the first mode among them, and what is left.
-#[tactic(auto, using(crate::proofs::Blocks::attributes_none, crate::proofs::Blocks::attributes_last, crate::proofs::Blocks::attributes_next, crate::proofs::Blocks::attributes_shorter))]
+#[tactic(auto, using(crate::proofs::Blocks::attributes_read))]
 fn separated_list(s: &[u8]) -> (Option<Mode>, &[u8])
     ensures { ok result.0 result.1.now ≡ separated_list unnamed s.now }
 {

@@ -8,7 +8,6 @@ use super::answers::{JsDocImport, Mode, ParseResult, Searched};
 use super::block::parse_import_attribute_block_for_resolution_mode;
 use super::pieces::{skip_whitespace, tag, up_to, word};
 use super::quote::parse_quote;
-use text::bytes::starts_with;
 
 // Past `, {with:`.
 #[tactic(auto, unfolding(crate::specs::Reader::second_param_start))]
@@ -65,13 +64,13 @@ fn parse_call(s: &[u8]) -> Option<JsDocImport<'_>>
 }
 
 // From the first `import` on, or from a `}` before it.
-#[tactic(auto, using(crate::proofs::Searches::search_ended, crate::proofs::Searches::search_closed, crate::proofs::Searches::search_found, crate::proofs::Searches::search_further))]
+#[tactic(auto, using(crate::proofs::Searches::seeking, text::proofs::Words::begins_is))]
 fn seek(s: &[u8]) -> &[u8]
     ensures { result.now ≡ seek s.now }
 {
     let mut rest = s;
     'scan: while let [b, next @ ..] = rest {
-        if *b == b'}' || starts_with(rest, 0, b"import") {
+        if *b == b'}' || rest.starts_with(b"import") {
             break 'scan;
         }
         rest = next;

@@ -33,7 +33,7 @@ fn mark_one<T: Copy, F: Fn(T, usize, Mode) -> T>(
 // Marks the readings from the braces. The next brace to look at is the first from where the search ended, so that
 // each byte is searched once. A brace before that has the same reading, if any: a cell that is marked stays as it
 // is for a later place.
-#[tactic(auto, using(crate::proofs::Marking::room_at_brace, crate::proofs::Marking::search_shorter, crate::proofs::Marking::braces_end, crate::proofs::Marking::brace_turn))]
+#[tactic(auto, using(crate::proofs::Marking::braces_marked))]
 fn mark_braces<T: Copy, F: Fn(T, usize, Mode) -> T>(body: &[u8], table: &mut [T], mark: &F)
     requires same { length table.old ≡ length body.now }
     requires callable { (x : T) (i : ℕ) (m : Mode) → i < length body.now → F.pre mark.now x i m }

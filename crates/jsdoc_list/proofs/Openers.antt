@@ -37,7 +37,11 @@ openers_within b q = go (get_or (openers b) q 0) refl
     go (suc k) e = omega (arith, from_below ((origins_first b).sound q k (omega arith)).1)
 
 -- comments with their source give the same
-pub origins_placed : (source : List ℕ) (cs : List Comment) → flat_map (λ c. origins_of c.source c.comment) (map (placed_in source) cs) ≡ flat_map (origins_of source) cs
+pub origins_placed : (source : List ℕ) (cs : List Comment)
+    → flat_map (λ c. origins_of c.source c.comment) (map (placed_in source) cs) ≡ flat_map (origins_of source) cs
 unfolding flat_map
 origins_placed source [] = refl
 origins_placed source (c ∷ cs) = ap (origins_of source c ++◌) (origins_placed source cs)
+
+-- a place without a note, one with a note, and the end
+pub ruleset openers_turned = (opener_none, opener_next, openers_end)

@@ -14,7 +14,8 @@ use Rattle.jsdoc_list.proofs.{Ticking.ReadIn, Ticking.ticks_of_lem, ByComment.fi
 use Rattle.jsdoc_list.proofs.Quotes.{import_of, reading_starts, reading_import}
 
 -- ticks whose imports are the same in two sources
-imports_kept : (s r ticks : List ℕ) (q : ℕ) → ((d m : ℕ) → get_or ticks d 0 ≡ m + 1 → import_at s (q + d) (value_of modes m) ≡ import_at r (q + d) (value_of modes m))
+imports_kept : (s r ticks : List ℕ) (q : ℕ)
+    → ((d m : ℕ) → get_or ticks d 0 ≡ m + 1 → import_at s (q + d) (value_of modes m) ≡ import_at r (q + d) (value_of modes m))
     → imports_from s q ticks ≡ imports_from r q ticks
 unfolding imports_from
 imports_kept s r [] q h = refl
@@ -25,7 +26,8 @@ imports_kept s r (suc n ∷ ticks) q h =
 
 module _ {s r : List ℕ} {c : Comment} (a : Alike s r c) where
   -- a reading of the body is reported alike
-  reading_kept : {k j : ℕ} {mode : Mode} → From Reading (body s c) k j mode → import_at s ((body_span c).start + j) mode ≡ import_at r ((body_span c).start + j) mode
+  reading_kept : {k j : ℕ} {mode : Mode} → From Reading (body s c) k j mode
+      → import_at s ((body_span c).start + j) mode ≡ import_at r ((body_span c).start + j) mode
   reading_kept {j = j} {mode = mode} x =
       let w = a.within in
       let start = (body_span c).start in

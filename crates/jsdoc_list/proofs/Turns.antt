@@ -11,6 +11,9 @@ use Rattle.report.{specs.Decode.modes, proofs.Modes.mode_numbers}
 use Rattle.pragmas.{specs.code.Views.encode_any, proofs.Turns.listed_each}
 use Rattle.jsdoc_list.specs.Imports.{ticks_of, count_of, import_at, imports_from, jsdoc_imports}
 use Rattle.jsdoc_list.proofs.{Entries.count_all, ImportsRight.standings}
+use Rattle.std.proofs.lemmas.Slice.{between_to_end}
+use Rattle.jsdoc.proofs.Texts.{quote_left}
+use Rattle.report.proofs.Buffers.{wrote_none, more_append, more_cons}
 
 -- the ticks from place q on: the first of them, and the others
 pub first_tick : (ticks : List ℕ) (q : ℕ) → q < length ticks → drop q ticks ≡ get_or ticks q 0 ∷ drop (q + 1) ticks
@@ -26,12 +29,14 @@ module _ (source ticks : List ℕ) (q : ℕ) (h : q < length ticks) where
 
   pub ticked_next : (get_or ticks q 0 ≡ 0 → ⊥)
       → flat_map encode_jsdoc (imports_from source q (drop q ticks))
-      ≡ encode_any encode_jsdoc (import_at source q (value_of modes (get_or ticks q 0 - 1))) ++ flat_map encode_jsdoc (imports_from source (q + 1) (drop (q + 1) ticks))
+      ≡ encode_any encode_jsdoc (import_at source q (value_of modes (get_or ticks q 0 - 1)))
+      ++ flat_map encode_jsdoc (imports_from source (q + 1) (drop (q + 1) ticks))
   unfolding imports_from
   ticked_next e =
       let n : get_or ticks q 0 ≡ suc (get_or ticks q 0 - 1) = first_mode_lem (get_or ticks q 0) e in
       ap (λ (l : List ℕ). flat_map encode_jsdoc (imports_from source q l)) (first_tick ticks q h ∙ ap (◌∷ drop (q + 1) ticks) n)
-      ∙ rw (← add-one q) (listed_each encode_jsdoc (import_at source q (value_of modes (get_or ticks q 0 - 1))) (imports_from source (q + 1) (drop (q + 1) ticks)))
+      ∙ rw (← add-one q) (listed_each encode_jsdoc (import_at source q (value_of modes (get_or ticks q 0 - 1)))
+      (imports_from source (q + 1) (drop (q + 1) ticks)))
 
 module _ (ticks : List ℕ) (q : ℕ) (h : q < length ticks) where
   pub count_next : get_or ticks q 0 ≡ 0 → count_of (drop q ticks) ≡ count_of (drop (q + 1) ticks)
@@ -85,3 +90,9 @@ module _ (source : List ℕ) (cs : List Comment) (media : MediaType) where
       ≡ encode_number (count_of (ticks_of source cs)) ++ flat_map encode_jsdoc (imports_from source 0 (ticks_of source cs))
   unfolding jsdoc_imports encode_list
   encode_all h e = rw (h, e)
+
+-- a place without a tick, places that are skipped, a tick, and the end
+pub ruleset imports_turned = (unticked_next, unticked_skip, ticked_next, imports_end)
+
+-- bytes that are put, the mode of a number, and the quote at a place
+pub ruleset import_read = (wrote_none, more_append, more_cons, between_to_end, mode_byte, quote_left)

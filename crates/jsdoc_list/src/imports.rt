@@ -16,13 +16,14 @@ use report::writer::Writer;
 use sheet::commented::{Comments, PlacedComment};
 use sheet::fields::Span;
 use sheet::names::{MediaType, is_block, is_javascript};
-use text::bytes::{next_nonzero, starts_with};
+use text::bytes::next_nonzero;
 
 // Is it a block comment whose body begins with `*`?
+#[tactic(auto, using(text::proofs::Words::begins_is))]
 pub fn is_star_opened(c: &PlacedComment) -> bool
     ensures { result ≡ is_star_opened c.now.source c.now.comment }
 {
-    is_block(c.comment().kind) && starts_with(c.body(), 0, b"*")
+    is_block(c.comment().kind) && c.body().starts_with(b"*")
 }
 
 // Ticks the readings of a comment at its body.
@@ -71,7 +72,7 @@ fn count_ticks(ticks: &[u8]) -> usize
 }
 
 // Writes the import whose quote begins at `at`, with the mode of that number.
-#[tactic(auto, using(report::proofs::Buffers::wrote_none, report::proofs::Buffers::more_append, report::proofs::Buffers::more_cons, std::proofs::lemmas::Slice::between_to_end, crate::proofs::Turns::mode_byte, jsdoc::proofs::Texts::quote_left), unfolding(crate::specs::Imports::import_at, report::specs::Encode::encode_jsdoc))]
+#[tactic(auto, using(crate::proofs::Turns::import_read), unfolding(crate::specs::Imports::import_at, report::specs::Encode::encode_jsdoc))]
 fn put_import(comments: &Comments, at: usize, number: u8, w: &mut Writer)
     requires at_in_bounds { at ≤ length comments.now.source }
     requires number_bound { number ≤ 2 }
@@ -92,7 +93,7 @@ fn put_import(comments: &Comments, at: usize, number: u8, w: &mut Writer)
 }
 
 // Writes the imports at the places that are ticked. The step is not one: a run of zeros is passed at once.
-#[tactic(auto, using(crate::proofs::Turns::unticked_next, crate::proofs::Turns::unticked_skip, crate::proofs::Turns::ticked_next, crate::proofs::Turns::imports_end, report::proofs::Buffers::more_append, report::proofs::Buffers::more_nil))]
+#[tactic(auto, using(crate::proofs::Turns::imports_turned, report::proofs::Buffers::parts))]
 fn put_imports(comments: &Comments, ticks: &[u8], w: &mut Writer)
     requires ticks_len { length ticks.now ≡ length comments.now.source }
     requires by_index { (q : ℕ) → get_or ticks.now q 0 ≤ 3 }

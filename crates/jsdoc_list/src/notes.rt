@@ -30,7 +30,7 @@ fn put_opener(c: &PlacedComment, k: usize, w: &mut Writer)
 }
 
 // Writes the origins that are noted at the places of a comment's body.
-#[tactic(auto, using(crate::proofs::Openers::opener_none, crate::proofs::Openers::opener_next, crate::proofs::Openers::openers_end, report::proofs::Buffers::more_append, report::proofs::Buffers::more_nil))]
+#[tactic(auto, using(crate::proofs::Openers::openers_turned, report::proofs::Buffers::parts))]
 fn put_openers(c: &PlacedComment, origins: &[u16], w: &mut Writer)
     requires { (q : ℕ) → get_or origins.now q 0 ≤ length (body c.now.source c.now.comment) }
     ensures { Wrote w.old w.new (flat_map encode_origin
@@ -60,7 +60,7 @@ fn put_comment_origins(c: &PlacedComment, origins: &mut [u16], w: &mut Writer)
 }
 
 // Writes the origins of the imports of all comments.
-#[tactic(auto, using(laws::proofs::Lists::flat_map_append, report::proofs::Buffers::more_append, report::proofs::Buffers::more_nil), unfolding(laws::proofs::Prelude::flat_map))]
+#[tactic(auto, using(laws::proofs::Lists::flat_map_append, report::proofs::Buffers::parts), unfolding(laws::proofs::Prelude::flat_map))]
 fn put_origins(comments: &Comments, origins: &mut [u16], w: &mut Writer)
     requires short { length comments.now.source ≤ source_limit }
     requires source_in_bounds { length comments.now.source ≤ length origins.old }

@@ -71,7 +71,8 @@ module _ {A B C : Type 0} where
   map_map g f (no r) = refl
 
   -- what is made of a value, and what is made of what is built from it
-  pub built : (f : A → C) (g : B → C) (build : A → B) → ((a : A) → f a ≡ g (build a)) → (x : Decoded A) → on_ok f x ≡ on_ok g (and_then x (λ a. return (build a)))
+  pub built : (f : A → C) (g : B → C) (build : A → B) → ((a : A) → f a ≡ g (build a)) → (x : Decoded A)
+      → on_ok f x ≡ on_ok g (and_then x (λ a. return (build a)))
   built f g build e (ok a t) = ap (λ c. ok c t) (e a)
   built f g build e (no r) = refl
 
@@ -80,3 +81,6 @@ module _ {A B C : Type 0} where
       and_then x k ≡ no r
   then_no f (ok a t) {b} {w} e k r h = let i : w ≡ t = cc in rw i at (h a)
   then_no f (no q) e k r h = absurd (refused e)
+
+-- what is refused stays refused
+pub ruleset refusals_kept = (on_ok_no, then_no)

@@ -48,7 +48,7 @@ module _ {s : List ℕ} {p : Parts} (a : Accepts s p) where
     indexed = indexed;
   }
 
-  -- they are those of every sheet that the bytes are
+  -- they are those of the sheet that the bytes are
   module _ {t : Sheet} (e : accept s ≡ ok t []) where
     pub commented_of : commented_by p.front.source.now p.front.comments.now p.front.groups.now ≡ commented t
     commented_of = rw (same_sheet e a.accepted, ← a.source, ← a.comments, ← a.groups)

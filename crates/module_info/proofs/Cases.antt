@@ -14,8 +14,9 @@ use Rattle.analysis.specs.Row.{ends, all, first, places, find}
 use Rattle.analysis.specs.Place.{place_of}
 use Rattle.jsdoc.specs.Reader.{skip, skip_whitespace, whitespace, tag, word, up_to, is_mark, parse_quote, past_ident, parse_ident, parse_key, attribute_mode}
 use Rattle.jsdoc.specs.Reader.{parse_attribute, comma, separated_list_by, separated_list, parse_import_attribute_block_for_resolution_mode}
-use Rattle.jsdoc.specs.Reader.{second_param_start, parse_second_param_obj_with_leading_comma, close_call, parse_tail, seek, parse_call, parse_jsdoc_dynamic_import}
-use Rattle.jsdoc.specs.Reader.{skip_named_imports, skip_default_import, skip_namespace_import, skip_clause, parse_attributes, parse_from, parse_jsdoc_import_decl}
+use Rattle.jsdoc.specs.Reader.{second_param_start, parse_second_param_obj_with_leading_comma, close_call, parse_tail, seek, parse_call}
+use Rattle.jsdoc.specs.Reader.{parse_jsdoc_dynamic_import, skip_named_imports, skip_default_import, skip_namespace_import, skip_clause, parse_attributes}
+use Rattle.jsdoc.specs.Reader.{parse_from, parse_jsdoc_import_decl}
 use Rattle.jsdoc.specs.Listing.{listing}
 use Rattle.sheet.specs.declared.{fields.Span.Span, groups.Group.Group, names.CommentKind.CommentKind, names.MediaType.TheVariants.Jsx, names.Side.Side}
 use Rattle.sheet.specs.declared.names.CommentKind.TheVariants.{Line, Block, HtmlOpen, HtmlClose}
@@ -118,20 +119,20 @@ computed (source_map body x) = computed_in Line (source_map body x)
 
 as_stated : map computed table ≡ table
 unfolding table sheet_of flat_map in_ranges admits length_by char_length code_by char_at alphabetic outside ranges member class_at run begins same step walk
-    position_of mode_of fold_case letter_at word_at ends all first places find place_of skip skip_whitespace whitespace tag word up_to is_mark parse_quote past_ident
-    parse_ident parse_key attribute_mode parse_attribute comma separated_list_by separated_list parse_import_attribute_block_for_resolution_mode
-    second_param_start parse_second_param_obj_with_leading_comma close_call parse_tail seek parse_call parse_jsdoc_dynamic_import skip_named_imports skip_default_import
-    skip_namespace_import skip_clause parse_attributes parse_from parse_jsdoc_import_decl listing group_at head_group body_span place_in specifier_in read_by first_of
-    last_of all_of head_comments end_comments mode_in reference references_in first_by last_by ts_or_deno_types types_in ticked_by ticked_by_all import_at imports_from
-    jsdoc_imports module_info
+    position_of mode_of fold_case letter_at word_at ends all first places find place_of skip skip_whitespace whitespace tag word up_to is_mark parse_quote
+    past_ident parse_ident parse_key attribute_mode parse_attribute comma separated_list_by separated_list parse_import_attribute_block_for_resolution_mode
+    second_param_start parse_second_param_obj_with_leading_comma close_call parse_tail seek parse_call parse_jsdoc_dynamic_import skip_named_imports
+    skip_default_import skip_namespace_import skip_clause parse_attributes parse_from parse_jsdoc_import_decl listing group_at head_group body_span place_in
+    specifier_in read_by first_of last_of all_of head_comments end_comments mode_in reference references_in first_by last_by ts_or_deno_types types_in ticked_by
+    ticked_by_all import_at imports_from jsdoc_imports module_info
 as_stated = refl
 
 html_as_stated : (map (computed_in HtmlOpen) (html 4) ≡ html 4) × (map (computed_in HtmlClose) (html 3) ≡ html 3)
 unfolding html sheet_of flat_map in_ranges admits length_by char_length code_by char_at alphabetic outside ranges member class_at run begins same step walk
-    position_of mode_of fold_case letter_at word_at ends all first places find place_of skip skip_whitespace whitespace tag word up_to is_mark parse_quote past_ident
-    parse_ident parse_key attribute_mode parse_attribute comma separated_list_by separated_list parse_import_attribute_block_for_resolution_mode
-    second_param_start parse_second_param_obj_with_leading_comma close_call parse_tail seek parse_call parse_jsdoc_dynamic_import skip_named_imports skip_default_import
-    skip_namespace_import skip_clause parse_attributes parse_from parse_jsdoc_import_decl listing group_at head_group body_span place_in specifier_in read_by first_of
-    last_of all_of head_comments end_comments mode_in reference references_in first_by last_by ts_or_deno_types types_in ticked_by ticked_by_all import_at imports_from
-    jsdoc_imports module_info
+    position_of mode_of fold_case letter_at word_at ends all first places find place_of skip skip_whitespace whitespace tag word up_to is_mark parse_quote
+    past_ident parse_ident parse_key attribute_mode parse_attribute comma separated_list_by separated_list parse_import_attribute_block_for_resolution_mode
+    second_param_start parse_second_param_obj_with_leading_comma close_call parse_tail seek parse_call parse_jsdoc_dynamic_import skip_named_imports
+    skip_default_import skip_namespace_import skip_clause parse_attributes parse_from parse_jsdoc_import_decl listing group_at head_group body_span place_in
+    specifier_in read_by first_of last_of all_of head_comments end_comments mode_in reference references_in first_by last_by ts_or_deno_types types_in ticked_by
+    ticked_by_all import_at imports_from jsdoc_imports module_info
 html_as_stated = (refl, refl)

@@ -39,8 +39,8 @@ unfolding formed byte below numbered flag bytes last_group Rattle.wire.specs.Num
 accepted = refl
 
 its_information : module_info smallest ≡ default_info
-unfolding group_at head_group flat_map first_of last_of all_of head_comments end_comments references_in first_by last_by ticked_by_all imports_from jsdoc_imports collector
-    module_info
+unfolding group_at head_group flat_map first_of last_of all_of head_comments end_comments references_in first_by last_by ticked_by_all imports_from
+    jsdoc_imports collector module_info
 its_information = refl
 
 -- flag, count, count, flag, flag, flag, count, flag

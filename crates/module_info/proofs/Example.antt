@@ -9,8 +9,8 @@ use Rattle.wire.specs.Fields.{byte, below, numbered, flag, bytes}
 use Rattle.wire.specs.Number.{last_group, number, encode_groups, encode_number}
 use Rattle.wire.specs.Text.{count, text, encode_text}
 use Rattle.wire.specs.Optional.{encode_optional, optional}
-use Rattle.jsdoc.specs.Reader.{skip, skip_whitespace, word, up_to, is_mark, parse_quote, second_param_start, parse_second_param_obj_with_leading_comma, close_call}
-use Rattle.jsdoc.specs.Reader.{parse_tail, seek, parse_call, parse_jsdoc_dynamic_import, parse_jsdoc_import_decl}
+use Rattle.jsdoc.specs.Reader.{skip, skip_whitespace, word, up_to, is_mark, parse_quote, second_param_start, parse_second_param_obj_with_leading_comma}
+use Rattle.jsdoc.specs.Reader.{close_call, parse_tail, seek, parse_call, parse_jsdoc_dynamic_import, parse_jsdoc_import_decl}
 use Rattle.jsdoc.specs.Listing.{listing}
 use Rattle.sheet.specs.Fields.{position, end_from, span}
 use Rattle.sheet.specs.Comments.{enclosed, marked, comment, group, covered, chained}
@@ -43,12 +43,12 @@ report =
 
 computed : (size : ℕ) → answer_of example size ≡ fitted size report
 unfolding admits length_by char_length code_by char_at formed in_ranges outside ranges member class_at run begins step walk position_of byte below numbered flag
-    bytes last_group Rattle.wire.specs.Number.groups number encode_groups encode_number count text encode_text skip skip_whitespace Rattle.jsdoc.specs.Reader.tag
-    word up_to is_mark parse_quote second_param_start parse_second_param_obj_with_leading_comma close_call parse_tail seek parse_call parse_jsdoc_dynamic_import
-    parse_jsdoc_import_decl listing is_boundary position end_from span enclosed marked comment group covered chained optional program many
-    Rattle.sheet.specs.Nodes.tag nodes other_fields fields node group_at head_group body_span sheet decode_sheet accept judge encode_optional flat_map encode_list
-    encode_position encode_range encode_specifier encode_jsdoc encode first_of last_of all_of head_comments end_comments references_in first_by last_by ticked_by
-    ticked_by_all import_at imports_from jsdoc_imports collector module_info answer_of
+    bytes last_group Rattle.wire.specs.Number.groups number encode_groups encode_number count text encode_text skip skip_whitespace
+    Rattle.jsdoc.specs.Reader.tag word up_to is_mark parse_quote second_param_start parse_second_param_obj_with_leading_comma close_call parse_tail seek
+    parse_call parse_jsdoc_dynamic_import parse_jsdoc_import_decl listing is_boundary position end_from span enclosed marked comment group covered chained
+    optional program many Rattle.sheet.specs.Nodes.tag nodes other_fields fields node group_at head_group body_span sheet decode_sheet accept judge
+    encode_optional flat_map encode_list encode_position encode_range encode_specifier encode_jsdoc encode first_of last_of all_of head_comments end_comments
+    references_in first_by last_by ticked_by ticked_by_all import_at imports_from jsdoc_imports collector module_info answer_of
 computed size = refl
 
 -- in any buffer that can hold it: number 0, the report's length and bytes, and zeros behind them

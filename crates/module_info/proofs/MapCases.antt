@@ -85,7 +85,7 @@ abbrev computed : Case → Case
 computed c = record { bodies = c.bodies; reported = source_map_url (sheet_of c.bodies); standard = standard_map (sheet_of c.bodies) }
 
 as_stated : map computed table ≡ table
-unfolding table comments_from sheet_of flat_map in_ranges admits length_by char_length code_by char_at encode outside ranges member class_at run begins step walk
-    position_of fold_case letter_at word_at ends all first places find place_of is_space one_at row row_end find_source_map group_at body_span place_in specifier_in
-    read_by first_of last_of end_comments last_by read_standard standard_map_in
+unfolding table comments_from sheet_of flat_map in_ranges admits length_by char_length code_by char_at encode outside ranges member class_at run begins step
+    walk position_of fold_case letter_at word_at ends all first places find place_of is_space one_at row row_end find_source_map group_at body_span place_in
+    specifier_in read_by first_of last_of end_comments last_by read_standard standard_map_in
 as_stated = refl

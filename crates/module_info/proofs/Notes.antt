@@ -105,7 +105,8 @@ pub none_held : (size : ℕ) → held size [] ≡ zeros size
 none_held size = sym (all_held size [])
 
 -- a refused report is longer than its buffer
-pub refused_ten : (size : ℕ) (r : Refusal) (buffer : List ℕ) (m : ModuleInfo) → outcome_as (Err r) buffer ≡ fitted size (encode m) → number_of r ≡ refusals.buffer
+pub refused_ten : (size : ℕ) (r : Refusal) (buffer : List ℕ) (m : ModuleInfo) → outcome_as (Err r) buffer ≡ fitted size (encode m)
+    → number_of r ≡ refusals.buffer
 unfolding fitted encode
 refused_ten size r buffer m e = by_room (leb (length (encode m)) size) e
   where

@@ -8,8 +8,8 @@ use Rattle.text.specs.Class.{outside, ranges, member, class_at, run}
 use Rattle.text.specs.Position.{step, walk, position_of, is_boundary}
 use Rattle.wire.specs.Fields.{byte, below, numbered, flag, bytes}
 use Rattle.wire.specs.{Number.last_group, Number.number, Text.count, Text.text, Optional.optional}
-use Rattle.jsdoc.specs.Reader.{skip, skip_whitespace, word, up_to, is_mark, parse_quote, second_param_start, parse_second_param_obj_with_leading_comma, close_call}
-use Rattle.jsdoc.specs.Reader.{parse_tail, seek, parse_call, parse_jsdoc_dynamic_import, parse_jsdoc_import_decl}
+use Rattle.jsdoc.specs.Reader.{skip, skip_whitespace, word, up_to, is_mark, parse_quote, second_param_start, parse_second_param_obj_with_leading_comma}
+use Rattle.jsdoc.specs.Reader.{close_call, parse_tail, seek, parse_call, parse_jsdoc_dynamic_import, parse_jsdoc_import_decl}
 use Rattle.jsdoc.specs.Listing.{listing}
 use Rattle.sheet.specs.declared.names.{MediaType.TheVariants.JavaScript, CommentKind.TheVariants.Block, Side.TheVariants.Leading}
 use Rattle.sheet.specs.{Tree.other, Tree.none, Program.program, Lookups.body_span, Recorded.recorded, Revision.Revision}
@@ -96,12 +96,12 @@ entry text from to = record {
 -- and what comes from it is not
 from_a : (module_info (sheet_by (code "a"))).jsdoc_imports ≡ entry (ascii "./a.ts") 12 20 ∷ entry (ascii "./b.ts") 39 47 ∷ []
 unfolding admits length_by char_length code_by char_at in_ranges outside ranges member class_at run begins step walk position_of skip skip_whitespace
-    Rattle.jsdoc.specs.Reader.tag word up_to is_mark parse_quote second_param_start parse_second_param_obj_with_leading_comma close_call parse_tail seek parse_call
-    parse_jsdoc_dynamic_import parse_jsdoc_import_decl listing body_span ticked_by ticked_by_all import_at imports_from jsdoc_imports module_info
+    Rattle.jsdoc.specs.Reader.tag word up_to is_mark parse_quote second_param_start parse_second_param_obj_with_leading_comma close_call parse_tail seek
+    parse_call parse_jsdoc_dynamic_import parse_jsdoc_import_decl listing body_span ticked_by ticked_by_all import_at imports_from jsdoc_imports module_info
 from_a = refl
 
 from_c : (module_info (sheet_by (code "c"))).jsdoc_imports ≡ entry (ascii "./c.ts") 12 20 ∷ entry (ascii "./b.ts") 39 47 ∷ []
 unfolding admits length_by char_length code_by char_at in_ranges outside ranges member class_at run begins step walk position_of skip skip_whitespace
-    Rattle.jsdoc.specs.Reader.tag word up_to is_mark parse_quote second_param_start parse_second_param_obj_with_leading_comma close_call parse_tail seek parse_call
-    parse_jsdoc_dynamic_import parse_jsdoc_import_decl listing body_span ticked_by ticked_by_all import_at imports_from jsdoc_imports module_info
+    Rattle.jsdoc.specs.Reader.tag word up_to is_mark parse_quote second_param_start parse_second_param_obj_with_leading_comma close_call parse_tail seek
+    parse_call parse_jsdoc_dynamic_import parse_jsdoc_import_decl listing body_span ticked_by ticked_by_all import_at imports_from jsdoc_imports module_info
 from_c = refl

@@ -11,7 +11,7 @@ use Rattle.sheet.proofs.Bodies.{placed_body}
 use Rattle.sheet.specs.Lookups.{body_span, body}
 use Rattle.sheet_codec.{specs.Limits.FieldsFit, proofs.Sheets.accepts_exactly}
 use Rattle.sheet_codec.proofs.Refusals.{Decision, decided, judged_sheet, judged_refusal}
-use Rattle.sheet_check.specs.code.Views.{StandsAt}
+use Rattle.sheet_check.specs.code.Views.{FoundAt}
 use Rattle.report.specs.ModuleInfo.{SpecifierWithRange}
 use Rattle.pragmas.specs.declared.readings.Rule.TheVariants.{StandardSourceMap}
 use Rattle.pragmas.specs.{Readings.specifier_in, Readings.last_of, Pragmas.end_comments}
@@ -76,7 +76,7 @@ module _ (s : List ℕ) where
   -- ---- where the run stands
 
   -- the text of a reading of the source is a part of the sheet
-  pub located_as : {base : ℕ} (t : Captured) → StandsAt s base t.source → CaptureIn t.source t.comment t.capture
+  pub located_as : {base : ℕ} (t : Captured) → FoundAt s base t.source → CaptureIn t.source t.comment t.capture
       → (map_of s (Some (place_from base t)) ≡ Some (specifier_as t)) × TextInside s (Some (place_from base t))
   unfolding specifier_in
   located_as {base} t stands h =

@@ -7,15 +7,16 @@ use Rattle.sheet_nodes.specs.code.Reach.{ReachesIn}
 use Rattle.sheet_check.specs.declared.check.Parts.{Parts}
 use Rattle.std.specs.Prelude.{Some}
 use Rattle.std.specs.Borrow.{MutBor}
-use Rattle.report.specs.{declared.writer.Writer.Writer, Encode.encode, Buffer.buffer_as, Buffer.Written, Buffer.written_as, Buffer.more, Buffer.Wrote, Buffer.Keeps}
-use Rattle.report.specs.Answer.{Answer, Outcome, outcome_as, answered, fitted}
+use Rattle.report.specs.{declared.writer.Writer.Writer, Encode.encode, Buffer.buffer_as, Buffer.Written, Buffer.written_as, Buffer.more, Buffer.Wrote}
+use Rattle.report.specs.{Buffer.Keeps}
+use Rattle.report.specs.Answer.{Outcome, outcome_as, answered, fitted}
 use Rattle.report.proofs.{Answers.answered_fitted, Buffers.more_append, Buffers.more_cons, Buffers.wrote_keeps, Buffers.wrote_buffer}
 use Rattle.dep_entries.specs.{declared.Items.Items, code.Notes.all_noted, code.Written.Collected, code.Written.items_as}
 use Rattle.dep.specs.code.Walk.{with_dependencies}
 use Rattle.module_info.specs.{Information.module_info, Replaced.noted}
 use Rattle.module_info.specs.code.Pieces.{dependency_bytes, head_bytes, rest_bytes, commented, PartsOf}
 
--- once bytes are written into a new writer: the buffer is the one that was lent, and the answer
+-- once bytes are written into a new writer: the buffer is the one that was lent, and the answer that finishes it
 module _ {new : Writer} {out : MutBor (List ℕ)} (begins : new ≡ record { out = out; at = Some 0 }) (w : Writer) (bytes : List ℕ) (h : Wrote new w bytes) where
   kept : Keeps (record { out = out; at = Some 0 }) w
   kept = wrote_keeps (record { out = out; at = Some 0 }) w bytes (rw begins at h)
@@ -23,12 +24,9 @@ module _ {new : Writer} {out : MutBor (List ℕ)} (begins : new ≡ record { out
   pub same_loan : out.ghost_name ≡ w.out.ghost_name
   same_loan = sym kept.loan
 
-  pub finished : answered (length w.out.now) (buffer_as w.out.now w.at) ≡ fitted (length out.now) bytes
-  finished = answered_fitted bytes kept.size (wrote_buffer (record { out = out; at = Some 0 }) w bytes (rw begins at h))
-
--- what is left in the writer is what is left in the buffer
-pub come_back : (o : Outcome) (buffer out : List ℕ) {a : Answer} → buffer ≡ out → outcome_as o out ≡ a → outcome_as o buffer ≡ a
-come_back o buffer out back answer = rw back answer
+  pub finished : (o : Outcome) {left buffer : List ℕ} → buffer ≡ left → outcome_as o left ≡ answered (length w.out.now) (buffer_as w.out.now w.at)
+      → outcome_as o buffer ≡ fitted (length out.now) bytes
+  finished o back answer = rw back answer ∙ answered_fitted bytes kept.size (wrote_buffer (record { out = out; at = Some 0 }) w bytes (rw begins at h))
 
 -- the script flag, and the dependencies by the items
 pub dependencies_written : {t : Sheet} {s : List ℕ} {c : Commented} {p : Parts} → PartsOf t s p → c ≡ commented t → (before : Written) (mid after : Items)

@@ -1,8 +1,7 @@
 // What bytes are: none, a sheet that is refused, or one that is accepted. Each question that is asked of bytes begins here.
-ghost use Rattle.std.specs.Prelude.{◌≡◌, []};
-ghost use Rattle.laws.specs.Decoded.{ok};
-ghost use Rattle.sheet.specs.Sheet.{Sheet, accept};
-ghost use Rattle.module_info.specs.code.Pieces.{commented, Sound, PartsOf, AcceptsIn, IsAccepted};
+ghost use Rattle.std.specs.Prelude.{◌≡◌};
+ghost use Rattle.module_info.specs.code.AcceptedSheet.{IsAccepted, one_sheet};
+ghost use Rattle.module_info.specs.code.Pieces.{commented, Sound, PartsOf, AcceptsIn};
 ghost use Rattle.module_info.specs.code.Judged.{ChecksAs, JudgedAs};
 
 use sheet::commented::Comments;
@@ -19,16 +18,19 @@ pub struct Accepted<'a> {
     sheet: &'a [u8],
     parts: Parts<'a>,
     index: &'a [PositionRow],
+    ghost accepted: { IsAccepted sheet.now } by { one_sheet sheet.now },
 }
 
 impl<'a> Model for Accepted<'a> {
-    ghost use Rattle.std.specs.Prelude.{List, ℕ};
+    ghost use Rattle.module_info.specs.code.AcceptedSheet.{AcceptedSheet, accepted_code};
 
-    ghost Value = { List ℕ };
+    ghost Value = { AcceptedSheet };
+
+    ghost coded = { accepted_code };
 
     ghost use Rattle.module_info.specs.code.Pieces.{AcceptsIn};
 
-    ghost view = { λ a. a.sheet.now };
+    ghost view = { λ a. record { bytes = a.sheet.now; sheet = a.accepted.0; accepted = a.accepted.1 } };
 
     ghost invariant = { λ a. AcceptsIn a.sheet.now a.index.now a.parts };
 }
@@ -36,7 +38,7 @@ impl<'a> Model for Accepted<'a> {
 impl<'a> Accepted<'a> {
     pub fn new(sheet: &'a [u8], parts: Parts<'a>, index: &'a [PositionRow]) -> Accepted<'a>
         requires { AcceptsIn sheet.now index.now parts }
-        ensures { result ≡ sheet.now }
+        ensures { result.bytes ≡ sheet.now }
     {
         Accepted {
             sheet,
@@ -45,16 +47,16 @@ impl<'a> Accepted<'a> {
         }
     }
 
+    #[tactic(auto, using(crate::proofs::Accepted::parts_of))]
     pub fn parts(&self) -> Parts<'a>
-        ensures accepted { IsAccepted self.now }
-        ensures parts { (t : Sheet) → accept self.now ≡ ok t [] → PartsOf t self.now result }
+        ensures { PartsOf self.now.sheet self.now.bytes result }
     {
         self.parts
     }
 
     #[tactic(auto, using(crate::proofs::Accepted::source_sound, crate::proofs::Accepted::commented_of))]
     pub fn comments(&self) -> Comments<'a>
-        ensures comments { (t : Sheet) → accept self.now ≡ ok t [] → result ≡ commented t }
+        ensures comments { result ≡ commented self.now.sheet }
         ensures sound { Sound result.source }
     {
         let front = self.parts.front;
@@ -65,6 +67,7 @@ impl<'a> Accepted<'a> {
 // Checks a sheet: its comments, its groups and the index of its source's positions are in the tables then, or the
 // answer is the first refusal. The table that only the check works in is here, so that its room on the stack is
 // free again for what follows.
+#[tactic(auto, using(crate::proofs::Accepted::source_sound))]
 fn check<'a>(sheet: &'a [u8], tables: &'a mut Tables) -> Result<Accepted<'a>, Refusal>
     ensures { ChecksAs sheet.now result }
 {

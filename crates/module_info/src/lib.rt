@@ -4,10 +4,8 @@
 pub mod judge;
 pub mod source_map;
 
-ghost use Rattle.std.specs.Prelude.{◌≡◌, List, [], ℕ, length, replicate};
-ghost use Rattle.laws.specs.Decoded.{ok};
+ghost use Rattle.std.specs.Prelude.{◌≡◌, List, ℕ, length, replicate};
 ghost use Rattle.laws.specs.code.Told.{Beside};
-ghost use Rattle.sheet.specs.Sheet.{Sheet, accept};
 ghost use Rattle.report.specs.Buffer.{Wrote};
 ghost use Rattle.report.specs.Encode.{encode};
 ghost use Rattle.report.specs.Answer.{zeros, Outcome, outcome_as, fitted};
@@ -30,8 +28,8 @@ use sheet::tables::Tables;
 
 // The script flag and the dependencies, with their rows in the notes.
 fn put_dependencies(accepted: &Accepted, w: &mut Writer, notes: &mut [usize])
-    ensures { (t : Sheet) → accept accepted.now ≡ ok t []
-        → Wrote w.old w.new (dependency_bytes t) × (notes.new ≡ all_noted notes.old (noted t)) }
+    ensures { Wrote w.old w.new (dependency_bytes accepted.now.sheet)
+        × (notes.new ≡ all_noted notes.old (noted accepted.now.sheet)) }
 {
     let comments = accepted.comments();
     let tree = accepted.parts().tree;
@@ -42,7 +40,7 @@ fn put_dependencies(accepted: &Accepted, w: &mut Writer, notes: &mut [usize])
 
 // What the head group gives: references, self types and both JSX sources.
 fn put_head(accepted: &Accepted, w: &mut Writer)
-    ensures { (t : Sheet) → accept accepted.now ≡ ok t [] → Wrote w.old w.new (head_bytes t) }
+    ensures { Wrote w.old w.new (head_bytes accepted.now.sheet) }
 {
     let comments = accepted.comments();
     let parts = accepted.parts();
@@ -59,7 +57,7 @@ fn put_head(accepted: &Accepted, w: &mut Writer)
 #[tactic(auto, using(report::proofs::Buffers::more_append), unfolding(crate::specs::code::Pieces::rest_bytes, pragmas::specs::Pragmas::last_by, pragmas::specs::Pragmas::end_comments))]
 fn put_rest(accepted: &Accepted, ticks: &mut [u8], w: &mut Writer)
     requires { ticks.old ≡ replicate (length ticks.old) 0 }
-    ensures { (t : Sheet) → accept accepted.now ≡ ok t [] → Wrote w.old w.new (rest_bytes t) }
+    ensures { Wrote w.old w.new (rest_bytes accepted.now.sheet) }
 {
     let comments = accepted.comments();
     let long = comments.source().len();
@@ -74,9 +72,10 @@ fn put_rest(accepted: &Accepted, ticks: &mut [u8], w: &mut Writer)
 }
 
 // The parts of the report of a sheet, one after the other. The notes take a row for each dependency.
+#[tactic(auto, using(crate::proofs::Written::report_written))]
 fn put_noted_report(accepted: &Accepted, w: &mut Writer, notes: &mut [usize])
-    ensures { (t : Sheet) → accept accepted.now ≡ ok t []
-        → Wrote w.old w.new (encode (module_info t)) × (notes.new ≡ all_noted notes.old (noted t)) }
+    ensures { Wrote w.old w.new (encode (module_info accepted.now.sheet))
+        × (notes.new ≡ all_noted notes.old (noted accepted.now.sheet)) }
 {
     put_dependencies(accepted, w, notes);
     put_head(accepted, w);
@@ -87,9 +86,8 @@ fn put_noted_report(accepted: &Accepted, w: &mut Writer, notes: &mut [usize])
 // The report of an accepted sheet with its notes, which come cleared and are cleared where the report is refused.
 pub fn write_noted_report(accepted: &Accepted, buffer: &mut [u8], notes: &mut [usize]) -> Outcome
     requires { notes.old ≡ zeros (length notes.old) }
-    ensures { (t : Sheet) → accept accepted.now ≡ ok t []
-        → (outcome_as result buffer.new ≡ fitted (length buffer.old) (encode (module_info t)))
-        × (notes.new ≡ notes_with (length notes.old) (noted t) (outcome_as result buffer.new).number) }
+    ensures { (outcome_as result buffer.new ≡ fitted (length buffer.old) (encode (module_info accepted.now.sheet)))
+        × (notes.new ≡ notes_with (length notes.old) (noted accepted.now.sheet) (outcome_as result buffer.new).number) }
 {
     let mut w = Writer::new(buffer);
     put_noted_report(accepted, &mut w, notes);
@@ -102,8 +100,7 @@ pub fn write_noted_report(accepted: &Accepted, buffer: &mut [u8], notes: &mut [u
 
 // The report of an accepted sheet.
 fn write_report(accepted: &Accepted, buffer: &mut [u8]) -> Outcome
-    ensures { (t : Sheet) → accept accepted.now ≡ ok t []
-        → outcome_as result buffer.new ≡ fitted (length buffer.old) (encode (module_info t)) }
+    ensures { outcome_as result buffer.new ≡ fitted (length buffer.old) (encode (module_info accepted.now.sheet)) }
 {
     let mut none = [0usize; 0];
     write_noted_report(accepted, buffer, &mut none)

@@ -1,8 +1,6 @@
 // The source map by ECMA-426: the second question that a sheet can be asked.
-ghost use Rattle.std.specs.Prelude.{◌≡◌, [], ◌+◌, ◌<◌, ◌^◌, length};
-ghost use Rattle.laws.specs.Decoded.{ok};
+ghost use Rattle.std.specs.Prelude.{◌≡◌, ◌+◌, ◌<◌, ◌^◌, length};
 ghost use Rattle.laws.specs.code.Told.{Bounded};
-ghost use Rattle.sheet.specs.Sheet.{Sheet, accept};
 ghost use Rattle.pragmas.specs.SourceMap.{standard_map};
 ghost use Rattle.pragmas.specs.code.Captured.{CaptureIn};
 ghost use Rattle.module_info.specs.code.Located.{place_from};
@@ -50,8 +48,8 @@ fn locate(base: usize, taken: &Taken) -> SourceMap
 // The source map of an accepted sheet.
 fn read_source_map(accepted: &Accepted) -> Option<SourceMap>
     ensures { Bounded
-        ((t : Sheet) → accept accepted.now ≡ ok t [] → map_of accepted.now result ≡ standard_map t)
-        (TextInside accepted.now result) }
+        (map_of accepted.now.bytes result ≡ standard_map accepted.now.sheet)
+        (TextInside accepted.now.bytes result) }
 {
     let comments = accepted.comments();
     let parts = accepted.parts();

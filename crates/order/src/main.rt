@@ -12,10 +12,9 @@ ghost use Rattle.order.specs.Printed.{work_room, line_room, printed_answer, prin
 use citation::lines::{put_digits, put_text};
 use delivery::check::DELIVERY_LIMIT;
 use delivery::judge::judge;
-use input::read_input;
+use input::answer_input;
 use report::writer::Writer;
-use std::io;
-use std::io::Write;
+use std::{array, io};
 use wire::refusals::Refusal;
 
 // Writes a word and a number.
@@ -74,36 +73,22 @@ fn print_order(delivery: &[u8], work: &mut [u8], line: &mut [u8]) -> usize
     w.written()
 }
 
-// Room for the line of every delivery.
-const LINE_ROOM: usize = 4 * 65536 + 64;
+// Bytes of the buffer in which a delivery is judged.
+const WORK_ROOM: usize = 65536;
 
-fn line_buffer() -> [u8; LINE_ROOM]
-    ensures { line_room ≡ length result }
-{
-    [0; LINE_ROOM]
-}
+// Room for the line of every delivery.
+const LINE_ROOM: usize = 4 * WORK_ROOM + 64;
 
 // One byte more than the longest delivery has, so that a longer one is refused.
 const INPUT_ROOM: usize = DELIVERY_LIMIT + 1;
 
-fn work_buffer() -> [u8; 65536]
-    ensures { work_room ≡ length result }
-{
-    [0; 65536]
-}
-
 // Nothing is printed of what cannot be read.
 fn main(rt: HostRuntime) -> io::Result<()> {
     let mut delivery = [0u8; INPUT_ROOM];
-    let mut stdin = rt.stdin();
-    let Ok(n) = read_input(&mut stdin, &mut delivery) else {
-        return eprintln!(rt; "order: standard input cannot be read");
-    };
-    let mut work = work_buffer();
-    let mut line = line_buffer();
-    let length = print_order(&delivery[..n], &mut work, &mut line);
-    match rt.stdout().write_all(&line[..length]) {
-        Ok(()) => Ok(()),
-        Err(_) => eprintln!(rt; "order: standard output cannot be written to"),
-    }
+    let mut line: [u8; LINE_ROOM] = array::repeat(0);
+    answer_input(rt, "order", &mut delivery, |delivery| {
+        let mut work: [u8; WORK_ROOM] = array::repeat(0);
+        let length = print_order(delivery, &mut work, &mut line);
+        &line[..length]
+    })
 }

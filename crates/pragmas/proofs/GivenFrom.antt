@@ -52,7 +52,8 @@ module _ (source : List ℕ) where
     pub source_map_from : (media : MediaType)
         → Aligned (SpecifierFrom source_map_url_rule source cs) (optional (last_by source_map_url_rule media source cs)) (end_origins source cs)
     unfolding last_by end_origins
-    source_map_from media = both_optional (both_last (read_by source_map_url_rule source) (origin_by source_map_url_rule source) cs (answered source_map_url_rule))
+    source_map_from media =
+        both_optional (both_last (read_by source_map_url_rule source) (origin_by source_map_url_rule source) cs (answered source_map_url_rule))
 
   pub types_from_lem : (cs : List Comment) (gs : List Group) (start : ℕ)
       → Aligned (TypesFrom source cs) (optional (types_in source cs gs start)) (types_origins source cs gs start)

@@ -9,12 +9,12 @@ use Rattle.analysis.specs.Row.{Row, find, is_found}
 use Rattle.analysis.{specs.Patterns.triple_slash_row, specs.Patterns.resolution_mode_row, proofs.Preference.preferred_reads, proofs.Preference.finds}
 use Rattle.sheet.specs.{declared.comments.Comment.Comment, declared.names.Side.TheVariants.Leading, Lookups.group_at, Lookups.body, Sheet.Sheet}
 use Rattle.report.specs.ModuleInfo.{SpecifierWithRange, path, types, ModuleInfo}
-use Rattle.pragmas.specs.Asks.{Asks, path_rule, types_rule, self_types_rule, jsx_import_source_rule, jsx_import_source_types_rule, source_map_url_rule, ts_types_rule}
-use Rattle.pragmas.specs.Asks.{deno_types_rule}
+use Rattle.pragmas.specs.Asks.{Asks, path_rule, types_rule, self_types_rule, jsx_import_source_rule, jsx_import_source_types_rule, source_map_url_rule}
+use Rattle.pragmas.specs.Asks.{ts_types_rule, deno_types_rule}
 use Rattle.pragmas.specs.Readings.{specifier_in, read_by, or_else, first_of, last_of, listed, all_of}
 use Rattle.pragmas.specs.Pragmas.{head_comments, end_comments, given_to, mode_in, mode_by, reference, references_in, first_by, last_by, ts_references}
-use Rattle.pragmas.specs.Pragmas.{self_types_specifier, jsx_import_source, jsx_import_source_types, source_map_url, ts_or_deno_types, types_by, last_in, types_in}
-use Rattle.pragmas.specs.Pragmas.{types_at}
+use Rattle.pragmas.specs.Pragmas.{self_types_specifier, jsx_import_source, jsx_import_source_types, source_map_url, ts_or_deno_types, types_by, last_in}
+use Rattle.pragmas.specs.Pragmas.{types_in, types_at}
 use Rattle.pragmas.specs.Present.{Matched, Read, Reader, only, or_else_by, made, by_rule, ModeRead, by_path, by_types, by_reference, by_ts_or_deno_types}
 use Rattle.pragmas.specs.Present.{NoReading, FirstReading, LastReading, InOrder, Exactly, ExactlyFirst, ExactlyLast, Present, TypesPresent}
 use Rattle.pragmas.proofs.Both.{of_reverse}
@@ -297,7 +297,8 @@ present t m references self jsx jsx_types_lem map = record {
   references = rw references (all_in_order (referring t.source) (head_comments t));
   self_types = rw self (firstly (ruled self_types_rule t.source) (given_to self_types_rule t.media (head_comments t)));
   jsx_import_source = rw jsx (firstly (ruled jsx_import_source_rule t.source) (given_to jsx_import_source_rule t.media (head_comments t)));
-  jsx_import_source_types = rw jsx_types_lem (firstly (ruled jsx_import_source_types_rule t.source) (given_to jsx_import_source_types_rule t.media (head_comments t)));
+  jsx_import_source_types =
+      rw jsx_types_lem (firstly (ruled jsx_import_source_types_rule t.source) (given_to jsx_import_source_types_rule t.media (head_comments t)));
   source_map_url = rw map (lastly (ruled source_map_url_rule t.source) (end_comments t));
 }
 

@@ -11,8 +11,8 @@ use Rattle.sheet.specs.declared.{comments.Comment.Comment, groups.Group.Group, n
 use Rattle.sheet.specs.Lookups.{group_at, comments_of, in_group, body}
 use Rattle.sheet.proofs.Revised.{Alike}
 use Rattle.report.specs.ModuleInfo.{SpecifierWithRange}
-use Rattle.pragmas.specs.Asks.{Asks, path_rule, types_rule, self_types_rule, jsx_import_source_rule, jsx_import_source_types_rule, source_map_url_rule, ts_types_rule}
-use Rattle.pragmas.specs.Asks.{deno_types_rule}
+use Rattle.pragmas.specs.Asks.{Asks, path_rule, types_rule, self_types_rule, jsx_import_source_rule, jsx_import_source_types_rule, source_map_url_rule}
+use Rattle.pragmas.specs.Asks.{ts_types_rule, deno_types_rule}
 use Rattle.pragmas.specs.Readings.{place_in, specifier_in, read_by, first_of, last_of, all_of, optional}
 use Rattle.pragmas.specs.Pragmas.{mode_in, reference, references_in, given_to, first_by, last_by, ts_or_deno_types, types_by, last_in, types_in}
 use Rattle.pragmas.specs.Origins.{origin_by, reference_origin, first_origin, head_origins, end_origins, ts_or_deno_origin, types_origin, types_origins}
@@ -140,7 +140,8 @@ module _ (s r : List ℕ) where
         rw (of_references, self_types_kept.1, jsx_import_source_kept.1, jsx_import_source_types_kept.1)
 
   -- the source map of the group at the program's end
-  pub source_map_kept : (media : MediaType) (cs : List Comment) → All (Alike s r) cs → last_by source_map_url_rule media s cs ≡ last_by source_map_url_rule media r cs
+  pub source_map_kept : (media : MediaType) (cs : List Comment) → All (Alike s r) cs
+      → last_by source_map_url_rule media s cs ≡ last_by source_map_url_rule media r cs
   unfolding last_by
   source_map_kept media cs h =
       last_kept (read_by source_map_url_rule s) (read_by source_map_url_rule r) (λ c a. read_kept a source_map_url_rule (each a).source_mapping_url) cs h
@@ -149,7 +150,8 @@ module _ (s r : List ℕ) where
   unfolding end_origins
   end_origins_kept cs h =
       ap optional
-      (last_kept (origin_by source_map_url_rule s) (origin_by source_map_url_rule r) (λ c a. origin_kept a source_map_url_rule (each a).source_mapping_url) cs h)
+      (last_kept (origin_by source_map_url_rule s) (origin_by source_map_url_rule r)
+      (λ c a. origin_kept a source_map_url_rule (each a).source_mapping_url) cs h)
 
   -- what the last comment of a group gives
   module _ {A : Type 0} (f g : Option Comment → A) (nothing : f None ≡ g None)

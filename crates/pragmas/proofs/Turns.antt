@@ -10,6 +10,7 @@ use Rattle.sheet.specs.declared.comments.Comment.{Comment}
 use Rattle.sheet.specs.code.Commented.{CommentIn, placed_in}
 use Rattle.pragmas.specs.Readings.{or_else, first_of, last_of, listed, optional, all_of}
 use Rattle.pragmas.specs.code.Views.{encode_any}
+use Rattle.report.proofs.Buffers.{more_append, more_nil}
 
 -- what comes last is first from the end
 pub turn_back : {A : Type 0} (rest all : List A) (a : A) → all ≡ rest ++ (a ∷ []) → reverse all ≡ a ∷ reverse rest
@@ -73,3 +74,6 @@ optional_each e o = listed_each e o [] ∙ append-nil (encode_any e o)
 pub each_end : {C A : Type 0} (e : A → List ℕ) (f : C → Option A) (all : List C) → all ≡ [] → flat_map e (all_of f all) ≡ []
 unfolding all_of flat_map
 each_end e f all is = rw is refl
+
+-- of each comment what is listed of it, and the end
+pub ruleset each_placed = (all_placed, listed_each, each_end, more_append, more_nil)

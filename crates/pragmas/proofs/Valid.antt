@@ -4,7 +4,8 @@ use Rattle.laws.proofs.Prelude.{Bool, true, false, ⊎_elim, List, [], ◌∷◌
 use Rattle.laws.specs.Codec.{All}
 use Rattle.text.specs.{declared.utf8.Encoding.TheVariants.Utf8, WellFormed.WellFormed}
 use Rattle.analysis.specs.Row.{Row}
-use Rattle.sheet.specs.{Limits.source_limit, declared.fields.Span.Span, declared.comments.Comment.Comment, declared.groups.Group.Group, Lookups.head_group, Lookups.in_group}
+use Rattle.sheet.specs.{Limits.source_limit, declared.fields.Span.Span, declared.comments.Comment.Comment, declared.groups.Group.Group, Lookups.head_group}
+use Rattle.sheet.specs.{Lookups.in_group}
 use Rattle.sheet.specs.Sheet.{Sheet}
 use Rattle.report.specs.ModuleInfo.{SpecifierWithRange, TypeScriptReference, path, types}
 use Rattle.report.specs.Stands.{StandsAt}

@@ -5,8 +5,8 @@ use Rattle.std.specs.Prelude.{Option}
 use Rattle.laws.specs.Codec.{All, IfThere}
 use Rattle.analysis.specs.declared.Capture.{Capture}
 use Rattle.analysis.specs.Row.{Row}
-use Rattle.analysis.specs.Patterns.{path_row, types_row, jsx_import_source_row, jsx_import_source_types_row, source_mapping_url_row, ts_self_types_row, ts_types_row}
-use Rattle.analysis.specs.Patterns.{deno_types_row}
+use Rattle.analysis.specs.Patterns.{path_row, types_row, jsx_import_source_row, jsx_import_source_types_row, source_mapping_url_row, ts_self_types_row}
+use Rattle.analysis.specs.Patterns.{ts_types_row, deno_types_row}
 use Rattle.sheet.specs.declared.comments.Comment.{Comment}
 use Rattle.sheet.specs.Sheet.{Sheet}
 use Rattle.report.specs.ModuleInfo.{SpecifierWithRange, TypeScriptReference, path, types, DependencyDescriptor, static, dynamic, ModuleInfo}

@@ -38,7 +38,7 @@ fn put_reference_origin(c: &PlacedComment, w: &mut Writer)
 }
 
 // Writes those of the references of the comments.
-#[tactic(auto, using(crate::proofs::Turns::all_placed, crate::proofs::Turns::listed_each, crate::proofs::Turns::each_end, report::proofs::Buffers::more_append, report::proofs::Buffers::more_nil), unfolding(crate::specs::Readings::all_of))]
+#[tactic(auto, using(crate::proofs::Turns::each_placed), unfolding(crate::specs::Readings::all_of))]
 fn put_reference_origins(comments: &Comments, w: &mut Writer)
     ensures { Wrote w.old w.new
         (flat_map encode_origin (all_of (reference_origin comments.now.source) comments.now.comments)) }

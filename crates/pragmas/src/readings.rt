@@ -142,11 +142,8 @@ pub fn last_comment<'a>(comments: &'a Comments<'a>) -> Option<PlacedComment<'a>>
 pub fn put_reading(reading: Option<Taken>, w: &mut Writer)
     ensures { Wrote w.old w.new (encode_optional encode_specifier (option_map specifier_as reading.entry)) }
 {
-    match reading {
-        Some(taken) => {
-            w.put(1);
-            taken.put(w);
-        }
-        None => w.put(0),
+    w.put_flag(reading.is_some());
+    if let Some(taken) = reading {
+        taken.put(w);
     }
 }

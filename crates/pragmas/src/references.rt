@@ -14,6 +14,7 @@ use analysis::{
     find_path_reference, find_resolution_mode, find_types_reference,
     is_comment_triple_slash_reference, specifier,
 };
+use report::names::ReferenceKind;
 use report::writer::Writer;
 use sheet::commented::{Comments, PlacedComment};
 use sheet::names::is_block;
@@ -53,17 +54,17 @@ pub fn read_reference<'a>(c: &PlacedComment<'a>) -> Option<Reference<'a>>
 }
 
 // Writes the reference of a comment, if it has one.
-#[tactic(auto, using(report::proofs::Buffers::wrote_none, report::proofs::Buffers::more_cons, report::proofs::Buffers::more_append), unfolding(report::specs::Encode::encode_reference))]
+#[tactic(auto, using(report::proofs::Buffers::wrote_none, report::proofs::Buffers::parts), unfolding(report::specs::Encode::encode_reference))]
 fn put_reference(reference: Option<Reference>, w: &mut Writer)
     ensures { Wrote w.old w.new (encode_any encode_reference (option_map reference_as reference.entry)) }
 {
     match reference {
         Some(Reference::Path(taken)) => {
-            w.put(0);
+            w.put(ReferenceKind::Path as u8);
             taken.put(w);
         }
         Some(Reference::Types(taken, mode)) => {
-            w.put(1);
+            w.put(ReferenceKind::Types as u8);
             taken.put(w);
             w.put(mode_number(mode));
         }
@@ -82,7 +83,7 @@ fn count_references(comments: &Comments) -> usize
 }
 
 // Writes each of them.
-#[tactic(auto, using(crate::proofs::Turns::all_placed, crate::proofs::Turns::listed_each, crate::proofs::Turns::each_end, report::proofs::Buffers::more_append, report::proofs::Buffers::more_nil), unfolding(crate::specs::Readings::all_of, crate::specs::Pragmas::references_in))]
+#[tactic(auto, using(crate::proofs::Turns::each_placed), unfolding(crate::specs::Readings::all_of, crate::specs::Pragmas::references_in))]
 fn put_references(comments: &Comments, w: &mut Writer)
     ensures { Wrote w.old w.new
         (flat_map encode_reference (references_in comments.now.source comments.now.comments)) }

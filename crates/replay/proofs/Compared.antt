@@ -1,5 +1,6 @@
 -- A buffer beside a report with zeros behind it; and what an outcome's answer holds.
-use Rattle.laws.proofs.Prelude.{◌≡◌, refl, Bool, true, false, ◌&&◌, and-eq-true_iff, List, [], ◌∷◌, ◌++◌, ℕ, ◌+◌, ◌-◌, arith, eqb, length, take, drop, eq-eqb, eqb-true}
+use Rattle.laws.proofs.Prelude.{◌≡◌, refl, Bool, true, false, ◌&&◌, and-eq-true_iff, List, [], ◌∷◌, ◌++◌, ℕ, ◌+◌, ◌-◌, arith, eqb, length, take, drop, eq-eqb}
+use Rattle.laws.proofs.Prelude.{eqb-true}
 use Rattle.std.specs.Prelude.{◌==◌, nat_eq}
 use Rattle.std.specs.List.{list_all}
 use Rattle.std.specs.Cmp.Lexicographic.{pointwise}

@@ -110,7 +110,7 @@ fn run(sheet: &[u8], number: u8, report: &[u8], buffer: &mut [u8]) -> Ran
     buffer.fill(165);
     let outcome = module_info(sheet, buffer);
     Ran {
-        accepted: number_of(outcome) == 0,
+        accepted: outcome.is_ok(),
         same: is_stored(outcome, buffer, number, report),
     }
 }

@@ -9,7 +9,8 @@ module _ (out : List ℕ) (at : ℕ) where
   pub accepted_at : record { number = 0; written = length (take at out); buffer = cleared_from at out } ≡ accepted (length out) (take at out)
   accepted_at = by_room (ltb at (length out)) refl
     where
-      by_room : (t : Bool) → ltb at (length out) ≡ t → record { number = 0; written = length (take at out); buffer = cleared_from at out } ≡ accepted (length out) (take at out)
+      by_room : (t : Bool) → ltb at (length out) ≡ t
+          → record { number = 0; written = length (take at out); buffer = cleared_from at out } ≡ accepted (length out) (take at out)
       by_room true e = rw (length-take-le at out (omega (arith, ltb-true at (length out) e)))
       by_room false e =
           let past : length out - at ≡ 0 = omega (arith, ltb-false at (length out) e) in

@@ -1,6 +1,7 @@
 -- Writing into a buffer part by part: a byte has room or not, parts one after the other are written as one, and no byte changes nothing.
-use Rattle.laws.proofs.Prelude.{◌≡◌, refl, sym, ◌∙◌, Bool, true, false, cond, List, [], ◌∷◌, ◌++◌, append_assoc, append-nil, ℕ, ◌+◌, ◌≤◌, ◌<◌, add-one, arith, Option}
-use Rattle.laws.proofs.Prelude.{leb, length, take, drop, set, length-append, length-drop, length-take, length-set, length-take-le, take_all, leb-false, le-leb, lt-leb}
+use Rattle.laws.proofs.Prelude.{◌≡◌, refl, sym, ◌∙◌, Bool, true, false, cond, List, [], ◌∷◌, ◌++◌, append_assoc, append-nil, ℕ, ◌+◌, ◌≤◌, ◌<◌, add-one, arith}
+use Rattle.laws.proofs.Prelude.{Option, leb, length, take, drop, set, length-append, length-drop, length-take, length-set, length-take-le, take_all, leb-false}
+use Rattle.laws.proofs.Prelude.{le-leb, lt-leb}
 use Rattle.std.specs.Prelude.{None, Some}
 use native.Mathlib.Nat.{add_assoc}
 use lib.Seq.{take-suc-set}
@@ -42,7 +43,15 @@ module _ (out : List ℕ) (at : ℕ) where
   unfolding wrote
   bytes_room s h =
       let front : take (at + length s) (put_mid at (length s) out s) ≡ take at out ++ s = take-put_mid at (length s) out s (at + length s) refl (omega arith) in
-      let size : length (put_mid at (length s) out s) ≡ length out = omega (arith, length-append (take at out) (s ++ drop (length s) (drop at out)), length-append s (drop (length s) (drop at out)), length-take-le at out (omega arith), length-drop (length s) (drop at out), length-drop at out) in
+      let size : length (put_mid at (length s) out s) ≡ length out =
+      omega (
+        arith,
+        length-append (take at out) (s ++ drop (length s) (drop at out)),
+        length-append s (drop (length s) (drop at out)),
+        length-take-le at out (omega arith),
+        length-drop (length s) (drop at out),
+        length-drop at out,
+      ) in
       rw (size, front, length-take-le at out (omega arith), le-leb (at + length s) (length out) h)
 
   pub bytes_none : (s : List ℕ) → 0 < length s → length out < at + length s → full (length out) ≡ wrote (buffer_as out (Some at)) s

@@ -129,7 +129,7 @@ cases =
 as_stated : (map (λ c. (c.0, encode c.0)) cases ≡ cases) × (map (λ c. report c.1) cases ≡ map (λ c. ok c.0 []) cases)
 unfolding byte below numbered flag bytes last_group groups number encode_groups encode_number encode_text flat_map encode_optional encode_list encode_position
     encode_range encode_specifier
-    encode_reference encode_jsdoc encode_key_value encode_attributes encode_argument encode_static encode_dynamic encode_dependency encode optional times list text
-    position range
+    encode_reference encode_jsdoc encode_key_value encode_attributes encode_argument encode_static encode_dynamic encode_dependency encode optional times list
+    text position range
     specifier reference jsdoc key_value attributes argument rest dependency report
 as_stated = (refl, refl)

@@ -5,7 +5,7 @@ use Rattle.laws.proofs.Prelude.{◌≡◌, refl, sym, ap, ◌∙◌, Bool, true,
 use Rattle.laws.proofs.Prelude.{drop, length-append, take-append_seam, drop-append_seam, eqb, lt-ltb}
 use Rattle.laws.{specs.Decoded.ok, specs.Decoded.no, specs.Codec.IfThere, proofs.Decoding.refused}
 use Rattle.wire.{specs.Fields.encode_flag, specs.Fields.value_of, specs.Text.encode_text, specs.Optional.encode_optional, proofs.NumberCodec.number_codec}
-use Rattle.wire.specs.code.Views.{Reading, read_as}
+use Rattle.wire.specs.code.Views.{ReadResult, read_as}
 use Rattle.wire.specs.Number.{largest, number, encode_groups, encode_number}
 use Rattle.report.specs.declared.names.ArgumentKind.TheVariants as arguments
 use Rattle.report.specs.ModuleInfo.{DynamicTemplatePart, DynamicArgument, expr, string, template}
@@ -27,7 +27,7 @@ module _ (s : List ℕ) where
   number_refused small q = record { small = small; read = λ n v t e. absurd (refused (sym q ∙ ap number e ∙ number_codec.complete n v t)) }
 
   -- or what stands for it
-  pub number_or : (r : Reading ℕ) (d : ℕ × Bor (List ℕ)) → read_as r ≡ number s → d.0 ≤ largest →
+  pub number_or : (r : ReadResult ℕ) (d : ℕ × Bor (List ℕ)) → read_as r ≡ number s → d.0 ≤ largest →
       {v : ℕ × Bor (List ℕ)} → v ≡ result_unwrap_or r d → Number s v.0 v.1.now
   number_or (Ok p) d q small is = rw is (number_read (sym q))
   number_or (Err e) d q small is = rw is (number_refused small (sym q))

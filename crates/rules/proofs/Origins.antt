@@ -7,7 +7,8 @@ use Rattle.text.specs.{declared.utf8.Encoding.TheVariants.Utf8, Utf8.formed}
 use Rattle.sheet.specs.code.Commented.{Commented}
 use Rattle.sheet.specs.{Fit.Fit, Limits.entry_limit, Walked.entries, Sheet.Sheet, Sheet.accept}
 use Rattle.sheet_codec.proofs.EntryBytes.{few_entries}
-use Rattle.report.{specs.Origin.encode_origin, specs.declared.writer.Writer.Writer, specs.Buffer.Written, specs.Buffer.written_as, specs.Buffer.more, proofs.Buffers.more_append, proofs.Buffers.more_nil}
+use Rattle.report.{specs.Origin.encode_origin, specs.declared.writer.Writer.Writer, specs.Buffer.Written, specs.Buffer.written_as, specs.Buffer.more}
+use Rattle.report.{proofs.Buffers.more_append, proofs.Buffers.more_nil}
 use Rattle.pragmas.specs.Asks.{self_types_rule, jsx_import_source_rule, jsx_import_source_types_rule}
 use Rattle.pragmas.specs.Pragmas.{head_comments, end_comments, types_at}
 use Rattle.pragmas.specs.Texts.{types_of}
@@ -18,7 +19,7 @@ use Rattle.dep_entries.specs.Entries.{Noted}
 use Rattle.std.specs.Simd.{first_chunks}
 use Rattle.dep.{specs.Collect.starts_of, specs.Collect.numbers_of, proofs.Counted.counted, proofs.Counted.noted_first, proofs.Turns.types_at_start}
 use Rattle.module_info.specs.{Information.module_info, Replaced.noted, Replaced.notes_with}
-use Rattle.rules.specs.code.{Pieces.comment_origins, Rows.starts_in}
+use Rattle.rules.specs.code.{Pieces.comment_origins, Pieces.types_bytes, Rows.starts_in}
 use Rattle.rules.specs.Rules.{types_in, entries_of, OriginFor, origins_in, rules_of}
 use Rattle.rules.specs.Rules as entry
 use Rattle.module_info.proofs.{Notes.held_whole, Accepted.meets}
@@ -61,10 +62,6 @@ unfolding rules_of origins_in comment_origins
 rules_written t u are types rest = rw (rest, types, are) (simp (flat_map_append, more_append))
 
 -- ---- the starts in the rows of the notes
-
--- the origins of types in bytes, for nodes that start there
-abbrev pub types_bytes : Commented → List ℕ → List ℕ
-types_bytes c starts = flat_map encode_origin (flat_map (types_origins c.source c.comments c.groups) starts)
 
 module _ (c : Commented) (rows : List (List ℕ)) (i : ℕ) where
   pub types_next : (u : Written) (d : List ℕ) {v : Written} → i < length rows

@@ -3,18 +3,16 @@
 
 ghost use Rattle.std.specs.Prelude.{◌≡◌, ℕ, ◌+◌, ◌*◌, length, Ok};
 ghost use mathlib.Core.List.{List, [], flat_map};
-ghost use Rattle.laws.specs.Decoded.{ok};
 ghost use Rattle.sheet.specs.Limits.{entry_limit};
-ghost use Rattle.sheet.specs.Sheet.{Sheet, accept};
 ghost use Rattle.report.specs.Buffer.{Wrote};
 ghost use Rattle.report.specs.Origin.{encode_origin};
 ghost use Rattle.report.specs.Encode.{encode};
 ghost use Rattle.report.specs.Answer.{outcome_as, fitted};
-ghost use Rattle.pragmas.specs.Origins.{types_origins};
 ghost use Rattle.dep.specs.Collect.{starts_of};
 ghost use Rattle.module_info.specs.Information.{module_info, default_info};
 ghost use Rattle.module_info.specs.Replaced.{noted, notes_with};
-ghost use Rattle.rules.specs.code.Pieces.{comment_origins};
+ghost use Rattle.module_info.specs.code.Pieces.{commented};
+ghost use Rattle.rules.specs.code.Pieces.{comment_origins, types_bytes};
 ghost use Rattle.rules.specs.code.Rows.{starts_in};
 ghost use Rattle.wire.specs.Refusals.{number_of};
 ghost use Rattle.rules.specs.Rules.{Ruled, rules_of, refused_both, both_fitted, both_as, DemandsOfBoth, ruled_number, ruled_lengths};
@@ -44,32 +42,28 @@ const NOTE_NUMBERS: usize = 1 + 2 * ENTRY_LIMIT;
 // The rows in the notes of an accepted sheet, one for each dependency.
 fn rows_in<'a>(accepted: &Accepted, notes: &'a [usize]) -> &'a [[usize; 2]]
     requires { length notes.now ≡ 1 + 2 * entry_limit }
-    ensures { (t : Sheet) → accept accepted.now ≡ ok t []
-        → notes.now ≡ notes_with (length notes.now) (noted t) 0
-        → starts_in result.now ≡ starts_of (noted t) }
+    ensures { notes.now ≡ notes_with (length notes.now) (noted accepted.now.sheet) 0
+        → starts_in result.now ≡ starts_of (noted accepted.now.sheet) }
 {
     let (rows, _) = notes[1..].as_chunks::<2>();
     &rows[..accepted.parts().tree.entries]
 }
 
 // Writes the origins of types, dependency by dependency, by where the node of each starts.
+#[tactic(auto, using(crate::proofs::Origins::types_next, crate::proofs::Origins::types_end))]
 fn put_types_rules(accepted: &Accepted, rows: &[[usize; 2]], w: &mut Writer)
-    ensures { (t : Sheet) → accept accepted.now ≡ ok t [] → Wrote w.old w.new
-        (flat_map encode_origin (flat_map
-        (types_origins t.source t.comments t.groups)
-        (starts_in rows.now))) }
+    ensures { Wrote w.old w.new (types_bytes (commented accepted.now.sheet) (starts_in rows.now)) }
 {
     let comments = accepted.comments();
-    for row in rows {
-        put_types_origins(&comments, row[0], w);
+    for [start, _] in rows {
+        put_types_origins(&comments, *start, w);
     }
 }
 
 // Writes those of what the head group gives, of the JSDoc imports and of the source map.
 #[tactic(auto, using(report::proofs::Buffers::more_append, laws::proofs::Lists::flat_map_append), unfolding(crate::specs::code::Pieces::comment_origins, pragmas::specs::Pragmas::head_comments, pragmas::specs::Pragmas::end_comments))]
 fn put_comment_rules(accepted: &Accepted, w: &mut Writer)
-    ensures { (t : Sheet) → accept accepted.now ≡ ok t []
-        → Wrote w.old w.new (flat_map encode_origin (comment_origins t)) }
+    ensures { Wrote w.old w.new (flat_map encode_origin (comment_origins accepted.now.sheet)) }
 {
     let comments = accepted.comments();
     let parts = accepted.parts();
@@ -82,10 +76,10 @@ fn put_comment_rules(accepted: &Accepted, w: &mut Writer)
 }
 
 // Writes the rules of an accepted sheet, with the starts of its dependencies' nodes in the rows.
+#[tactic(auto, using(crate::proofs::Origins::rules_written))]
 fn put_rules(accepted: &Accepted, rows: &[[usize; 2]], w: &mut Writer)
-    ensures { (t : Sheet) → accept accepted.now ≡ ok t []
-        → starts_in rows.now ≡ starts_of (noted t)
-        → Wrote w.old w.new (rules_of t) }
+    ensures { starts_in rows.now ≡ starts_of (noted accepted.now.sheet)
+        → Wrote w.old w.new (rules_of accepted.now.sheet) }
 {
     put_types_rules(accepted, rows, w);
     put_comment_rules(accepted, w);
@@ -121,9 +115,9 @@ fn finish_rules(size: usize, rules: Outcome, buffer: &mut [u8]) -> Ruled
 
 // The report of an accepted sheet, and its rules.
 fn write_ruled_report(accepted: &Accepted, buffer: &mut [u8], rules: &mut [u8]) -> Ruled
-    ensures { (t : Sheet) → accept accepted.now ≡ ok t []
-        → both_as result buffer.new rules.new
-        ≡ both_fitted (length buffer.old) (length rules.old) (encode (module_info t)) (rules_of t) }
+    ensures { both_as result buffer.new rules.new
+        ≡ both_fitted (length buffer.old) (length rules.old)
+        (encode (module_info accepted.now.sheet)) (rules_of accepted.now.sheet) }
 {
     let mut notes = [0usize; NOTE_NUMBERS];
     match write_noted_report(accepted, buffer, &mut notes) {

@@ -7,7 +7,8 @@ use borrow.Author.Tests.{eqb-false}
 use Rattle.text.specs.Bytes.{begins}
 use Rattle.scan.specs.Scan.{scan_length, scan_sum, star_opened, longest}
 use Rattle.scan.specs.Dearest.{star_and_braces, Dearest}
-use Rattle.scan.proofs.Steps.{ends, within, other, brace, no_brace, left, at_end, back_brace, back_other}
+use Rattle.std.proofs.lemmas.List.{take_rest}
+use Rattle.scan.proofs.Steps.{ends, within, other, brace, no_brace, at_end, back_brace, back_other}
 
 -- one byte more adds 2n to n(n − 1)
 grows : (n : ℕ) → suc n * (suc n - 1) ≡ n * (n - 1) + 2 * n
@@ -37,7 +38,7 @@ small s h =
 pub room : (s : List ℕ) (i : ℕ) → length s ≤ longest → scan_sum (drop i s) + scan_length (drop i s) < 2 ^ 64
 room s i h = omega (arith, within (drop i s), small (drop i s) (omega (arith, length-drop i s)), length-drop i s)
 
-pub ruleset sums = (at_end, left, back_brace, back_other, room)
+pub ruleset sums = (at_end, take_rest, back_brace, back_other, room)
 
 -- the star adds nothing
 starred : (s : List ℕ) → scan_sum (code "*" ∷ s) ≡ scan_sum s

@@ -1,5 +1,5 @@
 -- Scan length and scan sum from one byte on, by those from the next byte on.
-use Rattle.laws.proofs.Prelude.{◌≡◌, refl, sym, true, false, List, [], ◌∷◌, ℕ, suc, ◌+◌, ◌-◌, ◌≤◌, ◌<◌, code, arith, zero-add, add-one, length, get_or, take, drop, length-drop, take_all}
+use Rattle.laws.proofs.Prelude.{◌≡◌, refl, sym, true, false, List, [], ◌∷◌, ℕ, suc, ◌+◌, ◌-◌, ◌≤◌, ◌<◌, code, arith, zero-add, add-one, length, get_or, drop}
 use Rattle.laws.proofs.Prelude.{drop-cons, eq-eqb, ne_eqb}
 use lib.Seq.{drop-length}
 use native.Mathlib.Nat.{add_comm, zero-min, min-zero, suc-min-suc}
@@ -55,10 +55,6 @@ at_other [] h n e = absurd (omega arith)
 at_other (x ∷ s) h n e = rw add-one (sym (other x s n e))
 
 pub ruleset lengths = (within, at_close, at_import, at_other)
-
--- the bytes of `&s[i..]`
-pub left : (s : List ℕ) (i : ℕ) → take (length s - i) (drop i s) ≡ drop i s
-left s i = take_all (length s - i) (drop i s) (omega (arith, length-drop i s))
 
 -- nothing is left at the end
 pub at_end : (s : List ℕ) → (0 ≡ scan_length (drop (length s) s)) × (0 ≡ scan_sum (drop (length s) s))

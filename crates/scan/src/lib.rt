@@ -5,18 +5,16 @@ ghost use Rattle.std.specs.Prelude.{◌≡◌, ◌≤◌, ◌<◌, length, drop}
 ghost use Rattle.scan.specs.Scan.{scan_length, scan_sum, scanned, longest};
 ghost use Rattle.scan.specs.Answers.{Counted, packed};
 
-use text::bytes::starts_with;
-
 // The longest body, in bytes.
 pub const LONGEST: usize = 32764;
 
 // How far a scan goes over what is left of a body; `behind` is how far it goes from the next byte on.
-#[tactic(auto, using(crate::proofs::Steps::lengths))]
+#[tactic(auto, using(crate::proofs::Steps::lengths, text::proofs::Words::begins_is))]
 fn length_of(rest: &[u8], behind: u64) -> u64
     requires { (0 < length rest.now) × (behind ≡ scan_length (drop 1 rest.now)) }
     ensures { result ≡ scan_length rest.now }
 {
-    if rest[0] == b'}' || starts_with(rest, 0, b"import") {
+    if rest[0] == b'}' || rest.starts_with(b"import") {
         return 0;
     }
     behind + 1
@@ -40,11 +38,11 @@ fn sum_of(body: &[u8]) -> u64
 }
 
 // The scan sum of a body, or nothing for one that is too long or not star-opened.
-#[tactic(auto, using(crate::proofs::Answered::counted, crate::proofs::Answered::too_long, crate::proofs::Answered::not_opened))]
+#[tactic(auto, using(crate::proofs::Answered::counted, crate::proofs::Answered::too_long, crate::proofs::Answered::not_opened, text::proofs::Words::begins_is))]
 pub fn scan_sum(body: &[u8]) -> Option<u64>
     ensures { Counted body.now result }
 {
-    if body.len() <= LONGEST && starts_with(body, 0, b"*") {
+    if body.len() <= LONGEST && body.starts_with(b"*") {
         Some(sum_of(body))
     } else {
         None

@@ -1,9 +1,10 @@
 -- The body of a comment lies within the comment. In a well-formed source it is well-formed, and its boundaries are boundaries of the source.
 use Rattle.laws.proofs.Prelude.{◌≡◌, refl, sym, ap, ◌∙◌, Bool, true, false, List, [], ◌∷◌, ◌++◌, append_assoc, ℕ, ◌+◌, ◌-◌, ◌≤◌, ◌<◌, sub-zero, arith, ltb}
-use Rattle.laws.proofs.Prelude.{length, get_or, take, drop, length-append, length-take, length-drop, get_or-drop, drop-drop, ltb-true, ltb-false}
+use Rattle.laws.proofs.Prelude.{length, get_or, take, drop, length-append, length-take, length-drop, drop-drop, ltb-true, ltb-false}
 use lib.ListN.{take-append-drop, get_or-append}
-use lib.Seq.{get_or-take, get_or_at, drop-append-le}
-use Rattle.text.specs.{declared.utf8.Encoding.TheVariants.Utf8, Bytes.part, Utf8.formed, Position.Boundary}
+use lib.Seq.{get_or_at, drop-append-le}
+use Rattle.std.proofs.lemmas.List.Edits.{get_or-between}
+use Rattle.text.specs.{declared.utf8.Encoding.TheVariants.Utf8, Utf8.formed, Position.Boundary}
 use Rattle.text.proofs.Cuts.{ascii_between, part_formed}
 use Rattle.sheet.specs.{declared.comments.Comment.Comment, Fit.Placed}
 use Rattle.sheet.specs.Comments.{slice, opening, closing}
@@ -39,13 +40,10 @@ body_then source c w j h =
     let n = (body_span c).end - (body_span c).start in
     sym (drop-drop j (body_span c).start source) ∙ rw (← drop-append-le j (take n rest) (drop n rest) h, take-append-drop n rest)
 
--- a byte of a part of a text, and of a body
-part_byte : (s : List ℕ) (p q i : ℕ) → i < q - p → get_or (part s p q) i 0 ≡ get_or s (p + i) 0
-part_byte s p q i l = get_or-take (q - p) (drop p s) i 0 l ∙ get_or-drop p s i 0
-
+-- a byte of a body
 pub body_byte : (source : List ℕ) (c : Comment) → BodyWithin source c → (i : ℕ) → i < length (body source c)
     → get_or (body source c) i 0 ≡ get_or source ((body_span c).start + i) 0
-body_byte source c w i l = part_byte source (body_span c).start (body_span c).end i (omega (arith, w.long))
+body_byte source c w i l = get_or-between source (body_span c).start (body_span c).end i 0 (omega (arith, w.long))
 
 -- ---- boundaries
 
@@ -63,7 +61,7 @@ module _ (source : List ℕ) (c : Comment) (f : formed Utf8 0 source ≡ true) (
       let end = placed_within source c h in
       let k = length front - 1 in
       let byte : get_or source (start + k) 0 ≡ get_or front k 0 =
-      sym (part_byte source start c.span.end k (omega arith))
+      sym (get_or-between source start c.span.end k 0 (omega arith))
       ∙ ap (λ (t : List ℕ). get_or t k 0) h.marks
       ∙ get_or-append front (body source c ++ back) 0 k (omega arith) in
       let behind : start + length front ≡ start + k + 1 = omega arith in
@@ -88,7 +86,7 @@ module _ (source : List ℕ) (c : Comment) (f : formed Utf8 0 source ≡ true) (
           let size : length front ≡ k = omega (arith, ap length all ∙ length-append front (b ∷ bs)) in
           let byte : get_or s k 0 ≡ b = ap (λ (r : List ℕ). get_or r k 0) all ∙ get_or_at front b bs 0 k size in
           let there : c.span.start + k ≡ c.span.end - length (b ∷ bs) = omega arith in
-          let same = rw there at (part_byte source c.span.start c.span.end k (omega arith)) in
+          let same = rw there at (get_or-between source c.span.start c.span.end k 0 (omega arith)) in
           let first : b < 0x80 = rw e at (fenced c.kind).first in
           (ascii_between source f (c.span.end - length (b ∷ bs)) (omega arith) (rw (← same, byte) first)).0
 

@@ -7,7 +7,7 @@ use Rattle.text.specs.declared.position.Position.{Position}
 use Rattle.sheet.specs.declared.{comments.Comment.Comment, groups.Group.Group}
 use Rattle.sheet.specs.Fit.{no_comment, comment_of, Fit, Reaching, Grouped}
 use Rattle.sheet.specs.Lookups.{comments_of, in_group}
-use Rattle.sheet.specs.code.{Commented.Commented, Lent.Lends, Lent.Reached}
+use Rattle.sheet.specs.code.{Commented.Commented, Lent.Lends, Lent.GroupOf}
 
 -- the kth comment of a group
 group_comment : (cs : List Comment) (g : Group) (k : ℕ) → k < g.count → comment_of (comments_of cs g) k ≡ comment_of cs (g.first + k)
@@ -39,6 +39,6 @@ found_fit f None r = none_fit
 found_fit f (Some g) r = group_fit f g r
 
 -- and are lent with the same index
-pub group_lends : {c : Commented} {index : List Position} → Lends c index → (found : Option Group) → Reached c found
+pub group_lends : {c : Commented} {index : List Position} → Lends c index → (found : Option Group) → GroupOf c found
     → Lends (record { source = c.source; comments = in_group c.comments found; groups = [] }) index
 group_lends h found r = record { fit = found_fit h.fit found r; grouped = ungrouped _; indexed = h.indexed }

@@ -13,10 +13,10 @@ use Rattle.sheet.specs.Tree.{Quoted, Pieces, Node, Nodes, Arguments, Properties,
 use Rattle.sheet.specs.Fields.{position, end_from, span}
 use Rattle.sheet.specs.Comments.{slice, marked, chained, comment, group, anywhere, covered}
 use Rattle.sheet.specs.{Quotation.looks_quoted, Program.Program, Program.program, Sheet.Sheet, Sheet.sheet}
-use Rattle.sheet.specs.Nodes.{many, tag, text_behind, string_text, quoted, piece, nodes, argument_item, arguments, keyed_item, property_item, properties, call_rest}
-use Rattle.sheet.specs.Nodes.{attributes, type_rest, other_fields, string_fields, name_fields, template_fields, binary_fields, object_fields, call_fields}
-use Rattle.sheet.specs.Nodes.{import_fields, named_export_fields, export_all_fields, import_type_fields, import_equals_fields, module_fields, fields, node}
-use Rattle.sheet.specs.Nodes.{attributes_object}
+use Rattle.sheet.specs.Nodes.{many, tag, text_behind, string_text, quoted, piece, nodes, argument_item, arguments, keyed_item, property_item, properties}
+use Rattle.sheet.specs.Nodes.{call_rest, attributes, type_rest, other_fields, string_fields, name_fields, template_fields, binary_fields, object_fields}
+use Rattle.sheet.specs.Nodes.{call_fields, import_fields, named_export_fields, export_all_fields, import_type_fields, import_equals_fields, module_fields}
+use Rattle.sheet.specs.Nodes.{fields, node, attributes_object}
 
 module _ {P : (A : Type 0) → Decoder A → Type 0} (h : OfFields P) where
   open h use {kept, a_byte}
@@ -117,8 +117,8 @@ module _ {P : (A : Type 0) → Decoder A → Type 0} (h : OfFields P) where
     attributed f = then (then (flag_kept h) (λ has_object. either kept has_object q (ends _))) (λ a. ends (f a))
 
     fields_kept : (t : ℕ) → P Node (fields source levels inner object sp t)
-    unfolding fields other_fields string_fields name_fields template_fields binary_fields object_fields call_fields import_fields named_export_fields export_all_fields
-        import_type_fields type_rest import_equals_fields module_fields
+    unfolding fields other_fields string_fields name_fields template_fields binary_fields object_fields call_fields import_fields named_export_fields
+        export_all_fields import_type_fields type_rest import_equals_fields module_fields
     fields_kept t =
         let x = quoted_kept source levels in
         let flag_first = flag_kept h in

@@ -1,10 +1,11 @@
 -- The marks of a comment: what the test for them says, and that a comment is no shorter than they are.
 use Rattle.laws.proofs.Prelude.{◌≡◌, sym, ap, ◌∙◌, true, ◌&&◌, and-eq-true_iff, List, [], ◌++◌, append-nil, append_assoc, ◌↔◌, ℕ, ◌+◌, ◌-◌, ◌≤◌, ◌<◌, arith}
 use Rattle.laws.proofs.Prelude.{leb, length, get_or, take, drop, length-append, length-take, length-drop, drop_of_length-le, length-take-le, drop-drop}
-use Rattle.laws.proofs.Prelude.{drop-append_seam, leb-true, le-leb}
+use Rattle.laws.proofs.Prelude.{take_all, drop-append_seam, leb-true, le-leb}
 use lib.{ListN.take-append-drop, Seq.take_at, Seq.drop_at}
 use Rattle.laws.proofs.Lists.{part_part}
-use Rattle.text.{specs.Bytes.begins, proofs.Words.begins_sound, proofs.Words.begins_complete}
+use Rattle.std.specs.{Prelude.nat_eq, List.ends_with}
+use Rattle.text.{specs.Bytes.begins, proofs.Words.begins_is, proofs.Words.begins_sound, proofs.Words.begins_complete}
 use Rattle.sheet.specs.{declared.comments.Comment.Comment, declared.names.CommentKind.CommentKind, Fit.Placed}
 use Rattle.sheet.specs.declared.names.CommentKind.TheVariants.{Line, Block, HtmlOpen, HtmlClose}
 use Rattle.sheet.specs.Comments.{Marks, marks_of, opening, closing, slice, enclosed, marked}
@@ -21,6 +22,12 @@ fenced Line = record { some = omega arith; last = omega arith; first = omega ari
 fenced Block = record { some = omega arith; last = omega arith; first = omega arith }
 fenced HtmlOpen = record { some = omega arith; last = omega arith; first = omega arith }
 fenced HtmlClose = record { some = omega arith; last = omega arith; first = omega arith }
+
+-- what the library's test of an end says
+pub ends_is : (back c : List ℕ) → length back ≤ length c → begins back (drop (length c - length back) c) ≡ ends_with nat_eq c back
+ends_is back c h =
+    let last = drop (length c - length back) c in
+    rw (begins_is back last, take_all (length back) last (omega (arith, length-drop (length c - length back) c)))
 
 -- a text is enclosed by two marks just where it is something between them
 module _ (front back c : List ℕ) where

@@ -34,7 +34,8 @@ begins_one_lem [] m h = absurd (not-suc-le-zero h)
 begins_one_lem (x ∷ s) m h = and-true (eqb x m)
 
 -- a mark in front and a mark at the end, by the first byte and the last
-enclosed_by : (bytes : List ℕ) (m : ℕ) → 2 ≤ length bytes → enclosed (m ∷ []) (m ∷ []) bytes ≡ eqb (get_or bytes 0 0) m && eqb (get_or bytes (length bytes - 1) 0) m
+enclosed_by : (bytes : List ℕ) (m : ℕ) → 2 ≤ length bytes
+    → enclosed (m ∷ []) (m ∷ []) bytes ≡ eqb (get_or bytes 0 0) m && eqb (get_or bytes (length bytes - 1) 0) m
 unfolding enclosed
 enclosed_by bytes m h =
     let last : get_or (drop (length bytes - 1) bytes) 0 0 ≡ get_or bytes (length bytes - 1) 0 = rw (drop-cons bytes (length bytes - 1) 0 (omega arith)) in
@@ -44,7 +45,8 @@ enclosed_by bytes m h =
 -- so the test goes by the first byte and the last
 module _ (bytes : List ℕ) (long : 2 ≤ length bytes) where
   by_ends : looks_quoted bytes
-      ≡ (eqb (get_or bytes 0 0) 0x22 && eqb (get_or bytes (length bytes - 1) 0) 0x22) || (eqb (get_or bytes 0 0) 0x27 && eqb (get_or bytes (length bytes - 1) 0) 0x27)
+      ≡ (eqb (get_or bytes 0 0) 0x22 && eqb (get_or bytes (length bytes - 1) 0) 0x22) ||
+      (eqb (get_or bytes 0 0) 0x27 && eqb (get_or bytes (length bytes - 1) 0) 0x27)
   unfolding looks_quoted
   by_ends = rw (enclosed_by bytes 0x22 long, enclosed_by bytes 0x27 long)
 

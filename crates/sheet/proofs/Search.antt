@@ -109,7 +109,8 @@ module _ (rows : List GroupRow) (side : Side) (position : ℕ) where
         first_there side position (groups_in rows) i (rw length-map inside)
         (λ j l. let h : j < length rows = omega arith in
         rw (group_row_lem rows j h)
-        (earlier (side_number (row j).side) (row j).position (side_number side) position (side_number (row i).side) (row i).position (below j i l inside) stands))
+        (earlier (side_number (row j).side) (row j).position (side_number side) position (side_number (row i).side) (row i).position
+        (below j i l inside) stands))
         (rw (group_row_lem rows i inside) stands)
         ∙ ap Some (group_row_lem rows i inside)
     searched (Err i) inside parted =

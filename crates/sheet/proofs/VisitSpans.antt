@@ -47,7 +47,8 @@ module _ (P : Span → Type 0) where
   called_reported : (sp : Span) (e : Callee) (xs : Arguments) (ns : Nodes) → All P (spans_of xs) → Each (walk_of visiting xs) → Each (walk_all visiting ns)
       → Each (walk_of visiting xs ++ (walk_all visiting ns ++ (called sp e xs ∷ [])))
   called_reported sp e xs ns h x y =
-      both (walk_of visiting xs) (walk_all visiting ns ++ (called sp e xs ∷ [])) x (both (walk_all visiting ns) (called sp e xs ∷ []) y (first_reported xs h, tt))
+      both (walk_of visiting xs) (walk_all visiting ns ++ (called sp e xs ∷ [])) x
+      (both (walk_all visiting ns) (called sp e xs ∷ []) y (first_reported xs h, tt))
 
   mutual
     pub visits_reported : (n : Node) → All P (spans n) → Each (visits n)

@@ -60,6 +60,10 @@ abbrev pub has_star : List ℕ → Bool
 has_star [] = false
 has_star (b ∷ x) = eqb b 0x2A || has_star x
 
--- a module declaration's String gives an entry unless it is a wildcard that is no path
+-- a text starts with `./`, `../` or `/`
+abbrev pub is_relative : List ℕ → Bool
+is_relative x = begins (ascii "./") x || begins (ascii "../") x || begins (ascii "/") x
+
+-- a module declaration's String gives an entry unless it is a wildcard that is not relative
 abbrev pub is_augmentation : List ℕ → Bool
-is_augmentation x = not (has_star x) || begins (ascii "./") x || begins (ascii "../") x || begins (ascii "/") x
+is_augmentation x = not (has_star x) || is_relative x

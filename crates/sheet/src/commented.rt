@@ -8,7 +8,7 @@ ghost use Rattle.sheet.specs.Lookups.{group_at, end_group, head_group, in_group,
 ghost use Rattle.sheet.specs.Fit.{Placed, Fit, Reaching, comment_of};
 ghost use Rattle.sheet.specs.code.Tables.{comments_in};
 ghost use Rattle.sheet.specs.code.Commented.{placed_in};
-ghost use Rattle.sheet.specs.code.Lent.{Lends, Reached, commented_by};
+ghost use Rattle.sheet.specs.code.Lent.{Lends, GroupOf, commented_by};
 
 use super::comments::{Comment, CommentRow};
 use super::fields::Span;
@@ -215,28 +215,29 @@ impl<'a> Comments<'a> {
 
     // The group of a side at a position.
     pub fn group_at(&self, side: Side, position: usize) -> Option<Group>
-        ensures { Bounded (result ≡ group_at self.now.groups side position) (Reached self.now result) }
+        ensures { Bounded (result ≡ group_at self.now.groups side position) (GroupOf self.now result) }
     {
         self.groups.find_group(side, position)
     }
 
     // The trailing group at the program's end.
     pub fn end_group(&self, program: Program) -> Option<Group>
-        ensures { Bounded (result ≡ end_group program self.now.groups) (Reached self.now result) }
+        ensures { Bounded (result ≡ end_group program self.now.groups) (GroupOf self.now result) }
     {
         self.groups.end_group(program)
     }
 
     // The head group.
     pub fn head_group(&self, program: Program) -> Option<Group>
-        ensures { Bounded (result ≡ head_group program self.now.groups) (Reached self.now result) }
+        ensures { Bounded (result ≡ head_group program self.now.groups) (GroupOf self.now result) }
     {
         self.groups.head_group(program)
     }
 
     // The comments of a group, in no groups; none if there is no such group.
+    #[tactic(auto, using(crate::proofs::GroupFit::group_lends))]
     pub fn of(&self, found: Option<Group>) -> Comments<'a>
-        requires { Reached self.now found }
+        requires { GroupOf self.now found }
         ensures { result ≡ record { source = self.now.source; comments = in_group self.now.comments found; groups = [] } }
     {
         Comments {

@@ -10,7 +10,7 @@ use super::fields::{Span, read_end, read_position};
 use super::names::CommentKind;
 use std::mem::size_of;
 use wire::refusals::Refusal;
-use wire::{Cursor, Reading};
+use wire::{Cursor, ReadResult};
 
 // A comment: its kind, and its span with the marks.
 #[derive(Clone, Copy)]
@@ -56,13 +56,11 @@ impl From<CommentRow> for Comment {
 }
 
 // Does the text begin with one mark and end with the other, and is it no shorter than the two?
-#[tactic(auto, unfolding(crate::specs::Comments::enclosed))]
+#[tactic(auto, using(text::proofs::Words::begins_is, crate::proofs::Marks::ends_is), unfolding(crate::specs::Comments::enclosed))]
 fn is_enclosed(text: &[u8], front: &[u8], back: &[u8]) -> bool
     ensures { result ≡ enclosed front.now back.now text.now }
 {
-    front.len() + back.len() <= text.len()
-        && text::bytes::starts_with(text, 0, front)
-        && text::bytes::starts_with(text, text.len() - back.len(), back)
+    front.len() + back.len() <= text.len() && text.starts_with(front) && text.ends_with(back)
 }
 
 // Has the text the marks of its kind?
@@ -80,7 +78,7 @@ fn is_marked(text: &[u8], kind: CommentKind) -> bool
 
 // A comment that starts no earlier than `last`, the end of the one before.
 #[tactic(auto, unfolding(crate::specs::Comments::comment, wire::specs::Fields::numbered, wire::specs::Fields::below))]
-fn read_comment<'a>(source: &[u8], s: &'a [u8], last: usize) -> Reading<'a, Comment>
+fn read_comment<'a>(source: &[u8], s: &'a [u8], last: usize) -> ReadResult<'a, Comment>
     ensures { Told read_as (comment source.now last s.now) (Past (length s.now)) result }
 {
     let (kind, next) = s.byte()?;

@@ -8,7 +8,7 @@ ghost use Rattle.sheet.specs.code.Views.{PastSpan};
 
 use text::position::goes_on;
 use wire::refusals::Refusal;
-use wire::{Cursor, Reading};
+use wire::{Cursor, ReadResult};
 
 // Where something stands in the source: from the start up to the end.
 #[derive(Clone, Copy)]
@@ -26,7 +26,7 @@ fn is_boundary(source: &[u8], p: usize) -> bool
 }
 
 #[tactic(auto, unfolding(crate::specs::Fields::position))]
-pub fn read_position<'a>(source: &[u8], s: &'a [u8]) -> Reading<'a, usize>
+pub fn read_position<'a>(source: &[u8], s: &'a [u8]) -> ReadResult<'a, usize>
     ensures { Told read_as (position source.now s.now) (Past (length s.now)) result }
 {
     let (p, next) = s.number()?;
@@ -39,7 +39,7 @@ pub fn read_position<'a>(source: &[u8], s: &'a [u8]) -> Reading<'a, usize>
 
 // A position that does not precede `start`.
 #[tactic(auto, unfolding(crate::specs::Fields::end_from))]
-pub fn read_end<'a>(source: &[u8], s: &'a [u8], start: usize) -> Reading<'a, usize>
+pub fn read_end<'a>(source: &[u8], s: &'a [u8], start: usize) -> ReadResult<'a, usize>
     ensures { Told read_as (end_from source.now start s.now) (Past (length s.now)) result }
 {
     let (end, next) = read_position(source, s)?;
@@ -51,7 +51,7 @@ pub fn read_end<'a>(source: &[u8], s: &'a [u8], start: usize) -> Reading<'a, usi
 }
 
 #[tactic(auto, using(crate::proofs::CommentCodecs::span_part), unfolding(crate::specs::Fields::span))]
-pub fn read_span<'a>(source: &[u8], s: &'a [u8]) -> Reading<'a, Span>
+pub fn read_span<'a>(source: &[u8], s: &'a [u8]) -> ReadResult<'a, Span>
     ensures { Told read_as (span source.now s.now) (PastSpan source.now (length s.now)) result }
 {
     let (start, next) = read_position(source, s)?;

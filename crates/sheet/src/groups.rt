@@ -10,10 +10,10 @@ use super::fields::read_position;
 use super::names::Side;
 use std::mem::size_of;
 use wire::refusals::Refusal;
-use wire::{Cursor, Reading};
+use wire::{Cursor, ReadResult};
 
 // Where a group stands: groups are in the order of their sides, and on a side in that of their positions.
-pub type Place = (Side, usize);
+pub type GroupPlace = (Side, usize);
 
 // A group of comments on a side of a position; the index of its first comment, and their number.
 #[derive(Clone, Copy)]
@@ -83,8 +83,8 @@ fn read_group<'a>(
     source: &[u8],
     s: &'a [u8],
     total: usize,
-    before: Option<Place>,
-) -> Reading<'a, Group>
+    before: Option<GroupPlace>,
+) -> ReadResult<'a, Group>
     ensures { Told read_as (group source.now total (after_as before) s.now) (Past (length s.now)) result }
 {
     let (side, next) = s.byte()?;

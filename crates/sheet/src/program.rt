@@ -7,7 +7,7 @@ ghost use Rattle.sheet.specs.Fields.{position};
 ghost use Rattle.sheet.specs.Program.{program};
 
 use super::fields::{Span, read_position, read_span};
-use wire::{Cursor, Reading};
+use wire::{Cursor, ReadResult};
 
 #[derive(Clone, Copy)]
 pub struct Program {
@@ -19,7 +19,7 @@ pub struct Program {
 }
 
 #[tactic(auto, unfolding(wire::specs::Optional::optional))]
-fn read_first_item<'a>(source: &[u8], s: &'a [u8]) -> Reading<'a, Option<usize>>
+fn read_first_item<'a>(source: &[u8], s: &'a [u8]) -> ReadResult<'a, Option<usize>>
     ensures { Told read_as (optional (position source.now) s.now) (Past (length s.now)) result }
 {
     let (has_item, next) = s.flag()?;
@@ -32,7 +32,7 @@ fn read_first_item<'a>(source: &[u8], s: &'a [u8]) -> Reading<'a, Option<usize>>
 }
 
 #[tactic(auto, unfolding(crate::specs::Program::program))]
-pub fn read_program<'a>(source: &[u8], s: &'a [u8]) -> Reading<'a, Program>
+pub fn read_program<'a>(source: &[u8], s: &'a [u8]) -> ReadResult<'a, Program>
     ensures { Told read_as (program source.now s.now) (Past (length s.now)) result }
 {
     let (script, next) = s.flag()?;

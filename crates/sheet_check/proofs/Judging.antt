@@ -3,7 +3,8 @@ use Rattle.laws.proofs.Prelude.{◌≡◌, refl, List, ℕ, ◌≤◌, ◌<◌, 
 use Rattle.laws.specs.Decoded.{ok, no}
 use Rattle.sheet.specs.{Limits.sheet_limit, Sheet.sized, Sheet.accept}
 use Rattle.sheet_check.specs.declared.front.Front as declared
-use Rattle.sheet_check.specs.{declared.tree.Tree.Tree, code.Pieces.front, code.Pieces.tree, code.Views.front_of, code.Views.Inside, code.Views.Stands, code.Accepts.Accepts}
+use Rattle.sheet_check.specs.{declared.tree.Tree.Tree, code.Pieces.front, code.Pieces.tree, code.Views.front_of, code.Views.FrontIn, code.Views.Stands}
+use Rattle.sheet_check.specs.{code.Accepts.Accepts}
 use Rattle.sheet_check.proofs.ByPieces.{whole, accept_by_pieces}
 
 pub too_many : (s : List ℕ) → sheet_limit < length s → accept s ≡ no 1
@@ -20,7 +21,7 @@ module _ (s : List ℕ) (few : length s ≤ sheet_limit) where
     pub refused_tree : {r : ℕ} → tree t.source.now u ≡ no r → accept s ≡ no r
     refused_tree h = rw (accept_by_pieces s, fits, e, h)
 
-    pub accepts : (x : Tree) → Inside s t → Stands t.source.now u x → Accepts s (record { front = t; tree = x })
+    pub accepts : (x : Tree) → FrontIn s t → Stands t.source.now u x → Accepts s (record { front = t; tree = x })
     unfolding tree
     accepts x inside stands =
         record {

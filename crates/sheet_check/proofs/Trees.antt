@@ -3,7 +3,7 @@ use Rattle.laws.proofs.Prelude.{◌≡◌, ap, ◌∙◌, true, false, List, [],
 use Rattle.laws.specs.Decoded.{ok, no, on_ok}
 use Rattle.laws.proofs.Decoding.{on_ok_ok, on_ok_no}
 use Rattle.sheet.specs.{Limits.depth_limit, Tree.Node, Program.Program, Program.program, Nodes.node}
-use Rattle.sheet_nodes.specs.{declared.tally.NodeTally.NodeTally, code.Tallies.node_tally, code.Reach.ReachesIn}
+use Rattle.sheet_nodes.specs.{code.Tallies.NodeTally, code.Tallies.node_tally, code.Reach.ReachesIn}
 use Rattle.sheet_check.specs.{declared.tree.Tree.Tree, code.Pieces.tree, code.Views.Stands}
 
 module _ (source s : List ℕ) {p : Program} {t : List ℕ} (before : program source s ≡ ok p t) where

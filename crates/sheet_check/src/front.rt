@@ -12,7 +12,7 @@ use sheet::limits::{COMMENT_LIMIT, GROUP_LIMIT, SOURCE_LIMIT};
 use sheet::names::MediaType;
 use text::utf8::Encoding;
 use wire::refusals::Refusal;
-use wire::{Cursor, Reading};
+use wire::{Cursor, ReadResult};
 
 // The media byte, the source and where it starts in the sheet, and the rows of its comments and groups.
 #[derive(Clone, Copy)]
@@ -26,7 +26,7 @@ pub struct Front<'a> {
 
 // The media byte and the source.
 #[tactic(auto, unfolding(crate::specs::code::Pieces::source_fields, wire::specs::Fields::numbered, wire::specs::Fields::below))]
-fn read_source(sheet: &[u8]) -> Reading<'_, (MediaType, &[u8])>
+fn read_source(sheet: &[u8]) -> ReadResult<'_, (MediaType, &[u8])>
     ensures { Told source_as
         (source_fields sheet.now)
         (WithinSource sheet.now) result }
@@ -43,7 +43,7 @@ fn read_comment_table<'a>(
     source: &[u8],
     s: &'a [u8],
     table: &'a mut [CommentRow],
-) -> Reading<'a, &'a [CommentRow]>
+) -> ReadResult<'a, &'a [CommentRow]>
     requires { comment_limit ≤ length table.old }
     ensures { Told comment_rows_as
         (comment_fields source.now s.now)
@@ -63,7 +63,7 @@ fn read_group_table<'a>(
     n: usize,
     table: &'a mut [GroupRow],
     longest: &mut [u32],
-) -> Reading<'a, &'a [GroupRow]>
+) -> ReadResult<'a, &'a [GroupRow]>
     requires groups_in_bounds { group_limit ≤ length table.old }
     requires longest_in_bounds { n ≤ length longest.old }
     ensures { Told group_rows_as
@@ -88,7 +88,7 @@ pub fn read_front<'a>(
     comment_table: &'a mut [CommentRow],
     group_table: &'a mut [GroupRow],
     longest: &mut [u32],
-) -> Reading<'a, Front<'a>>
+) -> ReadResult<'a, Front<'a>>
     requires comments_in_bounds { comment_limit ≤ length comment_table.old }
     requires groups_in_bounds { group_limit ≤ length group_table.old }
     requires longest_in_bounds { comment_limit ≤ length longest.old }

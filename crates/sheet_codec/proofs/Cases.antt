@@ -24,6 +24,6 @@ example =
 
 itself : on_ok encode_sheet (decode_sheet example) ≡ ok example []
 unfolding begins admits length_by char_length formed byte below numbered flag bytes last_group groups number encode_groups encode_number count text encode_text
-    is_boundary position end_from span enclosed marked chained comment group covered flat_map optional encode_optional program many tag nodes other_fields fields
-    node sheet decode_sheet encode_node encode_nodes encode_sheet
+    is_boundary position end_from span enclosed marked chained comment group covered flat_map optional encode_optional program many tag nodes other_fields
+    fields node sheet decode_sheet encode_node encode_nodes encode_sheet
 itself = refl

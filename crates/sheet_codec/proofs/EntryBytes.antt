@@ -48,7 +48,15 @@ mutual
   node_entries (object sp ps) = simp length-append (omega (arith, properties_entries ps))
   node_entries (import_call sp phase xs ns) =
       simp length-append
-      (omega (arith, span_long sp, number_long (arguments_in xs), arguments_entries xs, one_most (any_argument xs), number_long (nodes_in ns), nodes_entries ns))
+      (omega (
+        arith,
+        span_long sp,
+        number_long (arguments_in xs),
+        arguments_entries xs,
+        one_most (any_argument xs),
+        number_long (nodes_in ns),
+        nodes_entries ns,
+      ))
   node_entries (call sp e xs ns) =
       simp length-append
       (omega (

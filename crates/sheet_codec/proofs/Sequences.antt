@@ -6,7 +6,8 @@ use Rattle.laws.proofs.Decoding.{then_then}
 use Rattle.text.specs.declared.utf8.Encoding.{Encoding, TheVariants.Wtf8}
 use Rattle.wire.specs.{Number.number, Optional.optional}
 use Rattle.wire.specs.Text as wire
-use Rattle.sheet.specs.{declared.fields.Span.Span, declared.groups.Group.Group, Quotation.looks_quoted, Program.program, Nodes.many, Nodes.text_behind, Nodes.string_text}
+use Rattle.sheet.specs.{declared.fields.Span.Span, declared.groups.Group.Group, Quotation.looks_quoted, Program.program, Nodes.many, Nodes.text_behind}
+use Rattle.sheet.specs.{Nodes.string_text}
 use Rattle.sheet.specs.Fields as sheet
 use Rattle.sheet.specs.Comments.{slice, marked, chained, comment, comments, end_of, group, groups, anywhere, may_follow}
 use Rattle.sheet.proofs.EnumNumbers.{kind_numbers, side_numbers}
@@ -59,7 +60,8 @@ module _ (source : List ℕ) where
   string_fields_lem of h =
       same (λ s. simp then_then)
       (then (start_field source) (λ start u.
-      then_tested (sheet.end_from source start) (λ end. looks_quoted (slice source (record { start = start; end = end }))) 13 (string_end_lem source start) (λ end v.
+      then_tested (sheet.end_from source start) (λ end. looks_quoted (slice source (record { start = start; end = end }))) 13 (string_end_lem source start)
+      (λ end v.
       last (of (record { start = start; end = end })) (text_fields_lem field.text_length Wtf8) (λ x w. h (record { start = start; end = end }) x))))
 
   comment_fields_lem : (last : ℕ) → FieldsOf (comment source last) Any (comment_fields source last)
@@ -89,7 +91,8 @@ module _ (source : List ℕ) where
   unfolding program
   program_fields_lem =
       then flag_field (λ script a. then span_fields_lem (λ sp b. then flag_field (λ shebang c.
-      last (λ first. record { script = script; span = sp; shebang = shebang; first = first }) (optional_fields_lem (start_field source)) (λ first d. (tt, refl)))))
+      last (λ first. record { script = script; span = sp; shebang = shebang; first = first }) (optional_fields_lem (start_field source))
+      (λ first d. (tt, refl)))))
 
 -- items that add to a list
 module _ {L : Type 0} (size : L → ℕ) (fields : L → List Entry) where

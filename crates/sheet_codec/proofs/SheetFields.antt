@@ -15,5 +15,6 @@ sheet_fields =
     then (count_field comments) (λ n c. then (comments_fields source n) (λ cs long.
     then (count_field groups) (λ m d. then (groups_fields source n m) (λ gs long'.
     then (every_comment_lem gs n) (λ u e. then (program_fields_lem source) (λ p f.
-    last (λ root. record { media = media; source = source; comments = cs; groups = gs; program = p; root = root }) (node_fields_lem source depth_limit) (λ root g.
+    last (λ root. record { media = media; source = source; comments = cs; groups = gs; program = p; root = root }) (node_fields_lem source depth_limit)
+    (λ root g.
     (tt, rw (long, long')))))))))))

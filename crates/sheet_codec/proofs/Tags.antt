@@ -9,9 +9,11 @@ use Rattle.wire.{specs.Number.largest, specs.Number.encode_number, specs.Text.en
 use Rattle.wire.proofs.{Numbered.numbered_codec, TextCodec.flag_codec, OptionalCodec.optional_codec}
 use Rattle.sheet.specs.{Limits.text_limit, Limits.property_limit, declared.fields.Span.Span, declared.names.ImportPhase.ImportPhase, Fields.encode_span}
 use Rattle.sheet.specs.Tree.{Quoted, Pieces, Node, other, string, name, template, binary, object, import_call, call, import_decl, named_export, export_from}
-use Rattle.sheet.specs.Tree.{export_all, import_type, import_equals, import_require, module_decl, Nodes, Arguments, Properties, Attributes, without, with_object}
-use Rattle.sheet.specs.Nodes.{call_rest, attributes, type_rest, other_fields, string_fields, name_fields, template_fields, binary_fields, object_fields, call_fields}
-use Rattle.sheet.specs.Nodes.{import_fields, named_export_fields, export_all_fields, import_type_fields, import_equals_fields, module_fields, fields}
+use Rattle.sheet.specs.Tree.{export_all, import_type, import_equals, import_require, module_decl, Nodes, Arguments, Properties, Attributes, without}
+use Rattle.sheet.specs.Tree.{with_object}
+use Rattle.sheet.specs.Nodes.{call_rest, attributes, type_rest, other_fields, string_fields, name_fields, template_fields, binary_fields, object_fields}
+use Rattle.sheet.specs.Nodes.{call_fields, import_fields, named_export_fields, export_all_fields, import_type_fields, import_equals_fields, module_fields}
+use Rattle.sheet.specs.Nodes.{fields}
 use Rattle.sheet.proofs.EnumNumbers.{phase_numbers}
 use Rattle.sheet_codec.specs.Encode.{nodes_in, arguments_in, properties_in, encode_node, encode_nodes, encode_arguments, encode_properties, encode_attributes}
 use Rattle.sheet_codec.specs.Limits.{TextFits, SpanFits, PlaceFits, NodeFits, NodesFit, ArgumentsFit, AttributesFit}
@@ -55,7 +57,8 @@ ObjectCodec source d object' = Built object'
     (λ p. 5 ∷ (encode_span p.0 ++ (encode_number (properties_in p.1) ++ encode_properties p.1)))
     (λ p. AttributesFit source (with_object p.0 p.1) d)
 
-module _ (source : List ℕ) (small : length source ≤ largest) (d : ℕ) (node : Decoder Node) (node_codec : Codec node encode_node (λ n. NodeFits source n d)) where
+module _ (source : List ℕ) (small : length source ≤ largest) (d : ℕ) (node : Decoder Node)
+    (node_codec : Codec node encode_node (λ n. NodeFits source n d)) where
   module _ (object' : Decoder Attributes) (object_built : ObjectCodec source d object') where
     attributes_codec : Codec (attributes object') encode_attributes (λ a. AttributesFit source a d)
     unfolding attributes encode_attributes AttributesFit

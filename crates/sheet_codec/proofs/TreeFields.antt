@@ -9,8 +9,8 @@ use Rattle.sheet.{specs.declared.fields.Span.Span, specs.Names.import_phases, sp
 use Rattle.sheet.specs.Tree.{Node, other, string, name, template, binary, object, import_call, call, import_decl, named_export, export_from, export_all}
 use Rattle.sheet.specs.Tree.{import_type, import_equals, import_require, module_decl, none, more, argument, Properties, no_properties, spread, other_property}
 use Rattle.sheet.specs.Tree.{child_key, string_key, name_key, Attributes, without, with_object}
-use Rattle.sheet.specs.Nodes.{many, tag, quoted, piece, nodes, argument_item, arguments, keyed_item, property_item, properties, call_rest, attributes, type_rest}
-use Rattle.sheet.specs.Nodes.{other_fields, string_fields, name_fields, template_fields, binary_fields, object_fields, call_fields, import_fields}
+use Rattle.sheet.specs.Nodes.{many, tag, quoted, piece, nodes, argument_item, arguments, keyed_item, property_item, properties, call_rest, attributes}
+use Rattle.sheet.specs.Nodes.{type_rest, other_fields, string_fields, name_fields, template_fields, binary_fields, object_fields, call_fields, import_fields}
 use Rattle.sheet.specs.Nodes.{named_export_fields, export_all_fields, import_type_fields, import_equals_fields, module_fields, fields, node, attributes_object}
 use Rattle.sheet_codec.specs.Encode.{nodes_in, arguments_in, properties_in}
 use Rattle.sheet_codec.specs.Field as field
@@ -127,7 +127,8 @@ module _ (source : List ℕ) where
           (arguments_in p.0) ∷ (arguments_fields source p.0 d ++ (a_number field.free (nodes_in p.1) ∷ nodes_fields source p.1 d)))
       unfolding call_rest
       rest_fields =
-          then free_field (λ n a. then (arguments_fields_lem n) (λ xs e. then free_field (λ m b. last (λ ns. (xs, ns)) (nodes_fields_lem m) (λ ns f. (tt, rw (e, f))))))
+          then free_field (λ n a. then (arguments_fields_lem n)
+          (λ xs e. then free_field (λ m b. last (λ ns. (xs, ns)) (nodes_fields_lem m) (λ ns f. (tt, rw (e, f))))))
 
       call_fields_lem : Behind 6 [] (call_fields source d inner inner' sp)
       unfolding call_fields node_fields
@@ -160,14 +161,16 @@ module _ (source : List ℕ) where
         where
           by : (b : Bool)
               → Behind 11 (a_flag b ∷ [])
-              (cond b (flag >>= λ type_only. flag >>= λ export. quoted source d >>= λ x. return (import_require sp type_only export x)) (return (import_equals sp)))
+              (cond b (flag >>= λ type_only. flag >>= λ export. quoted source d >>= λ x. return (import_require sp type_only export x))
+              (return (import_equals sp)))
           by true = then flag_field
               (λ type_only a. then flag_field (λ export b. last (λ x. import_require sp type_only export x) (quoted_fields_lem d) (λ x c. (tt, refl))))
           by false = ends (import_equals sp) (tt, refl)
 
       -- where it is no String
       tag_fields : (t : ℕ) → t < 13 → (t ≡ 1 → ⊥) → Behind t [] (fields source d inner inner' sp t)
-      unfolding fields other_fields name_fields template_fields binary_fields object_fields import_fields export_all_fields import_type_fields module_fields node_fields
+      unfolding fields other_fields name_fields template_fields binary_fields object_fields import_fields export_all_fields import_type_fields module_fields
+          node_fields
       tag_fields zero l h = then free_field (λ n a. last (λ ns. other sp ns) (nodes_fields_lem n) (λ ns e. (tt, rw e)))
       tag_fields (suc zero) l h = absurd (h refl)
       tag_fields (suc (suc t)) l h =
@@ -182,11 +185,13 @@ module _ (source : List ℕ) where
           (λ type_only a. then (numbered_field field.phase phase_numbers refl) (λ phase b. then flag_field (λ side_effect c. then (quoted_fields_lem d) (λ x e.
           last (λ a. import_decl sp type_only phase side_effect x a) attributes_fields_lem (λ a f. (tt, refl)))))))
           (next export_fields
-          (next (then flag_field (λ type_only a. then (quoted_fields_lem d) (λ x b. last (λ a. export_all sp type_only x a) attributes_fields_lem (λ a c. (tt, refl)))))
+          (next (then flag_field
+          (λ type_only a. then (quoted_fields_lem d) (λ x b. last (λ a. export_all sp type_only x a) attributes_fields_lem (λ a c. (tt, refl)))))
           (next (then (quoted_fields_lem d) (λ x a. then free_field (λ n b. last (λ p. import_type sp x p.0 p.1) (type_fields n) (λ p e. (tt, rw e)))))
           (next equals_fields
           (next
-          (then (optional_fields_lem (quoted_fields_lem d)) (λ x a. then free_field (λ n b. last (λ ns. module_decl sp x ns) (nodes_fields_lem n) (λ ns e. (tt, rw e)))))
+          (then (optional_fields_lem (quoted_fields_lem d))
+          (λ x a. then free_field (λ n b. last (λ ns. module_decl sp x ns) (nodes_fields_lem n) (λ ns e. (tt, rw e)))))
           done)))))))))))
           t (omega arith))
 

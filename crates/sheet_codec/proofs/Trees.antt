@@ -18,7 +18,8 @@ use Rattle.sheet_codec.proofs.Lists.{AddsItem, Opens, reads_built, reads_byte, m
 use Rattle.sheet_codec.proofs.{Parts.span_codec, Strings.short_text_lem}
 
 -- the pieces of a template
-pub pieces_codec : (k : ℕ) → Codec (many [] piece k) (flat_map (encode_optional encode_text)) (λ ps. (length ps ≡ k) × All (IfThere (TextFits Wtf8 text_limit)) ps)
+pub pieces_codec : (k : ℕ)
+    → Codec (many [] piece k) (flat_map (encode_optional encode_text)) (λ ps. (length ps ≡ k) × All (IfThere (TextFits Wtf8 text_limit)) ps)
 unfolding piece flat_map
 pieces_codec = many_codec length (flat_map (encode_optional encode_text)) (All (IfThere (TextFits Wtf8 text_limit))) (record {
   empty = (refl, refl, tt);
@@ -35,7 +36,8 @@ pieces_codec = many_codec length (flat_map (encode_optional encode_text)) (All (
     opens (x ∷ ps) v = inr (x ∷◌, ps, encode_optional encode_text x, refl, refl, refl, v.1, λ t. rw (piece_text.complete x v.0 t))
 
 -- the parts of a node that hold nodes, where d levels are left for these
-module _ (source : List ℕ) (small : length source ≤ largest) (d : ℕ) (node : Decoder Node) (node_codec : Codec node encode_node (λ n. NodeFits source n d)) where
+module _ (source : List ℕ) (small : length source ≤ largest) (d : ℕ) (node : Decoder Node)
+    (node_codec : Codec node encode_node (λ n. NodeFits source n d)) where
   pub nodes_codec : (k : ℕ) → Codec (nodes node k) encode_nodes (λ ns. (nodes_in ns ≡ k) × NodesFit source ns d)
   unfolding nodes encode_nodes NodesFit
   nodes_codec = many_codec nodes_in encode_nodes (λ ns. NodesFit source ns d) (record {

@@ -49,9 +49,11 @@ unfoldable mutual
   encode_node (binary sp plus l r) = 4 ∷ (encode_span sp ++ (encode_flag plus ++ (encode_node l ++ encode_node r)))
   encode_node (object sp ps) = 5 ∷ (encode_span sp ++ (encode_number (properties_in ps) ++ encode_properties ps))
   encode_node (import_call sp phase xs ns) =
-      6 ∷ (encode_span sp ++ (phase_number phase ∷ ((encode_number (arguments_in xs) ++ encode_arguments xs) ++ (encode_number (nodes_in ns) ++ encode_nodes ns))))
+      6 ∷ (encode_span sp ++
+      (phase_number phase ∷ ((encode_number (arguments_in xs) ++ encode_arguments xs) ++ (encode_number (nodes_in ns) ++ encode_nodes ns))))
   encode_node (call sp e xs ns) =
-      6 ∷ (encode_span sp ++ (3 ∷ (encode_node e ++ ((encode_number (arguments_in xs) ++ encode_arguments xs) ++ (encode_number (nodes_in ns) ++ encode_nodes ns)))))
+      6 ∷ (encode_span sp ++
+      (3 ∷ (encode_node e ++ ((encode_number (arguments_in xs) ++ encode_arguments xs) ++ (encode_number (nodes_in ns) ++ encode_nodes ns)))))
   encode_node (import_decl sp type_only phase side_effect x a) =
       7 ∷ (encode_span sp ++ (encode_flag type_only ++ (phase_number phase ∷ (encode_flag side_effect ++ (encode_quoted x ++ encode_attributes a)))))
   encode_node (named_export sp type_only) = 8 ∷ (encode_span sp ++ (encode_flag type_only ++ encode_flag false))

@@ -115,7 +115,8 @@ module _ (source : List ℕ) where
     node_fields (import_decl sp type_only phase' side_effect x a) levels =
         a_tag any_node levels 7
         ∷ (span_fields sp
-        ++ (a_flag type_only ∷ a_byte phase (phase_number phase') ∷ a_flag side_effect ∷ (quoted_fields (under levels) x ++ attributes_fields a (under levels))))
+        ++ (a_flag type_only ∷ a_byte phase (phase_number phase') ∷ a_flag side_effect
+        ∷ (quoted_fields (under levels) x ++ attributes_fields a (under levels))))
     node_fields (named_export sp type_only) levels = a_tag any_node levels 8 ∷ (span_fields sp ++ (a_flag type_only ∷ a_flag false ∷ []))
     node_fields (export_from sp type_only x a) levels =
         a_tag any_node levels 8 ∷ (span_fields sp ++ (a_flag type_only ∷ a_flag true ∷ (quoted_fields (under levels) x ++ attributes_fields a (under levels))))
@@ -147,8 +148,10 @@ module _ (source : List ℕ) where
     properties_fields no_properties levels = []
     properties_fields (spread n ps) levels = (a_byte property 0 ∷ node_fields n levels) ++ properties_fields ps levels
     properties_fields (other_property n ps) levels = (a_byte property 1 ∷ node_fields n levels) ++ properties_fields ps levels
-    properties_fields (child_key k v ps) levels = (a_byte property 2 ∷ a_byte key 0 ∷ (node_fields k levels ++ node_fields v levels)) ++ properties_fields ps levels
-    properties_fields (string_key k v ps) levels = (a_byte property 2 ∷ a_byte key 1 ∷ (short_text Wtf8 k ++ node_fields v levels)) ++ properties_fields ps levels
+    properties_fields (child_key k v ps) levels =
+        (a_byte property 2 ∷ a_byte key 0 ∷ (node_fields k levels ++ node_fields v levels)) ++ properties_fields ps levels
+    properties_fields (string_key k v ps) levels =
+        (a_byte property 2 ∷ a_byte key 1 ∷ (short_text Wtf8 k ++ node_fields v levels)) ++ properties_fields ps levels
     properties_fields (name_key k v ps) levels = (a_byte property 2 ∷ a_byte key 2 ∷ (short_text Utf8 k ++ node_fields v levels)) ++ properties_fields ps levels
 
     -- flag, Object if 1

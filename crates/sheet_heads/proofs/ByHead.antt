@@ -15,8 +15,8 @@ use Rattle.sheet.specs.Nodes.{module_fields, fields, argument_item, keyed_item, 
 use Rattle.sheet_heads.specs.code.Head.{Head, other_head, string_head, name_head, template_head, binary_head, object_head, import_head, export_from_head}
 use Rattle.sheet_heads.specs.code.Head.{export_all_head, call_start, specifier_start, import_start, named_export_start, export_all_start, import_type_start}
 use Rattle.sheet_heads.specs.code.Head.{import_require_start, import_equals_start, module_start, start, head}
-use Rattle.sheet_heads.specs.code.Parts.{PropertyHead, spread_head, other_property_head, child_key_head, string_key_head, name_key_head, key_head, property_head}
-use Rattle.sheet_heads.specs.code.Parts.{argument_head, attributes_head}
+use Rattle.sheet_heads.specs.code.Parts.{PropertyHead, spread_head, other_property_head, child_key_head, string_key_head, name_key_head, key_head}
+use Rattle.sheet_heads.specs.code.Parts.{property_head, argument_head, attributes_head}
 use Rattle.sheet_heads.specs.code.Rest.{behind, rest_of, rest}
 
 -- what follows the head of an Object that holds attributes, where so many levels are left below it, of an argument and of a property
@@ -67,7 +67,8 @@ module _ (source : List ℕ) (levels : ℕ) (inner : Decoder Node) (object' : De
 
   by_import : From (import_fields source levels inner object' sp) (import_start source levels)
   unfolding import_fields import_start
-  by_import = first flag λ type_only. first (numbered import_phases) λ phase. first flag λ side_effect. by_specifier (import_decl sp type_only phase side_effect)
+  by_import =
+      first flag λ type_only. first (numbered import_phases) λ phase. first flag λ side_effect. by_specifier (import_decl sp type_only phase side_effect)
       (import_head type_only phase side_effect) (λ x has_object s. refl)
 
   by_named_export : From (named_export_fields source levels inner object' sp) (named_export_start source levels)

@@ -30,7 +30,8 @@ module _ (inner : Decoder Node) (source : List ℕ) where
 
     pub no_first : 0 < k → arguments inner source k u ≡ ok xs t → {r : ℕ} → argument_head source u ≡ no r → ⊥
     unfolding arguments
-    no_first h e f = many_refused no_arguments (argument_item inner source) k u h (argument_by_head inner source u ∙ ap (λ x. and_then x (argument_rest inner)) f) e
+    no_first h e f =
+        many_refused no_arguments (argument_item inner source) k u h (argument_by_head inner source u ∙ ap (λ x. and_then x (argument_rest inner)) f) e
 
     pub no_arguments_lem : k ≤ 0 → arguments inner source k u ≡ ok xs t → xs ≡ no_arguments
     unfolding arguments

@@ -1,10 +1,6 @@
--- What the tests of texts say, by the first byte and the last, and by the library's own test of a front.
-use Rattle.laws.proofs.Prelude.{◌≡◌, sym, false, not, ◌||◌, List, ℕ, ◌-◌, ◌≤◌, ◌<◌, eqb, length, get_or, lt-leb}
-use Rattle.std.specs.Prelude.{nat_eq}
-use Rattle.std.specs.List.{starts_with}
-use Rattle.laws.specs.Ascii.{ascii}
-use Rattle.text.proofs.Words.{begins_is}
-use Rattle.sheet.specs.{Comments.enclosed, Quotation.looks_quoted, Shape.has_star, Shape.is_augmentation}
+-- What the tests of texts say, by the first byte and the last.
+use Rattle.laws.proofs.Prelude.{◌≡◌, sym, false, List, ℕ, ◌-◌, ◌≤◌, ◌<◌, eqb, length, get_or, lt-leb}
+use Rattle.sheet.specs.{Comments.enclosed, Quotation.looks_quoted}
 use Rattle.sheet.proofs.Quotations.{double_mark, single_mark, no_mark}
 
 module _ (x : List ℕ) where
@@ -21,6 +17,5 @@ module _ (x : List ℕ) where
   pub other_looks : 2 ≤ length x → (get_or x 0 0 ≡ 0x22 → ⊥) → (get_or x 0 0 ≡ 0x27 → ⊥) → looks_quoted x ≡ false
   other_looks h n m = sym (no_mark x h n m)
 
-  pub augmentation : is_augmentation x
-      ≡ (not (has_star x) || starts_with nat_eq x (ascii "./") || starts_with nat_eq x (ascii "../") || starts_with nat_eq x (ascii "/"))
-  augmentation = rw (begins_is (ascii "./") x, begins_is (ascii "../") x, begins_is (ascii "/") x)
+-- a text too short, one in marks of either kind, and any other
+pub ruleset looks = (short_looks, double_looks, single_looks, other_looks)

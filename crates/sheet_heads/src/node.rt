@@ -19,7 +19,7 @@ use sheet::fields::{Span, read_span};
 use sheet::limits::{PROPERTY_LIMIT, TEXT_LIMIT};
 use sheet::names::ImportPhase;
 use text::utf8::Encoding;
-use wire::{Cursor, Reading};
+use wire::{Cursor, ReadResult};
 
 // What an import declaration says.
 #[derive(Clone, Copy)]
@@ -79,7 +79,7 @@ pub enum Head<'a> {
     NamedModule(Quoted<'a>, usize),
 }
 
-fn read_other(s: &[u8]) -> Reading<'_, Head<'_>>
+fn read_other(s: &[u8]) -> ReadResult<'_, Head<'_>>
     ensures { Told fields_as
         (on_ok other_head (number s.now))
         (PastPlain (length s.now)) result }
@@ -88,7 +88,7 @@ fn read_other(s: &[u8]) -> Reading<'_, Head<'_>>
     Ok((Head::Other(n), next))
 }
 
-fn read_string<'a>(quotation: &[u8], s: &'a [u8]) -> Reading<'a, Head<'a>>
+fn read_string<'a>(quotation: &[u8], s: &'a [u8]) -> ReadResult<'a, Head<'a>>
     ensures { Told fields_as
         (on_ok string_head (text_behind quotation.now s.now))
         (PastPlain (length s.now)) result }
@@ -97,7 +97,7 @@ fn read_string<'a>(quotation: &[u8], s: &'a [u8]) -> Reading<'a, Head<'a>>
     Ok((Head::String(x), next))
 }
 
-fn read_name(s: &[u8]) -> Reading<'_, Head<'_>>
+fn read_name(s: &[u8]) -> ReadResult<'_, Head<'_>>
     ensures { Told fields_as
         (on_ok name_head (text Utf8 text_limit s.now))
         (PastPlain (length s.now)) result }
@@ -107,7 +107,7 @@ fn read_name(s: &[u8]) -> Reading<'_, Head<'_>>
 }
 
 #[tactic(auto, using(crate::proofs::Counts::number_within))]
-fn read_template(s: &[u8]) -> Reading<'_, Head<'_>>
+fn read_template(s: &[u8]) -> ReadResult<'_, Head<'_>>
     ensures { Told fields_as
         (on_ok template_head (number s.now))
         (PastPlain (length s.now)) result }
@@ -116,7 +116,7 @@ fn read_template(s: &[u8]) -> Reading<'_, Head<'_>>
     Ok((Head::Template(holes), next))
 }
 
-fn read_binary(s: &[u8]) -> Reading<'_, Head<'_>>
+fn read_binary(s: &[u8]) -> ReadResult<'_, Head<'_>>
     ensures { Told fields_as
         (on_ok binary_head (flag s.now))
         (PastPlain (length s.now)) result }
@@ -126,7 +126,7 @@ fn read_binary(s: &[u8]) -> Reading<'_, Head<'_>>
 }
 
 #[tactic(auto, using(crate::proofs::Counts::count_within))]
-fn read_object(s: &[u8]) -> Reading<'_, Head<'_>>
+fn read_object(s: &[u8]) -> ReadResult<'_, Head<'_>>
     ensures { Told fields_as
         (on_ok object_head (count property_limit s.now))
         (PastPlain (length s.now)) result }
@@ -136,7 +136,7 @@ fn read_object(s: &[u8]) -> Reading<'_, Head<'_>>
 }
 
 #[tactic(auto, unfolding(crate::specs::code::Head::call_start))]
-fn read_call(s: &[u8]) -> Reading<'_, Head<'_>>
+fn read_call(s: &[u8]) -> ReadResult<'_, Head<'_>>
     ensures { Told fields_as
         (call_start s.now)
         (PastPlain (length s.now)) result }
@@ -151,7 +151,11 @@ fn read_call(s: &[u8]) -> Reading<'_, Head<'_>>
 
 // A String, and the flag of the attributes behind it.
 #[tactic(auto, unfolding(crate::specs::code::Head::specifier_start))]
-fn read_specifier<'a>(source: &[u8], s: &'a [u8], levels: usize) -> Reading<'a, (Quoted<'a>, bool)>
+fn read_specifier<'a>(
+    source: &[u8],
+    s: &'a [u8],
+    levels: usize,
+) -> ReadResult<'a, (Quoted<'a>, bool)>
     ensures { Told specifier_as
         (specifier_start source.now levels s.now)
         (PastSpecifier source.now (length s.now)) result }
@@ -162,7 +166,7 @@ fn read_specifier<'a>(source: &[u8], s: &'a [u8], levels: usize) -> Reading<'a, 
 }
 
 #[tactic(auto, unfolding(crate::specs::code::Head::import_start, wire::specs::Fields::numbered, wire::specs::Fields::below))]
-fn read_import<'a>(source: &[u8], s: &'a [u8], levels: usize) -> Reading<'a, Head<'a>>
+fn read_import<'a>(source: &[u8], s: &'a [u8], levels: usize) -> ReadResult<'a, Head<'a>>
     ensures { Told fields_as
         (import_start source.now levels s.now)
         (PastFields source.now (length s.now)) result }
@@ -183,7 +187,7 @@ fn read_import<'a>(source: &[u8], s: &'a [u8], levels: usize) -> Reading<'a, Hea
 }
 
 #[tactic(auto, unfolding(crate::specs::code::Head::named_export_start))]
-fn read_named_export<'a>(source: &[u8], s: &'a [u8], levels: usize) -> Reading<'a, Head<'a>>
+fn read_named_export<'a>(source: &[u8], s: &'a [u8], levels: usize) -> ReadResult<'a, Head<'a>>
     ensures { Told fields_as
         (named_export_start source.now levels s.now)
         (PastFields source.now (length s.now)) result }
@@ -203,7 +207,7 @@ fn read_named_export<'a>(source: &[u8], s: &'a [u8], levels: usize) -> Reading<'
 }
 
 #[tactic(auto, unfolding(crate::specs::code::Head::export_all_start))]
-fn read_export_all<'a>(source: &[u8], s: &'a [u8], levels: usize) -> Reading<'a, Head<'a>>
+fn read_export_all<'a>(source: &[u8], s: &'a [u8], levels: usize) -> ReadResult<'a, Head<'a>>
     ensures { Told fields_as
         (export_all_start source.now levels s.now)
         (PastFields source.now (length s.now)) result }
@@ -219,7 +223,7 @@ fn read_export_all<'a>(source: &[u8], s: &'a [u8], levels: usize) -> Reading<'a,
 }
 
 #[tactic(auto, unfolding(crate::specs::code::Head::import_type_start))]
-fn read_import_type<'a>(source: &[u8], s: &'a [u8], levels: usize) -> Reading<'a, Head<'a>>
+fn read_import_type<'a>(source: &[u8], s: &'a [u8], levels: usize) -> ReadResult<'a, Head<'a>>
     ensures { Told fields_as
         (import_type_start source.now levels s.now)
         (PastFields source.now (length s.now)) result }
@@ -230,7 +234,7 @@ fn read_import_type<'a>(source: &[u8], s: &'a [u8], levels: usize) -> Reading<'a
 }
 
 #[tactic(auto, unfolding(crate::specs::code::Head::import_equals_start))]
-fn read_import_equals<'a>(source: &[u8], s: &'a [u8], levels: usize) -> Reading<'a, Head<'a>>
+fn read_import_equals<'a>(source: &[u8], s: &'a [u8], levels: usize) -> ReadResult<'a, Head<'a>>
     ensures { Told fields_as
         (import_equals_start source.now levels s.now)
         (PastFields source.now (length s.now)) result }
@@ -243,7 +247,7 @@ fn read_import_equals<'a>(source: &[u8], s: &'a [u8], levels: usize) -> Reading<
 }
 
 #[tactic(auto, unfolding(crate::specs::code::Head::import_require_start))]
-fn read_import_require<'a>(source: &[u8], s: &'a [u8], levels: usize) -> Reading<'a, Head<'a>>
+fn read_import_require<'a>(source: &[u8], s: &'a [u8], levels: usize) -> ReadResult<'a, Head<'a>>
     ensures { Told fields_as
         (import_require_start source.now levels s.now)
         (PastFields source.now (length s.now)) result }
@@ -260,7 +264,7 @@ fn read_import_require<'a>(source: &[u8], s: &'a [u8], levels: usize) -> Reading
 }
 
 #[tactic(auto, unfolding(crate::specs::code::Head::module_start, wire::specs::Optional::optional))]
-fn read_module<'a>(source: &[u8], s: &'a [u8], levels: usize) -> Reading<'a, Head<'a>>
+fn read_module<'a>(source: &[u8], s: &'a [u8], levels: usize) -> ReadResult<'a, Head<'a>>
     ensures { Told fields_as
         (module_start source.now levels s.now)
         (PastFields source.now (length s.now)) result }
@@ -283,7 +287,7 @@ fn read_fields<'a>(
     levels: usize,
     span: Span,
     tag: Tag,
-) -> Reading<'a, Head<'a>>
+) -> ReadResult<'a, Head<'a>>
     requires { SpanIn source.now span }
     ensures { Told fields_as
         (start source.now levels span (tag_number tag) s.now)
@@ -308,7 +312,7 @@ fn read_fields<'a>(
 
 // The head of a node, with so many levels left, its own among them.
 #[tactic(auto, unfolding(crate::specs::code::Head::head))]
-pub fn read_head<'a>(source: &[u8], s: &'a [u8], levels: usize) -> Reading<'a, (Span, Head<'a>)>
+pub fn read_head<'a>(source: &[u8], s: &'a [u8], levels: usize) -> ReadResult<'a, (Span, Head<'a>)>
     ensures { Told head_as
         (head source.now levels s.now)
         (PastHead source.now (length s.now) levels) result }

@@ -13,7 +13,7 @@ use sheet::fields::{Span, read_span};
 use sheet::limits::{PROPERTY_LIMIT, TEXT_LIMIT};
 use text::utf8::Encoding;
 use wire::refusals::Refusal;
-use wire::{Cursor, Reading};
+use wire::{Cursor, ReadResult};
 
 // What stands before a property's first node.
 #[derive(Clone, Copy)]
@@ -37,7 +37,7 @@ pub fn nodes_of(p: Property) -> usize
 
 // A piece of a template: its text, or none if it is uncooked.
 #[tactic(auto, unfolding(sheet::specs::Nodes::piece, wire::specs::Optional::optional))]
-pub fn read_piece(s: &[u8]) -> Reading<'_, Option<&[u8]>>
+pub fn read_piece(s: &[u8]) -> ReadResult<'_, Option<&[u8]>>
     ensures { Told piece_as
         (piece s.now)
         (Past (length s.now)) result }
@@ -52,7 +52,7 @@ pub fn read_piece(s: &[u8]) -> Reading<'_, Option<&[u8]>>
 
 // So many pieces of a template: is one uncooked?
 #[tactic(auto, using(crate::proofs::Pieces::pieces_looped))]
-pub fn read_pieces(s: &[u8], count: usize) -> Reading<'_, bool>
+pub fn read_pieces(s: &[u8], count: usize) -> ReadResult<'_, bool>
     ensures { Told read_as
         (on_ok any_uncooked (many [] piece count s.now))
         (NoMore (length s.now)) result }
@@ -69,7 +69,7 @@ pub fn read_pieces(s: &[u8], count: usize) -> Reading<'_, bool>
 
 // An argument up to its node: is it spread, and its span.
 #[tactic(auto, unfolding(crate::specs::code::Parts::argument_head))]
-pub fn read_argument<'a>(source: &[u8], s: &'a [u8]) -> Reading<'a, (bool, Span)>
+pub fn read_argument<'a>(source: &[u8], s: &'a [u8]) -> ReadResult<'a, (bool, Span)>
     ensures { Told read_as
         (argument_head source.now s.now)
         (PastArgument source.now (length s.now)) result }
@@ -81,7 +81,7 @@ pub fn read_argument<'a>(source: &[u8], s: &'a [u8]) -> Reading<'a, (bool, Span)
 
 // A key of a property, by its byte.
 #[tactic(auto, unfolding(crate::specs::code::Parts::key_head))]
-fn read_key(s: &[u8], kind: usize) -> Reading<'_, Property<'_>>
+fn read_key(s: &[u8], kind: usize) -> ReadResult<'_, Property<'_>>
     ensures { Told property_as
         (key_head kind s.now)
         (NoMore (length s.now)) result }
@@ -103,7 +103,7 @@ fn read_key(s: &[u8], kind: usize) -> Reading<'_, Property<'_>>
 
 // A property up to its first node.
 #[tactic(auto, unfolding(crate::specs::code::Parts::property_head))]
-pub fn read_property(s: &[u8]) -> Reading<'_, Property<'_>>
+pub fn read_property(s: &[u8]) -> ReadResult<'_, Property<'_>>
     ensures { Told property_as
         (property_head s.now)
         (Past (length s.now)) result }
@@ -123,7 +123,11 @@ pub fn read_property(s: &[u8]) -> Reading<'_, Property<'_>>
 
 // An Object that holds attributes up to its properties, with so many levels left, its own among them: its span and the number of its properties.
 #[tactic(auto, using(crate::proofs::Counts::count_within), unfolding(crate::specs::code::Parts::attributes_head))]
-pub fn read_attributes<'a>(source: &[u8], s: &'a [u8], levels: usize) -> Reading<'a, (Span, usize)>
+pub fn read_attributes<'a>(
+    source: &[u8],
+    s: &'a [u8],
+    levels: usize,
+) -> ReadResult<'a, (Span, usize)>
     ensures { Told read_as
         (attributes_head source.now levels s.now)
         (PastAttributes (length s.now) levels) result }

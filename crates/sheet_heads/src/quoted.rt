@@ -10,7 +10,7 @@ use sheet::fields::{Span, read_span};
 use sheet::limits::TEXT_LIMIT;
 use text::utf8::Encoding;
 use wire::refusals::Refusal;
-use wire::{Cursor, Reading};
+use wire::{Cursor, ReadResult};
 
 // The kinds of nodes, in the order of their tags.
 #[derive(Clone, Copy, Debug, PartialEq, Eq, Hash)]
@@ -63,7 +63,7 @@ pub struct Quoted<'a> {
 }
 
 // A tag that its place allows: is a level left for its node?
-fn judge_tag(s: &[u8], tag: Tag, levels: usize) -> Reading<'_, Tag>
+fn judge_tag(s: &[u8], tag: Tag, levels: usize) -> ReadResult<'_, Tag>
     ensures { Told tag_as
         (judge_tag true levels (tag_number tag) s.now)
         (PastTag (length s.now + 1) levels) result }
@@ -77,7 +77,7 @@ fn judge_tag(s: &[u8], tag: Tag, levels: usize) -> Reading<'_, Tag>
 
 // The tag of any node.
 #[tactic(auto, unfolding(sheet::specs::Nodes::tag))]
-pub fn read_tag(s: &[u8], levels: usize) -> Reading<'_, Tag>
+pub fn read_tag(s: &[u8], levels: usize) -> ReadResult<'_, Tag>
     ensures { Told tag_as
         (tag (λ t. ltb t 13) levels s.now)
         (PastTag (length s.now) levels) result }
@@ -88,7 +88,7 @@ pub fn read_tag(s: &[u8], levels: usize) -> Reading<'_, Tag>
 
 // The tag of a node where only one is allowed.
 #[tactic(auto, unfolding(sheet::specs::Nodes::tag))]
-pub fn read_tag_of(s: &[u8], wanted: usize, levels: usize) -> Reading<'_, usize>
+pub fn read_tag_of(s: &[u8], wanted: usize, levels: usize) -> ReadResult<'_, usize>
     ensures { Told read_as
         (tag (eqb wanted) levels s.now)
         (PastTag (length s.now) levels) result }
@@ -104,7 +104,7 @@ pub fn read_tag_of(s: &[u8], wanted: usize, levels: usize) -> Reading<'_, usize>
 }
 
 // Has the text at least two bytes, and does it begin and end with the same mark?
-#[tactic(auto, using(crate::proofs::Tests::short_looks, crate::proofs::Tests::double_looks, crate::proofs::Tests::single_looks, crate::proofs::Tests::other_looks))]
+#[tactic(auto, using(crate::proofs::Tests::looks))]
 fn looks_quoted(text: &[u8]) -> bool
     ensures { result ≡ looks_quoted text.now }
 {
@@ -113,7 +113,7 @@ fn looks_quoted(text: &[u8]) -> bool
 
 // The text of a String whose span was read; before it, what the source has there must look like one.
 #[tactic(auto, unfolding(sheet::specs::Nodes::text_behind))]
-pub fn read_string_text<'a>(quotation: &[u8], s: &'a [u8]) -> Reading<'a, &'a [u8]>
+pub fn read_string_text<'a>(quotation: &[u8], s: &'a [u8]) -> ReadResult<'a, &'a [u8]>
     ensures { Told text_as
         (text_behind quotation.now s.now)
         (Past (length s.now)) result }
@@ -127,7 +127,7 @@ pub fn read_string_text<'a>(quotation: &[u8], s: &'a [u8]) -> Reading<'a, &'a [u
 
 // A String, with so many levels left, its own among them.
 #[tactic(auto, unfolding(sheet::specs::Nodes::quoted, sheet::specs::Nodes::text_behind))]
-pub fn read_quoted<'a>(source: &[u8], s: &'a [u8], levels: usize) -> Reading<'a, Quoted<'a>>
+pub fn read_quoted<'a>(source: &[u8], s: &'a [u8], levels: usize) -> ReadResult<'a, Quoted<'a>>
     ensures { Told quoted_as
         (quoted source.now levels s.now)
         (PastQuoted source.now (length s.now)) result }

@@ -2,7 +2,7 @@
 ghost use Rattle.std.specs.Prelude.{◌≡◌};
 ghost use Rattle.laws.specs.Ascii.{ascii};
 ghost use Rattle.text.specs.Bytes.{same};
-ghost use Rattle.sheet.specs.Shape.{is_augmentation, has_star};
+ghost use Rattle.sheet.specs.Shape.{is_augmentation, is_relative, has_star};
 
 use text::bytes::equal;
 
@@ -19,10 +19,17 @@ fn has_star(x: &[u8]) -> bool
     x.contains(&b'*')
 }
 
-// A module declaration's text gives an entry unless it is a wildcard that is no path.
-#[tactic(auto, using(crate::proofs::Tests::augmentation))]
+// Does a text start with `./`, `../` or `/`?
+#[tactic(auto, using(text::proofs::Words::begins_is))]
+pub fn is_relative(x: &[u8]) -> bool
+    ensures { result ≡ is_relative x.now }
+{
+    x.starts_with(b"./") || x.starts_with(b"../") || x.starts_with(b"/")
+}
+
+// A module declaration's text gives an entry unless it is a wildcard that is not relative.
 pub fn is_augmentation(x: &[u8]) -> bool
     ensures { result ≡ is_augmentation x.now }
 {
-    !has_star(x) || x.starts_with(b"./") || x.starts_with(b"../") || x.starts_with(b"/")
+    !has_star(x) || is_relative(x)
 }

@@ -1,51 +1,37 @@
 -- How what is found adds up.
 use Rattle.std.specs.Prelude.{None, Option, Some, is_some}
 use Rattle.std.specs.Option.{option_or, unwrap_or}
-use Rattle.laws.proofs.Prelude.{◌≡◌, refl, Bool, false, ℕ, ◌||◌, ◌+◌, add-zero, zero-add}
+use Rattle.laws.proofs.Prelude.{◌≡◌, refl, Bool, false, ℕ, add-zero, zero-add}
 use mathlib.Core.Bool.{or_assoc, or-false}
 use native.Mathlib.Nat.{add_assoc}
 use Rattle.sheet.specs.{declared.fields.Span.Span, Shape.shape, Shape.is_uncooked, Walk.walk_of}
 use Rattle.sheet.specs.Tree.{Node, Arguments, no_arguments, argument}
 use Rattle.sheet.specs.Walked.{any_argument, first_uncooked, counting, entries, judging, uncooked}
-use Rattle.sheet_nodes.specs.declared.tally.{Tally.Tally, Passed.Passed}
-use Rattle.sheet_nodes.specs.code.Tallies.{node_tally, plus, with_argument, first_of, passed}
+use Rattle.sheet_nodes.specs.declared.tally.Found.{Found}
+use Rattle.sheet_nodes.specs.code.Tallies.{Tally, ArgumentTally, node_tally, plus, with_argument, first_of, tally_of}
 
-abbrev pub nothing : Tally
-nothing = record { entries = 0; uncooked = false }
+-- nothing is found; what else is asked is x
+abbrev pub nothing : {T : Type 0} → T → Found T
+nothing x = record { entries = 0; uncooked = false; also = x }
 
-pub is_nothing : {t : Tally} → (t.entries ≡ 0) × (t.uncooked ≡ false) → t ≡ nothing
-is_nothing h = go h.0 h.1
+pub is_nothing : {T : Type 0} {x : T} {t : Found T} → (t.entries ≡ 0) × ((t.uncooked ≡ false) × (t.also ≡ x)) → t ≡ nothing x
+is_nothing {T} {x} h = go h.0 h.1.0 h.1.1
   where
-    go : {n : ℕ} {b : Bool} → n ≡ 0 → b ≡ false → ◌≡◌ {A = Tally} (record { entries = n; uncooked = b }) nothing
-    go e f = rw (e, f)
-
-pub plus_assoc : (t u v : Tally) → plus (plus t u) v ≡ plus t (plus u v)
-plus_assoc t u v = rw (add_assoc t.entries u.entries v.entries, or_assoc t.uncooked u.uncooked v.uncooked)
-
-pub nothing_plus : (t : Tally) → plus nothing t ≡ t
-nothing_plus t = rw zero-add
-
-pub plus_nothing : (t : Tally) → plus t nothing ≡ t
-plus_nothing t = rw (add-zero, or-false t.uncooked)
-
-abbrev pub no_passed : Passed
-no_passed = record { entries = 0; uncooked = false; first = None }
-
-pub is_no_passed : {p : Passed} → (p.entries ≡ 0) × ((p.uncooked ≡ false) × (p.first ≡ None)) → p ≡ no_passed
-is_no_passed h = go h.0 h.1.0 h.1.1
-  where
-    go : {n : ℕ} {b : Bool} {x : Option Bool} → n ≡ 0 → b ≡ false → x ≡ None
-        → ◌≡◌ {A = Passed} (record { entries = n; uncooked = b; first = x }) no_passed
+    go : {n : ℕ} {b : Bool} {y : T} → n ≡ 0 → b ≡ false → y ≡ x → ◌≡◌ {A = Found T} (record { entries = n; uncooked = b; also = y }) (nothing x)
     go e f g = rw (e, f, g)
 
+pub plus_assoc : {T U V : Type 0} (t : Found T) (u : Found U) (v : Found V) → plus (plus t u) v ≡ plus t (plus u v)
+plus_assoc t u v = rw (add_assoc t.entries u.entries v.entries, or_assoc t.uncooked u.uncooked v.uncooked)
+
+pub nothing_plus : (t : Tally) → plus (nothing (tt {0})) t ≡ t
+nothing_plus t = rw zero-add
+
+pub plus_nothing : {T : Type 0} (t : Found T) → plus t (nothing (tt {0})) ≡ t
+plus_nothing t = rw (add-zero, or-false t.uncooked)
+
 -- arguments behind others
-abbrev pub behind_passed : Passed → Arguments → Passed
-behind_passed p xs =
-    record {
-      entries = p.entries + (passed xs).entries;
-      uncooked = p.uncooked || (passed xs).uncooked;
-      first = option_or p.first (passed xs).first;
-    }
+abbrev pub behind_passed : ArgumentTally → Arguments → ArgumentTally
+behind_passed p xs = record (plus p (tally_of xs)) { also = option_or p.also (first_of xs) }
 
 first_stays : (x : Option Bool) (b : Bool) (y : Option Bool) → option_or (option_or x (Some b)) y ≡ option_or x (Some b)
 first_stays None b y = refl
@@ -55,20 +41,20 @@ none_behind : (x : Option Bool) → option_or x None ≡ x
 none_behind None = refl
 none_behind (Some b) = refl
 
-pub one_more : (p : Passed) (dots : Bool) (sp : Span) (n : Node) (xs : Arguments) →
+pub one_more : (p : ArgumentTally) (dots : Bool) (sp : Span) (n : Node) (xs : Arguments) →
     behind_passed p (argument dots sp n xs) ≡ behind_passed (with_argument p (node_tally n)) xs
 one_more p dots sp n xs =
     rw (
       add_assoc p.entries (entries n) (walk_of counting xs),
       or_assoc p.uncooked (uncooked n) (walk_of judging xs),
-      first_stays p.first (is_uncooked (shape n)) (first_of xs),
+      first_stays p.also (is_uncooked (shape n)) (first_of xs),
     )
 
-pub all_passed : (xs : Arguments) → behind_passed no_passed xs ≡ passed xs
+pub all_passed : (xs : Arguments) → behind_passed (nothing None) xs ≡ tally_of xs
 all_passed xs = rw zero-add
 
-pub none_more : (p : Passed) → behind_passed p no_arguments ≡ p
-none_more p = rw (add-zero, or-false p.uncooked, none_behind p.first)
+pub none_more : (p : ArgumentTally) → behind_passed p no_arguments ≡ p
+none_more p = rw (add-zero, or-false p.uncooked, none_behind p.also)
 
 -- what the first argument says: is there one, and is it a template with an uncooked piece?
 pub any_first : (xs : Arguments) → is_some (first_of xs) ≡ any_argument xs

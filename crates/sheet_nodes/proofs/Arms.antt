@@ -12,9 +12,8 @@ use Rattle.sheet_heads.specs.{declared.parts.Property.Property, code.Rest.behind
 use Rattle.sheet_heads.specs.declared.parts.Property.TheVariants as property
 use Rattle.sheet_heads.specs.code.Parts.{attributes_head}
 use Rattle.sheet_heads.proofs.ByHead.{property_rest, attributes_rest, attributes_by_head}
-use Rattle.sheet_nodes.specs.declared.tally.{Tally.Tally, NodeTally.NodeTally, Passed.Passed}
-use Rattle.sheet_nodes.specs.code.Tallies.{node_tally, tally_all, tally_in, tally_with, gain, plus, passed, passed_all, tally_typed}
-use Rattle.sheet_nodes.specs.code.Answers.{with_own, with_nodes}
+use Rattle.sheet_nodes.specs.code.Tallies.{Tally, ArgumentTally, node_tally, tally_all, tally_in, tally_with, gain, plus, tally_of, tally_call, tally_typed}
+use Rattle.sheet_nodes.specs.code.Answers.{with_own}
 
 -- what is found in a value, and what is found in what is built from it
 found_built : {A B C D : Type 0} (f : B → D) (tally : A → B) (g : C → D) (build : A → C) → ((a : A) → f (tally a) ≡ g (build a)) → (x : Decoded A)
@@ -73,11 +72,7 @@ pair a b = return (a, b)
 -- an Other holds nodes
 pub other_holds : (sp : Span) (x : Decoded Nodes)
     → on_ok (with_own false false) (on_ok tally_all x) ≡ on_ok node_tally (and_then x (λ ns. return (other sp ns)))
-other_holds sp x = found_built (with_own false false) tally_all node_tally (other sp) (λ ns. plain (tally_all ns)) x
-  where
-    plain : (t : Tally) →
-        ◌≡◌ {A = NodeTally} (with_own false false t) (record { entries = t.entries; uncooked = t.uncooked; require = false; template = false })
-    plain t = rw zero-add
+other_holds sp x = found_built (with_own false false) tally_all node_tally (other sp) (λ ns. rw zero-add) x
 
 -- a binary operation holds two nodes
 pub binary_holds : (inner : Decoder Node) (sp : Span) (add : Bool) (u : List ℕ)
@@ -89,13 +84,13 @@ binary_holds inner sp add u =
     (λ m n. rw (zero-add, add-zero, or-false (uncooked n))) (inner u)
 
 -- nodes behind arguments
-pub arguments_nodes : (inner : Decoder Node) (x : Decoded Arguments) {p : Passed} {w : List ℕ} → on_ok passed x ≡ ok p w
+pub arguments_nodes : (inner : Decoder Node) (x : Decoded Arguments) {p : ArgumentTally} {w : List ℕ} → on_ok tally_of x ≡ ok p w
     → {m : ℕ} {v : List ℕ} → number w ≡ ok m v
-    → on_ok passed_all (and_then x (λ xs. number >>= λ m. nodes inner m >>= pair xs)) ≡ on_ok (with_nodes p) (on_ok tally_all (nodes inner m v))
+    → on_ok tally_call (and_then x (λ xs. number >>= λ m. nodes inner m >>= pair xs)) ≡ on_ok (plus p) (on_ok tally_all (nodes inner m v))
 arguments_nodes inner (ok xs t) {p} {w} e {m} {v} g =
-    let h : p ≡ passed xs = cc in
+    let h : p ≡ tally_of xs = cc in
     let i : number t ≡ ok m v = cc in
-    rw (h, i) (sym (found_built (with_nodes (passed xs)) tally_all passed_all (λ ns. (xs, ns)) (λ ns. refl) (nodes inner m v)))
+    rw (h, i) (sym (found_built (plus (tally_of xs)) tally_all tally_call (λ ns. (xs, ns)) (λ ns. refl) (nodes inner m v)))
 arguments_nodes inner (no r) e g = absurd (refused e)
 
 -- attributes behind nodes

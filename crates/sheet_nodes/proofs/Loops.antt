@@ -4,15 +4,15 @@ use Rattle.laws.proofs.Prelude.{◌≡◌, sym, ap, ◌∙◌, Bool, false, List
 use Rattle.laws.specs.Decoded.{ok, no, on_ok, Decoder}
 use Rattle.laws.proofs.Decoding.{on_ok_ok, on_ok_no, on_ok_same}
 use Rattle.laws.proofs.Answers.{Yields, ends, behind}
-use Rattle.sheet.specs.declared.fields.Span.{Span}
+use Rattle.sheet.specs.{declared.fields.Span.Span, Walked.entries, Walked.uncooked}
 use Rattle.sheet.specs.Tree.{Node, Nodes, none, more, no_arguments, argument, Properties, no_properties}
 use Rattle.sheet.specs.Nodes.{many, nodes, argument_item, arguments, property_item, properties}
-use Rattle.sheet_heads.specs.code.Parts.{PropertyHead, spread_head, other_property_head, child_key_head, string_key_head, name_key_head, property_head, argument_head}
+use Rattle.sheet_heads.specs.code.Parts.{PropertyHead, spread_head, other_property_head, child_key_head, string_key_head, name_key_head, property_head}
+use Rattle.sheet_heads.specs.code.Parts.{argument_head}
 use Rattle.sheet_heads.proofs.ByHead.{argument_by_head, property_by_head, property_rest}
 use Rattle.sheet_heads.proofs.Many.{found, found_step, found_stop, found_end}
-use Rattle.sheet_nodes.specs.declared.tally.{Tally.Tally, NodeTally.NodeTally, Passed.Passed}
-use Rattle.sheet_nodes.specs.code.Tallies.{node_tally, tally_of, tally_all, tally_in, gain, plus, with_argument, passed}
-use Rattle.sheet_nodes.proofs.Adds.{nothing, is_nothing, plus_assoc, nothing_plus, plus_nothing, is_no_passed, behind_passed, one_more, all_passed, none_more}
+use Rattle.sheet_nodes.specs.code.Tallies.{Tally, NodeTally, ArgumentTally, node_tally, tally_all, tally_in, gain, plus, with_argument, tally_of}
+use Rattle.sheet_nodes.proofs.Adds.{nothing, is_nothing, plus_assoc, nothing_plus, plus_nothing, behind_passed, one_more, all_passed, none_more}
 
 -- what is found in all of so many items, of which so many are done: in these w
 module _ {L W : Type 0} (after : W → L → W) (end : L) (item : Decoder (L → L)) where
@@ -37,8 +37,12 @@ module _ {L W : Type 0} (after : W → L → W) (end : L) (item : Decoder (L →
 abbrev Adds : (Properties → Properties) → Type 0
 Adds add = (ps : Properties) → tally_in (add ps) ≡ plus (gain add) (tally_in ps)
 
-added : (t u : Tally) → plus t u ≡ plus (plus t nothing) u
+added : (t u : Tally) → plus t u ≡ plus (plus t (nothing (tt {0}))) u
 added t u = ap (λ x. plus x u) (sym (plus_nothing t))
+
+-- a node among others
+abbrev alone : Node → Tally
+alone n = record { entries = entries n; uncooked = uncooked n; also = tt {0} }
 
 -- what is found in all, where t was found before
 abbrev pub after_nodes : Tally → Nodes → Tally
@@ -55,19 +59,19 @@ module _ (inner : Decoder Node) where
   unfoldable pub from_nodes : Tally → ℕ → ℕ → Decoder Tally
   from_nodes = found_from after_nodes none node_item
 
-  pub nodes_first : {t : Tally} (count : ℕ) (u : List ℕ) → (t.entries ≡ 0) × (t.uncooked ≡ false)
+  pub nodes_first : {t : Tally} (count : ℕ) (u : List ℕ) → (t.entries ≡ 0) × ((t.uncooked ≡ false) × (t.also ≡ tt {0}))
       → on_ok tally_all (nodes inner count u) ≡ from_nodes t count 0 u
   unfolding nodes from_nodes
   nodes_first count u h = rw (is_nothing h, sub-zero) (sym (on_ok_same (λ ns. nothing_plus (tally_all ns)) (many none node_item count u)))
 
   module _ (t : Tally) (count done : ℕ) (u : List ℕ) where
     pub nodes_step : {j : NodeTally} {v : List ℕ} → done < count → on_ok node_tally (inner u) ≡ ok j v
-        → from_nodes t count done u ≡ from_nodes (plus t (tally_of j)) count (done + 1) v
+        → from_nodes t count done u ≡ from_nodes (plus t j) count (done + 1) v
     unfolding from_nodes
     nodes_step {j} h e =
         let (n, is, gives) = on_ok_ok node_tally (inner u) e in
-        from_step after_nodes none node_item t (plus t (tally_of j)) count done u h (ap (on_ok (λ n l. more n l)) is)
-        (λ ns. sym (plus_assoc t (tally_of (node_tally n)) (tally_all ns)) ∙ ap (λ j. plus (plus t (tally_of j)) (tally_all ns)) gives)
+        from_step after_nodes none node_item t (plus t j) count done u h (ap (on_ok (λ n l. more n l)) is)
+        (λ ns. sym (plus_assoc t (node_tally n) (tally_all ns)) ∙ ap (λ j. plus (plus t j) (tally_all ns)) gives)
 
     pub nodes_stop : {r : ℕ} → done < count → on_ok node_tally (inner u) ≡ no r → from_nodes t count done u ≡ no r
     unfolding from_nodes
@@ -78,16 +82,16 @@ module _ (inner : Decoder Node) where
     nodes_end h = from_end after_nodes none node_item t count done u h ∙ ap (λ t. ok t u) (plus_nothing t)
 
   module _ (source : List ℕ) where
-    unfoldable pub from_arguments : Passed → ℕ → ℕ → Decoder Passed
+    unfoldable pub from_arguments : ArgumentTally → ℕ → ℕ → Decoder ArgumentTally
     from_arguments = found_from behind_passed no_arguments (argument_item inner source)
 
-    pub arguments_first : {p : Passed} (count : ℕ) (u : List ℕ)
-        → (p.entries ≡ 0) × ((p.uncooked ≡ false) × (p.first ≡ None))
-        → on_ok passed (arguments inner source count u) ≡ from_arguments p count 0 u
+    pub arguments_first : {p : ArgumentTally} (count : ℕ) (u : List ℕ)
+        → (p.entries ≡ 0) × ((p.uncooked ≡ false) × (p.also ≡ None))
+        → on_ok tally_of (arguments inner source count u) ≡ from_arguments p count 0 u
     unfolding arguments from_arguments
-    arguments_first count u h = rw (is_no_passed h, sub-zero) (sym (on_ok_same all_passed (many no_arguments (argument_item inner source) count u)))
+    arguments_first count u h = rw (is_nothing h, sub-zero) (sym (on_ok_same all_passed (many no_arguments (argument_item inner source) count u)))
 
-    module _ (p : Passed) (count done : ℕ) (u : List ℕ) where
+    module _ (p : ArgumentTally) (count done : ℕ) (u : List ℕ) where
       follows : {a : Bool × Span} {v : List ℕ} {n : Node} {w : List ℕ} → argument_head source u ≡ ok a v → inner v ≡ ok n w
           → argument_item inner source u ≡ ok (argument a.0 a.1 n) w
       follows e is = rw (argument_by_head inner source u, e, is)
@@ -117,13 +121,13 @@ module _ (inner : Decoder Node) where
 
   -- each property that is read adds what it would be by itself
   by_kind : (h : PropertyHead) → Yields Adds (property_rest inner h)
-  by_kind spread_head = behind inner λ n. ends λ ps. added (tally_of (node_tally n)) (tally_in ps)
-  by_kind other_property_head = behind inner λ n. ends λ ps. added (tally_of (node_tally n)) (tally_in ps)
+  by_kind spread_head = behind inner λ n. ends λ ps. added (alone n) (tally_in ps)
+  by_kind other_property_head = behind inner λ n. ends λ ps. added (alone n) (tally_in ps)
   by_kind child_key_head = behind inner λ k. behind inner λ v. ends λ ps.
-      ap (plus (tally_of (node_tally k))) (added (tally_of (node_tally v)) (tally_in ps)) ∙
-      sym (plus_assoc (tally_of (node_tally k)) (plus (tally_of (node_tally v)) nothing) (tally_in ps))
-  by_kind (string_key_head x) = behind inner λ n. ends λ ps. added (tally_of (node_tally n)) (tally_in ps)
-  by_kind (name_key_head x) = behind inner λ n. ends λ ps. added (tally_of (node_tally n)) (tally_in ps)
+      ap (plus (alone k)) (added (alone v) (tally_in ps)) ∙
+      sym (plus_assoc (alone k) (plus (alone v) (nothing (tt {0}))) (tally_in ps))
+  by_kind (string_key_head x) = behind inner λ n. ends λ ps. added (alone n) (tally_in ps)
+  by_kind (name_key_head x) = behind inner λ n. ends λ ps. added (alone n) (tally_in ps)
 
   property_adds : Yields Adds (property_item inner)
   property_adds = record { at = λ u. rw (property_by_head inner u) ((behind property_head by_kind).at u) }
@@ -131,10 +135,11 @@ module _ (inner : Decoder Node) where
   unfoldable pub from_properties : Tally → ℕ → ℕ → Decoder Tally
   from_properties = found_from after_properties no_properties (property_item inner)
 
-  pub properties_first : {t : Tally} (count : ℕ) (u : List ℕ) → (t.entries ≡ 0) × (t.uncooked ≡ false)
+  pub properties_first : {t : Tally} (count : ℕ) (u : List ℕ) → (t.entries ≡ 0) × ((t.uncooked ≡ false) × (t.also ≡ tt {0}))
       → on_ok tally_in (properties inner count u) ≡ from_properties t count 0 u
   unfolding properties from_properties
-  properties_first count u h = rw (is_nothing h, sub-zero) (sym (on_ok_same (λ ps. nothing_plus (tally_in ps)) (many no_properties (property_item inner) count u)))
+  properties_first count u h =
+      rw (is_nothing h, sub-zero) (sym (on_ok_same (λ ps. nothing_plus (tally_in ps)) (many no_properties (property_item inner) count u)))
 
   module _ (t : Tally) (count done : ℕ) (u : List ℕ) where
     pub properties_step : {g : Tally} {v : List ℕ} → done < count → on_ok gain (property_item inner u) ≡ ok g v

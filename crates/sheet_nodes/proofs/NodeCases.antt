@@ -13,7 +13,7 @@ use Rattle.sheet.specs.Nodes.{many, tag, text_behind, quoted, piece, nodes, argu
 use Rattle.sheet.specs.Nodes.{other_fields, string_fields, name_fields, template_fields, binary_fields, object_fields, call_rest, call_fields, import_fields}
 use Rattle.sheet.specs.Nodes.{named_export_fields, export_all_fields, import_type_fields, type_rest, import_equals_fields, module_fields, fields, node}
 use Rattle.sheet.specs.Nodes.{attributes_object}
-use Rattle.sheet_nodes.specs.{declared.tally.NodeTally.NodeTally, code.Tallies.node_tally}
+use Rattle.sheet_nodes.specs.code.Tallies.{NodeTally, node_tally}
 
 -- the one quotation of the source is all of it
 abbrev source : List ℕ
@@ -45,7 +45,7 @@ abbrev call_of : List ℕ → ℕ → List ℕ
 call_of callee dots = at 6 (callee ++ (1 ∷ at dots uncooked_template) ++ (0 ∷ []))
 
 abbrev found : ℕ → Bool → Decoded NodeTally
-found n b = ok (record { entries = n; uncooked = b; require = false; template = false }) []
+found n b = ok (record { entries = n; uncooked = b; also = record { require = false; template = false } }) []
 
 -- levels left, bytes, and what they give
 abbrev Case : Type 0
@@ -57,7 +57,7 @@ smallest =
     (1, other, found 0 false)
     ∷ (1, string, found 0 false)
     ∷ (1, name [], found 0 false)
-    ∷ (1, uncooked_template, ok (record { entries = 0; uncooked = false; require = false; template = true }) [])
+    ∷ (1, uncooked_template, ok (record { entries = 0; uncooked = false; also = record { require = false; template = true } }) [])
     ∷ (2, at 4 (0 ∷ other ++ other), found 0 false)
     ∷ (1, at 5 (0 ∷ []), found 0 false)
     ∷ (1, at 6 (0 ∷ 0 ∷ 0 ∷ []), found 0 false)
@@ -105,6 +105,6 @@ computed (levels, s, r) = (levels, s, on_ok node_tally (node source levels s))
 as_stated : map computed cases ≡ cases
 unfolding byte below numbered flag bytes last_group groups number count text admits length_by char_length formed begins enclosed looks_quoted same is_boundary
     position end_from span many tag text_behind quoted optional piece nodes argument_item arguments keyed_item property_item properties attributes other_fields
-    string_fields name_fields template_fields binary_fields object_fields call_rest call_fields import_fields named_export_fields export_all_fields import_type_fields
-    type_rest import_equals_fields module_fields fields node attributes_object
+    string_fields name_fields template_fields binary_fields object_fields call_rest call_fields import_fields named_export_fields export_all_fields
+    import_type_fields type_rest import_equals_fields module_fields fields node attributes_object
 as_stated = refl

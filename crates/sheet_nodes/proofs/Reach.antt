@@ -10,7 +10,7 @@ use Rattle.sheet_heads.specs.{declared.node.Head.Head, code.Rest.behind as objec
 use Rattle.sheet_heads.specs.declared.node.Head.TheVariants as head
 use Rattle.sheet_heads.specs.code.Head as heads
 use Rattle.sheet_heads.{specs.code.Views.head_of, proofs.ByHead.behind_head, proofs.Many.many_next, proofs.Many.many_end}
-use Rattle.sheet_nodes.specs.{declared.tally.NodeTally.NodeTally, code.Tallies.node_tally}
+use Rattle.sheet_nodes.specs.code.Tallies.{NodeTally, node_tally}
 use Rattle.sheet_nodes.specs.code.Reach.{Reaches, quiet, past, ReachesIn, furthest}
 use Rattle.sheet_nodes.proofs.Loops.{node_item}
 
@@ -127,3 +127,6 @@ module _ (source u : List ℕ) (levels : ℕ) (x : Head) {sp : Span} {w : List �
   unlike_reaches k = rw follows at ((no_other source (levels - 1) sp x k).at w)
 
 pub ruleset reaching = (reached_first, reached_step, reached_end)
+
+-- a root that is an Other, and any other
+pub ruleset root_reaches = (other_reaches, unlike_reaches)

@@ -7,21 +7,21 @@ ghost use Rattle.sheet.specs.Nodes.{node, nodes, arguments, property_item, prope
 ghost use Rattle.sheet.specs.declared.fields.Span.{Span};
 ghost use Rattle.sheet_heads.specs.code.Rest.{behind, rest};
 ghost use Rattle.sheet_heads.specs.code.Views.{head_of, HeadWithin};
-ghost use Rattle.sheet_nodes.specs.code.Tallies.{node_tally, tally_all, tally_in, tally_with, gain, passed, passed_all, tally_typed};
-ghost use Rattle.sheet_nodes.specs.code.Answers.{with_own, PastChecked, PastRest, PastTally, PastPassed};
+ghost use Rattle.sheet_nodes.specs.code.Tallies.{node_tally, tally_all, tally_in, tally_with, gain, tally_of, tally_call, tally_typed};
+ghost use Rattle.sheet_nodes.specs.code.Answers.{with_own, PastChecked, PastRest, PastTally};
 
 use super::tally::{
-    NodeTally, Passed, Tally, add, add_argument, called, holding, import_callee, join_passed, leaf,
+    ArgumentTally, NodeTally, Tally, add_argument, called, holding, import_callee, leaf,
 };
 use sheet_heads::node::{ExportHead, Head, ImportHead, read_head};
 use sheet_heads::parts::{nodes_of, read_argument, read_attributes, read_pieces, read_property};
 use sheet_heads::texts::{is_augmentation, is_require};
-use wire::{Cursor, Reading};
+use wire::{Cursor, ReadResult};
 
 // A node, with so many levels left, its own among them.
 #[cycle(check)]
 #[tactic(auto, using(sheet_heads::proofs::ByHead::node_by_head))]
-pub fn check_node<'a>(source: &[u8], s: &'a [u8], levels: usize) -> Reading<'a, NodeTally>
+pub fn check_node<'a>(source: &[u8], s: &'a [u8], levels: usize) -> ReadResult<'a, NodeTally>
     ensures { Told read_as
         (on_ok node_tally (node source.now levels s.now))
         (PastChecked (length s.now)) result }
@@ -38,7 +38,7 @@ fn check_rest<'a>(
     s: &'a [u8],
     levels: usize,
     head: Head<'a>,
-) -> Reading<'a, NodeTally>
+) -> ReadResult<'a, NodeTally>
     requires { HeadWithin head }
     ensures { Bounded
         ((sp : Span)
@@ -92,7 +92,7 @@ fn check_holding<'a>(
     own: bool,
     count: usize,
     levels: usize,
-) -> Reading<'a, NodeTally>
+) -> ReadResult<'a, NodeTally>
     ensures { Told read_as
         (on_ok (with_own own false) (on_ok tally_all (nodes (node source.now levels) count s.now)))
         (PastRest (length s.now)) result }
@@ -110,7 +110,7 @@ pub fn check_nodes<'a>(
     s: &'a [u8],
     count: usize,
     levels: usize,
-) -> Reading<'a, Tally>
+) -> ReadResult<'a, Tally>
     ensures { Told read_as
         (on_ok tally_all (nodes (node source.now levels) count s.now))
         (PastTally (length s.now)) result }
@@ -119,7 +119,7 @@ pub fn check_nodes<'a>(
     let mut total = Tally::default();
     for _ in 0..count {
         let (j, after) = check_node(source, next, levels)?;
-        total = add(total, Tally::from(j));
+        total = total + j;
         next = after;
     }
     Ok((total, next))
@@ -133,13 +133,13 @@ fn check_arguments<'a>(
     s: &'a [u8],
     count: usize,
     levels: usize,
-) -> Reading<'a, Passed>
+) -> ReadResult<'a, ArgumentTally>
     ensures { Told read_as
-        (on_ok passed (arguments (node source.now levels) source.now count s.now))
-        (PastPassed (length s.now)) result }
+        (on_ok tally_of (arguments (node source.now levels) source.now count s.now))
+        (PastTally (length s.now)) result }
 {
     let mut next = s;
-    let mut total = Passed::default();
+    let mut total = ArgumentTally::default();
     for _ in 0..count {
         let (_, after) = read_argument(source, next)?;
         let (j, after) = check_node(source, after, levels)?;
@@ -151,23 +151,23 @@ fn check_arguments<'a>(
 
 // What follows the callee of a call: arguments and further children.
 #[cycle(check)]
-#[tactic(auto, using(laws::proofs::Decoding::on_ok_no, laws::proofs::Decoding::then_no, crate::proofs::Arms::arguments_nodes), unfolding(sheet::specs::Nodes::call_rest))]
-fn check_call<'a>(source: &[u8], s: &'a [u8], levels: usize) -> Reading<'a, Passed>
+#[tactic(auto, using(laws::proofs::Decoding::refusals_kept, crate::proofs::Arms::arguments_nodes), unfolding(sheet::specs::Nodes::call_rest))]
+fn check_call<'a>(source: &[u8], s: &'a [u8], levels: usize) -> ReadResult<'a, ArgumentTally>
     ensures { Told read_as
-        (on_ok passed_all (call_rest (node source.now levels) source.now s.now))
-        (PastPassed (length s.now)) result }
+        (on_ok tally_call (call_rest (node source.now levels) source.now s.now))
+        (PastTally (length s.now)) result }
 {
     let (n, next) = s.number()?;
     let (p, next) = check_arguments(source, next, n, levels)?;
     let (m, next) = next.number()?;
     let (t, next) = check_nodes(source, next, m, levels)?;
-    Ok((join_passed(p, t), next))
+    Ok((p + t, next))
 }
 
 // A property: its key, if that is a node, and its value.
 #[cycle(check)]
 #[tactic(auto, using(sheet_heads::proofs::ByHead::property_by_head, crate::proofs::Arms::property_holds))]
-pub fn check_property<'a>(source: &[u8], s: &'a [u8], levels: usize) -> Reading<'a, Tally>
+pub fn check_property<'a>(source: &[u8], s: &'a [u8], levels: usize) -> ReadResult<'a, Tally>
     ensures { Told read_as
         (on_ok gain (property_item (node source.now levels) s.now))
         (PastTally (length s.now)) result }
@@ -184,7 +184,7 @@ fn check_properties<'a>(
     s: &'a [u8],
     count: usize,
     levels: usize,
-) -> Reading<'a, Tally>
+) -> ReadResult<'a, Tally>
     ensures { Told read_as
         (on_ok tally_in (properties (node source.now levels) count s.now))
         (PastTally (length s.now)) result }
@@ -193,7 +193,7 @@ fn check_properties<'a>(
     let mut total = Tally::default();
     for _ in 0..count {
         let (t, after) = check_property(source, next, levels)?;
-        total = add(total, t);
+        total = total + t;
         next = after;
     }
     Ok((total, next))
@@ -207,7 +207,7 @@ pub fn check_attributes<'a>(
     s: &'a [u8],
     has_object: bool,
     levels: usize,
-) -> Reading<'a, Tally>
+) -> ReadResult<'a, Tally>
     ensures { Told read_as
         (on_ok tally_with (behind has_object (attributes_object source.now levels) s.now))
         (PastTally (length s.now)) result }
@@ -221,8 +221,8 @@ pub fn check_attributes<'a>(
 
 // What follows the head of an import type: children and attributes.
 #[cycle(check)]
-#[tactic(auto, using(laws::proofs::Decoding::on_ok_no, laws::proofs::Decoding::then_no, crate::proofs::Arms::nodes_attributes), unfolding(sheet::specs::Nodes::type_rest, sheet::specs::Nodes::attributes))]
-fn check_typed<'a>(source: &[u8], s: &'a [u8], count: usize, levels: usize) -> Reading<'a, Tally>
+#[tactic(auto, using(laws::proofs::Decoding::refusals_kept, crate::proofs::Arms::nodes_attributes), unfolding(sheet::specs::Nodes::type_rest, sheet::specs::Nodes::attributes))]
+fn check_typed<'a>(source: &[u8], s: &'a [u8], count: usize, levels: usize) -> ReadResult<'a, Tally>
     ensures { Told read_as
         (on_ok tally_typed (type_rest (node source.now levels) (attributes_object source.now levels) count
         s.now))
@@ -231,5 +231,5 @@ fn check_typed<'a>(source: &[u8], s: &'a [u8], count: usize, levels: usize) -> R
     let (t, next) = check_nodes(source, s, count, levels)?;
     let (has_object, next) = next.flag()?;
     let (u, next) = check_attributes(source, next, has_object, levels)?;
-    Ok((add(t, u), next))
+    Ok((t + u, next))
 }

@@ -6,25 +6,18 @@ ghost use Rattle.sheet.specs.Tree.{Node, Nodes};
 ghost use Rattle.sheet.specs.Nodes.{node, nodes};
 ghost use Rattle.wire.specs.code.Views.{PastWith};
 ghost use Rattle.sheet_nodes.specs.code.Tallies.{node_tally, tally_all};
-ghost use Rattle.sheet_nodes.specs.code.Answers.{root_as, children_as, PastRoot, PastChildren};
+ghost use Rattle.sheet_nodes.specs.code.Answers.{tally_as, PastReach, PastNode, PastMore};
 ghost use Rattle.sheet_nodes.specs.code.Reach.{furthest, Reaches, ReachesIn};
 
 use super::check::check_node;
-use super::tally::{NodeTally, Tally, add, holding};
+use super::tally::{NodeTally, Tally, holding};
 use sheet_heads::node::{Head, read_head};
-use wire::Reading;
+use wire::ReadResult;
 
-// What was found in the root, and how many of its children there are up to the last that has an entry, if it is an Other.
+// What was found in the root or in children of it, and how many children there are up to the last that has an entry; of a root none, if it is no Other.
 #[derive(Clone, Copy)]
-pub struct Root {
-    pub tally: NodeTally,
-    pub reach: usize,
-}
-
-// What was found in children, and how many there are up to the last that has an entry.
-#[derive(Clone, Copy)]
-pub struct Children {
-    pub tally: Tally,
+pub struct WithReach<T> {
+    pub tally: T,
     pub reach: usize,
 }
 
@@ -45,11 +38,11 @@ fn check_children<'a>(
     s: &'a [u8],
     count: usize,
     levels: usize,
-) -> Reading<'a, Children>
+) -> ReadResult<'a, WithReach<Tally>>
     ensures { Reaching
-        (children_as result
+        (tally_as result
         ≡ on_ok tally_all (nodes (node source.now levels) count s.now))
-        (PastChildren (length s.now) result)
+        (PastReach (PastMore (length s.now)) result)
         (PastWith (λ children next. (ns : Nodes) (t : List ℕ)
         → nodes (node source.now levels) count s.now ≡ ok ns t
         → Reaches children.reach ns) result) }
@@ -59,20 +52,24 @@ fn check_children<'a>(
     let mut reach = 0;
     for k in 0..count {
         let (j, after) = check_node(source, next, levels)?;
-        tally = add(tally, Tally::from(j));
+        tally = tally + j;
         next = after;
         reach = further(reach, j.entries, k + 1);
     }
-    Ok((Children { tally, reach }, next))
+    Ok((WithReach { tally, reach }, next))
 }
 
 // The root, as `check_node` has it.
-#[tactic(auto, using(sheet_heads::proofs::ByHead::node_by_head, crate::proofs::Arms::other_holds, crate::proofs::Reach::other_reaches, crate::proofs::Reach::unlike_reaches))]
-pub fn check_root<'a>(source: &[u8], s: &'a [u8], levels: usize) -> Reading<'a, Root>
+#[tactic(auto, using(sheet_heads::proofs::ByHead::node_by_head, crate::proofs::Arms::other_holds, crate::proofs::Reach::root_reaches))]
+pub fn check_root<'a>(
+    source: &[u8],
+    s: &'a [u8],
+    levels: usize,
+) -> ReadResult<'a, WithReach<NodeTally>>
     ensures { Reaching
-        (root_as result
+        (tally_as result
         ≡ on_ok node_tally (node source.now levels s.now))
-        (PastRoot (length s.now) result)
+        (PastReach (PastNode (length s.now)) result)
         (PastWith (λ root next. (n : Node) (t : List ℕ)
         → node source.now levels s.now ≡ ok n t
         → ReachesIn root.reach n) result) }
@@ -83,11 +80,11 @@ pub fn check_root<'a>(source: &[u8], s: &'a [u8], levels: usize) -> Reading<'a, 
             let (children, next) = check_children(source, next, n, levels - 1)?;
             let tally = holding(false, false, children.tally);
             let reach = children.reach;
-            Ok((Root { tally, reach }, next))
+            Ok((WithReach { tally, reach }, next))
         }
         _ => {
             let (tally, next) = check_node(source, s, levels)?;
-            Ok((Root { tally, reach: 0 }, next))
+            Ok((WithReach { tally, reach: 0 }, next))
         }
     }
 }

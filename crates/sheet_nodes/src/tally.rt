@@ -1,63 +1,59 @@
 // What is found in nodes, and how it adds up.
 ghost use Rattle.std.specs.Prelude.{◌≡◌, ◌+◌, ◌^◌, ◌<◌};
-ghost use Rattle.sheet_nodes.specs.code.Tallies.{tally_of, plus, with_argument, import_callee};
-ghost use Rattle.sheet_nodes.specs.code.Answers.{leaf_of, with_own, with_nodes, called_by};
+ghost use Rattle.sheet_nodes.specs.code.Tallies.{plus, with_argument, import_callee};
+ghost use Rattle.sheet_nodes.specs.code.Answers.{leaf_of, with_own, called_by};
 
-// Of nodes: how many dependencies they give, and whether a call in them has an uncooked template for its first argument.
+use std::ops::Add;
+
+// What is found in a part of a tree: how many dependencies it gives, whether a call in it has an uncooked template for its first argument, and what
+// else is asked of such a part (the two in a struct of their own would make each answer a word longer).
 #[derive(Clone, Copy, Default)]
-pub struct Tally {
+pub struct Found<T> {
     pub entries: usize,
     pub uncooked: bool,
+    pub also: T,
 }
+
+// Of nodes nothing else.
+pub type Tally = Found<()>;
 
 // Of a node also: is it the Name `require`, is it a template with an uncooked piece?
 #[derive(Clone, Copy)]
-pub struct NodeTally {
-    pub entries: usize,
-    pub uncooked: bool,
+pub struct Seen {
     pub require: bool,
     pub template: bool,
 }
 
+pub type NodeTally = Found<Seen>;
+
 // Of arguments also: is the first, if there is one, a template with an uncooked piece?
-#[derive(Clone, Copy, Default)]
-pub struct Passed {
-    pub entries: usize,
-    pub uncooked: bool,
-    pub first: Option<bool>,
-}
+pub type ArgumentTally = Found<Option<bool>>;
 
-// What a node counts for among others.
-impl From<NodeTally> for Tally {
-    ghost from_gives = { λ j t. t ≡ tally_of j };
+// In one part and in another; what else is asked is that of the first.
+impl<T: Copy, U: Copy> Add<Found<U>> for Found<T> {
+    type Output = Found<T>;
 
-    fn from(j: NodeTally) -> Tally {
-        Tally {
-            entries: j.entries,
-            uncooked: j.uncooked,
+    ghost can_add = { λ t u. t.entries + u.entries < 2 ^ 64 };
+
+    ghost add_gives = { λ t u r. r ≡ plus t u };
+
+    fn add(self, u: Found<U>) -> Found<T> {
+        Found {
+            entries: self.entries + u.entries,
+            uncooked: self.uncooked || u.uncooked,
+            also: self.also,
         }
     }
 }
 
-pub fn add(t: Tally, u: Tally) -> Tally
-    requires { t.entries + u.entries < 2 ^ 64 }
-    ensures { result ≡ plus t u }
-{
-    Tally {
-        entries: t.entries + u.entries,
-        uncooked: t.uncooked || u.uncooked,
-    }
-}
-
 // One argument more: it is the first if there was none before it.
-pub fn add_argument(p: Passed, j: NodeTally) -> Passed
+pub fn add_argument(p: ArgumentTally, j: NodeTally) -> ArgumentTally
     requires { p.entries + j.entries < 2 ^ 64 }
     ensures { result ≡ with_argument p j }
 {
-    Passed {
-        entries: p.entries + j.entries,
-        uncooked: p.uncooked || j.uncooked,
-        first: p.first.or(Some(j.template)),
+    Found {
+        also: p.also.or(Some(j.also.template)),
+        ..p + j
     }
 }
 
@@ -65,11 +61,13 @@ pub fn add_argument(p: Passed, j: NodeTally) -> Passed
 pub fn leaf(own: bool, require: bool) -> NodeTally
     ensures { result ≡ leaf_of own require }
 {
-    NodeTally {
+    Found {
         entries: usize::from(own),
         uncooked: false,
-        require,
-        template: false,
+        also: Seen {
+            require,
+            template: false,
+        },
     }
 }
 
@@ -78,23 +76,12 @@ pub fn holding(own: bool, template: bool, t: Tally) -> NodeTally
     requires { 1 + t.entries < 2 ^ 64 }
     ensures { result ≡ with_own own template t }
 {
-    NodeTally {
-        entries: usize::from(own) + t.entries,
-        uncooked: t.uncooked,
-        require: false,
-        template,
-    }
-}
-
-// Nodes behind arguments.
-pub fn join_passed(p: Passed, t: Tally) -> Passed
-    requires { p.entries + t.entries < 2 ^ 64 }
-    ensures { result ≡ with_nodes p t }
-{
-    Passed {
-        entries: p.entries + t.entries,
-        uncooked: p.uncooked || t.uncooked,
-        first: p.first,
+    Found {
+        also: Seen {
+            require: false,
+            template,
+        },
+        ..leaf(own, false) + t
     }
 }
 
@@ -106,16 +93,22 @@ pub fn import_callee() -> NodeTally
 }
 
 // A call, from what was found in its callee: a listed one with an argument has an entry.
-pub fn called(callee: NodeTally, p: Passed) -> NodeTally
+pub fn called(callee: NodeTally, p: ArgumentTally) -> NodeTally
     requires { callee.entries + 1 + p.entries < 2 ^ 64 }
     ensures { result ≡ called_by callee p }
 {
-    let own = callee.require && p.first.is_some();
-    let first = callee.require && p.first.unwrap_or(false);
-    NodeTally {
-        entries: callee.entries + p.entries + usize::from(own),
-        uncooked: callee.uncooked || p.uncooked || first,
-        require: false,
-        template: false,
+    let own = callee.also.require && p.also.is_some();
+    let first = callee.also.require && p.also.unwrap_or(false);
+    let call = Found {
+        entries: usize::from(own),
+        uncooked: first,
+        also: (),
+    };
+    Found {
+        also: Seen {
+            require: false,
+            template: false,
+        },
+        ..callee + p + call
     }
 }

@@ -1,8 +1,8 @@
 -- The bytes of a character: the first begins it, and each other goes on with it.
 use mathlib.Core.Bool.{not-eq-not}
 use lib.Seq.{get_or-take}
-use Rattle.laws.proofs.Prelude.{◌≡◌, refl, sym, ◌∙◌, Bool, true, false, ◌&&◌, ◌||◌, and-eq-true_iff, false≢true, true≢false, List, [], ◌∷◌, ℕ, zero, suc, ◌+◌, ◌-◌, ◌≤◌, ◌<◌}
-use Rattle.laws.proofs.Prelude.{add-zero, arith, leb, ltb, length, get_or, take, drop, get_or-drop, leb-true, ltb-true, ltb-false}
+use Rattle.laws.proofs.Prelude.{◌≡◌, refl, sym, ◌∙◌, Bool, true, false, ◌&&◌, ◌||◌, and-eq-true_iff, false≢true, true≢false, List, [], ◌∷◌, ℕ, zero, suc, ◌+◌}
+use Rattle.laws.proofs.Prelude.{◌-◌, ◌≤◌, ◌<◌, add-zero, arith, leb, ltb, length, get_or, take, drop, get_or-drop, leb-true, ltb-true, ltb-false}
 use Rattle.text.{specs.declared.utf8.Encoding.TheVariants.Utf8, proofs.Formed.every_row, proofs.Formed.picked, proofs.WithinRange.within_iff}
 use Rattle.text.specs.Ranges.{Range, ◌to◌, within}
 use Rattle.text.specs.Utf8.{admits, continuation, Row, char, never, length_by, rows, char_length}

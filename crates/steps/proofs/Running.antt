@@ -181,7 +181,8 @@ module _ {c : Class} {t s : List ℕ} {m : Reached} {e : ℕ} {x : Option Captur
   unfolding flat_map first
   long_stop is h = record { is = λ q i. sym (before.on q i ∙ go q before.ends h (f.is q i)) }
     where
-      go : (q : Row) {d : ℕ} {l : List ℕ} → Back c s m.at d l → d ≤ m.at → x ≡ first (all q s d m.captured) → first (flat_map (λ d. all q s d m.captured) l) ≡ None
+      go : (q : Row) {d : ℕ} {l : List ℕ} → Back c s m.at d l → d ≤ m.at → x ≡ first (all q s d m.captured)
+          → first (flat_map (λ d. all q s d m.captured) l) ≡ None
       go q begin i g = miss (all q s m.at m.captured) [] g is
       go q (more b z p) i g = absurd (omega (arith, back_onward b))
 
@@ -190,8 +191,11 @@ module _ {c : Class} {t s : List ℕ} {m : Reached} {e : ℕ} {x : Option Captur
   long_back {r} is h start = go e refl before.left before.ends before.on
     where
       go : (d : ℕ) → d ≡ e → (l : List ℕ) → Back c s m.at d l
-          → ((q : Row) → row_in t ≡ row q → first (all (longest c q) s m.at m.captured) ≡ first (flat_map (λ d. all q s d m.captured) l)) → (m.at ≤ r) × Longer c t s m r
+          → ((q : Row) → row_in t ≡ row q → first (all (longest c q) s m.at m.captured) ≡ first (flat_map (λ d. all q s d m.captured) l))
+          → (m.at ≤ r) × Longer c t s m r
       go _ same _ begin on = absurd (omega arith)
       go _ same _ (more {d} {e = y} {l} b z p) on =
-          let first : r ≡ d = start d (omega arith) (omega (arith, class_length c (drop d s) z)) in
-          (omega (arith, back_onward b), record { left = l; ends = rw first b; on = λ q i. on q i ∙ miss (all q s y m.captured) _ (rw (← same) at (f.is q i)) is })
+          let first : r ≡ d = start d (omega arith) (omega (arith, class_length c (drop d s) z)) in (
+            omega (arith, back_onward b),
+            record { left = l; ends = rw first b; on = λ q i. on q i ∙ miss (all q s y m.captured) _ (rw (← same) at (f.is q i)) is },
+          )

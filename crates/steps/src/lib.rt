@@ -64,6 +64,7 @@ pub fn match_row(table: &[u8], body: &[u8]) -> Answer
 }
 
 // Runs a table that stands for a row.
+#[tactic(auto, using(crate::proofs::Tables::finds_table))]
 fn run_table(table: &[u8], body: &[u8]) -> Option<Capture>
     ensures { FindsTable table.now body.now result }
 {

@@ -1,6 +1,6 @@
 -- A run of ASCII is one character after the other.
-use Rattle.laws.proofs.Prelude.{◌≡◌, refl, sym, true, false, ap, ◌∙◌, Bool, cond, List, ℕ, zero, suc, ◌+◌, ◌≤◌, ◌<◌, arith, add-zero, length, get_or, drop, drop-cons, get_or-drop}
-use Rattle.laws.proofs.Prelude.{le-leb}
+use Rattle.laws.proofs.Prelude.{◌≡◌, refl, sym, true, false, ap, ◌∙◌, Bool, cond, List, ℕ, zero, suc, ◌+◌, ◌≤◌, ◌<◌, arith, add-zero, length, get_or, drop}
+use Rattle.laws.proofs.Prelude.{drop-cons, get_or-drop, le-leb}
 use mir.Val.{bool_byte}
 use Rattle.text.specs.declared.{utf8.Encoding.Encoding, utf8.Encoding.TheVariants.Utf8, class.Class.Class}
 use Rattle.text.specs.Utf8.{admits, length_by, char_length, code_by, char_at, formed}

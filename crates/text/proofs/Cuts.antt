@@ -153,7 +153,8 @@ module _ {s : List ℕ} {at : ℕ} {front back : List ℕ} (c : Cut s at front b
     where
       go : Parted back n → formed Utf8 0 (take n (drop at s)) ≡ true
       go (mid, last, e, k) =
-          let is : take n (drop at s) ≡ flat_map encode mid = rw (behind, k, e, flat_map_append) (take-append_seam (flat_map encode mid) (flat_map encode last)) in
+          let is : take n (drop at s) ≡ flat_map encode mid =
+          rw (behind, k, e, flat_map_append) (take-append_seam (flat_map encode mid) (flat_map encode last)) in
           rw is ((well_formed_iff Utf8 (flat_map encode mid)).1 (mid, front_text Utf8 mid last (rw e at rest)))
 
 module _ (s : List ℕ) (f : formed Utf8 0 s ≡ true) where

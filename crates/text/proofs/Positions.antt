@@ -16,7 +16,8 @@ walk_append unit p [] t = refl
 walk_append unit p (b ∷ s) t = walk_append unit (step unit p b) s t
 
 -- from one place of a text to a later one
-pub onward : (unit : Units) (s : List ℕ) (from at : ℕ) → from ≤ at → walk unit (position_of unit s from) (take (at - from) (drop from s)) ≡ position_of unit s at
+pub onward : (unit : Units) (s : List ℕ) (from at : ℕ) → from ≤ at
+    → walk unit (position_of unit s from) (take (at - from) (drop from s)) ≡ position_of unit s at
 unfolding position_of
 onward unit s from at h = rw (← walk_append, ← take-add, add-sub_of_le h)
 

@@ -89,7 +89,8 @@ rows_reported (p ∷ ps) a = go (is_surrogate p) refl (rows_reported ps a.1)
     t = flat_map encode ps
 
     go : (s : Bool) → is_surrogate p ≡ s → (lossy t ≡ flat_map encode (map reported ps)) × (replaced t ≡ surrogates_among ps)
-        → (lossy (encode p ++ t) ≡ encode (cond s 0xFFFD p) ++ flat_map encode (map reported ps)) × (replaced (encode p ++ t) ≡ cond s 1 0 + surrogates_among ps)
+        → (lossy (encode p ++ t) ≡ encode (cond s 0xFFFD p) ++ flat_map encode (map reported ps))
+        × (replaced (encode p ++ t) ≡ cond s 1 0 + surrogates_among ps)
     go true h (k, n) = let (x, y) = replaces p t h in (x ∙ ap (encode 0xFFFD ++◌) k, omega (arith, y, n))
     go false h (k, n) = let c = keeps t p (bounded Wtf8 p a.0) h in (c.same ∙ ap (encode p ++◌) k, omega (arith, c.none, n))
 

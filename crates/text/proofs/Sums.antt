@@ -1,6 +1,6 @@
 -- The position past some bytes, by how many of them end a line and how many begin a character.
-use Rattle.laws.proofs.Prelude.{◌≡◌, refl, sym, ap, ◌∙◌, Bool, true, false, cond, List, [], ◌∷◌, ℕ, suc, zero-le, suc-le-suc, ◌+◌, ◌-◌, ◌≤◌, ◌<◌, arith, add-one}
-use Rattle.laws.proofs.Prelude.{eqb, length, get_or, take, drop, length-drop, length-take, take_all, get_or-drop, lt-leb, eq-eqb, ne_eqb}
+use Rattle.laws.proofs.Prelude.{◌≡◌, refl, sym, ap, ◌∙◌, Bool, true, false, cond, List, [], ◌∷◌, ℕ, suc, zero-le, suc-le-suc, ◌+◌, ◌-◌, ◌≤◌, ◌<◌, arith}
+use Rattle.laws.proofs.Prelude.{add-one, eqb, length, get_or, take, drop, length-drop, length-take, take_all, get_or-drop, lt-leb, eq-eqb, ne_eqb}
 use lib.Seq.{take-suc, take-add, get_or-take}
 use Rattle.std.specs.Prelude.{count_by}
 use Rattle.std.proofs.lemmas.List.Sums.{sum_by-cons}

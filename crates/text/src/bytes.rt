@@ -1,7 +1,7 @@
 // Texts compared byte by byte.
-ghost use Rattle.std.specs.Prelude.{◌≡◌, true, ℕ, ◌+◌, ◌<◌, ◌≤◌, length, get_or, drop};
+ghost use Rattle.std.specs.Prelude.{◌≡◌, ℕ, ◌<◌, ◌≤◌, length, get_or};
 ghost use Rattle.laws.specs.code.Told.{Bounded};
-ghost use Rattle.text.specs.Bytes.{begins, same, order};
+ghost use Rattle.text.specs.Bytes.{same, order};
 ghost use Rattle.text.specs.code.Places.{Passing, First};
 
 use super::blocks::skip_while;
@@ -12,14 +12,6 @@ pub fn byte_at(s: &[u8], i: usize) -> u32
     ensures { Bounded (result ≡ get_or s.now i 0) (result < 256) }
 {
     s.get(i).map_or(0, |b| *b as u32)
-}
-
-// The word stands at `at`.
-pub fn starts_with(s: &[u8], at: usize, word: &[u8]) -> bool
-    requires { at ≤ length s.now }
-    ensures { result ≡ begins word.now (drop at s.now) }
-{
-    s[at..].starts_with(word)
 }
 
 // The two are the same text.

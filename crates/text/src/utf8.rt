@@ -98,6 +98,7 @@ fn length_by_rows(s: &[u8], encoding: Encoding) -> usize
 }
 
 // How many bytes the character at `at` has; 0 where none of the rows admits what stands there.
+#[tactic(auto, using(crate::proofs::ByRows::measured, std::proofs::lemmas::List::take_rest))]
 pub fn char_length(s: &[u8], at: usize, encoding: Encoding) -> usize
     requires { at ≤ length s.now }
     ensures { Meant (result ≡ char_length encoding (drop at s.now))

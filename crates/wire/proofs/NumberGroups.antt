@@ -1,12 +1,12 @@
 -- A number's groups, and the place values that they have.
 use Rattle.std.specs.Prelude.{Ok, Err}
-use Rattle.laws.proofs.Prelude.{◌≡◌, refl, ap, ◌∙◌, true, cond, ◌||◌, List, [], ◌∷◌, ℕ, zero, suc, ◌+◌, ◌-◌, ◌*◌, ◌≤◌, ◌<◌, arith, leb, ltb, length, get_or, drop}
-use Rattle.laws.proofs.Prelude.{lt-ltb, le-ltb, le-leb}
+use Rattle.laws.proofs.Prelude.{◌≡◌, refl, ap, ◌∙◌, true, cond, ◌||◌, List, [], ◌∷◌, ℕ, zero, suc, ◌+◌, ◌-◌, ◌*◌, ◌≤◌, ◌<◌, arith, leb, ltb, length, get_or}
+use Rattle.laws.proofs.Prelude.{drop, lt-ltb, le-ltb, le-leb}
 use native.Mathlib.Nat.{mul-le-mul, le_refl, pow-le-pow_right, pow-suc}
 use Rattle.laws.specs.Decoded.{ok, no, ◌>>◌, require}
 use Rattle.wire.specs.Fields.{byte}
 use Rattle.wire.specs.Number.{largest, last_group, groups, number}
-use Rattle.wire.specs.code.Views.{Reading, Past, PlaceValue}
+use Rattle.wire.specs.code.Views.{ReadResult, Past, PlaceValue}
 
 -- the next of some groups that are left
 module _ (scale low : ℕ) (s : List ℕ) where
@@ -85,7 +85,7 @@ three_groups (a ∷ b ∷ c ∷ s) h large fits large' fits' some small =
     ∙ ap (λ n. ok n s) value
 
 -- what is left behind fewer bytes
-pub past_more : {A : Type 0} (n : ℕ) {m : ℕ} (r : Reading A) → m < n → Past m r → Past n r
+pub past_more : {A : Type 0} (n : ℕ) {m : ℕ} (r : ReadResult A) → m < n → Past m r → Past n r
 past_more n (Ok p) h less = omega (arith, less)
 past_more n (Err r) h less = tt
 

@@ -14,37 +14,34 @@ use refusals::Refusal;
 use text::utf8::Encoding;
 
 // What is read, with the cursor past it, or a refusal.
-pub type Reading<'a, T> = Result<(T, &'a [u8]), Refusal>;
+pub type ReadResult<'a, T> = Result<(T, &'a [u8]), Refusal>;
 
 // A place in a sheet, held as the bytes that are left to read. Its methods read from their front.
 pub trait Cursor<'a>: Sized {
-    fn byte(self) -> Reading<'a, usize>;
+    fn byte(self) -> ReadResult<'a, usize>;
 
-    fn below(self, limit: usize) -> Reading<'a, usize>;
+    fn below(self, limit: usize) -> ReadResult<'a, usize>;
 
-    fn flag(self) -> Reading<'a, bool>;
+    fn flag(self) -> ReadResult<'a, bool>;
 
-    fn number(self) -> Reading<'a, usize>;
+    fn number(self) -> ReadResult<'a, usize>;
 
-    fn count(self, limit: usize) -> Reading<'a, usize>;
+    fn count(self, limit: usize) -> ReadResult<'a, usize>;
 
-    fn text(self, encoding: Encoding, limit: usize) -> Reading<'a, &'a [u8]>;
+    fn text(self, encoding: Encoding, limit: usize) -> ReadResult<'a, &'a [u8]>;
 }
 
 // A last group is not 0, unless it is the only one.
 fn shortest(scale: usize, group: usize) -> bool
     ensures { result ≡ leb scale 1 || ltb 0 group }
 {
-    if scale <= 1 {
-        return true;
-    }
-    0 < group
+    scale <= 1 || 0 < group
 }
 
 // At most so many groups, the first with its place value, above groups that make up `low`. A function that calls itself is never inlined, so that
 // `number` stays short.
 #[tactic(auto, using(crate::proofs::NumberGroups::group_steps, crate::proofs::FieldsAtFront::byte_small), unfolding(crate::specs::Number::last_group))]
-fn groups(s: &[u8], left: usize, scale: usize, low: usize) -> Reading<'_, usize>
+fn groups(s: &[u8], left: usize, scale: usize, low: usize) -> ReadResult<'_, usize>
     requires { PlaceValue left scale low }
     ensures { Told read_as (groups left scale low s.now) (Past (length s.now)) result }
 {
@@ -67,7 +64,7 @@ fn groups(s: &[u8], left: usize, scale: usize, low: usize) -> Reading<'_, usize>
 impl<'a> Cursor<'a> for &'a [u8] {
     // A byte.
     #[tactic(auto, using(crate::proofs::FieldsAtFront::byte_none))]
-    fn byte(self) -> Reading<'a, usize>
+    fn byte(self) -> ReadResult<'a, usize>
         ensures { Told read_as (byte self.now) (Past (length self.now)) result }
     {
         match self {
@@ -78,7 +75,7 @@ impl<'a> Cursor<'a> for &'a [u8] {
 
     // A byte below a limit.
     #[tactic(auto, unfolding(crate::specs::Fields::below))]
-    fn below(self, limit: usize) -> Reading<'a, usize>
+    fn below(self, limit: usize) -> ReadResult<'a, usize>
         ensures { Told read_as (below limit self.now) (Past (length self.now)) result }
     {
         let (b, next) = self.byte()?;
@@ -91,7 +88,7 @@ impl<'a> Cursor<'a> for &'a [u8] {
 
     // A byte, 0 or 1.
     #[tactic(auto, unfolding(crate::specs::Fields::flag))]
-    fn flag(self) -> Reading<'a, bool>
+    fn flag(self) -> ReadResult<'a, bool>
         ensures { Told read_as (flag self.now) (Past (length self.now)) result }
     {
         let (b, next) = self.below(2)?;
@@ -100,7 +97,7 @@ impl<'a> Cursor<'a> for &'a [u8] {
 
     // A number: at most five groups of seven bits, low group first, in its shortest form. One of up to three groups is read right here.
     #[tactic(auto, using(crate::proofs::NumberGroups::first_place), unfolding(crate::specs::Number::number))]
-    fn number(self) -> Reading<'a, usize>
+    fn number(self) -> ReadResult<'a, usize>
         ensures { Told read_as (number self.now) (Past (length self.now)) result }
     {
         match self {
@@ -118,7 +115,7 @@ impl<'a> Cursor<'a> for &'a [u8] {
 
     // A number up to a limit: a count, or a length.
     #[tactic(auto, unfolding(crate::specs::Text::count))]
-    fn count(self, limit: usize) -> Reading<'a, usize>
+    fn count(self, limit: usize) -> ReadResult<'a, usize>
         ensures { Told read_as (count limit self.now) (Past (length self.now)) result }
     {
         let (n, next) = self.number()?;
@@ -131,7 +128,7 @@ impl<'a> Cursor<'a> for &'a [u8] {
 
     // A text: a length up to a limit, and as many bytes, well-formed.
     #[tactic(auto, unfolding(crate::specs::Text::text, crate::specs::Fields::bytes))]
-    fn text(self, encoding: Encoding, limit: usize) -> Reading<'a, &'a [u8]>
+    fn text(self, encoding: Encoding, limit: usize) -> ReadResult<'a, &'a [u8]>
         ensures { Told text_as (text encoding limit self.now) (Past (length self.now)) result }
     {
         let (n, next) = self.count(limit)?;

@@ -1,7 +1,7 @@
 -- What the answers of the code stand for, and the bounds that they keep.
-use Rattle.std.specs.Prelude.{◌≡◌, Bool, true, cond, ℕ, ◌+◌, ◌≤◌, ◌<◌, length}
+use Rattle.std.specs.Prelude.{◌≡◌, true, ℕ, ◌+◌, ◌≤◌, ◌<◌, length}
 use Rattle.std.specs.Borrow.{Bor}
-use mathlib.Core.List.{List, [], ◌∷◌, flat_map}
+use mathlib.Core.List.{List, [], flat_map}
 use Rattle.std.specs.Prelude.{None, Option, Some, option_map}
 use Rattle.laws.specs.Codec.{IfThere}
 use Rattle.laws.specs.Decoded.{ok, Decoder}
@@ -27,10 +27,6 @@ encode_parts = flat_map (encode_optional encode_text)
 -- the text of a piece, if it is cooked
 abbrev pub piece_in : Option (Bor (List ℕ)) → Option (List ℕ)
 piece_in = option_map (λ x. x.now)
-
--- the part of a hole, if there is one: an expression
-abbrev pub hole_parts : Bool → List DynamicTemplatePart
-hole_parts has_hole = cond has_hole (None ∷ []) []
 
 -- nothing is known of the text of an expression, wherever it stands in an argument
 pub record Unknown (n : Node) : Type 0 where

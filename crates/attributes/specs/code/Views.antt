@@ -7,7 +7,7 @@ use Rattle.std.specs.List as list
 use Rattle.laws.specs.Decoded.{Decoded, ok, no, Decoder}
 use Rattle.text.specs.Lossy.{exact}
 use Rattle.wire.specs.Refusals.{number_of}
-use Rattle.wire.specs.code.Views.{Reading}
+use Rattle.wire.specs.code.Views.{ReadResult}
 use Rattle.sheet.specs.Limits.{property_limit}
 use Rattle.sheet.specs.Tree.{Node, Properties, Attributes, without}
 use Rattle.sheet.specs.Nodes.{node, property_item}
@@ -111,6 +111,6 @@ abbrev pub KeyedIs : Decoder Node → List ℕ → Option Keyed → List ℕ →
 KeyedIs inner s None u = SeenAs inner s u keyless
 KeyedIs inner s (Some k) u = (v : Node) × (inner k.value.now ≡ ok v u) × SeenAs inner s u (keyed k.key.now (shape v))
 
-abbrev pub PropIs : Decoder Node → List ℕ → Reading (Option Keyed) → Type 0
+abbrev pub PropIs : Decoder Node → List ℕ → ReadResult (Option Keyed) → Type 0
 PropIs inner s (Ok p) = KeyedIs inner s p.0 p.1.now
 PropIs inner s (Err r) = property_item inner s ≡ no (number_of r)

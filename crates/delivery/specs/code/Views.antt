@@ -11,7 +11,7 @@ use Rattle.wire.specs.declared.refusals.Refusal.{Refusal}
 use Rattle.wire.specs.Refusals.{number_of}
 use Rattle.delivery.specs.declared.modules.ModuleRead.{ModuleRead}
 use Rattle.delivery.specs.declared.entries.Late.{Late}
-use Rattle.delivery.specs.declared.judge.{Refused.Refused, LateModule.LateModule}
+use Rattle.delivery.specs.declared.judge.{RefusedModule.RefusedModule, LateModule.LateModule}
 use Rattle.delivery.specs.Delivery.{Module}
 use Rattle.delivery.specs.Order.{Answer, in_order, not_in_order, refused, late_in, entries_in_turn}
 
@@ -68,7 +68,7 @@ LateReport earlier ds work (Some n) =
 LateReport earlier ds work None = (i : ℕ) (behind : Answer) → behind ≡ entries_in_turn earlier i 0 ds behind
 
 -- the first refused sheet, or what is behind
-abbrev pub sheets_as : Result (Unit {0}) Refused → Answer → Answer
+abbrev pub sheets_as : Result (Unit {0}) RefusedModule → Answer → Answer
 sheets_as (Ok x) behind = behind
 sheets_as (Err r) behind = refused (number_of r.refusal) r.module
 
@@ -78,6 +78,6 @@ late_module_as None = in_order
 late_module_as (Some l) = not_in_order l.module l.late.entry l.late.specifier.now
 
 -- the answer
-abbrev pub judgement_as : Result (Option LateModule) Refused → Answer
+abbrev pub judgement_as : Result (Option LateModule) RefusedModule → Answer
 judgement_as (Ok o) = late_module_as o
 judgement_as (Err r) = refused (number_of r.refusal) r.module

@@ -7,18 +7,18 @@ use Rattle.jsdoc.specs.Parsed.{Parser, value}
 use Rattle.jsdoc.specs.Reader.{Hit, hit, parse_jsdoc_dynamic_import, parse_jsdoc_import_decl}
 
 -- a cell is marked by what stands there, the place that reads and the mode
-abbrev pub Mark : Type 0 → Type 0
-Mark A = A → ℕ → Mode → A
+abbrev pub Marking : Type 0 → Type 0
+Marking A = A → ℕ → Mode → A
 
 -- what holds of every mark that answers as the code's does
-abbrev pub ByMark : {A : Type 0} → (A → ℕ → Mode → A → Type 0) → (Mark A → Type 0) → Type 0
-ByMark {A} post P = (f : Mark A) → ((x : A) (i : ℕ) (m : Mode) (r : A) → post x i m r → r ≡ f x i m) → P f
+abbrev pub ByMark : {A : Type 0} → (A → ℕ → Mode → A → Type 0) → (Marking A → Type 0) → Type 0
+ByMark {A} post P = (f : Marking A) → ((x : A) (i : ℕ) (m : Mode) (r : A) → post x i m r → r ≡ f x i m) → P f
 
 -- a cell that is marked stays as it is for a later place of that mode
-abbrev pub Stays : {A : Type 0} → Mark A → Type 0
+abbrev pub Stays : {A : Type 0} → Marking A → Type 0
 Stays {A} f = (x : A) (i k : ℕ) (m : Mode) → i < k → f (f x i m) k m ≡ f x i m
 
-module _ {A : Type 0} (f : Mark A) (d : A) where
+module _ {A : Type 0} (f : Marking A) (d : A) where
   abbrev pub mark_at : ℕ → ℕ → Mode → List A → List A
   mark_at i q m l = set l q (f (get_or l q d) i m)
 

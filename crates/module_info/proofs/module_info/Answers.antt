@@ -14,5 +14,6 @@ returns-in-Err c =
 
 pub returns-in-Ok-Some : goal.returns-in-Ok-Some
 returns-in-Ok-Some c =
-    let (is, (t, e)) = rw (c.in-Ok-Some.is, c.in-Ok-Some.field-0-is) at c.judge.ensures in
-    demanded e (c.write_report.ensures t (rw is e))
+    let some = c.in-Ok-Some in
+    let is = rw (some.is, some.field-0-is) at c.judge.ensures in
+    demanded (rw is at some.accepted.accepted) c.write_report.ensures

@@ -22,8 +22,10 @@ returns-in-Err c =
 
 pub returns-in-Ok-Some : goal.returns-in-Ok-Some
 returns-in-Ok-Some c =
-    let (is, (t, e)) = rw (c.in-Ok-Some.is, c.in-Ok-Some.field-0-is) at c.judge.ensures in
-    let (report, rows) = c.write_noted_report.ensures t (rw is e) in
+    let some = c.in-Ok-Some in
+    let is = rw (some.is, some.field-0-is) at c.judge.ensures in
+    let e = rw is at some.accepted.accepted in
+    let (report, rows) = c.write_noted_report.ensures in
     record {
       answer = demanded e report;
       beside = sheet_notes _ _ e (rw c.fill.auto.self at rows);

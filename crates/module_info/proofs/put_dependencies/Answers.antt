@@ -5,7 +5,7 @@ use Rattle.module_info.proofs.put_dependencies.Goals as goal
 
 pub returns : goal.returns
 returns c =
-    λ t e.
     let walked = c.analyze_program_dependencies in
-    let done = dependencies_written (c.parts.ensures.parts t e) (c.comments-comments.ensures.comments t e) (written_as c.args.w.now) _ walked.new.items c.put_flag.ensures walked.ensures.answer in
+    let done = dependencies_written c.parts.ensures c.comments-comments.ensures.comments
+    (written_as c.args.w.now) _ walked.new.items c.put_flag.ensures walked.ensures.answer in
     search rules

@@ -6,6 +6,15 @@ use Rattle.module_info.proofs.put_head.Goals as goal
 pub returns : goal.returns
 unfolding head_bytes read_by first_by head_comments
 returns c =
-    λ t e.
-    let o = c.parts-parts.ensures.parts t e in
-    rw (c.analyze_first-3.ensures, c.analyze_first-2.ensures, c.analyze_first.ensures, c.analyze_ts_references.ensures, c.of-head.ensures, c.head_group.ensures.answer, c.comments-comments.ensures.comments t e, o.media, o.program) (simp more_append)
+    let o = c.parts-parts.ensures in
+    rw (
+      c.analyze_first-3.ensures,
+      c.analyze_first-2.ensures,
+      c.analyze_first.ensures,
+      c.analyze_ts_references.ensures,
+      c.of-head.ensures,
+      c.head_group.ensures.answer,
+      c.comments-comments.ensures.comments,
+      o.media,
+      o.program,
+    ) (simp more_append)

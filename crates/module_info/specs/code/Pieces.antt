@@ -10,12 +10,12 @@ use Rattle.wire.specs.Optional.{encode_optional}
 use Rattle.sheet.specs.Limits.{depth_limit, source_limit}
 use Rattle.sheet.specs.Nodes.{node}
 use Rattle.sheet.specs.Walked.{entries}
-use Rattle.sheet.specs.Sheet.{Sheet, accept}
+use Rattle.sheet.specs.Sheet.{Sheet}
 use Rattle.sheet.specs.code.Commented.{Commented}
 use Rattle.sheet.specs.code.Tables.{comments_in, groups_in}
 use Rattle.sheet_nodes.specs.code.Reach.{ReachesIn}
 use Rattle.sheet_check.specs.declared.check.Parts.{Parts}
-use Rattle.sheet_check.specs.code.Views.{StandsAt}
+use Rattle.sheet_check.specs.code.Views.{FoundAt}
 use Rattle.sheet_check.specs.code.Accepts.{Accepts}
 use Rattle.report.specs.Encode.{encode_list, encode_specifier, encode_reference, encode_jsdoc, encode_dependency}
 use Rattle.pragmas.specs.Pragmas.{ts_references, self_types_specifier, jsx_import_source, jsx_import_source_types, source_map_url, types_at}
@@ -46,16 +46,12 @@ unfoldable pub rest_bytes : Sheet → List ℕ
 rest_bytes t =
     encode_list encode_jsdoc (jsdoc_imports t.media t.source t.comments) ++ encode_optional encode_specifier (source_map_url t)
 
--- the bytes s are an accepted sheet
-abbrev pub IsAccepted : List ℕ → Type 0
-IsAccepted s = (t : Sheet) × (accept s ≡ ok t [])
-
 -- the parts of a sheet in its bytes s
 pub record PartsOf (t : Sheet) (s : List ℕ) (p : Parts) : Type 0 where
   pub media : p.front.media ≡ t.media
   pub program : p.tree.program ≡ t.program
   pub source : p.front.source.now ≡ t.source
-  pub place : StandsAt s p.front.source_start t.source
+  pub place : FoundAt s p.front.source_start t.source
   pub comments : comments_in p.front.comments.now ≡ t.comments
   pub groups : groups_in p.front.groups.now ≡ t.groups
   pub root : node t.source depth_limit p.tree.root.now ≡ ok t.root []

@@ -1,10 +1,9 @@
 use Rattle.laws.proofs.Prelude.{◌≡◌, drop}
 use Rattle.report.specs.Buffer.{written_as, more}
-use Rattle.rules.specs.code.Rows.{starts_in}
-use Rattle.rules.proofs.Origins.{types_bytes}
+use Rattle.rules.specs.code.{Pieces.types_bytes, Rows.starts_in}
 use Rattle.rules.proofs.put_types_rules.Given as goal
 
-abbrev pub invariant-loop-row : goal.invariant-loop-row
-invariant-loop-row l =
+abbrev pub invariant-loop-start : goal.invariant-loop-start
+invariant-loop-start l =
     more (written_as l.fn.w) (types_bytes l.comments (starts_in l.rows))
-    ≡ more (written_as l.w) (types_bytes l.comments (starts_in (drop l.row-index l.rows)))
+    ≡ more (written_as l.w) (types_bytes l.comments (starts_in (drop l.start-index l.rows)))

@@ -13,16 +13,15 @@ module _ (notes : List ℕ) (long : length notes ≡ 1 + 2 * entry_limit) where
 
 pub slice_bounds-result-end : goal.slice_bounds-result-end
 slice_bounds-result-end c =
-    let (t, e) = c.parts.ensures.accepted in
     let rows : length c.as_chunks.result.0.now ≡ entry_limit = c.as_chunks.ensures.front_len ∙ many _ c.requires in
-    sym (length-take-le _ _ (omega (arith, few_rows _ e, (c.parts.ensures.parts t e).count, rows)))
+    sym (length-take-le _ _ (omega (arith, few_rows _ c.args.accepted.now.accepted, c.parts.ensures.count, rows)))
 
 pub returns : goal.returns
 returns c =
-    λ t e held.
+    λ held.
     let notes = c.args.notes.now in
-    let count = (c.parts.ensures.parts t e).count in
-    let few = few_rows _ e in
+    let count = c.parts.ensures.count in
+    let few = few_rows _ c.args.accepted.now.accepted in
     let fits : c.parts.result.tree.entries ≤ length (take (length notes - 1) (drop 1 notes)) / 2 = omega (arith, few, count, many notes c.requires) in
-    starts_held t (length (take (length notes - 1) (drop 1 notes)) / 2) c.parts.result.tree.entries
+    starts_held c.args.accepted.now.sheet (length (take (length notes - 1) (drop 1 notes)) / 2) c.parts.result.tree.entries
     c.as_chunks.ensures.front (tail notes c.requires) count fits (omega (arith, few, count, c.requires)) held

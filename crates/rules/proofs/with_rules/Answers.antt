@@ -12,5 +12,6 @@ returns-in-Err c =
 
 pub returns-in-Ok-Some : goal.returns-in-Ok-Some
 returns-in-Ok-Some c =
-    let (is, (t, e)) = rw (c.in-Ok-Some.is, c.in-Ok-Some.field-0-is) at c.judge.ensures in
-    sheet_both _ e (c.write_ruled_report.ensures t (rw is e))
+    let some = c.in-Ok-Some in
+    let is = rw (some.is, some.field-0-is) at c.judge.ensures in
+    sheet_both _ (rw is at some.accepted.accepted) c.write_ruled_report.ensures

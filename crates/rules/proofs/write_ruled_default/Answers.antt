@@ -1,6 +1,6 @@
 use Rattle.laws.proofs.Prelude.{rules, ap, ◌∙◌, [], length}
 use Rattle.report.{specs.Encode.encode, proofs.Buffers.wrote_none}
-use Rattle.module_info.{specs.Information.default_info, proofs.Written.same_loan, proofs.Written.finished, proofs.Written.come_back}
+use Rattle.module_info.{specs.Information.default_info, proofs.Written.same_loan, proofs.Written.finished}
 use Rattle.rules.specs.Rules.{both_fitted}
 use Rattle.rules.proofs.BothBuffers.{first_refused}
 use Rattle.rules.proofs.write_ruled_default.Goals as goal
@@ -19,6 +19,5 @@ returns-in-Ok c =
     let kept = c.write_default.auto.buffer in
     let accepted = rw c.in-Ok.is at c.write_default.ensures in
     let same = same_loan c.new.ensures w [] (wrote_none w) in
-    let written = c.finish.ensures ∙ finished c.new.ensures w [] (wrote_none w) in
-    c.finish_rules.ensures (encode default_info) [] _ room (rw kept accepted) (come_back c.finish.result _ c.finish.new.self.0 (search (rules, same)) written)
-    ∙ ap (λ n. both_fitted n room (encode default_info) []) kept
+    let written = finished c.new.ensures w [] (wrote_none w) c.finish.result (search (rules, same)) c.finish.ensures in
+    c.finish_rules.ensures (encode default_info) [] _ room (rw kept accepted) written ∙ ap (λ n. both_fitted n room (encode default_info) []) kept

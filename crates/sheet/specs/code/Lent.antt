@@ -25,5 +25,5 @@ pub record Lends (c : Commented) (index : List Position) : Type 0 where
   pub indexed : IndexOf c.source index
 
 -- the group, if there is one, is of the comments
-abbrev pub Reached : Commented → Option Group → Type 0
-Reached c = IfThere (Reaching (length c.comments))
+abbrev pub GroupOf : Commented → Option Group → Type 0
+GroupOf c = IfThere (Reaching (length c.comments))

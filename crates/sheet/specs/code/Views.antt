@@ -6,7 +6,7 @@ use Rattle.wire.specs.declared.refusals.Refusal.{Refusal}
 use Rattle.wire.specs.declared.refusals.Refusal.TheVariants.{Byte}
 use Rattle.wire.specs.Refusals.{number_of}
 use Rattle.wire.specs.Fields.{Values, value_of}
-use Rattle.wire.specs.code.Views.{Reading, PastWith}
+use Rattle.wire.specs.code.Views.{ReadResult, PastWith}
 use Rattle.sheet.specs.declared.fields.Span.{Span}
 use Rattle.sheet.specs.declared.comments.Comment.{Comment}
 use Rattle.sheet.specs.declared.comments.CommentRow.{CommentRow}
@@ -25,7 +25,7 @@ abbrev pub SpanIn : List ℕ → Span → Type 0
 SpanIn source sp = (sp.start ≤ sp.end) × (sp.end ≤ length source)
 
 -- one that was read, with fewer than n bytes behind it
-abbrev pub PastSpan : List ℕ → ℕ → Reading Span → Type 0
+abbrev pub PastSpan : List ℕ → ℕ → ReadResult Span → Type 0
 PastSpan source n = PastWith (λ sp next. (length next.now < n) × SpanIn source sp)
 
 -- what a table was filled with, and the bytes behind it, or a refusal

@@ -10,7 +10,7 @@ use Rattle.sheet.specs.Walked.{entries}
 use Rattle.sheet.specs.Sheet.{Sheet, accept}
 use Rattle.sheet_nodes.specs.code.Reach.{ReachesIn}
 use Rattle.sheet_check.specs.declared.check.Parts.{Parts}
-use Rattle.sheet_check.specs.code.Views.{StandsAt}
+use Rattle.sheet_check.specs.code.Views.{FoundAt}
 
 -- a sheet s is accepted, and the parts stand for what it decodes to
 pub record Accepts (s : List ℕ) (p : Parts) : Type 0 where
@@ -18,7 +18,7 @@ pub record Accepts (s : List ℕ) (p : Parts) : Type 0 where
   pub accepted : accept s ≡ ok sheet []
   pub media : p.front.media ≡ sheet.media
   pub source : p.front.source.now ≡ sheet.source
-  pub place : StandsAt s p.front.source_start p.front.source.now
+  pub place : FoundAt s p.front.source_start p.front.source.now
   pub comments : comments_in p.front.comments.now ≡ sheet.comments
   pub groups : groups_in p.front.groups.now ≡ sheet.groups
   pub few : (length p.front.comments.now ≤ comment_limit) × (length p.front.groups.now ≤ group_limit)

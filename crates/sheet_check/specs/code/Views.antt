@@ -5,7 +5,7 @@ use Rattle.laws.specs.Decoded.{Decoded, ok, no}
 use Rattle.text.specs.Bytes.{part}
 use Rattle.wire.specs.declared.refusals.Refusal.{Refusal}
 use Rattle.wire.specs.Refusals.{number_of}
-use Rattle.wire.specs.code.Views.{Reading, reading_as, PastWith}
+use Rattle.wire.specs.code.Views.{ReadResult, read_with, PastWith}
 use Rattle.sheet.specs.Limits.{comment_limit, group_limit, depth_limit}
 use Rattle.sheet.specs.declared.comments.Comment.{Comment}
 use Rattle.sheet.specs.declared.comments.CommentRow.{CommentRow}
@@ -22,32 +22,32 @@ use Rattle.sheet_check.specs.declared.front.Front as declared
 use Rattle.sheet_check.specs.declared.tree.Tree.{Tree}
 use Rattle.sheet_check.specs.code.Pieces.{Front, tree}
 
-abbrev pub source_as : Reading (MediaType × Bor (List ℕ)) → Decoded (MediaType × List ℕ)
-source_as = reading_as (λ p. (p.0, p.1.now))
+abbrev pub source_as : ReadResult (MediaType × Bor (List ℕ)) → Decoded (MediaType × List ℕ)
+source_as = read_with (λ p. (p.0, p.1.now))
 
 -- x stands at a place of s
-pub record StandsAt (s : List ℕ) (at : ℕ) (x : List ℕ) : Type 0 where
+pub record FoundAt (s : List ℕ) (at : ℕ) (x : List ℕ) : Type 0 where
   pub inside : at + length x ≤ length s
   pub there : part s at (at + length x) ≡ x
 
 -- x stands in s, right in front of so many bytes, with which s ends
 pub record InFront (s x : List ℕ) (left : ℕ) : Type 0 where
   pub fits : length x + left ≤ length s
-  pub stands : StandsAt s (length s - left - length x) x
+  pub stands : FoundAt s (length s - left - length x) x
 
 -- the source stands in the sheet s, right in front of the bytes that are left
-abbrev pub WithinSource : List ℕ → Reading (MediaType × Bor (List ℕ)) → Type 0
+abbrev pub WithinSource : List ℕ → ReadResult (MediaType × Bor (List ℕ)) → Type 0
 WithinSource s = PastWith (λ p next. InFront s p.1.now (length next.now))
 
 -- how many comments were read, and these, in rows of a table
-abbrev pub comment_rows_as : Reading (Bor (List CommentRow)) → Decoded (ℕ × List Comment)
-comment_rows_as = reading_as (λ rows. (length rows.now, comments_in rows.now))
+abbrev pub comment_rows_as : ReadResult (Bor (List CommentRow)) → Decoded (ℕ × List Comment)
+comment_rows_as = read_with (λ rows. (length rows.now, comments_in rows.now))
 
-abbrev pub group_rows_as : Reading (Bor (List GroupRow)) → Decoded (List Group)
-group_rows_as = reading_as (λ rows. groups_in rows.now)
+abbrev pub group_rows_as : ReadResult (Bor (List GroupRow)) → Decoded (List Group)
+group_rows_as = read_with (λ rows. groups_in rows.now)
 
 -- no more rows than a limit
-abbrev pub WithinLimit : {R : Type 0} → ℕ → Reading (Bor (List R)) → Type 0
+abbrev pub WithinLimit : {R : Type 0} → ℕ → ReadResult (Bor (List R)) → Type 0
 WithinLimit limit = PastWith (λ rows next. length rows.now ≤ limit)
 
 -- what the front that was read stands for
@@ -60,16 +60,16 @@ front_of t =
       groups = groups_in t.groups.now;
     }
 
-abbrev pub front_as : Reading declared.Front → Decoded Front
-front_as = reading_as front_of
+abbrev pub front_as : ReadResult declared.Front → Decoded Front
+front_as = read_with front_of
 
 -- the source stands in the sheet s, and the rows are within their limits
-pub record Inside (s : List ℕ) (t : declared.Front) : Type 0 where
-  pub place : StandsAt s t.source_start t.source.now
+pub record FrontIn (s : List ℕ) (t : declared.Front) : Type 0 where
+  pub place : FoundAt s t.source_start t.source.now
   pub few : (length t.comments.now ≤ comment_limit) × (length t.groups.now ≤ group_limit)
 
-abbrev pub WithinFront : List ℕ → Reading declared.Front → Type 0
-WithinFront s = PastWith (λ t next. Inside s t)
+abbrev pub WithinFront : List ℕ → ReadResult declared.Front → Type 0
+WithinFront s = PastWith (λ t next. FrontIn s t)
 
 -- a program, with a root behind it that ends the sheet, in which no call meets refusal 9
 pub record Stands (source s : List ℕ) (t : Tree) : Type 0 where

@@ -3,7 +3,7 @@ use Rattle.std.specs.Prelude.{◌≡◌, Bool, List, ◌∷◌, ℕ, ◌≤◌, 
 use Rattle.std.specs.Borrow.{Bor}
 use Rattle.laws.specs.Decoded.{Decoded}
 use Rattle.wire.specs.Number.{largest}
-use Rattle.wire.specs.code.Views.{Reading, reading_as, PastWith}
+use Rattle.wire.specs.code.Views.{ReadResult, read_with, PastWith}
 use Rattle.wire.specs.declared.refusals.Refusal.{Refusal}
 use Rattle.wire.specs.declared.refusals.Refusal.TheVariants as refusal
 use Rattle.sheet.specs.Limits.{property_limit}
@@ -42,17 +42,17 @@ abbrev pub OfTag : ℕ → Result Tag Refusal → Type 0
 OfTag t (Ok kind) = t ≡ tag_number kind
 OfTag t (Err r) = (13 ≤ t) × (r ≡ refusal.Byte)
 
-abbrev pub tag_as : Reading Tag → Decoded ℕ
-tag_as = reading_as tag_number
+abbrev pub tag_as : ReadResult Tag → Decoded ℕ
+tag_as = read_with tag_number
 
 abbrev pub quoted_of : q.Quoted → Quoted
 quoted_of x = record { span = x.span; text = x.text.now }
 
-abbrev pub quoted_as : Reading q.Quoted → Decoded Quoted
-quoted_as = reading_as quoted_of
+abbrev pub quoted_as : ReadResult q.Quoted → Decoded Quoted
+quoted_as = read_with quoted_of
 
-abbrev pub specifier_as : Reading (q.Quoted × Bool) → Decoded (Quoted × Bool)
-specifier_as = reading_as (λ p. (quoted_of p.0, p.1))
+abbrev pub specifier_as : ReadResult (q.Quoted × Bool) → Decoded (Quoted × Bool)
+specifier_as = read_with (λ p. (quoted_of p.0, p.1))
 
 abbrev pub head_of : h.Head → Head
 head_of (head.Other n) = other_head n
@@ -73,19 +73,19 @@ head_of (head.ImportRequire d) = import_require_head d.type_only d.export (quote
 head_of (head.Module n) = module_head None n
 head_of (head.NamedModule x n) = module_head (Some (quoted_of x)) n
 
-abbrev pub fields_as : Reading h.Head → Decoded Head
-fields_as = reading_as head_of
+abbrev pub fields_as : ReadResult h.Head → Decoded Head
+fields_as = read_with head_of
 
-abbrev pub head_as : Reading (Span × h.Head) → Decoded (Span × Head)
-head_as = reading_as (λ p. (p.0, head_of p.1))
+abbrev pub head_as : ReadResult (Span × h.Head) → Decoded (Span × Head)
+head_as = read_with (λ p. (p.0, head_of p.1))
 
 -- a piece, cooked with its text or uncooked, stands for what it adds to the pieces behind it
 abbrev pub piece_of : Option (Bor (List ℕ)) → Pieces → Pieces
 piece_of (Some x) = Some x.now ∷◌
 piece_of None = None ∷◌
 
-abbrev pub piece_as : Reading (Option (Bor (List ℕ))) → Decoded (Pieces → Pieces)
-piece_as = reading_as piece_of
+abbrev pub piece_as : ReadResult (Option (Bor (List ℕ))) → Decoded (Pieces → Pieces)
+piece_as = read_with piece_of
 
 abbrev pub property_of : Property → PropertyHead
 property_of property.Spread = spread_head
@@ -102,8 +102,8 @@ nodes_of property.ChildKey = 2
 nodes_of (property.StringKey x) = 1
 nodes_of (property.NameKey x) = 1
 
-abbrev pub property_as : Reading Property → Decoded PropertyHead
-property_as = reading_as property_of
+abbrev pub property_as : ReadResult Property → Decoded PropertyHead
+property_as = read_with property_of
 
 -- no more holes than a number can say, and at most 64 properties
 abbrev pub HeadWithin : h.Head → Type 0
@@ -122,32 +122,32 @@ Spanned source (head.NamedModule x n) = SpanIn source x.span
 Spanned source _ = Unit {0}
 
 -- no more than n bytes are left
-abbrev pub NoMore : {A : Type 0} → ℕ → Reading A → Type 0
+abbrev pub NoMore : {A : Type 0} → ℕ → ReadResult A → Type 0
 NoMore n = PastWith (λ v next. length next.now ≤ n)
 
 -- fewer than n bytes are left; after a tag also a level was
-abbrev pub PastTag : {A : Type 0} → ℕ → ℕ → Reading A → Type 0
+abbrev pub PastTag : {A : Type 0} → ℕ → ℕ → ReadResult A → Type 0
 PastTag n levels = PastWith (λ t next. (0 < levels) × (length next.now < n))
 
 -- a String, an argument's head and a head's fields were read, with spans of the source
-abbrev pub PastQuoted : List ℕ → ℕ → Reading q.Quoted → Type 0
+abbrev pub PastQuoted : List ℕ → ℕ → ReadResult q.Quoted → Type 0
 PastQuoted source n = PastWith (λ x next. (length next.now < n) × SpanIn source x.span)
 
-abbrev pub PastSpecifier : List ℕ → ℕ → Reading (q.Quoted × Bool) → Type 0
+abbrev pub PastSpecifier : List ℕ → ℕ → ReadResult (q.Quoted × Bool) → Type 0
 PastSpecifier source n = PastWith (λ p next. (length next.now < n) × SpanIn source p.0.span)
 
-abbrev pub PastArgument : List ℕ → ℕ → Reading (Bool × Span) → Type 0
+abbrev pub PastArgument : List ℕ → ℕ → ReadResult (Bool × Span) → Type 0
 PastArgument source n = PastWith (λ p next. (length next.now < n) × SpanIn source p.1)
 
-abbrev pub PastFields : List ℕ → ℕ → Reading h.Head → Type 0
+abbrev pub PastFields : List ℕ → ℕ → ReadResult h.Head → Type 0
 PastFields source n = PastWith (λ x next. (length next.now < n) × HeadWithin x × Spanned source x)
 
 -- the same of fields without a String that the node holds, whatever the source
-abbrev pub PastPlain : ℕ → Reading h.Head → Type 0
+abbrev pub PastPlain : ℕ → ReadResult h.Head → Type 0
 PastPlain n r = (source : List ℕ) → PastFields source n r
 
-abbrev pub PastHead : List ℕ → ℕ → ℕ → Reading (Span × h.Head) → Type 0
+abbrev pub PastHead : List ℕ → ℕ → ℕ → ReadResult (Span × h.Head) → Type 0
 PastHead source n levels = PastWith (λ p next. (0 < levels) × (length next.now < n) × HeadWithin p.1 × Spanned source p.1)
 
-abbrev pub PastAttributes : ℕ → ℕ → Reading (Span × ℕ) → Type 0
+abbrev pub PastAttributes : ℕ → ℕ → ReadResult (Span × ℕ) → Type 0
 PastAttributes n levels = PastWith (λ p next. (0 < levels) × (length next.now < n) × (p.1 ≤ property_limit))

@@ -1,18 +1,12 @@
 use Rattle.laws.proofs.Prelude.{ap, [], ◌+◌, ◌-◌, arith, ltb, length, length-append, sub-zero, told}
 use Rattle.sheet.specs.{Nodes.piece}
-use Rattle.sheet_heads.proofs.Many.{many_refused, many_end}
+use Rattle.sheet_heads.proofs.Many.{many_end}
 use Rattle.arguments.specs.Argument.{template_parts}
 use Rattle.arguments.proofs.{Pieces.piece_next, Pieces.piece_is, Pieces.hole_count, Pieces.one_most}
 use Rattle.arguments.proofs.template.count_parts.Goals as goal
 
 pub loop-k-init : goal.loop-k-init
 loop-k-init c = (omega arith, λ ps u e. (ps, rw sub-zero e, omega arith))
-
-pub returns-in_default : goal.returns-in_default
-returns-in_default c ps u e =
-    let l = c.loop-k in
-    let (qs, read, total) = l.invariant.1 ps u e in
-    absurd (many_refused [] piece (c.args.pieces.holes + 1 - l.k) l.s.now (omega arith) (told c.read_piece.ensures c.in_default.is) read)
 
 pub loop-k-preserved : goal.loop-k-preserved
 loop-k-preserved c =

@@ -1,13 +1,6 @@
 use Rattle.laws.proofs.Prelude.{told, bounded}
-use Rattle.sheet_heads.proofs.ByHead.{no_head}
-use Rattle.attributes.proofs.Shapes.{text_is, object_is, other_is}
+use Rattle.attributes.proofs.Shapes.{text_is, object_is}
 use Rattle.attributes.proofs.props.read_value.Goals as goal
-
-pub returns-in_default : goal.returns-in_default
-returns-in_default c = record {
-  answer = λ v t e. absurd (no_head c.args.source.now c.args.levels _ e (told c.read_head.ensures c.in_default.is));
-  bounds = tt;
-}
 
 pub returns-in-String : goal.returns-in-String
 returns-in-String c = record { answer = λ v t e. text_is _ _ _ _ (told c.read_head.ensures c.in-Ok.is) e c.in-String.is; bounds = tt }
@@ -16,9 +9,3 @@ pub returns-in-Object : goal.returns-in-Object
 returns-in-Object c =
     let past = bounded c.read_head.ensures c.in-Ok.is in
     record { answer = λ v t e. object_is _ _ _ _ (told c.read_head.ensures c.in-Ok.is) e c.in-Object.is; bounds = (past.0, rw c.in-Object.is at past.2) }
-
-pub returns-in_default-head : goal.returns-in_default-head
-returns-in_default-head c = record {
-  answer = λ v t e. other_is _ _ _ _ (told c.read_head.ensures c.in-Ok.is) e c.in_default-head.not-String c.in_default-head.not-Object;
-  bounds = tt;
-}

@@ -1,24 +1,11 @@
 use Rattle.std.specs.Option.{is_some}
-use Rattle.laws.proofs.Prelude.{rules, ◌≡◌, ap, ◌∙◌, [], told}
-use Rattle.sheet.specs.Tree.{without}
+use Rattle.laws.proofs.Prelude.{rules, ap, ◌∙◌, [], told}
 use Rattle.report.specs.ModuleInfo.{known}
 use Rattle.attributes.specs.Attributes.{props, static_attributes}
 use Rattle.attributes.specs.code.Views.{object_in}
 use Rattle.attributes.proofs.Kept.{known_kept, has_value}
-use Rattle.attributes.proofs.{Objects.behind_attributes, Objects.no_attributes}
+use Rattle.attributes.proofs.{Objects.behind_attributes}
 use Rattle.attributes.proofs.readings.parse_import_attributes.Goals as goal
-
-pub returns-in_default : goal.returns-in_default
-unfolding static_attributes object_in
-returns-in_default c y t u e =
-    let nothing = rw c.in_default.is at e in
-    let is : without ≡ y = cc in
-    ap static_attributes is
-
-pub returns-in_default-read_attributes : goal.returns-in_default-read_attributes
-unfolding object_in
-returns-in_default-read_attributes c x t u e =
-    absurd (no_attributes _ _ _ (rw c.in-Some.is at e) (told c.read_attributes.ensures c.in_default-read_attributes.is))
 
 pub returns : goal.returns
 unfolding static_attributes object_in

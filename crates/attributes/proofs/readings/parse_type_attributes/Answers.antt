@@ -1,22 +1,9 @@
-use Rattle.laws.proofs.Prelude.{rules, ◌≡◌, ap, ◌∙◌, true, told}
-use Rattle.sheet.specs.Tree.{without}
+use Rattle.laws.proofs.Prelude.{rules, ap, ◌∙◌, true, told}
 use Rattle.attributes.specs.Attributes.{props, type_attributes}
 use Rattle.attributes.specs.code.Views.{object_in}
 use Rattle.attributes.proofs.Kept.{all_read}
-use Rattle.attributes.proofs.{Objects.behind_attributes, Objects.no_attributes}
+use Rattle.attributes.proofs.{Objects.behind_attributes}
 use Rattle.attributes.proofs.readings.parse_type_attributes.Goals as goal
-
-pub returns-in_default : goal.returns-in_default
-unfolding type_attributes object_in
-returns-in_default c y t u e =
-    let nothing = rw c.in_default.is at e in
-    let is : without ≡ y = cc in
-    ap type_attributes is
-
-pub returns-in_default-read_attributes : goal.returns-in_default-read_attributes
-unfolding object_in
-returns-in_default-read_attributes c x t u e =
-    absurd (no_attributes _ _ _ (rw c.in-Some.is at e) (told c.read_attributes.ensures c.in_default-read_attributes.is))
 
 pub returns-then-parse_import_attributes_from_object_lit : goal.returns-then-parse_import_attributes_from_object_lit
 unfolding type_attributes object_in

@@ -1,12 +1,7 @@
 use Rattle.laws.proofs.Prelude.{◌≡◌, rules, sym, ap, ◌∙◌, []}
 use Rattle.delivery.specs.{Order.refused, Order.order_of, Order.modules_in_turn, code.Views.modules_in, code.Views.checked_as}
-use Rattle.delivery.proofs.Orders.{names_twice, names_differ, none_refused}
+use Rattle.delivery.proofs.Orders.{names_differ, none_refused}
 use Rattle.delivery.proofs.judge.judge.Goals as goal
-
-pub returns-then-has_name_twice : goal.returns-then-has_name_twice
-returns-then-has_name_twice c =
-    let read = sym c.check_delivery.ensures ∙ ap checked_as c.in-Some.is in
-    rw c.of_delivery-then-has_name_twice.ensures (sym (names_twice _ _ read (sym c.has_name_twice.ensures ∙ c.if-has_name_twice.true)))
 
 pub returns-in_err-judge_sheets : goal.returns-in_err-judge_sheets
 returns-in_err-judge_sheets c =

@@ -1,4 +1,4 @@
-use Rattle.laws.proofs.Prelude.{refl, sym, ◌∙◌, ◌+◌, take, drop, length-take-le}
+use Rattle.laws.proofs.Prelude.{sym, ◌∙◌, ◌+◌, take, drop, length-take-le}
 use Rattle.delivery.specs.{Order.modules_in_turn, Right.Reported, Right.names_of, code.Views.modules_in}
 use Rattle.delivery.proofs.{Rows.row_has, Rows.module_at, ReportEntries.late_again}
 use Rattle.delivery.proofs.judge.judge_order.Goals as goal
@@ -36,6 +36,3 @@ loop-i-preserved c =
           let zero = row_has (Reported _) _ _ _ c.loop-i-test.true all in
           l.invariant.1 all ∙ module_at _ _ _ c.loop-i-test.true ∙ sym (judged zero l.i behind),
     )
-
-pub loop-i-init : goal.loop-i-init
-loop-i-init c = (refl, λ all. refl)

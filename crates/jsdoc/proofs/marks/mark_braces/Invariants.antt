@@ -7,7 +7,8 @@ abbrev pub invariant-loop-brace : goal.invariant-loop-brace
 invariant-loop-brace g l = record {
   left : length l.rest ≤ length l.body;
   answer : ByMark (goal.F-post g l.mark) (λ f. Stays f → (d : _)
-      → all_marked f d parse_jsdoc_dynamic_import (length l.body) l.body l.initial.table ≡ all_marked f d parse_jsdoc_dynamic_import (length l.body) l.rest l.table);
+      → all_marked f d parse_jsdoc_dynamic_import (length l.body) l.body l.initial.table
+      ≡ all_marked f d parse_jsdoc_dynamic_import (length l.body) l.rest l.table);
 }
 
 abbrev pub decreases-loop-brace : goal.decreases-loop-brace

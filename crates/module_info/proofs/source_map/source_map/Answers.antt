@@ -13,6 +13,6 @@ returns-in_err-accepted c =
 
 pub returns : goal.returns
 returns c =
-    let (is, (t, e)) = rw (c.in_ok-accepted.was, c.in-Some.is) at c.judge.ensures in
+    let is = rw (c.in_ok-accepted.was, c.in-Some.is) at c.judge.ensures in
     let read = rw is at c.read_source_map.ensures in
-    source_map_right _ (ap given (read.answer t e) ∙ sym (of_sheet _ e)) read.bounds
+    source_map_right _ (ap given read.answer ∙ sym (of_sheet _ (rw is at c.in-Some.accepted.accepted))) read.bounds

@@ -10,5 +10,6 @@ pub returns : goal.returns
 unfolding references_in
 returns c =
     count_from_yields_List c.filter.result _ c.count.ensures.ran
-    (YieldsList-from_filter _ (λ x. is_some (reference x.source x.comment)) (YieldsList-from_first (λ x. x) (λ r. r) _ (c.filter.ensures.source ∙ c.iter.ensures)) c.filter.ensures.closure (λ x r q k. search (rules, tests)))
+    (YieldsList-from_filter _ (λ x. is_some (reference x.source x.comment))
+    (YieldsList-from_first (λ x. x) (λ r. r) _ (c.filter.ensures.source ∙ c.iter.ensures)) c.filter.ensures.closure (λ x r q k. search (rules, tests)))
     ∙ count_placed c.args.comments.now.source (λ x. reference x.source x.comment) _

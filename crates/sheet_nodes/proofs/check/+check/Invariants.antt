@@ -1,14 +1,15 @@
 use Rattle.laws.proofs.Prelude.{◌≡◌, ◌+◌, ◌*◌, ◌≤◌, length}
 use Rattle.laws.specs.Decoded.{on_ok}
 use Rattle.sheet.specs.Nodes.{node, nodes, arguments, properties}
-use Rattle.sheet_nodes.specs.code.Tallies.{passed, tally_all, tally_in}
+use Rattle.sheet_nodes.specs.code.Tallies.{tally_of, tally_all, tally_in}
 use Rattle.sheet_nodes.proofs.Loops.{from_nodes, from_arguments, from_properties}
 use Rattle.sheet_nodes.proofs.check.+check.Given as goal
 
 abbrev pub invariant-check_arguments-loop : goal.invariant-check_arguments-loop
 invariant-check_arguments-loop l =
     (l.total.entries + length l.next ≤ length l.fn.s)
-    × (on_ok passed (arguments (node l.source l.levels) l.source l.count l.fn.s) ≡ from_arguments (node l.source l.levels) l.source l.total l.count l.counter l.next)
+    × (on_ok tally_of (arguments (node l.source l.levels) l.source l.count l.fn.s)
+    ≡ from_arguments (node l.source l.levels) l.source l.total l.count l.counter l.next)
 
 abbrev pub invariant-check_nodes-loop : goal.invariant-check_nodes-loop
 invariant-check_nodes-loop l =

@@ -1,5 +1,5 @@
 use Rattle.laws.proofs.Prelude.{refl, sym, ◌+◌, arith, length-drop, drop-drop}
-use Rattle.analysis.proofs.Spelling.{part_to_end}
+use Rattle.std.proofs.lemmas.List.{take_rest}
 use Rattle.steps.proofs.Decoding.{read}
 use Rattle.steps.proofs.Running.{stays, onward, arrives, at_done, at_bad, passed, unpassed, at_longest, at_shortest, at_first, at_second}
 use Rattle.steps.proofs.Running.{short_hit, short_stop, short_on, long_all, long_hit, long_stop, long_back}
@@ -23,7 +23,7 @@ pub match_from-loop-step-preserved-in-Pass : goal.match_from-loop-step-preserved
 match_from-loop-step-preserved-in-Pass t c =
     let rest = c.loop-step.rest.now in
     let is = read rest c.in-Ok.ensures.answer c.in-Pass.is in
-    rw part_to_end (
+    rw take_rest (
       c.in_ok-here-in-Pass.ensures.bounds,
       omega (arith, length-drop c.in-Pass.wide rest),
       onward c.loop-step.invariant.2 (passed is c.pass.ensures.answer c.in_ok-here-in-Pass.was),
@@ -32,25 +32,25 @@ match_from-loop-step-preserved-in-Pass t c =
 pub match_from-returns-in-Longest : goal.match_from-returns-in-Longest
 match_from-returns-in-Longest t c =
     arrives c.loop-step.invariant.2
-    (at_longest (read c.loop-step.rest.now c.in-Ok.ensures.answer c.in-Longest.is) (rw part_to_end at c.match_longest.ensures))
+    (at_longest (read c.loop-step.rest.now c.in-Ok.ensures.answer c.in-Longest.is) (rw take_rest at c.match_longest.ensures))
 
 pub match_from-returns-in-Shortest : goal.match_from-returns-in-Shortest
 match_from-returns-in-Shortest t c =
     arrives c.loop-step.invariant.2
-    (at_shortest (read c.loop-step.rest.now c.in-Ok.ensures.answer c.in-Shortest.is) (rw part_to_end at c.match_shortest.ensures))
+    (at_shortest (read c.loop-step.rest.now c.in-Ok.ensures.answer c.in-Shortest.is) (rw take_rest at c.match_shortest.ensures))
 
 pub match_from-returns-then-is_some : goal.match_from-returns-then-is_some
 match_from-returns-then-is_some t c =
     let is = read c.loop-step.rest.now c.in-Ok.ensures.answer c.in-Either.is in
-    let first = rw part_to_end at c.split_at.ensures.front in
+    let first = rw take_rest at c.split_at.ensures.front in
     arrives c.loop-step.invariant.2 (at_first is (rw first at c.match_from-found.ensures) c.if-is_some.ensures)
 
 pub match_from-loop-step-preserved : goal.match_from-loop-step-preserved
 match_from-loop-step-preserved t c =
     let rest = c.loop-step.rest.now in
     let is = read rest c.in-Ok.ensures.answer c.in-Either.is in
-    let first = rw part_to_end at c.split_at.ensures.front in
-    let second = rw (part_to_end, drop-drop) at c.split_at.ensures.back in
+    let first = rw take_rest at c.split_at.ensures.front in
+    let second = rw (take_rest, drop-drop) at c.split_at.ensures.back in
     rw second (
       c.loop-step.invariant.0,
       omega (arith, length-drop (2 + c.in-Either.n) rest),

@@ -1,5 +1,5 @@
 use Rattle.laws.proofs.Prelude.{sym, ap, ◌∙◌, ◌+◌, arith, length-drop, drop-drop, handed}
-use Rattle.analysis.proofs.Spelling.{part_to_end}
+use Rattle.std.proofs.lemmas.List.{take_rest}
 use Rattle.steps.specs.{Answers.verdict_of}
 use Rattle.steps.proofs.Decoding.{read, row_in_lem, judged_pass, runs, judged_first, judged_second}
 use Rattle.steps.proofs.table.+check.Goals as goal
@@ -17,7 +17,7 @@ returns-in-Done t c =
 pub loop-wide-preserved-in-Pass : goal.loop-wide-preserved-in-Pass
 loop-wide-preserved-in-Pass t c =
     let rest = c.loop-wide.rest.now in
-    rw part_to_end (
+    rw take_rest (
       omega (arith, length-drop c.in-Pass.wide rest),
       c.loop-wide.invariant.1 ∙ judged_pass rest (read rest c.in_ok-step_of.ensures.answer c.in-Pass.is),
     )
@@ -25,13 +25,13 @@ loop-wide-preserved-in-Pass t c =
 pub loop-wide-preserved-in-Longest : goal.loop-wide-preserved-in-Longest
 loop-wide-preserved-in-Longest t c =
     let rest = c.loop-wide.rest.now in
-    rw part_to_end (omega (arith, length-drop 2 rest), c.loop-wide.invariant.1 ∙ runs rest c.in_ok-step_of.ensures.answer c.in-Longest.is)
+    rw take_rest (omega (arith, length-drop 2 rest), c.loop-wide.invariant.1 ∙ runs rest c.in_ok-step_of.ensures.answer c.in-Longest.is)
 
 pub returns-in_err-check-in-Either : goal.returns-in_err-check-in-Either
 returns-in_err-check-in-Either t c =
     let rest = c.loop-wide.rest.now in
     let is = read rest c.in_ok-step_of.ensures.answer c.in-Either.is in
-    let first = rw part_to_end at c.split_at.ensures.front in
+    let first = rw take_rest at c.split_at.ensures.front in
     rw (handed _ c.from_residual-in_err-check-in-Either.ensures)
     (sym (c.loop-wide.invariant.1 ∙ judged_first rest is (rw first at c.in_err-check-in-Either.ensures)))
 
@@ -39,8 +39,8 @@ pub loop-wide-preserved : goal.loop-wide-preserved
 loop-wide-preserved t c =
     let rest = c.loop-wide.rest.now in
     let is = read rest c.in_ok-step_of.ensures.answer c.in-Either.is in
-    let first = rw part_to_end at c.split_at.ensures.front in
-    let second = rw (part_to_end, drop-drop) at c.split_at.ensures.back in
+    let first = rw take_rest at c.split_at.ensures.front in
+    let second = rw (take_rest, drop-drop) at c.split_at.ensures.back in
     rw second (
       omega (arith, length-drop (2 + c.in-Either.n) rest),
       c.loop-wide.invariant.1 ∙ judged_second rest is (rw first at c.in_ok-check-in-Either.ensures),

@@ -26,7 +26,8 @@ returns-in_default c =
       answer = rw last (index_more l.index l.row-index row indexed (omega arith) (c.new.ensures ∙ at));
       left = rw last (
         length-set l.index l.row-index row ∙ long,
-        drop-set-lt (l.row-index + 1) l.index l.row-index row (omega arith) ∙ sym (drop-drop 1 l.row-index l.index) ∙ ap (drop 1) kept ∙ drop-drop 1 l.row-index _,
+        drop-set-lt (l.row-index + 1) l.index l.row-index row (omega arith) ∙ sym (drop-drop 1 l.row-index l.index) ∙ ap (drop 1) kept
+            ∙ drop-drop 1 l.row-index _,
       );
     }
 
@@ -52,7 +53,8 @@ loop-row-preserved c =
       room,
       behind ∙ ap (drop 64) left ∙ drop-drop 64 (64 * l.row-index) s ∙ ap (λ n. drop n s) next,
       index_more l.index l.row-index row indexed (omega arith) (c.new.ensures ∙ at),
-      drop-set-lt (l.row-index + 1) l.index l.row-index row (omega arith) ∙ sym (drop-drop 1 l.row-index l.index) ∙ ap (drop 1) kept ∙ drop-drop 1 l.row-index _,
+      drop-set-lt (l.row-index + 1) l.index l.row-index row (omega arith) ∙ sym (drop-drop 1 l.row-index l.index) ∙ ap (drop 1) kept
+          ∙ drop-drop 1 l.row-index _,
     )
 
 pub returns : goal.returns

@@ -8,7 +8,8 @@ use Rattle.sheet.proofs.commented.Comments.at.Goals as goal
 pub new-requires : goal.new-requires
 new-requires c =
     let inside = rw (← c.self.view_is) at c.requires in
-    rw (← c.self.view_is, c.from.ensures, ← (comment_row_lem c.self.inside.rows.now c.args.k (rw length-map at inside))) (c.self.invariant.fit.each c.args.k inside)
+    rw (← c.self.view_is, c.from.ensures, ← (comment_row_lem c.self.inside.rows.now c.args.k (rw length-map at inside)))
+    (c.self.invariant.fit.each c.args.k inside)
 
 pub returns : goal.returns
 returns c =

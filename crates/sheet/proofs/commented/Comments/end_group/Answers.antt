@@ -8,4 +8,8 @@ pub returns : goal.returns
 returns c =
     let found = c.end_group.ensures in
     rw (← c.self.view_is)
-    (record { answer = found; bounds = if_there _ c.end_group.result (λ g e. found_reaching c.self.invariant.grouped Trailing c.args.program.span.end (sym found ∙ e)) })
+    (record {
+      answer = found;
+      bounds = if_there _ c.end_group.result
+          (λ g e. found_reaching c.self.invariant.grouped Trailing c.args.program.span.end (sym found ∙ e));
+    })

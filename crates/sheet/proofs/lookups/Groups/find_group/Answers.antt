@@ -8,11 +8,23 @@ returns-in_err-at c =
     let a = c.args in
     let found = c.binary_search_by_key.ensures in
     let by_place = found.position (λ row. (row.side, row.position)) (answers_always _ _ _ (λ f a r g called. search rules)) in
-    rw (← c.self.view_is, c.from_residual.ensures, searched c.self.inside.rows.now a.side a.position c.self.invariant _ found.bound by_place, ← c.ok.ensures.value, c.in_err-at.was)
+    rw (
+      ← c.self.view_is,
+      c.from_residual.ensures,
+      searched c.self.inside.rows.now a.side a.position c.self.invariant _ found.bound by_place,
+      ← c.ok.ensures.value,
+      c.in_err-at.was,
+    )
 
 pub returns : goal.returns
 returns c =
     let a = c.args in
     let found = c.binary_search_by_key.ensures in
     let by_place = found.position (λ row. (row.side, row.position)) (answers_always _ _ _ (λ f a r g called. search rules)) in
-    rw (← c.self.view_is, c.from.ensures, searched c.self.inside.rows.now a.side a.position c.self.invariant _ found.bound by_place, ← c.ok.ensures.value, c.in_ok-at.was)
+    rw (
+      ← c.self.view_is,
+      c.from.ensures,
+      searched c.self.inside.rows.now a.side a.position c.self.invariant _ found.bound by_place,
+      ← c.ok.ensures.value,
+      c.in_ok-at.was,
+    )

@@ -2,8 +2,6 @@
 ghost use Rattle.std.specs.Prelude.{◌≡◌};
 ghost use Rattle.analysis.specs.Mode.{mode_number, mode_of};
 
-use text::bytes::equal;
-
 #[derive(Clone, Copy, Debug, PartialEq, Eq, Hash)]
 pub enum TypeScriptTypesResolutionMode {
     Import = 1,
@@ -11,14 +9,14 @@ pub enum TypeScriptTypesResolutionMode {
 }
 
 // The mode that a text names.
-#[tactic(auto, unfolding(crate::specs::Mode::mode_of))]
+#[tactic(auto, using(text::proofs::Words::same_is), unfolding(crate::specs::Mode::mode_of))]
 pub fn from_str(text: &[u8]) -> Option<TypeScriptTypesResolutionMode>
     ensures { result ≡ mode_of text.now }
 {
-    if equal(text, b"import") {
+    if text == b"import".as_slice() {
         return Some(TypeScriptTypesResolutionMode::Import);
     }
-    if equal(text, b"require") {
+    if text == b"require".as_slice() {
         return Some(TypeScriptTypesResolutionMode::Require);
     }
     None
@@ -27,8 +25,5 @@ pub fn from_str(text: &[u8]) -> Option<TypeScriptTypesResolutionMode>
 pub fn mode_number(found: Option<TypeScriptTypesResolutionMode>) -> u8
     ensures { result ≡ mode_number found }
 {
-    match found {
-        None => 0,
-        Some(mode) => mode as u8,
-    }
+    found.map_or(0, |mode| mode as u8)
 }

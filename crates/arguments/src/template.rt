@@ -17,10 +17,7 @@ use sheet_heads::parts::read_piece;
 fn count_piece(piece: Option<&[u8]>) -> usize
     ensures { Bounded (length (piece_parts (piece_in piece.entry)) ≡ result) (result ≤ 1) }
 {
-    match piece {
-        Some(text) => usize::from(!text.is_empty()),
-        None => 0,
-    }
+    piece.map_or(0, |text| usize::from(!text.is_empty()))
 }
 
 // How many parts the pieces and the holes between them give.

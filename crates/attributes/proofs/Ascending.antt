@@ -14,9 +14,9 @@ use Rattle.attributes.specs.Attributes.{placed, insert}
 
 pub order_total : IsTotalOrder order
 order_total = record {
-  antisymm = λ a b. sym (order_is a b) ∙ nat_list_cmp_total.antisymm a b ∙ ap ordering_reverse (order_is b a);
-  trans = λ a b c e f. sym (order_is a c) ∙ nat_list_cmp_total.trans a b c (order_is a b ∙ e) (order_is b c ∙ f);
-  congr = λ a b c e. sym (order_is a c) ∙ nat_list_cmp_total.congr a b c (order_is a b ∙ e) ∙ order_is b c;
+  antisymm = λ a b. order_is a b ∙ nat_list_cmp_total.antisymm a b ∙ ap ordering_reverse (sym (order_is b a));
+  trans = λ a b c e f. order_is a c ∙ nat_list_cmp_total.trans a b c (sym (order_is a b) ∙ e) (sym (order_is b c) ∙ f);
+  congr = λ a b c e. order_is a c ∙ nat_list_cmp_total.congr a b c (sym (order_is a b) ∙ e) ∙ sym (order_is b c);
 }
 
 -- what is greater one way is less the other way

@@ -11,7 +11,6 @@ ghost use Rattle.attributes.specs.code.Views.{slot_as, SlotWithin};
 
 use sheet::limits::PROPERTY_LIMIT;
 use std::marker::Model;
-use text::bytes::compare;
 
 // A key, and, if it is known, its value.
 #[derive(Clone, Copy)]
@@ -102,8 +101,7 @@ impl<'a> Pairs<'a> {
             (insert (pair_as p.entry) self.now)
             (SlotWithin (length self.now)) result }
     {
-        self.as_slice()
-            .binary_search_by(|row| compare(row.key, p.key))
+        self.as_slice().binary_search_by(|row| row.key.cmp(p.key))
     }
 
     // Puts a pair in its place, instead of one with the same key.

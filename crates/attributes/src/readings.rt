@@ -16,7 +16,6 @@ ghost use Rattle.attributes.specs.code.Views.{attributes_as, known_if, object_in
 use super::pairs::{Pair, Pairs};
 use super::props::{Value, read_pair, read_prop, read_value};
 use sheet_heads::parts::{read_argument, read_attributes};
-use text::bytes::equal;
 
 #[derive(Clone, Copy)]
 pub enum ImportAttributes<'t, 'a> {
@@ -125,17 +124,19 @@ fn parse_nested<'a>(source: &[u8], s: &'a [u8], levels: usize, pairs: &mut Pairs
     }
 }
 
+#[tactic(auto, using(text::proofs::Words::same_is))]
 fn is_with(key: &[u8]) -> bool
     ensures { result ≡ same key.now (ascii "with") }
 {
-    equal(key, b"with")
+    key == b"with".as_slice()
 }
 
 // Is a key `with`, or `assert` with no `with` before it?
+#[tactic(auto, using(text::proofs::Words::same_is))]
 fn is_attributes_key(key: &[u8], had_with: bool) -> bool
     ensures { result ≡ is_attributes_key had_with key.now }
 {
-    is_with(key) || equal(key, b"assert") && !had_with
+    is_with(key) || key == b"assert".as_slice() && !had_with
 }
 
 // So many properties of the second argument of a dynamic import.

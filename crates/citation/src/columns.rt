@@ -16,10 +16,9 @@ fn line_start(source: &[u8], line: usize) -> usize
 {
     let mut at = 0;
     for _ in 0..line {
-        let end = next_of(source, at, b'\n');
-        if source.len() <= end {
-            return end;
-        }
+        let Some(end) = next_of(source, at, b'\n') else {
+            return source.len();
+        };
         at = end + 1;
     }
     at

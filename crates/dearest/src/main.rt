@@ -1,9 +1,7 @@
 // Writes the dearest body of as many bytes as standard input says.
 #![tactic(auto)]
 
-ghost use Rattle.std.specs.Prelude.{◌≡◌, List, ℕ, ◌≤◌, length, take};
-ghost use Rattle.laws.specs.code.Told.{Bounded};
-ghost use Rattle.io.specs.Counts.{IsPrefixLen};
+ghost use Rattle.std.specs.Prelude.{◌≡◌, List, ℕ, ◌≤◌, length};
 ghost use Rattle.scan.specs.Dearest.{star_and_braces};
 ghost use Rattle.dearest.specs.Input.{Digits, Asks, ReadOf};
 ghost use Rattle.dearest.specs.Output.{Written};
@@ -44,26 +42,25 @@ fn read_request(input: &[u8]) -> Option<usize>
     read_numeral(input.strip_suffix(b"\n").unwrap_or(input))
 }
 
-// Puts a star and then only `{`, as many bytes as `size` says.
-fn put_body(size: usize, body: &mut [u8])
-    requires { (1 ≤ size) × (size ≤ length body.old) }
-    ensures { take size body.new ≡ star_and_braces size }
+// Puts a star and then only `{`.
+fn put_body(body: &mut [u8])
+    requires { 1 ≤ length body.old }
+    ensures { body.new ≡ star_and_braces (length body.old) }
 {
+    body.fill(b'{');
     body[0] = b'*';
-    body[1..size].fill(b'{');
 }
 
-// Puts the body that the input asks for, of which `front` was read, and answers its length; 0 where it asks for none.
-fn dearest(front: &[u8], body: &mut [u8; LONGEST]) -> usize
-    ensures { Bounded
-        ((input : List ℕ) → ReadOf input front.now → Written input (take result body.new))
-        (IsPrefixLen result body.new) }
+// Puts the body that the input asks for, of which `front` was read; none where it asks for none.
+fn dearest<'a>(front: &[u8], room: &'a mut [u8; LONGEST]) -> &'a [u8]
+    ensures { (input : List ℕ) → ReadOf input front.now → Written input result.now }
 {
     let Some(size) = read_request(front) else {
-        return 0;
+        return &[];
     };
-    put_body(size, body);
-    size
+    let body = &mut room[..size];
+    put_body(body);
+    body
 }
 
 // Reads one byte more than the longest input that asks for a body, so that a longer one is known to be longer.
@@ -71,8 +68,5 @@ fn dearest(front: &[u8], body: &mut [u8; LONGEST]) -> usize
 fn main(rt: HostRuntime) -> io::Result<()> {
     let mut front = [0u8; 7];
     let mut body = [0u8; LONGEST];
-    answer_input(rt, "dearest", &mut front, |front| {
-        let size = dearest(front, &mut body);
-        &body[..size]
-    })
+    answer_input(rt, "dearest", &mut front, |front| dearest(front, &mut body))
 }

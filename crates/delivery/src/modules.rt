@@ -10,7 +10,6 @@ ghost use Rattle.delivery.specs.code.Views.{module_as, modules_in, rows_as, Vali
 
 use report_reader::fields::read_text;
 use sheet::limits::TEXT_LIMIT;
-use text::bytes::equal;
 use text::utf8::Encoding;
 use wire::refusals::Refusal;
 use wire::{Cursor, ReadResult};
@@ -43,7 +42,7 @@ fn read_sheet(s: &[u8]) -> ReadResult<'_, &[u8]>
 
 // A name text, and a sheet.
 #[tactic(auto, unfolding(crate::specs::Delivery::named_sheet))]
-pub fn check_module(s: &[u8]) -> ReadResult<'_, ModuleRead<'_>>
+fn check_module(s: &[u8]) -> ReadResult<'_, ModuleRead<'_>>
     ensures { read_with module_as result ≡ named_sheet s.now }
 {
     let (name, next) = s.text(Encoding::Utf8, TEXT_LIMIT)?;
@@ -69,7 +68,7 @@ pub fn read_modules<'a>(s: &'a [u8], rows: &mut [ModuleRead<'a>]) -> Result<&'a 
 pub fn is_name(modules: &[ModuleRead], text: &[u8]) -> bool
     ensures { result ≡ among text.now (names_of (modules_in modules.now)) }
 {
-    modules.iter().any(|m| equal(m.name, text))
+    modules.iter().any(|m| m.name == text)
 }
 
 // Does a name of the modules occur twice?

@@ -48,13 +48,13 @@ module _ (c : Commented) (w : Collected) where
   -- a call of an expression, its callee walked
   called : (sp : Span) (inner : Decoder Node) (x : Decoded Node) {v : Collected} {t : List ℕ} → on_ok (after_node c w) x ≡ ok v t
       → on_ok (after_node c w) (and_then x (λ n. call_rest inner c.source >>= λ p. return (call sp n p.0 p.1)))
-      ≡ on_ok (after_call c (record { kind = dynamics.Require; span = sp; listed = names_require x }) v) (call_rest inner c.source t)
+      ≡ on_ok (after_call c (then_some (names_require x) (record { kind = dynamics.Require; span = sp })) v) (call_rest inner c.source t)
   unfolding noting
   called sp inner x e = grind (arith, entries_append)
 
   -- a call, its callee walked, if that is an expression
   pub call_walked : (levels : ℕ) (sp : Span) (x : Head) (u : List ℕ) → Calls x → with_entries w [] ≡ w → {v : Collected} {t : List ℕ}
-      → on_ok (after_nodes c w) (nodes (node c.source levels) (callees_of (call_by c.source levels sp u x).kind) u) ≡ ok v t
+      → on_ok (after_nodes c w) (nodes (node c.source levels) (callees_of x) u) ≡ ok v t
       → on_ok (after_node c w) (rest c.source levels (sp, head_of x) u)
       ≡ on_ok (after_call c (call_by c.source levels sp u x) v) (call_rest (node c.source levels) c.source t)
   unfolding noting nodes many

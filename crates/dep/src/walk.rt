@@ -199,7 +199,7 @@ impl DependencyCollector<'_> {
         &self,
         s: &'s [u8],
         levels: usize,
-        call: CallHead,
+        call: Option<CallHead>,
         items: &mut Items,
     ) -> Result<&'s [u8], Refusal>
         ensures { Walks (after_call self.now.comments.now call)
@@ -472,26 +472,20 @@ impl DependencyCollector<'_> {
             items.old items.new result }
     {
         let call = self.call_of(s, levels, span, head);
-        let next = self.walk_nodes(s, callees(call.kind), levels, items)?;
+        let next = self.walk_nodes(s, callees(head), levels, items)?;
         self.visit_call_expr(next, levels, call, items)
     }
 
-    // A call up to its arguments, by its head: an import, or a call of the expression at the front.
-    fn call_of(&self, s: &[u8], levels: usize, span: Span, head: Head<'_>) -> CallHead
+    // A call up to its arguments, if it is listed, by its head: an import, or a call of the expression at the front.
+    fn call_of(&self, s: &[u8], levels: usize, span: Span, head: Head<'_>) -> Option<CallHead>
         ensures { result ≡ call_by self.now.comments.now.source levels span s.now head.entry }
     {
-        match head {
-            Head::ImportCall(phase) => CallHead {
-                kind: dynamic_kind(phase),
-                span,
-                listed: true,
-            },
-            _ => CallHead {
-                kind: DynamicDependencyKind::Require,
-                span,
-                listed: self.is_require(s, levels),
-            },
-        }
+        let kind = match head {
+            Head::ImportCall(phase) => dynamic_kind(phase),
+            _ if self.is_require(s, levels) => DynamicDependencyKind::Require,
+            _ => return None,
+        };
+        Some(CallHead { kind, span })
     }
 
     // Is the callee at the front the Name `require`?
@@ -509,9 +503,9 @@ impl DependencyCollector<'_> {
     }
 }
 
-// How many nodes stand for the callee of a call of that kind: none for an import.
-fn callees(kind: DynamicDependencyKind) -> usize
-    ensures { result ≡ callees_of kind }
+// How many nodes stand for the callee of a call with that head: none for an import.
+fn callees(head: Head) -> usize
+    ensures { result ≡ callees_of head.entry }
 {
-    usize::from(matches!(kind, DynamicDependencyKind::Require))
+    usize::from(!matches!(head, Head::ImportCall(_)))
 }

@@ -62,12 +62,11 @@ pub struct DynamicDependencyDescriptor<'a> {
     pub argument_range: Span,
 }
 
-// A call up to its arguments: its kind, and the span of its node. Is it an import or a require?
+// A call that is listed, an import or a require, up to its arguments: its kind, and the span of its node.
 #[derive(Clone, Copy)]
 pub struct CallHead {
     pub kind: DynamicDependencyKind,
     pub span: Span,
-    pub listed: bool,
 }
 
 // The kinds by what the nodes say.
@@ -316,7 +315,7 @@ impl<'a, 'b> Items<'a, 'b> {
         }
     }
 
-    // The entry of a call that is listed, with so many arguments at the front of some bytes; none if there is no argument. Where the bytes are no such
+    // The entry of a call, if it is listed, with so many arguments at the front of some bytes; none if there is no argument. Where the bytes are no such
     // arguments, the buffer and the notes are left free.
     pub fn put_call_entry(
         &mut self,
@@ -324,7 +323,7 @@ impl<'a, 'b> Items<'a, 'b> {
         s: &[u8],
         count: usize,
         levels: usize,
-        call: CallHead,
+        call: Option<CallHead>,
     )
         ensures { Leaving
             ((xs : Arguments) (t : List ℕ)
@@ -332,7 +331,10 @@ impl<'a, 'b> Items<'a, 'b> {
             → Adds self.old self.new (entry_of_call comments.now call xs))
             (KeepsItems self.old self.new) }
     {
-        if call.listed && 0 < count {
+        let Some(call) = call else {
+            return;
+        };
+        if 0 < count {
             if let Ok(((_, range), next)) = read_argument(comments.source(), s) {
                 self.put_argument_entry(comments, next, count - 1, levels, call, range);
             }

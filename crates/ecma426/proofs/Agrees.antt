@@ -5,6 +5,7 @@ use Rattle.std.specs.Prelude.{Option, Some, None}
 use Rattle.laws.specs.{Ascii.ascii, code.Told.Bounded, code.Told.Meant}
 use Rattle.text.specs.{declared.utf8.Encoding.TheVariants.Utf8, Ranges.in_ranges, Bytes.begins, Characters.Stands}
 use Rattle.text.specs.Utf8.{admits, length_by, char_length, code_by, char_at}
+use Rattle.text.proofs.Runs.{if_fits}
 use Rattle.text.proofs.Words.{begins_is, begins_sound, begins_complete}
 use Rattle.std.specs.{Prelude.nat_eq, List.starts_with}
 use Rattle.std.proofs.lemmas.List.{take_rest}
@@ -14,19 +15,18 @@ use Rattle.ecma426.specs.WhiteSpace.{is_space, not_space}
 use Rattle.ecma426.specs.Grammar.{Row, none, more, Word, Marked, MapReading, FindsMap}
 use Rattle.ecma426.specs.Reader.{one_at, row_end, marked, word, run_to, from_word, find_source_map}
 use Rattle.ecma426.proofs.{WhiteSpace.either, Boundaries.run_inside}
-use Rattle.ecma426.proofs.LongestRow.{one_fits, stood, row_is, row_only}
+use Rattle.ecma426.proofs.LongestRow.{stood, row_is, row_only}
 
 -- no whitespace stands where the word does, and no character where the text ends
 before_word : (t : List ℕ) → one_at is_space (word ++ t) ≡ 0
-unfolding one_at is_space in_ranges admits length_by char_length code_by char_at
+unfolding is_space in_ranges admits length_by char_length code_by char_at
 before_word t = refl
 
 at_end : (kind : ℕ → Bool) (s : List ℕ) → one_at kind (drop (length s) s) ≡ 0
-at_end kind s = omega (arith, one_fits kind (drop (length s) s), length-drop (length s) s)
+at_end kind s = omega (arith, if_fits kind (drop (length s) s), length-drop (length s) s)
 
 -- where whitespace stands, no other character does
 not_both : (t : List ℕ) → (one_at is_space t ≡ 0 → ⊥) → one_at not_space t ≡ 0
-unfolding one_at
 not_both t = go (is_space (char_at Utf8 t).code)
   where
     go : (b : Bool) → (cond b (char_at Utf8 t).len 0 ≡ 0 → ⊥) → cond (not b) (char_at Utf8 t).len 0 ≡ 0

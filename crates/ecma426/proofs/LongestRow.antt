@@ -1,57 +1,32 @@
 -- The longest row of a kind, from one character to the next; no other row ends where no such character stands.
-use Rattle.laws.proofs.Prelude.{◌≡◌, refl, sym, ap, ◌∙◌, Bool, List, [], ◌∷◌, ℕ, zero, suc, ◌+◌, ◌≤◌, not-suc-le-zero, le_of_suc-le-suc, ℕ_discrete, arith}
+use Rattle.laws.proofs.Prelude.{◌≡◌, refl, sym, ap, ◌∙◌, Bool, List, ℕ, zero, suc, ◌+◌, ◌≤◌, ℕ_discrete, arith}
 use Rattle.laws.proofs.Prelude.{length, drop, length-drop, drop-drop}
-use Rattle.text.{specs.declared.utf8.Encoding.TheVariants.Utf8, specs.Utf8.char_at, specs.Characters.Stands, proofs.Formed.fits_if}
-use Rattle.text.proofs.Characters.{stands_sound, stands_complete}
+use Rattle.text.specs.Characters.{Stands}
+use Rattle.text.proofs.{Characters.stands_sound, Characters.stands_complete, Runs.if_fits, Runs.if_stops, Runs.if_goes_on}
 use Rattle.ecma426.specs.Grammar.{OneOf, Row, none, more}
-use Rattle.ecma426.specs.Reader.{one_at, row, row_end}
+use Rattle.ecma426.specs.Reader.{one_at, row_end}
 
 module _ (kind : ℕ → Bool) where
-  -- a character of the kind has no more bytes than the text
-  pub one_fits : (s : List ℕ) → one_at kind s ≤ length s
-  unfolding one_at char_at
-  one_fits s = fits_if Utf8 (kind (char_at Utf8 s).code) s
-
-  -- the bytes skipped are in the row
-  skipped : (n : ℕ) (s : List ℕ) → n ≤ length s → row kind n s ≡ n + row kind 0 (drop n s)
-  unfolding row
-  skipped zero s h = omega arith
-  skipped (suc n) [] h = absurd (not-suc-le-zero h)
-  skipped (suc n) (x ∷ s) h = omega (arith, skipped n s (le_of_suc-le-suc h))
-
-  none_first : (s : List ℕ) → one_at kind s ≡ 0 → row kind 0 s ≡ 0
-  unfolding row
-  none_first [] e = refl
-  none_first (x ∷ s) e = rw e
-
-  one_first : (s : List ℕ) {n : ℕ} → n ≡ one_at kind s → (n ≡ 0 → ⊥) → row kind 0 s ≡ n + row kind 0 (drop n s)
-  unfolding row
-  one_first s {n = zero} e z = absurd (z refl)
-  one_first [] {n = suc n} e z = absurd (omega (arith, one_fits []))
-  one_first (x ∷ s) {n = suc n} e z = rw (← e) (omega (arith, skipped n s (omega (arith, one_fits (x ∷ s)))))
-
   module _ (s : List ℕ) where
     -- where no character of the kind stands, the row is empty
     pub row_stops : (at : ℕ) → one_at kind (drop at s) ≡ 0 → row_end kind s at ≡ at
     unfolding row_end
-    row_stops at e = omega (arith, none_first (drop at s) e)
+    row_stops at e = omega (arith, if_stops kind (drop at s) e)
 
     -- a character of the kind, and then the row behind it
     pub row_goes_on : (at : ℕ) {n : ℕ} → n ≡ one_at kind (drop at s) → (n ≡ 0 → ⊥) → row_end kind s at ≡ row_end kind s (at + n)
     unfolding row_end
-    row_goes_on at {n} e z = omega (arith, rw drop-drop at (one_first (drop at s) e z))
+    row_goes_on at {n} e z = omega (arith, rw drop-drop at (if_goes_on kind (drop at s) e z))
 
     -- a character stands where the reader finds one
     stands : (at : ℕ) → (one_at kind (drop at s) ≡ 0 → ⊥) → Stands (OneOf kind) s at (at + one_at kind (drop at s))
-    unfolding one_at
     stands = stands_sound kind (λ p. (λ h. h, λ h. h)) s
 
     pub stood : {at next : ℕ} → Stands (OneOf kind) s at next → (one_at kind (drop at s) ≡ 0 → ⊥) × (next ≡ at + one_at kind (drop at s))
-    unfolding one_at
     stood {at} = stands_complete kind (λ p. (λ h. h, λ h. h)) s at
 
     row_by : (n at : ℕ) → length s ≤ at + n → Row s kind at (row_end kind s at)
-    row_by zero at h = rw (row_stops at (omega (arith, one_fits (drop at s), length-drop at s))) none
+    row_by zero at h = rw (row_stops at (omega (arith, if_fits kind (drop at s), length-drop at s))) none
     row_by (suc n) at h = go (row_by n) (ℕ_discrete (one_at kind (drop at s)) 0)
       where
         go : ((next : ℕ) → length s ≤ next + n → Row s kind next (row_end kind s next)) → Dec (one_at kind (drop at s) ≡ 0) → Row s kind at (row_end kind s at)

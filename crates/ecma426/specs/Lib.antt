@@ -1,4 +1,3 @@
 pub mod WhiteSpace
 pub mod Grammar
 pub mod Reader
-pub mod code

@@ -1,21 +1,18 @@
 -- The reading of a body as a function. The grammar is what is to be believed; that the two agree is promised by the finder.
-use Rattle.std.specs.Prelude.{Bool, false, cond, ◌||◌, List, [], ◌∷◌, ℕ, zero, suc, ◌+◌, eqb, length, drop, Option, Some, None}
+use Rattle.std.specs.Prelude.{Bool, false, cond, ◌||◌, List, ℕ, ◌+◌, eqb, length, drop, Option, Some, None}
 use Rattle.laws.specs.Ascii.{ascii}
-use Rattle.text.specs.declared.utf8.Encoding.TheVariants.{Utf8}
-use Rattle.text.specs.Utf8.{char_at, past}
+use Rattle.text.specs.Class.{length_if, run_if}
 use Rattle.text.specs.Bytes.{begins}
 use Rattle.analysis.specs.declared.Capture.{Capture}
 use Rattle.ecma426.specs.WhiteSpace.{is_space, not_space}
 
 -- the length of the character of the kind that the text begins with, 0 where there is none
-unfoldable pub one_at : (ℕ → Bool) → List ℕ → ℕ
-one_at kind s = cond (kind (char_at Utf8 s).code) (char_at Utf8 s).len 0
+abbrev pub one_at : (ℕ → Bool) → List ℕ → ℕ
+one_at = length_if
 
 -- how many bytes the longest row of the kind has at the front, behind `skip` bytes of a character already in it
-unfoldable pub row : (ℕ → Bool) → ℕ → List ℕ → ℕ
-row kind skip [] = 0
-row kind (suc skip) (x ∷ s) = suc (row kind skip s)
-row kind zero (x ∷ s) = past (one_at kind (x ∷ s)) 0 (λ n. suc (row kind n s))
+abbrev pub row : (ℕ → Bool) → ℕ → List ℕ → ℕ
+row = run_if
 
 -- where the longest row of the kind ends that begins at a place
 unfoldable pub row_end : (ℕ → Bool) → List ℕ → ℕ → ℕ

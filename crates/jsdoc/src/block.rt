@@ -8,14 +8,12 @@ use super::answers::{Mode, ParseResult};
 use super::pieces::{skip_whitespace, tag, word};
 use super::quote::{parse_key, parse_quote};
 use analysis::mode::from_str;
-use text::bytes::equal;
 
 // The mode of an attribute by its key and its value; none where it is no `resolution-mode`.
-#[tactic(auto, unfolding(crate::specs::Reader::attribute_mode))]
 fn attribute_mode(key: &[u8], value: &[u8]) -> Option<Mode>
     ensures { result ≡ attribute_mode key.now value.now }
 {
-    equal(key, b"resolution-mode").then(|| from_str(value))
+    (key == b"resolution-mode".as_slice()).then(|| from_str(value))
 }
 
 #[tactic(auto, unfolding(crate::specs::Reader::parse_attribute))]

@@ -48,8 +48,7 @@ pub fn from_first(s: &[u8], mark: u8) -> Option<&[u8]>
     ensures value { option_map (λ t. t.now) result ≡ from_first mark s.now }
     ensures there { IfThere (λ t. (0 < length t.now) × (length t.now ≤ length s.now)) result }
 {
-    let at = next_of(s, 0, mark);
-    if at < s.len() { Some(&s[at..]) } else { None }
+    next_of(s, 0, mark).map(|at| &s[at..])
 }
 
 // Past the first `mark`.

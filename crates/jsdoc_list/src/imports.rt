@@ -12,6 +12,7 @@ ghost use Rattle.pragmas.specs.code.Views.{encode_any};
 ghost use Rattle.jsdoc_list.specs.Imports.{is_star_opened, ticked_by, ticks_of, ticks_in, count_of, import_at, imports_from, jsdoc_imports};
 
 use jsdoc::quote::parse_quote;
+use report::names::ReferenceKind;
 use report::writer::Writer;
 use sheet::commented::{Comments, PlacedComment};
 use sheet::fields::Span;
@@ -87,7 +88,7 @@ fn put_import(comments: &Comments, at: usize, number: u8, w: &mut Writer)
         start: at,
         end: source.len() - rest.len(),
     };
-    w.put(1);
+    w.put(ReferenceKind::Types as u8);
     w.put_specifier(text, comments, span);
     w.put(number);
 }

@@ -59,21 +59,8 @@ fn put_comment_origins(c: &PlacedComment, origins: &mut [u16], w: &mut Writer)
     }
 }
 
-// Writes the origins of the imports of all comments.
-#[tactic(auto, using(laws::proofs::Lists::flat_map_append, report::proofs::Buffers::parts), unfolding(laws::proofs::Prelude::flat_map))]
-fn put_origins(comments: &Comments, origins: &mut [u16], w: &mut Writer)
-    requires short { length comments.now.source ≤ source_limit }
-    requires source_in_bounds { length comments.now.source ≤ length origins.old }
-    ensures { Wrote w.old w.new
-        (flat_map encode_origin (flat_map (origins_of comments.now.source) comments.now.comments)) }
-{
-    for c in comments.iter() {
-        put_comment_origins(&c, origins, w);
-    }
-}
-
 // Writes the origins of the JSDoc imports of a sheet of this media. `origins` is lent to work in.
-#[tactic(auto, using(report::proofs::Buffers::wrote_none), unfolding(laws::proofs::Prelude::flat_map, crate::specs::Origins::jsdoc_origins))]
+#[tactic(auto, using(laws::proofs::Lists::flat_map_append, report::proofs::Buffers::parts, report::proofs::Buffers::wrote_none), unfolding(laws::proofs::Prelude::flat_map, crate::specs::Origins::jsdoc_origins))]
 pub fn put_jsdoc_origins(media: MediaType, comments: &Comments, origins: &mut [u16], w: &mut Writer)
     requires short { length comments.now.source ≤ source_limit }
     requires source_in_bounds { length comments.now.source ≤ length origins.old }
@@ -81,6 +68,8 @@ pub fn put_jsdoc_origins(media: MediaType, comments: &Comments, origins: &mut [u
         (flat_map encode_origin (jsdoc_origins media comments.now.source comments.now.comments)) }
 {
     if is_javascript(media) {
-        put_origins(comments, origins, w);
+        for c in comments.iter() {
+            put_comment_origins(&c, origins, w);
+        }
     }
 }

@@ -10,7 +10,7 @@ use Rattle.analysis.specs.Letters.{fold_case, letter_at, word_at}
 use Rattle.analysis.specs.Row.{ends, all, first, places, find}
 use Rattle.analysis.specs.Place.{place_of}
 use Rattle.ecma426.specs.WhiteSpace.{is_space}
-use Rattle.ecma426.specs.Reader.{one_at, row, row_end, find_source_map}
+use Rattle.ecma426.specs.Reader.{row_end, find_source_map}
 use Rattle.sheet.specs.declared.{fields.Span.Span, comments.Comment.Comment, names.CommentKind.TheVariants.Block, names.MediaType.TheVariants.TypeScript}
 use Rattle.sheet.specs.{declared.names.Side.TheVariants.Trailing, Comments.opening, Comments.closing, Lookups.group_at, Lookups.body_span}
 use Rattle.sheet.specs.{Tree.other, Tree.none, Sheet.Sheet}
@@ -86,6 +86,6 @@ computed c = record { bodies = c.bodies; reported = source_map_url (sheet_of c.b
 
 as_stated : map computed table ≡ table
 unfolding table comments_from sheet_of flat_map in_ranges admits length_by char_length code_by char_at encode outside ranges member class_at run begins step
-    walk position_of fold_case letter_at word_at ends all first places find place_of is_space one_at row row_end find_source_map group_at body_span place_in
+    walk position_of fold_case letter_at word_at ends all first places find place_of is_space row_end find_source_map group_at body_span place_in
     specifier_in read_by first_of last_of end_comments last_by read_standard standard_map_in
 as_stated = refl

@@ -1,6 +1,6 @@
 -- What the functions write one after the other is the report in pieces, and the pieces are the report.
 use Rattle.laws.proofs.Prelude.{◌≡◌, sym, ap, ◌∙◌, List, [], ℕ, length}
-use Rattle.laws.specs.Decoded.{ok}
+use Rattle.laws.specs.{Decoded.ok, code.Told.Beside}
 use Rattle.wire.specs.{Fields.encode_flag}
 use Rattle.sheet.specs.{Limits.depth_limit, Tree.Node, Nodes.node, Walked.entries, Sheet.Sheet, code.Commented.Commented}
 use Rattle.sheet_nodes.specs.code.Reach.{ReachesIn}
@@ -33,13 +33,14 @@ pub dependencies_written : {t : Sheet} {s : List ℕ} {c : Commented} {p : Parts
     → written_as mid.writer.now ≡ more before (encode_flag p.tree.program.script)
     → ((n : Node) (l : List ℕ) → node c.source depth_limit p.tree.root.now ≡ ok n l → p.tree.entries ≡ entries n → ReachesIn p.tree.reach n
     → items_as after ≡ with_dependencies c (items_as mid) n)
-    → (written_as after.writer.now ≡ more before (dependency_bytes t)) × (after.notes.now ≡ all_noted mid.notes.now (noted t))
+    → Beside (written_as after.writer.now ≡ more before (dependency_bytes t)) (after.notes.now ≡ all_noted mid.notes.now (noted t))
 unfolding dependency_bytes items_as
 dependencies_written {t} o is before mid after flagged walked =
-    let done = walked t.root [] (rw is o.root) (sym o.count) o.reaches in (
-      ap (λ (w : Collected). w.written) done ∙ rw (is, ← o.program, more_cons, ← flagged),
-      ap (λ (w : Collected). w.notes) done ∙ rw is,
-    )
+    let done = walked t.root [] (rw is o.root) (sym o.count) o.reaches in
+    record {
+      answer = ap (λ (w : Collected). w.written) done ∙ rw (is, ← o.program, more_cons, ← flagged);
+      beside = ap (λ (w : Collected). w.notes) done ∙ rw is;
+    }
 
 -- the three pieces are the report
 pub report_written : (t : Sheet) (u : Written) {v w x : Written} → v ≡ more u (dependency_bytes t) → w ≡ more v (head_bytes t) → x ≡ more w (rest_bytes t)

@@ -28,8 +28,8 @@ use sheet::tables::Tables;
 
 // The script flag and the dependencies, with their rows in the notes.
 fn put_dependencies(accepted: &Accepted, w: &mut Writer, notes: &mut [usize])
-    ensures { Wrote w.old w.new (dependency_bytes accepted.now.sheet)
-        × (notes.new ≡ all_noted notes.old (noted accepted.now.sheet)) }
+    ensures { Beside (Wrote w.old w.new (dependency_bytes accepted.now.sheet))
+        (notes.new ≡ all_noted notes.old (noted accepted.now.sheet)) }
 {
     let comments = accepted.comments();
     let tree = accepted.parts().tree;
@@ -74,8 +74,8 @@ fn put_rest(accepted: &Accepted, ticks: &mut [u8], w: &mut Writer)
 // The parts of the report of a sheet, one after the other. The notes take a row for each dependency.
 #[tactic(auto, using(crate::proofs::Written::report_written))]
 fn put_noted_report(accepted: &Accepted, w: &mut Writer, notes: &mut [usize])
-    ensures { Wrote w.old w.new (encode (module_info accepted.now.sheet))
-        × (notes.new ≡ all_noted notes.old (noted accepted.now.sheet)) }
+    ensures { Beside (Wrote w.old w.new (encode (module_info accepted.now.sheet)))
+        (notes.new ≡ all_noted notes.old (noted accepted.now.sheet)) }
 {
     put_dependencies(accepted, w, notes);
     put_head(accepted, w);
@@ -86,8 +86,8 @@ fn put_noted_report(accepted: &Accepted, w: &mut Writer, notes: &mut [usize])
 // The report of an accepted sheet with its notes, which come cleared and are cleared where the report is refused.
 pub fn write_noted_report(accepted: &Accepted, buffer: &mut [u8], notes: &mut [usize]) -> Outcome
     requires { notes.old ≡ zeros (length notes.old) }
-    ensures { (outcome_as result buffer.new ≡ fitted (length buffer.old) (encode (module_info accepted.now.sheet)))
-        × (notes.new ≡ notes_with (length notes.old) (noted accepted.now.sheet) (outcome_as result buffer.new).number) }
+    ensures { Beside (outcome_as result buffer.new ≡ fitted (length buffer.old) (encode (module_info accepted.now.sheet)))
+        (notes.new ≡ notes_with (length notes.old) (noted accepted.now.sheet) (outcome_as result buffer.new).number) }
 {
     let mut w = Writer::new(buffer);
     put_noted_report(accepted, &mut w, notes);
@@ -96,14 +96,6 @@ pub fn write_noted_report(accepted: &Accepted, buffer: &mut [u8], notes: &mut [u
         notes.fill(0);
     }
     outcome
-}
-
-// The report of an accepted sheet.
-fn write_report(accepted: &Accepted, buffer: &mut [u8]) -> Outcome
-    ensures { outcome_as result buffer.new ≡ fitted (length buffer.old) (encode (module_info accepted.now.sheet)) }
-{
-    let mut none = [0usize; 0];
-    write_noted_report(accepted, buffer, &mut none)
 }
 
 // The report of the default information: eight zero bytes.
@@ -119,12 +111,7 @@ pub fn write_default(buffer: &mut [u8]) -> Outcome
 pub fn module_info(sheet: &[u8], buffer: &mut [u8]) -> Outcome
     ensures { Demands sheet.now (length buffer.old) result buffer.new }
 {
-    let mut tables = Tables::new();
-    match judge(sheet, &mut tables) {
-        Ok(None) => write_default(buffer),
-        Ok(Some(accepted)) => write_report(&accepted, buffer),
-        Err(refusal) => refuse_all(buffer, refusal),
-    }
+    module_info_with_replaced(sheet, buffer, &mut [])
 }
 
 // The same report, with a row of two numbers for each dependency: where its node starts, and how many characters were replaced in its text. The first

@@ -9,7 +9,6 @@ ghost use Rattle.module_info.specs.SourceMap.{given, MapOutcome, map_of, map_as,
 use super::judge::{Accepted, judge};
 use pragmas::readings::{Rule, find_last};
 use pragmas::taken::Taken;
-use sheet::lookups::body_span;
 use sheet::tables::Tables;
 use text::position::Position;
 use wire::refusals::Refusal;
@@ -27,7 +26,7 @@ pub struct SourceMap {
 pub type MapOutcome = Result<Option<SourceMap>, Refusal>;
 
 // Where a reading of the source stands in the sheet, whose source begins at `base`.
-#[tactic(auto, using(sheet::proofs::Marks::holds_marks_lem, sheet::proofs::Bodies::placed_body))]
+#[tactic(auto, using(sheet::proofs::Bodies::placed_body))]
 fn locate(base: usize, taken: &Taken) -> SourceMap
     requires { base + length taken.now.source < 2 ^ 64 }
     ensures { Bounded
@@ -35,7 +34,7 @@ fn locate(base: usize, taken: &Taken) -> SourceMap
         (CaptureIn taken.now.source taken.now.comment taken.now.capture) }
 {
     let found = taken.capture();
-    let body = base + body_span(taken.comment()).start;
+    let body = base + taken.comment().body_span().start;
     let (start, end) = taken.positions();
     SourceMap {
         from: body + found.from,

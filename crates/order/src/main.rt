@@ -1,7 +1,7 @@
 // Prints whether the delivery on standard input is in order.
 #![tactic(auto)]
 
-ghost use Rattle.std.specs.Prelude.{◌≡◌, ◌++◌, ◌+◌, ◌*◌, ◌≤◌, length, take};
+ghost use Rattle.std.specs.Prelude.{◌≡◌, ◌++◌, ◌+◌, ◌*◌, ◌≤◌, length};
 ghost use Rattle.laws.specs.code.Told.{Bounded};
 ghost use Rattle.report.specs.Buffer.{Wrote};
 ghost use Rattle.citation.specs.Citation.{decimal};
@@ -60,17 +60,16 @@ fn put_order(delivery: &[u8], work: &mut [u8], w: &mut Writer)
     }
 }
 
-// Writes the line for a delivery, and answers how many bytes it has.
-fn print_order(delivery: &[u8], work: &mut [u8], line: &mut [u8]) -> usize
+// Writes the line for a delivery.
+fn print_order<'a>(delivery: &[u8], work: &mut [u8], line: &'a mut [u8]) -> &'a [u8]
     requires work_len { length work.old ≡ work_room }
     requires line_room_in_bounds { line_room ≤ length line.old }
-    ensures { Bounded
-        ((result ≡ length (printed_order delivery.now)) × (take result line.new ≡ printed_order delivery.now))
-        (result ≤ length line.new) }
+    ensures { result.now ≡ printed_order delivery.now }
 {
     let mut w = Writer::new(line);
     put_order(delivery, work, &mut w);
-    w.written()
+    let length = w.written();
+    &line[..length]
 }
 
 // Bytes of the buffer in which a delivery is judged.
@@ -88,7 +87,6 @@ fn main(rt: HostRuntime) -> io::Result<()> {
     let mut line: [u8; LINE_ROOM] = array::repeat(0);
     answer_input(rt, "order", &mut delivery, |delivery| {
         let mut work: [u8; WORK_ROOM] = array::repeat(0);
-        let length = print_order(delivery, &mut work, &mut line);
-        &line[..length]
+        print_order(delivery, &mut work, &mut line)
     })
 }

@@ -20,7 +20,7 @@ fn put_reading_origin(entry: EntryRule, reading: Option<Taken>, w: &mut Writer)
     ensures { Wrote w.old w.new (encode_any encode_origin (origin_as entry reading.entry)) }
 {
     if let Some(taken) = reading {
-        put_origin(entry, taken.comment().span.start, w);
+        put_origin(entry, taken.comment().comment().span.start, w);
     }
 }
 

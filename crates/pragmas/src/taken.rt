@@ -12,10 +12,10 @@ ghost use Rattle.pragmas.specs.code.Captured.{Captured, CaptureIn, place_as, spe
 
 use analysis::{Capture, place_of, specifier};
 use report::writer::Writer;
-use sheet::commented::{Comments, PlacedComment};
+use sheet::commented::PlacedComment;
 use sheet::comments::Comment;
 use sheet::fields::Span;
-use sheet::lookups::{body, body_span};
+use sheet::lookups::body_span;
 use std::marker::Model;
 use text::position::Position;
 
@@ -36,35 +36,33 @@ pub fn comment_source_to_span(c: Comment, found: Capture) -> Span
 // What is captured in the body of a comment of a source.
 #[derive(Drop)]
 pub struct Taken<'a> {
-    comments: &'a Comments<'a>,
-    comment: Comment,
-    found: Capture,
+    comment: PlacedComment<'a>,
+    capture: Capture,
 }
 
 impl<'a> Model for Taken<'a> {
     ghost Value = { Captured };
 
-    ghost view = { λ t. record { source = t.comments.now.source; comment = t.comment; capture = t.found } };
+    ghost view = { λ t. record { source = t.comment.source; comment = t.comment.comment; capture = t.capture } };
 
-    ghost invariant = { λ t. CaptureIn t.comments.now.source t.comment t.found };
+    ghost invariant = { λ t. CaptureIn t.comment.source t.comment.comment t.capture };
 }
 
 impl<'a> Taken<'a> {
-    pub fn new(c: &PlacedComment<'a>, found: Capture) -> Taken<'a>
-        requires { Inside found (length (body c.now.source c.now.comment)) }
-        ensures { result ≡ record { source = c.now.source; comment = c.now.comment; capture = found } }
+    pub fn new(c: &PlacedComment<'a>, capture: Capture) -> Taken<'a>
+        requires { Inside capture (length (body c.now.source c.now.comment)) }
+        ensures { result ≡ record { source = c.now.source; comment = c.now.comment; capture = capture } }
     {
         Taken {
-            comments: c.comments(),
-            comment: c.comment(),
-            found,
+            comment: PlacedComment::new(c.comments(), c.comment()),
+            capture,
         }
     }
 
-    pub fn comment(&self) -> Comment
-        ensures { result ≡ self.now.comment }
+    pub fn comment(&self) -> &PlacedComment<'a>
+        ensures { result.now ≡ record { source = self.now.source; comment = self.now.comment } }
     {
-        self.comment
+        &self.comment
     }
 
     pub fn capture(&self) -> Capture
@@ -72,7 +70,7 @@ impl<'a> Taken<'a> {
             (result ≡ self.now.capture)
             (CaptureIn self.now.source self.now.comment result) }
     {
-        self.found
+        self.capture
     }
 
     // Its place in the source: what is captured, with its marks.
@@ -80,7 +78,7 @@ impl<'a> Taken<'a> {
     pub fn place(&self) -> Span
         ensures { Bounded (result ≡ place_as self.now) (InSource self.now.source result) }
     {
-        comment_source_to_span(self.comment, self.found)
+        comment_source_to_span(self.comment.comment(), self.capture)
     }
 
     // The positions of its place.
@@ -89,18 +87,16 @@ impl<'a> Taken<'a> {
             × (result.1 ≡ position_of characters self.now.source (place_as self.now).end) }
     {
         let place = self.place();
-        let comments = self.comments;
-        comments.positions(place)
+        self.comment.comments().positions(place)
     }
 
     // Writes the specifier.
-    #[tactic(auto, using(sheet::proofs::Marks::holds_marks_lem, sheet::proofs::Bodies::placed_body), unfolding(crate::specs::Readings::specifier_in))]
+    #[tactic(auto, unfolding(crate::specs::Readings::specifier_in))]
     pub fn put(&self, w: &mut Writer)
         ensures { Wrote w.old w.new (encode_specifier (specifier_as self.now)) }
     {
         let place = self.place();
-        let comments = self.comments;
-        let text = specifier(body(comments.source(), self.comment), self.found);
-        w.put_specifier(text, comments, place);
+        let text = specifier(self.comment.body(), self.capture);
+        w.put_specifier(text, self.comment.comments(), place);
     }
 }

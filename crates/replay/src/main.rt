@@ -71,10 +71,7 @@ fn all_zero(bytes: &[u8]) -> bool
 fn holds_report(buffer: &[u8], report: &[u8]) -> bool
     ensures { result ≡ same buffer.now (padded (length buffer.now) report.now) }
 {
-    match buffer.strip_prefix(report) {
-        Some(behind) => all_zero(behind),
-        None => false,
-    }
+    buffer.strip_prefix(report).is_some_and(all_zero)
 }
 
 // The number of an answer.

@@ -54,8 +54,5 @@ pub fn scan_sum(body: &[u8]) -> Option<u64>
 pub fn scan_sum_answer(body: &[u8]) -> u64
     ensures { result ≡ packed (scanned body.now) }
 {
-    match scan_sum(body) {
-        Some(sum) => sum + 1,
-        None => 0,
-    }
+    scan_sum(body).map_or(0, |sum| sum + 1)
 }

@@ -1,8 +1,9 @@
 // Comments, read into a table.
-ghost use Rattle.std.specs.Prelude.{◌≡◌, ◌<◌, length};
+ghost use Rattle.std.specs.Prelude.{◌≡◌, ◌<◌, List, ℕ, length};
+ghost use Rattle.std.specs.Borrow.{Bor};
 ghost use Rattle.laws.specs.code.Told.{Told};
 ghost use Rattle.wire.specs.code.Views.{read_as, Past};
-ghost use Rattle.sheet.specs.Comments.{enclosed, marked, comment, comments};
+ghost use Rattle.sheet.specs.Comments.{opening, closing, enclosed, marked, comment, comments};
 ghost use Rattle.sheet.specs.code.Tables.{comment_in};
 ghost use Rattle.sheet.specs.code.Views.{comments_as};
 
@@ -63,17 +64,25 @@ fn is_enclosed(text: &[u8], front: &[u8], back: &[u8]) -> bool
     front.len() + back.len() <= text.len() && text.starts_with(front) && text.ends_with(back)
 }
 
+// What is made of the marks that open and close a comment of a kind: called in each arm, `with` is compiled for each pair of marks.
+pub(crate) fn by_marks<'a, T, F: Fn(&'a [u8], &'a [u8]) -> T>(kind: CommentKind, with: F) -> T
+    requires { F.IsAlwaysCallable with }
+    ensures { (front : Bor (List ℕ)) × ((back : Bor (List ℕ)) × ((front.now ≡ opening kind) × (back.now ≡ closing kind) × F.post with front back result)) }
+{
+    match kind {
+        CommentKind::Line => with(b"//", b""),
+        CommentKind::Block => with(b"/*", b"*/"),
+        CommentKind::HtmlOpen => with(b"<!--", b""),
+        CommentKind::HtmlClose => with(b"-->", b""),
+    }
+}
+
 // Has the text the marks of its kind?
 #[tactic(auto, unfolding(crate::specs::Comments::marked))]
 fn is_marked(text: &[u8], kind: CommentKind) -> bool
     ensures { result ≡ marked kind text.now }
 {
-    match kind {
-        CommentKind::Line => is_enclosed(text, b"//", b""),
-        CommentKind::Block => is_enclosed(text, b"/*", b"*/"),
-        CommentKind::HtmlOpen => is_enclosed(text, b"<!--", b""),
-        CommentKind::HtmlClose => is_enclosed(text, b"-->", b""),
-    }
+    by_marks(kind, |front, back| is_enclosed(text, front, back))
 }
 
 // A comment that starts no earlier than `last`, the end of the one before.

@@ -1,14 +1,13 @@
 // The groups and the comments that the readings ask for.
 ghost use Rattle.std.specs.Prelude.{◌≡◌, ◌≤◌, length};
-ghost use Rattle.sheet.specs.Comments.{opening, closing};
 ghost use Rattle.sheet.specs.code.Tables.{groups_in};
 ghost use Rattle.sheet.specs.Fit.{Ascending};
 ghost use Rattle.sheet.specs.Lookups.{group_at, end_group, head_group, HoldsMarks, body_span, body};
 
-use super::comments::Comment;
+use super::comments::{Comment, by_marks};
 use super::fields::Span;
 use super::groups::{Group, GroupRow};
-use super::names::{CommentKind, Side};
+use super::names::Side;
 use super::program::Program;
 use std::marker::Model;
 
@@ -71,34 +70,15 @@ impl<'a> Groups<'a> {
     }
 }
 
-// The lengths of the marks of a kind.
-fn opening_length(kind: CommentKind) -> usize
-    ensures { result ≡ length (opening kind) }
-{
-    match kind {
-        CommentKind::Line | CommentKind::Block => 2,
-        CommentKind::HtmlOpen => 4,
-        CommentKind::HtmlClose => 3,
-    }
-}
-
-fn closing_length(kind: CommentKind) -> usize
-    ensures { result ≡ length (closing kind) }
-{
-    match kind {
-        CommentKind::Block => 2,
-        CommentKind::Line | CommentKind::HtmlOpen | CommentKind::HtmlClose => 0,
-    }
-}
-
 // Where the body of a comment stands: its span without the marks.
 #[tactic(auto, unfolding(crate::specs::Lookups::body_span))]
 pub fn body_span(c: Comment) -> Span
     requires { HoldsMarks c }
     ensures { result ≡ body_span c }
 {
-    let start = c.span.start + opening_length(c.kind);
-    let end = c.span.end - closing_length(c.kind);
+    let (front, back) = by_marks(c.kind, |front, back| (front.len(), back.len()));
+    let start = c.span.start + front;
+    let end = c.span.end - back;
     Span { start, end }
 }
 

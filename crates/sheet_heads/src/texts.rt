@@ -4,13 +4,12 @@ ghost use Rattle.laws.specs.Ascii.{ascii};
 ghost use Rattle.text.specs.Bytes.{same};
 ghost use Rattle.sheet.specs.Shape.{is_augmentation, is_relative, has_star};
 
-use text::bytes::equal;
-
 // The Name `require`.
+#[tactic(auto, using(text::proofs::Words::same_is))]
 pub fn is_require(name: &[u8]) -> bool
     ensures { result ≡ same name.now (ascii "require") }
 {
-    equal(name, b"require")
+    name == b"require".as_slice()
 }
 
 fn has_star(x: &[u8]) -> bool

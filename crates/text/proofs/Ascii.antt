@@ -2,9 +2,9 @@
 use Rattle.laws.proofs.Prelude.{◌≡◌, refl, sym, true, false, ap, ◌∙◌, Bool, cond, List, ℕ, zero, suc, ◌+◌, ◌≤◌, ◌<◌, arith, add-zero, length, get_or, drop}
 use Rattle.laws.proofs.Prelude.{drop-cons, get_or-drop, le-leb}
 use mir.Val.{bool_byte}
-use Rattle.text.specs.declared.{utf8.Encoding.Encoding, utf8.Encoding.TheVariants.Utf8, class.Class.Class}
+use Rattle.text.specs.declared.utf8.Encoding.{Encoding, TheVariants.Utf8}
 use Rattle.text.specs.Utf8.{admits, length_by, char_length, code_by, char_at, formed}
-use Rattle.text.specs.Class.{member, class_at}
+use Rattle.text.specs.Class.{length_if}
 use Rattle.text.proofs.Formed.{passed}
 
 module _ (e : Encoding) (s : List ℕ) where
@@ -23,11 +23,11 @@ module _ (e : Encoding) (s : List ℕ) where
       ∙ passed e s (at + n) here 1 (sym one) (λ z. omega arith)
       ∙ ap (λ (m : ℕ). formed e 0 (drop m s)) more
 
--- a byte of ASCII is of a class where its number is
-pub ascii_class : (c : Class) (s : List ℕ) (at : ℕ) → at < length s → {b : ℕ} → b ≡ get_or s at 0 → b < 128 → {r : Bool} → r ≡ member c b
-    → bool_byte r ≡ class_at c (drop at s)
-unfolding class_at char_at code_by
-ascii_class c s at l g h {r} e = rw (ascii_one Utf8 s at l (rw g at h), get_or-drop, add-zero, ← g, ← e) (go r)
+-- a byte of ASCII passes where its number does
+pub ascii_if : (test : ℕ → Bool) (s : List ℕ) (at : ℕ) → at < length s → {b : ℕ} → b ≡ get_or s at 0 → b < 128 → {r : Bool} → r ≡ test b
+    → bool_byte r ≡ length_if test (drop at s)
+unfolding char_at code_by
+ascii_if test s at l g h {r} e = rw (ascii_one Utf8 s at l (rw g at h), get_or-drop, add-zero, ← g, ← e) (go r)
   where
     go : (r : Bool) → bool_byte r ≡ cond r 1 0
     go true = refl

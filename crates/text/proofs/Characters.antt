@@ -1,11 +1,11 @@
 -- A character whose code point meets a test: the relation and the reader agree, for every list. So do a character of a class and `class_at`.
-use Rattle.laws.proofs.Prelude.{◌≡◌, refl, sym, ap, ◌∙◌, Bool, true, false, cond, List, ◌↔◌, ℕ, ◌+◌, ◌≤◌, ◌<◌, arith, length, drop, length-append}
+use Rattle.laws.proofs.Prelude.{◌≡◌, refl, sym, ap, ◌∙◌, Bool, true, false, cond, List, ◌↔◌, ℕ, ◌+◌, ◌<◌, arith, length, drop, length-append}
 use Rattle.laws.proofs.Prelude.{length-drop, drop-append_seam, drop-drop}
 use Rattle.text.specs.{declared.class.Class.Class, declared.utf8.Char.Char, declared.utf8.Encoding.TheVariants.Utf8, Encode.encode}
 use Rattle.text.specs.Utf8.{char_length, char_at, formed}
-use Rattle.text.specs.{Class.member, Class.class_at, Position.Boundary}
+use Rattle.text.specs.{Class.member, Class.length_if, Class.class_at, Position.Boundary}
 use Rattle.text.specs.Characters.{OneWith, OneOf, Stands}
-use Rattle.text.proofs.{CodePoint.nonempty, Cuts.between, Formed.fits_if, Reader.reader_sound, Reader.reader_complete}
+use Rattle.text.proofs.{CodePoint.nonempty, Cuts.between, Runs.if_fits, Reader.reader_sound, Reader.reader_complete}
 
 module _ {P : ℕ → Type 0} where
   -- a character is more than nothing
@@ -26,14 +26,6 @@ module _ {P : ℕ → Type 0} where
       let n : length (encode p) ≡ char_length Utf8 (drop at s) =
       rw r.piece.all (sym (ap (λ (x : Char). x.len) (reader_complete p (drop end s) r.piece.among))) in
       rw (stands_length r) (between s f at (length (encode p)) n (λ z. omega (arith, nonempty p)))
-
--- the length of the character that the text begins with, 0 where there is none that passes the test
-abbrev pub length_if : (ℕ → Bool) → List ℕ → ℕ
-length_if test s = cond (test (char_at Utf8 s).code) (char_at Utf8 s).len 0
-
-if_fits : (test : ℕ → Bool) (s : List ℕ) → length_if test s ≤ length s
-unfolding char_at
-if_fits test s = fits_if Utf8 (test (char_at Utf8 s).code) s
 
 module _ {P : ℕ → Type 0} (test : ℕ → Bool) (meets : (p : ℕ) → (test p ≡ true) ↔ P p) where
   with_sound : (s : List ℕ) → (length_if test s ≡ 0 → ⊥) → OneWith P s (drop (length_if test s) s)

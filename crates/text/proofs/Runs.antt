@@ -1,31 +1,41 @@
--- The longest run of a class, from one character to the next.
-use Rattle.laws.proofs.Prelude.{◌≡◌, refl, List, [], ◌∷◌, ℕ, zero, suc, ◌+◌, ◌≤◌, not-suc-le-zero, le_of_suc-le-suc, arith, length, drop}
+-- The longest run of characters that pass a test, from one character to the next; and that of a class.
+use Rattle.laws.proofs.Prelude.{◌≡◌, refl, Bool, List, [], ◌∷◌, ℕ, zero, suc, ◌+◌, ◌≤◌, not-suc-le-zero, le_of_suc-le-suc, arith, length, drop}
 use Rattle.text.specs.{declared.class.Class.Class, declared.utf8.Encoding.TheVariants.Utf8, Utf8.char_at}
-use Rattle.text.specs.Class.{member, class_at, run, run_length}
+use Rattle.text.specs.Class.{member, length_if, run_if, class_at, run, run_length}
 use Rattle.text.proofs.Formed.{fits_if}
 
-module _ (c : Class) where
-  -- a character of the class has no more bytes than the text
-  pub class_fits : (s : List ℕ) → class_at c s ≤ length s
-  unfolding class_at char_at
-  class_fits s = fits_if Utf8 (member c (char_at Utf8 s).code) s
+module _ (test : ℕ → Bool) where
+  -- a character that passes has no more bytes than the text
+  pub if_fits : (s : List ℕ) → length_if test s ≤ length s
+  unfolding char_at
+  if_fits s = fits_if Utf8 (test (char_at Utf8 s).code) s
 
   -- the bytes skipped are in the run
-  skipped : (n : ℕ) (s : List ℕ) → n ≤ length s → run c n s ≡ n + run_length c (drop n s)
-  unfolding run
+  skipped : (n : ℕ) (s : List ℕ) → n ≤ length s → run_if test n s ≡ n + run_if test 0 (drop n s)
   skipped zero s h = omega arith
   skipped (suc n) [] h = absurd (not-suc-le-zero h)
   skipped (suc n) (x ∷ s) h = omega (arith, skipped n s (le_of_suc-le-suc h))
 
-  -- where no character of the class stands, the run is empty
-  pub run_stops : (s : List ℕ) → class_at c s ≡ 0 → run_length c s ≡ 0
-  unfolding run
-  run_stops [] e = refl
-  run_stops (x ∷ s) e = rw e
+  -- where no such character stands, the run is empty
+  pub if_stops : (s : List ℕ) → length_if test s ≡ 0 → run_if test 0 s ≡ 0
+  if_stops [] e = refl
+  if_stops (x ∷ s) e = rw e
 
-  -- a character of the class, and then the run behind it
+  -- such a character, and then the run behind it
+  pub if_goes_on : (s : List ℕ) {n : ℕ} → n ≡ length_if test s → (n ≡ 0 → ⊥) → run_if test 0 s ≡ n + run_if test 0 (drop n s)
+  if_goes_on s {n = zero} e z = absurd (z refl)
+  if_goes_on [] {n = suc n} e z = absurd (omega (arith, if_fits []))
+  if_goes_on (x ∷ s) {n = suc n} e z = rw (← e) (omega (arith, skipped n s (omega (arith, if_fits (x ∷ s)))))
+
+module _ (c : Class) where
+  pub class_fits : (s : List ℕ) → class_at c s ≤ length s
+  unfolding class_at
+  class_fits = if_fits (member c)
+
+  pub run_stops : (s : List ℕ) → class_at c s ≡ 0 → run_length c s ≡ 0
+  unfolding class_at run
+  run_stops = if_stops (member c)
+
   pub run_goes_on : (s : List ℕ) {n : ℕ} → n ≡ class_at c s → (n ≡ 0 → ⊥) → run_length c s ≡ n + run_length c (drop n s)
-  unfolding run
-  run_goes_on s {n = zero} e z = absurd (z refl)
-  run_goes_on [] {n = suc n} e z = absurd (omega (arith, class_fits []))
-  run_goes_on (x ∷ s) {n = suc n} e z = rw (← e) (omega (arith, skipped n s (omega (arith, class_fits (x ∷ s)))))
+  unfolding class_at run
+  run_goes_on = if_goes_on (member c)

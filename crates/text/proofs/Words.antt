@@ -15,22 +15,22 @@ begins_is [] s = refl
 begins_is (y ∷ w) [] = refl
 begins_is (y ∷ w) (x ∷ s) = rw (nat_eq_equiv.symm x y, begins_is w s)
 
-pub same_is : (a b : List ℕ) → pointwise nat_eq a b ≡ same a b
+pub same_is : (a b : List ℕ) → same a b ≡ pointwise nat_eq a b
 unfolding same
 same_is [] [] = refl
 same_is [] (y ∷ b) = refl
 same_is (x ∷ a) [] = refl
 same_is (x ∷ a) (y ∷ b) = ap (eqb x y &&◌) (same_is a b)
 
-pub order_is : (a b : List ℕ) → slice_cmp nat_cmp a b ≡ order a b
+pub order_is : (a b : List ℕ) → order a b ≡ slice_cmp nat_cmp a b
 unfolding order
 order_is [] [] = refl
 order_is [] (y ∷ b) = refl
 order_is (x ∷ a) [] = refl
 order_is (x ∷ a) (y ∷ b) = go (ltb x y) refl (ltb y x) refl (order_is a b)
   where
-    go : (p : Bool) → ltb x y ≡ p → (q : Bool) → ltb y x ≡ q → slice_cmp nat_cmp a b ≡ order a b
-        → ordering_then (nat_cmp x y) (slice_cmp nat_cmp a b) ≡ cond p Less (cond q Greater (order a b))
+    go : (p : Bool) → ltb x y ≡ p → (q : Bool) → ltb y x ≡ q → order a b ≡ slice_cmp nat_cmp a b
+        → cond p Less (cond q Greater (order a b)) ≡ ordering_then (nat_cmp x y) (slice_cmp nat_cmp a b)
     go true e q f g = rw e
     go false e true f g = rw (e, ne_eqb x y (λ h. omega (arith, ltb-true y x f)))
     go false e false f g =
@@ -46,11 +46,11 @@ begins_complete w t = (starts_is Decides-eqb (w ++ t) w (begins w (w ++ t)) (beg
 
 -- two texts are the same just where they are equal
 pub same_sound : (a b : List ℕ) → same a b ≡ true → a ≡ b
-same_sound a b e = (bytes_decides a b).0 (same_is a b ∙ e)
+same_sound a b e = (bytes_decides a b).0 (sym (same_is a b) ∙ e)
 
 pub same_refl : (a : List ℕ) → same a a ≡ true
-same_refl a = sym (same_is a a) ∙ nat_list_eq_equiv.refl a
+same_refl a = same_is a a ∙ nat_list_eq_equiv.refl a
 
 -- texts of one order are equal
 pub order_same : (a b : List ℕ) → order a b ≡ Equal → a ≡ b
-order_same a b e = (bytes_decides a b).0 (texts_ties a b ∙ ap is_eq (order_is a b ∙ e))
+order_same a b e = (bytes_decides a b).0 (texts_ties a b ∙ ap is_eq (sym (order_is a b) ∙ e))

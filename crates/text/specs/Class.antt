@@ -36,15 +36,23 @@ outside NameRest = true
 unfoldable pub member : Class → ℕ → Bool
 member c p = cond (outside c) (not (in_ranges (ranges c) p)) (in_ranges (ranges c) p)
 
+-- the length of the character that the text begins with, 0 where there is none that passes the test
+abbrev pub length_if : (ℕ → Bool) → List ℕ → ℕ
+length_if test s = cond (test (char_at Utf8 s).code) (char_at Utf8 s).len 0
+
+-- how many bytes the longest run of characters that pass has at the front, behind `skip` bytes of a character already in it
+abbrev pub run_if : (ℕ → Bool) → ℕ → List ℕ → ℕ
+run_if test skip [] = 0
+run_if test (suc skip) (x ∷ s) = suc (run_if test skip s)
+run_if test zero (x ∷ s) = past (length_if test (x ∷ s)) 0 (λ n. suc (run_if test n s))
+
 -- the length of the character of the class that the text begins with, 0 where there is none
 unfoldable pub class_at : Class → List ℕ → ℕ
-class_at c s = cond (member c (char_at Utf8 s).code) (char_at Utf8 s).len 0
+class_at c = length_if (member c)
 
 -- how many bytes the longest run of the class has at the front, behind `skip` bytes of a character already in it
 unfoldable pub run : Class → ℕ → List ℕ → ℕ
-run c skip [] = 0
-run c (suc skip) (x ∷ s) = suc (run c skip s)
-run c zero (x ∷ s) = past (class_at c (x ∷ s)) 0 (λ n. suc (run c n s))
+run c = run_if (member c)
 
 abbrev pub run_length : Class → List ℕ → ℕ
 run_length c s = run c 0 s

@@ -3,3 +3,4 @@ pub mod Totals
 pub mod Places
 pub mod Rows
 pub mod Index
+pub mod Tests

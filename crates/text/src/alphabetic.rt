@@ -4,14 +4,7 @@ ghost use Rattle.text.specs.Ranges.{in_ranges};
 ghost use Rattle.text.specs.Alphabetic.{alphabetic};
 
 use super::alphabetic_bounds::BOUNDS;
-use super::ranges::{at_most, in_either};
-
-// The same by the table. A function of its own, so that the table is laid out only where it is read.
-fn is_wide_alphabetic(code: u32) -> bool
-    ensures { result ≡ in_ranges alphabetic code }
-{
-    at_most(&BOUNDS, code) % 2 == 1
-}
+use super::ranges::{in_either, in_table};
 
 // Is the code point Alphabetic? ASCII needs no table.
 pub fn is_alphabetic(code: u32) -> bool
@@ -20,5 +13,5 @@ pub fn is_alphabetic(code: u32) -> bool
     if code < 0x80 {
         return in_either(code, 0x41, 0x5A, 0x61, 0x7A);
     }
-    is_wide_alphabetic(code)
+    in_table(&BOUNDS, code)
 }

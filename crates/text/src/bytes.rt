@@ -1,11 +1,9 @@
-// Texts compared byte by byte.
-ghost use Rattle.std.specs.Prelude.{◌≡◌, ℕ, ◌<◌, ◌≤◌, length, get_or};
+// Bytes by their places in a text.
+ghost use Rattle.std.specs.Prelude.{◌≡◌, ℕ, ◌<◌, ◌≤◌, length, get_or, MatchOption};
 ghost use Rattle.laws.specs.code.Told.{Bounded};
-ghost use Rattle.text.specs.Bytes.{same, order};
 ghost use Rattle.text.specs.code.Places.{Passing, First};
 
 use super::blocks::skip_while;
-use std::cmp::Ordering;
 
 // The byte at a place, 0 past the end.
 pub fn byte_at(s: &[u8], i: usize) -> u32
@@ -14,28 +12,14 @@ pub fn byte_at(s: &[u8], i: usize) -> u32
     s.get(i).map_or(0, |b| *b as u32)
 }
 
-// The two are the same text.
-#[tactic(auto, using(crate::proofs::Words::same_is))]
-pub fn equal(a: &[u8], b: &[u8]) -> bool
-    ensures { result ≡ same a.now b.now }
-{
-    a == b
-}
-
-// The order of two texts by their bytes.
-#[tactic(auto, using(crate::proofs::Words::order_is))]
-pub fn compare(a: &[u8], b: &[u8]) -> Ordering
-    ensures { result ≡ order a.now b.now }
-{
-    a.cmp(b)
-}
-
-// The first place of `b` from `at` on, or the end.
-pub fn next_of(s: &[u8], at: usize, b: u8) -> usize
+// The first place of `b` from `at` on.
+pub fn next_of(s: &[u8], at: usize, b: u8) -> Option<usize>
     requires { at ≤ length s.now }
-    ensures { First b s.now at result }
+    ensures { MatchOption result (First b s.now at (length s.now))
+        (λ k. First b s.now at k × (k < length s.now)) }
 {
-    skip_while(s, at, |x| x != b)
+    let k = skip_while(s, at, |x| x != b);
+    (k < s.len()).then_some(k)
 }
 
 // The first place from `at` on of what is not 0, or the end.

@@ -2,7 +2,8 @@
 ghost use Rattle.std.specs.Prelude.{◌≡◌, [], ◌∷◌, ◌+◌, ◌≤◌, length, drop};
 ghost use Rattle.laws.specs.code.Told.{Bounded};
 ghost use Rattle.text.specs.Ranges.{◌to◌, in_ranges};
-ghost use Rattle.text.specs.Class.{member, class_at, run_length};
+ghost use Rattle.text.specs.Class.{member, length_if, run_if, class_at, run_length};
+ghost use Rattle.text.specs.code.Tests.{ByTest};
 
 use super::alphabetic::is_alphabetic;
 use super::ranges::in_either;
@@ -49,36 +50,57 @@ pub fn in_class(class: Class, code: u32) -> bool
 
 // The same for a character of any length. Not inlined, so that a run of ASCII is a small loop.
 #[inline(never)]
-fn wide_class_at(s: &[u8], at: usize, class: Class) -> usize
-    requires { at ≤ length s.now }
-    ensures { Bounded (result ≡ class_at class (drop at s.now)) (at + result ≤ length s.now) }
+fn wide_length_if<F: Fn(u32) -> bool>(s: &[u8], at: usize, test: &F) -> usize
+    requires callable { F.IsAlwaysCallable test.now }
+    requires place { at ≤ length s.now }
+    ensures { Bounded (ByTest (F.post test.now) λ p. result ≡ length_if p (drop at s.now)) (at + result ≤ length s.now) }
 {
     let c = char_at(s, at, Encoding::Utf8);
-    if in_class(class, c.code) { c.len } else { 0 }
+    if test(c.code) { c.len } else { 0 }
 }
 
-// The length in bytes of the character of the class at `at`, 0 where none stands there.
-pub fn class_at(s: &[u8], at: usize, class: Class) -> usize
-    requires { at ≤ length s.now }
-    ensures { Bounded (result ≡ class_at class (drop at s.now)) (at + result ≤ length s.now) }
+// The length in bytes of the character at `at` whose code point passes, 0 where none stands there.
+fn length_if<F: Fn(u32) -> bool>(s: &[u8], at: usize, test: &F) -> usize
+    requires callable { F.IsAlwaysCallable test.now }
+    requires place { at ≤ length s.now }
+    ensures { Bounded (ByTest (F.post test.now) λ p. result ≡ length_if p (drop at s.now)) (at + result ≤ length s.now) }
 {
     match s.get(at) {
-        Some(b) if *b < 0x80 => usize::from(in_class(class, *b as u32)),
-        _ => wide_class_at(s, at, class),
+        Some(b) if *b < 0x80 => usize::from(test(u32::from(*b))),
+        _ => wide_length_if(s, at, test),
     }
 }
 
-// The end of the longest run of the class from `at` on.
-pub fn run_end(s: &[u8], at: usize, class: Class) -> usize
-    requires { at ≤ length s.now }
-    ensures { Bounded (result ≡ at + run_length class (drop at s.now)) (result ≤ length s.now) }
+// The end of the longest run of characters that pass, from `at` on.
+pub fn run_end_if<F: Fn(u32) -> bool>(s: &[u8], at: usize, test: &F) -> usize
+    requires callable { F.IsAlwaysCallable test.now }
+    requires place { at ≤ length s.now }
+    ensures { Bounded (ByTest (F.post test.now) λ p. result ≡ at + run_if p 0 (drop at s.now)) ((at ≤ result) × (result ≤ length s.now)) }
 {
     let mut i = at;
     loop {
-        let n = class_at(s, i, class);
+        let n = length_if(s, i, test);
         if n == 0 {
             return i;
         }
         i += n;
     }
+}
+
+// The length in bytes of the character of the class at `at`, 0 where none stands there.
+#[tactic(auto, unfolding(crate::specs::Class::class_at))]
+pub fn class_at(s: &[u8], at: usize, class: Class) -> usize
+    requires { at ≤ length s.now }
+    ensures { Bounded (result ≡ class_at class (drop at s.now)) (at + result ≤ length s.now) }
+{
+    length_if(s, at, &move |code| in_class(class, code))
+}
+
+// The end of the longest run of the class from `at` on.
+#[tactic(auto, unfolding(crate::specs::Class::run))]
+pub fn run_end(s: &[u8], at: usize, class: Class) -> usize
+    requires { at ≤ length s.now }
+    ensures { Bounded (result ≡ at + run_length class (drop at s.now)) (result ≤ length s.now) }
+{
+    run_end_if(s, at, &move |code| in_class(class, code))
 }

@@ -1,7 +1,7 @@
 -- What the answers of the walk stand for, with the items, and what they ask.
 use Rattle.std.specs.Prelude.{◌≡◌, Bool, true, false, List, ◌++◌, ◌⊎◌, ℕ, Result, Ok, Err}
 use Rattle.std.specs.Prelude.{Option, Some, None}
-use Rattle.std.specs.Borrow.{Bor}
+use Rattle.std.specs.{Bool.then_some, Borrow.Bor}
 use Rattle.laws.specs.Decoded.{Decoded, ok, no, on_ok}
 use Rattle.laws.specs.code.Told.{Leaving}
 use Rattle.wire.specs.Refusals.{number_of}
@@ -15,7 +15,6 @@ use Rattle.sheet.specs.Shape.{shape, is_require}
 use Rattle.sheet.specs.Walk.{walk_all, walk_of, walk_in, walk_with}
 use Rattle.sheet_heads.specs.declared.node.Head as h
 use Rattle.sheet_heads.specs.declared.node.Head.TheVariants as head
-use Rattle.report.specs.declared.names.DynamicDependencyKind.{DynamicDependencyKind}
 use Rattle.report.specs.declared.names.DynamicDependencyKind.TheVariants as dynamics
 use Rattle.report.specs.Encode.{encode_list, encode_dependency}
 use Rattle.report.specs.Buffer.{more}
@@ -37,17 +36,15 @@ abbrev pub names_require : Decoded Node → Bool
 names_require (ok n t) = is_require (shape n)
 names_require (no r) = false
 
--- how a call begins, by its head: an expression, which follows, has to be that Name for the call to be listed
-abbrev pub call_by : List ℕ → ℕ → Span → List ℕ → h.Head → CallHead
-call_by source levels sp u (head.ImportCall phase) = record { kind = dynamic_kind phase; span = sp; listed = true }
-call_by source levels sp u _ = record { kind = dynamics.Require; span = sp; listed = names_require (node source levels u) }
+-- how a call that is listed begins, by its head: an expression, which follows, has to be that Name
+abbrev pub call_by : List ℕ → ℕ → Span → List ℕ → h.Head → Option CallHead
+call_by source levels sp u (head.ImportCall phase) = Some (record { kind = dynamic_kind phase; span = sp })
+call_by source levels sp u _ = then_some (names_require (node source levels u)) (record { kind = dynamics.Require; span = sp })
 
--- how many nodes stand for the callee of a call of that kind
-abbrev pub callees_of : DynamicDependencyKind → ℕ
-callees_of dynamics.Import = 0
-callees_of dynamics.ImportDefer = 0
-callees_of dynamics.ImportSource = 0
-callees_of dynamics.Require = 1
+-- how many nodes stand for the callee of a call with that head
+abbrev pub callees_of : h.Head → ℕ
+callees_of (head.ImportCall phase) = 0
+callees_of _ = 1
 
 -- an answer of the walk: the items after it, and the bytes behind what was walked, or a refusal
 abbrev pub walked_as : Items → Result (Bor (List ℕ)) Refusal → Decoded Collected
@@ -104,7 +101,7 @@ module _ (c : Commented) where
   after_import d w a = with_entries w (static_of c d (static_attributes a))
 
   -- a call without its callee: its entry behind what it holds
-  abbrev pub after_call : CallHead → Collected → Arguments × Nodes → Collected
+  abbrev pub after_call : Option CallHead → Collected → Arguments × Nodes → Collected
   after_call d w p = with_entries w (note_of p.0 ++ (note_all p.1 ++ entry_of_call c d p.0))
 
   -- the number of a tree's dependencies, and their entries

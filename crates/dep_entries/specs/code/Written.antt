@@ -1,7 +1,7 @@
 -- What the code of the entries writes: the entries behind what stands in the buffer and the notes.
-use Rattle.std.specs.Prelude.{◌≡◌, cond, ℕ, length}
+use Rattle.std.specs.Prelude.{◌≡◌, ℕ, length}
 use mathlib.Core.List.{List, [], ◌∷◌, flat_map}
-use Rattle.std.specs.Prelude.{Option}
+use Rattle.std.specs.Prelude.{Option, Some, None}
 use Rattle.std.specs.Borrow.{GName}
 use Rattle.text.specs.Lossy.{replaced}
 use Rattle.sheet.specs.declared.fields.Span.{Span}
@@ -85,7 +85,7 @@ module _ (c : Commented) where
   abbrev pub module_of : Span → Option Quoted → List Noted
   module_of sp x = beside sp.start (replaced_in (text_in x)) (module_entry c.source (types_of c) sp x)
 
-  -- the entry of a call that is listed
-  abbrev pub entry_of_call : CallHead → Arguments → List Noted
-  entry_of_call d xs =
-      beside d.span.start (replaced_in (first_text xs)) (cond d.listed (call_entry c.source (types_of c) d.kind d.span xs) [])
+  -- the entry of a call, if it is listed
+  abbrev pub entry_of_call : Option CallHead → Arguments → List Noted
+  entry_of_call None xs = []
+  entry_of_call (Some d) xs = beside d.span.start (replaced_in (first_text xs)) (call_entry c.source (types_of c) d.kind d.span xs)

@@ -25,8 +25,7 @@ returns-in-Ok-Some c =
     let some = c.in-Ok-Some in
     let is = rw (some.is, some.field-0-is) at c.judge.ensures in
     let e = rw is at some.accepted.accepted in
-    let (report, rows) = c.write_noted_report.ensures in
     record {
-      answer = demanded e report;
-      beside = sheet_notes _ _ e (rw c.fill.auto.self at rows);
+      answer = demanded e c.write_noted_report.ensures.answer;
+      beside = sheet_notes _ _ e (rw c.fill.auto.self at c.write_noted_report.ensures.beside);
     }

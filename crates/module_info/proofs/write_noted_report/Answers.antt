@@ -11,23 +11,25 @@ returns-then-is_err c =
     let t = c.args.accepted.now.sheet in
     let w = c.put_noted_report.new.w in
     let o = c.finish-outcome.result in
-    let written = c.put_noted_report.ensures.0 in
+    let written = c.put_noted_report.ensures.answer in
     let same = same_loan c.new-w.ensures w (encode (module_info t)) written in
-    let answer = finished c.new-w.ensures w (encode (module_info t)) written o (search (rules, same)) c.finish-outcome.ensures in (
-      answer,
-      refused_notes (length c.args.notes.now) (length c.args.buffer.now) o _ (noted t) (module_info t)
-          (sym c.is_err.ensures.value ∙ c.if-is_err.true) answer (c.fill.ensures.after (λ y e. e) ∙ ap zeros c.put_noted_report.auto.notes),
-    )
+    let answer = finished c.new-w.ensures w (encode (module_info t)) written o (search (rules, same)) c.finish-outcome.ensures in
+    record {
+      answer = answer;
+      beside = refused_notes (length c.args.notes.now) (length c.args.buffer.now) o _ (noted t) (module_info t)
+          (sym c.is_err.ensures.value ∙ c.if-is_err.true) answer (c.fill.ensures.after (λ y e. e) ∙ ap zeros c.put_noted_report.auto.notes);
+    }
 
 pub returns-else-is_err : goal.returns-else-is_err
 returns-else-is_err c =
     let t = c.args.accepted.now.sheet in
     let w = c.put_noted_report.new.w in
     let o = c.finish-outcome.result in
-    let (written, rows) = c.put_noted_report.ensures in
+    let written = c.put_noted_report.ensures.answer in
     let same = same_loan c.new-w.ensures w (encode (module_info t)) written in
-    let answer = finished c.new-w.ensures w (encode (module_info t)) written o (search (rules, same)) c.finish-outcome.ensures in (
-      answer,
-      accepted_notes (length c.args.notes.now) o _ (noted t) (sym c.is_err.ensures.value ∙ c.if-is_err.false)
-          (rows ∙ ap (λ l. all_noted l (noted t)) c.requires),
-    )
+    let answer = finished c.new-w.ensures w (encode (module_info t)) written o (search (rules, same)) c.finish-outcome.ensures in
+    record {
+      answer = answer;
+      beside = accepted_notes (length c.args.notes.now) o _ (noted t) (sym c.is_err.ensures.value ∙ c.if-is_err.false)
+          (c.put_noted_report.ensures.beside ∙ ap (λ l. all_noted l (noted t)) c.requires);
+    }

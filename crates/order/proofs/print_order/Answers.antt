@@ -1,7 +1,12 @@
-use Rattle.laws.proofs.Prelude.{◌≡◌, rules, arith}
+use Rattle.laws.proofs.Prelude.{◌≡◌, rules, arith, sym, length-take-le}
 use Rattle.citation.proofs.Whole.{all_written, all_within}
 use Rattle.report.proofs.Buffers.{wrote_keeps}
 use Rattle.order.proofs.print_order.Goals as goal
+
+pub slice_bounds-result-end : goal.slice_bounds-result-end
+slice_bounds-result-end c =
+    let keeps = wrote_keeps _ _ _ c.put_order.ensures.answer in
+    sym (length-take-le _ _ (all_within c.put_order.new.w (search rules) c.written-length.ensures))
 
 pub returns : goal.returns
 returns c =
@@ -10,7 +15,4 @@ returns c =
     let short = rw c.requires.work_len at put.bounds in
     let keeps = wrote_keeps _ _ _ line in
     let lent : c.new-w.result.out.now ≡ c.args.line.now = search rules in
-    record {
-      answer = all_written _ _ line (search rules) (rw lent (omega (arith, short, c.requires.line_room_in_bounds))) (search rules) c.written.ensures;
-      bounds = all_within c.put_order.new.w (search rules) c.written.ensures;
-    }
+    (all_written _ _ line (search rules) (rw lent (omega (arith, short, c.requires.line_room_in_bounds))) (search rules) c.written-length.ensures).1

@@ -9,7 +9,7 @@ pub returns-in-Err : goal.returns-in-Err
 returns-in-Err c =
     let args = c.args in
     let t = args.accepted.now.sheet in
-    let refused = rw c.in-Err.is at c.write_noted_report.ensures.0 in
+    let refused = rw c.in-Err.is at c.write_noted_report.ensures.answer in
     rw c.write_noted_report.auto.buffer at c.refuse_both.ensures ∙
     first_refused (length args.buffer.now) (length args.rules.now) (module_info t) (rules_of t) _ refused
 
@@ -17,10 +17,9 @@ pub returns-in-Ok : goal.returns-in-Ok
 returns-in-Ok c =
     let room = length c.args.rules.now in
     let t = c.args.accepted.now.sheet in
-    let (fits, rows) = c.write_noted_report.ensures in
     let kept = c.write_noted_report.auto.buffer in
-    let accepted = rw c.in-Ok.is at fits in
-    let noted = rw c.in-Ok.is at rows in
+    let accepted = rw c.in-Ok.is at c.write_noted_report.ensures.answer in
+    let noted = rw c.in-Ok.is at c.write_noted_report.ensures.beside in
     let put = c.put_rules.ensures (c.rows_in.ensures (rw (← c.write_noted_report.auto.notes) at noted)) in
     let same = same_loan c.new-w.ensures c.put_rules.new.w (rules_of t) put in
     let written = finished c.new-w.ensures c.put_rules.new.w (rules_of t) put c.finish.result (search (rules, same)) c.finish.ensures in

@@ -1,6 +1,6 @@
 use Rattle.laws.proofs.Prelude.{refl, ◌∙◌}
 use Rattle.jsdoc_list.proofs.{Openers.origins_placed, Ticking.of_source}
-use Rattle.jsdoc_list.proofs.notes.put_origins.Goals as goal
+use Rattle.jsdoc_list.proofs.notes.put_jsdoc_origins.Goals as goal
 
 pub loop-c-init : goal.loop-c-init
 loop-c-init c =

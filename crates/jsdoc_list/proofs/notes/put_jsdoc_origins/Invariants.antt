@@ -2,7 +2,7 @@ use Rattle.laws.proofs.Prelude.{◌≡◌, flat_map, length}
 use Rattle.laws.specs.Codec.{All}
 use Rattle.report.{specs.Buffer.written_as, specs.Buffer.more, specs.Origin.encode_origin}
 use Rattle.jsdoc_list.specs.Origins.{origins_of}
-use Rattle.jsdoc_list.proofs.notes.put_origins.Given as goal
+use Rattle.jsdoc_list.proofs.notes.put_jsdoc_origins.Given as goal
 
 abbrev pub invariant-loop-c : goal.invariant-loop-c
 invariant-loop-c l =

@@ -1,2 +1,0 @@
--- What the values of the code stand for. No promise leads here: these definitions are checked, not believed.
-pub mod Kinds
